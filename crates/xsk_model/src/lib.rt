@@ -1,0 +1,2 @@
+//! The definitions of the AF_XDP object.
+#![tactic(auto)]
