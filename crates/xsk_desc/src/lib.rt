@@ -3,5 +3,7 @@
 #![tactic(auto)]
 
 mod descriptor;
+mod payload;
 
 pub use descriptor::{DescError, fragments, validate};
+pub use payload::payload_of;
