@@ -3,5 +3,7 @@
 #![tactic(auto)]
 
 mod descriptor;
+mod gather;
 
 pub use descriptor::{DescError, fragments, validate};
+pub use gather::{Gather, Gathered, MOST_FRAMES};
