@@ -48,7 +48,8 @@ impl Gather {
 
     /// A gather to which nothing was pushed, where `sg` says that the socket has XDP_USE_SG. It takes no memory.
     pub fn new(alloc: Global, sg: bool) -> Gather
-        ensures { result ≡ record { items = []; sg = sg } }
+        ensures empty { result ≡ record { items = []; sg = sg } }
+        ensures stands { (g : Numbers) → StandsFor g result [] }
     {
         Gather {
             items: Batch::new(alloc),

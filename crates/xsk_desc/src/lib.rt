@@ -4,6 +4,10 @@
 
 mod descriptor;
 mod gather;
+pub mod laws;
 
 pub use descriptor::{DescError, fragments, validate};
 pub use gather::{Gather, Gathered, MOST_FRAMES};
+
+#[cfg(test)]
+mod tests;
