@@ -1,2 +1,4 @@
 pub mod Maps
 pub mod Least
+pub mod LayoutLaws
+pub mod PacketsLaws
