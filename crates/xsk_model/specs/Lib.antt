@@ -1,2 +1,4 @@
 pub mod Config
+pub mod Descriptor
+pub mod Packets
 pub mod Parts
