@@ -1,1 +1,2 @@
 pub mod Bay
+pub mod Memory

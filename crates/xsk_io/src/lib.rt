@@ -5,7 +5,10 @@
 #![tactic(auto)]
 
 mod bay;
+mod memory;
+mod steady;
 mod whole;
 
 pub use bay::{Bay, BayFailed, Kind, Stream};
+pub use steady::SteadyBay;
 pub use whole::{ReadError, read_whole, write_whole};
