@@ -1,2 +1,3 @@
 pub mod Bay
 pub mod Memory
+pub mod Files

@@ -5,10 +5,12 @@
 #![tactic(auto)]
 
 mod bay;
+mod file;
 mod memory;
 mod steady;
 mod whole;
 
 pub use bay::{Bay, BayFailed, Kind, Stream};
+pub use file::FileBay;
 pub use steady::SteadyBay;
 pub use whole::{ReadError, read_whole, write_whole};
