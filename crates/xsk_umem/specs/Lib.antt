@@ -1,0 +1,6 @@
+pub mod Geometry
+pub mod Frame
+pub mod Frames
+pub mod PacketList
+pub mod Registration
+pub mod Span

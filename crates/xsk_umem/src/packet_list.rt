@@ -1,0 +1,123 @@
+ghost use Rattle.std.specs.Prelude.{◌≡◌, ◌+◌, ◌<◌, ◌≤◌, List, [], ◌∷◌, ◌++◌, length, Some, slice_get, ◌↔◌, IsTrue, OnOk, OnErr};
+ghost use Rattle.xsk_umem.specs.PacketList.{PacketList as Packets};
+
+use crate::OutOfMemory;
+use std::alloc::Global;
+use std::marker::Model;
+
+/// Where a packet's bytes stand in the list's text.
+#[derive(Clone, Copy, Debug)]
+struct Span {
+    start: usize,
+    len: usize,
+}
+
+/// Packets in order, each a string of bytes. The packets and bytes for which room is reserved are numbers of their own.
+#[derive(Debug, Drop)]
+pub struct PacketList {
+    text: Vec<u8>,
+    spans: Vec<Span>,
+    spare_packets: u32,
+    spare_bytes: u64,
+}
+
+impl Model for PacketList {
+    ghost use Rattle.std.specs.Prelude.{◌+◌, ◌<◌, ◌≤◌, ◌^◌, All, length, map, vec_len, vec_capacity};
+    ghost use Rattle.xsk_umem.specs.PacketList.{PacketList as Packets};
+
+    ghost Value = { Packets };
+
+    ghost use Rattle.xsk_umem.specs.Span.{at_span, IsWithin};
+
+    ghost view = { λ p. record { packets = map (at_span p.text.items) p.spans.items; spare_packets = p.spare_packets; spare_bytes = p.spare_bytes } };
+
+    ghost invariant = { λ p. All (IsWithin p.text.items) p.spans.items
+        × (vec_len p.spans + p.spare_packets ≤ vec_capacity p.spans)
+        × (vec_len p.text + p.spare_bytes ≤ vec_capacity p.text)
+        × (vec_len p.spans + p.spare_packets < 2 ^ 32) };
+}
+
+impl PacketList {
+    /// An empty list. It takes no memory.
+    pub fn new(alloc: Global) -> PacketList
+        ensures { result ≡ record { packets = []; spare_packets = 0; spare_bytes = 0 } }
+    {
+        PacketList {
+            text: Vec::new(alloc),
+            spans: Vec::new(alloc),
+            spare_packets: 0,
+            spare_bytes: 0,
+        }
+    }
+
+    /// Makes room for at least so many further packets and bytes. The room never gets smaller by it.
+    pub fn reserve(&mut self, packets: u32, bytes: u32) -> Result<(), OutOfMemory>
+        ensures packets { self.new.packets ≡ self.old.packets }
+        ensures room { OnOk result ((packets ≤ self.new.spare_packets) × (bytes ≤ self.new.spare_bytes)) }
+        ensures kept { (self.old.spare_packets ≤ self.new.spare_packets) × (self.old.spare_bytes ≤ self.new.spare_bytes) }
+    {
+        let packets = packets.max(self.spare_packets);
+        let bytes = u64::from(bytes).max(self.spare_bytes);
+        if u64::from(packets) + self.spans.len() as u64 > u64::from(u32::MAX) {
+            return Err(OutOfMemory);
+        }
+        self.spans.reserve(packets as usize)?;
+        self.text.reserve(bytes as usize)?;
+        self.spare_packets = packets;
+        self.spare_bytes = bytes;
+        Ok(())
+    }
+
+    /// The number of packets.
+    pub fn len(&self) -> u32
+        ensures value { result ≡ length self.now.packets }
+    {
+        let _spare = self.spare_packets;
+        self.spans.len() as u32
+    }
+
+    /// Whether there is no packet.
+    pub fn is_empty(&self) -> bool
+        ensures { IsTrue result ↔ (self.now.packets ≡ []) }
+    {
+        self.spans.is_empty()
+    }
+
+    /// The bytes of packet `i`, counted from 0.
+    pub fn get(&self, i: u32) -> &[u8]
+        requires { i < length self.now.packets }
+        ensures { slice_get self.now.packets i ≡ Some result.now }
+    {
+        let span = self.spans[i as usize];
+        &self.text[span.start..span.start + span.len]
+    }
+
+    /// Appends a packet in the room that is reserved, which must hold it, and lowers that room by it.
+    pub fn push_reserved(&mut self, bytes: &[u8])
+        requires packets { 1 ≤ self.old.spare_packets }
+        requires bytes { length bytes.now ≤ self.old.spare_bytes }
+        ensures packets { self.new.packets ≡ self.old.packets ++ bytes.now ∷ [] }
+        ensures spare_packets { self.new.spare_packets + 1 ≡ self.old.spare_packets }
+        ensures spare_bytes { self.new.spare_bytes + length bytes.now ≡ self.old.spare_bytes }
+    {
+        let start = self.text.len();
+        self.text.extend_from_slice(bytes).unwrap();
+        self.spans.push_reserved(Span {
+            start,
+            len: bytes.len(),
+        });
+        self.spare_packets -= 1;
+        self.spare_bytes -= bytes.len() as u64;
+    }
+
+    /// Appends a packet. Where memory can't be had the packets stay as they were.
+    pub fn push(&mut self, bytes: &[u8]) -> Result<(), OutOfMemory>
+        ensures pushed { OnOk result (self.new.packets ≡ self.old.packets ++ bytes.now ∷ []) }
+        ensures refused { OnErr result (self.new.packets ≡ self.old.packets) }
+    {
+        let bytes_len = u32::try_from(bytes.len()).map_err(|_| OutOfMemory)?;
+        self.reserve(1, bytes_len)?;
+        self.push_reserved(bytes);
+        Ok(())
+    }
+}
