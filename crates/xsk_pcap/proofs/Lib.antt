@@ -1,0 +1,5 @@
+pub mod Fields
+pub mod Grammar
+pub mod Unique
+pub mod CaptureLaws
+pub mod Loops

@@ -1,0 +1,5 @@
+pub mod Numbers
+pub mod Capture
+pub mod Written
+pub mod Laws
+pub mod Steps
