@@ -3,3 +3,4 @@ pub mod Grammar
 pub mod Unique
 pub mod CaptureLaws
 pub mod Loops
+pub mod Writing

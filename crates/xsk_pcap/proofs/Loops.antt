@@ -1,13 +1,13 @@
 -- The two ways over a capture's records: the first measures them, the second copies their packets.
-use Rattle.std.proofs.Common.{◌≡◌, ℕ, ◌+◌, ◌<◌, ◌≤◌, List, [], ◌∷◌, ◌++◌, length, map, Some, refl, sym, ap, ◌∙◌, append_assoc, arith}
+use Rattle.std.proofs.Common.{◌≡◌, ℕ, ◌+◌, ◌<◌, ◌≤◌, List, [], ◌∷◌, ◌++◌, length, drop, map, Some, refl, sym, ap, subst, ◌∙◌, append_assoc, arith}
 use Rattle.std.specs.List.{flat_map, concat, AllByRecursion}
 use Rattle.std.proofs.lemmas.List.{append-nil, length-append}
 use Rattle.xsk_pcap.specs.declared.endianness.Endianness.{Endianness}
 use Rattle.xsk_pcap.specs.declared.reading.BadCapture.{BadCapture}
-use Rattle.xsk_pcap.specs.Capture.{Record, record_bytes, IsShort, AreRecords, Begins, record_refusal}
+use Rattle.xsk_pcap.specs.Capture.{header_bytes, Record, record_bytes, IsShort, AreRecords, Begins, IsCapture, record_refusal}
 use Rattle.xsk_pcap.specs.Steps.{BeginsRecord, Measures, Appends}
 use Rattle.xsk_pcap.proofs.Grammar.{Begins-push}
-use Rattle.xsk_pcap.proofs.Unique.{front_unique, length-record, EndsAt-refused}
+use Rattle.xsk_pcap.proofs.Unique.{front_unique, length-record, EndsAt-refused, Begins-body}
 
 -- ---- measuring
 
@@ -96,3 +96,18 @@ Copies-done order bytes rest old now n m c none = record { packets = c.packets; 
     left_of : (rs : List Record) → map (λ r. r.packet) rs ≡ c.left → flat_map (record_bytes order) rs ≡ rest → c.left ≡ []
     left_of [] packets e = sym packets
     left_of (r ∷ rs) packets e = absurd (omega (arith, ap length e, length-record order r (flat_map (record_bytes order) rs), none))
+
+-- the packets that were copied from behind a capture's file header are the capture's
+pub copied_capture : (order : Endianness) (bytes body : List ℕ) (packets old new : List (List ℕ)) → Begins order bytes packets [] → body ≡ drop 24 bytes → old ≡ [] → Appends order body old new → IsCapture bytes new
+copied_capture order bytes body packets old new begins is empty appends =
+    let same : begins.body ≡ body = sym (append-nil begins.body) ∙ sym (Begins-body order begins) ∙ sym is in
+    let new_is : appends.packets ≡ new = ap (λ (ps : List (List ℕ)). ps ++ appends.packets) (sym empty) ∙ sym appends.appended in (
+      order,
+      record {
+        header = begins.header;
+        magic = begins.magic;
+        body = body;
+        records = subst (λ (ps : List (List ℕ)). AreRecords order body ps) new_is appends.are;
+        whole = ap (λ (t : List ℕ). header_bytes order begins.header ++ (t ++ [])) (sym same) ∙ begins.whole;
+      },
+    )

@@ -3,3 +3,4 @@ pub mod Capture
 pub mod Written
 pub mod Laws
 pub mod Steps
+pub mod Kept

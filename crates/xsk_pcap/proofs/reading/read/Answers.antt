@@ -1,6 +1,8 @@
 use Rattle.std.proofs.Common.{Err, ap, ◌∙◌, inl, inr}
 use Rattle.std.proofs.lemmas.Result.{err_from_is_err_and}
-use Rattle.xsk_pcap.proofs.CaptureLaws.{refused_once, accepted_but_for_memory, refused_is_no_capture}
+use Rattle.std.proofs.lemmas.List.{take_rest}
+use Rattle.xsk_pcap.proofs.Loops.{copied_capture}
+use Rattle.xsk_pcap.proofs.CaptureLaws.{one_reading, refused_once, accepted_but_for_memory, refused_is_no_capture}
 use Rattle.xsk_pcap.proofs.reading.read.Goals as goal
 
 pub returns-in_err-order-clause-refused : goal.returns-in_err-order-clause-refused
@@ -22,6 +24,17 @@ pub returns-in_err-list-clause-refused : goal.returns-in_err-list-clause-refused
 returns-in_err-list-clause-refused c = λ refusal refused.
     let measured = c.in_ok-size.ensures.measured in
     absurd (refused_is_no_capture c.args.bytes.now refusal measured.packets refused (c.in_ok-order.order, measured.begins))
+
+pub returns-clause-found : goal.returns-clause-found
+returns-clause-found c =
+    let bytes = c.args.bytes.now in
+    copied_capture c.in_ok-order.order bytes _ _ _ _ c.in_ok-size.ensures.measured.begins (take_rest bytes 24) c.in_ok-list.ensures.0 c.copy_packets.ensures
+
+pub returns-clause-accepted : goal.returns-clause-accepted
+returns-clause-accepted c = λ packets capture.
+    let bytes = c.args.bytes.now in
+    let found = copied_capture c.in_ok-order.order bytes _ _ _ _ c.in_ok-size.ensures.measured.begins (take_rest bytes 24) c.in_ok-list.ensures.0 c.copy_packets.ensures in
+    one_reading bytes c.copy_packets.new.list.packets packets found capture
 
 pub returns-clause-refused : goal.returns-clause-refused
 returns-clause-refused c = λ refusal refused.
