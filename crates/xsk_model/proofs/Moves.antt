@@ -134,10 +134,10 @@ ring_after-all P size ring (Look m) more h = h
 
 ring_at-set : (c : Config) (s : State) (r q : Ring) (call : Call) → HasRing c r → HasRing c q → place c r < length s.rings
     → get_or (set s.rings (place c q) (ring_after (size_of c q) (ring_at c s q) call)) (place c r) empty_ring
-        ≡ cond (is_ring r q) (ring_after (size_of c r) (ring_at c s r) call) (ring_at c s r)
+    ≡ cond (is_ring r q) (ring_after (size_of c r) (ring_at c s r) call) (ring_at c s r)
 ring_at-set c s r q call h k within =
     get_or-set-place c s.rings r q (ring_after (size_of c q) (ring_at c s q) call) empty_ring h k within
-        ∙ cond-is_ring (λ p. ring_after (size_of c p) (ring_at c s p) call) r q (ring_at c s r)
+    ∙ cond-is_ring (λ p. ring_after (size_of c p) (ring_at c s p) call) r q (ring_at c s r)
 
 -- a ring after a call of any caller: changed where the call is on it, else as it was
 pub ring_at-after : (c : Config) (s : State) (who : ℕ) (call : Call) (r : Ring) → HasRing c r → IsKnown c call → place c r < length s.rings
@@ -163,18 +163,18 @@ ring_at-after_other c s who call r h k within off =
 
 ring_count : (n : ℕ) (size : ℕ) (ring : RingState) (call : Call)
     → times n (numbers (taken (ring_reply size ring call))) + times n (numbers (ring_after size ring call).out)
-        ≡ times n (numbers ring.out) + times n (numbers (submitted call))
+    ≡ times n (numbers ring.out) + times n (numbers (submitted call))
 ring_count n size ring call =
     let same = ap (λ xs. times n (numbers xs)) (ring_after-out size ring call) in
     let left = ap (times n) (numbers-append (taken (ring_reply size ring call)) (ring_after size ring call).out)
-        ∙ times-append n (numbers (taken (ring_reply size ring call))) (numbers (ring_after size ring call).out) in
+    ∙ times-append n (numbers (taken (ring_reply size ring call))) (numbers (ring_after size ring call).out) in
     let right = ap (times n) (numbers-append ring.out (submitted call)) ∙ times-append n (numbers ring.out) (numbers (submitted call)) in
     sym left ∙ same ∙ right
 
 rings_count-set : (n : ℕ) (c : Config) (s : State) (q : Ring) (call : Call) (reply : Reply) → HasRing c q → length s.rings ≡ places_of c
     → reply ≡ ring_reply (size_of c q) (ring_at c s q) call
     → times n (flat_map out_numbers (set s.rings (place c q) (ring_after (size_of c q) (ring_at c s q) call))) + times n (numbers (taken reply))
-        ≡ times n (flat_map out_numbers s.rings) + times n (numbers (submitted call))
+    ≡ times n (flat_map out_numbers s.rings) + times n (numbers (submitted call))
 rings_count-set n c s q call reply h len e =
     let within : place c q < length s.rings = omega (arith, place_below c q h) in
     let moved = times-flat_map-set n out_numbers s.rings (place c q) (ring_after (size_of c q) (ring_at c s q) call) empty_ring within in
@@ -183,7 +183,7 @@ rings_count-set n c s q call reply h len e =
 -- what the rings give and take
 pub rings_count : (n : ℕ) (c : Config) (s : State) (call : Call) → IsKnown c call → length s.rings ≡ places_of c
     → times n (flat_map out_numbers (rings_after c s.rings (call_ring call) call)) + times n (numbers (taken (reply_at c s call)))
-        ≡ times n (flat_map out_numbers s.rings) + times n (numbers (submitted call))
+    ≡ times n (flat_map out_numbers s.rings) + times n (numbers (submitted call))
 rings_count n c s (Reserve q k) h len = rings_count-set n c s q (Reserve q k) (reply_at c s (Reserve q k)) h len refl
 rings_count n c s (Submit q items) h len = rings_count-set n c s q (Submit q items) Submitted h len refl
 rings_count n c s (Peek q k) h len = rings_count-set n c s q (Peek q k) (reply_at c s (Peek q k)) h len refl

@@ -14,3 +14,4 @@ pub mod Parts
 pub mod Rings
 pub mod Sent
 pub mod Stored
+pub mod Expected
