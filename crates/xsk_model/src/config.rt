@@ -1,6 +1,7 @@
 ghost use Rattle.std.specs.Prelude.{◌≡◌, ◌<◌, ◌≤◌, ◌↔◌, IfOk, IsTrue, length, map, slice_get, Some};
 ghost use Rattle.std.specs.List.{flat_map};
 ghost use Rattle.std.specs.Vec.{vec_items};
+ghost use Rattle.xsk_umem.specs.Geometry.{IsGeometry};
 ghost use Rattle.xsk_model.specs.Config.{IsConfig, IsLawful, IsRegular, HasRing, ArePairsInOrder, AreSocketsInOrder, size_of, batch_of, callers_of, pool_of, classes_of, map_of, with_cell, pair_sizes, socket_sizes, size_or_none, least};
 
 use crate::Ring;
@@ -83,8 +84,10 @@ impl Config {
 
     /// The geometry of the UMEM.
     pub fn geometry(&self) -> &Geometry
-        ensures { result.now ≡ self.now.geometry }
+        ensures value { result.now ≡ self.now.geometry }
+        ensures lawful { IsGeometry self.now.geometry }
     {
+        let _frames = self.geometry.frames();
         &self.geometry
     }
 
