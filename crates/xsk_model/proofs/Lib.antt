@@ -3,3 +3,7 @@ pub mod Folds
 pub mod Places
 pub mod Moves
 pub mod Sound
+pub mod Opened
+pub mod Histories
+pub mod Replies
+pub mod Distinct
