@@ -64,6 +64,6 @@ times-range_within n a zero low high = absurd (omega arith)
 times-range_within n a (suc k) low high = ⊎_elim
     (λ (e : a ≡ n). omega (arith, times-range_below n (a + 1) k (omega arith), its_own a n e))
     (λ (e : a ≡ n → ⊥).
-        let after : a < n = omega arith in
-        omega (arith, times-range_within n (a + 1) k (omega arith) (omega arith), not_yet a n after))
+    let after : a < n = omega arith in
+    omega (arith, times-range_within n (a + 1) k (omega arith) (omega arith), not_yet a n after))
     (cases_eq a n)

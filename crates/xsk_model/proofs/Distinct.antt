@@ -25,8 +25,8 @@ times-Contains [] n h = absurd (omega arith)
 times-Contains (x ∷ xs) n h = ⊎_elim
     (λ (e : x ≡ n). (0, omega arith, e))
     (λ (e : x ≡ n → ⊥).
-        let rest : Contains xs n = times-Contains xs n (omega (arith, elsewhere x n e)) in
-        (suc rest.0, omega (arith, rest.1), rest.2))
+    let rest : Contains xs n = times-Contains xs n (omega (arith, elsewhere x n e)) in
+    (suc rest.0, omega (arith, rest.1), rest.2))
     (cases_eq x n)
 
 -- numbers are distinct exactly where none stands twice
@@ -36,16 +36,16 @@ times-distinct (x ∷ xs) h n =
     let rest : times n xs ≤ 1 = times-distinct xs (λ i j d less within. h (suc i) (suc j) d (omega arith) (omega arith)) n in
     ⊎_elim
     (λ (e : x ≡ n).
-        let none : times n xs ≤ 0 = none_later xs x n e (λ k within. h 0 (suc k) n (omega arith) (omega arith)) in
-        omega (arith, here x n e, none))
+    let none : times n xs ≤ 0 = none_later xs x n e (λ k within. h 0 (suc k) n (omega arith) (omega arith)) in
+    omega (arith, here x n e, none))
     (λ (e : x ≡ n → ⊥). omega (arith, elsewhere x n e, rest))
     (cases_eq x n)
   where
     none_later : (xs : List ℕ) (x n : ℕ) → x ≡ n → ((k : ℕ) → k < length xs → x ≢ get_or xs k n) → times n xs ≤ 0
     none_later xs x n e apart = ⊎_elim
         (λ (some : 0 < times n xs).
-            let at : Contains xs n = times-Contains xs n some in
-            absurd (apart at.0 at.1 (e ∙ sym at.2)))
+        let at : Contains xs n = times-Contains xs n some in
+        absurd (apart at.0 at.1 (e ∙ sym at.2)))
         (λ (none : times n xs ≤ 0). none)
         (cases_lt 0 (times n xs))
 
@@ -62,19 +62,20 @@ distinct_from_times (x ∷ xs) h (suc i) (suc j) d less within =
 -- numbers among others that stand once each
 pub had_and_distinct : (xs had : List ℕ) → ((n : ℕ) → times n had ≤ 1) → ((n : ℕ) → times n xs ≤ times n had)
     → All (λ n. Contains had n) xs × AllPairs (λ (m n : ℕ). m ≢ n) xs
-had_and_distinct xs had once h =
-    (λ k d within.
-        let at : Contains xs (get_or xs k d) = (k, within, get_or_default xs k (get_or xs k d) d within) in
-        times-Contains had (get_or xs k d) (omega (arith, h (get_or xs k d), Contains-times xs (get_or xs k d) at)),
-     distinct_from_times xs (λ n. omega (arith, h n, once n)))
+had_and_distinct xs had once h = (
+  λ k d within.
+      let at : Contains xs (get_or xs k d) = (k, within, get_or_default xs k (get_or xs k d) d within) in
+      times-Contains had (get_or xs k d) (omega (arith, h (get_or xs k d), Contains-times xs (get_or xs k d) at)),
+  distinct_from_times xs (λ n. omega (arith, h n, once n)),
+)
 
 pub times-had_and_distinct : (xs had : List ℕ) → All (λ n. Contains had n) xs → AllPairs (λ (m n : ℕ). m ≢ n) xs
     → (n : ℕ) → times n xs ≤ times n had
 times-had_and_distinct xs had has apart n = ⊎_elim
     (λ (some : 0 < times n xs).
-        let at : Contains xs n = times-Contains xs n some in
-        let mine : Contains had (get_or xs at.0 n) = has at.0 n at.1 in
-        let same = ap (λ m. times m had) at.2 in
-        omega (arith, times-distinct xs apart n, Contains-times had (get_or xs at.0 n) mine, same))
+    let at : Contains xs n = times-Contains xs n some in
+    let mine : Contains had (get_or xs at.0 n) = has at.0 n at.1 in
+    let same = ap (λ m. times m had) at.2 in
+    omega (arith, times-distinct xs apart n, Contains-times had (get_or xs at.0 n) mine, same))
     (λ (none : times n xs ≤ 0). omega arith)
     (cases_lt 0 (times n xs))

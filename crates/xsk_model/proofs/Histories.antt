@@ -2,21 +2,23 @@
 use Rattle.std.proofs.Common.{◌≡◌, ℕ, ◌+◌, ◌<◌, ◌≤◌, List, [], ◌∷◌, ◌++◌, length, get_or, set, Option, Some, None, refl, sym, ap, subst, ◌∙◌, append_assoc, append-nil, length-set}
 use Rattle.std.specs.List.{range_with_len}
 use Rattle.xsk_umem.specs.Frame.{Frame}
-use Rattle.xsk_model.specs.Config.{Config, HasRing, size_of, callers_of}
+use Rattle.xsk_model.specs.Config.{Config, IsConfig, HasRing, size_of, callers_of}
 use Rattle.xsk_model.specs.Numbers.{times}
 use Rattle.xsk_model.specs.Rings.{place, places_of}
-use Rattle.xsk_model.specs.Marks.{mark_place, mark_places_of}
-use Rattle.xsk_model.specs.Object.{RingState, State, empty_ring, ring_at, had_by, had_after, reply_at, call_ring, ring_after, rings_after, marks_after, after}
+use Rattle.xsk_model.specs.Marks.{HasMark, mark_place, mark_places_of}
+use Rattle.xsk_model.specs.Object.{RingState, State, empty_ring, ring_at, mark_at, had_by, had_after, reply_at, call_ring, ring_after, rings_after, marks_after, after}
 use Rattle.xsk_model.specs.Entry.{Entry, own}
 use Rattle.xsk_model.specs.Own.{had_of}
 use Rattle.xsk_model.specs.Legal.{IsLegal}
 use Rattle.xsk_model.specs.Opening.{IsOpened, opening}
-use Rattle.xsk_model.specs.History.{GoesOn, after_all, IsHistory, state_after}
+use Rattle.xsk_model.specs.History.{GoesOn, after_all, IsHistory, state_after, IsMarkNumber}
 use Rattle.xsk_model.specs.Holders.{holders}
 use Rattle.xsk_model.specs.declared.call.Ring.{Ring}
+use Rattle.xsk_model.specs.declared.call.Mark.{Mark}
 use Rattle.xsk_model.specs.declared.call.Call.{Call}
 use Rattle.xsk_model.specs.declared.call.Call.TheVariants.{Reserve, Submit, Peek, Release, Swap, Look}
 use Rattle.xsk_model.proofs.Sound.{IsRingSound, ring_sound, had_sound, holders_sound}
+use Rattle.xsk_model.proofs.MarkNumbers.{mark_sound, mark_opening}
 use Rattle.xsk_model.proofs.Opened.{opening-rings, opening-callers, opening-had, opening-holders, opening-ring, opening-marks}
 
 -- the state that past entries left
@@ -24,6 +26,7 @@ pub record IsSound (c : Config) (frames : List Frame) (s : State) (past : List E
   pub rings : length s.rings ≡ places_of c
   pub marks : length s.marks ≡ mark_places_of c
   pub callers : length s.had ≡ callers_of c
+  pub numbers : (m : Mark) → HasMark c m → IsMarkNumber c m (mark_at c s m)
   pub ring : (r : Ring) → HasRing c r → IsRingSound c (ring_at c (opening c frames) r).out r (ring_at c s r) past
   pub had : (who : ℕ) → had_by s who ≡ had_of (own who past)
   pub holders : (n : ℕ) → times n (holders s) ≡ times n (range_with_len 0 c.geometry.frames)
@@ -40,24 +43,25 @@ length-marks_after c marks (Release r n) = refl
 length-marks_after c marks (Swap m value) = length-set marks (mark_place c m) value
 length-marks_after c marks (Look m) = refl
 
-pub sound_step : (c : Config) (frames : List Frame) (s : State) (past : List Entry) (e : Entry) → IsSound c frames s past
+pub sound_step : (c : Config) (frames : List Frame) (s : State) (past : List Entry) (e : Entry) → IsConfig c → IsSound c frames s past
     → IsLegal c (own e.who past) e.who e.call → e.reply ≡ reply_at c s e.call → IsSound c frames (after c s e.who e.call) (past ++ e ∷ [])
-sound_step c frames s past e h legal reply =
+sound_step c frames s past e config h legal reply =
     record {
       rings = length-rings_after c s.rings (call_ring e.call) e.call ∙ h.rings;
       marks = length-marks_after c s.marks e.call ∙ h.marks;
       callers = length-set s.had e.who (had_after (had_by s e.who) e.call (reply_at c s e.call)) ∙ h.callers;
+      numbers = λ m has. mark_sound c s (own e.who past) e.who e.call m config has h.marks legal (h.numbers m has);
       ring = λ r has. ring_sound c s (ring_at c (opening c frames) r).out past e r has h.rings legal reply (h.ring r has);
       had = λ who. had_sound c s past e who h.callers legal.caller reply h.had;
       holders = λ n. holders_sound n c s past e.who e.call h.rings h.callers legal (h.had e.who) ∙ h.holders n;
     }
 
-pub sound_all : (c : Config) (frames : List Frame) (s : State) (past h : List Entry) → IsSound c frames s past → GoesOn c s past h
+pub sound_all : (c : Config) (frames : List Frame) (s : State) (past h : List Entry) → IsConfig c → IsSound c frames s past → GoesOn c s past h
     → IsSound c frames (after_all c s h) (past ++ h)
-sound_all c frames s past [] sound goes = subst (IsSound c frames s) (sym (append-nil past)) sound
-sound_all c frames s past (e ∷ es) sound goes =
+sound_all c frames s past [] config sound goes = subst (IsSound c frames s) (sym (append-nil past)) sound
+sound_all c frames s past (e ∷ es) config sound goes =
     subst (IsSound c frames (after_all c (after c s e.who e.call) es)) (append_assoc past (e ∷ []) es)
-        (sound_all c frames (after c s e.who e.call) (past ++ e ∷ []) es (sound_step c frames s past e sound goes.0 goes.1) goes.2)
+    (sound_all c frames (after c s e.who e.call) (past ++ e ∷ []) es config (sound_step c frames s past e config sound goes.0 goes.1) goes.2)
 
 pub opening_sound : (c : Config) (frames : List Frame) → IsOpened c frames → IsSound c frames (opening c frames) []
 opening_sound c frames opened =
@@ -65,6 +69,7 @@ opening_sound c frames opened =
       rings = opening-rings c frames opened;
       marks = opening-marks c frames opened.config;
       callers = opening-callers c frames opened;
+      numbers = λ m has. mark_opening c frames m opened.config has;
       ring = opening-ring c frames opened;
       had = opening-had c frames opened;
       holders = opening-holders c frames opened;
@@ -79,14 +84,17 @@ pub goes_rest : (c : Config) (s : State) (past h more : List Entry) → GoesOn c
 goes_rest c s past [] more goes = subst (λ p. GoesOn c s p more) (sym (append-nil past)) goes
 goes_rest c s past (e ∷ es) more goes =
     subst (λ p. GoesOn c (after_all c (after c s e.who e.call) es) p more) (append_assoc past (e ∷ []) es)
-        (goes_rest c (after c s e.who e.call) (past ++ e ∷ []) es more goes.2)
+    (goes_rest c (after c s e.who e.call) (past ++ e ∷ []) es more goes.2)
 
 pub goes_both : (c : Config) (s : State) (past h more : List Entry) → GoesOn c s past h → GoesOn c (after_all c s h) (past ++ h) more
     → GoesOn c s past (h ++ more)
 goes_both c s past [] more first rest = subst (λ p. GoesOn c s p more) (append-nil past) rest
-goes_both c s past (e ∷ es) more first rest =
-    (first.0, first.1, goes_both c (after c s e.who e.call) (past ++ e ∷ []) es more first.2
-        (subst (λ p. GoesOn c (after_all c (after c s e.who e.call) es) p more) (sym (append_assoc past (e ∷ []) es)) rest))
+goes_both c s past (e ∷ es) more first rest = (
+  first.0,
+  first.1,
+  goes_both c (after c s e.who e.call) (past ++ e ∷ []) es more first.2
+      (subst (λ p. GoesOn c (after_all c (after c s e.who e.call) es) p more) (sym (append_assoc past (e ∷ []) es)) rest),
+)
 
 pub after_all-append : (c : Config) (s : State) (h more : List Entry) → after_all c s (h ++ more) ≡ after_all c (after_all c s h) more
 after_all-append c s [] more = refl
@@ -102,4 +110,4 @@ pub history_first : (c : Config) (frames : List Frame) (h more : List Entry) →
 history_first c frames h more history = record { opened = history.opened; legal = goes_first c (opening c frames) [] h more history.legal }
 
 pub history_sound : (c : Config) (frames : List Frame) (h : List Entry) → IsHistory c frames h → IsSound c frames (state_after c frames h) h
-history_sound c frames h history = sound_all c frames (opening c frames) [] h (opening_sound c frames history.opened) history.legal
+history_sound c frames h history = sound_all c frames (opening c frames) [] h history.opened.config (opening_sound c frames history.opened) history.legal

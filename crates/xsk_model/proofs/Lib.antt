@@ -7,3 +7,7 @@ pub mod Opened
 pub mod Histories
 pub mod Replies
 pub mod Distinct
+pub mod Roles
+pub mod MarkPlaces
+pub mod MarkNumbers
+pub mod Theorems

@@ -1,5 +1,5 @@
 -- What a call does to the one ring that it is on.
-use Rattle.std.proofs.Common.{◌≡◌, ◌≢◌, ℕ, zero, suc, ◌+◌, ◌-◌, ◌<◌, ◌≤◌, Bool, true, false, cond, leb, nat_le, List, [], ◌∷◌, ◌++◌, length, get_or, set, take, drop, All, flat_map, Option, Some, None, refl, sym, ap, subst, ◌∙◌, ⊎_elim, arith, append-nil, leb-true, length-append, length-take, length-drop, take-append-drop, min}
+use Rattle.std.proofs.Common.{◌≡◌, ◌≢◌, ℕ, zero, suc, ◌+◌, ◌-◌, ◌<◌, ◌≤◌, Bool, true, false, cond, leb, nat_le, List, [], ◌∷◌, ◌++◌, length, get_or, set, take, drop, All, flat_map, Option, Some, None, refl, sym, ap, subst, ◌∙◌, ⊎_elim, arith, append-nil, leb-true, length-append, length-take, length-drop, take-append-drop, get_or-set_other}
 use Rattle.std.proofs.lemmas.Bool.Decides.{nat_tests}
 use Rattle.std.proofs.lemmas.List.Elements.{All-append, All-drop}
 use Rattle.xsk_umem.specs.declared.batch.Item.{Item}
@@ -16,7 +16,7 @@ use Rattle.xsk_model.specs.declared.call.Call.TheVariants.{Reserve, Submit, Peek
 use Rattle.xsk_model.specs.declared.call.Reply.{Reply}
 use Rattle.xsk_model.specs.declared.call.Reply.TheVariants.{Granted, Full, Submitted, Items, Empty, Released, Old}
 use Rattle.xsk_model.proofs.Counting.{times-append, times-flat_map-set, numbers-append}
-use Rattle.xsk_model.proofs.Places.{is_ring-true, is_ring-self, place_below, get_or-set-place, cond-is_ring}
+use Rattle.xsk_model.proofs.Places.{is_ring-true, place_below, places_apart, get_or-set-place, cond-is_ring}
 
 -- ---- the reply of one ring
 
@@ -134,10 +134,10 @@ ring_after-all P size ring (Look m) more h = h
 
 ring_at-set : (c : Config) (s : State) (r q : Ring) (call : Call) → HasRing c r → HasRing c q → place c r < length s.rings
     → get_or (set s.rings (place c q) (ring_after (size_of c q) (ring_at c s q) call)) (place c r) empty_ring
-        ≡ cond (is_ring r q) (ring_after (size_of c r) (ring_at c s r) call) (ring_at c s r)
+    ≡ cond (is_ring r q) (ring_after (size_of c r) (ring_at c s r) call) (ring_at c s r)
 ring_at-set c s r q call h k within =
     get_or-set-place c s.rings r q (ring_after (size_of c q) (ring_at c s q) call) empty_ring h k within
-        ∙ cond-is_ring (λ p. ring_after (size_of c p) (ring_at c s p) call) r q (ring_at c s r)
+    ∙ cond-is_ring (λ p. ring_after (size_of c p) (ring_at c s p) call) r q (ring_at c s r)
 
 -- a ring after a call of any caller: changed where the call is on it, else as it was
 pub ring_at-after : (c : Config) (s : State) (who : ℕ) (call : Call) (r : Ring) → HasRing c r → IsKnown c call → place c r < length s.rings
@@ -154,27 +154,35 @@ pub ring_at-after_same : (c : Config) (s : State) (who : ℕ) (call : Call) (r :
 ring_at-after_same c s who call r h k within on =
     ring_at-after c s who call r h k within ∙ ap (λ b. cond b (ring_after (size_of c r) (ring_at c s r) call) (ring_at c s r)) on
 
-pub ring_at-after_other : (c : Config) (s : State) (who : ℕ) (call : Call) (r : Ring) → HasRing c r → IsKnown c call → place c r < length s.rings → is_on r call ≡ false
+ring_at-apart : (c : Config) (s : State) (r q : Ring) (ring : RingState) → HasRing c r → HasRing c q → is_ring r q ≡ false
+    → get_or (set s.rings (place c q) ring) (place c r) empty_ring ≡ ring_at c s r
+ring_at-apart c s r q ring h k apart = get_or-set_other s.rings (place c q) (place c r) ring empty_ring (places_apart c r q h k apart)
+
+pub ring_at-after_other : (c : Config) (s : State) (who : ℕ) (call : Call) (r : Ring) → HasRing c r → IsKnown c call → is_on r call ≡ false
     → ring_at c (after c s who call) r ≡ ring_at c s r
-ring_at-after_other c s who call r h k within off =
-    ring_at-after c s who call r h k within ∙ ap (λ b. cond b (ring_after (size_of c r) (ring_at c s r) call) (ring_at c s r)) off
+ring_at-after_other c s who (Reserve q n) r h k off = ring_at-apart c s r q (ring_after (size_of c q) (ring_at c s q) (Reserve q n)) h k off
+ring_at-after_other c s who (Submit q items) r h k off = ring_at-apart c s r q (ring_after (size_of c q) (ring_at c s q) (Submit q items)) h k off
+ring_at-after_other c s who (Peek q n) r h k off = ring_at-apart c s r q (ring_after (size_of c q) (ring_at c s q) (Peek q n)) h k off
+ring_at-after_other c s who (Release q n) r h k off = ring_at-apart c s r q (ring_after (size_of c q) (ring_at c s q) (Release q n)) h k off
+ring_at-after_other c s who (Swap m value) r h k off = refl
+ring_at-after_other c s who (Look m) r h k off = refl
 
 -- ---- frames
 
 ring_count : (n : ℕ) (size : ℕ) (ring : RingState) (call : Call)
     → times n (numbers (taken (ring_reply size ring call))) + times n (numbers (ring_after size ring call).out)
-        ≡ times n (numbers ring.out) + times n (numbers (submitted call))
+    ≡ times n (numbers ring.out) + times n (numbers (submitted call))
 ring_count n size ring call =
     let same = ap (λ xs. times n (numbers xs)) (ring_after-out size ring call) in
     let left = ap (times n) (numbers-append (taken (ring_reply size ring call)) (ring_after size ring call).out)
-        ∙ times-append n (numbers (taken (ring_reply size ring call))) (numbers (ring_after size ring call).out) in
+    ∙ times-append n (numbers (taken (ring_reply size ring call))) (numbers (ring_after size ring call).out) in
     let right = ap (times n) (numbers-append ring.out (submitted call)) ∙ times-append n (numbers ring.out) (numbers (submitted call)) in
     sym left ∙ same ∙ right
 
 rings_count-set : (n : ℕ) (c : Config) (s : State) (q : Ring) (call : Call) (reply : Reply) → HasRing c q → length s.rings ≡ places_of c
     → reply ≡ ring_reply (size_of c q) (ring_at c s q) call
     → times n (flat_map out_numbers (set s.rings (place c q) (ring_after (size_of c q) (ring_at c s q) call))) + times n (numbers (taken reply))
-        ≡ times n (flat_map out_numbers s.rings) + times n (numbers (submitted call))
+    ≡ times n (flat_map out_numbers s.rings) + times n (numbers (submitted call))
 rings_count-set n c s q call reply h len e =
     let within : place c q < length s.rings = omega (arith, place_below c q h) in
     let moved = times-flat_map-set n out_numbers s.rings (place c q) (ring_after (size_of c q) (ring_at c s q) call) empty_ring within in
@@ -183,7 +191,7 @@ rings_count-set n c s q call reply h len e =
 -- what the rings give and take
 pub rings_count : (n : ℕ) (c : Config) (s : State) (call : Call) → IsKnown c call → length s.rings ≡ places_of c
     → times n (flat_map out_numbers (rings_after c s.rings (call_ring call) call)) + times n (numbers (taken (reply_at c s call)))
-        ≡ times n (flat_map out_numbers s.rings) + times n (numbers (submitted call))
+    ≡ times n (flat_map out_numbers s.rings) + times n (numbers (submitted call))
 rings_count n c s (Reserve q k) h len = rings_count-set n c s q (Reserve q k) (reply_at c s (Reserve q k)) h len refl
 rings_count n c s (Submit q items) h len = rings_count-set n c s q (Submit q items) Submitted h len refl
 rings_count n c s (Peek q k) h len = rings_count-set n c s q (Peek q k) (reply_at c s (Peek q k)) h len refl

@@ -116,9 +116,9 @@ flat_map-home_rings g pool zero frames h =
 flat_map-home_rings g pool (suc pairs) frames h =
     let fewer : length (drop pool frames) ≡ pairs * pool = omega (arith, length-drop pool frames, suc-mul pairs pool) in
     ap (λ xs. numbers (map (home_item g) (take pool frames)) ++ xs) (flat_map-home_rings g pool pairs (drop pool frames) fewer)
-        ∙ ap (λ xs. xs ++ map (λ (f : Frame). f.number) (drop pool frames)) (numbers-home g (take pool frames))
-        ∙ sym (map-append (λ (f : Frame). f.number) (take pool frames) (drop pool frames))
-        ∙ ap (map (λ (f : Frame). f.number)) (take-append-drop pool frames)
+    ∙ ap (λ xs. xs ++ map (λ (f : Frame). f.number) (drop pool frames)) (numbers-home g (take pool frames))
+    ∙ sym (map-append (λ (f : Frame). f.number) (take pool frames) (drop pool frames))
+    ∙ ap (map (λ (f : Frame). f.number)) (take-append-drop pool frames)
 
 -- ---- the opening state
 
@@ -128,8 +128,12 @@ all_pools frames pairs h = omega (arith, h)
 module _ (c : Config) (frames : List Frame) (opened : IsOpened c frames) where
   pub opening-rings : length (opening c frames).rings ≡ places_of c
   opening-rings =
-      omega (arith, length-append (home_rings c.geometry (pool_of c) (length c.pairs) frames) (replicate (length c.pairs + 2 * length c.sockets) empty_ring),
-          length-home_rings c.geometry (pool_of c) (length c.pairs) frames, length-replicate (length c.pairs + 2 * length c.sockets) empty_ring)
+      omega (
+        arith,
+        length-append (home_rings c.geometry (pool_of c) (length c.pairs) frames) (replicate (length c.pairs + 2 * length c.sockets) empty_ring),
+        length-home_rings c.geometry (pool_of c) (length c.pairs) frames,
+        length-replicate (length c.pairs + 2 * length c.sockets) empty_ring,
+      )
 
   pub opening-callers : length (opening c frames).had ≡ callers_of c
   opening-callers = length-replicate (callers_of c) []
@@ -142,12 +146,12 @@ module _ (c : Config) (frames : List Frame) (opened : IsOpened c frames) where
       let home : List RingState = home_rings c.geometry (pool_of c) (length c.pairs) frames in
       let blanks : List RingState = replicate (length c.pairs + 2 * length c.sockets) empty_ring in
       let len : length frames ≡ length c.pairs * pool_of c =
-          length-frames c.geometry frames opened.umem ∙ all_pools c.geometry.frames (length c.pairs) opened.lawful.divides in
+      length-frames c.geometry frames opened.umem ∙ all_pools c.geometry.frames (length c.pairs) opened.lawful.divides in
       let callers : flat_map (λ (had : List ℕ). had) (replicate (callers_of c) []) ≡ [] = flat_map-blanks (λ (had : List ℕ). had) (callers_of c) [] refl in
       let empty : flat_map out_numbers blanks ≡ [] = flat_map-blanks out_numbers (length c.pairs + 2 * length c.sockets) empty_ring refl in
       let rings : flat_map out_numbers (home ++ blanks) ≡ range_with_len 0 c.geometry.frames =
-          flat_map-append out_numbers home blanks ∙ ap (λ xs. flat_map out_numbers home ++ xs) empty ∙ append-nil (flat_map out_numbers home)
-              ∙ flat_map-home_rings c.geometry (pool_of c) (length c.pairs) frames len ∙ opened.umem.numbers in
+      flat_map-append out_numbers home blanks ∙ ap (λ xs. flat_map out_numbers home ++ xs) empty ∙ append-nil (flat_map out_numbers home)
+      ∙ flat_map-home_rings c.geometry (pool_of c) (length c.pairs) frames len ∙ opened.umem.numbers in
       ap (λ xs. times n (xs ++ flat_map out_numbers (home ++ blanks))) callers ∙ ap (times n) rings
 
   opening-at : (r : Ring) → ring_at c (opening c frames) r ≡ get_or (home_rings c.geometry (pool_of c) (length c.pairs) frames) (place c r) empty_ring
@@ -156,14 +160,14 @@ module _ (c : Config) (frames : List Frame) (opened : IsOpened c frames) where
   opening-empty : (r : Ring) → length c.pairs ≤ place c r → ring_at c (opening c frames) r ≡ empty_ring
   opening-empty r h =
       opening-at r ∙ get_or_past (home_rings c.geometry (pool_of c) (length c.pairs) frames) (place c r) empty_ring
-          (omega (arith, length-home_rings c.geometry (pool_of c) (length c.pairs) frames))
+      (omega (arith, length-home_rings c.geometry (pool_of c) (length c.pairs) frames))
 
   pub opening-fill : (d : ℕ) → IsHome (IsItemOn c.geometry (Fill d)) (pool_of c) (ring_at c (opening c frames) (Fill d))
   opening-fill d =
       let lawful : All (λ f. IsItemOn c.geometry (Fill d) (home_item c.geometry f)) frames =
-          λ k e within. home_item_lawful c.geometry d (get_or frames k e) opened.geometry (whole_frames c.geometry frames opened.umem k e within) in
+      λ k e within. home_item_lawful c.geometry d (get_or frames k e) opened.geometry (whole_frames c.geometry frames opened.umem k e within) in
       subst (IsHome (IsItemOn c.geometry (Fill d)) (pool_of c)) (sym (opening-at (Fill d)))
-          (home_rings-at (IsItemOn c.geometry (Fill d)) c.geometry (pool_of c) (length c.pairs) frames d lawful)
+      (home_rings-at (IsItemOn c.geometry (Fill d)) c.geometry (pool_of c) (length c.pairs) frames d lawful)
 
 -- a ring with nothing in it is sound, and so is one with no more items than its size
 ring_home : (c : Config) (r : Ring) (ring : RingState) (pool : ℕ) → IsHome (IsItemOn c.geometry r) pool ring → pool ≤ size_of c r
@@ -185,20 +189,20 @@ opening-ring c frames opened (Fill d) h =
     ring_home c (Fill d) (ring_at c (opening c frames) (Fill d)) (pool_of c) (opening-fill c frames opened d) (opened.lawful.fits d (record { port = 0; queue = 0; fill = 0; comp = 0 }) h)
 opening-ring c frames opened (Comp d) h =
     subst (λ ring. IsRingSound c ring.out (Comp d) ring []) (sym (opening-empty c frames opened (Comp d) (omega arith)))
-        (ring_home c (Comp d) empty_ring 0 (empty_home (IsItemOn c.geometry (Comp d)) 0) (omega arith))
+    (ring_home c (Comp d) empty_ring 0 (empty_home (IsItemOn c.geometry (Comp d)) 0) (omega arith))
 opening-ring c frames opened (Rx s) h =
     subst (λ ring. IsRingSound c ring.out (Rx s) ring []) (sym (opening-empty c frames opened (Rx s) (omega arith)))
-        (ring_home c (Rx s) empty_ring 0 (empty_home (IsItemOn c.geometry (Rx s)) 0) (omega arith))
+    (ring_home c (Rx s) empty_ring 0 (empty_home (IsItemOn c.geometry (Rx s)) 0) (omega arith))
 opening-ring c frames opened (Tx s) h =
     subst (λ ring. IsRingSound c ring.out (Tx s) ring []) (sym (opening-empty c frames opened (Tx s) (omega arith)))
-        (ring_home c (Tx s) empty_ring 0 (empty_home (IsItemOn c.geometry (Tx s)) 0) (omega arith))
+    (ring_home c (Tx s) empty_ring 0 (empty_home (IsItemOn c.geometry (Tx s)) 0) (omega arith))
 
 -- ---- the marks
 
-length-opening_cells : (cells : List ℕ) → length cells ≤ 64 → length (opening_cells cells) ≡ 64
+pub length-opening_cells : (cells : List ℕ) → length cells ≤ 64 → length (opening_cells cells) ≡ 64
 length-opening_cells cells h = omega (arith, length-append cells (replicate (64 - length cells) 0), length-replicate {A = ℕ} (64 - length cells) 0)
 
-length-cells : (sockets : ℕ) (maps : List (List ℕ)) → All (IsMap sockets) maps → length (flat_map opening_cells maps) ≡ 64 * length maps
+pub length-cells : (sockets : ℕ) (maps : List (List ℕ)) → All (IsMap sockets) maps → length (flat_map opening_cells maps) ≡ 64 * length maps
 length-cells sockets [] h = refl
 length-cells sockets (cells ∷ maps) h =
     let first = length-opening_cells cells (All-head (IsMap sockets) cells maps h).few in
@@ -207,5 +211,10 @@ length-cells sockets (cells ∷ maps) h =
 
 pub opening-marks : (c : Config) (frames : List Frame) → IsConfig c → length (opening c frames).marks ≡ mark_places_of c
 opening-marks c frames config =
-    omega (arith, length-append (replicate (4 * length c.pairs + length c.sockets + apps_of c) 0) (flat_map opening_cells c.cells),
-        length-replicate {A = ℕ} (4 * length c.pairs + length c.sockets + apps_of c) 0, length-cells (length c.sockets) c.cells config.cells, config.maps)
+    omega (
+      arith,
+      length-append (replicate (4 * length c.pairs + length c.sockets + apps_of c) 0) (flat_map opening_cells c.cells),
+      length-replicate {A = ℕ} (4 * length c.pairs + length c.sockets + apps_of c) 0,
+      length-cells (length c.sockets) c.cells config.cells,
+      config.maps,
+    )

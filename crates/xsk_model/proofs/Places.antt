@@ -81,10 +81,10 @@ pub get_or-set-place : {X : Type 0} (c : Config) (xs : List X) (r s : Ring) (x d
     → get_or (set xs (place c s) x) (place c r) d ≡ cond (is_ring r s) x (get_or xs (place c r) d)
 get_or-set-place c xs r s x d h k within = ⊎_elim
     (λ (e : is_ring r s ≡ true).
-        let one : r ≡ s = is_ring-true r s e in
-        ap (λ q. get_or (set xs (place c q) x) (place c r) d) (sym one) ∙ get_or-set_same xs (place c r) x d within ∙ ap (λ b. cond b x (get_or xs (place c r) d)) (sym e))
+    let one : r ≡ s = is_ring-true r s e in
+    ap (λ q. get_or (set xs (place c q) x) (place c r) d) (sym one) ∙ get_or-set_same xs (place c r) x d within ∙ ap (λ b. cond b x (get_or xs (place c r) d)) (sym e))
     (λ (e : is_ring r s ≡ false).
-        get_or-set_other xs (place c s) (place c r) x d (places_apart c r s h k e) ∙ ap (λ b. cond b x (get_or xs (place c r) d)) (sym e))
+    get_or-set_other xs (place c s) (place c r) x d (places_apart c r s h k e) ∙ ap (λ b. cond b x (get_or xs (place c r) d)) (sym e))
     (cases_Bool (is_ring r s))
 
 -- under the test that two rings are one, a term may speak of either

@@ -83,10 +83,10 @@ reply_fits c frames s past who (Reserve r n) h legal =
 reply_fits c frames s past who (Submit r items) h legal = tt
 reply_fits c frames s past who (Peek r n) h legal =
     peek_fits c (own who past) r n (ring_at c s r).out legal.counted.0 (h.ring r legal.known).items
-        (λ k. times-apart c frames s past who (place c r) k h)
+    (λ k. times-apart c frames s past who (place c r) k h)
 reply_fits c frames s past who (Release r n) h legal = tt
-reply_fits c frames s past who (Swap m value) h legal = tt
-reply_fits c frames s past who (Look m) h legal = tt
+reply_fits c frames s past who (Swap m value) h legal = h.numbers m legal.known
+reply_fits c frames s past who (Look m) h legal = h.numbers m legal.known
 
 -- an entry of a history: legal, with the object's reply
 pub history_entry : (c : Config) (frames : List Frame) (past later : List Entry) (e : Entry) → IsHistory c frames (past ++ e ∷ later)
@@ -140,18 +140,18 @@ last_here who first h (m ∷ mine) t by rest e =
     let head : told first ≡ m = cc in
     let tail : own who h ≡ mine ++ t ∷ [] = cc in
     last_of_more who h mine (m ∷ mine) t first (rest mine tail)
-        (ap (λ b. cond b (told first ∷ []) [] ++ mine) (eq-eqb first.who who by) ∙ ap (λ x. x ∷ mine) head)
+    (ap (λ b. cond b (told first ∷ []) [] ++ mine) (eq-eqb first.who who by) ∙ ap (λ x. x ∷ mine) head)
 
 pub last_own : (who : ℕ) (h : List Entry) (mine : List Told) (t : Told) → own who h ≡ mine ++ t ∷ [] → IsLast who h mine t
 last_own who [] mine t e = absurd (omega (arith, ap length e, length-append mine (t ∷ [])))
 last_own who (first ∷ h) mine t e = ⊎_elim
     (λ (by : first.who ≡ who).
-        last_here who first h mine t by (λ before k. last_own who h before t k)
-            (ap (λ b. cond b (told first ∷ own who h) (own who h)) (sym (eq-eqb first.who who by)) ∙ e))
+    last_here who first h mine t by (λ before k. last_own who h before t k)
+    (ap (λ b. cond b (told first ∷ own who h) (own who h)) (sym (eq-eqb first.who who by)) ∙ e))
     (λ (other : first.who ≡ who → ⊥).
-        last_of_more who h mine mine t first
-            (last_own who h mine t (ap (λ b. cond b (told first ∷ own who h) (own who h)) (sym (ne_eqb first.who who other)) ∙ e))
-            (ap (λ b. cond b (told first ∷ []) [] ++ mine) (ne_eqb first.who who other)))
+    last_of_more who h mine mine t first
+    (last_own who h mine t (ap (λ b. cond b (told first ∷ own who h) (own who h)) (sym (ne_eqb first.who who other)) ∙ e))
+    (ap (λ b. cond b (told first ∷ []) [] ++ mine) (ne_eqb first.who who other)))
     (cases_eq first.who who)
 
 -- a reply that the object may give fits

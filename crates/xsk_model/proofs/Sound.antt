@@ -44,26 +44,26 @@ module _ (c : Config) (s : State) (past : List Entry) (e : Entry) (r : Ring) (le
   room_pushed : room_of r (own (producer c r) (past ++ e ∷ [])) ≡ room_of r (own (producer c r) past) + granted e.call e.reply - length (submitted e.call)
   room_pushed = part_of_own-push room_step r 0 (producer c r) past e on
       (λ other.
-          let idle = not_producer c e.who e.call r legal.role on other in
-          omega (arith, ap length idle.0, idle.1 e.reply))
+      let idle = not_producer c e.who e.call r legal.role on other in
+      omega (arith, ap length idle.0, idle.1 e.reply))
 
   held_pushed : held_of r (own (consumer c r) (past ++ e ∷ [])) ≡ held_of r (own (consumer c r) past) + length (taken e.reply) - released e.call
   held_pushed = part_of_own-push held_step r 0 (consumer c r) past e on
       (λ other.
-          let idle = not_consumer c s e.who e.call r legal.role on other in
-          omega (arith, ap length idle.0, ap (λ x. length (taken x)) reply, idle.1))
+      let idle = not_consumer c s e.who e.call r legal.role on other in
+      omega (arith, ap length idle.0, ap (λ x. length (taken x)) reply, idle.1))
 
   peeked_pushed : peeked_of r (own (consumer c r) (past ++ e ∷ [])) ≡ peeked_of r (own (consumer c r) past) ++ taken e.reply
   peeked_pushed = part_of_own-push peeked_step r [] (consumer c r) past e on
       (λ other.
-          let idle = not_consumer c s e.who e.call r legal.role on other in
-          ap (λ x. peeked_of r (own (consumer c r) past) ++ x) (ap taken reply ∙ idle.0) ∙ append-nil (peeked_of r (own (consumer c r) past)))
+      let idle = not_consumer c s e.who e.call r legal.role on other in
+      ap (λ x. peeked_of r (own (consumer c r) past) ++ x) (ap taken reply ∙ idle.0) ∙ append-nil (peeked_of r (own (consumer c r) past)))
 
   given_pushed : submitted_of r (own (producer c r) (past ++ e ∷ [])) ≡ submitted_of r (own (producer c r) past) ++ submitted e.call
   given_pushed = part_of_own-push submitted_step r [] (producer c r) past e on
       (λ other.
-          let idle = not_producer c e.who e.call r legal.role on other in
-          ap (λ x. submitted_of r (own (producer c r) past) ++ x) idle.0 ∙ append-nil (submitted_of r (own (producer c r) past)))
+      let idle = not_producer c e.who e.call r legal.role on other in
+      ap (λ x. submitted_of r (own (producer c r) past) ++ x) idle.0 ∙ append-nil (submitted_of r (own (producer c r) past)))
 
   all_peeked : peeked_of r (all_told (past ++ e ∷ [])) ≡ peeked_of r (all_told past) ++ taken e.reply
   all_peeked = part_of_all-push peeked_step r [] past e ∙ ap (λ b. cond b (peeked_of r (all_told past) ++ taken e.reply) (peeked_of r (all_told past))) on
@@ -78,7 +78,7 @@ few_items c past who (Reserve q n) r room legal on h = omega arith
 few_items c past who (Submit q items) r room legal on h =
     let one : r ≡ q = is_ring-true r q on in
     let mine : room_of r (own (producer c r) past) ≡ room_of q (own who past) =
-        ap (λ p. room_of p (own (producer c p) past)) one ∙ ap (λ w. room_of q (own w past)) (sym legal.role) in
+    ap (λ p. room_of p (own (producer c p) past)) one ∙ ap (λ w. room_of q (own w past)) (sym legal.role) in
     omega (arith, legal.counted.2, h, mine)
 few_items c past who (Peek q n) r room legal on h = omega arith
 few_items c past who (Release q n) r room legal on h = omega arith
@@ -103,18 +103,18 @@ ring_on c s first past e r legal reply on h =
     let same = replies c s past e r legal reply on in
     record {
       room =
-        let moved = ring_after-room (size_of c r) (ring_at c s r) e.call in
-        omega (arith, moved, h.room, room_pushed c s past e r legal reply on, ap (granted e.call) same);
+          let moved = ring_after-room (size_of c r) (ring_at c s r) e.call in
+          omega (arith, moved, h.room, room_pushed c s past e r legal reply on, ap (granted e.call) same);
       held =
-        let moved = ring_after-held (size_of c r) (ring_at c s r) e.call in
-        omega (arith, moved, h.held, held_pushed c s past e r legal reply on, ap (λ x. length (taken x)) same);
+          let moved = ring_after-held (size_of c r) (ring_at c s r) e.call in
+          omega (arith, moved, h.held, held_pushed c s past e r legal reply on, ap (λ x. length (taken x)) same);
       within = ring_after-within (size_of c r) (ring_at c s r) e.call (few_items c past e.who e.call r (ring_at c s r).room legal on h.room) h.within;
       order =
-        let moved = ring_after-out (size_of c r) (ring_at c s r) e.call in
-        let kept = order_moves (peeked_of r (all_told past)) (ring_at c s r).out (submitted_of r (all_told past)) (taken e.reply) (submitted e.call)
-            (ring_after (size_of c r) (ring_at c s r) e.call).out first h.order (ap (λ x. taken x ++ (ring_after (size_of c r) (ring_at c s r) e.call).out) same ∙ moved) in
-        ap (λ x. x ++ (ring_after (size_of c r) (ring_at c s r) e.call).out) (all_peeked c s past e r legal reply on)
-            ∙ kept ∙ ap (λ x. first ++ x) (sym (all_given c s past e r legal reply on));
+          let moved = ring_after-out (size_of c r) (ring_at c s r) e.call in
+          let kept = order_moves (peeked_of r (all_told past)) (ring_at c s r).out (submitted_of r (all_told past)) (taken e.reply) (submitted e.call)
+          (ring_after (size_of c r) (ring_at c s r) e.call).out first h.order (ap (λ x. taken x ++ (ring_after (size_of c r) (ring_at c s r) e.call).out) same ∙ moved) in
+          ap (λ x. x ++ (ring_after (size_of c r) (ring_at c s r) e.call).out) (all_peeked c s past e r legal reply on)
+          ∙ kept ∙ ap (λ x. first ++ x) (sym (all_given c s past e r legal reply on));
       items = ring_after-all (IsItemOn c.geometry r) (size_of c r) (ring_at c s r) e.call (lawful_items c (own e.who past) e.who e.call r legal on) h.items;
       peeked = all_peeked c s past e r legal reply on ∙ ap (λ x. x ++ taken e.reply) h.peeked ∙ sym (peeked_pushed c s past e r legal reply on);
       given = all_given c s past e r legal reply on ∙ ap (λ x. x ++ submitted e.call) h.given ∙ sym (given_pushed c s past e r legal reply on);
@@ -125,9 +125,9 @@ ring_off : (c : Config) (first : List Item) (past : List Entry) (e : Entry) (r :
     → IsRingSound c first r ring past → IsRingSound c first r ring (past ++ e ∷ [])
 ring_off c first past e r ring off h =
     let all_peeked : peeked_of r (all_told (past ++ e ∷ [])) ≡ peeked_of r (all_told past) =
-        part_of_all-push peeked_step r [] past e ∙ ap (λ b. cond b (peeked_of r (all_told past) ++ taken e.reply) (peeked_of r (all_told past))) off in
+    part_of_all-push peeked_step r [] past e ∙ ap (λ b. cond b (peeked_of r (all_told past) ++ taken e.reply) (peeked_of r (all_told past))) off in
     let all_given : submitted_of r (all_told (past ++ e ∷ [])) ≡ submitted_of r (all_told past) =
-        part_of_all-push submitted_step r [] past e ∙ ap (λ b. cond b (submitted_of r (all_told past) ++ submitted e.call) (submitted_of r (all_told past))) off in
+    part_of_all-push submitted_step r [] past e ∙ ap (λ b. cond b (submitted_of r (all_told past) ++ submitted e.call) (submitted_of r (all_told past))) off in
     record {
       room = h.room ∙ sym (part_of_own-push_other room_step r 0 (producer c r) past e off);
       held = h.held ∙ sym (part_of_own-push_other held_step r 0 (consumer c r) past e off);
@@ -145,11 +145,11 @@ ring_sound c s first past e r has len legal reply h =
     let within : place c r < length s.rings = omega (arith, place_below c r has) in
     ⊎_elim
     (λ (on : is_on r e.call ≡ true).
-        subst (λ ring. IsRingSound c first r ring (past ++ e ∷ [])) (sym (ring_at-after_same c s e.who e.call r has legal.known within on))
-            (ring_on c s first past e r legal reply on h))
+    subst (λ ring. IsRingSound c first r ring (past ++ e ∷ [])) (sym (ring_at-after_same c s e.who e.call r has legal.known within on))
+    (ring_on c s first past e r legal reply on h))
     (λ (off : is_on r e.call ≡ false).
-        subst (λ ring. IsRingSound c first r ring (past ++ e ∷ [])) (sym (ring_at-after_other c s e.who e.call r has legal.known within off))
-            (ring_off c first past e r (ring_at c s r) off h))
+    subst (λ ring. IsRingSound c first r ring (past ++ e ∷ [])) (sym (ring_at-after_other c s e.who e.call r has legal.known off))
+    (ring_off c first past e r (ring_at c s r) off h))
     (cases_Bool (is_on r e.call))
 
 -- ---- frames
@@ -162,13 +162,13 @@ had_sound c s past e w len below reply h =
     let now : List ℕ = had_after (had_by s e.who) e.call (reply_at c s e.call) in
     ⊎_elim
     (λ (one : e.who ≡ w).
-        ap (λ k. get_or (set s.had e.who now) k []) (sym one) ∙ get_or-set_same s.had e.who now [] within
-            ∙ ap (λ had. had_after had e.call (reply_at c s e.call)) (h e.who ∙ ap (λ k. had_of (own k past)) one)
-            ∙ ap (had_after (had_of (own w past)) e.call) (sym reply)
-            ∙ sym (had_of-push (own w past) (told e)) ∙ ap had_of (sym (own-push_same w past e one)))
+    ap (λ k. get_or (set s.had e.who now) k []) (sym one) ∙ get_or-set_same s.had e.who now [] within
+    ∙ ap (λ had. had_after had e.call (reply_at c s e.call)) (h e.who ∙ ap (λ k. had_of (own k past)) one)
+    ∙ ap (had_after (had_of (own w past)) e.call) (sym reply)
+    ∙ sym (had_of-push (own w past) (told e)) ∙ ap had_of (sym (own-push_same w past e one)))
     (λ (other : e.who ≡ w → ⊥).
-        let apart : w ≢ e.who = λ p. other (sym p) in
-        get_or-set_other s.had e.who w now [] apart ∙ h w ∙ ap had_of (sym (own-push_other w past e other)))
+    let apart : w ≢ e.who = λ p. other (sym p) in
+    get_or-set_other s.had e.who w now [] apart ∙ h w ∙ ap had_of (sym (own-push_other w past e other)))
     (cases_eq e.who w)
 
 pub holders_sound : (n : ℕ) (c : Config) (s : State) (past : List Entry) (who : ℕ) (call : Call) → length s.rings ≡ places_of c → length s.had ≡ callers_of c
