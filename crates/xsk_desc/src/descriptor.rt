@@ -1,7 +1,8 @@
-ghost use Rattle.std.specs.Prelude.{◌≡◌, ◌<◌, ◌≤◌, is_ok};
+ghost use Rattle.std.specs.Prelude.{◌≡◌, ℕ, ◌≤◌, List, length, is_ok};
 ghost use Rattle.std.specs.Int.{div_ceil};
 ghost use Rattle.std.specs.Result.{result_err};
 ghost use Rattle.xsk_model.specs.Descriptor.{is_valid};
+ghost use Rattle.xsk_model.specs.Packets.{IsCut};
 ghost use Rattle.xsk_desc.specs.Fault.{fault_of};
 
 use thiserror::Error;
@@ -52,7 +53,8 @@ pub fn validate(desc: XdpDesc, geometry: &Geometry, sg: bool) -> Result<(), Desc
 pub fn fragments(len: u32, payload: u32) -> u32
     requires some { 1 ≤ len }
     requires room { 1 ≤ payload }
-    ensures { result ≡ div_ceil len payload }
+    ensures value { result ≡ div_ceil len payload }
+    ensures pieces { (packet : List ℕ) (pieces : List (List ℕ)) → length packet ≡ len → IsCut payload packet pieces → length pieces ≡ result }
 {
     len.div_ceil(payload)
 }

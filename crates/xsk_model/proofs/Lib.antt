@@ -1,3 +1,7 @@
+pub mod Maps
+pub mod Least
+pub mod LayoutLaws
+pub mod PacketsLaws
 pub mod Counting
 pub mod Folds
 pub mod Places

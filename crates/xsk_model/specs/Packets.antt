@@ -1,7 +1,7 @@
 -- Packets of one or more frames (af_xdp.rst, "Multi-Buffer Support"): how a packet is cut and laid into frames, and
 -- which packets a list of descriptors has. An invalid descriptor makes all descriptors of its packet invalid, and the
 -- next descriptor starts a new packet. That a packet has at most 18 frames is this project's own.
-use Rattle.std.specs.Prelude.{◌≡◌, ℕ, ◌+◌, ◌<◌, ◌≤◌, Bool, IsTrue, not, ◌||◌, ◌==◌, nat_le, if◌then◌else◌, ◌⊎◌, Option, Some, None, is_some, option_to_list, List, [], ◌∷◌, ◌++◌, length, take, drop, sum_by, flat_map}
+use Rattle.std.specs.Prelude.{◌≡◌, ℕ, ◌+◌, ◌<◌, ◌≤◌, Bool, IsTrue, not, ◌||◌, ◌==◌, nat_le, if◌then◌else◌, ◌⊎◌, IsFalse, All, Option, Some, None, is_some, option_to_list, List, [], ◌∷◌, ◌++◌, length, take, drop, sum_by, flat_map}
 use Rattle.std.specs.List.{concat}
 use Rattle.xsk_umem.specs.Geometry.{Geometry, payload_of, data_of}
 use Rattle.xsk_umem.specs.Frame.{Frame}
@@ -103,3 +103,37 @@ bad_items (bad items ∷ packets) = length items + bad_items packets
 -- the bytes of a packet: the payloads of its items, one after the other
 abbrev pub bytes_of : Geometry → Bool → List Item → List ℕ
 bytes_of g sg items = flat_map (payload g sg) items
+
+-- ---- what the packets of a list are made of
+
+-- a valid item whose packet goes on
+pub record Continues (g : Geometry) (sg : Bool) (item : Item) : Type 0 where
+  pub valid : IsTrue (is_valid g sg item.desc)
+  pub bit : item.desc.options ≡ 1
+
+-- a packet that isn't finished
+pub record IsUnfinished (g : Geometry) (sg : Bool) (items : List Item) : Type 0 where
+  pub few : length items ≤ 18
+  pub continued : All (Continues g sg) items
+
+-- a whole packet: 1 to 18 valid items, of which the last alone lacks the continuation bit
+pub record IsWhole (g : Geometry) (sg : Bool) (items : List Item) : Type 0 where
+  pub front : List Item
+  pub last : Item
+  pub is : items ≡ front ++ last ∷ []
+  pub few : length items ≤ 18
+  pub continued : All (Continues g sg) front
+  pub valid : IsTrue (is_valid g sg last.desc)
+  pub bit : last.desc.options ≡ 0
+
+-- a bad group: a packet that isn't finished, and one more item, which is invalid or the 19th
+pub record IsBad (g : Geometry) (sg : Bool) (items : List Item) : Type 0 where
+  pub front : List Item
+  pub last : Item
+  pub is : items ≡ front ++ last ∷ []
+  pub unfinished : IsUnfinished g sg front
+  pub broken : IsFalse (is_valid g sg last.desc) ⊎ (length items ≡ 19)
+
+abbrev pub IsPacket : Geometry → Bool → Packet → Type 0
+IsPacket g sg (whole items) = IsWhole g sg items
+IsPacket g sg (bad items) = IsBad g sg items
