@@ -15,3 +15,5 @@ pub mod Roles
 pub mod MarkPlaces
 pub mod MarkNumbers
 pub mod Theorems
+pub mod OwnRuns
+pub mod Sendings

@@ -74,3 +74,9 @@ Fits c mine (Release r n) Released = Unit {0}
 Fits c mine (Swap m value) (Old old) = IsMarkNumber c m old
 Fits c mine (Look m) (Old old) = IsMarkNumber c m old
 Fits c mine call reply = ⊥
+
+-- A caller's own calls and replies that go on from earlier ones: each call legal after those before it, each reply one
+-- that fits. This is all that a caller knows of a history.
+abbrev pub OwnGoesOn : Config → ℕ → List Told → List Told → Type 0
+OwnGoesOn c who past [] = Unit {0}
+OwnGoesOn c who past (t ∷ mine) = IsLegal c past who t.call × Fits c past t.call t.reply × OwnGoesOn c who (past ++ t ∷ []) mine

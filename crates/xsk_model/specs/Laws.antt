@@ -1,5 +1,5 @@
 -- The laws of the object, each over all histories.
-use Rattle.std.specs.Prelude.{◌≡◌, ◌≢◌, ◌↔◌, ℕ, ◌+◌, ◌<◌, ◌≤◌, false, List, [], ◌∷◌, ◌++◌, length, drop, All, AllPairs, Contains}
+use Rattle.std.specs.Prelude.{◌≡◌, ◌≢◌, ◌↔◌, ℕ, ◌+◌, ◌<◌, ◌≤◌, false, List, [], ◌∷◌, ◌++◌, length, take, drop, map, All, AllPairs, Contains}
 use Rattle.xsk_umem.specs.Frame.{Frame}
 use Rattle.xsk_umem.specs.declared.batch.Item.{Item}
 use Rattle.xsk_model.specs.Config.{Config, IsConfig, HasRing, size_of, callers_of}
@@ -8,15 +8,18 @@ use Rattle.xsk_model.specs.Rings.{place, places_of, producer, consumer}
 use Rattle.xsk_model.specs.Marks.{HasMark, mark_place, mark_places_of}
 use Rattle.xsk_model.specs.Object.{State, ring_at, mark_at, had_by, peek_reply, after}
 use Rattle.xsk_model.specs.Entry.{Told, Entry, own, all_told}
-use Rattle.xsk_model.specs.Own.{had_of, part_of, is_on, room_of, held_of, peeked_of, submitted_of}
-use Rattle.xsk_model.specs.Legal.{IsItemOn, IsKnown}
+use Rattle.xsk_model.specs.Own.{had_of, part_of, is_on, room_of, held_of, peeked_of, submitted_of, sending_of}
+use Rattle.xsk_model.specs.Legal.{IsItemOn, IsKnown, IsLegal}
 use Rattle.xsk_model.specs.Opening.{opening}
-use Rattle.xsk_model.specs.History.{IsHistory, state_after, MayGive, IsMarkNumber, Fits}
+use Rattle.xsk_model.specs.History.{IsHistory, state_after, MayGive, IsMarkNumber, Fits, OwnGoesOn}
 use Rattle.xsk_model.specs.Holders.{HasOneHolder}
+use Rattle.xsk_model.specs.Packets.{packets, whole_packets, bytes_of}
+use Rattle.xsk_model.specs.Sent.{sockets_of, completed_in, sent_by}
 use Rattle.xsk_model.specs.declared.call.Ring.{Ring}
+use Rattle.xsk_model.specs.declared.call.Ring.TheVariants.{Comp, Tx}
 use Rattle.xsk_model.specs.declared.call.Mark.{Mark}
 use Rattle.xsk_model.specs.declared.call.Call.{Call}
-use Rattle.xsk_model.specs.declared.call.Call.TheVariants.{Peek}
+use Rattle.xsk_model.specs.declared.call.Call.TheVariants.{Submit, Peek}
 use Rattle.xsk_model.specs.declared.call.Reply.{Reply}
 
 -- ---- frames
@@ -84,6 +87,22 @@ FittingReplies = (c : Config) (frames : List Frame) (past later : List Entry) (e
 abbrev pub FittingGifts : Type 0
 FittingGifts = (c : Config) (mine : List Told) (who : ℕ) (call : Call) (reply : Reply) → MayGive c mine who call reply
     → Fits c mine call reply
+
+-- so a caller's own entries in a history are legal calls with fitting replies
+abbrev pub OwnEntries : Type 0
+OwnEntries = (c : Config) (frames : List Frame) (h : List Entry) (who : ℕ) → IsHistory c frames h → OwnGoesOn c who [] (own who h)
+
+-- ---- sent packets
+
+-- each Submit on COMPLETION completes one packet of one TX ring
+abbrev pub OneCompletion : Type 0
+OneCompletion = (c : Config) (d : ℕ) (mine : List Told) (items : List Item) → IsConfig c → OwnGoesOn c d [] mine → IsLegal c mine d (Submit (Comp d) items)
+    → length (completed_in c (sockets_of c d) mine (Submit (Comp d) items)) ≡ 1
+
+-- what a driver sent of a socket's packets are the first Whole packets of all that it peeked on the TX ring
+abbrev pub SentInOrder : Type 0
+SentInOrder = (c : Config) (frames : List Frame) (h : List Entry) (d socket : ℕ) → IsHistory c frames h
+    → sent_by c h d socket ≡ map (bytes_of c.geometry c.sg) (take (sending_of c socket (own d h)).completed (whole_packets (packets c.geometry c.sg (peeked_of (Tx socket) (own d h)))))
 
 -- ---- marks
 
