@@ -17,3 +17,4 @@ pub mod MarkNumbers
 pub mod Theorems
 pub mod OwnRuns
 pub mod Sendings
+pub mod Completions

@@ -1,5 +1,5 @@
 -- The laws of the object, proved.
-use Rattle.std.proofs.Common.{◌≡◌, ◌≢◌, ℕ, ◌+◌, ◌<◌, ◌≤◌, false, List, [], ◌∷◌, ◌++◌, length, drop, refl, sym, ap, subst, ◌∙◌, arith, get_or-set_other}
+use Rattle.std.proofs.Common.{◌≡◌, ◌≢◌, ℕ, ◌+◌, ◌<◌, ◌≤◌, false, List, [], ◌∷◌, ◌++◌, length, take, drop, map, refl, sym, ap, subst, ◌∙◌, arith, get_or-set_other}
 use Rattle.std.proofs.lemmas.List.{drop_at}
 use Rattle.xsk_umem.specs.Frame.{Frame}
 use Rattle.xsk_umem.specs.declared.batch.Item.{Item}
@@ -7,11 +7,11 @@ use Rattle.xsk_model.specs.Config.{Config}
 use Rattle.xsk_model.specs.Numbers.{numbers}
 use Rattle.xsk_model.specs.Object.{State, ring_at, had_by, had_after, reply_at, peek_reply}
 use Rattle.xsk_model.specs.Entry.{Entry, own, all_told}
-use Rattle.xsk_model.specs.Own.{had_of, peeked_of, submitted_of}
+use Rattle.xsk_model.specs.Own.{had_of, peeked_of, submitted_of, sending_of}
 use Rattle.xsk_model.specs.Legal.{IsLegal}
 use Rattle.xsk_model.specs.Opening.{opening}
 use Rattle.xsk_model.specs.History.{IsHistory, state_after}
-use Rattle.xsk_model.specs.Laws.{OneHolder, FramesByOwn, HadAndDistinct, InOrder, PeekInOrder, PartsByOwn, ItemsByOwn, WithinSize, LawfulItems, FittingReplies, FittingGifts, MarkNumbers, OwnPlaces, OwnMarkPlaces, TwoOwners, LeavesOthers, LeavesFolds}
+use Rattle.xsk_model.specs.Laws.{OneHolder, FramesByOwn, HadAndDistinct, InOrder, PeekInOrder, PartsByOwn, ItemsByOwn, WithinSize, LawfulItems, FittingReplies, FittingGifts, OwnEntries, OneCompletion, SentInOrder, MarkNumbers, OwnPlaces, OwnMarkPlaces, TwoOwners, LeavesOthers, LeavesFolds}
 use Rattle.xsk_model.specs.declared.call.Ring.{Ring}
 use Rattle.xsk_model.specs.declared.call.Call.TheVariants.{Peek}
 use Rattle.xsk_model.proofs.Counting.{times-range_past, times-range_within}
@@ -23,6 +23,10 @@ use Rattle.xsk_model.proofs.Histories.{history_first, history_sound}
 use Rattle.xsk_model.proofs.Replies.{times-had, history_entry, entry_fits, gift_fits}
 use Rattle.xsk_model.proofs.Distinct.{had_and_distinct, times-had_and_distinct}
 use Rattle.xsk_model.proofs.Roles.{two_owners}
+use Rattle.xsk_model.proofs.OwnRuns.{history_own}
+use Rattle.xsk_model.proofs.Sendings.{sent_is, peeked_is}
+use Rattle.xsk_model.proofs.Completions.{one_completion}
+use Rattle.xsk_model.specs.Packets.{packets, whole_packets, bytes_of}
 
 pub one_holder : OneHolder
 one_holder c frames past later history =
@@ -103,3 +107,15 @@ leaves_others c s who other call r has known = (
 
 pub leaves_folds : LeavesFolds
 leaves_folds change r n who past e = (λ off. part_of_own-push_other change r n who past e off, λ apart. own-push_other who past e apart)
+
+pub own_entries : OwnEntries
+own_entries c frames h who history = history_own c frames h who history
+
+pub completes_one : OneCompletion
+completes_one c d mine items goes legal = one_completion c d mine items goes legal
+
+pub sent_in_order : SentInOrder
+sent_in_order c frames h d socket history =
+    sent_is c socket (own d h)
+        ∙ ap (λ items. map (bytes_of c.geometry c.sg) (take (sending_of c socket (own d h)).completed (whole_packets (packets c.geometry c.sg items))))
+            (peeked_is c d socket (own d h) (history_own c frames h d history))

@@ -96,7 +96,7 @@ OwnEntries = (c : Config) (frames : List Frame) (h : List Entry) (who : ℕ) →
 
 -- each Submit on COMPLETION completes one packet of one TX ring
 abbrev pub OneCompletion : Type 0
-OneCompletion = (c : Config) (d : ℕ) (mine : List Told) (items : List Item) → IsConfig c → OwnGoesOn c d [] mine → IsLegal c mine d (Submit (Comp d) items)
+OneCompletion = (c : Config) (d : ℕ) (mine : List Told) (items : List Item) → OwnGoesOn c d [] mine → IsLegal c mine d (Submit (Comp d) items)
     → length (completed_in c (sockets_of c d) mine (Submit (Comp d) items)) ≡ 1
 
 -- what a driver sent of a socket's packets are the first Whole packets of all that it peeked on the TX ring

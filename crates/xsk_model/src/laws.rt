@@ -1,6 +1,6 @@
 //! The laws of the object, each the contract of a function that does nothing. They are stated in `specs/Laws.antt`.
 
-ghost use Rattle.xsk_model.specs.Laws.{OneHolder, FramesByOwn, HadAndDistinct, InOrder, PeekInOrder, PartsByOwn, ItemsByOwn, WithinSize, LawfulItems, FittingReplies, FittingGifts, MarkNumbers, OwnPlaces, OwnMarkPlaces, TwoOwners, LeavesOthers, LeavesFolds};
+ghost use Rattle.xsk_model.specs.Laws.{OneHolder, FramesByOwn, HadAndDistinct, InOrder, PeekInOrder, PartsByOwn, ItemsByOwn, WithinSize, LawfulItems, FittingReplies, FittingGifts, OwnEntries, OneCompletion, SentInOrder, MarkNumbers, OwnPlaces, OwnMarkPlaces, TwoOwners, LeavesOthers, LeavesFolds};
 
 /// After each prefix of a history each frame has one holder: a caller that has it, or a ring in which it is out.
 pub fn one_holder()
@@ -56,6 +56,24 @@ pub fn fitting_replies()
 pub fn fitting_gifts()
     ensures { FittingGifts }
 {}
+
+/// A caller's own entries in a history are legal calls with fitting replies.
+pub fn own_entries()
+    ensures { OwnEntries }
+{
+}
+
+/// Each Submit on COMPLETION completes one packet of one TX ring.
+pub fn one_completion()
+    ensures { OneCompletion }
+{
+}
+
+/// What a driver sent of a socket's packets are the first Whole packets of all that it peeked on the TX ring.
+pub fn sent_in_order()
+    ensures { SentInOrder }
+{
+}
 
 /// A cell has its configured number, and each other mark 0 or 1.
 pub fn mark_numbers()
