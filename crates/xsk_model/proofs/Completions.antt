@@ -1,9 +1,9 @@
 -- Each Submit on COMPLETION completes one packet of one TX ring: the frames of the packets that wait, on all TX rings of
 -- a driver, are with that driver, each once.
-use Rattle.std.proofs.Common.{◌≡◌, ◌≢◌, ℕ, zero, suc, ◌+◌, ◌-◌, ◌*◌, ◌<◌, ◌≤◌, ◌⊎◌, inl, inr, Bool, true, false, cond, eqb, ◌&&◌, nat_lt, List, [], ◌∷◌, ◌++◌, length, get_or, take, drop, map, flat_map, All, Option, Some, None, refl, sym, ap, subst, ◌∙◌, ⊎_elim, arith, append_assoc, append-nil, length-append, take-append-drop, drop-drop, add-mul, mul-le-mul_right, mul-le-mul_left, eq-eqb, ne_eqb, lt-ltb, le-ltb, eqb-true, ◌/◌}
+use Rattle.std.proofs.Common.{◌≡◌, ℕ, zero, suc, ◌+◌, ◌-◌, ◌*◌, ◌<◌, ◌≤◌, inl, inr, Bool, true, false, cond, eqb, ◌&&◌, nat_lt, List, [], ◌∷◌, ◌++◌, length, get_or, drop, map, flat_map, All, Option, Some, None, refl, sym, ap, subst, ◌∙◌, ⊎_elim, arith, length-append, take-append-drop, drop-drop, add-mul, mul-le-mul_right, mul-le-mul_left, eq-eqb, ne_eqb, lt-ltb, le-ltb, eqb-true, ◌/◌}
 use Rattle.std.specs.Prelude.{IsTrue}
 use Rattle.std.specs.Option.{option_map}
-use Rattle.std.proofs.lemmas.Bool.{cases_Bool, cases_eq, cases_lt, and_parts, and_from}
+use Rattle.std.proofs.lemmas.Bool.{cases_eq, cases_lt, and_parts, and_from}
 use Rattle.std.proofs.lemmas.List.{drop-append-le, get_or-map, get_or_at, length-map}
 use Rattle.std.proofs.lemmas.List.Concat.{flat_map-append}
 use Rattle.std.proofs.lemmas.List.Elements.{All-nil, All-cons, All-head, All-tail, All-drop}
@@ -11,16 +11,16 @@ use Rattle.std.proofs.lemmas.List.Sums.{fold_push}
 use Rattle.xsk_umem.specs.Frame.{Frame}
 use Rattle.xsk_umem.specs.Geometry.{Geometry, area_of, frame_of}
 use Rattle.xsk_umem.specs.declared.batch.Item.{Item}
-use Rattle.xsk_model.specs.Config.{Config, IsConfig, HasRing, pair_at, socket_at}
+use Rattle.xsk_model.specs.Config.{Config, pair_at}
 use Rattle.xsk_model.specs.Descriptor.{is_valid, is_inside, has_bytes, fits_chunk, has_known_options}
-use Rattle.xsk_model.specs.Packets.{Packet, whole, bad, packets, packets_from, rest, rest_from, whole_packets, items_of, IsWhole, IsPacket}
+use Rattle.xsk_model.specs.Packets.{Packet, whole, bad, packets, packets_from, rest, whole_packets, items_of, IsWhole, IsPacket}
 use Rattle.xsk_model.specs.Numbers.{times, without, number_of, numbers}
-use Rattle.xsk_model.specs.Rings.{is_ring, port_of, queue_of, producer, app_of}
-use Rattle.xsk_model.specs.Object.{submitted, taken, had_after}
+use Rattle.xsk_model.specs.Rings.{is_ring}
+use Rattle.xsk_model.specs.Object.{submitted, taken}
 use Rattle.xsk_model.specs.Entry.{Told}
 use Rattle.xsk_model.specs.Own.{Sending, had_of, is_fill_peek, fill_step, is_from_fill, is_same, waiting, completed_by, sending_after, sending_of}
 use Rattle.xsk_model.specs.Legal.{IsLegal, IsItemOn, AreCompleted}
-use Rattle.xsk_model.specs.History.{Fits, AreFresh, OwnGoesOn}
+use Rattle.xsk_model.specs.History.{Fits, OwnGoesOn}
 use Rattle.xsk_model.specs.Sent.{sockets_from, sockets_of, completed_in}
 use Rattle.xsk_model.specs.declared.config.SocketInfo.{SocketInfo}
 use Rattle.xsk_model.specs.declared.call.Ring.{Ring}
@@ -28,12 +28,12 @@ use Rattle.xsk_model.specs.declared.call.Ring.TheVariants.{Fill, Comp, Rx, Tx}
 use Rattle.xsk_model.specs.declared.call.Call.{Call}
 use Rattle.xsk_model.specs.declared.call.Call.TheVariants.{Reserve, Submit, Peek, Release, Swap, Look}
 use Rattle.xsk_model.specs.declared.call.Reply.{Reply}
-use Rattle.xsk_model.specs.declared.call.Reply.TheVariants.{Granted, Full, Submitted, Items, Empty, Released, Old}
-use Rattle.xsk_model.proofs.PacketsLaws.{packets_from-append, rest_from-append, packets-items, packets-made}
+use Rattle.xsk_model.specs.declared.call.Reply.TheVariants.{Submitted}
+use Rattle.xsk_model.proofs.PacketsLaws.{packets_from-append, packets-items, packets-made}
 use Rattle.xsk_model.proofs.Counting.{times-append, times-without, numbers-append}
 use Rattle.xsk_model.proofs.Folds.{had_of-push}
-use Rattle.xsk_model.proofs.OwnRuns.{own_all, fits_taken, IsPeeked}
-use Rattle.xsk_model.proofs.Sendings.{wholes, more_wholes, wholes-append, sending_of-push, completed_by-front, IsWithin, within-push}
+use Rattle.xsk_model.proofs.OwnRuns.{own_all, fits_taken}
+use Rattle.xsk_model.proofs.Sendings.{wholes, wholes-append, sending_of-push, completed_by-front, IsWithin, within-push}
 
 -- ---- the frames of one TX ring that are not yet completed
 
@@ -45,8 +45,13 @@ kept c u = flat_map numbers (waiting c u) ++ numbers (rest c.geometry c.sg u.pee
 whole_part : (n : ℕ) (ps : List Packet) → times n (flat_map numbers (whole_packets ps)) ≤ times n (numbers (flat_map items_of ps))
 whole_part n [] = omega arith
 whole_part n (whole items ∷ ps) =
-    omega (arith, whole_part n ps, times-append n (numbers items) (flat_map numbers (whole_packets ps)),
-        ap (times n) (numbers-append items (flat_map items_of ps)), times-append n (numbers items) (numbers (flat_map items_of ps)))
+    omega (
+      arith,
+      whole_part n ps,
+      times-append n (numbers items) (flat_map numbers (whole_packets ps)),
+      ap (times n) (numbers-append items (flat_map items_of ps)),
+      times-append n (numbers items) (numbers (flat_map items_of ps)),
+    )
 whole_part n (bad items ∷ ps) =
     omega (arith, whole_part n ps, ap (times n) (numbers-append items (flat_map items_of ps)), times-append n (numbers items) (numbers (flat_map items_of ps)))
 
@@ -58,7 +63,7 @@ times-packets : (n : ℕ) (c : Config) (xs : List Item)
     → times n (numbers (flat_map items_of (packets c.geometry c.sg xs))) + times n (numbers (rest c.geometry c.sg xs)) ≡ times n (numbers xs)
 times-packets n c xs =
     sym (times-numbers-append n (flat_map items_of (packets c.geometry c.sg xs)) (rest c.geometry c.sg xs))
-        ∙ ap (λ items. times n (numbers items)) (packets-items c.geometry c.sg xs)
+    ∙ ap (λ items. times n (numbers items)) (packets-items c.geometry c.sg xs)
 
 kept-peek : (n : ℕ) (c : Config) (u : Sending) (items : List Item) → u.completed ≤ length (wholes c u)
     → times n (kept c (record u { peeked = u.peeked ++ items })) ≤ times n (kept c u) + times n (numbers items)
@@ -68,16 +73,24 @@ kept-peek n c u items h =
     let now : List Item = rest c.geometry c.sg (u.peeked ++ items) in
     let split : packets c.geometry c.sg (u.peeked ++ items) ≡ before ++ later = packets_from-append c.geometry c.sg [] u.peeked items in
     let waits : drop u.completed (whole_packets (packets c.geometry c.sg (u.peeked ++ items))) ≡ waiting c u ++ whole_packets later =
-        ap (drop u.completed) (wholes-append c u.peeked items) ∙ drop-append-le u.completed (wholes c u) (whole_packets later) h in
+    ap (drop u.completed) (wholes-append c u.peeked items) ∙ drop-append-le u.completed (wholes c u) (whole_packets later) h in
     let new = ap (λ ws. times n (flat_map numbers ws)) waits
-        ∙ ap (times n) (flat_map-append numbers (waiting c u) (whole_packets later))
-        ∙ times-append n (flat_map numbers (waiting c u)) (flat_map numbers (whole_packets later)) in
+    ∙ ap (times n) (flat_map-append numbers (waiting c u) (whole_packets later))
+    ∙ times-append n (flat_map numbers (waiting c u)) (flat_map numbers (whole_packets later)) in
     let all = ap (λ ps. times n (numbers (flat_map items_of ps))) split
-        ∙ ap (λ xs. times n (numbers xs)) (flat_map-append items_of before later)
-        ∙ times-numbers-append n (flat_map items_of before) (flat_map items_of later) in
-    omega (arith, new, all, whole_part n later, times-packets n c (u.peeked ++ items), times-packets n c u.peeked, times-numbers-append n u.peeked items,
-        times-append n (flat_map numbers (drop u.completed (whole_packets (packets c.geometry c.sg (u.peeked ++ items))))) (numbers now),
-        times-append n (flat_map numbers (waiting c u)) (numbers (rest c.geometry c.sg u.peeked)))
+    ∙ ap (λ xs. times n (numbers xs)) (flat_map-append items_of before later)
+    ∙ times-numbers-append n (flat_map items_of before) (flat_map items_of later) in
+    omega (
+      arith,
+      new,
+      all,
+      whole_part n later,
+      times-packets n c (u.peeked ++ items),
+      times-packets n c u.peeked,
+      times-numbers-append n u.peeked items,
+      times-append n (flat_map numbers (drop u.completed (whole_packets (packets c.geometry c.sg (u.peeked ++ items))))) (numbers now),
+      times-append n (flat_map numbers (waiting c u)) (numbers (rest c.geometry c.sg u.peeked)),
+    )
 
 kept-comp : (n : ℕ) (c : Config) (u : Sending) (items : List Item)
     → times n (kept c (record u { completed = u.completed + length (completed_by items (waiting c u)) })) + times n (flat_map numbers (completed_by items (waiting c u))) ≡ times n (kept c u)
@@ -85,13 +98,17 @@ kept-comp n c u items =
     let done : List (List Item) = completed_by items (waiting c u) in
     let left : drop (u.completed + length done) (wholes c u) ≡ drop (length done) (waiting c u) = sym (drop-drop (length done) u.completed (wholes c u)) in
     let parts : done ++ drop (length done) (waiting c u) ≡ waiting c u =
-        ap (λ ws. ws ++ drop (length done) (waiting c u)) (completed_by-front items (waiting c u)) ∙ take-append-drop (length done) (waiting c u) in
+    ap (λ ws. ws ++ drop (length done) (waiting c u)) (completed_by-front items (waiting c u)) ∙ take-append-drop (length done) (waiting c u) in
     let count = sym (ap (λ ws. times n (flat_map numbers ws)) parts)
-        ∙ ap (times n) (flat_map-append numbers done (drop (length done) (waiting c u)))
-        ∙ times-append n (flat_map numbers done) (flat_map numbers (drop (length done) (waiting c u))) in
-    omega (arith, count, ap (λ ws. times n (flat_map numbers ws)) left,
-        times-append n (flat_map numbers (drop (u.completed + length done) (wholes c u))) (numbers (rest c.geometry c.sg u.peeked)),
-        times-append n (flat_map numbers (waiting c u)) (numbers (rest c.geometry c.sg u.peeked)))
+    ∙ ap (times n) (flat_map-append numbers done (drop (length done) (waiting c u)))
+    ∙ times-append n (flat_map numbers done) (flat_map numbers (drop (length done) (waiting c u))) in
+    omega (
+      arith,
+      count,
+      ap (λ ws. times n (flat_map numbers ws)) left,
+      times-append n (flat_map numbers (drop (u.completed + length done) (wholes c u))) (numbers (rest c.geometry c.sg u.peeked)),
+      times-append n (flat_map numbers (waiting c u)) (numbers (rest c.geometry c.sg u.peeked)),
+    )
 
 -- ---- those of all TX rings of some sockets
 
@@ -107,21 +124,26 @@ total-quiet n c (s ∷ sockets) mine t h =
 
 total-comp : (n : ℕ) (c : Config) (sockets : List ℕ) (mine : List Told) (d : ℕ) (items : List Item) (reply : Reply)
     → total c sockets (mine ++ (record { call = Submit (Comp d) items; reply = reply }) ∷ []) n + times n (flat_map numbers (completed_in c sockets mine (Submit (Comp d) items)))
-        ≡ total c sockets mine n
+    ≡ total c sockets mine n
 total-comp n c [] mine d items reply = omega arith
 total-comp n c (s ∷ sockets) mine d items reply =
     let done : List (List Item) = completed_by items (waiting c (sending_of c s mine)) in
     let others : List (List Item) = completed_in c sockets mine (Submit (Comp d) items) in
-    omega (arith, total-comp n c sockets mine d items reply, kept-comp n c (sending_of c s mine) items,
-        ap (λ u. times n (kept c u)) (sending_of-push c s mine (record { call = Submit (Comp d) items; reply = reply })),
-        ap (times n) (flat_map-append numbers done others), times-append n (flat_map numbers done) (flat_map numbers others))
+    omega (
+      arith,
+      total-comp n c sockets mine d items reply,
+      kept-comp n c (sending_of c s mine) items,
+      ap (λ u. times n (kept c u)) (sending_of-push c s mine (record { call = Submit (Comp d) items; reply = reply })),
+      ap (times n) (flat_map-append numbers done others),
+      times-append n (flat_map numbers done) (flat_map numbers others),
+    )
 
 peeked_at : (c : Config) (s k : ℕ) (mine : List Told) (socket : ℕ) (reply : Reply) (b : Bool) → is_ring (Tx s) (Tx socket) ≡ b
     → sending_of c s (mine ++ (record { call = Peek (Tx socket) k; reply = reply }) ∷ [])
-        ≡ cond b (record (sending_of c s mine) { peeked = (sending_of c s mine).peeked ++ taken reply }) (sending_of c s mine)
+    ≡ cond b (record (sending_of c s mine) { peeked = (sending_of c s mine).peeked ++ taken reply }) (sending_of c s mine)
 peeked_at c s k mine socket reply b e =
     sending_of-push c s mine (record { call = Peek (Tx socket) k; reply = reply })
-        ∙ ap (λ x. cond x (record (sending_of c s mine) { peeked = (sending_of c s mine).peeked ++ taken reply }) (sending_of c s mine)) e
+    ∙ ap (λ x. cond x (record (sending_of c s mine) { peeked = (sending_of c s mine).peeked ++ taken reply }) (sending_of c s mine)) e
 
 here : (s : ℕ) (sockets : List ℕ) (socket : ℕ) → s ≡ socket → times socket (s ∷ sockets) ≡ 1 + times socket sockets
 here s sockets socket e = ap (λ b. cond b 1 0 + times socket sockets) (eq-eqb s socket e)
@@ -136,8 +158,11 @@ module _ (n : ℕ) (c : Config) (mine : List Told) (socket k : ℕ) (reply : Rep
   total-peek_none (s ∷ sockets) h = ⊎_elim
       (λ (e : s ≡ socket). absurd (omega (arith, h, here s sockets socket e)))
       (λ (e : s ≡ socket → ⊥).
-          omega (arith, total-peek_none sockets (omega (arith, h, elsewhere s sockets socket e)),
-              ap (λ u. times n (kept c u)) (peeked_at c s k mine socket reply false (ne_eqb s socket e))))
+      omega (
+        arith,
+        total-peek_none sockets (omega (arith, h, elsewhere s sockets socket e)),
+        ap (λ u. times n (kept c u)) (peeked_at c s k mine socket reply false (ne_eqb s socket e)),
+      ))
       (cases_eq s socket)
 
   total-peek : (sockets : List ℕ) → times socket sockets ≤ 1 → ((s : ℕ) → IsWithin c s mine)
@@ -145,12 +170,18 @@ module _ (n : ℕ) (c : Config) (mine : List Told) (socket k : ℕ) (reply : Rep
   total-peek [] h within = omega arith
   total-peek (s ∷ sockets) h within = ⊎_elim
       (λ (e : s ≡ socket).
-          omega (arith, total-peek_none sockets (omega (arith, h, here s sockets socket e)),
-              ap (λ u. times n (kept c u)) (peeked_at c s k mine socket reply true (eq-eqb s socket e)),
-              kept-peek n c (sending_of c s mine) (taken reply) (within s)))
+      omega (
+        arith,
+        total-peek_none sockets (omega (arith, h, here s sockets socket e)),
+        ap (λ u. times n (kept c u)) (peeked_at c s k mine socket reply true (eq-eqb s socket e)),
+        kept-peek n c (sending_of c s mine) (taken reply) (within s),
+      ))
       (λ (e : s ≡ socket → ⊥).
-          omega (arith, total-peek sockets (omega (arith, h, elsewhere s sockets socket e)) within,
-              ap (λ u. times n (kept c u)) (peeked_at c s k mine socket reply false (ne_eqb s socket e))))
+      omega (
+        arith,
+        total-peek sockets (omega (arith, h, elsewhere s sockets socket e)) within,
+        ap (λ u. times n (kept c u)) (peeked_at c s k mine socket reply false (ne_eqb s socket e)),
+      ))
       (cases_eq s socket)
 
 -- ---- the sockets of a queue
@@ -162,9 +193,12 @@ cond-times false n k xs = omega arith
 sockets_from-below : (k n : ℕ) (sockets : List SocketInfo) (port queue : ℕ) → k < n → times k (sockets_from n sockets port queue) ≡ 0
 sockets_from-below k n [] port queue h = refl
 sockets_from-below k n (socket ∷ sockets) port queue h =
-    omega (arith, sockets_from-below k (n + 1) sockets port queue (omega arith),
-        cond-times (eqb socket.port port && eqb socket.queue queue) k n (sockets_from (n + 1) sockets port queue),
-        elsewhere n (sockets_from (n + 1) sockets port queue) k (λ e. omega arith))
+    omega (
+      arith,
+      sockets_from-below k (n + 1) sockets port queue (omega arith),
+      cond-times (eqb socket.port port && eqb socket.queue queue) k n (sockets_from (n + 1) sockets port queue),
+      elsewhere n (sockets_from (n + 1) sockets port queue) k (λ e. omega arith),
+    )
 
 sockets_from-once : (k n : ℕ) (sockets : List SocketInfo) (port queue : ℕ) → times k (sockets_from n sockets port queue) ≤ 1
 sockets_from-once k n [] port queue = omega arith
@@ -256,21 +290,21 @@ peek_other : (c : Config) (d : ℕ) (mine : List Told) (r : Ring) (k : ℕ) (rep
 peek_other c d mine r k reply fits off h =
     let t : Told = record { call = Peek r k; reply = reply } in
     let still : (s : ℕ) → sending_after c s (sending_of c s mine) (Peek r k) reply ≡ sending_of c s mine =
-        λ s. ap (λ b. cond b (record (sending_of c s mine) { peeked = (sending_of c s mine).peeked ++ taken reply }) (sending_of c s mine)) (off s) in
+    λ s. ap (λ b. cond b (record (sending_of c s mine) { peeked = (sending_of c s mine).peeked ++ taken reply }) (sending_of c s mine)) (off s) in
     record {
       once = once-push c mine t fits h.once;
       within = λ s. within-push c s mine t (h.within s);
       had = λ n. omega (arith, total-quiet n c (sockets_of c d) mine t still, times-had_of-push n mine t, h.had n);
       apart = λ n e. ⊎_elim
           (λ (some : 0 < times n (numbers (taken reply))).
-              elim (fits_taken c mine (Peek r k) reply fits) [
-                | inl none ↦ absurd (omega (arith, some, ap (λ items. times n (numbers items)) none))
-                | inr peeked ↦ omega (arith, total-quiet n c (sockets_of c d) mine t still, h.had n, peeked.3.fresh n, some)
-              ])
+          elim (fits_taken c mine (Peek r k) reply fits) [
+            | inl none ↦ absurd (omega (arith, some, ap (λ items. times n (numbers items)) none))
+            | inr peeked ↦ omega (arith, total-quiet n c (sockets_of c d) mine t still, h.had n, peeked.3.fresh n, some)
+          ])
           (λ (none : times n (numbers (taken reply)) ≤ 0).
-              let before : is_from_fill n mine ≡ true =
-                  ap (λ b. cond b (is_fill_peek (Peek r k)) (is_from_fill n mine)) (sym (not_lt (times n (numbers (taken reply))) none)) ∙ sym (from_fill-push n mine t) ∙ e in
-              total-quiet n c (sockets_of c d) mine t still ∙ h.apart n before)
+          let before : is_from_fill n mine ≡ true =
+          ap (λ b. cond b (is_fill_peek (Peek r k)) (is_from_fill n mine)) (sym (not_lt (times n (numbers (taken reply))) none)) ∙ sym (from_fill-push n mine t) ∙ e in
+          total-quiet n c (sockets_of c d) mine t still ∙ h.apart n before)
           (cases_lt 0 (times n (numbers (taken reply))));
     }
 
@@ -286,13 +320,13 @@ peek_tx c d mine socket k reply fits h =
       had = λ n. omega (arith, total-peek n c mine socket k reply (sockets_of c d) few h.within, times-had_of-push n mine t, h.had n);
       apart = λ n e. ⊎_elim
           (λ (some : 0 < times n (numbers (taken reply))).
-              let not_fill : false ≡ true =
-                  ap (λ b. cond b false (is_from_fill n mine)) (sym (lt-ltb 0 (times n (numbers (taken reply))) some)) ∙ sym (from_fill-push n mine t) ∙ e in
-              absurd (cc))
+          let not_fill : false ≡ true =
+          ap (λ b. cond b false (is_from_fill n mine)) (sym (lt-ltb 0 (times n (numbers (taken reply))) some)) ∙ sym (from_fill-push n mine t) ∙ e in
+          absurd (cc))
           (λ (none : times n (numbers (taken reply)) ≤ 0).
-              let before : is_from_fill n mine ≡ true =
-                  ap (λ b. cond b false (is_from_fill n mine)) (sym (not_lt (times n (numbers (taken reply))) none)) ∙ sym (from_fill-push n mine t) ∙ e in
-              omega (arith, total-peek n c mine socket k reply (sockets_of c d) few h.within, h.apart n before))
+          let before : is_from_fill n mine ≡ true =
+          ap (λ b. cond b false (is_from_fill n mine)) (sym (not_lt (times n (numbers (taken reply))) none)) ∙ sym (from_fill-push n mine t) ∙ e in
+          omega (arith, total-peek n c mine socket k reply (sockets_of c d) few h.within, h.apart n before))
           (cases_lt 0 (times n (numbers (taken reply))));
     }
 
@@ -333,15 +367,21 @@ done_in n c (s ∷ sockets) mine d items =
     let done : List (List Item) = completed_by items (waiting c (sending_of c s mine)) in
     let others : List (List Item) = completed_in c sockets mine (Submit (Comp d) items) in
     let len = ap (λ k. k * times n (numbers items)) (length-append done others) ∙ add-mul (length done) (length others) (times n (numbers items)) in
-    omega (arith, len, done_by n items (waiting c (sending_of c s mine)), done_in n c sockets mine d items,
-        ap (times n) (flat_map-append numbers done others), times-append n (flat_map numbers done) (flat_map numbers others))
+    omega (
+      arith,
+      len,
+      done_by n items (waiting c (sending_of c s mine)),
+      done_in n c sockets mine d items,
+      ap (times n) (flat_map-append numbers done others),
+      times-append n (flat_map numbers done) (flat_map numbers others),
+    )
 
 done_here : (items packet : List Item) (later waits : List (List Item)) → waits ≡ packet ∷ later → numbers items ≡ numbers packet
     → length (completed_by items waits) ≡ 1
 done_here items packet later waits e h =
     ap (λ ws. length (completed_by items ws)) e
-        ∙ ap (λ ns. length (cond (is_same (numbers items) ns) (packet ∷ []) [])) (sym h)
-        ∙ ap (λ b. length (cond b (packet ∷ []) [])) (is_same-self (numbers items))
+    ∙ ap (λ ns. length (cond (is_same (numbers items) ns) (packet ∷ []) [])) (sym h)
+    ∙ ap (λ b. length (cond b (packet ∷ []) [])) (is_same-self (numbers items))
 
 -- a legal Submit on COMPLETION completes a packet of a socket of its queue
 done_some : (c : Config) (d : ℕ) (mine : List Told) (items : List Item) → AreCompleted c mine (Comp d) items
@@ -349,7 +389,7 @@ done_some : (c : Config) (d : ℕ) (mine : List Told) (items : List Item) → Ar
 done_some c d mine items h =
     let here = done_here items h.packet h.later (waiting c (sending_of c h.socket mine)) h.next h.frames in
     let part = part_of_sockets (λ s. completed_by items (waiting c (sending_of c s mine))) 0 h.socket c.sockets (pair_at c.pairs d).port (pair_at c.pairs d).queue
-        (record { port = 0; queue = 0; rx = None; tx = None }) h.tx.0 h.port h.queue in
+    (record { port = 0; queue = 0; rx = None; tx = None }) h.tx.0 h.port h.queue in
     let zero_add : 0 + h.socket ≡ h.socket = omega arith in
     omega (arith, here, part, ap (λ s. length (completed_by items (waiting c (sending_of c s mine)))) zero_add)
 
@@ -386,8 +426,8 @@ module _ (c : Config) (d : ℕ) (below : d < length c.pairs) where
       let none : taken reply ≡ [] = no_items_taken c mine (Submit (Comp e) items) reply fits (λ q k p. cc) in
       let same : d ≡ e = legal.role in
       subst (λ p. IsKept c d (mine ++ (record { call = Submit (Comp p) items; reply = reply }) ∷ [])) same
-          (submit_comp c d mine items reply (subst (λ p. Fits c mine (Submit (Comp p) items) reply) (sym same) fits) none
-              (subst (λ p. AreCompleted c mine (Comp p) items) (sym same) legal.packets) h)
+      (submit_comp c d mine items reply (subst (λ p. Fits c mine (Submit (Comp p) items) reply) (sym same) fits) none
+      (subst (λ p. AreCompleted c mine (Comp p) items) (sym same) legal.packets) h)
   kept_step mine (Submit (Rx s) items) reply legal fits h =
       quiet c d mine (record { call = Submit (Rx s) items; reply = reply }) fits (no_items_taken c mine (Submit (Rx s) items) reply fits (λ q k e. cc)) (λ s. refl) legal.packets.from_fill h
   kept_step mine (Submit (Tx s) items) reply legal fits h = absurd (omega (arith, below, legal.role))
@@ -409,12 +449,12 @@ module _ (c : Config) (d : ℕ) (below : d < length c.pairs) where
   pub own_kept : (mine : List Told) → OwnGoesOn c d [] mine → IsKept c d mine
   own_kept mine goes =
       own_all (IsKept c d) c d [] mine (λ before t legal fits h. kept_step before t.call t.reply legal fits h) goes
-          (record {
-            once = λ n. omega arith;
-            within = λ s. omega arith;
-            had = λ n. omega (arith, total-none (sockets_of c d) n);
-            apart = λ n e. total-none (sockets_of c d) n;
-          })
+      (record {
+        once = λ n. omega arith;
+        within = λ s. omega arith;
+        had = λ n. omega (arith, total-none (sockets_of c d) n);
+        apart = λ n e. total-none (sockets_of c d) n;
+      })
 
 -- ---- a packet has a frame
 
@@ -422,7 +462,7 @@ whole_of_packets : (c : Config) (ps : List Packet) → All (IsPacket c.geometry 
 whole_of_packets c [] h = All-nil (IsWhole c.geometry c.sg)
 whole_of_packets c (whole items ∷ ps) h =
     All-cons (IsWhole c.geometry c.sg) items (whole_packets ps) (All-head (IsPacket c.geometry c.sg) (whole items) ps h)
-        (whole_of_packets c ps (All-tail (IsPacket c.geometry c.sg) (whole items) ps h))
+    (whole_of_packets c ps (All-tail (IsPacket c.geometry c.sg) (whole items) ps h))
 whole_of_packets c (bad items ∷ ps) h = whole_of_packets c ps (All-tail (IsPacket c.geometry c.sg) (bad items) ps h)
 
 waiting_whole : (c : Config) (u : Sending) (packet : List Item) (later : List (List Item)) → waiting c u ≡ packet ∷ later → IsWhole c.geometry c.sg packet
@@ -452,21 +492,21 @@ completed_frame : (c : Config) (d : ℕ) (items packet : List Item) → All (IsI
 completed_frame c d items packet lawful w same =
     let size : length packet ≡ length w.front + 1 = omega (arith, ap length w.is, length-append w.front (w.last ∷ [])) in
     let as_long : length items ≡ length packet =
-        omega (arith, ap length same, length-map items (λ (i : Item). i.desc.addr), length-map packet (λ (i : Item). i.desc.addr)) in
+    omega (arith, ap length same, length-map items (λ (i : Item). i.desc.addr), length-map packet (λ (i : Item). i.desc.addr)) in
     let in_items : length w.front < length items = omega arith in
     let in_packet : length w.front < length packet = omega arith in
     let last_is : get_or packet (length w.front) w.last ≡ w.last =
-        ap (λ xs. get_or xs (length w.front) w.last) w.is ∙ get_or_at w.front w.last [] w.last (length w.front) refl in
+    ap (λ xs. get_or xs (length w.front) w.last) w.is ∙ get_or_at w.front w.last [] w.last (length w.front) refl in
     let address : (get_or items (length w.front) w.last).desc.addr ≡ w.last.desc.addr =
-        sym (get_or-map (λ (i : Item). i.desc.addr) items (length w.front) w.last 0 in_items)
-            ∙ ap (λ xs. get_or xs (length w.front) 0) same
-            ∙ get_or-map (λ (i : Item). i.desc.addr) packet (length w.front) w.last 0 in_packet
-            ∙ ap (λ (i : Item). i.desc.addr) last_is in
+    sym (get_or-map (λ (i : Item). i.desc.addr) items (length w.front) w.last 0 in_items)
+    ∙ ap (λ xs. get_or xs (length w.front) 0) same
+    ∙ get_or-map (λ (i : Item). i.desc.addr) packet (length w.front) w.last 0 in_packet
+    ∙ ap (λ (i : Item). i.desc.addr) last_is in
     let inside : nat_lt w.last.desc.addr (area_of c.geometry) ≡ true = valid_inside c w.last w.valid in
     let mine : IsItemOn c.geometry (Comp d) (get_or items (length w.front) w.last) = lawful (length w.front) w.last in_items in
     let has : 1 ≤ length (number_of (get_or items (length w.front) w.last).frame) =
-        framed c.geometry (get_or items (length w.front) w.last).frame (get_or items (length w.front) w.last).desc.addr mine.frame
-            (ap (λ a. nat_lt a (area_of c.geometry)) address ∙ inside) in
+    framed c.geometry (get_or items (length w.front) w.last).frame (get_or items (length w.front) w.last).desc.addr mine.frame
+    (ap (λ a. nat_lt a (area_of c.geometry)) address ∙ inside) in
     let some = some_number (number_of (get_or items (length w.front) w.last).frame) has in
     (some.0, omega (arith, some.1, times-numbers-at some.0 items (length w.front) w.last in_items))
   where
@@ -484,5 +524,12 @@ one_completion c d mine items goes legal =
     let packet_whole = waiting_whole c (sending_of c completed.socket mine) completed.packet completed.later completed.next in
     let frame : (n : ℕ) × (1 ≤ times n (numbers items)) = completed_frame c d items completed.packet legal.items packet_whole completed.addresses in
     let most = mul-le-mul_left (length (completed_in c (sockets_of c d) mine (Submit (Comp d) items))) frame.1 in
-    omega (arith, done_some c d mine items completed, most, total-comp frame.0 c (sockets_of c d) mine d items Submitted,
-        done_in frame.0 c (sockets_of c d) mine d items, kept.had frame.0, kept.once frame.0)
+    omega (
+      arith,
+      done_some c d mine items completed,
+      most,
+      total-comp frame.0 c (sockets_of c d) mine d items Submitted,
+      done_in frame.0 c (sockets_of c d) mine d items,
+      kept.had frame.0,
+      kept.once frame.0,
+    )

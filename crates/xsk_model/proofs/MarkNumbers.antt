@@ -1,5 +1,5 @@
 -- A cell keeps its configured number, and each other mark is 0 or 1.
-use Rattle.std.proofs.Common.{◌≡◌, ◌≢◌, ℕ, zero, suc, ◌+◌, ◌-◌, ◌*◌, ◌<◌, ◌≤◌, List, [], ◌∷◌, ◌++◌, length, get_or, set, take, replicate, All, flat_map, refl, sym, ap, subst, ◌∙◌, ⊎_elim, arith, length-set, length-take, get_or-set_same, get_or-set_other, length-append}
+use Rattle.std.proofs.Common.{◌≡◌, ℕ, ◌+◌, ◌-◌, ◌*◌, ◌<◌, ◌≤◌, List, [], ◌++◌, length, get_or, set, take, replicate, flat_map, sym, ap, subst, ◌∙◌, ⊎_elim, arith, length-take, get_or-set_same, get_or-set_other}
 use Rattle.std.proofs.lemmas.Bool.{cases_eq}
 use Rattle.std.proofs.lemmas.List.{length-replicate, get_or-replicate, get_or_append_left, get_or-append_right}
 use Rattle.std.proofs.lemmas.List.Concat.{get_or-flat_map}
@@ -7,7 +7,7 @@ use Rattle.std.proofs.lemmas.List.Elements.{All-take}
 use Rattle.xsk_umem.specs.Frame.{Frame}
 use Rattle.xsk_model.specs.Config.{Config, IsConfig, IsMap, map_of}
 use Rattle.xsk_model.specs.Marks.{HasMark, MaySwap, apps_of, mark_place, mark_places_of}
-use Rattle.xsk_model.specs.Object.{State, mark_at, marks_after, after}
+use Rattle.xsk_model.specs.Object.{State, mark_at, after}
 use Rattle.xsk_model.specs.Entry.{Told}
 use Rattle.xsk_model.specs.Legal.{IsLegal}
 use Rattle.xsk_model.specs.Opening.{opening_cells, opening}

@@ -1,7 +1,7 @@
 -- Each mark has a place of its own.
-use Rattle.std.proofs.Common.{◌≡◌, ℕ, ◌+◌, ◌*◌, ◌/◌, ◌<◌, ◌≤◌, List, [], ◌∷◌, length, get_or, All, refl, sym, ap, ◌∙◌, arith}
-use Rattle.xsk_model.specs.Config.{Config, IsConfig, IsMap, HasRing, map_of}
-use Rattle.xsk_model.specs.Marks.{HasMark, apps_of, mark_place, mark_places_of}
+use Rattle.std.proofs.Common.{◌≡◌, ℕ, ◌+◌, ◌*◌, ◌<◌, [], length, ap, arith}
+use Rattle.xsk_model.specs.Config.{Config, IsConfig, IsMap, map_of}
+use Rattle.xsk_model.specs.Marks.{HasMark, mark_place, mark_places_of}
 use Rattle.xsk_model.specs.declared.call.Mark.{Mark}
 use Rattle.xsk_model.specs.declared.call.Mark.TheVariants.{NeedFill, NeedTx, Kick, RxDone, Gone, TxDone, Cell}
 

@@ -1,5 +1,5 @@
 -- What holds at the opening.
-use Rattle.std.proofs.Common.{◌≡◌, ◌≢◌, ℕ, zero, suc, ◌+◌, ◌-◌, ◌*◌, ◌/◌, ◌%◌, ◌^◌, ◌<◌, ◌≤◌, ◌⊎◌, Bool, true, false, cond, nat_lt, List, [], ◌∷◌, ◌++◌, length, get_or, take, drop, map, replicate, All, flat_map, Option, Some, None, refl, sym, ap, subst, ◌∙◌, ⊎_elim, arith, append_assoc, append-nil, length-append, length-take, length-drop, take-append-drop, lt-ltb, mul-div_cancel, mul-lt-mul_of_pos_right, mul-le-mul, suc-mul}
+use Rattle.std.proofs.Common.{◌≡◌, ℕ, zero, suc, ◌+◌, ◌-◌, ◌*◌, ◌/◌, ◌%◌, ◌^◌, ◌<◌, ◌≤◌, true, cond, nat_lt, List, [], ◌∷◌, ◌++◌, length, get_or, take, drop, map, replicate, All, flat_map, Some, None, refl, sym, ap, subst, ◌∙◌, arith, append-nil, length-append, length-take, length-drop, take-append-drop, lt-ltb, mul-div_cancel, mul-lt-mul_of_pos_right, mul-le-mul, suc-mul}
 use Rattle.std.specs.List.{range_with_len}
 use Rattle.std.proofs.lemmas.List.{length-map, length-replicate, get_or_past, get_or-map, map-append, nil_from_length}
 use Rattle.std.proofs.lemmas.List.Concat.{flat_map-append}
@@ -8,18 +8,16 @@ use Rattle.std.proofs.lemmas.List.FromFn.{length-range_with_len, get_or-range_wi
 use Rattle.xsk_umem.specs.Frame.{Frame}
 use Rattle.xsk_umem.specs.Geometry.{Geometry, IsGeometry, frame_of}
 use Rattle.xsk_umem.specs.declared.batch.Item.{Item}
-use Rattle.xsk_model.specs.Config.{Config, IsConfig, IsLawful, IsMap, HasRing, size_of, pair_at, pool_of, callers_of}
+use Rattle.xsk_model.specs.Config.{Config, IsConfig, IsMap, HasRing, size_of, pool_of, callers_of}
 use Rattle.xsk_model.specs.Numbers.{times, numbers}
 use Rattle.xsk_model.specs.Rings.{place, places_of}
 use Rattle.xsk_model.specs.Marks.{mark_places_of, apps_of}
-use Rattle.xsk_model.specs.Object.{RingState, State, empty_ring, ring_at, had_by}
-use Rattle.xsk_model.specs.Own.{had_of}
+use Rattle.xsk_model.specs.Object.{RingState, empty_ring, ring_at, had_by}
 use Rattle.xsk_model.specs.Legal.{IsItemOn}
-use Rattle.xsk_model.specs.Opening.{AreFrames, IsOpened, home_item, home_ring, home_rings, opening_cells, opening}
+use Rattle.xsk_model.specs.Opening.{AreFrames, IsOpened, home_item, home_rings, opening_cells, opening}
 use Rattle.xsk_model.specs.Holders.{holders, out_numbers}
 use Rattle.xsk_model.specs.declared.call.Ring.{Ring}
 use Rattle.xsk_model.specs.declared.call.Ring.TheVariants.{Fill, Comp, Rx, Tx}
-use Rattle.xsk_model.proofs.Counting.{times-append}
 use Rattle.xsk_model.proofs.Sound.{IsRingSound}
 
 -- ---- lists that end in blanks

@@ -1,10 +1,10 @@
 -- What a caller knows of a history by its own entries.
-use Rattle.std.proofs.Common.{◌≡◌, ◌≢◌, ℕ, ◌+◌, ◌≤◌, ◌⊎◌, inl, inr, ⊎_elim, cond, eqb, List, [], ◌∷◌, ◌++◌, length, refl, sym, ap, subst, ◌∙◌, append_assoc, append-nil, arith, eq-eqb, ne_eqb}
+use Rattle.std.proofs.Common.{◌≡◌, ℕ, ◌⊎◌, inl, inr, ⊎_elim, cond, List, [], ◌∷◌, ◌++◌, refl, sym, subst, append_assoc, append-nil, eq-eqb, ne_eqb}
 use Rattle.std.proofs.lemmas.Bool.{cases_eq}
 use Rattle.xsk_umem.specs.Frame.{Frame}
 use Rattle.xsk_umem.specs.declared.batch.Item.{Item}
 use Rattle.xsk_model.specs.Config.{Config, IsConfig}
-use Rattle.xsk_model.specs.Object.{State, reply_at, taken, after}
+use Rattle.xsk_model.specs.Object.{State, taken, after}
 use Rattle.xsk_model.specs.Entry.{Told, Entry, told, own}
 use Rattle.xsk_model.specs.Legal.{IsLegal}
 use Rattle.xsk_model.specs.Opening.{opening}
@@ -25,19 +25,19 @@ pub own_goes : (c : Config) (frames : List Frame) (s : State) (past h : List Ent
 own_goes c frames s past [] who config sound goes = tt
 own_goes c frames s past (e ∷ es) who config sound goes =
     let later : OwnGoesOn c who (own who (past ++ e ∷ [])) (own who es) =
-        own_goes c frames (after c s e.who e.call) (past ++ e ∷ []) es who config (sound_step c frames s past e config sound goes.0 goes.1) goes.2 in
+    own_goes c frames (after c s e.who e.call) (past ++ e ∷ []) es who config (sound_step c frames s past e config sound goes.0 goes.1) goes.2 in
     ⊎_elim
     (λ (one : e.who ≡ who).
-        let fits : Fits c (own e.who past) e.call e.reply = subst (Fits c (own e.who past) e.call) (sym goes.1) (reply_fits c frames s past e.who e.call sound goes.0) in
-        let here : OwnGoesOn c who (own who past) (told e ∷ own who es) = (
-          subst (λ w. IsLegal c (own w past) w e.call) one goes.0,
-          subst (λ w. Fits c (own w past) e.call e.reply) one fits,
-          subst (λ p. OwnGoesOn c who p (own who es)) (own-push_same who past e one) later,
-        ) in
-        subst (λ b. OwnGoesOn c who (own who past) (cond b (told e ∷ own who es) (own who es))) (sym (eq-eqb e.who who one)) here)
+    let fits : Fits c (own e.who past) e.call e.reply = subst (Fits c (own e.who past) e.call) (sym goes.1) (reply_fits c frames s past e.who e.call sound goes.0) in
+    let here : OwnGoesOn c who (own who past) (told e ∷ own who es) = (
+      subst (λ w. IsLegal c (own w past) w e.call) one goes.0,
+      subst (λ w. Fits c (own w past) e.call e.reply) one fits,
+      subst (λ p. OwnGoesOn c who p (own who es)) (own-push_same who past e one) later,
+    ) in
+    subst (λ b. OwnGoesOn c who (own who past) (cond b (told e ∷ own who es) (own who es))) (sym (eq-eqb e.who who one)) here)
     (λ (other : e.who ≡ who → ⊥).
-        subst (λ b. OwnGoesOn c who (own who past) (cond b (told e ∷ own who es) (own who es))) (sym (ne_eqb e.who who other))
-            (subst (λ p. OwnGoesOn c who p (own who es)) (own-push_other who past e other) later))
+    subst (λ b. OwnGoesOn c who (own who past) (cond b (told e ∷ own who es) (own who es))) (sym (ne_eqb e.who who other))
+    (subst (λ p. OwnGoesOn c who p (own who es)) (own-push_other who past e other) later))
     (cases_eq e.who who)
 
 pub history_own : (c : Config) (frames : List Frame) (h : List Entry) (who : ℕ) → IsHistory c frames h → OwnGoesOn c who [] (own who h)

@@ -1,30 +1,27 @@
 -- Each reply of a history fits its call.
-use Rattle.std.proofs.Common.{◌≡◌, ◌≢◌, ℕ, zero, suc, ◌+◌, ◌-◌, ◌<◌, ◌≤◌, Bool, true, false, cond, eqb, eq-eqb, ne_eqb, nat_le, List, [], ◌∷◌, ◌++◌, length, get_or, take, drop, All, flat_map, refl, sym, ap, subst, ◌∙◌, ⊎_elim, arith, leb-false, length-append, length-take, take-append-drop, append_assoc}
+use Rattle.std.proofs.Common.{◌≡◌, ℕ, zero, suc, ◌+◌, ◌<◌, ◌≤◌, Bool, true, false, cond, eqb, eq-eqb, ne_eqb, nat_le, List, [], ◌∷◌, ◌++◌, length, get_or, take, drop, All, flat_map, refl, sym, ap, subst, ◌∙◌, ⊎_elim, arith, leb-false, length-append, length-take, take-append-drop}
 use Rattle.std.specs.List.{range_with_len}
-use Rattle.std.proofs.lemmas.Bool.{cases_Bool, cases_lt, cases_eq}
-use Rattle.std.proofs.lemmas.List.{get_or_past}
+use Rattle.std.proofs.lemmas.Bool.{cases_lt, cases_eq}
 use Rattle.std.proofs.lemmas.List.Elements.{All-take}
-use Rattle.std.proofs.lemmas.List.{drop-map}
 use Rattle.xsk_umem.specs.Frame.{Frame}
 use Rattle.xsk_umem.specs.declared.batch.Item.{Item}
-use Rattle.xsk_model.specs.Config.{Config, HasRing, size_of}
+use Rattle.xsk_model.specs.Config.{Config, size_of}
 use Rattle.xsk_model.specs.Numbers.{times, numbers}
 use Rattle.xsk_model.specs.Rings.{place}
-use Rattle.xsk_model.specs.Object.{RingState, State, empty_ring, ring_at, had_by, free, reserve_reply, peek_reply, reply_at}
+use Rattle.xsk_model.specs.Object.{State, empty_ring, ring_at, free, peek_reply, reply_at}
 use Rattle.xsk_model.specs.Entry.{Told, Entry, told, own}
 use Rattle.xsk_model.specs.Own.{had_of}
-use Rattle.xsk_model.specs.Legal.{IsLegal, IsItemOn, IsKnown, IsCounted}
-use Rattle.xsk_model.specs.History.{GoesOn, IsHistory, state_after, after_all, MayGive, AreFresh, Fits}
+use Rattle.xsk_model.specs.Legal.{IsLegal, IsItemOn}
+use Rattle.xsk_model.specs.History.{GoesOn, IsHistory, state_after, MayGive, Fits}
 use Rattle.xsk_model.specs.Opening.{opening}
-use Rattle.xsk_model.specs.Holders.{holders, out_numbers}
+use Rattle.xsk_model.specs.Holders.{out_numbers}
 use Rattle.xsk_model.specs.declared.call.Ring.{Ring}
 use Rattle.xsk_model.specs.declared.call.Call.{Call}
 use Rattle.xsk_model.specs.declared.call.Call.TheVariants.{Reserve, Submit, Peek, Release, Swap, Look}
 use Rattle.xsk_model.specs.declared.call.Reply.{Reply}
-use Rattle.xsk_model.specs.declared.call.Reply.TheVariants.{Granted, Full, Submitted, Items, Empty, Released, Old}
+use Rattle.xsk_model.specs.declared.call.Reply.TheVariants.{Granted, Full}
 use Rattle.xsk_model.proofs.Counting.{times-append, times-range_past, times-range_within, numbers-append}
-use Rattle.xsk_model.proofs.Sound.{IsRingSound}
-use Rattle.xsk_model.proofs.Histories.{IsSound, history_first, history_sound, goes_first, goes_rest}
+use Rattle.xsk_model.proofs.Histories.{IsSound, history_first, history_sound, goes_rest}
 
 -- ---- one holder
 

@@ -1,10 +1,9 @@
 -- Who produces and who consumes a ring: two callers, below the number of callers.
-use Rattle.std.proofs.Common.{◌≡◌, ◌≢◌, ℕ, zero, suc, ◌+◌, ◌*◌, ◌/◌, ◌<◌, ◌≤◌, ◌⊎◌, Bool, true, false, cond, eqb, ◌&&◌, List, [], ◌∷◌, length, get_or, All, None, refl, sym, ap, subst, ◌∙◌, ⊎_elim, arith, eqb-true, eq-eqb, mul-le-mul_right}
+use Rattle.std.proofs.Common.{◌≡◌, ◌≢◌, ℕ, zero, suc, ◌+◌, ◌*◌, ◌/◌, ◌<◌, ◌≤◌, ◌⊎◌, Bool, true, false, cond, eqb, ◌&&◌, List, [], ◌∷◌, length, get_or, None, sym, ap, subst, ◌∙◌, ⊎_elim, arith, eqb-true, eq-eqb, mul-le-mul_right}
 use Rattle.std.proofs.lemmas.Bool.{cases_Bool, and_parts, and_from}
-use Rattle.std.proofs.lemmas.List.{get_or_default}
 use Rattle.std.proofs.lemmas.List.Sums.{sum_by-cons}
 use Rattle.xsk_model.specs.Config.{Config, IsConfig, IsBound, IsServed, HasRing, pairs_at, pair_at, socket_at, callers_of}
-use Rattle.xsk_model.specs.Rings.{pair_on, application_on, port_of, queue_of, driver_of, app_of, producer, consumer}
+use Rattle.xsk_model.specs.Rings.{pair_on, port_of, queue_of, driver_of, app_of, producer, consumer}
 use Rattle.xsk_model.specs.declared.config.PairInfo.{PairInfo}
 use Rattle.xsk_model.specs.declared.config.SocketInfo.{SocketInfo}
 use Rattle.xsk_model.specs.declared.call.Ring.{Ring}

@@ -1,28 +1,24 @@
 -- What a driver has done with a TX ring, and what it sent.
-use Rattle.std.proofs.Common.{◌≡◌, ◌≢◌, ℕ, zero, suc, ◌+◌, ◌-◌, ◌≤◌, ◌⊎◌, inl, inr, Bool, true, false, cond, List, [], ◌∷◌, ◌++◌, length, take, drop, map, flat_map, refl, sym, ap, subst, ◌∙◌, ⊎_elim, arith, append_assoc, append-nil, length-append, length-drop, take-add}
-use Rattle.std.proofs.lemmas.Bool.{cases_Bool}
-use Rattle.std.proofs.lemmas.List.{map-append, take-append-le, drop-append-le}
+use Rattle.std.proofs.Common.{◌≡◌, ℕ, ◌≤◌, inl, inr, Bool, true, false, cond, List, [], ◌∷◌, ◌++◌, length, take, map, refl, sym, ap, subst, ◌∙◌, arith, append_assoc, append-nil, length-append, length-drop, take-add}
+use Rattle.std.proofs.lemmas.List.{map-append, take-append-le}
 use Rattle.std.proofs.lemmas.List.Sums.{fold_push}
-use Rattle.xsk_umem.specs.Geometry.{Geometry}
 use Rattle.xsk_umem.specs.declared.batch.Item.{Item}
 use Rattle.xsk_model.specs.Config.{Config}
 use Rattle.xsk_model.specs.Packets.{Packet, whole, bad, packets, packets_from, rest, whole_packets, bytes_of}
 use Rattle.xsk_model.specs.Numbers.{numbers}
 use Rattle.xsk_model.specs.Rings.{is_ring}
 use Rattle.xsk_model.specs.Object.{taken}
-use Rattle.xsk_model.specs.Entry.{Told, Entry, own}
-use Rattle.xsk_model.specs.Own.{Sending, is_on, is_same, waiting, completed_by, sending_after, sending_step, sending_of, part_of, peeked_step, peeked_of}
-use Rattle.xsk_model.specs.Legal.{IsLegal}
+use Rattle.xsk_model.specs.Entry.{Told}
+use Rattle.xsk_model.specs.Own.{Sending, is_on, is_same, waiting, completed_by, sending_after, sending_step, sending_of, peeked_step, peeked_of}
 use Rattle.xsk_model.specs.History.{Fits, OwnGoesOn}
 use Rattle.xsk_model.specs.Sent.{completed_in, sent_from}
-use Rattle.xsk_model.specs.declared.call.Ring.{Ring}
 use Rattle.xsk_model.specs.declared.call.Ring.TheVariants.{Fill, Comp, Rx, Tx}
 use Rattle.xsk_model.specs.declared.call.Call.{Call}
 use Rattle.xsk_model.specs.declared.call.Call.TheVariants.{Reserve, Submit, Peek, Release, Swap, Look}
 use Rattle.xsk_model.specs.declared.call.Reply.{Reply}
 use Rattle.xsk_model.proofs.PacketsLaws.{packets_from-append}
 use Rattle.xsk_model.proofs.Folds.{part_of-push}
-use Rattle.xsk_model.proofs.OwnRuns.{own_all, fits_taken, IsPeeked}
+use Rattle.xsk_model.proofs.OwnRuns.{own_all, fits_taken}
 
 pub whole_packets-append : (ps qs : List Packet) → whole_packets (ps ++ qs) ≡ whole_packets ps ++ whole_packets qs
 whole_packets-append [] qs = refl
@@ -41,7 +37,7 @@ pub wholes-append : (c : Config) (peeked items : List Item)
     → whole_packets (packets c.geometry c.sg (peeked ++ items)) ≡ whole_packets (packets c.geometry c.sg peeked) ++ more_wholes c peeked items
 wholes-append c peeked items =
     ap whole_packets (packets_from-append c.geometry c.sg [] peeked items)
-        ∙ whole_packets-append (packets c.geometry c.sg peeked) (packets_from c.geometry c.sg (rest c.geometry c.sg peeked) items)
+    ∙ whole_packets-append (packets c.geometry c.sg peeked) (packets_from c.geometry c.sg (rest c.geometry c.sg peeked) items)
 
 pub sending_of-push : (c : Config) (s : ℕ) (mine : List Told) (t : Told) → sending_of c s (mine ++ t ∷ []) ≡ sending_after c s (sending_of c s mine) t.call t.reply
 sending_of-push c s mine t = fold_push (sending_step c s) (record { peeked = []; completed = 0 }) mine t
@@ -68,11 +64,12 @@ completed_by-few items (packet ∷ later) = one_or_none (is_same (numbers items)
 
 cond-take : (b : Bool) (c : Config) (u : Sending) (items : List Item) → u.completed ≤ length (wholes c u)
     → (take (cond b (record u { peeked = u.peeked ++ items }) u).completed (wholes c (cond b (record u { peeked = u.peeked ++ items }) u)) ≡ take u.completed (wholes c u))
-        × ((cond b (record u { peeked = u.peeked ++ items }) u).completed ≤ length (wholes c (cond b (record u { peeked = u.peeked ++ items }) u)))
+    × ((cond b (record u { peeked = u.peeked ++ items }) u).completed ≤ length (wholes c (cond b (record u { peeked = u.peeked ++ items }) u)))
 cond-take true c u items h =
-    let more = wholes-append c u.peeked items in
-    (ap (take u.completed) more ∙ take-append-le u.completed (wholes c u) (more_wholes c u.peeked items) h,
-     omega (arith, h, ap length more, length-append (wholes c u) (more_wholes c u.peeked items)))
+    let more = wholes-append c u.peeked items in (
+      ap (take u.completed) more ∙ take-append-le u.completed (wholes c u) (more_wholes c u.peeked items) h,
+      omega (arith, h, ap length more, length-append (wholes c u) (more_wholes c u.peeked items)),
+    )
 cond-take false c u items h = (refl, h)
 
 abbrev IsDone : Config → Sending → Sending → List (List Item) → Type 0
@@ -97,10 +94,11 @@ pub sending_done : (c : Config) (s : ℕ) (u : Sending) (call : Call) (reply : R
     → IsDone c u (sending_after c s u call reply) (completed_at c u call)
 sending_done c s u (Reserve r n) reply h = same_done c u h
 sending_done c s u (Submit (Fill d) items) reply h = same_done c u h
-sending_done c s u (Submit (Comp d) items) reply h =
-    (take-add u.completed (length (completed_by items (waiting c u))) (wholes c u)
-        ∙ ap (λ xs. take u.completed (wholes c u) ++ xs) (sym (completed_by-front items (waiting c u))),
-     omega (arith, completed_by-few items (waiting c u), length-drop u.completed (wholes c u), h))
+sending_done c s u (Submit (Comp d) items) reply h = (
+  take-add u.completed (length (completed_by items (waiting c u))) (wholes c u)
+      ∙ ap (λ xs. take u.completed (wholes c u) ++ xs) (sym (completed_by-front items (waiting c u))),
+  omega (arith, completed_by-few items (waiting c u), length-drop u.completed (wholes c u), h),
+)
 sending_done c s u (Submit (Rx t) items) reply h = same_done c u h
 sending_done c s u (Submit (Tx t) items) reply h = same_done c u h
 sending_done c s u (Peek r n) reply h =
@@ -136,8 +134,8 @@ done_packets-push : (c : Config) (s : ℕ) (mine : List Told) (t : Told) → IsW
 unfolding done_packets
 done_packets-push c s mine t h =
     ap (λ u. take u.completed (wholes c u)) (sending_of-push c s mine t)
-        ∙ (sending_done c s (sending_of c s mine) t.call t.reply h).0
-        ∙ ap (λ xs. take (sending_of c s mine).completed (wholes c (sending_of c s mine)) ++ xs) (sym (completed_in-one c s mine t.call))
+    ∙ (sending_done c s (sending_of c s mine) t.call t.reply h).0
+    ∙ ap (λ xs. take (sending_of c s mine).completed (wholes c (sending_of c s mine)) ++ xs) (sym (completed_in-one c s mine t.call))
 
 -- what is sent from some calls on, after what was sent before
 sent_goes : (c : Config) (s : ℕ) (past mine : List Told) → IsWithin c s past
@@ -149,10 +147,10 @@ sent_goes c s past (t ∷ mine) h =
     let now : List (List Item) = completed_in c (s ∷ []) past t.call in
     let later : List (List ℕ) = sent_from c (s ∷ []) (past ++ t ∷ []) mine in
     sym (append_assoc (map (bytes_of c.geometry c.sg) (done_packets c s past)) (map (bytes_of c.geometry c.sg) now) later)
-        ∙ ap (λ xs. xs ++ later) (sym (map-append (bytes_of c.geometry c.sg) (done_packets c s past) now))
-        ∙ ap (λ xs. map (bytes_of c.geometry c.sg) xs ++ later) (sym (done_packets-push c s past t h))
-        ∙ sent_goes c s (past ++ t ∷ []) mine (within-push c s past t h)
-        ∙ ap (λ p. map (bytes_of c.geometry c.sg) (done_packets c s p)) (append_assoc past (t ∷ []) mine)
+    ∙ ap (λ xs. xs ++ later) (sym (map-append (bytes_of c.geometry c.sg) (done_packets c s past) now))
+    ∙ ap (λ xs. map (bytes_of c.geometry c.sg) xs ++ later) (sym (done_packets-push c s past t h))
+    ∙ sent_goes c s (past ++ t ∷ []) mine (within-push c s past t h)
+    ∙ ap (λ p. map (bytes_of c.geometry c.sg) (done_packets c s p)) (append_assoc past (t ∷ []) mine)
 
 pub sent_is : (c : Config) (s : ℕ) (mine : List Told)
     → sent_from c (s ∷ []) [] mine ≡ map (bytes_of c.geometry c.sg) (take (sending_of c s mine).completed (wholes c (sending_of c s mine)))
@@ -185,9 +183,9 @@ sending_peeked c s mine u (Look m) reply h = refl
 pub peeked_is : (c : Config) (who s : ℕ) (mine : List Told) → OwnGoesOn c who [] mine → (sending_of c s mine).peeked ≡ peeked_of (Tx s) mine
 peeked_is c who s mine goes =
     own_all (λ m. (sending_of c s m).peeked ≡ peeked_of (Tx s) m) c who [] mine
-        (λ before t legal fits h.
-            ap (λ (u : Sending). u.peeked) (sending_of-push c s before t)
-                ∙ sending_peeked c s before (sending_of c s before) t.call t.reply fits
-                ∙ ap (λ xs. cond (is_on (Tx s) t.call) (xs ++ taken t.reply) xs) h
-                ∙ sym (part_of-push peeked_step (Tx s) [] before t))
-        goes refl
+    (λ before t legal fits h.
+    ap (λ (u : Sending). u.peeked) (sending_of-push c s before t)
+    ∙ sending_peeked c s before (sending_of c s before) t.call t.reply fits
+    ∙ ap (λ xs. cond (is_on (Tx s) t.call) (xs ++ taken t.reply) xs) h
+    ∙ sym (part_of-push peeked_step (Tx s) [] before t))
+    goes refl

@@ -1,11 +1,11 @@
 -- The laws of the object, proved.
-use Rattle.std.proofs.Common.{◌≡◌, ◌≢◌, ℕ, ◌+◌, ◌<◌, ◌≤◌, false, List, [], ◌∷◌, ◌++◌, length, take, drop, map, refl, sym, ap, subst, ◌∙◌, arith, get_or-set_other}
+use Rattle.std.proofs.Common.{◌≡◌, ℕ, List, [], ◌∷◌, ◌++◌, length, take, drop, map, refl, sym, ap, subst, ◌∙◌, arith, get_or-set_other}
 use Rattle.std.proofs.lemmas.List.{drop_at}
 use Rattle.xsk_umem.specs.Frame.{Frame}
 use Rattle.xsk_umem.specs.declared.batch.Item.{Item}
 use Rattle.xsk_model.specs.Config.{Config}
 use Rattle.xsk_model.specs.Numbers.{numbers}
-use Rattle.xsk_model.specs.Object.{State, ring_at, had_by, had_after, reply_at, peek_reply}
+use Rattle.xsk_model.specs.Object.{ring_at, had_by, had_after, reply_at, peek_reply}
 use Rattle.xsk_model.specs.Entry.{Entry, own, all_told}
 use Rattle.xsk_model.specs.Own.{had_of, peeked_of, submitted_of, sending_of}
 use Rattle.xsk_model.specs.Legal.{IsLegal}
@@ -117,5 +117,5 @@ completes_one c d mine items goes legal = one_completion c d mine items goes leg
 pub sent_in_order : SentInOrder
 sent_in_order c frames h d socket history =
     sent_is c socket (own d h)
-        ∙ ap (λ items. map (bytes_of c.geometry c.sg) (take (sending_of c socket (own d h)).completed (whole_packets (packets c.geometry c.sg items))))
-            (peeked_is c d socket (own d h) (history_own c frames h d history))
+    ∙ ap (λ items. map (bytes_of c.geometry c.sg) (take (sending_of c socket (own d h)).completed (whole_packets (packets c.geometry c.sg items))))
+    (peeked_is c d socket (own d h) (history_own c frames h d history))

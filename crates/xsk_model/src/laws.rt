@@ -60,20 +60,17 @@ pub fn fitting_gifts()
 /// A caller's own entries in a history are legal calls with fitting replies.
 pub fn own_entries()
     ensures { OwnEntries }
-{
-}
+{}
 
 /// Each Submit on COMPLETION completes one packet of one TX ring.
 pub fn one_completion()
     ensures { OneCompletion }
-{
-}
+{}
 
 /// What a driver sent of a socket's packets are the first Whole packets of all that it peeked on the TX ring.
 pub fn sent_in_order()
     ensures { SentInOrder }
-{
-}
+{}
 
 /// A cell has its configured number, and each other mark 0 or 1.
 pub fn mark_numbers()
