@@ -18,3 +18,4 @@ pub mod Theorems
 pub mod OwnRuns
 pub mod Sendings
 pub mod Completions
+pub mod Counts

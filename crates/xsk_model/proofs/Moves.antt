@@ -40,6 +40,15 @@ reply_at-on c s (Release q n) r h = refl
 reply_at-on c s (Swap m value) r h = absurd (cc)
 reply_at-on c s (Look m) r h = absurd (cc)
 
+-- the ring of a call that is on it
+pub known_on : (c : Config) (call : Call) (r : Ring) → IsKnown c call → is_on r call ≡ true → HasRing c r
+known_on c (Reserve q n) r known on = subst (HasRing c) (sym (is_ring-true r q on)) known
+known_on c (Submit q items) r known on = subst (HasRing c) (sym (is_ring-true r q on)) known
+known_on c (Peek q n) r known on = subst (HasRing c) (sym (is_ring-true r q on)) known
+known_on c (Release q n) r known on = subst (HasRing c) (sym (is_ring-true r q on)) known
+known_on c (Swap m value) r known on = absurd (cc)
+known_on c (Look m) r known on = absurd (cc)
+
 -- ---- the ring after
 
 take-nil : (n : ℕ) → ◌≡◌ {A = List Item} [] (take n [])

@@ -70,7 +70,7 @@ module _ (c : Config) (s : State) (past : List Entry) (e : Entry) (r : Ring) (le
   all_given = part_of_all-push submitted_step r [] past e ∙ ap (λ b. cond b (submitted_of r (all_told past) ++ submitted e.call) (submitted_of r (all_told past))) on
 
 -- a Submit has no more items than the room of its ring, and they are items of this ring
-few_items : (c : Config) (past : List Entry) (who : ℕ) (call : Call) (r : Ring) (room : ℕ) → IsLegal c (own who past) who call → is_on r call ≡ true
+pub few_items : (c : Config) (past : List Entry) (who : ℕ) (call : Call) (r : Ring) (room : ℕ) → IsLegal c (own who past) who call → is_on r call ≡ true
     → room ≡ room_of r (own (producer c r) past) → length (submitted call) ≤ room
 few_items c past who (Reserve q n) r room legal on h = omega arith
 few_items c past who (Submit q items) r room legal on h =

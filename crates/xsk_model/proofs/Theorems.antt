@@ -1,5 +1,5 @@
 -- The laws of the object, proved.
-use Rattle.std.proofs.Common.{◌≡◌, ℕ, List, [], ◌∷◌, ◌++◌, length, take, drop, map, refl, sym, ap, subst, ◌∙◌, arith, get_or-set_other}
+use Rattle.std.proofs.Common.{◌+◌, length-append, ◌≡◌, ℕ, List, [], ◌∷◌, ◌++◌, length, take, drop, map, flat_map, refl, sym, ap, subst, ◌∙◌, arith, get_or-set_other}
 use Rattle.std.proofs.lemmas.List.{drop_at}
 use Rattle.xsk_umem.specs.Frame.{Frame}
 use Rattle.xsk_umem.specs.declared.batch.Item.{Item}
@@ -11,19 +11,23 @@ use Rattle.xsk_model.specs.Own.{had_of, peeked_of, submitted_of, sending_of}
 use Rattle.xsk_model.specs.Legal.{IsLegal}
 use Rattle.xsk_model.specs.Opening.{opening}
 use Rattle.xsk_model.specs.History.{IsHistory, state_after}
-use Rattle.xsk_model.specs.Laws.{OneHolder, FramesByOwn, HadAndDistinct, InOrder, PeekInOrder, PartsByOwn, ItemsByOwn, WithinSize, LawfulItems, FittingReplies, FittingGifts, OwnEntries, OneCompletion, SentInOrder, MarkNumbers, OwnPlaces, OwnMarkPlaces, TwoOwners, LeavesOthers, LeavesFolds}
+use Rattle.xsk_model.specs.Laws.{FewInRings, WithinRing, CountsAgree, OneHolder, FramesByOwn, HadAndDistinct, InOrder, PeekInOrder, PartsByOwn, ItemsByOwn, WithinSize, LawfulItems, FittingReplies, FittingGifts, OwnEntries, OneCompletion, SentInOrder, MarkNumbers, OwnPlaces, OwnMarkPlaces, TwoOwners, LeavesOthers, LeavesFolds}
 use Rattle.xsk_model.specs.declared.call.Ring.{Ring}
 use Rattle.xsk_model.specs.declared.call.Call.TheVariants.{Peek}
-use Rattle.xsk_model.proofs.Counting.{times-range_past, times-range_within}
+use Rattle.xsk_model.proofs.Counting.{times-append, length-by_times, times-range_past, times-range_within}
 use Rattle.xsk_model.proofs.Places.{place_below, place_injective}
 use Rattle.xsk_model.proofs.MarkPlaces.{mark_place_below, mark_place_injective}
 use Rattle.xsk_model.proofs.Folds.{own-push_other, part_of_own-push_other}
-use Rattle.xsk_model.proofs.Moves.{ring_at-after_other}
+use Rattle.xsk_model.proofs.Moves.{ring_at-after_other, known_on}
 use Rattle.xsk_model.proofs.Histories.{history_first, history_sound}
-use Rattle.xsk_model.proofs.Replies.{times-had, history_entry, entry_fits, gift_fits}
+use Rattle.xsk_model.proofs.Replies.{times-row, times-had, history_entry, entry_fits, gift_fits}
 use Rattle.xsk_model.proofs.Distinct.{had_and_distinct, times-had_and_distinct}
 use Rattle.xsk_model.proofs.Roles.{two_owners}
 use Rattle.xsk_model.proofs.OwnRuns.{history_own}
+use Rattle.xsk_model.proofs.Counts.{given-submitted, released-held, within_ring}
+use Rattle.xsk_model.specs.Numbers.{times}
+use Rattle.xsk_model.specs.Holders.{holders, out_numbers}
+use Rattle.xsk_model.specs.Rings.{producer, consumer}
 use Rattle.xsk_model.proofs.Sendings.{sent_is, peeked_is}
 use Rattle.xsk_model.proofs.Completions.{one_completion}
 use Rattle.xsk_model.specs.Packets.{packets, whole_packets, bytes_of}
@@ -119,3 +123,35 @@ sent_in_order c frames h d socket history =
     sent_is c socket (own d h)
     ∙ ap (λ items. map (bytes_of c.geometry c.sg) (take (sending_of c socket (own d h)).completed (whole_packets (packets c.geometry c.sg items))))
     (peeked_is c d socket (own d h) (history_own c frames h d history))
+
+pub few_in_rings : FewInRings
+few_in_rings c frames h history =
+    let sound = history_sound c frames h history in
+    let all : (n : ℕ) → times n (holders (state_after c frames h)) ≡ times n (flat_map (λ (had : List ℕ). had) (state_after c frames h).had) + times n (flat_map out_numbers (state_after c frames h).rings) =
+    λ n. times-append n (flat_map (λ (had : List ℕ). had) (state_after c frames h).had) (flat_map out_numbers (state_after c frames h).rings) in
+    length-by_times c.geometry.frames (flat_map out_numbers (state_after c frames h).rings)
+    (λ n. omega (arith, all n, sound.holders n, times-row n c.geometry.frames))
+    (λ n past. omega (arith, all n, sound.holders n, times-range_past n 0 c.geometry.frames (omega arith)))
+
+pub legal_within_ring : WithinRing
+legal_within_ring c frames h who call r history legal on =
+    let sound = history_sound c frames h history in
+    within_ring c (ring_at c (opening c frames) r).out h who call r (ring_at c (state_after c frames h) r) legal on (sound.ring r (known_on c call r legal.known on))
+
+pub counts_agree : CountsAgree
+counts_agree c frames h r history has =
+    let ring = (history_sound c frames h history).ring r has in
+    let order = ap length ring.order in
+    let left = length-append (peeked_of r (all_told h)) (ring_at c (state_after c frames h) r).out in
+    let right = length-append (ring_at c (opening c frames) r).out (submitted_of r (all_told h)) in
+    omega (
+      arith,
+      order,
+      left,
+      right,
+      ap length ring.peeked,
+      ap length ring.given,
+      ring.held,
+      given-submitted r (own (producer c r) h),
+      released-held c (consumer c r) r (own (consumer c r) h) (history_own c frames h (consumer c r) history),
+    )

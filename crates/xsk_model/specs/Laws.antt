@@ -1,18 +1,18 @@
 -- The laws of the object, each over all histories.
-use Rattle.std.specs.Prelude.{◌≡◌, ◌≢◌, ◌↔◌, ℕ, ◌+◌, ◌<◌, ◌≤◌, false, List, [], ◌∷◌, ◌++◌, length, take, drop, map, All, AllPairs, Contains}
+use Rattle.std.specs.Prelude.{◌≡◌, ◌≢◌, ◌↔◌, ℕ, ◌+◌, ◌<◌, ◌≤◌, true, false, List, [], ◌∷◌, ◌++◌, length, take, drop, map, flat_map, All, AllPairs, Contains}
 use Rattle.xsk_umem.specs.Frame.{Frame}
 use Rattle.xsk_umem.specs.declared.batch.Item.{Item}
 use Rattle.xsk_model.specs.Config.{Config, IsConfig, HasRing, size_of, callers_of}
 use Rattle.xsk_model.specs.Numbers.{times, numbers}
 use Rattle.xsk_model.specs.Rings.{place, places_of, producer, consumer}
 use Rattle.xsk_model.specs.Marks.{HasMark, mark_place, mark_places_of}
-use Rattle.xsk_model.specs.Object.{State, ring_at, mark_at, had_by, peek_reply, after}
+use Rattle.xsk_model.specs.Object.{State, ring_at, mark_at, had_by, peek_reply, after, IsWithinRing}
 use Rattle.xsk_model.specs.Entry.{Told, Entry, own, all_told}
-use Rattle.xsk_model.specs.Own.{had_of, part_of, is_on, room_of, held_of, peeked_of, submitted_of, sending_of}
+use Rattle.xsk_model.specs.Own.{had_of, part_of, is_on, room_of, held_of, given_of, released_of, peeked_of, submitted_of, sending_of}
 use Rattle.xsk_model.specs.Legal.{IsItemOn, IsKnown, IsLegal}
 use Rattle.xsk_model.specs.Opening.{opening}
 use Rattle.xsk_model.specs.History.{IsHistory, state_after, MayGive, IsMarkNumber, Fits, OwnGoesOn}
-use Rattle.xsk_model.specs.Holders.{HasOneHolder}
+use Rattle.xsk_model.specs.Holders.{HasOneHolder, out_numbers}
 use Rattle.xsk_model.specs.Packets.{packets, whole_packets, bytes_of}
 use Rattle.xsk_model.specs.Sent.{sockets_of, completed_in, sent_by}
 use Rattle.xsk_model.specs.declared.call.Ring.{Ring}
@@ -40,6 +40,11 @@ abbrev pub HadAndDistinct : Type 0
 HadAndDistinct = (c : Config) (frames : List Frame) (h : List Entry) (who : ℕ) (items : List Item) → IsHistory c frames h
     → ((n : ℕ) → times n (numbers items) ≤ times n (had_of (own who h)))
     ↔ (All (λ n. Contains (had_of (own who h)) n) (numbers items) × AllPairs (λ (m n : ℕ). m ≢ n) (numbers items))
+
+-- no more frames are out in rings than there are
+abbrev pub FewInRings : Type 0
+FewInRings = (c : Config) (frames : List Frame) (h : List Entry) → IsHistory c frames h
+    → length (flat_map out_numbers (state_after c frames h).rings) ≤ c.geometry.frames
 
 -- ---- rings
 
@@ -70,6 +75,17 @@ ItemsByOwn = (c : Config) (frames : List Frame) (h : List Entry) (r : Ring) → 
 abbrev pub WithinSize : Type 0
 WithinSize = (c : Config) (frames : List Frame) (h : List Entry) (r : Ring) → IsHistory c frames h → HasRing c r
     → length (ring_at c (state_after c frames h) r).out + length (ring_at c (state_after c frames h) r).held + (ring_at c (state_after c frames h) r).room ≤ size_of c r
+
+-- so does what a legal call takes from its ring
+abbrev pub WithinRing : Type 0
+WithinRing = (c : Config) (frames : List Frame) (h : List Entry) (who : ℕ) (call : Call) (r : Ring) → IsHistory c frames h → IsLegal c (own who h) who call
+    → is_on r call ≡ true → IsWithinRing (ring_at c (state_after c frames h) r) call
+
+-- the opening's items and those submitted are as many as those released, those held and those out
+abbrev pub CountsAgree : Type 0
+CountsAgree = (c : Config) (frames : List Frame) (h : List Entry) (r : Ring) → IsHistory c frames h → HasRing c r
+    → length (ring_at c (opening c frames) r).out + given_of r (own (producer c r) h)
+    ≡ released_of r (own (consumer c r) h) + length (ring_at c (state_after c frames h) r).held + length (ring_at c (state_after c frames h) r).out
 
 -- what is out in a ring may stand there
 abbrev pub LawfulItems : Type 0

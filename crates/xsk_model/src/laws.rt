@@ -1,6 +1,6 @@
 //! The laws of the object, each the contract of a function that does nothing. They are stated in `specs/Laws.antt`.
 
-ghost use Rattle.xsk_model.specs.Laws.{OneHolder, FramesByOwn, HadAndDistinct, InOrder, PeekInOrder, PartsByOwn, ItemsByOwn, WithinSize, LawfulItems, FittingReplies, FittingGifts, OwnEntries, OneCompletion, SentInOrder, MarkNumbers, OwnPlaces, OwnMarkPlaces, TwoOwners, LeavesOthers, LeavesFolds};
+ghost use Rattle.xsk_model.specs.Laws.{OneHolder, FramesByOwn, HadAndDistinct, InOrder, PeekInOrder, PartsByOwn, ItemsByOwn, WithinSize, LawfulItems, FittingReplies, FittingGifts, OwnEntries, WithinRing, CountsAgree, FewInRings, OneCompletion, SentInOrder, MarkNumbers, OwnPlaces, OwnMarkPlaces, TwoOwners, LeavesOthers, LeavesFolds};
 
 /// After each prefix of a history each frame has one holder: a caller that has it, or a ring in which it is out.
 pub fn one_holder()
@@ -15,6 +15,11 @@ pub fn frames_by_own()
 /// In a history, frames that a caller has by counting are frames that it has and that are distinct.
 pub fn had_and_distinct()
     ensures { HadAndDistinct }
+{}
+
+/// No more frames are out in rings than the UMEM has.
+pub fn few_in_rings()
+    ensures { FewInRings }
 {}
 
 /// On each ring the items peeked are a prefix of the opening's items followed by those submitted.
@@ -40,6 +45,16 @@ pub fn items_by_own()
 /// The items and the reserved places of a ring fit its size, so the free places never go below zero.
 pub fn within_size()
     ensures { WithinSize }
+{}
+
+/// What a legal call takes from its ring is there: places that are reserved, or items that are held.
+pub fn within_ring()
+    ensures { WithinRing }
+{}
+
+/// The opening's items of a ring and those submitted are as many as those released, held and out.
+pub fn counts_agree()
+    ensures { CountsAgree }
 {}
 
 /// What is out in a ring may stand there.
