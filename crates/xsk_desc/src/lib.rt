@@ -5,9 +5,11 @@
 mod descriptor;
 mod gather;
 pub mod laws;
+mod payload;
 
 pub use descriptor::{DescError, fragments, validate};
 pub use gather::{Gather, Gathered, MOST_FRAMES};
+pub use payload::payload_of;
 
 #[cfg(test)]
 mod tests;

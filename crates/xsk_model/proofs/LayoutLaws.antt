@@ -56,13 +56,13 @@ lengths_of size (piece ∷ next ∷ pieces) h = lengths_more size piece (next �
 
 div_ceil-at : (size full last : ℕ) → 1 ≤ last → last ≤ size → div_ceil (full * size + last) size ≡ suc full
 div_ceil-at size full last some most =
-    elim (cases_lt last size)
-    [ inl below ↦ rw (div-mul-add full size last below, mod-mul-add full size last below) (omega arith)
-    | inr above ↦
-        let positive : 0 < size = omega arith in
-        let whole_size : last ≡ size = omega arith in
-        let sum : full * size + size ≡ suc full * size + 0 = grind arith in
-        rw (whole_size, sum, div-mul-add (suc full) size 0 positive, mod-mul-add (suc full) size 0 positive) (omega arith)
+    elim (cases_lt last size) [
+      | inl below ↦ rw (div-mul-add full size last below, mod-mul-add full size last below) (omega arith)
+      | inr above ↦
+          let positive : 0 < size = omega arith in
+          let whole_size : last ≡ size = omega arith in
+          let sum : full * size + size ≡ suc full * size + 0 = grind arith in
+          rw (whole_size, sum, div-mul-add (suc full) size 0 positive, mod-mul-add (suc full) size 0 positive) (omega arith)
     ]
 
 -- a cut has as many pieces as the length has sizes, rounded up
@@ -98,18 +98,19 @@ cut_again size piece (next ∷ pieces) h k = (h, k)
 cut_within : (size : ℕ) (n : ℕ) (packet : List ℕ) → 1 ≤ length packet → length packet ≤ suc n * size → (pieces : List (List ℕ)) × IsCut size packet pieces
 cut_within size zero packet some most = (packet ∷ [], record { joined = append-nil packet; lengths = (some, omega arith) })
 cut_within size (suc n) packet some most =
-    elim (cases_lt size (length packet))
-    [ inr short ↦ (packet ∷ [], record { joined = append-nil packet; lengths = (some, short) })
-    | inl long ↦
-        let left : length (drop size packet) ≡ length packet - size = length-drop size packet in
-        let fewer : length (drop size packet) ≤ suc n * size = grind (arith, left) in
-        let later : (pieces : List (List ℕ)) × IsCut size (drop size packet) pieces = cut_within size n (drop size packet) (omega arith) fewer in
-        let here : length (take size packet) ≡ size = omega (arith, length-take size packet) in
-        ( take size packet ∷ later.0
-        , record {
-            joined = ap (λ (bytes : List ℕ). take size packet ++ bytes) later.1.joined ∙ take-append-drop size packet;
-            lengths = cut_again size (take size packet) later.0 here later.1.lengths;
-          } )
+    elim (cases_lt size (length packet)) [
+      | inr short ↦ (packet ∷ [], record { joined = append-nil packet; lengths = (some, short) })
+      | inl long ↦
+          let left : length (drop size packet) ≡ length packet - size = length-drop size packet in
+          let fewer : length (drop size packet) ≤ suc n * size = grind (arith, left) in
+          let later : (pieces : List (List ℕ)) × IsCut size (drop size packet) pieces = cut_within size n (drop size packet) (omega arith) fewer in
+          let here : length (take size packet) ≡ size = omega (arith, length-take size packet) in (
+            take size packet ∷ later.0,
+            record {
+              joined = ap (λ (bytes : List ℕ). take size packet ++ bytes) later.1.joined ∙ take-append-drop size packet;
+              lengths = cut_again size (take size packet) later.0 here later.1.lengths;
+            },
+          )
     ]
 
 -- a packet with a byte has one cut
@@ -122,7 +123,6 @@ one_cut size packet positive some =
 -- ---- the layout
 
 module _ (g : Geometry) (sg : Bool) (lawful : IsGeometry g) where
-
   -- the data of a frame starts behind the headroom and the reserved bytes of its chunk
   data_of-mod : (frame : ℕ) → data_of g frame % g.chunk ≡ g.headroom + 256
   data_of-mod frame =
@@ -218,15 +218,17 @@ module _ (g : Geometry) (sg : Bool) (lawful : IsGeometry g) where
   -- the packets of a layout are one whole packet, with the packet's bytes
   pub layout_whole : (packet : List ℕ) (items : List Item) → IsLayout g sg packet items → length items ≤ 18 → IsWhole g sg items × (bytes_of g sg items ≡ packet)
   layout_whole packet items h few =
-      let laid : IsLaid items (concat h.pieces) = laid_of items h.pieces h.cut.lengths h.held h.single in
-      ( record { front = laid.front; last = laid.last; is = laid.is; few = few; continued = laid.continued; valid = laid.valid; bit = laid.bit }
-      , laid.shown ∙ h.cut.joined )
+      let laid : IsLaid items (concat h.pieces) = laid_of items h.pieces h.cut.lengths h.held h.single in (
+        record { front = laid.front; last = laid.last; is = laid.is; few = few; continued = laid.continued; valid = laid.valid; bit = laid.bit },
+        laid.shown ∙ h.cut.joined,
+      )
 
   pub packets-layout : (packet : List ℕ) (items : List Item) → IsLayout g sg packet items → length items ≤ 18
       → (packets g sg items ≡ whole items ∷ []) × (rest g sg items ≡ []) × (bytes_of g sg items ≡ packet)
   packets-layout packet items h few =
       let made : IsWhole g sg items × (bytes_of g sg items ≡ packet) = layout_whole packet items h few in
-      let cut : (packets g sg (items ++ []) ≡ whole items ∷ []) × (rest g sg (items ++ []) ≡ []) = packets-at g sg (whole items) [] made.0 in
-      ( ap (packets g sg) (sym (append-nil items)) ∙ cut.0
-      , ap (rest g sg) (sym (append-nil items)) ∙ cut.1
-      , made.1 )
+      let cut : (packets g sg (items ++ []) ≡ whole items ∷ []) × (rest g sg (items ++ []) ≡ []) = packets-at g sg (whole items) [] made.0 in (
+        ap (packets g sg) (sym (append-nil items)) ∙ cut.0,
+        ap (rest g sg) (sym (append-nil items)) ∙ cut.1,
+        made.1,
+      )

@@ -1,0 +1,6 @@
+pub mod Fields
+pub mod Grammar
+pub mod Unique
+pub mod CaptureLaws
+pub mod Loops
+pub mod Writing

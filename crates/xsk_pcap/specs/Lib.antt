@@ -1,0 +1,6 @@
+pub mod Numbers
+pub mod Capture
+pub mod Written
+pub mod Laws
+pub mod Steps
+pub mod Kept

@@ -1,0 +1,13 @@
+//! Captures (pcap-savefile(5)): read into lists of packets, and written from them.
+#![tactic(auto)]
+
+mod capture;
+mod endianness;
+pub mod laws;
+mod reading;
+
+pub use capture::Capture;
+pub use reading::{BadCapture, read};
+
+#[cfg(test)]
+mod tests;

@@ -1,0 +1,184 @@
+ghost use Rattle.std.specs.Prelude.{◌≡◌, ◌+◌, ◌-◌, ◌<◌, ◌≤◌, ℕ, List, [], length, drop, Option, Some, None, Result, Ok, Err, IfOk, IfErr, MatchResult};
+ghost use Rattle.std.specs.List.{concat};
+ghost use Rattle.xsk_pcap.specs.Capture.{is_magic as magic_test, IsCapture, IsRefused, IsCause, FailsAtRecord, order_of, header_refusal, record_refusal};
+ghost use Rattle.xsk_pcap.specs.Steps.{PassesHeader, BeginsRecord, Measures, HasRoom, Appends};
+
+use crate::endianness::Endianness;
+use std::alloc::Global;
+use thiserror::Error;
+use xsk_umem::{OutOfMemory, PacketList};
+
+const FILE_HEADER: usize = 24;
+
+const RECORD_HEADER: usize = 16;
+
+const MOST_CAPTURED: usize = 262_144;
+
+/// Why bytes weren't read as a capture: the first check that fails, in this order. `at` is where in the file the record
+/// begins that fails; the file header's checks come before it, and those of a record in the order of its fields.
+#[derive(Clone, Copy, Debug, PartialEq, Eq, Error)]
+pub enum BadCapture {
+    /// There are fewer than the 24 bytes of a file header.
+    #[error("the file header is cut short")]
+    ShortHeader,
+    /// The magic number is neither that of microseconds nor that of nanoseconds, in either byte order.
+    #[error("the file has no magic number of a capture")]
+    BadMagic,
+    /// The version isn't 2.4.
+    #[error("the version is not 2.4")]
+    BadVersion,
+    /// The link type isn't 1, Ethernet.
+    #[error("the link type is not Ethernet")]
+    BadLink,
+    /// Fewer than 16 bytes are left for a record header, or fewer captured bytes than it says.
+    #[error("the record at byte {at} is cut short")]
+    Truncated { at: u64 },
+    /// The record has more than 262,144 captured bytes.
+    #[error("the record at byte {at} is too long")]
+    RecordTooLong { at: u64 },
+    /// Memory for the packets couldn't be had. All checks pass.
+    #[error("out of memory")]
+    OutOfMemory,
+}
+
+impl From<OutOfMemory> for BadCapture {
+    ghost use Rattle.std.specs.Prelude.{◌≡◌};
+    ghost use Rattle.xsk_pcap.specs.declared.reading.BadCapture.TheVariants as errors;
+
+    ghost from_gives = { λ _ e. e ≡ errors.OutOfMemory };
+
+    fn from(_error: OutOfMemory) -> BadCapture {
+        BadCapture::OutOfMemory
+    }
+}
+
+fn is_magic(number: u32) -> bool
+    ensures { result ≡ magic_test number }
+{
+    number == 0xa1b2_c3d4 || number == 0xa1b2_3c4d
+}
+
+/// The byte order in which the magic number reads as one.
+fn endianness_of(bytes: &[u8]) -> Option<Endianness>
+    requires { 4 ≤ length bytes.now }
+    ensures { result ≡ order_of bytes.now }
+{
+    if is_magic(Endianness::Little.u32_in(bytes)) {
+        Some(Endianness::Little)
+    } else if is_magic(Endianness::Big.u32_in(bytes)) {
+        Some(Endianness::Big)
+    } else {
+        None
+    }
+}
+
+/// The byte order of a file whose header passes.
+fn check_header(bytes: &[u8]) -> Result<Endianness, BadCapture>
+    ensures passed { IfOk result (λ order. PassesHeader order bytes.now) }
+    ensures failed { IfErr result (λ e. header_refusal bytes.now ≡ Some e) }
+{
+    if bytes.len() < FILE_HEADER {
+        return Err(BadCapture::ShortHeader);
+    }
+    let Some(order) = endianness_of(bytes) else {
+        return Err(BadCapture::BadMagic);
+    };
+    if order.u16_in(&bytes[4..]) != 2 || order.u16_in(&bytes[6..]) != 4 {
+        return Err(BadCapture::BadVersion);
+    }
+    if order.u32_in(&bytes[20..]) != 1 {
+        return Err(BadCapture::BadLink);
+    }
+    Ok(order)
+}
+
+/// Cuts the record off that begins at this offset of the file, and gives its packet and the bytes behind it.
+fn split_record(order: Endianness, offset: u64, bytes: &[u8]) -> Result<(&[u8], &[u8]), BadCapture>
+    ensures split { IfOk result (λ parts. BeginsRecord order bytes.now parts.0.now parts.1.now) }
+    ensures failed { IfErr result (λ e. record_refusal order offset bytes.now ≡ Some e) }
+{
+    if bytes.len() < RECORD_HEADER {
+        return Err(BadCapture::Truncated { at: offset });
+    }
+    let captured = order.u32_in(&bytes[8..]) as usize;
+    if captured > MOST_CAPTURED {
+        return Err(BadCapture::RecordTooLong { at: offset });
+    }
+    let rest = &bytes[RECORD_HEADER..];
+    if captured > rest.len() {
+        return Err(BadCapture::Truncated { at: offset });
+    }
+    Ok(rest.split_at(captured))
+}
+
+/// How many packets there are, and how many bytes they have together.
+#[derive(Clone, Copy)]
+struct Size {
+    packets: usize,
+    bytes: usize,
+}
+
+/// Goes over all records without copying any.
+fn measure(order: Endianness, bytes: &[u8]) -> Result<Size, BadCapture>
+    requires { PassesHeader order bytes.now }
+    ensures measured { IfOk result (λ size. Measures order bytes.now [] size.packets size.bytes) }
+    ensures failed { IfErr result (FailsAtRecord bytes.now) }
+{
+    let mut size = Size {
+        packets: 0,
+        bytes: 0,
+    };
+    let mut rest = &bytes[FILE_HEADER..];
+    while !rest.is_empty() {
+        let offset = (bytes.len() - rest.len()) as u64;
+        let (packet, after) = split_record(order, offset, rest)?;
+        size.packets += 1;
+        size.bytes += packet.len();
+        rest = after;
+    }
+    Ok(size)
+}
+
+/// An empty list with room for so much.
+fn with_room(alloc: Global, size: Size) -> Result<PacketList, OutOfMemory>
+    ensures { IfOk result (λ list. (list.packets ≡ []) × (size.packets ≤ list.spare_packets) × (size.bytes ≤ list.spare_bytes)) }
+{
+    let packets = u32::try_from(size.packets).map_err(|_| OutOfMemory)?;
+    let bytes = u32::try_from(size.bytes).map_err(|_| OutOfMemory)?;
+    let mut list = PacketList::new(alloc);
+    list.reserve(packets, bytes)?;
+    Ok(list)
+}
+
+/// Copies the packets of whole records to the end of a list that has room for them.
+fn copy_packets(order: Endianness, records: &[u8], list: &mut PacketList)
+    requires { HasRoom order records.now list.old }
+    ensures { Appends order records.now list.old.packets list.new.packets }
+{
+    let mut rest = records;
+    while !rest.is_empty() {
+        let Ok((packet, after)) = split_record(order, 0, rest) else {
+            unreachable!();
+        };
+        list.push_reserved(packet);
+        rest = after;
+    }
+}
+
+/// Reads a capture: its packets, in order. Time stamps, original lengths, the time zone, the accuracy and the snapshot
+/// length may be anything, and aren't kept.
+pub fn read(alloc: Global, bytes: &[u8]) -> Result<PacketList, BadCapture>
+    // What is read is a capture of these packets.
+    ensures found { IfOk result (λ list. IsCapture bytes.now list.packets) }
+    // What is a capture is read as its packets, unless memory runs out.
+    ensures accepted { (packets : List (List ℕ)) → IsCapture bytes.now packets → MatchResult result (λ list. list.packets ≡ packets) (λ e. e ≡ BadCapture.OutOfMemory) }
+    // The first check that fails decides, whatever memory there is.
+    ensures refused { (refusal : BadCapture) → IsRefused bytes.now refusal → result ≡ Err refusal }
+    ensures cause { IfErr result (IsCause bytes.now) }
+{
+    let order = check_header(bytes)?;
+    let size = measure(order, bytes)?;
+    let mut list = with_room(alloc, size)?;
+    copy_packets(order, &bytes[FILE_HEADER..], &mut list);
+    Ok(list)
+}
