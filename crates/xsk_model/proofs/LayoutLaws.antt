@@ -1,21 +1,19 @@
 -- The laws of the cut of a packet and of its layout.
-use Rattle.std.proofs.Common.{◌≡◌, ℕ, zero, suc, ◌+◌, ◌-◌, ◌*◌, ◌/◌, ◌%◌, ◌<◌, ◌≤◌, ◌⊎◌, inl, inr, List, [], ◌∷◌, ◌++◌, length, take, drop, min, refl, sym, ap, subst, ◌∙◌, arith, append_assoc, add_assoc, length-append}
+use Rattle.std.proofs.Common.{◌≡◌, ℕ, zero, suc, ◌+◌, ◌-◌, ◌*◌, ◌%◌, ◌<◌, ◌≤◌, ◌⊎◌, inl, inr, List, [], ◌∷◌, ◌++◌, length, take, drop, refl, sym, ap, subst, ◌∙◌, arith, add_assoc, length-append}
 use Rattle.std.specs.Int.{div_ceil}
 use Rattle.std.specs.List.{concat}
 use Rattle.std.proofs.lemmas.Bool.{cases_lt}
 use Rattle.std.proofs.lemmas.List.{append-nil, take_at, drop_at, take-append-drop, length-take, length-drop}
 use Rattle.std.proofs.lemmas.Nat.{div-mul-add, mod-mul-add}
-use Rattle.std.specs.Prelude.{Bool, true, IsTrue, All, Option, Some, None, nat_lt, nat_le, nat_eq, not, ◌&&◌, ◌||◌, if◌then◌else◌, flat_map}
+use Rattle.std.specs.Prelude.{Bool, true, IsTrue, All, Some, nat_lt, nat_le, nat_eq, not, ◌&&◌, ◌||◌, if◌then◌else◌}
 use Rattle.std.proofs.lemmas.Bool.{lt-ltb, le-leb, ne_eqb, eq-eqb, and_from, or_left, or_right, not_from_false}
-use Rattle.std.proofs.lemmas.List.{length_push}
 use Rattle.std.proofs.lemmas.List.Elements.{All-nil, All-cons}
 use Rattle.std.proofs.Math.Nat.{mul-le-mul_right}
-use Rattle.xsk_umem.specs.Geometry.{Geometry, IsGeometry, IsChunkSize, area_of, payload_of, data_of}
-use Rattle.xsk_umem.specs.Frame.{Frame}
+use Rattle.xsk_umem.specs.Geometry.{Geometry, IsGeometry, area_of, payload_of, data_of}
 use Rattle.xsk_umem.specs.declared.batch.Item.{Item}
 use Rattle.xsk_umem.specs.declared.batch.XdpDesc.{XdpDesc}
-use Rattle.xsk_model.specs.Descriptor.{is_inside, has_bytes, fits_chunk, has_known_options, is_valid, payload}
-use Rattle.xsk_model.specs.Packets.{IsCut, HavePieceLengths, options_before, HoldsPiece, HoldPieces, IsLayout, Packet, whole, packets, rest, bytes_of, Continues, IsWhole}
+use Rattle.xsk_model.specs.Descriptor.{is_valid, payload}
+use Rattle.xsk_model.specs.Packets.{IsCut, HavePieceLengths, HoldsPiece, HoldPieces, IsLayout, whole, packets, rest, bytes_of, Continues, IsWhole}
 use Rattle.xsk_model.proofs.PacketsLaws.{packets-at}
 
 -- ---- the cut
@@ -56,13 +54,13 @@ lengths_of size (piece ∷ next ∷ pieces) h = lengths_more size piece (next �
 
 div_ceil-at : (size full last : ℕ) → 1 ≤ last → last ≤ size → div_ceil (full * size + last) size ≡ suc full
 div_ceil-at size full last some most =
-    elim (cases_lt last size)
-    [ inl below ↦ rw (div-mul-add full size last below, mod-mul-add full size last below) (omega arith)
-    | inr above ↦
-        let positive : 0 < size = omega arith in
-        let whole_size : last ≡ size = omega arith in
-        let sum : full * size + size ≡ suc full * size + 0 = grind arith in
-        rw (whole_size, sum, div-mul-add (suc full) size 0 positive, mod-mul-add (suc full) size 0 positive) (omega arith)
+    elim (cases_lt last size) [
+      | inl below ↦ rw (div-mul-add full size last below, mod-mul-add full size last below) (omega arith)
+      | inr above ↦
+          let positive : 0 < size = omega arith in
+          let whole_size : last ≡ size = omega arith in
+          let sum : full * size + size ≡ suc full * size + 0 = grind arith in
+          rw (whole_size, sum, div-mul-add (suc full) size 0 positive, mod-mul-add (suc full) size 0 positive) (omega arith)
     ]
 
 -- a cut has as many pieces as the length has sizes, rounded up
@@ -98,18 +96,19 @@ cut_again size piece (next ∷ pieces) h k = (h, k)
 cut_within : (size : ℕ) (n : ℕ) (packet : List ℕ) → 1 ≤ length packet → length packet ≤ suc n * size → (pieces : List (List ℕ)) × IsCut size packet pieces
 cut_within size zero packet some most = (packet ∷ [], record { joined = append-nil packet; lengths = (some, omega arith) })
 cut_within size (suc n) packet some most =
-    elim (cases_lt size (length packet))
-    [ inr short ↦ (packet ∷ [], record { joined = append-nil packet; lengths = (some, short) })
-    | inl long ↦
-        let left : length (drop size packet) ≡ length packet - size = length-drop size packet in
-        let fewer : length (drop size packet) ≤ suc n * size = grind (arith, left) in
-        let later : (pieces : List (List ℕ)) × IsCut size (drop size packet) pieces = cut_within size n (drop size packet) (omega arith) fewer in
-        let here : length (take size packet) ≡ size = omega (arith, length-take size packet) in
-        ( take size packet ∷ later.0
-        , record {
-            joined = ap (λ (bytes : List ℕ). take size packet ++ bytes) later.1.joined ∙ take-append-drop size packet;
-            lengths = cut_again size (take size packet) later.0 here later.1.lengths;
-          } )
+    elim (cases_lt size (length packet)) [
+      | inr short ↦ (packet ∷ [], record { joined = append-nil packet; lengths = (some, short) })
+      | inl long ↦
+          let left : length (drop size packet) ≡ length packet - size = length-drop size packet in
+          let fewer : length (drop size packet) ≤ suc n * size = grind (arith, left) in
+          let later : (pieces : List (List ℕ)) × IsCut size (drop size packet) pieces = cut_within size n (drop size packet) (omega arith) fewer in
+          let here : length (take size packet) ≡ size = omega (arith, length-take size packet) in (
+            take size packet ∷ later.0,
+            record {
+              joined = ap (λ (bytes : List ℕ). take size packet ++ bytes) later.1.joined ∙ take-append-drop size packet;
+              lengths = cut_again size (take size packet) later.0 here later.1.lengths;
+            },
+          )
     ]
 
 -- a packet with a byte has one cut
@@ -122,7 +121,6 @@ one_cut size packet positive some =
 -- ---- the layout
 
 module _ (g : Geometry) (sg : Bool) (lawful : IsGeometry g) where
-
   -- the data of a frame starts behind the headroom and the reserved bytes of its chunk
   data_of-mod : (frame : ℕ) → data_of g frame % g.chunk ≡ g.headroom + 256
   data_of-mod frame =
@@ -218,15 +216,17 @@ module _ (g : Geometry) (sg : Bool) (lawful : IsGeometry g) where
   -- the packets of a layout are one whole packet, with the packet's bytes
   pub layout_whole : (packet : List ℕ) (items : List Item) → IsLayout g sg packet items → length items ≤ 18 → IsWhole g sg items × (bytes_of g sg items ≡ packet)
   layout_whole packet items h few =
-      let laid : IsLaid items (concat h.pieces) = laid_of items h.pieces h.cut.lengths h.held h.single in
-      ( record { front = laid.front; last = laid.last; is = laid.is; few = few; continued = laid.continued; valid = laid.valid; bit = laid.bit }
-      , laid.shown ∙ h.cut.joined )
+      let laid : IsLaid items (concat h.pieces) = laid_of items h.pieces h.cut.lengths h.held h.single in (
+        record { front = laid.front; last = laid.last; is = laid.is; few = few; continued = laid.continued; valid = laid.valid; bit = laid.bit },
+        laid.shown ∙ h.cut.joined,
+      )
 
   pub packets-layout : (packet : List ℕ) (items : List Item) → IsLayout g sg packet items → length items ≤ 18
       → (packets g sg items ≡ whole items ∷ []) × (rest g sg items ≡ []) × (bytes_of g sg items ≡ packet)
   packets-layout packet items h few =
       let made : IsWhole g sg items × (bytes_of g sg items ≡ packet) = layout_whole packet items h few in
-      let cut : (packets g sg (items ++ []) ≡ whole items ∷ []) × (rest g sg (items ++ []) ≡ []) = packets-at g sg (whole items) [] made.0 in
-      ( ap (packets g sg) (sym (append-nil items)) ∙ cut.0
-      , ap (rest g sg) (sym (append-nil items)) ∙ cut.1
-      , made.1 )
+      let cut : (packets g sg (items ++ []) ≡ whole items ∷ []) × (rest g sg (items ++ []) ≡ []) = packets-at g sg (whole items) [] made.0 in (
+        ap (packets g sg) (sym (append-nil items)) ∙ cut.0,
+        ap (rest g sg) (sym (append-nil items)) ∙ cut.1,
+        made.1,
+      )

@@ -15,3 +15,4 @@ pub mod Parts
 pub mod Rings
 pub mod Sent
 pub mod Stored
+pub mod Expected

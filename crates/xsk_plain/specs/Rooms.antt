@@ -1,13 +1,11 @@
 -- What a contract sees of the object on one thread for now: its configuration, the number of calls in its log, and
--- the room that is left there. What a reply may be goes by the call's kind.
+-- the room that is left there.
 use Rattle.std.specs.Prelude.{◌≡◌, ℕ, ◌+◌, List, length, sum_by}
 use Rattle.xsk_umem.specs.declared.batch.Item.{Item}
 use Rattle.xsk_model.specs.Config.{Config}
 use Rattle.xsk_model.specs.Descriptor.{payload}
 use Rattle.xsk_model.specs.declared.call.Call.{Call}
 use Rattle.xsk_model.specs.declared.call.Call.TheVariants.{Reserve, Submit, Peek, Release, Swap, Look}
-use Rattle.xsk_model.specs.declared.call.Reply.{Reply}
-use Rattle.xsk_model.specs.declared.call.Reply.TheVariants.{Granted, Full, Submitted, Items, Empty, Released, Old}
 
 pub record Rooms : Type 0 where
   pub config : Config
@@ -30,26 +28,3 @@ pub record Enters (old new : Rooms) (bytes : ℕ) : Type 0 where
   pub calls : new.calls ≡ old.calls + 1
   pub spare_entries : new.spare_entries + 1 ≡ old.spare_entries
   pub spare_bytes : new.spare_bytes + bytes ≡ old.spare_bytes
-
-abbrev pub IsReserved : Reply → Type 0
-IsReserved Granted = Unit {0}
-IsReserved (Full free) = Unit {0}
-IsReserved _ = ⊥
-
-abbrev pub IsPeeked : Reply → Type 0
-IsPeeked (Items items) = Unit {0}
-IsPeeked Empty = Unit {0}
-IsPeeked _ = ⊥
-
-abbrev pub IsOld : Reply → Type 0
-IsOld (Old number) = Unit {0}
-IsOld _ = ⊥
-
--- the reply is one of the call's kind
-abbrev pub IsReplyTo : Call → Reply → Type 0
-IsReplyTo (Reserve r n) reply = IsReserved reply
-IsReplyTo (Submit r items) reply = reply ≡ Submitted
-IsReplyTo (Peek r n) reply = IsPeeked reply
-IsReplyTo (Release r n) reply = reply ≡ Released
-IsReplyTo (Swap m value) reply = IsOld reply
-IsReplyTo (Look m) reply = IsOld reply

@@ -1,7 +1,8 @@
 ghost use Rattle.std.specs.Prelude.{◌≡◌, ◌+◌, ◌≤◌, OnOk, IfOk, IfErr, vec_len};
 ghost use Rattle.xsk_umem.specs.Geometry.{IsGeometry};
 ghost use Rattle.xsk_model.specs.Config.{IsLawful};
-ghost use Rattle.xsk_plain.specs.Rooms.{Enters, IsReplyTo, IsReserved, IsPeeked, IsOld, payload_bytes, items_bytes};
+ghost use Rattle.xsk_plain.specs.Rooms.{Enters, payload_bytes, items_bytes};
+ghost use Rattle.xsk_model.specs.Expected.{IsReplyTo, IsReserved, IsPeeked, IsOld};
 ghost use Rattle.xsk_plain.specs.Log.{calls_of, NotesItems};
 ghost use Rattle.xsk_plain.specs.Places.{ring_places_of, mark_places_of};
 ghost use Rattle.xsk_model.specs.Config.{Config};
