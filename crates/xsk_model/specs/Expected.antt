@@ -1,7 +1,8 @@
 -- Which kind of reply a worker waits for, and which replies are of a call's kind.
 use Rattle.std.specs.Prelude.{◌≡◌, Option, None, Some}
 use Rattle.xsk_model.specs.declared.call.Act.{Act}
-use Rattle.xsk_model.specs.declared.call.Call.{Call}
+use Rattle.xsk_model.specs.declared.call.Act.TheVariants.{Call, Ended}
+use Rattle.xsk_model.specs.declared.call.Call.{Call as ACall}
 use Rattle.xsk_model.specs.declared.call.Call.TheVariants.{Reserve, Submit, Peek, Release, Swap, Look}
 use Rattle.xsk_model.specs.declared.call.Reply.{Reply}
 use Rattle.xsk_model.specs.declared.call.Reply.TheVariants.{Granted, Full, Submitted, Items, Empty, Released, Old}
@@ -21,7 +22,7 @@ IsOld (Old number) = Unit {0}
 IsOld _ = ⊥
 
 -- the reply is one of the call's kind
-abbrev pub IsReplyTo : Call → Reply → Type 0
+abbrev pub IsReplyTo : ACall → Reply → Type 0
 IsReplyTo (Reserve r n) reply = IsReserved reply
 IsReplyTo (Submit r items) reply = reply ≡ Submitted
 IsReplyTo (Peek r n) reply = IsPeeked reply
@@ -39,13 +40,17 @@ pub data Expected : Type 0 where
   number : Expected
   ended : Expected
 
-abbrev pub expected_by : Call → Expected
+abbrev pub expected_by : ACall → Expected
 expected_by (Reserve r n) = place
 expected_by (Submit r items) = submitted
 expected_by (Peek r n) = item
 expected_by (Release r n) = released
 expected_by (Swap m value) = number
 expected_by (Look m) = number
+
+abbrev pub expected_of : Act → Expected
+expected_of (Call call) = expected_by call
+expected_of Ended = ended
 
 -- the reply with which a worker that waits goes on
 abbrev pub CanCome : Expected → Option Reply → Type 0
@@ -61,3 +66,12 @@ CanCome released (Some reply) = reply ≡ Released
 CanCome number None = ⊥
 CanCome number (Some reply) = IsOld reply
 CanCome ended reply = ⊥
+
+-- a reply of the call's kind is one with which the worker that waits for it goes on
+pub can_come : (call : ACall) (reply : Reply) → IsReplyTo call reply → CanCome (expected_by call) (Some reply)
+can_come (Reserve r n) reply is = is
+can_come (Submit r items) reply is = is
+can_come (Peek r n) reply is = is
+can_come (Release r n) reply is = is
+can_come (Swap m value) reply is = is
+can_come (Look m) reply is = is

@@ -1,0 +1,8 @@
+//! The application of one queue of two paired ports: it takes what one port's sockets received to the other port's
+//! sockets for sending, and gives completed frames back to the FILL rings of their homes.
+#![tactic(auto)]
+
+mod app;
+mod machine;
+
+pub use app::App;

@@ -1,0 +1,4 @@
+pub mod Gives
+pub mod Sent
+pub mod Shown
+pub mod Waits

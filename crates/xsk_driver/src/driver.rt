@@ -1,0 +1,135 @@
+ghost use Rattle.std.specs.Prelude.{◌≡◌, ◌<◌, ◌≤◌, All, IfOk, false, length};
+ghost use Rattle.std.specs.List.{concat};
+ghost use Rattle.xsk_model.specs.Config.{IsRegular};
+ghost use Rattle.xsk_model.specs.Expected.{CanCome, nothing, expected_of};
+ghost use Rattle.xsk_driver.specs.Sent.{IsShort};
+
+use crate::machine::{MOST_FINISHED, MOST_SPARE, Machine, Turn, Wait};
+use crate::sending::Sending;
+use crate::{Disposal, DriverCounters, Inputs};
+use std::alloc::Global;
+use std::collections::VecDeque;
+use std::marker::Model;
+use xsk_desc::Gather;
+use xsk_model::{Act, Config, Reply};
+use xsk_umem::{OutOfMemory, PacketList};
+
+/// The driver of a pair, as a worker that makes one call at a time.
+#[derive(Drop)]
+pub struct Driver<'a> {
+    machine: Machine<'a>,
+}
+
+impl<'a> Model for Driver<'a> {
+    ghost use Rattle.xsk_driver.specs.Shown.{Shown};
+    ghost use Rattle.xsk_driver.specs.Waits.{expects};
+
+    ghost Value = { Shown };
+
+    ghost view = { λ d. record { expected = expects d.machine.wait; most_packets = d.machine.sending.most_packets; most_bytes = d.machine.sending.most_bytes } };
+}
+
+impl<'a> Driver<'a> {
+    /// The driver of the pair over the packets of its port, with room for so many sent packets and bytes. The
+    /// configuration is regular and has the pair, and the inputs are what the split of all ports' packets gave.
+    pub fn new(
+        alloc: Global,
+        config: &'a Config,
+        pair: u32,
+        packets: &'a PacketList,
+        inputs: &'a Inputs,
+        sent_packets: u32,
+        sent_bytes: u32,
+    ) -> Result<Driver<'a>, OutOfMemory>
+        requires regular { IsRegular config.now }
+        requires pair { pair < length config.now.pairs }
+        ensures { IfOk result (λ d. d ≡ record { expected = nothing; most_packets = sent_packets; most_bytes = sent_bytes }) }
+    {
+        let numbers = inputs.of_pair(pair);
+        let info = config.pairs()[pair as usize];
+        let classes = config.classes();
+        let machine = Machine {
+            config,
+            packets,
+            numbers,
+            pair,
+            port: info.port,
+            queue: info.queue,
+            classes,
+            batch: config.batch(),
+            disposals: Vec::with_capacity(alloc, numbers.len())?,
+            spare: VecDeque::with_capacity(alloc, MOST_SPARE)?,
+            gathers: new_gathers(alloc, config.sg(), classes)?,
+            finished: VecDeque::with_capacity(alloc, MOST_FINISHED)?,
+            lost: Vec::with_capacity(alloc, config.geometry().frames() as usize)?,
+            rx_done: false,
+            tx_done: false,
+            turn: Turn::default(),
+            wait: Wait::Start,
+            sending: Sending::new(alloc, sent_packets, sent_bytes)?,
+            counters: DriverCounters::default(),
+            alloc,
+        };
+        Ok(Driver { machine })
+    }
+
+    /// Goes on with the reply to the last call (none at first), and gives the next call, or tells that it has ended.
+    #[inline(always)]
+    pub fn next(&mut self, reply: Option<Reply>) -> Act
+        requires { CanCome self.old.expected reply }
+        ensures expected { self.new.expected ≡ expected_of result }
+        ensures most_packets { self.new.most_packets ≡ self.old.most_packets }
+        ensures most_bytes { self.new.most_bytes ≡ self.old.most_bytes }
+    {
+        self.machine.next(reply)
+    }
+
+    /// Whether the machine looks for a kick again and again. It never does while the need-wakeup flags are off.
+    pub fn parked(&self) -> bool
+        ensures { result ≡ false }
+    {
+        false
+    }
+
+    /// The counters so far.
+    pub fn counters(&self) -> DriverCounters {
+        self.machine.counters
+    }
+
+    /// What became of each packet so far, in their order.
+    pub fn disposals(&self) -> &[Disposal] {
+        self.machine.disposals.as_slice()
+    }
+
+    /// The packets that were sent, in order, while it hasn't overrun.
+    pub fn sent(&self) -> &PacketList
+        ensures few { length result.now.packets ≤ self.now.most_packets }
+        ensures small { length (concat result.now.packets) ≤ self.now.most_bytes }
+        ensures short { All IsShort result.now.packets }
+    {
+        self.machine.sending.list()
+    }
+
+    /// Whether more packets or bytes were sent than there was room for.
+    pub fn overrun(&self) -> bool {
+        self.machine.sending.overrun()
+    }
+
+    /// The packets that were sent. All else is dropped.
+    pub fn into_sent(self) -> PacketList
+        ensures few { length result.packets ≤ self.entry.most_packets }
+        ensures small { length (concat result.packets) ≤ self.entry.most_bytes }
+        ensures short { All IsShort result.packets }
+    {
+        let Driver { machine } = self;
+        machine.sending.into_list()
+    }
+}
+
+fn new_gathers(alloc: Global, sg: bool, classes: u32) -> Result<Vec<Gather>, OutOfMemory> {
+    let mut gathers = Vec::with_capacity(alloc, classes as usize)?;
+    for _ in 0..classes {
+        gathers.push(Gather::new(alloc, sg))?;
+    }
+    Ok(gathers)
+}
