@@ -1,5 +1,5 @@
 -- What a gather keeps between two items, and the lists of items that it stands for.
-use Rattle.std.specs.Prelude.{◌≡◌, Bool, Option, Some, None, List}
+use Rattle.std.specs.Prelude.{◌≡◌, Option, Some, None, List}
 use Rattle.xsk_umem.specs.Geometry.{Geometry}
 use Rattle.xsk_umem.specs.declared.batch.Item.{Item}
 use Rattle.xsk_model.specs.Packets.{Packet, whole, bad, rest}

@@ -1,9 +1,8 @@
 -- How often numbers stand in lists that are made of others.
-use Rattle.std.proofs.Common.{◌≡◌, ℕ, zero, suc, ◌+◌, ◌-◌, ◌<◌, ◌≤◌, Bool, true, false, cond, eqb, List, [], ◌∷◌, ◌++◌, length, get_or, set, take, drop, flat_map, Option, Some, None, refl, sym, ap, ◌∙◌, append_assoc, arith, zero-add, ⊎_elim}
+use Rattle.std.proofs.Common.{◌≡◌, ℕ, zero, suc, ◌+◌, ◌-◌, ◌<◌, ◌≤◌, Bool, true, false, cond, eqb, List, [], ◌∷◌, ◌++◌, length, get_or, set, flat_map, refl, sym, ◌∙◌, append_assoc, arith, zero-add, ⊎_elim}
 use Rattle.std.proofs.lemmas.Bool.{cases_eq}
 use Rattle.std.specs.List.{range_with_len}
 use Rattle.std.proofs.lemmas.Bool.Decides.{nat_tests}
-use Rattle.xsk_umem.specs.Frame.{Frame}
 use Rattle.xsk_umem.specs.declared.batch.Item.{Item}
 use Rattle.xsk_model.specs.Numbers.{times, without_one, without, number_of, numbers}
 
@@ -67,3 +66,25 @@ times-range_within n a (suc k) low high = ⊎_elim
     let after : a < n = omega arith in
     omega (arith, times-range_within n (a + 1) k (omega arith) (omega arith), not_yet a n after))
     (cases_eq a n)
+
+-- ---- a list of distinct numbers below a bound is no longer than the bound
+
+length-without_one : (m : ℕ) (xs : List ℕ) → length xs ≤ length (without_one m xs) + 1
+length-without_one m [] = omega arith
+length-without_one m (x ∷ xs) = shorter (eqb x m) x xs (without_one m xs) (length-without_one m xs)
+  where
+    shorter : (b : Bool) (y : ℕ) (ys zs : List ℕ) → length ys ≤ length zs + 1 → length (y ∷ ys) ≤ length (cond b ys (y ∷ zs)) + 1
+    shorter true y ys zs h = omega arith
+    shorter false y ys zs h = omega arith
+
+pub length-by_times : (bound : ℕ) (xs : List ℕ) → ((n : ℕ) → times n xs ≤ 1) → ((n : ℕ) → bound ≤ n → times n xs ≡ 0) → length xs ≤ bound
+length-by_times zero [] once none = omega arith
+length-by_times zero (x ∷ xs) once none = absurd (omega (arith, none x (omega arith), its_own x x refl))
+length-by_times (suc bound) xs once none =
+    let fewer = length-by_times bound (without_one bound xs)
+    (λ n. omega (arith, once n, times-without_one n bound xs))
+    (λ n h. ⊎_elim
+    (λ (e : bound ≡ n). omega (arith, times-without_one n bound xs, once n, its_own bound n e))
+    (λ (e : bound ≡ n → ⊥). omega (arith, times-without_one n bound xs, none n (omega arith)))
+    (cases_eq bound n)) in
+    omega (arith, fewer, length-without_one bound xs)

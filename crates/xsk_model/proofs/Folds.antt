@@ -1,8 +1,7 @@
 -- What one entry more does to a caller's own entries and to the folds over them.
-use Rattle.std.proofs.Common.{◌≡◌, ◌≢◌, ℕ, Bool, true, false, cond, eqb, List, [], ◌∷◌, ◌++◌, fold, refl, sym, ap, ◌∙◌, append_assoc, append-nil, ne_eqb, eq-eqb, ⊎_elim}
+use Rattle.std.proofs.Common.{◌≡◌, ◌≢◌, ℕ, Bool, true, false, cond, eqb, List, [], ◌∷◌, ◌++◌, refl, sym, ap, ◌∙◌, append-nil, ne_eqb, eq-eqb, ⊎_elim}
 use Rattle.std.proofs.lemmas.List.Sums.{fold_push}
 use Rattle.std.proofs.lemmas.Bool.{cases_eq}
-use Rattle.xsk_umem.specs.declared.batch.Item.{Item}
 use Rattle.xsk_model.specs.Object.{had_after}
 use Rattle.xsk_model.specs.Entry.{Told, Entry, told, own, all_told}
 use Rattle.xsk_model.specs.Own.{had_of, had_step, is_on, part_of}

@@ -1,21 +1,19 @@
 -- The laws of the cut of a packet and of its layout.
-use Rattle.std.proofs.Common.{◌≡◌, ℕ, zero, suc, ◌+◌, ◌-◌, ◌*◌, ◌/◌, ◌%◌, ◌<◌, ◌≤◌, ◌⊎◌, inl, inr, List, [], ◌∷◌, ◌++◌, length, take, drop, min, refl, sym, ap, subst, ◌∙◌, arith, append_assoc, add_assoc, length-append}
+use Rattle.std.proofs.Common.{◌≡◌, ℕ, zero, suc, ◌+◌, ◌-◌, ◌*◌, ◌%◌, ◌<◌, ◌≤◌, ◌⊎◌, inl, inr, List, [], ◌∷◌, ◌++◌, length, take, drop, refl, sym, ap, subst, ◌∙◌, arith, add_assoc, length-append}
 use Rattle.std.specs.Int.{div_ceil}
 use Rattle.std.specs.List.{concat}
 use Rattle.std.proofs.lemmas.Bool.{cases_lt}
 use Rattle.std.proofs.lemmas.List.{append-nil, take_at, drop_at, take-append-drop, length-take, length-drop}
 use Rattle.std.proofs.lemmas.Nat.{div-mul-add, mod-mul-add}
-use Rattle.std.specs.Prelude.{Bool, true, IsTrue, All, Option, Some, None, nat_lt, nat_le, nat_eq, not, ◌&&◌, ◌||◌, if◌then◌else◌, flat_map}
+use Rattle.std.specs.Prelude.{Bool, true, IsTrue, All, Some, nat_lt, nat_le, nat_eq, not, ◌&&◌, ◌||◌, if◌then◌else◌}
 use Rattle.std.proofs.lemmas.Bool.{lt-ltb, le-leb, ne_eqb, eq-eqb, and_from, or_left, or_right, not_from_false}
-use Rattle.std.proofs.lemmas.List.{length_push}
 use Rattle.std.proofs.lemmas.List.Elements.{All-nil, All-cons}
 use Rattle.std.proofs.Math.Nat.{mul-le-mul_right}
-use Rattle.xsk_umem.specs.Geometry.{Geometry, IsGeometry, IsChunkSize, area_of, payload_of, data_of}
-use Rattle.xsk_umem.specs.Frame.{Frame}
+use Rattle.xsk_umem.specs.Geometry.{Geometry, IsGeometry, area_of, payload_of, data_of}
 use Rattle.xsk_umem.specs.declared.batch.Item.{Item}
 use Rattle.xsk_umem.specs.declared.batch.XdpDesc.{XdpDesc}
-use Rattle.xsk_model.specs.Descriptor.{is_inside, has_bytes, fits_chunk, has_known_options, is_valid, payload}
-use Rattle.xsk_model.specs.Packets.{IsCut, HavePieceLengths, options_before, HoldsPiece, HoldPieces, IsLayout, Packet, whole, packets, rest, bytes_of, Continues, IsWhole}
+use Rattle.xsk_model.specs.Descriptor.{is_valid, payload}
+use Rattle.xsk_model.specs.Packets.{IsCut, HavePieceLengths, HoldsPiece, HoldPieces, IsLayout, whole, packets, rest, bytes_of, Continues, IsWhole}
 use Rattle.xsk_model.proofs.PacketsLaws.{packets-at}
 
 -- ---- the cut

@@ -7,3 +7,15 @@ pub mod Folds
 pub mod Places
 pub mod Moves
 pub mod Sound
+pub mod Opened
+pub mod Histories
+pub mod Replies
+pub mod Distinct
+pub mod Roles
+pub mod MarkPlaces
+pub mod MarkNumbers
+pub mod Theorems
+pub mod OwnRuns
+pub mod Sendings
+pub mod Completions
+pub mod Counts

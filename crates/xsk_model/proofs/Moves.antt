@@ -1,5 +1,5 @@
 -- What a call does to the one ring that it is on.
-use Rattle.std.proofs.Common.{◌≡◌, ◌≢◌, ℕ, zero, suc, ◌+◌, ◌-◌, ◌<◌, ◌≤◌, Bool, true, false, cond, leb, nat_le, List, [], ◌∷◌, ◌++◌, length, get_or, set, take, drop, All, flat_map, Option, Some, None, refl, sym, ap, subst, ◌∙◌, ⊎_elim, arith, append-nil, leb-true, length-append, length-take, length-drop, take-append-drop, min}
+use Rattle.std.proofs.Common.{◌≡◌, ◌≢◌, ℕ, zero, suc, ◌+◌, ◌-◌, ◌<◌, ◌≤◌, Bool, true, false, cond, nat_le, List, [], ◌∷◌, ◌++◌, length, get_or, set, take, drop, All, flat_map, refl, sym, ap, subst, ◌∙◌, arith, append-nil, length-append, length-take, length-drop, take-append-drop, get_or-set_other}
 use Rattle.std.proofs.lemmas.Bool.Decides.{nat_tests}
 use Rattle.std.proofs.lemmas.List.Elements.{All-append, All-drop}
 use Rattle.xsk_umem.specs.declared.batch.Item.{Item}
@@ -14,9 +14,9 @@ use Rattle.xsk_model.specs.declared.call.Ring.{Ring}
 use Rattle.xsk_model.specs.declared.call.Call.{Call}
 use Rattle.xsk_model.specs.declared.call.Call.TheVariants.{Reserve, Submit, Peek, Release, Swap, Look}
 use Rattle.xsk_model.specs.declared.call.Reply.{Reply}
-use Rattle.xsk_model.specs.declared.call.Reply.TheVariants.{Granted, Full, Submitted, Items, Empty, Released, Old}
+use Rattle.xsk_model.specs.declared.call.Reply.TheVariants.{Granted, Full, Submitted, Released}
 use Rattle.xsk_model.proofs.Counting.{times-append, times-flat_map-set, numbers-append}
-use Rattle.xsk_model.proofs.Places.{is_ring-true, is_ring-self, place_below, get_or-set-place, cond-is_ring}
+use Rattle.xsk_model.proofs.Places.{is_ring-true, place_below, places_apart, get_or-set-place, cond-is_ring}
 
 -- ---- the reply of one ring
 
@@ -39,6 +39,15 @@ reply_at-on c s (Peek q n) r h = at_ring (λ p. peek_reply n (ring_at c s p).out
 reply_at-on c s (Release q n) r h = refl
 reply_at-on c s (Swap m value) r h = absurd (cc)
 reply_at-on c s (Look m) r h = absurd (cc)
+
+-- the ring of a call that is on it
+pub known_on : (c : Config) (call : Call) (r : Ring) → IsKnown c call → is_on r call ≡ true → HasRing c r
+known_on c (Reserve q n) r known on = subst (HasRing c) (sym (is_ring-true r q on)) known
+known_on c (Submit q items) r known on = subst (HasRing c) (sym (is_ring-true r q on)) known
+known_on c (Peek q n) r known on = subst (HasRing c) (sym (is_ring-true r q on)) known
+known_on c (Release q n) r known on = subst (HasRing c) (sym (is_ring-true r q on)) known
+known_on c (Swap m value) r known on = absurd (cc)
+known_on c (Look m) r known on = absurd (cc)
 
 -- ---- the ring after
 
@@ -154,10 +163,18 @@ pub ring_at-after_same : (c : Config) (s : State) (who : ℕ) (call : Call) (r :
 ring_at-after_same c s who call r h k within on =
     ring_at-after c s who call r h k within ∙ ap (λ b. cond b (ring_after (size_of c r) (ring_at c s r) call) (ring_at c s r)) on
 
-pub ring_at-after_other : (c : Config) (s : State) (who : ℕ) (call : Call) (r : Ring) → HasRing c r → IsKnown c call → place c r < length s.rings → is_on r call ≡ false
+ring_at-apart : (c : Config) (s : State) (r q : Ring) (ring : RingState) → HasRing c r → HasRing c q → is_ring r q ≡ false
+    → get_or (set s.rings (place c q) ring) (place c r) empty_ring ≡ ring_at c s r
+ring_at-apart c s r q ring h k apart = get_or-set_other s.rings (place c q) (place c r) ring empty_ring (places_apart c r q h k apart)
+
+pub ring_at-after_other : (c : Config) (s : State) (who : ℕ) (call : Call) (r : Ring) → HasRing c r → IsKnown c call → is_on r call ≡ false
     → ring_at c (after c s who call) r ≡ ring_at c s r
-ring_at-after_other c s who call r h k within off =
-    ring_at-after c s who call r h k within ∙ ap (λ b. cond b (ring_after (size_of c r) (ring_at c s r) call) (ring_at c s r)) off
+ring_at-after_other c s who (Reserve q n) r h k off = ring_at-apart c s r q (ring_after (size_of c q) (ring_at c s q) (Reserve q n)) h k off
+ring_at-after_other c s who (Submit q items) r h k off = ring_at-apart c s r q (ring_after (size_of c q) (ring_at c s q) (Submit q items)) h k off
+ring_at-after_other c s who (Peek q n) r h k off = ring_at-apart c s r q (ring_after (size_of c q) (ring_at c s q) (Peek q n)) h k off
+ring_at-after_other c s who (Release q n) r h k off = ring_at-apart c s r q (ring_after (size_of c q) (ring_at c s q) (Release q n)) h k off
+ring_at-after_other c s who (Swap m value) r h k off = refl
+ring_at-after_other c s who (Look m) r h k off = refl
 
 -- ---- frames
 

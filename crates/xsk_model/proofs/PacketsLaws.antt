@@ -1,15 +1,14 @@
 -- The laws of the packets of a list of items.
-use Rattle.std.proofs.Common.{◌≡◌, ◌≢◌, ℕ, suc, ◌+◌, ◌<◌, ◌≤◌, ◌⊎◌, inl, inr, Bool, true, false, eqb, leb, List, [], ◌∷◌, ◌++◌, length, refl, sym, ap, subst, ◌∙◌, arith, append_assoc, length-append}
-use Rattle.std.specs.Prelude.{All, Option, Some, None, IsTrue, IsFalse, option_to_list, flat_map, nat_le, is_some, if◌then◌else◌, nat_eq, ◌&&◌, ◌||◌, not}
+use Rattle.std.proofs.Common.{◌≡◌, ◌+◌, ◌<◌, ◌≤◌, ◌⊎◌, inl, inr, Bool, true, false, eqb, List, [], ◌∷◌, ◌++◌, length, map, refl, sym, ap, subst, ◌∙◌, arith, append_assoc}
+use Rattle.std.specs.Prelude.{All, Option, Some, None, IsTrue, IsFalse, option_to_list, flat_map, nat_le, is_some, if◌then◌else◌, nat_eq, ◌&&◌}
 use Rattle.std.proofs.lemmas.List.{append-nil, length_push}
-use Rattle.std.proofs.lemmas.List.Concat.{flat_map-append}
-use Rattle.std.proofs.lemmas.List.Elements.{All-nil, All-cons, All-head, All-tail, All-append, All-push}
+use Rattle.std.proofs.lemmas.List.Elements.{All-nil, All-cons, All-head, All-tail, All-push}
 use Rattle.std.proofs.lemmas.Bool.{cases_lt, cases_Bool, and_parts, or_cases, eqb-true}
 use Rattle.std.proofs.lemmas.Bool.Decides.{nat_tests}
 use Rattle.xsk_umem.specs.Geometry.{Geometry}
 use Rattle.xsk_umem.specs.declared.batch.Item.{Item}
 use Rattle.xsk_model.specs.Descriptor.{is_valid, is_inside, has_bytes, fits_chunk, has_known_options}
-use Rattle.xsk_model.specs.Packets.{Packet, whole, bad, ended_by, group_after, packets_from, rest_from, packets, rest, items_of, Continues, IsUnfinished, IsWhole, IsBad, IsPacket}
+use Rattle.xsk_model.specs.Packets.{Packet, whole, bad, ended_by, group_after, packets_from, rest_from, packets, rest, items_of, whole_packets, bad_items, Continues, IsUnfinished, IsWhole, IsPacket}
 
 module _ (g : Geometry) (sg : Bool) where
   -- ---- a list cut in two
@@ -265,3 +264,31 @@ module _ (g : Geometry) (sg : Bool) where
         packets_from-append [] xs ys ∙ ap (λ (ps : List Packet). packets g sg xs ++ ps) (sym same),
         rest_from-append [] xs ys ∙ sym same_rest,
       )
+
+  -- ---- whole packets one after the other
+
+  pub packets-wholes : (groups : List (List Item)) → All (IsWhole g sg) groups
+      → (packets g sg (flat_map (λ (group : List Item). group) groups) ≡ map whole groups) × (rest g sg (flat_map (λ (group : List Item). group) groups) ≡ [])
+  packets-wholes [] h = (refl, refl)
+  packets-wholes (group ∷ groups) h =
+      let more : List Item = flat_map (λ (other : List Item). other) groups in
+      let here : (packets g sg (group ++ more) ≡ whole group ∷ packets g sg more) × (rest g sg (group ++ more) ≡ rest g sg more) =
+      packets-at (whole group) more (All-head (IsWhole g sg) group groups h) in
+      let later : (packets g sg more ≡ map whole groups) × (rest g sg more ≡ []) = packets-wholes groups (All-tail (IsWhole g sg) group groups h) in
+      (here.0 ∙ ap (λ (ps : List Packet). whole group ∷ ps) later.0, here.1 ∙ later.1)
+
+-- ---- the whole packets and the bad items of a longer list
+
+pub whole_packets-append : (ps qs : List Packet) → whole_packets (ps ++ qs) ≡ whole_packets ps ++ whole_packets qs
+whole_packets-append [] qs = refl
+whole_packets-append (whole items ∷ ps) qs = ap (λ (groups : List (List Item)). items ∷ groups) (whole_packets-append ps qs)
+whole_packets-append (bad items ∷ ps) qs = whole_packets-append ps qs
+
+pub whole_packets-whole : (groups : List (List Item)) → whole_packets (map whole groups) ≡ groups
+whole_packets-whole [] = refl
+whole_packets-whole (group ∷ groups) = ap (λ (others : List (List Item)). group ∷ others) (whole_packets-whole groups)
+
+pub bad_items-append : (ps qs : List Packet) → bad_items (ps ++ qs) ≡ bad_items ps + bad_items qs
+bad_items-append [] qs = omega arith
+bad_items-append (whole items ∷ ps) qs = bad_items-append ps qs
+bad_items-append (bad items ∷ ps) qs = omega (arith, bad_items-append ps qs)

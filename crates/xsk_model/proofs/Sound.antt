@@ -1,21 +1,19 @@
 -- What holds after each entry of a history, and that one more legal entry keeps it.
-use Rattle.std.proofs.Common.{◌≡◌, ◌≢◌, ℕ, ◌+◌, ◌-◌, ◌<◌, ◌≤◌, Bool, true, false, cond, List, [], ◌∷◌, ◌++◌, length, get_or, set, All, flat_map, refl, sym, ap, subst, ◌∙◌, ⊎_elim, arith, append_assoc, append-nil, length-set, get_or-set_same, get_or-set_other}
+use Rattle.std.proofs.Common.{◌≡◌, ◌≢◌, ℕ, ◌+◌, ◌-◌, ◌<◌, ◌≤◌, true, false, cond, List, [], ◌∷◌, ◌++◌, length, get_or, set, All, flat_map, sym, ap, subst, ◌∙◌, ⊎_elim, arith, append_assoc, append-nil, get_or-set_same, get_or-set_other}
 use Rattle.std.proofs.lemmas.Bool.{cases_Bool, cases_eq}
-use Rattle.xsk_umem.specs.Frame.{Frame}
 use Rattle.xsk_umem.specs.declared.batch.Item.{Item}
 use Rattle.xsk_model.specs.Config.{Config, HasRing, size_of, callers_of}
 use Rattle.xsk_model.specs.Numbers.{times, numbers, without}
 use Rattle.xsk_model.specs.Rings.{place, places_of, producer, consumer}
-use Rattle.xsk_model.specs.Object.{RingState, State, empty_ring, ring_at, had_by, had_after, reply_at, call_ring, ring_after, rings_after, marks_after, submitted, taken, after}
+use Rattle.xsk_model.specs.Object.{RingState, State, ring_at, had_by, had_after, reply_at, call_ring, ring_after, rings_after, submitted, taken, after}
 use Rattle.xsk_model.specs.Entry.{Told, Entry, told, own, all_told}
-use Rattle.xsk_model.specs.Own.{had_of, is_on, part_of, granted, released, room_step, held_step, submitted_step, peeked_step, room_of, held_of, submitted_of, peeked_of}
-use Rattle.xsk_model.specs.Legal.{IsLegal, IsItemOn, IsKnown, AreItems, IsCounted}
+use Rattle.xsk_model.specs.Own.{had_of, is_on, granted, released, room_step, held_step, submitted_step, peeked_step, room_of, held_of, submitted_of, peeked_of}
+use Rattle.xsk_model.specs.Legal.{IsLegal, IsItemOn}
 use Rattle.xsk_model.specs.Holders.{holders, out_numbers}
 use Rattle.xsk_model.specs.declared.call.Ring.{Ring}
 use Rattle.xsk_model.specs.declared.call.Call.{Call}
 use Rattle.xsk_model.specs.declared.call.Call.TheVariants.{Reserve, Submit, Peek, Release, Swap, Look}
-use Rattle.xsk_model.specs.declared.call.Reply.{Reply}
-use Rattle.xsk_model.proofs.Counting.{times-append, times-without, times-flat_map-set, numbers-append}
+use Rattle.xsk_model.proofs.Counting.{times-append, times-without, times-flat_map-set}
 use Rattle.xsk_model.proofs.Places.{is_ring-true, place_below}
 use Rattle.xsk_model.proofs.Folds.{own-push_same, own-push_other, had_of-push, part_of_own-push, part_of_own-push_other, part_of_all-push}
 use Rattle.xsk_model.proofs.Moves.{ring_reply, reply_at-on, ring_after-room, ring_after-held, ring_after-out, ring_after-within, ring_after-all, ring_at-after_same, ring_at-after_other, rings_count, not_producer, not_consumer}
@@ -72,7 +70,7 @@ module _ (c : Config) (s : State) (past : List Entry) (e : Entry) (r : Ring) (le
   all_given = part_of_all-push submitted_step r [] past e ∙ ap (λ b. cond b (submitted_of r (all_told past) ++ submitted e.call) (submitted_of r (all_told past))) on
 
 -- a Submit has no more items than the room of its ring, and they are items of this ring
-few_items : (c : Config) (past : List Entry) (who : ℕ) (call : Call) (r : Ring) (room : ℕ) → IsLegal c (own who past) who call → is_on r call ≡ true
+pub few_items : (c : Config) (past : List Entry) (who : ℕ) (call : Call) (r : Ring) (room : ℕ) → IsLegal c (own who past) who call → is_on r call ≡ true
     → room ≡ room_of r (own (producer c r) past) → length (submitted call) ≤ room
 few_items c past who (Reserve q n) r room legal on h = omega arith
 few_items c past who (Submit q items) r room legal on h =
@@ -148,7 +146,7 @@ ring_sound c s first past e r has len legal reply h =
     subst (λ ring. IsRingSound c first r ring (past ++ e ∷ [])) (sym (ring_at-after_same c s e.who e.call r has legal.known within on))
     (ring_on c s first past e r legal reply on h))
     (λ (off : is_on r e.call ≡ false).
-    subst (λ ring. IsRingSound c first r ring (past ++ e ∷ [])) (sym (ring_at-after_other c s e.who e.call r has legal.known within off))
+    subst (λ ring. IsRingSound c first r ring (past ++ e ∷ [])) (sym (ring_at-after_other c s e.who e.call r has legal.known off))
     (ring_off c first past e r (ring_at c s r) off h))
     (cases_Bool (is_on r e.call))
 

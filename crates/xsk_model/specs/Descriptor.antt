@@ -1,8 +1,9 @@
--- The descriptors of RX and TX rings (`struct xdp_desc` of if_xdp.h): an address, which is an offset in the UMEM, a
--- length, and options. The option XDP_PKT_CONTD (1) says that the packet continues in the next descriptor, which is for
--- sockets with XDP_USE_SG alone (af_xdp.rst, "Multi-Buffer Support").
--- That a zero length and any further option make a descriptor invalid, and on TX the bit without XDP_USE_SG, is this
--- project's own. An item is a descriptor with the frame that it names, if it has one.
+-- The descriptors of RX and TX rings (`struct xdp_desc` of if_xdp.h; af_xdp.rst, "Multi-Buffer Support"): an address,
+-- which is an offset in the UMEM, a length, and options. A descriptor names one frame. The option XDP_PKT_CONTD (1) says
+-- that the packet continues in the next descriptor, which is for sockets with XDP_USE_SG alone. A zero length and any
+-- other option make a descriptor invalid.
+-- That the bit without XDP_USE_SG does so too, and that all of this is asked of one descriptor at a time on RX and TX
+-- alike, is this project's own. An item is a descriptor with the frame that it names, if it has one.
 use Rattle.std.specs.Prelude.{ℕ, ◌+◌, ◌%◌, Bool, ◌&&◌, ◌||◌, ◌==◌, not, nat_lt, nat_le, if◌then◌else◌, Option, Some, None, List, [], take, drop}
 use Rattle.xsk_umem.specs.Geometry.{Geometry, area_of}
 use Rattle.xsk_umem.specs.Frame.{Frame}

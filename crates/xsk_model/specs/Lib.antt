@@ -3,6 +3,7 @@ pub mod Descriptor
 pub mod Entry
 pub mod History
 pub mod Holders
+pub mod Laws
 pub mod Legal
 pub mod Marks
 pub mod Numbers

@@ -2,7 +2,7 @@
 -- ("Rings"); to reserve, submit, peek and release are the steps of libxdp's ring functions. Everything stands in lists
 -- and numbers: there are no positions that wrap, no caches, and no copies.
 -- A call gets one reply and leaves one state, whoever makes it and whether or not it is legal.
-use Rattle.std.specs.Prelude.{ℕ, ◌+◌, ◌-◌, nat_le, if◌then◌else◌, Option, Some, None, List, [], ◌∷◌, ◌++◌, length, take, drop}
+use Rattle.std.specs.Prelude.{ℕ, ◌+◌, ◌-◌, ◌≤◌, nat_le, if◌then◌else◌, Option, Some, None, List, [], ◌∷◌, ◌++◌, length, take, drop}
 use Rattle.std.specs.List.{slice_index_or, slice_set}
 use Rattle.xsk_umem.specs.declared.batch.Item.{Item}
 use Rattle.xsk_model.specs.Config.{Config, size_of}
@@ -136,3 +136,12 @@ after c s who call = record {
   marks = marks_after c s.marks call;
   had = slice_set s.had who (had_after (had_by s who) call (reply_at c s call));
 }
+
+-- what a call takes from its ring is there: places that are reserved, or items that are held
+abbrev pub IsWithinRing : RingState → Call → Type 0
+IsWithinRing ring (Reserve r n) = Unit {0}
+IsWithinRing ring (Submit r items) = length items ≤ ring.room
+IsWithinRing ring (Peek r n) = Unit {0}
+IsWithinRing ring (Release r n) = n ≤ length ring.held
+IsWithinRing ring (Swap m value) = Unit {0}
+IsWithinRing ring (Look m) = Unit {0}

@@ -1,7 +1,8 @@
 -- Packets of one or more frames (af_xdp.rst, "Multi-Buffer Support"): how a packet is cut and laid into frames, and
 -- which packets a list of descriptors has. An invalid descriptor makes all descriptors of its packet invalid, and the
--- next descriptor starts a new packet. That a packet has at most 18 frames is this project's own.
-use Rattle.std.specs.Prelude.{◌≡◌, ℕ, ◌+◌, ◌<◌, ◌≤◌, Bool, IsTrue, not, ◌||◌, ◌==◌, nat_le, if◌then◌else◌, ◌⊎◌, IsFalse, All, Option, Some, None, is_some, option_to_list, List, [], ◌∷◌, ◌++◌, length, take, drop, sum_by, flat_map}
+-- next descriptor starts a new packet, as the text has it from Linux 6.6 on; newer texts are named in docs/KERNEL.md.
+-- The text advises at most 18 frames a packet; that more are bad in each case is this project's own.
+use Rattle.std.specs.Prelude.{◌≡◌, ℕ, ◌+◌, ◌<◌, ◌≤◌, Bool, IsTrue, not, ◌==◌, nat_le, if◌then◌else◌, ◌⊎◌, IsFalse, All, Option, Some, None, is_some, option_to_list, List, [], ◌∷◌, ◌++◌, length, take, drop, flat_map}
 use Rattle.std.specs.List.{concat}
 use Rattle.xsk_umem.specs.Geometry.{Geometry, payload_of, data_of}
 use Rattle.xsk_umem.specs.Frame.{Frame}

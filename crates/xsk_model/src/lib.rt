@@ -4,6 +4,7 @@
 
 mod call;
 mod config;
+pub mod laws;
 
 pub use call::{Act, Call, Mark, Reply, Ring};
 pub use config::{Config, PairInfo, SocketInfo};

@@ -1,4 +1,3 @@
-use Rattle.std.proofs.Common.{sym}
 use Rattle.xsk_model.proofs.LayoutLaws.{length-cut}
 use Rattle.xsk_desc.proofs.descriptor.fragments.Goals as goal
 

@@ -1,7 +1,6 @@
 -- What is said of all items that were pushed follows from what this one ends and from what is kept.
-use Rattle.std.proofs.Common.{◌≡◌, [], List, ap, ◌∙◌, rules}
+use Rattle.std.proofs.Common.{◌≡◌, ap, ◌∙◌, rules}
 use Rattle.std.specs.Prelude.{Some, None, Option, option_to_list, ◌++◌}
-use Rattle.xsk_umem.specs.declared.batch.Item.{Item}
 use Rattle.xsk_model.specs.Packets.{Packet, whole, bad, ended_by, group_after, packets}
 use Rattle.xsk_model.proofs.PacketsLaws.{packets-push, rest-push}
 use Rattle.xsk_desc.specs.Kept.{Kept}

@@ -1,0 +1,158 @@
+-- The laws of the object, each over all histories.
+use Rattle.std.specs.Prelude.{◌≡◌, ◌≢◌, ◌↔◌, ℕ, ◌+◌, ◌<◌, ◌≤◌, true, false, List, [], ◌∷◌, ◌++◌, length, take, drop, map, flat_map, All, AllPairs, Contains}
+use Rattle.xsk_umem.specs.Frame.{Frame}
+use Rattle.xsk_umem.specs.declared.batch.Item.{Item}
+use Rattle.xsk_model.specs.Config.{Config, IsConfig, HasRing, size_of, callers_of}
+use Rattle.xsk_model.specs.Numbers.{times, numbers}
+use Rattle.xsk_model.specs.Rings.{place, places_of, producer, consumer}
+use Rattle.xsk_model.specs.Marks.{HasMark, mark_place, mark_places_of}
+use Rattle.xsk_model.specs.Object.{State, ring_at, mark_at, had_by, peek_reply, after, IsWithinRing}
+use Rattle.xsk_model.specs.Entry.{Told, Entry, own, all_told}
+use Rattle.xsk_model.specs.Own.{had_of, part_of, is_on, room_of, held_of, given_of, released_of, peeked_of, submitted_of, sending_of}
+use Rattle.xsk_model.specs.Legal.{IsItemOn, IsKnown, IsLegal}
+use Rattle.xsk_model.specs.Opening.{opening}
+use Rattle.xsk_model.specs.History.{IsHistory, state_after, MayGive, IsMarkNumber, Fits, OwnGoesOn}
+use Rattle.xsk_model.specs.Holders.{HasOneHolder, out_numbers}
+use Rattle.xsk_model.specs.Packets.{packets, whole_packets, bytes_of}
+use Rattle.xsk_model.specs.Sent.{sockets_of, completed_in, sent_by}
+use Rattle.xsk_model.specs.declared.call.Ring.{Ring}
+use Rattle.xsk_model.specs.declared.call.Ring.TheVariants.{Comp, Tx}
+use Rattle.xsk_model.specs.declared.call.Mark.{Mark}
+use Rattle.xsk_model.specs.declared.call.Call.{Call}
+use Rattle.xsk_model.specs.declared.call.Call.TheVariants.{Submit, Peek}
+use Rattle.xsk_model.specs.declared.call.Reply.{Reply}
+
+-- ---- frames
+
+-- after each prefix of a history each frame has one holder
+abbrev pub OneHolder : Type 0
+OneHolder = (c : Config) (frames : List Frame) (past later : List Entry) → IsHistory c frames (past ++ later)
+    → HasOneHolder c.geometry.frames (state_after c frames past)
+
+-- the frames that a caller has are those that its own calls and replies leave
+abbrev pub FramesByOwn : Type 0
+FramesByOwn = (c : Config) (frames : List Frame) (h : List Entry) (who : ℕ) → IsHistory c frames h
+    → had_by (state_after c frames h) who ≡ had_of (own who h)
+
+-- that a caller has the frames of items, each as often as it stands there, says that it has them and that they are
+-- distinct
+abbrev pub HadAndDistinct : Type 0
+HadAndDistinct = (c : Config) (frames : List Frame) (h : List Entry) (who : ℕ) (items : List Item) → IsHistory c frames h
+    → ((n : ℕ) → times n (numbers items) ≤ times n (had_of (own who h)))
+    ↔ (All (λ n. Contains (had_of (own who h)) n) (numbers items) × AllPairs (λ (m n : ℕ). m ≢ n) (numbers items))
+
+-- no more frames are out in rings than there are
+abbrev pub FewInRings : Type 0
+FewInRings = (c : Config) (frames : List Frame) (h : List Entry) → IsHistory c frames h
+    → length (flat_map out_numbers (state_after c frames h).rings) ≤ c.geometry.frames
+
+-- ---- rings
+
+-- on each ring the items peeked and then those that are out are the opening's followed by those submitted
+abbrev pub InOrder : Type 0
+InOrder = (c : Config) (frames : List Frame) (h : List Entry) (r : Ring) → IsHistory c frames h → HasRing c r
+    → peeked_of r (all_told h) ++ (ring_at c (state_after c frames h) r).out ≡ (ring_at c (opening c frames) r).out ++ submitted_of r (all_told h)
+
+-- so a Peek takes the items that follow those peeked before
+abbrev pub PeekInOrder : Type 0
+PeekInOrder = (c : Config) (frames : List Frame) (past later : List Entry) (r : Ring) (n : ℕ) (e : Entry) → IsHistory c frames (past ++ e ∷ later)
+    → e.call ≡ Peek r n
+    → e.reply ≡ peek_reply n (drop (length (peeked_of r (all_told past))) ((ring_at c (opening c frames) r).out ++ submitted_of r (all_told past)))
+
+-- a ring's room is what its producer's own calls and replies leave, and its held items are as many as its consumer's
+-- leave
+abbrev pub PartsByOwn : Type 0
+PartsByOwn = (c : Config) (frames : List Frame) (h : List Entry) (r : Ring) → IsHistory c frames h → HasRing c r
+    → ((ring_at c (state_after c frames h) r).room ≡ room_of r (own (producer c r) h))
+    × (length (ring_at c (state_after c frames h) r).held ≡ held_of r (own (consumer c r) h))
+
+-- all items peeked on a ring were peeked by its consumer, and all submitted were submitted by its producer
+abbrev pub ItemsByOwn : Type 0
+ItemsByOwn = (c : Config) (frames : List Frame) (h : List Entry) (r : Ring) → IsHistory c frames h → HasRing c r
+    → (peeked_of r (all_told h) ≡ peeked_of r (own (consumer c r) h)) × (submitted_of r (all_told h) ≡ submitted_of r (own (producer c r) h))
+
+-- the items and the reserved places of a ring fit its size
+abbrev pub WithinSize : Type 0
+WithinSize = (c : Config) (frames : List Frame) (h : List Entry) (r : Ring) → IsHistory c frames h → HasRing c r
+    → length (ring_at c (state_after c frames h) r).out + length (ring_at c (state_after c frames h) r).held + (ring_at c (state_after c frames h) r).room ≤ size_of c r
+
+-- so does what a legal call takes from its ring
+abbrev pub WithinRing : Type 0
+WithinRing = (c : Config) (frames : List Frame) (h : List Entry) (who : ℕ) (call : Call) (r : Ring) → IsHistory c frames h → IsLegal c (own who h) who call
+    → is_on r call ≡ true → IsWithinRing (ring_at c (state_after c frames h) r) call
+
+-- the opening's items and those submitted are as many as those released, those held and those out
+abbrev pub CountsAgree : Type 0
+CountsAgree = (c : Config) (frames : List Frame) (h : List Entry) (r : Ring) → IsHistory c frames h → HasRing c r
+    → length (ring_at c (opening c frames) r).out + given_of r (own (producer c r) h)
+    ≡ released_of r (own (consumer c r) h) + length (ring_at c (state_after c frames h) r).held + length (ring_at c (state_after c frames h) r).out
+
+-- what is out in a ring may stand there
+abbrev pub LawfulItems : Type 0
+LawfulItems = (c : Config) (frames : List Frame) (h : List Entry) (r : Ring) → IsHistory c frames h → HasRing c r
+    → All (IsItemOn c.geometry r) (ring_at c (state_after c frames h) r).out
+
+-- ---- replies
+
+-- each reply of a history fits its call
+abbrev pub FittingReplies : Type 0
+FittingReplies = (c : Config) (frames : List Frame) (past later : List Entry) (e : Entry) → IsHistory c frames (past ++ e ∷ later)
+    → Fits c (own e.who past) e.call e.reply
+
+-- so does each reply that the object may give
+abbrev pub FittingGifts : Type 0
+FittingGifts = (c : Config) (mine : List Told) (who : ℕ) (call : Call) (reply : Reply) → MayGive c mine who call reply
+    → Fits c mine call reply
+
+-- so a caller's own entries in a history are legal calls with fitting replies
+abbrev pub OwnEntries : Type 0
+OwnEntries = (c : Config) (frames : List Frame) (h : List Entry) (who : ℕ) → IsHistory c frames h → OwnGoesOn c who [] (own who h)
+
+-- ---- sent packets
+
+-- each Submit on COMPLETION completes one packet of one TX ring
+abbrev pub OneCompletion : Type 0
+OneCompletion = (c : Config) (d : ℕ) (mine : List Told) (items : List Item) → OwnGoesOn c d [] mine → IsLegal c mine d (Submit (Comp d) items)
+    → length (completed_in c (sockets_of c d) mine (Submit (Comp d) items)) ≡ 1
+
+-- what a driver sent of a socket's packets are the first Whole packets of all that it peeked on the TX ring
+abbrev pub SentInOrder : Type 0
+SentInOrder = (c : Config) (frames : List Frame) (h : List Entry) (d socket : ℕ) → IsHistory c frames h
+    → sent_by c h d socket ≡ map (bytes_of c.geometry c.sg) (take (sending_of c socket (own d h)).completed (whole_packets (packets c.geometry c.sg (peeked_of (Tx socket) (own d h)))))
+
+-- ---- marks
+
+-- a cell has its configured number, and each other mark 0 or 1
+abbrev pub MarkNumbers : Type 0
+MarkNumbers = (c : Config) (frames : List Frame) (h : List Entry) (m : Mark) → IsHistory c frames h → HasMark c m
+    → IsMarkNumber c m (mark_at c (state_after c frames h) m)
+
+-- ---- places
+
+-- each ring has a place of its own, below their number
+abbrev pub OwnPlaces : Type 0
+OwnPlaces = (c : Config) (r s : Ring) → HasRing c r → HasRing c s → (place c r < places_of c) × (place c r ≡ place c s → r ≡ s)
+
+-- so has each mark
+abbrev pub OwnMarkPlaces : Type 0
+OwnMarkPlaces = (c : Config) (m n : Mark) → IsConfig c → HasMark c m → HasMark c n
+    → (mark_place c m < mark_places_of c) × (mark_place c m ≡ mark_place c n → m ≡ n)
+
+-- a ring's producer and its consumer are two callers
+abbrev pub TwoOwners : Type 0
+TwoOwners = (c : Config) (r : Ring) → IsConfig c → HasRing c r
+    → (producer c r < callers_of c) × (consumer c r < callers_of c) × (producer c r ≢ consumer c r)
+
+-- ---- what a call leaves alone
+
+-- a call leaves each other ring and each other caller's frames as they were
+abbrev pub LeavesOthers : Type 0
+LeavesOthers = (c : Config) (s : State) (who other : ℕ) (call : Call) (r : Ring) → HasRing c r → IsKnown c call
+    → (is_on r call ≡ false → ring_at c (after c s who call) r ≡ ring_at c s r) × (other ≢ who → had_by (after c s who call) other ≡ had_by s other)
+
+-- an entry on another ring leaves each number that is folded over a caller's entries on this one, and an entry of
+-- another caller all of a caller's own
+abbrev pub LeavesFolds : Type 0
+LeavesFolds = (change : ℕ → Told → ℕ) (r : Ring) (n : ℕ) (who : ℕ) (past : List Entry) (e : Entry)
+    → (is_on r e.call ≡ false → part_of change r n (own who (past ++ e ∷ [])) ≡ part_of change r n (own who past))
+    × (e.who ≢ who → own who (past ++ e ∷ []) ≡ own who past)

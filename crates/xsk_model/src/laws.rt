@@ -1,0 +1,118 @@
+//! The laws of the object, each the contract of a function that does nothing. They are stated in `specs/Laws.antt`.
+
+ghost use Rattle.xsk_model.specs.Laws.{OneHolder, FramesByOwn, HadAndDistinct, InOrder, PeekInOrder, PartsByOwn, ItemsByOwn, WithinSize, LawfulItems, FittingReplies, FittingGifts, OwnEntries, WithinRing, CountsAgree, FewInRings, OneCompletion, SentInOrder, MarkNumbers, OwnPlaces, OwnMarkPlaces, TwoOwners, LeavesOthers, LeavesFolds};
+
+/// After each prefix of a history each frame has one holder: a caller that has it, or a ring in which it is out.
+pub fn one_holder()
+    ensures { OneHolder }
+{}
+
+/// The frames that a caller has are those that its own calls and replies leave.
+pub fn frames_by_own()
+    ensures { FramesByOwn }
+{}
+
+/// In a history, frames that a caller has by counting are frames that it has and that are distinct.
+pub fn had_and_distinct()
+    ensures { HadAndDistinct }
+{}
+
+/// No more frames are out in rings than the UMEM has.
+pub fn few_in_rings()
+    ensures { FewInRings }
+{}
+
+/// On each ring the items peeked are a prefix of the opening's items followed by those submitted.
+pub fn in_order()
+    ensures { InOrder }
+{}
+
+/// A Peek takes the items that follow those peeked before.
+pub fn peek_in_order()
+    ensures { PeekInOrder }
+{}
+
+/// A ring's room and its held items are what its owners' own calls and replies leave.
+pub fn parts_by_own()
+    ensures { PartsByOwn }
+{}
+
+/// All items of a ring were submitted by its producer and peeked by its consumer.
+pub fn items_by_own()
+    ensures { ItemsByOwn }
+{}
+
+/// The items and the reserved places of a ring fit its size, so the free places never go below zero.
+pub fn within_size()
+    ensures { WithinSize }
+{}
+
+/// What a legal call takes from its ring is there: places that are reserved, or items that are held.
+pub fn within_ring()
+    ensures { WithinRing }
+{}
+
+/// The opening's items of a ring and those submitted are as many as those released, held and out.
+pub fn counts_agree()
+    ensures { CountsAgree }
+{}
+
+/// What is out in a ring may stand there.
+pub fn lawful_items()
+    ensures { LawfulItems }
+{}
+
+/// Each reply of a history fits its call.
+pub fn fitting_replies()
+    ensures { FittingReplies }
+{}
+
+/// So does each reply that the object may give to a caller's call.
+pub fn fitting_gifts()
+    ensures { FittingGifts }
+{}
+
+/// A caller's own entries in a history are legal calls with fitting replies.
+pub fn own_entries()
+    ensures { OwnEntries }
+{}
+
+/// Each Submit on COMPLETION completes one packet of one TX ring.
+pub fn one_completion()
+    ensures { OneCompletion }
+{}
+
+/// What a driver sent of a socket's packets are the first Whole packets of all that it peeked on the TX ring.
+pub fn sent_in_order()
+    ensures { SentInOrder }
+{}
+
+/// A cell has its configured number, and each other mark 0 or 1.
+pub fn mark_numbers()
+    ensures { MarkNumbers }
+{}
+
+/// Each ring has a place of its own.
+pub fn own_places()
+    ensures { OwnPlaces }
+{}
+
+/// Each mark has a place of its own.
+pub fn own_mark_places()
+    ensures { OwnMarkPlaces }
+{}
+
+/// A ring's producer and its consumer are two callers.
+pub fn two_owners()
+    ensures { TwoOwners }
+{}
+
+/// A call leaves each other ring and each other caller's frames as they were.
+pub fn leaves_others()
+    ensures { LeavesOthers }
+{}
+
+/// An entry on another ring, or of another caller, leaves what is folded over a caller's own entries on this ring.
+pub fn leaves_folds()
+    ensures { LeavesFolds }
+{}
