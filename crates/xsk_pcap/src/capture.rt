@@ -2,7 +2,7 @@ ghost use Rattle.std.specs.Prelude.{◌≡◌, ◌+◌, ◌*◌, ◌/◌, ◌%�
 ghost use Rattle.std.specs.List.{flat_map, concat, AllByRecursion};
 ghost use Rattle.byteorder.specs.Endian.{little_bytes};
 ghost use Rattle.xsk_pcap.specs.declared.endianness.Endianness.TheVariants.{Little};
-ghost use Rattle.xsk_pcap.specs.Capture.{record_bytes};
+ghost use Rattle.xsk_pcap.specs.Capture.{record_bytes, IsShort};
 ghost use Rattle.xsk_pcap.specs.Written.{written, written_record, written_records, all_packets, IsWritable};
 
 use byteorder::{ByteOrder, LittleEndian};
@@ -88,7 +88,7 @@ fn size_of_records(list: &PacketList) -> usize
 
 /// Appends the records of a list's packets, numbered from `number` on, in room that is there.
 fn append_records(text: &mut Vec<u8>, number: u32, list: &PacketList)
-    requires short { AllByRecursion (λ packet. length packet ≤ 262144) list.now.packets }
+    requires short { AllByRecursion IsShort list.now.packets }
     requires numbers { number + length list.now.packets < 2 ^ 32 }
     requires room { length (text.old.items ++ flat_map (record_bytes Little) (written_records number list.now.packets)) ≤ vec_capacity text.old }
     ensures { text.new.items ≡ text.old.items ++ flat_map (record_bytes Little) (written_records number list.now.packets) }
@@ -100,7 +100,7 @@ fn append_records(text: &mut Vec<u8>, number: u32, list: &PacketList)
 
 /// Appends one record in room that is there.
 fn append_record(text: &mut Vec<u8>, number: u32, packet: &[u8])
-    requires short { length packet.now ≤ 262144 }
+    requires short { IsShort packet.now }
     requires room { length text.old.items + 16 + length packet.now ≤ vec_capacity text.old }
     ensures text { text.new.items ≡ text.old.items ++ record_bytes Little (written_record number packet.now) }
     ensures room { vec_capacity text.old ≤ vec_capacity text.new }

@@ -1,6 +1,6 @@
 ghost use Rattle.std.specs.Prelude.{◌≡◌, ◌+◌, ◌-◌, ◌<◌, ◌≤◌, ℕ, List, [], length, drop, Option, Some, None, Result, Ok, Err, IfOk, IfErr, MatchResult};
-ghost use Rattle.std.specs.List.{concat};
-ghost use Rattle.xsk_pcap.specs.Capture.{is_magic as magic_test, IsCapture, IsRefused, IsCause, FailsAtRecord, order_of, header_refusal, record_refusal};
+ghost use Rattle.std.specs.List.{AllByRecursion};
+ghost use Rattle.xsk_pcap.specs.Capture.{is_magic as magic_test, IsCapture, IsShort, IsRefused, IsCause, FailsAtRecord, order_of, header_refusal, record_refusal};
 ghost use Rattle.xsk_pcap.specs.Steps.{PassesHeader, BeginsRecord, Measures, HasRoom, Appends};
 
 use crate::endianness::Endianness;
@@ -170,6 +170,7 @@ fn copy_packets(order: Endianness, records: &[u8], list: &mut PacketList)
 pub fn read(alloc: Global, bytes: &[u8]) -> Result<PacketList, BadCapture>
     // What is read is a capture of these packets.
     ensures found { IfOk result (λ list. IsCapture bytes.now list.packets) }
+    ensures short { IfOk result (λ list. AllByRecursion IsShort list.packets) }
     // What is a capture is read as its packets, unless memory runs out.
     ensures accepted { (packets : List (List ℕ)) → IsCapture bytes.now packets → MatchResult result (λ list. list.packets ≡ packets) (λ e. e ≡ BadCapture.OutOfMemory) }
     // The first check that fails decides, whatever memory there is.

@@ -1,4 +1,4 @@
-use Rattle.std.proofs.Common.{◌≡◌, ◌+◌, ◌++◌, drop, vec_capacity, ap, sym, ◌∙◌, arith}
+use Rattle.std.proofs.Common.{◌+◌, ◌++◌, drop, vec_capacity, ap, sym, ◌∙◌, arith}
 use Rattle.xsk_pcap.proofs.Writing.{text_of, text_of-next, room_for_next}
 use Rattle.xsk_pcap.proofs.capture.append_records.Goals as goal
 

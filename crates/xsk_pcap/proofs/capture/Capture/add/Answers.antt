@@ -1,5 +1,4 @@
-use Rattle.std.proofs.Common.{◌≡◌, List, [], ◌∷◌, ◌++◌, length, ap, sym, subst, ◌∙◌, arith, length-append}
-use Rattle.xsk_pcap.specs.Written.{IsWritable}
+use Rattle.std.proofs.Common.{[], ◌∷◌, ◌++◌, ap, ◌∙◌, arith, length-append}
 use Rattle.xsk_pcap.proofs.Writing.{text_of, length-text_of, fits_behind, IsKept-push}
 use Rattle.xsk_pcap.proofs.capture.Capture.add.Goals as goal
 
