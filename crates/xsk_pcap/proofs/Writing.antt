@@ -1,13 +1,13 @@
 -- Writing a capture, list by list.
 use Rattle.std.proofs.Common.{◌≡◌, ℕ, ◌+◌, ◌*◌, ◌≤◌, List, [], ◌∷◌, ◌++◌, length, drop, map, Some, refl, sym, ap, subst, ◌∙◌, append_assoc, arith}
 use Rattle.std.specs.Prelude.{slice_get}
-use Rattle.std.specs.List.{flat_map, concat, AllByRecursion}
+use Rattle.std.specs.List.{concat, AllByRecursion}
 use Rattle.std.proofs.lemmas.List.{append-nil, length-append, take_at, drop_at, map-append, drop_more}
 use Rattle.std.proofs.lemmas.List.Concat.{flat_map-append}
 use Rattle.std.proofs.lemmas.Option.{slice_get_within, get_or_from_slice_get}
 use Rattle.xsk_pcap.specs.declared.endianness.Endianness.TheVariants.{Little}
 use Rattle.xsk_pcap.specs.Capture.{header_bytes, record_bytes, IsShort, captured_in}
-use Rattle.xsk_pcap.specs.Written.{written_header, written_record, written_records, all_packets, written, IsWritable}
+use Rattle.xsk_pcap.specs.Written.{written_header, written_record, text_of, all_packets, written, IsWritable}
 use Rattle.xsk_pcap.specs.Kept.{packets_in, cut_into, lists_in, IsKept}
 use Rattle.xsk_pcap.proofs.Unique.{captured_in-record, length-record}
 
@@ -17,9 +17,6 @@ use Rattle.xsk_pcap.proofs.Unique.{captured_in-record, length-record}
 pub drop_slice_get : (xs : List (List ℕ)) (i : ℕ) (x : List ℕ) → slice_get xs i ≡ Some x → drop i xs ≡ x ∷ drop (i + 1) xs
 drop_slice_get xs i x e =
     drop_more xs i x (slice_get_within xs i x e) ∙ ap (λ (y : List ℕ). y ∷ drop (i + 1) xs) (get_or_from_slice_get xs i x x e)
-
-abbrev pub text_of : ℕ → List (List ℕ) → List ℕ
-text_of k packets = flat_map (record_bytes Little) (written_records k packets)
 
 pub length-text_of : (k : ℕ) (packets : List (List ℕ)) → length (text_of k packets) ≡ 16 * length packets + length (concat packets)
 length-text_of k [] = refl

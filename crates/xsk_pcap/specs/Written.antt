@@ -16,13 +16,17 @@ abbrev pub written_records : ℕ → List (List ℕ) → List Record
 written_records k [] = []
 written_records k (packet ∷ packets) = written_record k packet ∷ written_records (k + 1) packets
 
+-- the bytes of these records
+abbrev pub text_of : ℕ → List (List ℕ) → List ℕ
+text_of k packets = flat_map (record_bytes Little) (written_records k packets)
+
 -- all packets of the lists, in order
 abbrev pub all_packets : List (List (List ℕ)) → List (List ℕ)
 all_packets lists = flat_map (λ list. list) lists
 
 -- the records are numbered from 0 over all lists
 abbrev pub written : List (List (List ℕ)) → List ℕ
-written lists = header_bytes Little written_header ++ flat_map (record_bytes Little) (written_records 0 (all_packets lists))
+written lists = header_bytes Little written_header ++ text_of 0 (all_packets lists)
 
 -- what may be written into one capture; these limits are this project's own
 pub record IsWritable (lists : List (List (List ℕ))) : Type 0 where
