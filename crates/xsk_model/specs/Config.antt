@@ -79,25 +79,25 @@ abbrev pub with_cell : Config → ℕ → ℕ → ℕ → Config
 with_cell c port index value = record c { cells = slice_set c.cells port (slice_set (map_of c port) index value) }
 
 -- the socket and the pair of a number; where there is none, one with no rings
-abbrev pub socket_of : Config → ℕ → SocketInfo
-socket_of c s = slice_index_or c.sockets s (record { port = 0; queue = 0; rx = None; tx = None })
+abbrev pub socket_at : List SocketInfo → ℕ → SocketInfo
+socket_at sockets s = slice_index_or sockets s (record { port = 0; queue = 0; rx = None; tx = None })
 
-abbrev pub pair_of : Config → ℕ → PairInfo
-pair_of c d = slice_index_or c.pairs d (record { port = 0; queue = 0; fill = 0; comp = 0 })
+abbrev pub pair_at : List PairInfo → ℕ → PairInfo
+pair_at pairs d = slice_index_or pairs d (record { port = 0; queue = 0; fill = 0; comp = 0 })
 
 -- a ring that the configuration has
 abbrev pub HasRing : Config → Ring → Type 0
 HasRing c (Fill d) = d < length c.pairs
 HasRing c (Comp d) = d < length c.pairs
-HasRing c (Rx s) = (s < length c.sockets) × IsSome (socket_of c s).rx
-HasRing c (Tx s) = (s < length c.sockets) × IsSome (socket_of c s).tx
+HasRing c (Rx s) = (s < length c.sockets) × IsSome (socket_at c.sockets s).rx
+HasRing c (Tx s) = (s < length c.sockets) × IsSome (socket_at c.sockets s).tx
 
 -- the entries of a ring
 abbrev pub size_of : Config → Ring → ℕ
-size_of c (Fill d) = (pair_of c d).fill
-size_of c (Comp d) = (pair_of c d).comp
-size_of c (Rx s) = unwrap_or (socket_of c s).rx 0
-size_of c (Tx s) = unwrap_or (socket_of c s).tx 0
+size_of c (Fill d) = (pair_at c.pairs d).fill
+size_of c (Comp d) = (pair_at c.pairs d).comp
+size_of c (Rx s) = unwrap_or (socket_at c.sockets s).rx 0
+size_of c (Tx s) = unwrap_or (socket_at c.sockets s).tx 0
 
 -- a number and the least of it and some others
 abbrev pub least : ℕ → List ℕ → ℕ
@@ -128,22 +128,25 @@ pub record IsLawful (c : Config) : Type 0 where
 abbrev pub classes_of : Config → ℕ
 classes_of c = length c.sockets / length c.pairs
 
--- pair d has the place of its number: all queues of port 0, then those of port 1, and so on
-abbrev pub IsPairAt : Config → ℕ → Type 0
-IsPairAt c d = ((pair_of c d).port ≡ d / c.queues) × ((pair_of c d).queue ≡ d % c.queues)
+-- a pair has the place of its number: all queues of port 0, then those of port 1, and so on
+abbrev pub IsPairOf : ℕ → ℕ → PairInfo → Type 0
+IsPairOf queues d pair = (pair.port ≡ d / queues) × (pair.queue ≡ d % queues)
 
--- so has socket s, with as many sockets of each queue as there are classes; it has both rings
-pub record IsSocketAt (c : Config) (s : ℕ) : Type 0 where
-  pub port : (socket_of c s).port ≡ (s / classes_of c) / c.queues
-  pub queue : (socket_of c s).queue ≡ (s / classes_of c) % c.queues
-  pub rx : IsSome (socket_of c s).rx
-  pub tx : IsSome (socket_of c s).tx
+-- so has a socket, with as many sockets of each queue as there are classes; it has both rings
+abbrev pub IsSocketOf : ℕ → ℕ → ℕ → SocketInfo → Type 0
+IsSocketOf queues classes s socket = (socket.port ≡ (s / classes) / queues) × (socket.queue ≡ (s / classes) % queues) × IsSome socket.rx × IsSome socket.tx
+
+abbrev pub ArePairsInOrder : ℕ → List PairInfo → Type 0
+ArePairsInOrder queues pairs = EachIndex pairs (λ d. IsPairOf queues d (pair_at pairs d))
+
+abbrev pub AreSocketsInOrder : ℕ → ℕ → List SocketInfo → Type 0
+AreSocketsInOrder queues classes sockets = EachIndex sockets (λ s. IsSocketOf queues classes s (socket_at sockets s))
 
 -- a pair for each queue of each port, and 1, 2 or 4 sockets for each pair, all numbered by port, queue and class
 pub record IsRegular (c : Config) : Type 0 where
   pub lawful : IsLawful c
   pub pairs : length c.pairs ≡ c.ports * c.queues
-  pub seats : EachIndex c.pairs (IsPairAt c)
+  pub seats : ArePairsInOrder c.queues c.pairs
   pub classes : (classes_of c ≡ 1) ⊎ (classes_of c ≡ 2) ⊎ (classes_of c ≡ 4)
   pub sockets : length c.sockets ≡ length c.pairs * classes_of c
-  pub places : EachIndex c.sockets (IsSocketAt c)
+  pub places : AreSocketsInOrder c.queues (classes_of c) c.sockets

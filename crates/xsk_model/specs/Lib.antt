@@ -1,2 +1,17 @@
 pub mod Config
+pub mod Descriptor
+pub mod Entry
+pub mod History
+pub mod Holders
+pub mod Legal
+pub mod Marks
+pub mod Numbers
+pub mod Object
+pub mod Opening
+pub mod Own
+pub mod Packets
 pub mod Parts
+pub mod Rings
+pub mod Sent
+pub mod Stored
+pub mod Expected

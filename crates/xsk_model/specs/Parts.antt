@@ -1,6 +1,5 @@
 -- What a configuration's fields show.
-use Rattle.std.specs.Prelude.{ℕ, List, map}
-use Rattle.std.specs.declared.alloc.Global.{Global}
+use Rattle.std.specs.Prelude.{map}
 use Rattle.std.specs.Vec.{vec_items}
 use Rattle.xsk_model.specs.Config.{Config}
 use Rattle.xsk_model.specs.declared.config.Config.TheInside.{Inside}

@@ -1,11 +1,12 @@
 -- What a list's spans show after its text has grown.
-use Rattle.std.proofs.Common.{◌≡◌, ℕ, ◌≤◌, List, [], ◌∷◌, ◌++◌, length, drop, map, refl, arith, length-drop}
+use Rattle.std.proofs.Common.{◌≡◌, ℕ, zero, suc, ◌+◌, ◌≤◌, List, [], ◌∷◌, ◌++◌, length, get_or, set, drop, map, refl, sym, ◌∙◌, arith, length-append, length-drop}
 use Rattle.std.specs.Prelude.{All}
 use Rattle.std.proofs.lemmas.List.{drop-append-le, take-append-le, map-append}
-use Rattle.std.proofs.lemmas.List.Elements.{All-head, All-tail}
+use Rattle.std.proofs.lemmas.List.Elements.{All-head, All-tail, All-push, All-set, All-weaker}
 use Rattle.std.proofs.Math.Seq.{drop-append_seam, take-length}
 use Rattle.xsk_umem.specs.declared.packet_list.Span.{Span}
-use Rattle.xsk_umem.specs.Span.{at_span, IsWithin}
+use Rattle.xsk_umem.specs.PacketList.{with_last_extended}
+use Rattle.xsk_umem.specs.Span.{at_span, IsWithin, AreSpans, end_of}
 
 -- a span within the text shows the same bytes in a longer text
 at_span-append : (text piece : List ℕ) (span : Span) → IsWithin text span → at_span (text ++ piece) span ≡ at_span text span
@@ -32,3 +33,67 @@ pub map_at_span-push : (text piece : List ℕ) (spans : List Span) (span : Span)
     → map (at_span (text ++ piece)) (spans ++ span ∷ []) ≡ map (at_span text) spans ++ piece ∷ []
 map_at_span-push text piece spans span h start len =
     rw (map-append (at_span (text ++ piece)) spans (span ∷ []), map_at_span-append text piece spans h, at_span-end text piece span start len) refl
+
+-- where the last of the spans ends after one was appended, and after the last was replaced
+pub end_of-push : (spans : List Span) (span : Span) → end_of (spans ++ span ∷ []) ≡ span.start + span.len
+end_of-push [] span = refl
+end_of-push (first ∷ []) span = refl
+end_of-push (first ∷ next ∷ spans) span = end_of-push (next ∷ spans) span
+
+pub end_of-set_last : (i : ℕ) (spans : List Span) (span : Span) → i + 1 ≡ length spans → end_of (set spans i span) ≡ span.start + span.len
+end_of-set_last i [] span last = absurd (omega arith)
+end_of-set_last zero (first ∷ []) span last = refl
+end_of-set_last (suc i) (first ∷ []) span last = absurd (omega arith)
+end_of-set_last zero (first ∷ next ∷ spans) span last = absurd (omega arith)
+end_of-set_last (suc zero) (first ∷ next ∷ []) span last = refl
+end_of-set_last (suc zero) (first ∷ next ∷ more ∷ spans) span last = absurd (omega arith)
+end_of-set_last (suc (suc i)) (first ∷ next ∷ []) span last = absurd (omega arith)
+end_of-set_last (suc (suc i)) (first ∷ next ∷ more ∷ spans) span last = end_of-set_last (suc i) (next ∷ more ∷ spans) span (omega arith)
+
+pub end_of-last : (i : ℕ) (spans : List Span) (d : Span) → i + 1 ≡ length spans → end_of spans ≡ (get_or spans i d).start + (get_or spans i d).len
+end_of-last i [] d last = absurd (omega arith)
+end_of-last zero (first ∷ []) d last = refl
+end_of-last (suc i) (first ∷ []) d last = absurd (omega arith)
+end_of-last zero (first ∷ next ∷ spans) d last = absurd (omega arith)
+end_of-last (suc i) (first ∷ next ∷ spans) d last = end_of-last i (next ∷ spans) d (omega arith)
+
+-- spans within a text lie within a longer one
+within_longer : (text piece : List ℕ) (spans : List Span) → All (IsWithin text) spans → All (IsWithin (text ++ piece)) spans
+within_longer text piece spans all = All-weaker (IsWithin text) (IsWithin (text ++ piece)) (λ span within. let w : span.start + span.len ≤ length text = within in omega (arith, length-append text piece)) spans all
+
+pub spans-push : (text piece : List ℕ) (spans : List Span) (span : Span) → AreSpans text spans → span.start ≡ length text → span.len ≡ length piece → AreSpans (text ++ piece) (spans ++ span ∷ [])
+spans-push text piece spans span are start len = record {
+  within = All-push (IsWithin (text ++ piece)) spans span (within_longer text piece spans are.within) (omega (arith, length-append text piece));
+  end = end_of-push spans span ∙ omega (arith, length-append text piece);
+}
+
+pub spans-extend : (text piece : List ℕ) (i : ℕ) (spans : List Span) (d new : Span) → AreSpans text spans → i + 1 ≡ length spans
+    → new.start ≡ (get_or spans i d).start → new.len ≡ (get_or spans i d).len + length piece → AreSpans (text ++ piece) (set spans i new)
+spans-extend text piece i spans d new are last start len =
+    let end : (get_or spans i d).start + (get_or spans i d).len ≡ length text = sym (end_of-last i spans d last) ∙ are.end in
+    record {
+      within = All-set (IsWithin (text ++ piece)) spans i new (omega (arith, length-append text piece)) (within_longer text piece spans are.within);
+      end = end_of-set_last i spans new last ∙ omega (arith, length-append text piece);
+    }
+
+-- the longer span at the end of the text shows its old bytes and then the piece
+at_span-extend : (text piece : List ℕ) (old new : Span) → old.start + old.len ≡ length text → new.start ≡ old.start → new.len ≡ old.len + length piece → at_span (text ++ piece) new ≡ at_span text old ++ piece
+at_span-extend text piece old new end start len =
+    let within : old.start ≤ length text = omega arith in
+    let back : length (drop old.start text) ≡ old.len = omega (arith, length-drop old.start text) in
+    let whole : length (drop old.start text ++ piece) ≡ old.len + length piece = omega (arith, back, length-append (drop old.start text) piece) in
+    rw (start, len, drop-append-le old.start text piece within, ← whole, take-length (drop old.start text ++ piece), ← back, take-length (drop old.start text)) refl
+
+-- the packets after bytes were appended to the text and the last span got longer by them
+pub map_at_span-extend : (text piece : List ℕ) (i : ℕ) (spans : List Span) (d new : Span) → All (IsWithin text) spans → i + 1 ≡ length spans → end_of spans ≡ length text
+    → new.start ≡ (get_or spans i d).start → new.len ≡ (get_or spans i d).len + length piece
+    → map (at_span (text ++ piece)) (set spans i new) ≡ with_last_extended (map (at_span text) spans) piece
+map_at_span-extend text piece i [] d new all last end start len = absurd (omega arith)
+map_at_span-extend text piece zero (first ∷ []) d new all last end start len = rw (at_span-extend text piece first new end start len) refl
+map_at_span-extend text piece (suc i) (first ∷ []) d new all last end start len = absurd (omega arith)
+map_at_span-extend text piece zero (first ∷ next ∷ spans) d new all last end start len = absurd (omega arith)
+map_at_span-extend text piece (suc i) (first ∷ next ∷ spans) d new all last end start len =
+    let here : at_span (text ++ piece) first ≡ at_span text first = at_span-append text piece first (All-head (IsWithin text) first (next ∷ spans) all) in
+    let rest : map (at_span (text ++ piece)) (set (next ∷ spans) i new) ≡ with_last_extended (map (at_span text) (next ∷ spans)) piece =
+    map_at_span-extend text piece i (next ∷ spans) d new (All-tail (IsWithin text) first (next ∷ spans) all) (omega arith) end start len in
+    rw (here, rest) refl

@@ -101,6 +101,13 @@ impl Frames {
         self.items.is_empty()
     }
 
+    /// Whether all frames of the UMEM stand in the queue, so that none can be appended.
+    pub fn is_full(&self) -> bool
+        ensures { IsTrue result ↔ (self.now.limit ≤ length self.now.items) }
+    {
+        self.items.len() >= self.limit as usize
+    }
+
     /// Takes the first frame, and `None` exactly where the queue is empty.
     pub fn pop_front(&mut self) -> Option<Frame>
         ensures empty { IsNone result ↔ (self.old.items ≡ []) }

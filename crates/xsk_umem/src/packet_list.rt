@@ -1,5 +1,5 @@
 ghost use Rattle.std.specs.Prelude.{◌≡◌, ◌+◌, ◌<◌, ◌≤◌, List, [], ◌∷◌, ◌++◌, length, Some, slice_get, ◌↔◌, IsTrue, OnOk, OnErr};
-ghost use Rattle.xsk_umem.specs.PacketList.{PacketList as Packets};
+ghost use Rattle.xsk_umem.specs.PacketList.{PacketList as Packets, with_last_extended};
 
 use crate::OutOfMemory;
 use std::alloc::Global;
@@ -22,16 +22,16 @@ pub struct PacketList {
 }
 
 impl Model for PacketList {
-    ghost use Rattle.std.specs.Prelude.{◌+◌, ◌<◌, ◌≤◌, ◌^◌, All, length, map, vec_len, vec_capacity};
+    ghost use Rattle.std.specs.Prelude.{◌+◌, ◌<◌, ◌≤◌, ◌^◌, map, vec_len, vec_capacity};
     ghost use Rattle.xsk_umem.specs.PacketList.{PacketList as Packets};
 
     ghost Value = { Packets };
 
-    ghost use Rattle.xsk_umem.specs.Span.{at_span, IsWithin};
+    ghost use Rattle.xsk_umem.specs.Span.{at_span, AreSpans};
 
     ghost view = { λ p. record { packets = map (at_span p.text.items) p.spans.items; spare_packets = p.spare_packets; spare_bytes = p.spare_bytes } };
 
-    ghost invariant = { λ p. All (IsWithin p.text.items) p.spans.items
+    ghost invariant = { λ p. AreSpans p.text.items p.spans.items
         × (vec_len p.spans + p.spare_packets ≤ vec_capacity p.spans)
         × (vec_len p.text + p.spare_bytes ≤ vec_capacity p.text)
         × (vec_len p.spans + p.spare_packets < 2 ^ 32) };
@@ -107,6 +107,20 @@ impl PacketList {
             len: bytes.len(),
         });
         self.spare_packets -= 1;
+        self.spare_bytes -= bytes.len() as u64;
+    }
+
+    /// Appends bytes to the last packet in the room that is reserved, which must hold them, and lowers that room by them.
+    pub fn extend_last(&mut self, bytes: &[u8])
+        requires some { 1 ≤ length self.old.packets }
+        requires bytes { length bytes.now ≤ self.old.spare_bytes }
+        ensures packets { self.new.packets ≡ with_last_extended self.old.packets bytes.now }
+        ensures spare_packets { self.new.spare_packets ≡ self.old.spare_packets }
+        ensures spare_bytes { self.new.spare_bytes + length bytes.now ≡ self.old.spare_bytes }
+    {
+        self.text.extend_from_slice(bytes).unwrap();
+        let last = self.spans.len() - 1;
+        self.spans[last].len += bytes.len();
         self.spare_bytes -= bytes.len() as u64;
     }
 

@@ -78,7 +78,8 @@ fn packets_are_kept_whole(rt: HostRuntime) -> Result<(), Fail> {
     list.push(b"one")?;
     list.reserve(2, 8)?;
     list.push_reserved(b"");
-    list.push_reserved(b"three");
+    list.push_reserved(b"th");
+    list.extend_last(b"ree");
     assert!(rt; list.len() == 3);
     assert_eq!(rt; list.get(0), b"one".as_slice());
     assert_eq!(rt; list.get(1), b"".as_slice());

@@ -1,0 +1,18 @@
+-- What a gather keeps between two items, and the lists of items that it stands for.
+use Rattle.std.specs.Prelude.{◌≡◌, Bool, Option, Some, None, List}
+use Rattle.xsk_umem.specs.Geometry.{Geometry}
+use Rattle.xsk_umem.specs.declared.batch.Item.{Item}
+use Rattle.xsk_model.specs.Packets.{Packet, whole, bad, rest}
+use Rattle.xsk_desc.specs.Kept.{Kept}
+use Rattle.xsk_desc.specs.declared.gather.Gathered.{Gathered}
+use Rattle.xsk_desc.specs.declared.gather.Gathered.TheVariants.{More, Whole, Bad}
+
+-- the list of all items that were pushed may be this one: what is kept is its unfinished rest
+abbrev pub StandsFor : Geometry → Kept → List Item → Type 0
+StandsFor g gather items = rest g gather.sg items ≡ gather.items
+
+-- the packet that a push ended, if any
+abbrev pub packet_of : Gathered → Option Packet
+packet_of More = None
+packet_of (Whole items) = Some (whole items)
+packet_of (Bad items) = Some (bad items)

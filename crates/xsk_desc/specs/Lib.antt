@@ -1,0 +1,4 @@
+pub mod Fault
+pub mod Gather
+pub mod Kept
+pub mod Laws

@@ -1,0 +1,52 @@
+-- What a call of a bay does to its streams. This project's own.
+use Rattle.std.specs.Prelude.{◌≡◌, ◌≢◌, ℕ, ◌-◌, ◌^◌, ◌<◌, ◌⊎◌, Bool, true, List, Option, None, length, take}
+use Rattle.std.specs.Io.KnownBytes.{append_known, prepend_known}
+use Rattle.xsk_io.specs.declared.bay.Stream.{Stream}
+use Rattle.xsk_io.specs.declared.bay.Stream.TheVariants.{Input, Output, Report}
+use Rattle.xsk_io.specs.declared.bay.Kind.{Kind}
+
+-- inputs and outputs are numbered below four
+abbrev pub HasNumber : Stream → Type 0
+HasNumber (Input n) = n < 4
+HasNumber (Output n) = n < 4
+HasNumber Report = Unit {0}
+
+abbrev pub IsInput : Stream → Type 0
+IsInput (Input n) = Unit {0}
+IsInput (Output n) = ⊥
+IsInput Report = ⊥
+
+-- an open output, or the report, which needs no opening
+abbrev pub TakesWrites : Stream → Bool → Type 0
+TakesWrites (Input n) is_open = ⊥
+TakesWrites (Output n) is_open = is_open ≡ true
+TakesWrites Report is_open = Unit {0}
+
+-- each stream is as it was
+abbrev pub Same : {A : Type 0} → (Stream → A) → (Stream → A) → Type 0
+Same old new = (stream : Stream) → new stream ≡ old stream
+
+-- each stream but this one is as it was
+abbrev pub SameBut : {A : Type 0} → Stream → (Stream → A) → (Stream → A) → Type 0
+SameBut one old new = (stream : Stream) → stream ≢ one → new stream ≡ old stream
+
+-- what a stream holds has grown by these bytes, or is told no longer
+abbrev pub Grows : Option (List ℕ) → Option (List ℕ) → List ℕ → Type 0
+Grows old new bytes = (new ≡ None) ⊎ (new ≡ append_known old bytes)
+
+-- a count has risen, or stands at its last value
+abbrev pub Rose : ℕ → ℕ → Type 0
+Rose old new = (old < new) ⊎ (new ≡ 2 ^ 64 - 1)
+
+-- no count but that of this kind and this stream has changed
+abbrev pub CountsOnly : Kind → Stream → (Kind → Stream → ℕ) → (Kind → Stream → ℕ) → Type 0
+CountsOnly kind stream old new =
+    ((other : Kind) → other ≢ kind → Same (old other) (new other)) × SameBut stream (old kind) (new kind)
+
+-- what a stream holds has grown by a part of these bytes, from their front and not all of them, or is told no longer
+abbrev pub GrowsByPart : Option (List ℕ) → Option (List ℕ) → List ℕ → Type 0
+GrowsByPart old new bytes = (count : ℕ) × (count < length bytes) × Grows old new (take count bytes)
+
+-- what is left of an input has lost some bytes from its front, or none
+abbrev pub LosesFront : Option (List ℕ) → Option (List ℕ) → Type 0
+LosesFront old new = (bytes : List ℕ) × (old ≡ prepend_known bytes new)

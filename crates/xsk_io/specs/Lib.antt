@@ -1,0 +1,3 @@
+pub mod Bay
+pub mod Memory
+pub mod Files

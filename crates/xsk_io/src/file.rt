@@ -1,0 +1,298 @@
+//! The bay over real files and the standard output.
+ghost use Rattle.std.specs.Prelude.{◌≡◌, ◌≢◌, ℕ, ◌+◌, ◌-◌, ◌^◌, ◌<◌, ◌≤◌, false, true, None, min, length, replicate, is_some, IsSome, IfOk, OnOk, OnErr, slice_index, slice_index_or, slice_set};
+ghost use Rattle.xsk_io.specs.Bay.{HasNumber, SameBut};
+ghost use Rattle.xsk_io.specs.Files.{StreamCounts, FilesState, no_counts, no_files, count_of, is_file_open, file_faults};
+
+use crate::{Bay, BayFailed, Stream};
+use std::fs;
+use std::io;
+use std::io::{ErrorKind, Read, Write};
+use std::marker::Model;
+use std::rt::Files;
+
+/// A call, and 1,000 more where each before it was interrupted.
+const TRIES: u32 = 1_001;
+
+/// Four files, those that are open.
+#[derive(Drop)]
+struct Slots<F: Drop> {
+    first: Option<F>,
+    second: Option<F>,
+    third: Option<F>,
+    fourth: Option<F>,
+}
+
+impl<F: Drop> Model for Slots<F> {
+    ghost use Rattle.std.specs.Prelude.{Bool, List, [], ◌∷◌, is_some};
+
+    ghost Value = { List Bool };
+
+    ghost view = { λ s. is_some s.first ∷ is_some s.second ∷ is_some s.third ∷ is_some s.fourth ∷ [] };
+}
+
+impl<F: Drop> Slots<F> {
+    fn new() -> Slots<F>
+        ensures { result ≡ replicate 4 false }
+    {
+        Slots {
+            first: None,
+            second: None,
+            third: None,
+            fourth: None,
+        }
+    }
+
+    fn put(&mut self, number: u32, file: F)
+        requires { number < 4 }
+        ensures four { length self.old ≡ 4 }
+        ensures after { self.new ≡ slice_set self.old number true }
+    {
+        match number {
+            0 => self.first = Some(file),
+            1 => self.second = Some(file),
+            2 => self.third = Some(file),
+            _ => self.fourth = Some(file),
+        }
+    }
+}
+
+impl<F: Read + Drop> Slots<F> {
+    fn read(&mut self, number: u32, buf: &mut [u8]) -> Result<usize, BayFailed>
+        requires numbered { number < 4 }
+        requires opened { slice_index_or self.old number false ≡ true }
+        ensures same { self.new ≡ self.old }
+        ensures bound { IfOk result (λ count. count ≤ length buf.new) }
+    {
+        match number {
+            0 => read_open(&mut self.first, buf),
+            1 => read_open(&mut self.second, buf),
+            2 => read_open(&mut self.third, buf),
+            _ => read_open(&mut self.fourth, buf),
+        }
+    }
+}
+
+impl<F: Write + Drop> Slots<F> {
+    fn write(&mut self, number: u32, piece: &[u8]) -> Result<usize, BayFailed>
+        requires numbered { number < 4 }
+        requires opened { slice_index_or self.old number false ≡ true }
+        ensures same { self.new ≡ self.old }
+        ensures bound { IfOk result (λ count. count ≤ length piece.now) }
+        ensures some { IfOk result (λ count. 0 < length piece.now → 0 < count) }
+    {
+        match number {
+            0 => write_open(&mut self.first, piece),
+            1 => write_open(&mut self.second, piece),
+            2 => write_open(&mut self.third, piece),
+            _ => write_open(&mut self.fourth, piece),
+        }
+    }
+}
+
+fn read_open<F: Read>(slot: &mut Option<F>, buf: &mut [u8]) -> Result<usize, BayFailed>
+    requires { IsSome slot.old }
+    ensures same { is_some slot.new ≡ is_some slot.old }
+    ensures bound { IfOk result (λ count. count ≤ length buf.new) }
+{
+    match slot {
+        Some(file) => read_again(file, buf),
+        None => unreachable!(),
+    }
+}
+
+fn write_open<F: Write>(slot: &mut Option<F>, piece: &[u8]) -> Result<usize, BayFailed>
+    requires { IsSome slot.old }
+    ensures same { is_some slot.new ≡ is_some slot.old }
+    ensures bound { IfOk result (λ count. count ≤ length piece.now) }
+    ensures some { IfOk result (λ count. 0 < length piece.now → 0 < count) }
+{
+    match slot {
+        Some(file) => write_again(file, piece),
+        None => unreachable!(),
+    }
+}
+
+fn open_again<R: Files>(rt: &R, stream: Stream, name: &str) -> Result<R::File, BayFailed> {
+    for _ in 0..TRIES {
+        let opened = match stream {
+            Stream::Input(_) => fs::open(rt, name),
+            Stream::Output(_) | Stream::Report => fs::create(rt, name),
+        };
+        match opened {
+            Ok(file) => return Ok(file),
+            Err(error) if error.kind() == ErrorKind::Interrupted => {}
+            Err(_) => break,
+        }
+    }
+    Err(BayFailed)
+}
+
+fn read_again<F: Read>(file: &mut F, buf: &mut [u8]) -> Result<usize, BayFailed>
+    ensures { IfOk result (λ count. count ≤ length buf.new) }
+{
+    for _ in 0..TRIES {
+        match file.read(buf) {
+            Ok(count) => return Ok(count),
+            Err(error) if error.kind() == ErrorKind::Interrupted => {}
+            Err(_) => break,
+        }
+    }
+    Err(BayFailed)
+}
+
+fn write_again<F: Write>(file: &mut F, piece: &[u8]) -> Result<usize, BayFailed>
+    ensures bound { IfOk result (λ count. count ≤ length piece.now) }
+    ensures some { IfOk result (λ count. 0 < length piece.now → 0 < count) }
+{
+    for _ in 0..TRIES {
+        match file.write(piece) {
+            Ok(0) if !piece.is_empty() => break,
+            Ok(count) => return Ok(count),
+            Err(error) if error.kind() == ErrorKind::Interrupted => {}
+            Err(_) => break,
+        }
+    }
+    Err(BayFailed)
+}
+
+/// The faults of one kind of call, by stream.
+#[derive(Drop)]
+struct Counts {
+    inputs: [u64; 4],
+    outputs: [u64; 4],
+    report: u64,
+}
+
+impl Model for Counts {
+    ghost use Rattle.xsk_io.specs.Files.{StreamCounts};
+
+    ghost Value = { StreamCounts };
+
+    ghost view = { λ c. record { inputs = c.inputs; outputs = c.outputs; report = c.report } };
+}
+
+impl Counts {
+    fn new() -> Counts
+        ensures { result ≡ no_counts }
+    {
+        Counts {
+            inputs: [0; 4],
+            outputs: [0; 4],
+            report: 0,
+        }
+    }
+
+    /// Counts the call if it failed. A count at its last value stays there.
+    fn note<T>(&mut self, stream: Stream, outcome: Result<T, BayFailed>) -> Result<T, BayFailed>
+        requires { HasNumber stream }
+        ensures outcome { result ≡ outcome }
+        ensures ok { OnOk result (self.new ≡ self.old) }
+        ensures risen { OnErr result (count_of self.new stream ≡ min (count_of self.old stream + 1) (2 ^ 64 - 1)) }
+        ensures never_falls { count_of self.old stream ≤ count_of self.new stream }
+        ensures others { SameBut stream (count_of self.old) (count_of self.new) }
+    {
+        if outcome.is_err() {
+            self.raise(stream);
+        }
+        outcome
+    }
+
+    fn raise(&mut self, stream: Stream)
+        requires { HasNumber stream }
+        ensures risen { count_of self.new stream ≡ min (count_of self.old stream + 1) (2 ^ 64 - 1) }
+        ensures never_falls { count_of self.old stream ≤ count_of self.new stream }
+        ensures others { SameBut stream (count_of self.old) (count_of self.new) }
+    {
+        match stream {
+            Stream::Input(number) => raise_at(&mut self.inputs, number as usize),
+            Stream::Output(number) => raise_at(&mut self.outputs, number as usize),
+            Stream::Report => self.report = self.report.saturating_add(1),
+        }
+    }
+}
+
+fn raise_at(counts: &mut [u64], place: usize)
+    requires { place < length counts.old }
+    ensures risen { slice_index counts.new place ≡ min (slice_index counts.old place + 1) (2 ^ 64 - 1) }
+    ensures never_falls { slice_index counts.old place ≤ slice_index counts.new place }
+    ensures others { (other : ℕ) → other ≢ place → slice_index counts.new other ≡ slice_index counts.old other }
+{
+    counts[place] = counts[place].saturating_add(1);
+}
+
+/// The bay over real files and the standard output, which is the report.
+///
+/// It tells no name and no byte: what a file holds is outside of all that is proved.
+#[derive(Drop)]
+pub struct FileBay<R: Files + Drop> {
+    rt: R,
+    inputs: Slots<R::File>,
+    outputs: Slots<R::File>,
+    opens: Counts,
+    reads: Counts,
+    writes: Counts,
+}
+
+impl<R: Files + Drop> Model for FileBay<R> {
+    ghost use Rattle.xsk_io.specs.Files.{FilesState};
+
+    ghost Value = { FilesState };
+
+    ghost view = { λ b. record { inputs = b.inputs; outputs = b.outputs; opens = b.opens; reads = b.reads; writes = b.writes } };
+}
+
+impl<R: Files + Drop> FileBay<R> {
+    /// A bay with no file open and no fault counted.
+    pub fn new(rt: R) -> FileBay<R>
+        ensures { result ≡ no_files }
+    {
+        FileBay {
+            rt,
+            inputs: Slots::new(),
+            outputs: Slots::new(),
+            opens: Counts::new(),
+            reads: Counts::new(),
+            writes: Counts::new(),
+        }
+    }
+}
+
+impl<R: Files + Print + Drop> Bay for FileBay<R> {
+    ghost is_open = { is_file_open };
+
+    ghost asked = { λ bay stream. None };
+
+    ghost left = { λ bay stream. None };
+
+    ghost held = { λ bay stream. None };
+
+    ghost faults = { file_faults };
+
+    fn open(&mut self, stream: Stream, name: &str) -> Result<(), BayFailed> {
+        let outcome = open_again(&self.rt, stream, name);
+        let file = self.opens.note(stream, outcome)?;
+        match stream {
+            Stream::Input(number) => self.inputs.put(number, file),
+            Stream::Output(number) => self.outputs.put(number, file),
+            Stream::Report => unreachable!(),
+        }
+        Ok(())
+    }
+
+    fn read(&mut self, stream: Stream, buf: &mut [u8]) -> Result<usize, BayFailed> {
+        let outcome = match stream {
+            Stream::Input(number) => self.inputs.read(number, buf),
+            Stream::Output(_) | Stream::Report => unreachable!(),
+        };
+        self.reads.note(stream, outcome)
+    }
+
+    fn write(&mut self, stream: Stream, piece: &[u8]) -> Result<usize, BayFailed> {
+        let outcome = match stream {
+            Stream::Input(_) => unreachable!(),
+            Stream::Output(number) => self.outputs.write(number, piece),
+            Stream::Report => write_again(&mut io::writer(&self.rt), piece),
+        };
+        self.writes.note(stream, outcome)
+    }
+}

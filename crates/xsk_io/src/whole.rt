@@ -1,0 +1,149 @@
+//! Whole inputs and whole texts, over any bay.
+ghost use Rattle.std.specs.Prelude.{◌≡◌, ◌<◌, ◌≤◌, ◌⊎◌, true, length, IfOk, IfSome, IsErrOf, OnErr, OnOk};
+ghost use Rattle.std.specs.Io.KnownBytes.{IsAtEnd};
+ghost use Rattle.xsk_io.specs.declared.bay.Kind.{Kind};
+ghost use Rattle.xsk_io.specs.declared.whole.ReadError.TheVariants.{Fault, OutOfMemory};
+ghost use Rattle.xsk_io.specs.Bay.{HasNumber, IsInput, LosesFront, TakesWrites, Same, SameBut, Grows, GrowsByPart, Rose, CountsOnly};
+
+use crate::{Bay, BayFailed, Stream};
+use std::alloc::{AllocError, Global};
+use std::error::Error;
+use std::fmt;
+
+/// How many bytes one read asks for.
+const PIECE: usize = 65_536;
+
+/// Why an input wasn't read whole.
+#[derive(Clone, Copy, Debug, PartialEq, Eq)]
+pub enum ReadError {
+    TooLong,
+    Fault,
+    OutOfMemory,
+}
+
+impl fmt::Display for ReadError {
+    fn fmt<W: fmt::Write>(&self, f: &mut fmt::Formatter<W>) -> fmt::Result {
+        f.write_str(match self {
+            ReadError::TooLong => "the input is too long",
+            ReadError::Fault => "the input can't be read",
+            ReadError::OutOfMemory => "out of memory",
+        })
+    }
+}
+
+impl Error for ReadError {}
+
+impl From<BayFailed> for ReadError {
+    ghost from_gives = { λ _ error. error ≡ Fault };
+
+    fn from(_failed: BayFailed) -> ReadError {
+        ReadError::Fault
+    }
+}
+
+impl From<AllocError> for ReadError {
+    ghost from_gives = { λ _ error. error ≡ OutOfMemory };
+
+    fn from(_error: AllocError) -> ReadError {
+        ReadError::OutOfMemory
+    }
+}
+
+/// Reads an open input to its end, if it has at most `limit` more bytes.
+pub fn read_whole<B: Bay>(
+    alloc: Global,
+    bay: &mut B,
+    stream: Stream,
+    limit: usize,
+) -> Result<Vec<u8>, ReadError>
+    requires numbered { HasNumber stream }
+    requires input { IsInput stream }
+    requires opened { B.is_open bay.old stream ≡ true }
+    ensures whole { IfOk result (λ bytes. IfSome (B.left bay.old stream) (λ all. all ≡ bytes.items)) }
+    ensures within { IfOk result (λ bytes. length bytes.items ≤ limit) }
+    ensures end { OnOk result (IsAtEnd (B.left bay.new stream)) }
+    ensures too_long { IsErrOf result ReadError.TooLong → IfSome (B.left bay.old stream) (λ all. limit < length all) }
+    ensures taken { LosesFront (B.left bay.old stream) (B.left bay.new stream) }
+    ensures left_others { SameBut stream (B.left bay.old) (B.left bay.new) }
+
+    ensures opened { Same (B.is_open bay.old) (B.is_open bay.new) }
+    ensures names { Same (B.asked bay.old) (B.asked bay.new) }
+    ensures held { Same (B.held bay.old) (B.held bay.new) }
+
+    ensures cause { IsErrOf result ReadError.Fault → Rose (B.faults bay.old Kind.Read stream) (B.faults bay.new Kind.Read stream) }
+    ensures no_fault { IsErrOf result ReadError.Fault ⊎ (B.faults bay.new Kind.Read stream ≡ B.faults bay.old Kind.Read stream) }
+    ensures never_falls { B.faults bay.old Kind.Read stream ≤ B.faults bay.new Kind.Read stream }
+    ensures counts { CountsOnly Kind.Read stream (B.faults bay.old) (B.faults bay.new) }
+{
+    let mut piece = new_piece(alloc)?;
+    read_by_pieces(alloc, bay, stream, limit, piece.as_mut_slice())
+}
+
+fn new_piece(alloc: Global) -> Result<Vec<u8>, AllocError>
+    ensures { IfOk result (λ piece. 0 < length piece.items) }
+{
+    vec![in alloc; 0u8; PIECE]
+}
+
+fn read_by_pieces<B: Bay>(
+    alloc: Global,
+    bay: &mut B,
+    stream: Stream,
+    limit: usize,
+    piece: &mut [u8],
+) -> Result<Vec<u8>, ReadError>
+    requires some { 0 < length piece.old }
+    requires numbered { HasNumber stream }
+    requires input { IsInput stream }
+    requires opened { B.is_open bay.old stream ≡ true }
+    ensures whole { IfOk result (λ bytes. IfSome (B.left bay.old stream) (λ all. all ≡ bytes.items)) }
+    ensures within { IfOk result (λ bytes. length bytes.items ≤ limit) }
+    ensures end { OnOk result (IsAtEnd (B.left bay.new stream)) }
+    ensures too_long { IsErrOf result ReadError.TooLong → IfSome (B.left bay.old stream) (λ all. limit < length all) }
+    ensures taken { LosesFront (B.left bay.old stream) (B.left bay.new stream) }
+    ensures left_others { SameBut stream (B.left bay.old) (B.left bay.new) }
+
+    ensures opened { Same (B.is_open bay.old) (B.is_open bay.new) }
+    ensures names { Same (B.asked bay.old) (B.asked bay.new) }
+    ensures held { Same (B.held bay.old) (B.held bay.new) }
+
+    ensures cause { IsErrOf result ReadError.Fault → Rose (B.faults bay.old Kind.Read stream) (B.faults bay.new Kind.Read stream) }
+    ensures no_fault { IsErrOf result ReadError.Fault ⊎ (B.faults bay.new Kind.Read stream ≡ B.faults bay.old Kind.Read stream) }
+    ensures never_falls { B.faults bay.old Kind.Read stream ≤ B.faults bay.new Kind.Read stream }
+    ensures counts { CountsOnly Kind.Read stream (B.faults bay.old) (B.faults bay.new) }
+{
+    let mut bytes = Vec::new(alloc);
+    while bytes.len() <= limit {
+        let count = bay.read(stream, piece)?;
+        if count == 0 {
+            return Ok(bytes);
+        }
+        bytes.extend_from_slice(&piece[..count])?;
+    }
+    Err(ReadError::TooLong)
+}
+
+/// Appends a text to an open output or to the report: as one piece, and after a short write the rest
+/// again.
+pub fn write_whole<B: Bay>(bay: &mut B, stream: Stream, text: &[u8]) -> Result<(), BayFailed>
+    requires numbered { HasNumber stream }
+    requires writable { TakesWrites stream (B.is_open bay.old stream) }
+    ensures whole { OnOk result (Grows (B.held bay.old stream) (B.held bay.new stream) text.now) }
+    ensures part { OnErr result (GrowsByPart (B.held bay.old stream) (B.held bay.new stream) text.now) }
+    ensures held_others { SameBut stream (B.held bay.old) (B.held bay.new) }
+
+    ensures opened { Same (B.is_open bay.old) (B.is_open bay.new) }
+    ensures names { Same (B.asked bay.old) (B.asked bay.new) }
+    ensures left { Same (B.left bay.old) (B.left bay.new) }
+
+    ensures cause { OnErr result (Rose (B.faults bay.old Kind.Write stream) (B.faults bay.new Kind.Write stream)) }
+    ensures no_fault { OnOk result (B.faults bay.new Kind.Write stream ≡ B.faults bay.old Kind.Write stream) }
+    ensures never_falls { B.faults bay.old Kind.Write stream ≤ B.faults bay.new Kind.Write stream }
+    ensures counts { CountsOnly Kind.Write stream (B.faults bay.old) (B.faults bay.new) }
+{
+    let mut at = 0;
+    while at < text.len() {
+        at += bay.write(stream, &text[at..])?;
+    }
+    Ok(())
+}

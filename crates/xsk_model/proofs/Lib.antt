@@ -1,0 +1,9 @@
+pub mod Maps
+pub mod Least
+pub mod LayoutLaws
+pub mod PacketsLaws
+pub mod Counting
+pub mod Folds
+pub mod Places
+pub mod Moves
+pub mod Sound

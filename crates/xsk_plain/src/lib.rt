@@ -1,0 +1,10 @@
+//! The AF_XDP object on one thread, with the log of all calls on it.
+#![tactic(auto)]
+
+mod log;
+mod places;
+mod plain;
+mod ring_store;
+
+pub use log::Log;
+pub use plain::{OpenRefused, Plain, payload_room};
