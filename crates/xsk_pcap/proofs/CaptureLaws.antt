@@ -1,13 +1,13 @@
 -- The laws of captures.
-use Rattle.std.proofs.Common.{◌≡◌, ℕ, ◌+◌, ◌-◌, ◌≤◌, List, [], ◌∷◌, ◌++◌, length, map, Some, refl, sym, ap, ◌∙◌, arith, inl, inr}
-use Rattle.std.specs.List.{flat_map, AllByRecursion}
+use Rattle.std.proofs.Common.{◌≡◌, ℕ, ◌+◌, ◌-◌, List, [], ◌∷◌, ◌++◌, length, map, Some, refl, sym, ap, ◌∙◌, arith, inl, inr}
+use Rattle.std.specs.List.{flat_map}
 use Rattle.std.proofs.lemmas.List.{append-nil}
 use Rattle.std.proofs.lemmas.Option.{same_Some}
 use Rattle.xsk_pcap.specs.declared.endianness.Endianness.{Endianness}
 use Rattle.xsk_pcap.specs.declared.endianness.Endianness.TheVariants.{Little}
 use Rattle.xsk_pcap.specs.declared.reading.BadCapture.{BadCapture}
 use Rattle.xsk_pcap.specs.declared.reading.BadCapture.TheVariants.{OutOfMemory}
-use Rattle.xsk_pcap.specs.Capture.{header_bytes, record_bytes, IsShort, IsCapture, record_refusal, header_refusal, FailsAtRecord, IsRefused, IsCause}
+use Rattle.xsk_pcap.specs.Capture.{header_bytes, record_bytes, IsCapture, record_refusal, header_refusal, FailsAtRecord, IsRefused, IsCause}
 use Rattle.xsk_pcap.specs.Written.{written_header, written_records, all_packets}
 use Rattle.xsk_pcap.specs.Laws.{OneReading, OneRefusal, RefusedIsNoCapture, WrittenReadsBack}
 use Rattle.xsk_pcap.proofs.Unique.{EndsAt, EndsAt-nil, EndsAt-refused, Begins-passes, Begins-unique}
@@ -41,7 +41,7 @@ pub refused_is_no_capture : RefusedIsNoCapture
 refused_is_no_capture bytes refusal packets (inl p) capture = let none = sym (Begins-passes capture.0 capture.1) ∙ p in absurd cc
 refused_is_no_capture bytes refusal packets (inr f) capture =
     let u = Begins-unique f.order capture.0 bytes f.rest [] f.packets packets f.begins capture.1 (ends f) (EndsAt-nil capture.0) in
-    absurd (omega (arith, f.some, ap length u.2))
+    absurd (omega (arith, f.more, ap length u.2))
 
 -- ---- what a reader answers
 
@@ -54,10 +54,6 @@ accepted_but_for_memory bytes cause packets (inl why) capture = absurd (refused_
 accepted_but_for_memory bytes cause packets (inr memory) capture = memory.0
 
 -- ---- what is written reads back
-
-short_records : (k : ℕ) (packets : List (List ℕ)) → AllByRecursion (λ packet. length packet ≤ 262144) packets → AllByRecursion IsShort (written_records k packets)
-short_records k [] each = tt
-short_records k (p ∷ ps) each = (each.0, short_records (k + 1) ps each.1)
 
 pub packets_of-written_records : (k : ℕ) (packets : List (List ℕ)) → map (λ r. r.packet) (written_records k packets) ≡ packets
 packets_of-written_records k [] = refl
@@ -72,7 +68,7 @@ written_reads_back lists writable =
         header = written_header;
         magic = refl;
         body = body;
-        records = record { records = records; short = short_records 0 (all_packets lists) writable.each; packets_are = packets_of-written_records 0 (all_packets lists); bytes_are = refl };
+        records = record { records = records; short = writable.each; packets_are = packets_of-written_records 0 (all_packets lists); bytes_are = refl };
         whole = ap (λ (t : List ℕ). header_bytes Little written_header ++ t) (append-nil body);
       },
     )

@@ -62,10 +62,10 @@ AllByRecursion-push : {X : Type 0} (P : X → Type 0) (xs : List X) (x : X) → 
 AllByRecursion-push P [] x all one = (one, tt)
 AllByRecursion-push P (y ∷ ys) x all one = (all.0, AllByRecursion-push P ys x all.1 one)
 
-AreRecords-push : (order : Endianness) (body : List ℕ) (packets : List (List ℕ)) (of : Record) → AreRecords order body packets → IsShort of → AreRecords order (body ++ record_bytes order of) (packets ++ of.packet ∷ [])
+AreRecords-push : (order : Endianness) (body : List ℕ) (packets : List (List ℕ)) (of : Record) → AreRecords order body packets → IsShort of.packet → AreRecords order (body ++ record_bytes order of) (packets ++ of.packet ∷ [])
 AreRecords-push order body packets of are short = record {
   records = are.records ++ of ∷ [];
-  short = AllByRecursion-push IsShort are.records of are.short short;
+  short = AllByRecursion-push IsShort packets of.packet are.short short;
   packets_are = map-append (λ (r : Record). r.packet) are.records (of ∷ []) ∙ ap (λ (ps : List (List ℕ)). ps ++ of.packet ∷ []) are.packets_are;
   bytes_are =
       flat_map-append (record_bytes order) are.records (of ∷ [])

@@ -7,7 +7,7 @@ use Rattle.xsk_pcap.specs.declared.reading.BadCapture.{BadCapture}
 use Rattle.xsk_pcap.specs.Capture.{header_bytes, Record, record_bytes, IsShort, AreRecords, Begins, IsCapture, record_refusal}
 use Rattle.xsk_pcap.specs.Steps.{BeginsRecord, Measures, Appends}
 use Rattle.xsk_pcap.proofs.Grammar.{Begins-push}
-use Rattle.xsk_pcap.proofs.Unique.{front_unique, length-record, EndsAt-refused, Begins-body}
+use Rattle.xsk_pcap.proofs.Unique.{short_of, front_unique, length-record, EndsAt-refused, Begins-body}
 
 -- ---- measuring
 
@@ -46,9 +46,9 @@ pub record Copies (order : Endianness) (bytes rest : List ℕ) (old now : List (
 
 AreRecords-next : (order : Endianness) (rest packet more : List ℕ) (left : List (List ℕ)) → AreRecords order rest left → BeginsRecord order rest packet more
     → (others : List (List ℕ)) × (left ≡ packet ∷ others) × AreRecords order more others
-AreRecords-next order rest packet more left are next = next_of order rest packet more left are.records are.short are.packets_are are.bytes_are next
+AreRecords-next order rest packet more left are next = next_of order rest packet more left are.records (short_of are) are.packets_are are.bytes_are next
   where
-    next_of : (order : Endianness) (rest packet more : List ℕ) (left : List (List ℕ)) (rs : List Record) → AllByRecursion IsShort rs → map (λ r. r.packet) rs ≡ left → flat_map (record_bytes order) rs ≡ rest
+    next_of : (order : Endianness) (rest packet more : List ℕ) (left : List (List ℕ)) (rs : List Record) → AllByRecursion IsShort (map (λ r. r.packet) rs) → map (λ r. r.packet) rs ≡ left → flat_map (record_bytes order) rs ≡ rest
         → BeginsRecord order rest packet more → (others : List (List ℕ)) × (left ≡ packet ∷ others) × AreRecords order more others
     next_of order rest packet more left [] short packets bytes next =
         absurd (omega (arith, ap length bytes, length-begins_record order rest packet more next))
@@ -83,9 +83,9 @@ Copies-push order bytes rest packet more old now new n m n' m' c next pushed few
 -- what is left begins with a record that passes
 pub Copies-passes : (order : Endianness) (offset : ℕ) (bytes rest : List ℕ) (old now : List (List ℕ)) (n m : ℕ) (refusal : BadCapture) → Copies order bytes rest old now n m
     → 0 < length rest → record_refusal order offset rest ≡ Some refusal → ⊥
-Copies-passes order offset bytes rest old now n m refusal c some fails = passes_of c.others.records c.others.short c.others.bytes_are
+Copies-passes order offset bytes rest old now n m refusal c some fails = passes_of c.others.records (short_of c.others) c.others.bytes_are
   where
-    passes_of : (rs : List Record) → AllByRecursion IsShort rs → flat_map (record_bytes order) rs ≡ rest → ⊥
+    passes_of : (rs : List Record) → AllByRecursion IsShort (map (λ r. r.packet) rs) → flat_map (record_bytes order) rs ≡ rest → ⊥
     passes_of [] short e = absurd (omega (arith, ap length e, some))
     passes_of (r ∷ rs) short e = EndsAt-refused order offset rest refusal fails r (flat_map (record_bytes order) rs) short.0 e
 

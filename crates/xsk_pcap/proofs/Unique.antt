@@ -9,13 +9,13 @@ use Rattle.xsk_pcap.specs.declared.endianness.Endianness.{Endianness}
 use Rattle.xsk_pcap.specs.declared.endianness.Endianness.TheVariants.{Little, Big}
 use Rattle.xsk_pcap.specs.declared.reading.BadCapture.{BadCapture}
 use Rattle.xsk_pcap.specs.Numbers.{field}
-use Rattle.xsk_pcap.specs.Capture.{Header, header_bytes, is_magic, Record, record_bytes, IsShort, Begins, captured_in, order_of, header_refusal, record_refusal}
+use Rattle.xsk_pcap.specs.Capture.{Header, header_bytes, is_magic, Record, record_bytes, IsShort, AreRecords, Begins, captured_in, order_of, header_refusal, record_refusal}
 use Rattle.xsk_pcap.proofs.Fields.{number_in-field}
 
 -- ---- a record at the front
 
 -- the captured length in a record
-pub captured_in-record : (order : Endianness) (r : Record) (rest : List ℕ) → IsShort r → captured_in order (record_bytes order r ++ rest) ≡ length r.packet
+pub captured_in-record : (order : Endianness) (r : Record) (rest : List ℕ) → IsShort r.packet → captured_in order (record_bytes order r ++ rest) ≡ length r.packet
 captured_in-record Little r rest short = number_in-field Little 4 (length r.packet) (field Little 4 r.original ++ (r.packet ++ rest)) (omega arith)
 captured_in-record Big r rest short = number_in-field Big 4 (length r.packet) (field Big 4 r.original ++ (r.packet ++ rest)) (omega arith)
 
@@ -30,13 +30,13 @@ length-record Big r rest = omega arith
 
 -- no record begins here
 abbrev pub EndsAt : Endianness → List ℕ → Type 0
-EndsAt order rest = (r : Record) (more : List ℕ) → IsShort r → record_bytes order r ++ more ≡ rest → ⊥
+EndsAt order rest = (r : Record) (more : List ℕ) → IsShort r.packet → record_bytes order r ++ more ≡ rest → ⊥
 
 pub EndsAt-nil : (order : Endianness) → EndsAt order []
 EndsAt-nil order r more short e = absurd (omega (arith, ap length e, length-record order r more))
 
 -- a record that stands there passes
-record_refusal-record : (order : Endianness) (offset : ℕ) (r : Record) (more : List ℕ) → IsShort r → record_refusal order offset (record_bytes order r ++ more) ≡ None
+record_refusal-record : (order : Endianness) (offset : ℕ) (r : Record) (more : List ℕ) → IsShort r.packet → record_refusal order offset (record_bytes order r ++ more) ≡ None
 record_refusal-record order offset r more short =
     let bytes = record_bytes order r ++ more in
     let long = length-record order r more in
@@ -54,7 +54,7 @@ EndsAt-refused order offset rest refusal fails r more short e =
     absurd cc
 
 -- two records at one front have one packet and one rest
-pub front_unique : (order : Endianness) (r s : Record) (x y : List ℕ) → IsShort r → IsShort s → record_bytes order r ++ x ≡ record_bytes order s ++ y → (r.packet ≡ s.packet) × (x ≡ y)
+pub front_unique : (order : Endianness) (r s : Record) (x y : List ℕ) → IsShort r.packet → IsShort s.packet → record_bytes order r ++ x ≡ record_bytes order s ++ y → (r.packet ≡ s.packet) × (x ≡ y)
 front_unique order r s x y short_r short_s e =
     let same : length r.packet ≡ length s.packet = sym (captured_in-record order r x short_r) ∙ ap (captured_in order) e ∙ captured_in-record order s y short_s in
     let tail : r.packet ++ x ≡ s.packet ++ y = sym (drop_16-record order r x) ∙ ap (drop 16) e ∙ drop_16-record order s y in (
@@ -64,10 +64,14 @@ front_unique order r s x y short_r short_s e =
 
 -- ---- all records
 
-abbrev packets_of : List Record → List (List ℕ)
+abbrev pub packets_of : List Record → List (List ℕ)
 packets_of rs = map (λ r. r.packet) rs
 
-records_unique : (order : Endianness) (rs ss : List Record) (x y : List ℕ) → AllByRecursion IsShort rs → AllByRecursion IsShort ss → EndsAt order x → EndsAt order y
+-- each of the records is short enough
+pub short_of : {order : Endianness} {bytes : List ℕ} {packets : List (List ℕ)} (are : AreRecords order bytes packets) → AllByRecursion IsShort (packets_of are.records)
+short_of are = subst (AllByRecursion IsShort) (sym are.packets_are) are.short
+
+records_unique : (order : Endianness) (rs ss : List Record) (x y : List ℕ) → AllByRecursion IsShort (packets_of rs) → AllByRecursion IsShort (packets_of ss) → EndsAt order x → EndsAt order y
     → flat_map (record_bytes order) rs ++ x ≡ flat_map (record_bytes order) ss ++ y → (packets_of rs ≡ packets_of ss) × (x ≡ y)
 records_unique order [] [] x y short_r short_s end_x end_y e = (refl, e)
 records_unique order [] (s ∷ ss) x y short_r short_s end_x end_y e =
@@ -136,7 +140,7 @@ unique_at : (order : Endianness) (bytes x y : List ℕ) (ps qs : List (List ℕ)
 unique_at order bytes x y ps qs b d end_x end_y =
     let e : b.body ++ x ≡ d.body ++ y = sym (Begins-body order b) ∙ Begins-body order d in
     let regrouped = ap (λ (t : List ℕ). t ++ x) b.records.bytes_are ∙ e ∙ ap (λ (t : List ℕ). t ++ y) (sym d.records.bytes_are) in
-    let u = records_unique order b.records.records d.records.records x y b.records.short d.records.short end_x end_y regrouped in
+    let u = records_unique order b.records.records d.records.records x y (short_of b.records) (short_of d.records) end_x end_y regrouped in
     (sym b.records.packets_are ∙ u.0 ∙ d.records.packets_are, u.1)
 
 -- two beginnings that go as far as they can are one

@@ -1,13 +1,13 @@
 -- Writing a capture, list by list.
-use Rattle.std.proofs.Common.{◌≡◌, ℕ, zero, suc, ◌+◌, ◌-◌, ◌*◌, ◌<◌, ◌≤◌, List, [], ◌∷◌, ◌++◌, length, get_or, take, drop, map, Option, Some, None, refl, sym, ap, subst, ◌∙◌, append_assoc, arith}
+use Rattle.std.proofs.Common.{◌≡◌, ℕ, ◌+◌, ◌*◌, ◌≤◌, List, [], ◌∷◌, ◌++◌, length, drop, map, Some, refl, sym, ap, subst, ◌∙◌, append_assoc, arith}
 use Rattle.std.specs.Prelude.{slice_get}
-use Rattle.std.specs.List.{flat_map, concat, AllByRecursion}
+use Rattle.std.specs.List.{concat, AllByRecursion}
 use Rattle.std.proofs.lemmas.List.{append-nil, length-append, take_at, drop_at, map-append, drop_more}
 use Rattle.std.proofs.lemmas.List.Concat.{flat_map-append}
 use Rattle.std.proofs.lemmas.Option.{slice_get_within, get_or_from_slice_get}
 use Rattle.xsk_pcap.specs.declared.endianness.Endianness.TheVariants.{Little}
-use Rattle.xsk_pcap.specs.Capture.{header_bytes, record_bytes, captured_in}
-use Rattle.xsk_pcap.specs.Written.{written_header, written_record, written_records, all_packets, written, IsWritable}
+use Rattle.xsk_pcap.specs.Capture.{header_bytes, record_bytes, IsShort, captured_in}
+use Rattle.xsk_pcap.specs.Written.{written_header, written_record, text_of, all_packets, written, IsWritable}
 use Rattle.xsk_pcap.specs.Kept.{packets_in, cut_into, lists_in, IsKept}
 use Rattle.xsk_pcap.proofs.Unique.{captured_in-record, length-record}
 
@@ -17,9 +17,6 @@ use Rattle.xsk_pcap.proofs.Unique.{captured_in-record, length-record}
 pub drop_slice_get : (xs : List (List ℕ)) (i : ℕ) (x : List ℕ) → slice_get xs i ≡ Some x → drop i xs ≡ x ∷ drop (i + 1) xs
 drop_slice_get xs i x e =
     drop_more xs i x (slice_get_within xs i x e) ∙ ap (λ (y : List ℕ). y ∷ drop (i + 1) xs) (get_or_from_slice_get xs i x x e)
-
-abbrev pub text_of : ℕ → List (List ℕ) → List ℕ
-text_of k packets = flat_map (record_bytes Little) (written_records k packets)
 
 pub length-text_of : (k : ℕ) (packets : List (List ℕ)) → length (text_of k packets) ≡ 16 * length packets + length (concat packets)
 length-text_of k [] = refl
@@ -62,7 +59,7 @@ written-push lists list =
     ∙ ap (λ (n : ℕ). header_bytes Little written_header ++ (text_of 0 (all_packets lists) ++ text_of n list)) (omega arith)
     ∙ sym (append_assoc (header_bytes Little written_header) (text_of 0 (all_packets lists)) (text_of (length (all_packets lists)) list))
 
-packets_in-text_of : (k : ℕ) (packets : List (List ℕ)) → AllByRecursion (λ packet. length packet ≤ 262144) packets → packets_in (length packets) (text_of k packets) ≡ packets
+packets_in-text_of : (k : ℕ) (packets : List (List ℕ)) → AllByRecursion IsShort packets → packets_in (length packets) (text_of k packets) ≡ packets
 packets_in-text_of k [] short = refl
 packets_in-text_of k (p ∷ ps) short =
     let rest = text_of (k + 1) ps in
@@ -116,7 +113,7 @@ length-concat_last [] ys = omega arith
 length-concat_last (x ∷ xs) ys = omega (arith, length-append x (concat (xs ++ ys)), length-concat_last xs ys)
 
 pub record FitsBehind (lists : List (List (List ℕ))) (list : List (List ℕ)) : Type 0 where
-  pub short : AllByRecursion (λ packet. length packet ≤ 262144) list
+  pub short : AllByRecursion IsShort list
   pub packets : length (all_packets lists) + length list ≤ 65536
   pub bytes : length (concat list) ≤ 33554432
 
@@ -124,7 +121,7 @@ pub fits_behind : (lists : List (List (List ℕ))) (list : List (List ℕ)) → 
 fits_behind lists list writable =
     let all = all_packets-push lists list in
     record {
-      short = AllByRecursion-last (λ packet. length packet ≤ 262144) (all_packets lists) list (subst (AllByRecursion (λ packet. length packet ≤ 262144)) all writable.each);
+      short = AllByRecursion-last IsShort (all_packets lists) list (subst (AllByRecursion IsShort) all writable.each);
       packets = omega (arith, writable.packets, ap length all, length-append (all_packets lists) list);
       bytes = omega (arith, writable.bytes, ap (λ (ps : List (List ℕ)). length (concat ps)) all, length-concat_last (all_packets lists) list);
     }

@@ -11,21 +11,22 @@ use Rattle.xsk_pcap.specs.Numbers.{field, number_in}
 
 -- ---- what a capture is
 
--- time stamps of microseconds, or of nanoseconds
+-- the magic number of time stamps in microseconds, or in nanoseconds
 abbrev pub is_magic : ℕ → Bool
 is_magic magic = magic == 0xa1b2c3d4 || magic == 0xa1b23c4d
 
--- what may differ in the file header
+-- what may differ from one file header to another
 pub record Header : Type 0 where
   pub magic : ℕ
   pub zone : ℕ
   pub figures : ℕ
   pub snaplen : ℕ
 
--- the magic, the version 2.4, the time zone, the accuracy of time stamps, the snapshot length, and the link type
+-- the magic number, the version 2.4, the time zone, the accuracy of time stamps, the snapshot length, and the link type 1
 abbrev pub header_bytes : Endianness → Header → List ℕ
 header_bytes order h =
-    field order 4 h.magic ++ field order 2 2 ++ field order 2 4 ++ field order 4 h.zone ++ field order 4 h.figures ++ field order 4 h.snaplen ++ field order 4 1
+    field order 4 h.magic ++ field order 2 2 ++ field order 2 4
+    ++ field order 4 h.zone ++ field order 4 h.figures ++ field order 4 h.snaplen ++ field order 4 1
 
 pub record Record : Type 0 where
   pub seconds : ℕ
@@ -36,15 +37,17 @@ pub record Record : Type 0 where
 -- the seconds and their fraction, the captured and the original length, and the captured bytes
 abbrev pub record_bytes : Endianness → Record → List ℕ
 record_bytes order r =
-    field order 4 r.seconds ++ field order 4 r.fraction ++ field order 4 (length r.packet) ++ field order 4 r.original ++ r.packet
+    field order 4 r.seconds ++ field order 4 r.fraction
+    ++ field order 4 (length r.packet) ++ field order 4 r.original ++ r.packet
 
-abbrev pub IsShort : Record → Type 0
-IsShort r = length r.packet ≤ 262144
+-- few enough captured bytes
+abbrev pub IsShort : List ℕ → Type 0
+IsShort packet = length packet ≤ 262144
 
 -- the bytes are the records of these packets, one after another
 pub record AreRecords (order : Endianness) (bytes : List ℕ) (packets : List (List ℕ)) : Type 0 where
+  pub short : AllByRecursion IsShort packets
   pub records : List Record
-  pub short : AllByRecursion IsShort records
   pub packets_are : map (λ r. r.packet) records ≡ packets
   pub bytes_are : flat_map (record_bytes order) records ≡ bytes
 
@@ -99,7 +102,7 @@ pub record FailsAtRecord (bytes : List ℕ) (refusal : BadCapture) : Type 0 wher
   pub packets : List (List ℕ)
   pub rest : List ℕ
   pub begins : Begins order bytes packets rest
-  pub some : 0 < length rest
+  pub more : 0 < length rest
   pub fails : record_refusal order (length bytes - length rest) rest ≡ Some refusal
 
 -- the first check that fails, from the front of the file

@@ -4,7 +4,7 @@ use Rattle.byteorder.specs.Endian.{big_bytes, big_number, little_bytes, little_n
 use Rattle.xsk_pcap.specs.declared.endianness.Endianness.{Endianness}
 use Rattle.xsk_pcap.specs.declared.endianness.Endianness.TheVariants.{Little, Big}
 
--- a field of so many bytes that holds the number
+-- a field of so many bytes that holds the number, or its lowest bytes where it has more
 abbrev pub field : Endianness → ℕ → ℕ → List ℕ
 field Little width number = little_bytes width number
 field Big width number = big_bytes width number

@@ -17,7 +17,7 @@ pub record PassesHeader (order : Endianness) (bytes : List ℕ) : Type 0 where
 -- the bytes are a record of this packet, and then the rest
 pub record BeginsRecord (order : Endianness) (bytes packet rest : List ℕ) : Type 0 where
   pub of : Record
-  pub short : IsShort of
+  pub short : IsShort of.packet
   pub packet_is : of.packet ≡ packet
   pub whole : record_bytes order of ++ rest ≡ bytes
 

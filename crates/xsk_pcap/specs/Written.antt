@@ -2,7 +2,7 @@
 use Rattle.std.specs.Prelude.{ℕ, ◌+◌, ◌/◌, ◌%◌, ◌≤◌, List, [], ◌∷◌, ◌++◌, length}
 use Rattle.std.specs.List.{flat_map, concat, AllByRecursion}
 use Rattle.xsk_pcap.specs.declared.endianness.Endianness.TheVariants.{Little}
-use Rattle.xsk_pcap.specs.Capture.{Header, header_bytes, Record, record_bytes}
+use Rattle.xsk_pcap.specs.Capture.{Header, header_bytes, Record, record_bytes, IsShort}
 
 abbrev pub written_header : Header
 written_header = record { magic = 0xa1b2c3d4; zone = 0; figures = 0; snaplen = 262144 }
@@ -16,16 +16,20 @@ abbrev pub written_records : ℕ → List (List ℕ) → List Record
 written_records k [] = []
 written_records k (packet ∷ packets) = written_record k packet ∷ written_records (k + 1) packets
 
+-- the bytes of these records
+abbrev pub text_of : ℕ → List (List ℕ) → List ℕ
+text_of k packets = flat_map (record_bytes Little) (written_records k packets)
+
 -- all packets of the lists, in order
 abbrev pub all_packets : List (List (List ℕ)) → List (List ℕ)
 all_packets lists = flat_map (λ list. list) lists
 
 -- the records are numbered from 0 over all lists
 abbrev pub written : List (List (List ℕ)) → List ℕ
-written lists = header_bytes Little written_header ++ flat_map (record_bytes Little) (written_records 0 (all_packets lists))
+written lists = header_bytes Little written_header ++ text_of 0 (all_packets lists)
 
--- what one capture takes
+-- what may be written into one capture; these limits are this project's own
 pub record IsWritable (lists : List (List (List ℕ))) : Type 0 where
-  pub each : AllByRecursion (λ packet. length packet ≤ 262144) (all_packets lists)
+  pub each : AllByRecursion IsShort (all_packets lists)
   pub packets : length (all_packets lists) ≤ 65536
   pub bytes : length (concat (all_packets lists)) ≤ 33554432

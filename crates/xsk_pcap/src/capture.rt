@@ -1,9 +1,9 @@
-ghost use Rattle.std.specs.Prelude.{◌≡◌, ◌+◌, ◌*◌, ◌/◌, ◌%◌, ◌^◌, ◌<◌, ◌≤◌, List, [], ◌∷◌, ◌++◌, length, vec_capacity, IfOk, OnOk, OnErr};
-ghost use Rattle.std.specs.List.{flat_map, concat, AllByRecursion};
+ghost use Rattle.std.specs.Prelude.{◌≡◌, ◌+◌, ◌*◌, ◌/◌, ◌%◌, ◌^◌, ◌<◌, ◌≤◌, [], ◌∷◌, ◌++◌, length, vec_capacity, IfOk, OnOk, OnErr};
+ghost use Rattle.std.specs.List.{concat, AllByRecursion};
 ghost use Rattle.byteorder.specs.Endian.{little_bytes};
 ghost use Rattle.xsk_pcap.specs.declared.endianness.Endianness.TheVariants.{Little};
-ghost use Rattle.xsk_pcap.specs.Capture.{record_bytes};
-ghost use Rattle.xsk_pcap.specs.Written.{written, written_record, written_records, all_packets, IsWritable};
+ghost use Rattle.xsk_pcap.specs.Capture.{record_bytes, IsShort};
+ghost use Rattle.xsk_pcap.specs.Written.{written, written_record, text_of, IsWritable};
 
 use byteorder::{ByteOrder, LittleEndian};
 use std::alloc::Global;
@@ -11,7 +11,7 @@ use std::marker::Model;
 use xsk_umem::{OutOfMemory, PacketList};
 
 /// Little endian, time stamps of microseconds, version 2.4, a snapshot length of 262,144, and link type Ethernet.
-const FILE_HEADER: [u8; 24] = [
+const WRITTEN_HEADER: [u8; 24] = [
     0xd4, 0xc3, 0xb2, 0xa1, 0x02, 0x00, 0x04, 0x00, 0x00, 0x00, 0x00, 0x00, 0x00, 0x00, 0x00, 0x00,
     0x00, 0x00, 0x04, 0x00, 0x01, 0x00, 0x00, 0x00,
 ];
@@ -20,7 +20,9 @@ const FILE_HEADER: [u8; 24] = [
 #[derive(Debug, Drop)]
 pub struct Capture {
     text: Vec<u8>,
+    /// How many packets each list has.
     counts: Vec<u32>,
+    /// How many packets there are, and so the number of the next.
     number: u32,
 }
 
@@ -41,7 +43,7 @@ impl Capture {
         ensures { IfOk result (λ capture. capture ≡ []) }
     {
         let mut text = Vec::new(alloc);
-        text.extend_from_slice(&FILE_HEADER)?;
+        text.extend_from_slice(&WRITTEN_HEADER)?;
         Ok(Capture {
             text,
             counts: Vec::new(alloc),
@@ -88,10 +90,10 @@ fn size_of_records(list: &PacketList) -> usize
 
 /// Appends the records of a list's packets, numbered from `number` on, in room that is there.
 fn append_records(text: &mut Vec<u8>, number: u32, list: &PacketList)
-    requires short { AllByRecursion (λ packet. length packet ≤ 262144) list.now.packets }
+    requires short { AllByRecursion IsShort list.now.packets }
     requires numbers { number + length list.now.packets < 2 ^ 32 }
-    requires room { length (text.old.items ++ flat_map (record_bytes Little) (written_records number list.now.packets)) ≤ vec_capacity text.old }
-    ensures { text.new.items ≡ text.old.items ++ flat_map (record_bytes Little) (written_records number list.now.packets) }
+    requires room { length (text.old.items ++ text_of number list.now.packets) ≤ vec_capacity text.old }
+    ensures { text.new.items ≡ text.old.items ++ text_of number list.now.packets }
 {
     for i in 0..list.len() {
         append_record(text, number + i, list.get(i));
@@ -100,7 +102,7 @@ fn append_records(text: &mut Vec<u8>, number: u32, list: &PacketList)
 
 /// Appends one record in room that is there.
 fn append_record(text: &mut Vec<u8>, number: u32, packet: &[u8])
-    requires short { length packet.now ≤ 262144 }
+    requires short { IsShort packet.now }
     requires room { length text.old.items + 16 + length packet.now ≤ vec_capacity text.old }
     ensures text { text.new.items ≡ text.old.items ++ record_bytes Little (written_record number packet.now) }
     ensures room { vec_capacity text.old ≤ vec_capacity text.new }
@@ -112,7 +114,8 @@ fn append_record(text: &mut Vec<u8>, number: u32, packet: &[u8])
 
 /// Seconds, microseconds, captured length and original length.
 fn record_header(number: u32, len: u32) -> [u8; 16]
-    ensures { result ≡ little_bytes 4 (number / 1000000) ++ little_bytes 4 (number % 1000000) ++ little_bytes 4 len ++ little_bytes 4 len }
+    ensures { result ≡ little_bytes 4 (number / 1000000) ++ little_bytes 4 (number % 1000000)
+        ++ little_bytes 4 len ++ little_bytes 4 len }
 {
     let mut header = [0; 16];
     LittleEndian::write_u32(&mut header[..4], number / 1_000_000);

@@ -1,6 +1,7 @@
-ghost use Rattle.std.specs.Prelude.{◌≡◌, ◌+◌, ◌-◌, ◌<◌, ◌≤◌, ℕ, List, [], length, drop, Option, Some, None, Result, Ok, Err, IfOk, IfErr, MatchResult};
-ghost use Rattle.std.specs.List.{concat};
-ghost use Rattle.xsk_pcap.specs.Capture.{is_magic as magic_test, IsCapture, IsRefused, IsCause, FailsAtRecord, order_of, header_refusal, record_refusal};
+ghost use Rattle.std.specs.Prelude.{◌≡◌, ◌≤◌, ℕ, List, [], length, IfOk, IfErr, MatchResult};
+ghost use Rattle.std.specs.List.{AllByRecursion};
+ghost use Rattle.xsk_pcap.specs.Capture.{is_magic as magic_test, IsCapture, IsShort, IsRefused, IsCause};
+ghost use Rattle.xsk_pcap.specs.Capture.{FailsAtRecord, order_of, header_refusal, record_refusal};
 ghost use Rattle.xsk_pcap.specs.Steps.{PassesHeader, BeginsRecord, Measures, HasRoom, Appends};
 
 use crate::endianness::Endianness;
@@ -14,8 +15,8 @@ const RECORD_HEADER: usize = 16;
 
 const MOST_CAPTURED: usize = 262_144;
 
-/// Why bytes weren't read as a capture: the first check that fails, in this order. `at` is where in the file the record
-/// begins that fails; the file header's checks come before it, and those of a record in the order of its fields.
+/// Why bytes weren't read as a capture: the first check that fails. Those of the file header come first, in this order,
+/// and then those of each record in turn. `at` is the byte of the file at which the record begins that fails.
 #[derive(Clone, Copy, Debug, PartialEq, Eq, Error)]
 pub enum BadCapture {
     /// There are fewer than the 24 bytes of a file header.
@@ -36,7 +37,7 @@ pub enum BadCapture {
     /// The record has more than 262,144 captured bytes.
     #[error("the record at byte {at} is too long")]
     RecordTooLong { at: u64 },
-    /// Memory for the packets couldn't be had. All checks pass.
+    /// All checks pass, but memory for the packets couldn't be had, or they or their bytes are more than 32 bits count.
     #[error("out of memory")]
     OutOfMemory,
 }
@@ -165,13 +166,17 @@ fn copy_packets(order: Endianness, records: &[u8], list: &mut PacketList)
     }
 }
 
-/// Reads a capture: its packets, in order. Time stamps, original lengths, the time zone, the accuracy and the snapshot
-/// length may be anything, and aren't kept.
+/// Reads a capture in either byte order, with time stamps of microseconds or nanoseconds, and gives its packets in order.
+///
+/// Times, original lengths, the time zone, the accuracy and the snapshot length may be anything, and aren't kept. A packet
+/// may be empty, or longer than the snapshot length.
 pub fn read(alloc: Global, bytes: &[u8]) -> Result<PacketList, BadCapture>
     // What is read is a capture of these packets.
     ensures found { IfOk result (λ list. IsCapture bytes.now list.packets) }
+    ensures short { IfOk result (λ list. AllByRecursion IsShort list.packets) }
     // What is a capture is read as its packets, unless memory runs out.
-    ensures accepted { (packets : List (List ℕ)) → IsCapture bytes.now packets → MatchResult result (λ list. list.packets ≡ packets) (λ e. e ≡ BadCapture.OutOfMemory) }
+    ensures accepted { (packets : List (List ℕ)) → IsCapture bytes.now packets →
+        MatchResult result (λ list. list.packets ≡ packets) (λ e. e ≡ BadCapture.OutOfMemory) }
     // The first check that fails decides, whatever memory there is.
     ensures refused { (refusal : BadCapture) → IsRefused bytes.now refusal → result ≡ Err refusal }
     ensures cause { IfErr result (IsCause bytes.now) }

@@ -1,5 +1,6 @@
-use Rattle.std.proofs.Common.{◌≡◌, ◌+◌, ◌++◌, drop, vec_capacity, ap, sym, ◌∙◌, arith}
-use Rattle.xsk_pcap.proofs.Writing.{text_of, text_of-next, room_for_next}
+use Rattle.std.proofs.Common.{◌+◌, ◌++◌, drop, vec_capacity, ap, sym, ◌∙◌, arith}
+use Rattle.xsk_pcap.specs.Written.{text_of}
+use Rattle.xsk_pcap.proofs.Writing.{text_of-next, room_for_next}
 use Rattle.xsk_pcap.proofs.capture.append_records.Goals as goal
 
 pub append_record-requires-clause-room : goal.append_record-requires-clause-room

@@ -1,5 +1,5 @@
 use Rattle.std.proofs.Common.{◌≡◌, ◌+◌, ◌≤◌, ◌++◌, length, drop, vec_capacity}
-use Rattle.xsk_pcap.proofs.Writing.{text_of}
+use Rattle.xsk_pcap.specs.Written.{text_of}
 use Rattle.xsk_pcap.proofs.capture.append_records.Given as goal
 
 abbrev pub invariant-loop-i : goal.invariant-loop-i

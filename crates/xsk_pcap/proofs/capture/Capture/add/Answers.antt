@@ -1,6 +1,6 @@
-use Rattle.std.proofs.Common.{◌≡◌, List, [], ◌∷◌, ◌++◌, length, ap, sym, subst, ◌∙◌, arith, length-append}
-use Rattle.xsk_pcap.specs.Written.{IsWritable}
-use Rattle.xsk_pcap.proofs.Writing.{text_of, length-text_of, fits_behind, IsKept-push}
+use Rattle.std.proofs.Common.{[], ◌∷◌, ◌++◌, ap, ◌∙◌, arith, length-append}
+use Rattle.xsk_pcap.specs.Written.{text_of}
+use Rattle.xsk_pcap.proofs.Writing.{length-text_of, fits_behind, IsKept-push}
 use Rattle.xsk_pcap.proofs.capture.Capture.add.Goals as goal
 
 pub size_of_records-requires : goal.size_of_records-requires
