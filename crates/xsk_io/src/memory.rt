@@ -123,10 +123,10 @@ impl Model for Sink {
     ghost Value = { OutputState };
 
     ghost view = { λ s. record {
-        is_open = s.is_open;
-        asked = s.asked;
-        held = (if s.is_told then Some s.bytes.items else None);
-        room = s.room;
+      is_open = s.is_open;
+      asked = s.asked;
+      held = (if s.is_told then Some s.bytes.items else None);
+      room = s.room;
     } };
 
     ghost invariant = { λ s. (vec_len s.bytes ≤ s.room) × (s.room ≤ vec_capacity s.bytes) };

@@ -30,11 +30,7 @@ impl Model for SteadyBay {
 impl SteadyBay {
     /// A bay with these inputs, no stream open, and `room` bytes taken for each output and for the
     /// report. Where there is no memory for that, and only there, the inputs come back.
-    pub fn new(
-        alloc: Global,
-        inputs: Vec<Vec<u8>>,
-        room: u32,
-    ) -> Result<SteadyBay, Vec<Vec<u8>>>
+    pub fn new(alloc: Global, inputs: Vec<Vec<u8>>, room: u32) -> Result<SteadyBay, Vec<Vec<u8>>>
         ensures made { IfOk result (λ bay. bay ≡ new_memory (map (λ bytes. bytes.items) inputs.items) room) }
         ensures back { IfErr result (λ back. back.items ≡ inputs.items) }
     {
