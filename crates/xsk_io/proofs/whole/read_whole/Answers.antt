@@ -1,6 +1,6 @@
 use Rattle.std.proofs.Common.{◌++◌, take}
 use Rattle.xsk_io.proofs.Steps.{prepend_known-then}
-use Rattle.xsk_io.proofs.whole.read_by_pieces.Goals as goal
+use Rattle.xsk_io.proofs.whole.read_whole.Goals as goal
 
 -- the piece that found no room has been read too
 pub returns-in_err-extend_from_slice-clause-taken : goal.returns-in_err-extend_from_slice-clause-taken
