@@ -186,7 +186,8 @@ impl Counts {
         requires { HasNumber stream }
         ensures outcome { result ≡ outcome }
         ensures ok { OnOk result (self.new ≡ self.old) }
-        ensures risen { OnErr result (count_of self.new stream ≡ min (count_of self.old stream + 1) (2 ^ 64 - 1)) }
+        ensures risen { OnErr result
+            (count_of self.new stream ≡ min (count_of self.old stream + 1) (2 ^ 64 - 1)) }
         ensures never_falls { count_of self.old stream ≤ count_of self.new stream }
         ensures others { SameBut stream (count_of self.old) (count_of self.new) }
     {
@@ -214,7 +215,8 @@ fn raise_at(counts: &mut [u64], place: usize)
     requires { place < length counts.old }
     ensures risen { slice_index counts.new place ≡ min (slice_index counts.old place + 1) (2 ^ 64 - 1) }
     ensures never_falls { slice_index counts.old place ≤ slice_index counts.new place }
-    ensures others { (other : ℕ) → other ≢ place → slice_index counts.new other ≡ slice_index counts.old other }
+    ensures others { (other : ℕ) → other ≢ place
+        → slice_index counts.new other ≡ slice_index counts.old other }
 {
     counts[place] = counts[place].saturating_add(1);
 }
@@ -237,7 +239,13 @@ impl<R: Files + Drop> Model for FileBay<R> {
 
     ghost Value = { FilesState };
 
-    ghost view = { λ b. record { inputs = b.inputs; outputs = b.outputs; opens = b.opens; reads = b.reads; writes = b.writes } };
+    ghost view = { λ b. record {
+      inputs = b.inputs;
+      outputs = b.outputs;
+      opens = b.opens;
+      reads = b.reads;
+      writes = b.writes;
+    } };
 }
 
 impl<R: Files + Drop> FileBay<R> {

@@ -15,7 +15,8 @@ fn copy<B: Bay>(
     limit: usize,
 ) -> Result<(), ReadError>
     requires none_open { (stream : Stream) → B.is_open bay.old stream ≡ false }
-    ensures { OnOk result (IfSome (B.left bay.old (Stream.Input 0)) (λ all. IfSome (B.held bay.new (Stream.Output 3)) (λ written. written ≡ all))) }
+    ensures { OnOk result (IfSome (B.left bay.old (Stream.Input 0)) (λ all.
+        IfSome (B.held bay.new (Stream.Output 3)) (λ written. written ≡ all))) }
 {
     bay.open(Stream::Input(0), from)?;
     let text = read_whole(alloc, bay, Stream::Input(0), limit)?;

@@ -59,10 +59,12 @@ pub fn read_whole<B: Bay>(
     requires numbered { HasNumber stream }
     requires input { IsInput stream }
     requires opened { B.is_open bay.old stream ≡ true }
-    ensures whole { IfOk result (λ bytes. IfSome (B.left bay.old stream) (λ all. all ≡ bytes.items)) }
+    ensures whole { IfOk result
+        (λ bytes. IfSome (B.left bay.old stream) (λ all. all ≡ bytes.items)) }
     ensures within { IfOk result (λ bytes. length bytes.items ≤ limit) }
     ensures end { OnOk result (IsAtEnd (B.left bay.new stream)) }
-    ensures too_long { IsErrOf result ReadError.TooLong → IfSome (B.left bay.old stream) (λ all. limit < length all) }
+    ensures too_long { IsErrOf result ReadError.TooLong →
+        IfSome (B.left bay.old stream) (λ all. limit < length all) }
     ensures taken { LosesFront (B.left bay.old stream) (B.left bay.new stream) }
     ensures left_others { SameBut stream (B.left bay.old) (B.left bay.new) }
 
@@ -70,8 +72,10 @@ pub fn read_whole<B: Bay>(
     ensures names { Same (B.asked bay.old) (B.asked bay.new) }
     ensures held { Same (B.held bay.old) (B.held bay.new) }
 
-    ensures cause { IsErrOf result ReadError.Fault → Rose (B.faults bay.old Kind.Read stream) (B.faults bay.new Kind.Read stream) }
-    ensures no_fault { IsErrOf result ReadError.Fault ⊎ (B.faults bay.new Kind.Read stream ≡ B.faults bay.old Kind.Read stream) }
+    ensures cause { IsErrOf result ReadError.Fault →
+        Rose (B.faults bay.old Kind.Read stream) (B.faults bay.new Kind.Read stream) }
+    ensures no_fault { IsErrOf result ReadError.Fault ⊎
+        (B.faults bay.new Kind.Read stream ≡ B.faults bay.old Kind.Read stream) }
     ensures never_falls { B.faults bay.old Kind.Read stream ≤ B.faults bay.new Kind.Read stream }
     ensures counts { CountsOnly Kind.Read stream (B.faults bay.old) (B.faults bay.new) }
 {
@@ -100,15 +104,18 @@ pub fn write_whole<B: Bay>(bay: &mut B, stream: Stream, text: &[u8]) -> Result<(
     requires numbered { HasNumber stream }
     requires writable { TakesWrites stream (B.is_open bay.old stream) }
     ensures whole { OnOk result (Grows (B.held bay.old stream) (B.held bay.new stream) text.now) }
-    ensures part { OnErr result (GrowsByPart (B.held bay.old stream) (B.held bay.new stream) text.now) }
+    ensures part { OnErr result
+        (GrowsByPart (B.held bay.old stream) (B.held bay.new stream) text.now) }
     ensures held_others { SameBut stream (B.held bay.old) (B.held bay.new) }
 
     ensures opened { Same (B.is_open bay.old) (B.is_open bay.new) }
     ensures names { Same (B.asked bay.old) (B.asked bay.new) }
     ensures left { Same (B.left bay.old) (B.left bay.new) }
 
-    ensures cause { OnErr result (Rose (B.faults bay.old Kind.Write stream) (B.faults bay.new Kind.Write stream)) }
-    ensures no_fault { OnOk result (B.faults bay.new Kind.Write stream ≡ B.faults bay.old Kind.Write stream) }
+    ensures cause { OnErr result
+        (Rose (B.faults bay.old Kind.Write stream) (B.faults bay.new Kind.Write stream)) }
+    ensures no_fault { OnOk result
+        (B.faults bay.new Kind.Write stream ≡ B.faults bay.old Kind.Write stream) }
     ensures never_falls { B.faults bay.old Kind.Write stream ≤ B.faults bay.new Kind.Write stream }
     ensures counts { CountsOnly Kind.Write stream (B.faults bay.old) (B.faults bay.new) }
 {
