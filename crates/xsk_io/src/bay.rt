@@ -38,8 +38,8 @@ impl Error for BayFailed {}
 
 /// Streams that are opened once and never closed.
 ///
-/// A bay tells as much as it knows of its streams' names and bytes: a file tells nothing, memory tells
-/// all. What it tells is true.
+/// A bay tells what it knows of its streams' names and bytes: files tell nothing, memory tells what it
+/// keeps. What a bay tells is true.
 pub trait Bay {
     // Whether a stream is open. The report needs no opening.
     ghost is_open: { Self → Stream → Bool };
