@@ -1,5 +1,5 @@
 -- A read of an input in memory gives the bytes that it takes, and none only at the end.
-use Rattle.std.proofs.Common.{◌≡◌, ℕ, ◌<◌, min, List, [], ◌++◌, Option, Some, Result, Ok, Err, length, get_or, take, drop, sym, ap, get_or-set_same, arith}
+use Rattle.std.proofs.Common.{◌≡◌, ℕ, ◌<◌, min, List, [], Some, Result, Ok, Err, length, take, drop, sym, ap, get_or-set_same, arith}
 use Rattle.std.specs.Prelude.{IfSome, IfOk}
 use Rattle.std.proofs.lemmas.List.{take-append-drop, nil_from_length}
 use Rattle.std.specs.Io.KnownBytes.{prepend_known, IsAtEnd}

@@ -1,27 +1,16 @@
 -- One call of a bay after another.
-use Rattle.std.proofs.Common.{◌≡◌, ◌≢◌, ℕ, ◌+◌, ◌-◌, ◌^◌, ◌<◌, ◌≤◌, ◌⊎◌, inl, inr, List, [], ◌++◌, Option, Some, None, length, take, drop, refl, sym, ◌∙◌, ap, append_assoc, length-append, arith}
-use Rattle.std.proofs.lemmas.List.{append-nil}
+use Rattle.std.proofs.Common.{◌≡◌, ℕ, ◌+◌, ◌≤◌, inl, inr, List, ◌++◌, Option, Some, None, take, drop, sym, ◌∙◌, ap, append_assoc, arith}
 use Rattle.std.proofs.Math.Seq.{take-add}
-use Rattle.std.specs.Io.KnownBytes.{append_known, prepend_known, IsAtEnd}
-use Rattle.std.specs.Prelude.{IfSome}
+use Rattle.std.specs.Io.KnownBytes.{prepend_known}
 use Rattle.xsk_io.specs.declared.bay.Stream.{Stream}
 use Rattle.xsk_io.specs.declared.bay.Kind.{Kind}
 use Rattle.xsk_io.specs.Bay.{Same, SameBut, Grows, Rose, CountsOnly}
 
-pub Same-refl : {A : Type 0} (f : Stream → A) → Same f f
-Same-refl f stream = refl
-
 pub Same-then : {A : Type 0} (f g h : Stream → A) → Same f g → Same g h → Same f h
 Same-then f g h first second stream = second stream ∙ first stream
 
-pub SameBut-refl : {A : Type 0} (one : Stream) (f : Stream → A) → SameBut one f f
-SameBut-refl one f stream other = refl
-
 pub SameBut-then : {A : Type 0} (one : Stream) (f g h : Stream → A) → SameBut one f g → SameBut one g h → SameBut one f h
 SameBut-then one f g h first second stream other = second stream other ∙ first stream other
-
-pub CountsOnly-refl : (kind : Kind) (stream : Stream) (f : Kind → Stream → ℕ) → CountsOnly kind stream f f
-CountsOnly-refl kind stream f = (λ other differs t. refl, λ t differs. refl)
 
 pub CountsOnly-then : (kind : Kind) (stream : Stream) (f g h : Kind → Stream → ℕ) → CountsOnly kind stream f g → CountsOnly kind stream g h → CountsOnly kind stream f h
 CountsOnly-then kind stream f g h first second =
@@ -35,10 +24,6 @@ Rose-later a b c low (inr last) high = grind arith
 pub Rose-earlier : (a b c : ℕ) → a ≤ b → Rose b c → Rose a c
 Rose-earlier a b c low (inl rose) = inl (omega arith)
 Rose-earlier a b c low (inr last) = inr last
-
-pub Grows-none : (held : Option (List ℕ)) → Grows held held []
-Grows-none None = inl refl
-Grows-none (Some bytes) = inr (ap Some (sym (append-nil bytes)))
 
 pub Grows-then : (first second third : Option (List ℕ)) (xs ys : List ℕ) → Grows first second xs → Grows second third ys → Grows first third (xs ++ ys)
 Grows-then first second third xs ys g (inl lost) = inl lost
@@ -56,17 +41,3 @@ pub prepend_known-then : (first second third : Option (List ℕ)) (xs ys : List 
     → first ≡ prepend_known xs second → second ≡ prepend_known ys third → first ≡ prepend_known (xs ++ ys) third
 prepend_known-then first second None xs ys e d = e ∙ ap (prepend_known xs) d
 prepend_known-then first second (Some bytes) xs ys e d = e ∙ ap (prepend_known xs) d ∙ ap Some (sym (append_assoc xs ys bytes))
-
-pub prepend_known-nil : (known : Option (List ℕ)) → known ≡ prepend_known [] known
-prepend_known-nil None = refl
-prepend_known-nil (Some bytes) = refl
-
--- all that was left has been read
-pub IfSome-whole : (first second : Option (List ℕ)) (xs : List ℕ) → first ≡ prepend_known xs second → IsAtEnd second → IfSome first (λ all. all ≡ xs)
-IfSome-whole first None xs e end = rw e tt
-IfSome-whole first (Some rest) xs e end = rw (e, end) (append-nil xs)
-
--- more was left than what has been read
-pub IfSome-longer : (first second : Option (List ℕ)) (xs : List ℕ) (limit : ℕ) → first ≡ prepend_known xs second → limit < length xs → IfSome first (λ all. limit < length all)
-IfSome-longer first None xs limit e more = rw e tt
-IfSome-longer first (Some rest) xs limit e more = rw e (omega (arith, length-append xs rest))

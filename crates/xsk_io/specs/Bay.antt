@@ -43,7 +43,7 @@ abbrev pub CountsOnly : Kind → Stream → (Kind → Stream → ℕ) → (Kind 
 CountsOnly kind stream old new =
     ((other : Kind) → other ≢ kind → Same (old other) (new other)) × SameBut stream (old kind) (new kind)
 
--- what a stream holds has grown by a part of these bytes, from their front and not all of them, or is told no longer
+-- what a stream holds has grown by a front of these bytes that isn't all of them, or is told no longer
 abbrev pub GrowsByPart : Option (List ℕ) → Option (List ℕ) → List ℕ → Type 0
 GrowsByPart old new bytes = (count : ℕ) × (count < length bytes) × Grows old new (take count bytes)
 

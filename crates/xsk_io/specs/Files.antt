@@ -1,5 +1,5 @@
 -- Streams that are files. This project's own.
-use Rattle.std.specs.Prelude.{ℕ, Bool, true, false, List, [], ◌∷◌, replicate, slice_index_or, slice_set}
+use Rattle.std.specs.Prelude.{ℕ, Bool, false, List, replicate, slice_index_or}
 use Rattle.xsk_io.specs.declared.bay.Stream.{Stream}
 use Rattle.xsk_io.specs.declared.bay.Stream.TheVariants.{Input, Output, Report}
 use Rattle.xsk_io.specs.declared.bay.Kind.{Kind}
@@ -23,7 +23,13 @@ abbrev pub no_counts : StreamCounts
 no_counts = record { inputs = replicate 4 0; outputs = replicate 4 0; report = 0 }
 
 abbrev pub no_files : FilesState
-no_files = record { inputs = replicate 4 false; outputs = replicate 4 false; opens = no_counts; reads = no_counts; writes = no_counts }
+no_files = record {
+  inputs = replicate 4 false;
+  outputs = replicate 4 false;
+  opens = no_counts;
+  reads = no_counts;
+  writes = no_counts;
+}
 
 abbrev pub count_of : StreamCounts → Stream → ℕ
 count_of counts (Input n) = slice_index_or counts.inputs n 0

@@ -33,7 +33,11 @@ new_output room = record { is_open = false; asked = None; held = Some []; room =
 -- four inputs, empty where none is given, four outputs and the report
 abbrev pub new_memory : List (List ℕ) → ℕ → MemoryState
 new_memory inputs room = record {
-  inputs = new_input (slice_index_or inputs 0 []) ∷ new_input (slice_index_or inputs 1 []) ∷ new_input (slice_index_or inputs 2 []) ∷ new_input (slice_index_or inputs 3 []) ∷ [];
+  inputs = new_input (slice_index_or inputs 0 [])
+      ∷ new_input (slice_index_or inputs 1 [])
+      ∷ new_input (slice_index_or inputs 2 [])
+      ∷ new_input (slice_index_or inputs 3 [])
+      ∷ [];
   outputs = replicate 4 (new_output room);
   report = new_output room;
 }
@@ -90,16 +94,20 @@ abbrev pub written_output : OutputState → List ℕ → OutputState
 written_output output piece = record output { held = option_and_then (within_room output.room piece) output.held }
 
 abbrev pub after_open : MemoryState → Stream → List ℕ → MemoryState
-after_open memory (Input n) name = record memory { inputs = slice_set memory.inputs n (opened_input (input_at memory n) name) }
-after_open memory (Output n) name = record memory { outputs = slice_set memory.outputs n (opened_output (output_at memory n) name) }
+after_open memory (Input n) name =
+    record memory { inputs = slice_set memory.inputs n (opened_input (input_at memory n) name) }
+after_open memory (Output n) name =
+    record memory { outputs = slice_set memory.outputs n (opened_output (output_at memory n) name) }
 after_open memory Report name = memory
 
 abbrev pub after_read : MemoryState → Stream → ℕ → MemoryState
-after_read memory (Input n) count = record memory { inputs = slice_set memory.inputs n (read_input (input_at memory n) count) }
+after_read memory (Input n) count =
+    record memory { inputs = slice_set memory.inputs n (read_input (input_at memory n) count) }
 after_read memory (Output n) count = memory
 after_read memory Report count = memory
 
 abbrev pub after_write : MemoryState → Stream → List ℕ → MemoryState
 after_write memory (Input n) piece = memory
-after_write memory (Output n) piece = record memory { outputs = slice_set memory.outputs n (written_output (output_at memory n) piece) }
+after_write memory (Output n) piece =
+    record memory { outputs = slice_set memory.outputs n (written_output (output_at memory n) piece) }
 after_write memory Report piece = record memory { report = written_output memory.report piece }

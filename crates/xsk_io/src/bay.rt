@@ -38,8 +38,8 @@ impl Error for BayFailed {}
 
 /// Streams that are opened once and never closed.
 ///
-/// A bay tells as much as it knows of its streams' names and bytes: a file tells nothing, memory tells
-/// all. What it tells is true.
+/// A bay tells what it knows of its streams' names and bytes: files tell nothing, memory tells what it
+/// keeps. What a bay tells is true.
 pub trait Bay {
     // Whether a stream is open. The report needs no opening.
     ghost is_open: { Self → Stream → Bool };
@@ -73,8 +73,10 @@ pub trait Bay {
         ensures held_others { SameBut stream (held self.old) (held self.new) }
         ensures left { Same (left self.old) (left self.new) }
 
-        ensures cause { OnErr result (Rose (faults self.old Kind.Open stream) (faults self.new Kind.Open stream)) }
-        ensures no_fault { OnOk result (faults self.new Kind.Open stream ≡ faults self.old Kind.Open stream) }
+        ensures cause { OnErr result
+            (Rose (faults self.old Kind.Open stream) (faults self.new Kind.Open stream)) }
+        ensures no_fault { OnOk result
+            (faults self.new Kind.Open stream ≡ faults self.old Kind.Open stream) }
         ensures never_falls { faults self.old Kind.Open stream ≤ faults self.new Kind.Open stream }
         ensures counts { CountsOnly Kind.Open stream (faults self.old) (faults self.new) };
 
@@ -84,10 +86,12 @@ pub trait Bay {
         requires input { IsInput stream }
         requires opened { is_open self.old stream ≡ true }
         ensures bound { IfOk result (λ count. count ≤ length buf.new) }
-        ensures bytes { IfOk result (λ count. left self.old stream ≡ prepend_known (take count buf.new) (left self.new stream)) }
+        ensures bytes { IfOk result
+            (λ count. left self.old stream ≡ prepend_known (take count buf.new) (left self.new stream)) }
 
         // None come only at the end of the input, or where there is no room for any.
-        ensures end { IfOk result (λ count. count ≡ 0 → 0 < length buf.new → IsAtEnd (left self.old stream)) }
+        ensures end { IfOk result
+            (λ count. count ≡ 0 → 0 < length buf.new → IsAtEnd (left self.old stream)) }
         ensures failed { OnErr result (left self.new stream ≡ left self.old stream) }
         ensures left_others { SameBut stream (left self.old) (left self.new) }
 
@@ -95,8 +99,10 @@ pub trait Bay {
         ensures names { Same (asked self.old) (asked self.new) }
         ensures held { Same (held self.old) (held self.new) }
 
-        ensures cause { OnErr result (Rose (faults self.old Kind.Read stream) (faults self.new Kind.Read stream)) }
-        ensures no_fault { OnOk result (faults self.new Kind.Read stream ≡ faults self.old Kind.Read stream) }
+        ensures cause { OnErr result
+            (Rose (faults self.old Kind.Read stream) (faults self.new Kind.Read stream)) }
+        ensures no_fault { OnOk result
+            (faults self.new Kind.Read stream ≡ faults self.old Kind.Read stream) }
         ensures never_falls { faults self.old Kind.Read stream ≤ faults self.new Kind.Read stream }
         ensures counts { CountsOnly Kind.Read stream (faults self.old) (faults self.new) };
 
@@ -107,7 +113,8 @@ pub trait Bay {
         requires writable { TakesWrites stream (is_open self.old stream) }
         ensures bound { IfOk result (λ count. count ≤ length piece.now) }
         ensures some { IfOk result (λ count. 0 < length piece.now → 0 < count) }
-        ensures bytes { IfOk result (λ count. Grows (held self.old stream) (held self.new stream) (take count piece.now)) }
+        ensures bytes { IfOk result
+            (λ count. Grows (held self.old stream) (held self.new stream) (take count piece.now)) }
         ensures failed { OnErr result (held self.new stream ≡ held self.old stream) }
         ensures held_others { SameBut stream (held self.old) (held self.new) }
 
@@ -115,8 +122,10 @@ pub trait Bay {
         ensures names { Same (asked self.old) (asked self.new) }
         ensures left { Same (left self.old) (left self.new) }
 
-        ensures cause { OnErr result (Rose (faults self.old Kind.Write stream) (faults self.new Kind.Write stream)) }
-        ensures no_fault { OnOk result (faults self.new Kind.Write stream ≡ faults self.old Kind.Write stream) }
+        ensures cause { OnErr result
+            (Rose (faults self.old Kind.Write stream) (faults self.new Kind.Write stream)) }
+        ensures no_fault { OnOk result
+            (faults self.new Kind.Write stream ≡ faults self.old Kind.Write stream) }
         ensures never_falls { faults self.old Kind.Write stream ≤ faults self.new Kind.Write stream }
         ensures counts { CountsOnly Kind.Write stream (faults self.old) (faults self.new) };
 }

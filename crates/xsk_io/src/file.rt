@@ -4,11 +4,10 @@ ghost use Rattle.xsk_io.specs.Bay.{HasNumber, SameBut};
 ghost use Rattle.xsk_io.specs.Files.{StreamCounts, FilesState, no_counts, no_files, count_of, is_file_open, file_faults};
 
 use crate::{Bay, BayFailed, Stream};
-use std::fs;
-use std::io;
 use std::io::{ErrorKind, Read, Write};
 use std::marker::Model;
 use std::rt::Files;
+use std::{fs, io};
 
 /// A call, and 1,000 more where each before it was interrupted.
 const TRIES: u32 = 1_001;
@@ -187,7 +186,8 @@ impl Counts {
         requires { HasNumber stream }
         ensures outcome { result ≡ outcome }
         ensures ok { OnOk result (self.new ≡ self.old) }
-        ensures risen { OnErr result (count_of self.new stream ≡ min (count_of self.old stream + 1) (2 ^ 64 - 1)) }
+        ensures risen { OnErr result
+            (count_of self.new stream ≡ min (count_of self.old stream + 1) (2 ^ 64 - 1)) }
         ensures never_falls { count_of self.old stream ≤ count_of self.new stream }
         ensures others { SameBut stream (count_of self.old) (count_of self.new) }
     {
@@ -215,7 +215,8 @@ fn raise_at(counts: &mut [u64], place: usize)
     requires { place < length counts.old }
     ensures risen { slice_index counts.new place ≡ min (slice_index counts.old place + 1) (2 ^ 64 - 1) }
     ensures never_falls { slice_index counts.old place ≤ slice_index counts.new place }
-    ensures others { (other : ℕ) → other ≢ place → slice_index counts.new other ≡ slice_index counts.old other }
+    ensures others { (other : ℕ) → other ≢ place
+        → slice_index counts.new other ≡ slice_index counts.old other }
 {
     counts[place] = counts[place].saturating_add(1);
 }
@@ -238,7 +239,13 @@ impl<R: Files + Drop> Model for FileBay<R> {
 
     ghost Value = { FilesState };
 
-    ghost view = { λ b. record { inputs = b.inputs; outputs = b.outputs; opens = b.opens; reads = b.reads; writes = b.writes } };
+    ghost view = { λ b. record {
+      inputs = b.inputs;
+      outputs = b.outputs;
+      opens = b.opens;
+      reads = b.reads;
+      writes = b.writes;
+    } };
 }
 
 impl<R: Files + Drop> FileBay<R> {
@@ -294,5 +301,57 @@ impl<R: Files + Print + Drop> Bay for FileBay<R> {
             Stream::Report => write_again(&mut io::writer(&self.rt), piece),
         };
         self.writes.note(stream, outcome)
+    }
+}
+
+#[cfg(test)]
+mod tests {
+    use super::*;
+
+    /// Is interrupted so many times, and then reads and writes one byte.
+    #[derive(Drop)]
+    struct Interrupted(u32);
+
+    impl Interrupted {
+        fn call(&mut self) -> io::Result<usize>
+            ensures { IfOk result (λ count. count ≡ 1) }
+        {
+            if self.0 == 0 {
+                return Ok(1);
+            }
+            self.0 -= 1;
+            Err(io::Error::from(ErrorKind::Interrupted))
+        }
+    }
+
+    impl Read for Interrupted {
+        fn read(&mut self, buf: &mut [u8]) -> io::Result<usize> {
+            Ok(self.call()?.min(buf.len()))
+        }
+    }
+
+    impl Write for Interrupted {
+        fn write(&mut self, buf: &[u8]) -> io::Result<usize> {
+            Ok(self.call()?.min(buf.len()))
+        }
+
+        fn flush(&mut self) -> io::Result<()> {
+            Ok(())
+        }
+    }
+
+    #[test]
+    fn a_thousand_interruptions_are_borne(rt: HostRuntime) {
+        let mut buf = [0u8; 4];
+        for (interruptions, outcome) in [(1_000, Ok(1)), (1_001, Err(BayFailed))] {
+            assert_eq!(rt;
+                read_again(&mut Interrupted(interruptions), &mut buf),
+                outcome
+            );
+            assert_eq!(rt;
+                write_again(&mut Interrupted(interruptions), b"text"),
+                outcome
+            );
+        }
     }
 }

@@ -14,3 +14,6 @@ pub use bay::{Bay, BayFailed, Kind, Stream};
 pub use file::FileBay;
 pub use steady::SteadyBay;
 pub use whole::{ReadError, read_whole, write_whole};
+
+#[cfg(test)]
+mod tests;

@@ -123,10 +123,10 @@ impl Model for Sink {
     ghost Value = { OutputState };
 
     ghost view = { λ s. record {
-        is_open = s.is_open;
-        asked = s.asked;
-        held = (if s.is_told then Some s.bytes.items else None);
-        room = s.room;
+      is_open = s.is_open;
+      asked = s.asked;
+      held = (if s.is_told then Some s.bytes.items else None);
+      room = s.room;
     } };
 
     ghost invariant = { λ s. (vec_len s.bytes ≤ s.room) × (s.room ≤ vec_capacity s.bytes) };
@@ -201,7 +201,8 @@ impl Memory {
         inputs: Vec<Vec<u8>>,
         room: usize,
     ) -> Result<Memory, Vec<Vec<u8>>>
-        ensures made { IfOk result (λ memory. memory ≡ new_memory (map (λ bytes. bytes.items) inputs.items) room) }
+        ensures made { IfOk result (λ memory.
+            memory ≡ new_memory (map (λ bytes. bytes.items) inputs.items) room) }
         ensures back { IfErr result (λ back. back.items ≡ inputs.items) }
     {
         let Ok(outputs) = new_sinks(alloc, room) else {
@@ -308,7 +309,8 @@ fn new_sources(alloc: Global, inputs: Vec<Vec<u8>>) -> [Source; 4]
 }
 
 fn next_source(alloc: Global, inputs: &mut IntoIter<Vec<u8>>) -> Source
-    ensures first { result ≡ new_input (slice_index_or (map (λ bytes. bytes.items) (into_iter_items inputs.old)) 0 []) }
+    ensures first { result
+        ≡ new_input (slice_index_or (map (λ bytes. bytes.items) (into_iter_items inputs.old)) 0 []) }
     ensures rest { into_iter_items inputs.new ≡ drop 1 (into_iter_items inputs.old) }
 {
     Source::new(inputs.next().unwrap_or(Vec::new(alloc)))

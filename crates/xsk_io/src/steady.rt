@@ -30,12 +30,9 @@ impl Model for SteadyBay {
 impl SteadyBay {
     /// A bay with these inputs, no stream open, and `room` bytes taken for each output and for the
     /// report. Where there is no memory for that, and only there, the inputs come back.
-    pub fn new(
-        alloc: Global,
-        inputs: Vec<Vec<u8>>,
-        room: u32,
-    ) -> Result<SteadyBay, Vec<Vec<u8>>>
-        ensures made { IfOk result (λ bay. bay ≡ new_memory (map (λ bytes. bytes.items) inputs.items) room) }
+    pub fn new(alloc: Global, inputs: Vec<Vec<u8>>, room: u32) -> Result<SteadyBay, Vec<Vec<u8>>>
+        ensures made { IfOk result (λ bay.
+            bay ≡ new_memory (map (λ bytes. bytes.items) inputs.items) room) }
         ensures back { IfErr result (λ back. back.items ≡ inputs.items) }
     {
         Ok(SteadyBay {
@@ -51,6 +48,7 @@ impl SteadyBay {
     }
 }
 
+// Each call says exactly what it gives and leaves, and the trait's clauses follow.
 impl Bay for SteadyBay {
     ghost is_open = { is_open_of };
 
@@ -76,8 +74,10 @@ impl Bay for SteadyBay {
     fn read(&mut self, stream: Stream, buf: &mut [u8]) -> Result<usize, BayFailed>
         requires numbered { HasNumber stream }
         requires input { IsInput stream }
-        ensures count { IfSome (left_of self.old stream) (λ left. result ≡ Ok (min (length buf.new) (length left))) }
-        ensures bytes { IfSome (left_of self.old stream) (λ left. IfOk result (λ count. take count buf.new ≡ take count left)) }
+        ensures count { IfSome (left_of self.old stream) (λ left.
+            result ≡ Ok (min (length buf.new) (length left))) }
+        ensures bytes { IfSome (left_of self.old stream) (λ left.
+            IfOk result (λ count. take count buf.new ≡ take count left)) }
         ensures streams { HasStreams self.old }
         ensures after { IfOk result (λ count. self.new ≡ after_read self.old stream count) }
     {

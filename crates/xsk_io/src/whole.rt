@@ -59,10 +59,12 @@ pub fn read_whole<B: Bay>(
     requires numbered { HasNumber stream }
     requires input { IsInput stream }
     requires opened { B.is_open bay.old stream ≡ true }
-    ensures whole { IfOk result (λ bytes. IfSome (B.left bay.old stream) (λ all. all ≡ bytes.items)) }
+    ensures whole { IfOk result
+        (λ bytes. IfSome (B.left bay.old stream) (λ all. all ≡ bytes.items)) }
     ensures within { IfOk result (λ bytes. length bytes.items ≤ limit) }
     ensures end { OnOk result (IsAtEnd (B.left bay.new stream)) }
-    ensures too_long { IsErrOf result ReadError.TooLong → IfSome (B.left bay.old stream) (λ all. limit < length all) }
+    ensures too_long { IsErrOf result ReadError.TooLong →
+        IfSome (B.left bay.old stream) (λ all. limit < length all) }
     ensures taken { LosesFront (B.left bay.old stream) (B.left bay.new stream) }
     ensures left_others { SameBut stream (B.left bay.old) (B.left bay.new) }
 
@@ -70,51 +72,17 @@ pub fn read_whole<B: Bay>(
     ensures names { Same (B.asked bay.old) (B.asked bay.new) }
     ensures held { Same (B.held bay.old) (B.held bay.new) }
 
-    ensures cause { IsErrOf result ReadError.Fault → Rose (B.faults bay.old Kind.Read stream) (B.faults bay.new Kind.Read stream) }
-    ensures no_fault { IsErrOf result ReadError.Fault ⊎ (B.faults bay.new Kind.Read stream ≡ B.faults bay.old Kind.Read stream) }
+    ensures cause { IsErrOf result ReadError.Fault →
+        Rose (B.faults bay.old Kind.Read stream) (B.faults bay.new Kind.Read stream) }
+    ensures no_fault { IsErrOf result ReadError.Fault ⊎
+        (B.faults bay.new Kind.Read stream ≡ B.faults bay.old Kind.Read stream) }
     ensures never_falls { B.faults bay.old Kind.Read stream ≤ B.faults bay.new Kind.Read stream }
     ensures counts { CountsOnly Kind.Read stream (B.faults bay.old) (B.faults bay.new) }
 {
     let mut piece = new_piece(alloc)?;
-    read_by_pieces(alloc, bay, stream, limit, piece.as_mut_slice())
-}
-
-fn new_piece(alloc: Global) -> Result<Vec<u8>, AllocError>
-    ensures { IfOk result (λ piece. 0 < length piece.items) }
-{
-    vec![in alloc; 0u8; PIECE]
-}
-
-fn read_by_pieces<B: Bay>(
-    alloc: Global,
-    bay: &mut B,
-    stream: Stream,
-    limit: usize,
-    piece: &mut [u8],
-) -> Result<Vec<u8>, ReadError>
-    requires some { 0 < length piece.old }
-    requires numbered { HasNumber stream }
-    requires input { IsInput stream }
-    requires opened { B.is_open bay.old stream ≡ true }
-    ensures whole { IfOk result (λ bytes. IfSome (B.left bay.old stream) (λ all. all ≡ bytes.items)) }
-    ensures within { IfOk result (λ bytes. length bytes.items ≤ limit) }
-    ensures end { OnOk result (IsAtEnd (B.left bay.new stream)) }
-    ensures too_long { IsErrOf result ReadError.TooLong → IfSome (B.left bay.old stream) (λ all. limit < length all) }
-    ensures taken { LosesFront (B.left bay.old stream) (B.left bay.new stream) }
-    ensures left_others { SameBut stream (B.left bay.old) (B.left bay.new) }
-
-    ensures opened { Same (B.is_open bay.old) (B.is_open bay.new) }
-    ensures names { Same (B.asked bay.old) (B.asked bay.new) }
-    ensures held { Same (B.held bay.old) (B.held bay.new) }
-
-    ensures cause { IsErrOf result ReadError.Fault → Rose (B.faults bay.old Kind.Read stream) (B.faults bay.new Kind.Read stream) }
-    ensures no_fault { IsErrOf result ReadError.Fault ⊎ (B.faults bay.new Kind.Read stream ≡ B.faults bay.old Kind.Read stream) }
-    ensures never_falls { B.faults bay.old Kind.Read stream ≤ B.faults bay.new Kind.Read stream }
-    ensures counts { CountsOnly Kind.Read stream (B.faults bay.old) (B.faults bay.new) }
-{
     let mut bytes = Vec::new(alloc);
     while bytes.len() <= limit {
-        let count = bay.read(stream, piece)?;
+        let count = bay.read(stream, piece.as_mut_slice())?;
         if count == 0 {
             return Ok(bytes);
         }
@@ -123,21 +91,31 @@ fn read_by_pieces<B: Bay>(
     Err(ReadError::TooLong)
 }
 
+/// Room for one read. What it holds is of no account.
+fn new_piece(alloc: Global) -> Result<Vec<u8>, AllocError>
+    ensures { IfOk result (λ piece. 0 < length piece.items) }
+{
+    vec![in alloc; 0u8; PIECE]
+}
+
 /// Appends a text to an open output or to the report: as one piece, and after a short write the rest
 /// again.
 pub fn write_whole<B: Bay>(bay: &mut B, stream: Stream, text: &[u8]) -> Result<(), BayFailed>
     requires numbered { HasNumber stream }
     requires writable { TakesWrites stream (B.is_open bay.old stream) }
     ensures whole { OnOk result (Grows (B.held bay.old stream) (B.held bay.new stream) text.now) }
-    ensures part { OnErr result (GrowsByPart (B.held bay.old stream) (B.held bay.new stream) text.now) }
+    ensures part { OnErr result
+        (GrowsByPart (B.held bay.old stream) (B.held bay.new stream) text.now) }
     ensures held_others { SameBut stream (B.held bay.old) (B.held bay.new) }
 
     ensures opened { Same (B.is_open bay.old) (B.is_open bay.new) }
     ensures names { Same (B.asked bay.old) (B.asked bay.new) }
     ensures left { Same (B.left bay.old) (B.left bay.new) }
 
-    ensures cause { OnErr result (Rose (B.faults bay.old Kind.Write stream) (B.faults bay.new Kind.Write stream)) }
-    ensures no_fault { OnOk result (B.faults bay.new Kind.Write stream ≡ B.faults bay.old Kind.Write stream) }
+    ensures cause { OnErr result
+        (Rose (B.faults bay.old Kind.Write stream) (B.faults bay.new Kind.Write stream)) }
+    ensures no_fault { OnOk result
+        (B.faults bay.new Kind.Write stream ≡ B.faults bay.old Kind.Write stream) }
     ensures never_falls { B.faults bay.old Kind.Write stream ≤ B.faults bay.new Kind.Write stream }
     ensures counts { CountsOnly Kind.Write stream (B.faults bay.old) (B.faults bay.new) }
 {

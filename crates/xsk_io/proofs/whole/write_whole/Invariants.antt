@@ -1,5 +1,4 @@
-use Rattle.std.proofs.Common.{length, ◌-◌, ◌≡◌, ℕ, ◌≤◌, take}
-use Rattle.xsk_io.specs.declared.bay.Kind.{Kind}
+use Rattle.std.proofs.Common.{length, ◌-◌, ◌≡◌, ◌≤◌, take}
 use Rattle.xsk_io.specs.declared.bay.Kind.TheVariants.{Write}
 use Rattle.xsk_io.specs.Bay.{Same, SameBut, Grows, CountsOnly}
 use Rattle.xsk_io.proofs.whole.write_whole.Given as goal

@@ -1,12 +1,12 @@
-use Rattle.std.proofs.Common.{◌≡◌, ℕ, ◌+◌, ◌-◌, length, ◌<◌, vec_len}
+use Rattle.std.proofs.Common.{◌≡◌, ◌+◌, ◌-◌, ◌<◌, vec_len}
 use Rattle.std.specs.Io.KnownBytes.{prepend_known}
 use Rattle.xsk_io.specs.declared.bay.Kind.TheVariants.{Read}
 use Rattle.xsk_io.specs.Bay.{Same, SameBut, CountsOnly}
-use Rattle.xsk_io.proofs.whole.read_by_pieces.Given as goal
+use Rattle.xsk_io.proofs.whole.read_whole.Given as goal
 
 abbrev pub invariant-loop-stream : goal.invariant-loop-stream
 invariant-loop-stream g l =
-    (0 < length l.piece)
+    (0 < vec_len l.piece)
     × (g.B.Bay.left l.initial.bay l.stream ≡ prepend_known l.bytes.items (g.B.Bay.left l.bay l.stream))
     × SameBut l.stream (g.B.Bay.left l.initial.bay) (g.B.Bay.left l.bay)
     × Same (g.B.Bay.is_open l.initial.bay) (g.B.Bay.is_open l.bay)

@@ -1,0 +1,89 @@
+ghost use Rattle.std.specs.Prelude.{◌≡◌, false, IfSome, OnOk};
+ghost use Rattle.xsk_io.specs.declared.bay.Stream.{Stream};
+
+use super::*;
+use std::alloc::Global;
+use std::fs;
+use std::test::Fail;
+
+/// Copies an input to an output, over any bay.
+fn copy<B: Bay>(
+    alloc: Global,
+    bay: &mut B,
+    from: &str,
+    to: &str,
+    limit: usize,
+) -> Result<(), ReadError>
+    requires none_open { (stream : Stream) → B.is_open bay.old stream ≡ false }
+    ensures { OnOk result (IfSome (B.left bay.old (Stream.Input 0)) (λ all.
+        IfSome (B.held bay.new (Stream.Output 3)) (λ written. written ≡ all))) }
+{
+    bay.open(Stream::Input(0), from)?;
+    let text = read_whole(alloc, bay, Stream::Input(0), limit)?;
+    bay.open(Stream::Output(3), to)?;
+    write_whole(bay, Stream::Output(3), text.as_slice())?;
+    Ok(())
+}
+
+/// What a copy leaves in memory that has room for four bytes.
+fn copied(alloc: Global, text: &[u8]) -> Result<Option<Vec<u8>>, Fail> {
+    let mut bay = SteadyBay::new(alloc, vec![in alloc; text.to_vec(alloc)?]?, 4)?;
+    copy(alloc, &mut bay, "in", "copy", 5)?;
+    match bay.output(Stream::Output(3)) {
+        Some(told) => Ok(Some(told.to_vec(alloc)?)),
+        None => Ok(None),
+    }
+}
+
+#[test]
+fn memory_tells_what_fits_its_room(rt: HostRuntime) -> Result<(), Fail> {
+    let alloc = rt.alloc();
+    for text in [b"".as_slice(), b"abcd".as_slice()] {
+        let told = copied(alloc, text)?.ok_or("it isn't told")?;
+        assert_eq!(rt; told.as_slice(), text);
+    }
+    assert!(rt; copied(alloc, b"abcde")?.is_none());
+    Ok(())
+}
+
+fn copy_file(rt: &HostRuntime, from: &str, to: &str) -> Result<(), ReadError> {
+    copy(rt.alloc(), &mut FileBay::new(rt), from, to, 5)
+}
+
+#[test]
+fn files_are_read_and_written(rt: HostRuntime) -> Result<(), Fail> {
+    fs::write(&rt, "short.tmp", b"abcde".as_slice())?;
+    fs::write(&rt, "long.tmp", b"abcdef".as_slice())?;
+    fs::write(&rt, "copy.tmp", b"an older and longer text".as_slice())?;
+    for (from, to, outcome) in [
+        ("missing.tmp", "copy.tmp", Err(ReadError::Fault)),
+        (".", "copy.tmp", Err(ReadError::Fault)),
+        ("long.tmp", "copy.tmp", Err(ReadError::TooLong)),
+        ("short.tmp", ".", Err(ReadError::Fault)),
+        ("short.tmp", "/dev/full", Err(ReadError::Fault)),
+        ("short.tmp", "/dev/stdout", Ok(())),
+        ("short.tmp", "copy.tmp", Ok(())),
+    ] {
+        assert_eq!(rt; copy_file(&rt, from, to), outcome, "from {from} to {to}");
+    }
+    let copy = fs::read(&rt, "copy.tmp")?;
+    for name in ["short.tmp", "long.tmp", "copy.tmp"] {
+        fs::remove_file(&rt, name)?;
+    }
+    assert_eq!(rt; copy.as_slice(), b"abcde".as_slice());
+    Ok(())
+}
+
+#[test]
+fn a_folder_opens_and_fails_at_its_first_read(rt: HostRuntime) -> Result<(), Fail> {
+    let mut bay = FileBay::new(&rt);
+    bay.open(Stream::Input(1), ".")?;
+    assert_eq!(rt; bay.read(Stream::Input(1), &mut [0u8; 4]), Err(BayFailed));
+    Ok(())
+}
+
+#[test]
+fn the_report_is_printed(rt: HostRuntime) -> Result<(), Fail> {
+    write_whole(&mut FileBay::new(&rt), Stream::Report, b"reported\n")?;
+    Ok(())
+}
