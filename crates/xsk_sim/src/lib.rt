@@ -1,0 +1,9 @@
+//! Rounds on one thread: in each round every worker that hasn't ended makes one call, in a stated order.
+#![tactic(auto)]
+
+mod order;
+mod rounds;
+mod seat;
+mod simulation;
+
+pub use simulation::{Run, SimError, simulate};

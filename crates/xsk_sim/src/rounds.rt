@@ -1,0 +1,65 @@
+ghost use Rattle.std.specs.Prelude.{◌≡◌, ◌<◌, ◌+◌, vec_len, IfOk};
+ghost use Rattle.xsk_umem.specs.Geometry.{IsGeometry};
+
+use crate::order::Order;
+use crate::seat::Seat;
+use xsk_app::App;
+use xsk_driver::Driver;
+use xsk_plain::Plain;
+use xsk_umem::OutOfMemory;
+
+/// All workers: the drivers by their pairs, then the applications by their numbers.
+#[derive(Drop)]
+pub(crate) struct Workers<'a> {
+    pub(crate) drivers: Vec<Seat<Driver<'a>>>,
+    pub(crate) apps: Vec<Seat<App<'a>>>,
+}
+
+impl Workers<'_> {
+    fn count(&self) -> u32 {
+        let count = self.drivers.len().saturating_add(self.apps.len());
+        u32::try_from(count).unwrap_or(u32::MAX)
+    }
+
+    /// Whether all workers have ended.
+    pub(crate) fn have_ended(&self) -> bool {
+        self.drivers.iter().all(|seat| seat.has_ended())
+            && self.apps.iter().all(|seat| seat.has_ended())
+    }
+
+    /// Lets each worker that hasn't ended make one call, from one worker on in turn.
+    pub(crate) fn round(&mut self, plain: &mut Plain, order: &mut Order) -> Result<(), OutOfMemory>
+        requires { IsGeometry plain.old.config.geometry }
+        ensures config { plain.new.config ≡ plain.old.config }
+        ensures drivers { vec_len self.new.drivers ≡ vec_len self.old.drivers }
+    {
+        let callers = self.count();
+        if callers == 0 {
+            return Ok(());
+        }
+        let start = order.start(callers);
+        for who in start..callers {
+            self.step(plain, who)?;
+        }
+        for who in 0..start {
+            self.step(plain, who)?;
+        }
+        Ok(())
+    }
+
+    fn step(&mut self, plain: &mut Plain, who: u32) -> Result<(), OutOfMemory>
+        requires { IsGeometry plain.old.config.geometry }
+        ensures config { plain.new.config ≡ plain.old.config }
+        ensures drivers { vec_len self.new.drivers ≡ vec_len self.old.drivers }
+    {
+        let place = who as usize;
+        let drivers = self.drivers.len();
+        if place < drivers {
+            return self.drivers[place].step(plain, who);
+        }
+        match self.apps.get_mut(place - drivers) {
+            Some(seat) => seat.step(plain, who),
+            None => Ok(()),
+        }
+    }
+}
