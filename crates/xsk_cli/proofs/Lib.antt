@@ -1,0 +1,3 @@
+pub mod FiveWords
+pub mod Totals
+pub mod TwoPortsLaws

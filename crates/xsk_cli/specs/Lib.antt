@@ -1,0 +1,4 @@
+pub mod Cause
+pub mod ExitStatus
+pub mod TwoPorts
+pub mod Words

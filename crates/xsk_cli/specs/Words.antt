@@ -1,0 +1,11 @@
+-- Which words are a command: this project's own.
+use Rattle.std.specs.Prelude.{◌≡◌, ◌≢◌, ℕ, ◌≤◌, ◌⊎◌, List, [], ◌∷◌, length, codes, slice_index}
+
+-- a word is a file where it has at most one character, or doesn't begin with `-`
+abbrev pub IsFile : List ℕ → Type 0
+IsFile word = (length word ≤ 1) ⊎ (slice_index word 0 ≢ 45)
+
+-- `simulate IN0 IN1 OUT0 OUT1`
+abbrev pub IsAccepted : List (List ℕ) → Type 0
+IsAccepted (command ∷ in0 ∷ in1 ∷ out0 ∷ out1 ∷ []) = (command ≡ codes "simulate") × IsFile in0 × IsFile in1 × IsFile out0 × IsFile out1
+IsAccepted words = ⊥

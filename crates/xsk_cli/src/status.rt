@@ -1,0 +1,70 @@
+ghost use Rattle.std.specs.Prelude.{◌≡◌};
+ghost use Rattle.xsk_cli.specs.ExitStatus.{exit_status_of};
+
+use xsk_io::Stream;
+use xsk_pcap::BadCapture;
+use xsk_umem::OutOfMemory;
+
+/// Which limit was passed, and by how much came.
+#[derive(Clone, Copy, Debug, PartialEq, Eq)]
+pub enum Excess {
+    /// An input has more bytes than 65,536 packets with 33,554,432 bytes take.
+    Input(u32),
+    /// All inputs together have so many packets, more than 65,536.
+    Packets(u64),
+    /// All inputs together have so many captured bytes, more than 33,554,432.
+    Bytes(u64),
+}
+
+/// How a command ended.
+#[derive(Clone, Copy, Debug, PartialEq, Eq)]
+pub enum Status {
+    /// All was read and written.
+    Done,
+    /// The words are no command.
+    Usage,
+    /// The capture of an input was refused.
+    BadCapture { port: u32, cause: BadCapture },
+    /// An input couldn't be read.
+    ReadFault { port: u32 },
+    /// A stream couldn't be written.
+    WriteFault { stream: Stream },
+    /// A stream couldn't be opened.
+    OpenFault { stream: Stream },
+    /// Some worker hadn't ended after this round.
+    Stalled { round: u64 },
+    /// The inputs are larger than what is taken.
+    TooMuch(Excess),
+    /// Memory couldn't be had.
+    OutOfMemory,
+}
+
+impl Status {
+    /// The exit status of a program that ends so.
+    pub fn exit_status(&self) -> u8
+        ensures { result ≡ exit_status_of self.now }
+    {
+        match self {
+            Status::Done => 0,
+            Status::Usage => 2,
+            Status::BadCapture { .. } => 3,
+            Status::ReadFault { .. } => 4,
+            Status::WriteFault { .. } => 5,
+            Status::OpenFault { .. } => 6,
+            Status::Stalled { .. } => 8,
+            Status::TooMuch(_) => 9,
+            Status::OutOfMemory => 10,
+        }
+    }
+}
+
+impl From<OutOfMemory> for Status {
+    ghost use Rattle.std.specs.Prelude.{◌≡◌};
+    ghost use Rattle.xsk_cli.specs.declared.status.Status.TheVariants.{OutOfMemory as NoMemory};
+
+    ghost from_gives = { λ _ status. status ≡ NoMemory };
+
+    fn from(_error: OutOfMemory) -> Status {
+        Status::OutOfMemory
+    }
+}
