@@ -1,0 +1,148 @@
+ghost use Rattle.std.specs.Prelude.{◌≡◌, false, IfOk};
+ghost use Rattle.xsk_io.specs.declared.bay.Stream.{Stream as AStream};
+ghost use Rattle.xsk_io.specs.Memory.{is_open_of};
+
+use std::alloc::Global;
+use std::test::Fail;
+use xsk_cli::{Excess, Status, run_plain};
+use xsk_io::{SteadyBay, Stream};
+use xsk_pcap::BadCapture;
+
+/// The header of a written capture.
+const HEADER: [u8; 24] = [
+    0xd4, 0xc3, 0xb2, 0xa1, 2, 0, 4, 0, 0, 0, 0, 0, 0, 0, 0, 0, 0, 0, 4, 0, 1, 0, 0, 0,
+];
+
+/// A big-endian capture with time stamps in nanoseconds and one packet of 14 bytes.
+const BIG_ENDIAN: [u8; 54] = [
+    0xa1, 0xb2, 0x3c, 0x4d, 0, 2, 0, 4, 0, 0, 0, 0, 0, 0, 0, 0, 0, 4, 0, 0, 0, 0, 0, 1, 0, 0, 0, 1,
+    0, 0, 0, 2, 0, 0, 0, 14, 0, 0, 0, 14, 1, 2, 3, 4, 5, 6, 7, 8, 9, 10, 11, 12, 8, 0,
+];
+
+/// The room of each output.
+const ROOM: u32 = 65_536;
+
+/// A capture in the written form with packets of so many bytes, each of them 7.
+fn capture_of(alloc: Global, lens: &[u8]) -> Result<Vec<u8>, Fail> {
+    let mut text = Vec::from_slice(alloc, &HEADER)?;
+    for (number, len) in lens.iter().enumerate() {
+        text.extend_from_slice(&[0; 4])?;
+        text.extend_from_slice(&(number as u32).to_le_bytes())?;
+        for _ in 0..2 {
+            text.extend_from_slice(&[*len, 0, 0, 0])?;
+        }
+        text.extend_from_slice(&[7; 255][..*len as usize])?;
+    }
+    Ok(text)
+}
+
+fn bay_over(alloc: Global, in0: &[u8], in1: &[u8]) -> Result<SteadyBay, Fail>
+    ensures { IfOk result (λ bay. (stream : AStream) → is_open_of bay stream ≡ false) }
+{
+    let inputs = vec![in alloc; Vec::from_slice(alloc, in0)?, Vec::from_slice(alloc, in1)?]?;
+    match SteadyBay::new(alloc, inputs, ROOM) {
+        Ok(bay) => Ok(bay),
+        Err(_) => Err("out of memory")?,
+    }
+}
+
+fn simulated(alloc: Global, in0: &[u8], in1: &[u8]) -> Result<(Status, SteadyBay), Fail> {
+    let mut words = Vec::new(alloc);
+    for word in ["simulate", "a", "b", "c", "d"] {
+        words.push(String::from_str(alloc, word)?)?;
+    }
+    let mut bay = bay_over(alloc, in0, in1)?;
+    let status = run_plain(alloc, words.as_slice(), &mut bay);
+    Ok((status, bay))
+}
+
+#[test]
+fn one_packet_crosses_to_the_other_port(rt: HostRuntime) -> Result<(), Fail> {
+    let with_one = capture_of(rt.alloc(), &[60])?;
+    let (status, bay) = simulated(rt.alloc(), with_one.as_slice(), &HEADER)?;
+    assert_eq!(rt; status, Status::Done);
+    assert_eq!(rt; bay.output(Stream::Output(0)), Some(HEADER.as_slice()));
+    assert_eq!(rt; bay.output(Stream::Output(1)), Some(with_one.as_slice()));
+    assert_eq!(rt; bay.output(Stream::Report), Some(b"calls 83\n".as_slice()));
+    Ok(())
+}
+
+#[test]
+fn empty_captures_give_empty_captures(rt: HostRuntime) -> Result<(), Fail> {
+    let (status, bay) = simulated(rt.alloc(), &HEADER, &HEADER)?;
+    assert_eq!(rt; status, Status::Done);
+    assert_eq!(rt; bay.output(Stream::Output(0)), Some(HEADER.as_slice()));
+    assert_eq!(rt; bay.output(Stream::Output(1)), Some(HEADER.as_slice()));
+    assert_eq!(rt; bay.output(Stream::Report), Some(b"calls 45\n".as_slice()));
+    Ok(())
+}
+
+#[test]
+fn captures_are_judged_with_their_places(rt: HostRuntime) -> Result<(), Fail> {
+    let (status, bay) = simulated(rt.alloc(), &BIG_ENDIAN, &HEADER)?;
+    assert_eq!(rt; status, Status::Done);
+    assert_eq!(rt;
+        bay.output(Stream::Output(1)).map(|text| text.len()),
+        Some(54)
+    );
+    let compressed = [
+        0x1f, 0x8b, 8, 0, 0, 0, 0, 0, 0, 0, 0, 0, 0, 0, 0, 0, 0, 0, 0, 0, 0, 0, 0, 0,
+    ];
+    let cases = [
+        (&BIG_ENDIAN[..53], BadCapture::Truncated { at: 24 }),
+        (compressed.as_slice(), BadCapture::BadMagic),
+        (&HEADER[..23], BadCapture::ShortHeader),
+    ];
+    for (bytes, cause) in cases {
+        let (status, bay) = simulated(rt.alloc(), &HEADER, bytes)?;
+        assert_eq!(rt; status, Status::BadCapture { port: 1, cause });
+        assert_eq!(rt; bay.output(Stream::Report), Some(b"".as_slice()));
+    }
+    Ok(())
+}
+
+#[test]
+fn packets_below_an_ethernet_header_are_left_out(rt: HostRuntime) -> Result<(), Fail> {
+    let text = capture_of(rt.alloc(), &[0, 13, 14])?;
+    let (status, bay) = simulated(rt.alloc(), text.as_slice(), &HEADER)?;
+    assert_eq!(rt; status, Status::Done);
+    let sent = capture_of(rt.alloc(), &[14])?;
+    assert_eq!(rt; bay.output(Stream::Output(1)), Some(sent.as_slice()));
+    Ok(())
+}
+
+#[test]
+fn so_many_packets_are_taken_and_no_more(rt: HostRuntime) -> Result<(), Fail> {
+    let lens = vec![in rt.alloc(); 0u8; 65_537]?;
+    let text = capture_of(rt.alloc(), &lens.as_slice()[..65_536])?;
+    let (status, bay) = simulated(rt.alloc(), text.as_slice(), &HEADER)?;
+    assert_eq!(rt; status, Status::Done);
+    assert_eq!(rt; bay.output(Stream::Output(1)), Some(HEADER.as_slice()));
+    let text = capture_of(rt.alloc(), lens.as_slice())?;
+    let (status, _bay) = simulated(rt.alloc(), text.as_slice(), &HEADER)?;
+    assert_eq!(rt; status, Status::TooMuch(Excess::Packets(65_537)));
+    Ok(())
+}
+
+#[test]
+fn words_that_are_no_command_are_refused(rt: HostRuntime) -> Result<(), Fail> {
+    let cases: [&[&str]; 5] = [
+        &[],
+        &["sim", "a", "b", "c", "d"],
+        &["simulate", "a", "b", "c"],
+        &["simulate", "a", "b", "c", "d", "e"],
+        &["simulate", "a", "b", "-c", "d"],
+    ];
+    for case in cases {
+        let mut words = Vec::new(rt.alloc());
+        for word in case {
+            words.push(String::from_str(rt.alloc(), word)?)?;
+        }
+        let mut bay = bay_over(rt.alloc(), &HEADER, &HEADER)?;
+        assert_eq!(rt;
+            run_plain(rt.alloc(), words.as_slice(), &mut bay),
+            Status::Usage
+        );
+    }
+    Ok(())
+}
