@@ -27,7 +27,7 @@ fn capture_of(alloc: Global, lens: &[u8]) -> Result<Vec<u8>, Fail> {
     let mut text = Vec::from_slice(alloc, &HEADER)?;
     for (number, len) in lens.iter().enumerate() {
         text.extend_from_slice(&[0; 4])?;
-        text.extend_from_slice(&(number as u32).to_le_bytes())?;
+        text.extend_from_slice(&u32::try_from(number).unwrap_or(0).to_le_bytes())?;
         for _ in 0..2 {
             text.extend_from_slice(&[*len, 0, 0, 0])?;
         }
@@ -46,6 +46,14 @@ fn bay_over(alloc: Global, in0: &[u8], in1: &[u8]) -> Result<SteadyBay, Fail>
     }
 }
 
+/// Whether the stream holds exactly this text.
+fn holds(bay: &SteadyBay, stream: Stream, text: &[u8]) -> bool {
+    match bay.output(stream) {
+        Some(held) => held == text,
+        None => false,
+    }
+}
+
 fn simulated(alloc: Global, in0: &[u8], in1: &[u8]) -> Result<(Status, SteadyBay), Fail> {
     let mut words = Vec::new(alloc);
     for word in ["simulate", "a", "b", "c", "d"] {
@@ -61,9 +69,9 @@ fn one_packet_crosses_to_the_other_port(rt: HostRuntime) -> Result<(), Fail> {
     let with_one = capture_of(rt.alloc(), &[60])?;
     let (status, bay) = simulated(rt.alloc(), with_one.as_slice(), &HEADER)?;
     assert_eq!(rt; status, Status::Done);
-    assert_eq!(rt; bay.output(Stream::Output(0)), Some(HEADER.as_slice()));
-    assert_eq!(rt; bay.output(Stream::Output(1)), Some(with_one.as_slice()));
-    assert_eq!(rt; bay.output(Stream::Report), Some(b"calls 83\n".as_slice()));
+    assert!(rt; holds(&bay, Stream::Output(0), HEADER.as_slice()));
+    assert!(rt; holds(&bay, Stream::Output(1), with_one.as_slice()));
+    assert!(rt; holds(&bay, Stream::Report, b"calls 83\n".as_slice()));
     Ok(())
 }
 
@@ -71,9 +79,9 @@ fn one_packet_crosses_to_the_other_port(rt: HostRuntime) -> Result<(), Fail> {
 fn empty_captures_give_empty_captures(rt: HostRuntime) -> Result<(), Fail> {
     let (status, bay) = simulated(rt.alloc(), &HEADER, &HEADER)?;
     assert_eq!(rt; status, Status::Done);
-    assert_eq!(rt; bay.output(Stream::Output(0)), Some(HEADER.as_slice()));
-    assert_eq!(rt; bay.output(Stream::Output(1)), Some(HEADER.as_slice()));
-    assert_eq!(rt; bay.output(Stream::Report), Some(b"calls 45\n".as_slice()));
+    assert!(rt; holds(&bay, Stream::Output(0), HEADER.as_slice()));
+    assert!(rt; holds(&bay, Stream::Output(1), HEADER.as_slice()));
+    assert!(rt; holds(&bay, Stream::Report, b"calls 45\n".as_slice()));
     Ok(())
 }
 
@@ -96,7 +104,7 @@ fn captures_are_judged_with_their_places(rt: HostRuntime) -> Result<(), Fail> {
     for (bytes, cause) in cases {
         let (status, bay) = simulated(rt.alloc(), &HEADER, bytes)?;
         assert_eq!(rt; status, Status::BadCapture { port: 1, cause });
-        assert_eq!(rt; bay.output(Stream::Report), Some(b"".as_slice()));
+        assert!(rt; holds(&bay, Stream::Report, b"".as_slice()));
     }
     Ok(())
 }
@@ -107,7 +115,7 @@ fn packets_below_an_ethernet_header_are_left_out(rt: HostRuntime) -> Result<(), 
     let (status, bay) = simulated(rt.alloc(), text.as_slice(), &HEADER)?;
     assert_eq!(rt; status, Status::Done);
     let sent = capture_of(rt.alloc(), &[14])?;
-    assert_eq!(rt; bay.output(Stream::Output(1)), Some(sent.as_slice()));
+    assert!(rt; holds(&bay, Stream::Output(1), sent.as_slice()));
     Ok(())
 }
 
@@ -117,7 +125,7 @@ fn so_many_packets_are_taken_and_no_more(rt: HostRuntime) -> Result<(), Fail> {
     let text = capture_of(rt.alloc(), &lens.as_slice()[..65_536])?;
     let (status, bay) = simulated(rt.alloc(), text.as_slice(), &HEADER)?;
     assert_eq!(rt; status, Status::Done);
-    assert_eq!(rt; bay.output(Stream::Output(1)), Some(HEADER.as_slice()));
+    assert!(rt; holds(&bay, Stream::Output(1), HEADER.as_slice()));
     let text = capture_of(rt.alloc(), lens.as_slice())?;
     let (status, _bay) = simulated(rt.alloc(), text.as_slice(), &HEADER)?;
     assert_eq!(rt; status, Status::TooMuch(Excess::Packets(65_537)));
