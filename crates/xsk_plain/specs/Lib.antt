@@ -1,3 +1,11 @@
+pub mod Engine
+pub mod Kept
 pub mod Log
-pub mod Places
+pub mod Object
+pub mod Pieces
 pub mod Rooms
+pub mod Sizes
+pub mod Sound
+pub mod Spans
+pub mod Steps
+pub mod Stores

@@ -2,6 +2,9 @@
 #![tactic(auto)]
 
 mod log;
+mod moving;
+mod object;
+mod opening;
 mod places;
 mod plain;
 mod ring_store;
