@@ -37,7 +37,7 @@ rings_shown c rings parts (Some r) call is =
     ∙ ap (λ (p : Part). set (map seen rings) (place c r) (part_after (size_of c r) p call)) (sym (seen_at rings (place c r)))
     ∙ ap (λ (ps : List Part). set ps (place c r) (part_after (size_of c r) (get_or ps (place c r) no_part) call)) is
 
-part_shown : (c : Config) (s : State) (parts : List Part) (r : Ring) → map seen s.rings ≡ parts → part_in c parts r ≡ seen (ring_at c s r)
+pub part_shown : (c : Config) (s : State) (parts : List Part) (r : Ring) → map seen s.rings ≡ parts → part_in c parts r ≡ seen (ring_at c s r)
 part_shown c s parts r is = ap (λ (ps : List Part). get_or ps (place c r) no_part) (sym is) ∙ seen_at s.rings (place c r)
 
 reply_shown : (c : Config) (s : State) (engine : Engine) (call : Call) → Shows engine s → reply_to c engine.rings engine.marks call ≡ reply_at c s call

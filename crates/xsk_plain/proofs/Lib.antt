@@ -5,3 +5,4 @@ pub mod Openings
 pub mod Moves
 pub mod Follows
 pub mod Closing
+pub mod Legality

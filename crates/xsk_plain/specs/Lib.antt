@@ -1,5 +1,6 @@
 pub mod Engine
 pub mod Kept
+pub mod Laws
 pub mod Log
 pub mod Object
 pub mod Pieces

@@ -1,6 +1,7 @@
 //! The AF_XDP object on one thread, with the log of all calls on it.
 #![tactic(auto)]
 
+pub mod laws;
 mod log;
 mod moving;
 mod object;
