@@ -1,3 +1,12 @@
+pub mod Engine
+pub mod Kept
+pub mod Laws
 pub mod Log
-pub mod Places
+pub mod Object
+pub mod Pieces
 pub mod Rooms
+pub mod Sizes
+pub mod Sound
+pub mod Spans
+pub mod Steps
+pub mod Stores

@@ -1,49 +1,104 @@
--- What the log's steps change: the numbers of its rows, pieces and bytes, and the room that is left.
-use Rattle.std.specs.Prelude.{◌≡◌, ℕ, ◌+◌, ◌≤◌, List, ◌∷◌, [], ◌++◌, length, vec_len}
+-- The entries that the log shows, and what its steps change. Its rows name their items as spans of its pieces, and a
+-- piece its payload as a span of its bytes.
+use Rattle.std.specs.Prelude.{◌≡◌, ℕ, ◌+◌, ◌≤◌, List, ◌∷◌, [], ◌++◌, length, drop, map, vec_len}
+use Rattle.std.specs.Option.{option_map}
+use Rattle.xsk_umem.specs.Frame.{Frame}
+use Rattle.xsk_umem.specs.declared.batch.Item.{Item}
+use Rattle.xsk_model.specs.Entry.{Entry}
+use Rattle.xsk_model.specs.declared.call.Call.{Call}
+use Rattle.xsk_model.specs.declared.call.Call.TheVariants.{Reserve, Submit, Peek, Release, Swap, Look}
+use Rattle.xsk_model.specs.declared.call.Reply.{Reply}
+use Rattle.xsk_model.specs.declared.call.Reply.TheVariants.{Granted, Full, Submitted, Items, Empty, Released, Old}
 use Rattle.xsk_plain.specs.declared.log.Log.{Log}
 use Rattle.xsk_plain.specs.declared.log.Piece.{Piece}
+use Rattle.xsk_plain.specs.declared.log.Row.{Row}
 use Rattle.xsk_plain.specs.declared.log.Span.{Span}
+use Rattle.xsk_plain.specs.declared.log.Event.{Event}
+use Rattle.xsk_plain.specs.declared.log.Event.TheVariants.{Granted as WasGranted, Full as WasFull, Submitted as WasSubmitted, Items as HadItems, Empty as WasEmpty, Released as WasReleased, Swapped, Looked}
+use Rattle.xsk_plain.specs.Spans.{at_span}
 
--- the rows and the pieces stay, and the payload stands at the end of the bytes
+-- the frame of a piece, with the payload in place of its bytes
+abbrev pub frame_at : List ℕ → Span → ℕ → Frame
+frame_at bytes span number = record { number = number; bytes = at_span bytes span }
+
+abbrev pub item_of : List ℕ → Piece → Item
+item_of bytes piece = record { frame = option_map (frame_at bytes piece.payload) piece.frame; desc = piece.desc }
+
+abbrev pub call_of : Event → List Item → Call
+call_of (WasGranted r n) items = Reserve r n
+call_of (WasFull r n free) items = Reserve r n
+call_of (WasSubmitted r) items = Submit r items
+call_of (HadItems r n) items = Peek r n
+call_of (WasEmpty r n) items = Peek r n
+call_of (WasReleased r n) items = Release r n
+call_of (Swapped m value old) items = Swap m value
+call_of (Looked m old) items = Look m
+
+abbrev pub reply_of : Event → List Item → Reply
+reply_of (WasGranted r n) items = Granted
+reply_of (WasFull r n free) items = Full free
+reply_of (WasSubmitted r) items = Submitted
+reply_of (HadItems r n) items = Items items
+reply_of (WasEmpty r n) items = Empty
+reply_of (WasReleased r n) items = Released
+reply_of (Swapped m value old) items = Old old
+reply_of (Looked m old) items = Old old
+
+abbrev pub entry_with : ℕ → Event → List Item → Entry
+entry_with who event items = record { who = who; call = call_of event items; reply = reply_of event items }
+
+abbrev pub entry_of : List Piece → List ℕ → Row → Entry
+entry_of pieces bytes row = entry_with row.who row.event (map (item_of bytes) (at_span pieces row.items))
+
+-- the log as the list of its calls with their callers and replies, in order
+abbrev pub entries_of : Log → List Entry
+entries_of log = map (entry_of log.pieces.items log.bytes.items) log.rows.items
+
+-- the number of entries
+abbrev pub calls_of : Log → ℕ
+calls_of log = vec_len log.rows
+
+-- the items of the entry that is being made
+abbrev pub noted_in : Log → List Item
+noted_in log = map (item_of log.bytes.items) (drop log.begun log.pieces.items)
+
+-- the entries and the noted items stay, and the payload stands at the end of the bytes
 pub record KeepsPayload (old new : Log) (payload : List ℕ) (place : Span) : Type 0 where
-  pub rows : new.rows.items ≡ old.rows.items
+  pub entries : entries_of new ≡ entries_of old
+  pub noted : noted_in new ≡ noted_in old
   pub len : vec_len new.rows ≡ vec_len old.rows
-  pub pieces : new.pieces.items ≡ old.pieces.items
   pub pieces_len : vec_len new.pieces ≡ vec_len old.pieces
   pub bytes : new.bytes.items ≡ old.bytes.items ++ payload
-  pub span : place ≡ record { start = vec_len old.bytes; len = length payload }
+  pub span : place ≡ record { start = length old.bytes.items; len = length payload }
   pub begun : new.begun ≡ old.begun
   pub spare_entries : new.spare_entries ≡ old.spare_entries
   pub spare_bytes : new.spare_bytes + length payload ≡ old.spare_bytes
 
--- one more piece, and all else stays
+-- one more noted item, and all else stays
 pub record NotesPiece (old new : Log) (piece : Piece) : Type 0 where
-  pub rows : new.rows.items ≡ old.rows.items
+  pub entries : entries_of new ≡ entries_of old
+  pub noted : noted_in new ≡ noted_in old ++ item_of old.bytes.items piece ∷ []
   pub len : vec_len new.rows ≡ vec_len old.rows
-  pub pieces : new.pieces.items ≡ old.pieces.items ++ piece ∷ []
   pub pieces_len : vec_len new.pieces ≡ vec_len old.pieces + 1
   pub bytes : new.bytes.items ≡ old.bytes.items
   pub begun : new.begun ≡ old.begun
   pub spare_entries : new.spare_entries ≡ old.spare_entries
   pub spare_bytes : new.spare_bytes ≡ old.spare_bytes
 
--- one more entry, and no item of a further one
-pub record EndsEntry (old new : Log) : Type 0 where
+-- one more entry, with the items that were noted, and no item of a further one
+pub record EndsEntry (old new : Log) (who : ℕ) (event : Event) : Type 0 where
+  pub entries : entries_of new ≡ entries_of old ++ entry_with who event (noted_in old) ∷ []
   pub len : vec_len new.rows ≡ vec_len old.rows + 1
-  pub pieces : new.pieces.items ≡ old.pieces.items
   pub bytes : new.bytes.items ≡ old.bytes.items
   pub begun : new.begun ≡ vec_len new.pieces
   pub spare_entries : new.spare_entries + 1 ≡ old.spare_entries
   pub spare_bytes : new.spare_bytes ≡ old.spare_bytes
 
--- the number of entries
-abbrev pub calls_of : Log → ℕ
-calls_of log = vec_len log.rows
-
--- at most so many pieces stand in the entry that is being made, so many payload bytes were kept, and all else stays
-pub record NotesItems (old new : Log) (count bytes : ℕ) : Type 0 where
+-- more items are noted, so many payload bytes were kept, and all else stays
+pub record NotesItems (old new : Log) (bytes : ℕ) : Type 0 where
+  pub entries : entries_of new ≡ entries_of old
   pub len : vec_len new.rows ≡ vec_len old.rows
   pub begun : new.begun ≡ old.begun
-  pub few : vec_len new.pieces ≤ new.begun + count
+  pub few : vec_len new.pieces ≤ new.begun + 32
   pub spare_entries : new.spare_entries ≡ old.spare_entries
   pub spare_bytes : new.spare_bytes + bytes ≡ old.spare_bytes

@@ -1,17 +1,13 @@
--- What a contract sees of the object on one thread for now: its configuration, the number of calls in its log, and
--- the room that is left there.
-use Rattle.std.specs.Prelude.{◌≡◌, ℕ, ◌+◌, List, length, sum_by}
+-- The room that a call takes in the log.
+use Rattle.std.specs.Prelude.{◌≡◌, ℕ, ◌+◌, List, [], ◌∷◌, ◌++◌, length, sum_by}
 use Rattle.xsk_umem.specs.declared.batch.Item.{Item}
 use Rattle.xsk_model.specs.Config.{Config}
 use Rattle.xsk_model.specs.Descriptor.{payload}
+use Rattle.xsk_model.specs.Stored.{stored_entry}
 use Rattle.xsk_model.specs.declared.call.Call.{Call}
 use Rattle.xsk_model.specs.declared.call.Call.TheVariants.{Submit}
-
-pub record Rooms : Type 0 where
-  pub config : Config
-  pub calls : ℕ
-  pub spare_entries : ℕ
-  pub spare_bytes : ℕ
+use Rattle.xsk_model.specs.declared.call.Reply.{Reply}
+use Rattle.xsk_plain.specs.Engine.{Engine}
 
 -- the payload bytes of items
 abbrev pub items_bytes : Config → List Item → ℕ
@@ -22,9 +18,10 @@ abbrev pub payload_bytes : Config → Call → ℕ
 payload_bytes c (Submit r items) = items_bytes c items
 payload_bytes c _ = 0
 
--- one more call with so many payload bytes, and the room for it is used
-pub record Enters (old new : Rooms) (bytes : ℕ) : Type 0 where
+-- one more entry with so many payload bytes, and the room for it is used
+pub record Enters (old new : Engine) (who : ℕ) (call : Call) (reply : Reply) (bytes : ℕ) : Type 0 where
   pub config : new.config ≡ old.config
+  pub log : new.log ≡ old.log ++ stored_entry old.config.geometry old.config.sg (record { who = who; call = call; reply = reply }) ∷ []
   pub calls : new.calls ≡ old.calls + 1
   pub spare_entries : new.spare_entries + 1 ≡ old.spare_entries
   pub spare_bytes : new.spare_bytes + bytes ≡ old.spare_bytes

@@ -1,7 +1,11 @@
 //! The AF_XDP object on one thread, with the log of all calls on it.
 #![tactic(auto)]
 
+pub mod laws;
 mod log;
+mod moving;
+mod object;
+mod opening;
 mod places;
 mod plain;
 mod ring_store;

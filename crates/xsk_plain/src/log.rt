@@ -1,13 +1,14 @@
-ghost use Rattle.std.specs.Prelude.{◌≡◌, ◌+◌, ◌*◌, ◌<◌, ◌≤◌, ◌^◌, length, vec_len, vec_capacity, OnOk};
+ghost use Rattle.std.specs.Prelude.{◌≡◌, ◌+◌, ◌*◌, ◌<◌, ◌≤◌, ◌^◌, [], length, vec_len, vec_capacity, All, OnOk};
+ghost use Rattle.xsk_plain.specs.Pieces.{IsPieceIn, IsRowIn};
 
 use std::alloc::Global;
 use xsk_model::{Mark, Ring};
 use xsk_umem::{OutOfMemory, XdpDesc};
 
 /// The most items of one call.
-pub(crate) const MOST_ITEMS: usize = 32;
+pub(crate) const MOST_ITEMS: u32 = 32;
 
-/// Where the payload of an item stands among the log's bytes.
+/// A part of a list: the payload of an item among the log's bytes, or the items of an entry among its pieces.
 #[derive(Clone, Copy, Debug, Default)]
 pub(crate) struct Span {
     pub(crate) start: usize,
@@ -36,11 +37,10 @@ pub(crate) enum Event {
 }
 
 #[derive(Clone, Copy, Debug)]
-struct Row {
-    who: u32,
-    event: Event,
-    first: usize,
-    end: usize,
+pub(crate) struct Row {
+    pub(crate) who: u32,
+    pub(crate) event: Event,
+    pub(crate) items: Span,
 }
 
 /// All calls on an object with their callers and replies, in order: frames by their numbers, with descriptors and
@@ -58,16 +58,19 @@ pub struct Log {
     ghost pieces_room: { begun + 32 * spare_entries ≤ vec_capacity pieces },
     ghost begun_within: { begun ≤ vec_len pieces },
     ghost bytes_room: { vec_len bytes + spare_bytes ≤ vec_capacity bytes },
+    ghost pieces_in: { All (IsPieceIn bytes.items) pieces.items },
+    ghost rows_in: { All (IsRowIn begun) rows.items },
 }
 
 impl Log {
-    ghost use Rattle.xsk_plain.specs.Log.{calls_of, KeepsPayload, NotesPiece, EndsEntry};
+    ghost use Rattle.xsk_plain.specs.Log.{calls_of, entries_of, noted_in, KeepsPayload, NotesPiece, EndsEntry};
 
     pub(crate) fn new(alloc: Global) -> Log
-        ensures entries { vec_len result.rows ≡ 0 }
+        ensures entries { entries_of result ≡ [] }
+        ensures calls { calls_of result ≡ 0 }
         ensures spare_entries { result.spare_entries ≡ 0 }
         ensures spare_bytes { result.spare_bytes ≡ 0 }
-        ensures closed { vec_len result.pieces ≡ result.begun }
+        ensures noted { vec_len result.pieces ≡ result.begun }
     {
         Log {
             rows: Vec::new(alloc),
@@ -89,7 +92,9 @@ impl Log {
 
     /// Makes room for at least so many further entries and bytes of payloads. The entries stay as they are.
     pub(crate) fn reserve(&mut self, entries: u32, bytes: u32) -> Result<(), OutOfMemory>
-        ensures rows { vec_len self.new.rows ≡ vec_len self.old.rows }
+        ensures log { entries_of self.new ≡ entries_of self.old }
+        ensures calls { calls_of self.new ≡ calls_of self.old }
+        ensures payloads { self.new.bytes.items ≡ self.old.bytes.items }
         ensures entries { OnOk result (entries ≤ self.new.spare_entries) }
         ensures bytes { OnOk result (bytes ≤ self.new.spare_bytes) }
         ensures kept { (self.old.spare_entries ≤ self.new.spare_entries) × (self.old.spare_bytes ≤ self.new.spare_bytes) }
@@ -102,7 +107,7 @@ impl Log {
             return Err(OutOfMemory);
         }
         self.rows.reserve(entries as usize)?;
-        self.pieces.reserve(MOST_ITEMS * entries as usize)?;
+        self.pieces.reserve(MOST_ITEMS as usize * entries as usize)?;
         self.bytes.reserve(bytes as usize)?;
         self.spare_entries = entries;
         self.spare_bytes = bytes;
@@ -127,6 +132,7 @@ impl Log {
     pub(crate) fn note(&mut self, piece: Piece)
         requires spare { 1 ≤ self.old.spare_entries }
         requires few { vec_len self.old.pieces < self.old.begun + 32 }
+        requires payload { IsPieceIn self.old.bytes.items piece }
         ensures { NotesPiece self.old self.new piece }
     {
         self.pieces.push_reserved(piece);
@@ -136,16 +142,14 @@ impl Log {
     pub(crate) fn enter(&mut self, who: u32, event: Event)
         requires spare { 1 ≤ self.old.spare_entries }
         requires few { vec_len self.old.pieces ≤ self.old.begun + 32 }
-        ensures { EndsEntry self.old self.new }
+        ensures { EndsEntry self.old self.new who event }
     {
-        let first = self.begun;
         let end = self.pieces.len();
-        self.rows.push_reserved(Row {
-            who,
-            event,
-            first,
-            end,
-        });
+        let items = Span {
+            start: self.begun,
+            len: end - self.begun,
+        };
+        self.rows.push_reserved(Row { who, event, items });
         self.begun = end;
         self.spare_entries -= 1;
     }

@@ -14,8 +14,13 @@ pub(crate) struct Stored {
 }
 
 impl Stored {
+    ghost use Rattle.std.specs.Prelude.{◌≡◌};
+    ghost use Rattle.xsk_plain.specs.Stores.{piece_of};
+
     /// What the log keeps of the item.
-    pub(crate) fn piece(&self) -> Piece {
+    pub(crate) fn piece(&self) -> Piece
+        ensures { result ≡ piece_of self.now }
+    {
         Piece {
             frame: self.item.frame.as_ref().map(|frame| frame.number()),
             desc: self.item.desc,
@@ -28,16 +33,22 @@ impl Stored {
 /// reserved and not filled.
 #[derive(Drop)]
 pub(crate) struct RingStore {
-    out: VecDeque<Stored>,
-    held: u32,
-    room: u32,
-    size: u32,
+    pub(crate) out: VecDeque<Stored>,
+    pub(crate) held: u32,
+    pub(crate) room: u32,
+    pub(crate) size: u32,
     ghost fits: { deque_len out + held + room ≤ size },
     ghost capacity: { size ≤ deque_capacity out },
 }
 
 impl RingStore {
-    pub(crate) fn new(alloc: Global, size: u32) -> Result<RingStore, OutOfMemory> {
+    ghost use Rattle.std.specs.Prelude.{◌≡◌, ◌+◌, ◌-◌, ◌<◌, ◌≤◌, ◌↔◌, [], ◌∷◌, ◌++◌, length, IsOk, IsNone, OnOk, OnErr, IfOk, IfErr, IfSome, IfNone};
+    ghost use Rattle.xsk_plain.specs.Steps.{free_in};
+    ghost use Rattle.xsk_plain.specs.Stores.{part_of, Has};
+
+    pub(crate) fn new(alloc: Global, size: u32) -> Result<RingStore, OutOfMemory>
+        ensures { IfOk result (λ store. Has store [] 0 0 size) }
+    {
         Ok(RingStore {
             out: VecDeque::with_capacity(alloc, size as usize)?,
             held: 0,
@@ -46,9 +57,22 @@ impl RingStore {
         })
     }
 
+    /// The number of items that were submitted and not peeked.
+    pub(crate) fn len(&self) -> u32
+        ensures { result ≡ length self.now.out.items }
+    {
+        let _size = self.size;
+        self.out.len() as u32
+    }
+
     /// Reserves so many places, or tells how many are free where they are fewer.
-    pub(crate) fn reserve(&mut self, count: u32) -> Result<(), u32> {
-        let free = self.size - self.out.len() as u32 - self.held - self.room;
+    pub(crate) fn reserve(&mut self, count: u32) -> Result<(), u32>
+        ensures granted { IsOk result ↔ (count ≤ free_in self.old.size (part_of self.old)) }
+        ensures full { IfErr result (λ free. free ≡ free_in self.old.size (part_of self.old)) }
+        ensures ok { OnOk result (Has self.new self.old.out.items self.old.held (self.old.room + count) self.old.size) }
+        ensures err { OnErr result (Has self.new self.old.out.items self.old.held self.old.room self.old.size) }
+    {
+        let free = self.size - self.len() - self.held - self.room;
         if count > free {
             return Err(free);
         }
@@ -57,7 +81,10 @@ impl RingStore {
     }
 
     /// Fills a reserved place. Where none is reserved the item is dropped.
-    pub(crate) fn put(&mut self, stored: Stored) {
+    pub(crate) fn put(&mut self, stored: Stored)
+        ensures filled { 0 < self.old.room → Has self.new (self.old.out.items ++ stored ∷ []) self.old.held (self.old.room - 1) self.old.size }
+        ensures dropped { self.old.room ≡ 0 → Has self.new self.old.out.items self.old.held 0 self.old.size }
+    {
         if self.room > 0 {
             self.room -= 1;
             self.out.push_back_reserved(stored);
@@ -65,29 +92,40 @@ impl RingStore {
     }
 
     /// Puts an item into a free place at the opening. Where none is free the item is dropped.
-    pub(crate) fn fill(&mut self, item: Item) {
-        if self.reserve(1).is_ok() {
-            self.put(Stored {
-                item,
-                payload: Span::default(),
-            });
-        }
+    pub(crate) fn fill(&mut self, item: Item)
+        requires { 0 < free_in self.old.size (part_of self.old) }
+        ensures { Has self.new (self.old.out.items ++ (record { item = item; payload = record { start = 0; len = 0 } }) ∷ []) self.old.held self.old.room self.old.size }
+    {
+        self.out.push_back_reserved(Stored {
+            item,
+            payload: Span::default(),
+        });
     }
 
     /// Takes the first item; its place is held until it is released.
-    pub(crate) fn take(&mut self) -> Option<Stored> {
+    pub(crate) fn take(&mut self) -> Option<Stored>
+        ensures none { IfNone result (Has self.new [] self.old.held self.old.room self.old.size) }
+        ensures empty { IfNone result (self.old.out.items ≡ []) }
+        ensures first { IfSome result (λ stored. self.old.out.items ≡ stored ∷ self.new.out.items) }
+        ensures some { IfSome result (λ _. Has self.new self.new.out.items (self.old.held + 1) self.old.room self.old.size) }
+    {
         let stored = self.out.pop_front()?;
         self.held += 1;
         Some(stored)
     }
 
     /// Takes the first item and frees its place.
-    pub(crate) fn pop(&mut self) -> Option<Stored> {
+    pub(crate) fn pop(&mut self) -> Option<Stored>
+        ensures empty { IsNone result ↔ (self.old.out.items ≡ []) }
+        ensures first { IfSome result (λ stored. self.old.out.items ≡ stored ∷ self.new.out.items) }
+    {
         self.out.pop_front()
     }
 
     /// Frees the places of so many held items, at most of all.
-    pub(crate) fn release(&mut self, count: u32) {
+    pub(crate) fn release(&mut self, count: u32)
+        ensures { Has self.new self.old.out.items (self.old.held - count) self.old.room self.old.size }
+    {
         self.held -= count.min(self.held);
     }
 }

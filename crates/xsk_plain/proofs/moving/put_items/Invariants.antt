@@ -1,0 +1,27 @@
+use Rattle.std.proofs.Common.{◌≡◌, ◌+◌, ◌≤◌, ◌++◌, length, map, vec_len}
+use Rattle.xsk_model.specs.Stored.{stored_item}
+use Rattle.xsk_plain.specs.Kept.{AreKept, Grows}
+use Rattle.xsk_plain.specs.Log.{entries_of, noted_in}
+use Rattle.xsk_plain.specs.Rooms.{items_bytes}
+use Rattle.xsk_plain.specs.Stores.{stored_item_of}
+use Rattle.xsk_plain.proofs.moving.put_items.Given as goal
+
+-- what was done and what is left are together all that there was
+abbrev pub invariant-loop : goal.invariant-loop
+invariant-loop l = record {
+  entries : entries_of l.log ≡ entries_of l.initial.log;
+  noted : noted_in l.log ++ map (stored_item l.config.geometry l.config.sg) l.items ≡ map (stored_item l.config.geometry l.config.sg) l.initial.items;
+  len : vec_len l.log.rows ≡ vec_len l.initial.log.rows;
+  begun : l.log.begun ≡ l.initial.log.begun;
+  pieces : vec_len l.log.pieces ≡ l.log.begun + l.counter;
+  spare_entries : l.log.spare_entries ≡ l.initial.log.spare_entries;
+  spare_bytes : l.log.spare_bytes + items_bytes l.config l.initial.items ≡ l.initial.log.spare_bytes + items_bytes l.config l.items;
+  bytes : Grows l.initial.log.bytes.items l.log.bytes.items;
+  rest : length l.items + l.counter ≡ length l.initial.items;
+  few : length l.initial.items ≤ 32;
+  out : length l.initial.items ≤ l.initial.store.room → map stored_item_of l.store.out.items ++ l.items ≡ map stored_item_of l.initial.store.out.items ++ l.initial.items;
+  room : length l.initial.items ≤ l.initial.store.room → l.store.room + length l.initial.items ≡ l.initial.store.room + length l.items;
+  held : l.store.held ≡ l.initial.store.held;
+  size : l.store.size ≡ l.initial.store.size;
+  kept : AreKept l.config l.initial.log.bytes.items l.initial.store → AreKept l.config l.log.bytes.items l.store;
+}

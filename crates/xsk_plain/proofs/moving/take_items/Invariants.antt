@@ -1,0 +1,27 @@
+use Rattle.std.proofs.Common.{◌≡◌, ◌+◌, ◌++◌, length, map, vec_len}
+use Rattle.xsk_model.specs.Config.{Config}
+use Rattle.xsk_model.specs.Stored.{stored_item}
+use Rattle.xsk_plain.specs.Kept.{AreKept, AreWithin}
+use Rattle.xsk_plain.specs.Log.{entries_of, noted_in}
+use Rattle.xsk_plain.specs.Stores.{stored_item_of}
+use Rattle.xsk_plain.proofs.moving.take_items.Given as goal
+
+-- what was taken and what is out are together all that was out
+abbrev pub invariant-loop : goal.invariant-loop
+invariant-loop l = record {
+  entries : entries_of l.log ≡ entries_of l.initial.log;
+  noted : (config : Config) → AreKept config l.initial.log.bytes.items l.initial.store → noted_in l.log ≡ map (stored_item config.geometry config.sg) l.items;
+  len : vec_len l.log.rows ≡ vec_len l.initial.log.rows;
+  begun : l.log.begun ≡ l.initial.log.begun;
+  pieces : vec_len l.log.pieces ≡ l.log.begun + l.counter;
+  spare_entries : l.log.spare_entries ≡ l.initial.log.spare_entries;
+  spare_bytes : l.log.spare_bytes ≡ l.initial.log.spare_bytes;
+  bytes : l.log.bytes.items ≡ l.initial.log.bytes.items;
+  count : length l.items ≡ l.counter;
+  all : l.items ++ map stored_item_of l.store.out.items ≡ map stored_item_of l.initial.store.out.items;
+  room : l.store.room ≡ l.initial.store.room;
+  held : l.store.held ≡ l.initial.store.held + l.counter;
+  size : l.store.size ≡ l.initial.store.size;
+  within : AreWithin l.log.bytes.items l.store;
+  kept : (config : Config) → AreKept config l.initial.log.bytes.items l.initial.store → AreKept config l.log.bytes.items l.store;
+}

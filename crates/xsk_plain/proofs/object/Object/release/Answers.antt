@@ -1,0 +1,26 @@
+use Rattle.std.proofs.Common.{◌<◌, length, refl, arith, ◌∙◌}
+use Rattle.xsk_model.specs.declared.call.Call.TheVariants.{Release}
+use Rattle.xsk_plain.proofs.StoreSteps.{sizes-set, kept-set, kept_same, part_has, parts-set, length-rings}
+use Rattle.xsk_plain.proofs.object.Object.release.Goals as goal
+
+pub invariant_of-self-clause-sizes : goal.invariant_of-self-clause-sizes
+invariant_of-self-clause-sizes c =
+    let within : c.in-Some.place < length c.args.self.now.rings.items = omega (arith, c.in-Some.ensures.within, length-rings c.args.self.now.config c.args.self.now.rings.items c.args.self.now.sizes) in
+    sizes-set c.args.self.now.config c.args.self.now.rings.items c.in-Some.place c.index_mut.result.now c.release.new.self within c.index_mut.ensures.value c.release.ensures.size
+    ∙ c.args.self.now.sizes
+
+pub returns-in-Some-clause-changes : goal.returns-in-Some-clause-changes
+returns-in-Some-clause-changes c =
+    let within : c.in-Some.place < length c.args.self.now.rings.items = omega (arith, c.in-Some.ensures.within, length-rings c.args.self.now.config c.args.self.now.rings.items c.args.self.now.sizes) in
+    record {
+      config = refl;
+      marks = refl;
+      rings = λ can. parts-set c.args.self.now.config c.args.self.now.rings.items c.in-Some.place c.index_mut.result.now c.release.new.self within c.index_mut.ensures.value
+          c.args.ring (Release c.args.ring c.args.count) can.0 c.in-Some.ensures.value c.args.self.now.sizes (part_has c.release.new.self _ _ _ _ c.release.ensures);
+    }
+
+pub returns-in-Some-clause-kept : goal.returns-in-Some-clause-kept
+returns-in-Some-clause-kept c =
+    let within : c.in-Some.place < length c.args.self.now.rings.items = omega (arith, c.in-Some.ensures.within, length-rings c.args.self.now.config c.args.self.now.rings.items c.args.self.now.sizes) in
+    λ bytes. λ kept. kept-set c.args.self.now.config c.args.self.now.rings.items c.in-Some.place c.index_mut.result.now c.release.new.self within c.index_mut.ensures.value
+    bytes kept (kept_same c.args.self.now.config bytes c.index_mut.result.now c.release.new.self c.release.ensures.out)

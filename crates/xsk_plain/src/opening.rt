@@ -1,0 +1,119 @@
+ghost use Rattle.std.specs.Prelude.{◌≡◌, ◌+◌, ◌*◌, ◌<◌, ◌≤◌, ℕ, List, [], ◌∷◌, ◌++◌, length, take, drop, map, vec_len, All, IfOk, OnOk};
+ghost use Rattle.xsk_umem.specs.Geometry.{IsGeometry};
+ghost use Rattle.xsk_model.specs.Config.{IsLawful, map_of};
+ghost use Rattle.xsk_model.specs.Marks.{mark_places_of};
+ghost use Rattle.xsk_model.specs.Opening.{AreFrames, home_item, opening, opening_cells};
+ghost use Rattle.xsk_plain.specs.Engine.{seen};
+ghost use Rattle.xsk_plain.specs.Kept.{AllKept};
+ghost use Rattle.xsk_plain.specs.Sizes.{sizes_of};
+ghost use Rattle.xsk_plain.specs.Stores.{IsBlank, Has, home_stored, parts_of, sizes_in};
+
+use crate::places::{CELLS, first_cell, ring_places};
+use crate::ring_store::RingStore;
+use std::alloc::Global;
+use xsk_model::Config;
+use xsk_umem::{Frame, Frames, Geometry, Item, OutOfMemory, XdpDesc};
+
+/// All rings of the configuration by place, with nothing in them.
+pub(crate) fn open_rings(alloc: Global, config: &Config) -> Result<Vec<RingStore>, OutOfMemory>
+    ensures sizes { IfOk result (λ rings. sizes_in rings.items ≡ sizes_of config.now) }
+    ensures blank { IfOk result (λ rings. All IsBlank rings.items) }
+{
+    let pairs = config.pairs();
+    let sockets = config.sockets();
+    let mut rings = Vec::with_capacity(alloc, ring_places(config))?;
+    for pair in pairs {
+        add_ring(alloc, &mut rings, pair.fill)?;
+    }
+    for pair in pairs {
+        add_ring(alloc, &mut rings, pair.comp)?;
+    }
+    for socket in sockets {
+        add_ring(alloc, &mut rings, socket.rx.unwrap_or(0))?;
+    }
+    for socket in sockets {
+        add_ring(alloc, &mut rings, socket.tx.unwrap_or(0))?;
+    }
+    Ok(rings)
+}
+
+fn add_ring(alloc: Global, rings: &mut Vec<RingStore>, size: u32) -> Result<(), OutOfMemory>
+    ensures sizes { OnOk result (sizes_in rings.new.items ≡ sizes_in rings.old.items ++ size ∷ []) }
+    ensures blank { OnOk result (All IsBlank rings.old.items → All IsBlank rings.new.items) }
+{
+    rings.push(RingStore::new(alloc, size)?)?;
+    Ok(())
+}
+
+/// All marks of the configuration by place: cells have their configured numbers, and the others are 0.
+pub(crate) fn open_marks(alloc: Global, config: &Config) -> Result<Vec<u64>, OutOfMemory>
+    ensures marks { IfOk result (λ marks. marks.items ≡ (opening config.now []).marks) }
+    ensures len { IfOk result (λ marks. vec_len marks ≡ mark_places_of config.now) }
+{
+    let mut marks = vec![in alloc; 0u64; first_cell(config)]?;
+    for port in 0..config.ports() {
+        add_cells(&mut marks, config, port)?;
+    }
+    Ok(marks)
+}
+
+/// Appends the cells of a port, in as many places as a port has.
+fn add_cells(marks: &mut Vec<u64>, config: &Config, port: u32) -> Result<(), OutOfMemory>
+    requires { port < config.now.ports }
+    ensures { OnOk result (marks.new.items ≡ marks.old.items ++ opening_cells (map_of config.now port)) }
+{
+    let cells = config.cells(port);
+    for index in 0..cells {
+        marks.push(config.cell(port, index))?;
+    }
+    for _blank in cells..CELLS {
+        marks.push(0)?;
+    }
+    Ok(())
+}
+
+/// Puts the frames into the FILL rings, pool by pool.
+pub(crate) fn fill_pools(config: &Config, home: &mut Frames, rings: &mut [RingStore])
+    requires lawful { IsLawful config.now }
+    requires sizes { sizes_in rings.old ≡ sizes_of config.now }
+    requires blank { All IsBlank rings.old }
+    requires frames { AreFrames config.now.geometry home.old.items }
+    ensures sizes { sizes_in rings.new ≡ sizes_in rings.old }
+    ensures parts { parts_of rings.new ≡ map seen (opening config.now home.old.items).rings }
+    ensures home { home.new ≡ record home.old { items = [] } }
+    ensures kept { (bytes : List ℕ) → AllKept config.now bytes rings.new }
+{
+    let pool = config.pool();
+    for pair in 0..config.pairs().len() {
+        fill_pool(config.geometry(), home, &mut rings[pair], pool);
+    }
+}
+
+/// Puts so many frames into a ring, which must have room for them.
+fn fill_pool(geometry: &Geometry, home: &mut Frames, store: &mut RingStore, pool: u32)
+    requires frames { pool ≤ length home.old.items }
+    requires blank { IsBlank store.old }
+    requires room { pool ≤ store.old.size }
+    ensures ring { Has store.new (map (home_stored geometry.now) (take pool home.old.items)) 0 0 store.old.size }
+    ensures home { home.new ≡ record home.old { items = drop pool home.old.items } }
+{
+    for _ in 0..pool {
+        let frame = home.pop_front().unwrap();
+        store.fill(place_home(geometry, frame));
+    }
+}
+
+/// The item of a frame on FILL: its base address, with no length and no options.
+fn place_home(geometry: &Geometry, frame: Frame) -> Item
+    ensures { result ≡ home_item geometry.now frame }
+{
+    let addr = u64::from(frame.number()) * u64::from(geometry.chunk());
+    Item {
+        frame: Some(frame),
+        desc: XdpDesc {
+            addr,
+            len: 0,
+            options: 0,
+        },
+    }
+}
