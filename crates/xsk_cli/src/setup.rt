@@ -1,6 +1,6 @@
-ghost use Rattle.std.specs.Prelude.{◌≡◌, IfOk, length, map};
-ghost use Rattle.xsk_umem.specs.Geometry.{IsGeometry};
+ghost use Rattle.std.specs.Prelude.{◌≡◌, ◌/◌, IfOk, length, map};
 ghost use Rattle.xsk_model.specs.Config.{IsRegular};
+ghost use Rattle.xsk_model.specs.Opening.{AreFrames};
 ghost use Rattle.xsk_cli.specs.TwoPorts.{two_ports};
 
 use std::alloc::Global;
@@ -19,10 +19,21 @@ const ENTRIES: u32 = 2048;
 pub(crate) fn set_up(alloc: Global) -> Result<(Config, Frames), OutOfMemory>
     ensures regular { IfOk result (λ made. IsRegular made.0) }
     ensures pairs { IfOk result (λ made. length made.0.pairs ≡ 2) }
+    ensures frames { IfOk result (λ made. AreFrames made.0.geometry made.1.items) }
 {
-    let made = Umem::register(alloc, FRAMES * u64::from(CHUNK), CHUNK, 0);
-    let (geometry, frames) = made.map_err(|_| OutOfMemory)?;
+    let (geometry, frames) = register(alloc, FRAMES * u64::from(CHUNK), CHUNK)?;
     Ok((configure(alloc, geometry)?, frames))
+}
+
+/// A UMEM without headroom: its geometry and its frames.
+fn register(alloc: Global, len: u64, chunk: u32) -> Result<(Geometry, Frames), OutOfMemory>
+    ensures geometry { IfOk result (λ made. made.0 ≡ record { frames = len / chunk; chunk = chunk; headroom = 0 }) }
+    ensures frames { IfOk result (λ made. AreFrames made.0 made.1.items) }
+{
+    match Umem::register(alloc, len, chunk, 0) {
+        Ok(made) => Ok(made),
+        Err(_) => Err(OutOfMemory),
+    }
 }
 
 /// Two ports with one queue and one socket each, all rings of one size, and each port's one cell with its own socket.

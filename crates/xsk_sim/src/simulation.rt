@@ -1,6 +1,7 @@
 ghost use Rattle.std.specs.Prelude.{◌≡◌, ◌<◌, All, IfOk, length, vec_len};
 ghost use Rattle.xsk_umem.specs.Geometry.{IsGeometry};
 ghost use Rattle.xsk_model.specs.Config.{IsRegular};
+ghost use Rattle.xsk_model.specs.Opening.{AreFrames};
 ghost use Rattle.xsk_plain.specs.Log.{calls_of};
 ghost use Rattle.xsk_driver.specs.Sent.{IsShort};
 ghost use Rattle.xsk_sim.specs.Shown.{HasShortPackets};
@@ -81,7 +82,7 @@ const FIRST_ROUNDS: u64 = 1_023;
 const PACKET_ROUNDS: u64 = 256;
 
 /// Runs the drivers and applications of a regular configuration in rounds until all have ended, over one list of
-/// packets for each port. `order` is the number of the rounds' order.
+/// packets for each port. The frames are all frames of its UMEM, and `order` is the number of the rounds' order.
 ///
 /// It stalls exactly where some worker hasn't ended after round 1,023 + 256 x packets, which is then its round.
 pub fn simulate(
@@ -91,7 +92,8 @@ pub fn simulate(
     packets: &[PacketList],
     order: u32,
 ) -> Result<Run, SimError>
-    requires { IsRegular config }
+    requires regular { IsRegular config }
+    requires frames { AreFrames config.geometry frames.items }
     ensures { IfOk result (λ run. run.pairs ≡ length config.pairs) }
 {
     let shared = config.copy(alloc)?;
