@@ -1,1 +1,3 @@
+pub mod InputsLemmas
+pub mod Seats
 pub mod SentLemmas

@@ -1,4 +1,4 @@
-use Rattle.std.proofs.Common.{arith, sym, refl}
+use Rattle.std.proofs.Common.{arith, sym}
 use Rattle.std.proofs.lemmas.List.Elements.{All-push}
 use Rattle.xsk_driver.specs.Sent.{IsShort}
 use Rattle.xsk_driver.proofs.SentLemmas.{last_length-push, length_concat-push}

@@ -1,5 +1,4 @@
-use Rattle.std.proofs.Common.{◌≤◌, length, arith, sym, ◌∙◌}
-use Rattle.xsk_driver.specs.Sent.{IsShort}
+use Rattle.std.proofs.Common.{◌≤◌, length, arith}
 use Rattle.xsk_driver.proofs.SentLemmas.{last_length-with_last_extended, length-with_last_extended, length_concat-with_last_extended, short-with_last_extended, some_packet}
 use Rattle.xsk_driver.proofs.sending.Sending.extend.Goals as goal
 
