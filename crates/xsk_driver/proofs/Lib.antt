@@ -1,1 +1,5 @@
+pub mod InputsLemmas
+pub mod Loops
+pub mod Seats
 pub mod SentLemmas
+pub mod Steps

@@ -1,4 +1,9 @@
+pub mod Gathers
 pub mod Gives
+pub mod Inputs
 pub mod Sent
 pub mod Shown
+pub mod Stands
+pub mod Steering
+pub mod Turns
 pub mod Waits

@@ -1,4 +1,4 @@
-ghost use Rattle.std.specs.Prelude.{◌≡◌, ◌<◌, ◌≤◌, All, IfOk, false, length};
+ghost use Rattle.std.specs.Prelude.{◌≡◌, ◌<◌, ◌≤◌, ◌∷◌, ◌++◌, [], All, IfOk, false, length, replicate};
 ghost use Rattle.std.specs.List.{concat};
 ghost use Rattle.xsk_model.specs.Config.{IsRegular};
 ghost use Rattle.xsk_model.specs.Expected.{CanCome, nothing, expected_of};
@@ -45,7 +45,7 @@ impl<'a> Driver<'a> {
         requires pair { pair < length config.now.pairs }
         ensures { IfOk result (λ d. d ≡ record { expected = nothing; most_packets = sent_packets; most_bytes = sent_bytes }) }
     {
-        let numbers = inputs.of_pair(pair);
+        let numbers = known(inputs.of_pair(pair), packets);
         let info = config.pairs()[pair as usize];
         let classes = config.classes();
         let machine = Machine {
@@ -126,7 +126,22 @@ impl<'a> Driver<'a> {
     }
 }
 
-fn new_gathers(alloc: Global, sg: bool, classes: u32) -> Result<Vec<Gather>, OutOfMemory> {
+/// The numbers, where all are those of packets of the list; else none.
+fn known<'a>(numbers: &'a [u32], packets: &PacketList) -> &'a [u32]
+    ensures known { All (λ n. n < length packets.now.packets) result.now }
+    ensures same { All (λ n. n < length packets.now.packets) numbers.now → result.now ≡ numbers.now }
+{
+    let count = packets.len();
+    if numbers.iter().all(|number| *number < count) {
+        numbers
+    } else {
+        &[]
+    }
+}
+
+fn new_gathers(alloc: Global, sg: bool, classes: u32) -> Result<Vec<Gather>, OutOfMemory>
+    ensures { IfOk result (λ gathers. gathers.items ≡ replicate classes (record { items = []; sg = sg })) }
+{
     let mut gathers = Vec::with_capacity(alloc, classes as usize)?;
     for _ in 0..classes {
         gathers.push(Gather::new(alloc, sg))?;

@@ -1,5 +1,10 @@
-ghost use Rattle.std.specs.Prelude.{◌≡◌, ◌<◌, ◌≤◌, IfSome, length, vec_capacity};
+ghost use Rattle.std.specs.Prelude.{◌≡◌, ℕ, ◌+◌, ◌*◌, ◌<◌, ◌≤◌, ◌==◌, ◌||◌, ◌++◌, ◌∷◌, [], All, IfSome, MatchOption, Some, None, List, nat_lt, length, map, take, drop, vec_capacity};
+ghost use Rattle.std.specs.List.{slice_index_or};
 ghost use Rattle.std.specs.VecDeque.{deque_capacity};
+ghost use Rattle.xsk_umem.specs.Frame.{Frame as AFrame};
+ghost use Rattle.xsk_umem.specs.Geometry.{payload_of as payload_of_geometry};
+ghost use Rattle.xsk_driver.specs.Turns.{written_in, laid_out as laid_out_in};
+ghost use Rattle.xsk_driver.specs.Gathers.{HaveSg, IsWholeFrame};
 ghost use Rattle.xsk_model.specs.Expected.{CanCome, expected_by, expected_of};
 
 use crate::disposal::{Disposal, DriverCounters};
@@ -53,6 +58,15 @@ pub(crate) struct Turn {
     full: bool,
 }
 
+impl Turn {
+    /// Whether the next turn begins at once.
+    fn begins_anew(&self) -> bool
+        ensures { result ≡ (self.now.progress || self.now.full) }
+    {
+        self.progress || self.full
+    }
+}
+
 /// The driver's machine. It makes turns: it receives one packet, sends what stands on TX, and looks for its end.
 #[derive(Drop)]
 pub(crate) struct Machine<'a> {
@@ -79,23 +93,40 @@ pub(crate) struct Machine<'a> {
     ghost some: { 1 ≤ classes },
     ghost few: { classes ≤ 4 },
     ghost pairs: { pair < 64 },
-    ghost ports: { port < 4 },
+    ghost ports: { port < config.now.ports },
     ghost queues: { queue < 4 },
     ghost disposals_room: { length numbers.now ≤ vec_capacity disposals },
     ghost spare_room: { 32 ≤ deque_capacity spare },
     ghost finished_room: { 128 ≤ deque_capacity finished },
+    ghost known: { All (λ n. n < length packets.now.packets) numbers.now },
+    ghost settled_few: { length disposals.items ≤ length numbers.now },
+    ghost spare_whole: { All (IsWholeFrame config.now.geometry.chunk) spare.items },
+    ghost gathering: { length gathers.items ≡ classes },
+    ghost gathering_alike: { HaveSg config.now.sg gathers.items },
 }
 
 impl<'a> Machine<'a> {
     ghost use Rattle.xsk_driver.specs.Waits.{expects};
-    ghost use Rattle.xsk_driver.specs.Gives.{Gives, KeepsLimits};
+    ghost use Rattle.xsk_driver.specs.Gives.{Gives, KeepsLimits, KeepsRooms};
+    ghost use Rattle.xsk_driver.specs.Steering.{class_of};
+    ghost use Rattle.xsk_driver.specs.Turns.{moved, stopped, settled, cell_of as cell_of_packet, redirect_to, limit_of, pieces_of, frame_in, returned, gathered, idle as idle_script, complete as complete_script, visit_from, transmit as transmit_script, deliver as deliver_script, reserve as reserve_script, go_on as go_on_script, take_spare as take_spare_script, find_spare as find_spare_script, direct, receive, turn, socket_of as socket_in, application_of};
+    ghost use Rattle.xsk_driver.specs.Stands.{seat_in, kept_in, noted_in, first, left, IsTrying, IsFitting, IsSupplied, IsReady, HasRoom, HasRoomFor, IsWholeIn, Goes, GoesOn, IsFirst, Leaves, Skips, IsTried};
+    ghost use Rattle.xsk_model.specs.Script.{ask, again, on_submitted, on_released};
+    ghost use Rattle.xsk_umem.specs.declared.batch.Item.{Item as AnItem};
+    ghost use Rattle.xsk_model.specs.Config.{map_of};
+    ghost use Rattle.xsk_model.specs.declared.call.Reply.{Reply as AReply};
+    ghost use Rattle.xsk_model.specs.declared.call.Ring.TheVariants.{Fill, Comp, Rx, Tx};
+    ghost use Rattle.xsk_model.specs.declared.call.Call.TheVariants.{Submit, Release};
 
     /// Goes on with the reply to the last call.
     #[inline(always)]
     pub(crate) fn next(&mut self, reply: Option<Reply>) -> Act
         requires { CanCome (expects self.old.wait) reply }
         ensures expected { expects self.new.wait ≡ expected_of result }
-        ensures limits { KeepsLimits self.old self.new }
+        ensures limits { KeepsRooms self.old self.new }
+        ensures begins { reply ≡ None → GoesOn (seat_in self.old) self.new result (again (kept_in self.old)) }
+        ensures goes { (r : AReply) → reply ≡ Some r → IsReady (seat_in self.old) self.old.wait (kept_in self.old) → HasRoom (seat_in self.old) self.old.wait (kept_in self.old) r
+            → GoesOn (seat_in self.old) self.new result (left (seat_in self.old) self.old.wait (noted_in self.old) (kept_in self.old) r) }
     {
         match self.wait {
             Wait::Start => Act::Call(self.begin()),
@@ -152,66 +183,78 @@ impl<'a> Machine<'a> {
 
     /// Begins a turn: with the next packet that can be tried, if there is one.
     fn begin(&mut self) -> Call
-        ensures { Gives self.old self.new result }
+        ensures gives { Gives self.old self.new result }
+        ensures goes { Goes (seat_in self.old) self.new result (again (kept_in self.old)) }
     {
         self.turn = Turn::default();
         for _ in self.disposals.len()..self.numbers.len() {
-            match self.current() {
-                Some(packet) if packet.len() < LEAST_BYTES => self.settle(Disposal::Runt),
-                Some(packet) => match self.cell_of(packet) {
-                    Some(cell) => return self.look_at(cell),
-                    None => self.settle(Disposal::Missed),
-                },
-                None => break,
+            if let Some(cell) = self.cell_to_try() {
+                return self.look_at(cell);
             }
         }
         self.finish_input()
     }
 
     /// The packet that comes next, if there is one.
-    fn current(&self) -> Option<&'a [u8]> {
+    fn current(&self) -> Option<&'a [u8]>
+        ensures { MatchOption result ((kept_in self.now).coming ≡ []) (λ packet. IsFirst (kept_in self.now) packet.now) }
+    {
         let number = *self.numbers.get(self.disposals.len())?;
-        if number < self.packets.len() {
-            Some(self.packets.get(number))
-        } else {
-            None
-        }
+        Some(self.packets.get(number))
     }
 
-    /// The cell of the packet's class, which is the sum of its first 14 bytes modulo the number of classes.
-    fn cell_of(&self, packet: &[u8]) -> Option<Mark>
-        requires { 14 ≤ length packet.now }
+    /// The cell of the packet that comes next. Where the packet is too short, or there is no such cell, it is settled.
+    fn cell_to_try(&mut self) -> Option<u32>
+        ensures limits { KeepsLimits self.old self.new }
+        ensures tried { 1 ≤ length (kept_in self.old).coming → MatchOption result (Skips self.old self.new) (IsTried self.old self.new) }
     {
-        let class = sum_of(&packet[..LEAST_BYTES]) % self.classes;
-        let index = self.queue.checked_mul(self.classes)?.checked_add(class)?;
-        if self.port < self.config.ports() && index < self.config.cells(self.port) {
-            Some(Mark::Cell(self.port, index))
-        } else {
-            None
+        let packet = self.current()?;
+        if packet.len() < LEAST_BYTES {
+            self.settle(Disposal::Runt);
+            return None;
         }
+        let cell = self.cell_of(packet);
+        if cell >= self.config.cells(self.port) {
+            self.settle(Disposal::Missed);
+            return None;
+        }
+        Some(cell)
+    }
+
+    /// The index of the cell of the packet's class, which is the sum of its first 14 bytes modulo the number of classes.
+    fn cell_of(&self, packet: &[u8]) -> u32
+        requires { 14 ≤ length packet.now }
+        ensures { result ≡ cell_of_packet (seat_in self.now) packet.now }
+    {
+        self.queue * self.classes + sum_of(&packet[..LEAST_BYTES]) % self.classes
     }
 
     /// Notes what became of the packet that came next.
     fn settle(&mut self, disposal: Disposal)
         ensures wait { self.new.wait ≡ self.old.wait }
         ensures limits { KeepsLimits self.old self.new }
+        ensures leaves { 1 ≤ length (kept_in self.old).coming → Leaves self.old self.new (moved (noted_in self.old)) (settled (kept_in self.old) disposal) }
     {
-        if self.disposals.len() < self.numbers.len() {
-            self.disposals.push_reserved(disposal);
-        }
         self.turn.progress = true;
+        if self.disposals.len() == self.numbers.len() {
+            return;
+        }
+        self.disposals.push_reserved(disposal);
     }
 
-    fn look_at(&mut self, cell: Mark) -> Call
-        ensures { Gives self.old self.new result }
+    fn look_at(&mut self, cell: u32) -> Call
+        ensures gives { Gives self.old self.new result }
+        ensures goes { cell ≡ cell_of_packet (seat_in self.old) (first (kept_in self.old)) → cell < length (map_of self.old.config.now self.old.port) → IsTrying (kept_in self.old)
+            → Goes (seat_in self.old) self.new result (receive (seat_in self.old) (kept_in self.old).coming (noted_in self.old) (kept_in self.old)) }
     {
         self.wait = Wait::LookCell;
-        Call::Look(cell)
+        Call::Look(Mark::Cell(self.port, cell))
     }
 
     /// Goes on where there is no packet to try: tells so once, and sends.
     fn finish_input(&mut self) -> Call
-        ensures { Gives self.old self.new result }
+        ensures gives { Gives self.old self.new result }
+        ensures goes { (kept_in self.old).coming ≡ [] → Goes (seat_in self.old) self.new result (receive (seat_in self.old) [] (noted_in self.old) (kept_in self.old)) }
     {
         if self.rx_done {
             return self.transmit();
@@ -222,7 +265,8 @@ impl<'a> Machine<'a> {
 
     /// Goes on with the number of the packet's cell.
     fn aim(&mut self, cell: u64) -> Call
-        ensures { Gives self.old self.new result }
+        ensures gives { Gives self.old self.new result }
+        ensures goes { IsTrying (kept_in self.old) → Goes (seat_in self.old) self.new result (direct (seat_in self.old) (first (kept_in self.old)) (noted_in self.old) (kept_in self.old) (redirect_to self.old.config.now self.old.port self.old.queue cell)) }
     {
         let Some(socket) = redirect(cell, self.config, self.port, self.queue) else {
             self.settle(Disposal::Missed);
@@ -239,21 +283,36 @@ impl<'a> Machine<'a> {
 
     /// The number of frames that the packet needs; none where it is too long.
     fn pieces(&self) -> Option<u32>
-        ensures { IfSome result (λ pieces. (1 ≤ pieces) × (pieces ≤ 18)) }
+        ensures few { IfSome result (λ pieces. (1 ≤ pieces) × (pieces ≤ 18)) }
+        ensures exact { IsTrying (kept_in self.now) → MatchOption result (limit_of (seat_in self.now) < length (first (kept_in self.now)))
+            (λ pieces. (length (first (kept_in self.now)) ≤ limit_of (seat_in self.now)) × (pieces ≡ pieces_of (seat_in self.now) (first (kept_in self.now)))) }
     {
-        let len = u32::try_from(self.current()?.len()).ok()?;
-        if len == 0 {
+        let packet = self.current()?;
+        if packet.is_empty() || packet.len() > self.limit() as usize {
             return None;
         }
-        let pieces = fragments(len, self.config.geometry().payload());
-        let most = if self.config.sg() { MOST_FRAMES } else { 1 };
-        if pieces <= most { Some(pieces) } else { None }
+        Some(fragments(packet.len() as u32, self.config.geometry().payload()))
+    }
+
+    /// The most bytes of a packet.
+    fn limit(&self) -> u32
+        ensures value { result ≡ limit_of (seat_in self.now) }
+        ensures few { result ≤ 18 * payload_of_geometry self.now.config.now.geometry }
+        ensures small { payload_of_geometry self.now.config.now.geometry ≤ 4096 }
+    {
+        let payload = self.config.geometry().payload();
+        if self.config.sg() {
+            MOST_FRAMES * payload
+        } else {
+            payload
+        }
     }
 
     /// Makes sure of enough frames for the packet.
     fn find_spare(&mut self, socket: u32, pieces: u32) -> Call
         requires { pieces ≤ 18 }
-        ensures { Gives self.old self.new result }
+        ensures gives { Gives self.old self.new result }
+        ensures goes { pieces ≡ pieces_of (seat_in self.old) (first (kept_in self.old)) → IsFitting (seat_in self.old) (kept_in self.old) → Goes (seat_in self.old) self.new result (find_spare_script (seat_in self.old) (first (kept_in self.old)) socket (noted_in self.old) (kept_in self.old)) }
     {
         let spare = self.spare.len();
         if spare >= pieces as usize {
@@ -264,7 +323,8 @@ impl<'a> Machine<'a> {
     }
 
     fn reserve_rx(&mut self, socket: u32, pieces: u32) -> Call
-        ensures { Gives self.old self.new result }
+        ensures gives { Gives self.old self.new result }
+        ensures goes { pieces ≡ pieces_of (seat_in self.old) (first (kept_in self.old)) → IsSupplied (seat_in self.old) (kept_in self.old) → Goes (seat_in self.old) self.new result (reserve_script (seat_in self.old) (first (kept_in self.old)) socket (noted_in self.old) (kept_in self.old)) }
     {
         self.wait = Wait::ReserveRx { socket };
         Call::Reserve(Ring::Rx(socket), pieces)
@@ -272,34 +332,53 @@ impl<'a> Machine<'a> {
 
     /// Keeps the frames that came from FILL.
     fn take_spare(&mut self, socket: u32, items: Batch) -> Call
-        ensures { Gives self.old self.new result }
+        ensures gives { Gives self.old self.new result }
+        ensures goes { IsFitting (seat_in self.old) (kept_in self.old) → HasRoomFor (seat_in self.old) (kept_in self.old) items
+            → Goes (seat_in self.old) self.new result (take_spare_script (seat_in self.old) (first (kept_in self.old)) socket (noted_in self.old) (kept_in self.old) items) }
     {
         let count = items.len();
         let mut items = items;
-        for _ in 0..count {
-            match items.pop_front().and_then(|item| item.frame) {
-                Some(frame) => self.keep_spare(frame),
-                None => self.counters.rx_invalid_descs = self
-                    .counters
-                    .rx_invalid_descs
-                    .saturating_add(1),
-            }
+        while let Some(item) = items.pop_front() {
+            self.keep_item(item);
         }
         self.turn.progress = true;
         self.wait = Wait::ReleaseFill { socket };
         Call::Release(Ring::Fill(self.pair), count)
     }
 
-    fn keep_spare(&mut self, frame: Frame)
-        ensures { KeepsLimits self.old self.new }
+    fn keep_item(&mut self, item: Item)
+        ensures limits { KeepsLimits self.old self.new }
+        ensures leaves { length (kept_in self.old).spare < 32 → All (IsWholeIn (seat_in self.old)) (frame_in item.frame)
+            → Leaves self.old self.new (noted_in self.old) (record (kept_in self.old) { spare = (kept_in self.old).spare ++ frame_in item.frame }) }
     {
-        if self.spare.len() < MOST_SPARE {
-            self.spare.push_back_reserved(frame);
+        match item.frame {
+            Some(frame) => self.keep_spare(frame),
+            None => self.note_no_frame(),
         }
     }
 
+    fn note_no_frame(&mut self)
+        ensures limits { KeepsLimits self.old self.new }
+        ensures leaves { Leaves self.old self.new (noted_in self.old) (kept_in self.old) }
+    {
+        let invalid = &mut self.counters.rx_invalid_descs;
+        *invalid = invalid.saturating_add(1);
+    }
+
+    fn keep_spare(&mut self, frame: Frame)
+        ensures limits { KeepsLimits self.old self.new }
+        ensures leaves { length (kept_in self.old).spare < 32 → IsWholeIn (seat_in self.old) frame → Leaves self.old self.new (noted_in self.old) (record (kept_in self.old) { spare = (kept_in self.old).spare ++ frame ∷ [] }) }
+    {
+        let whole = frame.bytes().len() == self.config.geometry().chunk() as usize;
+        if !whole || self.spare.len() >= MOST_SPARE {
+            return;
+        }
+        self.spare.push_back_reserved(frame);
+    }
+
     fn find_fill_empty(&mut self) -> Call
-        ensures { Gives self.old self.new result }
+        ensures gives { Gives self.old self.new result }
+        ensures goes { Goes (seat_in self.old) self.new result (transmit_script (seat_in self.old) (noted_in self.old) (kept_in self.old)) }
     {
         let empty = &mut self.counters.rx_fill_ring_empty_descs;
         *empty = empty.saturating_add(1);
@@ -308,7 +387,8 @@ impl<'a> Machine<'a> {
 
     /// Goes on where the places of FILL were given back: the frames are enough now, or the turn is blocked for them.
     fn go_on_with_spare(&mut self, socket: u32) -> Call
-        ensures { Gives self.old self.new result }
+        ensures gives { Gives self.old self.new result }
+        ensures goes { IsFitting (seat_in self.old) (kept_in self.old) → Goes (seat_in self.old) self.new result (go_on_script (seat_in self.old) (first (kept_in self.old)) socket (noted_in self.old) (kept_in self.old)) }
     {
         match self.pieces() {
             Some(pieces) if self.spare.len() >= pieces as usize => self.reserve_rx(socket, pieces),
@@ -317,7 +397,8 @@ impl<'a> Machine<'a> {
     }
 
     fn find_rx_full(&mut self, socket: u32) -> Call
-        ensures { Gives self.old self.new result }
+        ensures gives { Gives self.old self.new result }
+        ensures goes { Goes (seat_in self.old) self.new result (transmit_script (seat_in self.old) (stopped (noted_in self.old)) (kept_in self.old)) }
     {
         let class = socket % self.classes;
         DriverCounters::raise(&mut self.counters.rx_ring_full, class, 1);
@@ -327,42 +408,36 @@ impl<'a> Machine<'a> {
 
     /// Puts the packet, laid out in spare frames, on the RX ring.
     fn deliver(&mut self, socket: u32) -> Call
-        ensures { Gives self.old self.new result }
+        ensures gives { Gives self.old self.new result }
+        ensures goes { IsSupplied (seat_in self.old) (kept_in self.old) → Goes (seat_in self.old) self.new result (deliver_script (seat_in self.old) (first (kept_in self.old)) socket (moved (noted_in self.old)) (kept_in self.old)) }
     {
         self.turn.progress = true;
-        let items = match self.current() {
-            Some(packet) => self.lay_out(packet),
-            None => Batch::new(self.alloc),
-        };
         self.wait = Wait::SubmitRx { socket };
-        Call::Submit(Ring::Rx(socket), items)
+        Call::Submit(Ring::Rx(socket), self.packet_items())
     }
 
-    /// The packet in the first spare frames: each piece in a frame of its own, and each item but the last with the
-    /// continuation bit.
-    fn lay_out(&mut self, packet: &[u8]) -> Batch
-        ensures { KeepsLimits self.old self.new }
+    /// The packet that comes next, laid out in the first spare frames.
+    fn packet_items(&mut self) -> Batch
+        ensures wait { self.new.wait ≡ self.old.wait }
+        ensures limits { KeepsLimits self.old self.new }
+        ensures leaves { IsSupplied (seat_in self.old) (kept_in self.old)
+            → Leaves self.old self.new (noted_in self.old) (record (kept_in self.old) { spare = drop (pieces_of (seat_in self.old) (first (kept_in self.old))) (kept_in self.old).spare }) }
+        ensures items { IsSupplied (seat_in self.old) (kept_in self.old)
+            → result ≡ laid_out_in self.old.config.now.geometry (first (kept_in self.old)) (take (pieces_of (seat_in self.old) (first (kept_in self.old))) (kept_in self.old).spare) }
     {
-        let payload = self.config.geometry().payload() as usize;
-        let mut items = Batch::new(self.alloc);
-        let mut rest = packet;
-        for _ in 0..MOST_FRAMES {
-            let Some(frame) = self.spare.pop_front() else {
-                break;
-            };
-            let (piece, later) = rest.split_at(rest.len().min(payload));
-            items.push(laid_out(self.config.geometry(), frame, piece, later));
-            rest = later;
-            if rest.is_empty() {
-                break;
-            }
-        }
-        items
+        let Some(packet) = self.current() else {
+            return Batch::new(self.alloc);
+        };
+        let Some(pieces) = self.pieces() else {
+            return Batch::new(self.alloc);
+        };
+        lay_out(self.alloc, self.config.geometry(), &mut self.spare, packet, pieces)
     }
 
     /// Begins to send: completes what is finished, then peeks the first TX ring.
     fn transmit(&mut self) -> Call
-        ensures { Gives self.old self.new result }
+        ensures gives { Gives self.old self.new result }
+        ensures goes { Goes (seat_in self.old) self.new result (transmit_script (seat_in self.old) (noted_in self.old) (kept_in self.old)) }
     {
         match self.finished.front() {
             Some(packet) => {
@@ -375,41 +450,60 @@ impl<'a> Machine<'a> {
 
     /// Goes on with sending: completes what is finished, then peeks the TX ring of the class, or ends the turn.
     fn go_on(&mut self, class: u32) -> Call
-        ensures { Gives self.old self.new result }
+        ensures gives { Gives self.old self.new result }
+        ensures goes { class ≤ self.old.classes → Goes (seat_in self.old) self.new result (complete_script (seat_in self.old) (kept_in self.old).finished (noted_in self.old) (kept_in self.old) (visit_from (seat_in self.old) class)) }
     {
         match self.finished.front() {
             Some(packet) => {
                 let count = packet.len();
                 self.reserve_comp(class, count)
             }
-            None if class < self.classes => self.peek_tx(class),
-            None => self.idle(),
+            None => self.visit(class),
+        }
+    }
+
+    /// Goes on with the TX ring of the class, or ends the turn after the last one.
+    fn visit(&mut self, class: u32) -> Call
+        ensures gives { Gives self.old self.new result }
+        ensures goes { (kept_in self.old).finished ≡ [] → class ≤ self.old.classes → Goes (seat_in self.old) self.new result (visit_from (seat_in self.old) class (noted_in self.old) (kept_in self.old)) }
+    {
+        if class < self.classes {
+            self.peek_tx(class)
+        } else {
+            self.idle()
         }
     }
 
     fn reserve_comp(&mut self, class: u32, count: u32) -> Call
-        ensures { Gives self.old self.new result }
+        ensures gives { Gives self.old self.new result }
+        ensures goes { 1 ≤ length (kept_in self.old).finished → count ≡ length (slice_index_or (kept_in self.old).finished 0 []) → class ≤ self.old.classes
+            → Goes (seat_in self.old) self.new result (complete_script (seat_in self.old) (kept_in self.old).finished (noted_in self.old) (kept_in self.old) (visit_from (seat_in self.old) class)) }
     {
         self.wait = Wait::ReserveComp { class };
         Call::Reserve(Ring::Comp(self.pair), count)
     }
 
     fn peek_tx(&mut self, class: u32) -> Call
-        ensures { Gives self.old self.new result }
+        ensures gives { Gives self.old self.new result }
+        ensures goes { (kept_in self.old).finished ≡ [] → class < self.old.classes → Goes (seat_in self.old) self.new result (visit_from (seat_in self.old) class (noted_in self.old) (kept_in self.old)) }
     {
         self.wait = Wait::PeekTx { class };
         Call::Peek(Ring::Tx(self.socket_of(class)), self.batch)
     }
 
     /// The socket of a class of this port and queue.
-    fn socket_of(&self, class: u32) -> u32 {
-        let (first, _) = (self.pair * self.classes).overflowing_add(class);
-        first
+    fn socket_of(&self, class: u32) -> u32
+        ensures { class < self.now.classes → result ≡ socket_in (seat_in self.now) class }
+    {
+        (self.pair * self.classes).wrapping_add(class)
     }
 
     /// Gives back the frames of the first finished packet, and keeps its bytes.
     fn complete(&mut self, class: u32) -> Call
-        ensures { Gives self.old self.new result }
+        ensures gives { Gives self.old self.new result }
+        ensures goes { 1 ≤ length (kept_in self.old).finished → class ≤ self.old.classes
+            → Goes (seat_in self.old) self.new result (ask (Submit (Comp self.old.pair) (map returned (slice_index_or (kept_in self.old).finished 0 [])))
+            (on_submitted (complete_script (seat_in self.old) (drop 1 (kept_in self.old).finished) (moved (noted_in self.old)) (record (kept_in self.old) { finished = drop 1 (kept_in self.old).finished }) (visit_from (seat_in self.old) class))))  }
     {
         self.turn.progress = true;
         let items = match self.finished.pop_front() {
@@ -422,7 +516,9 @@ impl<'a> Machine<'a> {
 
     /// Keeps the bytes of a packet, and gives its items with their addresses alone.
     fn send(&mut self, packet: Batch) -> Batch
-        ensures { KeepsLimits self.old self.new }
+        ensures limits { KeepsLimits self.old self.new }
+        ensures leaves { Leaves self.old self.new (noted_in self.old) (kept_in self.old) }
+        ensures items { result ≡ map returned packet }
     {
         let mut packet = packet;
         let mut items = Batch::new(self.alloc);
@@ -445,22 +541,24 @@ impl<'a> Machine<'a> {
     }
 
     fn find_tx_empty(&mut self, class: u32) -> Call
-        ensures { Gives self.old self.new result }
+        ensures gives { Gives self.old self.new result }
+        ensures goes { (kept_in self.old).finished ≡ [] → class < self.old.classes → Goes (seat_in self.old) self.new result (visit_from (seat_in self.old) (class + 1) (noted_in self.old) (kept_in self.old)) }
     {
         DriverCounters::raise(&mut self.counters.tx_ring_empty_descs, class, 1);
-        self.go_on(class.saturating_add(1))
+        self.visit(class.saturating_add(1))
     }
 
     /// Puts the items of a TX ring together into packets.
     fn take_tx(&mut self, class: u32, items: Batch) -> Call
-        ensures { Gives self.old self.new result }
+        ensures gives { Gives self.old self.new result }
+        ensures goes { (kept_in self.old).finished ≡ [] → class < self.old.classes
+            → Goes (seat_in self.old) self.new result (ask (Release (Tx (socket_in (seat_in self.old) class)) (length items))
+            (on_released (complete_script (seat_in self.old) (gathered (seat_in self.old) class (kept_in self.old) items).finished (moved (noted_in self.old)) (gathered (seat_in self.old) class (kept_in self.old) items) (visit_from (seat_in self.old) (class + 1))))) }
     {
         let count = items.len();
         let mut items = items;
-        for _ in 0..count {
-            if let Some(item) = items.pop_front() {
-                self.gather(class, item);
-            }
+        while let Some(item) = items.pop_front() {
+            self.gather(class, item);
         }
         self.turn.progress = true;
         self.wait = Wait::ReleaseTx {
@@ -470,7 +568,8 @@ impl<'a> Machine<'a> {
     }
 
     fn gather(&mut self, class: u32, item: Item)
-        ensures { KeepsLimits self.old self.new }
+        ensures limits { KeepsLimits self.old self.new }
+        ensures leaves { class < self.old.classes → length (kept_in self.old).finished < 128 → Leaves self.old self.new (noted_in self.old) (gathered (seat_in self.old) class (kept_in self.old) (item ∷ [])) }
     {
         let Some(gather) = self.gathers.get_mut(class as usize) else {
             return;
@@ -483,7 +582,8 @@ impl<'a> Machine<'a> {
     }
 
     fn finish(&mut self, packet: Batch)
-        ensures { KeepsLimits self.old self.new }
+        ensures limits { KeepsLimits self.old self.new }
+        ensures leaves { length (kept_in self.old).finished < 128 → Leaves self.old self.new (noted_in self.old) (record (kept_in self.old) { finished = (kept_in self.old).finished ++ packet ∷ [] }) }
     {
         if self.finished.len() < MOST_FINISHED {
             self.finished.push_back_reserved(packet);
@@ -492,7 +592,8 @@ impl<'a> Machine<'a> {
 
     /// Keeps the frames of a bad packet, which are not completed.
     fn lose(&mut self, class: u32, items: Batch)
-        ensures { KeepsLimits self.old self.new }
+        ensures limits { KeepsLimits self.old self.new }
+        ensures leaves { Leaves self.old self.new (noted_in self.old) (kept_in self.old) }
     {
         let count = items.len();
         DriverCounters::raise(&mut self.counters.tx_invalid_descs, class, count);
@@ -508,9 +609,10 @@ impl<'a> Machine<'a> {
 
     /// Ends a turn: begins a new one, or looks whether the application sends nothing more, or ends.
     fn idle(&mut self) -> Call
-        ensures { Gives self.old self.new result }
+        ensures gives { Gives self.old self.new result }
+        ensures goes { Goes (seat_in self.old) self.new result (idle_script (seat_in self.old) (noted_in self.old) (kept_in self.old)) }
     {
-        if self.turn.progress || self.turn.full {
+        if self.turn.begins_anew() {
             self.begin()
         } else if self.tx_done {
             self.wait = Wait::TellGone;
@@ -524,23 +626,57 @@ impl<'a> Machine<'a> {
     }
 
     /// The application of this port's and queue's sockets.
-    fn application(&self) -> u32 {
+    fn application(&self) -> u32
+        ensures { result ≡ application_of (seat_in self.now) }
+    {
         (self.port / 2) * self.config.queues() + self.queue
     }
 
     fn learn_tx_done(&mut self, done: u64) -> Call
-        ensures { Gives self.old self.new result }
+        ensures gives { Gives self.old self.new result }
+        ensures goes { Goes (seat_in self.old) self.new result (again (record (kept_in self.old) { tx_done = (kept_in self.old).tx_done || done == 1 })) }
     {
-        if done == 1 {
-            self.tx_done = true;
-        }
+        self.tx_done = is_told(self.tx_done, done);
         self.begin()
     }
 }
 
+/// Whether a mark that was looked at is 1, or was so before.
+fn is_told(before: bool, number: u64) -> bool
+    ensures { result ≡ (before || number == 1) }
+{
+    before || number == 1
+}
+
+/// The packet in the first of some frames, in so many pieces: each in a frame of its own, and each item but the last with
+/// the continuation bit.
+fn lay_out(alloc: Global, geometry: &Geometry, spare: &mut VecDeque<Frame>, packet: &[u8], pieces: u32) -> Batch
+    requires { pieces ≤ 18 }
+    ensures capacity { deque_capacity spare.new ≡ deque_capacity spare.old }
+    ensures whole { (chunk : ℕ) → All (IsWholeFrame chunk) spare.old.items → All (IsWholeFrame chunk) spare.new.items }
+    ensures spare { pieces ≤ length spare.old.items → spare.new.items ≡ drop pieces spare.old.items }
+    ensures items { pieces ≤ length spare.old.items → All (IsWholeFrame geometry.now.chunk) spare.old.items
+        → result ≡ laid_out_in geometry.now packet.now (take pieces spare.old.items) }
+{
+    let payload = geometry.payload() as usize;
+    let mut items = Batch::new(alloc);
+    let mut rest = packet;
+    for done in 0..pieces {
+        let Some(frame) = spare.pop_front() else {
+            break;
+        };
+        let (piece, others) = rest.split_at(payload.min(rest.len()));
+        items.push(laid_out(geometry, frame, piece, done + 1 < pieces));
+        rest = others;
+    }
+    items
+}
+
 /// The item of a piece of a packet in a frame, with the continuation bit where bytes follow.
-fn laid_out(geometry: &Geometry, frame: Frame, piece: &[u8], later: &[u8]) -> Item
+fn laid_out(geometry: &Geometry, frame: Frame, piece: &[u8], continues: bool) -> Item
     requires { length piece.now ≤ 4096 }
+    ensures { (later : List AFrame) → (continues ≡ nat_lt 0 (length later)) → length frame.bytes ≡ geometry.now.chunk → length piece.now ≤ payload_of_geometry geometry.now
+        → result ≡ written_in geometry.now frame piece.now later }
 {
     let mut frame = frame;
     let offset = RESERVED + geometry.headroom();
@@ -552,7 +688,7 @@ fn laid_out(geometry: &Geometry, frame: Frame, piece: &[u8], later: &[u8]) -> It
         desc: XdpDesc {
             addr,
             len: piece.len() as u32,
-            options: if later.is_empty() { 0 } else { CONTINUED },
+            options: if continues { CONTINUED } else { 0 },
         },
         frame: Some(frame),
     }

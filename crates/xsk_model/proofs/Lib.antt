@@ -19,3 +19,4 @@ pub mod OwnRuns
 pub mod Sendings
 pub mod Completions
 pub mod Counts
+pub mod ScriptLemmas

@@ -16,3 +16,4 @@ pub mod Rings
 pub mod Sent
 pub mod Stored
 pub mod Expected
+pub mod Script

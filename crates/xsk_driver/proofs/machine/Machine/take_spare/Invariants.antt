@@ -1,5 +1,12 @@
+use Rattle.std.proofs.Common.{length}
 use Rattle.xsk_driver.specs.Gives.{KeepsLimits}
+use Rattle.xsk_driver.specs.Stands.{seat_in, kept_in, HasRoomFor}
+use Rattle.xsk_driver.proofs.Loops.{Takes}
 use Rattle.xsk_driver.proofs.machine.Machine.take_spare.Given as goal
 
-abbrev pub invariant-loop : goal.invariant-loop
-invariant-loop l = KeepsLimits l.initial.self l.self
+abbrev pub invariant-loop-item : goal.invariant-loop-item
+invariant-loop-item l = KeepsLimits l.initial.self l.self
+    × (HasRoomFor (seat_in l.initial.self) (kept_in l.initial.self) l.initial.items → Takes l.initial.self l.self l.initial.items l.items)
+
+abbrev pub decreases-loop-item : goal.decreases-loop-item
+decreases-loop-item l = length l.items
