@@ -1,8 +1,9 @@
-ghost use Rattle.std.specs.Prelude.{◌≡◌, ℕ, ◌+◌, ◌-◌, ◌*◌, ◌/◌, ◌%◌, ◌<◌, ◌≤◌, IfOk, [], ◌∷◌, length, replicate, vec_len, slice_index};
+ghost use Rattle.std.specs.Prelude.{◌≡◌, List, ℕ, ◌+◌, ◌-◌, ◌*◌, ◌/◌, ◌%◌, ◌<◌, ◌≤◌, IfOk, [], ◌∷◌, length, replicate, vec_len, slice_index};
 ghost use Rattle.std.specs.List.{slice_index_or};
 ghost use Rattle.xsk_model.specs.Config.{IsRegular};
 ghost use Rattle.xsk_model.specs.Marks.{apps_of};
 ghost use Rattle.xsk_app.specs.declared.machine.Way.{Way};
+ghost use Rattle.xsk_model.specs.Entry.{Told};
 ghost use Rattle.xsk_model.specs.Expected.{CanCome, nothing, expected_of};
 
 use crate::back::Back;
@@ -30,7 +31,7 @@ impl<'a> Model for App<'a> {
 }
 
 impl<'a> App<'a> {
-    ghost use Rattle.xsk_app.specs.Standing.{IsNew};
+    ghost use Rattle.xsk_app.specs.Standing.{IsNew, HasGot, Comes};
 
     /// The application with this number, of a regular configuration that has it.
     pub fn new(alloc: Global, config: &'a Config, app: u32) -> Result<App<'a>, OutOfMemory>
@@ -72,6 +73,8 @@ impl<'a> App<'a> {
     pub fn next(&mut self, reply: Option<Reply>) -> Act
         requires { CanCome self.old.expected reply }
         ensures expected { self.new.expected ≡ expected_of result }
+        ensures comes { (l : List Told) → HasGot self.old reply l → Comes self.new result l }
+        ensures same { (self.new.config ≡ self.old.config) × (self.new.app ≡ self.old.app) }
     {
         self.machine.next(reply)
     }
