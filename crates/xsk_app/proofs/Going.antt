@@ -14,7 +14,7 @@ use Rattle.xsk_app.specs.Stands.{left}
 use Rattle.xsk_app.specs.Ways.{IsReady}
 use Rattle.xsk_app.specs.Waits.{expects}
 use Rattle.xsk_app.proofs.Answered.{some_reply, left_goes, call_not_nothing, call_not_ended}
-use Rattle.xsk_app.specs.Standing.{IsOneOf, IsNew, Stands, HasGot, Comes, left_to}
+use Rattle.xsk_app.specs.Standing.{IsOneOf, IsNew, Stands, HasGot, left_to}
 
 -- what a step of the machine is: what is left after it is what was left to do by the reply, and its application is the same
 abbrev pub done_by : Shown → Option Reply → Script Kept
@@ -61,7 +61,7 @@ stands_next s t reply act l step got =
           (subst (λ x. IsLeft (turn s.config s.app) (new_kept s.config) x l) (sym step.turns) on.0);
     }
 
-stands_run : (t : Shown) (act : Act) (l : List Told) → Stands t act l → IsAppRun t.config t.app l
+pub stands_run : (t : Shown) (act : Act) (l : List Told) → Stands t act l → IsAppRun t.config t.app l
 stands_run t (Calls call) l stands = run_left (turn t.config t.app) (new_kept t.config) call (left t.config t.app t.wait t.noted t.kept) l stands.turns
 stands_run t HasEnded l stands =
     whole_run (turn t.config t.app) (new_kept t.config) l (whole_left (turn t.config t.app) (new_kept t.config) l stands.turns)
@@ -74,14 +74,9 @@ not_yet t call l stands expected ready whole =
     (λ e. call_not_nothing call (sym expected ∙ e)) (λ e. call_not_ended call (sym expected ∙ e)))
     stands.turns whole
 
-stands_ended : (t : Shown) (act : Act) (l : List Told) → Stands t act l → expects t.wait ≡ expected_of act
+pub stands_ended : (t : Shown) (act : Act) (l : List Told) → Stands t act l → expects t.wait ≡ expected_of act
     → ((lanes : ℕ) × IsReady t.config lanes t.kept.back t.wait) → (act ≡ HasEnded) ↔ IsWholeAppRun t.config t.app l
 stands_ended t (Calls call) l stands expected ready =
     (λ (e : Calls call ≡ HasEnded). absurd (cc), λ (whole : IsWholeAppRun t.config t.app l). absurd (not_yet t call l stands expected ready whole))
 stands_ended t HasEnded l stands expected ready =
     (λ (e : HasEnded ≡ HasEnded). whole_left (turn t.config t.app) (new_kept t.config) l stands.turns, λ (whole : IsWholeAppRun t.config t.app l). refl)
-
-pub comes : (s t : Shown) (reply : Option Reply) (act : Act) (l : List Told) → IsStep s t reply act → HasGot s reply l → Comes t act l
-comes s t reply act l step got =
-    let stands = stands_next s t reply act l step got in
-    record { stands = stands; run = stands_run t act l stands; ended = stands_ended t act l stands step.expected step.ready }

@@ -5,6 +5,7 @@ use Rattle.xsk_model.specs.Config.{Config, IsConfig, IsRegular}
 use Rattle.xsk_model.specs.Marks.{apps_of}
 use Rattle.xsk_model.specs.Rings.{caller_of}
 use Rattle.xsk_model.specs.Entry.{Told}
+use Rattle.xsk_model.specs.Legal.{IsLegal}
 use Rattle.xsk_model.specs.History.{MayGive}
 use Rattle.xsk_model.specs.Script.{Script, ask, ended, IsLeft}
 use Rattle.xsk_model.specs.declared.call.Call.{Call}
@@ -57,8 +58,16 @@ abbrev pub HasGot : Shown → Option Reply → List Told → Type 0
 HasGot s None l = IsNew s.config s.app s × (l ≡ [])
 HasGot s (Some reply) l = HasGone s reply l
 
--- then it stands for that list, which is a run, and a whole one exactly where it has ended
+-- a call that is given is legal
+abbrev pub IsLegalAct : Config → List Told → ℕ → Act → Type 0
+IsLegalAct c l who (Calls call) = IsLegal c l who call
+IsLegalAct c l who HasEnded = Unit {0}
+
+-- Then it stands for that list, which is a run, and a whole one exactly where it has ended. The call that it gives is legal
+-- after the list, where the application is the configuration's only one: that frames of other applications' homes don't
+-- come to it is no matter then.
 pub record Comes (s : Shown) (act : Act) (l : List Told) : Type 0 where
   pub stands : Stands s act l
   pub run : IsAppRun s.config s.app l
   pub ended : (act ≡ HasEnded) ↔ IsWholeAppRun s.config s.app l
+  pub legal : apps_of s.config ≡ 1 → IsLegalAct s.config l (caller_of s.config s.app) act

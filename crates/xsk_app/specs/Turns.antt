@@ -1,11 +1,12 @@
 -- The turns of the application of ports 2k and 2k + 1 and queue q, without need-wakeup. It has two sides, one for each of
 -- its ports, and a lane from each class of a side to the same class of the other side. A turn visits its lanes, then its
 -- sides, and then looks whether it is at its end. All of this is this project's own.
-use Rattle.std.specs.Prelude.{ℕ, zero, suc, ◌+◌, ◌-◌, ◌*◌, ◌/◌, ◌%◌, ◌==◌, Bool, true, false, ◌&&◌, if◌then◌else◌, Option, Some, None, List, [], ◌∷◌, ◌++◌, length, map, replicate, take}
+use Rattle.std.specs.Prelude.{ℕ, zero, suc, ◌+◌, ◌-◌, ◌*◌, ◌/◌, ◌%◌, ◌==◌, Bool, true, false, ◌&&◌, if◌then◌else◌, Option, Some, None, List, [], ◌∷◌, ◌++◌, length, map, flat_map, replicate, take}
 use Rattle.std.specs.List.{slice_index_or, slice_set, take_while}
 use Rattle.xsk_umem.specs.Frame.{Frame}
 use Rattle.xsk_umem.specs.declared.batch.Item.{Item}
 use Rattle.xsk_model.specs.Config.{Config, pool_of, batch_of, classes_of}
+use Rattle.xsk_model.specs.Numbers.{numbers}
 use Rattle.xsk_model.specs.Opening.{home_item}
 use Rattle.xsk_model.specs.Entry.{Told}
 use Rattle.xsk_model.specs.Script.{Script, ask, again, ended, granted_or_full, on_submitted, items_or_empty, on_released, on_old, IsRun, IsWhole}
@@ -87,6 +88,14 @@ frame_in (Some frame) = frame ∷ []
 abbrev pub frames_in : List Item → List Frame
 frames_in [] = []
 frames_in (item ∷ items) = frame_in item.frame ++ frames_in items
+
+-- the numbers of the frames that it keeps
+abbrev pub frame_numbers : List Frame → List ℕ
+frame_numbers [] = []
+frame_numbers (frame ∷ frames) = frame.number ∷ frame_numbers frames
+
+abbrev pub numbers_kept : Kept → List ℕ
+numbers_kept kept = flat_map numbers kept.pending ++ flat_map frame_numbers kept.back
 
 -- ---- the lanes
 

@@ -1,6 +1,6 @@
 use Rattle.std.proofs.Common.{sym, subst}
 use Rattle.xsk_app.specs.Standing.{HasGot}
-use Rattle.xsk_app.proofs.Going.{comes}
+use Rattle.xsk_app.proofs.LegalRuns.{comes}
 use Rattle.xsk_app.proofs.MachineSteps.{shown, machine_step}
 use Rattle.xsk_app.proofs.app.App.next.Goals as goal
 
