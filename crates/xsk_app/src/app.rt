@@ -1,11 +1,14 @@
-ghost use Rattle.std.specs.Prelude.{◌≡◌, ◌+◌, ◌<◌, ◌≤◌, IfOk, OnOk, length, vec_len};
+ghost use Rattle.std.specs.Prelude.{◌≡◌, List, ℕ, ◌+◌, ◌-◌, ◌*◌, ◌/◌, ◌%◌, ◌<◌, ◌≤◌, IfOk, [], ◌∷◌, length, replicate, vec_len, slice_index};
+ghost use Rattle.std.specs.List.{slice_index_or};
 ghost use Rattle.xsk_model.specs.Config.{IsRegular};
 ghost use Rattle.xsk_model.specs.Marks.{apps_of};
+ghost use Rattle.xsk_app.specs.declared.machine.Way.{Way};
+ghost use Rattle.xsk_model.specs.Entry.{Told};
 ghost use Rattle.xsk_model.specs.Expected.{CanCome, nothing, expected_of};
 
-use crate::machine::{Lane, MOST_BACK, Machine, SIDES, Side, Turn, Wait};
+use crate::back::Back;
+use crate::machine::{Machine, Turn, Wait, Way};
 use std::alloc::Global;
-use std::collections::VecDeque;
 use std::marker::Model;
 use xsk_model::{Act, Config, Reply};
 use xsk_umem::{Batch, OutOfMemory};
@@ -17,34 +20,48 @@ pub struct App<'a> {
 }
 
 impl<'a> Model for App<'a> {
-    ghost use Rattle.xsk_model.specs.Expected.{Expected};
     ghost use Rattle.xsk_app.specs.Shown.{Shown};
-    ghost use Rattle.xsk_app.specs.Waits.{expects};
 
     ghost Value = { Shown };
 
-    ghost view = { λ a. record { expected = expects a.machine.wait } };
+    ghost use Rattle.xsk_app.specs.Waits.{expects};
+    ghost use Rattle.xsk_app.specs.Stands.{noted_by, kept_by};
+
+    ghost view = { λ a. record { expected = expects a.machine.wait; config = a.machine.config.now; app = a.machine.app; wait = a.machine.wait; noted = noted_by a.machine.turn; kept = kept_by a.machine } };
 }
 
 impl<'a> App<'a> {
+    ghost use Rattle.xsk_app.specs.Standing.{IsNew, HasGot, Comes};
+
     /// The application with this number, of a regular configuration that has it.
     pub fn new(alloc: Global, config: &'a Config, app: u32) -> Result<App<'a>, OutOfMemory>
         requires regular { IsRegular config.now }
         requires app { app < apps_of config.now }
-        ensures { IfOk result (λ a. a ≡ record { expected = nothing }) }
+        ensures expected { IfOk result (λ a. a.expected ≡ nothing) }
+        ensures new { IfOk result (λ a. IsNew config.now app a) }
     {
         let queues = config.queues();
         let queue = app % queues;
         let first = 2 * (app / queues) * queues + queue;
         let pairs = [first, first + queues];
+        let classes = config.classes();
         let machine = Machine {
             config,
             app,
             batch: config.batch(),
-            lanes: new_lanes(alloc, pairs, config.classes())?,
-            sides: new_sides(alloc, pairs)?,
+            ways: new_ways(alloc, pairs, classes)?,
+            pairs,
+            pending: new_pending(alloc, 2 * classes as usize)?,
+            backs: new_backs(alloc)?,
+            seen: [false; 2],
+            gone: [false; 2],
             tx_done: false,
-            turn: Turn::default(),
+            turn: Turn {
+                seen: false,
+                gone: false,
+                lanes_empty: true,
+                sides_empty: true,
+            },
             wait: Wait::Start,
             alloc,
         };
@@ -55,53 +72,52 @@ impl<'a> App<'a> {
     #[inline(always)]
     pub fn next(&mut self, reply: Option<Reply>) -> Act
         requires { CanCome self.old.expected reply }
-        ensures { self.new.expected ≡ expected_of result }
+        ensures expected { self.new.expected ≡ expected_of result }
+        ensures comes { (l : List Told) → HasGot self.old reply l → Comes self.new result l }
+        ensures same { (self.new.config ≡ self.old.config) × (self.new.app ≡ self.old.app) }
     {
         self.machine.next(reply)
     }
 }
 
-fn new_sides(alloc: Global, pairs: [u32; 2]) -> Result<Vec<Side>, OutOfMemory>
-    ensures { IfOk result (λ sides. vec_len sides ≡ 2) }
+/// The lanes, by side and class: from each class of each side's pair to the same class of the other side's.
+fn new_ways(alloc: Global, pairs: [u32; 2], classes: u32) -> Result<Vec<Way>, OutOfMemory>
+    requires some { 1 ≤ classes }
+    requires few { classes ≤ 4 }
+    requires first { slice_index pairs 0 < 64 }
+    requires second { slice_index pairs 1 < 64 }
+    ensures count { IfOk result (λ ways. vec_len ways ≡ 2 * classes) }
+    ensures rx { IfOk result (λ ways. (lane : ℕ) (d : Way) → lane < vec_len ways → (slice_index_or ways.items lane d).rx ≡ slice_index pairs (lane / classes) * classes + lane % classes) }
+    ensures tx { IfOk result (λ ways. (lane : ℕ) (d : Way) → lane < vec_len ways → (slice_index_or ways.items lane d).tx ≡ slice_index pairs (1 - lane / classes) * classes + lane % classes) }
 {
-    let mut sides = Vec::with_capacity(alloc, SIDES)?;
-    for pair in pairs {
-        sides.push(Side {
-            pair,
-            back: VecDeque::with_capacity(alloc, MOST_BACK)?,
-            seen: false,
-            gone: false,
+    let mut ways = Vec::with_capacity(alloc, 2 * classes as usize)?;
+    for lane in 0..2 * classes {
+        let side = (lane / classes) as usize;
+        ways.push(Way {
+            rx: pairs[side] * classes + lane % classes,
+            tx: pairs[1 - side] * classes + lane % classes,
         })?;
     }
-    Ok(sides)
+    Ok(ways)
 }
 
-/// A lane from each class of each side's pair to the same class of the other side's.
-fn new_lanes(alloc: Global, pairs: [u32; 2], classes: u32) -> Result<Vec<Lane>, OutOfMemory>
-    requires { 1 ≤ classes }
-    ensures { IfOk result (λ lanes. 1 ≤ vec_len lanes) }
+/// No item for each of so many lanes.
+fn new_pending(alloc: Global, lanes: usize) -> Result<Vec<Batch>, OutOfMemory>
+    ensures { IfOk result (λ pending. pending.items ≡ replicate lanes []) }
 {
-    let mut lanes = Vec::with_capacity(alloc, 2 * classes as usize)?;
-    add_lanes(alloc, &mut lanes, pairs[0], pairs[1], classes)?;
-    add_lanes(alloc, &mut lanes, pairs[1], pairs[0], classes)?;
-    Ok(lanes)
-}
-
-fn add_lanes(
-    alloc: Global,
-    lanes: &mut Vec<Lane>,
-    from: u32,
-    to: u32,
-    classes: u32,
-) -> Result<(), OutOfMemory>
-    ensures { OnOk result (vec_len lanes.new ≡ vec_len lanes.old + classes) }
-{
-    for class in 0..classes {
-        lanes.push(Lane {
-            rx: from.wrapping_mul(classes).wrapping_add(class),
-            tx: to.wrapping_mul(classes).wrapping_add(class),
-            pending: Batch::new(alloc),
-        })?;
+    let mut pending = Vec::with_capacity(alloc, lanes)?;
+    for _ in 0..lanes {
+        pending.push(Batch::new(alloc))?;
     }
-    Ok(())
+    Ok(pending)
+}
+
+/// No frame for each side.
+fn new_backs(alloc: Global) -> Result<Vec<Back>, OutOfMemory>
+    ensures { IfOk result (λ backs. backs.items ≡ [] ∷ [] ∷ []) }
+{
+    let mut backs = Vec::with_capacity(alloc, 2)?;
+    backs.push(Back::new(alloc)?)?;
+    backs.push(Back::new(alloc)?)?;
+    Ok(backs)
 }

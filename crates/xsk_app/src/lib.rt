@@ -3,6 +3,7 @@
 #![tactic(auto)]
 
 mod app;
+mod back;
 mod machine;
 
 pub use app::App;

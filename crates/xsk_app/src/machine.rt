@@ -1,18 +1,18 @@
-ghost use Rattle.std.specs.Prelude.{◌≡◌, ◌<◌, ◌≤◌, length, vec_len};
-ghost use Rattle.std.specs.VecDeque.{deque_capacity};
+ghost use Rattle.std.specs.Prelude.{◌≡◌, ℕ, ◌+◌, ◌-◌, ◌<◌, ◌≤◌, [], ◌∷◌, IfSome, length, vec_len, map, take, drop};
+ghost use Rattle.xsk_model.specs.Config.{batch_of, pool_of};
+ghost use Rattle.xsk_model.specs.Marks.{apps_of};
 ghost use Rattle.xsk_model.specs.Expected.{CanCome, expected_by, expected_of};
+ghost use Rattle.xsk_app.specs.Turns.{lanes_of, pair_of};
+ghost use Rattle.xsk_app.specs.Ways.{AreWays, IsGroup, IsReady, IsReady-prop, first_unset};
 
+use crate::back::Back;
 use std::alloc::Global;
-use std::collections::VecDeque;
 use std::mem;
 use xsk_model::{Act, Call, Config, Mark, Reply, Ring};
-use xsk_umem::{Batch, Frame, Item, XdpDesc};
+use xsk_umem::Batch;
 
 /// The sides of the application: its two ports.
 pub(crate) const SIDES: usize = 2;
-
-/// The most frames that a side gives back at once.
-pub(crate) const MOST_BACK: usize = 32;
 
 /// What the machine waits for, each at its lane or its side. `home` is the pair to which `count` frames go back.
 #[derive(Clone, Copy, Debug)]
@@ -32,31 +32,20 @@ pub(crate) enum Wait {
     Ended,
 }
 
-/// The way from the RX ring of one side's class to the TX ring of the other side.
-#[derive(Drop)]
-pub(crate) struct Lane {
+/// The sockets of a lane: it goes from the RX ring of one side's class to the TX ring of the other side's.
+#[derive(Clone, Copy, Debug)]
+pub(crate) struct Way {
     pub(crate) rx: u32,
     pub(crate) tx: u32,
-    pub(crate) pending: Batch,
 }
 
-/// One port of the application.
-#[derive(Drop)]
-pub(crate) struct Side {
-    pub(crate) pair: u32,
-    pub(crate) back: VecDeque<Frame>,
-    pub(crate) seen: bool,
-    pub(crate) gone: bool,
-    ghost room: { 32 ≤ deque_capacity back },
-}
-
-/// What was so as the turn began, and which lanes and sides had an empty peek in it.
-#[derive(Clone, Copy, Debug, Default)]
+/// What was so as the turn began, and whether each lane and each side visited so far had an empty peek in it.
+#[derive(Clone, Copy, Debug)]
 pub(crate) struct Turn {
     pub(crate) seen: bool,
     pub(crate) gone: bool,
-    pub(crate) empty_lanes: usize,
-    pub(crate) empty_sides: usize,
+    pub(crate) lanes_empty: bool,
+    pub(crate) sides_empty: bool,
 }
 
 /// The application's machine. It makes turns: it moves packets along the lanes, gives frames back, and looks for its
@@ -66,48 +55,66 @@ pub(crate) struct Machine<'a> {
     pub(crate) config: &'a Config,
     pub(crate) app: u32,
     pub(crate) batch: u32,
-    pub(crate) lanes: Vec<Lane>,
-    pub(crate) sides: Vec<Side>,
+    pub(crate) ways: Vec<Way>,
+    pub(crate) pairs: [u32; 2],
+    pub(crate) pending: Vec<Batch>,
+    pub(crate) backs: Vec<Back>,
+    pub(crate) seen: [bool; 2],
+    pub(crate) gone: [bool; 2],
     pub(crate) tx_done: bool,
     pub(crate) turn: Turn,
     pub(crate) wait: Wait,
     pub(crate) alloc: Global,
-    ghost some: { 1 ≤ vec_len lanes },
-    ghost two: { vec_len sides ≡ 2 },
+    ghost pooled: { 1 ≤ pool_of config.now },
+    ghost classed: { 1 ≤ lanes_of config.now },
+    ghost known: { app < apps_of config.now },
+    ghost some: { 1 ≤ batch },
+    ghost few: { batch ≤ 32 },
+    ghost batch_is: { batch ≡ batch_of config.now },
+    ghost ways_are: { AreWays config.now app ways.items },
+    ghost pairs_are: { pairs ≡ pair_of config.now app 0 ∷ pair_of config.now app 1 ∷ [] },
+    ghost lanes: { length pending.items ≡ lanes_of config.now },
+    ghost sides: { length backs.items ≡ 2 },
+    ghost ready: { IsReady config.now (length pending.items) backs.items wait } by { IsReady-prop config.now (length pending.items) backs.items wait },
 }
 
 impl<'a> Machine<'a> {
     ghost use Rattle.xsk_app.specs.Waits.{expects};
+    ghost use Rattle.xsk_app.specs.Turns.{pass_on, receive, visit_lane, visit_lanes, give_back, complete, visit_side, pending_at, with_pending, back_at, with_back, with_seen, with_gone, look_rx_done, look_gone, tell_tx_done, end_or_look, end_turn, turn_sides};
+    ghost use Rattle.xsk_app.specs.Stands.{Does, to_do, doing, by_reply, IsSame, noted_by, kept_by, from_lane, after_full_lane, from_side, after_full_side};
+    ghost use Rattle.xsk_model.specs.Script.{ask, again};
 
     /// Goes on with the reply to the last call.
     #[inline(always)]
     pub(crate) fn next(&mut self, reply: Option<Reply>) -> Act
         requires { CanCome (expects self.old.wait) reply }
-        ensures { expects self.new.wait ≡ expected_of result }
+        ensures expected { expects self.new.wait ≡ expected_of result }
+        ensures turns { Does self.old.config.now self.old.app self.new result (to_do self.old.config.now self.old.app self.old reply) }
+        ensures same { IsSame self.old self.new }
     {
         match self.wait {
             Wait::Start => Act::Call(self.begin()),
             Wait::PeekRx { lane } => match reply {
                 Some(Reply::Items(items)) => Act::Call(self.take_received(lane, items)),
-                Some(Reply::Empty) => self.find_rx_empty(lane),
+                Some(Reply::Empty) => self.go_to_lane(lane + 1),
                 _ => unreachable!(),
             },
             Wait::ReleaseRx { lane } => Act::Call(self.reserve_tx(lane)),
             Wait::ReserveTx { lane } => match reply {
                 Some(Reply::Granted) => Act::Call(self.send_on(lane)),
-                Some(Reply::Full(_)) => self.go_to_lane(lane.saturating_add(1)),
+                Some(Reply::Full(_)) => self.go_on_full_lane(lane),
                 _ => unreachable!(),
             },
-            Wait::SubmitTx { lane } => self.go_to_lane(lane.saturating_add(1)),
+            Wait::SubmitTx { lane } => self.go_on_full_lane(lane),
             Wait::PeekComp { side } => match reply {
                 Some(Reply::Items(items)) => Act::Call(self.take_completed(side, items)),
-                Some(Reply::Empty) => self.find_comp_empty(side),
+                Some(Reply::Empty) => self.go_to_side(side + 1),
                 _ => unreachable!(),
             },
             Wait::ReleaseComp { side } => self.give_back(side),
             Wait::ReserveFill { side, home, count } => match reply {
                 Some(Reply::Granted) => Act::Call(self.refill(side, home, count)),
-                Some(Reply::Full(_)) => self.go_to_side(side.saturating_add(1)),
+                Some(Reply::Full(_)) => self.find_fill_full(side, home, count),
                 _ => unreachable!(),
             },
             Wait::SubmitFill { side } => self.give_back(side),
@@ -129,13 +136,15 @@ impl<'a> Machine<'a> {
 
     /// Begins a turn: with the first lane, or the first side where nothing more is sent.
     fn begin(&mut self) -> Call
-        ensures { expects self.new.wait ≡ expected_by result }
+        ensures expected { expects self.new.wait ≡ expected_by result }
+        ensures turns { Does self.old.config.now self.old.app self.new (Act.Call result) (again (kept_by self.old)) }
+        ensures same { IsSame self.old self.new }
     {
         self.turn = Turn {
-            seen: self.sides[0].seen && self.sides[1].seen,
-            gone: self.sides[0].gone && self.sides[1].gone,
-            empty_lanes: 0,
-            empty_sides: 0,
+            seen: self.seen[0] && self.seen[1],
+            gone: self.gone[0] && self.gone[1],
+            lanes_empty: true,
+            sides_empty: true,
         };
         if self.tx_done {
             self.open_side(0)
@@ -146,160 +155,149 @@ impl<'a> Machine<'a> {
 
     /// Peeks the lane's RX ring, or asks for places on its TX ring where packets are pending.
     fn open_lane(&mut self, lane: usize) -> Call
-        requires { lane < vec_len self.old.lanes }
-        ensures { expects self.new.wait ≡ expected_by result }
+        requires { lane < vec_len self.old.pending }
+        ensures expected { expects self.new.wait ≡ expected_by result }
+        ensures turns { doing self.old.config.now self.old.app self.new (Act.Call result) ≡ from_lane self.old.config.now self.old.app lane (noted_by self.old.turn) (kept_by self.old) }
+        ensures same { IsSame self.old self.new }
     {
-        let here = &self.lanes[lane];
-        if here.pending.is_empty() {
-            let rx = here.rx;
+        if self.pending[lane].is_empty() {
             self.wait = Wait::PeekRx { lane };
-            Call::Peek(Ring::Rx(rx), self.batch)
+            Call::Peek(Ring::Rx(self.ways[lane].rx), self.batch)
         } else {
             self.reserve_tx(lane)
         }
     }
 
     fn go_to_lane(&mut self, lane: usize) -> Act
-        ensures { expects self.new.wait ≡ expected_of result }
+        ensures expected { expects self.new.wait ≡ expected_of result }
+        ensures turns { Does self.old.config.now self.old.app self.new result (from_lane self.old.config.now self.old.app lane (noted_by self.old.turn) (kept_by self.old)) }
+        ensures same { IsSame self.old self.new }
     {
-        if lane < self.lanes.len() {
+        if lane < self.pending.len() {
             Act::Call(self.open_lane(lane))
         } else {
             self.go_to_side(0)
         }
     }
 
-    fn find_rx_empty(&mut self, lane: usize) -> Act
-        ensures { expects self.new.wait ≡ expected_of result }
+    /// Goes on behind a lane that had packets.
+    fn go_on_full_lane(&mut self, lane: usize) -> Act
+        requires { lane < vec_len self.old.pending }
+        ensures expected { expects self.new.wait ≡ expected_of result }
+        ensures turns { Does self.old.config.now self.old.app self.new result (after_full_lane self.old.config.now self.old.app lane (noted_by self.old.turn) (kept_by self.old)) }
+        ensures same { IsSame self.old self.new }
     {
-        self.turn.empty_lanes = self.turn.empty_lanes.saturating_add(1);
-        self.go_to_lane(lane.saturating_add(1))
+        self.turn.lanes_empty = false;
+        self.go_to_lane(lane + 1)
     }
 
     /// Keeps the items that were received on a lane.
     fn take_received(&mut self, lane: usize, items: Batch) -> Call
-        ensures { expects self.new.wait ≡ expected_by result }
+        requires { lane < vec_len self.old.pending }
+        ensures expected { expects self.new.wait ≡ expected_by result }
+        ensures turns { doing self.old.config.now self.old.app self.new (Act.Call result) ≡ receive self.old.config.now self.old.app lane (kept_by self.old) (after_full_lane self.old.config.now self.old.app lane (noted_by self.old.turn)) items }
+        ensures same { IsSame self.old self.new }
     {
         let count = items.len();
         self.wait = Wait::ReleaseRx { lane };
-        match self.lanes.get_mut(lane) {
-            Some(here) => {
-                here.pending = items;
-                Call::Release(Ring::Rx(here.rx), count)
-            }
-            None => Call::Release(Ring::Rx(0), count),
-        }
+        self.pending[lane] = items;
+        Call::Release(Ring::Rx(self.ways[lane].rx), count)
     }
 
     fn reserve_tx(&mut self, lane: usize) -> Call
-        ensures { expects self.new.wait ≡ expected_by result }
+        requires { lane < vec_len self.old.pending }
+        ensures expected { expects self.new.wait ≡ expected_by result }
+        ensures turns { doing self.old.config.now self.old.app self.new (Act.Call result) ≡ pass_on self.old.config.now self.old.app lane (kept_by self.old) (after_full_lane self.old.config.now self.old.app lane (noted_by self.old.turn)) }
+        ensures same { IsSame self.old self.new }
     {
         self.wait = Wait::ReserveTx { lane };
-        match self.lanes.get(lane) {
-            Some(here) => Call::Reserve(Ring::Tx(here.tx), here.pending.len()),
-            None => Call::Reserve(Ring::Tx(0), 1),
-        }
+        Call::Reserve(Ring::Tx(self.ways[lane].tx), self.pending[lane].len())
     }
 
     /// Puts the lane's pending items on its TX ring as they are.
     fn send_on(&mut self, lane: usize) -> Call
-        ensures { expects self.new.wait ≡ expected_by result }
+        requires { lane < vec_len self.old.pending }
+        ensures expected { expects self.new.wait ≡ expected_by result }
+        ensures turns { doing self.old.config.now self.old.app self.new (Act.Call result) ≡ by_reply (pass_on self.old.config.now self.old.app lane (kept_by self.old) (after_full_lane self.old.config.now self.old.app lane (noted_by self.old.turn))) Reply.Granted }
+        ensures same { IsSame self.old self.new }
     {
         self.wait = Wait::SubmitTx { lane };
-        let empty = Batch::new(self.alloc);
-        match self.lanes.get_mut(lane) {
-            Some(here) => Call::Submit(Ring::Tx(here.tx), mem::replace(&mut here.pending, empty)),
-            None => Call::Submit(Ring::Tx(0), empty),
-        }
+        let items = mem::replace(&mut self.pending[lane], Batch::new(self.alloc));
+        Call::Submit(Ring::Tx(self.ways[lane].tx), items)
     }
 
     /// Peeks the side's COMPLETION ring, or gives back the frames that it has.
     fn open_side(&mut self, side: usize) -> Call
         requires { side < 2 }
-        ensures { expects self.new.wait ≡ expected_by result }
+        ensures expected { expects self.new.wait ≡ expected_by result }
+        ensures turns { doing self.old.config.now self.old.app self.new (Act.Call result) ≡ from_side self.old.config.now self.old.app side (noted_by self.old.turn) (kept_by self.old) }
+        ensures same { IsSame self.old self.new }
     {
-        match self.next_home(side) {
+        match self.backs[side].first_group(self.config.pool(), self.batch) {
             Some((home, count)) => self.reserve_fill(side, home, count),
             None => {
                 self.wait = Wait::PeekComp { side };
-                Call::Peek(Ring::Comp(self.sides[side].pair), self.batch)
+                Call::Peek(Ring::Comp(self.pairs[side]), self.batch)
             }
         }
     }
 
     fn go_to_side(&mut self, side: usize) -> Act
-        ensures { expects self.new.wait ≡ expected_of result }
+        ensures expected { expects self.new.wait ≡ expected_of result }
+        ensures turns { Does self.old.config.now self.old.app self.new result (from_side self.old.config.now self.old.app side (noted_by self.old.turn) (kept_by self.old)) }
+        ensures same { IsSame self.old self.new }
     {
         if side < SIDES {
             Act::Call(self.open_side(side))
         } else {
-            self.look_for_end()
+            self.end_turn()
         }
     }
 
-    fn find_comp_empty(&mut self, side: usize) -> Act
-        ensures { expects self.new.wait ≡ expected_of result }
+    /// Goes on behind a side that had frames.
+    fn go_on_full_side(&mut self, side: usize) -> Act
+        requires { side < 2 }
+        ensures expected { expects self.new.wait ≡ expected_of result }
+        ensures turns { Does self.old.config.now self.old.app self.new result (after_full_side self.old.config.now self.old.app side (noted_by self.old.turn) (kept_by self.old)) }
+        ensures same { IsSame self.old self.new }
     {
-        self.turn.empty_sides = self.turn.empty_sides.saturating_add(1);
-        self.go_to_side(side.saturating_add(1))
+        self.turn.sides_empty = false;
+        self.go_to_side(side + 1)
     }
 
-    /// Keeps the frames that were completed on a side.
+    /// Keeps the frames that were completed on a side that had none.
     fn take_completed(&mut self, side: usize, items: Batch) -> Call
-        ensures { expects self.new.wait ≡ expected_by result }
+        requires side { side < 2 }
+        requires empty { length (back_at (kept_by self.old) side) ≡ 0 }
+        ensures expected { expects self.new.wait ≡ expected_by result }
+        ensures turns { doing self.old.config.now self.old.app self.new (Act.Call result) ≡ complete self.old.config.now self.old.app side (kept_by self.old) (after_full_side self.old.config.now self.old.app side (noted_by self.old.turn)) items }
+        ensures same { IsSame self.old self.new }
     {
         let count = items.len();
-        let mut items = items;
-        for _ in 0..count {
-            if let Some(frame) = items.pop_front().and_then(|item| item.frame) {
-                self.keep_back(side, frame);
-            }
-        }
         self.wait = Wait::ReleaseComp { side };
-        Call::Release(Ring::Comp(self.pair_of(side)), count)
-    }
-
-    fn keep_back(&mut self, side: usize, frame: Frame) {
-        if side < SIDES && self.sides[side].back.len() < MOST_BACK {
-            self.sides[side].back.push_back_reserved(frame);
-        }
-    }
-
-    fn pair_of(&self, side: usize) -> u32 {
-        if side < SIDES {
-            self.sides[side].pair
-        } else {
-            0
-        }
+        self.backs[side].keep(items);
+        Call::Release(Ring::Comp(self.pairs[side]), count)
     }
 
     /// Gives back the next frames that have one home, or goes on where the side has none.
     fn give_back(&mut self, side: usize) -> Act
-        ensures { expects self.new.wait ≡ expected_of result }
+        requires { side < 2 }
+        ensures expected { expects self.new.wait ≡ expected_of result }
+        ensures turns { Does self.old.config.now self.old.app self.new result (give_back self.old.config.now side 0 (back_at (kept_by self.old) side) (kept_by self.old) (after_full_side self.old.config.now self.old.app side (noted_by self.old.turn))) }
+        ensures same { IsSame self.old self.new }
     {
-        match self.next_home(side) {
+        match self.backs[side].first_group(self.config.pool(), self.batch) {
             Some((home, count)) => Act::Call(self.reserve_fill(side, home, count)),
-            None => self.go_to_side(side.saturating_add(1)),
+            None => self.go_on_full_side(side),
         }
-    }
-
-    /// The home of the side's first frame, and how many frames from the front have it, at most a batch.
-    fn next_home(&self, side: usize) -> Option<(u32, u32)> {
-        if side >= SIDES {
-            return None;
-        }
-        let pool = self.config.pool();
-        let home = home_of(self.sides[side].back.front()?, pool);
-        let same = self.sides[side]
-            .back
-            .iter()
-            .take_while(|frame| home_of(frame, pool) == home);
-        let count = same.take(self.batch as usize).count();
-        Some((home, count as u32))
     }
 
     fn reserve_fill(&mut self, side: usize, home: u32, count: u32) -> Call
-        ensures { expects self.new.wait ≡ expected_by result }
+        requires side { side < 2 }
+        requires group { IsGroup (pool_of self.old.config.now) (batch_of self.old.config.now) (back_at (kept_by self.old) side) home count }
+        ensures expected { expects self.new.wait ≡ expected_by result }
+        ensures turns { doing self.old.config.now self.old.app self.new (Act.Call result) ≡ give_back self.old.config.now side 0 (back_at (kept_by self.old) side) (kept_by self.old) (after_full_side self.old.config.now self.old.app side (noted_by self.old.turn)) }
+        ensures same { IsSame self.old self.new }
     {
         self.wait = Wait::ReserveFill { side, home, count };
         Call::Reserve(Ring::Fill(home), count)
@@ -307,35 +305,37 @@ impl<'a> Machine<'a> {
 
     /// Puts the side's first frames on the FILL ring of their home.
     fn refill(&mut self, side: usize, home: u32, count: u32) -> Call
-        ensures { expects self.new.wait ≡ expected_by result }
+        requires side { side < 2 }
+        requires group { IsGroup (pool_of self.old.config.now) (batch_of self.old.config.now) (back_at (kept_by self.old) side) home count }
+        ensures expected { expects self.new.wait ≡ expected_by result }
+        ensures turns { doing self.old.config.now self.old.app self.new (Act.Call result) ≡ by_reply (give_back self.old.config.now side 0 (back_at (kept_by self.old) side) (kept_by self.old) (after_full_side self.old.config.now self.old.app side (noted_by self.old.turn))) Reply.Granted }
+        ensures same { IsSame self.old self.new }
     {
-        let mut items = Batch::new(self.alloc);
-        for _ in 0..count.min(MOST_BACK as u32) {
-            match self.take_back(side) {
-                Some(frame) => items.push(home_item(self.config, frame)),
-                None => break,
-            }
-        }
         self.wait = Wait::SubmitFill { side };
+        let items = self.backs[side].give(self.alloc, self.config.geometry(), count);
         Call::Submit(Ring::Fill(home), items)
     }
 
-    fn take_back(&mut self, side: usize) -> Option<Frame> {
-        if side < SIDES {
-            self.sides[side].back.pop_front()
-        } else {
-            None
-        }
+    /// Keeps the side's frames, for which the FILL ring of their home has no room.
+    fn find_fill_full(&mut self, side: usize, _home: u32, _count: u32) -> Act
+        requires side { side < 2 }
+        requires group { IsGroup (pool_of self.old.config.now) (batch_of self.old.config.now) (back_at (kept_by self.old) side) _home _count }
+        ensures expected { expects self.new.wait ≡ expected_of result }
+        ensures turns { (free : ℕ) → Does self.old.config.now self.old.app self.new result (by_reply (give_back self.old.config.now side 0 (back_at (kept_by self.old) side) (kept_by self.old) (after_full_side self.old.config.now self.old.app side (noted_by self.old.turn))) (Reply.Full free)) }
+        ensures same { IsSame self.old self.new }
+    {
+        self.go_on_full_side(side)
     }
 
-    /// Ends a turn, by the facts as they are now: looks whether the drivers have further packets, then tells that
-    /// nothing more is sent, then looks whether the drivers have ended, then ends.
-    fn look_for_end(&mut self) -> Act
-        ensures { expects self.new.wait ≡ expected_of result }
+    /// Ends a turn, by the facts as they are now.
+    fn end_turn(&mut self) -> Act
+        ensures expected { expects self.new.wait ≡ expected_of result }
+        ensures turns { Does self.old.config.now self.old.app self.new result (end_turn self.old.config.now self.old.app (noted_by self.old.turn) (kept_by self.old)) }
+        ensures same { IsSame self.old self.new }
     {
         if self.tx_done {
-            self.look_for_gone()
-        } else if self.sides[0].seen && self.sides[1].seen {
+            self.end_or_look()
+        } else if self.seen[0] && self.seen[1] {
             Act::Call(self.end_sending())
         } else {
             Act::Call(self.look_rx_done(0))
@@ -344,31 +344,39 @@ impl<'a> Machine<'a> {
 
     /// Looks at the first side from this one on that has not told that it has no further packet.
     fn look_rx_done(&mut self, side: usize) -> Call
-        ensures { expects self.new.wait ≡ expected_by result }
+        requires { side ≤ 2 }
+        ensures expected { expects self.new.wait ≡ expected_by result }
+        ensures turns { Does self.old.config.now self.old.app self.new (Act.Call result) (look_rx_done self.old.config.now self.old.app (2 - side) side (kept_by self.old)) }
+        ensures same { IsSame self.old self.new }
     {
-        for other in side..SIDES {
-            if !self.sides[other].seen {
-                self.wait = Wait::LookRxDone { side: other };
-                return Call::Look(Mark::RxDone(self.sides[other].pair));
+        match first_unset(self.seen, side) {
+            Some(side) => {
+                self.wait = Wait::LookRxDone { side };
+                Call::Look(Mark::RxDone(self.pairs[side]))
             }
+            None => self.begin(),
         }
-        self.begin()
     }
 
     fn learn_rx_done(&mut self, side: usize, done: u64) -> Call
-        ensures { expects self.new.wait ≡ expected_by result }
+        requires { side < 2 }
+        ensures expected { expects self.new.wait ≡ expected_by result }
+        ensures turns { Does self.old.config.now self.old.app self.new (Act.Call result) (look_rx_done self.old.config.now self.old.app (2 - (side + 1)) (side + 1) (with_seen (kept_by self.old) side done)) }
+        ensures same { IsSame self.old self.new }
     {
-        if side < SIDES && done == 1 {
-            self.sides[side].seen = true;
+        if done == 1 {
+            self.seen[side] = true;
         }
-        self.look_rx_done(side.saturating_add(1))
+        self.look_rx_done(side + 1)
     }
 
     /// Tells that nothing more is sent, where both sides were seen as the turn began and each lane was empty in it.
     fn end_sending(&mut self) -> Call
-        ensures { expects self.new.wait ≡ expected_by result }
+        ensures expected { expects self.new.wait ≡ expected_by result }
+        ensures turns { Does self.old.config.now self.old.app self.new (Act.Call result) (tell_tx_done self.old.app (noted_by self.old.turn) (kept_by self.old)) }
+        ensures same { IsSame self.old self.new }
     {
-        if self.turn.seen && self.turn.empty_lanes == self.lanes.len() {
+        if self.turn.seen && self.turn.lanes_empty {
             self.wait = Wait::TellTxDone;
             Call::Swap(Mark::TxDone(self.app), 1)
         } else {
@@ -377,11 +385,13 @@ impl<'a> Machine<'a> {
     }
 
     /// Ends where both drivers had ended as the turn began and nothing is left to give back, and else looks for them.
-    fn look_for_gone(&mut self) -> Act
-        ensures { expects self.new.wait ≡ expected_of result }
+    fn end_or_look(&mut self) -> Act
+        ensures expected { expects self.new.wait ≡ expected_of result }
+        ensures turns { Does self.old.config.now self.old.app self.new result (end_or_look self.old.config.now self.old.app (noted_by self.old.turn) (kept_by self.old)) }
+        ensures same { IsSame self.old self.new }
     {
-        let nothing_left = self.sides[0].back.is_empty() && self.sides[1].back.is_empty();
-        if self.turn.gone && self.turn.empty_sides == SIDES && nothing_left {
+        let nothing_left = self.backs[0].is_empty() && self.backs[1].is_empty();
+        if self.turn.gone && self.turn.sides_empty && nothing_left {
             self.wait = Wait::Ended;
             return Act::Ended;
         }
@@ -390,41 +400,43 @@ impl<'a> Machine<'a> {
 
     /// Looks at the first side from this one on whose driver isn't known to have ended.
     fn look_gone(&mut self, side: usize) -> Call
-        ensures { expects self.new.wait ≡ expected_by result }
+        requires { side ≤ 2 }
+        ensures expected { expects self.new.wait ≡ expected_by result }
+        ensures turns { Does self.old.config.now self.old.app self.new (Act.Call result) (look_gone self.old.config.now self.old.app (2 - side) side (kept_by self.old)) }
+        ensures same { IsSame self.old self.new }
     {
-        for other in side..SIDES {
-            if !self.sides[other].gone {
-                self.wait = Wait::LookGone { side: other };
-                return Call::Look(Mark::Gone(self.sides[other].pair));
+        match first_unset(self.gone, side) {
+            Some(side) => {
+                self.wait = Wait::LookGone { side };
+                Call::Look(Mark::Gone(self.pairs[side]))
             }
+            None => self.begin(),
         }
-        self.begin()
     }
 
     fn learn_gone(&mut self, side: usize, gone: u64) -> Call
-        ensures { expects self.new.wait ≡ expected_by result }
+        requires { side < 2 }
+        ensures expected { expects self.new.wait ≡ expected_by result }
+        ensures turns { Does self.old.config.now self.old.app self.new (Act.Call result) (look_gone self.old.config.now self.old.app (2 - (side + 1)) (side + 1) (with_gone (kept_by self.old) side gone)) }
+        ensures same { IsSame self.old self.new }
     {
-        if side < SIDES && gone == 1 {
-            self.sides[side].gone = true;
+        if gone == 1 {
+            self.gone[side] = true;
         }
-        self.look_gone(side.saturating_add(1))
+        self.look_gone(side + 1)
     }
 }
 
-/// The pair in whose pool a frame was at the opening.
-fn home_of(frame: &Frame, pool: u32) -> u32 {
-    frame.number().checked_div(pool).unwrap_or(0)
-}
-
-/// The item of a frame on FILL: its base address, with no length and no options.
-fn home_item(config: &Config, frame: Frame) -> Item {
-    let addr = u64::from(frame.number()) * u64::from(config.geometry().chunk());
-    Item {
-        frame: Some(frame),
-        desc: XdpDesc {
-            addr,
-            len: 0,
-            options: 0,
-        },
+/// The first side from this one on that isn't set.
+fn first_unset(flags: [bool; 2], side: usize) -> Option<usize>
+    requires { side ≤ 2 }
+    ensures value { result ≡ first_unset flags (2 - side) side }
+    ensures below { IfSome result (λ other. other < 2) }
+{
+    for other in side..SIDES {
+        if !flags[other] {
+            return Some(other);
+        }
     }
+    None
 }

@@ -1,0 +1,10 @@
+pub mod TurnLemmas
+pub mod Owned
+pub mod Seats
+pub mod Steps
+pub mod Answered
+pub mod Fresh
+pub mod Going
+pub mod LegalRuns
+pub mod Legality
+pub mod MachineSteps

@@ -1,0 +1,137 @@
+-- Which rings and marks an application has: those of its lanes and sides, and the FILL ring of each home where it is alone.
+use Rattle.std.proofs.Common.{◌≡◌, ℕ, suc, ◌+◌, ◌-◌, ◌*◌, ◌/◌, ◌%◌, ◌<◌, ◌≤◌, ◌⊎◌, length, sym, ap, ◌∙◌, arith, mul-le-mul_right}
+use Rattle.std.proofs.Math.Nat.{mod-eq-sub-div-mul}
+use Rattle.std.proofs.lemmas.Nat.{div-mul-add, div_below, div-add-mod'}
+use Rattle.xsk_model.specs.Config.{Config, HasRing, pool_of, batch_of, classes_of, callers_of}
+use Rattle.xsk_model.specs.Marks.{apps_of}
+use Rattle.xsk_model.specs.Rings.{caller_of, application_on, app_of, producer, consumer}
+use Rattle.xsk_model.specs.declared.call.Ring.TheVariants.{Fill, Comp, Rx, Tx}
+use Rattle.xsk_model.proofs.Roles.{app_of_below}
+use Rattle.xsk_app.specs.Turns.{pair_of, socket_of, rx_of, tx_of, lanes_of}
+use Rattle.xsk_app.specs.Standing.{IsOneOf}
+use Rattle.xsk_app.proofs.Fresh.{side_below, batch_some, batch_few}
+
+pub record Seats (c : Config) (a : ℕ) : Type 0 where
+  pub known : a < apps_of c
+  pub caller : caller_of c a < callers_of c
+  pub rx : (lane : ℕ) → lane < lanes_of c → HasRing c (Rx (rx_of c a lane)) × (caller_of c a ≡ consumer c (Rx (rx_of c a lane)))
+  pub tx : (lane : ℕ) → lane < lanes_of c → HasRing c (Tx (tx_of c a lane)) × (caller_of c a ≡ producer c (Tx (tx_of c a lane)))
+  pub comp : (side : ℕ) → side < 2 → (pair_of c a side < length c.pairs) × (caller_of c a ≡ consumer c (Comp (pair_of c a side)))
+  pub fill : (home : ℕ) → home < length c.pairs → caller_of c a ≡ producer c (Fill home)
+  pub home : (number : ℕ) → number < c.geometry.frames → number / pool_of c < length c.pairs
+  pub batch_some : 1 ≤ batch_of c
+  pub batch_few : batch_of c ≤ 32
+
+-- ---- numbers
+
+mod-mul-add : (a w b : ℕ) → b < w → (a * w + b) % w ≡ b
+mod-mul-add a w b h = omega (arith, mod-eq-sub-div-mul (a * w + b) w, ap (λ (n : ℕ). n * w) (div-mul-add a w b h))
+
+queues_some : (q : ℕ) → (q ≡ 1) ⊎ (q ≡ 2) ⊎ (q ≡ 4) → 1 ≤ q
+queues_some q h = omega (arith, h)
+
+side_port : (x side ports : ℕ) → (ports ≡ 2) ⊎ (ports ≡ 4) → x < ports / 2 → side < 2 → suc (2 * x + side) ≤ ports
+side_port x side ports even h k = omega (arith, even)
+
+within : (x q r n : ℕ) → r < q → suc x * q ≤ n → x * q + r < n
+within x q r n h k = omega arith
+
+-- ---- the pair of a side
+
+module _ (c : Config) (a : ℕ) (one : IsOneOf c a) where
+  some : 1 ≤ c.queues
+  some = queues_some c.queues one.config.queues
+
+  rest : a % c.queues < c.queues
+  rest = let h = some in omega arith
+
+  pub pair_below : (side : ℕ) → side < 2 → pair_of c a side < length c.pairs
+  pair_below side h =
+      let x = a / c.queues in
+      let low : x < c.ports / 2 = div_below a c.queues (c.ports / 2) some one.known in
+      let ports : suc (2 * x + side) ≤ c.ports = side_port x side c.ports one.config.ports low h in
+      let most : suc (2 * x + side) * c.queues ≤ c.ports * c.queues = mul-le-mul_right c.queues ports in
+      within (2 * x + side) c.queues (a % c.queues) (length c.pairs) rest (omega (arith, most, one.regular.pairs))
+
+  pair_port : (side : ℕ) → pair_of c a side / c.queues ≡ 2 * (a / c.queues) + side
+  pair_port side = div-mul-add (2 * (a / c.queues) + side) c.queues (a % c.queues) rest
+
+  pair_queue : (side : ℕ) → pair_of c a side % c.queues ≡ a % c.queues
+  pair_queue side = mod-mul-add (2 * (a / c.queues) + side) c.queues (a % c.queues) rest
+
+  half : (x side port : ℕ) → port ≡ 2 * x + side → side < 2 → port / 2 ≡ x
+  half x side port e h = omega arith
+
+  -- the application of a port and queue that are the pair's is this one
+  pub own_app : (side port queue : ℕ) → side < 2 → port ≡ pair_of c a side / c.queues → queue ≡ pair_of c a side % c.queues
+      → application_on c port queue ≡ a
+  own_app side port queue h e f =
+      let x = a / c.queues in
+      let p : port / 2 ≡ x = half x side port (e ∙ pair_port side) h in
+      ap (λ (n : ℕ). n * c.queues + queue) p ∙ ap (λ (n : ℕ). x * c.queues + n) (f ∙ pair_queue side) ∙ div-add-mod' a c.queues
+
+  pub comp_seat : (side : ℕ) → side < 2 → (pair_of c a side < length c.pairs) × (caller_of c a ≡ consumer c (Comp (pair_of c a side)))
+  comp_seat side h =
+      let below = pair_below side h in
+      let at = one.regular.seats (pair_of c a side) below in
+      (below, ap (caller_of c) (sym (own_app side _ _ h at.0 at.1)))
+
+  -- ---- the socket of a side's class
+
+  classes_some : 1 ≤ classes_of c
+  classes_some = queues_some (classes_of c) one.regular.classes
+
+  pub socket_below : (side class : ℕ) → side < 2 → class < classes_of c → socket_of c a side class < length c.sockets
+  socket_below side class h k =
+      let below = pair_below side h in
+      let most : suc (pair_of c a side) * classes_of c ≤ length c.pairs * classes_of c = mul-le-mul_right (classes_of c) below in
+      within (pair_of c a side) (classes_of c) class (length c.sockets) k (omega (arith, most, one.regular.sockets))
+
+  pub socket_pair : (side class : ℕ) → class < classes_of c → socket_of c a side class / classes_of c ≡ pair_of c a side
+  socket_pair side class k = div-mul-add (pair_of c a side) (classes_of c) class k
+
+  rx_seat : (side class : ℕ) → side < 2 → class < classes_of c
+      → HasRing c (Rx (socket_of c a side class)) × (caller_of c a ≡ consumer c (Rx (socket_of c a side class)))
+  rx_seat side class h k =
+      let below = socket_below side class h k in
+      let at = one.regular.places (socket_of c a side class) below in
+      let e = socket_pair side class k in
+      ((below, at.2), ap (caller_of c) (sym (own_app side _ _ h (at.0 ∙ ap (λ (n : ℕ). n / c.queues) e) (at.1 ∙ ap (λ (n : ℕ). n % c.queues) e))))
+
+  tx_seat : (side class : ℕ) → side < 2 → class < classes_of c
+      → HasRing c (Tx (socket_of c a side class)) × (caller_of c a ≡ producer c (Tx (socket_of c a side class)))
+  tx_seat side class h k =
+      let below = socket_below side class h k in
+      let at = one.regular.places (socket_of c a side class) below in
+      let e = socket_pair side class k in
+      ((below, at.3), ap (caller_of c) (sym (own_app side _ _ h (at.0 ∙ ap (λ (n : ℕ). n / c.queues) e) (at.1 ∙ ap (λ (n : ℕ). n % c.queues) e))))
+
+  class_below : (lane : ℕ) → lane % classes_of c < classes_of c
+  class_below lane = let h = classes_some in omega arith
+
+  -- ---- the homes
+
+  fill_seat : apps_of c ≡ 1 → (home : ℕ) → home < length c.pairs → caller_of c a ≡ producer c (Fill home)
+  fill_seat alone home h =
+      let below : app_of c (Fill home) < callers_of c = app_of_below c (Fill home) one.config h in
+      let known = one.known in
+      omega (arith, below, known, alone)
+
+  home_seat : (number : ℕ) → number < c.geometry.frames → number / pool_of c < length c.pairs
+  home_seat number h =
+      let whole = div-add-mod' c.geometry.frames (length c.pairs) in
+      let e : length c.pairs * pool_of c ≡ c.geometry.frames = omega (arith, whole, one.regular.lawful.divides) in
+      div_below number (pool_of c) (length c.pairs) one.regular.lawful.some (omega (arith, e))
+
+  pub seats : apps_of c ≡ 1 → Seats c a
+  seats alone = record {
+    known = one.known;
+    caller = (let known = one.known in omega (arith, known));
+    rx = λ lane h. rx_seat (lane / classes_of c) (lane % classes_of c) (side_below (classes_of c) lane one.regular.classes h) (class_below lane);
+    tx = λ lane h. tx_seat (1 - lane / classes_of c) (lane % classes_of c) (omega arith) (class_below lane);
+    comp = comp_seat;
+    fill = fill_seat alone;
+    home = home_seat;
+    batch_some = batch_some c one.config;
+    batch_few = batch_few c;
+  }

@@ -1,0 +1,35 @@
+use Rattle.std.proofs.Common.{rules, arith, ◌≡◌, ◌+◌, ◌*◌, ◌/◌, ◌%◌, ◌≤◌, length}
+use Rattle.xsk_app.specs.Turns.{pair_of, lanes_of}
+use Rattle.xsk_app.specs.Ways.{AreWays}
+use Rattle.xsk_app.proofs.Fresh.{batch_few, batch_some, ways_from, first_pair, second_pair, both_pairs}
+use Rattle.xsk_app.proofs.app.App.new.Goals as goal
+
+pub invariant_of-machine : goal.invariant_of-machine
+invariant_of-machine c =
+    let k = c.args.config.now in
+    let q = c.queues-queues.result in
+    let e = c.queues-queues.ensures.value in
+    let first = first_pair k c.args.app q e in
+    let second = second_pair k c.args.app q e in
+    let d0 = 2 * (c.args.app / q) * q + c.args.app % q in
+    let d1 = 2 * (c.args.app / q) * q + c.args.app % q + q in
+    let some : 1 ≤ c.batch.result = omega (arith, c.batch.ensures, batch_some k c.queues-queues.ensures.lawful) in
+    let few : c.batch.result ≤ 32 = omega (arith, c.batch.ensures, batch_few k) in
+    let ways : AreWays k c.args.app c.in_ok-new_ways.field-0.items =
+    ways_from k c.args.app d0 d1 c.classes-classes.result c.in_ok-new_ways.field-0.items first second c.classes-classes.ensures c.requires.regular.classes
+    (search rules) (search rules) (search rules) in
+    let lanes : length c.in_ok-new_pending.field-0.items ≡ lanes_of k = search rules in
+    let sides : length c.in_ok-new_backs.field-0.items ≡ 2 = search rules in
+    record {
+      pooled = c.requires.regular.lawful.some;
+      classed = omega (arith, c.requires.regular.classes);
+      known = c.requires.app;
+      some = some;
+      few = few;
+      batch_is = c.batch.ensures;
+      ways_are = ways;
+      pairs_are = both_pairs d0 d1 (pair_of k c.args.app 0) (pair_of k c.args.app 1) first second;
+      lanes = lanes;
+      sides = sides;
+      ready = tt;
+    }

@@ -1,0 +1,13 @@
+use Rattle.std.proofs.Common.{rules, arith, ◌≡◌, ◌<◌, []}
+use Rattle.xsk_app.specs.Turns.{lanes_of, rx_of, pending_at}
+use Rattle.xsk_app.specs.Stands.{noted_by, kept_by}
+use Rattle.xsk_app.proofs.Steps.{peek_lane}
+use Rattle.xsk_app.proofs.machine.Machine.open_lane.Goals as goal
+
+pub returns-then-is_empty-clause-turns : goal.returns-then-is_empty-clause-turns
+returns-then-is_empty-clause-turns c =
+    let m = c.args.self.now in
+    let here : c.args.lane < lanes_of m.config.now = omega (arith, c.requires, m.lanes) in
+    let empty : pending_at (kept_by m) c.args.lane ≡ [] = search rules in
+    let rx : c.index-then-is_empty.result.now.rx ≡ rx_of m.config.now m.app c.args.lane = search rules in
+    peek_lane m.config.now m.app c.args.lane (noted_by m.turn) (kept_by m) c.index-then-is_empty.result.now.rx m.batch here empty rx m.batch_is

@@ -1,0 +1,69 @@
+-- What an application's machine has of its configuration, and where it may wait.
+use Rattle.std.specs.Prelude.{◌≡◌, ℕ, zero, suc, ◌+◌, ◌<◌, Bool, if◌then◌else◌, Option, Some, None, List, [], ◌∷◌, length}
+use Rattle.std.specs.List.{slice_index_or}
+use Rattle.std.specs.Coded.{×_prop, Unit-prop, le_prop}
+use Rattle.std.proofs.Props.{props}
+use Rattle.xsk_umem.specs.Frame.{Frame}
+use Rattle.xsk_model.specs.Config.{Config, pool_of, batch_of}
+use Rattle.xsk_app.specs.Turns.{rx_of, tx_of, lanes_of, home_of, group_of, is_set}
+use Rattle.xsk_app.specs.declared.machine.Way.{Way}
+use Rattle.xsk_app.specs.declared.machine.Wait.{Wait}
+use Rattle.xsk_app.specs.declared.machine.Wait.TheVariants.{Start, PeekRx, ReleaseRx, ReserveTx, SubmitTx, PeekComp, ReleaseComp, ReserveFill, SubmitFill, LookRxDone, TellTxDone, LookGone, Ended}
+
+-- each lane has its sockets
+pub record AreWays (c : Config) (app : ℕ) (ways : List Way) : Type 0 where
+  pub count : length ways ≡ lanes_of c
+  pub rx : (lane : ℕ) (d : Way) → lane < length ways → (slice_index_or ways lane d).rx ≡ rx_of c app lane
+  pub tx : (lane : ℕ) (d : Way) → lane < length ways → (slice_index_or ways lane d).tx ≡ tx_of c app lane
+
+-- the home and the number of the frames that a side gives back next
+abbrev pub IsGroup : ℕ → ℕ → List Frame → ℕ → ℕ → Type 0
+IsGroup pool batch [] home count = ⊥
+IsGroup pool batch (frame ∷ frames) home count = (home ≡ home_of pool frame) × (count ≡ length (group_of pool batch frame frames))
+
+-- Where it waits there is such a lane or side. It peeks COMPLETION where the side has nothing to give back, and it asks
+-- for places on FILL for the frames that the side gives back next.
+abbrev pub IsReady : Config → ℕ → List (List Frame) → Wait → Type 0
+IsReady c lanes back Start = Unit {0}
+IsReady c lanes back (PeekRx lane) = lane < lanes
+IsReady c lanes back (ReleaseRx lane) = lane < lanes
+IsReady c lanes back (ReserveTx lane) = lane < lanes
+IsReady c lanes back (SubmitTx lane) = lane < lanes
+IsReady c lanes back (PeekComp side) = (side < 2) × (length (slice_index_or back side []) ≡ 0)
+IsReady c lanes back (ReleaseComp side) = side < 2
+IsReady c lanes back (ReserveFill side home count) = (side < 2) × IsGroup (pool_of c) (batch_of c) (slice_index_or back side []) home count
+IsReady c lanes back (SubmitFill side) = side < 2
+IsReady c lanes back (LookRxDone side) = side < 2
+IsReady c lanes back TellTxDone = Unit {0}
+IsReady c lanes back (LookGone side) = side < 2
+IsReady c lanes back Ended = Unit {0}
+
+-- the first of so many more sides, from this one on, that isn't set
+abbrev pub first_unset : List Bool → ℕ → ℕ → Option ℕ
+first_unset flags zero side = None
+first_unset flags (suc more) side = if is_set flags side then first_unset flags more (side + 1) else Some side
+
+-- each of these facts has at most one proof
+same_number : (m n : ℕ) → IsProp (m ≡ n)
+same_number m n = hlevel props
+
+IsGroup-prop : (pool batch : ℕ) (back : List Frame) (home count : ℕ) → IsProp (IsGroup pool batch back home count)
+IsGroup-prop pool batch [] home count = hlevel props
+IsGroup-prop pool batch (frame ∷ frames) home count =
+    ×_prop (same_number home (home_of pool frame)) (same_number count (length (group_of pool batch frame frames)))
+
+pub IsReady-prop : (c : Config) (lanes : ℕ) (back : List (List Frame)) (wait : Wait) → IsProp (IsReady c lanes back wait)
+IsReady-prop c lanes back Start = Unit-prop
+IsReady-prop c lanes back (PeekRx lane) = le_prop
+IsReady-prop c lanes back (ReleaseRx lane) = le_prop
+IsReady-prop c lanes back (ReserveTx lane) = le_prop
+IsReady-prop c lanes back (SubmitTx lane) = le_prop
+IsReady-prop c lanes back (PeekComp side) = ×_prop le_prop (same_number (length (slice_index_or back side [])) 0)
+IsReady-prop c lanes back (ReleaseComp side) = le_prop
+IsReady-prop c lanes back (ReserveFill side home count) =
+    ×_prop le_prop (IsGroup-prop (pool_of c) (batch_of c) (slice_index_or back side []) home count)
+IsReady-prop c lanes back (SubmitFill side) = le_prop
+IsReady-prop c lanes back (LookRxDone side) = le_prop
+IsReady-prop c lanes back TellTxDone = Unit-prop
+IsReady-prop c lanes back (LookGone side) = le_prop
+IsReady-prop c lanes back Ended = Unit-prop

@@ -1,0 +1,118 @@
+ghost use Rattle.std.specs.Prelude.{◌≡◌, ◌==◌, ◌<◌, ◌≤◌, [], ◌↔◌, IsTrue, IfOk, IsNone, IfSome, length, map, take, drop};
+ghost use Rattle.std.specs.List.{take_while};
+ghost use Rattle.xsk_model.specs.Opening.{home_item};
+ghost use Rattle.xsk_app.specs.Turns.{home_of};
+
+use std::alloc::Global;
+use std::collections::VecDeque;
+use std::marker::Model;
+use xsk_umem::{Batch, Frame, Geometry, Item, OutOfMemory, XdpDesc};
+
+/// The most frames that a side has to give back: those of one batch.
+const MOST_BACK: usize = 32;
+
+/// The frames that a side has yet to give back, in order.
+#[derive(Drop)]
+pub(crate) struct Back {
+    frames: VecDeque<Frame>,
+}
+
+impl Model for Back {
+    ghost use Rattle.std.specs.Prelude.{◌≤◌, List};
+    ghost use Rattle.std.specs.VecDeque.{deque_capacity};
+    ghost use Rattle.xsk_umem.specs.Frame.{Frame};
+
+    ghost Value = { List Frame };
+
+    ghost view = { λ b. b.frames.items };
+
+    ghost invariant = { λ b. 32 ≤ deque_capacity b.frames };
+}
+
+impl Back {
+    ghost use Rattle.xsk_app.specs.Turns.{frames_in};
+    ghost use Rattle.xsk_app.specs.Ways.{IsGroup};
+
+    pub(crate) fn new(alloc: Global) -> Result<Back, OutOfMemory>
+        ensures { IfOk result (λ back. back ≡ []) }
+    {
+        Ok(Back {
+            frames: VecDeque::with_capacity(alloc, MOST_BACK)?,
+        })
+    }
+
+    pub(crate) fn is_empty(&self) -> bool
+        ensures { IsTrue result ↔ (self.now ≡ []) }
+    {
+        self.frames.is_empty()
+    }
+
+    /// Keeps the frames of items that were taken. None may stand here before.
+    pub(crate) fn keep(&mut self, items: Batch)
+        requires { self.old ≡ [] }
+        ensures { self.new ≡ frames_in items }
+    {
+        let count = items.len();
+        let mut items = items;
+        for _ in 0..count {
+            if let Some(frame) = items.pop_front().and_then(|item| item.frame) {
+                self.frames.push_back_reserved(frame);
+            }
+        }
+    }
+
+    /// The home of the first frame, and how many frames from the front have it, at most a batch.
+    pub(crate) fn first_group(&self, pool: u32, batch: u32) -> Option<(u32, u32)>
+        requires pool { 0 < pool }
+        requires batch { batch ≤ 32 }
+        ensures none { IsNone result ↔ (self.now ≡ []) }
+        ensures some { IfSome result (λ group. IsGroup pool batch self.now group.0 group.1) }
+    {
+        let home = self.frames.front()?.number() / pool;
+        let count = count_at_home(&self.frames, pool, home, batch as usize);
+        Some((home, count as u32))
+    }
+
+    /// Takes so many of the first frames, as items for FILL. So many must stand here.
+    pub(crate) fn give(&mut self, alloc: Global, geometry: &Geometry, count: u32) -> Batch
+        requires few { count ≤ 32 }
+        requires here { count ≤ length self.old }
+        ensures items { result ≡ map (home_item geometry.now) (take count self.old) }
+        ensures left { self.new ≡ drop count self.old }
+    {
+        let mut items = Batch::new(alloc);
+        for _ in 0..count {
+            if let Some(frame) = self.frames.pop_front() {
+                items.push(fill_item(geometry, frame));
+            }
+        }
+        items
+    }
+}
+
+/// The item of a frame on FILL: its base address, with no length and no options.
+fn fill_item(geometry: &Geometry, frame: Frame) -> Item
+    ensures { result ≡ home_item geometry.now frame }
+{
+    let addr = u64::from(frame.number()) * u64::from(geometry.chunk());
+    Item {
+        frame: Some(frame),
+        desc: XdpDesc {
+            addr,
+            len: 0,
+            options: 0,
+        },
+    }
+}
+
+/// How many frames from the front have this home, at most so many.
+fn count_at_home(frames: &VecDeque<Frame>, pool: u32, home: u32, most: usize) -> usize
+    requires { 0 < pool }
+    ensures { result ≡ length (take most (take_while (λ frame. home_of pool frame == home) frames.now.items)) }
+{
+    frames
+        .iter()
+        .take_while(|frame| frame.number() / pool == home)
+        .take(most)
+        .count()
+}
