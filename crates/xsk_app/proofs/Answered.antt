@@ -86,25 +86,25 @@ some_reply TellTxDone = Old 0
 some_reply (LookGone side) = Old 0
 some_reply Ended = Granted
 
-pub left_goes : (c : Config) (app lanes : ℕ) (wait : Wait) (noted : Noted) (kept : Kept) → IsReady c lanes kept.back wait
+pub left_goes : (c : Config) (app : ℕ) (pending : List (List Item)) (wait : Wait) (noted : Noted) (kept : Kept) → IsReady c pending kept.back wait
     → expects wait ≢ nothing → expects wait ≢ has_ended → Goes (left c app wait noted kept (some_reply wait))
-left_goes c app lanes Start noted kept ready first last = absurd (first refl)
-left_goes c app lanes (PeekRx lane) noted kept ready first last = λ e. cc
-left_goes c app lanes (ReleaseRx lane) noted kept ready first last = λ e. cc
-left_goes c app lanes (ReserveTx lane) noted kept ready first last = λ e. cc
-left_goes c app lanes (SubmitTx lane) noted kept ready first last =
+left_goes c app pending Start noted kept ready first last = absurd (first refl)
+left_goes c app pending (PeekRx lane) noted kept ready first last = λ e. cc
+left_goes c app pending (ReleaseRx lane) noted kept ready first last = λ e. cc
+left_goes c app pending (ReserveTx lane) noted kept ready first last = λ e. cc
+left_goes c app pending (SubmitTx lane) noted kept ready first last =
     lanes_go c app (lanes_of c - (lane + 1)) (lane + 1) (record noted { lanes_empty = false }) kept
-left_goes c app lanes (PeekComp side) noted kept ready first last = λ e. cc
-left_goes c app lanes (ReleaseComp side) noted kept ready first last =
+left_goes c app pending (PeekComp side) noted kept ready first last = λ e. cc
+left_goes c app pending (ReleaseComp side) noted kept ready first last =
     give_goes c side zero (back_at kept side) kept (after_full_side c app side noted) (λ k. sides_go c app (2 - (side + 1)) (side + 1) (record noted { sides_empty = false }) k)
-left_goes c app lanes (ReserveFill side home count) noted kept ready first last =
+left_goes c app pending (ReserveFill side home count) noted kept ready first last =
     granted_goes c side (back_at kept side) kept (after_full_side c app side noted) home count ready.1
-left_goes c app lanes (SubmitFill side) noted kept ready first last =
+left_goes c app pending (SubmitFill side) noted kept ready first last =
     give_goes c side zero (back_at kept side) kept (after_full_side c app side noted) (λ k. sides_go c app (2 - (side + 1)) (side + 1) (record noted { sides_empty = false }) k)
-left_goes c app lanes (LookRxDone side) noted kept ready first last = look_goes c app (2 - (side + 1)) (side + 1) (with_seen kept side 0)
-left_goes c app lanes TellTxDone noted kept ready first last = λ e. cc
-left_goes c app lanes (LookGone side) noted kept ready first last = gone_goes c app (2 - (side + 1)) (side + 1) (with_gone kept side 0)
-left_goes c app lanes Ended noted kept ready first last = absurd (last refl)
+left_goes c app pending (LookRxDone side) noted kept ready first last = look_goes c app (2 - (side + 1)) (side + 1) (with_seen kept side 0)
+left_goes c app pending TellTxDone noted kept ready first last = λ e. cc
+left_goes c app pending (LookGone side) noted kept ready first last = gone_goes c app (2 - (side + 1)) (side + 1) (with_gone kept side 0)
+left_goes c app pending Ended noted kept ready first last = absurd (last refl)
 
 -- a call is answered
 pub call_not_nothing : (call : Call) → expected_by call ≢ nothing

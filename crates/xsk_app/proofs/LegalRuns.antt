@@ -1,8 +1,7 @@
 -- The call that an application gives is legal, where it came to its list by replies that the object may give.
-use Rattle.std.proofs.Common.{◌≡◌, ℕ, zero, suc, true, Option, Some, None, List, [], ◌∷◌, ◌++◌, length, get_or, flat_map, replicate, All, refl, sym, ap, ◌∙◌, subst, arith, append_assoc, append-nil, length-append}
+use Rattle.std.proofs.Common.{◌≡◌, ℕ, zero, suc, true, Option, Some, None, List, [], ◌∷◌, ◌++◌, length, get_or, replicate, All, refl, sym, ap, ◌∙◌, subst, arith, append_assoc, append-nil, length-append}
 use Rattle.xsk_umem.specs.declared.batch.Item.{Item}
 use Rattle.xsk_model.specs.Config.{Config}
-use Rattle.xsk_model.specs.Numbers.{times, numbers}
 use Rattle.xsk_model.specs.Marks.{apps_of}
 use Rattle.xsk_model.specs.Rings.{caller_of}
 use Rattle.xsk_model.specs.Entry.{Told}
@@ -26,7 +25,7 @@ use Rattle.xsk_app.specs.Stands.{left}
 use Rattle.xsk_app.specs.Standing.{Stands, HasGot, Comes, IsLegalAct}
 use Rattle.xsk_app.proofs.Going.{IsStep, stands_next, stands_run, stands_ended}
 use Rattle.xsk_app.proofs.Answered.{some_reply, left_goes, call_not_nothing, call_not_ended}
-use Rattle.xsk_app.proofs.Owned.{Owned, Each, IsOwnFrame}
+use Rattle.xsk_app.proofs.Owned.{Owned, Each, IsOwnFrame, no_items}
 use Rattle.xsk_app.proofs.Seats.{Seats, seats}
 use Rattle.xsk_app.proofs.Legality.{Safe, SafeTurns, safe_turns}
 
@@ -59,10 +58,6 @@ turns_legal c a seats (suc n) kept past later t safe turns goes =
 
 -- ---- a new application
 
-no_items : (k n : ℕ) → times n (flat_map numbers (replicate k [])) ≡ 0
-no_items zero n = refl
-no_items (suc k) n = no_items k n
-
 none_pending : (k lane : ℕ) → ◌≡◌ {A = List Item} (get_or (replicate k []) lane []) []
 none_pending zero lane = refl
 none_pending (suc k) zero = refl
@@ -93,14 +88,14 @@ own_got s (Some reply) l got =
     (history_own s.config may.frames may.history (caller_of s.config s.app) may.legal)
 
 pub stands_legal : (t : Shown) (call : Call) (l : List Told) → apps_of t.config ≡ 1 → Stands t (Calls call) l → expects t.wait ≡ expected_by call
-    → ((lanes : ℕ) × IsReady t.config lanes t.kept.back t.wait) → OwnGoesOn t.config (caller_of t.config t.app) [] l
+    → IsReady t.config t.kept.pending t.kept.back t.wait → OwnGoesOn t.config (caller_of t.config t.app) [] l
     → IsLegal t.config l (caller_of t.config t.app) call
 stands_legal t call l alone stands expected ready goes =
     let c = t.config in
     let a = t.app in
     let rest = left c a t.wait t.noted t.kept in
     let told : Told = record { call = call; reply = some_reply t.wait } in
-    let some = left_goes c a ready.0 t.wait t.noted t.kept ready.1
+    let some = left_goes c a t.kept.pending t.wait t.noted t.kept ready
     (λ e. call_not_nothing call (sym expected ∙ e)) (λ e. call_not_ended call (sym expected ∙ e)) in
     let run = stands.turns true 0 (told ∷ []) (refl, goes_on (turn c a) (rest (some_reply t.wait)) some) in
     let mine = seats c a stands.one alone in

@@ -1,5 +1,5 @@
 -- A step of the machine, as its application shows it.
-use Rattle.std.proofs.Common.{◌≡◌, ℕ, Option, Some, None, length, refl, ap, ◌∙◌}
+use Rattle.std.proofs.Common.{◌≡◌, ℕ, Option, Some, None, refl, ap, ◌∙◌}
 use Rattle.xsk_model.specs.Config.{Config}
 use Rattle.xsk_model.specs.Expected.{expected_of}
 use Rattle.xsk_model.specs.Script.{ask, begun}
@@ -9,7 +9,7 @@ use Rattle.xsk_model.specs.declared.call.Act.TheVariants.{Call as Calls, Ended a
 use Rattle.xsk_app.specs.Turns.{turn}
 use Rattle.xsk_app.specs.Shown.{Shown}
 use Rattle.xsk_app.specs.Waits.{expects}
-use Rattle.xsk_app.specs.Stands.{noted_by, kept_by, left, doing, to_do, Does, IsSame}
+use Rattle.xsk_app.specs.Stands.{noted_by, kept_by, left, doing, to_do, Does, IsSame, KeepsFrames, come_by}
 use Rattle.xsk_app.specs.Standing.{left_to}
 use Rattle.xsk_app.specs.declared.machine.Machine.{Machine}
 use Rattle.xsk_app.proofs.Going.{IsStep, done_by}
@@ -28,11 +28,12 @@ done_same m None = refl
 done_same m (Some reply) = refl
 
 pub machine_step : (m n : Machine) (reply : Option Reply) (act : Act) → Does m.config.now m.app n act (to_do m.config.now m.app m reply) → IsSame m n
-    → expects n.wait ≡ expected_of act → IsStep (shown m) (shown n) reply act
-machine_step m n reply act does same expected = record {
+    → expects n.wait ≡ expected_of act → KeepsFrames m (come_by reply) n act → IsStep (shown m) (shown n) reply act
+machine_step m n reply act does same expected frames = record {
+  frames = frames;
   turns = left_same m n act same ∙ does ∙ ap (begun (turn m.config.now m.app)) (done_same m reply);
   config = ap (λ r. r.now) same.config;
   app = same.app;
   expected = expected;
-  ready = (length n.pending.items, n.ready);
+  ready = n.ready;
 }

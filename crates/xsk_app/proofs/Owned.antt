@@ -1,5 +1,5 @@
 -- What an application has: the items and frames that it keeps are lawful, and their frames are those that it had.
-use Rattle.std.proofs.Common.{◌≡◌, ℕ, zero, suc, ◌+◌, ◌-◌, ◌*◌, ◌/◌, ◌^◌, ◌<◌, ◌≤◌, Bool, true, false, cond, nat_lt, Option, Some, None, List, [], ◌∷◌, ◌++◌, length, get_or, set, take, drop, map, flat_map, All, IfSome, refl, sym, ap, ◌∙◌, subst, ⊎_elim, arith, eq-eqb, get_or-set_same, get_or-set_other, length-set, lit<}
+use Rattle.std.proofs.Common.{◌≡◌, ℕ, zero, suc, ◌+◌, ◌-◌, ◌*◌, ◌/◌, ◌^◌, ◌<◌, ◌≤◌, Bool, true, false, cond, nat_lt, Option, Some, None, List, [], ◌∷◌, ◌++◌, length, get_or, set, take, drop, map, flat_map, replicate, All, IfSome, refl, sym, ap, ◌∙◌, subst, ⊎_elim, arith, eq-eqb, get_or-set_same, get_or-set_other, length-set, lit<}
 use Rattle.std.proofs.lemmas.Bool.{cases_eq}
 use Rattle.std.proofs.lemmas.Nat.{div_below}
 use Rattle.std.proofs.lemmas.Bool.Decides.{nat_tests}
@@ -24,7 +24,7 @@ use Rattle.xsk_model.specs.declared.call.Reply.{Reply}
 use Rattle.xsk_model.specs.declared.call.Reply.TheVariants.{Granted, Items}
 use Rattle.xsk_model.proofs.Folds.{had_of-push, part_of-push_same}
 use Rattle.xsk_model.proofs.Counting.{times-append, times-without, times-flat_map-set}
-use Rattle.xsk_app.specs.Turns.{Kept, lanes_of, pending_at, with_pending, back_at, with_back, frame_in, frames_in, frame_numbers}
+use Rattle.xsk_app.specs.Turns.{Kept, lanes_of, pending_at, with_pending, back_at, with_back, frame_in, frames_in, frame_numbers, numbers_kept}
 use Rattle.xsk_app.specs.Standing.{with_told}
 
 -- ---- facts of each element
@@ -226,3 +226,37 @@ owned_back c kept l m side frames h lawful counts owned =
       frames = λ j. at_set (Each (IsOwnFrame c.geometry)) kept.back side j frames within lawful (owned.frames j);
       counts = λ n. omega (arith, times-flat_map-set n frame_numbers kept.back side frames [] within, counts n, owned.counts n);
     }
+
+-- ---- what a change of what is kept makes of its frames
+
+pub frames_pending : (kept : Kept) (lane : ℕ) (items : List Item) (n : ℕ) → lane < length kept.pending
+    → times n (numbers_kept (with_pending kept lane items)) + times n (numbers (pending_at kept lane)) ≡ times n (numbers_kept kept) + times n (numbers items)
+frames_pending kept lane items n h =
+    omega (
+      arith,
+      times-flat_map-set n numbers kept.pending lane items [] h,
+      times-append n (flat_map numbers (set kept.pending lane items)) (flat_map frame_numbers kept.back),
+      times-append n (flat_map numbers kept.pending) (flat_map frame_numbers kept.back),
+    )
+
+pub frames_back : (kept : Kept) (side : ℕ) (frames : List Frame) (n : ℕ) → side < length kept.back
+    → times n (numbers_kept (with_back kept side frames)) + times n (frame_numbers (back_at kept side)) ≡ times n (numbers_kept kept) + times n (frame_numbers frames)
+frames_back kept side frames n h =
+    omega (
+      arith,
+      times-flat_map-set n frame_numbers kept.back side frames [] h,
+      times-append n (flat_map numbers kept.pending) (flat_map frame_numbers (set kept.back side frames)),
+      times-append n (flat_map numbers kept.pending) (flat_map frame_numbers kept.back),
+    )
+
+pub numbers-empty : (n : ℕ) (items : List Item) → length items ≡ 0 → times n (numbers items) ≡ 0
+numbers-empty n [] h = refl
+numbers-empty n (item ∷ items) h = absurd (omega arith)
+
+pub frame_numbers-empty : (n : ℕ) (frames : List Frame) → length frames ≡ 0 → times n (frame_numbers frames) ≡ 0
+frame_numbers-empty n [] h = refl
+frame_numbers-empty n (frame ∷ frames) h = absurd (omega arith)
+
+pub no_items : (k n : ℕ) → times n (flat_map numbers (replicate k [])) ≡ 0
+no_items zero n = refl
+no_items (suc k) n = no_items k n

@@ -1,6 +1,6 @@
 -- Where an application stands: its machine's waiting point and what it keeps are what its turns leave after a list of its
 -- calls and replies.
-use Rattle.std.specs.Prelude.{◌≡◌, ◌↔◌, ℕ, ◌<◌, Option, Some, None, List, [], ◌∷◌, ◌++◌}
+use Rattle.std.specs.Prelude.{◌≡◌, ◌↔◌, ℕ, ◌+◌, ◌<◌, Option, Some, None, List, [], ◌∷◌, ◌++◌}
 use Rattle.xsk_model.specs.Config.{Config, IsConfig, IsRegular}
 use Rattle.xsk_model.specs.Marks.{apps_of}
 use Rattle.xsk_model.specs.Rings.{caller_of}
@@ -12,9 +12,11 @@ use Rattle.xsk_model.specs.declared.call.Call.{Call}
 use Rattle.xsk_model.specs.declared.call.Reply.{Reply}
 use Rattle.xsk_model.specs.declared.call.Act.{Act}
 use Rattle.xsk_model.specs.declared.call.Act.TheVariants.{Call as Calls, Ended as HasEnded}
-use Rattle.xsk_app.specs.Turns.{Kept, turn, new_kept, IsAppRun, IsWholeAppRun}
+use Rattle.xsk_app.specs.Turns.{Kept, numbers_kept, turn, new_kept, IsAppRun, IsWholeAppRun}
 use Rattle.xsk_app.specs.Shown.{Shown}
-use Rattle.xsk_app.specs.Stands.{left}
+use Rattle.xsk_model.specs.Own.{had_of}
+use Rattle.xsk_model.specs.Numbers.{times}
+use Rattle.xsk_app.specs.Stands.{left, given_by}
 use Rattle.xsk_app.specs.declared.machine.Wait.TheVariants.{Start}
 
 -- it is one of a regular configuration's applications
@@ -36,10 +38,13 @@ abbrev pub left_to : Shown → Act → Script Kept
 left_to s (Calls call) = ask call (left s.config s.app s.wait s.noted s.kept)
 left_to s HasEnded = ended
 
--- it stands for a list of its calls and replies, and what it gave last is the act
+-- It stands for a list of its calls and replies, and what it gave last is the act: what is left to do is what the turns
+-- leave after the list, and the frames that it keeps, with those that the act takes along, are those that it peeked and
+-- didn't submit.
 pub record Stands (s : Shown) (act : Act) (l : List Told) : Type 0 where
   pub one : IsOneOf s.config s.app
   pub turns : IsLeft (turn s.config s.app) (new_kept s.config) (left_to s act) l
+  pub frames : (n : ℕ) → times n (numbers_kept s.kept) + times n (given_by act) ≡ times n (had_of l)
 
 -- a call and its reply, behind others
 abbrev pub with_told : List Told → Call → Reply → List Told

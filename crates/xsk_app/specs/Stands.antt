@@ -1,11 +1,13 @@
 -- Where an application's machine stands: what its turns still have, by where it waits and what it keeps.
-use Rattle.std.specs.Prelude.{◌≡◌, ℕ, zero, ◌+◌, ◌-◌, true, false, Option, Some, None}
+use Rattle.std.specs.Prelude.{◌≡◌, ℕ, zero, ◌+◌, ◌-◌, true, false, Option, Some, None, List, []}
 use Rattle.xsk_model.specs.Config.{Config}
 use Rattle.xsk_model.specs.Script.{Script, ask, again, ended, never, on_submitted, items_or_empty, on_released, on_old, begun}
 use Rattle.xsk_model.specs.declared.call.Reply.{Reply}
 use Rattle.xsk_model.specs.declared.call.Act.{Act}
 use Rattle.xsk_model.specs.declared.call.Act.TheVariants.{Call as Calls, Ended as HasEnded}
-use Rattle.xsk_app.specs.Turns.{Kept, Noted, lanes_of, back_at, pass_on, receive, visit_lanes, give_back, complete, visit_sides, with_seen, with_gone, look_rx_done, look_gone, end_turn, turn_sides, turn}
+use Rattle.xsk_model.specs.Numbers.{times, numbers}
+use Rattle.xsk_model.specs.Object.{submitted, taken}
+use Rattle.xsk_app.specs.Turns.{Kept, Noted, numbers_kept, lanes_of, back_at, pass_on, receive, visit_lanes, give_back, complete, visit_sides, with_seen, with_gone, look_rx_done, look_gone, end_turn, turn_sides, turn}
 use Rattle.xsk_app.specs.declared.machine.Machine.{Machine}
 use Rattle.xsk_app.specs.declared.machine.Turn.{Turn}
 use Rattle.xsk_app.specs.declared.machine.Wait.{Wait}
@@ -79,3 +81,17 @@ to_do c app m (Some reply) = left c app m.wait (noted_by m.turn) (kept_by m) rep
 pub record IsSame (old new : Machine) : Type 0 where
   pub config : new.config ≡ old.config
   pub app : new.app ≡ old.app
+
+-- the numbers of the frames that a call takes along, and of those that a reply brings
+abbrev pub given_by : Act → List ℕ
+given_by (Calls call) = numbers (submitted call)
+given_by HasEnded = []
+
+abbrev pub come_by : Option Reply → List ℕ
+come_by None = []
+come_by (Some reply) = numbers (taken reply)
+
+-- a step loses no frame: each that was kept or came is kept or given
+abbrev pub KeepsFrames : Machine → List ℕ → Machine → Act → Type 0
+KeepsFrames old come new act =
+    (n : ℕ) → times n (numbers_kept (kept_by new)) + times n (given_by act) ≡ times n (numbers_kept (kept_by old)) + times n come

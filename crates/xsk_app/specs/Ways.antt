@@ -4,6 +4,7 @@ use Rattle.std.specs.List.{slice_index_or}
 use Rattle.std.specs.Coded.{×_prop, Unit-prop, le_prop}
 use Rattle.std.proofs.Props.{props}
 use Rattle.xsk_umem.specs.Frame.{Frame}
+use Rattle.xsk_umem.specs.declared.batch.Item.{Item}
 use Rattle.xsk_model.specs.Config.{Config, pool_of, batch_of}
 use Rattle.xsk_app.specs.Turns.{rx_of, tx_of, lanes_of, home_of, group_of, is_set}
 use Rattle.xsk_app.specs.declared.machine.Way.{Way}
@@ -21,22 +22,23 @@ abbrev pub IsGroup : ℕ → ℕ → List Frame → ℕ → ℕ → Type 0
 IsGroup pool batch [] home count = ⊥
 IsGroup pool batch (frame ∷ frames) home count = (home ≡ home_of pool frame) × (count ≡ length (group_of pool batch frame frames))
 
--- Where it waits there is such a lane or side. It peeks COMPLETION where the side has nothing to give back, and it asks
+-- Where it waits there is such a lane or side. It peeks RX where the lane has nothing pending, and COMPLETION where the side
+-- has nothing to give back, and it asks
 -- for places on FILL for the frames that the side gives back next.
-abbrev pub IsReady : Config → ℕ → List (List Frame) → Wait → Type 0
-IsReady c lanes back Start = Unit {0}
-IsReady c lanes back (PeekRx lane) = lane < lanes
-IsReady c lanes back (ReleaseRx lane) = lane < lanes
-IsReady c lanes back (ReserveTx lane) = lane < lanes
-IsReady c lanes back (SubmitTx lane) = lane < lanes
-IsReady c lanes back (PeekComp side) = (side < 2) × (length (slice_index_or back side []) ≡ 0)
-IsReady c lanes back (ReleaseComp side) = side < 2
-IsReady c lanes back (ReserveFill side home count) = (side < 2) × IsGroup (pool_of c) (batch_of c) (slice_index_or back side []) home count
-IsReady c lanes back (SubmitFill side) = side < 2
-IsReady c lanes back (LookRxDone side) = side < 2
-IsReady c lanes back TellTxDone = Unit {0}
-IsReady c lanes back (LookGone side) = side < 2
-IsReady c lanes back Ended = Unit {0}
+abbrev pub IsReady : Config → List (List Item) → List (List Frame) → Wait → Type 0
+IsReady c pending back Start = Unit {0}
+IsReady c pending back (PeekRx lane) = (lane < length pending) × (length (slice_index_or pending lane []) ≡ 0)
+IsReady c pending back (ReleaseRx lane) = lane < length pending
+IsReady c pending back (ReserveTx lane) = lane < length pending
+IsReady c pending back (SubmitTx lane) = lane < length pending
+IsReady c pending back (PeekComp side) = (side < 2) × (length (slice_index_or back side []) ≡ 0)
+IsReady c pending back (ReleaseComp side) = side < 2
+IsReady c pending back (ReserveFill side home count) = (side < 2) × IsGroup (pool_of c) (batch_of c) (slice_index_or back side []) home count
+IsReady c pending back (SubmitFill side) = side < 2
+IsReady c pending back (LookRxDone side) = side < 2
+IsReady c pending back TellTxDone = Unit {0}
+IsReady c pending back (LookGone side) = side < 2
+IsReady c pending back Ended = Unit {0}
 
 -- the first of so many more sides, from this one on, that isn't set
 abbrev pub first_unset : List Bool → ℕ → ℕ → Option ℕ
@@ -52,18 +54,18 @@ IsGroup-prop pool batch [] home count = hlevel props
 IsGroup-prop pool batch (frame ∷ frames) home count =
     ×_prop (same_number home (home_of pool frame)) (same_number count (length (group_of pool batch frame frames)))
 
-pub IsReady-prop : (c : Config) (lanes : ℕ) (back : List (List Frame)) (wait : Wait) → IsProp (IsReady c lanes back wait)
-IsReady-prop c lanes back Start = Unit-prop
-IsReady-prop c lanes back (PeekRx lane) = le_prop
-IsReady-prop c lanes back (ReleaseRx lane) = le_prop
-IsReady-prop c lanes back (ReserveTx lane) = le_prop
-IsReady-prop c lanes back (SubmitTx lane) = le_prop
-IsReady-prop c lanes back (PeekComp side) = ×_prop le_prop (same_number (length (slice_index_or back side [])) 0)
-IsReady-prop c lanes back (ReleaseComp side) = le_prop
-IsReady-prop c lanes back (ReserveFill side home count) =
+pub IsReady-prop : (c : Config) (pending : List (List Item)) (back : List (List Frame)) (wait : Wait) → IsProp (IsReady c pending back wait)
+IsReady-prop c pending back Start = Unit-prop
+IsReady-prop c pending back (PeekRx lane) = ×_prop le_prop (same_number (length (slice_index_or pending lane [])) 0)
+IsReady-prop c pending back (ReleaseRx lane) = le_prop
+IsReady-prop c pending back (ReserveTx lane) = le_prop
+IsReady-prop c pending back (SubmitTx lane) = le_prop
+IsReady-prop c pending back (PeekComp side) = ×_prop le_prop (same_number (length (slice_index_or back side [])) 0)
+IsReady-prop c pending back (ReleaseComp side) = le_prop
+IsReady-prop c pending back (ReserveFill side home count) =
     ×_prop le_prop (IsGroup-prop (pool_of c) (batch_of c) (slice_index_or back side []) home count)
-IsReady-prop c lanes back (SubmitFill side) = le_prop
-IsReady-prop c lanes back (LookRxDone side) = le_prop
-IsReady-prop c lanes back TellTxDone = Unit-prop
-IsReady-prop c lanes back (LookGone side) = le_prop
-IsReady-prop c lanes back Ended = Unit-prop
+IsReady-prop c pending back (SubmitFill side) = le_prop
+IsReady-prop c pending back (LookRxDone side) = le_prop
+IsReady-prop c pending back TellTxDone = Unit-prop
+IsReady-prop c pending back (LookGone side) = le_prop
+IsReady-prop c pending back Ended = Unit-prop

@@ -1,6 +1,7 @@
 ghost use Rattle.std.specs.Prelude.{◌≡◌, ℕ, ◌+◌, ◌-◌, ◌<◌, ◌≤◌, [], ◌∷◌, IfSome, length, vec_len, map, take, drop};
 ghost use Rattle.xsk_model.specs.Config.{batch_of, pool_of};
 ghost use Rattle.xsk_model.specs.Marks.{apps_of};
+ghost use Rattle.xsk_model.specs.Numbers.{numbers};
 ghost use Rattle.xsk_model.specs.Expected.{CanCome, expected_by, expected_of};
 ghost use Rattle.xsk_app.specs.Turns.{lanes_of, pair_of};
 ghost use Rattle.xsk_app.specs.Ways.{AreWays, IsGroup, IsReady, IsReady-prop, first_unset};
@@ -75,13 +76,13 @@ pub(crate) struct Machine<'a> {
     ghost pairs_are: { pairs ≡ pair_of config.now app 0 ∷ pair_of config.now app 1 ∷ [] },
     ghost lanes: { length pending.items ≡ lanes_of config.now },
     ghost sides: { length backs.items ≡ 2 },
-    ghost ready: { IsReady config.now (length pending.items) backs.items wait } by { IsReady-prop config.now (length pending.items) backs.items wait },
+    ghost ready: { IsReady config.now pending.items backs.items wait } by { IsReady-prop config.now pending.items backs.items wait },
 }
 
 impl<'a> Machine<'a> {
     ghost use Rattle.xsk_app.specs.Waits.{expects};
     ghost use Rattle.xsk_app.specs.Turns.{pass_on, receive, visit_lane, visit_lanes, give_back, complete, visit_side, pending_at, with_pending, back_at, with_back, with_seen, with_gone, look_rx_done, look_gone, tell_tx_done, end_or_look, end_turn, turn_sides};
-    ghost use Rattle.xsk_app.specs.Stands.{Does, to_do, doing, by_reply, IsSame, noted_by, kept_by, from_lane, after_full_lane, from_side, after_full_side};
+    ghost use Rattle.xsk_app.specs.Stands.{Does, KeepsFrames, come_by, to_do, doing, by_reply, IsSame, noted_by, kept_by, from_lane, after_full_lane, from_side, after_full_side};
     ghost use Rattle.xsk_model.specs.Script.{ask, again};
 
     /// Goes on with the reply to the last call.
@@ -90,6 +91,7 @@ impl<'a> Machine<'a> {
         requires { CanCome (expects self.old.wait) reply }
         ensures expected { expects self.new.wait ≡ expected_of result }
         ensures turns { Does self.old.config.now self.old.app self.new result (to_do self.old.config.now self.old.app self.old reply) }
+        ensures frames { KeepsFrames self.old (come_by reply) self.new result }
         ensures same { IsSame self.old self.new }
     {
         match self.wait {
@@ -138,6 +140,7 @@ impl<'a> Machine<'a> {
     fn begin(&mut self) -> Call
         ensures expected { expects self.new.wait ≡ expected_by result }
         ensures turns { Does self.old.config.now self.old.app self.new (Act.Call result) (again (kept_by self.old)) }
+        ensures frames { KeepsFrames self.old [] self.new (Act.Call result) }
         ensures same { IsSame self.old self.new }
     {
         self.turn = Turn {
@@ -158,6 +161,7 @@ impl<'a> Machine<'a> {
         requires { lane < vec_len self.old.pending }
         ensures expected { expects self.new.wait ≡ expected_by result }
         ensures turns { doing self.old.config.now self.old.app self.new (Act.Call result) ≡ from_lane self.old.config.now self.old.app lane (noted_by self.old.turn) (kept_by self.old) }
+        ensures frames { KeepsFrames self.old [] self.new (Act.Call result) }
         ensures same { IsSame self.old self.new }
     {
         if self.pending[lane].is_empty() {
@@ -171,6 +175,7 @@ impl<'a> Machine<'a> {
     fn go_to_lane(&mut self, lane: usize) -> Act
         ensures expected { expects self.new.wait ≡ expected_of result }
         ensures turns { Does self.old.config.now self.old.app self.new result (from_lane self.old.config.now self.old.app lane (noted_by self.old.turn) (kept_by self.old)) }
+        ensures frames { KeepsFrames self.old [] self.new result }
         ensures same { IsSame self.old self.new }
     {
         if lane < self.pending.len() {
@@ -185,6 +190,7 @@ impl<'a> Machine<'a> {
         requires { lane < vec_len self.old.pending }
         ensures expected { expects self.new.wait ≡ expected_of result }
         ensures turns { Does self.old.config.now self.old.app self.new result (after_full_lane self.old.config.now self.old.app lane (noted_by self.old.turn) (kept_by self.old)) }
+        ensures frames { KeepsFrames self.old [] self.new result }
         ensures same { IsSame self.old self.new }
     {
         self.turn.lanes_empty = false;
@@ -193,9 +199,11 @@ impl<'a> Machine<'a> {
 
     /// Keeps the items that were received on a lane.
     fn take_received(&mut self, lane: usize, items: Batch) -> Call
-        requires { lane < vec_len self.old.pending }
+        requires lane { lane < vec_len self.old.pending }
+        requires empty { length (pending_at (kept_by self.old) lane) ≡ 0 }
         ensures expected { expects self.new.wait ≡ expected_by result }
         ensures turns { doing self.old.config.now self.old.app self.new (Act.Call result) ≡ receive self.old.config.now self.old.app lane (kept_by self.old) (after_full_lane self.old.config.now self.old.app lane (noted_by self.old.turn)) items }
+        ensures frames { KeepsFrames self.old (numbers items) self.new (Act.Call result) }
         ensures same { IsSame self.old self.new }
     {
         let count = items.len();
@@ -208,6 +216,7 @@ impl<'a> Machine<'a> {
         requires { lane < vec_len self.old.pending }
         ensures expected { expects self.new.wait ≡ expected_by result }
         ensures turns { doing self.old.config.now self.old.app self.new (Act.Call result) ≡ pass_on self.old.config.now self.old.app lane (kept_by self.old) (after_full_lane self.old.config.now self.old.app lane (noted_by self.old.turn)) }
+        ensures frames { KeepsFrames self.old [] self.new (Act.Call result) }
         ensures same { IsSame self.old self.new }
     {
         self.wait = Wait::ReserveTx { lane };
@@ -219,6 +228,7 @@ impl<'a> Machine<'a> {
         requires { lane < vec_len self.old.pending }
         ensures expected { expects self.new.wait ≡ expected_by result }
         ensures turns { doing self.old.config.now self.old.app self.new (Act.Call result) ≡ by_reply (pass_on self.old.config.now self.old.app lane (kept_by self.old) (after_full_lane self.old.config.now self.old.app lane (noted_by self.old.turn))) Reply.Granted }
+        ensures frames { KeepsFrames self.old [] self.new (Act.Call result) }
         ensures same { IsSame self.old self.new }
     {
         self.wait = Wait::SubmitTx { lane };
@@ -231,6 +241,7 @@ impl<'a> Machine<'a> {
         requires { side < 2 }
         ensures expected { expects self.new.wait ≡ expected_by result }
         ensures turns { doing self.old.config.now self.old.app self.new (Act.Call result) ≡ from_side self.old.config.now self.old.app side (noted_by self.old.turn) (kept_by self.old) }
+        ensures frames { KeepsFrames self.old [] self.new (Act.Call result) }
         ensures same { IsSame self.old self.new }
     {
         match self.backs[side].first_group(self.config.pool(), self.batch) {
@@ -245,6 +256,7 @@ impl<'a> Machine<'a> {
     fn go_to_side(&mut self, side: usize) -> Act
         ensures expected { expects self.new.wait ≡ expected_of result }
         ensures turns { Does self.old.config.now self.old.app self.new result (from_side self.old.config.now self.old.app side (noted_by self.old.turn) (kept_by self.old)) }
+        ensures frames { KeepsFrames self.old [] self.new result }
         ensures same { IsSame self.old self.new }
     {
         if side < SIDES {
@@ -259,6 +271,7 @@ impl<'a> Machine<'a> {
         requires { side < 2 }
         ensures expected { expects self.new.wait ≡ expected_of result }
         ensures turns { Does self.old.config.now self.old.app self.new result (after_full_side self.old.config.now self.old.app side (noted_by self.old.turn) (kept_by self.old)) }
+        ensures frames { KeepsFrames self.old [] self.new result }
         ensures same { IsSame self.old self.new }
     {
         self.turn.sides_empty = false;
@@ -271,6 +284,7 @@ impl<'a> Machine<'a> {
         requires empty { length (back_at (kept_by self.old) side) ≡ 0 }
         ensures expected { expects self.new.wait ≡ expected_by result }
         ensures turns { doing self.old.config.now self.old.app self.new (Act.Call result) ≡ complete self.old.config.now self.old.app side (kept_by self.old) (after_full_side self.old.config.now self.old.app side (noted_by self.old.turn)) items }
+        ensures frames { KeepsFrames self.old (numbers items) self.new (Act.Call result) }
         ensures same { IsSame self.old self.new }
     {
         let count = items.len();
@@ -284,6 +298,7 @@ impl<'a> Machine<'a> {
         requires { side < 2 }
         ensures expected { expects self.new.wait ≡ expected_of result }
         ensures turns { Does self.old.config.now self.old.app self.new result (give_back self.old.config.now side 0 (back_at (kept_by self.old) side) (kept_by self.old) (after_full_side self.old.config.now self.old.app side (noted_by self.old.turn))) }
+        ensures frames { KeepsFrames self.old [] self.new result }
         ensures same { IsSame self.old self.new }
     {
         match self.backs[side].first_group(self.config.pool(), self.batch) {
@@ -297,6 +312,7 @@ impl<'a> Machine<'a> {
         requires group { IsGroup (pool_of self.old.config.now) (batch_of self.old.config.now) (back_at (kept_by self.old) side) home count }
         ensures expected { expects self.new.wait ≡ expected_by result }
         ensures turns { doing self.old.config.now self.old.app self.new (Act.Call result) ≡ give_back self.old.config.now side 0 (back_at (kept_by self.old) side) (kept_by self.old) (after_full_side self.old.config.now self.old.app side (noted_by self.old.turn)) }
+        ensures frames { KeepsFrames self.old [] self.new (Act.Call result) }
         ensures same { IsSame self.old self.new }
     {
         self.wait = Wait::ReserveFill { side, home, count };
@@ -309,6 +325,7 @@ impl<'a> Machine<'a> {
         requires group { IsGroup (pool_of self.old.config.now) (batch_of self.old.config.now) (back_at (kept_by self.old) side) home count }
         ensures expected { expects self.new.wait ≡ expected_by result }
         ensures turns { doing self.old.config.now self.old.app self.new (Act.Call result) ≡ by_reply (give_back self.old.config.now side 0 (back_at (kept_by self.old) side) (kept_by self.old) (after_full_side self.old.config.now self.old.app side (noted_by self.old.turn))) Reply.Granted }
+        ensures frames { KeepsFrames self.old [] self.new (Act.Call result) }
         ensures same { IsSame self.old self.new }
     {
         self.wait = Wait::SubmitFill { side };
@@ -322,6 +339,7 @@ impl<'a> Machine<'a> {
         requires group { IsGroup (pool_of self.old.config.now) (batch_of self.old.config.now) (back_at (kept_by self.old) side) _home _count }
         ensures expected { expects self.new.wait ≡ expected_of result }
         ensures turns { (free : ℕ) → Does self.old.config.now self.old.app self.new result (by_reply (give_back self.old.config.now side 0 (back_at (kept_by self.old) side) (kept_by self.old) (after_full_side self.old.config.now self.old.app side (noted_by self.old.turn))) (Reply.Full free)) }
+        ensures frames { KeepsFrames self.old [] self.new result }
         ensures same { IsSame self.old self.new }
     {
         self.go_on_full_side(side)
@@ -331,6 +349,7 @@ impl<'a> Machine<'a> {
     fn end_turn(&mut self) -> Act
         ensures expected { expects self.new.wait ≡ expected_of result }
         ensures turns { Does self.old.config.now self.old.app self.new result (end_turn self.old.config.now self.old.app (noted_by self.old.turn) (kept_by self.old)) }
+        ensures frames { KeepsFrames self.old [] self.new result }
         ensures same { IsSame self.old self.new }
     {
         if self.tx_done {
@@ -347,6 +366,7 @@ impl<'a> Machine<'a> {
         requires { side ≤ 2 }
         ensures expected { expects self.new.wait ≡ expected_by result }
         ensures turns { Does self.old.config.now self.old.app self.new (Act.Call result) (look_rx_done self.old.config.now self.old.app (2 - side) side (kept_by self.old)) }
+        ensures frames { KeepsFrames self.old [] self.new (Act.Call result) }
         ensures same { IsSame self.old self.new }
     {
         match first_unset(self.seen, side) {
@@ -362,6 +382,7 @@ impl<'a> Machine<'a> {
         requires { side < 2 }
         ensures expected { expects self.new.wait ≡ expected_by result }
         ensures turns { Does self.old.config.now self.old.app self.new (Act.Call result) (look_rx_done self.old.config.now self.old.app (2 - (side + 1)) (side + 1) (with_seen (kept_by self.old) side done)) }
+        ensures frames { KeepsFrames self.old [] self.new (Act.Call result) }
         ensures same { IsSame self.old self.new }
     {
         if done == 1 {
@@ -374,6 +395,7 @@ impl<'a> Machine<'a> {
     fn end_sending(&mut self) -> Call
         ensures expected { expects self.new.wait ≡ expected_by result }
         ensures turns { Does self.old.config.now self.old.app self.new (Act.Call result) (tell_tx_done self.old.app (noted_by self.old.turn) (kept_by self.old)) }
+        ensures frames { KeepsFrames self.old [] self.new (Act.Call result) }
         ensures same { IsSame self.old self.new }
     {
         if self.turn.seen && self.turn.lanes_empty {
@@ -388,6 +410,7 @@ impl<'a> Machine<'a> {
     fn end_or_look(&mut self) -> Act
         ensures expected { expects self.new.wait ≡ expected_of result }
         ensures turns { Does self.old.config.now self.old.app self.new result (end_or_look self.old.config.now self.old.app (noted_by self.old.turn) (kept_by self.old)) }
+        ensures frames { KeepsFrames self.old [] self.new result }
         ensures same { IsSame self.old self.new }
     {
         let nothing_left = self.backs[0].is_empty() && self.backs[1].is_empty();
@@ -403,6 +426,7 @@ impl<'a> Machine<'a> {
         requires { side ≤ 2 }
         ensures expected { expects self.new.wait ≡ expected_by result }
         ensures turns { Does self.old.config.now self.old.app self.new (Act.Call result) (look_gone self.old.config.now self.old.app (2 - side) side (kept_by self.old)) }
+        ensures frames { KeepsFrames self.old [] self.new (Act.Call result) }
         ensures same { IsSame self.old self.new }
     {
         match first_unset(self.gone, side) {
@@ -418,6 +442,7 @@ impl<'a> Machine<'a> {
         requires { side < 2 }
         ensures expected { expects self.new.wait ≡ expected_by result }
         ensures turns { Does self.old.config.now self.old.app self.new (Act.Call result) (look_gone self.old.config.now self.old.app (2 - (side + 1)) (side + 1) (with_gone (kept_by self.old) side gone)) }
+        ensures frames { KeepsFrames self.old [] self.new (Act.Call result) }
         ensures same { IsSame self.old self.new }
     {
         if gone == 1 {

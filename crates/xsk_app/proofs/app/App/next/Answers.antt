@@ -10,5 +10,5 @@ returns-clause-comes c =
     let n = c.next.new.self in
     λ l got.
     comes (shown m) (shown n) c.args.reply c.next.result l
-    (machine_step m n c.args.reply c.next.result c.next.ensures.turns c.next.ensures.same c.next.ensures.expected)
+    (machine_step m n c.args.reply c.next.result c.next.ensures.turns c.next.ensures.same c.next.ensures.expected c.next.ensures.frames)
     (subst (λ s. HasGot s c.args.reply l) (sym c.self.view_is) got)
