@@ -2,4 +2,5 @@ pub mod InputsLemmas
 pub mod Loops
 pub mod Seats
 pub mod SentLemmas
+pub mod Standing
 pub mod Steps

@@ -12,7 +12,7 @@ use Rattle.xsk_model.specs.Script.{ask}
 use Rattle.xsk_driver.specs.Gathers.{IsWholeFrame}
 use Rattle.xsk_driver.specs.Gives.{KeepsLimits}
 use Rattle.xsk_driver.specs.Turns.{Seat, Kept, Noted, moved, take_spare, gathered, laid_out, written_in, frame_in, frames_in}
-use Rattle.xsk_driver.specs.Stands.{seat_in, kept_in, noted_in, Leaves, IsWholeIn, HasRoomFor, IsFitting, IsReady, Goes, first, left}
+use Rattle.xsk_driver.specs.Stands.{seat_in, kept_in, noted_in, Leaves, IsWholeIn, HasRoomFor, IsFitting, IsReady, IsGiven, Goes, first, left}
 use Rattle.xsk_model.specs.declared.call.Ring.TheVariants.{Fill}
 use Rattle.xsk_model.specs.declared.call.Call.TheVariants.{Release}
 use Rattle.xsk_driver.specs.declared.machine.Machine.{Machine}
@@ -139,7 +139,8 @@ spare_taken seat now pair count socket noted kept items wait same_pair same_coun
   next = ap (λ (w : Wait). ask (Release (Fill pair) count) (left seat w (noted_in now) (kept_in now))) wait
       ∙ release_spare seat pair count socket (noted_in now) noted (kept_in now) kept items same_pair same_count notes keeps;
   ready = subst (λ (w : Wait). IsReady seat w (kept_in now)) (sym wait)
-      (subst (λ (k : Kept). IsFitting seat k) (sym keeps) (record { trying = fitting.trying; short = fitting.short }));
+      (subst (λ (k : Kept). IsFitting seat k) (sym keeps) (record { trying = fitting.trying; short = fitting.short; few = fitting.few }));
+  given = subst (λ (w : Wait). IsGiven seat w (kept_in now) (Release (Fill pair) count)) (sym wait) tt;
 }
 
 -- ---- a packet in frames

@@ -193,6 +193,7 @@ pub goes_turn : (seat : Seat) (now : Machine) (call : Call) (coming : List (List
 goes_turn seat now call coming noted kept before some same goes = record {
   next = goes.next ∙ begun_receive seat coming noted kept some ∙ same;
   ready = goes.ready;
+  given = goes.given;
 }
 
 pub idle_again : (seat : Seat) (noted : Noted) (kept : Kept) (b : Bool) → b ≡ (noted.progress || noted.full) → b ≡ true → again kept ≡ idle seat noted kept

@@ -1,6 +1,7 @@
 pub mod Gathers
 pub mod Gives
 pub mod Inputs
+pub mod Runs
 pub mod Sent
 pub mod Shown
 pub mod Stands

@@ -1,5 +1,5 @@
 -- Where the driver's machine stands in its turns: what it keeps, and what its script goes on with at each waiting point.
-use Rattle.std.specs.Prelude.{◌≡◌, ℕ, ◌+◌, ◌<◌, ◌≤◌, ◌||◌, ◌==◌, true, List, [], ◌∷◌, length, map, drop, All}
+use Rattle.std.specs.Prelude.{◌≡◌, ℕ, ◌+◌, ◌-◌, ◌<◌, ◌≤◌, ◌||◌, ◌==◌, true, List, [], ◌∷◌, length, map, drop, All}
 use Rattle.std.specs.List.{slice_index_or}
 use Rattle.xsk_umem.specs.Frame.{Frame}
 use Rattle.xsk_umem.specs.PacketList.{PacketList}
@@ -8,7 +8,7 @@ use Rattle.xsk_model.specs.Config.{map_of}
 use Rattle.xsk_model.specs.Script.{Script, ask, again, ended, never, granted_or_full, on_submitted, items_or_empty, on_released, on_old, begun}
 use Rattle.xsk_model.specs.declared.call.Ring.TheVariants.{Fill, Comp, Rx, Tx}
 use Rattle.xsk_model.specs.declared.call.Call.{Call}
-use Rattle.xsk_model.specs.declared.call.Call.TheVariants.{Submit, Release}
+use Rattle.xsk_model.specs.declared.call.Call.TheVariants.{Submit, Peek, Release}
 use Rattle.xsk_model.specs.declared.call.Reply.{Reply}
 use Rattle.xsk_model.specs.declared.call.Reply.TheVariants.{Items}
 use Rattle.xsk_model.specs.declared.call.Act.{Act}
@@ -81,6 +81,7 @@ IsTrying kept = 14 ≤ length (first kept)
 pub record IsFitting (seat : Seat) (kept : Kept) : Type 0 where
   pub trying : 14 ≤ length (first kept)
   pub short : length (first kept) ≤ limit_of seat
+  pub few : pieces_of seat (first kept) ≤ 18
 
 pub record IsSupplied (seat : Seat) (kept : Kept) : Type 0 where
   pub fitting : IsFitting seat kept
@@ -111,6 +112,11 @@ IsReady seat LookTxDone kept = Unit {0}
 IsReady seat TellGone kept = Unit {0}
 IsReady seat Ended kept = Unit {0}
 
+-- the Peek on FILL that was given asks for the frames that the packet needs beside those that are there
+abbrev pub IsGiven : Seat → Wait → Kept → Call → Type 0
+IsGiven seat (PeekFill socket) kept call = call ≡ Peek (Fill seat.pair) (pieces_of seat (first kept) - length kept.spare)
+IsGiven seat wait kept call = Unit {0}
+
 -- there is room for the items that a Peek on FILL gave, and their frames are whole
 abbrev pub IsWholeIn : Seat → Frame → Type 0
 IsWholeIn seat frame = length frame.bytes ≡ seat.config.geometry.chunk
@@ -127,6 +133,7 @@ HasRoom seat wait kept reply = Unit {0}
 pub record Goes (seat : Seat) (now : Machine) (call : Call) (script : Script Kept) : Type 0 where
   pub next : ask call (left seat now.wait (noted_in now) (kept_in now)) ≡ begun (turn seat) script
   pub ready : IsReady seat now.wait (kept_in now)
+  pub given : IsGiven seat now.wait (kept_in now) call
 
 -- or it has ended, with the script
 abbrev pub GoesOn : Seat → Machine → Act → Script Kept → Type 0

@@ -12,4 +12,5 @@ returns-clause-goes c completed within =
     (record {
       next = ap (begun (turn seat)) (visit_here seat c.args.class (noted_in c.args.self.now) (kept_in c.args.self.now) within);
       ready = record { completed = completed; within = within };
+      given = tt;
     })
