@@ -1,7 +1,12 @@
-ghost use Rattle.std.specs.Prelude.{◌≡◌, ◌<◌, ◌≤◌, ◌∷◌, ◌++◌, [], All, IfOk, false, length, replicate};
-ghost use Rattle.std.specs.List.{concat};
+ghost use Rattle.std.specs.Prelude.{◌≡◌, ℕ, ◌<◌, ◌≤◌, List, ◌∷◌, ◌++◌, [], All, IfOk, None, Some, false, length, map, replicate};
+ghost use Rattle.std.specs.List.{concat, slice_index_or};
 ghost use Rattle.xsk_model.specs.Config.{IsRegular};
 ghost use Rattle.xsk_model.specs.Expected.{CanCome, nothing, expected_of};
+ghost use Rattle.xsk_model.specs.Config.{Config as AConfig};
+ghost use Rattle.xsk_model.specs.Entry.{Told};
+ghost use Rattle.xsk_model.specs.History.{Fits};
+ghost use Rattle.xsk_model.specs.declared.call.Call.{Call as ACall};
+ghost use Rattle.xsk_model.specs.declared.call.Reply.{Reply as AReply};
 ghost use Rattle.xsk_driver.specs.Sent.{IsShort};
 
 use crate::machine::{MOST_FINISHED, MOST_SPARE, Machine, Turn, Wait};
@@ -26,10 +31,17 @@ impl<'a> Model for Driver<'a> {
 
     ghost Value = { Shown };
 
-    ghost view = { λ d. record { expected = expects d.machine.wait; most_packets = d.machine.sending.most_packets; most_bytes = d.machine.sending.most_bytes } };
+    ghost use Rattle.xsk_driver.specs.Stands.{seat_in, noted_in, kept_in};
+
+    ghost view = { λ d. record { expected = expects d.machine.wait; most_packets = d.machine.sending.most_packets; most_bytes = d.machine.sending.most_bytes;
+        seat = seat_in d.machine; wait = d.machine.wait; noted = noted_in d.machine; kept = kept_in d.machine } };
 }
 
 impl<'a> Driver<'a> {
+    ghost use Rattle.xsk_driver.specs.Runs.{IsNew, Stands, StandsWith};
+    ghost use Rattle.xsk_driver.specs.Inputs.{numbers_from, packets_of_queue};
+    ghost use Rattle.xsk_model.specs.Config.{pair_at};
+
     /// The driver of the pair over the packets of its port, with room for so many sent packets and bytes. The
     /// configuration is regular and has the pair, and the inputs are what the split of all ports' packets gave.
     pub fn new(
@@ -43,7 +55,11 @@ impl<'a> Driver<'a> {
     ) -> Result<Driver<'a>, OutOfMemory>
         requires regular { IsRegular config.now }
         requires pair { pair < length config.now.pairs }
-        ensures { IfOk result (λ d. d ≡ record { expected = nothing; most_packets = sent_packets; most_bytes = sent_bytes }) }
+        ensures expected { IfOk result (λ d. d.expected ≡ nothing) }
+        ensures most_packets { IfOk result (λ d. d.most_packets ≡ sent_packets) }
+        ensures most_bytes { IfOk result (λ d. d.most_bytes ≡ sent_bytes) }
+        ensures is_new { slice_index_or inputs.now pair [] ≡ numbers_from config.now.queues (pair_at config.now.pairs pair).queue 0 packets.now.packets
+            → IfOk result (IsNew config.now pair (packets_of_queue config.now.queues (pair_at config.now.pairs pair).queue packets.now.packets)) }
     {
         let numbers = known(inputs.of_pair(pair), packets);
         let info = config.pairs()[pair as usize];
@@ -80,6 +96,13 @@ impl<'a> Driver<'a> {
         ensures expected { self.new.expected ≡ expected_of result }
         ensures most_packets { self.new.most_packets ≡ self.old.most_packets }
         ensures most_bytes { self.new.most_bytes ≡ self.old.most_bytes }
+
+        // The driver of these packets stands for a run of its turns, and goes on with each reply that fits the call.
+        ensures begins { (c : AConfig) (pair : ℕ) (input : List (List ℕ)) → IsNew c pair input self.old → reply ≡ None
+            → StandsWith c pair input self.new result [] }
+        ensures goes_on { (c : AConfig) (pair : ℕ) (input : List (List ℕ)) (l : List Told) (call : ACall) (r : AReply)
+            → Stands c pair input self.old call l → reply ≡ Some r → Fits c l call r
+            → StandsWith c pair input self.new result (l ++ (record { call = call; reply = r }) ∷ []) }
     {
         self.machine.next(reply)
     }
@@ -97,7 +120,9 @@ impl<'a> Driver<'a> {
     }
 
     /// What became of each packet so far, in their order.
-    pub fn disposals(&self) -> &[Disposal] {
+    pub fn disposals(&self) -> &[Disposal]
+        ensures { result.now ≡ self.now.kept.disposals }
+    {
         self.machine.disposals.as_slice()
     }
 
