@@ -18,6 +18,7 @@ const ENTRIES: u32 = 2048;
 /// The configuration of the command, and the frames of its UMEM.
 pub(crate) fn set_up(alloc: Global) -> Result<(Config, Frames), OutOfMemory>
     ensures regular { IfOk result (λ made. IsRegular made.0) }
+    ensures ports { IfOk result (λ made. made.0.ports ≡ 2) }
     ensures pairs { IfOk result (λ made. length made.0.pairs ≡ 2) }
     ensures frames { IfOk result (λ made. AreFrames made.0.geometry made.1.items) }
 {

@@ -34,7 +34,9 @@ pub(crate) fn make_texts(alloc: Global, in0: &[u8], in1: &[u8]) -> Result<Texts,
     let first = read_capture(alloc, 0, in0);
     let second = read_capture(alloc, 1, in1);
     let (first, second) = (first?, second?);
-    let lists = vec![in alloc; first, second].map_err(|_| Status::OutOfMemory)?;
+    let Ok(lists) = vec![in alloc; first, second] else {
+        return Err(Status::OutOfMemory);
+    };
     check_limits(lists.as_slice())?;
     let run = run_lists(alloc, lists.as_slice())?;
     let out0 = capture_text(alloc, run.sent(0))?;
@@ -85,6 +87,7 @@ fn bytes_of(list: &PacketList) -> u64 {
 }
 
 fn run_lists(alloc: Global, lists: &[PacketList]) -> Result<Run, Status>
+    requires { length lists.now ≡ 2 }
     ensures own { IfErr result IsOwn }
     ensures pairs { IfOk result (λ run. run.pairs ≡ 2) }
 {

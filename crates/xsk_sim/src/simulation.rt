@@ -94,6 +94,7 @@ pub fn simulate(
 ) -> Result<Run, SimError>
     requires regular { IsRegular config }
     requires frames { AreFrames config.geometry frames.items }
+    requires lists { length packets.now ≡ config.ports }
     ensures { IfOk result (λ run. run.pairs ≡ length config.pairs) }
 {
     let shared = config.copy(alloc)?;
