@@ -1,6 +1,5 @@
 -- The call that an application gives is legal, where it came to its list by replies that the object may give.
-use Rattle.std.proofs.Common.{◌≡◌, ℕ, zero, suc, true, Option, Some, None, List, [], ◌∷◌, ◌++◌, length, get_or, replicate, All, refl, sym, ap, ◌∙◌, subst, arith, append_assoc, append-nil, length-append}
-use Rattle.xsk_umem.specs.declared.batch.Item.{Item}
+use Rattle.std.proofs.Common.{◌≡◌, ℕ, zero, suc, true, Option, Some, None, List, [], ◌∷◌, ◌++◌, length, All, refl, sym, ap, ◌∙◌, subst, arith, append_assoc, append-nil, length-append}
 use Rattle.xsk_model.specs.Config.{Config}
 use Rattle.xsk_model.specs.Marks.{apps_of}
 use Rattle.xsk_model.specs.Rings.{caller_of}
@@ -25,7 +24,7 @@ use Rattle.xsk_app.specs.Stands.{left}
 use Rattle.xsk_app.specs.Standing.{Stands, HasGot, Comes, IsLegalAct}
 use Rattle.xsk_app.proofs.Going.{IsStep, stands_next, stands_run, stands_ended}
 use Rattle.xsk_app.proofs.Answered.{some_reply, left_goes, call_not_nothing, call_not_ended}
-use Rattle.xsk_app.proofs.Owned.{Owned, Each, IsOwnFrame, no_items}
+use Rattle.xsk_app.proofs.Owned.{Owned, Each, IsOwnFrame, no_items, none_pending}
 use Rattle.xsk_app.proofs.Seats.{Seats, seats}
 use Rattle.xsk_app.proofs.Legality.{Safe, SafeTurns, safe_turns}
 
@@ -57,11 +56,6 @@ turns_legal c a seats (suc n) kept past later t safe turns goes =
     (λ kept past more. turns_legal c a seats n kept past more t) safe turns goes
 
 -- ---- a new application
-
-none_pending : (k lane : ℕ) → ◌≡◌ {A = List Item} (get_or (replicate k []) lane []) []
-none_pending zero lane = refl
-none_pending (suc k) zero = refl
-none_pending (suc k) (suc lane) = none_pending k lane
 
 pub owned_new : (c : Config) → Owned c (new_kept c) []
 owned_new c = record {

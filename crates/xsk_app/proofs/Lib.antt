@@ -2,9 +2,11 @@ pub mod TurnLemmas
 pub mod Owned
 pub mod Seats
 pub mod Steps
+pub mod Walks
 pub mod Answered
 pub mod Fresh
 pub mod Going
+pub mod LaneLaw
 pub mod LegalRuns
 pub mod Legality
 pub mod MachineSteps

@@ -191,7 +191,7 @@ pub owned_told : (c : Config) (kept : Kept) (l m : List Told) → ((n : ℕ) →
 owned_told c kept l m same h =
     record { lanes = h.lanes; sides = h.sides; items = h.items; few = h.few; frames = h.frames; counts = λ n. h.counts n ∙ sym (same n) }
 
-at_set : {A : Type 0} (P : List A → Type 0) (xs : List (List A)) (i j : ℕ) (y : List A) → i < length xs → P y → P (get_or xs j []) → P (get_or (set xs i y) j [])
+pub at_set : {A : Type 0} (P : List A → Type 0) (xs : List (List A)) (i j : ℕ) (y : List A) → i < length xs → P y → P (get_or xs j []) → P (get_or (set xs i y) j [])
 at_set P xs i j y h new old = ⊎_elim
     (λ (e : j ≡ i). subst (λ k. P (get_or (set xs i y) k [])) (sym e) (subst P (sym (get_or-set_same xs i y [] h)) new))
     (λ (e : j ≡ i → ⊥). subst P (sym (get_or-set_other xs i j y [] e)) old)
@@ -260,3 +260,8 @@ frame_numbers-empty n (frame ∷ frames) h = absurd (omega arith)
 pub no_items : (k n : ℕ) → times n (flat_map numbers (replicate k [])) ≡ 0
 no_items zero n = refl
 no_items (suc k) n = no_items k n
+
+pub none_pending : (k lane : ℕ) → ◌≡◌ {A = List Item} (get_or (replicate k []) lane []) []
+none_pending zero lane = refl
+none_pending (suc k) zero = refl
+none_pending (suc k) (suc lane) = none_pending k lane

@@ -135,3 +135,32 @@ module _ (c : Config) (a : ℕ) (one : IsOneOf c a) where
     batch_some = batch_some c one.config;
     batch_few = batch_few c;
   }
+
+-- ---- the sockets of different lanes
+
+module _ (c : Config) (a : ℕ) (one : IsOneOf c a) where
+  same_socket : (side class other more : ℕ) → class < classes_of c → more < classes_of c → socket_of c a side class ≡ socket_of c a other more
+      → (side ≡ other) × (class ≡ more)
+  same_socket side class other more h k e =
+      let pair : pair_of c a side ≡ pair_of c a other =
+      sym (socket_pair c a one side class h) ∙ ap (λ (n : ℕ). n / classes_of c) e ∙ socket_pair c a one other more k in
+      let port : 2 * (a / c.queues) + side ≡ 2 * (a / c.queues) + other =
+      sym (pair_port c a one side) ∙ ap (λ (n : ℕ). n / c.queues) pair ∙ pair_port c a one other in
+      let rest : class ≡ more =
+      sym (mod-mul-add (pair_of c a side) (classes_of c) class h) ∙ ap (λ (n : ℕ). n % classes_of c) e ∙ mod-mul-add (pair_of c a other) (classes_of c) more k in
+      (omega arith, rest)
+
+  same_lane : (i j : ℕ) → i / classes_of c ≡ j / classes_of c → i % classes_of c ≡ j % classes_of c → i ≡ j
+  same_lane i j e f =
+      sym (div-add-mod' i (classes_of c)) ∙ ap (λ (n : ℕ). n * classes_of c + i % classes_of c) e
+      ∙ ap (λ (n : ℕ). j / classes_of c * classes_of c + n) f ∙ div-add-mod' j (classes_of c)
+
+  pub rx_lane : (i j : ℕ) → rx_of c a i ≡ rx_of c a j → i ≡ j
+  rx_lane i j e =
+      let both = same_socket (i / classes_of c) (i % classes_of c) (j / classes_of c) (j % classes_of c) (class_below c a one i) (class_below c a one j) e in
+      same_lane i j both.0 both.1
+
+  pub tx_lane : (i j : ℕ) → i < lanes_of c → j < lanes_of c → tx_of c a i ≡ tx_of c a j → i ≡ j
+  tx_lane i j h k e =
+      let both = same_socket (1 - i / classes_of c) (i % classes_of c) (1 - j / classes_of c) (j % classes_of c) (class_below c a one i) (class_below c a one j) e in
+      same_lane i j (omega (arith, both.0, side_below (classes_of c) i one.regular.classes h, side_below (classes_of c) j one.regular.classes k)) both.1

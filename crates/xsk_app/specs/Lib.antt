@@ -1,3 +1,4 @@
+pub mod Law
 pub mod Shown
 pub mod Standing
 pub mod Stands

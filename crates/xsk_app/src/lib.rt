@@ -4,6 +4,7 @@
 
 mod app;
 mod back;
+pub mod laws;
 mod machine;
 
 pub use app::App;

@@ -1,0 +1,23 @@
+-- What holds of every run of an application, and what of every whole one, by its turns alone.
+use Rattle.std.specs.Prelude.{◌≡◌, ℕ, ◌<◌, List, ◌++◌}
+use Rattle.xsk_umem.specs.declared.batch.Item.{Item}
+use Rattle.xsk_model.specs.Config.{Config}
+use Rattle.xsk_model.specs.Entry.{Told}
+use Rattle.xsk_model.specs.Own.{submitted_of, peeked_of}
+use Rattle.xsk_model.specs.declared.call.Ring.TheVariants.{Rx, Tx}
+use Rattle.xsk_app.specs.Turns.{lanes_of, rx_of, tx_of, IsAppRun, IsWholeAppRun}
+use Rattle.xsk_app.specs.Standing.{IsOneOf}
+
+-- one list is a front of another
+abbrev pub IsFront : List Item → List Item → Type 0
+IsFront front all = (rest : List Item) × (front ++ rest ≡ all)
+
+-- on each lane the items submitted on TX are the first of those peeked on RX, in order and as they were
+abbrev pub LanesInOrder : Type 0
+LanesInOrder = (c : Config) (app : ℕ) (l : List Told) (lane : ℕ) → IsOneOf c app → IsAppRun c app l → lane < lanes_of c
+    → IsFront (submitted_of (Tx (tx_of c app lane)) l) (peeked_of (Rx (rx_of c app lane)) l)
+
+-- at the end they are all of those
+abbrev pub LanesPassedOn : Type 0
+LanesPassedOn = (c : Config) (app : ℕ) (l : List Told) (lane : ℕ) → IsOneOf c app → IsWholeAppRun c app l → lane < lanes_of c
+    → submitted_of (Tx (tx_of c app lane)) l ≡ peeked_of (Rx (rx_of c app lane)) l
