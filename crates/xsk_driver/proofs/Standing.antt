@@ -1,6 +1,6 @@
 -- From a step of the machine to the list for which the driver stands.
-use Rattle.std.proofs.Common.{◌≡◌, ℕ, ◌+◌, ◌-◌, ◌≤◌, Option, Some, None, List, [], ◌∷◌, ◌++◌, length, refl, sym, ap, ◌∙◌, subst, arith}
-use Rattle.std.specs.Prelude.{All, IfSome}
+use Rattle.std.proofs.Common.{◌≡◌, ℕ, zero, suc, Bool, true, false, ◌+◌, ◌-◌, ◌≤◌, Option, Some, None, List, [], ◌∷◌, ◌++◌, length, refl, sym, ap, ◌∙◌, subst, arith}
+use Rattle.std.specs.Prelude.{All, IfSome, nat_lt, nat_le, ◌||◌, ◌==◌, if◌then◌else◌}
 use Rattle.std.proofs.lemmas.List.Elements.{All-head, All-tail, All-cons, All-nil}
 use Rattle.xsk_umem.specs.Frame.{Frame}
 use Rattle.xsk_umem.specs.declared.batch.Item.{Item}
@@ -8,22 +8,79 @@ use Rattle.xsk_model.specs.Config.{Config, classes_of}
 use Rattle.xsk_model.specs.Entry.{Told}
 use Rattle.xsk_model.specs.Legal.{IsItemOn}
 use Rattle.xsk_model.specs.History.{Fits}
-use Rattle.xsk_model.specs.Script.{Script, ask, again, ended, begun, IsLeft}
+use Rattle.xsk_model.specs.Script.{Script, ask, again, ended, never, items_or_empty, on_old, begun, IsLeft}
 use Rattle.xsk_model.specs.declared.call.Ring.TheVariants.{Fill}
+use Rattle.xsk_model.specs.declared.call.Mark.TheVariants.{Gone, TxDone}
 use Rattle.xsk_model.specs.declared.call.Call.{Call}
-use Rattle.xsk_model.specs.declared.call.Call.TheVariants.{Peek}
+use Rattle.xsk_model.specs.declared.call.Call.TheVariants.{Peek, Swap, Look}
 use Rattle.xsk_model.specs.declared.call.Act.{Act}
 use Rattle.xsk_model.specs.declared.call.Act.TheVariants.{Call as Gave, Ended as IsEnded}
 use Rattle.xsk_model.specs.declared.call.Reply.{Reply}
 use Rattle.xsk_model.specs.declared.call.Reply.TheVariants.{Granted, Full, Submitted, Items, Empty, Released, Old}
-use Rattle.xsk_model.proofs.ScriptLemmas.{left_new, left_told, left_begun, left_next, run_left, whole_left}
-use Rattle.xsk_driver.specs.Turns.{Seat, Kept, Noted, seat_of, start, turn, frame_in, frames_in, pieces_of}
+use Rattle.xsk_model.proofs.ScriptLemmas.{left_new, left_told, left_begun, left_next, run_left, whole_left, call_left}
+use Rattle.xsk_driver.specs.Turns.{Seat, Kept, Noted, seat_of, moved, settled, start, turn, frame_in, frames_in, pieces_of, limit_of, application_of, redirect_to, idle, visit, visit_from, complete, transmit, direct, find_spare, reserve, take_spare}
 use Rattle.xsk_driver.specs.Stands.{seat_in, kept_in, noted_in, left, first, IsReady, IsGiven, HasRoom, HasRoomFor, IsWholeIn, Goes, GoesOn}
 use Rattle.xsk_driver.specs.Shown.{Shown}
 use Rattle.xsk_driver.specs.Runs.{IsNew, Stands, StandsWith}
 use Rattle.xsk_driver.specs.declared.machine.Machine.{Machine}
 use Rattle.xsk_driver.specs.declared.machine.Wait.{Wait}
-use Rattle.xsk_driver.specs.declared.machine.Wait.TheVariants.{PeekFill}
+use Rattle.xsk_driver.specs.declared.machine.Wait.TheVariants.{Start, TellRxDone, LookCell, PeekFill, ReleaseFill, ReserveRx, SubmitRx, ReserveComp, SubmitComp, PeekTx, ReleaseTx, LookTxDone, TellGone, Ended}
+use Rattle.xsk_driver.specs.declared.disposal.Disposal.TheVariants.{Delivered, Missed, TooLong}
+
+-- ---- a script that goes on
+
+abbrev pub IsLive : Script Kept → Type 0
+IsLive (ask call rest) = Unit {0}
+IsLive (again kept) = Unit {0}
+IsLive ended = Unit {0}
+IsLive never = ⊥
+
+live_if : (b : Bool) (s t : Script Kept) → IsLive s → IsLive t → IsLive (if b then s else t)
+live_if true s t h k = h
+live_if false s t h k = k
+
+live_idle : (seat : Seat) (noted : Noted) (kept : Kept) → IsLive (idle seat noted kept)
+live_idle seat noted kept =
+    live_if (noted.progress || noted.full) (again kept) _ tt
+    (live_if kept.tx_done (ask (Swap (Gone seat.pair) 1) (on_old (λ _. ended))) _ tt
+    (live_if kept.rx_done (ask (Look (TxDone (application_of seat))) (on_old (λ number. again (record kept { tx_done = kept.tx_done || number == 1 })))) (again kept) tt tt))
+
+live_visit : (seat : Seat) (n class : ℕ) (noted : Noted) (kept : Kept) → IsLive (visit seat n class noted kept)
+live_visit seat zero class noted kept = live_idle seat noted kept
+live_visit seat (suc n) class noted kept = tt
+
+live_complete : (seat : Seat) (finished : List (List Item)) (class : ℕ) (noted : Noted) (kept : Kept) → IsLive (complete seat finished noted kept (visit_from seat class))
+live_complete seat [] class noted kept = live_visit seat (seat.classes - class) class noted kept
+live_complete seat (packet ∷ later) class noted kept = tt
+
+live_transmit : (seat : Seat) (noted : Noted) (kept : Kept) → IsLive (transmit seat noted kept)
+live_transmit seat noted kept = live_complete seat kept.finished 0 noted kept
+
+live_direct : (seat : Seat) (packet : List ℕ) (noted : Noted) (kept : Kept) (to : Option ℕ) → IsLive (direct seat packet noted kept to)
+live_direct seat packet noted kept None = live_transmit seat (moved noted) (settled kept Missed)
+live_direct seat packet noted kept (Some socket) =
+    live_if (nat_lt (limit_of seat) (length packet)) (transmit seat (moved noted) (settled kept TooLong)) (find_spare seat packet socket noted kept)
+    (live_transmit seat (moved noted) (settled kept TooLong))
+    (live_if (nat_le (pieces_of seat packet) (length kept.spare)) (reserve seat packet socket noted kept)
+    (ask (Peek (Fill seat.pair) (pieces_of seat packet - length kept.spare)) (items_or_empty (take_spare seat packet socket noted kept) (transmit seat noted kept))) tt tt)
+
+-- some reply answers the call that was given
+answered : (s : Seat) (wait : Wait) (noted : Noted) (kept : Kept) → IsReady s wait kept → (reply : Reply) × IsLive (left s wait noted kept reply)
+answered s Start noted kept ready = absurd ready
+answered s TellRxDone noted kept ready = (Old 0, live_transmit s (moved noted) (record kept { rx_done = true }))
+answered s LookCell noted kept ready = (Old 0, live_direct s (first kept) noted kept (redirect_to s.config s.port s.queue 0))
+answered s (PeekFill socket) noted kept ready = (Items [], tt)
+answered s (ReleaseFill socket) noted kept ready =
+    (Released, live_if (nat_le (pieces_of s (first kept)) (length kept.spare)) (reserve s (first kept) socket noted kept) (transmit s noted kept) tt (live_transmit s noted kept))
+answered s (ReserveRx socket) noted kept ready = (Granted, tt)
+answered s (SubmitRx socket) noted kept ready = (Submitted, live_transmit s (moved noted) (settled kept (Delivered socket)))
+answered s (ReserveComp class) noted kept ready = (Granted, tt)
+answered s (SubmitComp class) noted kept ready = (Submitted, live_complete s kept.finished class noted kept)
+answered s (PeekTx class) noted kept ready = (Items [], tt)
+answered s (ReleaseTx class) noted kept ready = (Released, live_complete s kept.finished class noted kept)
+answered s LookTxDone noted kept ready = (Old 0, tt)
+answered s TellGone noted kept ready = (Old 0, tt)
+answered s Ended noted kept ready = absurd ready
 
 -- where the machine goes on with what is left, the driver stands for the list
 pub stands_with : (c : Config) (pair : ℕ) (input : List (List ℕ)) (now : Machine) (d : Shown) (act : Act) (script : Script Kept) (l : List Told)
@@ -38,12 +95,15 @@ stands_with c pair input now d (Gave call) script l seat wait noted kept more go
         ∙ ap (λ (k : Kept). ask call (left s d.wait d.noted k)) (sym kept) in
     let here : IsLeft (turn s) begins (ask call (left s d.wait d.noted d.kept)) l =
         subst (λ (x : Script Kept). IsLeft (turn s) begins x l) (sym goes.next ∙ there) (left_begun (turn s) begins script l more) in
+    let ready : IsReady s d.wait d.kept = subst (λ (w : Wait). IsReady s w d.kept) (sym wait) (subst (λ (k : Kept). IsReady s now.wait k) (sym kept) goes.ready) in
+    let reply = answered s d.wait d.noted d.kept ready in
     (record {
       seat = seat;
       script = here;
-      ready = subst (λ (w : Wait). IsReady s w d.kept) (sym wait) (subst (λ (k : Kept). IsReady s now.wait k) (sym kept) goes.ready);
+      ready = ready;
       given = subst (λ (w : Wait). IsGiven s w d.kept call) (sym wait) (subst (λ (k : Kept). IsGiven s now.wait k call) (sym kept) goes.given);
-    }, run_left (turn s) begins call (left s d.wait d.noted d.kept) l here)
+    }, run_left (turn s) begins call (left s d.wait d.noted d.kept) l here,
+    call_left (turn s) begins call (left s d.wait d.noted d.kept) reply.0 l (λ e. subst IsLive e reply.1) here)
 stands_with c pair input now d IsEnded script l seat wait noted kept more goes =
     whole_left (turn (seat_of c pair)) (start (classes_of c) input) l (subst (λ (x : Script Kept). IsLeft (turn (seat_of c pair)) (start (classes_of c) input) x l) goes more)
 

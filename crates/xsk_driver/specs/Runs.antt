@@ -25,7 +25,8 @@ pub record Stands (c : Config) (pair : ℕ) (input : List (List ℕ)) (d : Shown
   pub ready : IsReady (seat_of c pair) d.wait d.kept
   pub given : IsGiven (seat_of c pair) d.wait d.kept call
 
--- a driver that stands for a run of its turns and gives a call after it, or that has ended, where the run is whole
+-- a driver that stands for a run of its turns and gives a call after it, where the run isn't whole; or that has ended,
+-- where it is
 abbrev pub StandsWith : Config → ℕ → List (List ℕ) → Shown → Act → List Told → Type 0
-StandsWith c pair input d (Gave call) l = Stands c pair input d call l × IsDriverRun c pair input l
+StandsWith c pair input d (Gave call) l = Stands c pair input d call l × IsDriverRun c pair input l × (IsWholeDriverRun c pair input l → ⊥)
 StandsWith c pair input d Ended l = IsWholeDriverRun c pair input l

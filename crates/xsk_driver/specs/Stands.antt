@@ -97,7 +97,7 @@ pub record IsVisiting (seat : Seat) (kept : Kept) (class : ℕ) : Type 0 where
   pub within : class < seat.classes
 
 abbrev pub IsReady : Seat → Wait → Kept → Type 0
-IsReady seat Start kept = Unit {0}
+IsReady seat Start kept = ⊥
 IsReady seat TellRxDone kept = Unit {0}
 IsReady seat LookCell kept = IsTrying kept
 IsReady seat (PeekFill socket) kept = IsFitting seat kept
@@ -110,7 +110,7 @@ IsReady seat (PeekTx class) kept = IsVisiting seat kept class
 IsReady seat (ReleaseTx class) kept = class ≤ seat.classes
 IsReady seat LookTxDone kept = Unit {0}
 IsReady seat TellGone kept = Unit {0}
-IsReady seat Ended kept = Unit {0}
+IsReady seat Ended kept = ⊥
 
 -- the Peek on FILL that was given asks for the frames that the packet needs beside those that are there
 abbrev pub IsGiven : Seat → Wait → Kept → Call → Type 0
