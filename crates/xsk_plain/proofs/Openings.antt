@@ -7,6 +7,7 @@ use Rattle.std.specs.Prelude.{All, IsSome, IsNone, slice_get}
 use Rattle.std.proofs.lemmas.List.{length-map, length-replicate, get_or-map, get_or_append_left, get_or_past, drop_all, drop_more, take_more, map_push, replicate_more, nil_from_length, take_all, ext_get_or}
 use Rattle.std.proofs.lemmas.List.Elements.{All-nil, All-same, All-map, All-weaker}
 use Rattle.xsk_umem.specs.Frame.{Frame}
+use Rattle.xsk_umem.specs.Frames.{Frames}
 use Rattle.xsk_umem.specs.Geometry.{Geometry}
 use Rattle.xsk_umem.specs.declared.batch.Item.{Item}
 use Rattle.xsk_model.specs.Config.{Config, IsConfig, IsLawful, pool_of, pair_at}
@@ -34,8 +35,15 @@ pool_left pair pairs pool all h is =
     let most = mul-le-mul_right pool more in
     omega (arith, most, suc-mul pair pool)
 
-pub drop_pool : (pair pool : ℕ) (frames : List Frame) → drop pool (drop (pair * pool) frames) ≡ drop ((pair + 1) * pool) frames
+drop_pool : (pair pool : ℕ) (frames : List Frame) → drop pool (drop (pair * pool) frames) ≡ drop ((pair + 1) * pool) frames
 drop_pool pair pool frames = drop-drop pool (pair * pool) frames ∙ (let e : pair * pool + pool ≡ (pair + 1) * pool = omega (arith, suc-mul pair pool) in ap (λ n. drop n frames) e)
+
+-- the queue after one more pool was taken from it
+pub home_step : (before after : Frames) (all : List Frame) (pair pool limit : ℕ) → after ≡ record { items = drop pool before.items; limit = before.limit }
+    → before ≡ record { items = drop (pair * pool) all; limit = limit } → after ≡ record { items = drop ((pair + 1) * pool) all; limit = limit }
+home_step before after all pair pool limit taken is =
+    taken ∙ ap (λ (q : Frames). record { items = drop pool q.items; limit = q.limit }) is
+    ∙ ap (λ (fs : List Frame). record { items = fs; limit = limit }) (drop_pool pair pool all)
 
 pub drop_none : (pool : ℕ) (frames : List Frame) → drop (0 * pool) frames ≡ frames
 drop_none pool frames = let e : 0 * pool ≡ 0 = omega arith in ap (λ n. drop n frames) e

@@ -9,6 +9,8 @@ mod opening;
 mod places;
 mod plain;
 mod ring_store;
+#[cfg(test)]
+mod tests;
 
 pub use log::Log;
 pub use plain::{OpenRefused, Plain, payload_room};

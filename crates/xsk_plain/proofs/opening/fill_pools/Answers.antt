@@ -5,7 +5,7 @@ use Rattle.xsk_umem.specs.Geometry.{Geometry}
 use Rattle.xsk_model.specs.Config.{pool_of}
 use Rattle.xsk_plain.specs.Stores.{Has, home_stored, size_in}
 use Rattle.xsk_plain.proofs.StoreSteps.{sizes-set, length-sizes_of, length-rings}
-use Rattle.xsk_plain.proofs.Openings.{all_pools, pool_left, drop_pool, drop_pools, next_filled, next_blank, next_kept, pool_fits, opened_all}
+use Rattle.xsk_plain.proofs.Openings.{all_pools, pool_left, home_step, drop_pools, next_filled, next_blank, next_kept, pool_fits, opened_all}
 use Rattle.xsk_plain.proofs.opening.fill_pools.Goals as goal
 
 pub fill_pool-requires-clause-frames : goal.fill_pool-requires-clause-frames
@@ -50,8 +50,7 @@ loop-pair-preserved c =
     record {
       sizes = sizes-set c.args.config.now c.loop-pair.rings c.loop-pair.pair c.index-rings-pair.result c.fill_pool.new.store within c.index-rings-pair.is
           (size ∙ sym (ap size_in c.index-rings-pair.is)) ∙ c.loop-pair.invariant.sizes;
-      home = c.fill_pool.ensures.home ∙ ap (λ (q : Frames). record { items = drop c.pool-pool.result q.items; limit = q.limit }) c.loop-pair.invariant.home
-          ∙ ap (λ (fs : List Frame). record { items = fs; limit = c.args.home.now.limit }) (drop_pool c.loop-pair.pair c.pool-pool.result c.args.home.now.items);
+      home = home_step c.loop-pair.home c.fill_pool.new.home c.args.home.now.items c.loop-pair.pair c.pool-pool.result c.args.home.now.limit c.fill_pool.ensures.home c.loop-pair.invariant.home;
       filled = rw c.pool-pool.ensures (next_filled c.args.config.now c.loop-pair.rings c.loop-pair.pair c.fill_pool.new.store c.args.home.now.items c.fill_pool.new.store.size within whole
           (rw c.pool-pool.ensures at c.loop-pair.invariant.filled));
       blank = next_blank c.args.config.now c.loop-pair.rings c.loop-pair.pair c.fill_pool.new.store c.args.home.now.items c.fill_pool.new.store.size within whole c.loop-pair.invariant.blank;
