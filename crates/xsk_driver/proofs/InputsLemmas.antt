@@ -106,9 +106,9 @@ packets_after queues queue front (packet ∷ packets) =
     let longer : (front ++ packet ∷ []) ++ packets ≡ front ++ packet ∷ packets = append_assoc front (packet ∷ []) packets in
     let count : length (front ++ packet ∷ []) ≡ length front + 1 = length-append front (packet ∷ []) in
     let later : map (λ k. get_or (front ++ packet ∷ packets) k []) (numbers_from queues queue (length front + 1) packets) ≡ packets_of_queue queues queue packets =
-        subst (λ (n : ℕ). map (λ k. get_or (front ++ packet ∷ packets) k []) (numbers_from queues queue n packets) ≡ packets_of_queue queues queue packets) count
-        (subst (λ (xs : List (List ℕ)). map (λ k. get_or xs k []) (numbers_from queues queue (length (front ++ packet ∷ [])) packets) ≡ packets_of_queue queues queue packets) longer
-        (packets_after queues queue (front ++ packet ∷ []) packets)) in
+    subst (λ (n : ℕ). map (λ k. get_or (front ++ packet ∷ packets) k []) (numbers_from queues queue n packets) ≡ packets_of_queue queues queue packets) count
+    (subst (λ (xs : List (List ℕ)). map (λ k. get_or xs k []) (numbers_from queues queue (length (front ++ packet ∷ [])) packets) ≡ packets_of_queue queues queue packets) longer
+    (packets_after queues queue (front ++ packet ∷ []) packets)) in
     map_if (λ k. get_or (front ++ packet ∷ packets) k []) (queue_of queues packet == queue) (length front) packet (numbers_from queues queue (length front + 1) packets) (packets_of_queue queues queue packets)
     (get_or-append_seam front packet packets []) later
 

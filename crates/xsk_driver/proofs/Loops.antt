@@ -45,7 +45,7 @@ gathers_one before now next class all items later item split within step g =
     let leaves = step (omega (arith, within, classes)) (omega (arith, g.few, count)) in
     let groups : length (kept_in now).groups ≡ now.classes = length-map now.gathers.items (λ (x : Gathering). x.items) ∙ now.gathering in
     let here : kept_in next ≡ gathered (seat_in before) class (kept_in now) (item ∷ []) =
-        leaves.keeps ∙ ap (λ (s : Seat). gathered s class (kept_in now) (item ∷ [])) g.seat in
+    leaves.keeps ∙ ap (λ (s : Seat). gathered s class (kept_in now) (item ∷ [])) g.seat in
     record {
       seat = leaves.seat ∙ g.seat;
       notes = leaves.notes ∙ g.notes;
@@ -173,9 +173,9 @@ lays_one g packet rest front back all spare later items pieces done frame item s
     record {
       kept = later_left all spare later done frame split l.kept;
       laid = λ whole.
-        append_assoc items (item ∷ []) (laid_out g back more_frames)
-        ∙ ap (λ (i : Item). items ++ (i ∷ laid_out g back more_frames)) (written whole)
-        ∙ ap (λ (p : List ℕ). items ++ (written_in g frame p more_frames ∷ laid_out g back more_frames)) fronts
-        ∙ ap (λ (p : List ℕ). items ++ (written_in g frame (take (payload_of g) rest) more_frames ∷ laid_out g p more_frames)) backs
-        ∙ ap (λ (fs : List Frame). items ++ laid_out g rest fs) (sym cut) ∙ l.laid whole;
+          append_assoc items (item ∷ []) (laid_out g back more_frames)
+          ∙ ap (λ (i : Item). items ++ (i ∷ laid_out g back more_frames)) (written whole)
+          ∙ ap (λ (p : List ℕ). items ++ (written_in g frame p more_frames ∷ laid_out g back more_frames)) fronts
+          ∙ ap (λ (p : List ℕ). items ++ (written_in g frame (take (payload_of g) rest) more_frames ∷ laid_out g p more_frames)) backs
+          ∙ ap (λ (fs : List Frame). items ++ laid_out g rest fs) (sym cut) ∙ l.laid whole;
     }

@@ -90,20 +90,22 @@ stands_with c pair input now d (Gave call) script l seat wait noted kept more go
     let s : Seat = seat_of c pair in
     let begins : Kept = start (classes_of c) input in
     let there : ask call (left s now.wait (noted_in now) (kept_in now)) ≡ ask call (left s d.wait d.noted d.kept) =
-        ap (λ (w : Wait). ask call (left s w (noted_in now) (kept_in now))) (sym wait)
-        ∙ ap (λ (n : Noted). ask call (left s d.wait n (kept_in now))) (sym noted)
-        ∙ ap (λ (k : Kept). ask call (left s d.wait d.noted k)) (sym kept) in
+    ap (λ (w : Wait). ask call (left s w (noted_in now) (kept_in now))) (sym wait)
+    ∙ ap (λ (n : Noted). ask call (left s d.wait n (kept_in now))) (sym noted)
+    ∙ ap (λ (k : Kept). ask call (left s d.wait d.noted k)) (sym kept) in
     let here : IsLeft (turn s) begins (ask call (left s d.wait d.noted d.kept)) l =
-        subst (λ (x : Script Kept). IsLeft (turn s) begins x l) (sym goes.next ∙ there) (left_begun (turn s) begins script l more) in
+    subst (λ (x : Script Kept). IsLeft (turn s) begins x l) (sym goes.next ∙ there) (left_begun (turn s) begins script l more) in
     let ready : IsReady s d.wait d.kept = subst (λ (w : Wait). IsReady s w d.kept) (sym wait) (subst (λ (k : Kept). IsReady s now.wait k) (sym kept) goes.ready) in
-    let reply = answered s d.wait d.noted d.kept ready in
-    (record {
-      seat = seat;
-      script = here;
-      ready = ready;
-      given = subst (λ (w : Wait). IsGiven s w d.kept call) (sym wait) (subst (λ (k : Kept). IsGiven s now.wait k call) (sym kept) goes.given);
-    }, run_left (turn s) begins call (left s d.wait d.noted d.kept) l here,
-    call_left (turn s) begins call (left s d.wait d.noted d.kept) reply.0 l (λ e. subst IsLive e reply.1) here)
+    let reply = answered s d.wait d.noted d.kept ready in (
+      record {
+        seat = seat;
+        script = here;
+        ready = ready;
+        given = subst (λ (w : Wait). IsGiven s w d.kept call) (sym wait) (subst (λ (k : Kept). IsGiven s now.wait k call) (sym kept) goes.given);
+      },
+      run_left (turn s) begins call (left s d.wait d.noted d.kept) l here,
+      call_left (turn s) begins call (left s d.wait d.noted d.kept) reply.0 l (λ e. subst IsLive e reply.1) here,
+    )
 stands_with c pair input now d IsEnded script l seat wait noted kept more goes =
     whole_left (turn (seat_of c pair)) (start (classes_of c) input) l (subst (λ (x : Script Kept). IsLeft (turn (seat_of c pair)) (start (classes_of c) input) x l) goes more)
 
@@ -152,8 +154,8 @@ stands_new c pair input old now before d act sits keeps new seat wait noted kept
     let s : Seat = seat_of c pair in
     let begins : Kept = start (classes_of c) input in
     let here : GoesOn s now act (again begins) =
-        subst (λ (x : Seat). GoesOn x now act (again begins)) (sym sits ∙ new.seat)
-        (subst (λ (k : Kept). GoesOn (seat_in old) now act (again k)) (sym keeps ∙ new.kept) goes) in
+    subst (λ (x : Seat). GoesOn x now act (again begins)) (sym sits ∙ new.seat)
+    (subst (λ (k : Kept). GoesOn (seat_in old) now act (again k)) (sym keeps ∙ new.kept) goes) in
     stands_with c pair input now d act (again begins) [] seat wait noted kept (λ part n later h. (n, h)) here
 
 -- each later call
@@ -169,11 +171,11 @@ stands_next c pair input old now before d act call reply l sits waits notes keep
     let ready : IsReady s old.wait (kept_in old) = subst (λ (w : Wait). IsReady s w (kept_in old)) waits (subst (λ (k : Kept). IsReady s before.wait k) keeps stands.ready) in
     let given : IsGiven s old.wait (kept_in old) call = subst (λ (w : Wait). IsGiven s w (kept_in old) call) waits (subst (λ (k : Kept). IsGiven s before.wait k call) keeps stands.given) in
     let on : GoesOn s now act (left s old.wait (noted_in old) (kept_in old) reply) =
-        (subst (λ (x : Seat). IsReady x old.wait (kept_in old) → HasRoom x old.wait (kept_in old) reply → GoesOn x now act (left x old.wait (noted_in old) (kept_in old) reply)) same goes)
-        ready (has_room c pair l old.wait (kept_in old) call reply ready given fits) in
+    (subst (λ (x : Seat). IsReady x old.wait (kept_in old) → HasRoom x old.wait (kept_in old) reply → GoesOn x now act (left x old.wait (noted_in old) (kept_in old) reply)) same goes)
+    ready (has_room c pair l old.wait (kept_in old) call reply ready given fits) in
     let there : IsLeft (turn s) begins (ask call (left s old.wait (noted_in old) (kept_in old))) l =
-        subst (λ (w : Wait). IsLeft (turn s) begins (ask call (left s w (noted_in old) (kept_in old))) l) waits
-        (subst (λ (n : Noted). IsLeft (turn s) begins (ask call (left s before.wait n (kept_in old))) l) notes
-        (subst (λ (k : Kept). IsLeft (turn s) begins (ask call (left s before.wait before.noted k)) l) keeps stands.script)) in
+    subst (λ (w : Wait). IsLeft (turn s) begins (ask call (left s w (noted_in old) (kept_in old))) l) waits
+    (subst (λ (n : Noted). IsLeft (turn s) begins (ask call (left s before.wait n (kept_in old))) l) notes
+    (subst (λ (k : Kept). IsLeft (turn s) begins (ask call (left s before.wait before.noted k)) l) keeps stands.script)) in
     stands_with c pair input now d act (left s old.wait (noted_in old) (kept_in old) reply) (l ++ (record { call = call; reply = reply }) ∷ []) seat wait noted kept
     (left_told (turn s) begins call (left s old.wait (noted_in old) (kept_in old)) reply l there) on

@@ -100,15 +100,15 @@ pub gathered_one : (seat : Seat) (class : ℕ) (kept : Kept) (gathers : List Gat
 gathered_one seat class kept gathers g before after item packet within alike geometry is ended now same =
     let sg : before.sg ≡ seat.config.sg = ap (λ (x : Gathering). x.sg) is ∙ All-get_or (λ (x : Gathering). x.sg ≡ seat.config.sg) gathers class before within alike in
     let group : before.items ≡ get_or kept.groups class [] =
-        ap (λ (x : Gathering). x.items) is ∙ sym (get_or-map (λ (x : Gathering). x.items) gathers class before [] within) ∙ ap (λ (gs : List (List Item)). get_or gs class []) (sym same) in
+    ap (λ (x : Gathering). x.items) is ∙ sym (get_or-map (λ (x : Gathering). x.items) gathers class before [] within) ∙ ap (λ (gs : List (List Item)). get_or gs class []) (sym same) in
     let items : after.items ≡ group_after seat.config.geometry seat.config.sg (get_or kept.groups class []) item =
-        ap (λ (x : Gathering). x.items) now ∙ ap (λ (x : Geometry). group_after x before.sg before.items item) geometry
-        ∙ ap (λ (x : Bool). group_after seat.config.geometry x before.items item) sg ∙ ap (λ (xs : List Item). group_after seat.config.geometry seat.config.sg xs item) group in
+    ap (λ (x : Gathering). x.items) now ∙ ap (λ (x : Geometry). group_after x before.sg before.items item) geometry
+    ∙ ap (λ (x : Bool). group_after seat.config.geometry x before.items item) sg ∙ ap (λ (xs : List Item). group_after seat.config.geometry seat.config.sg xs item) group in
     let groups : groups_of (set gathers class after) ≡ set kept.groups class (group_after seat.config.geometry seat.config.sg (get_or kept.groups class []) item) =
-        map-set (λ (x : Gathering). x.items) gathers class after ∙ ap (λ (gs : List (List Item)). set gs class after.items) (sym same) ∙ ap (λ (xs : List Item). set kept.groups class xs) items in
+    map-set (λ (x : Gathering). x.items) gathers class after ∙ ap (λ (gs : List (List Item)). set gs class after.items) (sym same) ∙ ap (λ (xs : List Item). set kept.groups class xs) items in
     let last : packet ≡ ended_by seat.config.geometry seat.config.sg (get_or kept.groups class []) item =
-        ended ∙ ap (λ (x : Geometry). ended_by x before.sg before.items item) geometry
-        ∙ ap (λ (x : Bool). ended_by seat.config.geometry x before.items item) sg ∙ ap (λ (xs : List Item). ended_by seat.config.geometry seat.config.sg xs item) group in
+    ended ∙ ap (λ (x : Geometry). ended_by x before.sg before.items item) geometry
+    ∙ ap (λ (x : Bool). ended_by seat.config.geometry x before.items item) sg ∙ ap (λ (xs : List Item). ended_by seat.config.geometry seat.config.sg xs item) group in
     ap (λ (gs : List (List Item)). record kept { groups = gs; finished = kept.finished ++ whole_packets (option_to_list packet ++ []) }) groups
     ∙ ap (λ (p : Option Packet). record kept { groups = set kept.groups class (group_after seat.config.geometry seat.config.sg (get_or kept.groups class []) item); finished = kept.finished ++ whole_packets (option_to_list p ++ []) }) last
 
@@ -130,11 +130,11 @@ gathered_next seat class kept item items within =
     let one : List Packet = option_to_list (ended_by g sg (get_or kept.groups class []) item) in
     let now : get_or (set kept.groups class group) class [] ≡ group = get_or-set_same kept.groups class group [] within in
     let groups : set (set kept.groups class group) class (rest_from g sg (get_or (set kept.groups class group) class []) items) ≡ set kept.groups class (rest_from g sg group items) =
-        ap (λ (is : List Item). set (set kept.groups class group) class (rest_from g sg is items)) now ∙ set-set kept.groups class group (rest_from g sg group items) in
+    ap (λ (is : List Item). set (set kept.groups class group) class (rest_from g sg is items)) now ∙ set-set kept.groups class group (rest_from g sg group items) in
     let finished : (kept.finished ++ whole_packets (one ++ [])) ++ whole_packets (packets_from g sg (get_or (set kept.groups class group) class []) items) ≡ kept.finished ++ whole_packets (one ++ packets_from g sg group items) =
-        ap (λ (is : List Item). (kept.finished ++ whole_packets (one ++ [])) ++ whole_packets (packets_from g sg is items)) now
-        ∙ append_assoc kept.finished (whole_packets (one ++ [])) (whole_packets (packets_from g sg group items))
-        ∙ ap (λ (ps : List (List Item)). kept.finished ++ ps) (whole_packets-join one (packets_from g sg group items)) in
+    ap (λ (is : List Item). (kept.finished ++ whole_packets (one ++ [])) ++ whole_packets (packets_from g sg is items)) now
+    ∙ append_assoc kept.finished (whole_packets (one ++ [])) (whole_packets (packets_from g sg group items))
+    ∙ ap (λ (ps : List (List Item)). kept.finished ++ ps) (whole_packets-join one (packets_from g sg group items)) in
     ap (λ (gs : List (List Item)). record kept { groups = gs; finished = (kept.finished ++ whole_packets (one ++ [])) ++ whole_packets (packets_from g sg (get_or (set kept.groups class group) class []) items) }) groups
     ∙ ap (λ (ps : List (List Item)). record kept { groups = set kept.groups class (rest_from g sg group items); finished = ps }) finished
 
@@ -205,13 +205,13 @@ idle_on seat noted kept b is h tx rx = rw (sym is ∙ h, tx, rx) refl
 
 pub begin_tries : (seat : Seat) (before tried now : Machine) (cell : ℕ) (call : Call) → seat_in before ≡ seat → IsTried before tried cell
     → (cell ≡ cell_of (seat_in tried) (first (kept_in tried)) → cell < length (map_of tried.config.now tried.port) → IsTrying (kept_in tried)
-        → Goes (seat_in tried) now call (receive (seat_in tried) (kept_in tried).coming (noted_in tried) (kept_in tried)))
+    → Goes (seat_in tried) now call (receive (seat_in tried) (kept_in tried).coming (noted_in tried) (kept_in tried)))
     → Goes seat now call (receive seat (kept_in before).coming (noted_in before) (kept_in before))
 begin_tries seat before tried now cell call sits is goes =
     let back : before ≡ tried = sym is.same in
     let there = goes (subst (λ (m : Machine). cell ≡ cell_of (seat_in m) (first (kept_in m))) back is.is) (subst (λ (m : Machine). cell < length (map_of m.config.now m.port)) back is.within) (subst (λ (m : Machine). IsTrying (kept_in m)) back is.long) in
     let here : Goes (seat_in before) now call (receive (seat_in before) (kept_in before).coming (noted_in before) (kept_in before)) =
-        subst (λ (m : Machine). Goes (seat_in m) now call (receive (seat_in m) (kept_in m).coming (noted_in m) (kept_in m))) is.same there in
+    subst (λ (m : Machine). Goes (seat_in m) now call (receive (seat_in m) (kept_in m).coming (noted_in m) (kept_in m))) is.same there in
     subst (λ (s : Seat). Goes s now call (receive s (kept_in before).coming (noted_in before) (kept_in before))) sits here
 
 pub lt_true : (a b : ℕ) → a < b → nat_lt a b ≡ true

@@ -81,7 +81,7 @@ cell_of seat packet = seat.queue * seat.classes + class_of seat.classes packet
 abbrev pub redirect_to : Config → ℕ → ℕ → ℕ → Option ℕ
 redirect_to c port queue number =
     if nat_lt 0 number && nat_lt (number - 1) (length c.sockets)
-        && ((socket_at c.sockets (number - 1)).port == port) && ((socket_at c.sockets (number - 1)).queue == queue)
+    && ((socket_at c.sockets (number - 1)).port == port) && ((socket_at c.sockets (number - 1)).queue == queue)
     then Some (number - 1)
     else None
 
@@ -197,7 +197,7 @@ find_spare seat packet socket noted kept =
     if nat_le (pieces_of seat packet) (length kept.spare)
     then reserve seat packet socket noted kept
     else ask (Peek (Fill seat.pair) (pieces_of seat packet - length kept.spare))
-        (items_or_empty (take_spare seat packet socket noted kept) (transmit seat noted kept))
+    (items_or_empty (take_spare seat packet socket noted kept) (transmit seat noted kept))
 
 -- the packet goes to the socket, if there is one
 abbrev pub direct : Seat → List ℕ → Noted → Kept → Option ℕ → Script Kept

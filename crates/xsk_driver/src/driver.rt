@@ -33,8 +33,15 @@ impl<'a> Model for Driver<'a> {
 
     ghost use Rattle.xsk_driver.specs.Stands.{seat_in, noted_in, kept_in};
 
-    ghost view = { λ d. record { expected = expects d.machine.wait; most_packets = d.machine.sending.most_packets; most_bytes = d.machine.sending.most_bytes;
-        seat = seat_in d.machine; wait = d.machine.wait; noted = noted_in d.machine; kept = kept_in d.machine } };
+    ghost view = { λ d. record {
+      expected = expects d.machine.wait;
+      most_packets = d.machine.sending.most_packets;
+      most_bytes = d.machine.sending.most_bytes;
+      seat = seat_in d.machine;
+      wait = d.machine.wait;
+      noted = noted_in d.machine;
+      kept = kept_in d.machine;
+    } };
 }
 
 impl<'a> Driver<'a> {

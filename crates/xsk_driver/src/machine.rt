@@ -431,7 +431,13 @@ impl<'a> Machine<'a> {
         let Some(pieces) = self.pieces() else {
             return Batch::new(self.alloc);
         };
-        lay_out(self.alloc, self.config.geometry(), &mut self.spare, packet, pieces)
+        lay_out(
+            self.alloc,
+            self.config.geometry(),
+            &mut self.spare,
+            packet,
+            pieces,
+        )
     }
 
     /// Begins to send: completes what is finished, then peeks the first TX ring.
@@ -503,7 +509,7 @@ impl<'a> Machine<'a> {
         ensures gives { Gives self.old self.new result }
         ensures goes { 1 ≤ length (kept_in self.old).finished → class ≤ self.old.classes
             → Goes (seat_in self.old) self.new result (ask (Submit (Comp self.old.pair) (map returned (slice_index_or (kept_in self.old).finished 0 [])))
-            (on_submitted (complete_script (seat_in self.old) (drop 1 (kept_in self.old).finished) (moved (noted_in self.old)) (record (kept_in self.old) { finished = drop 1 (kept_in self.old).finished }) (visit_from (seat_in self.old) class))))  }
+            (on_submitted (complete_script (seat_in self.old) (drop 1 (kept_in self.old).finished) (moved (noted_in self.old)) (record (kept_in self.old) { finished = drop 1 (kept_in self.old).finished }) (visit_from (seat_in self.old) class)))) }
     {
         self.turn.progress = true;
         let items = match self.finished.pop_front() {
@@ -650,7 +656,13 @@ fn is_told(before: bool, number: u64) -> bool
 
 /// The packet in the first of some frames, in so many pieces: each in a frame of its own, and each item but the last with
 /// the continuation bit.
-fn lay_out(alloc: Global, geometry: &Geometry, spare: &mut VecDeque<Frame>, packet: &[u8], pieces: u32) -> Batch
+fn lay_out(
+    alloc: Global,
+    geometry: &Geometry,
+    spare: &mut VecDeque<Frame>,
+    packet: &[u8],
+    pieces: u32,
+) -> Batch
     requires { pieces ≤ 18 }
     ensures capacity { deque_capacity spare.new ≡ deque_capacity spare.old }
     ensures whole { (chunk : ℕ) → All (IsWholeFrame chunk) spare.old.items → All (IsWholeFrame chunk) spare.new.items }

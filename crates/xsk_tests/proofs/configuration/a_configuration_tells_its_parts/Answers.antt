@@ -3,5 +3,14 @@ use Rattle.xsk_tests.proofs.configuration.a_configuration_tells_its_parts.Goals 
 
 pub of_parts-config-requires : goal.of_parts-config-requires
 of_parts-config-requires g c =
-    rw (c.in_ok-sockets.ensures.items, c.socket_on.ensures, c.socket_on-2.ensures, c.in_ok-pairs.ensures.items, c.pair_on.ensures, c.pair_on-2.ensures,
-        c.in_ok-cells.ensures.items, c.in_ok-vec.ensures.items, c.in_ok-vec-2.ensures.items) (two_ports-config c.in_ok-geometry.geometry)
+    rw (
+      c.in_ok-sockets.ensures.items,
+      c.socket_on.ensures,
+      c.socket_on-2.ensures,
+      c.in_ok-pairs.ensures.items,
+      c.pair_on.ensures,
+      c.pair_on-2.ensures,
+      c.in_ok-cells.ensures.items,
+      c.in_ok-vec.ensures.items,
+      c.in_ok-vec-2.ensures.items,
+    ) (two_ports-config c.in_ok-geometry.geometry)

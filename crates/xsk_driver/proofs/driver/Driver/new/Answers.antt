@@ -27,5 +27,5 @@ returns-clause-is_new c is =
     let found : c.of_pair.result.now ≡ numbers_from queues queue 0 list.packets = c.of_pair.ensures ∙ is in
     let within : All (λ k. k < length list.packets) c.of_pair.result.now = subst (λ (ns : List ℕ). All (λ k. k < length list.packets) ns) (sym found) (numbers_known queues queue list.packets) in
     let coming : map (packet_at list) c.known-numbers.result.now ≡ packets_of_queue queues queue list.packets =
-        ap (map (packet_at list)) (c.known-numbers.ensures.same within ∙ found) ∙ packets_by_number queues queue list in
+    ap (map (packet_at list)) (c.known-numbers.ensures.same within ∙ found) ∙ packets_by_number queues queue list in
     record { seat = search rules; wait = refl; kept = rw (← coming) (search rules) }

@@ -19,10 +19,11 @@ loop-preserved c =
     let same : length m.numbers.now ≡ length c.args.self.now.numbers.now = ap (λ (ns : List ℕ). length ns) c.loop.invariant.0.numbers in
     let skips = c.in_default.ensures.tried (coming_some m.packets.now m.numbers.now (length m.disposals.items) (omega arith)) in
     let limits = c.in_default.ensures.limits in
-    let before = c.loop.invariant.0 in
-    (record { most_packets = limits.most_packets ∙ before.most_packets; most_bytes = limits.most_bytes ∙ before.most_bytes; seat = limits.seat ∙ before.seat; numbers = limits.numbers ∙ before.numbers },
-     omega (arith, skips.one),
-     subst (λ (s : Seat). receive s (kept_in c.cell_to_try.new.self).coming (noted_in c.cell_to_try.new.self) (kept_in c.cell_to_try.new.self) ≡ receive s (kept_in m).coming (noted_in m) (kept_in m)) before.seat skips.receives ∙ c.loop.invariant.2)
+    let before = c.loop.invariant.0 in (
+      record { most_packets = limits.most_packets ∙ before.most_packets; most_bytes = limits.most_bytes ∙ before.most_bytes; seat = limits.seat ∙ before.seat; numbers = limits.numbers ∙ before.numbers },
+      omega (arith, skips.one),
+      subst (λ (s : Seat). receive s (kept_in c.cell_to_try.new.self).coming (noted_in c.cell_to_try.new.self) (kept_in c.cell_to_try.new.self) ≡ receive s (kept_in m).coming (noted_in m) (kept_in m)) before.seat skips.receives ∙ c.loop.invariant.2,
+    )
 
 pub returns-clause-goes : goal.returns-clause-goes
 returns-clause-goes c =

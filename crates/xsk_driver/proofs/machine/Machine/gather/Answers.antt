@@ -13,7 +13,7 @@ returns-in-More-clause-leaves c within few =
     let m = c.args.self.now in
     let kept : Kept = kept_in m in
     let one = gathered_one (seat_in m) c.args.class kept m.gathers.items c.geometry.result.now c.in-Some.gather.now c.push.new.self c.args.item None
-        c.in-Some.ensures.item.3.0 m.gathering_alike c.geometry.ensures.value c.in-Some.ensures.value c.in-More.ensures.ended c.in-More.ensures.kept refl in
+    c.in-Some.ensures.item.3.0 m.gathering_alike c.geometry.ensures.value c.in-Some.ensures.value c.in-More.ensures.ended c.in-More.ensures.kept refl in
     record {
       seat = refl;
       notes = refl;
@@ -21,11 +21,11 @@ returns-in-More-clause-leaves c within few =
     }
 
 pub returns-in-Bad-clause-leaves : goal.returns-in-Bad-clause-leaves
-returns-in-Bad-clause-leaves c within few = 
+returns-in-Bad-clause-leaves c within few =
     let m = c.args.self.now in
     let kept : Kept = kept_in m in
     let one = gathered_one (seat_in m) c.args.class kept m.gathers.items c.geometry.result.now c.in-Some.gather.now c.push.new.self c.args.item (Some (bad c.in-Bad.items))
-        c.in-Some.ensures.item.3.0 m.gathering_alike c.geometry.ensures.value c.in-Some.ensures.value c.in-Bad.ensures.ended c.in-Bad.ensures.kept refl in
+    c.in-Some.ensures.item.3.0 m.gathering_alike c.geometry.ensures.value c.in-Some.ensures.value c.in-Bad.ensures.ended c.in-Bad.ensures.kept refl in
     record {
       seat = c.lose.ensures.leaves.seat;
       notes = c.lose.ensures.leaves.notes;
@@ -37,7 +37,7 @@ returns-in-Whole-clause-leaves c within few =
     let m = c.args.self.now in
     let kept : Kept = kept_in m in
     let one = gathered_one (seat_in m) c.args.class kept m.gathers.items c.geometry.result.now c.in-Some.gather.now c.push.new.self c.args.item (Some (whole c.in-Whole.packet))
-        c.in-Some.ensures.item.3.0 m.gathering_alike c.geometry.ensures.value c.in-Some.ensures.value c.in-Whole.ensures.ended c.in-Whole.ensures.kept refl in
+    c.in-Some.ensures.item.3.0 m.gathering_alike c.geometry.ensures.value c.in-Some.ensures.value c.in-Whole.ensures.ended c.in-Whole.ensures.kept refl in
     let leaves = c.finish.ensures.leaves few in
     record {
       seat = leaves.seat;

@@ -6,10 +6,11 @@ use Rattle.xsk_driver.proofs.machine.Machine.take_spare.Goals as goal
 
 pub loop-item-preserved : goal.loop-item-preserved
 loop-item-preserved c =
-    let before = c.args.self.now in
-    (limits_after before c.loop-item.self c.keep_item.new.self c.loop-item.invariant.0 c.keep_item.ensures.limits,
-     λ room. takes_one before c.loop-item.self c.keep_item.new.self c.args.items c.loop-item.items c.pop_front.new.self c.in-Some.item
-        c.in-Some.ensures.some c.keep_item.ensures.leaves (c.loop-item.invariant.1 room))
+    let before = c.args.self.now in (
+      limits_after before c.loop-item.self c.keep_item.new.self c.loop-item.invariant.0 c.keep_item.ensures.limits,
+      λ room. takes_one before c.loop-item.self c.keep_item.new.self c.args.items c.loop-item.items c.pop_front.new.self c.in-Some.item
+          c.in-Some.ensures.some c.keep_item.ensures.leaves (c.loop-item.invariant.1 room),
+    )
 
 pub returns-clause-goes : goal.returns-clause-goes
 returns-clause-goes c fitting room =
