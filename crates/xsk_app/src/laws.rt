@@ -1,7 +1,7 @@
 //! The laws of an application's runs, each the contract of a function that does nothing. They are stated in
 //! `specs/Law.antt`.
 
-ghost use Rattle.xsk_app.specs.Law.{LanesInOrder, LanesPassedOn};
+ghost use Rattle.xsk_app.specs.Law.{LanesInOrder, LanesPassedOn, NothingSentLate};
 
 /// On each lane the items submitted are the first of those peeked, in order and as they were.
 pub fn lanes_in_order()
@@ -11,4 +11,9 @@ pub fn lanes_in_order()
 /// In a whole run they are all of those.
 pub fn lanes_passed_on()
     ensures { LanesPassedOn }
+{}
+
+/// Nothing is submitted on TX once the application told that it sends nothing more.
+pub fn nothing_sent_late()
+    ensures { NothingSentLate }
 {}
