@@ -10,9 +10,15 @@ use std::collections::VecDeque;
 use std::marker::Model;
 
 /// One chunk of a UMEM with its number. It is moved from holder to holder and can't be copied, and only the
-/// registration of a UMEM makes one.
+/// registration of a UMEM makes one. It is a pointer wide, so that items and batches are cheap to move.
 #[derive(Debug, Drop)]
 pub struct Frame {
+    chunk: Box<Chunk>,
+}
+
+/// The number of a frame and its bytes.
+#[derive(Debug, Drop)]
+struct Chunk {
     number: u32,
     bytes: Vec<u8>,
 }
@@ -20,9 +26,9 @@ pub struct Frame {
 impl Model for Frame {
     ghost Value = { Body };
 
-    ghost view = { λ f. record { number = f.number; bytes = f.bytes.items } };
+    ghost view = { λ f. record { number = f.chunk.value.number; bytes = f.chunk.value.bytes.items } };
 
-    ghost invariant = { λ f. IsFrame (record { number = f.number; bytes = f.bytes.items }) };
+    ghost invariant = { λ f. IsFrame (record { number = f.chunk.value.number; bytes = f.chunk.value.bytes.items }) };
 }
 
 impl Frame {
@@ -32,7 +38,8 @@ impl Frame {
         ensures { IfOk result (λ f. f ≡ record { number = number; bytes = replicate chunk 0 }) }
     {
         let bytes = vec![in alloc; 0u8; chunk as usize]?;
-        Ok(Frame { number, bytes })
+        let chunk = Box::new(alloc, Chunk { number, bytes })?;
+        Ok(Frame { chunk })
     }
 
     /// The frame's number in its UMEM, counted from 0.
@@ -40,7 +47,7 @@ impl Frame {
         ensures value { result ≡ self.now.number }
         ensures lawful { IsFrame self.now }
     {
-        self.number
+        self.chunk.number
     }
 
     /// The bytes of the whole chunk.
@@ -48,7 +55,7 @@ impl Frame {
         ensures value { result.now ≡ self.now.bytes }
         ensures lawful { IsFrame self.now }
     {
-        self.bytes.as_slice()
+        self.chunk.bytes.as_slice()
     }
 
     /// Writes the piece at the offset in the chunk and leaves all other bytes. The piece must fit.
@@ -58,7 +65,7 @@ impl Frame {
     {
         let start = offset as usize;
         let end = start + piece.len();
-        self.bytes.as_mut_slice()[start..end].copy_from_slice(piece);
+        self.chunk.bytes.as_mut_slice()[start..end].copy_from_slice(piece);
     }
 }
 
