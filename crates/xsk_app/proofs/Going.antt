@@ -15,7 +15,8 @@ use Rattle.xsk_model.specs.Numbers.{times, numbers}
 use Rattle.xsk_model.specs.Own.{had_of}
 use Rattle.xsk_model.proofs.Counting.{times-append}
 use Rattle.xsk_app.specs.Turns.{lanes_of, numbers_kept, frame_numbers}
-use Rattle.xsk_app.proofs.Owned.{had_told, no_items}
+use Rattle.xsk_model.proofs.Safety.{had_told}
+use Rattle.xsk_app.proofs.Owned.{no_items}
 use Rattle.xsk_app.specs.Stands.{left, given_by, come_by}
 use Rattle.xsk_app.specs.Ways.{IsReady}
 use Rattle.xsk_app.specs.Waits.{expects}

@@ -7,7 +7,7 @@ use Rattle.xsk_umem.specs.declared.batch.Item.{Item}
 use Rattle.xsk_model.specs.Config.{Config, pool_of, batch_of}
 use Rattle.xsk_model.specs.Object.{submitted, taken}
 use Rattle.xsk_model.specs.Opening.{home_item}
-use Rattle.xsk_model.specs.Entry.{Told}
+use Rattle.xsk_model.specs.Entry.{Told, with_told}
 use Rattle.xsk_model.specs.Own.{is_on, submitted_of, peeked_of, submitted_step, peeked_step}
 use Rattle.xsk_model.specs.Script.{Script, ask, again, on_submitted}
 use Rattle.xsk_model.specs.declared.call.Ring.{Ring}
@@ -19,13 +19,13 @@ use Rattle.xsk_model.specs.declared.call.Reply.{Reply}
 use Rattle.xsk_model.specs.declared.call.Reply.TheVariants.{Granted, Full, Submitted, Items, Empty, Released, Old}
 use Rattle.xsk_model.proofs.Folds.{part_of-push}
 use Rattle.xsk_app.specs.Turns.{Kept, Noted, pair_of, rx_of, tx_of, lanes_of, home_of, group_of, both, is_set, is_none, pending_at, with_pending, back_at, with_back, frames_in, pass_on, receive, visit_lane, visit_lanes, give_back, complete, visit_side, visit_sides, with_seen, with_gone, look_rx_done, look_gone, tell_tx_done, end_turn, turn_sides, noted_first, turn, new_kept}
-use Rattle.xsk_app.specs.Standing.{IsOneOf, with_told}
+use Rattle.xsk_app.specs.Standing.{IsOneOf}
 use Rattle.xsk_app.specs.Law.{IsFront, LanesInOrder, LanesPassedOn, Telling, telling_after, telling_step, telling_of, NothingSentLate}
 use Rattle.std.specs.List.{fold}
 use Rattle.std.proofs.Common.{◌||◌}
 use Rattle.xsk_app.proofs.Seats.{rx_lane, tx_lane}
 use Rattle.xsk_app.proofs.Owned.{at_set, none_pending}
-use Rattle.xsk_app.proofs.Walks.{Holds, HoldsTurns, turns_run, turns_whole, at_reserve, at_submit, at_peek, at_release, at_old}
+use Rattle.xsk_model.proofs.Walks.{Holds, HoldsTurns, turns_run, turns_whole, at_reserve, at_submit, at_peek, at_release, at_old}
 
 -- ---- what an entry leaves of a ring's items
 

@@ -2,33 +2,27 @@
 use Rattle.std.proofs.Common.{◌≡◌, ℕ, zero, suc, ◌+◌, ◌-◌, ◌<◌, ◌≤◌, Bool, true, false, cond, ◌&&◌, eqb, List, [], ◌∷◌, length, get_or, set, take, drop, map, flat_map, All, refl, sym, ap, ◌∙◌, subst, arith, get_or-set_same, length-set, length-take}
 use Rattle.std.proofs.lemmas.List.{length-map}
 use Rattle.std.specs.List.{take_while}
-use Rattle.xsk_model.specs.Object.{submitted, taken}
 use Rattle.xsk_model.proofs.Counting.{times-flat_map-set}
+use Rattle.xsk_model.proofs.Safety.{Safe, SafeTurns, legal_reserve, legal_peek, legal_release, legal_look, legal_swap, on_reserve, on_submit, on_peek, on_release, on_look, on_swap, safe_test, quiet, had_told, room_told, held_told}
 use Rattle.xsk_umem.specs.Frame.{Frame}
 use Rattle.xsk_umem.specs.declared.batch.Item.{Item}
 use Rattle.xsk_model.specs.Config.{Config, HasRing, pool_of, batch_of, callers_of}
 use Rattle.xsk_model.specs.Numbers.{times, numbers}
-use Rattle.xsk_model.specs.Marks.{HasMark, MaySwap}
-use Rattle.xsk_model.specs.Rings.{caller_of, producer, consumer}
-use Rattle.xsk_model.specs.Entry.{Told}
-use Rattle.xsk_model.specs.Own.{had_of, room_of, held_of}
+use Rattle.xsk_model.specs.Rings.{caller_of, producer}
+use Rattle.xsk_model.specs.Entry.{Told, with_told}
+use Rattle.xsk_model.specs.Own.{had_of, room_of}
 use Rattle.xsk_model.specs.Legal.{IsLegal, IsItemOn}
-use Rattle.xsk_model.specs.History.{Fits, AreFresh}
+use Rattle.xsk_model.specs.History.{AreFresh}
 use Rattle.xsk_model.specs.Opening.{home_item}
-use Rattle.xsk_model.specs.Script.{Script, ask, again, ended, never, items_or_empty, granted_or_full, on_submitted, on_released, on_old}
-use Rattle.xsk_model.specs.declared.call.Ring.{Ring}
+use Rattle.xsk_model.specs.Script.{Script, ask, again, on_submitted}
 use Rattle.xsk_model.specs.declared.call.Ring.TheVariants.{Fill, Comp, Rx, Tx}
-use Rattle.xsk_model.specs.declared.call.Mark.{Mark}
 use Rattle.xsk_model.specs.declared.call.Mark.TheVariants.{RxDone, Gone, TxDone}
-use Rattle.xsk_model.specs.declared.call.Call.{Call}
 use Rattle.xsk_model.specs.declared.call.Call.TheVariants.{Reserve, Submit, Peek, Release, Swap, Look}
-use Rattle.xsk_model.specs.declared.call.Reply.{Reply}
 use Rattle.xsk_model.specs.declared.call.Reply.TheVariants.{Granted, Full, Submitted, Items, Empty, Released, Old}
 use Rattle.xsk_app.specs.Turns.{Kept, Noted, pair_of, rx_of, tx_of, lanes_of, home_of, group_of, both, is_set, is_none, pending_at, with_pending, back_at, with_back, frames_in, frame_numbers, pass_on, receive, visit_lane, visit_lanes, give_back, complete, visit_side, visit_sides, with_seen, with_gone, look_rx_done, look_gone, tell_tx_done, end_turn, turn_sides, noted_first, turn}
-use Rattle.xsk_app.specs.Standing.{with_told}
 use Rattle.xsk_app.proofs.TurnLemmas.{with_back-again, with_back-same, group_some, group_front}
 use Rattle.xsk_app.proofs.Seats.{Seats}
-use Rattle.xsk_app.proofs.Owned.{Owned, Each, each-drop, each-take, all-map, all-same, rx_to_tx, tx_to_tx, IsOwnFrame, own_frames, fill_item, numbers-home, frame_numbers-in, times-front, had_told, room_told, held_told, owned_told, owned_pending, owned_back}
+use Rattle.xsk_app.proofs.Owned.{Owned, Each, each-drop, each-take, all-map, all-same, rx_to_tx, tx_to_tx, IsOwnFrame, own_frames, fill_item, numbers-home, frame_numbers-in, times-front, owned_told, owned_pending, owned_back}
 
 group_few : (batch : ℕ) (frames : List Frame) → length (take batch frames) ≤ batch
 group_few batch frames = omega (arith, length-take batch frames)
@@ -37,31 +31,9 @@ shorter : (n : ℕ) (frame : Frame) (frames : List Frame) → 1 ≤ n → drop n
 shorter zero frame frames h = absurd (omega arith)
 shorter (suc n) frame frames h = ap (λ (k : ℕ). drop k frames) (let e : n ≡ suc n - 1 = omega arith in e)
 
--- along the script each call is legal, whatever fitting replies come; behind a new turn's beginning as `next` says
-abbrev pub Safe : Config → ℕ → (Kept → List Told → Type 0) → Script Kept → List Told → Type 0
-Safe c who next (ask call rest) l = IsLegal c l who call × ((reply : Reply) → Fits c l call reply → Safe c who next (rest reply) (with_told l call reply))
-Safe c who next (again kept) l = next kept l
-Safe c who next ended l = Unit {0}
-Safe c who next never l = Unit {0}
-
 -- ---- single calls
 
 module _ (c : Config) (who : ℕ) (l : List Told) (below : who < callers_of c) where
-  legal_reserve : (r : Ring) (n : ℕ) → HasRing c r → who ≡ producer c r → 1 ≤ n → n ≤ 32 → IsLegal c l who (Reserve r n)
-  legal_reserve r n has role some few = record { caller = below; known = has; role = role; counted = (some, few); frames = λ m. omega arith; items = tt; packets = tt }
-
-  legal_peek : (r : Ring) (n : ℕ) → HasRing c r → who ≡ consumer c r → 1 ≤ n → n ≤ 32 → IsLegal c l who (Peek r n)
-  legal_peek r n has role some few = record { caller = below; known = has; role = role; counted = (some, few); frames = λ m. omega arith; items = tt; packets = tt }
-
-  legal_release : (r : Ring) (n : ℕ) → HasRing c r → who ≡ consumer c r → 1 ≤ n → n ≤ 32 → n ≤ held_of r l → IsLegal c l who (Release r n)
-  legal_release r n has role some few held = record { caller = below; known = has; role = role; counted = (some, few, held); frames = λ m. omega arith; items = tt; packets = tt }
-
-  legal_look : (m : Mark) → HasMark c m → IsLegal c l who (Look m)
-  legal_look m has = record { caller = below; known = has; role = tt; counted = tt; frames = λ k. omega arith; items = tt; packets = tt }
-
-  legal_swap : (m : Mark) → HasMark c m → MaySwap c who m → IsLegal c l who (Swap m 1)
-  legal_swap m has may = record { caller = below; known = has; role = may; counted = omega arith; frames = λ k. omega arith; items = tt; packets = tt }
-
   legal_tx : (t : ℕ) (items : List Item) → HasRing c (Tx t) → who ≡ producer c (Tx t) → 1 ≤ length items → length items ≤ 32 → length items ≤ room_of (Tx t) l
       → ((n : ℕ) → times n (numbers items) ≤ times n (had_of l)) → All (IsItemOn c.geometry (Tx t)) items → IsLegal c l who (Submit (Tx t) items)
   legal_tx t items has role some few room had lawful =
@@ -72,78 +44,7 @@ module _ (c : Config) (who : ℕ) (l : List Told) (below : who < callers_of c) w
   legal_fill d items has role some few room had lawful =
       record { caller = below; known = has; role = role; counted = (some, few, room); frames = had; items = lawful; packets = tt }
 
--- ---- the reply
-
-module _ (c : Config) (who : ℕ) (P : Kept → List Told → Type 0) (l : List Told) where
-  on_reserve : (r : Ring) (n : ℕ) (granted full : Script Kept) → Safe c who P granted (with_told l (Reserve r n) Granted)
-      → ((free : ℕ) → Safe c who P full (with_told l (Reserve r n) (Full free)))
-      → (reply : Reply) → Fits c l (Reserve r n) reply → Safe c who P (granted_or_full granted full reply) (with_told l (Reserve r n) reply)
-  on_reserve r n granted full h k Granted fits = h
-  on_reserve r n granted full h k (Full free) fits = k free
-  on_reserve r n granted full h k Submitted fits = absurd fits
-  on_reserve r n granted full h k (Items items) fits = absurd fits
-  on_reserve r n granted full h k Empty fits = absurd fits
-  on_reserve r n granted full h k Released fits = absurd fits
-  on_reserve r n granted full h k (Old number) fits = absurd fits
-
-  on_submit : (r : Ring) (items : List Item) (next : Script Kept) → Safe c who P next (with_told l (Submit r items) Submitted)
-      → (reply : Reply) → Fits c l (Submit r items) reply → Safe c who P (on_submitted next reply) (with_told l (Submit r items) reply)
-  on_submit r items next h Granted fits = absurd fits
-  on_submit r items next h (Full free) fits = absurd fits
-  on_submit r items next h Submitted fits = h
-  on_submit r items next h (Items more) fits = absurd fits
-  on_submit r items next h Empty fits = absurd fits
-  on_submit r items next h Released fits = absurd fits
-  on_submit r items next h (Old number) fits = absurd fits
-
-  on_peek : (r : Ring) (n : ℕ) (some : List Item → Script Kept) (empty : Script Kept)
-      → ((items : List Item) → AreFresh c l r n items → Safe c who P (some items) (with_told l (Peek r n) (Items items)))
-      → Safe c who P empty (with_told l (Peek r n) Empty)
-      → (reply : Reply) → Fits c l (Peek r n) reply → Safe c who P (items_or_empty some empty reply) (with_told l (Peek r n) reply)
-  on_peek r n some empty h k Granted fits = absurd fits
-  on_peek r n some empty h k (Full free) fits = absurd fits
-  on_peek r n some empty h k Submitted fits = absurd fits
-  on_peek r n some empty h k (Items items) fits = h items fits
-  on_peek r n some empty h k Empty fits = k
-  on_peek r n some empty h k Released fits = absurd fits
-  on_peek r n some empty h k (Old number) fits = absurd fits
-
-  on_release : (r : Ring) (n : ℕ) (next : Script Kept) → Safe c who P next (with_told l (Release r n) Released)
-      → (reply : Reply) → Fits c l (Release r n) reply → Safe c who P (on_released next reply) (with_told l (Release r n) reply)
-  on_release r n next h Granted fits = absurd fits
-  on_release r n next h (Full free) fits = absurd fits
-  on_release r n next h Submitted fits = absurd fits
-  on_release r n next h (Items items) fits = absurd fits
-  on_release r n next h Empty fits = absurd fits
-  on_release r n next h Released fits = h
-  on_release r n next h (Old number) fits = absurd fits
-
-  on_look : (m : Mark) (next : ℕ → Script Kept) → ((number : ℕ) → Safe c who P (next number) (with_told l (Look m) (Old number)))
-      → (reply : Reply) → Fits c l (Look m) reply → Safe c who P (on_old next reply) (with_told l (Look m) reply)
-  on_look m next h Granted fits = absurd fits
-  on_look m next h (Full free) fits = absurd fits
-  on_look m next h Submitted fits = absurd fits
-  on_look m next h (Items items) fits = absurd fits
-  on_look m next h Empty fits = absurd fits
-  on_look m next h Released fits = absurd fits
-  on_look m next h (Old number) fits = h number
-
-  on_swap : (m : Mark) (value : ℕ) (next : ℕ → Script Kept) → ((number : ℕ) → Safe c who P (next number) (with_told l (Swap m value) (Old number)))
-      → (reply : Reply) → Fits c l (Swap m value) reply → Safe c who P (on_old next reply) (with_told l (Swap m value) reply)
-  on_swap m value next h Granted fits = absurd fits
-  on_swap m value next h (Full free) fits = absurd fits
-  on_swap m value next h Submitted fits = absurd fits
-  on_swap m value next h (Items items) fits = absurd fits
-  on_swap m value next h Empty fits = absurd fits
-  on_swap m value next h Released fits = absurd fits
-  on_swap m value next h (Old number) fits = h number
-
 -- ---- the lanes
-
--- an entry that moves no frame, and a Submit or a Peek
-quiet : (l : List Told) (call : Call) (reply : Reply) (n : ℕ) → times n (numbers (submitted call)) ≡ 0 → times n (numbers (taken reply)) ≡ 0
-    → times n (had_of (with_told l call reply)) ≡ times n (had_of l)
-quiet l call reply n e f = omega (arith, had_told l call reply n, e, f)
 
 module _ (c : Config) (a : ℕ) (seats : Seats c a) (P : Kept → List Told → Type 0) where
   -- what is safe wherever what is kept is had
@@ -318,10 +219,6 @@ module _ (c : Config) (a : ℕ) (seats : Seats c a) (P : Kept → List Told → 
 
   -- ---- the end
 
-  safe_test : (b : Bool) (x y : Script Kept) (l : List Told) → Safe c (caller_of c a) P x l → Safe c (caller_of c a) P y l → Safe c (caller_of c a) P (cond b x y) l
-  safe_test true x y l h k = h
-  safe_test false x y l h k = k
-
   -- what is kept beside items and frames is no matter
   owned_flags : (kept more : Kept) (l : List Told) (b : Bool) → more.pending ≡ kept.pending → more.back ≡ kept.back → Owned c kept l → Owned c (cond b more kept) l
   owned_flags kept more l true e f owned = record {
@@ -342,7 +239,7 @@ module _ (c : Config) (a : ℕ) (seats : Seats c a) (P : Kept → List Told → 
         let who = caller_of c a in
         let m = RxDone (pair_of c a side) in
         let below : side < 2 = omega arith in
-        safe_test (is_set kept.seen side) _ _ l (safe_rx_done more (side + 1) kept l (omega arith) owned) (
+        safe_test c (caller_of c a) P (is_set kept.seen side) _ _ l (safe_rx_done more (side + 1) kept l (omega arith) owned) (
           legal_look c who l seats.caller m (seats.comp side below).0,
           on_look c who P l m (λ done. look_rx_done c a more (side + 1) (with_seen kept side done))
               (λ n. safe_rx_done more (side + 1) (with_seen kept side n) (with_told l (Look m) (Old n)) (omega arith)
@@ -356,7 +253,7 @@ module _ (c : Config) (a : ℕ) (seats : Seats c a) (P : Kept → List Told → 
         let who = caller_of c a in
         let m = Gone (pair_of c a side) in
         let below : side < 2 = omega arith in
-        safe_test (is_set kept.gone side) _ _ l (safe_gone more (side + 1) kept l (omega arith) owned) (
+        safe_test c (caller_of c a) P (is_set kept.gone side) _ _ l (safe_gone more (side + 1) kept l (omega arith) owned) (
           legal_look c who l seats.caller m (seats.comp side below).0,
           on_look c who P l m (λ gone. look_gone c a more (side + 1) (with_gone kept side gone))
               (λ n. safe_gone more (side + 1) (with_gone kept side n) (with_told l (Look m) (Old n)) (omega arith)
@@ -368,7 +265,7 @@ module _ (c : Config) (a : ℕ) (seats : Seats c a) (P : Kept → List Told → 
     safe_tell noted kept l owned =
         let who = caller_of c a in
         let m = TxDone a in
-        safe_test (noted.seen && noted.lanes_empty) _ _ l (
+        safe_test c (caller_of c a) P (noted.seen && noted.lanes_empty) _ _ l (
           legal_swap c who l seats.caller m seats.known refl,
           on_swap c who P l m 1 (λ old. again (record kept { tx_done = true }))
               (λ n. again_safe (record kept { tx_done = true }) (with_told l (Swap m 1) (Old n))
@@ -379,23 +276,19 @@ module _ (c : Config) (a : ℕ) (seats : Seats c a) (P : Kept → List Told → 
 
     safe_end : (noted : Noted) (kept : Kept) (l : List Told) → Owned c kept l → Safe c (caller_of c a) P (end_turn c a noted kept) l
     safe_end noted kept l owned =
-        safe_test kept.tx_done _ _ l
-        (safe_test (noted.gone && noted.sides_empty && is_none (back_at kept 0) && is_none (back_at kept 1)) _ _ l tt (safe_gone 2 0 kept l (omega arith) owned))
-        (safe_test (both kept.seen) _ _ l (safe_tell noted kept l owned) (safe_rx_done 2 0 kept l (omega arith) owned))
+        safe_test c (caller_of c a) P kept.tx_done _ _ l
+        (safe_test c (caller_of c a) P (noted.gone && noted.sides_empty && is_none (back_at kept 0) && is_none (back_at kept 1)) _ _ l tt (safe_gone 2 0 kept l (omega arith) owned))
+        (safe_test c (caller_of c a) P (both kept.seen) _ _ l (safe_tell noted kept l owned) (safe_rx_done 2 0 kept l (omega arith) owned))
 
     safe_turn : (kept : Kept) (l : List Told) → Owned c kept l → Safe c (caller_of c a) P (turn c a kept) l
     safe_turn kept l owned =
         let sides : (noted : Noted) → Continues (turn_sides c a noted) =
         λ noted kept l owned. safe_sides 2 0 noted kept (end_turn c a) l (omega arith) owned (λ noted. safe_end noted) in
-        safe_test kept.tx_done _ _ l (sides (noted_first kept) kept l owned)
+        safe_test c (caller_of c a) P kept.tx_done _ _ l (sides (noted_first kept) kept l owned)
         (safe_lanes (lanes_of c) 0 (noted_first kept) kept (turn_sides c a) l (omega arith) owned sides)
 
 -- ---- turns
 
-abbrev pub SafeTurns : Config → ℕ → ℕ → Kept → List Told → Type 0
-SafeTurns c a zero kept l = Unit {0}
-SafeTurns c a (suc n) kept l = Safe c (caller_of c a) (SafeTurns c a n) (turn c a kept) l
-
-pub safe_turns : (c : Config) (a : ℕ) → Seats c a → (n : ℕ) (kept : Kept) (l : List Told) → Owned c kept l → SafeTurns c a n kept l
+pub safe_turns : (c : Config) (a : ℕ) → Seats c a → (n : ℕ) (kept : Kept) (l : List Told) → Owned c kept l → SafeTurns c (caller_of c a) (turn c a) n kept l
 safe_turns c a seats zero kept l owned = tt
-safe_turns c a seats (suc n) kept l owned = safe_turn c a seats (SafeTurns c a n) (safe_turns c a seats n) kept l owned
+safe_turns c a seats (suc n) kept l owned = safe_turn c a seats (SafeTurns c (caller_of c a) (turn c a) n) (safe_turns c a seats n) kept l owned

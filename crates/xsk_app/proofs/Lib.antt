@@ -2,7 +2,6 @@ pub mod TurnLemmas
 pub mod Owned
 pub mod Seats
 pub mod Steps
-pub mod Walks
 pub mod Answered
 pub mod Fresh
 pub mod Going

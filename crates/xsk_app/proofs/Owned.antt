@@ -1,5 +1,5 @@
 -- What an application has: the items and frames that it keeps are lawful, and their frames are those that it had.
-use Rattle.std.proofs.Common.{◌≡◌, ℕ, zero, suc, ◌+◌, ◌-◌, ◌*◌, ◌/◌, ◌^◌, ◌<◌, ◌≤◌, Bool, true, false, cond, nat_lt, Option, Some, None, List, [], ◌∷◌, ◌++◌, length, get_or, set, take, drop, map, flat_map, replicate, All, IfSome, refl, sym, ap, ◌∙◌, subst, ⊎_elim, arith, eq-eqb, get_or-set_same, get_or-set_other, length-set, lit<}
+use Rattle.std.proofs.Common.{◌≡◌, ℕ, zero, suc, ◌+◌, ◌*◌, ◌/◌, ◌^◌, ◌<◌, ◌≤◌, Bool, true, false, cond, nat_lt, Option, Some, None, List, [], ◌∷◌, ◌++◌, length, get_or, set, take, drop, map, flat_map, replicate, All, IfSome, refl, sym, ap, ◌∙◌, subst, ⊎_elim, arith, get_or-set_same, get_or-set_other, length-set, lit<}
 use Rattle.std.proofs.lemmas.Bool.{cases_eq}
 use Rattle.std.proofs.lemmas.Nat.{div_below}
 use Rattle.std.proofs.lemmas.Bool.Decides.{nat_tests}
@@ -9,23 +9,14 @@ use Rattle.xsk_umem.specs.Frame.{Frame}
 use Rattle.xsk_umem.specs.Geometry.{Geometry}
 use Rattle.xsk_umem.specs.declared.batch.Item.{Item}
 use Rattle.xsk_model.specs.Config.{Config}
-use Rattle.xsk_model.specs.Numbers.{times, numbers, number_of, without}
-use Rattle.xsk_model.specs.Rings.{is_ring}
-use Rattle.xsk_model.specs.Object.{submitted, taken}
+use Rattle.xsk_model.specs.Numbers.{times, numbers, number_of}
 use Rattle.xsk_model.specs.Entry.{Told}
-use Rattle.xsk_model.specs.Own.{had_of, room_of, held_of, room_step, held_step}
+use Rattle.xsk_model.specs.Own.{had_of}
 use Rattle.xsk_model.specs.Legal.{IsItemOn}
 use Rattle.xsk_model.specs.Opening.{home_item}
-use Rattle.xsk_model.specs.declared.call.Ring.{Ring}
 use Rattle.xsk_model.specs.declared.call.Ring.TheVariants.{Fill, Comp, Rx, Tx}
-use Rattle.xsk_model.specs.declared.call.Call.{Call}
-use Rattle.xsk_model.specs.declared.call.Call.TheVariants.{Reserve, Peek}
-use Rattle.xsk_model.specs.declared.call.Reply.{Reply}
-use Rattle.xsk_model.specs.declared.call.Reply.TheVariants.{Granted, Items}
-use Rattle.xsk_model.proofs.Folds.{had_of-push, part_of-push_same}
-use Rattle.xsk_model.proofs.Counting.{times-append, times-without, times-flat_map-set}
+use Rattle.xsk_model.proofs.Counting.{times-append, times-flat_map-set}
 use Rattle.xsk_app.specs.Turns.{Kept, lanes_of, pending_at, with_pending, back_at, with_back, frame_in, frames_in, frame_numbers, numbers_kept}
-use Rattle.xsk_app.specs.Standing.{with_told}
 
 -- ---- facts of each element
 
@@ -150,31 +141,6 @@ pub times-front : (n k : ℕ) (frames : List Frame) → times n (frame_numbers (
 times-front n zero frames = omega arith
 times-front n (suc k) [] = refl
 times-front n (suc k) (frame ∷ frames) = omega (arith, times-front n k frames)
-
--- ---- what an entry leaves
-
-pub had_told : (l : List Told) (call : Call) (reply : Reply) (n : ℕ)
-    → times n (had_of (with_told l call reply)) ≡ times n (had_of l) - times n (numbers (submitted call)) + times n (numbers (taken reply))
-had_told l call reply n =
-    ap (times n) (had_of-push l (record { call = call; reply = reply }))
-    ∙ times-append n (without (numbers (submitted call)) (had_of l)) (numbers (taken reply))
-    ∙ ap (λ (m : ℕ). m + times n (numbers (taken reply))) (times-without n (numbers (submitted call)) (had_of l))
-
-is_ring-same : (r : Ring) → is_ring r r ≡ true
-is_ring-same (Fill d) = eq-eqb d d refl
-is_ring-same (Comp d) = eq-eqb d d refl
-is_ring-same (Rx s) = eq-eqb s s refl
-is_ring-same (Tx s) = eq-eqb s s refl
-
-pub room_told : (l : List Told) (r : Ring) (n : ℕ) → n ≤ room_of r (with_told l (Reserve r n) Granted)
-room_told l r n =
-    let e = part_of-push_same room_step r 0 l (record { call = Reserve r n; reply = Granted }) (is_ring-same r) in
-    omega (arith, e)
-
-pub held_told : (l : List Told) (r : Ring) (n : ℕ) (items : List Item) → length items ≤ held_of r (with_told l (Peek r n) (Items items))
-held_told l r n items =
-    let e = part_of-push_same held_step r 0 l (record { call = Peek r n; reply = Items items }) (is_ring-same r) in
-    omega (arith, e)
 
 -- ---- what is had
 

@@ -1,10 +1,10 @@
 -- Where an application stands: its machine's waiting point and what it keeps are what its turns leave after a list of its
 -- calls and replies.
-use Rattle.std.specs.Prelude.{◌≡◌, ◌↔◌, ℕ, ◌+◌, ◌<◌, Option, Some, None, List, [], ◌∷◌, ◌++◌}
+use Rattle.std.specs.Prelude.{◌≡◌, ◌↔◌, ℕ, ◌+◌, ◌<◌, Option, Some, None, List, []}
 use Rattle.xsk_model.specs.Config.{Config, IsConfig, IsRegular}
 use Rattle.xsk_model.specs.Marks.{apps_of}
 use Rattle.xsk_model.specs.Rings.{caller_of}
-use Rattle.xsk_model.specs.Entry.{Told}
+use Rattle.xsk_model.specs.Entry.{Told, with_told}
 use Rattle.xsk_model.specs.Legal.{IsLegal}
 use Rattle.xsk_model.specs.History.{MayGive}
 use Rattle.xsk_model.specs.Script.{Script, ask, ended, IsLeft}
@@ -45,10 +45,6 @@ pub record Stands (s : Shown) (act : Act) (l : List Told) : Type 0 where
   pub one : IsOneOf s.config s.app
   pub turns : IsLeft (turn s.config s.app) (new_kept s.config) (left_to s act) l
   pub frames : (n : ℕ) → times n (numbers_kept s.kept) + times n (given_by act) ≡ times n (had_of l)
-
--- a call and its reply, behind others
-abbrev pub with_told : List Told → Call → Reply → List Told
-with_told l call reply = l ++ (record { call = call; reply = reply }) ∷ []
 
 -- it stood for a list and gave a call, and got a reply that the object may give, so that the list goes on by both; or it is
 -- new and got none, and the list is empty

@@ -20,3 +20,5 @@ pub mod Sendings
 pub mod Completions
 pub mod Counts
 pub mod ScriptLemmas
+pub mod Walks
+pub mod Safety

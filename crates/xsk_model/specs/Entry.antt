@@ -1,11 +1,15 @@
 -- Calls that were made: one of a caller's own with its reply, and one of all callers' with its caller.
-use Rattle.std.specs.Prelude.{ℕ, ◌==◌, if◌then◌else◌, List, [], ◌∷◌}
+use Rattle.std.specs.Prelude.{ℕ, ◌==◌, if◌then◌else◌, List, [], ◌∷◌, ◌++◌}
 use Rattle.xsk_model.specs.declared.call.Call.{Call}
 use Rattle.xsk_model.specs.declared.call.Reply.{Reply}
 
 pub record Told : Type 0 where
   pub call : Call
   pub reply : Reply
+
+-- a call and its reply, behind others
+abbrev pub with_told : List Told → Call → Reply → List Told
+with_told l call reply = l ++ (record { call = call; reply = reply }) ∷ []
 
 pub record Entry : Type 0 where
   pub who : ℕ
