@@ -17,3 +17,4 @@ pub mod Sent
 pub mod Stored
 pub mod Expected
 pub mod Script
+pub mod Ends
