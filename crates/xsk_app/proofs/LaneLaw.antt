@@ -18,10 +18,12 @@ use Rattle.xsk_model.specs.declared.call.Call.TheVariants.{Reserve, Submit, Peek
 use Rattle.xsk_model.specs.declared.call.Reply.{Reply}
 use Rattle.xsk_model.specs.declared.call.Reply.TheVariants.{Granted, Full, Submitted, Items, Empty, Released, Old}
 use Rattle.xsk_model.proofs.Folds.{part_of-push}
-use Rattle.xsk_app.specs.Turns.{Kept, Noted, pair_of, rx_of, tx_of, lanes_of, home_of, group_of, both, is_set, is_none, pending_at, with_pending, back_at, with_back, frames_in, pass_on, receive, visit_lane, visit_lanes, give_back, complete, visit_side, visit_sides, with_seen, with_gone, look_rx_done, look_gone, tell_tx_done, end_turn, turn_sides, noted_first, turn, new_kept}
+use Rattle.xsk_app.specs.Turns.{Kept, Noted, pair_of, rx_of, tx_of, lanes_of, home_of, group_of, both, is_set, is_none, pending_at, with_pending, back_at, with_back, frames_in, pass_on, receive, visit_lane, visit_lanes, give_back, complete, visit_side, visit_sides, with_seen, with_gone, look_rx_done, look_gone, tell_tx_done, end_turn, turn_sides, noted_first, turn, new_kept, IsAppRun, IsWholeAppRun}
 use Rattle.xsk_app.specs.Standing.{IsOneOf}
-use Rattle.xsk_app.specs.Law.{IsFront, LanesInOrder, LanesPassedOn, Telling, telling_after, telling_step, telling_of, NothingSentLate}
-use Rattle.std.specs.List.{fold}
+use Rattle.xsk_model.specs.Ends.{Telling, telling_after, telling_step, telling_of, Draining, draining_after}
+use Rattle.std.proofs.lemmas.List.Sums.{fold_push}
+use Rattle.xsk_app.proofs.Drained.{draining, Drains, drains_still, drains_received, drains_empty, found_empty, found_empty_here, drains_gone, drains_seen, drains_unseen}
+use Rattle.xsk_app.specs.Law.{IsFront, LanesInOrder, LanesPassedOn, NothingSentLate, DrainsRx}
 use Rattle.std.proofs.Common.{◌||◌}
 use Rattle.xsk_app.proofs.Seats.{rx_lane, tx_lane}
 use Rattle.xsk_app.proofs.Owned.{at_set, none_pending}
@@ -61,15 +63,32 @@ now_peeked s n l items =
 
 -- ---- what an entry leaves of what was told
 
-telling_push : (a : ℕ) (l : List Told) (s : Telling) (t : Told) → fold (telling_step a) s (l ++ t ∷ []) ≡ telling_step a (fold (telling_step a) s l) t
-telling_push a [] s t = refl
-telling_push a (u ∷ l) s t = telling_push a l (telling_step a s u) t
+telling_told : (a t : ℕ) (l : List Told) (call : Call) (reply : Reply)
+    → telling_of (TxDone a) (Tx t) (with_told l call reply) ≡ telling_after (TxDone a) (Tx t) (telling_of (TxDone a) (Tx t) l) call
+telling_told a t l call reply = fold_push (telling_step (TxDone a) (Tx t)) (record { told = false; late = false }) l (record { call = call; reply = reply })
 
-telling_told : (a : ℕ) (l : List Told) (call : Call) (reply : Reply) → telling_of a (with_told l call reply) ≡ telling_after a (telling_of a l) call
-telling_told a l call reply = telling_push a l (record { told = false; late = false }) (record { call = call; reply = reply })
+-- a call that tells nothing and submits nothing on TX
+abbrev Untold : ℕ → Call → Type 0
+Untold a call = (t : ℕ) (s : Telling) → telling_after (TxDone a) (Tx t) s call ≡ s
 
-same_telling : (a : ℕ) (l : List Told) (call : Call) (reply : Reply) → ((s : Telling) → telling_after a s call ≡ s) → telling_of a (with_told l call reply) ≡ telling_of a l
-same_telling a l call reply h = telling_told a l call reply ∙ h (telling_of a l)
+same_telling : (a t : ℕ) (l : List Told) (call : Call) (reply : Reply) → Untold a call → telling_of (TxDone a) (Tx t) (with_told l call reply) ≡ telling_of (TxDone a) (Tx t) l
+same_telling a t l call reply h = telling_told a t l call reply ∙ h t (telling_of (TxDone a) (Tx t) l)
+
+neither : (x y : Bool) → x ≡ false → y ≡ false → (x || y) ≡ false
+neither true y e f = e
+neither false y e f = f
+
+and_none : (x y : Bool) → x ≡ false → (x && y) ≡ false
+and_none true y e = absurd (cc)
+and_none false y e = refl
+
+or_none : (x y : Bool) → (x || (y && false)) ≡ x
+or_none true y = refl
+or_none false true = refl
+or_none false false = refl
+
+fill_untold : (a d : ℕ) (items : List Item) → Untold a (Submit (Fill d) items)
+fill_untold a d items t s = ap (λ b. let u : Telling = record s { late = b } in u) (or_none s.late s.told)
 
 -- ---- what holds all along
 
@@ -77,55 +96,63 @@ pub record InOrder (c : Config) (a : ℕ) (kept : Kept) (l : List Told) : Type 0
   pub lanes : length kept.pending ≡ lanes_of c
   pub order : (lane : ℕ) → lane < lanes_of c → submitted_of (Tx (tx_of c a lane)) l ++ pending_at kept lane ≡ peeked_of (Rx (rx_of c a lane)) l
   pub done : kept.tx_done ≡ true → (lane : ℕ) → lane < lanes_of c → pending_at kept lane ≡ []
-  pub told : (telling_of a l).told ≡ kept.tx_done
-  pub late : (telling_of a l).late ≡ false
+  pub told : (t : ℕ) → (telling_of (TxDone a) (Tx t) l).told ≡ kept.tx_done
+  pub late : (t : ℕ) → (telling_of (TxDone a) (Tx t) l).late ≡ false
 
 abbrev pub Fronts : Config → ℕ → List Told → Type 0
 Fronts c a l = (lane : ℕ) → lane < lanes_of c → IsFront (submitted_of (Tx (tx_of c a lane)) l) (peeked_of (Rx (rx_of c a lane)) l)
 
 -- what holds at each call
 abbrev pub Lawful : Config → ℕ → List Told → Type 0
-Lawful c a l = Fronts c a l × ((telling_of a l).late ≡ false)
+Lawful c a l = Fronts c a l × ((t : ℕ) → (telling_of (TxDone a) (Tx t) l).late ≡ false)
 
 abbrev pub Alls : Config → ℕ → List Told → Type 0
 Alls c a l = (lane : ℕ) → lane < lanes_of c → submitted_of (Tx (tx_of c a lane)) l ≡ peeked_of (Rx (rx_of c a lane)) l
 
-fronts : (c : Config) (a : ℕ) (kept : Kept) (l : List Told) → InOrder c a kept l → Lawful c a l
-fronts c a kept l h = (λ lane within. (pending_at kept lane, h.order lane within), h.late)
+-- with what was found of the RX rings
+pub record Holding (c : Config) (a : ℕ) (began found : Bool) (kept : Kept) (l : List Told) : Type 0 where
+  pub order : InOrder c a kept l
+  pub drains : Drains c a began found kept.seen kept.tx_done l
+
+abbrev pub AtEnd : Config → ℕ → List Told → Type 0
+AtEnd c a l = Alls c a l × ((lane : ℕ) → lane < lanes_of c → (draining c a lane l).empty ≡ true)
+
+fronts : (c : Config) (a : ℕ) (began found : Bool) (kept : Kept) (l : List Told) → Holding c a began found kept l → Lawful c a l
+fronts c a began found kept l h = (λ lane within. (pending_at kept lane, h.order.order lane within), h.order.late)
 
 -- every lane is empty where each was found so, as long as it still sends
 abbrev Clear : Config → Noted → Kept → Type 0
 Clear c noted kept = kept.tx_done ≡ false → noted.lanes_empty ≡ true → (lane : ℕ) → lane < lanes_of c → pending_at kept lane ≡ []
 
+-- the lanes before this one are empty where each was found so, and their RX rings too where both drivers had told
+abbrev Before : Config → ℕ → Noted → Kept → List Told → ℕ → Type 0
+Before c a noted kept l lane = noted.lanes_empty ≡ true → (j : ℕ) → j < lane → (pending_at kept j ≡ []) × (noted.seen ≡ true → (draining c a j l).empty ≡ true)
+
 -- an entry that moves no item of a lane
 quiet : (c : Config) (a : ℕ) (kept : Kept) (l : List Told) (call : Call) (reply : Reply)
     → ((lane : ℕ) → lane < lanes_of c → submitted_of (Tx (tx_of c a lane)) (with_told l call reply) ≡ submitted_of (Tx (tx_of c a lane)) l)
     → ((lane : ℕ) → lane < lanes_of c → peeked_of (Rx (rx_of c a lane)) (with_told l call reply) ≡ peeked_of (Rx (rx_of c a lane)) l)
-    → ((s : Telling) → telling_after a s call ≡ s)
+    → Untold a call
     → InOrder c a kept l → InOrder c a kept (with_told l call reply)
 quiet c a kept l call reply e f g h = record {
   lanes = h.lanes;
   order = λ lane within. ap (λ xs. xs ++ pending_at kept lane) (e lane within) ∙ h.order lane within ∙ sym (f lane within);
   done = h.done;
-  told = ap (λ s. s.told) (same_telling a l call reply g) ∙ h.told;
-  late = ap (λ s. s.late) (same_telling a l call reply g) ∙ h.late;
+  told = λ t. ap (λ s. s.told) (same_telling a t l call reply g) ∙ h.told t;
+  late = λ t. ap (λ s. s.late) (same_telling a t l call reply g) ∙ h.late t;
 }
 
 still : (c : Config) (a : ℕ) (kept : Kept) (l : List Told) (call : Call) (reply : Reply) → submitted call ≡ [] → taken reply ≡ []
-    → ((s : Telling) → telling_after a s call ≡ s) → InOrder c a kept l → InOrder c a kept (with_told l call reply)
+    → Untold a call → InOrder c a kept l → InOrder c a kept (with_told l call reply)
 still c a kept l call reply e f g h =
     quiet c a kept l call reply (λ lane within. same_submitted (Tx (tx_of c a lane)) l call reply e) (λ lane within. same_peeked (Rx (rx_of c a lane)) l call reply f) g h
 
 elsewhere : (c : Config) (a : ℕ) (kept : Kept) (l : List Told) (call : Call) (reply : Reply)
     → ((t : ℕ) → is_on (Tx t) call ≡ false) → ((s : ℕ) → is_on (Rx s) call ≡ false)
-    → ((s : Telling) → telling_after a s call ≡ s) → InOrder c a kept l → InOrder c a kept (with_told l call reply)
+    → Untold a call → InOrder c a kept l → InOrder c a kept (with_told l call reply)
 elsewhere c a kept l call reply e f g h =
     quiet c a kept l call reply (λ lane within. (other_ring (Tx (tx_of c a lane)) l call reply (e (tx_of c a lane))).0)
     (λ lane within. (other_ring (Rx (rx_of c a lane)) l call reply (f (rx_of c a lane))).1) g h
-
-neither : (x y : Bool) → x ≡ false → y ≡ false → (x || y) ≡ false
-neither true y e f = e
-neither false y e f = f
 
 -- ---- the lanes' entries
 
@@ -150,8 +177,11 @@ module _ (c : Config) (a : ℕ) (one : IsOneOf c a) where
             ∙ inv.order j k ∙ sym (same_peeked (Rx (rx_of c a j)) l call Submitted refl))
             (cases_eq j lane);
         done = λ told j k. at_set (λ xs. xs ≡ []) kept.pending lane j [] within refl (inv.done told j k);
-        told = ap (λ s. s.told) (telling_told a l call Submitted) ∙ inv.told;
-        late = ap (λ s. s.late) (telling_told a l call Submitted) ∙ neither (telling_of a l).late (telling_of a l).told inv.late (inv.told ∙ sends);
+        told = λ t. ap (λ s. s.told) (telling_told a t l call Submitted) ∙ inv.told t;
+        late = λ t.
+            let u = telling_of (TxDone a) (Tx t) l in
+            ap (λ s. s.late) (telling_told a t l call Submitted)
+            ∙ neither u.late (u.told && eqb t (tx_of c a lane)) (inv.late t) (and_none u.told (eqb t (tx_of c a lane)) (inv.told t ∙ sends));
       }
 
   received : (lane : ℕ) (kept : Kept) (l : List Told) (items : List Item) → lane < lanes_of c → kept.tx_done ≡ false → pending_at kept lane ≡ [] → InOrder c a kept l
@@ -175,8 +205,8 @@ module _ (c : Config) (a : ℕ) (one : IsOneOf c a) where
             ∙ inv.order j k ∙ sym (other_ring (Rx (rx_of c a j)) l call (Items items) off).1)
             (cases_eq j lane);
         done = λ told. absurd (let e : false ≡ true = sym sends ∙ told in cc);
-        told = ap (λ s. s.told) (telling_told a l call (Items items)) ∙ inv.told;
-        late = ap (λ s. s.late) (telling_told a l call (Items items)) ∙ inv.late;
+        told = λ t. ap (λ s. s.told) (telling_told a t l call (Items items)) ∙ inv.told t;
+        late = λ t. ap (λ s. s.late) (telling_told a t l call (Items items)) ∙ inv.late t;
       }
 
 now_told : (x y : Bool) → x ≡ false → y ≡ true → (x || (y && true)) ≡ true
@@ -197,71 +227,128 @@ told_over c a kept l n inv sends clear =
           ap (λ xs. xs ++ pending_at kept lane) (same_submitted (Tx (tx_of c a lane)) l call reply refl)
           ∙ inv.order lane within ∙ sym (same_peeked (Rx (rx_of c a lane)) l call reply refl);
       done = λ told. clear;
-      told = ap (λ s. s.told) (telling_told a l call reply) ∙ now_told (telling_of a l).told (eqb a a) (inv.told ∙ sends) (eq-eqb a a refl);
-      late = ap (λ s. s.late) (telling_told a l call reply) ∙ inv.late;
+      told = λ t. ap (λ s. s.told) (telling_told a t l call reply) ∙ now_told (telling_of (TxDone a) (Tx t) l).told (eqb a a) (inv.told t ∙ sends) (eq-eqb a a refl);
+      late = λ t. ap (λ s. s.late) (telling_told a t l call reply) ∙ inv.late t;
     }
+
+-- ---- with the RX rings
+
+module _ (c : Config) (a : ℕ) (began found : Bool) (kept : Kept) (l : List Told) where
+  -- a call that moves nothing
+  unmoved_by : (call : Call) (reply : Reply) → submitted call ≡ [] → taken reply ≡ [] → Untold a call → ((s : ℕ) (u : Draining) → draining_after (Rx s) u call reply ≡ u)
+      → Holding c a began found kept l → Holding c a began found kept (with_told l call reply)
+  unmoved_by call reply e f g k h = record {
+    order = still c a kept l call reply e f g h.order;
+    drains = drains_still c a began found kept.seen kept.tx_done l call reply k h.drains;
+  }
+
+  -- one on a ring of no lane
+  off_lanes : (call : Call) (reply : Reply) → ((t : ℕ) → is_on (Tx t) call ≡ false) → ((s : ℕ) → is_on (Rx s) call ≡ false) → Untold a call
+      → ((s : ℕ) (u : Draining) → draining_after (Rx s) u call reply ≡ u) → Holding c a began found kept l → Holding c a began found kept (with_told l call reply)
+  off_lanes call reply e f g k h = record {
+    order = elsewhere c a kept l call reply e f g h.order;
+    drains = drains_still c a began found kept.seen kept.tx_done l call reply k h.drains;
+  }
+
+  with_frames : (frames : List (List Frame)) → Holding c a began found kept l → Holding c a began found (record kept { back = frames }) l
+  with_frames frames h = record {
+    order = record { lanes = h.order.lanes; order = h.order.order; done = h.order.done; told = h.order.told; late = h.order.late };
+    drains = h.drains;
+  }
+
+  with_seen_flags : (flags : List Bool) → InOrder c a kept l → InOrder c a (record kept { seen = flags }) l
+  with_seen_flags flags h = record { lanes = h.lanes; order = h.order; done = h.done; told = h.told; late = h.late }
+
+  -- of what was found in this turn nothing is kept
+  over_turn : Holding c a began found kept l → Holding c a false false kept l
+  over_turn h = record {
+    order = h.order;
+    drains = record { sides = h.drains.sides; known = λ e. absurd (cc); unseen = h.drains.unseen; now = λ e. absurd (cc); done = h.drains.done };
+  }
 
 -- ---- along the turns
 
 module _ (c : Config) (a : ℕ) (one : IsOneOf c a) (P : Kept → List Told → Type 0) where
   abbrev Goes : Script Kept → List Told → Type 0
-  Goes s l = Holds (Lawful c a) (Alls c a) P s l
+  Goes s l = Holds (Lawful c a) (AtEnd c a) P s l
 
   -- wherever the order is kept, while it still sends
   abbrev Sending : (Noted → Kept → Script Kept) → ℕ → Type 0
-  Sending next lane = (noted : Noted) (kept : Kept) (l : List Told) → InOrder c a kept l → kept.tx_done ≡ false
-      → (noted.lanes_empty ≡ true → (j : ℕ) → j < lane → pending_at kept j ≡ []) → Goes (next noted kept) l
+  Sending next lane = (noted : Noted) (kept : Kept) (l : List Told) → Holding c a noted.seen false kept l → kept.tx_done ≡ false → Before c a noted kept l lane
+      → Goes (next noted kept) l
 
-  go_pass_on : (lane : ℕ) (kept : Kept) (next : Kept → Script Kept) (l : List Told) → lane < lanes_of c → InOrder c a kept l → kept.tx_done ≡ false
-      → ((kept : Kept) (l : List Told) → InOrder c a kept l → kept.tx_done ≡ false → Goes (next kept) l) → Goes (pass_on c a lane kept next) l
-  go_pass_on lane kept next l h inv sends go =
+  go_pass_on : (began : Bool) (lane : ℕ) (kept : Kept) (next : Kept → Script Kept) (l : List Told) → lane < lanes_of c → Holding c a began false kept l → kept.tx_done ≡ false
+      → ((kept : Kept) (l : List Told) → Holding c a began false kept l → kept.tx_done ≡ false → Goes (next kept) l) → Goes (pass_on c a lane kept next) l
+  go_pass_on began lane kept next l h inv sends go =
       let r = Tx (tx_of c a lane) in
       let items = pending_at kept lane in
       let n = length items in
       let call = Reserve r n in
       let granted = with_told l call Granted in
-      let first = still c a kept l call Granted refl refl (λ s. refl) inv in
-      let empty = with_pending kept lane [] in (
-        fronts c a kept l inv,
-        at_reserve (Lawful c a) (Alls c a) P call l (ask (Submit r items) (on_submitted (next empty))) (next kept) (
-          fronts c a kept granted first,
-          at_submit (Lawful c a) (Alls c a) P (Submit r items) granted (next empty)
-              (go empty (with_told granted (Submit r items) Submitted) (sent c a one lane kept granted h sends first) sends),
+      let first = unmoved_by c a began false kept l call Granted refl refl (λ t s. refl) (λ s u. refl) inv in
+      let empty = with_pending kept lane [] in
+      let gone : Holding c a began false empty (with_told granted (Submit r items) Submitted) = record {
+        order = sent c a one lane kept granted h sends first.order;
+        drains = drains_still c a began false kept.seen kept.tx_done granted (Submit r items) Submitted (λ s u. refl) first.drains;
+      } in (
+        fronts c a began false kept l inv,
+        at_reserve (Lawful c a) (AtEnd c a) P call l (ask (Submit r items) (on_submitted (next empty))) (next kept) (
+          fronts c a began false kept granted first,
+          at_submit (Lawful c a) (AtEnd c a) P (Submit r items) granted (next empty) (go empty (with_told granted (Submit r items) Submitted) gone sends),
         )
-            (λ free. go kept (with_told l call (Full free)) (still c a kept l call (Full free) refl refl (λ s. refl) inv) sends),
+            (λ free. go kept (with_told l call (Full free)) (unmoved_by c a began false kept l call (Full free) refl refl (λ t s. refl) (λ s u. refl) inv) sends),
       )
 
   go_lane : (lane : ℕ) (items : List Item) (noted : Noted) (kept : Kept) (next : Noted → Kept → Script Kept) (l : List Told) → lane < lanes_of c
-      → InOrder c a kept l → kept.tx_done ≡ false → pending_at kept lane ≡ items → (noted.lanes_empty ≡ true → (j : ℕ) → j < lane → pending_at kept j ≡ [])
-      → Sending next (lane + 1) → Goes (visit_lane c a lane items noted kept next) l
+      → Holding c a noted.seen false kept l → kept.tx_done ≡ false → pending_at kept lane ≡ items → Before c a noted kept l lane → Sending next (lane + 1)
+      → Goes (visit_lane c a lane items noted kept next) l
   go_lane lane [] noted kept next l h inv sends is clear go =
       let full : Noted = record noted { lanes_empty = false } in
-      let r = Rx (rx_of c a lane) in
-      let call = Peek r (batch_of c) in (
-        fronts c a kept l inv,
-        at_peek (Lawful c a) (Alls c a) P call l (receive c a lane kept (next full)) (next noted kept)
+      let s = rx_of c a lane in
+      let r = Rx s in
+      let n = batch_of c in
+      let call = Peek r n in
+      let empty : Holding c a noted.seen false kept (with_told l call Empty) = record {
+        order = still c a kept l call Empty refl refl (λ t s. refl) inv.order;
+        drains = drains_empty c a noted.seen kept.seen kept.tx_done l s n sends inv.drains;
+      } in (
+        fronts c a noted.seen false kept l inv,
+        at_peek (Lawful c a) (AtEnd c a) P call l (receive c a lane kept (next full)) (next noted kept)
             (λ items.
             let more = with_pending kept lane items in
             let peeked = with_told l call (Items items) in
-            let now = received c a one lane kept l items h sends is inv in (
-              fronts c a more peeked now,
-              at_release (Lawful c a) (Alls c a) P (Release r (length items)) peeked (pass_on c a lane more (next full))
-                  (go_pass_on lane more (next full) (with_told peeked (Release r (length items)) Released) h (still c a more peeked (Release r (length items)) Released refl refl (λ s. refl) now) sends
+            let now : Holding c a noted.seen false more peeked = record {
+              order = received c a one lane kept l items h sends is inv.order;
+              drains = drains_received c a noted.seen kept.seen kept.tx_done l s n items sends inv.drains;
+            } in (
+              fronts c a noted.seen false more peeked now,
+              at_release (Lawful c a) (AtEnd c a) P (Release r (length items)) peeked (pass_on c a lane more (next full))
+                  (go_pass_on noted.seen lane more (next full) (with_told peeked (Release r (length items)) Released) h
+                  (unmoved_by c a noted.seen false more peeked (Release r (length items)) Released refl refl (λ t s. refl) (λ s u. refl) now) sends
                   (λ kept l inv sends. go full kept l inv sends (λ e. absurd (cc)))),
             ))
-            (go noted kept (with_told l call Empty) (still c a kept l call Empty refl refl (λ s. refl) inv) sends
-            (λ e j k. ⊎_elim (λ (same : j ≡ lane). ap (pending_at kept) same ∙ is) (λ (other : j ≡ lane → ⊥). clear e j (before j lane k other)) (cases_eq j lane))),
+            (go noted kept (with_told l call Empty) empty sends
+            (λ e j k. ⊎_elim
+            (λ (same : j ≡ lane). (
+              ap (pending_at kept) same ∙ is,
+              λ began. subst (λ i. (draining c a i (with_told l call Empty)).empty ≡ true) (sym same) (found_empty_here c a noted.seen kept.seen kept.tx_done l lane n began inv.drains),
+            ))
+            (λ (other : j ≡ lane → ⊥).
+            let earlier = clear e j (before j lane k other) in (
+              earlier.0,
+              λ began. found_empty c a noted.seen kept.seen kept.tx_done l lane j n began other (earlier.1 began) inv.drains,
+            ))
+            (cases_eq j lane))),
       )
     where
       before : (j lane : ℕ) → j < lane + 1 → (j ≡ lane → ⊥) → j < lane
       before j lane h k = omega arith
   go_lane lane (item ∷ items) noted kept next l h inv sends is clear go =
       let full : Noted = record noted { lanes_empty = false } in
-      go_pass_on lane kept (next full) l h inv sends (λ kept l inv sends. go full kept l inv sends (λ e. absurd (cc)))
+      go_pass_on noted.seen lane kept (next full) l h inv sends (λ kept l inv sends. go full kept l inv sends (λ e. absurd (cc)))
 
-  go_lanes : (more lane : ℕ) (noted : Noted) (kept : Kept) (next : Noted → Kept → Script Kept) (l : List Told) → lane + more ≡ lanes_of c → InOrder c a kept l
-      → kept.tx_done ≡ false → (noted.lanes_empty ≡ true → (j : ℕ) → j < lane → pending_at kept j ≡ []) → Sending next (lanes_of c)
-      → Goes (visit_lanes c a more lane noted kept next) l
+  go_lanes : (more lane : ℕ) (noted : Noted) (kept : Kept) (next : Noted → Kept → Script Kept) (l : List Told) → lane + more ≡ lanes_of c → Holding c a noted.seen false kept l
+      → kept.tx_done ≡ false → Before c a noted kept l lane → Sending next (lanes_of c) → Goes (visit_lanes c a more lane noted kept next) l
   go_lanes zero lane noted kept next l h inv sends clear go = go noted kept l inv sends (λ e j k. clear e j (omega arith))
   go_lanes (suc more) lane noted kept next l h inv sends clear go =
       go_lane lane (pending_at kept lane) noted kept (λ noted kept. visit_lanes c a more (lane + 1) noted kept next) l (omega arith) inv sends refl clear
@@ -269,67 +356,69 @@ module _ (c : Config) (a : ℕ) (one : IsOneOf c a) (P : Kept → List Told → 
 
   -- ---- the sides move no item of a lane
 
-  abbrev Giving : (Kept → Script Kept) → Kept → Type 0
-  Giving next kept = (frames : List (List Frame)) (l : List Told) → (let k : Kept = record kept { back = frames } in InOrder c a k l → Goes (next k) l)
+  module _ (began found : Bool) where
+    abbrev Giving : (Kept → Script Kept) → Kept → Type 0
+    Giving next kept = (frames : List (List Frame)) (l : List Told) → (let k : Kept = record kept { back = frames } in Holding c a began found k l → Goes (next k) l)
 
-  with_frames : (kept : Kept) (frames : List (List Frame)) (l : List Told) → InOrder c a kept l → InOrder c a (record kept { back = frames }) l
-  with_frames kept frames l inv = record { lanes = inv.lanes; order = inv.order; done = inv.done; told = inv.told; late = inv.late }
-
-  go_give : (side done : ℕ) (frames : List Frame) (kept : Kept) (next : Kept → Script Kept) (l : List Told) → InOrder c a kept l → Giving next kept
-      → Goes (give_back c side done frames kept next) l
-  go_give side done [] kept next l inv go = go (set kept.back side []) l (with_frames kept (set kept.back side []) l inv)
-  go_give side (suc done) (frame ∷ frames) kept next l inv go = go_give side done frames kept next l inv go
-  go_give side zero (frame ∷ frames) kept next l inv go =
-      let group = group_of (pool_of c) (batch_of c) frame frames in
-      let n = length group in
-      let r = Fill (home_of (pool_of c) frame) in
-      let items = map (home_item c.geometry) group in
-      let call = Reserve r n in
-      let granted = with_told l call Granted in
-      let first = still c a kept l call Granted refl refl (λ s. refl) inv in
-      let full = set kept.back side (frame ∷ frames) in (
-        fronts c a kept l inv,
-        at_reserve (Lawful c a) (Alls c a) P call l (ask (Submit r items) (on_submitted (give_back c side (n - 1) frames kept next))) (next (with_back kept side (frame ∷ frames))) (
-          fronts c a kept granted first,
-          at_submit (Lawful c a) (Alls c a) P (Submit r items) granted (give_back c side (n - 1) frames kept next)
-              (go_give side (n - 1) frames kept next (with_told granted (Submit r items) Submitted) (elsewhere c a kept granted (Submit r items) Submitted (λ t. refl) (λ s. refl) (λ s. refl) first) go),
+    go_give : (side done : ℕ) (frames : List Frame) (kept : Kept) (next : Kept → Script Kept) (l : List Told) → Holding c a began found kept l → Giving next kept
+        → Goes (give_back c side done frames kept next) l
+    go_give side done [] kept next l inv go = go (set kept.back side []) l (with_frames c a began found kept l (set kept.back side []) inv)
+    go_give side (suc done) (frame ∷ frames) kept next l inv go = go_give side done frames kept next l inv go
+    go_give side zero (frame ∷ frames) kept next l inv go =
+        let group = group_of (pool_of c) (batch_of c) frame frames in
+        let n = length group in
+        let home = home_of (pool_of c) frame in
+        let r = Fill home in
+        let items = map (home_item c.geometry) group in
+        let call = Reserve r n in
+        let granted = with_told l call Granted in
+        let first = unmoved_by c a began found kept l call Granted refl refl (λ t s. refl) (λ s u. refl) inv in
+        let full = set kept.back side (frame ∷ frames) in (
+          fronts c a began found kept l inv,
+          at_reserve (Lawful c a) (AtEnd c a) P call l (ask (Submit r items) (on_submitted (give_back c side (n - 1) frames kept next))) (next (with_back kept side (frame ∷ frames))) (
+            fronts c a began found kept granted first,
+            at_submit (Lawful c a) (AtEnd c a) P (Submit r items) granted (give_back c side (n - 1) frames kept next)
+                (go_give side (n - 1) frames kept next (with_told granted (Submit r items) Submitted)
+                (off_lanes c a began found kept granted (Submit r items) Submitted (λ t. refl) (λ s. refl) (fill_untold a home items) (λ s u. refl) first) go),
+          )
+              (λ free. go full (with_told l call (Full free))
+              (with_frames c a began found kept (with_told l call (Full free)) full (unmoved_by c a began found kept l call (Full free) refl refl (λ t s. refl) (λ s u. refl) inv))),
         )
-            (λ free. go full (with_told l call (Full free)) (with_frames kept full (with_told l call (Full free)) (still c a kept l call (Full free) refl refl (λ s. refl) inv))),
-      )
 
-  abbrev Visiting : (Noted → Kept → Script Kept) → Noted → Kept → Type 0
-  Visiting next noted kept = (empty : Bool) (frames : List (List Frame)) (l : List Told)
-      → (let k : Kept = record kept { back = frames } in InOrder c a k l → Goes (next (record noted { sides_empty = empty }) k) l)
+    abbrev Visiting : (Noted → Kept → Script Kept) → Noted → Kept → Type 0
+    Visiting next noted kept = (empty : Bool) (frames : List (List Frame)) (l : List Told)
+        → (let k : Kept = record kept { back = frames } in Holding c a began found k l → Goes (next (record noted { sides_empty = empty }) k) l)
 
-  go_side : (side : ℕ) (frames : List Frame) (noted : Noted) (kept : Kept) (next : Noted → Kept → Script Kept) (l : List Told) → InOrder c a kept l
-      → Visiting next noted kept → Goes (visit_side c a side frames noted kept next) l
-  go_side side [] noted kept next l inv go =
-      let r = Comp (pair_of c a side) in
-      let call = Peek r (batch_of c) in
-      let full : Noted = record noted { sides_empty = false } in (
-        fronts c a kept l inv,
-        at_peek (Lawful c a) (Alls c a) P call l (complete c a side kept (next full)) (next noted kept)
-            (λ items.
-            let peeked = with_told l call (Items items) in
-            let now = elsewhere c a kept l call (Items items) (λ t. refl) (λ s. refl) (λ s. refl) inv in
-            let back = set kept.back side (frames_in items) in
-            let given = with_told peeked (Release r (length items)) Released in (
-              fronts c a kept peeked now,
-              at_release (Lawful c a) (Alls c a) P (Release r (length items)) peeked (give_back c side zero (frames_in items) (with_back kept side (frames_in items)) (next full))
-                  (go_give side zero (frames_in items) (with_back kept side (frames_in items)) (next full) given
-                  (with_frames kept back given (still c a kept peeked (Release r (length items)) Released refl refl (λ s. refl) now)) (λ frames l inv. go false frames l inv)),
-            ))
-            (go noted.sides_empty kept.back (with_told l call Empty) (still c a kept l call Empty refl refl (λ s. refl) inv)),
-      )
-  go_side side (frame ∷ frames) noted kept next l inv go =
-      go_give side zero (frame ∷ frames) kept (next (record noted { sides_empty = false })) l inv (λ frames l inv. go false frames l inv)
+    go_side : (side : ℕ) (frames : List Frame) (noted : Noted) (kept : Kept) (next : Noted → Kept → Script Kept) (l : List Told) → Holding c a began found kept l
+        → Visiting next noted kept → Goes (visit_side c a side frames noted kept next) l
+    go_side side [] noted kept next l inv go =
+        let r = Comp (pair_of c a side) in
+        let call = Peek r (batch_of c) in
+        let full : Noted = record noted { sides_empty = false } in (
+          fronts c a began found kept l inv,
+          at_peek (Lawful c a) (AtEnd c a) P call l (complete c a side kept (next full)) (next noted kept)
+              (λ items.
+              let peeked = with_told l call (Items items) in
+              let now = off_lanes c a began found kept l call (Items items) (λ t. refl) (λ s. refl) (λ t s. refl) (λ s u. refl) inv in
+              let back = set kept.back side (frames_in items) in
+              let given = with_told peeked (Release r (length items)) Released in (
+                fronts c a began found kept peeked now,
+                at_release (Lawful c a) (AtEnd c a) P (Release r (length items)) peeked (give_back c side zero (frames_in items) (with_back kept side (frames_in items)) (next full))
+                    (go_give side zero (frames_in items) (with_back kept side (frames_in items)) (next full) given
+                    (with_frames c a began found kept given back (unmoved_by c a began found kept peeked (Release r (length items)) Released refl refl (λ t s. refl) (λ s u. refl) now))
+                    (λ frames l inv. go false frames l inv)),
+              ))
+              (go noted.sides_empty kept.back (with_told l call Empty) (unmoved_by c a began found kept l call Empty refl refl (λ t s. refl) (λ s u. refl) inv)),
+        )
+    go_side side (frame ∷ frames) noted kept next l inv go =
+        go_give side zero (frame ∷ frames) kept (next (record noted { sides_empty = false })) l inv (λ frames l inv. go false frames l inv)
 
-  go_sides : (more side : ℕ) (noted : Noted) (kept : Kept) (next : Noted → Kept → Script Kept) (l : List Told) → InOrder c a kept l
-      → Visiting next noted kept → Goes (visit_sides c a more side noted kept next) l
-  go_sides zero side noted kept next l inv go = go noted.sides_empty kept.back l inv
-  go_sides (suc more) side noted kept next l inv go =
-      go_side side (back_at kept side) noted kept (λ noted kept. visit_sides c a more (side + 1) noted kept next) l inv
-      (λ empty frames l inv. go_sides more (side + 1) (record noted { sides_empty = empty }) (record kept { back = frames }) next l inv go)
+    go_sides : (more side : ℕ) (noted : Noted) (kept : Kept) (next : Noted → Kept → Script Kept) (l : List Told) → Holding c a began found kept l
+        → Visiting next noted kept → Goes (visit_sides c a more side noted kept next) l
+    go_sides zero side noted kept next l inv go = go noted.sides_empty kept.back l inv
+    go_sides (suc more) side noted kept next l inv go =
+        go_side side (back_at kept side) noted kept (λ noted kept. visit_sides c a more (side + 1) noted kept next) l inv
+        (λ empty frames l inv. go_sides more (side + 1) (record noted { sides_empty = empty }) (record kept { back = frames }) next l inv go)
 
   -- ---- the end
 
@@ -337,98 +426,154 @@ module _ (c : Config) (a : ℕ) (one : IsOneOf c a) (P : Kept → List Told → 
   by_case true x y l h k = h refl
   by_case false x y l h k = k refl
 
-  seen_order : (b : Bool) (kept : Kept) (flags : List Bool) (l : List Told) → InOrder c a kept l → InOrder c a (cond b (record kept { seen = flags }) kept) l
-  seen_order true kept flags l inv = record { lanes = inv.lanes; order = inv.order; done = inv.done; told = inv.told; late = inv.late }
-  seen_order false kept flags l inv = inv
+  -- a side is seen, or not yet
+  seen_side : (b : Bool) (kept : Kept) (flags : List Bool) (l : List Told) → InOrder c a kept l → (b ≡ true → Drains c a false false flags kept.tx_done l)
+      → (b ≡ false → Drains c a false false kept.seen kept.tx_done l) → Holding c a false false (cond b (record kept { seen = flags }) kept) l
+  seen_side true kept flags l h k m = record { order = with_seen_flags c a false false kept l flags h; drains = k refl }
+  seen_side false kept flags l h k m = record { order = h; drains = m refl }
 
-  gone_order : (b : Bool) (kept : Kept) (flags : List Bool) (l : List Told) → InOrder c a kept l → InOrder c a (cond b (record kept { gone = flags }) kept) l
-  gone_order true kept flags l inv = record { lanes = inv.lanes; order = inv.order; done = inv.done; told = inv.told; late = inv.late }
-  gone_order false kept flags l inv = inv
+  gone_side : (b : Bool) (kept : Kept) (flags : List Bool) (l : List Told) → Holding c a false false kept l → Holding c a false false (cond b (record kept { gone = flags }) kept) l
+  gone_side true kept flags l h = record {
+    order = record { lanes = h.order.lanes; order = h.order.order; done = h.order.done; told = h.order.told; late = h.order.late };
+    drains = h.drains;
+  }
+  gone_side false kept flags l h = h
 
-  module _ (new_turn : (kept : Kept) (l : List Told) → InOrder c a kept l → P kept l) where
-    go_rx_done : (more side : ℕ) (kept : Kept) (l : List Told) → InOrder c a kept l → Goes (look_rx_done c a more side kept) l
-    go_rx_done zero side kept l inv = new_turn kept l inv
-    go_rx_done (suc more) side kept l inv =
+  module _ (new_turn : (kept : Kept) (l : List Told) → Holding c a false false kept l → P kept l) where
+    go_rx_done : (more side : ℕ) (kept : Kept) (l : List Told) → side + more ≡ 2 → Holding c a false false kept l → Goes (look_rx_done c a more side kept) l
+    go_rx_done zero side kept l e inv = new_turn kept l inv
+    go_rx_done (suc more) side kept l e inv =
         let call = Look (RxDone (pair_of c a side)) in
-        by_case (is_set kept.seen side) _ _ l (λ e. go_rx_done more (side + 1) kept l inv)
-        (λ e. (
-          fronts c a kept l inv,
-          at_old (Lawful c a) (Alls c a) P call l (λ done. look_rx_done c a more (side + 1) (with_seen kept side done))
-              (λ n. go_rx_done more (side + 1) (with_seen kept side n) (with_told l call (Old n))
-              (seen_order (eqb n 1) kept (set kept.seen side true) (with_told l call (Old n)) (still c a kept l call (Old n) refl refl (λ s. refl) inv))),
+        by_case (is_set kept.seen side) _ _ l (λ f. go_rx_done more (side + 1) kept l (omega arith) inv)
+        (λ f. (
+          fronts c a false false kept l inv,
+          at_old (Lawful c a) (AtEnd c a) P call l (λ done. look_rx_done c a more (side + 1) (with_seen kept side done))
+              (λ n. go_rx_done more (side + 1) (with_seen kept side n) (with_told l call (Old n)) (omega arith)
+              (seen_side (eqb n 1) kept (set kept.seen side true) (with_told l call (Old n)) (still c a kept l call (Old n) refl refl (λ t s. refl) inv.order)
+              (drains_seen c a one false kept.seen kept.tx_done l n inv.drains side (omega arith) f)
+              (drains_unseen c a one false kept.seen kept.tx_done l n inv.drains side (omega arith) f))),
         ))
 
-    go_gone : (more side : ℕ) (kept : Kept) (l : List Told) → InOrder c a kept l → Goes (look_gone c a more side kept) l
+    go_gone : (more side : ℕ) (kept : Kept) (l : List Told) → Holding c a false false kept l → Goes (look_gone c a more side kept) l
     go_gone zero side kept l inv = new_turn kept l inv
     go_gone (suc more) side kept l inv =
-        let call = Look (Gone (pair_of c a side)) in
+        let pair = pair_of c a side in
+        let call = Look (Gone pair) in
         by_case (is_set kept.gone side) _ _ l (λ e. go_gone more (side + 1) kept l inv)
         (λ e. (
-          fronts c a kept l inv,
-          at_old (Lawful c a) (Alls c a) P call l (λ gone. look_gone c a more (side + 1) (with_gone kept side gone))
+          fronts c a false false kept l inv,
+          at_old (Lawful c a) (AtEnd c a) P call l (λ gone. look_gone c a more (side + 1) (with_gone kept side gone))
               (λ n. go_gone more (side + 1) (with_gone kept side n) (with_told l call (Old n))
-              (gone_order (eqb n 1) kept (set kept.gone side true) (with_told l call (Old n)) (still c a kept l call (Old n) refl refl (λ s. refl) inv))),
+              (gone_side (eqb n 1) kept (set kept.gone side true) (with_told l call (Old n)) (record {
+                order = still c a kept l call (Old n) refl refl (λ t s. refl) inv.order;
+                drains = drains_gone c a false false kept.seen kept.tx_done l pair n inv.drains;
+              }))),
         ))
 
-    go_tell : (noted : Noted) (kept : Kept) (l : List Told) → InOrder c a kept l → kept.tx_done ≡ false → Clear c noted kept → Goes (tell_tx_done a noted kept) l
+    go_tell : (noted : Noted) (kept : Kept) (l : List Told) → Holding c a noted.seen (noted.seen && noted.lanes_empty) kept l → kept.tx_done ≡ false → Clear c noted kept
+        → Goes (tell_tx_done a noted kept) l
     go_tell noted kept l inv sends clear =
         let call = Swap (TxDone a) 1 in
         let told : Kept = record kept { tx_done = true } in
+        let found = noted.seen && noted.lanes_empty in
         by_case (noted.seen && noted.lanes_empty) _ _ l
         (λ e. (
-          fronts c a kept l inv,
-          at_old (Lawful c a) (Alls c a) P call l (λ old. again told)
-              (λ n. new_turn told (with_told l call (Old n)) (told_over c a kept l n inv sends (clear sends (and_parts noted.seen noted.lanes_empty e).1))),
+          fronts c a noted.seen found kept l inv,
+          at_old (Lawful c a) (AtEnd c a) P call l (λ old. again told)
+              (λ n.
+              let now = drains_still c a noted.seen found kept.seen kept.tx_done l call (Old n) (λ s u. refl) inv.drains in
+              new_turn told (with_told l call (Old n)) (record {
+                order = told_over c a kept l n inv.order sends (clear sends (and_parts noted.seen noted.lanes_empty e).1);
+                drains = record { sides = now.sides; known = λ f. absurd (cc); unseen = now.unseen; now = λ f. absurd (cc); done = λ f. now.now e };
+              })),
         ))
-        (λ e. new_turn kept l inv)
+        (λ e. new_turn kept l (over_turn c a noted.seen found kept l inv))
 
     whole_order : (kept : Kept) (l : List Told) → InOrder c a kept l → kept.tx_done ≡ true → Alls c a l
     whole_order kept l inv told = λ lane h.
         sym (append-nil (submitted_of (Tx (tx_of c a lane)) l))
         ∙ ap (λ xs. submitted_of (Tx (tx_of c a lane)) l ++ xs) (sym (inv.done told lane h)) ∙ inv.order lane h
 
-    go_end : (noted : Noted) (kept : Kept) (l : List Told) → InOrder c a kept l → Clear c noted kept → Goes (end_turn c a noted kept) l
+    go_end : (noted : Noted) (kept : Kept) (l : List Told) → Holding c a noted.seen (noted.seen && noted.lanes_empty) kept l → Clear c noted kept → Goes (end_turn c a noted kept) l
     go_end noted kept l inv clear =
+        let found = noted.seen && noted.lanes_empty in
         by_case kept.tx_done _ _ l
         (λ told. by_case (noted.gone && noted.sides_empty && is_none (back_at kept 0) && is_none (back_at kept 1)) _ _ l
-        (λ e. (fronts c a kept l inv, whole_order kept l inv told)) (λ e. go_gone 2 0 kept l inv))
-        (λ sends. by_case (both kept.seen) _ _ l (λ e. go_tell noted kept l inv sends clear) (λ e. go_rx_done 2 0 kept l inv))
+        (λ e. (fronts c a noted.seen found kept l inv, (whole_order kept l inv.order told, inv.drains.done told))) (λ e. go_gone 2 0 kept l (over_turn c a noted.seen found kept l inv)))
+        (λ sends. by_case (both kept.seen) _ _ l (λ e. go_tell noted kept l inv sends clear) (λ e. go_rx_done 2 0 kept l refl (over_turn c a noted.seen found kept l inv)))
 
-    go_turn_sides : (noted : Noted) (kept : Kept) (l : List Told) → InOrder c a kept l → Clear c noted kept → Goes (turn_sides c a noted kept) l
+    go_turn_sides : (noted : Noted) (kept : Kept) (l : List Told) → Holding c a noted.seen (noted.seen && noted.lanes_empty) kept l → Clear c noted kept
+        → Goes (turn_sides c a noted kept) l
     go_turn_sides noted kept l inv clear =
-        go_sides 2 0 noted kept (end_turn c a) l inv
+        go_sides noted.seen (noted.seen && noted.lanes_empty) 2 0 noted kept (end_turn c a) l inv
         (λ empty frames l inv. go_end (record noted { sides_empty = empty }) (record kept { back = frames }) l inv clear)
 
-    go_turn : (kept : Kept) (l : List Told) → InOrder c a kept l → Goes (turn c a kept) l
+    -- once the lanes are visited
+    after_lanes : (noted : Noted) (kept : Kept) (l : List Told) → Holding c a noted.seen false kept l → kept.tx_done ≡ false → Before c a noted kept l (lanes_of c)
+        → Goes (turn_sides c a noted kept) l
+    after_lanes noted kept l inv sends clear =
+        go_turn_sides noted kept l
+        (record {
+          order = inv.order;
+          drains = record {
+            sides = inv.drains.sides;
+            known = inv.drains.known;
+            unseen = inv.drains.unseen;
+            now = λ e lane h. (clear (and_parts noted.seen noted.lanes_empty e).1 lane h).1 (and_parts noted.seen noted.lanes_empty e).0;
+            done = inv.drains.done;
+          };
+        })
+        (λ s e lane h. (clear e lane h).0)
+
+    go_turn : (kept : Kept) (l : List Told) → Holding c a false false kept l → Goes (turn c a kept) l
     go_turn kept l inv =
+        let noted = noted_first kept in
         by_case kept.tx_done _ _ l
-        (λ told. go_turn_sides (noted_first kept) kept l inv (λ sends. absurd (let e : true ≡ false = sym told ∙ sends in cc)))
-        (λ sends. go_lanes (lanes_of c) 0 (noted_first kept) kept (turn_sides c a) l (omega arith) inv sends (λ e j k. absurd (omega arith))
-        (λ noted kept l inv sends clear. go_turn_sides noted kept l inv (λ s. clear)))
+        (λ told. go_turn_sides noted kept l
+        (record {
+          order = inv.order;
+          drains = record { sides = inv.drains.sides; known = λ e. e; unseen = inv.drains.unseen; now = λ e. inv.drains.done told; done = inv.drains.done };
+        })
+        (λ sends. absurd (let e : true ≡ false = sym told ∙ sends in cc)))
+        (λ sends. go_lanes (lanes_of c) 0 noted kept (turn_sides c a) l (omega arith)
+        (record {
+          order = inv.order;
+          drains = record { sides = inv.drains.sides; known = λ e. e; unseen = inv.drains.unseen; now = λ e. absurd (cc); done = inv.drains.done };
+        })
+        sends (λ e j k. absurd (omega arith)) after_lanes)
 
 -- ---- the laws
 
-go_turns : (c : Config) (a : ℕ) → IsOneOf c a → (n : ℕ) (kept : Kept) (l : List Told) → InOrder c a kept l → HoldsTurns (Lawful c a) (Alls c a) (turn c a) n kept l
-go_turns c a one zero kept l inv = fronts c a kept l inv
-go_turns c a one (suc n) kept l inv = go_turn c a one (HoldsTurns (Lawful c a) (Alls c a) (turn c a) n) (go_turns c a one n) kept l inv
+go_turns : (c : Config) (a : ℕ) → IsOneOf c a → (n : ℕ) (kept : Kept) (l : List Told) → Holding c a false false kept l → HoldsTurns (Lawful c a) (AtEnd c a) (turn c a) n kept l
+go_turns c a one zero kept l inv = fronts c a false false kept l inv
+go_turns c a one (suc n) kept l inv = go_turn c a one (HoldsTurns (Lawful c a) (AtEnd c a) (turn c a) n) (go_turns c a one n) kept l inv
 
-new_order : (c : Config) (a : ℕ) → InOrder c a (new_kept c) []
+new_order : (c : Config) (a : ℕ) → Holding c a false false (new_kept c) []
 new_order c a = record {
-  lanes = length-replicate (lanes_of c) [];
-  order = λ lane h. none_pending (lanes_of c) lane;
-  done = λ told lane h. none_pending (lanes_of c) lane;
-  told = refl;
-  late = refl;
+  order = record {
+    lanes = length-replicate (lanes_of c) [];
+    order = λ lane h. none_pending (lanes_of c) lane;
+    done = λ told lane h. none_pending (lanes_of c) lane;
+    told = λ t. refl;
+    late = λ t. refl;
+  };
+  drains = record { sides = refl; known = λ e. absurd (cc); unseen = λ lane. refl; now = λ e. absurd (cc); done = λ e. absurd (cc) };
 }
 
+along : (c : Config) (a : ℕ) (l : List Told) → IsOneOf c a → IsAppRun c a l → Lawful c a l
+along c a l one run = turns_run (Lawful c a) (AtEnd c a) (turn c a) run.0 (new_kept c) [] l (go_turns c a one run.0 (new_kept c) [] (new_order c a)) run.1
+
+at_end : (c : Config) (a : ℕ) (l : List Told) → IsOneOf c a → IsWholeAppRun c a l → AtEnd c a l
+at_end c a l one whole = turns_whole (Lawful c a) (AtEnd c a) (turn c a) whole.0 (new_kept c) [] l (go_turns c a one whole.0 (new_kept c) [] (new_order c a)) whole.1
+
 pub lanes_in_order : LanesInOrder
-lanes_in_order c a l lane one run h =
-    (turns_run (Lawful c a) (Alls c a) (turn c a) run.0 (new_kept c) [] l (go_turns c a one run.0 (new_kept c) [] (new_order c a)) run.1).0 lane h
+lanes_in_order c a l lane one run h = (along c a l one run).0 lane h
 
 pub nothing_sent_late : NothingSentLate
-nothing_sent_late c a l one run =
-    (turns_run (Lawful c a) (Alls c a) (turn c a) run.0 (new_kept c) [] l (go_turns c a one run.0 (new_kept c) [] (new_order c a)) run.1).1
+nothing_sent_late c a t l one run = (along c a l one run).1 t
 
 pub lanes_passed_on : LanesPassedOn
-lanes_passed_on c a l lane one whole h =
-    turns_whole (Lawful c a) (Alls c a) (turn c a) whole.0 (new_kept c) [] l (go_turns c a one whole.0 (new_kept c) [] (new_order c a)) whole.1 lane h
+lanes_passed_on c a l lane one whole h = (at_end c a l one whole).0 lane h
+
+pub drains_rx : DrainsRx
+drains_rx c a l lane one whole h = (at_end c a l one whole).1 lane h

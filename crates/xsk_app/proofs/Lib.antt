@@ -3,6 +3,7 @@ pub mod Owned
 pub mod Seats
 pub mod Steps
 pub mod Answered
+pub mod Drained
 pub mod Fresh
 pub mod Going
 pub mod LaneLaw

@@ -53,6 +53,13 @@ module _ (c : Config) (a : ℕ) (one : IsOneOf c a) where
       let most : suc (2 * x + side) * c.queues ≤ c.ports * c.queues = mul-le-mul_right c.queues ports in
       within (2 * x + side) c.queues (a % c.queues) (length c.pairs) rest (omega (arith, most, one.regular.pairs))
 
+  -- the pairs of the two sides are two
+  pub pairs_apart : pair_of c a 0 ≡ pair_of c a 1 → ⊥
+  pairs_apart e = two (2 * (a / c.queues)) c.queues (a % c.queues) some e
+    where
+      two : (x q r : ℕ) → 1 ≤ q → (x + 0) * q + r ≡ (x + 1) * q + r → ⊥
+      two x q r h e = grind arith
+
   pair_port : (side : ℕ) → pair_of c a side / c.queues ≡ 2 * (a / c.queues) + side
   pair_port side = div-mul-add (2 * (a / c.queues) + side) c.queues (a % c.queues) rest
 
