@@ -1,5 +1,5 @@
 -- What the loops of the driver's machine keep.
-use Rattle.std.proofs.Common.{◌≡◌, ℕ, ◌+◌, ◌-◌, ◌<◌, ◌≤◌, take, drop, Option, Some, None, List, [], ◌∷◌, ◌++◌, suc, length, refl, sym, ap, ◌∙◌, subst, arith, append_assoc, append-nil, length-append}
+use Rattle.std.proofs.Common.{◌≡◌, ℕ, ◌+◌, ◌-◌, ◌<◌, ◌≤◌, take, drop, List, [], ◌∷◌, ◌++◌, suc, length, refl, sym, ap, ◌∙◌, subst, arith, append_assoc, append-nil, length-append}
 use Rattle.std.specs.Prelude.{All, nat_lt}
 use Rattle.std.proofs.lemmas.Bool.Decides.{nat_tests}
 use Rattle.std.proofs.lemmas.List.Elements.{All-head, All-tail, All-cons, All-nil}
@@ -11,14 +11,14 @@ use Rattle.xsk_umem.specs.Geometry.{Geometry, payload_of}
 use Rattle.xsk_model.specs.Script.{ask}
 use Rattle.xsk_driver.specs.Gathers.{IsWholeFrame}
 use Rattle.xsk_driver.specs.Gives.{KeepsLimits}
-use Rattle.xsk_driver.specs.Turns.{Seat, Kept, Noted, moved, take_spare, gathered, laid_out, written_in, frame_in, frames_in}
-use Rattle.xsk_driver.specs.Stands.{seat_in, kept_in, noted_in, Leaves, IsWholeIn, HasRoomFor, IsFitting, IsReady, IsGiven, Goes, first, left}
+use Rattle.xsk_driver.specs.Turns.{Seat, Kept, Noted, moved, take_spare, gathered, group_at, laid_out, written_in, frame_in, frames_in}
+use Rattle.xsk_driver.specs.Stands.{seat_in, kept_in, noted_in, Leaves, IsWholeIn, HasRoomFor, IsFitting, IsHere, IsReady, IsGiven, Goes, first, left}
 use Rattle.xsk_model.specs.declared.call.Ring.TheVariants.{Fill}
 use Rattle.xsk_model.specs.declared.call.Call.TheVariants.{Release}
 use Rattle.xsk_driver.specs.declared.machine.Machine.{Machine}
 use Rattle.xsk_driver.specs.declared.machine.Wait.{Wait}
 use Rattle.xsk_driver.specs.declared.machine.Wait.TheVariants.{ReleaseFill}
-use Rattle.xsk_driver.proofs.Steps.{drop_one, gathered_next, gathered_none, gathered_few}
+use Rattle.xsk_driver.proofs.Steps.{drop_one, gathered_next, gathered_none, gathered_few, gathered_lost, frame_in_few}
 
 -- ---- the items of a TX ring
 
@@ -27,9 +27,12 @@ pub record Gathers (before now : Machine) (class : ℕ) (all items : List Item) 
   pub notes : noted_in now ≡ noted_in before
   pub keeps : gathered (seat_in before) class (kept_in now) items ≡ gathered (seat_in before) class (kept_in before) all
   pub few : length (kept_in now).finished + length items ≤ 32
+  pub room : length (kept_in now).lost + length (frames_in (group_at (kept_in now) class)) + length (frames_in items) ≤ before.config.now.geometry.frames
 
-pub gathers_none : (m : Machine) (class : ℕ) (items : List Item) → length items ≤ 32 → (kept_in m).finished ≡ [] → Gathers m m class items items
-gathers_none m class items few none = record {
+pub gathers_none : (m : Machine) (class : ℕ) (items : List Item) → length items ≤ 32 → (kept_in m).finished ≡ []
+    → length (kept_in m).lost + length (frames_in (group_at (kept_in m) class)) + length (frames_in items) ≤ m.config.now.geometry.frames → Gathers m m class items items
+gathers_none m class items few none room = record {
+  room = room;
   seat = refl;
   notes = refl;
   keeps = refl;
@@ -37,12 +40,15 @@ gathers_none m class items few none = record {
 }
 
 pub gathers_one : (before now next : Machine) (class : ℕ) (all items later : List Item) (item : Item) → items ≡ item ∷ later → class < before.classes
-    → (class < now.classes → length (kept_in now).finished < 128 → Leaves now next (noted_in now) (gathered (seat_in now) class (kept_in now) (item ∷ [])))
+    → (class < now.classes → length (kept_in now).finished < 128 → length (kept_in now).lost + length (frames_in (group_at (kept_in now) class)) + length (frame_in item.frame) ≤ now.config.now.geometry.frames → Leaves now next (noted_in now) (gathered (seat_in now) class (kept_in now) (item ∷ [])))
     → Gathers before now class all items → Gathers before next class all later
 gathers_one before now next class all items later item split within step g =
     let classes : now.classes ≡ before.classes = ap (λ (s : Seat). s.classes) g.seat in
     let count : length items ≡ length later + 1 = rw split (omega arith) in
-    let leaves = step (omega (arith, within, classes)) (omega (arith, g.few, count)) in
+    let frames : now.config.now.geometry.frames ≡ before.config.now.geometry.frames = ap (λ (s : Seat). s.config.geometry.frames) g.seat in
+    let parts : length (frames_in items) ≡ length (frame_in item.frame) + length (frames_in later) =
+    ap (λ (is : List Item). length (frames_in is)) split ∙ length-append (frame_in item.frame) (frames_in later) in
+    let leaves = step (omega (arith, within, classes)) (omega (arith, g.few, count)) (omega (arith, g.room, parts, frames)) in
     let groups : length (kept_in now).groups ≡ now.classes = length-map now.gathers.items (λ (x : Gathering). x.items) ∙ now.gathering in
     let here : kept_in next ≡ gathered (seat_in before) class (kept_in now) (item ∷ []) =
     leaves.keeps ∙ ap (λ (s : Seat). gathered s class (kept_in now) (item ∷ [])) g.seat in
@@ -53,6 +59,7 @@ gathers_one before now next class all items later item split within step g =
           ∙ gathered_next (seat_in before) class (kept_in now) item later (omega (arith, within, classes, groups))
           ∙ ap (λ (is : List Item). gathered (seat_in before) class (kept_in now) is) (sym split) ∙ g.keeps;
       few = omega (arith, g.few, count, ap (λ (k : Kept). length k.finished) here, gathered_few (seat_in before) class (kept_in now) item);
+      room = omega (arith, g.room, parts, ap (λ (k : Kept). length k.lost + length (frames_in (group_at k class))) here, gathered_lost (seat_in before) class (kept_in now) item (omega (arith, within, classes, groups)));
     }
 
 pub gathers_all : (before now : Machine) (class : ℕ) (all items : List Item) → items ≡ [] → Gathers before now class all items
@@ -82,10 +89,6 @@ All-right : {X : Type 0} (P : X → Type 0) (xs ys : List X) → All P (xs ++ ys
 All-right P [] ys all = all
 All-right P (x ∷ xs) ys all = All-right P xs ys (All-tail P x (xs ++ ys) all)
 
-frame_in_few : (frame : Option Frame) → length (frame_in frame) ≤ 1
-frame_in_few None = omega arith
-frame_in_few (Some frame) = omega arith
-
 with_more : (kept : Kept) (xs ys : List Frame) → with_frames (with_frames kept xs) ys ≡ with_frames kept (xs ++ ys)
 with_more kept xs ys = ap (λ (fs : List Frame). record kept { spare = fs }) (append_assoc kept.spare xs ys)
 
@@ -112,6 +115,41 @@ pub takes_all : (before now : Machine) (all items : List Item) → items ≡ [] 
 takes_all before now all items none t =
     ap (λ (fs : List Frame). record (kept_in now) { spare = fs }) (sym (append-nil (kept_in now).spare)) ∙ ap (λ (is : List Item). with_frames (kept_in now) (frames_in is)) (sym none) ∙ t.keeps
 
+-- ---- the items of a bad packet
+
+abbrev pub without_frames : Kept → List Frame → Kept
+without_frames kept frames = record kept { lost = kept.lost ++ frames }
+
+pub record Loses (before now : Machine) (all items : List Item) : Type 0 where
+  pub seat : seat_in now ≡ seat_in before
+  pub notes : noted_in now ≡ noted_in before
+  pub keeps : without_frames (kept_in now) (frames_in items) ≡ without_frames (kept_in before) (frames_in all)
+  pub room : length (kept_in now).lost + length (frames_in items) ≤ before.config.now.geometry.frames
+
+pub loses_none : (m : Machine) (items : List Item) → length (kept_in m).lost + length (frames_in items) ≤ m.config.now.geometry.frames → Loses m m items items
+loses_none m items room = record { seat = refl; notes = refl; keeps = refl; room = room }
+
+pub loses_one : (before now next : Machine) (all items later : List Item) (item : Item) → items ≡ item ∷ later
+    → (length (kept_in now).lost + length (frame_in item.frame) ≤ now.config.now.geometry.frames → Leaves now next (noted_in now) (without_frames (kept_in now) (frame_in item.frame)))
+    → Loses before now all items → Loses before next all later
+loses_one before now next all items later item split step t =
+    let parts : length (frames_in items) ≡ length (frame_in item.frame) + length (frames_in later) =
+    ap (λ (is : List Item). length (frames_in is)) split ∙ length-append (frame_in item.frame) (frames_in later) in
+    let frames : now.config.now.geometry.frames ≡ before.config.now.geometry.frames = ap (λ (s : Seat). s.config.geometry.frames) t.seat in
+    let leaves = step (omega (arith, t.room, parts, frames)) in
+    record {
+      seat = leaves.seat ∙ t.seat;
+      notes = leaves.notes ∙ t.notes;
+      keeps = ap (λ (k : Kept). without_frames k (frames_in later)) leaves.keeps
+          ∙ ap (λ (fs : List Frame). record (kept_in now) { lost = fs }) (append_assoc (kept_in now).lost (frame_in item.frame) (frames_in later))
+          ∙ ap (λ (is : List Item). without_frames (kept_in now) (frames_in is)) (sym split) ∙ t.keeps;
+      room = omega (arith, t.room, parts, ap (λ (k : Kept). length k.lost) leaves.keeps, length-append (kept_in now).lost (frame_in item.frame));
+    }
+
+pub loses_all : (before now : Machine) (all items : List Item) → items ≡ [] → Loses before now all items → kept_in now ≡ without_frames (kept_in before) (frames_in all)
+loses_all before now all items none t =
+    ap (λ (fs : List Frame). record (kept_in now) { lost = fs }) (sym (append-nil (kept_in now).lost)) ∙ ap (λ (is : List Item). without_frames (kept_in now) (frames_in is)) (sym none) ∙ t.keeps
+
 -- ---- the rooms
 
 pub limits_after : (before now next : Machine) → KeepsLimits before now → KeepsLimits now next → KeepsLimits before next
@@ -134,13 +172,13 @@ release_spare seat pair count socket seen noted keeps kept items same_pair same_
 
 pub spare_taken : (seat : Seat) (now : Machine) (pair count socket : ℕ) (noted : Noted) (kept : Kept) (items : List Item)
     → now.wait ≡ ReleaseFill socket → pair ≡ seat.pair → count ≡ length items → noted_in now ≡ moved noted → kept_in now ≡ with_frames kept (frames_in items)
-    → IsFitting seat kept → Goes seat now (Release (Fill pair) count) (take_spare seat (first kept) socket noted kept items)
-spare_taken seat now pair count socket noted kept items wait same_pair same_count notes keeps fitting = record {
+    → IsFitting seat kept → IsHere seat socket → Goes seat now (Release (Fill pair) count) (take_spare seat (first kept) socket noted kept items)
+spare_taken seat now pair count socket noted kept items wait same_pair same_count notes keeps fitting here = record {
   next = ap (λ (w : Wait). ask (Release (Fill pair) count) (left seat w (noted_in now) (kept_in now))) wait
       ∙ release_spare seat pair count socket (noted_in now) noted (kept_in now) kept items same_pair same_count notes keeps;
   ready = subst (λ (w : Wait). IsReady seat w (kept_in now)) (sym wait)
-      (subst (λ (k : Kept). IsFitting seat k) (sym keeps) (record { trying = fitting.trying; short = fitting.short; few = fitting.few }));
-  given = subst (λ (w : Wait). IsGiven seat w (kept_in now) (Release (Fill pair) count)) (sym wait) tt;
+      (subst (λ (k : Kept). IsFitting seat k) (sym keeps) (record { trying = fitting.trying; short = fitting.short; few = fitting.few }), here);
+  given = subst (λ (w : Wait). IsGiven seat w (kept_in now) (Release (Fill pair) count)) (sym wait) (count, ap (λ (p : ℕ). Release (Fill p) count) same_pair);
 }
 
 -- ---- a packet in frames

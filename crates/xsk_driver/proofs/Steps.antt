@@ -1,17 +1,17 @@
 -- Single steps of a driver's turn: what its coming packets are, and how its scripts go on.
-use Rattle.std.proofs.Common.{◌≡◌, ℕ, zero, suc, ◌+◌, ◌-◌, ◌*◌, ◌<◌, ◌≤◌, ◌⊎◌, inl, inr, Bool, true, false, List, [], ◌∷◌, ◌++◌, length, take, drop, get_or, Option, Some, None, refl, sym, ◌∙◌, ap, arith, subst, add-one, add-zero, length-append, append-nil, append_assoc, get_or-set_same}
+use Rattle.std.proofs.Common.{◌≡◌, ℕ, zero, suc, ◌+◌, ◌-◌, ◌<◌, ◌≤◌, Bool, true, false, List, [], ◌∷◌, ◌++◌, length, drop, get_or, Option, Some, None, refl, sym, ◌∙◌, ap, arith, subst, add-one, add-zero, length-append, append-nil, append_assoc, get_or-set_same}
 use Rattle.std.specs.Prelude.{map, nat_lt, nat_le, ◌||◌, if◌then◌else◌}
-use Rattle.std.specs.Int.{div_ceil}
 use Rattle.std.specs.List.{slice_get}
-use Rattle.std.proofs.Math.Seq.{drop-cons}
 use Rattle.std.proofs.lemmas.Bool.Decides.{nat_tests}
 use Rattle.std.proofs.lemmas.List.{length-map, length-drop, get_or-drop, get_or-map, map-set, set-set, set-get_or}
 use Rattle.std.proofs.lemmas.List.Elements.{All-get_or}
 use Rattle.xsk_umem.specs.Geometry.{Geometry}
-use Rattle.std.proofs.lemmas.Option.{slice_get_within, get_or_from_slice_get}
-use Rattle.std.specs.Prelude.{option_to_list}
+use Rattle.std.proofs.lemmas.Option.{get_or_from_slice_get}
+use Rattle.std.specs.Prelude.{option_to_list, is_some, not, ◌==◌}
 use Rattle.std.proofs.Math.ListN.{set}
+use Rattle.xsk_umem.specs.Frame.{Frame}
 use Rattle.xsk_umem.specs.PacketList.{PacketList}
+use Rattle.xsk_model.specs.Descriptor.{is_valid}
 use Rattle.xsk_umem.specs.declared.batch.Item.{Item}
 use Rattle.xsk_model.specs.Packets.{Packet, whole, bad, ended_by, group_after, whole_packets, packets_from, rest_from}
 use Rattle.xsk_desc.specs.Kept.{Kept as Gathering}
@@ -22,12 +22,12 @@ use Rattle.xsk_model.specs.declared.call.Ring.TheVariants.{Tx}
 use Rattle.xsk_model.specs.declared.call.Mark.TheVariants.{Cell, RxDone}
 use Rattle.xsk_model.specs.declared.call.Call.{Call}
 use Rattle.xsk_model.specs.declared.call.Call.TheVariants.{Peek, Look, Swap}
-use Rattle.xsk_driver.specs.Turns.{Seat, Kept, Noted, moved, settled, visit, visit_from, socket_of, receive, cell_of, gathered, turn, idle, complete, transmit, direct, redirect_to, limit_of, find_spare}
+use Rattle.xsk_driver.specs.Turns.{Seat, Kept, Noted, moved, settled, visit, visit_from, socket_of, receive, cell_of, gathered, group_at, frame_in, frames_in, bad_ones, turn, idle, complete, transmit, direct, redirect_to, limit_of, find_spare}
 use Rattle.xsk_driver.specs.Stands.{packet_at, seat_in, kept_in, noted_in, first, left, IsFirst, IsTried, IsTrying, Goes, Leaves}
 use Rattle.xsk_driver.specs.declared.disposal.Disposal.{Disposal}
 use Rattle.xsk_driver.specs.declared.disposal.Disposal.TheVariants.{Runt, Missed, TooLong}
 use Rattle.xsk_driver.specs.declared.machine.Machine.{Machine}
-use Rattle.xsk_driver.specs.declared.machine.Wait.TheVariants.{PeekTx, LookCell}
+use Rattle.xsk_driver.specs.declared.machine.Wait.TheVariants.{PeekTx}
 
 -- ---- lists
 
@@ -92,12 +92,12 @@ settled_by kept all disposals disposal coming pushed =
     ∙ ap (λ (ds : List Disposal). record kept { coming = drop 1 kept.coming; disposals = ds }) pushed
 
 -- one item that was pushed to the gather of a class
-pub gathered_one : (seat : Seat) (class : ℕ) (kept : Kept) (gathers : List Gathering) (g : Geometry) (before after : Gathering) (item : Item) (packet : Option Packet)
+pub gathered_one : (seat : Seat) (class : ℕ) (kept : Kept) (gathers : List Gathering) (g : Geometry) (before after : Gathering) (item : Item) (packet : Option Packet) (finished : List (List Item)) (lost : List Frame)
     → class < length gathers → HaveSg seat.config.sg gathers → g ≡ seat.config.geometry → before ≡ get_or gathers class before
     → packet ≡ ended_by g before.sg before.items item → after ≡ record { items = group_after g before.sg before.items item; sg = before.sg }
-    → kept.groups ≡ groups_of gathers
-    → record kept { groups = groups_of (set gathers class after); finished = kept.finished ++ whole_packets (option_to_list packet ++ []) } ≡ gathered seat class kept (item ∷ [])
-gathered_one seat class kept gathers g before after item packet within alike geometry is ended now same =
+    → kept.groups ≡ groups_of gathers → finished ≡ kept.finished ++ whole_packets (option_to_list packet ++ []) → lost ≡ kept.lost ++ frames_in (bad_ones (option_to_list packet ++ []))
+    → record kept { groups = groups_of (set gathers class after); finished = finished; lost = lost } ≡ gathered seat class kept (item ∷ [])
+gathered_one seat class kept gathers g before after item packet finished lost within alike geometry is ended now same ends loses =
     let sg : before.sg ≡ seat.config.sg = ap (λ (x : Gathering). x.sg) is ∙ All-get_or (λ (x : Gathering). x.sg ≡ seat.config.sg) gathers class before within alike in
     let group : before.items ≡ get_or kept.groups class [] =
     ap (λ (x : Gathering). x.items) is ∙ sym (get_or-map (λ (x : Gathering). x.items) gathers class before [] within) ∙ ap (λ (gs : List (List Item)). get_or gs class []) (sym same) in
@@ -109,8 +109,15 @@ gathered_one seat class kept gathers g before after item packet within alike geo
     let last : packet ≡ ended_by seat.config.geometry seat.config.sg (get_or kept.groups class []) item =
     ended ∙ ap (λ (x : Geometry). ended_by x before.sg before.items item) geometry
     ∙ ap (λ (x : Bool). ended_by seat.config.geometry x before.items item) sg ∙ ap (λ (xs : List Item). ended_by seat.config.geometry seat.config.sg xs item) group in
-    ap (λ (gs : List (List Item)). record kept { groups = gs; finished = kept.finished ++ whole_packets (option_to_list packet ++ []) }) groups
-    ∙ ap (λ (p : Option Packet). record kept { groups = set kept.groups class (group_after seat.config.geometry seat.config.sg (get_or kept.groups class []) item); finished = kept.finished ++ whole_packets (option_to_list p ++ []) }) last
+    let made : Option Packet → Kept = λ p. record kept {
+      groups = set kept.groups class (group_after seat.config.geometry seat.config.sg (get_or kept.groups class []) item);
+      finished = kept.finished ++ whole_packets (option_to_list p ++ []);
+      lost = kept.lost ++ frames_in (bad_ones (option_to_list p ++ []));
+    } in
+    ap (λ (gs : List (List Item)). record kept { groups = gs; finished = finished; lost = lost }) groups
+    ∙ ap (λ (ps : List (List Item)). record kept { groups = set kept.groups class (group_after seat.config.geometry seat.config.sg (get_or kept.groups class []) item); finished = ps; lost = lost }) ends
+    ∙ ap (λ (fs : List Frame). record kept { groups = set kept.groups class (group_after seat.config.geometry seat.config.sg (get_or kept.groups class []) item); finished = kept.finished ++ whole_packets (option_to_list packet ++ []); lost = fs }) loses
+    ∙ ap made last
 
 whole_packets-append : (xs ys : List Packet) → whole_packets (xs ++ ys) ≡ whole_packets xs ++ whole_packets ys
 whole_packets-append [] ys = refl
@@ -119,6 +126,18 @@ whole_packets-append (bad items ∷ xs) ys = whole_packets-append xs ys
 
 whole_packets-join : (xs ys : List Packet) → whole_packets (xs ++ []) ++ whole_packets ys ≡ whole_packets (xs ++ ys)
 whole_packets-join xs ys = rw append-nil (sym (whole_packets-append xs ys))
+
+pub frames_in-append : (xs ys : List Item) → frames_in (xs ++ ys) ≡ frames_in xs ++ frames_in ys
+frames_in-append [] ys = refl
+frames_in-append (x ∷ xs) ys = ap (λ (fs : List Frame). frame_in x.frame ++ fs) (frames_in-append xs ys) ∙ sym (append_assoc (frame_in x.frame) (frames_in xs) (frames_in ys))
+
+bad_ones-append : (xs ys : List Packet) → bad_ones (xs ++ ys) ≡ bad_ones xs ++ bad_ones ys
+bad_ones-append [] ys = refl
+bad_ones-append (whole items ∷ xs) ys = bad_ones-append xs ys
+bad_ones-append (bad items ∷ xs) ys = ap (λ (is : List Item). items ++ is) (bad_ones-append xs ys) ∙ sym (append_assoc items (bad_ones xs) (bad_ones ys))
+
+bad_ones-join : (xs ys : List Packet) → frames_in (bad_ones (xs ++ [])) ++ frames_in (bad_ones ys) ≡ frames_in (bad_ones (xs ++ ys))
+bad_ones-join xs ys = rw append-nil (sym (ap frames_in (bad_ones-append xs ys) ∙ frames_in-append (bad_ones xs) (bad_ones ys)))
 
 -- the items after the first go on with what it left
 pub gathered_next : (seat : Seat) (class : ℕ) (kept : Kept) (item : Item) (items : List Item) → class < length kept.groups
@@ -129,20 +148,28 @@ gathered_next seat class kept item items within =
     let group : List Item = group_after g sg (get_or kept.groups class []) item in
     let one : List Packet = option_to_list (ended_by g sg (get_or kept.groups class []) item) in
     let now : get_or (set kept.groups class group) class [] ≡ group = get_or-set_same kept.groups class group [] within in
-    let groups : set (set kept.groups class group) class (rest_from g sg (get_or (set kept.groups class group) class []) items) ≡ set kept.groups class (rest_from g sg group items) =
-    ap (λ (is : List Item). set (set kept.groups class group) class (rest_from g sg is items)) now ∙ set-set kept.groups class group (rest_from g sg group items) in
-    let finished : (kept.finished ++ whole_packets (one ++ [])) ++ whole_packets (packets_from g sg (get_or (set kept.groups class group) class []) items) ≡ kept.finished ++ whole_packets (one ++ packets_from g sg group items) =
-    ap (λ (is : List Item). (kept.finished ++ whole_packets (one ++ [])) ++ whole_packets (packets_from g sg is items)) now
-    ∙ append_assoc kept.finished (whole_packets (one ++ [])) (whole_packets (packets_from g sg group items))
-    ∙ ap (λ (ps : List (List Item)). kept.finished ++ ps) (whole_packets-join one (packets_from g sg group items)) in
-    ap (λ (gs : List (List Item)). record kept { groups = gs; finished = (kept.finished ++ whole_packets (one ++ [])) ++ whole_packets (packets_from g sg (get_or (set kept.groups class group) class []) items) }) groups
-    ∙ ap (λ (ps : List (List Item)). record kept { groups = set kept.groups class (rest_from g sg group items); finished = ps }) finished
+    let first : List Item → Kept = λ is. record kept {
+      groups = set (set kept.groups class group) class (rest_from g sg is items);
+      finished = (kept.finished ++ whole_packets (one ++ [])) ++ whole_packets (packets_from g sg is items);
+      lost = (kept.lost ++ frames_in (bad_ones (one ++ []))) ++ frames_in (bad_ones (packets_from g sg is items));
+    } in
+    let later : List Packet = packets_from g sg group items in
+    let finished : (kept.finished ++ whole_packets (one ++ [])) ++ whole_packets later ≡ kept.finished ++ whole_packets (one ++ later) =
+    append_assoc kept.finished (whole_packets (one ++ [])) (whole_packets later) ∙ ap (λ (ps : List (List Item)). kept.finished ++ ps) (whole_packets-join one later) in
+    let lost : (kept.lost ++ frames_in (bad_ones (one ++ []))) ++ frames_in (bad_ones later) ≡ kept.lost ++ frames_in (bad_ones (one ++ later)) =
+    append_assoc kept.lost (frames_in (bad_ones (one ++ []))) (frames_in (bad_ones later)) ∙ ap (λ (fs : List Frame). kept.lost ++ fs) (bad_ones-join one later) in
+    ap first now
+    ∙ ap (λ (gs : List (List Item)). record kept { groups = gs; finished = (kept.finished ++ whole_packets (one ++ [])) ++ whole_packets later; lost = (kept.lost ++ frames_in (bad_ones (one ++ []))) ++ frames_in (bad_ones later) })
+    (set-set kept.groups class group (rest_from g sg group items))
+    ∙ ap (λ (ps : List (List Item)). record kept { groups = set kept.groups class (rest_from g sg group items); finished = ps; lost = (kept.lost ++ frames_in (bad_ones (one ++ []))) ++ frames_in (bad_ones later) }) finished
+    ∙ ap (λ (fs : List Frame). record kept { groups = set kept.groups class (rest_from g sg group items); finished = kept.finished ++ whole_packets (one ++ later); lost = fs }) lost
 
 -- no item more
 pub gathered_none : (seat : Seat) (class : ℕ) (kept : Kept) → gathered seat class kept [] ≡ kept
 gathered_none seat class kept =
-    ap (λ (gs : List (List Item)). record kept { groups = gs; finished = kept.finished ++ [] }) (set-get_or kept.groups class [])
-    ∙ ap (λ (ps : List (List Item)). record kept { finished = ps }) (append-nil kept.finished)
+    ap (λ (gs : List (List Item)). record kept { groups = gs; finished = kept.finished ++ []; lost = kept.lost ++ [] }) (set-get_or kept.groups class [])
+    ∙ ap (λ (ps : List (List Item)). record kept { finished = ps; lost = kept.lost ++ [] }) (append-nil kept.finished)
+    ∙ ap (λ (fs : List Frame). record kept { lost = fs }) (append-nil kept.lost)
 
 few_made : (packet : Option Packet) → length (whole_packets (option_to_list packet ++ [])) ≤ 1
 few_made None = omega arith
@@ -154,6 +181,55 @@ pub gathered_few : (seat : Seat) (class : ℕ) (kept : Kept) (item : Item) → l
 gathered_few seat class kept item =
     let made : Option Packet = ended_by seat.config.geometry seat.config.sg (get_or kept.groups class []) item in
     omega (arith, few_made made, length-append kept.finished (whole_packets (option_to_list made ++ [])))
+
+pub frame_in_few : (frame : Option Frame) → length (frame_in frame) ≤ 1
+frame_in_few None = omega arith
+frame_in_few (Some frame) = omega arith
+
+bad_if : (a b c : Bool) (all items : List Item) → (if a then Some (bad all) else if b then Some (bad all) else if c then None else Some (whole all)) ≡ Some (bad items) → items ≡ all
+bad_if true b c all items h = cc
+bad_if false true c all items h = cc
+bad_if false false true all items h = cc
+bad_if false false false all items h = cc
+
+-- a bad packet has the items of its group, and the item that made it bad
+pub bad_has : (g : Geometry) (sg : Bool) (group items : List Item) (item : Item) → Some (bad items) ≡ ended_by g sg group item → items ≡ group ++ item ∷ []
+bad_has g sg group items item h =
+    bad_if (nat_le 18 (length group)) (not (is_valid g sg item.desc)) (item.desc.options == 1) (group ++ item ∷ []) items (sym h)
+
+-- the frames of one item more
+frames_in-one : (group : List Item) (item : Item) → length (frames_in (group ++ item ∷ [])) ≡ length (frames_in group) + length (frame_in item.frame)
+frames_in-one group item =
+    ap (λ (fs : List Frame). length fs) (frames_in-append group (item ∷ []))
+    ∙ length-append (frames_in group) (frame_in item.frame ++ [])
+    ∙ ap (λ (fs : List Frame). length (frames_in group) + length fs) (append-nil (frame_in item.frame))
+
+-- so its frames have room, where there was room for those of the group and of the item
+pub bad_room : (class : ℕ) (gathers : List Gathering) (g : Geometry) (before : Gathering) (items : List Item) (item : Item) (lost : List Frame) (room : ℕ)
+    → class < length gathers → before ≡ get_or gathers class before → Some (bad items) ≡ ended_by g before.sg before.items item
+    → length lost + length (frames_in (get_or (groups_of gathers) class [])) + length (frame_in item.frame) ≤ room → length lost + length (frames_in items) ≤ room
+bad_room class gathers g before items item lost room within is ended few =
+    let group : get_or (groups_of gathers) class [] ≡ before.items =
+    get_or-map (λ (x : Gathering). x.items) gathers class before [] within ∙ ap (λ (x : Gathering). x.items) (sym is) in
+    omega (arith, few, ap (λ (xs : List Item). length (frames_in xs)) group, ap (λ (xs : List Item). length (frames_in xs)) (bad_has g before.sg before.items items item ended), frames_in-one before.items item)
+
+lost_made : (packet : Option Packet) (group : List Item) (item : Item) → ((items : List Item) → Some (bad items) ≡ packet → items ≡ group ++ item ∷ [])
+    → length (frames_in (bad_ones (option_to_list packet ++ []))) + length (frames_in (if is_some packet then [] else group ++ item ∷ [])) ≤ length (frames_in group) + length (frame_in item.frame)
+lost_made None group item bads = omega (arith, frames_in-one group item)
+lost_made (Some (whole items)) group item bads = omega arith
+lost_made (Some (bad items)) group item bads = omega (arith, frames_in-one group item, ap (λ (is : List Item). length (frames_in is)) (append-nil items ∙ bads items refl))
+
+-- an item adds at most its own frame to what is lost or may be
+pub gathered_lost : (seat : Seat) (class : ℕ) (kept : Kept) (item : Item) → class < length kept.groups
+    → length (gathered seat class kept (item ∷ [])).lost + length (frames_in (group_at (gathered seat class kept (item ∷ [])) class)) ≤ length kept.lost + length (frames_in (group_at kept class)) + length (frame_in item.frame)
+gathered_lost seat class kept item within =
+    let g : Geometry = seat.config.geometry in
+    let sg : Bool = seat.config.sg in
+    let before : List Item = get_or kept.groups class [] in
+    let packet : Option Packet = ended_by g sg before item in
+    let group : List Item = group_after g sg before item in
+    let now : get_or (set kept.groups class group) class [] ≡ group = get_or-set_same kept.groups class group [] within in
+    rw now (omega (arith, lost_made packet before item (λ items h. bad_has g sg before items item h), length-append kept.lost (frames_in (bad_ones (option_to_list packet ++ [])))))
 
 -- ---- what goes on
 
@@ -217,6 +293,9 @@ begin_tries seat before tried now cell call sits is goes =
 pub lt_true : (a b : ℕ) → a < b → nat_lt a b ≡ true
 lt_true a b h = grind (arith, nat_tests)
 
+lt_false : (a b : ℕ) → b ≤ a → nat_lt a b ≡ false
+lt_false a b h = grind (arith, nat_tests)
+
 pub trying_some : (coming : List (List ℕ)) → 14 ≤ length (get_or coming 0 []) → 1 ≤ length coming
 trying_some [] h = absurd (omega arith)
 trying_some (packet ∷ coming) h = omega arith
@@ -237,4 +316,10 @@ pub direct_long : (seat : Seat) (packet : List ℕ) (noted : Noted) (kept : Kept
     → transmit seat (moved noted) (settled kept TooLong) ≡ direct seat packet noted kept to
 direct_long seat packet noted kept socket to same long =
     ap (λ b. if b then transmit seat (moved noted) (settled kept TooLong) else find_spare seat packet socket noted kept) (sym (lt_true (limit_of seat) (length packet) long))
+    ∙ ap (direct seat packet noted kept) same
+
+pub direct_short : (seat : Seat) (packet : List ℕ) (noted : Noted) (kept : Kept) (socket : ℕ) (to : Option ℕ) → Some socket ≡ to → length packet ≤ limit_of seat
+    → find_spare seat packet socket noted kept ≡ direct seat packet noted kept to
+direct_short seat packet noted kept socket to same short =
+    ap (λ b. if b then transmit seat (moved noted) (settled kept TooLong) else find_spare seat packet socket noted kept) (sym (lt_false (limit_of seat) (length packet) short))
     ∙ ap (direct seat packet noted kept) same

@@ -1,6 +1,9 @@
+pub mod Disposals
 pub mod Gathers
 pub mod Gives
 pub mod Inputs
+pub mod Law
+pub mod Owned
 pub mod Runs
 pub mod Sent
 pub mod Shown
@@ -8,3 +11,4 @@ pub mod Stands
 pub mod Steering
 pub mod Turns
 pub mod Waits
+pub mod Effects

@@ -1,20 +1,21 @@
 -- Where the driver's machine stands in its turns: what it keeps, and what its script goes on with at each waiting point.
-use Rattle.std.specs.Prelude.{◌≡◌, ℕ, ◌+◌, ◌-◌, ◌<◌, ◌≤◌, ◌||◌, ◌==◌, true, List, [], ◌∷◌, length, map, drop, All}
+use Rattle.std.specs.Prelude.{◌≡◌, ℕ, ◌+◌, ◌-◌, ◌<◌, ◌≤◌, ◌||◌, ◌==◌, true, List, [], length, map, drop, All}
 use Rattle.std.specs.List.{slice_index_or}
 use Rattle.xsk_umem.specs.Frame.{Frame}
 use Rattle.xsk_umem.specs.PacketList.{PacketList}
 use Rattle.xsk_umem.specs.declared.batch.Item.{Item}
-use Rattle.xsk_model.specs.Config.{map_of}
+use Rattle.xsk_model.specs.Config.{socket_at, map_of}
 use Rattle.xsk_model.specs.Script.{Script, ask, again, ended, never, granted_or_full, on_submitted, items_or_empty, on_released, on_old, begun}
 use Rattle.xsk_model.specs.declared.call.Ring.TheVariants.{Fill, Comp, Rx, Tx}
 use Rattle.xsk_model.specs.declared.call.Call.{Call}
-use Rattle.xsk_model.specs.declared.call.Call.TheVariants.{Submit, Peek, Release}
+use Rattle.xsk_model.specs.declared.call.Mark.TheVariants.{RxDone, Gone, TxDone, Cell}
+use Rattle.xsk_model.specs.declared.call.Call.TheVariants.{Reserve, Submit, Peek, Release, Swap, Look}
 use Rattle.xsk_model.specs.declared.call.Reply.{Reply}
 use Rattle.xsk_model.specs.declared.call.Reply.TheVariants.{Items}
 use Rattle.xsk_model.specs.declared.call.Act.{Act}
 use Rattle.xsk_model.specs.declared.call.Act.TheVariants.{Call as Gave, Ended as IsEnded}
 use Rattle.xsk_driver.specs.Gathers.{groups_of}
-use Rattle.xsk_driver.specs.Turns.{Seat, Kept, Noted, moved, stopped, settled, limit_of, pieces_of, frames_in, cell_of, receive, returned, gathered, idle, complete, visit_from, transmit, deliver, go_on, take_spare, direct, redirect_to, turn, socket_of}
+use Rattle.xsk_driver.specs.Turns.{Seat, Kept, Noted, moved, stopped, settled, limit_of, pieces_of, frames_in, cell_of, returned, gathered, idle, complete, visit_from, transmit, deliver, go_on, take_spare, direct, redirect_to, turn, socket_of, group_at, application_of}
 use Rattle.xsk_driver.specs.declared.disposal.Disposal.TheVariants.{Delivered}
 use Rattle.xsk_driver.specs.declared.machine.Machine.{Machine}
 use Rattle.xsk_driver.specs.declared.machine.Wait.{Wait}
@@ -35,6 +36,7 @@ kept_in m = record {
   spare = m.spare.items;
   groups = groups_of m.gathers.items;
   finished = m.finished.items;
+  lost = m.lost.items;
   rx_done = m.rx_done;
   tx_done = m.tx_done;
 }
@@ -96,14 +98,20 @@ pub record IsVisiting (seat : Seat) (kept : Kept) (class : ℕ) : Type 0 where
   pub completed : kept.finished ≡ []
   pub within : class < seat.classes
 
+-- a socket that is bound to this port and queue
+pub record IsHere (seat : Seat) (socket : ℕ) : Type 0 where
+  pub known : socket < length seat.config.sockets
+  pub port : (socket_at seat.config.sockets socket).port ≡ seat.port
+  pub queue : (socket_at seat.config.sockets socket).queue ≡ seat.queue
+
 abbrev pub IsReady : Seat → Wait → Kept → Type 0
 IsReady seat Start kept = ⊥
 IsReady seat TellRxDone kept = Unit {0}
 IsReady seat LookCell kept = IsTrying kept
-IsReady seat (PeekFill socket) kept = IsFitting seat kept
-IsReady seat (ReleaseFill socket) kept = IsFitting seat kept
-IsReady seat (ReserveRx socket) kept = IsSupplied seat kept
-IsReady seat (SubmitRx socket) kept = IsTrying kept
+IsReady seat (PeekFill socket) kept = IsFitting seat kept × IsHere seat socket
+IsReady seat (ReleaseFill socket) kept = IsFitting seat kept × IsHere seat socket
+IsReady seat (ReserveRx socket) kept = IsSupplied seat kept × IsHere seat socket
+IsReady seat (SubmitRx socket) kept = IsTrying kept × IsHere seat socket
 IsReady seat (ReserveComp class) kept = IsCompleting seat kept class
 IsReady seat (SubmitComp class) kept = class ≤ seat.classes
 IsReady seat (PeekTx class) kept = IsVisiting seat kept class
@@ -112,21 +120,39 @@ IsReady seat LookTxDone kept = Unit {0}
 IsReady seat TellGone kept = Unit {0}
 IsReady seat Ended kept = ⊥
 
--- the Peek on FILL that was given asks for the frames that the packet needs beside those that are there
+-- the call that was given, by the waiting point behind it
 abbrev pub IsGiven : Seat → Wait → Kept → Call → Type 0
-IsGiven seat (PeekFill socket) kept call = call ≡ Peek (Fill seat.pair) (pieces_of seat (first kept) - length kept.spare)
-IsGiven seat wait kept call = Unit {0}
+IsGiven seat Start kept call = ⊥
+IsGiven seat TellRxDone kept call = call ≡ Swap (RxDone seat.pair) 1
+IsGiven seat LookCell kept call = (call ≡ Look (Cell seat.port (cell_of seat (first kept)))) × (cell_of seat (first kept) < length (map_of seat.config seat.port))
+IsGiven seat (PeekFill socket) kept call =
+    (call ≡ Peek (Fill seat.pair) (pieces_of seat (first kept) - length kept.spare)) × (length kept.spare < pieces_of seat (first kept))
+IsGiven seat (ReleaseFill socket) kept call = (n : ℕ) × (call ≡ Release (Fill seat.pair) n)
+IsGiven seat (ReserveRx socket) kept call = call ≡ Reserve (Rx socket) (pieces_of seat (first kept))
+IsGiven seat (SubmitRx socket) kept call = (items : List Item) × (call ≡ Submit (Rx socket) items)
+IsGiven seat (ReserveComp class) kept call = call ≡ Reserve (Comp seat.pair) (length (slice_index_or kept.finished 0 []))
+IsGiven seat (SubmitComp class) kept call = (items : List Item) × (call ≡ Submit (Comp seat.pair) items)
+IsGiven seat (PeekTx class) kept call = call ≡ Peek (Tx (socket_of seat class)) seat.batch
+IsGiven seat (ReleaseTx class) kept call = (s n : ℕ) × (call ≡ Release (Tx s) n)
+IsGiven seat LookTxDone kept call = call ≡ Look (TxDone (application_of seat))
+IsGiven seat TellGone kept call = call ≡ Swap (Gone seat.pair) 1
+IsGiven seat Ended kept call = ⊥
 
--- there is room for the items that a Peek on FILL gave, and their frames are whole
+-- a frame of a whole chunk
 abbrev pub IsWholeIn : Seat → Frame → Type 0
 IsWholeIn seat frame = length frame.bytes ≡ seat.config.geometry.chunk
 
+-- there is room among the spare frames for the items that a Peek on FILL gave, and their frames are whole
 pub record HasRoomFor (seat : Seat) (kept : Kept) (items : List Item) : Type 0 where
   pub room : length kept.spare + length items ≤ 32
   pub frames : All (IsWholeIn seat) (frames_in items)
 
+-- So where the Peek gave items. Those of TX have room among the lost frames, should all be lost with those of the class's
+-- packet that isn't at its end. An item on TX has no frame where its address lies outside the UMEM, so there can be more
+-- items than frames.
 abbrev pub HasRoom : Seat → Wait → Kept → Reply → Type 0
 HasRoom seat (PeekFill socket) kept (Items items) = HasRoomFor seat kept items
+HasRoom seat (PeekTx class) kept (Items items) = length kept.lost + length (frames_in (group_at kept class)) + length (frames_in items) ≤ seat.config.geometry.frames
 HasRoom seat wait kept reply = Unit {0}
 
 -- the machine gave the call with which the script goes on, and stands at the waiting point after it
@@ -150,12 +176,6 @@ pub record Leaves (old new : Machine) (noted : Noted) (kept : Kept) : Type 0 whe
   pub seat : seat_in new ≡ seat_in old
   pub notes : noted_in new ≡ noted
   pub keeps : kept_in new ≡ kept
-
--- the packet had its disposal, and the next one comes
-pub record Skips (old new : Machine) : Type 0 where
-  pub seat : seat_in new ≡ seat_in old
-  pub receives : receive (seat_in old) (kept_in new).coming (noted_in new) (kept_in new) ≡ receive (seat_in old) (kept_in old).coming (noted_in old) (kept_in old)
-  pub one : length new.disposals.items ≡ length old.disposals.items + 1
 
 -- the first packet can be tried
 pub record IsTried (old new : Machine) (cell : ℕ) : Type 0 where

@@ -8,7 +8,7 @@ use Rattle.xsk_umem.specs.Frame.{Frame, written_at}
 use Rattle.xsk_umem.specs.Geometry.{Geometry, payload_of, data_of}
 use Rattle.xsk_umem.specs.declared.batch.Item.{Item}
 use Rattle.xsk_model.specs.Config.{Config, pair_at, socket_at, classes_of, batch_of, map_of}
-use Rattle.xsk_model.specs.Packets.{packets_from, rest_from, whole_packets}
+use Rattle.xsk_model.specs.Packets.{Packet, whole, bad, packets_from, rest_from, whole_packets}
 use Rattle.xsk_model.specs.Entry.{Told}
 use Rattle.xsk_model.specs.Script.{Script, ask, again, ended, granted_or_full, on_submitted, items_or_empty, on_released, on_old, IsRun, IsWhole}
 use Rattle.xsk_model.specs.declared.call.Ring.TheVariants.{Fill, Comp, Rx, Tx}
@@ -32,18 +32,20 @@ seat_of c d = record { config = c; pair = d; port = (pair_at c.pairs d).port; qu
 
 -- what a driver keeps: its packets that have no disposal yet, and the disposals of those before them; the frames that it
 -- has for receiving; for each class the items of a packet that isn't at its end; the whole packets that it has yet to
--- complete; whether it told that it has no further packet, and whether the application told that it sends no more
+-- complete, and the frames of bad packets, which aren't completed; whether it told that it has no further packet, and
+-- whether the application told that it sends no more
 pub record Kept : Type 0 where
   pub coming : List (List ℕ)
   pub disposals : List Disposal
   pub spare : List Frame
   pub groups : List (List Item)
   pub finished : List (List Item)
+  pub lost : List Frame
   pub rx_done : Bool
   pub tx_done : Bool
 
 abbrev pub start : ℕ → List (List ℕ) → Kept
-start classes input = record { coming = input; disposals = []; spare = []; groups = replicate classes []; finished = []; rx_done = false; tx_done = false }
+start classes input = record { coming = input; disposals = []; spare = []; groups = replicate classes []; finished = []; lost = []; rx_done = false; tx_done = false }
 
 -- what it notes in a turn: whether there was progress, and whether a ring was full
 pub record Noted : Type 0 where
@@ -120,7 +122,14 @@ frames_in (item ∷ items) = frame_in item.frame ++ frames_in items
 abbrev pub returned : Item → Item
 returned item = record { frame = item.frame; desc = record { addr = item.desc.addr; len = 0; options = 0 } }
 
--- the items of a class go to the packet that isn't at its end, and what they make whole goes to the finished packets
+-- the items of the bad packets, in order
+abbrev pub bad_ones : List Packet → List Item
+bad_ones [] = []
+bad_ones (whole items ∷ packets) = bad_ones packets
+bad_ones (bad items ∷ packets) = items ++ bad_ones packets
+
+-- the items of a class go to the packet that isn't at its end; what they make whole goes to the finished packets, and the
+-- frames of bad packets are lost
 abbrev pub group_at : Kept → ℕ → List Item
 group_at kept class = slice_index_or kept.groups class []
 
@@ -128,6 +137,7 @@ abbrev pub gathered : Seat → ℕ → Kept → List Item → Kept
 gathered seat class kept items = record kept {
   groups = slice_set kept.groups class (rest_from seat.config.geometry seat.config.sg (group_at kept class) items);
   finished = kept.finished ++ whole_packets (packets_from seat.config.geometry seat.config.sg (group_at kept class) items);
+  lost = kept.lost ++ frames_in (bad_ones (packets_from seat.config.geometry seat.config.sg (group_at kept class) items));
 }
 
 -- ---- C. End and idle

@@ -104,7 +104,9 @@ impl<'a> Driver<'a> {
         ensures most_packets { self.new.most_packets ≡ self.old.most_packets }
         ensures most_bytes { self.new.most_bytes ≡ self.old.most_bytes }
 
-        // The driver of these packets stands for a run of its turns, and goes on with each reply that fits the call.
+        // The driver of these packets stands for a run of its turns, and goes on with each reply that fits the call. Each
+        // call that it gives is legal after those before it and their replies, and the frames that it keeps, with those of
+        // the call, are those that it peeked and didn't submit. So they are at its end, and the run is whole there.
         ensures begins { (c : AConfig) (pair : ℕ) (input : List (List ℕ)) → IsNew c pair input self.old → reply ≡ None
             → StandsWith c pair input self.new result [] }
         ensures goes_on { (c : AConfig) (pair : ℕ) (input : List (List ℕ)) (l : List Told) (call : ACall) (r : AReply)

@@ -5,9 +5,12 @@
 mod disposal;
 mod driver;
 mod inputs;
+pub mod laws;
+mod layout;
 mod machine;
 mod redirect;
 mod sending;
+mod transmit;
 
 pub use disposal::{Disposal, DriverCounters};
 pub use driver::Driver;

@@ -1,14 +1,13 @@
-ghost use Rattle.std.specs.Prelude.{◌≡◌, ℕ, ◌+◌, ◌*◌, ◌<◌, ◌≤◌, ◌==◌, ◌||◌, ◌++◌, ◌∷◌, [], All, IfSome, MatchOption, Some, None, List, nat_lt, length, map, take, drop, vec_capacity};
-ghost use Rattle.std.specs.List.{slice_index_or};
+ghost use Rattle.std.specs.Prelude.{◌≡◌, ◌+◌, ◌*◌, ◌<◌, ◌≤◌, ◌||◌, ◌++◌, ◌∷◌, [], All, IfSome, MatchOption, None, true, length, take, drop, vec_capacity};
 ghost use Rattle.std.specs.VecDeque.{deque_capacity};
-ghost use Rattle.xsk_umem.specs.Frame.{Frame as AFrame};
 ghost use Rattle.xsk_umem.specs.Geometry.{payload_of as payload_of_geometry};
-ghost use Rattle.xsk_driver.specs.Turns.{written_in, laid_out as laid_out_in};
+ghost use Rattle.xsk_driver.specs.Turns.{laid_out as laid_out_in};
 ghost use Rattle.xsk_driver.specs.Gathers.{HaveSg, IsWholeFrame};
-ghost use Rattle.xsk_model.specs.Expected.{CanCome, expected_by, expected_of};
+ghost use Rattle.xsk_model.specs.Expected.{CanCome, expected_of, place, item};
 
 use crate::disposal::{Disposal, DriverCounters};
 use crate::inputs::sum_of;
+use crate::layout::lay_out;
 use crate::redirect::redirect;
 use crate::sending::Sending;
 use std::alloc::Global;
@@ -19,12 +18,6 @@ use xsk_umem::{Batch, Frame, Geometry, Item, PacketList, XdpDesc};
 
 /// The least bytes of a packet: an Ethernet header.
 const LEAST_BYTES: usize = 14;
-
-/// The bytes of a chunk before the headroom.
-const RESERVED: u32 = 256;
-
-/// The option XDP_PKT_CONTD.
-const CONTINUED: u32 = 1;
 
 /// The most spare frames: those of one packet.
 pub(crate) const MOST_SPARE: usize = 32;
@@ -54,13 +47,13 @@ pub(crate) enum Wait {
 /// What happened in a turn so far.
 #[derive(Clone, Copy, Debug, Default)]
 pub(crate) struct Turn {
-    progress: bool,
-    full: bool,
+    pub(crate) progress: bool,
+    pub(crate) full: bool,
 }
 
 impl Turn {
     /// Whether the next turn begins at once.
-    fn begins_anew(&self) -> bool
+    pub(crate) fn begins_anew(&self) -> bool
         ensures { result ≡ (self.now.progress || self.now.full) }
     {
         self.progress || self.full
@@ -102,21 +95,21 @@ pub(crate) struct Machine<'a> {
     ghost settled_few: { length disposals.items ≤ length numbers.now },
     ghost spare_whole: { All (IsWholeFrame config.now.geometry.chunk) spare.items },
     ghost gathering: { length gathers.items ≡ classes },
+    ghost lost_room: { config.now.geometry.frames ≤ vec_capacity lost },
     ghost gathering_alike: { HaveSg config.now.sg gathers.items },
 }
 
 impl<'a> Machine<'a> {
     ghost use Rattle.xsk_driver.specs.Waits.{expects};
-    ghost use Rattle.xsk_driver.specs.Gives.{Gives, KeepsLimits, KeepsRooms};
+    ghost use Rattle.xsk_driver.specs.Gives.{Gives, KeepsLimits, KeepsRooms, Skips, Frees, GoesFrom, StepsFrom};
+    ghost use Rattle.xsk_driver.specs.Effects.{StepsFirst, aimed};
     ghost use Rattle.xsk_driver.specs.Steering.{class_of};
-    ghost use Rattle.xsk_driver.specs.Turns.{moved, stopped, settled, cell_of as cell_of_packet, redirect_to, limit_of, pieces_of, frame_in, returned, gathered, idle as idle_script, complete as complete_script, visit_from, transmit as transmit_script, deliver as deliver_script, reserve as reserve_script, go_on as go_on_script, take_spare as take_spare_script, find_spare as find_spare_script, direct, receive, turn, socket_of as socket_in, application_of};
-    ghost use Rattle.xsk_driver.specs.Stands.{seat_in, kept_in, noted_in, first, left, IsTrying, IsFitting, IsSupplied, IsReady, HasRoom, HasRoomFor, IsWholeIn, Goes, GoesOn, IsFirst, Leaves, Skips, IsTried};
-    ghost use Rattle.xsk_model.specs.Script.{ask, again, on_submitted, on_released};
-    ghost use Rattle.xsk_umem.specs.declared.batch.Item.{Item as AnItem};
+    ghost use Rattle.xsk_driver.specs.Turns.{moved, stopped, settled, cell_of as cell_of_packet, redirect_to, limit_of, pieces_of, frame_in, frames_in, transmit as transmit_script, deliver as deliver_script, reserve as reserve_script, go_on as go_on_script, take_spare as take_spare_script, find_spare as find_spare_script, direct, receive, turn};
+    ghost use Rattle.xsk_driver.specs.Stands.{seat_in, kept_in, noted_in, first, IsTrying, IsFitting, IsSupplied, IsHere, HasRoomFor, IsWholeIn, Goes, GoesOn, IsFirst, Leaves, IsTried};
+    ghost use Rattle.xsk_driver.specs.declared.disposal.Disposal.TheVariants.{Delivered};
+    ghost use Rattle.xsk_driver.specs.declared.machine.Wait.TheVariants.{PeekFill, ReserveRx};
+    ghost use Rattle.xsk_model.specs.Script.{again};
     ghost use Rattle.xsk_model.specs.Config.{map_of};
-    ghost use Rattle.xsk_model.specs.declared.call.Reply.{Reply as AReply};
-    ghost use Rattle.xsk_model.specs.declared.call.Ring.TheVariants.{Fill, Comp, Rx, Tx};
-    ghost use Rattle.xsk_model.specs.declared.call.Call.TheVariants.{Submit, Release};
 
     /// Goes on with the reply to the last call.
     #[inline(always)]
@@ -125,49 +118,24 @@ impl<'a> Machine<'a> {
         ensures expected { expects self.new.wait ≡ expected_of result }
         ensures limits { KeepsRooms self.old self.new }
         ensures begins { reply ≡ None → GoesOn (seat_in self.old) self.new result (again (kept_in self.old)) }
-        ensures goes { (r : AReply) → reply ≡ Some r → IsReady (seat_in self.old) self.old.wait (kept_in self.old) → HasRoom (seat_in self.old) self.old.wait (kept_in self.old) r
-            → GoesOn (seat_in self.old) self.new result (left (seat_in self.old) self.old.wait (noted_in self.old) (kept_in self.old) r) }
+        ensures goes { GoesFrom self.old self.new self.old.wait reply result }
+        ensures steps_first { reply ≡ None → StepsFirst (seat_in self.old) (kept_in self.old) self.new.wait (kept_in self.new) result }
+        ensures steps { StepsFrom self.old self.new self.old.wait reply result }
     {
         match self.wait {
             Wait::Start => Act::Call(self.begin()),
-            Wait::TellRxDone => {
-                self.rx_done = true;
-                self.turn.progress = true;
-                Act::Call(self.transmit())
-            }
+            Wait::TellRxDone => Act::Call(self.go_on_told()),
             Wait::LookCell => match reply {
                 Some(Reply::Old(cell)) => Act::Call(self.aim(cell)),
                 _ => unreachable!(),
             },
-            Wait::PeekFill { socket } => match reply {
-                Some(Reply::Items(items)) => Act::Call(self.take_spare(socket, items)),
-                Some(Reply::Empty) => Act::Call(self.find_fill_empty()),
-                _ => unreachable!(),
-            },
+            Wait::PeekFill { socket } => Act::Call(self.go_on_from_fill(socket, reply)),
             Wait::ReleaseFill { socket } => Act::Call(self.go_on_with_spare(socket)),
-            Wait::ReserveRx { socket } => match reply {
-                Some(Reply::Granted) => Act::Call(self.deliver(socket)),
-                Some(Reply::Full(_)) => Act::Call(self.find_rx_full(socket)),
-                _ => unreachable!(),
-            },
-            Wait::SubmitRx { socket } => {
-                self.settle(Disposal::Delivered(socket));
-                Act::Call(self.transmit())
-            }
-            Wait::ReserveComp { class } => match reply {
-                Some(Reply::Granted) => Act::Call(self.complete(class)),
-                Some(Reply::Full(_)) => {
-                    self.turn.full = true;
-                    Act::Call(self.idle())
-                }
-                _ => unreachable!(),
-            },
+            Wait::ReserveRx { socket } => Act::Call(self.go_on_at_rx(socket, reply)),
+            Wait::SubmitRx { socket } => Act::Call(self.go_on_delivered(socket)),
+            Wait::ReserveComp { class } => Act::Call(self.go_on_at_comp(class, reply)),
             Wait::SubmitComp { class } => Act::Call(self.go_on(class)),
-            Wait::PeekTx { class } => match reply {
-                Some(Reply::Items(items)) => Act::Call(self.take_tx(class, items)),
-                Some(Reply::Empty) => Act::Call(self.find_tx_empty(class)),
-                _ => unreachable!(),
-            },
+            Wait::PeekTx { class } => Act::Call(self.go_on_from_tx(class, reply)),
             Wait::ReleaseTx { class } => Act::Call(self.go_on(class)),
             Wait::LookTxDone => match reply {
                 Some(Reply::Old(done)) => Act::Call(self.learn_tx_done(done)),
@@ -181,10 +149,62 @@ impl<'a> Machine<'a> {
         }
     }
 
+    /// Goes on once it told that no packet comes.
+    fn go_on_told(&mut self) -> Call
+        ensures gives { Gives self.old self.new result }
+        ensures goes { Goes (seat_in self.old) self.new result (transmit_script (seat_in self.old) (moved (noted_in self.old)) (record (kept_in self.old) { rx_done = true })) }
+        ensures frees { Frees (seat_in self.old) (record (kept_in self.old) { rx_done = true }) self.new }
+    {
+        self.rx_done = true;
+        self.turn.progress = true;
+        self.transmit()
+    }
+
+    /// Goes on with what stood on FILL.
+    #[inline(always)]
+    fn go_on_from_fill(&mut self, socket: u32, reply: Option<Reply>) -> Call
+        requires { CanCome item reply }
+        ensures gives { Gives self.old self.new result }
+        ensures goes { GoesFrom self.old self.new (PeekFill socket) reply (Act.Call result) }
+        ensures steps { StepsFrom self.old self.new (PeekFill socket) reply (Act.Call result) }
+    {
+        match reply {
+            Some(Reply::Items(items)) => self.take_spare(socket, items),
+            Some(Reply::Empty) => self.find_fill_empty(),
+            _ => unreachable!(),
+        }
+    }
+
+    /// Goes on with the places of the RX ring, or without.
+    #[inline(always)]
+    fn go_on_at_rx(&mut self, socket: u32, reply: Option<Reply>) -> Call
+        requires { CanCome place reply }
+        ensures gives { Gives self.old self.new result }
+        ensures goes { GoesFrom self.old self.new (ReserveRx socket) reply (Act.Call result) }
+        ensures steps { StepsFrom self.old self.new (ReserveRx socket) reply (Act.Call result) }
+    {
+        match reply {
+            Some(Reply::Granted) => self.deliver(socket),
+            Some(Reply::Full(_)) => self.find_rx_full(socket),
+            _ => unreachable!(),
+        }
+    }
+
+    /// Goes on once the packet stands on the RX ring.
+    fn go_on_delivered(&mut self, socket: u32) -> Call
+        ensures gives { Gives self.old self.new result }
+        ensures goes { IsTrying (kept_in self.old) → Goes (seat_in self.old) self.new result (transmit_script (seat_in self.old) (moved (noted_in self.old)) (settled (kept_in self.old) (Delivered socket))) }
+        ensures frees { IsTrying (kept_in self.old) → Frees (seat_in self.old) (settled (kept_in self.old) (Delivered socket)) self.new }
+    {
+        self.settle(Disposal::Delivered(socket));
+        self.transmit()
+    }
+
     /// Begins a turn: with the next packet that can be tried, if there is one.
-    fn begin(&mut self) -> Call
+    pub(crate) fn begin(&mut self) -> Call
         ensures gives { Gives self.old self.new result }
         ensures goes { Goes (seat_in self.old) self.new result (again (kept_in self.old)) }
+        ensures frees { Frees (seat_in self.old) (kept_in self.old) self.new }
     {
         self.turn = Turn::default();
         for _ in self.disposals.len()..self.numbers.len() {
@@ -246,6 +266,7 @@ impl<'a> Machine<'a> {
         ensures gives { Gives self.old self.new result }
         ensures goes { cell ≡ cell_of_packet (seat_in self.old) (first (kept_in self.old)) → cell < length (map_of self.old.config.now self.old.port) → IsTrying (kept_in self.old)
             → Goes (seat_in self.old) self.new result (receive (seat_in self.old) (kept_in self.old).coming (noted_in self.old) (kept_in self.old)) }
+        ensures frees { Frees (seat_in self.old) (kept_in self.old) self.new }
     {
         self.wait = Wait::LookCell;
         Call::Look(Mark::Cell(self.port, cell))
@@ -255,6 +276,7 @@ impl<'a> Machine<'a> {
     fn finish_input(&mut self) -> Call
         ensures gives { Gives self.old self.new result }
         ensures goes { (kept_in self.old).coming ≡ [] → Goes (seat_in self.old) self.new result (receive (seat_in self.old) [] (noted_in self.old) (kept_in self.old)) }
+        ensures frees { Frees (seat_in self.old) (kept_in self.old) self.new }
     {
         if self.rx_done {
             return self.transmit();
@@ -267,6 +289,7 @@ impl<'a> Machine<'a> {
     fn aim(&mut self, cell: u64) -> Call
         ensures gives { Gives self.old self.new result }
         ensures goes { IsTrying (kept_in self.old) → Goes (seat_in self.old) self.new result (direct (seat_in self.old) (first (kept_in self.old)) (noted_in self.old) (kept_in self.old) (redirect_to self.old.config.now self.old.port self.old.queue cell)) }
+        ensures frees { IsTrying (kept_in self.old) → Frees (seat_in self.old) (aimed (seat_in self.old) (kept_in self.old) (redirect_to self.old.config.now self.old.port self.old.queue cell)) self.new }
     {
         let Some(socket) = redirect(cell, self.config, self.port, self.queue) else {
             self.settle(Disposal::Missed);
@@ -312,7 +335,9 @@ impl<'a> Machine<'a> {
     fn find_spare(&mut self, socket: u32, pieces: u32) -> Call
         requires { pieces ≤ 18 }
         ensures gives { Gives self.old self.new result }
-        ensures goes { pieces ≡ pieces_of (seat_in self.old) (first (kept_in self.old)) → IsFitting (seat_in self.old) (kept_in self.old) → Goes (seat_in self.old) self.new result (find_spare_script (seat_in self.old) (first (kept_in self.old)) socket (noted_in self.old) (kept_in self.old)) }
+        ensures goes { pieces ≡ pieces_of (seat_in self.old) (first (kept_in self.old)) → IsFitting (seat_in self.old) (kept_in self.old) → IsHere (seat_in self.old) socket
+            → Goes (seat_in self.old) self.new result (find_spare_script (seat_in self.old) (first (kept_in self.old)) socket (noted_in self.old) (kept_in self.old)) }
+        ensures frees { Frees (seat_in self.old) (kept_in self.old) self.new }
     {
         let spare = self.spare.len();
         if spare >= pieces as usize {
@@ -324,7 +349,9 @@ impl<'a> Machine<'a> {
 
     fn reserve_rx(&mut self, socket: u32, pieces: u32) -> Call
         ensures gives { Gives self.old self.new result }
-        ensures goes { pieces ≡ pieces_of (seat_in self.old) (first (kept_in self.old)) → IsSupplied (seat_in self.old) (kept_in self.old) → Goes (seat_in self.old) self.new result (reserve_script (seat_in self.old) (first (kept_in self.old)) socket (noted_in self.old) (kept_in self.old)) }
+        ensures goes { pieces ≡ pieces_of (seat_in self.old) (first (kept_in self.old)) → IsSupplied (seat_in self.old) (kept_in self.old) → IsHere (seat_in self.old) socket
+            → Goes (seat_in self.old) self.new result (reserve_script (seat_in self.old) (first (kept_in self.old)) socket (noted_in self.old) (kept_in self.old)) }
+        ensures frees { Frees (seat_in self.old) (kept_in self.old) self.new }
     {
         self.wait = Wait::ReserveRx { socket };
         Call::Reserve(Ring::Rx(socket), pieces)
@@ -333,8 +360,9 @@ impl<'a> Machine<'a> {
     /// Keeps the frames that came from FILL.
     fn take_spare(&mut self, socket: u32, items: Batch) -> Call
         ensures gives { Gives self.old self.new result }
-        ensures goes { IsFitting (seat_in self.old) (kept_in self.old) → HasRoomFor (seat_in self.old) (kept_in self.old) items
+        ensures goes { IsFitting (seat_in self.old) (kept_in self.old) → IsHere (seat_in self.old) socket → HasRoomFor (seat_in self.old) (kept_in self.old) items
             → Goes (seat_in self.old) self.new result (take_spare_script (seat_in self.old) (first (kept_in self.old)) socket (noted_in self.old) (kept_in self.old) items) }
+        ensures keeps { HasRoomFor (seat_in self.old) (kept_in self.old) items → kept_in self.new ≡ record (kept_in self.old) { spare = (kept_in self.old).spare ++ frames_in items } }
     {
         let count = items.len();
         let mut items = items;
@@ -379,6 +407,7 @@ impl<'a> Machine<'a> {
     fn find_fill_empty(&mut self) -> Call
         ensures gives { Gives self.old self.new result }
         ensures goes { Goes (seat_in self.old) self.new result (transmit_script (seat_in self.old) (noted_in self.old) (kept_in self.old)) }
+        ensures frees { Frees (seat_in self.old) (kept_in self.old) self.new }
     {
         let empty = &mut self.counters.rx_fill_ring_empty_descs;
         *empty = empty.saturating_add(1);
@@ -388,7 +417,9 @@ impl<'a> Machine<'a> {
     /// Goes on where the places of FILL were given back: the frames are enough now, or the turn is blocked for them.
     fn go_on_with_spare(&mut self, socket: u32) -> Call
         ensures gives { Gives self.old self.new result }
-        ensures goes { IsFitting (seat_in self.old) (kept_in self.old) → Goes (seat_in self.old) self.new result (go_on_script (seat_in self.old) (first (kept_in self.old)) socket (noted_in self.old) (kept_in self.old)) }
+        ensures goes { IsFitting (seat_in self.old) (kept_in self.old) → IsHere (seat_in self.old) socket
+            → Goes (seat_in self.old) self.new result (go_on_script (seat_in self.old) (first (kept_in self.old)) socket (noted_in self.old) (kept_in self.old)) }
+        ensures frees { Frees (seat_in self.old) (kept_in self.old) self.new }
     {
         match self.pieces() {
             Some(pieces) if self.spare.len() >= pieces as usize => self.reserve_rx(socket, pieces),
@@ -399,6 +430,7 @@ impl<'a> Machine<'a> {
     fn find_rx_full(&mut self, socket: u32) -> Call
         ensures gives { Gives self.old self.new result }
         ensures goes { Goes (seat_in self.old) self.new result (transmit_script (seat_in self.old) (stopped (noted_in self.old)) (kept_in self.old)) }
+        ensures frees { Frees (seat_in self.old) (kept_in self.old) self.new }
     {
         let class = socket % self.classes;
         DriverCounters::raise(&mut self.counters.rx_ring_full, class, 1);
@@ -409,7 +441,9 @@ impl<'a> Machine<'a> {
     /// Puts the packet, laid out in spare frames, on the RX ring.
     fn deliver(&mut self, socket: u32) -> Call
         ensures gives { Gives self.old self.new result }
-        ensures goes { IsSupplied (seat_in self.old) (kept_in self.old) → Goes (seat_in self.old) self.new result (deliver_script (seat_in self.old) (first (kept_in self.old)) socket (moved (noted_in self.old)) (kept_in self.old)) }
+        ensures goes { IsSupplied (seat_in self.old) (kept_in self.old) → IsHere (seat_in self.old) socket
+            → Goes (seat_in self.old) self.new result (deliver_script (seat_in self.old) (first (kept_in self.old)) socket (moved (noted_in self.old)) (kept_in self.old)) }
+        ensures keeps { IsSupplied (seat_in self.old) (kept_in self.old) → kept_in self.new ≡ record (kept_in self.old) { spare = drop (pieces_of (seat_in self.old) (first (kept_in self.old))) (kept_in self.old).spare } }
     {
         self.turn.progress = true;
         self.wait = Wait::SubmitRx { socket };
@@ -438,270 +472,5 @@ impl<'a> Machine<'a> {
             packet,
             pieces,
         )
-    }
-
-    /// Begins to send: completes what is finished, then peeks the first TX ring.
-    fn transmit(&mut self) -> Call
-        ensures gives { Gives self.old self.new result }
-        ensures goes { Goes (seat_in self.old) self.new result (transmit_script (seat_in self.old) (noted_in self.old) (kept_in self.old)) }
-    {
-        match self.finished.front() {
-            Some(packet) => {
-                let count = packet.len();
-                self.reserve_comp(0, count)
-            }
-            None => self.peek_tx(0),
-        }
-    }
-
-    /// Goes on with sending: completes what is finished, then peeks the TX ring of the class, or ends the turn.
-    fn go_on(&mut self, class: u32) -> Call
-        ensures gives { Gives self.old self.new result }
-        ensures goes { class ≤ self.old.classes → Goes (seat_in self.old) self.new result (complete_script (seat_in self.old) (kept_in self.old).finished (noted_in self.old) (kept_in self.old) (visit_from (seat_in self.old) class)) }
-    {
-        match self.finished.front() {
-            Some(packet) => {
-                let count = packet.len();
-                self.reserve_comp(class, count)
-            }
-            None => self.visit(class),
-        }
-    }
-
-    /// Goes on with the TX ring of the class, or ends the turn after the last one.
-    fn visit(&mut self, class: u32) -> Call
-        ensures gives { Gives self.old self.new result }
-        ensures goes { (kept_in self.old).finished ≡ [] → class ≤ self.old.classes → Goes (seat_in self.old) self.new result (visit_from (seat_in self.old) class (noted_in self.old) (kept_in self.old)) }
-    {
-        if class < self.classes {
-            self.peek_tx(class)
-        } else {
-            self.idle()
-        }
-    }
-
-    fn reserve_comp(&mut self, class: u32, count: u32) -> Call
-        ensures gives { Gives self.old self.new result }
-        ensures goes { 1 ≤ length (kept_in self.old).finished → count ≡ length (slice_index_or (kept_in self.old).finished 0 []) → class ≤ self.old.classes
-            → Goes (seat_in self.old) self.new result (complete_script (seat_in self.old) (kept_in self.old).finished (noted_in self.old) (kept_in self.old) (visit_from (seat_in self.old) class)) }
-    {
-        self.wait = Wait::ReserveComp { class };
-        Call::Reserve(Ring::Comp(self.pair), count)
-    }
-
-    fn peek_tx(&mut self, class: u32) -> Call
-        ensures gives { Gives self.old self.new result }
-        ensures goes { (kept_in self.old).finished ≡ [] → class < self.old.classes → Goes (seat_in self.old) self.new result (visit_from (seat_in self.old) class (noted_in self.old) (kept_in self.old)) }
-    {
-        self.wait = Wait::PeekTx { class };
-        Call::Peek(Ring::Tx(self.socket_of(class)), self.batch)
-    }
-
-    /// The socket of a class of this port and queue.
-    fn socket_of(&self, class: u32) -> u32
-        ensures { class < self.now.classes → result ≡ socket_in (seat_in self.now) class }
-    {
-        (self.pair * self.classes).wrapping_add(class)
-    }
-
-    /// Gives back the frames of the first finished packet, and keeps its bytes.
-    fn complete(&mut self, class: u32) -> Call
-        ensures gives { Gives self.old self.new result }
-        ensures goes { 1 ≤ length (kept_in self.old).finished → class ≤ self.old.classes
-            → Goes (seat_in self.old) self.new result (ask (Submit (Comp self.old.pair) (map returned (slice_index_or (kept_in self.old).finished 0 [])))
-            (on_submitted (complete_script (seat_in self.old) (drop 1 (kept_in self.old).finished) (moved (noted_in self.old)) (record (kept_in self.old) { finished = drop 1 (kept_in self.old).finished }) (visit_from (seat_in self.old) class)))) }
-    {
-        self.turn.progress = true;
-        let items = match self.finished.pop_front() {
-            Some(packet) => self.send(packet),
-            None => Batch::new(self.alloc),
-        };
-        self.wait = Wait::SubmitComp { class };
-        Call::Submit(Ring::Comp(self.pair), items)
-    }
-
-    /// Keeps the bytes of a packet, and gives its items with their addresses alone.
-    fn send(&mut self, packet: Batch) -> Batch
-        ensures limits { KeepsLimits self.old self.new }
-        ensures leaves { Leaves self.old self.new (noted_in self.old) (kept_in self.old) }
-        ensures items { result ≡ map returned packet }
-    {
-        let mut packet = packet;
-        let mut items = Batch::new(self.alloc);
-        self.sending.begin();
-        for _ in 0..packet.len() {
-            let Some(item) = packet.pop_front() else {
-                break;
-            };
-            self.sending.extend(payload_of(&item, self.config.geometry(), self.config.sg()));
-            items.push(Item {
-                frame: item.frame,
-                desc: XdpDesc {
-                    addr: item.desc.addr,
-                    len: 0,
-                    options: 0,
-                },
-            });
-        }
-        items
-    }
-
-    fn find_tx_empty(&mut self, class: u32) -> Call
-        ensures gives { Gives self.old self.new result }
-        ensures goes { (kept_in self.old).finished ≡ [] → class < self.old.classes → Goes (seat_in self.old) self.new result (visit_from (seat_in self.old) (class + 1) (noted_in self.old) (kept_in self.old)) }
-    {
-        DriverCounters::raise(&mut self.counters.tx_ring_empty_descs, class, 1);
-        self.visit(class.saturating_add(1))
-    }
-
-    /// Puts the items of a TX ring together into packets.
-    fn take_tx(&mut self, class: u32, items: Batch) -> Call
-        ensures gives { Gives self.old self.new result }
-        ensures goes { (kept_in self.old).finished ≡ [] → class < self.old.classes
-            → Goes (seat_in self.old) self.new result (ask (Release (Tx (socket_in (seat_in self.old) class)) (length items))
-            (on_released (complete_script (seat_in self.old) (gathered (seat_in self.old) class (kept_in self.old) items).finished (moved (noted_in self.old)) (gathered (seat_in self.old) class (kept_in self.old) items) (visit_from (seat_in self.old) (class + 1))))) }
-    {
-        let count = items.len();
-        let mut items = items;
-        while let Some(item) = items.pop_front() {
-            self.gather(class, item);
-        }
-        self.turn.progress = true;
-        self.wait = Wait::ReleaseTx {
-            class: class.saturating_add(1),
-        };
-        Call::Release(Ring::Tx(self.socket_of(class)), count)
-    }
-
-    fn gather(&mut self, class: u32, item: Item)
-        ensures limits { KeepsLimits self.old self.new }
-        ensures leaves { class < self.old.classes → length (kept_in self.old).finished < 128 → Leaves self.old self.new (noted_in self.old) (gathered (seat_in self.old) class (kept_in self.old) (item ∷ [])) }
-    {
-        let Some(gather) = self.gathers.get_mut(class as usize) else {
-            return;
-        };
-        match gather.push(self.config.geometry(), item) {
-            Gathered::More => {}
-            Gathered::Whole(packet) => self.finish(packet),
-            Gathered::Bad(items) => self.lose(class, items),
-        }
-    }
-
-    fn finish(&mut self, packet: Batch)
-        ensures limits { KeepsLimits self.old self.new }
-        ensures leaves { length (kept_in self.old).finished < 128 → Leaves self.old self.new (noted_in self.old) (record (kept_in self.old) { finished = (kept_in self.old).finished ++ packet ∷ [] }) }
-    {
-        if self.finished.len() < MOST_FINISHED {
-            self.finished.push_back_reserved(packet);
-        }
-    }
-
-    /// Keeps the frames of a bad packet, which are not completed.
-    fn lose(&mut self, class: u32, items: Batch)
-        ensures limits { KeepsLimits self.old self.new }
-        ensures leaves { Leaves self.old self.new (noted_in self.old) (kept_in self.old) }
-    {
-        let count = items.len();
-        DriverCounters::raise(&mut self.counters.tx_invalid_descs, class, count);
-        let mut items = items;
-        for _ in 0..count {
-            if let Some(frame) = items.pop_front().and_then(|item| item.frame)
-                && self.lost.len() < self.lost.capacity()
-            {
-                self.lost.push_reserved(frame);
-            }
-        }
-    }
-
-    /// Ends a turn: begins a new one, or looks whether the application sends nothing more, or ends.
-    fn idle(&mut self) -> Call
-        ensures gives { Gives self.old self.new result }
-        ensures goes { Goes (seat_in self.old) self.new result (idle_script (seat_in self.old) (noted_in self.old) (kept_in self.old)) }
-    {
-        if self.turn.begins_anew() {
-            self.begin()
-        } else if self.tx_done {
-            self.wait = Wait::TellGone;
-            Call::Swap(Mark::Gone(self.pair), 1)
-        } else if self.rx_done {
-            self.wait = Wait::LookTxDone;
-            Call::Look(Mark::TxDone(self.application()))
-        } else {
-            self.begin()
-        }
-    }
-
-    /// The application of this port's and queue's sockets.
-    fn application(&self) -> u32
-        ensures { result ≡ application_of (seat_in self.now) }
-    {
-        (self.port / 2) * self.config.queues() + self.queue
-    }
-
-    fn learn_tx_done(&mut self, done: u64) -> Call
-        ensures gives { Gives self.old self.new result }
-        ensures goes { Goes (seat_in self.old) self.new result (again (record (kept_in self.old) { tx_done = (kept_in self.old).tx_done || done == 1 })) }
-    {
-        self.tx_done = is_told(self.tx_done, done);
-        self.begin()
-    }
-}
-
-/// Whether a mark that was looked at is 1, or was so before.
-fn is_told(before: bool, number: u64) -> bool
-    ensures { result ≡ (before || number == 1) }
-{
-    before || number == 1
-}
-
-/// The packet in the first of some frames, in so many pieces: each in a frame of its own, and each item but the last with
-/// the continuation bit.
-fn lay_out(
-    alloc: Global,
-    geometry: &Geometry,
-    spare: &mut VecDeque<Frame>,
-    packet: &[u8],
-    pieces: u32,
-) -> Batch
-    requires { pieces ≤ 18 }
-    ensures capacity { deque_capacity spare.new ≡ deque_capacity spare.old }
-    ensures whole { (chunk : ℕ) → All (IsWholeFrame chunk) spare.old.items → All (IsWholeFrame chunk) spare.new.items }
-    ensures spare { pieces ≤ length spare.old.items → spare.new.items ≡ drop pieces spare.old.items }
-    ensures items { pieces ≤ length spare.old.items → All (IsWholeFrame geometry.now.chunk) spare.old.items
-        → result ≡ laid_out_in geometry.now packet.now (take pieces spare.old.items) }
-{
-    let payload = geometry.payload() as usize;
-    let mut items = Batch::new(alloc);
-    let mut rest = packet;
-    for done in 0..pieces {
-        let Some(frame) = spare.pop_front() else {
-            break;
-        };
-        let (piece, others) = rest.split_at(payload.min(rest.len()));
-        items.push(laid_out(geometry, frame, piece, done + 1 < pieces));
-        rest = others;
-    }
-    items
-}
-
-/// The item of a piece of a packet in a frame, with the continuation bit where bytes follow.
-fn laid_out(geometry: &Geometry, frame: Frame, piece: &[u8], continues: bool) -> Item
-    requires { length piece.now ≤ 4096 }
-    ensures { (later : List AFrame) → (continues ≡ nat_lt 0 (length later)) → length frame.bytes ≡ geometry.now.chunk → length piece.now ≤ payload_of_geometry geometry.now
-        → result ≡ written_in geometry.now frame piece.now later }
-{
-    let mut frame = frame;
-    let offset = RESERVED + geometry.headroom();
-    if offset as usize + piece.len() <= frame.bytes().len() {
-        frame.fill(offset, piece);
-    }
-    let addr = u64::from(frame.number()) * u64::from(geometry.chunk()) + u64::from(offset);
-    Item {
-        desc: XdpDesc {
-            addr,
-            len: piece.len() as u32,
-            options: if continues { CONTINUED } else { 0 },
-        },
-        frame: Some(frame),
     }
 }

@@ -28,4 +28,4 @@ returns-clause-is_new c is =
     let within : All (λ k. k < length list.packets) c.of_pair.result.now = subst (λ (ns : List ℕ). All (λ k. k < length list.packets) ns) (sym found) (numbers_known queues queue list.packets) in
     let coming : map (packet_at list) c.known-numbers.result.now ≡ packets_of_queue queues queue list.packets =
     ap (map (packet_at list)) (c.known-numbers.ensures.same within ∙ found) ∙ packets_by_number queues queue list in
-    record { seat = search rules; wait = refl; kept = rw (← coming) (search rules) }
+    record { one = record { config = c.pairs.ensures.lawful; regular = c.requires.regular; geometry = c.geometry.ensures.lawful; known = c.requires.pair }; seat = search rules; wait = refl; kept = rw (← coming) (search rules) }

@@ -8,11 +8,11 @@ returns-clause-begins c config pair input new none =
     let view = c.self.view_is in
     stands_new config pair input c.self.inside.machine c.next.new.self c.args.self.now _ c.next.result
     (ap (λ (d : Shown). d.seat) (sym view)) (ap (λ (d : Shown). d.kept) (sym view)) new
-    (c.next.ensures.limits.seat ∙ ap (λ (d : Shown). d.seat) view ∙ new.seat) refl refl refl (c.next.ensures.begins none)
+    (c.next.ensures.limits.seat ∙ ap (λ (d : Shown). d.seat) view ∙ new.seat) refl refl refl (c.next.ensures.begins none) (c.next.ensures.steps_first none)
 
 pub returns-clause-goes_on : goal.returns-clause-goes_on
 returns-clause-goes_on c config pair input l call r stands same fits =
     let view = c.self.view_is in
     stands_next config pair input c.self.inside.machine c.next.new.self c.args.self.now _ c.next.result call r l
     (ap (λ (d : Shown). d.seat) (sym view)) (ap (λ (d : Shown). d.wait) (sym view)) (ap (λ (d : Shown). d.noted) (sym view)) (ap (λ (d : Shown). d.kept) (sym view)) stands fits
-    (c.next.ensures.limits.seat ∙ ap (λ (d : Shown). d.seat) view ∙ stands.seat) refl refl refl (c.next.ensures.goes r same)
+    (c.next.ensures.limits.seat ∙ ap (λ (d : Shown). d.seat) view ∙ stands.seat) refl refl refl (c.next.ensures.goes r same) (c.next.ensures.steps r same)

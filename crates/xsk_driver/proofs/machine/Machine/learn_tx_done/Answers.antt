@@ -1,4 +1,4 @@
-use Rattle.std.proofs.Common.{Bool, sym, subst}
+use Rattle.std.proofs.Common.{Bool, subst}
 use Rattle.xsk_model.specs.Script.{again}
 use Rattle.xsk_driver.specs.Stands.{seat_in, kept_in, Goes}
 use Rattle.xsk_driver.proofs.machine.Machine.learn_tx_done.Goals as goal

@@ -1,4 +1,4 @@
-use Rattle.std.proofs.Common.{ap}
+use Rattle.std.proofs.Common.{ap, refl}
 use Rattle.xsk_model.specs.Script.{begun}
 use Rattle.xsk_driver.specs.Turns.{turn}
 use Rattle.xsk_driver.specs.Stands.{seat_in, kept_in, noted_in}
@@ -12,5 +12,5 @@ returns-clause-goes c completed within =
     (record {
       next = ap (begun (turn seat)) (visit_here seat c.args.class (noted_in c.args.self.now) (kept_in c.args.self.now) within);
       ready = record { completed = completed; within = within };
-      given = tt;
+      given = refl;
     })

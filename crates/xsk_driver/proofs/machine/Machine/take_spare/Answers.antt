@@ -13,8 +13,12 @@ loop-item-preserved c =
     )
 
 pub returns-clause-goes : goal.returns-clause-goes
-returns-clause-goes c fitting room =
+returns-clause-goes c fitting here room =
     let t = c.loop-item.invariant.1 room in
     let keeps = takes_all c.args.self.now c.loop-item.self c.args.items c.loop-item.items (c.in_default.ensures.empty.0 refl) t in
     spare_taken (seat_in c.args.self.now) _ c.loop-item.self.pair c.len-count.result c.args.socket (noted_in c.args.self.now) (kept_in c.args.self.now) c.args.items
-    refl (ap (λ (s : Seat). s.pair) t.seat) c.len-count.ensures.value (ap moved t.notes) keeps fitting
+    refl (ap (λ (s : Seat). s.pair) t.seat) c.len-count.ensures.value (ap moved t.notes) keeps fitting here
+
+pub returns-clause-keeps : goal.returns-clause-keeps
+returns-clause-keeps c room =
+    takes_all c.args.self.now c.loop-item.self c.args.items c.loop-item.items (c.in_default.ensures.empty.0 refl) (c.loop-item.invariant.1 room)
