@@ -1,3 +1,5 @@
 pub mod FiveWords
 pub mod Totals
 pub mod TwoPortsLaws
+pub mod Refusals
+pub mod Ending

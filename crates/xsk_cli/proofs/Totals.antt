@@ -17,6 +17,13 @@ pub length_concat-take_more : (packets : List (List ℕ)) (n : ℕ) (packet : Li
     → length (concat (take (n + 1) packets)) ≡ length (concat (take n packets)) + length packet
 length_concat-take_more packets n packet is = rw add-one (length_concat-take packets n packet is)
 
+-- they are at most those of all packets
+pub length_concat-take_few : (packets : List (List ℕ)) (n : ℕ) → length (concat (take n packets)) ≤ length (concat packets)
+length_concat-take_few packets zero = omega arith
+length_concat-take_few [] (suc n) = omega arith
+length_concat-take_few (first ∷ packets) (suc n) =
+    omega (arith, length-append first (concat (take n packets)), length-append first (concat packets), length_concat-take_few packets n)
+
 -- one list within the limits may be written
 pub one_list-writable : (packets : List (List ℕ)) → All IsShort packets → length packets ≤ 65536 → length (concat packets) ≤ 33554432 → IsWritable (packets ∷ [])
 one_list-writable packets short few small = record {

@@ -1,8 +1,9 @@
-ghost use Rattle.std.specs.Prelude.{◌≡◌, ◌<◌, false, true, IfErr, OnOk};
+ghost use Rattle.std.specs.Prelude.{◌≡◌, ◌<◌, ◌≤◌, false, true, length, IfErr, IfOk, IfSome, OnOk};
 ghost use Rattle.std.specs.Io.KnownBytes.{IsAtEnd};
 ghost use Rattle.xsk_io.specs.Bay.{SameBut};
 ghost use Rattle.xsk_io.specs.declared.bay.Stream.TheVariants.{Input};
 ghost use Rattle.xsk_cli.specs.Cause.{IsCaused, NeverFalls};
+ghost use Rattle.xsk_cli.specs.Streams.{IsInputFailure, SameTexts};
 
 use crate::{Excess, Status};
 use std::alloc::Global;
@@ -20,9 +21,16 @@ pub(crate) fn read_input<B: Bay>(
 ) -> Result<Vec<u8>, Status>
     requires port { port < 2 }
     requires closed { B.is_open bay.old (Stream.Input port) ≡ false }
+    ensures bytes { IfOk result (λ bytes. IfSome (B.left bay.old (Stream.Input port)) (λ all. all ≡ bytes.items)) }
+    ensures few { IfOk result (λ bytes. length bytes.items ≤ 34603032) }
+    ensures failed { IfErr result (IsInputFailure port (B.left bay.old (Stream.Input port))) }
     ensures end { OnOk result (IsAtEnd (B.left bay.new (Stream.Input port))) }
     ensures left { SameBut (Stream.Input port) (B.left bay.old) (B.left bay.new) }
     ensures opened { SameBut (Stream.Input port) (B.is_open bay.old) (B.is_open bay.new) }
+    ensures open { OnOk result (B.is_open bay.new (Stream.Input port) ≡ true) }
+    ensures asked { IfSome (B.asked bay.new (Stream.Input port)) (λ word. word ≡ name.now) }
+    ensures asked_others { SameBut (Stream.Input port) (B.asked bay.old) (B.asked bay.new) }
+    ensures held { SameTexts (B.held bay.old) (B.held bay.new) }
     ensures falls { NeverFalls (B.faults bay.old) (B.faults bay.new) }
     ensures cause { IfErr result (IsCaused (B.faults bay.old) (B.faults bay.new)) }
 {

@@ -1,7 +1,13 @@
-ghost use Rattle.std.specs.Prelude.{◌≡◌, ◌≤◌, All, IfErr, IfOk, IsTrue, length, vec_len};
+ghost use Rattle.std.specs.Prelude.{◌≡◌, ℕ, ◌+◌, ◌<◌, ◌≤◌, ◌⊎◌, ◌^◌, ◌∷◌, [], All, IfErr, IfOk, IsTrue, OnOk, length, vec_len, string_bytes};
 ghost use Rattle.std.specs.List.{concat};
+ghost use Rattle.xsk_pcap.specs.Capture.{IsCapture, IsRefused};
+ghost use Rattle.xsk_pcap.specs.declared.reading.BadCapture.{BadCapture as ACause};
+ghost use Rattle.xsk_pcap.specs.Written.{written};
 ghost use Rattle.xsk_driver.specs.Sent.{IsShort};
+ghost use Rattle.xsk_cli.specs.declared.status.Status.{Status as AStatus};
 ghost use Rattle.xsk_cli.specs.Cause.{IsOwn};
+ghost use Rattle.xsk_cli.specs.Judged.{packets_in, bytes_in, AreTaken, IsDue};
+ghost use Rattle.xsk_cli.specs.Made.{AreMade, AreTextsOf, HasNoTexts, IsFailure, IsRefusal, IsExcess, IsStalledOrMemory, refused_as, report_of, written_in};
 
 use crate::setup::set_up;
 use crate::{Excess, Status};
@@ -29,48 +35,85 @@ pub(crate) struct Texts {
 
 /// Runs the inputs of both ports, and makes what is written.
 pub(crate) fn make_texts(alloc: Global, in0: &[u8], in1: &[u8]) -> Result<Texts, Status>
-    ensures { IfErr result IsOwn }
+    requires first { length in0.now ≤ 34603032 }
+    requires second { length in1.now ≤ 34603032 }
+    ensures made { IfOk result (λ texts. AreMade in0.now in1.now (written_in texts)) }
+    ensures failed { IfErr result (IsFailure in0.now in1.now) }
+    ensures due { (status : AStatus) → IsDue in0.now in1.now status → (result ≡ Err status) ⊎ (result ≡ Err Status.OutOfMemory) }
 {
-    let first = read_capture(alloc, 0, in0);
-    let second = read_capture(alloc, 1, in1);
-    let (first, second) = (first?, second?);
-    let Ok(lists) = vec![in alloc; first, second] else {
-        return Err(Status::OutOfMemory);
-    };
-    check_limits(lists.as_slice())?;
+    let taken = take_captures(alloc, in0, in1)?;
+    write_texts(alloc, taken)
+}
+
+/// The packets of both ports.
+#[derive(Drop)]
+struct Taken {
+    first: PacketList,
+    second: PacketList,
+}
+
+/// The packets of both ports' captures, within the limits.
+fn take_captures(alloc: Global, in0: &[u8], in1: &[u8]) -> Result<Taken, Status>
+    requires first { length in0.now ≤ 34603032 }
+    requires second { length in1.now ≤ 34603032 }
+    ensures taken { IfOk result (λ taken. AreTaken in0.now in1.now taken.first.packets taken.second.packets) }
+    ensures failed { IfErr result (λ status. (status ≡ Status.OutOfMemory) ⊎ IsDue in0.now in1.now status) }
+    ensures due { (status : AStatus) → IsDue in0.now in1.now status → (result ≡ Err status) ⊎ (result ≡ Err Status.OutOfMemory) }
+{
+    let first = read_capture(alloc, 0, in0)?;
+    let second = read_capture(alloc, 1, in1)?;
+    check_limits(&first, &second)?;
+    Ok(Taken { first, second })
+}
+
+/// Runs the packets of both ports, and makes what is written.
+fn write_texts(alloc: Global, taken: Taken) -> Result<Texts, Status>
+    ensures written { IfOk result (λ texts. AreTextsOf taken.first.packets taken.second.packets (written_in texts)) }
+    ensures failed { IfErr result (HasNoTexts taken.first.packets taken.second.packets) }
+{
+    let Taken { first, second } = taken;
+    let lists = vec![in alloc; first, second].map_err(|_| Status::OutOfMemory)?;
     let run = run_lists(alloc, lists.as_slice())?;
     let out0 = capture_text(alloc, run.sent(0))?;
     let out1 = capture_text(alloc, run.sent(1))?;
-    match report_text(alloc, run.log().len()) {
-        Ok(report) => Ok(Texts { out0, out1, report }),
-        Err(OutOfMemory) => Err(Status::OutOfMemory),
-    }
+    let report = report_text(alloc, run.log().len())?;
+    Ok(Texts { out0, out1, report })
 }
 
 /// The packets of a port's capture.
 fn read_capture(alloc: Global, port: u32, bytes: &[u8]) -> Result<PacketList, Status>
-    ensures { IfErr result IsOwn }
+    ensures found { IfOk result (λ list. IsCapture bytes.now list.packets) }
+    ensures failed { IfErr result (IsRefusal port bytes.now) }
+    ensures refused { (cause : ACause) → IsRefused bytes.now cause → (result ≡ Err (Status.BadCapture port cause)) ⊎ (result ≡ Err Status.OutOfMemory) }
 {
     match read(alloc, bytes) {
         Ok(list) => Ok(list),
-        Err(BadCapture::OutOfMemory) => Err(Status::OutOfMemory),
-        Err(cause) => Err(Status::BadCapture { port, cause }),
+        Err(cause) => Err(refused_for(port, cause)),
     }
 }
 
-/// Tests the limits of all inputs together: the packets first, then the captured bytes.
-fn check_limits(lists: &[PacketList]) -> Result<(), Status>
-    ensures { IfErr result IsOwn }
+/// The status of a port whose bytes were refused.
+fn refused_for(port: u32, cause: BadCapture) -> Status
+    ensures { result ≡ refused_as port cause }
 {
-    let mut packets = 0u64;
-    let mut bytes = 0u64;
-    for list in lists {
-        packets = packets.saturating_add(u64::from(list.len()));
-        bytes = bytes.saturating_add(bytes_of(list));
+    match cause {
+        BadCapture::OutOfMemory => Status::OutOfMemory,
+        _ => Status::BadCapture { port, cause },
     }
+}
+
+/// Tests the limits of both ports together: the packets first, then the captured bytes.
+fn check_limits(first: &PacketList, second: &PacketList) -> Result<(), Status>
+    requires small { bytes_in first.now.packets second.now.packets < 2 ^ 64 }
+    ensures packets { OnOk result (packets_in first.now.packets second.now.packets ≤ 65536) }
+    ensures bytes { OnOk result (bytes_in first.now.packets second.now.packets ≤ 33554432) }
+    ensures excess { IfErr result (IsExcess first.now.packets second.now.packets) }
+{
+    let packets = u64::from(first.len()) + u64::from(second.len());
     if packets > MOST_PACKETS {
         return Err(Status::TooMuch(Excess::Packets(packets)));
     }
+    let bytes = bytes_of(first) + bytes_of(second);
     if bytes > MOST_BYTES {
         return Err(Status::TooMuch(Excess::Bytes(bytes)));
     }
@@ -78,17 +121,20 @@ fn check_limits(lists: &[PacketList]) -> Result<(), Status>
 }
 
 /// The bytes of all packets of a list.
-fn bytes_of(list: &PacketList) -> u64 {
-    let mut bytes = 0u64;
+fn bytes_of(list: &PacketList) -> u64
+    requires { length (concat list.now.packets) < 2 ^ 64 }
+    ensures { result ≡ length (concat list.now.packets) }
+{
+    let mut bytes = 0;
     for number in 0..list.len() {
-        bytes = bytes.saturating_add(list.get(number).len() as u64);
+        bytes += list.get(number).len() as u64;
     }
     bytes
 }
 
 fn run_lists(alloc: Global, lists: &[PacketList]) -> Result<Run, Status>
     requires { length lists.now ≡ 2 }
-    ensures own { IfErr result IsOwn }
+    ensures failed { IfErr result IsStalledOrMemory }
     ensures pairs { IfOk result (λ run. run.pairs ≡ 2) }
 {
     let (config, frames) = set_up(alloc)?;
@@ -102,6 +148,7 @@ fn run_lists(alloc: Global, lists: &[PacketList]) -> Result<Run, Status>
 /// The capture of what was sent. One that a capture doesn't hold is taken as want of memory.
 fn capture_text(alloc: Global, list: &PacketList) -> Result<Vec<u8>, OutOfMemory>
     requires { All IsShort list.now.packets }
+    ensures { IfOk result (λ text. text.items ≡ written (list.now.packets ∷ [])) }
 {
     if u64::from(list.len()) > MOST_PACKETS || !fits_capture(list) {
         return Err(OutOfMemory);
@@ -127,7 +174,9 @@ fn fits_capture(list: &PacketList) -> bool
 }
 
 /// The one line of the report.
-fn report_text(alloc: Global, calls: u32) -> Result<String, OutOfMemory> {
+fn report_text(alloc: Global, calls: u32) -> Result<String, OutOfMemory>
+    ensures { IfOk result (λ text. string_bytes text ≡ report_of calls) }
+{
     let mut report = String::new(alloc);
     writeln!(report, "calls {calls}")?;
     Ok(report)

@@ -1,16 +1,19 @@
-ghost use Rattle.std.specs.Prelude.{◌↔◌, IsSome, IsTrue, map, string_bytes};
-ghost use Rattle.xsk_cli.specs.Words.{IsFile, IsAccepted};
+ghost use Rattle.std.specs.Prelude.{◌↔◌, IfSome, IsSome, IsTrue, map, string_bytes};
+ghost use Rattle.xsk_cli.specs.Words.{AreFiles, IsFile, IsAccepted};
 
 /// The words of `simulate IN0 IN1 OUT0 OUT1`.
 #[derive(Clone, Copy, Debug)]
 pub(crate) struct Files<'a> {
-    pub(crate) inputs: [&'a str; 2],
-    pub(crate) outputs: [&'a str; 2],
+    pub(crate) in0: &'a str,
+    pub(crate) in1: &'a str,
+    pub(crate) out0: &'a str,
+    pub(crate) out1: &'a str,
 }
 
 /// The files of the command, where the words are one.
 pub(crate) fn parse(words: &[String]) -> Option<Files<'_>>
-    ensures { IsSome result ↔ IsAccepted (map string_bytes words.now) }
+    ensures accepted { IsSome result ↔ IsAccepted (map string_bytes words.now) }
+    ensures files { IfSome result (λ files. AreFiles (map string_bytes words.now) files.in0.now files.in1.now files.out0.now files.out1.now) }
 {
     let [command, in0, in1, out0, out1] = words else {
         return None;
@@ -26,8 +29,10 @@ pub(crate) fn parse(words: &[String]) -> Option<Files<'_>>
         return None;
     }
     Some(Files {
-        inputs: [in0.as_str(), in1.as_str()],
-        outputs: [out0.as_str(), out1.as_str()],
+        in0: in0.as_str(),
+        in1: in1.as_str(),
+        out0: out0.as_str(),
+        out1: out1.as_str(),
     })
 }
 

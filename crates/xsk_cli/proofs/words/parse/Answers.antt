@@ -3,8 +3,8 @@ use Rattle.xsk_cli.specs.Words.{IsFile}
 use Rattle.xsk_cli.proofs.FiveWords.{accepted_five}
 use Rattle.xsk_cli.proofs.words.parse.Goals as goal
 
-pub returns : goal.returns
-returns c =
+pub returns-clause-accepted : goal.returns-clause-accepted
+returns-clause-accepted c =
     let name : c.as_str.result.now ≡ codes "simulate" = search rules in (
       λ _. accepted_five string_bytes c.args.words.now c.command-item.result c.in0-item.result c.in1-item.result c.out0-item.result c.out1-item.result
           c.in-len5.len_at_least c.in-len5.len_below
