@@ -21,11 +21,11 @@ use Rattle.xsk_driver.proofs.TurnPlaces.{Family, Receiving, Trying, Sending, Idl
 
 -- ---- what an entry leaves of the attempts
 
-attempting_told : (l : List Told) (call : Call) (reply : Reply) → attempting_of (with_told l call reply) ≡ attempting_step (attempting_of l) (record { call = call; reply = reply })
+pub attempting_told : (l : List Told) (call : Call) (reply : Reply) → attempting_of (with_told l call reply) ≡ attempting_step (attempting_of l) (record { call = call; reply = reply })
 attempting_told l call reply = fold_push attempting_step (record { finished = []; current = None }) l (record { call = call; reply = reply })
 
 -- a call that belongs to no attempt and begins none
-other_call : (l : List Told) (call : Call) (reply : Reply) → goes_on call ≡ false → begun_by call reply ≡ None → attempts_of (with_told l call reply) ≡ attempts_of l
+pub other_call : (l : List Told) (call : Call) (reply : Reply) → goes_on call ≡ false → begun_by call reply ≡ None → attempts_of (with_told l call reply) ≡ attempts_of l
 other_call l call reply e f =
     let s = attempting_of l in
     let t : Told = record { call = call; reply = reply } in
@@ -37,7 +37,7 @@ other_call l call reply e f =
 -- ---- the first packet that comes
 
 -- what is passed where the next packet is long enough and goes to a cell
-passed-next : (seat : Seat) (ds : List Disposal) (packet : List ℕ) (later : List (List ℕ)) → nat_lt (length packet) 14 ≡ false
+pub passed-next : (seat : Seat) (ds : List Disposal) (packet : List ℕ) (later : List (List ℕ)) → nat_lt (length packet) 14 ≡ false
     → nat_le (length (map_of seat.config seat.port)) (cell_of seat packet) ≡ false
     → passed seat ds (packet ∷ later) ≡ (let d : Disposed = record { disposals = ds; coming = packet ∷ later } in d)
 passed-next seat ds packet later e f =
@@ -45,13 +45,13 @@ passed-next seat ds packet later e f =
     ap (λ b. cond b (passed seat (ds ++ Runt ∷ []) later) (cond (nat_le (length (map_of seat.config seat.port)) (cell_of seat packet)) (passed seat (ds ++ Missed ∷ []) later) d)) e
     ∙ ap (λ b. cond b (passed seat (ds ++ Missed ∷ []) later) d) f
 
-passed-short : (seat : Seat) (ds : List Disposal) (packet : List ℕ) (later : List (List ℕ)) → nat_lt (length packet) 14 ≡ true
+pub passed-short : (seat : Seat) (ds : List Disposal) (packet : List ℕ) (later : List (List ℕ)) → nat_lt (length packet) 14 ≡ true
     → passed seat ds (packet ∷ later) ≡ passed seat (ds ++ Runt ∷ []) later
 passed-short seat ds packet later e =
     let d : Disposed = record { disposals = ds; coming = packet ∷ later } in
     ap (λ b. cond b (passed seat (ds ++ Runt ∷ []) later) (cond (nat_le (length (map_of seat.config seat.port)) (cell_of seat packet)) (passed seat (ds ++ Missed ∷ []) later) d)) e
 
-passed-missed : (seat : Seat) (ds : List Disposal) (packet : List ℕ) (later : List (List ℕ)) → nat_lt (length packet) 14 ≡ false
+pub passed-missed : (seat : Seat) (ds : List Disposal) (packet : List ℕ) (later : List (List ℕ)) → nat_lt (length packet) 14 ≡ false
     → nat_le (length (map_of seat.config seat.port)) (cell_of seat packet) ≡ true → passed seat ds (packet ∷ later) ≡ passed seat (ds ++ Missed ∷ []) later
 passed-missed seat ds packet later e f =
     let d : Disposed = record { disposals = ds; coming = packet ∷ later } in
@@ -121,7 +121,7 @@ module _ (seat : Seat) (input : List (List ℕ)) where
     said = said_more seat ds packet coming later Missed (map (disposal_in seat) input) e (in-missed seat packet f g) h.said;
   }
 
-  disposed-push : (attempts : List Attempt) (a : Attempt) → disposed_of seat input (attempts ++ a ∷ []) ≡ disposed_step seat (disposed_of seat input attempts) a
+  pub disposed-push : (attempts : List Attempt) (a : Attempt) → disposed_of seat input (attempts ++ a ∷ []) ≡ disposed_step seat (disposed_of seat input attempts) a
   disposed-push attempts a = fold_push (disposed_step seat) (passed seat [] input) attempts a
 
   -- an attempt at the next packet
@@ -153,12 +153,12 @@ module _ (seat : Seat) (input : List (List ℕ)) where
 -- ---- at each place
 
 -- a call that begins an attempt
-looked : (l : List Told) (port index n : ℕ) → attempting_of (with_told l (Look (Cell port index)) (Old n))
+pub looked : (l : List Told) (port index n : ℕ) → attempting_of (with_told l (Look (Cell port index)) (Old n))
     ≡ (let a : Attempt = record { number = n; submitted = []; full = false } in let s : Attempting = record { finished = attempts_of l; current = Some a } in s)
 looked l port index n = attempting_told l (Look (Cell port index)) (Old n)
 
 -- a call that belongs to one
-on_call : (l : List Told) (call : Call) (reply : Reply) (a : Attempt) → goes_on call ≡ true → (attempting_of l).current ≡ Some a
+pub on_call : (l : List Told) (call : Call) (reply : Reply) (a : Attempt) → goes_on call ≡ true → (attempting_of l).current ≡ Some a
     → attempting_of (with_told l call reply) ≡ (let s : Attempting = record { finished = (attempting_of l).finished; current = Some (attempt_after a call reply) } in s)
 on_call l call reply a e f =
     let s = attempting_of l in
@@ -167,13 +167,13 @@ on_call l call reply a e f =
     attempting_told l call reply ∙ ap (λ b. cond b on over) e
     ∙ ap (λ o. let u : Attempting = record s { current = option_map (λ (a : Attempt). attempt_after a call reply) o } in u) f
 
-result_some : (seat : Seat) (packet : List ℕ) (a : Attempt) (t : ℕ) (long found : Bool) → redirect_to seat.config seat.port seat.queue a.number ≡ Some t
+pub result_some : (seat : Seat) (packet : List ℕ) (a : Attempt) (t : ℕ) (long found : Bool) → redirect_to seat.config seat.port seat.queue a.number ≡ Some t
     → nat_lt (limit_of seat) (length packet) ≡ long → has_number t a.submitted ≡ found → result_of seat packet a ≡ cond long (Some TooLong) (cond found (Some (Delivered t)) None)
 result_some seat packet a t long found e f g =
     ap (result_by seat packet a) e ∙ ap (λ b. cond b (Some TooLong) (cond (has_number t a.submitted) (Some (Delivered t)) None)) f
     ∙ ap (λ b. cond long (Some TooLong) (cond b (Some (Delivered t)) None)) g
 
-found_last : (t : ℕ) (ts : List ℕ) → ts ≡ [] → has_number t (ts ++ t ∷ []) ≡ true
+pub found_last : (t : ℕ) (ts : List ℕ) → ts ≡ [] → has_number t (ts ++ t ∷ []) ≡ true
 found_last t ts e = ap (λ xs. has_number t (xs ++ t ∷ [])) e ∙ one (eqb t t) (eq-eqb t t refl)
   where
     one : (b : Bool) → b ≡ true → (b || false) ≡ true

@@ -1,4 +1,6 @@
 pub mod Completing
+pub mod Counted
+pub mod Counts
 pub mod Frees
 pub mod InputsLemmas
 pub mod Layouts
@@ -10,6 +12,7 @@ pub mod Places
 pub mod Rooms
 pub mod Seats
 pub mod Sends
+pub mod SentItems
 pub mod SentLemmas
 pub mod Standing
 pub mod Steps
@@ -20,3 +23,5 @@ pub mod Draining
 pub mod Disposing
 pub mod Delivering
 pub mod CompletingAll
+pub mod Tries
+pub mod Disposes

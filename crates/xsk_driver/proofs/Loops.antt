@@ -1,5 +1,5 @@
 -- What the loops of the driver's machine keep.
-use Rattle.std.proofs.Common.{◌≡◌, ℕ, ◌+◌, ◌-◌, ◌<◌, ◌≤◌, take, drop, List, [], ◌∷◌, ◌++◌, suc, length, refl, sym, ap, ◌∙◌, subst, arith, append_assoc, append-nil, length-append}
+use Rattle.std.proofs.Common.{◌≡◌, ℕ, Bool, get_or-set_same, ◌+◌, ◌-◌, ◌<◌, ◌≤◌, take, drop, List, [], ◌∷◌, ◌++◌, suc, length, refl, sym, ap, ◌∙◌, subst, arith, append_assoc, append-nil, length-append}
 use Rattle.std.specs.Prelude.{All, nat_lt}
 use Rattle.std.proofs.lemmas.Bool.Decides.{nat_tests}
 use Rattle.std.proofs.lemmas.List.Elements.{All-head, All-tail, All-cons, All-nil}
@@ -8,6 +8,9 @@ use Rattle.xsk_umem.specs.Frame.{Frame}
 use Rattle.xsk_umem.specs.declared.batch.Item.{Item}
 use Rattle.xsk_desc.specs.Kept.{Kept as Gathering}
 use Rattle.xsk_umem.specs.Geometry.{Geometry, payload_of}
+use Rattle.xsk_model.specs.Packets.{packets_from, group_after, bad_items}
+use Rattle.xsk_driver.specs.Counters.{with_bad}
+use Rattle.xsk_driver.proofs.Counts.{bad_next}
 use Rattle.xsk_model.specs.Script.{ask}
 use Rattle.xsk_driver.specs.Gathers.{IsWholeFrame}
 use Rattle.xsk_driver.specs.Gives.{KeepsLimits}
@@ -22,17 +25,23 @@ use Rattle.xsk_driver.proofs.Steps.{drop_one, gathered_next, gathered_none, gath
 
 -- ---- the items of a TX ring
 
+-- the items of bad packets among those of a class
+abbrev pub bad_among : Machine → ℕ → Kept → List Item → ℕ
+bad_among m class kept items = bad_items (packets_from m.config.now.geometry m.config.now.sg (group_at kept class) items)
+
 pub record Gathers (before now : Machine) (class : ℕ) (all items : List Item) : Type 0 where
   pub seat : seat_in now ≡ seat_in before
   pub notes : noted_in now ≡ noted_in before
   pub keeps : gathered (seat_in before) class (kept_in now) items ≡ gathered (seat_in before) class (kept_in before) all
   pub few : length (kept_in now).finished + length items ≤ 32
   pub room : length (kept_in now).lost + length (frames_in (group_at (kept_in now) class)) + length (frames_in items) ≤ before.config.now.geometry.frames
+  pub counts : with_bad now.counters class (bad_among before class (kept_in now) items) ≡ with_bad before.counters class (bad_among before class (kept_in before) all)
 
 pub gathers_none : (m : Machine) (class : ℕ) (items : List Item) → length items ≤ 32 → (kept_in m).finished ≡ []
     → length (kept_in m).lost + length (frames_in (group_at (kept_in m) class)) + length (frames_in items) ≤ m.config.now.geometry.frames → Gathers m m class items items
 gathers_none m class items few none room = record {
   room = room;
+  counts = refl;
   seat = refl;
   notes = refl;
   keeps = refl;
@@ -41,25 +50,35 @@ gathers_none m class items few none room = record {
 
 pub gathers_one : (before now next : Machine) (class : ℕ) (all items later : List Item) (item : Item) → items ≡ item ∷ later → class < before.classes
     → (class < now.classes → length (kept_in now).finished < 128 → length (kept_in now).lost + length (frames_in (group_at (kept_in now) class)) + length (frame_in item.frame) ≤ now.config.now.geometry.frames → Leaves now next (noted_in now) (gathered (seat_in now) class (kept_in now) (item ∷ [])))
+    → (class < now.classes → next.counters ≡ with_bad now.counters class (bad_among now class (kept_in now) (item ∷ [])))
     → Gathers before now class all items → Gathers before next class all later
-gathers_one before now next class all items later item split within step g =
+gathers_one before now next class all items later item split within step count_one g =
     let classes : now.classes ≡ before.classes = ap (λ (s : Seat). s.classes) g.seat in
     let count : length items ≡ length later + 1 = rw split (omega arith) in
     let frames : now.config.now.geometry.frames ≡ before.config.now.geometry.frames = ap (λ (s : Seat). s.config.geometry.frames) g.seat in
-    let parts : length (frames_in items) ≡ length (frame_in item.frame) + length (frames_in later) =
+    let first : length (frames_in items) ≡ length (frame_in item.frame) + length (frames_in later) =
     ap (λ (is : List Item). length (frames_in is)) split ∙ length-append (frame_in item.frame) (frames_in later) in
-    let leaves = step (omega (arith, within, classes)) (omega (arith, g.few, count)) (omega (arith, g.room, parts, frames)) in
+    let leaves = step (omega (arith, within, classes)) (omega (arith, g.few, count)) (omega (arith, g.room, first, frames)) in
     let groups : length (kept_in now).groups ≡ now.classes = length-map now.gathers.items (λ (x : Gathering). x.items) ∙ now.gathering in
     let here : kept_in next ≡ gathered (seat_in before) class (kept_in now) (item ∷ []) =
     leaves.keeps ∙ ap (λ (s : Seat). gathered s class (kept_in now) (item ∷ [])) g.seat in
+    let geometry : Geometry = before.config.now.geometry in
+    let sg : Bool = before.config.now.sg in
+    let group : List Item = group_at (kept_in now) class in
+    let after : group_at (kept_in next) class ≡ group_after geometry sg group item =
+    ap (λ (k : Kept). group_at k class) here ∙ get_or-set_same (kept_in now).groups class (group_after geometry sg group item) [] (omega (arith, within, classes, groups)) in
+    let counted : next.counters ≡ with_bad now.counters class (bad_items (packets_from geometry sg group (item ∷ []))) =
+    count_one (omega (arith, within, classes)) ∙ ap (λ (s : Seat). with_bad now.counters class (bad_items (packets_from s.config.geometry s.config.sg group (item ∷ [])))) g.seat in
     record {
+      counts = bad_next before.counters now.counters next.counters class geometry sg group (group_at (kept_in next) class) item later (bad_among before class (kept_in before) all) counted after
+          (ap (λ (is : List Item). with_bad now.counters class (bad_items (packets_from geometry sg group is))) (sym split) ∙ g.counts);
       seat = leaves.seat ∙ g.seat;
       notes = leaves.notes ∙ g.notes;
       keeps = ap (λ (k : Kept). gathered (seat_in before) class k later) here
           ∙ gathered_next (seat_in before) class (kept_in now) item later (omega (arith, within, classes, groups))
           ∙ ap (λ (is : List Item). gathered (seat_in before) class (kept_in now) is) (sym split) ∙ g.keeps;
       few = omega (arith, g.few, count, ap (λ (k : Kept). length k.finished) here, gathered_few (seat_in before) class (kept_in now) item);
-      room = omega (arith, g.room, parts, ap (λ (k : Kept). length k.lost + length (frames_in (group_at k class))) here, gathered_lost (seat_in before) class (kept_in now) item (omega (arith, within, classes, groups)));
+      room = omega (arith, g.room, first, ap (λ (k : Kept). length k.lost + length (frames_in (group_at k class))) here, gathered_lost (seat_in before) class (kept_in now) item (omega (arith, within, classes, groups)));
     }
 
 pub gathers_all : (before now : Machine) (class : ℕ) (all items : List Item) → items ≡ [] → Gathers before now class all items
@@ -133,17 +152,17 @@ pub loses_one : (before now next : Machine) (all items later : List Item) (item 
     → (length (kept_in now).lost + length (frame_in item.frame) ≤ now.config.now.geometry.frames → Leaves now next (noted_in now) (without_frames (kept_in now) (frame_in item.frame)))
     → Loses before now all items → Loses before next all later
 loses_one before now next all items later item split step t =
-    let parts : length (frames_in items) ≡ length (frame_in item.frame) + length (frames_in later) =
+    let first : length (frames_in items) ≡ length (frame_in item.frame) + length (frames_in later) =
     ap (λ (is : List Item). length (frames_in is)) split ∙ length-append (frame_in item.frame) (frames_in later) in
     let frames : now.config.now.geometry.frames ≡ before.config.now.geometry.frames = ap (λ (s : Seat). s.config.geometry.frames) t.seat in
-    let leaves = step (omega (arith, t.room, parts, frames)) in
+    let leaves = step (omega (arith, t.room, first, frames)) in
     record {
       seat = leaves.seat ∙ t.seat;
       notes = leaves.notes ∙ t.notes;
       keeps = ap (λ (k : Kept). without_frames k (frames_in later)) leaves.keeps
           ∙ ap (λ (fs : List Frame). record (kept_in now) { lost = fs }) (append_assoc (kept_in now).lost (frame_in item.frame) (frames_in later))
           ∙ ap (λ (is : List Item). without_frames (kept_in now) (frames_in is)) (sym split) ∙ t.keeps;
-      room = omega (arith, t.room, parts, ap (λ (k : Kept). length k.lost) leaves.keeps, length-append (kept_in now).lost (frame_in item.frame));
+      room = omega (arith, t.room, first, ap (λ (k : Kept). length k.lost) leaves.keeps, length-append (kept_in now).lost (frame_in item.frame));
     }
 
 pub loses_all : (before now : Machine) (all items : List Item) → items ≡ [] → Loses before now all items → kept_in now ≡ without_frames (kept_in before) (frames_in all)

@@ -22,8 +22,8 @@ use Rattle.xsk_model.specs.declared.call.Act.TheVariants.{Call as Gave, Ended as
 use Rattle.xsk_model.proofs.Safety.{legal_release, room_told, held_told}
 use Rattle.xsk_driver.specs.Turns.{Seat, Kept, seat_of, start, settled, limit_of, cell_of, pieces_of, redirect_to, frames_in, application_of}
 use Rattle.xsk_driver.specs.Stands.{first, IsReady, IsGiven, IsSupplied, IsHere}
-use Rattle.xsk_driver.specs.Effects.{skip_from, aimed, kept_after, forced, IsNext, KeepsOrSkips, Steps, StepsFirst}
-use Rattle.xsk_driver.specs.Owned.{IsSeat, socket_at_class, IsSpare, Owned, OwnsAll}
+use Rattle.xsk_driver.specs.Effects.{skip_from, aimed, kept_after, forced, IsNext, KeepsOrSkips}
+use Rattle.xsk_driver.specs.Owned.{IsSeat, socket_at_class, IsSpare, Owned, OwnsWith, IsReadyWith, DriverSteps, DriverStepsFirst}
 use Rattle.xsk_driver.specs.declared.disposal.Disposal.{Disposal}
 use Rattle.xsk_driver.specs.declared.disposal.Disposal.TheVariants.{Missed, TooLong, Runt}
 use Rattle.xsk_driver.specs.declared.machine.Wait.{Wait}
@@ -32,30 +32,6 @@ use Rattle.xsk_driver.proofs.Legality.{legal_free, legal_rx, owned_rx, legal_com
 use Rattle.xsk_driver.proofs.Owned.{HasKept, owned_quiet, times-kept, has_told, has_fill, has_tx}
 use Rattle.xsk_driver.proofs.Places.{classes_some, class_here, tx_ring, caller_known, batch_few}
 use Rattle.xsk_driver.proofs.Rooms.{fill_frames}
-
--- ---- the statements
-
--- a driver that gave a legal call; or one that has ended, and has the frames that it keeps
-abbrev pub OwnsWith : Config → ℕ → Kept → Act → List Told → Type 0
-OwnsWith c pair kept (Gave call) l = Owned c pair kept call l × IsLegal c l pair call
-OwnsWith c pair kept IsEnded l = OwnsAll c pair kept l
-
-abbrev pub IsReadyWith : Seat → Wait → Kept → Act → Type 0
-IsReadyWith seat wait kept (Gave call) = IsReady seat wait kept
-IsReadyWith seat wait kept IsEnded = Unit {0}
-
--- each step after a fitting reply goes on so
-abbrev pub DriverSteps : Type 0
-DriverSteps = (c : Config) (pair : ℕ) (l : List Told) (wait next : Wait) (kept left : Kept) (call : Call) (reply : Reply) (act : Act) → IsSeat c pair
-    → IsReady (seat_of c pair) wait kept → IsGiven (seat_of c pair) wait kept call → Owned c pair kept call l → IsLegal c l pair call → Fits c l call reply
-    → Steps (seat_of c pair) wait kept reply next left act → IsReadyWith (seat_of c pair) next left act
-    → OwnsWith c pair left act (with_told l call reply)
-
--- and so does the first
-abbrev pub DriverStepsFirst : Type 0
-DriverStepsFirst = (c : Config) (pair : ℕ) (input : List (List ℕ)) (next : Wait) (left : Kept) (act : Act) → IsSeat c pair
-    → StepsFirst (seat_of c pair) (start (classes_of c) input) next left act → IsReadyWith (seat_of c pair) next left act
-    → OwnsWith c pair left act []
 
 -- ---- what is had once a reply has come: with the call that it forces, or with none
 
@@ -102,7 +78,7 @@ owns_next c pair seat (Some call) next left IsEnded l h is ready = absurd is
 owns_next c pair seat None next left (Gave given) l h is ready =
     let both = legal_free c pair seat left l h next given is.0 ready is.1 in
     (owned_quiet c pair left given l both.0 h, both.1)
-owns_next c pair seat None next left IsEnded l h is ready = record { own = h.own; frames = λ n. times-kept n left ∙ h.frames n }
+owns_next c pair seat None next left IsEnded l h is ready = (h.own, λ n. times-kept n left ∙ h.frames n)
 
 -- ---- each reply
 

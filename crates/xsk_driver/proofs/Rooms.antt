@@ -25,9 +25,8 @@ use Rattle.xsk_model.proofs.Counting.{times-append, times-flat_map-set, length-b
 use Rattle.xsk_model.proofs.OwnRuns.{own_all, fits_taken}
 use Rattle.xsk_model.proofs.Safety.{had_told}
 use Rattle.xsk_driver.specs.Turns.{Kept, seat_of, frame_in, frames_in, group_at, pieces_of}
-use Rattle.xsk_driver.specs.Stands.{first, IsReady, IsGiven, IsWholeIn, HasRoom}
-use Rattle.xsk_driver.specs.Owned.{socket_at_class, frame_numbers, IsSpare, Owned}
-use Rattle.xsk_driver.specs.declared.machine.Wait.{Wait}
+use Rattle.xsk_driver.specs.Stands.{first, IsWholeIn, HasRoom}
+use Rattle.xsk_driver.specs.Owned.{socket_at_class, frame_numbers, IsSpare, Owned, HasRoomAt}
 use Rattle.xsk_driver.specs.declared.machine.Wait.TheVariants.{PeekFill, PeekTx}
 use Rattle.xsk_driver.proofs.Owned.{frame_numbers-in, from_fill-here, times-at, times-kept}
 
@@ -156,13 +155,10 @@ fill_reply c pair l kept socket k Empty few fits = tt
 fill_reply c pair l kept socket k Released few fits = tt
 fill_reply c pair l kept socket k (Old number) few fits = tt
 
--- a reply that fits the call that was given has room
-pub has_room_at : (c : Config) (pair : ℕ) (l : List Told) (wait : Wait) (kept : Kept) (call : Call) (reply : Reply)
-    → IsReady (seat_of c pair) wait kept → IsGiven (seat_of c pair) wait kept call → Owned c pair kept call l → Fits c l call reply
-    → HasRoom (seat_of c pair) wait kept reply
-has_room_at c pair l (PeekFill socket) kept call reply ready given owned fits =
+pub has_room_at : HasRoomAt
+has_room_at c pair l (PeekFill socket) kept call reply seat ready given owned fits =
     let k : ℕ = pieces_of (seat_of c pair) (first kept) - length kept.spare in
     fill_reply c pair l kept socket k reply (omega (arith, ready.0.few)) (subst (λ (x : Call). Fits c l x reply) given.0 fits)
-has_room_at c pair l (PeekTx class) kept call reply ready given owned fits =
+has_room_at c pair l (PeekTx class) kept call reply seat ready given owned fits =
     tx_reply c pair l kept class (seat_of c pair).batch reply ready.within (subst (λ (x : Call). Owned c pair kept x l) given owned) (subst (λ (x : Call). Fits c l x reply) given fits)
-has_room_at c pair l wait kept call reply ready given owned fits = tt
+has_room_at c pair l wait kept call reply seat ready given owned fits = tt

@@ -2,13 +2,12 @@
 use Rattle.std.proofs.Common.{◌≡◌, ℕ, zero, suc, ◌+◌, ◌<◌, ◌≤◌, Bool, true, false, cond, eqb, ◌&&◌, List, [], ◌∷◌, ◌++◌, length, get_or, drop, map, flat_map, Option, None, Some, refl, sym, ap, subst, ◌∙◌, ⊎_elim, arith, append_assoc, append-nil, length-append, eq-eqb, ne_eqb}
 use Rattle.std.proofs.lemmas.Bool.{cases_eq, and_from}
 use Rattle.xsk_umem.specs.declared.batch.Item.{Item}
-use Rattle.xsk_model.specs.Config.{Config, pair_at, classes_of}
+use Rattle.xsk_model.specs.Config.{Config, pair_at}
 use Rattle.xsk_model.specs.Packets.{bytes_of}
 use Rattle.xsk_model.specs.Numbers.{times}
 use Rattle.xsk_model.specs.Entry.{Told, with_told}
 use Rattle.xsk_model.specs.Own.{completed_by, waiting, sending_of}
 use Rattle.xsk_model.specs.Legal.{IsLegal}
-use Rattle.xsk_model.specs.History.{Fits}
 use Rattle.xsk_model.specs.Sent.{sockets_from, sockets_of, completed_in, sent_from}
 use Rattle.xsk_model.specs.declared.config.SocketInfo.{SocketInfo}
 use Rattle.xsk_model.specs.declared.call.Ring.TheVariants.{Comp}
@@ -20,43 +19,16 @@ use Rattle.xsk_model.specs.declared.call.Act.{Act}
 use Rattle.xsk_model.specs.declared.call.Act.TheVariants.{Call as Gave, Ended as IsEnded}
 use Rattle.xsk_model.proofs.Completions.{one_completion}
 use Rattle.xsk_model.proofs.Safety.{room_told}
-use Rattle.xsk_driver.specs.Turns.{Seat, Kept, seat_of, start, returned}
+use Rattle.xsk_driver.specs.Turns.{Seat, Kept, seat_of, returned}
 use Rattle.xsk_driver.specs.Stands.{IsReady, IsGiven, IsHere}
-use Rattle.xsk_driver.specs.Effects.{forced, IsFree, IsNext, Steps, StepsFirst}
-use Rattle.xsk_driver.specs.Owned.{IsSeat, socket_at_class, Owned, sent_with, sent_by_act}
+use Rattle.xsk_driver.specs.Effects.{forced, IsFree, IsNext}
+use Rattle.xsk_driver.specs.Owned.{IsSeat, socket_at_class, Owned, Completes, CompletesFirst, sent_with, sent_by_act, sent_on, DriverSends, DriverSendsFirst}
 use Rattle.xsk_driver.specs.declared.machine.Wait.{Wait}
 use Rattle.xsk_driver.specs.declared.machine.Wait.TheVariants.{Start, TellRxDone, LookCell, PeekFill, ReleaseFill, ReserveRx, SubmitRx, ReserveComp, SubmitComp, PeekTx, ReleaseTx, LookTxDone, TellGone, Ended}
 use Rattle.xsk_driver.proofs.Completing.{completes}
 use Rattle.xsk_driver.proofs.Legality.{first_waits, legal_comp}
 use Rattle.xsk_driver.proofs.Owned.{HasKept, IsQuiet, quiet_done, has_told}
 use Rattle.xsk_driver.proofs.Places.{class_here}
-
--- ---- the statements
-
--- once there is room on COMPLETION, giving back the first finished packet completes that packet alone, and so sends it
-pub record Completes (c : Config) (pair : ℕ) (packet : List Item) (l : List Told) : Type 0 where
-  pub completed : completed_in c (sockets_of c pair) l (Submit (Comp pair) (map returned packet)) ≡ packet ∷ []
-  pub sent : sent_from c (sockets_of c pair) [] (with_told l (Submit (Comp pair) (map returned packet)) Submitted) ≡ sent_from c (sockets_of c pair) [] l ++ bytes_of c.geometry c.sg packet ∷ []
-
-abbrev pub CompletesFirst : Type 0
-CompletesFirst = (c : Config) (pair class : ℕ) (l : List Told) (kept : Kept) (call : Call) → IsSeat c pair
-    → IsReady (seat_of c pair) (ReserveComp class) kept → IsGiven (seat_of c pair) (ReserveComp class) kept call → Owned c pair kept call l → IsLegal c l pair call
-    → Completes c pair (get_or kept.finished 0 []) (with_told l call Granted)
-
--- once there is room on COMPLETION the first finished packet is sent, and else none
-abbrev pub sent_on : Config → Wait → Kept → Reply → List (List ℕ)
-sent_on c (ReserveComp class) kept Granted = bytes_of c.geometry c.sg (get_or kept.finished 0 []) ∷ []
-sent_on c wait kept reply = []
-
-abbrev pub DriverSends : Type 0
-DriverSends = (c : Config) (pair : ℕ) (l : List Told) (wait next : Wait) (kept left : Kept) (call : Call) (reply : Reply) (act : Act) → IsSeat c pair
-    → IsReady (seat_of c pair) wait kept → IsGiven (seat_of c pair) wait kept call → Owned c pair kept call l → IsLegal c l pair call → Fits c l call reply
-    → Steps (seat_of c pair) wait kept reply next left act
-    → sent_by_act c pair (with_told l call reply) act ≡ sent_with c pair l call ++ sent_on c wait kept reply
-
-abbrev pub DriverSendsFirst : Type 0
-DriverSendsFirst = (c : Config) (pair : ℕ) (input : List (List ℕ)) (next : Wait) (left : Kept) (act : Act)
-    → StepsFirst (seat_of c pair) (start (classes_of c) input) next left act → sent_by_act c pair [] act ≡ []
 
 -- ---- the sockets of a queue
 

@@ -91,6 +91,18 @@ settled_by kept all disposals disposal coming pushed =
     ap (λ (cs : List (List ℕ)). record kept { coming = cs; disposals = disposals }) later
     ∙ ap (λ (ds : List Disposal). record kept { coming = drop 1 kept.coming; disposals = ds }) pushed
 
+-- what an item ends, as its gather tells it
+pub ended_here : (seat : Seat) (class : ℕ) (kept : Kept) (gathers : List Gathering) (g : Geometry) (before : Gathering) (item : Item) (packet : Option Packet)
+    → class < length gathers → HaveSg seat.config.sg gathers → g ≡ seat.config.geometry → before ≡ get_or gathers class before
+    → packet ≡ ended_by g before.sg before.items item → kept.groups ≡ groups_of gathers
+    → packet ≡ ended_by seat.config.geometry seat.config.sg (get_or kept.groups class []) item
+ended_here seat class kept gathers g before item packet within alike geometry is ended same =
+    let sg : before.sg ≡ seat.config.sg = ap (λ (x : Gathering). x.sg) is ∙ All-get_or (λ (x : Gathering). x.sg ≡ seat.config.sg) gathers class before within alike in
+    let group : before.items ≡ get_or kept.groups class [] =
+    ap (λ (x : Gathering). x.items) is ∙ sym (get_or-map (λ (x : Gathering). x.items) gathers class before [] within) ∙ ap (λ (gs : List (List Item)). get_or gs class []) (sym same) in
+    ended ∙ ap (λ (x : Geometry). ended_by x before.sg before.items item) geometry
+    ∙ ap (λ (x : Bool). ended_by seat.config.geometry x before.items item) sg ∙ ap (λ (xs : List Item). ended_by seat.config.geometry seat.config.sg xs item) group
+
 -- one item that was pushed to the gather of a class
 pub gathered_one : (seat : Seat) (class : ℕ) (kept : Kept) (gathers : List Gathering) (g : Geometry) (before after : Gathering) (item : Item) (packet : Option Packet) (finished : List (List Item)) (lost : List Frame)
     → class < length gathers → HaveSg seat.config.sg gathers → g ≡ seat.config.geometry → before ≡ get_or gathers class before
@@ -106,9 +118,7 @@ gathered_one seat class kept gathers g before after item packet finished lost wi
     ∙ ap (λ (x : Bool). group_after seat.config.geometry x before.items item) sg ∙ ap (λ (xs : List Item). group_after seat.config.geometry seat.config.sg xs item) group in
     let groups : groups_of (set gathers class after) ≡ set kept.groups class (group_after seat.config.geometry seat.config.sg (get_or kept.groups class []) item) =
     map-set (λ (x : Gathering). x.items) gathers class after ∙ ap (λ (gs : List (List Item)). set gs class after.items) (sym same) ∙ ap (λ (xs : List Item). set kept.groups class xs) items in
-    let last : packet ≡ ended_by seat.config.geometry seat.config.sg (get_or kept.groups class []) item =
-    ended ∙ ap (λ (x : Geometry). ended_by x before.sg before.items item) geometry
-    ∙ ap (λ (x : Bool). ended_by seat.config.geometry x before.items item) sg ∙ ap (λ (xs : List Item). ended_by seat.config.geometry seat.config.sg xs item) group in
+    let last = ended_here seat class kept gathers g before item packet within alike geometry is ended same in
     let made : Option Packet → Kept = λ p. record kept {
       groups = set kept.groups class (group_after seat.config.geometry seat.config.sg (get_or kept.groups class []) item);
       finished = kept.finished ++ whole_packets (option_to_list p ++ []);
@@ -186,42 +196,40 @@ pub frame_in_few : (frame : Option Frame) → length (frame_in frame) ≤ 1
 frame_in_few None = omega arith
 frame_in_few (Some frame) = omega arith
 
+frames_more : (group : List Item) (item : Item) → length (frames_in (group ++ item ∷ [])) ≡ length (frames_in group) + length (frame_in item.frame)
+frames_more group item =
+    rw (frames_in-append group (item ∷ [])) (omega (arith, length-append (frames_in group) (frame_in item.frame ++ []), length-append (frame_in item.frame) []))
+
 bad_if : (a b c : Bool) (all items : List Item) → (if a then Some (bad all) else if b then Some (bad all) else if c then None else Some (whole all)) ≡ Some (bad items) → items ≡ all
 bad_if true b c all items h = cc
 bad_if false true c all items h = cc
 bad_if false false true all items h = cc
 bad_if false false false all items h = cc
 
--- a bad packet has the items of its group, and the item that made it bad
-pub bad_has : (g : Geometry) (sg : Bool) (group items : List Item) (item : Item) → Some (bad items) ≡ ended_by g sg group item → items ≡ group ++ item ∷ []
+-- a bad packet has the frames of its group, and of the item that made it bad
+bad_has : (g : Geometry) (sg : Bool) (group items : List Item) (item : Item) → Some (bad items) ≡ ended_by g sg group item → length (frames_in items) ≡ length (frames_in group) + length (frame_in item.frame)
 bad_has g sg group items item h =
-    bad_if (nat_le 18 (length group)) (not (is_valid g sg item.desc)) (item.desc.options == 1) (group ++ item ∷ []) items (sym h)
+    rw (bad_if (nat_le 18 (length group)) (not (is_valid g sg item.desc)) (item.desc.options == 1) (group ++ item ∷ []) items (sym h)) (frames_more group item)
 
--- the frames of one item more
-frames_in-one : (group : List Item) (item : Item) → length (frames_in (group ++ item ∷ [])) ≡ length (frames_in group) + length (frame_in item.frame)
-frames_in-one group item =
-    ap (λ (fs : List Frame). length fs) (frames_in-append group (item ∷ []))
-    ∙ length-append (frames_in group) (frame_in item.frame ++ [])
-    ∙ ap (λ (fs : List Frame). length (frames_in group) + length fs) (append-nil (frame_in item.frame))
-
--- so its frames have room, where there was room for those of the group and of the item
+-- so they have room, where there was room for those of the group and of one more item
 pub bad_room : (class : ℕ) (gathers : List Gathering) (g : Geometry) (before : Gathering) (items : List Item) (item : Item) (lost : List Frame) (room : ℕ)
     → class < length gathers → before ≡ get_or gathers class before → Some (bad items) ≡ ended_by g before.sg before.items item
     → length lost + length (frames_in (get_or (groups_of gathers) class [])) + length (frame_in item.frame) ≤ room → length lost + length (frames_in items) ≤ room
 bad_room class gathers g before items item lost room within is ended few =
     let group : get_or (groups_of gathers) class [] ≡ before.items =
     get_or-map (λ (x : Gathering). x.items) gathers class before [] within ∙ ap (λ (x : Gathering). x.items) (sym is) in
-    omega (arith, few, ap (λ (xs : List Item). length (frames_in xs)) group, ap (λ (xs : List Item). length (frames_in xs)) (bad_has g before.sg before.items items item ended), frames_in-one before.items item)
+    omega (arith, few, ap (λ (xs : List Item). length (frames_in xs)) group, bad_has g before.sg before.items items item ended)
 
-lost_made : (packet : Option Packet) (group : List Item) (item : Item) → ((items : List Item) → Some (bad items) ≡ packet → items ≡ group ++ item ∷ [])
+lost_made : (packet : Option Packet) (group : List Item) (item : Item) → ((items : List Item) → Some (bad items) ≡ packet → length (frames_in items) ≡ length (frames_in group) + length (frame_in item.frame))
     → length (frames_in (bad_ones (option_to_list packet ++ []))) + length (frames_in (if is_some packet then [] else group ++ item ∷ [])) ≤ length (frames_in group) + length (frame_in item.frame)
-lost_made None group item bads = omega (arith, frames_in-one group item)
+lost_made None group item bads = omega (arith, frames_more group item)
 lost_made (Some (whole items)) group item bads = omega arith
-lost_made (Some (bad items)) group item bads = omega (arith, frames_in-one group item, ap (λ (is : List Item). length (frames_in is)) (append-nil items ∙ bads items refl))
+lost_made (Some (bad items)) group item bads = omega (arith, bads items refl, ap (λ (is : List Item). length (frames_in is)) (append-nil items))
 
--- an item adds at most its own frame to what is lost or may be
+-- an item adds at most its frame to those that are lost or may be
 pub gathered_lost : (seat : Seat) (class : ℕ) (kept : Kept) (item : Item) → class < length kept.groups
-    → length (gathered seat class kept (item ∷ [])).lost + length (frames_in (group_at (gathered seat class kept (item ∷ [])) class)) ≤ length kept.lost + length (frames_in (group_at kept class)) + length (frame_in item.frame)
+    → length (gathered seat class kept (item ∷ [])).lost + length (frames_in (group_at (gathered seat class kept (item ∷ [])) class))
+    ≤ length kept.lost + length (frames_in (group_at kept class)) + length (frame_in item.frame)
 gathered_lost seat class kept item within =
     let g : Geometry = seat.config.geometry in
     let sg : Bool = seat.config.sg in

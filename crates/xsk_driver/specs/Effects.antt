@@ -2,6 +2,7 @@
 use Rattle.std.specs.Prelude.{◌≡◌, ℕ, ◌==◌, ◌||◌, ◌⊎◌, true, nat_lt, nat_le, if◌then◌else◌, Option, Some, None, List, [], ◌∷◌, ◌++◌, length, map, take, drop}
 use Rattle.std.specs.List.{slice_index_or}
 use Rattle.xsk_model.specs.Config.{map_of}
+use Rattle.xsk_model.specs.Packets.{bytes_of}
 use Rattle.xsk_model.specs.declared.call.Ring.TheVariants.{Fill, Comp, Rx, Tx}
 use Rattle.xsk_model.specs.declared.call.Call.{Call}
 use Rattle.xsk_model.specs.declared.call.Call.TheVariants.{Submit, Release}
@@ -41,6 +42,11 @@ kept_after seat (ReserveComp class) kept Granted = record kept { finished = drop
 kept_after seat (PeekTx class) kept (Items items) = gathered seat class kept items
 kept_after seat LookTxDone kept (Old number) = record kept { tx_done = kept.tx_done || number == 1 }
 kept_after seat wait kept reply = kept
+
+-- the packets that were sent: one more is completed once there are places for its frames
+abbrev pub sent_after : Seat → Wait → Kept → Reply → List (List ℕ) → List (List ℕ)
+sent_after seat (ReserveComp class) kept Granted packets = packets ++ bytes_of seat.config.geometry seat.config.sg (slice_index_or kept.finished 0 []) ∷ []
+sent_after seat wait kept reply packets = packets
 
 -- the call that a reply forces: what was granted is submitted, and what was peeked is released
 abbrev pub forced : Seat → Wait → Kept → Reply → Option Call

@@ -1,12 +1,15 @@
 -- What each step of the driver's machine keeps and gives.
-use Rattle.std.specs.Prelude.{◌≡◌, ◌+◌, Option, Some, length}
+use Rattle.std.specs.Prelude.{◌≡◌, ℕ, ◌+◌, Option, Some, List, length}
 use Rattle.xsk_model.specs.Expected.{expected_by}
 use Rattle.xsk_model.specs.declared.call.Call.{Call}
 use Rattle.xsk_model.specs.declared.call.Reply.{Reply}
 use Rattle.xsk_model.specs.declared.call.Act.{Act}
 use Rattle.xsk_driver.specs.Turns.{Seat, Kept, receive}
 use Rattle.xsk_driver.specs.Stands.{seat_in, kept_in, noted_in, left, IsReady, HasRoom, GoesOn}
-use Rattle.xsk_driver.specs.Effects.{KeepsOrSkips, IsFree, Steps, skipped}
+use Rattle.xsk_driver.specs.Effects.{KeepsOrSkips, IsFree, Steps, skipped, sent_after}
+use Rattle.xsk_driver.specs.Counters.{counters_after}
+use Rattle.xsk_driver.specs.Sent.{Sends}
+use Rattle.xsk_driver.specs.Sendings.{sent_in}
 use Rattle.xsk_driver.specs.Waits.{expects}
 use Rattle.xsk_driver.specs.declared.machine.Machine.{Machine}
 use Rattle.xsk_driver.specs.declared.machine.Wait.{Wait}
@@ -41,6 +44,11 @@ pub record Frees (seat : Seat) (kept : Kept) (now : Machine) : Type 0 where
   pub keeps : KeepsOrSkips seat kept (kept_in now)
   pub free : IsFree now.wait
 
+-- the packets that were sent and the counters stay as they are
+pub record LeavesTallies (old new : Machine) : Type 0 where
+  pub sending : new.sending ≡ old.sending
+  pub counters : new.counters ≡ old.counters
+
 -- it goes on from a waiting point by a reply, where it stood there and had room for the reply
 abbrev pub GoesFrom : Machine → Machine → Wait → Option Reply → Act → Type 0
 GoesFrom old new wait reply act =
@@ -51,3 +59,13 @@ abbrev pub StepsFrom : Machine → Machine → Wait → Option Reply → Act →
 StepsFrom old new wait reply act =
     (r : Reply) → reply ≡ Some r → IsReady (seat_in old) wait (kept_in old) → HasRoom (seat_in old) wait (kept_in old) r
     → Steps (seat_in old) wait (kept_in old) r new.wait (kept_in new) act
+
+abbrev pub SendsFrom : Machine → Machine → Wait → Option Reply → Type 0
+SendsFrom old new wait reply =
+    (r : Reply) → reply ≡ Some r → IsReady (seat_in old) wait (kept_in old)
+    → (packets : List (List ℕ)) → Sends (sent_in old) packets → Sends (sent_in new) (sent_after (seat_in old) wait (kept_in old) r packets)
+
+abbrev pub CountsFrom : Machine → Machine → Wait → Option Reply → Type 0
+CountsFrom old new wait reply =
+    (r : Reply) → reply ≡ Some r → IsReady (seat_in old) wait (kept_in old) → HasRoom (seat_in old) wait (kept_in old) r
+    → new.counters ≡ counters_after (seat_in old) wait (kept_in old) r old.counters

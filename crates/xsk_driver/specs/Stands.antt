@@ -106,7 +106,7 @@ pub record IsHere (seat : Seat) (socket : ℕ) : Type 0 where
 
 abbrev pub IsReady : Seat → Wait → Kept → Type 0
 IsReady seat Start kept = ⊥
-IsReady seat TellRxDone kept = Unit {0}
+IsReady seat TellRxDone kept = kept.coming ≡ []
 IsReady seat LookCell kept = IsTrying kept
 IsReady seat (PeekFill socket) kept = IsFitting seat kept × IsHere seat socket
 IsReady seat (ReleaseFill socket) kept = IsFitting seat kept × IsHere seat socket
@@ -116,8 +116,8 @@ IsReady seat (ReserveComp class) kept = IsCompleting seat kept class
 IsReady seat (SubmitComp class) kept = class ≤ seat.classes
 IsReady seat (PeekTx class) kept = IsVisiting seat kept class
 IsReady seat (ReleaseTx class) kept = class ≤ seat.classes
-IsReady seat LookTxDone kept = Unit {0}
-IsReady seat TellGone kept = Unit {0}
+IsReady seat LookTxDone kept = kept.rx_done ≡ true
+IsReady seat TellGone kept = kept.tx_done ≡ true
 IsReady seat Ended kept = ⊥
 
 -- the call that was given, by the waiting point behind it
@@ -138,18 +138,15 @@ IsGiven seat LookTxDone kept call = call ≡ Look (TxDone (application_of seat))
 IsGiven seat TellGone kept call = call ≡ Swap (Gone seat.pair) 1
 IsGiven seat Ended kept call = ⊥
 
--- a frame of a whole chunk
+-- there is room for the items that a Peek on FILL gave, and their frames are whole; so there is for the frames that a Peek
+-- on TX gave, should all be lost with those of the class's packet that isn't at its end
 abbrev pub IsWholeIn : Seat → Frame → Type 0
 IsWholeIn seat frame = length frame.bytes ≡ seat.config.geometry.chunk
 
--- there is room among the spare frames for the items that a Peek on FILL gave, and their frames are whole
 pub record HasRoomFor (seat : Seat) (kept : Kept) (items : List Item) : Type 0 where
   pub room : length kept.spare + length items ≤ 32
   pub frames : All (IsWholeIn seat) (frames_in items)
 
--- So where the Peek gave items. Those of TX have room among the lost frames, should all be lost with those of the class's
--- packet that isn't at its end. An item on TX has no frame where its address lies outside the UMEM, so there can be more
--- items than frames.
 abbrev pub HasRoom : Seat → Wait → Kept → Reply → Type 0
 HasRoom seat (PeekFill socket) kept (Items items) = HasRoomFor seat kept items
 HasRoom seat (PeekTx class) kept (Items items) = length kept.lost + length (frames_in (group_at kept class)) + length (frames_in items) ≤ seat.config.geometry.frames

@@ -1,3 +1,5 @@
+ghost use Rattle.std.specs.Prelude.{◌≡◌};
+
 /// What became of a packet of a port's input.
 #[derive(Clone, Copy, Debug, PartialEq, Eq)]
 pub enum Disposal {
@@ -31,10 +33,36 @@ pub struct DriverCounters {
 }
 
 impl DriverCounters {
-    /// Raises the counter of a class in one of the arrays. A counter stays at its last value.
-    pub(crate) fn raise(counters: &mut [u64; 4], class: u32, by: u32) {
-        if let Some(counter) = counters.get_mut(class as usize) {
-            *counter = counter.saturating_add(u64::from(by));
+    ghost use Rattle.xsk_driver.specs.Counters.{no_counters, raised, raised_at};
+
+    /// All counters at 0.
+    pub(crate) fn zero() -> DriverCounters
+        ensures { result ≡ no_counters }
+    {
+        DriverCounters {
+            rx_dropped: 0,
+            rx_invalid_descs: 0,
+            rx_fill_ring_empty_descs: 0,
+            rx_ring_full: [0; 4],
+            tx_invalid_descs: [0; 4],
+            tx_ring_empty_descs: [0; 4],
+        }
+    }
+
+    /// Raises a counter, which stays at its last value.
+    pub(crate) fn raise(counter: &mut u64, by: u32)
+        ensures { counter.new ≡ raised counter.old by }
+    {
+        *counter = counter.saturating_add(u64::from(by));
+    }
+
+    /// Raises the counter of a class in one of the arrays.
+    pub(crate) fn raise_class(counters: &mut [u64; 4], class: u32, by: u32)
+        ensures { counters.new ≡ raised_at counters.old class by }
+    {
+        let class = class as usize;
+        if class < counters.len() {
+            counters[class] = counters[class].saturating_add(u64::from(by));
         }
     }
 }

@@ -32,6 +32,7 @@ impl<'a> Model for Driver<'a> {
     ghost Value = { Shown };
 
     ghost use Rattle.xsk_driver.specs.Stands.{seat_in, noted_in, kept_in};
+    ghost use Rattle.xsk_driver.specs.Sendings.{sent_in};
 
     ghost view = { λ d. record {
       expected = expects d.machine.wait;
@@ -41,11 +42,13 @@ impl<'a> Model for Driver<'a> {
       wait = d.machine.wait;
       noted = noted_in d.machine;
       kept = kept_in d.machine;
+      sent = sent_in d.machine;
+      counters = d.machine.counters;
     } };
 }
 
 impl<'a> Driver<'a> {
-    ghost use Rattle.xsk_driver.specs.Runs.{IsNew, Stands, StandsWith};
+    ghost use Rattle.xsk_driver.specs.Runs.{IsNew, Stands, StandsWith, Tells};
     ghost use Rattle.xsk_driver.specs.Inputs.{numbers_from, packets_of_queue};
     ghost use Rattle.xsk_model.specs.Config.{pair_at};
 
@@ -65,6 +68,7 @@ impl<'a> Driver<'a> {
         ensures expected { IfOk result (λ d. d.expected ≡ nothing) }
         ensures most_packets { IfOk result (λ d. d.most_packets ≡ sent_packets) }
         ensures most_bytes { IfOk result (λ d. d.most_bytes ≡ sent_bytes) }
+        ensures sent_room { IfOk result (λ d. (d.sent.most_packets ≡ sent_packets) × (d.sent.most_bytes ≡ sent_bytes)) }
         ensures is_new { slice_index_or inputs.now pair [] ≡ numbers_from config.now.queues (pair_at config.now.pairs pair).queue 0 packets.now.packets
             → IfOk result (IsNew config.now pair (packets_of_queue config.now.queues (pair_at config.now.pairs pair).queue packets.now.packets)) }
     {
@@ -90,7 +94,7 @@ impl<'a> Driver<'a> {
             turn: Turn::default(),
             wait: Wait::Start,
             sending: Sending::new(alloc, sent_packets, sent_bytes)?,
-            counters: DriverCounters::default(),
+            counters: DriverCounters::zero(),
             alloc,
         };
         Ok(Driver { machine })
@@ -103,15 +107,22 @@ impl<'a> Driver<'a> {
         ensures expected { self.new.expected ≡ expected_of result }
         ensures most_packets { self.new.most_packets ≡ self.old.most_packets }
         ensures most_bytes { self.new.most_bytes ≡ self.old.most_bytes }
+        ensures sent_room { (self.new.sent.most_packets ≡ self.old.sent.most_packets) × (self.new.sent.most_bytes ≡ self.old.sent.most_bytes) }
 
         // The driver of these packets stands for a run of its turns, and goes on with each reply that fits the call. Each
         // call that it gives is legal after those before it and their replies, and the frames that it keeps, with those of
-        // the call, are those that it peeked and didn't submit. So they are at its end, and the run is whole there.
+        // the call, are those that it peeked and didn't submit. Its disposals are those that its attempts leave, the call
+        // counted as made. So it is at its end, and the run is whole there.
         ensures begins { (c : AConfig) (pair : ℕ) (input : List (List ℕ)) → IsNew c pair input self.old → reply ≡ None
             → StandsWith c pair input self.new result [] }
+        ensures tells_first { (c : AConfig) (pair : ℕ) (input : List (List ℕ)) → IsNew c pair input self.old → reply ≡ None
+            → Tells c pair self.new result [] }
         ensures goes_on { (c : AConfig) (pair : ℕ) (input : List (List ℕ)) (l : List Told) (call : ACall) (r : AReply)
             → Stands c pair input self.old call l → reply ≡ Some r → Fits c l call r
             → StandsWith c pair input self.new result (l ++ (record { call = call; reply = r }) ∷ []) }
+        ensures tells { (c : AConfig) (pair : ℕ) (input : List (List ℕ)) (l : List Told) (call : ACall) (r : AReply)
+            → Stands c pair input self.old call l → reply ≡ Some r → Fits c l call r
+            → Tells c pair self.new result (l ++ (record { call = call; reply = r }) ∷ []) }
     {
         self.machine.next(reply)
     }
@@ -124,7 +135,9 @@ impl<'a> Driver<'a> {
     }
 
     /// The counters so far.
-    pub fn counters(&self) -> DriverCounters {
+    pub fn counters(&self) -> DriverCounters
+        ensures { result ≡ self.now.counters }
+    {
         self.machine.counters
     }
 
@@ -137,6 +150,7 @@ impl<'a> Driver<'a> {
 
     /// The packets that were sent, in order, while it hasn't overrun.
     pub fn sent(&self) -> &PacketList
+        ensures value { result.now.packets ≡ self.now.sent.packets }
         ensures few { length result.now.packets ≤ self.now.most_packets }
         ensures small { length (concat result.now.packets) ≤ self.now.most_bytes }
         ensures short { All IsShort result.now.packets }
@@ -145,12 +159,15 @@ impl<'a> Driver<'a> {
     }
 
     /// Whether more packets or bytes were sent than there was room for.
-    pub fn overrun(&self) -> bool {
+    pub fn overrun(&self) -> bool
+        ensures { result ≡ self.now.sent.overrun }
+    {
         self.machine.sending.overrun()
     }
 
     /// The packets that were sent. All else is dropped.
     pub fn into_sent(self) -> PacketList
+        ensures value { result.packets ≡ self.entry.sent.packets }
         ensures few { length result.packets ≤ self.entry.most_packets }
         ensures small { length (concat result.packets) ≤ self.entry.most_bytes }
         ensures short { All IsShort result.packets }

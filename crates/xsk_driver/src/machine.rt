@@ -1,4 +1,4 @@
-ghost use Rattle.std.specs.Prelude.{◌≡◌, ◌+◌, ◌*◌, ◌<◌, ◌≤◌, ◌||◌, ◌++◌, ◌∷◌, [], All, IfSome, MatchOption, None, true, length, take, drop, vec_capacity};
+ghost use Rattle.std.specs.Prelude.{◌≡◌, ◌+◌, ◌*◌, ◌%◌, ◌<◌, ◌≤◌, ◌||◌, ◌++◌, ◌∷◌, [], All, IfSome, MatchOption, None, true, length, take, drop, vec_capacity};
 ghost use Rattle.std.specs.VecDeque.{deque_capacity};
 ghost use Rattle.xsk_umem.specs.Geometry.{payload_of as payload_of_geometry};
 ghost use Rattle.xsk_driver.specs.Turns.{laid_out as laid_out_in};
@@ -101,7 +101,8 @@ pub(crate) struct Machine<'a> {
 
 impl<'a> Machine<'a> {
     ghost use Rattle.xsk_driver.specs.Waits.{expects};
-    ghost use Rattle.xsk_driver.specs.Gives.{Gives, KeepsLimits, KeepsRooms, Skips, Frees, GoesFrom, StepsFrom};
+    ghost use Rattle.xsk_driver.specs.Gives.{Gives, KeepsLimits, KeepsRooms, Skips, Frees, GoesFrom, StepsFrom, SendsFrom, CountsFrom, LeavesTallies};
+    ghost use Rattle.xsk_driver.specs.Counters.{raised, raised_at, no_frame, frameless, with_frameless, counted_aim};
     ghost use Rattle.xsk_driver.specs.Effects.{StepsFirst, aimed};
     ghost use Rattle.xsk_driver.specs.Steering.{class_of};
     ghost use Rattle.xsk_driver.specs.Turns.{moved, stopped, settled, cell_of as cell_of_packet, redirect_to, limit_of, pieces_of, frame_in, frames_in, transmit as transmit_script, deliver as deliver_script, reserve as reserve_script, go_on as go_on_script, take_spare as take_spare_script, find_spare as find_spare_script, direct, receive, turn};
@@ -121,6 +122,10 @@ impl<'a> Machine<'a> {
         ensures goes { GoesFrom self.old self.new self.old.wait reply result }
         ensures steps_first { reply ≡ None → StepsFirst (seat_in self.old) (kept_in self.old) self.new.wait (kept_in self.new) result }
         ensures steps { StepsFrom self.old self.new self.old.wait reply result }
+        ensures sends_first { reply ≡ None → self.new.sending ≡ self.old.sending }
+        ensures sends { SendsFrom self.old self.new self.old.wait reply }
+        ensures counts_first { reply ≡ None → self.new.counters ≡ self.old.counters }
+        ensures counts { CountsFrom self.old self.new self.old.wait reply }
     {
         match self.wait {
             Wait::Start => Act::Call(self.begin()),
@@ -154,6 +159,7 @@ impl<'a> Machine<'a> {
         ensures gives { Gives self.old self.new result }
         ensures goes { Goes (seat_in self.old) self.new result (transmit_script (seat_in self.old) (moved (noted_in self.old)) (record (kept_in self.old) { rx_done = true })) }
         ensures frees { Frees (seat_in self.old) (record (kept_in self.old) { rx_done = true }) self.new }
+        ensures tallies { LeavesTallies self.old self.new }
     {
         self.rx_done = true;
         self.turn.progress = true;
@@ -167,6 +173,8 @@ impl<'a> Machine<'a> {
         ensures gives { Gives self.old self.new result }
         ensures goes { GoesFrom self.old self.new (PeekFill socket) reply (Act.Call result) }
         ensures steps { StepsFrom self.old self.new (PeekFill socket) reply (Act.Call result) }
+        ensures sending { self.new.sending ≡ self.old.sending }
+        ensures counts { CountsFrom self.old self.new (PeekFill socket) reply }
     {
         match reply {
             Some(Reply::Items(items)) => self.take_spare(socket, items),
@@ -182,6 +190,8 @@ impl<'a> Machine<'a> {
         ensures gives { Gives self.old self.new result }
         ensures goes { GoesFrom self.old self.new (ReserveRx socket) reply (Act.Call result) }
         ensures steps { StepsFrom self.old self.new (ReserveRx socket) reply (Act.Call result) }
+        ensures sending { self.new.sending ≡ self.old.sending }
+        ensures counts { CountsFrom self.old self.new (ReserveRx socket) reply }
     {
         match reply {
             Some(Reply::Granted) => self.deliver(socket),
@@ -195,6 +205,7 @@ impl<'a> Machine<'a> {
         ensures gives { Gives self.old self.new result }
         ensures goes { IsTrying (kept_in self.old) → Goes (seat_in self.old) self.new result (transmit_script (seat_in self.old) (moved (noted_in self.old)) (settled (kept_in self.old) (Delivered socket))) }
         ensures frees { IsTrying (kept_in self.old) → Frees (seat_in self.old) (settled (kept_in self.old) (Delivered socket)) self.new }
+        ensures tallies { LeavesTallies self.old self.new }
     {
         self.settle(Disposal::Delivered(socket));
         self.transmit()
@@ -205,6 +216,7 @@ impl<'a> Machine<'a> {
         ensures gives { Gives self.old self.new result }
         ensures goes { Goes (seat_in self.old) self.new result (again (kept_in self.old)) }
         ensures frees { Frees (seat_in self.old) (kept_in self.old) self.new }
+        ensures tallies { LeavesTallies self.old self.new }
     {
         self.turn = Turn::default();
         for _ in self.disposals.len()..self.numbers.len() {
@@ -227,6 +239,7 @@ impl<'a> Machine<'a> {
     fn cell_to_try(&mut self) -> Option<u32>
         ensures limits { KeepsLimits self.old self.new }
         ensures tried { 1 ≤ length (kept_in self.old).coming → MatchOption result (Skips self.old self.new) (IsTried self.old self.new) }
+        ensures tallies { LeavesTallies self.old self.new }
     {
         let packet = self.current()?;
         if packet.len() < LEAST_BYTES {
@@ -254,6 +267,7 @@ impl<'a> Machine<'a> {
         ensures wait { self.new.wait ≡ self.old.wait }
         ensures limits { KeepsLimits self.old self.new }
         ensures leaves { 1 ≤ length (kept_in self.old).coming → Leaves self.old self.new (moved (noted_in self.old)) (settled (kept_in self.old) disposal) }
+        ensures tallies { LeavesTallies self.old self.new }
     {
         self.turn.progress = true;
         if self.disposals.len() == self.numbers.len() {
@@ -262,11 +276,24 @@ impl<'a> Machine<'a> {
         self.disposals.push_reserved(disposal);
     }
 
+    /// Notes that the packet that came next was dropped, and counts it.
+    fn drop_packet(&mut self, disposal: Disposal)
+        ensures wait { self.new.wait ≡ self.old.wait }
+        ensures limits { KeepsLimits self.old self.new }
+        ensures leaves { 1 ≤ length (kept_in self.old).coming → Leaves self.old self.new (moved (noted_in self.old)) (settled (kept_in self.old) disposal) }
+        ensures sending { self.new.sending ≡ self.old.sending }
+        ensures counters { self.new.counters ≡ record self.old.counters { rx_dropped = raised self.old.counters.rx_dropped 1 } }
+    {
+        DriverCounters::raise(&mut self.counters.rx_dropped, 1);
+        self.settle(disposal);
+    }
+
     fn look_at(&mut self, cell: u32) -> Call
         ensures gives { Gives self.old self.new result }
         ensures goes { cell ≡ cell_of_packet (seat_in self.old) (first (kept_in self.old)) → cell < length (map_of self.old.config.now self.old.port) → IsTrying (kept_in self.old)
             → Goes (seat_in self.old) self.new result (receive (seat_in self.old) (kept_in self.old).coming (noted_in self.old) (kept_in self.old)) }
         ensures frees { Frees (seat_in self.old) (kept_in self.old) self.new }
+        ensures tallies { LeavesTallies self.old self.new }
     {
         self.wait = Wait::LookCell;
         Call::Look(Mark::Cell(self.port, cell))
@@ -277,6 +304,7 @@ impl<'a> Machine<'a> {
         ensures gives { Gives self.old self.new result }
         ensures goes { (kept_in self.old).coming ≡ [] → Goes (seat_in self.old) self.new result (receive (seat_in self.old) [] (noted_in self.old) (kept_in self.old)) }
         ensures frees { Frees (seat_in self.old) (kept_in self.old) self.new }
+        ensures tallies { LeavesTallies self.old self.new }
     {
         if self.rx_done {
             return self.transmit();
@@ -290,6 +318,8 @@ impl<'a> Machine<'a> {
         ensures gives { Gives self.old self.new result }
         ensures goes { IsTrying (kept_in self.old) → Goes (seat_in self.old) self.new result (direct (seat_in self.old) (first (kept_in self.old)) (noted_in self.old) (kept_in self.old) (redirect_to self.old.config.now self.old.port self.old.queue cell)) }
         ensures frees { IsTrying (kept_in self.old) → Frees (seat_in self.old) (aimed (seat_in self.old) (kept_in self.old) (redirect_to self.old.config.now self.old.port self.old.queue cell)) self.new }
+        ensures sending { self.new.sending ≡ self.old.sending }
+        ensures counters { IsTrying (kept_in self.old) → self.new.counters ≡ counted_aim (seat_in self.old) (kept_in self.old) (redirect_to self.old.config.now self.old.port self.old.queue cell) self.old.counters }
     {
         let Some(socket) = redirect(cell, self.config, self.port, self.queue) else {
             self.settle(Disposal::Missed);
@@ -298,7 +328,7 @@ impl<'a> Machine<'a> {
         match self.pieces() {
             Some(pieces) => self.find_spare(socket, pieces),
             None => {
-                self.settle(Disposal::TooLong);
+                self.drop_packet(Disposal::TooLong);
                 self.transmit()
             }
         }
@@ -338,6 +368,7 @@ impl<'a> Machine<'a> {
         ensures goes { pieces ≡ pieces_of (seat_in self.old) (first (kept_in self.old)) → IsFitting (seat_in self.old) (kept_in self.old) → IsHere (seat_in self.old) socket
             → Goes (seat_in self.old) self.new result (find_spare_script (seat_in self.old) (first (kept_in self.old)) socket (noted_in self.old) (kept_in self.old)) }
         ensures frees { Frees (seat_in self.old) (kept_in self.old) self.new }
+        ensures tallies { LeavesTallies self.old self.new }
     {
         let spare = self.spare.len();
         if spare >= pieces as usize {
@@ -352,6 +383,7 @@ impl<'a> Machine<'a> {
         ensures goes { pieces ≡ pieces_of (seat_in self.old) (first (kept_in self.old)) → IsSupplied (seat_in self.old) (kept_in self.old) → IsHere (seat_in self.old) socket
             → Goes (seat_in self.old) self.new result (reserve_script (seat_in self.old) (first (kept_in self.old)) socket (noted_in self.old) (kept_in self.old)) }
         ensures frees { Frees (seat_in self.old) (kept_in self.old) self.new }
+        ensures tallies { LeavesTallies self.old self.new }
     {
         self.wait = Wait::ReserveRx { socket };
         Call::Reserve(Ring::Rx(socket), pieces)
@@ -363,6 +395,8 @@ impl<'a> Machine<'a> {
         ensures goes { IsFitting (seat_in self.old) (kept_in self.old) → IsHere (seat_in self.old) socket → HasRoomFor (seat_in self.old) (kept_in self.old) items
             → Goes (seat_in self.old) self.new result (take_spare_script (seat_in self.old) (first (kept_in self.old)) socket (noted_in self.old) (kept_in self.old) items) }
         ensures keeps { HasRoomFor (seat_in self.old) (kept_in self.old) items → kept_in self.new ≡ record (kept_in self.old) { spare = (kept_in self.old).spare ++ frames_in items } }
+        ensures sending { self.new.sending ≡ self.old.sending }
+        ensures counters { self.new.counters ≡ with_frameless self.old.counters (frameless items) }
     {
         let count = items.len();
         let mut items = items;
@@ -378,6 +412,8 @@ impl<'a> Machine<'a> {
         ensures limits { KeepsLimits self.old self.new }
         ensures leaves { length (kept_in self.old).spare < 32 → All (IsWholeIn (seat_in self.old)) (frame_in item.frame)
             → Leaves self.old self.new (noted_in self.old) (record (kept_in self.old) { spare = (kept_in self.old).spare ++ frame_in item.frame }) }
+        ensures sending { self.new.sending ≡ self.old.sending }
+        ensures counters { self.new.counters ≡ with_frameless self.old.counters (no_frame item.frame) }
     {
         match item.frame {
             Some(frame) => self.keep_spare(frame),
@@ -388,14 +424,16 @@ impl<'a> Machine<'a> {
     fn note_no_frame(&mut self)
         ensures limits { KeepsLimits self.old self.new }
         ensures leaves { Leaves self.old self.new (noted_in self.old) (kept_in self.old) }
+        ensures sending { self.new.sending ≡ self.old.sending }
+        ensures counters { self.new.counters ≡ with_frameless self.old.counters 1 }
     {
-        let invalid = &mut self.counters.rx_invalid_descs;
-        *invalid = invalid.saturating_add(1);
+        DriverCounters::raise(&mut self.counters.rx_invalid_descs, 1);
     }
 
     fn keep_spare(&mut self, frame: Frame)
         ensures limits { KeepsLimits self.old self.new }
         ensures leaves { length (kept_in self.old).spare < 32 → IsWholeIn (seat_in self.old) frame → Leaves self.old self.new (noted_in self.old) (record (kept_in self.old) { spare = (kept_in self.old).spare ++ frame ∷ [] }) }
+        ensures tallies { LeavesTallies self.old self.new }
     {
         let whole = frame.bytes().len() == self.config.geometry().chunk() as usize;
         if !whole || self.spare.len() >= MOST_SPARE {
@@ -408,9 +446,10 @@ impl<'a> Machine<'a> {
         ensures gives { Gives self.old self.new result }
         ensures goes { Goes (seat_in self.old) self.new result (transmit_script (seat_in self.old) (noted_in self.old) (kept_in self.old)) }
         ensures frees { Frees (seat_in self.old) (kept_in self.old) self.new }
+        ensures sending { self.new.sending ≡ self.old.sending }
+        ensures counters { self.new.counters ≡ record self.old.counters { rx_fill_ring_empty_descs = raised self.old.counters.rx_fill_ring_empty_descs 1 } }
     {
-        let empty = &mut self.counters.rx_fill_ring_empty_descs;
-        *empty = empty.saturating_add(1);
+        DriverCounters::raise(&mut self.counters.rx_fill_ring_empty_descs, 1);
         self.transmit()
     }
 
@@ -420,6 +459,7 @@ impl<'a> Machine<'a> {
         ensures goes { IsFitting (seat_in self.old) (kept_in self.old) → IsHere (seat_in self.old) socket
             → Goes (seat_in self.old) self.new result (go_on_script (seat_in self.old) (first (kept_in self.old)) socket (noted_in self.old) (kept_in self.old)) }
         ensures frees { Frees (seat_in self.old) (kept_in self.old) self.new }
+        ensures tallies { LeavesTallies self.old self.new }
     {
         match self.pieces() {
             Some(pieces) if self.spare.len() >= pieces as usize => self.reserve_rx(socket, pieces),
@@ -431,9 +471,11 @@ impl<'a> Machine<'a> {
         ensures gives { Gives self.old self.new result }
         ensures goes { Goes (seat_in self.old) self.new result (transmit_script (seat_in self.old) (stopped (noted_in self.old)) (kept_in self.old)) }
         ensures frees { Frees (seat_in self.old) (kept_in self.old) self.new }
+        ensures sending { self.new.sending ≡ self.old.sending }
+        ensures counters { self.new.counters ≡ record self.old.counters { rx_ring_full = raised_at self.old.counters.rx_ring_full (socket % self.old.classes) 1 } }
     {
         let class = socket % self.classes;
-        DriverCounters::raise(&mut self.counters.rx_ring_full, class, 1);
+        DriverCounters::raise_class(&mut self.counters.rx_ring_full, class, 1);
         self.turn.full = true;
         self.transmit()
     }
@@ -444,6 +486,7 @@ impl<'a> Machine<'a> {
         ensures goes { IsSupplied (seat_in self.old) (kept_in self.old) → IsHere (seat_in self.old) socket
             → Goes (seat_in self.old) self.new result (deliver_script (seat_in self.old) (first (kept_in self.old)) socket (moved (noted_in self.old)) (kept_in self.old)) }
         ensures keeps { IsSupplied (seat_in self.old) (kept_in self.old) → kept_in self.new ≡ record (kept_in self.old) { spare = drop (pieces_of (seat_in self.old) (first (kept_in self.old))) (kept_in self.old).spare } }
+        ensures tallies { LeavesTallies self.old self.new }
     {
         self.turn.progress = true;
         self.wait = Wait::SubmitRx { socket };
@@ -458,6 +501,7 @@ impl<'a> Machine<'a> {
             → Leaves self.old self.new (noted_in self.old) (record (kept_in self.old) { spare = drop (pieces_of (seat_in self.old) (first (kept_in self.old))) (kept_in self.old).spare }) }
         ensures items { IsSupplied (seat_in self.old) (kept_in self.old)
             → result ≡ laid_out_in self.old.config.now.geometry (first (kept_in self.old)) (take (pieces_of (seat_in self.old) (first (kept_in self.old))) (kept_in self.old).spare) }
+        ensures tallies { LeavesTallies self.old self.new }
     {
         let Some(packet) = self.current() else {
             return Batch::new(self.alloc);

@@ -1,4 +1,4 @@
-ghost use Rattle.std.specs.Prelude.{◌≡◌, ◌+◌, ◌<◌, ◌≤◌, ◌==◌, ◌||◌, ◌++◌, ◌∷◌, [], length, map, drop};
+ghost use Rattle.std.specs.Prelude.{◌≡◌, ℕ, List, ◌+◌, ◌<◌, ◌≤◌, ◌==◌, ◌||◌, ◌++◌, ◌∷◌, [], length, map, drop};
 ghost use Rattle.std.specs.List.{slice_index_or};
 ghost use Rattle.xsk_model.specs.Expected.{CanCome, place, item};
 
@@ -10,7 +10,11 @@ use xsk_umem::{Batch, Item, XdpDesc};
 
 /// The machine's sending: it completes what is finished, takes what stands on TX, and looks for its end.
 impl<'a> Machine<'a> {
-    ghost use Rattle.xsk_driver.specs.Gives.{Gives, KeepsLimits, Frees, GoesFrom, StepsFrom};
+    ghost use Rattle.xsk_driver.specs.Gives.{Gives, KeepsLimits, Frees, GoesFrom, StepsFrom, SendsFrom, CountsFrom, LeavesTallies};
+    ghost use Rattle.xsk_driver.specs.Counters.{raised_at, with_bad};
+    ghost use Rattle.xsk_driver.specs.Sent.{Sends};
+    ghost use Rattle.xsk_driver.specs.Sendings.{sent_in};
+    ghost use Rattle.xsk_model.specs.Packets.{bytes_of, bad_items, packets_from};
     ghost use Rattle.xsk_driver.specs.Turns.{moved, stopped, returned, frame_in, frames_in, group_at, gathered, idle as idle_script, complete as complete_script, visit_from, transmit as transmit_script, socket_of as socket_in, application_of};
     ghost use Rattle.xsk_driver.specs.Stands.{seat_in, kept_in, noted_in, HasRoom, Goes, Leaves};
     ghost use Rattle.xsk_driver.specs.declared.machine.Wait.TheVariants.{ReserveComp, PeekTx};
@@ -24,6 +28,7 @@ impl<'a> Machine<'a> {
         ensures gives { Gives self.old self.new result }
         ensures goes { Goes (seat_in self.old) self.new result (transmit_script (seat_in self.old) (noted_in self.old) (kept_in self.old)) }
         ensures frees { Frees (seat_in self.old) (kept_in self.old) self.new }
+        ensures tallies { LeavesTallies self.old self.new }
     {
         match self.finished.front() {
             Some(packet) => {
@@ -41,6 +46,8 @@ impl<'a> Machine<'a> {
         ensures gives { Gives self.old self.new result }
         ensures goes { GoesFrom self.old self.new (ReserveComp class) reply (Act.Call result) }
         ensures steps { StepsFrom self.old self.new (ReserveComp class) reply (Act.Call result) }
+        ensures counters { self.new.counters ≡ self.old.counters }
+        ensures sends { SendsFrom self.old self.new (ReserveComp class) reply }
     {
         match reply {
             Some(Reply::Granted) => self.complete(class),
@@ -53,6 +60,7 @@ impl<'a> Machine<'a> {
         ensures gives { Gives self.old self.new result }
         ensures goes { Goes (seat_in self.old) self.new result (idle_script (seat_in self.old) (stopped (noted_in self.old)) (kept_in self.old)) }
         ensures frees { Frees (seat_in self.old) (kept_in self.old) self.new }
+        ensures tallies { LeavesTallies self.old self.new }
     {
         self.turn.full = true;
         self.idle()
@@ -65,6 +73,8 @@ impl<'a> Machine<'a> {
         ensures gives { Gives self.old self.new result }
         ensures goes { GoesFrom self.old self.new (PeekTx class) reply (Act.Call result) }
         ensures steps { StepsFrom self.old self.new (PeekTx class) reply (Act.Call result) }
+        ensures sending { self.new.sending ≡ self.old.sending }
+        ensures counts { CountsFrom self.old self.new (PeekTx class) reply }
     {
         match reply {
             Some(Reply::Items(items)) => self.take_tx(class, items),
@@ -78,6 +88,7 @@ impl<'a> Machine<'a> {
         ensures gives { Gives self.old self.new result }
         ensures goes { class ≤ self.old.classes → Goes (seat_in self.old) self.new result (complete_script (seat_in self.old) (kept_in self.old).finished (noted_in self.old) (kept_in self.old) (visit_from (seat_in self.old) class)) }
         ensures frees { Frees (seat_in self.old) (kept_in self.old) self.new }
+        ensures tallies { LeavesTallies self.old self.new }
     {
         match self.finished.front() {
             Some(packet) => {
@@ -93,6 +104,7 @@ impl<'a> Machine<'a> {
         ensures gives { Gives self.old self.new result }
         ensures goes { (kept_in self.old).finished ≡ [] → class ≤ self.old.classes → Goes (seat_in self.old) self.new result (visit_from (seat_in self.old) class (noted_in self.old) (kept_in self.old)) }
         ensures frees { Frees (seat_in self.old) (kept_in self.old) self.new }
+        ensures tallies { LeavesTallies self.old self.new }
     {
         if class < self.classes {
             self.peek_tx(class)
@@ -106,6 +118,7 @@ impl<'a> Machine<'a> {
         ensures goes { 1 ≤ length (kept_in self.old).finished → count ≡ length (slice_index_or (kept_in self.old).finished 0 []) → class ≤ self.old.classes
             → Goes (seat_in self.old) self.new result (complete_script (seat_in self.old) (kept_in self.old).finished (noted_in self.old) (kept_in self.old) (visit_from (seat_in self.old) class)) }
         ensures frees { Frees (seat_in self.old) (kept_in self.old) self.new }
+        ensures tallies { LeavesTallies self.old self.new }
     {
         self.wait = Wait::ReserveComp { class };
         Call::Reserve(Ring::Comp(self.pair), count)
@@ -115,6 +128,7 @@ impl<'a> Machine<'a> {
         ensures gives { Gives self.old self.new result }
         ensures goes { (kept_in self.old).finished ≡ [] → class < self.old.classes → Goes (seat_in self.old) self.new result (visit_from (seat_in self.old) class (noted_in self.old) (kept_in self.old)) }
         ensures frees { Frees (seat_in self.old) (kept_in self.old) self.new }
+        ensures tallies { LeavesTallies self.old self.new }
     {
         self.wait = Wait::PeekTx { class };
         Call::Peek(Ring::Tx(self.socket_of(class)), self.batch)
@@ -134,6 +148,9 @@ impl<'a> Machine<'a> {
             → Goes (seat_in self.old) self.new result (ask (Submit (Comp self.old.pair) (map returned (slice_index_or (kept_in self.old).finished 0 [])))
             (on_submitted (complete_script (seat_in self.old) (drop 1 (kept_in self.old).finished) (moved (noted_in self.old)) (record (kept_in self.old) { finished = drop 1 (kept_in self.old).finished }) (visit_from (seat_in self.old) class)))) }
         ensures keeps { 1 ≤ length (kept_in self.old).finished → kept_in self.new ≡ record (kept_in self.old) { finished = drop 1 (kept_in self.old).finished } }
+        ensures counters { self.new.counters ≡ self.old.counters }
+        ensures sends { 1 ≤ length (kept_in self.old).finished → (packets : List (List ℕ)) → Sends (sent_in self.old) packets
+            → Sends (sent_in self.new) (packets ++ bytes_of self.old.config.now.geometry self.old.config.now.sg (slice_index_or (kept_in self.old).finished 0 []) ∷ []) }
     {
         self.turn.progress = true;
         let items = match self.finished.pop_front() {
@@ -149,14 +166,14 @@ impl<'a> Machine<'a> {
         ensures limits { KeepsLimits self.old self.new }
         ensures leaves { Leaves self.old self.new (noted_in self.old) (kept_in self.old) }
         ensures items { result ≡ map returned packet }
+        ensures counters { self.new.counters ≡ self.old.counters }
+        ensures sends { (packets : List (List ℕ)) → Sends (sent_in self.old) packets
+            → Sends (sent_in self.new) (packets ++ bytes_of self.old.config.now.geometry self.old.config.now.sg packet ∷ []) }
     {
         let mut packet = packet;
         let mut items = Batch::new(self.alloc);
         self.sending.begin();
-        for _ in 0..packet.len() {
-            let Some(item) = packet.pop_front() else {
-                break;
-            };
+        while let Some(item) = packet.pop_front() {
             self.sending.extend(payload_of(&item, self.config.geometry(), self.config.sg()));
             items.push(Item {
                 frame: item.frame,
@@ -174,8 +191,10 @@ impl<'a> Machine<'a> {
         ensures gives { Gives self.old self.new result }
         ensures goes { (kept_in self.old).finished ≡ [] → class < self.old.classes → Goes (seat_in self.old) self.new result (visit_from (seat_in self.old) (class + 1) (noted_in self.old) (kept_in self.old)) }
         ensures frees { Frees (seat_in self.old) (kept_in self.old) self.new }
+        ensures sending { self.new.sending ≡ self.old.sending }
+        ensures counters { self.new.counters ≡ record self.old.counters { tx_ring_empty_descs = raised_at self.old.counters.tx_ring_empty_descs class 1 } }
     {
-        DriverCounters::raise(&mut self.counters.tx_ring_empty_descs, class, 1);
+        DriverCounters::raise_class(&mut self.counters.tx_ring_empty_descs, class, 1);
         self.visit(class.saturating_add(1))
     }
 
@@ -187,6 +206,9 @@ impl<'a> Machine<'a> {
             (on_released (complete_script (seat_in self.old) (gathered (seat_in self.old) class (kept_in self.old) items).finished (moved (noted_in self.old)) (gathered (seat_in self.old) class (kept_in self.old) items) (visit_from (seat_in self.old) (class + 1))))) }
         ensures keeps { (kept_in self.old).finished ≡ [] → class < self.old.classes → HasRoom (seat_in self.old) (PeekTx class) (kept_in self.old) (Items items)
             → kept_in self.new ≡ gathered (seat_in self.old) class (kept_in self.old) items }
+        ensures sending { self.new.sending ≡ self.old.sending }
+        ensures counters { (kept_in self.old).finished ≡ [] → class < self.old.classes → HasRoom (seat_in self.old) (PeekTx class) (kept_in self.old) (Items items)
+            → self.new.counters ≡ with_bad self.old.counters class (bad_items (packets_from self.old.config.now.geometry self.old.config.now.sg (group_at (kept_in self.old) class) items)) }
     {
         let count = items.len();
         let mut items = items;
@@ -204,6 +226,9 @@ impl<'a> Machine<'a> {
         ensures limits { KeepsLimits self.old self.new }
         ensures leaves { class < self.old.classes → length (kept_in self.old).finished < 128 → length (kept_in self.old).lost + length (frames_in (group_at (kept_in self.old) class)) + length (frame_in item.frame) ≤ self.old.config.now.geometry.frames
             → Leaves self.old self.new (noted_in self.old) (gathered (seat_in self.old) class (kept_in self.old) (item ∷ [])) }
+        ensures sending { self.new.sending ≡ self.old.sending }
+        ensures counters { class < self.old.classes
+            → self.new.counters ≡ with_bad self.old.counters class (bad_items (packets_from self.old.config.now.geometry self.old.config.now.sg (group_at (kept_in self.old) class) (item ∷ []))) }
     {
         let Some(gather) = self.gathers.get_mut(class as usize) else {
             return;
@@ -218,6 +243,7 @@ impl<'a> Machine<'a> {
     fn finish(&mut self, packet: Batch)
         ensures limits { KeepsLimits self.old self.new }
         ensures leaves { length (kept_in self.old).finished < 128 → Leaves self.old self.new (noted_in self.old) (record (kept_in self.old) { finished = (kept_in self.old).finished ++ packet ∷ [] }) }
+        ensures tallies { LeavesTallies self.old self.new }
     {
         if self.finished.len() < MOST_FINISHED {
             self.finished.push_back_reserved(packet);
@@ -229,8 +255,10 @@ impl<'a> Machine<'a> {
         ensures limits { KeepsLimits self.old self.new }
         ensures leaves { length (kept_in self.old).lost + length (frames_in items) ≤ self.old.config.now.geometry.frames
             → Leaves self.old self.new (noted_in self.old) (record (kept_in self.old) { lost = (kept_in self.old).lost ++ frames_in items }) }
+        ensures sending { self.new.sending ≡ self.old.sending }
+        ensures counters { self.new.counters ≡ with_bad self.old.counters class (length items) }
     {
-        DriverCounters::raise(&mut self.counters.tx_invalid_descs, class, items.len());
+        DriverCounters::raise_class(&mut self.counters.tx_invalid_descs, class, items.len());
         let mut items = items;
         while let Some(item) = items.pop_front() {
             self.lose_item(item);
@@ -241,6 +269,7 @@ impl<'a> Machine<'a> {
         ensures limits { KeepsLimits self.old self.new }
         ensures leaves { length (kept_in self.old).lost + length (frame_in item.frame) ≤ self.old.config.now.geometry.frames
             → Leaves self.old self.new (noted_in self.old) (record (kept_in self.old) { lost = (kept_in self.old).lost ++ frame_in item.frame }) }
+        ensures tallies { LeavesTallies self.old self.new }
     {
         if let Some(frame) = item.frame
             && self.lost.len() < self.lost.capacity()
@@ -254,6 +283,7 @@ impl<'a> Machine<'a> {
         ensures gives { Gives self.old self.new result }
         ensures goes { Goes (seat_in self.old) self.new result (idle_script (seat_in self.old) (noted_in self.old) (kept_in self.old)) }
         ensures frees { Frees (seat_in self.old) (kept_in self.old) self.new }
+        ensures tallies { LeavesTallies self.old self.new }
     {
         if self.turn.begins_anew() {
             self.begin()
@@ -279,6 +309,7 @@ impl<'a> Machine<'a> {
         ensures gives { Gives self.old self.new result }
         ensures goes { Goes (seat_in self.old) self.new result (again (record (kept_in self.old) { tx_done = (kept_in self.old).tx_done || done == 1 })) }
         ensures frees { Frees (seat_in self.old) (record (kept_in self.old) { tx_done = (kept_in self.old).tx_done || done == 1 }) self.new }
+        ensures tallies { LeavesTallies self.old self.new }
     {
         self.tx_done = is_told(self.tx_done, done);
         self.begin()

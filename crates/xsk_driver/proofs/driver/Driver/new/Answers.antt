@@ -3,6 +3,7 @@ use Rattle.std.specs.Prelude.{All, map}
 use Rattle.xsk_umem.specs.PacketList.{PacketList}
 use Rattle.xsk_driver.specs.Inputs.{numbers_from, packets_of_queue}
 use Rattle.xsk_driver.specs.Stands.{packet_at}
+use Rattle.xsk_driver.proofs.Counted.{counted_none}
 use Rattle.xsk_driver.proofs.InputsLemmas.{numbers_known, packets_by_number}
 use Rattle.xsk_model.specs.Config.{pair_at}
 use Rattle.xsk_model.specs.declared.config.PairInfo.{PairInfo}
@@ -28,4 +29,11 @@ returns-clause-is_new c is =
     let within : All (λ k. k < length list.packets) c.of_pair.result.now = subst (λ (ns : List ℕ). All (λ k. k < length list.packets) ns) (sym found) (numbers_known queues queue list.packets) in
     let coming : map (packet_at list) c.known-numbers.result.now ≡ packets_of_queue queues queue list.packets =
     ap (map (packet_at list)) (c.known-numbers.ensures.same within ∙ found) ∙ packets_by_number queues queue list in
-    record { one = record { config = c.pairs.ensures.lawful; regular = c.requires.regular; geometry = c.geometry.ensures.lawful; known = c.requires.pair }; seat = search rules; wait = refl; kept = rw (← coming) (search rules) }
+    record {
+      one = record { config = c.pairs.ensures.lawful; regular = c.requires.regular; geometry = c.geometry.ensures.lawful; known = c.requires.pair };
+      seat = search rules;
+      wait = refl;
+      kept = rw (← coming) (search rules);
+      sent = c.in_ok-new.ensures.sends;
+      counters = counted_none c.args.config.now c.args.pair c.zero.result c.zero.ensures;
+    }

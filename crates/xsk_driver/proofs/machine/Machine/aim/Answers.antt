@@ -12,8 +12,8 @@ returns-in-None-clause-goes c trying =
     let to = redirect_to m.config.now m.port m.queue c.args.cell in
     goes_by (seat_in m) c.transmit-in-None.new.self c.transmit-in-None.result (transmit (seat_in m) (moved (noted_in m)) (settled (kept_in m) TooLong)) (direct (seat_in m) (first (kept_in m)) (noted_in m) (kept_in m) to)
     (direct_long (seat_in m) (first (kept_in m)) (noted_in m) (kept_in m) c.in-Some.socket to c.in-Some.ensures (c.in-None.ensures.exact trying))
-    (goes_left m c.settle-in-None.new.self c.transmit-in-None.new.self c.transmit-in-None.result (moved (noted_in m)) (settled (kept_in m) TooLong)
-    (c.settle-in-None.ensures.leaves (trying_some (kept_in m).coming trying)) c.transmit-in-None.ensures.goes)
+    (goes_left m c.drop_packet.new.self c.transmit-in-None.new.self c.transmit-in-None.result (moved (noted_in m)) (settled (kept_in m) TooLong)
+    (c.drop_packet.ensures.leaves (trying_some (kept_in m).coming trying)) c.transmit-in-None.ensures.goes)
 
 pub returns-in_default-clause-goes : goal.returns-in_default-clause-goes
 returns-in_default-clause-goes c trying =

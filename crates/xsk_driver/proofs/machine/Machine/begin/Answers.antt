@@ -26,6 +26,7 @@ loop-preserved c =
       omega (arith, skips.one),
       subst (λ (s : Seat). receive s (kept_in c.cell_to_try.new.self).coming (noted_in c.cell_to_try.new.self) (kept_in c.cell_to_try.new.self) ≡ receive s (kept_in m).coming (noted_in m) (kept_in m)) before.seat skips.receives ∙ c.loop.invariant.2,
       subst (λ (s : Seat). skipped s (kept_in c.cell_to_try.new.self) ≡ skipped s (kept_in m)) before.seat skips.skips ∙ c.loop.invariant.3,
+      record { sending = c.in_default.ensures.tallies.sending ∙ c.loop.invariant.4.sending; counters = c.in_default.ensures.tallies.counters ∙ c.loop.invariant.4.counters },
     )
 
 pub returns-clause-goes : goal.returns-clause-goes
@@ -51,3 +52,15 @@ returns-clause-frees c =
     let same : length m.numbers.now ≡ length c.args.self.now.numbers.now = ap (λ (ns : List ℕ). length ns) c.loop.invariant.0.numbers in
     let none : (kept_in m).coming ≡ [] = none_coming m.packets.now m.numbers.now (length m.disposals.items) (omega arith) in
     frees_end (seat_in c.args.self.now) c.args.self.now m c.finish_input.new.self c.loop.invariant.3 c.loop.invariant.0.seat none c.finish_input.ensures.frees
+
+pub returns-in-Some-clause-tallies : goal.returns-in-Some-clause-tallies
+returns-in-Some-clause-tallies c = record {
+  sending = c.look_at.ensures.tallies.sending ∙ c.in-Some.ensures.tallies.sending ∙ c.loop.invariant.4.sending;
+  counters = c.look_at.ensures.tallies.counters ∙ c.in-Some.ensures.tallies.counters ∙ c.loop.invariant.4.counters;
+}
+
+pub returns-clause-tallies : goal.returns-clause-tallies
+returns-clause-tallies c = record {
+  sending = c.finish_input.ensures.tallies.sending ∙ c.loop.invariant.4.sending;
+  counters = c.finish_input.ensures.tallies.counters ∙ c.loop.invariant.4.counters;
+}
