@@ -1,0 +1,174 @@
+-- The packets that are delivered to a socket are those that are expected there: the two filters make the same tests.
+use Rattle.std.proofs.Common.{◌≡◌, ℕ, ◌+◌, ◌-◌, ◌<◌, ◌≤◌, Bool, true, false, cond, eqb, ltb, leb, not, ◌&&◌, Option, Some, None, List, [], ◌∷◌, length, map, All, refl, sym, ap, subst, ◌∙◌, ⊎_elim, arith}
+use Rattle.std.specs.Prelude.{slice_index}
+use Rattle.std.specs.List.{filter}
+use Rattle.std.proofs.lemmas.Bool.{cases_Bool, cases_eq, cases_lt, and_parts, eq-eqb, ne_eqb, lt-ltb, le-ltb, le-leb, lt-leb, leb-true, ltb-true}
+use Rattle.std.proofs.lemmas.List.Elements.{All-nil, All-cons}
+use Rattle.xsk_model.specs.Config.{Config, socket_at, classes_of, batch_of, map_of}
+use Rattle.xsk_driver.specs.Steering.{queue_of}
+use Rattle.xsk_driver.specs.Inputs.{packets_of_queue}
+use Rattle.xsk_driver.specs.Turns.{Seat, redirect_to, limit_of}
+use Rattle.xsk_driver.specs.Disposals.{disposal_to, disposal_in, is_to, delivered_to}
+use Rattle.xsk_driver.specs.declared.disposal.Disposal.{Disposal}
+use Rattle.xsk_driver.specs.declared.disposal.Disposal.TheVariants.{Delivered, TooLong, Runt, Missed}
+use Rattle.xsk_laws.specs.Expected.{limit_in, cell_on, socket_on, is_redirected}
+use Rattle.xsk_laws.specs.Forwarded.{with_disposal}
+
+-- ---- one packet, by plain tests
+
+-- whether an optional number is this one
+abbrev names : Option ℕ → ℕ → Bool
+names None s = false
+names (Some t) s = eqb t s
+
+abbrev goes_to : Bool → Option ℕ → Disposal
+goes_to long None = Missed
+goes_to long (Some t) = cond long TooLong (Delivered t)
+
+goes : (s : ℕ) (short missing long : Bool) (r : Option ℕ)
+    → is_to s (cond short Runt (cond missing Missed (goes_to long r))) ≡ (not short && (not long && (not missing && names r s)))
+goes s true missing long r = refl
+goes s false true true r = refl
+goes s false true false r = refl
+goes s false false true None = refl
+goes s false false false None = refl
+goes s false false true (Some t) = refl
+goes s false false false (Some t) = refl
+
+disposal_goes : (seat : Seat) (packet : List ℕ) (r : Option ℕ) → disposal_to seat packet r ≡ goes_to (ltb (limit_of seat) (length packet)) r
+disposal_goes seat packet None = refl
+disposal_goes seat packet (Some t) = refl
+
+leb_not : (m n : ℕ) → leb m n ≡ not (ltb n m)
+leb_not m n = ⊎_elim
+    (λ (h : n < m). lt-leb m n h ∙ ap not (sym (lt-ltb n m h)))
+    (λ (h : m ≤ n). le-leb m n h ∙ ap not (sym (le-ltb n m h)))
+    (cases_lt n m)
+
+ltb_not : (m n : ℕ) → ltb m n ≡ not (leb n m)
+ltb_not m n = ⊎_elim
+    (λ (h : m < n). lt-ltb m n h ∙ ap not (sym (lt-leb n m h)))
+    (λ (h : n ≤ m). le-ltb m n h ∙ ap not (sym (le-leb n m h)))
+    (cases_lt m n)
+
+-- a socket that is bound to a port and queue
+pub record IsBoundTo (c : Config) (o q s : ℕ) : Type 0 where
+  pub known : s < length c.sockets
+  pub on_port : (socket_at c.sockets s).port ≡ o
+  pub on_queue : (socket_at c.sockets s).queue ≡ q
+
+-- a cell's number names the socket exactly where it is the socket's, counted from 1
+named : (c : Config) (o q s number : ℕ) → IsBoundTo c o q s → names (redirect_to c o q number) s ≡ eqb number (s + 1)
+named c o q s number bound = ⊎_elim
+    (λ (e : number ≡ s + 1).
+    let less : number - 1 ≡ s = omega arith in
+    let some : ltb 0 number ≡ true = lt-ltb 0 number (omega arith) in
+    let here : ltb (number - 1) (length c.sockets) ≡ true = lt-ltb (number - 1) (length c.sockets) (omega (arith, less, bound.known)) in
+    let port : eqb (socket_at c.sockets (number - 1)).port o ≡ true = eq-eqb (socket_at c.sockets (number - 1)).port o (ap (λ n. (socket_at c.sockets n).port) less ∙ bound.on_port) in
+    let queue : eqb (socket_at c.sockets (number - 1)).queue q ≡ true = eq-eqb (socket_at c.sockets (number - 1)).queue q (ap (λ n. (socket_at c.sockets n).queue) less ∙ bound.on_queue) in
+    kept (ltb 0 number) (ltb (number - 1) (length c.sockets)) (eqb (socket_at c.sockets (number - 1)).port o) (eqb (socket_at c.sockets (number - 1)).queue q) (number - 1) s some here port queue less
+    ∙ sym (eq-eqb number (s + 1) e))
+    (λ (e : number ≡ s + 1 → ⊥).
+    missed (ltb 0 number) (ltb (number - 1) (length c.sockets)) (eqb (socket_at c.sockets (number - 1)).port o) (eqb (socket_at c.sockets (number - 1)).queue q) (number - 1) s
+    (λ f g. e (omega (arith, ltb-true 0 number f, g)))
+    ∙ sym (ne_eqb number (s + 1) e))
+    (cases_eq number (s + 1))
+  where
+    kept : (w x y z : Bool) (t s : ℕ) → w ≡ true → x ≡ true → y ≡ true → z ≡ true → t ≡ s → names (cond (w && x && y && z) (Some t) None) s ≡ true
+    kept true true true true t s a b c d e = eq-eqb t s e
+    kept true true true false t s a b c d e = absurd (cc)
+    kept true true false z t s a b c d e = absurd (cc)
+    kept true false y z t s a b c d e = absurd (cc)
+    kept false x y z t s a b c d e = absurd (cc)
+
+    missed : (w x y z : Bool) (t s : ℕ) → (w ≡ true → t ≡ s → ⊥) → names (cond (w && x && y && z) (Some t) None) s ≡ false
+    missed true true true true t s h = ne_eqb t s (h refl)
+    missed true true true false t s h = refl
+    missed true true false true t s h = refl
+    missed true true false false t s h = refl
+    missed true false true true t s h = refl
+    missed true false true false t s h = refl
+    missed true false false true t s h = refl
+    missed true false false false t s h = refl
+    missed false true true true t s h = refl
+    missed false true true false t s h = refl
+    missed false true false true t s h = refl
+    missed false true false false t s h = refl
+    missed false false true true t s h = refl
+    missed false false true false t s h = refl
+    missed false false false true t s h = refl
+    missed false false false false t s h = refl
+
+-- ---- one packet
+
+abbrev pub seat_at : Config → ℕ → ℕ → ℕ → Seat
+seat_at c d o q = record { config = c; pair = d; port = o; queue = q; classes = classes_of c; batch = batch_of c }
+
+-- whether a packet of a port and queue goes to a socket there
+abbrev is_fit : Config → ℕ → ℕ → ℕ → List ℕ → Bool
+is_fit c o q s packet =
+    leb 14 (length packet) && (leb (length packet) (limit_in c) && (ltb (cell_on c q packet) (length (map_of c o)) && eqb (slice_index (map_of c o) (cell_on c q packet)) (s + 1)))
+
+same_and : (x x' y y' z z' w w' : Bool) → x ≡ x' → y ≡ y' → z ≡ z' → w ≡ w' → (x && (y && (z && w))) ≡ (x' && (y' && (z' && w')))
+same_and x x' y y' z z' w w' e f g h = cc
+
+to_fit : (c : Config) (d o q s : ℕ) (packet : List ℕ) → IsBoundTo c o q s → is_to s (disposal_in (seat_at c d o q) packet) ≡ is_fit c o q s packet
+to_fit c d o q s packet bound =
+    let cell = cell_on c q packet in
+    let number = slice_index (map_of c o) cell in
+    let r = redirect_to c o q number in
+    ap (λ (x : Disposal). is_to s (cond (ltb (length packet) 14) Runt (cond (leb (length (map_of c o)) cell) Missed x))) (disposal_goes (seat_at c d o q) packet r)
+    ∙ goes s (ltb (length packet) 14) (leb (length (map_of c o)) cell) (ltb (limit_in c) (length packet)) r
+    ∙ same_and _ _ _ _ _ _ _ _ (sym (leb_not 14 (length packet))) (sym (leb_not (length packet) (limit_in c))) (sym (ltb_not cell (length (map_of c o)))) (named c o q s number bound)
+
+and_four : (q x y z w : Bool) → (q && (x && y) && (z && w)) ≡ (q && (x && (y && (z && w))))
+and_four true true true z w = refl
+and_four true true false z w = refl
+and_four true false y z w = refl
+and_four false x y z w = refl
+
+redirected : (c : Config) (d o q k : ℕ) (packet : List ℕ) → IsBoundTo c o q (socket_on c o q k)
+    → is_redirected c o q k packet ≡ (eqb (queue_of c.queues packet) q && is_to (socket_on c o q k) (disposal_in (seat_at c d o q) packet))
+redirected c d o q k packet bound =
+    and_four (eqb (queue_of c.queues packet) q) (leb 14 (length packet)) (leb (length packet) (limit_in c)) (ltb (cell_on c q packet) (length (map_of c o)))
+    (eqb (slice_index (map_of c o) (cell_on c q packet)) (socket_on c o q k + 1))
+    ∙ ap (λ x. eqb (queue_of c.queues packet) q && x) (sym (to_fit c d o q (socket_on c o q k) packet bound))
+
+-- ---- all packets
+
+filter_two : (Q T : Bool) (packet : List ℕ) (test : List ℕ → Bool) (kept rest : List (List ℕ)) → T ≡ test packet → kept ≡ filter test rest
+    → cond (Q && T) (packet ∷ kept) kept ≡ filter test (cond Q (packet ∷ rest) rest)
+filter_two true T packet test kept rest e f = cc
+filter_two false T packet test kept rest e f = f
+
+pub delivered_is : (c : Config) (d o q k : ℕ) (ps : List (List ℕ)) → IsBoundTo c o q (socket_on c o q k)
+    → delivered_to (seat_at c d o q) (socket_on c o q k) (packets_of_queue c.queues q ps) ≡ filter (is_redirected c o q k) ps
+delivered_is c d o q k [] bound = refl
+delivered_is c d o q k (packet ∷ ps) bound =
+    let s = socket_on c o q k in
+    let test : List ℕ → Bool = λ (x : List ℕ). is_to s (disposal_in (seat_at c d o q) x) in
+    sym (filter_two (eqb (queue_of c.queues packet) q) (test packet) packet test (filter (is_redirected c o q k) ps) (packets_of_queue c.queues q ps) refl (sym (delivered_is c d o q k ps bound)))
+    ∙ ap (λ b. cond b (packet ∷ filter (is_redirected c o q k) ps) (filter (is_redirected c o q k) ps)) (sym (redirected c d o q k packet bound))
+
+-- each packet that is delivered has at most the limit's bytes
+pub delivered_few : (c : Config) (d o q s : ℕ) (ps : List (List ℕ)) → IsBoundTo c o q s
+    → All (λ (p : List ℕ). length p ≤ limit_in c) (delivered_to (seat_at c d o q) s ps)
+delivered_few c d o q s [] bound = All-nil (λ (p : List ℕ). length p ≤ limit_in c)
+delivered_few c d o q s (packet ∷ ps) bound =
+    let later = delivered_few c d o q s ps bound in
+    ⊎_elim
+    (λ (e : is_to s (disposal_in (seat_at c d o q) packet) ≡ true).
+    let fit : is_fit c o q s packet ≡ true = sym (to_fit c d o q s packet bound) ∙ e in
+    let more = (and_parts (leb 14 (length packet)) _ fit).1 in
+    let few : length packet ≤ limit_in c = leb-true (length packet) (limit_in c) (and_parts (leb (length packet) (limit_in c)) _ more).0 in
+    subst (λ b. All (λ (p : List ℕ). length p ≤ limit_in c) (cond b (packet ∷ delivered_to (seat_at c d o q) s ps) (delivered_to (seat_at c d o q) s ps))) (sym e)
+    (All-cons (λ (p : List ℕ). length p ≤ limit_in c) packet (delivered_to (seat_at c d o q) s ps) few later))
+    (λ (e : is_to s (disposal_in (seat_at c d o q) packet) ≡ false).
+    subst (λ b. All (λ (p : List ℕ). length p ≤ limit_in c) (cond b (packet ∷ delivered_to (seat_at c d o q) s ps) (delivered_to (seat_at c d o q) s ps))) (sym e) later)
+    (cases_Bool (is_to s (disposal_in (seat_at c d o q) packet)))
+
+-- the packets by their disposals
+pub with_disposal_is : (seat : Seat) (s : ℕ) (ps : List (List ℕ)) → with_disposal s ps (map (disposal_in seat) ps) ≡ delivered_to seat s ps
+with_disposal_is seat s [] = refl
+with_disposal_is seat s (packet ∷ ps) =
+    ap (λ l. cond (is_to s (disposal_in seat packet)) (packet ∷ l) l) (with_disposal_is seat s ps)

@@ -1,0 +1,222 @@
+-- What a driver sent is what the paired port's driver delivered: along the TX ring, the lane and the RX ring.
+use Rattle.std.proofs.Common.{◌≡◌, ℕ, ◌+◌, ◌*◌, ◌%◌, ◌<◌, ◌⊎◌, inl, inr, true, false, List, [], ◌∷◌, length, take, map, sym, ap, subst, ◌∙◌, ⊎_elim, arith}
+use Rattle.std.proofs.lemmas.Bool.{cases_eq, or_left, or_right}
+use Rattle.std.proofs.lemmas.List.{take_all}
+use Rattle.xsk_umem.specs.Frame.{Frame}
+use Rattle.xsk_umem.specs.PacketList.{PacketList}
+use Rattle.xsk_umem.specs.declared.batch.Item.{Item}
+use Rattle.xsk_model.specs.Config.{Config, IsConfig, pair_at, classes_of, batch_of}
+use Rattle.xsk_model.specs.Rings.{app_of, caller_of}
+use Rattle.xsk_model.specs.Packets.{packets, whole_packets, bytes_of}
+use Rattle.xsk_model.specs.Entry.{Entry, own}
+use Rattle.xsk_model.specs.Own.{peeked_of, submitted_of, sending_of}
+use Rattle.xsk_model.specs.History.{OwnGoesOn}
+use Rattle.xsk_model.specs.Ends.{is_mark, draining_of, telling_of}
+use Rattle.xsk_model.specs.Sent.{sent_by}
+use Rattle.xsk_model.specs.declared.call.Ring.TheVariants.{Rx, Tx}
+use Rattle.xsk_model.specs.declared.call.Mark.{Mark}
+use Rattle.xsk_model.specs.declared.call.Mark.TheVariants.{RxDone, TxDone}
+use Rattle.xsk_model.proofs.ScriptLemmas.{whole_run}
+use Rattle.xsk_model.proofs.Theorems.{own_entries, sent_in_order}
+use Rattle.xsk_driver.specs.Owned.{IsSeat}
+use Rattle.xsk_driver.specs.Turns.{Seat, seat_of, start, turn, application_of, IsWholeDriverRun}
+use Rattle.xsk_driver.specs.Inputs.{packets_of_port}
+use Rattle.xsk_driver.specs.Disposals.{disposal_in, disposals_of, attempts_of, delivered_to}
+use Rattle.xsk_driver.specs.Law.{IsLaidOut, EachDisposedOnce, DeliversInOrder, NothingReceivedLate, DrainsTx, CompletesAll}
+use Rattle.xsk_app.specs.Standing.{IsOneOf}
+use Rattle.xsk_app.specs.Turns.{pair_of, new_kept, turn as app_turn}
+use Rattle.xsk_app.specs.Law.{LanesPassedOn, NothingSentLate, DrainsRx}
+use Rattle.xsk_laws.specs.Expected.{paired, driver_on, socket_on, received, expected}
+use Rattle.xsk_laws.specs.Forwarded.{with_disposal, forwarded}
+use Rattle.xsk_laws.specs.Laws.{received_by, AreWholeRuns, IsPlace}
+use Rattle.xsk_laws.proofs.Emptied.{is_mark-self, has_mark}
+use Rattle.xsk_laws.proofs.Passed.{IsDrained, passed}
+use Rattle.xsk_laws.proofs.Wholes.{wholes}
+use Rattle.xsk_laws.proofs.Filters.{IsBoundTo, seat_at, delivered_is, delivered_few, with_disposal_is}
+use Rattle.xsk_laws.proofs.Places.{ArePaired, are_paired, app_on, IsAt, is_at, app_below, side_pair, lane_on, lane_below, lane_rx, lane_tx}
+
+-- what holds of the workers' whole runs
+pub record Workers : Type 0 where
+  pub disposed : EachDisposedOnce
+  pub delivers : DeliversInOrder
+  pub none_received_late : NothingReceivedLate
+  pub drains_tx : DrainsTx
+  pub completes : CompletesAll
+  pub passed_on : LanesPassedOn
+  pub none_sent_late : NothingSentLate
+  pub drains_rx : DrainsRx
+
+seat_is : (c : Config) (p q k d s : ℕ) → IsAt c p q k d s → seat_of c d ≡ seat_at c d p q
+seat_is c p q k d s at =
+    ap (λ n. record { config = c; pair = d; port = n; queue = (pair_at c.pairs d).queue; classes = classes_of c; batch = batch_of c }) at.pair_port
+    ∙ ap (λ n. seat_at c d p n) at.pair_queue
+
+input_is : (c : Config) (lists : List PacketList) (p q k d s : ℕ) → IsAt c p q k d s → received_by c lists d ≡ received c lists p q
+input_is c lists p q k d s at =
+    ap (λ n. received c lists n (pair_at c.pairs d).queue) at.pair_port ∙ ap (λ n. received c lists p n) at.pair_queue
+
+module _ (w : Workers) (c : Config) (lists : List PacketList) (frames : List Frame) (h : List Entry) (p q k : ℕ) (run : AreWholeRuns c lists frames h) (place : IsPlace c p q k) where
+  abbrev o : ℕ
+  o = paired p
+
+  -- the sending driver and its socket, the receiving driver and its socket, and the application
+  abbrev d : ℕ
+  d = driver_on c p q
+
+  abbrev t : ℕ
+  t = socket_on c p q k
+
+  abbrev e : ℕ
+  e = driver_on c o q
+
+  abbrev s : ℕ
+  s = socket_on c o q k
+
+  abbrev a : ℕ
+  a = app_on c p q
+
+  config : IsConfig c
+  config = run.history.opened.config
+
+  pair : ArePaired c.ports p o
+  pair = are_paired c.ports p config.ports place.in_ports
+
+  at_p : IsAt c p q k d t
+  at_p = is_at c p q k config run.regular place.in_ports place.in_queues place.in_classes
+
+  at_o : IsAt c o q k e s
+  at_o = is_at c o q k config run.regular pair.in_ports place.in_queues place.in_classes
+
+  seat_d : IsSeat c d
+  seat_d = record { config = config; regular = run.regular; geometry = run.history.opened.geometry; known = at_p.pair_known }
+
+  seat_e : IsSeat c e
+  seat_e = record { config = config; regular = run.regular; geometry = run.history.opened.geometry; known = at_o.pair_known }
+
+  one : IsOneOf c a
+  one = record { config = config; regular = run.regular; known = app_below c p q config place.in_ports place.in_queues }
+
+  goes : (who : ℕ) → OwnGoesOn c who [] (own who h)
+  goes who = own_entries c frames h who run.history
+
+  -- the callers of the two rings
+  app_at_o : app_of c (Rx s) ≡ caller_of c a
+  app_at_o = ap (caller_of c) (at_o.app ∙ ap (λ n. n * c.queues + q) pair.half)
+
+  app_at_p : app_of c (Tx t) ≡ caller_of c a
+  app_at_p = ap (caller_of c) at_p.app
+
+  -- ---- the RX ring
+
+  abbrev told_rx : List Mark
+  told_rx = RxDone (pair_of c a 0) ∷ RxDone (pair_of c a 1) ∷ []
+
+  listed_rx : has_mark (RxDone e) told_rx ≡ true
+  listed_rx =
+      let side : e ≡ pair_of c a (o % 2) = sym (side_pair c p q (o % 2) o place.in_queues pair.there) in
+      subst (λ n. has_mark (RxDone n) told_rx ≡ true) (sym side)
+      (⊎_elim
+      (λ (z : o % 2 ≡ 0). subst (λ n. has_mark (RxDone (pair_of c a n)) told_rx ≡ true) (sym z)
+      (or_left (is_mark (RxDone (pair_of c a 0)) (RxDone (pair_of c a 0))) _ (is_mark-self (RxDone (pair_of c a 0)))))
+      (λ (z : o % 2 ≡ 1). subst (λ n. has_mark (RxDone (pair_of c a n)) told_rx ≡ true) (sym z)
+      (or_right (is_mark (RxDone (pair_of c a 1)) (RxDone (pair_of c a 0))) _
+      (or_left (is_mark (RxDone (pair_of c a 1)) (RxDone (pair_of c a 1))) _ (is_mark-self (RxDone (pair_of c a 1))))))
+      (sides (o % 2) pair.side))
+    where
+      sides : (n : ℕ) → n < 2 → (n ≡ 0) ⊎ (n ≡ 1)
+      sides n h = elim (cases_eq n 0) [ inl e ↦ inl e | inr e ↦ inr (omega (arith, h, e)) ]
+
+  drained_rx : IsDrained c h told_rx (RxDone e) (Rx s)
+  drained_rx = record {
+    ring = (at_o.known, at_o.rx);
+    later = omega arith;
+    mark = at_o.pair_known;
+    flag = (let known = at_o.pair_known in omega (arith, known));
+    owned = λ who may. may ∙ sym at_o.driver;
+    listed = listed_rx;
+    found = subst (λ n. (draining_of told_rx (Rx s) (own n h)).empty ≡ true) (sym app_at_o)
+        (subst (λ n. (draining_of told_rx (Rx n) (own (caller_of c a) h)).empty ≡ true) (lane_rx c p q k o place.in_queues place.in_classes pair.there)
+        (w.drains_rx c a (own (caller_of c a) h) (lane_on c o k) one (run.apps a one.known) (lane_below c o k place.in_classes)));
+    none_late = subst (λ n. (telling_of (RxDone e) (Rx s) (own n h)).late ≡ false) (sym at_o.driver)
+        (w.none_received_late c e s (received_by c lists e) (own e h) (whole_run (turn (seat_of c e)) (start (classes_of c) (received_by c lists e)) (own e h) (run.drivers e at_o.pair_known)));
+  }
+
+  received_all : peeked_of (Rx s) (own (caller_of c a) h) ≡ submitted_of (Rx s) (own e h)
+  received_all =
+      ap (λ n. peeked_of (Rx s) (own n h)) (sym app_at_o)
+      ∙ passed c frames h told_rx (RxDone e) (Rx s) run.history drained_rx
+      ∙ ap (λ n. submitted_of (Rx s) (own n h)) at_o.driver
+
+  -- ---- the lane
+
+  lane_all : submitted_of (Tx t) (own (caller_of c a) h) ≡ peeked_of (Rx s) (own (caller_of c a) h)
+  lane_all =
+      ap (λ n. submitted_of (Tx n) (own (caller_of c a) h)) (sym (lane_tx c p q k o place.in_queues place.in_classes pair.here))
+      ∙ w.passed_on c a (own (caller_of c a) h) (lane_on c o k) one (run.apps a one.known) (lane_below c o k place.in_classes)
+      ∙ ap (λ n. peeked_of (Rx n) (own (caller_of c a) h)) (lane_rx c p q k o place.in_queues place.in_classes pair.there)
+
+  -- ---- the TX ring
+
+  same_app : application_of (seat_of c d) ≡ a
+  same_app = ap application_of (seat_is c p q k d t at_p)
+
+  drained_tx : IsDrained c h (TxDone a ∷ []) (TxDone a) (Tx t)
+  drained_tx = record {
+    ring = (at_p.known, at_p.tx);
+    later = omega arith;
+    mark = one.known;
+    flag = (let known = one.known in omega (arith, known));
+    owned = λ who may. may ∙ sym app_at_p;
+    listed = or_left (is_mark (TxDone a) (TxDone a)) false (is_mark-self (TxDone a));
+    found = subst (λ n. (draining_of (TxDone a ∷ []) (Tx t) (own n h)).empty ≡ true) (sym at_p.driver)
+        (subst (λ n. (draining_of (TxDone n ∷ []) (Tx t) (own d h)).empty ≡ true) same_app
+        (w.drains_tx c d k (received_by c lists d) (own d h) (run.drivers d at_p.pair_known) place.in_classes));
+    none_late = subst (λ n. (telling_of (TxDone a) (Tx t) (own n h)).late ≡ false) (sym app_at_p)
+        (w.none_sent_late c a t (own (caller_of c a) h) one (whole_run (app_turn c a) (new_kept c) (own (caller_of c a) h) (run.apps a one.known)));
+  }
+
+  peeked_all : peeked_of (Tx t) (own d h) ≡ submitted_of (Rx s) (own e h)
+  peeked_all =
+      ap (λ n. peeked_of (Tx t) (own n h)) (sym at_p.driver)
+      ∙ passed c frames h (TxDone a ∷ []) (TxDone a) (Tx t) run.history drained_tx
+      ∙ ap (λ n. submitted_of (Tx t) (own n h)) app_at_p
+      ∙ lane_all
+      ∙ received_all
+
+  -- ---- the packets
+
+  bound : IsBoundTo c o q s
+  bound = record { known = at_o.known; on_port = at_o.on_port; on_queue = at_o.on_queue }
+
+  abbrev arrived : List (List ℕ)
+  arrived = delivered_to (seat_at c e o q) s (received c lists o q)
+
+  laid : IsLaidOut c.geometry c.sg arrived (submitted_of (Rx s) (own e h))
+  laid =
+      subst (λ (l : List (List ℕ)). IsLaidOut c.geometry c.sg l (submitted_of (Rx s) (own e h)))
+      (ap (λ (x : Seat). delivered_to x s (received_by c lists e)) (seat_is c o q k e s at_o) ∙ ap (delivered_to (seat_at c e o q) s) (input_is c lists o q k e s at_o))
+      (w.delivers c e s (received_by c lists e) (own e h) seat_e (goes e) (run.drivers e at_o.pair_known))
+
+  pub sent_arrived : sent_by c h d t ≡ arrived
+  sent_arrived =
+      let whole : List (List Item) = whole_packets (packets c.geometry c.sg (peeked_of (Tx t) (own d h))) in
+      let done : (sending_of c t (own d h)).completed ≡ length whole =
+      w.completes c d k (received_by c lists d) (own d h) seat_d (goes d) (run.drivers d at_p.pair_known) place.in_classes in
+      sent_in_order c frames h d t run.history
+      ∙ ap (λ n. map (bytes_of c.geometry c.sg) (take n whole)) done
+      ∙ ap (map (bytes_of c.geometry c.sg)) (take_all (length whole) whole (omega arith))
+      ∙ ap (λ (l : List Item). map (bytes_of c.geometry c.sg) (whole_packets (packets c.geometry c.sg l))) peeked_all
+      ∙ wholes c.geometry c.sg arrived (submitted_of (Rx s) (own e h)) run.history.opened.geometry laid (delivered_few c e o q s (received c lists o q) bound)
+
+  pub sent_expected : sent_by c h d t ≡ expected c lists p q k
+  sent_expected = sent_arrived ∙ delivered_is c e o q k (packets_of_port lists o) bound
+
+  pub sent_forwarded : sent_by c h d t ≡ forwarded c h lists p q k
+  sent_forwarded =
+      let input = received c lists o q in
+      let said : disposals_of (seat_of c e) input (attempts_of (own e h)) ≡ map (disposal_in (seat_of c e)) input =
+      w.disposed c e input (own e h) seat_e (goes e) (subst (λ (l : List (List ℕ)). IsWholeDriverRun c e l (own e h)) (input_is c lists o q k e s at_o) (run.drivers e at_o.pair_known)) in
+      sent_arrived
+      ∙ sym (with_disposal_is (seat_at c e o q) s input)
+      ∙ ap (λ (x : Seat). with_disposal s input (map (disposal_in x) input)) (sym (seat_is c o q k e s at_o))
+      ∙ ap (with_disposal s input) (sym said)

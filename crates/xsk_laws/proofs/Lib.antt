@@ -1,0 +1,12 @@
+pub mod Emptied
+pub mod Passed
+pub mod Wholes
+pub mod Filters
+pub mod Places
+pub mod Joined
+pub mod Machines
+pub mod Totals
+pub mod Sockets
+pub mod Sorted
+pub mod Theorems
+pub mod OneQueue

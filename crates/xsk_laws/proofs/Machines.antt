@@ -1,0 +1,20 @@
+-- The laws of the two machines' whole runs, all that is used of them here.
+use Rattle.xsk_driver.proofs.Disposing.{each_disposed_once}
+use Rattle.xsk_driver.proofs.Delivering.{delivers_in_order}
+use Rattle.xsk_driver.proofs.ReceivingLaws.{nothing_received_late}
+use Rattle.xsk_driver.proofs.Draining.{drains_tx}
+use Rattle.xsk_driver.proofs.CompletingAll.{completes_all}
+use Rattle.xsk_app.proofs.LaneLaw.{lanes_passed_on, nothing_sent_late, drains_rx}
+use Rattle.xsk_laws.proofs.Joined.{Workers}
+
+pub workers : Workers
+workers = record {
+  disposed = each_disposed_once;
+  delivers = delivers_in_order;
+  none_received_late = nothing_received_late;
+  drains_tx = drains_tx;
+  completes = completes_all;
+  passed_on = lanes_passed_on;
+  none_sent_late = nothing_sent_late;
+  drains_rx = drains_rx;
+}

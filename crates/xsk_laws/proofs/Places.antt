@@ -1,0 +1,138 @@
+-- Where the drivers, the sockets and the application of a port's queue stand in a regular configuration.
+use Rattle.std.proofs.Common.{◌≡◌, ℕ, suc, ◌+◌, ◌-◌, ◌*◌, ◌/◌, ◌%◌, ◌<◌, ◌≤◌, ◌⊎◌, cond, length, sym, ap, subst, ◌∙◌, ⊎_elim, arith, mul-le-mul_right}
+use Rattle.std.specs.Prelude.{IsSome, None}
+use Rattle.std.proofs.lemmas.Nat.{div-mul-add, mod-mul-add}
+use Rattle.std.proofs.lemmas.Bool.{cases_eq, eq-eqb, ne_eqb}
+use Rattle.xsk_model.specs.Config.{Config, IsConfig, IsRegular, IsBound, pair_at, socket_at, classes_of}
+use Rattle.xsk_model.specs.Marks.{apps_of}
+use Rattle.xsk_model.specs.Rings.{pair_on, application_on, port_of, queue_of}
+use Rattle.xsk_model.specs.declared.call.Ring.TheVariants.{Rx}
+use Rattle.xsk_model.proofs.Roles.{pair_on_only}
+use Rattle.xsk_app.specs.Turns.{pair_of, socket_of, rx_of, tx_of, lanes_of}
+use Rattle.xsk_laws.specs.Expected.{paired, driver_on, socket_on}
+
+-- ---- numbers
+
+some_of : (n : ℕ) → (n ≡ 1) ⊎ (n ≡ 2) ⊎ (n ≡ 4) → 1 ≤ n
+some_of n h = omega (arith, h)
+
+below : (x q r n : ℕ) → r < q → suc x * q ≤ n → x * q + r < n
+below x q r n h k =
+    let e : suc x * q ≡ x * q + q = grind arith in
+    omega (arith, h, k, e)
+
+pub paired_even : (port : ℕ) → port % 2 ≡ 0 → paired port ≡ port + 1
+paired_even port h = ap (λ b. cond b (port + 1) (port - 1)) (eq-eqb (port % 2) 0 h)
+
+pub paired_odd : (port : ℕ) → (port % 2 ≡ 0 → ⊥) → paired port ≡ port - 1
+paired_odd port h = ap (λ b. cond b (port + 1) (port - 1)) (ne_eqb (port % 2) 0 h)
+
+-- the two ports of a pair
+pub record ArePaired (ports port other : ℕ) : Type 0 where
+  pub in_ports : other < ports
+  pub half : other / 2 ≡ port / 2
+  pub side : other % 2 < 2
+  pub here : port ≡ 2 * (port / 2) + (1 - other % 2)
+  pub there : other ≡ 2 * (port / 2) + other % 2
+
+pub are_paired : (ports port : ℕ) → (ports ≡ 2) ⊎ (ports ≡ 4) → port < ports → ArePaired ports port (paired port)
+are_paired ports port even h = ⊎_elim
+    (λ (e : port % 2 ≡ 0). subst (ArePaired ports port) (sym (paired_even port e))
+    (record { in_ports = omega (arith, even); half = omega arith; side = omega arith; here = omega arith; there = omega arith }))
+    (λ (e : port % 2 ≡ 0 → ⊥). subst (ArePaired ports port) (sym (paired_odd port e))
+    (record { in_ports = omega arith; half = omega (arith, e); side = omega arith; here = omega (arith, e); there = omega (arith, e) }))
+    (cases_eq (port % 2) 0)
+
+-- ---- a driver and a socket
+
+abbrev pub app_on : Config → ℕ → ℕ → ℕ
+app_on c port queue = (port / 2) * c.queues + queue
+
+pub record IsAt (c : Config) (p q k d s : ℕ) : Type 0 where
+  pub pair_known : d < length c.pairs
+  pub pair_port : (pair_at c.pairs d).port ≡ p
+  pub pair_queue : (pair_at c.pairs d).queue ≡ q
+  pub known : s < length c.sockets
+  pub on_port : (socket_at c.sockets s).port ≡ p
+  pub on_queue : (socket_at c.sockets s).queue ≡ q
+  pub rx : IsSome (socket_at c.sockets s).rx
+  pub tx : IsSome (socket_at c.sockets s).tx
+  pub driver : pair_on c.pairs (port_of c (Rx s)) (queue_of c (Rx s)) ≡ d
+  pub app : application_on c (port_of c (Rx s)) (queue_of c (Rx s)) ≡ (p / 2) * c.queues + q
+
+pub is_at : (c : Config) (p q k : ℕ) → IsConfig c → IsRegular c → p < c.ports → q < c.queues → k < classes_of c → IsAt c p q k (driver_on c p q) (socket_on c p q k)
+is_at c p q k config regular port queue class =
+    let d = driver_on c p q in
+    let s = socket_on c p q k in
+    let most : suc p * c.queues ≤ c.ports * c.queues = mul-le-mul_right c.queues port in
+    let known : d < length c.pairs = below p c.queues q (length c.pairs) queue (omega (arith, most, regular.pairs)) in
+    let more : suc d * classes_of c ≤ length c.pairs * classes_of c = mul-le-mul_right (classes_of c) known in
+    let has : s < length c.sockets = below d (classes_of c) k (length c.sockets) class (omega (arith, more, regular.sockets)) in
+    let seat = regular.seats d known in
+    let at = regular.places s has in
+    let pair : s / classes_of c ≡ d = div-mul-add d (classes_of c) k class in
+    let on_port : d / c.queues ≡ p = div-mul-add p c.queues q queue in
+    let on_queue : d % c.queues ≡ q = mod-mul-add p c.queues q queue in
+    let socket_port : (socket_at c.sockets s).port ≡ p = at.0 ∙ ap (λ n. n / c.queues) pair ∙ on_port in
+    let socket_queue : (socket_at c.sockets s).queue ≡ q = at.1 ∙ ap (λ n. n % c.queues) pair ∙ on_queue in
+    let bound : IsBound c.ports c.queues c.pairs (socket_at c.sockets s) = config.bound s (record { port = 0; queue = 0; rx = None; tx = None }) has in
+    record {
+      pair_known = known;
+      pair_port = seat.0 ∙ on_port;
+      pair_queue = seat.1 ∙ on_queue;
+      known = has;
+      on_port = socket_port;
+      on_queue = socket_queue;
+      rx = at.2;
+      tx = at.3;
+      driver = pair_on_only c.pairs (port_of c (Rx s)) (queue_of c (Rx s)) d bound.pair known (seat.0 ∙ on_port ∙ sym socket_port, seat.1 ∙ on_queue ∙ sym socket_queue);
+      app = ap (λ n. (n / 2) * c.queues + queue_of c (Rx s)) socket_port ∙ ap (λ n. (p / 2) * c.queues + n) socket_queue;
+    }
+
+-- ---- the application and its lane
+
+pub app_below : (c : Config) (p q : ℕ) → IsConfig c → p < c.ports → q < c.queues → app_on c p q < apps_of c
+app_below c p q config port queue =
+    let half : suc (p / 2) ≤ c.ports / 2 = halves c.ports p config.ports port in
+    let most : suc (p / 2) * c.queues ≤ (c.ports / 2) * c.queues = mul-le-mul_right c.queues half in
+    below (p / 2) c.queues q (apps_of c) queue most
+  where
+    halves : (ports p : ℕ) → (ports ≡ 2) ⊎ (ports ≡ 4) → p < ports → suc (p / 2) ≤ ports / 2
+    halves ports p even h = omega (arith, even)
+
+-- the pair of a side is that of the port of this side
+pub side_pair : (c : Config) (p q side o : ℕ) → q < c.queues → o ≡ 2 * (p / 2) + side → pair_of c (app_on c p q) side ≡ driver_on c o q
+side_pair c p q side o queue e =
+    let half : app_on c p q / c.queues ≡ p / 2 = div-mul-add (p / 2) c.queues q queue in
+    let rest : app_on c p q % c.queues ≡ q = mod-mul-add (p / 2) c.queues q queue in
+    ap (λ n. (2 * n + side) * c.queues + app_on c p q % c.queues) half
+    ∙ ap (λ n. (2 * (p / 2) + side) * c.queues + n) rest
+    ∙ ap (λ n. n * c.queues + q) (sym e)
+
+-- the lane from the paired port to a port
+abbrev pub lane_on : Config → ℕ → ℕ → ℕ
+lane_on c o k = (o % 2) * classes_of c + k
+
+pub lane_below : (c : Config) (o k : ℕ) → k < classes_of c → lane_on c o k < lanes_of c
+lane_below c o k class = lanes (o % 2) (classes_of c) k (omega arith) class
+  where
+    lanes : (side n k : ℕ) → side < 2 → k < n → side * n + k < 2 * n
+    lanes side n k h e =
+        let most : suc side * n ≤ 2 * n = mul-le-mul_right n h in
+        below side n k (2 * n) e most
+
+pub lane_rx : (c : Config) (p q k o : ℕ) → q < c.queues → k < classes_of c → o ≡ 2 * (p / 2) + o % 2 → rx_of c (app_on c p q) (lane_on c o k) ≡ socket_on c o q k
+lane_rx c p q k o queue class e =
+    let side : lane_on c o k / classes_of c ≡ o % 2 = div-mul-add (o % 2) (classes_of c) k class in
+    let rest : lane_on c o k % classes_of c ≡ k = mod-mul-add (o % 2) (classes_of c) k class in
+    ap (λ n. socket_of c (app_on c p q) n (lane_on c o k % classes_of c)) side
+    ∙ ap (λ n. socket_of c (app_on c p q) (o % 2) n) rest
+    ∙ ap (λ n. n * classes_of c + k) (side_pair c p q (o % 2) o queue e)
+
+pub lane_tx : (c : Config) (p q k o : ℕ) → q < c.queues → k < classes_of c → p ≡ 2 * (p / 2) + (1 - o % 2) → tx_of c (app_on c p q) (lane_on c o k) ≡ socket_on c p q k
+lane_tx c p q k o queue class e =
+    let side : lane_on c o k / classes_of c ≡ o % 2 = div-mul-add (o % 2) (classes_of c) k class in
+    let rest : lane_on c o k % classes_of c ≡ k = mod-mul-add (o % 2) (classes_of c) k class in
+    ap (λ n. socket_of c (app_on c p q) (1 - n) (lane_on c o k % classes_of c)) side
+    ∙ ap (λ n. socket_of c (app_on c p q) (1 - o % 2) n) rest
+    ∙ ap (λ n. n * classes_of c + k) (side_pair c p q (1 - o % 2) p queue e)

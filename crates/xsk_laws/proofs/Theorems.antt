@@ -1,0 +1,86 @@
+-- What is sent is the redirected input: the laws, proved.
+use Rattle.std.proofs.Common.{◌≡◌, ℕ, ◌+◌, ◌*◌, ◌<◌, ◌≤◌, List, [], ◌∷◌, length, sym, ap, ◌∙◌, arith}
+use Rattle.xsk_umem.specs.Frame.{Frame}
+use Rattle.xsk_umem.specs.PacketList.{PacketList}
+use Rattle.xsk_model.specs.Config.{Config, IsConfig, pair_at, classes_of}
+use Rattle.xsk_model.specs.Entry.{Entry, own}
+use Rattle.xsk_model.specs.Sent.{sockets_from, sent_from, sent, sent_by}
+use Rattle.xsk_driver.specs.Disposals.{delivered_to}
+use Rattle.xsk_laws.specs.Expected.{paired, driver_on, socket_on, received}
+use Rattle.xsk_laws.specs.Laws.{AreWholeRuns, SentIsExpected, SentIsForwarded, NothingElseIsSent, AllIsExpected, SentIsWithin}
+use Rattle.xsk_laws.proofs.Filters.{seat_at}
+use Rattle.xsk_laws.proofs.Places.{IsAt, is_at}
+use Rattle.xsk_laws.proofs.Machines.{workers}
+use Rattle.xsk_laws.proofs.Joined.{sent_arrived, sent_expected, sent_forwarded}
+use Rattle.xsk_laws.proofs.Totals.{total, total-one, total-bytes, run_of, delivered_within, sent_few}
+use Rattle.xsk_laws.proofs.Sockets.{sockets_are}
+use Rattle.xsk_laws.proofs.Sorted.{sorted}
+
+pub sent_is_expected : SentIsExpected
+sent_is_expected c lists frames h port queue class run place = sent_expected workers c lists frames h port queue class run place
+
+pub sent_is_forwarded : SentIsForwarded
+sent_is_forwarded c lists frames h port queue class run place = sent_forwarded workers c lists frames h port queue class run place
+
+-- ---- all sockets of a queue
+
+module _ (c : Config) (lists : List PacketList) (frames : List Frame) (h : List Entry) (p q : ℕ) (run : AreWholeRuns c lists frames h) (port : p < c.ports) (queue : q < c.queues) where
+  abbrev d : ℕ
+  d = driver_on c p q
+
+  abbrev e : ℕ
+  e = driver_on c (paired p) q
+
+  config : IsConfig c
+  config = run.history.opened.config
+
+  some : 0 < classes_of c
+  some = let classes = run.regular.classes in omega (arith, classes)
+
+  at : IsAt c p q 0 d (socket_on c p q 0)
+  at = is_at c p q 0 config run.regular port queue some
+
+  all_sent : sent c h d ≡ sent_from c (run_of (d * classes_of c) (classes_of c)) [] (own d h)
+  all_sent =
+      ap (λ ss. sent_from c ss [] (own d h))
+      (ap (λ n. sockets_from 0 c.sockets n (pair_at c.pairs d).queue) at.pair_port
+      ∙ ap (λ n. sockets_from 0 c.sockets p n) at.pair_queue
+      ∙ sockets_are c p q config run.regular port queue)
+
+  only_sent : classes_of c ≡ 1 → sent c h d ≡ sent_by c h d (socket_on c p q 0)
+  only_sent one =
+      all_sent
+      ∙ ap (λ n. sent_from c (run_of (d * classes_of c) n) [] (own d h)) one
+      ∙ ap (λ n. sent_from c (n ∷ []) [] (own d h)) first
+    where
+      first : d * classes_of c ≡ socket_on c p q 0
+      first = omega arith
+
+  within : (f : List ℕ → ℕ) → total f (sent c h d) ≤ total f (received c lists (paired p) q)
+  within f =
+      let each : (k : ℕ) → k < classes_of c
+      → sent_from c ((d * classes_of c + k) ∷ []) [] (own d h) ≡ delivered_to (seat_at c e (paired p) q) (e * classes_of c + k) (received c lists (paired p) q) =
+      λ k class. sent_arrived workers c lists frames h p q k run (record { in_ports = port; in_queues = queue; in_classes = class }) in
+      let few = sent_few f c (own d h) (seat_at c e (paired p) q) (received c lists (paired p) q) (d * classes_of c) (e * classes_of c) (classes_of c) 0 (classes_of c) (omega arith) each in
+      let start : d * classes_of c + 0 ≡ d * classes_of c = omega arith in
+      let all : total f (sent c h d) ≡ total f (sent_from c (run_of (d * classes_of c + 0) (classes_of c)) [] (own d h)) =
+      ap (total f) (all_sent ∙ ap (λ n. sent_from c (run_of n (classes_of c)) [] (own d h)) (sym start)) in
+      omega (arith, all, few, delivered_within f (seat_at c e (paired p) q) (e * classes_of c + 0) (received c lists (paired p) q))
+
+pub nothing_else_is_sent : NothingElseIsSent
+nothing_else_is_sent c lists frames h p q run port queue =
+    sorted c lists p q (driver_on c p q * classes_of c) (own (driver_on c p q) h) (sent c h (driver_on c p q)) (all_sent c lists frames h p q run port queue)
+    (λ k class. sent_expected workers c lists frames h p q k run (record { in_ports = port; in_queues = queue; in_classes = class }))
+
+pub all_is_expected : AllIsExpected
+all_is_expected c lists frames h p q run port queue one =
+    only_sent c lists frames h p q run port queue one
+    ∙ sent_expected workers c lists frames h p q 0 run (record { in_ports = port; in_queues = queue; in_classes = omega (arith, one) })
+
+pub sent_is_within : SentIsWithin
+sent_is_within c lists frames h p q run port queue =
+    let sent_here = sent c h (driver_on c p q) in
+    let input = received c lists (paired p) q in (
+      omega (arith, within c lists frames h p q run port queue (λ _. 1), total-one sent_here, total-one input),
+      omega (arith, within c lists frames h p q run port queue (λ (x : List ℕ). length x), total-bytes sent_here, total-bytes input),
+    )
