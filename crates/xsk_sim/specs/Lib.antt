@@ -1,1 +1,6 @@
+pub mod Order
+pub mod Rounds
+pub mod Runs
+pub mod Seats
 pub mod Shown
+pub mod Standing

@@ -1,6 +1,8 @@
 //! Rounds on one thread: in each round every worker that hasn't ended makes one call, in a stated order.
 #![tactic(auto)]
 
+pub mod laws;
+mod machine;
 mod order;
 mod rounds;
 mod seat;

@@ -1,5 +1,11 @@
-ghost use Rattle.std.specs.Prelude.{◌≡◌, ◌<◌, ◌+◌, vec_len, IfOk};
+ghost use Rattle.std.specs.Prelude.{◌≡◌, ◌<◌, ◌+◌, ◌^◌, ◌↔◌, ℕ, List, IsTrue, [], ◌∷◌, vec_len, OnOk};
 ghost use Rattle.xsk_umem.specs.Geometry.{IsGeometry};
+ghost use Rattle.xsk_umem.specs.Frame.{Frame};
+ghost use Rattle.xsk_model.specs.Marks.{apps_of};
+ghost use Rattle.xsk_model.specs.Config.{callers_of};
+ghost use Rattle.xsk_model.specs.Entry.{Entry};
+ghost use Rattle.xsk_sim.specs.Runs.{Setting};
+ghost use Rattle.xsk_sim.specs.Seats.{AreSeated, HadTurns, HadRound, HaveEnded};
 
 use crate::order::Order;
 use crate::seat::Seat;
@@ -16,15 +22,28 @@ pub(crate) struct Workers<'a> {
 }
 
 impl Workers<'_> {
-    fn count(&self) -> u32 {
+    fn count(&self) -> u32
+        ensures { vec_len self.now.drivers + vec_len self.now.apps < 2 ^ 32 → result ≡ vec_len self.now.drivers + vec_len self.now.apps }
+    {
         let count = self.drivers.len().saturating_add(self.apps.len());
         u32::try_from(count).unwrap_or(u32::MAX)
     }
 
     /// Whether all workers have ended.
-    pub(crate) fn have_ended(&self) -> bool {
-        self.drivers.iter().all(|seat| seat.has_ended())
-            && self.apps.iter().all(|seat| seat.has_ended())
+    pub(crate) fn have_ended(&self) -> bool
+        ensures { IsTrue result ↔ HaveEnded self.now }
+    {
+        for seat in &self.drivers {
+            if !seat.has_ended() {
+                return false;
+            }
+        }
+        for seat in &self.apps {
+            if !seat.has_ended() {
+                return false;
+            }
+        }
+        true
     }
 
     /// Lets each worker that hasn't ended make one call, from one worker on in turn.
@@ -32,6 +51,8 @@ impl Workers<'_> {
         requires { IsGeometry plain.old.config.geometry }
         ensures config { plain.new.config ≡ plain.old.config }
         ensures drivers { vec_len self.new.drivers ≡ vec_len self.old.drivers }
+        ensures round { (s : Setting) (frames : List Frame) (h : List Entry) → apps_of s.config ≡ 1 → AreSeated s frames h self.old plain.old
+            → OnOk result (HadRound s frames h order.old.number order.new.number self.new plain.new) }
     {
         let callers = self.count();
         if callers == 0 {
@@ -51,6 +72,9 @@ impl Workers<'_> {
         requires { IsGeometry plain.old.config.geometry }
         ensures config { plain.new.config ≡ plain.old.config }
         ensures drivers { vec_len self.new.drivers ≡ vec_len self.old.drivers }
+        ensures turn { (s : Setting) (frames : List Frame) (h : List Entry) → apps_of s.config ≡ 1 → who < callers_of s.config
+            → AreSeated s frames h self.old plain.old
+            → OnOk result (HadTurns s frames h (who ∷ []) self.new plain.new) }
     {
         let place = who as usize;
         let drivers = self.drivers.len();

@@ -1,42 +1,18 @@
-ghost use Rattle.std.specs.Prelude.{◌≡◌, OnOk, IfOk};
+ghost use Rattle.std.specs.Prelude.{◌≡◌, ℕ, List, [], IsTrue, ◌↔◌, All, OnOk};
 ghost use Rattle.xsk_umem.specs.Geometry.{IsGeometry};
-ghost use Rattle.xsk_model.specs.Expected.{Expected, CanCome, expected_of, nothing};
+ghost use Rattle.xsk_umem.specs.Frame.{Frame};
+ghost use Rattle.xsk_model.specs.Entry.{Entry, own};
+ghost use Rattle.xsk_model.specs.Marks.{apps_of};
+ghost use Rattle.xsk_model.specs.Expected.{expected_of, nothing};
+ghost use Rattle.xsk_model.specs.declared.call.Act.TheVariants.{Ended as IsEnd};
+ghost use Rattle.xsk_sim.specs.Runs.{Setting};
+ghost use Rattle.xsk_sim.specs.Standing.{IsActAfter, HasRun, TakesTurn};
 
+use crate::machine::Machine;
 use std::mem;
-use xsk_app::App;
-use xsk_driver::Driver;
-use xsk_model::{Act, Reply};
+use xsk_model::Act;
 use xsk_plain::{Plain, payload_room};
 use xsk_umem::OutOfMemory;
-
-/// A worker that makes one call at a time and goes on with its reply.
-pub(crate) trait Machine {
-    // What it waits for.
-    ghost expected: { Self → Expected };
-
-    /// Goes on with the reply to the last call (none at first).
-    fn next(&mut self, reply: Option<Reply>) -> Act
-        requires { CanCome (expected self.old) reply }
-        ensures { expected self.new ≡ expected_of result };
-}
-
-impl Machine for Driver<'_> {
-    ghost expected = { λ d. d.expected };
-
-    #[inline(always)]
-    fn next(&mut self, reply: Option<Reply>) -> Act {
-        Driver::next(self, reply)
-    }
-}
-
-impl Machine for App<'_> {
-    ghost expected = { λ a. a.expected };
-
-    #[inline(always)]
-    fn next(&mut self, reply: Option<Reply>) -> Act {
-        App::next(self, reply)
-    }
-}
 
 /// A worker in the rounds, with the call that it makes next.
 #[derive(Drop)]
@@ -49,6 +25,8 @@ pub(crate) struct Seat<M: Machine> {
 impl<M: Machine> Seat<M> {
     pub(crate) fn new(machine: M) -> Seat<M>
         requires { M.expected machine ≡ nothing }
+        ensures { (s : Setting) (who : ℕ) → M.is_new s who machine
+            → M.stands s who result.machine result.act [] × IsActAfter s who result.act [] }
     {
         let mut machine = machine;
         let act = machine.next(None);
@@ -56,7 +34,9 @@ impl<M: Machine> Seat<M> {
     }
 
     /// Whether the worker has ended.
-    pub(crate) fn has_ended(&self) -> bool {
+    pub(crate) fn has_ended(&self) -> bool
+        ensures { IsTrue result ↔ (self.now.act ≡ IsEnd) }
+    {
         matches!(&self.act, Act::Ended)
     }
 
@@ -71,6 +51,9 @@ impl<M: Machine> Seat<M> {
     pub(crate) fn step(&mut self, plain: &mut Plain, who: u32) -> Result<(), OutOfMemory>
         requires { IsGeometry plain.old.config.geometry }
         ensures config { plain.new.config ≡ plain.old.config }
+        ensures turn { (s : Setting) (frames : List Frame) (h : List Entry) → apps_of s.config ≡ 1 → HasRun s frames h plain.old
+            → M.stands s who self.old.machine self.old.act (own who h) → IsActAfter s who self.old.act (own who h)
+            → OnOk result (TakesTurn s frames who h (M.stands s who self.new.machine self.new.act) self.new.act plain.new) }
     {
         let room = match &self.act {
             Act::Ended => return Ok(()),

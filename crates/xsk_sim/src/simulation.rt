@@ -1,10 +1,16 @@
-ghost use Rattle.std.specs.Prelude.{◌≡◌, ◌<◌, All, IfOk, length, vec_len};
+ghost use Rattle.std.specs.Prelude.{◌≡◌, ◌<◌, ◌≤◌, ◌+◌, ℕ, Err, List, [], All, IfOk, OnOk, length, map, vec_len};
+ghost use Rattle.std.specs.List.{slice_index_or};
 ghost use Rattle.xsk_umem.specs.Geometry.{IsGeometry};
 ghost use Rattle.xsk_model.specs.Config.{IsRegular};
 ghost use Rattle.xsk_model.specs.Opening.{AreFrames};
-ghost use Rattle.xsk_plain.specs.Log.{calls_of};
+ghost use Rattle.xsk_model.specs.Marks.{apps_of};
+ghost use Rattle.xsk_umem.specs.Frame.{Frame};
+ghost use Rattle.xsk_plain.specs.Log.{calls_of, entries_of};
+ghost use Rattle.xsk_driver.specs.Inputs.{inputs_of};
 ghost use Rattle.xsk_driver.specs.Sent.{IsShort};
-ghost use Rattle.xsk_sim.specs.Shown.{HasShortPackets};
+ghost use Rattle.xsk_sim.specs.Shown.{HasShortPackets, packets_in};
+ghost use Rattle.xsk_sim.specs.Runs.{Setting, HasEnded, HasStalled, last_round_of};
+ghost use Rattle.xsk_sim.specs.Seats.{EachFrom, AreSeated, HadRounds, HaveEnded, DriverSits, AppSits, AreWithinRoom, kept_lists, new_own};
 
 use crate::order::Order;
 use crate::rounds::Workers;
@@ -48,13 +54,12 @@ pub struct Run {
 }
 
 impl Model for Run {
-    ghost use Rattle.std.specs.Prelude.{All, vec_len};
-    ghost use Rattle.xsk_driver.specs.Sent.{IsShort};
-    ghost use Rattle.xsk_sim.specs.Shown.{Shown, HasShortPackets};
+    ghost use Rattle.std.specs.Prelude.{All, map, vec_len};
+    ghost use Rattle.xsk_sim.specs.Shown.{Shown, HasShortPackets, packets_in};
 
     ghost Value = { Shown };
 
-    ghost view = { λ r. record { calls = r.plain.calls; pairs = vec_len r.sent } };
+    ghost view = { λ r. record { calls = r.plain.calls; pairs = vec_len r.sent; log = r.plain.log; sent = map packets_in r.sent.items } };
 
     ghost invariant = { λ r. All HasShortPackets r.sent.items };
 }
@@ -62,7 +67,8 @@ impl Model for Run {
 impl Run {
     /// All calls with their replies, in order.
     pub fn log(&self) -> &Log
-        ensures { calls_of result.now ≡ self.now.calls }
+        ensures calls { calls_of result.now ≡ self.now.calls }
+        ensures entries { entries_of result.now ≡ self.now.log }
     {
         self.plain.log()
     }
@@ -70,7 +76,8 @@ impl Run {
     /// What the driver of a pair sent. The pair must exist.
     pub fn sent(&self, pair: u32) -> &PacketList
         requires { pair < self.now.pairs }
-        ensures { All IsShort result.now.packets }
+        ensures short { All IsShort result.now.packets }
+        ensures sent { result.now.packets ≡ slice_index_or self.now.sent pair [] }
     {
         &self.sent[pair as usize]
     }
@@ -84,7 +91,10 @@ const PACKET_ROUNDS: u64 = 256;
 /// Runs the drivers and applications of a regular configuration in rounds until all have ended, over one list of
 /// packets for each port. The frames are all frames of its UMEM, and `order` is the number of the rounds' order.
 ///
-/// It stalls exactly where some worker hasn't ended after round 1,023 + 256 x packets, which is then its round.
+/// It stalls exactly where some worker hasn't ended after round 1,023 + 256 x packets, which is then its round. Where
+/// there is one application, a run that has ended is a legal history in rounds in which each worker's own calls and
+/// replies are a whole run of its turns, and one that has stalled is such a history of all these rounds, in which those
+/// of some worker aren't.
 pub fn simulate(
     alloc: Global,
     config: Config,
@@ -95,30 +105,57 @@ pub fn simulate(
     requires regular { IsRegular config }
     requires frames { AreFrames config.geometry frames.items }
     requires lists { length packets.now ≡ config.ports }
-    ensures { IfOk result (λ run. run.pairs ≡ length config.pairs) }
+    ensures pairs { IfOk result (λ run. run.pairs ≡ length config.pairs) }
+    ensures ended { apps_of config ≡ 1 → IfOk result (HasEnded (record { config = config; packets = packets.now }) frames.items order) }
+    ensures stalled { (round : ℕ) → apps_of config ≡ 1 → result ≡ Err (SimError.Stalled round)
+        → HasStalled (record { config = config; packets = packets.now }) frames.items order round }
 {
     let shared = config.copy(alloc)?;
     let inputs = Inputs::split(alloc, &shared, packets)?;
-    let mut workers = Workers {
+    let workers = Workers {
         drivers: seat_drivers(alloc, &shared, packets, &inputs)?,
         apps: seat_apps(alloc, &shared)?,
     };
     let _geometry = shared.geometry();
-    let Ok(mut plain) = Plain::open(alloc, config, frames) else {
+    let Ok(plain) = Plain::open(alloc, config, frames) else {
         return Err(SimError::OutOfMemory);
     };
-    make_rounds(
-        &mut workers,
-        &mut plain,
+    run_workers(
+        alloc,
+        workers,
+        plain,
         Order::new(order),
         last_round(packets),
-    )?;
-    let sent = collect_sent(alloc, workers.drivers)?;
+    )
+}
+
+/// Makes rounds until all workers have ended, and collects what the drivers sent.
+fn run_workers(
+    alloc: Global,
+    workers: Workers<'_>,
+    plain: Plain,
+    order: Order,
+    last: u64,
+) -> Result<Run, SimError>
+    requires { IsGeometry plain.config.geometry }
+    ensures pairs { IfOk result (λ run. run.pairs ≡ vec_len workers.entry.drivers) }
+    ensures ended { (s : Setting) (frames : List Frame) → apps_of s.config ≡ 1 → AreSeated s frames [] workers.entry plain → last ≡ last_round_of s.packets
+        → IfOk result (HasEnded s frames order.number) }
+    ensures stalled { (s : Setting) (frames : List Frame) (round : ℕ) → apps_of s.config ≡ 1 → AreSeated s frames [] workers.entry plain → last ≡ last_round_of s.packets
+        → result ≡ Err (SimError.Stalled round) → HasStalled s frames order.number round }
+{
+    let mut workers = workers;
+    let mut plain = plain;
+    make_rounds(&mut workers, &mut plain, order, last)?;
+    let sent = collect_sent(alloc, workers)?;
     Ok(Run { plain, sent })
 }
 
 /// The last round that may be made.
-fn last_round(packets: &[PacketList]) -> u64 {
+fn last_round(packets: &[PacketList]) -> u64
+    requires { length packets.now ≤ 4 }
+    ensures { result ≡ last_round_of packets.now }
+{
     let mut round = FIRST_ROUNDS;
     for list in packets {
         round = round.saturating_add(PACKET_ROUNDS * u64::from(list.len()));
@@ -132,8 +169,13 @@ fn make_rounds(
     order: Order,
     last: u64,
 ) -> Result<(), SimError>
-    requires { IsGeometry plain.old.config.geometry }
+    requires geometry { IsGeometry plain.old.config.geometry }
     ensures drivers { vec_len workers.new.drivers ≡ vec_len workers.old.drivers }
+    ensures ended { (s : Setting) (frames : List Frame) → apps_of s.config ≡ 1 → AreSeated s frames [] workers.old plain.old
+        → OnOk result ((count : ℕ) × (count ≤ last + 1) × HadRounds s frames order.number count workers.new plain.new × HaveEnded workers.new) }
+    ensures stalled { (s : Setting) (frames : List Frame) (round : ℕ) → apps_of s.config ≡ 1 → AreSeated s frames [] workers.old plain.old
+        → result ≡ Err (SimError.Stalled round)
+        → (round ≡ last) × HadRounds s frames order.number (round + 1) workers.new plain.new × (HaveEnded workers.new → ⊥) }
 {
     let mut order = order;
     for round in 0..=last {
@@ -152,8 +194,10 @@ fn seat_drivers<'a>(
     packets: &'a [PacketList],
     inputs: &'a Inputs,
 ) -> Result<Vec<Seat<Driver<'a>>>, OutOfMemory>
-    requires { IsRegular config.now }
-    ensures { IfOk result (λ seats. vec_len seats ≡ length config.now.pairs) }
+    requires regular { IsRegular config.now }
+    requires inputs { inputs.now ≡ inputs_of config.now packets.now }
+    ensures count { IfOk result (λ seats. vec_len seats ≡ length config.now.pairs) }
+    ensures seated { IfOk result (λ seats. EachFrom seats.items 0 (λ who seat. DriverSits (record { config = config.now; packets = packets.now }) new_own who seat.machine seat.act)) }
 {
     let mut seats = Vec::with_capacity(alloc, config.pairs().len())?;
     for pair in 0..config.pairs().len() as u32 {
@@ -183,6 +227,9 @@ fn bytes_of(list: &PacketList) -> u64 {
 /// An application for each queue of two paired ports.
 fn seat_apps<'a>(alloc: Global, config: &'a Config) -> Result<Vec<Seat<App<'a>>>, OutOfMemory>
     requires { IsRegular config.now }
+    ensures count { IfOk result (λ seats. vec_len seats ≡ apps_of config.now) }
+    ensures seated { (s : Setting) → s.config ≡ config.now
+        → IfOk result (λ seats. EachFrom seats.items (length config.now.pairs) (λ who seat. AppSits s new_own who seat.machine seat.act)) }
 {
     let count = (config.ports() / 2) * config.queues();
     let mut seats = Vec::with_capacity(alloc, count as usize)?;
@@ -193,12 +240,15 @@ fn seat_apps<'a>(alloc: Global, config: &'a Config) -> Result<Vec<Seat<App<'a>>>
 }
 
 /// What each driver sent. A driver that had too little room for it makes the run one without memory.
-fn collect_sent(alloc: Global, seats: Vec<Seat<Driver<'_>>>) -> Result<Vec<PacketList>, OutOfMemory>
-    ensures count { IfOk result (λ sent. vec_len sent ≡ vec_len seats.entry) }
+fn collect_sent(alloc: Global, workers: Workers<'_>) -> Result<Vec<PacketList>, OutOfMemory>
+    ensures count { IfOk result (λ sent. vec_len sent ≡ vec_len workers.entry.drivers) }
     ensures short { IfOk result (λ sent. All HasShortPackets sent.items) }
+    ensures kept { IfOk result (λ sent. map packets_in sent.items ≡ kept_lists workers.entry) }
+    ensures within { OnOk result (AreWithinRoom workers.entry) }
 {
-    let mut sent = Vec::with_capacity(alloc, seats.len())?;
-    for seat in seats {
+    let Workers { drivers, apps: _ } = workers;
+    let mut sent = Vec::with_capacity(alloc, drivers.len())?;
+    for seat in drivers {
         let driver = seat.into_machine();
         if driver.overrun() {
             return Err(OutOfMemory);

@@ -1,0 +1,70 @@
+-- The workers at the beginning of a run.
+use Rattle.std.proofs.Common.{◌≡◌, ℕ, ◌<◌, List, [], length, vec_len, sym, subst, ap, ◌∙◌}
+use Rattle.std.proofs.lemmas.List.{get_or-map}
+use Rattle.std.specs.List.{slice_index_or}
+use Rattle.xsk_umem.specs.PacketList.{PacketList}
+use Rattle.xsk_model.specs.Config.{Config, pair_at}
+use Rattle.xsk_model.specs.Rings.{caller_of}
+use Rattle.xsk_model.specs.Marks.{apps_of}
+use Rattle.xsk_umem.specs.Frame.{Frame}
+use Rattle.xsk_model.specs.Opening.{IsOpened, opening}
+use Rattle.xsk_plain.specs.Engine.{Engine, Shows}
+use Rattle.xsk_driver.specs.Inputs.{numbers_from, numbers_of, inputs_of, packets_of_port, packets_of_queue}
+use Rattle.xsk_driver.specs.Shown.{Shown as DriverShown}
+use Rattle.xsk_driver.specs.Runs.{IsNew as IsNewDriver}
+use Rattle.xsk_app.specs.Shown.{Shown as AppShown}
+use Rattle.xsk_app.specs.Standing.{IsNew as IsNewApp}
+use Rattle.xsk_sim.specs.Runs.{Setting}
+use Rattle.xsk_sim.specs.Standing.{IsDriver, IsApp, HasRun}
+use Rattle.xsk_sim.specs.Seats.{EachFrom, DriverSits, AppSits, new_own, AreSeated}
+use Rattle.xsk_sim.specs.declared.rounds.Workers.{Workers}
+
+-- the inputs of a pair's driver are the numbers of its packets
+pub input_numbers : (c : Config) (packets : List PacketList) (inputs : List (List ℕ)) (pair : ℕ) (list : List (List ℕ)) → inputs ≡ inputs_of c packets → pair < length c.pairs
+    → list ≡ packets_of_port packets (pair_at c.pairs pair).port
+    → slice_index_or inputs pair [] ≡ numbers_from c.queues (pair_at c.pairs pair).queue 0 list
+input_numbers c packets inputs pair list is known at =
+    ap (λ (all : List (List ℕ)). slice_index_or all pair []) is
+    ∙ get_or-map (numbers_of c packets) c.pairs pair (record { port = 0; queue = 0; fill = 0; comp = 0 }) [] known
+    ∙ ap (numbers_from c.queues (pair_at c.pairs pair).queue 0) (sym at)
+
+pub new_driver : (s : Setting) (pair : ℕ) (list : List (List ℕ)) (d : DriverShown) → pair < length s.config.pairs
+    → list ≡ packets_of_port s.packets (pair_at s.config.pairs pair).port
+    → IsNewDriver s.config pair (packets_of_queue s.config.queues (pair_at s.config.pairs pair).queue list) d → IsDriver s pair d
+new_driver s pair list d known at new = record {
+  known = known;
+  is = subst (λ (l : List (List ℕ)). IsNewDriver s.config pair (packets_of_queue s.config.queues (pair_at s.config.pairs pair).queue l) d) at new;
+}
+
+pub new_app : (s : Setting) (who : ℕ) (c : Config) (app : ℕ) (a : AppShown) → s.config ≡ c → who ≡ caller_of c app → IsNewApp c app a → IsApp s who a
+new_app s who c app a is caller new =
+    let number : app ≡ a.app = sym new.app in
+    let config : c ≡ s.config = sym is in
+    record {
+      config = new.config ∙ config;
+      caller = caller ∙ ap (λ (k : ℕ). caller_of c k) number ∙ ap (λ (k : Config). caller_of k a.app) config;
+      is = subst (λ (k : Config). IsNewApp k a.app a) config (subst (λ (n : ℕ). IsNewApp c n a) number new);
+    }
+
+-- a configuration that is opened over the frames, with an engine that shows its opening
+pub run_begins : (s : Setting) (frames : List Frame) (engine : Engine) → IsOpened s.config frames → engine.config ≡ s.config → Shows engine (opening s.config frames) → engine.log ≡ []
+    → HasRun s frames [] engine
+run_begins s frames engine opened config shows log =
+    record { config = config; legal = record { opened = opened; legal = tt }; shows = shows; log = log }
+
+-- the workers of a copy of the configuration are seated in an object that was opened with it
+pub seated_first : (c copy : Config) (packets : List PacketList) (frames : List Frame) (w : Workers) (engine : Engine) → copy ≡ c → IsOpened c frames → engine.config ≡ c
+    → Shows engine (opening c frames) → engine.log ≡ []
+    → EachFrom w.drivers.items 0 (λ who seat. DriverSits (record { config = copy; packets = packets }) new_own who seat.machine seat.act)
+    → EachFrom w.apps.items (length copy.pairs) (λ who seat. AppSits (record { config = copy; packets = packets }) new_own who seat.machine seat.act)
+    → vec_len w.drivers ≡ length copy.pairs → vec_len w.apps ≡ apps_of copy → AreSeated (record { config = c; packets = packets }) frames [] w engine
+seated_first c copy packets frames w engine is opened config shows log drivers apps driver_count app_count =
+    subst (λ (k : Config). AreSeated (record { config = k; packets = packets }) frames [] w engine) is
+    (record {
+      run = run_begins (record { config = copy; packets = packets }) frames engine (subst (λ (k : Config). IsOpened k frames) (sym is) opened) (config ∙ sym is)
+          (subst (λ (k : Config). Shows engine (opening k frames)) (sym is) shows) log;
+      drivers = drivers;
+      apps = apps;
+      driver_count = driver_count;
+      app_count = app_count;
+    })

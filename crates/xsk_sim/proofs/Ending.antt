@@ -1,0 +1,103 @@
+-- How a run ends.
+use Rattle.std.proofs.Common.{◌≡◌, ℕ, ◌+◌, ◌<◌, ◌≤◌, false, List, [], length, get_or, sym, ap, subst, ◌∙◌, arith, ⊎_elim}
+use Rattle.std.proofs.lemmas.Bool.{cases_lt}
+use Rattle.xsk_umem.specs.Frame.{Frame}
+use Rattle.xsk_model.specs.Config.{callers_of}
+use Rattle.xsk_model.specs.Entry.{Entry, own}
+use Rattle.xsk_model.specs.History.{IsHistory}
+use Rattle.xsk_model.specs.Sent.{sent}
+use Rattle.xsk_model.proofs.Theorems.{one_holder}
+use Rattle.xsk_model.specs.declared.call.Act.TheVariants.{Ended as IsEnd}
+use Rattle.xsk_plain.specs.Engine.{Engine}
+use Rattle.xsk_sim.specs.Shown.{Shown}
+use Rattle.xsk_sim.specs.Runs.{Setting, IsWorkerRun, IsWholeRun, HasEnded, HasStalled, last_round_of}
+use Rattle.xsk_sim.specs.Standing.{IsActAfter}
+use Rattle.xsk_sim.specs.Seats.{EachFrom, own_in, AreSeated, HadRounds, HaveEnded, kept_lists, AreWithinRoom}
+use Rattle.xsk_sim.specs.declared.rounds.Workers.{Workers}
+use Rattle.xsk_sim.proofs.Acts.{worker_run, sent_at}
+use Rattle.xsk_sim.proofs.Seating.{each_at, each_of, each_shows, each_tells, each_change, each_move, all_whole, some_open, IsOpen}
+
+module _ (s : Setting) (frames : List Frame) (h : List Entry) (w : Workers) (engine : Engine) (seated : AreSeated s frames h w engine) where
+  drivers_after : EachFrom w.drivers.items 0 (λ who seat. IsActAfter s who seat.act (own_in h who))
+  drivers_after = each_change w.drivers.items 0 _ _ seated.drivers (λ k x low high sits. sits.1)
+
+  apps_after : EachFrom w.apps.items (length s.config.pairs) (λ who seat. IsActAfter s who seat.act (own_in h who))
+  apps_after = each_change w.apps.items (length s.config.pairs) _ _ seated.apps (λ k x low high sits. sits.1)
+
+  -- each worker's own calls and replies are a run
+  pub all_runs : (who : ℕ) → who < callers_of s.config → IsWorkerRun s who (own who h)
+  all_runs who below = ⊎_elim
+      (λ (low : who < length s.config.pairs). each_tells w.drivers.items 0 _ (λ k. IsWorkerRun s k (own k h)) drivers_after
+      (λ k seat after. worker_run s k seat.act (own k h) after) who (omega arith) (omega (arith, low, seated.driver_count, w.drivers.ok.0)))
+      (λ (high : length s.config.pairs ≤ who). each_tells w.apps.items (length s.config.pairs) _ (λ k. IsWorkerRun s k (own k h)) apps_after
+      (λ k seat after. worker_run s k seat.act (own k h) after) who high (omega (arith, below, seated.app_count, w.apps.ok.0)))
+      (cases_lt who (length s.config.pairs))
+
+  -- all have ended, and so each one's own calls and replies are a whole run
+  pub whole_runs : HaveEnded w → (who : ℕ) → who < callers_of s.config → IsWholeRun s who (own who h)
+  whole_runs ended who below =
+      let apps_ended : EachFrom w.apps.items (length s.config.pairs) (λ k seat. seat.act ≡ IsEnd) = each_move w.apps.items 0 (length s.config.pairs) _ ended.1 in
+      ⊎_elim
+      (λ (low : who < length s.config.pairs). all_whole s (own_in h) w.drivers.items _ 0 drivers_after ended.0 who (omega arith) (omega (arith, low, seated.driver_count, w.drivers.ok.0)))
+      (λ (high : length s.config.pairs ≤ who). all_whole s (own_in h) w.apps.items _ (length s.config.pairs) apps_after apps_ended who high (omega (arith, below, seated.app_count, w.apps.ok.0)))
+      (cases_lt who (length s.config.pairs))
+
+  -- or some worker's aren't
+  pub open_run : (HaveEnded w → ⊥) → IsOpen s (own_in h) 0 (callers_of s.config)
+  open_run going = ⊎_elim
+      (λ (drivers : EachFrom w.drivers.items 0 (λ k seat. seat.act ≡ IsEnd)). ⊎_elim
+      (λ (apps : EachFrom w.apps.items (length s.config.pairs) (λ k seat. seat.act ≡ IsEnd)). absurd (going (drivers, each_move w.apps.items (length s.config.pairs) 0 _ apps)))
+      (λ (some : IsOpen s (own_in h) (length s.config.pairs) (length s.config.pairs + length w.apps.items)).
+      record { who = some.who; low = omega arith; high = omega (arith, some.high, seated.app_count, w.apps.ok.0); open_run = some.open_run })
+      (some_open s (own_in h) w.apps.items _ (length s.config.pairs) apps_after))
+      (λ (some : IsOpen s (own_in h) 0 (0 + length w.drivers.items)).
+      record { who = some.who; low = omega arith; high = omega (arith, some.high, seated.driver_count, w.drivers.ok.0); open_run = some.open_run })
+      (some_open s (own_in h) w.drivers.items _ 0 drivers_after)
+
+  -- and each driver keeps what it sent
+  driver_lists : HaveEnded w → AreWithinRoom w → EachFrom w.drivers.items 0 (λ k seat. seat.machine.sent.packets ≡ sent s.config h k)
+  driver_lists ended within = each_of w.drivers.items 0 _
+      (λ i d below at.
+      let e : i ≡ 0 + i = omega arith in
+      let sits = each_at w.drivers.items 0 i i _ d seated.drivers below e at in
+      let act = each_at w.drivers.items 0 i i _ d ended.0 below e at in
+      let room = subst (λ x. x.machine.sent.overrun ≡ false) (sym at) (within i d below) in
+      subst (λ k. d.machine.sent.packets ≡ sent s.config h k) e (sent_at s i d.machine d.act (own i h) act sits.0 room))
+
+  pub all_sent : HaveEnded w → AreWithinRoom w → (pair : ℕ) → pair < length s.config.pairs → get_or (kept_lists w) pair [] ≡ sent s.config h pair
+  all_sent ended within pair below =
+      let e : 0 + pair ≡ pair = omega arith in
+      subst (λ k. get_or (kept_lists w) pair [] ≡ sent s.config h k) e
+      (each_shows w.drivers.items 0 (λ seat. seat.machine.sent.packets) (λ k. sent s.config h k) [] (driver_lists ended within) pair
+      (omega (arith, below, seated.driver_count, w.drivers.ok.0)))
+
+-- a run that has ended
+pub ended_run : (s : Setting) (frames : List Frame) (order count : ℕ) (w : Workers) (engine : Engine) (run : Shown) → (had : HadRounds s frames order count w engine)
+    → count ≤ last_round_of s.packets + 1 → HaveEnded w → AreWithinRoom w → run.log ≡ engine.log → run.sent ≡ kept_lists w
+    → HasEnded s frames order run
+ended_run s frames order count w engine run had few ended within log kept =
+    let legal : IsHistory s.config frames had.history = had.seated.run.legal in
+    record {
+      history = had.history;
+      count = count;
+      few = few;
+      is = record { legal = legal; rounds = had.rounds; runs = all_runs s frames had.history w engine had.seated };
+      whole = whole_runs s frames had.history w engine had.seated ended;
+      log = log ∙ had.seated.run.log;
+      holders = λ past later split. one_holder s.config frames past later (subst (IsHistory s.config frames) split legal);
+      sent = λ pair below. ap (λ lists. get_or lists pair []) kept ∙ all_sent s frames had.history w engine had.seated ended within pair below;
+    }
+
+-- a run that has stalled
+pub stalled_run : (s : Setting) (frames : List Frame) (order round : ℕ) (w : Workers) (engine : Engine) → round ≡ last_round_of s.packets
+    → HadRounds s frames order (round + 1) w engine → (HaveEnded w → ⊥) → HasStalled s frames order round
+stalled_run s frames order round w engine last had going =
+    let some = open_run s frames had.history w engine had.seated going in
+    record {
+      last = last;
+      history = had.history;
+      is = record { legal = had.seated.run.legal; rounds = had.rounds; runs = all_runs s frames had.history w engine had.seated };
+      who = some.who;
+      known = some.high;
+      open_run = some.open_run;
+    }

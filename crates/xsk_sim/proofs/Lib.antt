@@ -1,0 +1,7 @@
+pub mod Acts
+pub mod RunSteps
+pub mod Seating
+pub mod Turning
+pub mod Beginning
+pub mod Ending
+pub mod Unique

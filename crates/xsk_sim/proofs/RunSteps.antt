@@ -1,0 +1,104 @@
+-- What a call on the engine does to a run.
+use Rattle.std.proofs.Common.{◌≡◌, ℕ, List, [], ◌∷◌, ◌++◌, refl, sym, subst, ap, ◌∙◌, inl, inr, append-nil}
+use Rattle.std.proofs.lemmas.List.{map-append}
+use Rattle.xsk_umem.specs.Frame.{Frame}
+use Rattle.xsk_model.specs.Config.{Config}
+use Rattle.xsk_model.specs.Marks.{apps_of}
+use Rattle.xsk_model.specs.Object.{State, reply_at, after}
+use Rattle.xsk_model.specs.Entry.{Told, Entry, own, with_told}
+use Rattle.xsk_model.specs.Legal.{IsLegal}
+use Rattle.xsk_model.specs.Opening.{opening}
+use Rattle.xsk_model.specs.History.{IsHistory, state_after, MayGive}
+use Rattle.xsk_model.specs.Stored.{stored_entry}
+use Rattle.xsk_model.specs.declared.call.Call.{Call}
+use Rattle.xsk_model.specs.declared.call.Reply.{Reply}
+use Rattle.xsk_model.specs.declared.call.Act.{Act}
+use Rattle.xsk_model.specs.declared.call.Act.TheVariants.{Call as Calls, Ended as IsEnd}
+use Rattle.xsk_model.proofs.Folds.{own-push_same}
+use Rattle.xsk_model.proofs.Histories.{goes_push, after_all-append}
+use Rattle.xsk_plain.specs.Engine.{Engine, Shows, CanPerform}
+use Rattle.xsk_plain.proofs.Legality.{legal_can_perform}
+use Rattle.xsk_sim.specs.Runs.{Setting}
+use Rattle.xsk_sim.specs.Standing.{IsActAfter, HasRun, TakesTurn}
+
+-- the engine made a call and entered it
+pub record Performs (old new : Engine) (who : ℕ) (call : Call) (answer : Reply) : Type 0 where
+  pub reply : (s : State) → Shows old s → CanPerform old.config old.rings call → answer ≡ reply_at old.config s call
+  pub state : (s : State) → Shows old s → CanPerform old.config old.rings call → Shows new (after old.config s who call)
+  pub log : new.log ≡ old.log ++ stored_entry old.config.geometry old.config.sg (record { who = who; call = call; reply = answer }) ∷ []
+  pub config : new.config ≡ old.config
+
+abbrev entry : ℕ → Call → Reply → Entry
+entry who call reply = record { who = who; call = call; reply = reply }
+
+-- a legal call goes on with the history
+pub history_step : (c : Config) (frames : List Frame) (h : List Entry) (who : ℕ) (call : Call) (reply : Reply) → IsHistory c frames h → IsLegal c (own who h) who call
+    → reply ≡ reply_at c (state_after c frames h) call → IsHistory c frames (h ++ entry who call reply ∷ [])
+history_step c frames h who call reply history legal is =
+    record { opened = history.opened; legal = goes_push c (opening c frames) [] h (entry who call reply) history.legal legal is }
+
+pub run_step : (s : Setting) (frames : List Frame) (h : List Entry) (old new : Engine) (who : ℕ) (call : Call) (reply : Reply) → HasRun s frames h old
+    → IsLegal s.config (own who h) who call → Performs old new who call reply → HasRun s frames (h ++ entry who call reply ∷ []) new
+run_step s frames h old new who call reply run legal performs =
+    let e = entry who call reply in
+    let history : IsHistory old.config frames h = subst (λ (c : Config). IsHistory c frames h) (sym run.config) run.legal in
+    let shows : Shows old (state_after old.config frames h) = subst (λ (c : Config). Shows old (state_after c frames h)) (sym run.config) run.shows in
+    let mine : IsLegal old.config (own who h) who call = subst (λ (c : Config). IsLegal c (own who h) who call) (sym run.config) legal in
+    let can : CanPerform old.config old.rings call = legal_can_perform frames h old who call history shows mine in
+    let is : reply ≡ reply_at s.config (state_after s.config frames h) call =
+    subst (λ (c : Config). reply ≡ reply_at c (state_after s.config frames h) call) run.config (performs.reply (state_after s.config frames h) run.shows can) in
+    let left : Shows new (after s.config (state_after s.config frames h) who call) =
+    subst (λ (c : Config). Shows new (after c (state_after s.config frames h) who call)) run.config (performs.state (state_after s.config frames h) run.shows can) in
+    record {
+      config = performs.config ∙ run.config;
+      legal = history_step s.config frames h who call reply run.legal legal is;
+      shows = subst (Shows new) (sym (after_all-append s.config (opening s.config frames) h (e ∷ []))) left;
+      log =
+          performs.log
+          ∙ ap (λ (c : Config). old.log ++ stored_entry c.geometry c.sg e ∷ []) run.config
+          ∙ ap (λ (l : List Entry). l ++ stored_entry s.config.geometry s.config.sg e ∷ []) run.log
+          ∙ sym (map-append (stored_entry s.config.geometry s.config.sg) h (e ∷ []));
+    }
+
+pub may_give : (c : Config) (frames : List Frame) (h : List Entry) (who : ℕ) (call : Call) (reply : Reply) → IsHistory c frames (h ++ entry who call reply ∷ [])
+    → MayGive c (own who h) who call reply
+may_give c frames h who call reply history =
+    record { frames = frames; history = h ++ entry who call reply ∷ []; legal = history; entries = own-push_same who h (entry who call reply) refl }
+
+-- a worker that makes its call takes its turn
+pub turn_made : (s : Setting) (frames : List Frame) (h : List Entry) (old new : Engine) (who : ℕ) (call : Call) (reply : Reply) (act : Act) (Stands : List Told → Type 0)
+    → apps_of s.config ≡ 1 → HasRun s frames h old → IsActAfter s who (Calls call) (own who h) → Performs old new who call reply
+    → (MayGive s.config (own who h) who call reply → Stands (with_told (own who h) call reply) × IsActAfter s who act (with_told (own who h) call reply))
+    → TakesTurn s frames who h Stands act new
+turn_made s frames h old new who call reply act Stands one run given performs goes =
+    let e = entry who call reply in
+    let made : HasRun s frames (h ++ e ∷ []) new = run_step s frames h old new who call reply run (given.0 one) performs in
+    let stands = goes (may_give s.config frames h who call reply made.legal) in
+    let mine : own who (h ++ e ∷ []) ≡ with_told (own who h) call reply = own-push_same who h e refl in
+    record {
+      entries = e ∷ [];
+      turn = inr (given.1, (e, refl, refl));
+      run = made;
+      stands = subst Stands (sym mine) stands.0;
+      after = subst (IsActAfter s who act) (sym mine) stands.1;
+    }
+
+-- one that has ended makes none
+pub turn_past : (s : Setting) (frames : List Frame) (h : List Entry) (engine : Engine) (who : ℕ) (Stands : List Told → Type 0) → HasRun s frames h engine
+    → Stands (own who h) → IsActAfter s who IsEnd (own who h) → TakesTurn s frames who h Stands IsEnd engine
+turn_past s frames h engine who Stands run stands whole =
+    let e : h ≡ h ++ [] = sym (append-nil h) in
+    record {
+      entries = [];
+      turn = inl (whole, refl);
+      run = subst (λ l. HasRun s frames l engine) e run;
+      stands = subst (λ l. Stands (own who l)) e stands;
+      after = subst (λ l. IsActAfter s who IsEnd (own who l)) e whole;
+    }
+
+-- room in the log changes nothing of a run
+pub run_same : (s : Setting) (frames : List Frame) (h : List Entry) (old new : Engine) → HasRun s frames h old
+    → new ≡ record old { spare_entries = new.spare_entries; spare_bytes = new.spare_bytes } → HasRun s frames h new
+run_same s frames h old new run same =
+    subst (HasRun s frames h) (sym same)
+    (record { config = run.config; legal = run.legal; shows = record { rings = run.shows.rings; marks = run.shows.marks }; log = run.log })

@@ -1,0 +1,119 @@
+-- Turns of callers, one after the other.
+use Rattle.std.proofs.Common.{◌≡◌, ℕ, zero, suc, ◌+◌, ◌-◌, ◌^◌, ◌<◌, ◌≤◌, List, [], ◌∷◌, ◌++◌, length, refl, sym, subst, ap, ◌∙◌, arith, append_assoc, append-nil, ⊎_elim}
+use Rattle.std.specs.Prelude.{OnOk}
+use Rattle.std.proofs.Common.{Result, Ok, Err}
+use Rattle.std.specs.List.{range_with_len}
+use Rattle.xsk_umem.specs.Frame.{Frame}
+use Rattle.xsk_model.specs.Config.{Config, IsConfig, callers_of}
+use Rattle.xsk_model.specs.Marks.{apps_of}
+use Rattle.xsk_model.specs.Entry.{Told, Entry, own}
+use Rattle.xsk_model.proofs.Folds.{own-push_other}
+use Rattle.xsk_model.specs.declared.call.Act.{Act}
+use Rattle.xsk_plain.specs.Engine.{Engine}
+use Rattle.xsk_driver.specs.Shown.{Shown as DriverShown}
+use Rattle.xsk_app.specs.Shown.{Shown as AppShown}
+use Rattle.xsk_sim.specs.Order.{next_number, number_at, start_of, rotated}
+use Rattle.xsk_sim.specs.Rounds.{IsTurn, AreTurns, AreRounds}
+use Rattle.xsk_sim.specs.Runs.{Setting, IsWholeRun}
+use Rattle.xsk_sim.specs.Standing.{DriverStands, AppStands, IsActAfter}
+use Rattle.xsk_sim.specs.Seats.{DriverSits, AppSits, own_in, AreSeated, HadTurns, HadRound, HadRounds}
+use Rattle.xsk_sim.specs.declared.rounds.Workers.{Workers}
+
+-- the own calls and replies of a caller whose turn it isn't stay
+pub own_turn : (Whole : ℕ → List Told → Type 0) (h : List Entry) (who other : ℕ) (es : List Entry) → IsTurn Whole h who es → (other ≡ who → ⊥)
+    → own other (h ++ es) ≡ own other h
+own_turn Whole h who other es turn differs = ⊎_elim
+    (λ (past : Whole who (own who h) × (es ≡ [])). subst (λ fs. own other (h ++ fs) ≡ own other h) (sym past.1) (ap (own other) (append-nil h)))
+    (λ (made : (Whole who (own who h) → ⊥) × ((e : Entry) × (e.who ≡ who) × (es ≡ e ∷ []))).
+    subst (λ fs. own other (h ++ fs) ≡ own other h) (sym made.1.2) (own-push_other other h made.1.0 (λ is. differs (sym is ∙ made.1.1))))
+    turn
+
+-- one turn
+pub one_turn : (Whole : ℕ → List Told → Type 0) (h : List Entry) (who : ℕ) (es : List Entry) → IsTurn Whole h who es → AreTurns Whole h (who ∷ []) es
+one_turn Whole h who es turn = (es, [], sym (append-nil es), turn, refl)
+
+-- turns after turns
+pub turns_both : (Whole : ℕ → List Told → Type 0) (past : List Entry) (ws vs : List ℕ) (es fs : List Entry) → AreTurns Whole past ws es
+    → AreTurns Whole (past ++ es) vs fs → AreTurns Whole past (ws ++ vs) (es ++ fs)
+turns_both Whole past [] vs es fs first rest =
+    subst (λ gs. AreTurns Whole past vs (gs ++ fs)) (sym first) (subst (λ p. AreTurns Whole p vs fs) (ap (λ gs. past ++ gs) first ∙ append-nil past) rest)
+turns_both Whole past (w ∷ ws) vs es fs first rest =
+    let more : AreTurns Whole ((past ++ first.0) ++ first.1) vs fs =
+    subst (λ p. AreTurns Whole p vs fs) (ap (λ gs. past ++ gs) first.2 ∙ sym (append_assoc past first.0 first.1)) rest in (
+      first.0,
+      first.1 ++ fs,
+      ap (λ gs. gs ++ fs) first.2 ∙ append_assoc first.0 first.1 fs,
+      first.3,
+      turns_both Whole (past ++ first.0) ws vs first.1 fs first.4 more,
+    )
+
+-- where a step went well, what follows from it
+pub on_ok : {T E : Type 0} (r : Result T E) (P Q : Type 0) → (P → Q) → OnOk r P → OnOk r Q
+on_ok (Ok x) P Q f p = f p
+on_ok (Err e) P Q f p = tt
+
+-- a worker that stands for its own calls and replies does so after further entries that aren't its own
+pub driver_on : (s : Setting) (h later : List Entry) (who : ℕ) (d : DriverShown) (act : Act) → own who later ≡ own who h → DriverSits s (own_in h) who d act
+    → DriverSits s (own_in later) who d act
+driver_on s h later who d act same sits = subst (λ l. DriverStands s who d act l × IsActAfter s who act l) (sym same) sits
+
+pub app_on : (s : Setting) (h later : List Entry) (who : ℕ) (a : AppShown) (act : Act) → own who later ≡ own who h → AppSits s (own_in h) who a act
+    → AppSits s (own_in later) who a act
+app_on s h later who a act same sits = subst (λ l. AppStands s who a act l × IsActAfter s who act l) (sym same) sits
+
+-- callers who had their turns, and then further ones
+pub had_both : (s : Setting) (frames : List Frame) (h : List Entry) (ws vs : List ℕ) (w v : Workers) (engine later : Engine) → (had : HadTurns s frames h ws w engine)
+    → HadTurns s frames (h ++ had.entries) vs v later → HadTurns s frames h (ws ++ vs) v later
+had_both s frames h ws vs w v engine later had more = record {
+  entries = had.entries ++ more.entries;
+  turns = turns_both (IsWholeRun s) h ws vs had.entries more.entries had.turns more.turns;
+  seated = subst (λ l. AreSeated s frames l v later) (append_assoc h had.entries more.entries) more.seated;
+}
+
+pub had_none : (s : Setting) (frames : List Frame) (h : List Entry) (w : Workers) (engine : Engine) → AreSeated s frames h w engine → HadTurns s frames h [] w engine
+had_none s frames h w engine seated =
+    record { entries = []; turns = refl; seated = subst (λ l. AreSeated s frames l w engine) (sym (append-nil h)) seated }
+
+pub range-push : (a n : ℕ) → range_with_len a (suc n) ≡ range_with_len a n ++ (a + n) ∷ []
+range-push a zero = let e : a ≡ a + 0 = omega arith in ap (λ k. k ∷ []) e
+range-push a (suc n) =
+    let e : a + 1 + n ≡ a + suc n = omega arith in ap (λ ks. a ∷ ks) (range-push (a + 1) n) ∙ ap (λ k. a ∷ (range_with_len (a + 1) n ++ k ∷ [])) e
+
+pub range_more : (a k : ℕ) → a ≤ k → range_with_len a (k - a) ++ k ∷ [] ≡ range_with_len a (k + 1 - a)
+range_more a k h =
+    let e : k ≡ a + (k - a) = omega arith in
+    let f : suc (k - a) ≡ k + 1 - a = omega arith in
+    ap (λ (j : ℕ). range_with_len a (k - a) ++ j ∷ []) e ∙ sym (range-push a (k - a)) ∙ ap (range_with_len a) f
+
+pub range_first : (k : ℕ) → range_with_len 0 k ++ k ∷ [] ≡ range_with_len 0 (k + 1)
+range_first k =
+    let e : k ≡ 0 + k = omega arith in
+    let f : suc k ≡ k + 1 = omega arith in
+    ap (λ (j : ℕ). range_with_len 0 k ++ j ∷ []) e ∙ sym (range-push 0 k) ∙ ap (range_with_len 0) f
+
+-- the callers are the drivers and the applications
+pub callers_are : (c : Config) (d a callers : ℕ) → IsConfig c → apps_of c ≡ 1 → d ≡ length c.pairs → a ≡ apps_of c → (d + a < 2 ^ 32 → callers ≡ d + a) → callers ≡ callers_of c
+callers_are c d a callers is one drivers apps count =
+    let few = is.pairs_few in
+    let sum : callers ≡ d + a = count (omega (arith, few, one, drivers, apps)) in
+    sum ∙ (omega (arith, one, drivers, apps))
+
+-- ---- rounds
+
+pub rounds_push : (s : Setting) (frames : List Frame) (order count number next : ℕ) (w v : Workers) (engine later : Engine) → (had : HadRounds s frames order count w engine)
+    → number ≡ number_at order count → HadRound s frames had.history number next v later
+    → HadRounds s frames order (count + 1) v later × (next ≡ number_at order (count + 1))
+rounds_push s frames order count number next w v engine later had at round =
+    let e : suc count ≡ count + 1 = omega arith in
+    let turns = subst (λ (n : ℕ). AreTurns (IsWholeRun s) had.history (rotated (callers_of s.config) (start_of (callers_of s.config) n)) round.turns.entries) at round.turns.turns in
+    let rounds : AreRounds (IsWholeRun s) (callers_of s.config) order (suc count) (had.history ++ round.turns.entries) = (had.history, round.turns.entries, refl, had.rounds, turns) in (
+      record {
+        history = had.history ++ round.turns.entries;
+        rounds = subst (λ (n : ℕ). AreRounds (IsWholeRun s) (callers_of s.config) order n (had.history ++ round.turns.entries)) e rounds;
+        seated = round.turns.seated;
+      },
+      round.number ∙ ap next_number at ∙ ap (number_at order) e,
+    )
+
+pub rounds_none : (s : Setting) (frames : List Frame) (order : ℕ) (w : Workers) (engine : Engine) → AreSeated s frames [] w engine → HadRounds s frames order 0 w engine
+rounds_none s frames order w engine seated = record { history = []; rounds = refl; seated = seated }

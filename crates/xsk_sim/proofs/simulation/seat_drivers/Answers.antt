@@ -1,0 +1,31 @@
+use Rattle.std.proofs.Common.{◌≡◌, ◌<◌, List, [], length, ap, ◌∙◌, arith}
+use Rattle.xsk_umem.specs.PacketList.{PacketList}
+use Rattle.xsk_model.specs.Config.{pair_at}
+use Rattle.xsk_model.specs.declared.config.PairInfo.{PairInfo}
+use Rattle.xsk_driver.specs.Inputs.{packets_of_port}
+use Rattle.xsk_sim.specs.Runs.{Setting}
+use Rattle.xsk_sim.proofs.Seating.{each_none, each_push}
+use Rattle.xsk_sim.proofs.Beginning.{input_numbers, new_driver}
+use Rattle.xsk_sim.proofs.simulation.seat_drivers.Goals as goal
+
+pub loop-pair-init : goal.loop-pair-init
+loop-pair-init c = record { count = c.in_ok-seats.ensures.len; seated = rw c.in_ok-seats.ensures.items (each_none 0 _) }
+
+pub loop-pair-preserved : goal.loop-pair-preserved
+loop-pair-preserved c =
+    let s : Setting = record { config = c.args.config.now; packets = c.args.packets.now } in
+    let pair = c.loop-pair.pair in
+    let known : pair < length s.config.pairs = omega (arith, c.loop-pair-test.true, ap (length {A = PairInfo}) c.pairs-2.ensures.value) in
+    let list = c.in-Some-Some.list.now in
+    let at : list.packets ≡ packets_of_port s.packets (pair_at s.config.pairs pair).port =
+    ap (λ (l : PacketList). l.packets) (c.in-Some-Some.ensures.lookup.3.1 (record { packets = []; spare_packets = 0; spare_bytes = 0 }))
+    ∙ ap (λ (pairs : List PairInfo). packets_of_port s.packets (pair_at pairs pair).port) c.pairs-in-loop-pair.ensures.value in
+    let new = new_driver s pair list.packets c.in_ok-driver.driver known at
+    (c.in_ok-driver.ensures.is_new (input_numbers s.config s.packets c.args.inputs.now pair list.packets c.requires.inputs known at)) in
+    let count = c.loop-pair.invariant.count in
+    let items = c.loop-pair.seats.ok.0 in
+    record {
+      count = omega (arith, c.in_ok-push.ensures.len, count);
+      seated = rw c.in_ok-push.ensures.items
+          (each_push c.loop-pair.seats.items 0 pair _ c.new-in-loop-pair.result c.loop-pair.invariant.seated (omega (arith, count, items)) (c.new-in-loop-pair.ensures s pair new));
+    }

@@ -1,0 +1,89 @@
+-- Runs of a configuration over lists of packets, one for each port: histories in rounds, in which each worker's own calls
+-- and replies are a run of its turns. A run has ended where all of these are whole, and it has stalled where one isn't.
+use Rattle.std.specs.Prelude.{◌≡◌, ℕ, ◌+◌, ◌*◌, ◌<◌, ◌≤◌, List, [], ◌++◌, length, sum_by}
+use Rattle.std.specs.List.{slice_index_or}
+use Rattle.xsk_umem.specs.Frame.{Frame}
+use Rattle.xsk_umem.specs.PacketList.{PacketList}
+use Rattle.xsk_model.specs.Config.{Config, callers_of, pair_at}
+use Rattle.xsk_model.specs.Rings.{caller_of}
+use Rattle.xsk_model.specs.Entry.{Told, Entry, own}
+use Rattle.xsk_model.specs.History.{IsHistory, state_after}
+use Rattle.xsk_model.specs.Holders.{HasOneHolder}
+use Rattle.xsk_model.specs.Stored.{stored}
+use Rattle.xsk_model.specs.Sent.{sent}
+use Rattle.xsk_driver.specs.Inputs.{packets_of_queue, packets_of_port}
+use Rattle.xsk_driver.specs.Turns.{IsDriverRun, IsWholeDriverRun}
+use Rattle.xsk_app.specs.Turns.{IsAppRun, IsWholeAppRun}
+use Rattle.xsk_sim.specs.Rounds.{AreRounds}
+use Rattle.xsk_sim.specs.Shown.{Shown}
+
+-- what is run: a configuration over the packets of each port
+pub record Setting : Type 0 where
+  pub config : Config
+  pub packets : List PacketList
+
+-- the packets that come to a pair's driver: those of its port that go to its queue
+abbrev pub input_of : Setting → ℕ → List (List ℕ)
+input_of s pair = packets_of_queue s.config.queues (pair_at s.config.pairs pair).queue (packets_of_port s.packets (pair_at s.config.pairs pair).port)
+
+-- a caller's own calls and replies are a run: of the driver of its pair over the pair's packets, or of its application
+pub record IsWorkerRun (s : Setting) (who : ℕ) (l : List Told) : Type 0 where
+  pub driver : who < length s.config.pairs → IsDriverRun s.config who (input_of s who) l
+  pub app : (a : ℕ) → who ≡ caller_of s.config a → IsAppRun s.config a l
+
+-- they are a whole run: of the driver of its pair over the pair's packets, or of its
+-- application
+pub record IsWholeRun (s : Setting) (who : ℕ) (l : List Told) : Type 0 where
+  pub driver : who < length s.config.pairs → IsWholeDriverRun s.config who (input_of s who) l
+  pub app : (a : ℕ) → who ≡ caller_of s.config a → IsWholeAppRun s.config a l
+
+-- the number of all packets, and the last round that a run may have, counted from 0
+abbrev pub count_of : List PacketList → ℕ
+count_of packets = sum_by (λ (list : PacketList). length list.packets) packets
+
+abbrev pub last_round_of : List PacketList → ℕ
+last_round_of packets = 1023 + 256 * count_of packets
+
+-- a legal history from the opening with these frames, of so many rounds, in which each worker's own calls and replies are
+-- a run
+pub record IsRoundHistory (s : Setting) (frames : List Frame) (order count : ℕ) (h : List Entry) : Type 0 where
+  pub legal : IsHistory s.config frames h
+  pub rounds : AreRounds (IsWholeRun s) (callers_of s.config) order count h
+  pub runs : (who : ℕ) → who < callers_of s.config → IsWorkerRun s who (own who h)
+
+-- A run that has ended within the rounds that it may have: each worker's own calls and replies are a whole run. The log
+-- is the history as it is stored, after each of its prefixes each frame has one holder, and what is shown of each driver
+-- are the packets that its calls on COMPLETION completed.
+pub record HasEnded (s : Setting) (frames : List Frame) (order : ℕ) (run : Shown) : Type 0 where
+  pub history : List Entry
+  pub count : ℕ
+  pub few : count ≤ last_round_of s.packets + 1
+  pub is : IsRoundHistory s frames order count history
+  pub whole : (who : ℕ) → who < callers_of s.config → IsWholeRun s who (own who history)
+  pub log : run.log ≡ stored s.config.geometry s.config.sg history
+  pub holders : (past later : List Entry) → history ≡ past ++ later → HasOneHolder s.config.geometry.frames (state_after s.config frames past)
+  pub sent : (pair : ℕ) → pair < length s.config.pairs → slice_index_or run.sent pair [] ≡ sent s.config history pair
+
+-- a run that has stalled: it had all rounds that it may have, of which this is the last, and some worker's own calls and
+-- replies aren't a whole run
+pub record HasStalled (s : Setting) (frames : List Frame) (order round : ℕ) : Type 0 where
+  pub last : round ≡ last_round_of s.packets
+  pub history : List Entry
+  pub is : IsRoundHistory s frames order (round + 1) history
+  pub who : ℕ
+  pub known : who < callers_of s.config
+  pub open_run : IsWholeRun s who (own who history) → ⊥
+
+-- there is one such history for each number of rounds
+abbrev pub OneHistory : Type 0
+OneHistory = (s : Setting) (frames : List Frame) (order count : ℕ) (h k : List Entry) → IsRoundHistory s frames order count h
+    → IsRoundHistory s frames order count k → h ≡ k
+
+-- so there is one log of a run that has ended
+abbrev pub OneLog : Type 0
+OneLog = (s : Setting) (frames : List Frame) (order : ℕ) (run other : Shown) → HasEnded s frames order run → HasEnded s frames order other
+    → run.log ≡ other.log
+
+-- and no run both ends and stalls
+abbrev pub EndsOrStalls : Type 0
+EndsOrStalls = (s : Setting) (frames : List Frame) (order round : ℕ) (run : Shown) → HasEnded s frames order run → HasStalled s frames order round → ⊥

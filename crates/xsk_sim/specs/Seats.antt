@@ -1,0 +1,72 @@
+-- The workers in their seats, each with its number among the callers.
+use Rattle.std.specs.Prelude.{◌≡◌, ℕ, ◌+◌, false, All, map, List, [], ◌∷◌, ◌++◌, length, vec_len}
+use Rattle.xsk_umem.specs.Frame.{Frame}
+use Rattle.xsk_model.specs.Config.{callers_of}
+use Rattle.xsk_model.specs.Marks.{apps_of}
+use Rattle.xsk_model.specs.Entry.{Told, Entry, own}
+use Rattle.xsk_model.specs.declared.call.Act.{Act}
+use Rattle.xsk_model.specs.declared.call.Act.TheVariants.{Ended as IsEnd}
+use Rattle.xsk_plain.specs.Engine.{Engine}
+use Rattle.xsk_driver.specs.Shown.{Shown as DriverShown}
+use Rattle.xsk_app.specs.Shown.{Shown as AppShown}
+use Rattle.xsk_sim.specs.Order.{start_of, rotated, next_number}
+use Rattle.xsk_sim.specs.Rounds.{AreTurns, AreRounds}
+use Rattle.xsk_sim.specs.Runs.{Setting, IsWholeRun}
+use Rattle.xsk_sim.specs.Standing.{DriverStands, AppStands, IsActAfter, HasRun}
+use Rattle.xsk_sim.specs.declared.rounds.Workers.{Workers}
+
+-- each element of a list holds with its number, of which the first is given
+unfoldable pub EachFrom : {A : Type 0} → List A → ℕ → (ℕ → A → Type 0) → Type 0
+EachFrom [] n P = Unit {0}
+EachFrom (x ∷ xs) n P = P n x × EachFrom xs (n + 1) P
+
+-- a worker stands for its own calls and replies, with the act that it gave then
+abbrev pub DriverSits : Setting → (ℕ → List Told) → ℕ → DriverShown → Act → Type 0
+DriverSits s mine who d act = DriverStands s who d act (mine who) × IsActAfter s who act (mine who)
+
+abbrev pub AppSits : Setting → (ℕ → List Told) → ℕ → AppShown → Act → Type 0
+AppSits s mine who a act = AppStands s who a act (mine who) × IsActAfter s who act (mine who)
+
+-- a caller's own calls and replies in a history
+abbrev pub own_in : List Entry → ℕ → List Told
+own_in h who = own who h
+
+abbrev pub new_own : ℕ → List Told
+new_own who = []
+
+-- the drivers of all pairs and then the applications stand for their own calls and replies in a history that the engine
+-- has run
+pub record AreSeated (s : Setting) (frames : List Frame) (h : List Entry) (w : Workers) (engine : Engine) : Type 0 where
+  pub run : HasRun s frames h engine
+  pub drivers : EachFrom w.drivers.items 0 (λ who seat. DriverSits s (own_in h) who seat.machine seat.act)
+  pub apps : EachFrom w.apps.items (length s.config.pairs) (λ who seat. AppSits s (own_in h) who seat.machine seat.act)
+  pub driver_count : vec_len w.drivers ≡ length s.config.pairs
+  pub app_count : vec_len w.apps ≡ apps_of s.config
+
+-- after a history, the callers had their turns
+pub record HadTurns (s : Setting) (frames : List Frame) (h : List Entry) (callers : List ℕ) (w : Workers) (engine : Engine) : Type 0 where
+  pub entries : List Entry
+  pub turns : AreTurns (IsWholeRun s) h callers entries
+  pub seated : AreSeated s frames (h ++ entries) w engine
+
+-- all callers had the round with this order number, and the next number stands
+pub record HadRound (s : Setting) (frames : List Frame) (h : List Entry) (order next : ℕ) (w : Workers) (engine : Engine) : Type 0 where
+  pub turns : HadTurns s frames h (rotated (callers_of s.config) (start_of (callers_of s.config) order)) w engine
+  pub number : next ≡ next_number order
+
+-- they had so many rounds, from the first on
+pub record HadRounds (s : Setting) (frames : List Frame) (order count : ℕ) (w : Workers) (engine : Engine) : Type 0 where
+  pub history : List Entry
+  pub rounds : AreRounds (IsWholeRun s) (callers_of s.config) order count history
+  pub seated : AreSeated s frames history w engine
+
+-- all have ended
+abbrev pub HaveEnded : Workers → Type 0
+HaveEnded w = EachFrom w.drivers.items 0 (λ who seat. seat.act ≡ IsEnd) × EachFrom w.apps.items 0 (λ who seat. seat.act ≡ IsEnd)
+
+-- what the drivers keep of the packets that they sent, and that none has overrun
+abbrev pub kept_lists : Workers → List (List (List ℕ))
+kept_lists w = map (λ seat. seat.machine.sent.packets) w.drivers.items
+
+abbrev pub AreWithinRoom : Workers → Type 0
+AreWithinRoom w = All (λ seat. seat.machine.sent.overrun ≡ false) w.drivers.items

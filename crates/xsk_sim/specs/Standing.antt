@@ -1,0 +1,65 @@
+-- Where the workers stand, each for its own calls and replies, and where the object stands.
+use Rattle.std.specs.Prelude.{◌≡◌, ℕ, ◌<◌, List, ◌++◌, length}
+use Rattle.xsk_umem.specs.Frame.{Frame}
+use Rattle.xsk_model.specs.Rings.{caller_of}
+use Rattle.xsk_model.specs.Marks.{apps_of}
+use Rattle.xsk_model.specs.Entry.{Told, Entry, own}
+use Rattle.xsk_model.specs.Legal.{IsLegal}
+use Rattle.xsk_model.specs.History.{IsHistory, state_after}
+use Rattle.xsk_model.specs.Stored.{stored}
+use Rattle.xsk_model.specs.declared.call.Act.{Act}
+use Rattle.xsk_model.specs.declared.call.Act.TheVariants.{Call as Calls, Ended as IsEnd}
+use Rattle.xsk_plain.specs.Engine.{Engine, Shows}
+use Rattle.xsk_driver.specs.Shown.{Shown as DriverShown}
+use Rattle.xsk_driver.specs.Runs.{IsNew as IsNewDriver, StandsWith}
+use Rattle.xsk_app.specs.Shown.{Shown as AppShown}
+use Rattle.xsk_app.specs.Standing.{IsNew as IsNewApp, Comes}
+use Rattle.xsk_sim.specs.Rounds.{IsTurn}
+use Rattle.xsk_sim.specs.Runs.{Setting, input_of, IsWorkerRun, IsWholeRun}
+
+-- ---- workers
+
+-- the new driver of a pair
+pub record IsDriver (s : Setting) (who : ℕ) (d : DriverShown) : Type 0 where
+  pub known : who < length s.config.pairs
+  pub is : IsNewDriver s.config who (input_of s who) d
+
+-- the driver of a pair stands for a list, and gave this act after it
+pub record DriverStands (s : Setting) (who : ℕ) (d : DriverShown) (act : Act) (l : List Told) : Type 0 where
+  pub known : who < length s.config.pairs
+  pub stands : StandsWith s.config who (input_of s who) d act l
+
+-- a new application
+pub record IsApp (s : Setting) (who : ℕ) (a : AppShown) : Type 0 where
+  pub config : a.config ≡ s.config
+  pub caller : who ≡ caller_of s.config a.app
+  pub is : IsNewApp s.config a.app a
+
+-- an application stands for a list, and gave this act after it
+pub record AppStands (s : Setting) (who : ℕ) (a : AppShown) (act : Act) (l : List Told) : Type 0 where
+  pub config : a.config ≡ s.config
+  pub caller : who ≡ caller_of s.config a.app
+  pub comes : Comes a act l
+
+-- What a worker gave after a list: a call, where the list is a run and no whole one, or its end, where it is a whole one.
+-- The call is legal where there is one application.
+abbrev pub IsActAfter : Setting → ℕ → Act → List Told → Type 0
+IsActAfter s who (Calls call) l = (apps_of s.config ≡ 1 → IsLegal s.config l who call) × (IsWholeRun s who l → ⊥) × IsWorkerRun s who l
+IsActAfter s who IsEnd l = IsWholeRun s who l
+
+-- ---- the object
+
+-- the engine's log is a legal history from the opening, as it is stored, and it shows the state that the history leaves
+pub record HasRun (s : Setting) (frames : List Frame) (h : List Entry) (engine : Engine) : Type 0 where
+  pub config : engine.config ≡ s.config
+  pub legal : IsHistory s.config frames h
+  pub shows : Shows engine (state_after s.config frames h)
+  pub log : engine.log ≡ stored s.config.geometry s.config.sg h
+
+-- a worker took its turn after a history, and stands for its own calls and replies with the act that it gave then
+pub record TakesTurn (s : Setting) (frames : List Frame) (who : ℕ) (h : List Entry) (Stands : List Told → Type 0) (act : Act) (engine : Engine) : Type 0 where
+  pub entries : List Entry
+  pub turn : IsTurn (IsWholeRun s) h who entries
+  pub run : HasRun s frames (h ++ entries) engine
+  pub stands : Stands (own who (h ++ entries))
+  pub after : IsActAfter s who act (own who (h ++ entries))
