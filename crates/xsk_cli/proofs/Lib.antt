@@ -3,3 +3,4 @@ pub mod Totals
 pub mod TwoPortsLaws
 pub mod Refusals
 pub mod Ending
+pub mod Redirected

@@ -1,11 +1,17 @@
 -- What a command makes of its two inputs: the texts that it writes, or the reason why there are none.
-use Rattle.std.specs.Prelude.{◌≡◌, ℕ, ◌<◌, ◌≤◌, ◌⊎◌, Option, IfSome, List, [], ◌∷◌, ◌++◌, codes}
+use Rattle.std.specs.Prelude.{◌≡◌, ℕ, ◌<◌, ◌≤◌, ◌⊎◌, Option, IfSome, Bool, ◌&&◌, nat_le, List, [], ◌∷◌, ◌++◌, length, map, filter, codes}
 use Rattle.std.specs.Fmt.{decimal}
+use Rattle.xsk_umem.specs.Frame.{Frame}
+use Rattle.xsk_umem.specs.PacketList.{PacketList}
+use Rattle.xsk_model.specs.Sent.{sent}
+use Rattle.xsk_sim.specs.Shown.{Shown, packets_in}
+use Rattle.xsk_sim.specs.Runs.{Setting, HasEnded, HasStalled}
 use Rattle.xsk_pcap.specs.Capture.{IsRefused}
 use Rattle.xsk_pcap.specs.Written.{written}
 use Rattle.xsk_pcap.specs.declared.reading.BadCapture.{BadCapture as Cause}
 use Rattle.xsk_pcap.specs.declared.reading.BadCapture.TheVariants.{ShortHeader, BadMagic, BadVersion, BadLink, Truncated, RecordTooLong, OutOfMemory as NoMemory}
-use Rattle.xsk_cli.specs.Judged.{AreTaken, packets_in, bytes_in, IsDue}
+use Rattle.xsk_cli.specs.Judged.{AreTaken, packets_in as packets_of_both, bytes_in, IsDue}
+use Rattle.xsk_cli.specs.TwoPorts.{two_ports, command_geometry}
 use Rattle.xsk_io.specs.declared.bay.Stream.{Stream}
 use Rattle.xsk_cli.specs.Streams.{Written, HasTexts, Stands, IsInput}
 use Rattle.xsk_cli.specs.declared.texts.Texts.{Texts}
@@ -18,16 +24,39 @@ use Rattle.xsk_cli.specs.declared.status.Status.TheVariants.{Done, Usage, BadCap
 abbrev pub report_of : ℕ → List ℕ
 report_of calls = codes "calls " ++ decimal calls ++ codes "\n"
 
--- the texts of what was sent of the packets of both ports
-pub record AreTextsOf (packets0 packets1 : List (List ℕ)) (texts : Written) : Type 0 where
-  pub sent0 : List (List ℕ)
-  pub sent1 : List (List ℕ)
-  pub calls : ℕ
-  pub out0 : texts.out0 ≡ written (sent0 ∷ [])
-  pub out1 : texts.out1 ≡ written (sent1 ∷ [])
-  pub report : texts.report ≡ report_of calls
+-- what is run: the command's configuration over the packets of both ports
+abbrev pub setting_of : List PacketList → Setting
+setting_of lists = record { config = two_ports command_geometry; packets = lists }
 
--- why there are none
+abbrev pub HavePackets : List PacketList → List (List ℕ) → List (List ℕ) → Type 0
+HavePackets lists packets0 packets1 = map packets_in lists ≡ packets0 ∷ packets1 ∷ []
+
+-- whether a packet is sent on by the other port: it has 14 bytes up to the 3,840 that a frame holds
+abbrev pub is_sent_on : List ℕ → Bool
+is_sent_on packet = nat_le 14 (length packet) && nat_le (length packet) 3840
+
+-- The texts of a run of the packets of both ports that has ended: what each driver sent, and the number of calls. What is
+-- sent by each port is exactly what the other port received and sends on, in order and whole.
+pub record AreTextsOf (packets0 packets1 : List (List ℕ)) (texts : Written) : Type 0 where
+  pub lists : List PacketList
+  pub are : HavePackets lists packets0 packets1
+  pub frames : List Frame
+  pub run : Shown
+  pub ended : HasEnded (setting_of lists) frames 0 run
+  pub out0 : texts.out0 ≡ written (sent (two_ports command_geometry) ended.history 0 ∷ [])
+  pub out1 : texts.out1 ≡ written (sent (two_ports command_geometry) ended.history 1 ∷ [])
+  pub report : texts.report ≡ report_of (length ended.history)
+  pub redirected0 : texts.out0 ≡ written (filter is_sent_on packets1 ∷ [])
+  pub redirected1 : texts.out1 ≡ written (filter is_sent_on packets0 ∷ [])
+
+-- a run of them that has stalled at a round
+pub record IsStalledOf (packets0 packets1 : List (List ℕ)) (round : ℕ) : Type 0 where
+  pub lists : List PacketList
+  pub are : HavePackets lists packets0 packets1
+  pub frames : List Frame
+  pub stalled : HasStalled (setting_of lists) frames 0 round
+
+-- why there are no texts
 abbrev pub HasNoTexts : List (List ℕ) → List (List ℕ) → Status → Type 0
 HasNoTexts packets0 packets1 Done = ⊥
 HasNoTexts packets0 packets1 Usage = ⊥
@@ -35,7 +64,7 @@ HasNoTexts packets0 packets1 (BadCapture port cause) = ⊥
 HasNoTexts packets0 packets1 (ReadFault port) = ⊥
 HasNoTexts packets0 packets1 (WriteFault stream) = ⊥
 HasNoTexts packets0 packets1 (OpenFault stream) = ⊥
-HasNoTexts packets0 packets1 (Stalled round) = Unit {0}
+HasNoTexts packets0 packets1 (Stalled round) = IsStalledOf packets0 packets1 round
 HasNoTexts packets0 packets1 (TooMuch excess) = ⊥
 HasNoTexts packets0 packets1 OutOfMemory = Unit {0}
 
@@ -47,11 +76,11 @@ pub record AreMade (in0 in1 : List ℕ) (texts : Written) : Type 0 where
   pub are : AreTextsOf packets0 packets1 texts
 
 -- the run of their packets has stalled
-pub record HasStalled (in0 in1 : List ℕ) (round : ℕ) : Type 0 where
+pub record IsStalled (in0 in1 : List ℕ) (round : ℕ) : Type 0 where
   pub packets0 : List (List ℕ)
   pub packets1 : List (List ℕ)
   pub taken : AreTaken in0 in1 packets0 packets1
-  pub stalled : HasNoTexts packets0 packets1 (Stalled round)
+  pub stalled : IsStalledOf packets0 packets1 round
 
 -- why there are no texts of two inputs
 abbrev pub IsFailure : List ℕ → List ℕ → Status → Type 0
@@ -61,7 +90,7 @@ IsFailure in0 in1 (BadCapture port cause) = IsDue in0 in1 (BadCapture port cause
 IsFailure in0 in1 (ReadFault port) = ⊥
 IsFailure in0 in1 (WriteFault stream) = ⊥
 IsFailure in0 in1 (OpenFault stream) = ⊥
-IsFailure in0 in1 (Stalled round) = HasStalled in0 in1 round
+IsFailure in0 in1 (Stalled round) = IsStalled in0 in1 round
 IsFailure in0 in1 (TooMuch excess) = IsDue in0 in1 (TooMuch excess)
 IsFailure in0 in1 OutOfMemory = Unit {0}
 
@@ -113,7 +142,7 @@ IsEarly OutOfMemory = Unit {0}
 pub record IsJudged (in0 in1 : List ℕ) (status : Status) : Type 0 where
   pub refused : Refuses status → IsDue in0 in1 status
   pub due : (other : Status) → IsDue in0 in1 other → (status ≡ other) ⊎ IsEarly status
-  pub stalled : (round : ℕ) → status ≡ Stalled round → HasStalled in0 in1 round
+  pub stalled : (round : ℕ) → status ≡ Stalled round → IsStalled in0 in1 round
 
 -- ---- the steps
 
@@ -142,8 +171,8 @@ IsRefusal port bytes OutOfMemory = Unit {0}
 -- by how much the packets of both ports pass the limits
 abbrev pub IsAbove : List (List ℕ) → List (List ℕ) → Excess → Type 0
 IsAbove packets0 packets1 (Input port) = ⊥
-IsAbove packets0 packets1 (Packets n) = (n ≡ packets_in packets0 packets1) × (65536 < n)
-IsAbove packets0 packets1 (Bytes n) = (packets_in packets0 packets1 ≤ 65536) × (n ≡ bytes_in packets0 packets1) × (33554432 < n)
+IsAbove packets0 packets1 (Packets n) = (n ≡ packets_of_both packets0 packets1) × (65536 < n)
+IsAbove packets0 packets1 (Bytes n) = (packets_of_both packets0 packets1 ≤ 65536) × (n ≡ bytes_in packets0 packets1) × (33554432 < n)
 
 abbrev pub IsExcess : List (List ℕ) → List (List ℕ) → Status → Type 0
 IsExcess packets0 packets1 Done = ⊥
@@ -156,13 +185,14 @@ IsExcess packets0 packets1 (Stalled round) = ⊥
 IsExcess packets0 packets1 (TooMuch excess) = IsAbove packets0 packets1 excess
 IsExcess packets0 packets1 OutOfMemory = ⊥
 
-abbrev pub IsStalledOrMemory : Status → Type 0
-IsStalledOrMemory Done = ⊥
-IsStalledOrMemory Usage = ⊥
-IsStalledOrMemory (BadCapture port cause) = ⊥
-IsStalledOrMemory (ReadFault port) = ⊥
-IsStalledOrMemory (WriteFault stream) = ⊥
-IsStalledOrMemory (OpenFault stream) = ⊥
-IsStalledOrMemory (Stalled round) = Unit {0}
-IsStalledOrMemory (TooMuch excess) = ⊥
-IsStalledOrMemory OutOfMemory = Unit {0}
+-- why a run of the lists of both ports gives nothing
+abbrev pub IsFailureOf : List PacketList → Status → Type 0
+IsFailureOf lists Done = ⊥
+IsFailureOf lists Usage = ⊥
+IsFailureOf lists (BadCapture port cause) = ⊥
+IsFailureOf lists (ReadFault port) = ⊥
+IsFailureOf lists (WriteFault stream) = ⊥
+IsFailureOf lists (OpenFault stream) = ⊥
+IsFailureOf lists (Stalled round) = (frames : List Frame) × HasStalled (setting_of lists) frames 0 round
+IsFailureOf lists (TooMuch excess) = ⊥
+IsFailureOf lists OutOfMemory = Unit {0}

@@ -15,3 +15,7 @@ two_ports g = record {
   sg = false;
   wakeup = false;
 }
+
+-- 256 frames of 4,096 bytes, without headroom
+abbrev pub command_geometry : Geometry
+command_geometry = record { frames = 256; chunk = 4096; headroom = 0 }

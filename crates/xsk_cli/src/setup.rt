@@ -1,7 +1,7 @@
-ghost use Rattle.std.specs.Prelude.{◌≡◌, ◌/◌, IfOk, length, map};
+ghost use Rattle.std.specs.Prelude.{◌≡◌, ◌/◌, IfOk};
 ghost use Rattle.xsk_model.specs.Config.{IsRegular};
 ghost use Rattle.xsk_model.specs.Opening.{AreFrames};
-ghost use Rattle.xsk_cli.specs.TwoPorts.{two_ports};
+ghost use Rattle.xsk_cli.specs.TwoPorts.{two_ports, command_geometry};
 
 use std::alloc::Global;
 use xsk_model::{Config, PairInfo, SocketInfo};
@@ -17,10 +17,9 @@ const ENTRIES: u32 = 2048;
 
 /// The configuration of the command, and the frames of its UMEM.
 pub(crate) fn set_up(alloc: Global) -> Result<(Config, Frames), OutOfMemory>
+    ensures config { IfOk result (λ made. made.0 ≡ two_ports command_geometry) }
     ensures regular { IfOk result (λ made. IsRegular made.0) }
-    ensures ports { IfOk result (λ made. made.0.ports ≡ 2) }
-    ensures pairs { IfOk result (λ made. length made.0.pairs ≡ 2) }
-    ensures frames { IfOk result (λ made. AreFrames made.0.geometry made.1.items) }
+    ensures frames { IfOk result (λ made. AreFrames command_geometry made.1.items) }
 {
     let (geometry, frames) = register(alloc, FRAMES * u64::from(CHUNK), CHUNK)?;
     Ok((configure(alloc, geometry)?, frames))

@@ -1,13 +1,15 @@
-ghost use Rattle.std.specs.Prelude.{◌≡◌, ℕ, ◌+◌, ◌<◌, ◌≤◌, ◌⊎◌, ◌^◌, ◌∷◌, [], All, IfErr, IfOk, IsTrue, OnOk, length, vec_len, string_bytes};
+ghost use Rattle.std.specs.Prelude.{◌≡◌, ℕ, ◌+◌, ◌<◌, ◌≤◌, ◌⊎◌, ◌^◌, ◌∷◌, [], All, List, IfErr, IfOk, IsTrue, OnOk, length, vec_len, string_bytes};
 ghost use Rattle.std.specs.List.{concat};
 ghost use Rattle.xsk_pcap.specs.Capture.{IsCapture, IsRefused};
 ghost use Rattle.xsk_pcap.specs.declared.reading.BadCapture.{BadCapture as ACause};
 ghost use Rattle.xsk_pcap.specs.Written.{written};
+ghost use Rattle.xsk_umem.specs.Frame.{Frame as AFrame};
 ghost use Rattle.xsk_driver.specs.Sent.{IsShort};
+ghost use Rattle.xsk_sim.specs.Runs.{HasEnded};
 ghost use Rattle.xsk_cli.specs.declared.status.Status.{Status as AStatus};
 ghost use Rattle.xsk_cli.specs.Cause.{IsOwn};
 ghost use Rattle.xsk_cli.specs.Judged.{packets_in, bytes_in, AreTaken, IsDue};
-ghost use Rattle.xsk_cli.specs.Made.{AreMade, AreTextsOf, HasNoTexts, IsFailure, IsRefusal, IsExcess, IsStalledOrMemory, refused_as, report_of, written_in};
+ghost use Rattle.xsk_cli.specs.Made.{AreMade, AreTextsOf, HasNoTexts, IsFailure, IsRefusal, IsExcess, IsFailureOf, refused_as, setting_of, report_of, written_in};
 
 use crate::setup::set_up;
 use crate::{Excess, Status};
@@ -72,7 +74,9 @@ fn write_texts(alloc: Global, taken: Taken) -> Result<Texts, Status>
     ensures failed { IfErr result (HasNoTexts taken.first.packets taken.second.packets) }
 {
     let Taken { first, second } = taken;
-    let lists = vec![in alloc; first, second].map_err(|_| Status::OutOfMemory)?;
+    let Ok(lists) = vec![in alloc; first, second] else {
+        return Err(Status::OutOfMemory);
+    };
     let run = run_lists(alloc, lists.as_slice())?;
     let out0 = capture_text(alloc, run.sent(0))?;
     let out1 = capture_text(alloc, run.sent(1))?;
@@ -132,10 +136,12 @@ fn bytes_of(list: &PacketList) -> u64
     bytes
 }
 
+/// Runs the lists of both ports.
 fn run_lists(alloc: Global, lists: &[PacketList]) -> Result<Run, Status>
     requires { length lists.now ≡ 2 }
-    ensures failed { IfErr result IsStalledOrMemory }
     ensures pairs { IfOk result (λ run. run.pairs ≡ 2) }
+    ensures ended { IfOk result (λ run. (frames : List AFrame) × HasEnded (setting_of lists.now) frames 0 run) }
+    ensures failed { IfErr result (IsFailureOf lists.now) }
 {
     let (config, frames) = set_up(alloc)?;
     match simulate(alloc, config, frames, lists, ORDER) {

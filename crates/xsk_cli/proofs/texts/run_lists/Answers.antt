@@ -1,0 +1,8 @@
+use Rattle.std.proofs.Common.{Err, ap}
+use Rattle.xsk_cli.proofs.Redirected.{stalled_from}
+use Rattle.xsk_cli.proofs.texts.run_lists.Goals as goal
+
+pub returns-in-Err-Stalled-clause-failed : goal.returns-in-Err-Stalled-clause-failed
+returns-in-Err-Stalled-clause-failed c =
+    stalled_from c.in_ok-config.config c.args.lists.now c.in_ok-config.frames.items c.in-Err-Stalled.round c.in_ok-config.ensures.config
+    (λ one. c.in-Err-Stalled.ensures.stalled c.in-Err-Stalled.round one (ap Err c.in-Err-Stalled.field-0-is))
