@@ -26,7 +26,7 @@ fn a_configuration_tells_its_parts(rt: HostRuntime) -> Result<(), Fail> {
     Ok(())
 }
 
-fn socket_on(port: u32) -> SocketInfo
+pub(crate) fn socket_on(port: u32) -> SocketInfo
     ensures { result ≡ record { port = port; queue = 0; rx = Some 2048; tx = Some 2048 } }
 {
     SocketInfo {
@@ -37,7 +37,7 @@ fn socket_on(port: u32) -> SocketInfo
     }
 }
 
-fn pair_on(port: u32) -> PairInfo
+pub(crate) fn pair_on(port: u32) -> PairInfo
     ensures { result ≡ record { port = port; queue = 0; fill = 2048; comp = 2048 } }
 {
     PairInfo {
