@@ -1,5 +1,7 @@
 -- What a driver and an application give after a list of their calls and replies.
-use Rattle.std.proofs.Common.{◌≡◌, ℕ, ◌<◌, false, Option, Some, None, List, [], length, refl, sym, subst, ap, ◌∙◌, arith}
+use Rattle.std.proofs.Common.{◌≡◌, ℕ, ◌<◌, ◌≤◌, Bool, true, false, Option, Some, None, List, [], length, refl, sym, subst, ap, ◌∙◌, ⊎_elim, arith}
+use Rattle.std.specs.Prelude.{IsTrue}
+use Rattle.std.specs.List.{concat}
 use Rattle.xsk_umem.specs.PacketList.{PacketList}
 use Rattle.xsk_model.specs.Config.{Config}
 use Rattle.xsk_model.specs.Rings.{caller_of}
@@ -19,23 +21,42 @@ use Rattle.xsk_model.specs.Config.{classes_of}
 use Rattle.xsk_model.proofs.ScriptLemmas.{whole_run}
 use Rattle.xsk_app.specs.Standing.{IsNew as IsNewApp, HasGot, Comes}
 use Rattle.xsk_sim.specs.Runs.{Setting, input_of, IsWorkerRun}
-use Rattle.xsk_sim.specs.Standing.{DriverStands, IsApp, AppStands, IsActAfter}
+use Rattle.xsk_sim.specs.Standing.{other_of, HasRoomToSend, DriverStands, IsApp, AppStands, IsActAfter}
 
 -- ---- drivers
 
-pub driver_after : (s : Setting) (who : ℕ) (d : DriverShown) (act : Act) (l : List Told) → who < length s.config.pairs
+pub driver_after : (s : Setting) (who : ℕ) (d : DriverShown) (act : Act) (l : List Told) → who < length s.config.pairs → HasRoomToSend s who d
     → StandsWith s.config who (input_of s who) d act l → DriverStands s who d act l × IsActAfter s who act l
-driver_after s who d (Calls call) l known stands =
-    (record { known = known; stands = stands }, (λ one. stands.0.tells.owns.1, λ whole. stands.2 (whole.driver known), record { driver = λ below. stands.1; app = λ a is. absurd (omega arith) }))
-driver_after s who d IsEnd l known stands =
-    (record { known = known; stands = stands }, record { driver = λ below. stands.0; app = λ a is. absurd (omega arith) })
+driver_after s who d (Calls call) l known room stands =
+    (record { known = known; room = room; stands = stands }, (λ one. stands.0.tells.owns.1, λ whole. stands.2 (whole.driver known), record { driver = λ below. stands.1; app = λ a is. absurd (omega arith) }))
+driver_after s who d IsEnd l known room stands =
+    (record { known = known; room = room; stands = stands }, record { driver = λ below. stands.0; app = λ a is. absurd (omega arith) })
 
--- what a driver that has ended keeps, if it hasn't overrun, is what it sent
-pub sent_at : (s : Setting) (who : ℕ) (d : DriverShown) (act : Act) (l : List Told) → act ≡ IsEnd → DriverStands s who d act l → d.sent.overrun ≡ false
+-- its room stays
+pub room_stays : (s : Setting) (who : ℕ) (old new : DriverShown) → HasRoomToSend s who old
+    → (new.sent.most_packets ≡ old.sent.most_packets) × (new.sent.most_bytes ≡ old.sent.most_bytes) → HasRoomToSend s who new
+room_stays s who old new room same = record { packets = same.0 ∙ room.packets; bytes = same.1 ∙ room.bytes }
+
+-- packets are no more than what the paired port received
+pub record IsWithin (s : Setting) (who : ℕ) (packets : List (List ℕ)) : Type 0 where
+  pub count : length packets ≤ length (other_of s who)
+  pub bytes : length (concat packets) ≤ length (concat (other_of s who))
+
+is_false : (b : Bool) → (IsTrue b → ⊥) → b ≡ false
+is_false true h = absurd (h refl)
+is_false false h = refl
+
+-- a driver that has ended and has sent no more than that keeps what it sent
+pub sent_at : (s : Setting) (who : ℕ) (d : DriverShown) (act : Act) (l : List Told) → act ≡ IsEnd → DriverStands s who d act l
+    → IsWithin s who (sent_from s.config (sockets_of s.config who) [] l)
     → d.sent.packets ≡ sent_from s.config (sockets_of s.config who) [] l
-sent_at s who d act l is stands room =
+sent_at s who d act l is stands within =
     let ended : StandsWith s.config who (input_of s who) d IsEnd l = subst (λ a. StandsWith s.config who (input_of s who) d a l) is stands.stands in
-    ended.1.sent.kept room
+    let mine = sent_from s.config (sockets_of s.config who) [] l in
+    ended.1.sent.kept (is_false d.sent.overrun (λ overran. ⊎_elim
+    (λ (many : d.sent.most_packets < length mine). absurd (omega (arith, many, stands.room.packets, within.count)))
+    (λ (many : d.sent.most_bytes < length (concat mine)). absurd (omega (arith, many, stands.room.bytes, within.bytes)))
+    (ended.1.sent.exceeds.0 overran)))
 
 -- ---- applications
 

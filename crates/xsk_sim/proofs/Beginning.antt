@@ -15,7 +15,7 @@ use Rattle.xsk_driver.specs.Runs.{IsNew as IsNewDriver}
 use Rattle.xsk_app.specs.Shown.{Shown as AppShown}
 use Rattle.xsk_app.specs.Standing.{IsNew as IsNewApp}
 use Rattle.xsk_sim.specs.Runs.{Setting}
-use Rattle.xsk_sim.specs.Standing.{IsDriver, IsApp, HasRun}
+use Rattle.xsk_sim.specs.Standing.{HasRoomToSend, IsDriver, IsApp, HasRun}
 use Rattle.xsk_sim.specs.Seats.{EachFrom, DriverSits, AppSits, new_own, AreSeated}
 use Rattle.xsk_sim.specs.declared.rounds.Workers.{Workers}
 
@@ -28,11 +28,12 @@ input_numbers c packets inputs pair list is known at =
     ∙ get_or-map (numbers_of c packets) c.pairs pair (record { port = 0; queue = 0; fill = 0; comp = 0 }) [] known
     ∙ ap (numbers_from c.queues (pair_at c.pairs pair).queue 0) (sym at)
 
-pub new_driver : (s : Setting) (pair : ℕ) (list : List (List ℕ)) (d : DriverShown) → pair < length s.config.pairs
+pub new_driver : (s : Setting) (pair : ℕ) (list : List (List ℕ)) (d : DriverShown) → pair < length s.config.pairs → HasRoomToSend s pair d
     → list ≡ packets_of_port s.packets (pair_at s.config.pairs pair).port
     → IsNewDriver s.config pair (packets_of_queue s.config.queues (pair_at s.config.pairs pair).queue list) d → IsDriver s pair d
-new_driver s pair list d known at new = record {
+new_driver s pair list d known room at new = record {
   known = known;
+  room = room;
   is = subst (λ (l : List (List ℕ)). IsNewDriver s.config pair (packets_of_queue s.config.queues (pair_at s.config.pairs pair).queue l) d) at new;
 }
 

@@ -1,8 +1,8 @@
 -- How a run ends.
-use Rattle.std.proofs.Common.{◌≡◌, ℕ, ◌+◌, ◌<◌, ◌≤◌, false, List, [], length, get_or, sym, ap, subst, ◌∙◌, arith, ⊎_elim}
+use Rattle.std.proofs.Common.{◌≡◌, ℕ, ◌+◌, ◌<◌, ◌≤◌, List, [], length, get_or, ap, subst, ◌∙◌, arith, ⊎_elim}
 use Rattle.std.proofs.lemmas.Bool.{cases_lt}
 use Rattle.xsk_umem.specs.Frame.{Frame}
-use Rattle.xsk_model.specs.Config.{callers_of}
+use Rattle.xsk_model.specs.Config.{IsRegular, callers_of}
 use Rattle.xsk_model.specs.Entry.{Entry, own}
 use Rattle.xsk_model.specs.History.{IsHistory}
 use Rattle.xsk_model.specs.Sent.{sent}
@@ -12,9 +12,10 @@ use Rattle.xsk_plain.specs.Engine.{Engine}
 use Rattle.xsk_sim.specs.Shown.{Shown}
 use Rattle.xsk_sim.specs.Runs.{Setting, IsWorkerRun, IsWholeRun, HasEnded, HasStalled, last_round_of}
 use Rattle.xsk_sim.specs.Standing.{IsActAfter}
-use Rattle.xsk_sim.specs.Seats.{EachFrom, own_in, AreSeated, HadRounds, HaveEnded, kept_lists, AreWithinRoom}
+use Rattle.xsk_sim.specs.Seats.{EachFrom, own_in, AreSeated, HadRounds, HaveEnded, kept_lists}
 use Rattle.xsk_sim.specs.declared.rounds.Workers.{Workers}
 use Rattle.xsk_sim.proofs.Acts.{worker_run, sent_at}
+use Rattle.xsk_sim.proofs.Within.{AreWithin, are_within}
 use Rattle.xsk_sim.proofs.Seating.{each_at, each_of, each_shows, each_tells, each_change, each_move, all_whole, some_open, IsOpen}
 
 module _ (s : Setting) (frames : List Frame) (h : List Entry) (w : Workers) (engine : Engine) (seated : AreSeated s frames h w engine) where
@@ -55,16 +56,16 @@ module _ (s : Setting) (frames : List Frame) (h : List Entry) (w : Workers) (eng
       (some_open s (own_in h) w.drivers.items _ 0 drivers_after)
 
   -- and each driver keeps what it sent
-  driver_lists : HaveEnded w → AreWithinRoom w → EachFrom w.drivers.items 0 (λ k seat. seat.machine.sent.packets ≡ sent s.config h k)
+  driver_lists : HaveEnded w → AreWithin s h → EachFrom w.drivers.items 0 (λ k seat. seat.machine.sent.packets ≡ sent s.config h k)
   driver_lists ended within = each_of w.drivers.items 0 _
       (λ i d below at.
       let e : i ≡ 0 + i = omega arith in
       let sits = each_at w.drivers.items 0 i i _ d seated.drivers below e at in
       let act = each_at w.drivers.items 0 i i _ d ended.0 below e at in
-      let room = subst (λ x. x.machine.sent.overrun ≡ false) (sym at) (within i d below) in
-      subst (λ k. d.machine.sent.packets ≡ sent s.config h k) e (sent_at s i d.machine d.act (own i h) act sits.0 room))
+      let known : i < length s.config.pairs = omega (arith, below, seated.driver_count, w.drivers.ok.0) in
+      subst (λ k. d.machine.sent.packets ≡ sent s.config h k) e (sent_at s i d.machine d.act (own i h) act sits.0 (within i known)))
 
-  pub all_sent : HaveEnded w → AreWithinRoom w → (pair : ℕ) → pair < length s.config.pairs → get_or (kept_lists w) pair [] ≡ sent s.config h pair
+  pub all_sent : HaveEnded w → AreWithin s h → (pair : ℕ) → pair < length s.config.pairs → get_or (kept_lists w) pair [] ≡ sent s.config h pair
   all_sent ended within pair below =
       let e : 0 + pair ≡ pair = omega arith in
       subst (λ k. get_or (kept_lists w) pair [] ≡ sent s.config h k) e
@@ -72,17 +73,19 @@ module _ (s : Setting) (frames : List Frame) (h : List Entry) (w : Workers) (eng
       (omega (arith, below, seated.driver_count, w.drivers.ok.0)))
 
 -- a run that has ended
-pub ended_run : (s : Setting) (frames : List Frame) (order count : ℕ) (w : Workers) (engine : Engine) (run : Shown) → (had : HadRounds s frames order count w engine)
-    → count ≤ last_round_of s.packets + 1 → HaveEnded w → AreWithinRoom w → run.log ≡ engine.log → run.sent ≡ kept_lists w
+pub ended_run : (s : Setting) (frames : List Frame) (order count : ℕ) (w : Workers) (engine : Engine) (run : Shown) → IsRegular s.config → (had : HadRounds s frames order count w engine)
+    → count ≤ last_round_of s.packets + 1 → HaveEnded w → run.log ≡ engine.log → run.sent ≡ kept_lists w
     → HasEnded s frames order run
-ended_run s frames order count w engine run had few ended within log kept =
+ended_run s frames order count w engine run regular had few ended log kept =
     let legal : IsHistory s.config frames had.history = had.seated.run.legal in
+    let whole = whole_runs s frames had.history w engine had.seated ended in
+    let within : AreWithin s had.history = are_within s frames had.history regular legal whole in
     record {
       history = had.history;
       count = count;
       few = few;
       is = record { legal = legal; rounds = had.rounds; runs = all_runs s frames had.history w engine had.seated };
-      whole = whole_runs s frames had.history w engine had.seated ended;
+      whole = whole;
       log = log ∙ had.seated.run.log;
       holders = λ past later split. one_holder s.config frames past later (subst (IsHistory s.config frames) split legal);
       sent = λ pair below. ap (λ lists. get_or lists pair []) kept ∙ all_sent s frames had.history w engine had.seated ended within pair below;

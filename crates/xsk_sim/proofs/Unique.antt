@@ -1,5 +1,5 @@
 -- There is one history in rounds for each number of rounds, and so one outcome of a run.
-use Rattle.std.proofs.Common.{◌≡◌, ℕ, zero, suc, ◌+◌, ◌-◌, ◌<◌, ◌≤◌, Bool, true, false, List, [], ◌∷◌, ◌++◌, length, refl, sym, subst, ap, ◌∙◌, arith, append_assoc, append-nil, length-append, ◌⊎◌, inl, inr, ⊎_elim}
+use Rattle.std.proofs.Common.{◌≡◌, ℕ, zero, suc, ◌+◌, ◌-◌, ◌<◌, ◌≤◌, true, List, [], ◌∷◌, ◌++◌, length, refl, sym, subst, ap, ◌∙◌, arith, append_assoc, append-nil, length-append, inl, inr, ⊎_elim}
 use Rattle.std.proofs.lemmas.Bool.{cases_lt}
 use Rattle.std.proofs.lemmas.List.{nil_from_length}
 use Rattle.xsk_umem.specs.Frame.{Frame}
@@ -17,7 +17,7 @@ use Rattle.xsk_driver.specs.Turns.{seat_of, start, turn as driver_turn}
 use Rattle.xsk_app.specs.Turns.{new_kept, turn as app_turn}
 use Rattle.xsk_sim.specs.Order.{number_at, start_of, rotated}
 use Rattle.xsk_sim.specs.Rounds.{IsTurn, AreTurns, AreRounds}
-use Rattle.xsk_sim.specs.Runs.{Setting, input_of, IsWorkerRun, IsWholeRun, IsRoundHistory, HasEnded, HasStalled, OneHistory, OneLog, EndsOrStalls}
+use Rattle.xsk_sim.specs.Runs.{Setting, input_of, IsWorkerRun, IsWholeRun, IsRoundHistory, HasEnded, OneHistory, OneLog, EndsOrStalls}
 use Rattle.xsk_sim.specs.Shown.{Shown}
 use Rattle.xsk_model.specs.Stored.{stored}
 

@@ -1,5 +1,5 @@
 -- The workers in their seats, each with its number among the callers.
-use Rattle.std.specs.Prelude.{◌≡◌, ℕ, ◌+◌, false, All, map, List, [], ◌∷◌, ◌++◌, length, vec_len}
+use Rattle.std.specs.Prelude.{◌≡◌, ℕ, ◌+◌, map, List, [], ◌∷◌, ◌++◌, length, vec_len}
 use Rattle.xsk_umem.specs.Frame.{Frame}
 use Rattle.xsk_model.specs.Config.{callers_of}
 use Rattle.xsk_model.specs.Marks.{apps_of}
@@ -64,9 +64,6 @@ pub record HadRounds (s : Setting) (frames : List Frame) (order count : ℕ) (w 
 abbrev pub HaveEnded : Workers → Type 0
 HaveEnded w = EachFrom w.drivers.items 0 (λ who seat. seat.act ≡ IsEnd) × EachFrom w.apps.items 0 (λ who seat. seat.act ≡ IsEnd)
 
--- what the drivers keep of the packets that they sent, and that none has overrun
+-- what the drivers keep of the packets that they sent
 abbrev pub kept_lists : Workers → List (List (List ℕ))
 kept_lists w = map (λ seat. seat.machine.sent.packets) w.drivers.items
-
-abbrev pub AreWithinRoom : Workers → Type 0
-AreWithinRoom w = All (λ seat. seat.machine.sent.overrun ≡ false) w.drivers.items

@@ -1,6 +1,8 @@
 -- Where the workers stand, each for its own calls and replies, and where the object stands.
 use Rattle.std.specs.Prelude.{◌≡◌, ℕ, ◌<◌, List, ◌++◌, length}
+use Rattle.std.specs.List.{concat}
 use Rattle.xsk_umem.specs.Frame.{Frame}
+use Rattle.xsk_model.specs.Config.{pair_at}
 use Rattle.xsk_model.specs.Rings.{caller_of}
 use Rattle.xsk_model.specs.Marks.{apps_of}
 use Rattle.xsk_model.specs.Entry.{Told, Entry, own}
@@ -10,23 +12,36 @@ use Rattle.xsk_model.specs.Stored.{stored}
 use Rattle.xsk_model.specs.declared.call.Act.{Act}
 use Rattle.xsk_model.specs.declared.call.Act.TheVariants.{Call as Calls, Ended as IsEnd}
 use Rattle.xsk_plain.specs.Engine.{Engine, Shows}
+use Rattle.xsk_driver.specs.Inputs.{packets_of_port}
 use Rattle.xsk_driver.specs.Shown.{Shown as DriverShown}
 use Rattle.xsk_driver.specs.Runs.{IsNew as IsNewDriver, StandsWith}
 use Rattle.xsk_app.specs.Shown.{Shown as AppShown}
 use Rattle.xsk_app.specs.Standing.{IsNew as IsNewApp, Comes}
+use Rattle.xsk_laws.specs.Expected.{paired}
 use Rattle.xsk_sim.specs.Rounds.{IsTurn}
 use Rattle.xsk_sim.specs.Runs.{Setting, input_of, IsWorkerRun, IsWholeRun}
 
 -- ---- workers
 
+-- what the paired port of a pair's port received
+abbrev pub other_of : Setting → ℕ → List (List ℕ)
+other_of s who = packets_of_port s.packets (paired (pair_at s.config.pairs who).port)
+
+-- a driver has room to send all of it
+pub record HasRoomToSend (s : Setting) (who : ℕ) (d : DriverShown) : Type 0 where
+  pub packets : d.sent.most_packets ≡ length (other_of s who)
+  pub bytes : d.sent.most_bytes ≡ length (concat (other_of s who))
+
 -- the new driver of a pair
 pub record IsDriver (s : Setting) (who : ℕ) (d : DriverShown) : Type 0 where
   pub known : who < length s.config.pairs
+  pub room : HasRoomToSend s who d
   pub is : IsNewDriver s.config who (input_of s who) d
 
 -- the driver of a pair stands for a list, and gave this act after it
 pub record DriverStands (s : Setting) (who : ℕ) (d : DriverShown) (act : Act) (l : List Told) : Type 0 where
   pub known : who < length s.config.pairs
+  pub room : HasRoomToSend s who d
   pub stands : StandsWith s.config who (input_of s who) d act l
 
 -- a new application

@@ -1,5 +1,5 @@
-ghost use Rattle.std.specs.Prelude.{◌≡◌, ◌<◌, ◌≤◌, ◌+◌, ℕ, Err, List, [], All, IfOk, OnOk, length, map, vec_len};
-ghost use Rattle.std.specs.List.{slice_index_or};
+ghost use Rattle.std.specs.Prelude.{◌≡◌, ◌<◌, ◌≤◌, ◌+◌, ℕ, Err, List, [], All, IfSome, IfOk, OnOk, length, map, vec_len};
+ghost use Rattle.std.specs.List.{concat, slice_index_or};
 ghost use Rattle.xsk_umem.specs.Geometry.{IsGeometry};
 ghost use Rattle.xsk_model.specs.Config.{IsRegular};
 ghost use Rattle.xsk_model.specs.Opening.{AreFrames};
@@ -10,7 +10,8 @@ ghost use Rattle.xsk_driver.specs.Inputs.{inputs_of};
 ghost use Rattle.xsk_driver.specs.Sent.{IsShort};
 ghost use Rattle.xsk_sim.specs.Shown.{HasShortPackets, packets_in};
 ghost use Rattle.xsk_sim.specs.Runs.{Setting, HasEnded, HasStalled, last_round_of};
-ghost use Rattle.xsk_sim.specs.Seats.{EachFrom, AreSeated, HadRounds, HaveEnded, DriverSits, AppSits, AreWithinRoom, kept_lists, new_own};
+ghost use Rattle.xsk_laws.specs.Expected.{paired};
+ghost use Rattle.xsk_sim.specs.Seats.{EachFrom, AreSeated, HadRounds, HaveEnded, DriverSits, AppSits, kept_lists, new_own};
 
 use crate::order::Order;
 use crate::rounds::Workers;
@@ -139,7 +140,7 @@ fn run_workers(
 ) -> Result<Run, SimError>
     requires { IsGeometry plain.config.geometry }
     ensures pairs { IfOk result (λ run. run.pairs ≡ vec_len workers.entry.drivers) }
-    ensures ended { (s : Setting) (frames : List Frame) → apps_of s.config ≡ 1 → AreSeated s frames [] workers.entry plain → last ≡ last_round_of s.packets
+    ensures ended { (s : Setting) (frames : List Frame) → IsRegular s.config → apps_of s.config ≡ 1 → AreSeated s frames [] workers.entry plain → last ≡ last_round_of s.packets
         → IfOk result (HasEnded s frames order.number) }
     ensures stalled { (s : Setting) (frames : List Frame) (round : ℕ) → apps_of s.config ≡ 1 → AreSeated s frames [] workers.entry plain → last ≡ last_round_of s.packets
         → result ≡ Err (SimError.Stalled round) → HasStalled s frames order.number round }
@@ -202,26 +203,40 @@ fn seat_drivers<'a>(
     let mut seats = Vec::with_capacity(alloc, config.pairs().len())?;
     for pair in 0..config.pairs().len() as u32 {
         let port = config.pairs()[pair as usize].port;
-        let (Some(list), Some(paired)) = (
+        let (Some(list), Some(other)) = (
             packets.get(port as usize),
-            packets.get((port ^ 1) as usize),
+            packets.get(paired_port(port) as usize),
         ) else {
             return Err(OutOfMemory);
         };
-        let bytes = u32::try_from(bytes_of(paired)).map_err(|_| OutOfMemory)?;
-        let driver = Driver::new(alloc, config, pair, list, inputs, paired.len(), bytes)?;
+        let Some(bytes) = bytes_of(other) else {
+            return Err(OutOfMemory);
+        };
+        let driver = Driver::new(alloc, config, pair, list, inputs, other.len(), bytes)?;
         seats.push(Seat::new(driver))?;
     }
     Ok(seats)
 }
 
-/// The bytes of all packets of a list.
-fn bytes_of(list: &PacketList) -> u64 {
-    let mut bytes = 0u64;
+/// The port to which the packets of a port go.
+fn paired_port(port: u32) -> u32
+    ensures { result ≡ paired port }
+{
+    if port % 2 == 0 { port + 1 } else { port - 1 }
+}
+
+/// The bytes of all packets of a list, if they are fewer than 2^32.
+fn bytes_of(list: &PacketList) -> Option<u32>
+    ensures { IfSome result (λ bytes. bytes ≡ length (concat list.now.packets)) }
+{
+    let mut bytes = 0u32;
     for number in 0..list.len() {
-        bytes = bytes.saturating_add(list.get(number).len() as u64);
+        let Ok(more) = u32::try_from(list.get(number).len()) else {
+            return None;
+        };
+        bytes = bytes.checked_add(more)?;
     }
-    bytes
+    Some(bytes)
 }
 
 /// An application for each queue of two paired ports.
@@ -239,21 +254,16 @@ fn seat_apps<'a>(alloc: Global, config: &'a Config) -> Result<Vec<Seat<App<'a>>>
     Ok(seats)
 }
 
-/// What each driver sent. A driver that had too little room for it makes the run one without memory.
+/// What each driver keeps of the packets that it sent.
 fn collect_sent(alloc: Global, workers: Workers<'_>) -> Result<Vec<PacketList>, OutOfMemory>
     ensures count { IfOk result (λ sent. vec_len sent ≡ vec_len workers.entry.drivers) }
     ensures short { IfOk result (λ sent. All HasShortPackets sent.items) }
     ensures kept { IfOk result (λ sent. map packets_in sent.items ≡ kept_lists workers.entry) }
-    ensures within { OnOk result (AreWithinRoom workers.entry) }
 {
     let Workers { drivers, apps: _ } = workers;
     let mut sent = Vec::with_capacity(alloc, drivers.len())?;
     for seat in drivers {
-        let driver = seat.into_machine();
-        if driver.overrun() {
-            return Err(OutOfMemory);
-        }
-        sent.push(driver.into_sent())?;
+        sent.push(seat.into_machine().into_sent())?;
     }
     Ok(sent)
 }

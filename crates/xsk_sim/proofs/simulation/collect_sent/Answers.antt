@@ -1,7 +1,7 @@
-use Rattle.std.proofs.Common.{◌≡◌, false, List, [], ◌∷◌, ◌++◌, map, length-append, arith, ap, ◌∙◌, sym, rules}
+use Rattle.std.proofs.Common.{[], ◌∷◌, ◌++◌, map, length-append, arith, ap, ◌∙◌, rules}
 use Rattle.std.proofs.lemmas.List.Elements.{All-push}
 use Rattle.std.proofs.lemmas.List.{map-append}
-use Rattle.xsk_sim.specs.Shown.{HasShortPackets, packets_in}
+use Rattle.xsk_sim.specs.Shown.{HasShortPackets}
 use Rattle.xsk_sim.proofs.simulation.collect_sent.Goals as goal
 
 pub loop-seat-preserved : goal.loop-seat-preserved
@@ -11,5 +11,4 @@ loop-seat-preserved c = record {
   kept = rw (c.in_ok-push.ensures.items, map-append, map-append)
       (ap (λ lists. lists ++ c.into_sent.result.packets ∷ []) c.loop-seat.invariant.kept
       ∙ ap (λ packets. map (λ seat. seat.machine.sent.packets) c.loop-seat.yielded ++ packets ∷ []) (search rules));
-  within = All-push (λ seat. seat.machine.sent.overrun ≡ false) c.loop-seat.yielded c.in-Some.seat c.loop-seat.invariant.within (search rules);
 }

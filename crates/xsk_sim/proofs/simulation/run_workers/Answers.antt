@@ -16,11 +16,11 @@ returns-in_err-make_rounds-clause-stalled c s frames round one seated last is =
     stalled_run s frames c.args.order.number round w engine (stalled.0 ∙ last) stalled.1 stalled.2
 
 pub returns-clause-ended : goal.returns-clause-ended
-returns-clause-ended c s frames one seated last =
+returns-clause-ended c s frames regular one seated last =
     let w = c.make_rounds.new.workers in
     let engine = c.make_rounds.new.plain in
     let ended : (count : ℕ) × (count ≤ c.args.last + 1) × HadRounds s frames c.args.order.number count w engine × HaveEnded w =
     c.in_ok-make_rounds.ensures.ended s frames one seated in
     let few : ended.0 ≤ last_round_of s.packets + 1 = omega (arith, ended.1, last) in
     let had : HadRounds s frames c.args.order.number ended.0 w engine = ended.2 in
-    ended_run s frames c.args.order.number ended.0 w engine _ had few ended.3 c.in_ok-sent.ensures.within refl c.in_ok-sent.ensures.kept
+    ended_run s frames c.args.order.number ended.0 w engine _ regular had few ended.3 refl c.in_ok-sent.ensures.kept

@@ -27,7 +27,7 @@ pub returns-clause-ended : goal.returns-clause-ended
 returns-clause-ended c one =
     let s : Setting = record { config = c.args.config; packets = c.args.packets.now } in
     subst (λ (number : ℕ). IfOk c.run_workers.result (HasEnded s c.args.frames.items number)) c.new.ensures
-    (c.run_workers.ensures.ended s c.args.frames.items one (seated c) c.last_round.ensures)
+    (c.run_workers.ensures.ended s c.args.frames.items c.requires.regular one (seated c) c.last_round.ensures)
 
 pub returns-clause-stalled : goal.returns-clause-stalled
 returns-clause-stalled c round one is =

@@ -1,13 +1,14 @@
 use Rattle.xsk_model.proofs.Replies.{gift_fits}
 use Rattle.xsk_sim.specs.Runs.{input_of}
-use Rattle.xsk_sim.proofs.Acts.{driver_after}
+use Rattle.xsk_sim.proofs.Acts.{driver_after, room_stays}
 use Rattle.xsk_sim.proofs.machine.DriverMachine.next.Goals as goal
 
 pub returns-clause-begins : goal.returns-clause-begins
 returns-clause-begins c s who is none =
-    driver_after s who c.next.new.self c.next.result _ is.known (c.next.ensures.begins s.config who (input_of s who) is.is none)
+    driver_after s who c.next.new.self c.next.result _ is.known (room_stays s who c.args.self.now c.next.new.self is.room c.next.ensures.sent_room)
+    (c.next.ensures.begins s.config who (input_of s who) is.is none)
 
 pub returns-clause-goes_on : goal.returns-clause-goes_on
 returns-clause-goes_on c s who l call r stands some may =
-    driver_after s who c.next.new.self c.next.result _ stands.known
+    driver_after s who c.next.new.self c.next.result _ stands.known (room_stays s who c.args.self.now c.next.new.self stands.room c.next.ensures.sent_room)
     (c.next.ensures.goes_on s.config who (input_of s who) l call r stands.stands.0 some (gift_fits s.config l who call r may))
