@@ -9,7 +9,7 @@ use xsk_io::{SteadyBay, Stream};
 use xsk_pcap::BadCapture;
 
 /// The header of a written capture.
-const HEADER: [u8; 24] = [
+pub(crate) const HEADER: [u8; 24] = [
     0xd4, 0xc3, 0xb2, 0xa1, 2, 0, 4, 0, 0, 0, 0, 0, 0, 0, 0, 0, 0, 0, 4, 0, 1, 0, 0, 0,
 ];
 
@@ -23,7 +23,7 @@ const BIG_ENDIAN: [u8; 54] = [
 const ROOM: u32 = 65_536;
 
 /// A capture in the written form with packets of so many bytes, each of them 7.
-fn capture_of(alloc: Global, lens: &[u8]) -> Result<Vec<u8>, Fail> {
+pub(crate) fn capture_of(alloc: Global, lens: &[u8]) -> Result<Vec<u8>, Fail> {
     let mut text = Vec::from_slice(alloc, &HEADER)?;
     for (number, len) in lens.iter().enumerate() {
         text.extend_from_slice(&[0; 4])?;
@@ -36,7 +36,7 @@ fn capture_of(alloc: Global, lens: &[u8]) -> Result<Vec<u8>, Fail> {
     Ok(text)
 }
 
-fn bay_over(alloc: Global, in0: &[u8], in1: &[u8]) -> Result<SteadyBay, Fail>
+pub(crate) fn bay_over(alloc: Global, in0: &[u8], in1: &[u8]) -> Result<SteadyBay, Fail>
     ensures { IfOk result (λ bay. (stream : AStream) → is_open_of bay stream ≡ false) }
 {
     let inputs = vec![in alloc; Vec::from_slice(alloc, in0)?, Vec::from_slice(alloc, in1)?]?;
@@ -47,18 +47,24 @@ fn bay_over(alloc: Global, in0: &[u8], in1: &[u8]) -> Result<SteadyBay, Fail>
 }
 
 /// Whether the stream holds exactly this text.
-fn holds(bay: &SteadyBay, stream: Stream, text: &[u8]) -> bool {
+pub(crate) fn holds(bay: &SteadyBay, stream: Stream, text: &[u8]) -> bool {
     match bay.output(stream) {
         Some(held) => held == text,
         None => false,
     }
 }
 
-fn simulated(alloc: Global, in0: &[u8], in1: &[u8]) -> Result<(Status, SteadyBay), Fail> {
+/// The words of a command over files with these names.
+pub(crate) fn simulate_words(alloc: Global) -> Result<Vec<String>, Fail> {
     let mut words = Vec::new(alloc);
     for word in ["simulate", "a", "b", "c", "d"] {
         words.push(String::from_str(alloc, word)?)?;
     }
+    Ok(words)
+}
+
+fn simulated(alloc: Global, in0: &[u8], in1: &[u8]) -> Result<(Status, SteadyBay), Fail> {
+    let words = simulate_words(alloc)?;
     let mut bay = bay_over(alloc, in0, in1)?;
     let status = run_plain(alloc, words.as_slice(), &mut bay);
     Ok((status, bay))

@@ -7,3 +7,5 @@ mod by_hand;
 mod commands;
 #[cfg(test)]
 mod configuration;
+#[cfg(test)]
+mod short_writes;
