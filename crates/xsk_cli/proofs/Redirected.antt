@@ -6,7 +6,6 @@ use Rattle.std.proofs.lemmas.List.{length-map}
 use Rattle.xsk_umem.specs.Frame.{Frame}
 use Rattle.xsk_umem.specs.PacketList.{PacketList}
 use Rattle.xsk_model.specs.Config.{Config, map_of}
-use Rattle.xsk_model.specs.Marks.{apps_of}
 use Rattle.xsk_model.specs.Rings.{caller_of}
 use Rattle.xsk_model.specs.Sent.{sent}
 use Rattle.xsk_model.specs.Stored.{stored_entry}
@@ -105,9 +104,9 @@ log_count log = omega (arith, log.rows.ok.0, length-map log.rows.items (entry_of
 -- ---- no texts
 
 pub stalled_from : (config : Config) (lists : List PacketList) (frames : List Frame) (round : ℕ) → config ≡ c
-    → (apps_of config ≡ 1 → HasStalled (record { config = config; packets = lists }) frames 0 round) → (handed : List Frame) × HasStalled (setting_of lists) handed 0 round
+    → HasStalled (record { config = config; packets = lists }) frames 0 round → (handed : List Frame) × HasStalled (setting_of lists) handed 0 round
 stalled_from config lists frames round is h =
-    (frames, subst (λ (k : Config). HasStalled (record { config = k; packets = lists }) frames 0 round) is (h (subst (λ (k : Config). apps_of k ≡ 1) (sym is) refl)))
+    (frames, subst (λ (k : Config). HasStalled (record { config = k; packets = lists }) frames 0 round) is h)
 
 pub no_texts_of : (lists : List PacketList) (packets0 packets1 : List (List ℕ)) (status : Status) → HavePackets lists packets0 packets1 → IsFailureOf lists status → HasNoTexts packets0 packets1 status
 no_texts_of lists packets0 packets1 Done are h = absurd h

@@ -11,7 +11,7 @@ use Rattle.xsk_model.specs.declared.call.Call.{Call}
 use Rattle.xsk_model.specs.declared.call.Call.TheVariants.{Reserve, Submit, Peek, Release, Swap, Look}
 use Rattle.xsk_model.specs.declared.call.Reply.{Reply}
 use Rattle.xsk_model.specs.declared.call.Reply.TheVariants.{Granted, Full, Items, Empty}
-use Rattle.xsk_plain.specs.Engine.{Part, Engine, no_part, seen, Shows, part_in, CanPerform}
+use Rattle.xsk_plain.specs.Engine.{Part, Engine, no_part, seen, Shows, part_in}
 use Rattle.xsk_plain.specs.Steps.{part_after, parts_after, reply_to, FollowsObject}
 use Rattle.xsk_plain.proofs.Openings.{seen_at}
 
@@ -50,15 +50,14 @@ reply_shown c s engine (Swap m value) shows = ap (λ (marks : List ℕ). reply_t
 reply_shown c s engine (Look m) shows = ap (λ (marks : List ℕ). reply_to c engine.rings marks (Look m)) (sym shows.marks)
 
 pub follows : (old new : Engine) (who : ℕ) (call : Call) (answer : Reply)
-    → (CanPerform old.config old.rings call → new.rings ≡ parts_after old.config old.rings (call_ring call) call)
-    → (CanPerform old.config old.rings call → new.marks ≡ marks_after old.config old.marks call)
-    → (CanPerform old.config old.rings call → answer ≡ reply_to old.config old.rings old.marks call)
+    → new.rings ≡ parts_after old.config old.rings (call_ring call) call → new.marks ≡ marks_after old.config old.marks call
+    → answer ≡ reply_to old.config old.rings old.marks call
     → FollowsObject old new who call answer
 follows old new who call answer rings marks reply = record {
-  reply = λ s shows can. reply can ∙ reply_shown old.config s old call shows;
-  state = λ s shows can. record {
-    rings = rings_shown old.config s.rings old.rings (call_ring call) call shows.rings ∙ sym (rings can);
-    marks = ap (λ (ms : List ℕ). marks_after old.config ms call) shows.marks ∙ sym (marks can);
+  reply = λ s shows. reply ∙ reply_shown old.config s old call shows;
+  state = λ s shows. record {
+    rings = rings_shown old.config s.rings old.rings (call_ring call) call shows.rings ∙ sym rings;
+    marks = ap (λ (ms : List ℕ). marks_after old.config ms call) shows.marks ∙ sym marks;
   };
 }
 

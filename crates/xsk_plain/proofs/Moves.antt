@@ -1,5 +1,5 @@
 -- Items on their way into a ring and out of it, and what the log notes of them.
-use Rattle.std.proofs.Common.{◌≡◌, ℕ, ◌+◌, ◌-◌, ◌<◌, ◌≤◌, ◌⊎◌, Option, Some, None, List, [], ◌∷◌, ◌++◌, length, map, refl, sym, ap, ◌∙◌, ⊎_elim, arith, append_assoc, append-nil, length-append}
+use Rattle.std.proofs.Common.{◌≡◌, ℕ, ◌+◌, ◌≤◌, Option, Some, None, List, [], ◌∷◌, ◌++◌, length, map, refl, sym, ap, ◌∙◌, arith, append_assoc, append-nil, length-append}
 use Rattle.std.specs.Prelude.{All}
 use Rattle.std.specs.Option.{option_map}
 use Rattle.std.proofs.lemmas.List.{map-append, map_push}
@@ -16,7 +16,7 @@ use Rattle.xsk_plain.specs.declared.ring_store.Stored.{Stored}
 use Rattle.xsk_plain.specs.Kept.{IsKept, AreKept, AllKept, Grows}
 use Rattle.xsk_plain.specs.Log.{frame_at, item_of}
 use Rattle.xsk_plain.specs.Spans.{at_span}
-use Rattle.xsk_plain.specs.Stores.{stored_item_of, piece_of, Has}
+use Rattle.xsk_plain.specs.Stores.{stored_item_of, piece_of}
 use Rattle.xsk_plain.proofs.Parts.{at_span-append, at_span-end}
 
 -- ---- payloads
@@ -75,23 +75,11 @@ out_step before after left rest all stored is first done =
     ap (λ xs. map stored_item_of xs ++ rest) is ∙ ap (λ xs. xs ++ rest) (map-append stored_item_of before (stored ∷ []))
     ∙ append_assoc (map stored_item_of before) (stored.item ∷ []) rest ∙ ap (λ xs. map stored_item_of before ++ xs) (sym first) ∙ done
 
-none_or_some : (n : ℕ) → (0 < n) ⊎ (n ≡ 0)
-none_or_some n = grind arith
-
-module _ (before after : RingStore) (stored : Stored)
-    (filled : 0 < before.room → Has after (before.out.items ++ stored ∷ []) before.held (before.room - 1) before.size)
-    (dropped : before.room ≡ 0 → Has after before.out.items before.held 0 before.size) where
-  pub put_held : after.held ≡ before.held
-  put_held = ⊎_elim (λ (h : 0 < before.room). (filled h).held) (λ (h : before.room ≡ 0). (dropped h).held) (none_or_some before.room)
-
-  pub put_size : after.size ≡ before.size
-  put_size = ⊎_elim (λ (h : 0 < before.room). (filled h).size) (λ (h : before.room ≡ 0). (dropped h).size) (none_or_some before.room)
-
-  pub put_kept : (c : Config) (bytes : List ℕ) → AreKept c bytes before → IsKept c bytes stored → AreKept c bytes after
-  put_kept c bytes kept new = ⊎_elim
-      (λ (h : 0 < before.room). All-same (IsKept c bytes) after.out.items (before.out.items ++ stored ∷ []) (filled h).out (All-push (IsKept c bytes) before.out.items stored kept new))
-      (λ (h : before.room ≡ 0). All-same (IsKept c bytes) after.out.items before.out.items (dropped h).out kept)
-      (none_or_some before.room)
+-- a put item is kept
+pub put_kept : (c : Config) (bytes : List ℕ) (before after : RingStore) (stored : Stored) → after.out.items ≡ before.out.items ++ stored ∷ [] → AreKept c bytes before
+    → IsKept c bytes stored → AreKept c bytes after
+put_kept c bytes before after stored is kept new =
+    All-same (IsKept c bytes) after.out.items (before.out.items ++ stored ∷ []) is (All-push (IsKept c bytes) before.out.items stored kept new)
 
 -- ---- items that are taken
 

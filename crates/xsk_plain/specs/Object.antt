@@ -2,7 +2,6 @@
 use Rattle.std.specs.Prelude.{◌≡◌, Some}
 use Rattle.xsk_model.specs.declared.call.Ring.{Ring}
 use Rattle.xsk_model.specs.declared.call.Call.{Call}
-use Rattle.xsk_plain.specs.Engine.{CanPerform}
 use Rattle.xsk_plain.specs.Steps.{parts_after}
 use Rattle.xsk_plain.specs.Stores.{parts_of}
 use Rattle.xsk_plain.specs.declared.object.Object.{Object}
@@ -11,7 +10,7 @@ use Rattle.xsk_plain.specs.declared.object.Object.{Object}
 pub record ChangesRing (old new : Object) (r : Ring) (call : Call) : Type 0 where
   pub config : new.config ≡ old.config
   pub marks : new.marks.items ≡ old.marks.items
-  pub rings : CanPerform old.config (parts_of old.rings.items) call → parts_of new.rings.items ≡ parts_after old.config (parts_of old.rings.items) (Some r) call
+  pub rings : parts_of new.rings.items ≡ parts_after old.config (parts_of old.rings.items) (Some r) call
 
 -- a call on a mark leaves all rings
 pub record KeepsRings (old new : Object) : Type 0 where

@@ -10,7 +10,7 @@ use Rattle.xsk_model.specs.declared.call.Call.{Call}
 use Rattle.xsk_model.specs.declared.call.Call.TheVariants.{Reserve, Submit, Peek, Release, Swap, Look}
 use Rattle.xsk_model.specs.declared.call.Reply.{Reply}
 use Rattle.xsk_model.specs.declared.call.Reply.TheVariants.{Submitted, Released, Old}
-use Rattle.xsk_plain.specs.Engine.{Part, Engine, part_in, Shows, CanPerform}
+use Rattle.xsk_plain.specs.Engine.{Part, Engine, part_in, Shows}
 
 -- the free places of a ring
 abbrev pub free_in : ℕ → Part → ℕ
@@ -37,7 +37,7 @@ reply_to c parts marks (Release r n) = Released
 reply_to c parts marks (Swap m value) = Old (slice_index_or marks (mark_place c m) 0)
 reply_to c parts marks (Look m) = Old (slice_index_or marks (mark_place c m) 0)
 
--- the call was made as the object makes it in each state that the engine shows, where it is one that can be performed
+-- the call was made as the object makes it in each state that the engine shows
 pub record FollowsObject (old new : Engine) (who : ℕ) (call : Call) (answer : Reply) : Type 0 where
-  pub reply : (s : State) → Shows old s → CanPerform old.config old.rings call → answer ≡ reply_at old.config s call
-  pub state : (s : State) → Shows old s → CanPerform old.config old.rings call → Shows new (after old.config s who call)
+  pub reply : (s : State) → Shows old s → answer ≡ reply_at old.config s call
+  pub state : (s : State) → Shows old s → Shows new (after old.config s who call)

@@ -6,11 +6,11 @@ ghost use Rattle.xsk_plain.specs.Stores.{sizes_in};
 use crate::log::Log;
 use crate::moving::{give_back, put_items, take_items};
 use crate::opening::{fill_pools, open_marks, open_rings};
-use crate::places::{mark_place, ring_place};
+use crate::places::{has_mark, has_ring, mark_place, ring_place};
 use crate::ring_store::RingStore;
 use std::alloc::Global;
 use std::mem;
-use xsk_model::{Config, Mark, Ring};
+use xsk_model::{Call, Config, Mark, Ring};
 use xsk_umem::{Batch, Frames};
 
 /// The rings and the marks of a configuration, by place.
@@ -18,14 +18,13 @@ use xsk_umem::{Batch, Frames};
 pub(crate) struct Object {
     pub(crate) config: Config,
     pub(crate) rings: Vec<RingStore>,
-    nowhere: RingStore,
     pub(crate) marks: Vec<u64>,
     ghost sizes: { sizes_in rings.items ≡ sizes_of config },
     ghost places: { vec_len marks ≡ mark_places_of config },
 }
 
 impl Object {
-    ghost use Rattle.std.specs.Prelude.{◌≡◌, ◌+◌, ◌<◌, ◌≤◌, ◌↔◌, ℕ, List, [], ◌++◌, length, take, map, vec_len, All, IfOk, IfErr, IsOk};
+    ghost use Rattle.std.specs.Prelude.{◌≡◌, ◌+◌, ◌<◌, ◌≤◌, ◌↔◌, ℕ, List, [], ◌++◌, length, take, map, vec_len, All, IfOk, IfErr, IsOk, IsTrue};
     ghost use Rattle.std.specs.List.{slice_index_or};
     ghost use Rattle.xsk_umem.specs.Frames.{Frames as Queue};
     ghost use Rattle.xsk_model.specs.Config.{HasRing, IsLawful, size_of};
@@ -51,14 +50,12 @@ impl Object {
     {
         let rings = open_rings(alloc, &config);
         let marks = open_marks(alloc, &config);
-        let nowhere = RingStore::new(alloc, 0);
-        let (Ok(rings), Ok(marks), Ok(nowhere)) = (rings, marks, nowhere) else {
+        let (Ok(rings), Ok(marks)) = (rings, marks) else {
             return Err(config);
         };
         Ok(Object {
             config,
             rings,
-            nowhere,
             marks,
         })
     }
@@ -79,19 +76,19 @@ impl Object {
 
     /// Reserves so many places of a ring, or tells how many are free where they are fewer.
     pub(crate) fn reserve(&mut self, ring: Ring, count: u32) -> Result<(), u32>
+        requires can { CanPerform self.old.config (parts_of self.old.rings.items) (Reserve ring count) }
         ensures changes { ChangesRing self.old self.new ring (Reserve ring count) }
         ensures kept { (bytes : List ℕ) → AllKept self.old.config bytes self.old.rings.items → AllKept self.old.config bytes self.new.rings.items }
-        ensures granted { HasRing self.old.config ring → (IsOk result ↔ (count ≤ free_in (size_of self.old.config ring) (part_in self.old.config (parts_of self.old.rings.items) ring))) }
-        ensures full { HasRing self.old.config ring → IfErr result (λ free. free ≡ free_in (size_of self.old.config ring) (part_in self.old.config (parts_of self.old.rings.items) ring)) }
+        ensures granted { IsOk result ↔ (count ≤ free_in (size_of self.old.config ring) (part_in self.old.config (parts_of self.old.rings.items) ring)) }
+        ensures full { IfErr result (λ free. free ≡ free_in (size_of self.old.config ring) (part_in self.old.config (parts_of self.old.rings.items) ring)) }
     {
-        match ring_place(&self.config, ring) {
-            Some(place) => self.rings[place].reserve(count),
-            None => Err(0),
-        }
+        let place = ring_place(&self.config, ring);
+        self.rings[place].reserve(count)
     }
 
     /// Puts the items into reserved places of a ring, and notes each in the log with its payload.
     pub(crate) fn submit(&mut self, ring: Ring, items: Batch, log: &mut Log)
+        requires can { CanPerform self.old.config (parts_of self.old.rings.items) (Submit ring items) }
         requires spare { 1 ≤ log.old.spare_entries }
         requires start { vec_len log.old.pieces ≡ log.old.begun }
         requires bytes { items_bytes self.old.config items ≤ log.old.spare_bytes }
@@ -101,14 +98,13 @@ impl Object {
         ensures log { NotesItems log.old log.new (items_bytes self.old.config items) }
         ensures noted { noted_in log.new ≡ map (stored_item self.old.config.geometry self.old.config.sg) items }
     {
-        match ring_place(&self.config, ring) {
-            Some(place) => put_items(&mut self.rings[place], log, &self.config, items),
-            None => put_items(&mut self.nowhere, log, &self.config, items),
-        }
+        let place = ring_place(&self.config, ring);
+        put_items(&mut self.rings[place], log, &self.config, items);
     }
 
-    /// Takes at most so many items and 32 from a ring, and notes each in the log.
+    /// Takes at most so many items from a ring, and notes each in the log.
     pub(crate) fn peek(&mut self, ring: Ring, count: u32, log: &mut Log, alloc: Global) -> Batch
+        requires can { CanPerform self.old.config (parts_of self.old.rings.items) (Peek ring count) }
         requires spare { 1 ≤ log.old.spare_entries }
         requires start { vec_len log.old.pieces ≡ log.old.begun }
         requires kept { AllKept self.old.config log.old.bytes.items self.old.rings.items }
@@ -116,44 +112,68 @@ impl Object {
         ensures kept { AllKept self.old.config log.new.bytes.items self.new.rings.items }
         ensures log { NotesItems log.old log.new 0 }
         ensures noted { noted_in log.new ≡ map (stored_item self.old.config.geometry self.old.config.sg) result }
-        ensures items { CanPerform self.old.config (parts_of self.old.rings.items) (Peek ring count) → result ≡ take count (part_in self.old.config (parts_of self.old.rings.items) ring).out }
+        ensures items { result ≡ take count (part_in self.old.config (parts_of self.old.rings.items) ring).out }
     {
-        match ring_place(&self.config, ring) {
-            Some(place) => take_items(&mut self.rings[place], log, count, alloc),
-            None => Batch::new(alloc),
-        }
+        let place = ring_place(&self.config, ring);
+        take_items(&mut self.rings[place], log, count, alloc)
     }
 
     /// Frees the places of so many held items of a ring.
     pub(crate) fn release(&mut self, ring: Ring, count: u32)
+        requires can { CanPerform self.old.config (parts_of self.old.rings.items) (Release ring count) }
         ensures changes { ChangesRing self.old self.new ring (Release ring count) }
         ensures kept { (bytes : List ℕ) → AllKept self.old.config bytes self.old.rings.items → AllKept self.old.config bytes self.new.rings.items }
     {
-        if let Some(place) = ring_place(&self.config, ring) {
-            self.rings[place].release(count);
-        }
+        let place = ring_place(&self.config, ring);
+        self.rings[place].release(count);
     }
 
     /// Sets a mark and tells what it was.
     pub(crate) fn swap(&mut self, mark: Mark, value: u64) -> u64
+        requires { HasMark self.old.config mark }
         ensures keeps { KeepsRings self.old self.new }
-        ensures marks { HasMark self.old.config mark → self.new.marks.items ≡ marks_after self.old.config self.old.marks.items (Swap mark value) }
-        ensures old { HasMark self.old.config mark → result ≡ slice_index_or self.old.marks.items (place_of_mark self.old.config mark) 0 }
+        ensures marks { self.new.marks.items ≡ marks_after self.old.config self.old.marks.items (Swap mark value) }
+        ensures old { result ≡ slice_index_or self.old.marks.items (place_of_mark self.old.config mark) 0 }
     {
-        match mark_place(&self.config, mark) {
-            Some(place) => mem::replace(&mut self.marks[place], value),
-            None => 0,
-        }
+        let place = mark_place(&self.config, mark);
+        mem::replace(&mut self.marks[place], value)
     }
 
     /// Tells what a mark is.
     pub(crate) fn look(&self, mark: Mark) -> u64
-        ensures { HasMark self.now.config mark → result ≡ slice_index_or self.now.marks.items (place_of_mark self.now.config mark) 0 }
+        requires { HasMark self.now.config mark }
+        ensures { result ≡ slice_index_or self.now.marks.items (place_of_mark self.now.config mark) 0 }
     {
-        match mark_place(&self.config, mark) {
-            Some(place) => self.marks[place],
-            None => 0,
+        let place = mark_place(&self.config, mark);
+        self.marks[place]
+    }
+
+    /// Whether a call can be performed: its ring or mark exists, a Submit has at most as many items as places are
+    /// reserved, a Peek asks for 1 to 32, and a Release for at most as many as are held.
+    pub(crate) fn can_perform(&self, call: &Call) -> bool
+        ensures { IsTrue result ↔ CanPerform self.now.config (parts_of self.now.rings.items) call.now }
+    {
+        match call {
+            Call::Reserve(ring, _) => has_ring(&self.config, *ring),
+            Call::Submit(ring, items) => {
+                has_ring(&self.config, *ring) && items.len() <= self.taken(*ring).0
+            }
+            Call::Peek(ring, count) => has_ring(&self.config, *ring) && *count >= 1 && *count <= 32,
+            Call::Release(ring, count) => {
+                has_ring(&self.config, *ring) && *count <= self.taken(*ring).1
+            }
+            Call::Swap(mark, _) | Call::Look(mark) => has_mark(&self.config, *mark),
         }
+    }
+
+    /// How many places of a ring are reserved, and how many are held.
+    fn taken(&self, ring: Ring) -> (u32, u32)
+        requires { HasRing self.now.config ring }
+        ensures room { result.0 ≡ (part_in self.now.config (parts_of self.now.rings.items) ring).room }
+        ensures held { result.1 ≡ (part_in self.now.config (parts_of self.now.rings.items) ring).held }
+    {
+        let place = ring_place(&self.config, ring);
+        self.rings[place].taken()
     }
 
     /// Puts the frames that stand in rings at the end of the queue, ring by ring. Those for which it has no room are

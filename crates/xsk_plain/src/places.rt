@@ -1,4 +1,4 @@
-ghost use Rattle.std.specs.Prelude.{◌≡◌, ◌-◌, ◌*◌, ◌<◌, ◌≤◌, IfSome, Some};
+ghost use Rattle.std.specs.Prelude.{◌≡◌, ◌-◌, ◌*◌, ◌<◌, ◌≤◌, ◌↔◌, IsTrue};
 ghost use Rattle.xsk_model.specs.Config.{HasRing};
 ghost use Rattle.xsk_model.specs.Rings.{place, places_of};
 ghost use Rattle.xsk_model.specs.Marks.{HasMark, apps_of, mark_place as place_of_mark, mark_places_of};
@@ -13,25 +13,36 @@ pub(crate) fn ring_places(config: &Config) -> usize
     2 * config.pairs().len() + 2 * config.sockets().len()
 }
 
-/// The place of a ring among all rings, where its pair or socket exists.
-pub(crate) fn ring_place(config: &Config, ring: Ring) -> Option<usize>
-    ensures found { HasRing config.now ring → result ≡ Some (place config.now ring) }
-    ensures value { IfSome result (λ found. found ≡ place config.now ring) }
-    ensures within { IfSome result (λ found. found < places_of config.now) }
+/// The place of a ring among all rings. The ring must exist.
+pub(crate) fn ring_place(config: &Config, ring: Ring) -> usize
+    requires { HasRing config.now ring }
+    ensures value { result ≡ place config.now ring }
+    ensures within { result < places_of config.now }
 {
     let pairs = config.pairs().len();
     let sockets = config.sockets().len();
-    let (first, count, number) = match ring {
-        Ring::Fill(pair) => (0, pairs, pair),
-        Ring::Comp(pair) => (pairs, pairs, pair),
-        Ring::Rx(socket) => (2 * pairs, sockets, socket),
-        Ring::Tx(socket) => (2 * pairs + sockets, sockets, socket),
-    };
-    let number = number as usize;
-    if number < count {
-        Some(first + number)
-    } else {
-        None
+    match ring {
+        Ring::Fill(pair) => pair as usize,
+        Ring::Comp(pair) => pairs + pair as usize,
+        Ring::Rx(socket) => 2 * pairs + socket as usize,
+        Ring::Tx(socket) => 2 * pairs + sockets + socket as usize,
+    }
+}
+
+/// Whether a ring exists.
+pub(crate) fn has_ring(config: &Config, ring: Ring) -> bool
+    ensures { IsTrue result ↔ HasRing config.now ring }
+{
+    let pairs = config.pairs();
+    let sockets = config.sockets();
+    match ring {
+        Ring::Fill(pair) | Ring::Comp(pair) => (pair as usize) < pairs.len(),
+        Ring::Rx(socket) => {
+            (socket as usize) < sockets.len() && sockets[socket as usize].rx.is_some()
+        }
+        Ring::Tx(socket) => {
+            (socket as usize) < sockets.len() && sockets[socket as usize].tx.is_some()
+        }
     }
 }
 
@@ -53,41 +64,38 @@ fn applications(config: &Config) -> usize
     (config.ports() / 2) as usize * config.queues() as usize
 }
 
-/// The place of a mark among all marks, where what it belongs to exists.
-pub(crate) fn mark_place(config: &Config, mark: Mark) -> Option<usize>
-    ensures found { HasMark config.now mark → result ≡ Some (place_of_mark config.now mark) }
-    ensures value { IfSome result (λ found. found ≡ place_of_mark config.now mark) }
-    ensures within { IfSome result (λ found. found < mark_places_of config.now) }
+/// The place of a mark among all marks. What the mark belongs to must exist.
+pub(crate) fn mark_place(config: &Config, mark: Mark) -> usize
+    requires { HasMark config.now mark }
+    ensures value { result ≡ place_of_mark config.now mark }
+    ensures within { result < mark_places_of config.now }
 {
     let pairs = config.pairs().len();
     let sockets = config.sockets().len();
-    let apps = applications(config);
-    let (first, count, number) = match mark {
-        Mark::NeedFill(pair) => (0, pairs, pair),
-        Mark::NeedTx(socket) => (pairs, sockets, socket),
-        Mark::Kick(pair) => (pairs + sockets, pairs, pair),
-        Mark::RxDone(pair) => (2 * pairs + sockets, pairs, pair),
-        Mark::Gone(pair) => (3 * pairs + sockets, pairs, pair),
-        Mark::TxDone(app) => (4 * pairs + sockets, apps, app),
-        Mark::Cell(port, index) => return cell_place(config, port, index),
-    };
-    let number = number as usize;
-    if number < count {
-        Some(first + number)
-    } else {
-        None
+    match mark {
+        Mark::NeedFill(pair) => pair as usize,
+        Mark::NeedTx(socket) => pairs + socket as usize,
+        Mark::Kick(pair) => pairs + sockets + pair as usize,
+        Mark::RxDone(pair) => 2 * pairs + sockets + pair as usize,
+        Mark::Gone(pair) => 3 * pairs + sockets + pair as usize,
+        Mark::TxDone(app) => 4 * pairs + sockets + app as usize,
+        Mark::Cell(port, index) => {
+            first_cell(config) + CELLS as usize * port as usize + index as usize
+        }
     }
 }
 
-fn cell_place(config: &Config, port: u32, index: u32) -> Option<usize>
-    ensures found { HasMark config.now (Mark.Cell port index) → result ≡ Some (place_of_mark config.now (Mark.Cell port index)) }
-    ensures value { IfSome result (λ found. found ≡ place_of_mark config.now (Mark.Cell port index)) }
-    ensures within { IfSome result (λ found. found < mark_places_of config.now) }
+/// Whether what a mark belongs to exists.
+pub(crate) fn has_mark(config: &Config, mark: Mark) -> bool
+    ensures { IsTrue result ↔ HasMark config.now mark }
 {
-    if port < config.ports() && index < config.cells(port) {
-        let cells = CELLS as usize * port as usize;
-        Some(first_cell(config) + cells + index as usize)
-    } else {
-        None
+    let pairs = config.pairs().len();
+    match mark {
+        Mark::NeedTx(socket) => has_ring(config, Ring::Tx(socket)),
+        Mark::NeedFill(pair) | Mark::Kick(pair) | Mark::RxDone(pair) | Mark::Gone(pair) => {
+            (pair as usize) < pairs
+        }
+        Mark::TxDone(app) => (app as usize) < applications(config),
+        Mark::Cell(port, index) => port < config.ports() && index < config.cells(port),
     }
 }

@@ -1,4 +1,4 @@
-ghost use Rattle.std.specs.Prelude.{◌≡◌, ◌+◌, ◌≤◌, [], ◌∷◌, ◌++◌, length, OnOk, IfOk, IfErr};
+ghost use Rattle.std.specs.Prelude.{◌≡◌, ◌+◌, ◌≤◌, [], ◌∷◌, ◌++◌, ◌↔◌, length, OnOk, IfOk, IfErr, IsTrue};
 ghost use Rattle.xsk_umem.specs.Geometry.{IsGeometry};
 ghost use Rattle.xsk_model.specs.Config.{Config as Parts, IsLawful};
 ghost use Rattle.xsk_model.specs.Expected.{IsReplyTo, IsReserved, IsPeeked, IsOld};
@@ -94,17 +94,25 @@ impl Plain {
         &self.log
     }
 
-    /// Makes the call for the caller, gives its reply and logs both. The log must have room for it.
+    /// Whether a call can be performed: its ring or mark exists, a Submit has at most as many items as places are
+    /// reserved, a Peek asks for 1 to 32, and a Release for at most as many as are held. Each legal call can.
+    pub fn can_perform(&self, call: &Call) -> bool
+        ensures { IsTrue result ↔ CanPerform self.now.config self.now.rings call.now }
+    {
+        self.object.can_perform(call)
+    }
+
+    /// Makes the call for the caller, gives its reply and logs both. It must be one that can be performed, and the log
+    /// must have room for it.
     #[inline(always)]
     pub fn perform(&mut self, who: u32, call: Call) -> Reply
+        requires can { CanPerform self.old.config self.old.rings call }
         requires entries { 1 ≤ self.old.spare_entries }
         requires bytes { payload_bytes self.old.config call ≤ self.old.spare_bytes }
 
-        // The reply and the change are the object's, in each state that is shown, for each call that can be performed.
-        ensures reply { (s : State) → Shows self.old s → CanPerform self.old.config self.old.rings call → result ≡ reply_at self.old.config s call }
-        ensures state { (s : State) → Shows self.old s → CanPerform self.old.config self.old.rings call → Shows self.new (after self.old.config s who call) }
-
-        // These hold for every call.
+        // The reply and the change are the object's, in each state that is shown.
+        ensures reply { (s : State) → Shows self.old s → result ≡ reply_at self.old.config s call }
+        ensures state { (s : State) → Shows self.old s → Shows self.new (after self.old.config s who call) }
         ensures kind { IsReplyTo call result }
         ensures log { self.new.log ≡ self.old.log ++ stored_entry self.old.config.geometry self.old.config.sg (record { who = who; call = call; reply = result }) ∷ [] }
         ensures config { self.new.config ≡ self.old.config }
@@ -136,7 +144,8 @@ impl Plain {
     }
 
     fn reserve(&mut self, who: u32, ring: Ring, count: u32) -> Reply
-        requires { 1 ≤ self.old.spare_entries }
+        requires can { CanPerform self.old.config self.old.rings (Call.Reserve ring count) }
+        requires entries { 1 ≤ self.old.spare_entries }
         ensures kind { IsReserved result }
         ensures enters { Enters self.old self.new who (Call.Reserve ring count) result 0 }
         ensures follows { FollowsObject self.old self.new who (Call.Reserve ring count) result }
@@ -154,6 +163,7 @@ impl Plain {
     }
 
     fn submit(&mut self, who: u32, ring: Ring, items: Batch) -> Reply
+        requires can { CanPerform self.old.config self.old.rings (Call.Submit ring items) }
         requires entries { 1 ≤ self.old.spare_entries }
         requires bytes { items_bytes self.old.config items ≤ self.old.spare_bytes }
         ensures kind { result ≡ Reply.Submitted }
@@ -166,7 +176,8 @@ impl Plain {
     }
 
     fn peek(&mut self, who: u32, ring: Ring, count: u32) -> Reply
-        requires { 1 ≤ self.old.spare_entries }
+        requires can { CanPerform self.old.config self.old.rings (Call.Peek ring count) }
+        requires entries { 1 ≤ self.old.spare_entries }
         ensures kind { IsPeeked result }
         ensures enters { Enters self.old self.new who (Call.Peek ring count) result 0 }
         ensures follows { FollowsObject self.old self.new who (Call.Peek ring count) result }
@@ -183,7 +194,8 @@ impl Plain {
     }
 
     fn release(&mut self, who: u32, ring: Ring, count: u32) -> Reply
-        requires { 1 ≤ self.old.spare_entries }
+        requires can { CanPerform self.old.config self.old.rings (Call.Release ring count) }
+        requires entries { 1 ≤ self.old.spare_entries }
         ensures kind { result ≡ Reply.Released }
         ensures enters { Enters self.old self.new who (Call.Release ring count) result 0 }
         ensures follows { FollowsObject self.old self.new who (Call.Release ring count) result }
@@ -194,7 +206,8 @@ impl Plain {
     }
 
     fn swap(&mut self, who: u32, mark: Mark, value: u64) -> Reply
-        requires { 1 ≤ self.old.spare_entries }
+        requires can { CanPerform self.old.config self.old.rings (Call.Swap mark value) }
+        requires entries { 1 ≤ self.old.spare_entries }
         ensures kind { IsOld result }
         ensures enters { Enters self.old self.new who (Call.Swap mark value) result 0 }
         ensures follows { FollowsObject self.old self.new who (Call.Swap mark value) result }
@@ -205,7 +218,8 @@ impl Plain {
     }
 
     fn look(&mut self, who: u32, mark: Mark) -> Reply
-        requires { 1 ≤ self.old.spare_entries }
+        requires can { CanPerform self.old.config self.old.rings (Call.Look mark) }
+        requires entries { 1 ≤ self.old.spare_entries }
         ensures kind { IsOld result }
         ensures enters { Enters self.old self.new who (Call.Look mark) result 0 }
         ensures follows { FollowsObject self.old self.new who (Call.Look mark) result }

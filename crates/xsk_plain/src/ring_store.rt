@@ -80,15 +80,20 @@ impl RingStore {
         Ok(())
     }
 
-    /// Fills a reserved place. Where none is reserved the item is dropped.
+    /// Fills a reserved place.
     pub(crate) fn put(&mut self, stored: Stored)
-        ensures filled { 0 < self.old.room → Has self.new (self.old.out.items ++ stored ∷ []) self.old.held (self.old.room - 1) self.old.size }
-        ensures dropped { self.old.room ≡ 0 → Has self.new self.old.out.items self.old.held 0 self.old.size }
+        requires { 0 < self.old.room }
+        ensures { Has self.new (self.old.out.items ++ stored ∷ []) self.old.held (self.old.room - 1) self.old.size }
     {
-        if self.room > 0 {
-            self.room -= 1;
-            self.out.push_back_reserved(stored);
-        }
+        self.room -= 1;
+        self.out.push_back_reserved(stored);
+    }
+
+    /// How many places are reserved, and how many are held.
+    pub(crate) fn taken(&self) -> (u32, u32)
+        ensures { result ≡ (self.now.room, self.now.held) }
+    {
+        (self.room, self.held)
     }
 
     /// Puts an item into a free place at the opening. Where none is free the item is dropped.
@@ -122,10 +127,11 @@ impl RingStore {
         self.out.pop_front()
     }
 
-    /// Frees the places of so many held items, at most of all.
+    /// Frees the places of so many held items.
     pub(crate) fn release(&mut self, count: u32)
+        requires { count ≤ self.old.held }
         ensures { Has self.new self.old.out.items (self.old.held - count) self.old.room self.old.size }
     {
-        self.held -= count.min(self.held);
+        self.held -= count;
     }
 }

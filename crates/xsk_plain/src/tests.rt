@@ -48,6 +48,9 @@ fn reply_to(plain: &mut Plain, who: u32, call: Call) -> Result<Reply, Fail>
     ensures { plain.new.config ≡ plain.old.config }
 {
     plain.reserve_log(1, payload_room(&call))?;
+    if !plain.can_perform(&call) {
+        return Err("no call that can be performed")?;
+    }
     Ok(plain.perform(who, call))
 }
 

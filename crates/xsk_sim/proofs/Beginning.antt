@@ -3,11 +3,12 @@ use Rattle.std.proofs.Common.{◌≡◌, ℕ, ◌<◌, List, [], length, vec_len
 use Rattle.std.proofs.lemmas.List.{get_or-map}
 use Rattle.std.specs.List.{slice_index_or}
 use Rattle.xsk_umem.specs.PacketList.{PacketList}
-use Rattle.xsk_model.specs.Config.{Config, pair_at}
+use Rattle.xsk_umem.specs.Geometry.{IsGeometry}
+use Rattle.xsk_model.specs.Config.{Config, IsConfig, IsLawful, pair_at}
 use Rattle.xsk_model.specs.Rings.{caller_of}
 use Rattle.xsk_model.specs.Marks.{apps_of}
 use Rattle.xsk_umem.specs.Frame.{Frame}
-use Rattle.xsk_model.specs.Opening.{IsOpened, opening}
+use Rattle.xsk_model.specs.Opening.{AreFrames, IsOpened, opening}
 use Rattle.xsk_plain.specs.Engine.{Engine, Shows}
 use Rattle.xsk_driver.specs.Inputs.{numbers_from, numbers_of, inputs_of, packets_of_port, packets_of_queue}
 use Rattle.xsk_driver.specs.Shown.{Shown as DriverShown}
@@ -69,3 +70,13 @@ seated_first c copy packets frames w engine is opened config shows log drivers a
       driver_count = driver_count;
       app_count = app_count;
     })
+
+-- so they are with a lawful configuration and all frames of its UMEM
+pub seated_opened : (c copy : Config) (packets : List PacketList) (frames : List Frame) (w : Workers) (engine : Engine) → copy ≡ c → IsGeometry copy.geometry → IsConfig c
+    → IsLawful c → AreFrames c.geometry frames → engine.config ≡ c → Shows engine (opening c frames) → engine.log ≡ []
+    → EachFrom w.drivers.items 0 (λ who seat. DriverSits (record { config = copy; packets = packets }) new_own who seat.machine seat.act)
+    → EachFrom w.apps.items (length copy.pairs) (λ who seat. AppSits (record { config = copy; packets = packets }) new_own who seat.machine seat.act)
+    → vec_len w.drivers ≡ length copy.pairs → vec_len w.apps ≡ apps_of copy → AreSeated (record { config = c; packets = packets }) frames [] w engine
+seated_opened c copy packets frames w engine is geometry known lawful umem config shows log drivers apps driver_count app_count =
+    let opened : IsOpened c frames = record { geometry = subst (λ (k : Config). IsGeometry k.geometry) is geometry; config = known; lawful = lawful; umem = umem } in
+    seated_first c copy packets frames w engine is opened config shows log drivers apps driver_count app_count

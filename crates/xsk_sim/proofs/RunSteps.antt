@@ -23,8 +23,8 @@ use Rattle.xsk_sim.specs.Standing.{IsActAfter, HasRun, TakesTurn}
 
 -- the engine made a call and entered it
 pub record Performs (old new : Engine) (who : ℕ) (call : Call) (answer : Reply) : Type 0 where
-  pub reply : (s : State) → Shows old s → CanPerform old.config old.rings call → answer ≡ reply_at old.config s call
-  pub state : (s : State) → Shows old s → CanPerform old.config old.rings call → Shows new (after old.config s who call)
+  pub reply : (s : State) → Shows old s → answer ≡ reply_at old.config s call
+  pub state : (s : State) → Shows old s → Shows new (after old.config s who call)
   pub log : new.log ≡ old.log ++ stored_entry old.config.geometry old.config.sg (record { who = who; call = call; reply = answer }) ∷ []
   pub config : new.config ≡ old.config
 
@@ -41,14 +41,10 @@ pub run_step : (s : Setting) (frames : List Frame) (h : List Entry) (old new : E
     → IsLegal s.config (own who h) who call → Performs old new who call reply → HasRun s frames (h ++ entry who call reply ∷ []) new
 run_step s frames h old new who call reply run legal performs =
     let e = entry who call reply in
-    let history : IsHistory old.config frames h = subst (λ (c : Config). IsHistory c frames h) (sym run.config) run.legal in
-    let shows : Shows old (state_after old.config frames h) = subst (λ (c : Config). Shows old (state_after c frames h)) (sym run.config) run.shows in
-    let mine : IsLegal old.config (own who h) who call = subst (λ (c : Config). IsLegal c (own who h) who call) (sym run.config) legal in
-    let can : CanPerform old.config old.rings call = legal_can_perform frames h old who call history shows mine in
     let is : reply ≡ reply_at s.config (state_after s.config frames h) call =
-    subst (λ (c : Config). reply ≡ reply_at c (state_after s.config frames h) call) run.config (performs.reply (state_after s.config frames h) run.shows can) in
+    subst (λ (c : Config). reply ≡ reply_at c (state_after s.config frames h) call) run.config (performs.reply (state_after s.config frames h) run.shows) in
     let left : Shows new (after s.config (state_after s.config frames h) who call) =
-    subst (λ (c : Config). Shows new (after c (state_after s.config frames h) who call)) run.config (performs.state (state_after s.config frames h) run.shows can) in
+    subst (λ (c : Config). Shows new (after c (state_after s.config frames h) who call)) run.config (performs.state (state_after s.config frames h) run.shows) in
     record {
       config = performs.config ∙ run.config;
       legal = history_step s.config frames h who call reply run.legal legal is;
@@ -59,6 +55,16 @@ run_step s frames h old new who call reply run legal performs =
           ∙ ap (λ (l : List Entry). l ++ stored_entry s.config.geometry s.config.sg e ∷ []) run.log
           ∙ sym (map-append (stored_entry s.config.geometry s.config.sg) h (e ∷ []));
     }
+
+-- a worker's act after its own calls and replies can be performed
+pub can_make : (s : Setting) (frames : List Frame) (h : List Entry) (engine : Engine) (who : ℕ) (act : Act) (call : Call) → apps_of s.config ≡ 1 → HasRun s frames h engine
+    → IsActAfter s who act (own who h) → act ≡ Calls call → CanPerform engine.config engine.rings call
+can_make s frames h engine who act call one run after is =
+    let given : IsActAfter s who (Calls call) (own who h) = subst (λ (a : Act). IsActAfter s who a (own who h)) is after in
+    let history : IsHistory engine.config frames h = subst (λ (c : Config). IsHistory c frames h) (sym run.config) run.legal in
+    let shows : Shows engine (state_after engine.config frames h) = subst (λ (c : Config). Shows engine (state_after c frames h)) (sym run.config) run.shows in
+    let mine : IsLegal engine.config (own who h) who call = subst (λ (c : Config). IsLegal c (own who h) who call) (sym run.config) (given.0 one) in
+    legal_can_perform frames h engine who call history shows mine
 
 pub may_give : (c : Config) (frames : List Frame) (h : List Entry) (who : ℕ) (call : Call) (reply : Reply) → IsHistory c frames (h ++ entry who call reply ∷ [])
     → MayGive c (own who h) who call reply

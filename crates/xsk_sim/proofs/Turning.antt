@@ -16,7 +16,7 @@ use Rattle.xsk_sim.specs.Order.{next_number, number_at, start_of, rotated}
 use Rattle.xsk_sim.specs.Rounds.{IsTurn, AreTurns, AreRounds}
 use Rattle.xsk_sim.specs.Runs.{Setting, IsWholeRun}
 use Rattle.xsk_sim.specs.Standing.{DriverStands, AppStands, IsActAfter}
-use Rattle.xsk_sim.specs.Seats.{DriverSits, AppSits, own_in, AreSeated, HadTurns, HadRound, HadRounds}
+use Rattle.xsk_sim.specs.Seats.{AreGoing, DriverSits, AppSits, own_in, AreSeated, HadTurns, HadRound, HadRounds}
 use Rattle.xsk_sim.specs.declared.rounds.Workers.{Workers}
 
 -- the own calls and replies of a caller whose turn it isn't stay
@@ -117,3 +117,7 @@ rounds_push s frames order count number next w v engine later had at round =
 
 pub rounds_none : (s : Setting) (frames : List Frame) (order : ℕ) (w : Workers) (engine : Engine) → AreSeated s frames [] w engine → HadRounds s frames order 0 w engine
 rounds_none s frames order w engine seated = record { history = []; rounds = refl; seated = seated }
+
+-- workers that had turns go on
+pub going_on : {w v : Workers} {before after : Engine} {callers : List ℕ} → (g : AreGoing w before) → HadTurns g.setting g.frames g.history callers v after → AreGoing v after
+going_on g had = record { setting = g.setting; frames = g.frames; history = g.history ++ had.entries; one = g.one; seated = had.seated }

@@ -5,7 +5,7 @@ ghost use Rattle.xsk_model.specs.Marks.{apps_of};
 ghost use Rattle.xsk_model.specs.Config.{callers_of};
 ghost use Rattle.xsk_model.specs.Entry.{Entry};
 ghost use Rattle.xsk_sim.specs.Runs.{Setting};
-ghost use Rattle.xsk_sim.specs.Seats.{AreSeated, HadTurns, HadRound, HaveEnded};
+ghost use Rattle.xsk_sim.specs.Seats.{AreSeated, AreGoing, HadTurns, HadRound, HaveEnded};
 
 use crate::order::Order;
 use crate::seat::Seat;
@@ -48,7 +48,8 @@ impl Workers<'_> {
 
     /// Lets each worker that hasn't ended make one call, from one worker on in turn.
     pub(crate) fn round(&mut self, plain: &mut Plain, order: &mut Order) -> Result<(), OutOfMemory>
-        requires { IsGeometry plain.old.config.geometry }
+        requires geometry { IsGeometry plain.old.config.geometry }
+        requires going { AreGoing self.old plain.old }
         ensures config { plain.new.config ≡ plain.old.config }
         ensures drivers { vec_len self.new.drivers ≡ vec_len self.old.drivers }
         ensures round { (s : Setting) (frames : List Frame) (h : List Entry) → apps_of s.config ≡ 1 → AreSeated s frames h self.old plain.old
@@ -69,7 +70,8 @@ impl Workers<'_> {
     }
 
     fn step(&mut self, plain: &mut Plain, who: u32) -> Result<(), OutOfMemory>
-        requires { IsGeometry plain.old.config.geometry }
+        requires geometry { IsGeometry plain.old.config.geometry }
+        requires going { AreGoing self.old plain.old }
         ensures config { plain.new.config ≡ plain.old.config }
         ensures drivers { vec_len self.new.drivers ≡ vec_len self.old.drivers }
         ensures turn { (s : Setting) (frames : List Frame) (h : List Entry) → apps_of s.config ≡ 1 → who < callers_of s.config

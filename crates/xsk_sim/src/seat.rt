@@ -4,7 +4,9 @@ ghost use Rattle.xsk_umem.specs.Frame.{Frame};
 ghost use Rattle.xsk_model.specs.Entry.{Entry, own};
 ghost use Rattle.xsk_model.specs.Marks.{apps_of};
 ghost use Rattle.xsk_model.specs.Expected.{expected_of, nothing};
-ghost use Rattle.xsk_model.specs.declared.call.Act.TheVariants.{Ended as IsEnd};
+ghost use Rattle.xsk_model.specs.declared.call.Act.TheVariants.{Call as Calls, Ended as IsEnd};
+ghost use Rattle.xsk_model.specs.declared.call.Call.{Call as ACall};
+ghost use Rattle.xsk_plain.specs.Engine.{CanPerform};
 ghost use Rattle.xsk_sim.specs.Runs.{Setting};
 ghost use Rattle.xsk_sim.specs.Standing.{IsActAfter, HasRun, TakesTurn};
 
@@ -47,9 +49,10 @@ impl<M: Machine> Seat<M> {
         machine
     }
 
-    /// Makes the worker's next call, if it hasn't ended.
+    /// Makes the worker's next call, if it hasn't ended. It must be one that can be performed.
     pub(crate) fn step(&mut self, plain: &mut Plain, who: u32) -> Result<(), OutOfMemory>
-        requires { IsGeometry plain.old.config.geometry }
+        requires geometry { IsGeometry plain.old.config.geometry }
+        requires can { (call : ACall) → self.old.act ≡ Calls call → CanPerform plain.old.config plain.old.rings call }
         ensures config { plain.new.config ≡ plain.old.config }
         ensures turn { (s : Setting) (frames : List Frame) (h : List Entry) → apps_of s.config ≡ 1 → HasRun s frames h plain.old
             → M.stands s who self.old.machine self.old.act (own who h) → IsActAfter s who self.old.act (own who h)

@@ -11,7 +11,7 @@ ghost use Rattle.xsk_driver.specs.Sent.{IsShort};
 ghost use Rattle.xsk_sim.specs.Shown.{HasShortPackets, packets_in};
 ghost use Rattle.xsk_sim.specs.Runs.{Setting, HasEnded, HasStalled, last_round_of};
 ghost use Rattle.xsk_laws.specs.Expected.{paired};
-ghost use Rattle.xsk_sim.specs.Seats.{EachFrom, AreSeated, HadRounds, HaveEnded, DriverSits, AppSits, kept_lists, new_own};
+ghost use Rattle.xsk_sim.specs.Seats.{EachFrom, AreSeated, AreReady, HadRounds, HaveEnded, DriverSits, AppSits, kept_lists, new_own};
 
 use crate::order::Order;
 use crate::rounds::Workers;
@@ -92,8 +92,8 @@ const PACKET_ROUNDS: u64 = 256;
 /// Runs the drivers and applications of a regular configuration in rounds until all have ended, over one list of
 /// packets for each port. The frames are all frames of its UMEM, and `order` is the number of the rounds' order.
 ///
-/// It stalls exactly where some worker hasn't ended after round 1,023 + 256 x packets, which is then its round. Where
-/// there is one application, a run that has ended is a legal history in rounds in which each worker's own calls and
+/// It stalls exactly where some worker hasn't ended after round 1,023 + 256 x packets, which is then its round. A run
+/// that has ended is a legal history in rounds in which each worker's own calls and
 /// replies are a whole run of its turns, and one that has stalled is such a history of all these rounds, in which those
 /// of some worker aren't.
 pub fn simulate(
@@ -104,11 +104,12 @@ pub fn simulate(
     order: u32,
 ) -> Result<Run, SimError>
     requires regular { IsRegular config }
+    requires one { apps_of config ≡ 1 }
     requires frames { AreFrames config.geometry frames.items }
     requires lists { length packets.now ≡ config.ports }
     ensures pairs { IfOk result (λ run. run.pairs ≡ length config.pairs) }
-    ensures ended { apps_of config ≡ 1 → IfOk result (HasEnded (record { config = config; packets = packets.now }) frames.items order) }
-    ensures stalled { (round : ℕ) → apps_of config ≡ 1 → result ≡ Err (SimError.Stalled round)
+    ensures ended { IfOk result (HasEnded (record { config = config; packets = packets.now }) frames.items order) }
+    ensures stalled { (round : ℕ) → result ≡ Err (SimError.Stalled round)
         → HasStalled (record { config = config; packets = packets.now }) frames.items order round }
 {
     let shared = config.copy(alloc)?;
@@ -138,7 +139,8 @@ fn run_workers(
     order: Order,
     last: u64,
 ) -> Result<Run, SimError>
-    requires { IsGeometry plain.config.geometry }
+    requires geometry { IsGeometry plain.config.geometry }
+    requires ready { AreReady workers plain }
     ensures pairs { IfOk result (λ run. run.pairs ≡ vec_len workers.entry.drivers) }
     ensures ended { (s : Setting) (frames : List Frame) → IsRegular s.config → apps_of s.config ≡ 1 → AreSeated s frames [] workers.entry plain → last ≡ last_round_of s.packets
         → IfOk result (HasEnded s frames order.number) }
@@ -171,6 +173,7 @@ fn make_rounds(
     last: u64,
 ) -> Result<(), SimError>
     requires geometry { IsGeometry plain.old.config.geometry }
+    requires ready { AreReady workers.old plain.old }
     ensures drivers { vec_len workers.new.drivers ≡ vec_len workers.old.drivers }
     ensures ended { (s : Setting) (frames : List Frame) → apps_of s.config ≡ 1 → AreSeated s frames [] workers.old plain.old
         → OnOk result ((count : ℕ) × (count ≤ last + 1) × HadRounds s frames order.number count workers.new plain.new × HaveEnded workers.new) }

@@ -1,4 +1,4 @@
-use Rattle.std.proofs.Common.{◌≡◌, ◌+◌, ◌-◌, ◌<◌, ◌≤◌, ◌∷◌, [], ◌++◌, length, arith, sym, ap, subst, ◌∙◌}
+use Rattle.std.proofs.Common.{◌≡◌, ◌+◌, ◌∷◌, [], ◌++◌, length, arith, sym, ap, subst, ◌∙◌}
 use Rattle.std.proofs.lemmas.List.Sums.{sum_by-cons}
 use Rattle.xsk_umem.specs.declared.batch.Item.{Item}
 use Rattle.xsk_model.specs.Descriptor.{payload}
@@ -6,7 +6,7 @@ use Rattle.xsk_model.specs.Stored.{stored_item}
 use Rattle.xsk_plain.specs.Kept.{IsKept, AreKept, Grows}
 use Rattle.xsk_plain.specs.Log.{item_of, noted_in}
 use Rattle.xsk_plain.specs.Rooms.{items_bytes}
-use Rattle.xsk_plain.proofs.Moves.{grows_more, are_kept_grown, kept_new, item_kept, noted_step, out_step, put_held, put_size, put_kept}
+use Rattle.xsk_plain.proofs.Moves.{grows_more, are_kept_grown, kept_new, item_kept, noted_step, out_step, put_kept}
 use Rattle.xsk_plain.proofs.moving.put_items.Goals as goal
 
 pub loop-preserved : goal.loop-preserved
@@ -26,8 +26,6 @@ loop-preserved c =
     let long : length c.payload_of.result.now ≡ length (payload c.args.config.now.geometry c.args.config.now.sg c.unwrap-item.result) = ap length shown in
     let grown : Grows c.args.log.now.bytes.items c.note.new.self.bytes.items =
     grows_more c.args.log.now.bytes.items c.loop.log.bytes.items c.note.new.self.bytes.items c.payload_of.result.now c.loop.invariant.bytes (c.note.ensures.bytes ∙ c.keep-payload.ensures.bytes) in
-    let room = λ (h : length c.args.items ≤ c.args.store.now.room). (let r : c.loop.store.room + length c.args.items ≡ c.args.store.now.room + length c.loop.items = c.loop.invariant.room h in
-    let some : 0 < c.loop.store.room = omega arith in some) in
     record {
       entries = c.note.ensures.entries ∙ c.keep-payload.ensures.entries ∙ c.loop.invariant.entries;
       noted = noted_step (stored_item c.args.config.now.geometry c.args.config.now.sg) (noted_in c.loop.log) (noted_in c.note.new.self) c.pop_front.new.self c.loop.items c.args.items
@@ -40,15 +38,20 @@ loop-preserved c =
       bytes = grown;
       rest = omega (arith, c.loop.invariant.rest, count);
       few = c.loop.invariant.few;
-      out = λ h. out_step c.loop.store.out.items c.put.new.self.out.items c.loop.items c.pop_front.new.self _ (record { item = c.unwrap-item.result; payload = c.keep-payload.result })
-          (c.put.ensures.filled (room h)).out first (c.loop.invariant.out h);
-      room = λ h. (let r : c.put.new.self.room ≡ c.loop.store.room - 1 = (c.put.ensures.filled (room h)).room in
-          let some = room h in omega (arith, r, some, c.loop.invariant.room h, count));
-      held = put_held c.loop.store c.put.new.self _ c.put.ensures.filled c.put.ensures.dropped ∙ c.loop.invariant.held;
-      size = put_size c.loop.store c.put.new.self _ c.put.ensures.filled c.put.ensures.dropped ∙ c.loop.invariant.size;
+      out = out_step c.loop.store.out.items c.put.new.self.out.items c.loop.items c.pop_front.new.self _ (record { item = c.unwrap-item.result; payload = c.keep-payload.result })
+          c.put.ensures.out first c.loop.invariant.out;
+      room = omega (arith, c.put.ensures.room, c.requires.room, c.loop.invariant.room, count);
+      held = c.put.ensures.held ∙ c.loop.invariant.held;
+      size = c.put.ensures.size ∙ c.loop.invariant.size;
       kept = λ h.
           let before : AreKept c.args.config.now c.keep-payload.new.self.bytes.items c.loop.store =
           are_kept_grown c.args.config.now c.loop.log.bytes.items c.keep-payload.new.self.bytes.items c.loop.store (record { more = c.payload_of.result.now; is = c.keep-payload.ensures.bytes }) (c.loop.invariant.kept h) in
           subst (λ bs. AreKept c.args.config.now bs c.put.new.self) (sym c.note.ensures.bytes)
-          (put_kept c.loop.store c.put.new.self _ c.put.ensures.filled c.put.ensures.dropped c.args.config.now c.keep-payload.new.self.bytes.items before kept);
+          (put_kept c.args.config.now c.keep-payload.new.self.bytes.items c.loop.store c.put.new.self _ c.put.ensures.out before kept);
     }
+
+pub put-requires : goal.put-requires
+put-requires c =
+    let first : c.loop.items ≡ c.unwrap-item.result ∷ c.pop_front.new.self = rw c.unwrap-item.ensures at c.pop_front.ensures.some in
+    let count : length c.loop.items ≡ length c.pop_front.new.self + 1 = ap length first ∙ omega arith in
+    omega (arith, c.loop.invariant.room, c.requires.room, count)

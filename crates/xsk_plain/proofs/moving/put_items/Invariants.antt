@@ -19,8 +19,8 @@ invariant-loop l = record {
   bytes : Grows l.initial.log.bytes.items l.log.bytes.items;
   rest : length l.items + l.counter ≡ length l.initial.items;
   few : length l.initial.items ≤ 32;
-  out : length l.initial.items ≤ l.initial.store.room → map stored_item_of l.store.out.items ++ l.items ≡ map stored_item_of l.initial.store.out.items ++ l.initial.items;
-  room : length l.initial.items ≤ l.initial.store.room → l.store.room + length l.initial.items ≡ l.initial.store.room + length l.items;
+  out : map stored_item_of l.store.out.items ++ l.items ≡ map stored_item_of l.initial.store.out.items ++ l.initial.items;
+  room : l.store.room + length l.initial.items ≡ l.initial.store.room + length l.items;
   held : l.store.held ≡ l.initial.store.held;
   size : l.store.size ≡ l.initial.store.size;
   kept : AreKept l.config l.initial.log.bytes.items l.initial.store → AreKept l.config l.log.bytes.items l.store;

@@ -5,22 +5,22 @@ use Rattle.xsk_plain.proofs.object.Object.release.Goals as goal
 
 pub invariant_of-self-clause-sizes : goal.invariant_of-self-clause-sizes
 invariant_of-self-clause-sizes c =
-    let within : c.in-Some.place < length c.args.self.now.rings.items = omega (arith, c.in-Some.ensures.within, length-rings c.args.self.now.config c.args.self.now.rings.items c.args.self.now.sizes) in
-    sizes-set c.args.self.now.config c.args.self.now.rings.items c.in-Some.place c.index_mut.result.now c.release.new.self within c.index_mut.ensures.value c.release.ensures.size
+    let within : c.ring_place-place.result < length c.args.self.now.rings.items = omega (arith, c.ring_place-place.ensures.within, length-rings c.args.self.now.config c.args.self.now.rings.items c.args.self.now.sizes) in
+    sizes-set c.args.self.now.config c.args.self.now.rings.items c.ring_place-place.result c.index_mut.result.now c.release.new.self within c.index_mut.ensures.value c.release.ensures.size
     ∙ c.args.self.now.sizes
 
-pub returns-in-Some-clause-changes : goal.returns-in-Some-clause-changes
-returns-in-Some-clause-changes c =
-    let within : c.in-Some.place < length c.args.self.now.rings.items = omega (arith, c.in-Some.ensures.within, length-rings c.args.self.now.config c.args.self.now.rings.items c.args.self.now.sizes) in
+pub returns-clause-changes : goal.returns-clause-changes
+returns-clause-changes c =
+    let within : c.ring_place-place.result < length c.args.self.now.rings.items = omega (arith, c.ring_place-place.ensures.within, length-rings c.args.self.now.config c.args.self.now.rings.items c.args.self.now.sizes) in
     record {
       config = refl;
       marks = refl;
-      rings = λ can. parts-set c.args.self.now.config c.args.self.now.rings.items c.in-Some.place c.index_mut.result.now c.release.new.self within c.index_mut.ensures.value
-          c.args.ring (Release c.args.ring c.args.count) can.0 c.in-Some.ensures.value c.args.self.now.sizes (part_has c.release.new.self _ _ _ _ c.release.ensures);
+      rings = parts-set c.args.self.now.config c.args.self.now.rings.items c.ring_place-place.result c.index_mut.result.now c.release.new.self within c.index_mut.ensures.value
+          c.args.ring (Release c.args.ring c.args.count) c.requires.can.0 c.ring_place-place.ensures.value c.args.self.now.sizes (part_has c.release.new.self _ _ _ _ c.release.ensures);
     }
 
-pub returns-in-Some-clause-kept : goal.returns-in-Some-clause-kept
-returns-in-Some-clause-kept c =
-    let within : c.in-Some.place < length c.args.self.now.rings.items = omega (arith, c.in-Some.ensures.within, length-rings c.args.self.now.config c.args.self.now.rings.items c.args.self.now.sizes) in
-    λ bytes. λ kept. kept-set c.args.self.now.config c.args.self.now.rings.items c.in-Some.place c.index_mut.result.now c.release.new.self within c.index_mut.ensures.value
+pub returns-clause-kept : goal.returns-clause-kept
+returns-clause-kept c =
+    let within : c.ring_place-place.result < length c.args.self.now.rings.items = omega (arith, c.ring_place-place.ensures.within, length-rings c.args.self.now.config c.args.self.now.rings.items c.args.self.now.sizes) in
+    λ bytes. λ kept. kept-set c.args.self.now.config c.args.self.now.rings.items c.ring_place-place.result c.index_mut.result.now c.release.new.self within c.index_mut.ensures.value
     bytes kept (kept_same c.args.self.now.config bytes c.index_mut.result.now c.release.new.self c.release.ensures.out)

@@ -2,7 +2,7 @@ use Rattle.std.proofs.Common.{◌≡◌, ◌-◌, ◌<◌, [], ◌∷◌, ◌++�
 use Rattle.std.specs.List.{range_with_len}
 use Rattle.xsk_model.specs.Config.{callers_of}
 use Rattle.xsk_sim.specs.Seats.{HadTurns}
-use Rattle.xsk_sim.proofs.Turning.{had_both, range_more, range_first, callers_are}
+use Rattle.xsk_sim.proofs.Turning.{going_on, had_both, range_more, range_first, callers_are}
 use Rattle.xsk_sim.proofs.rounds.Workers.round.Goals as goal
 
 pub loop-who-preserved : goal.loop-who-preserved
@@ -38,3 +38,13 @@ loop-who-2-preserved c = record {
       subst (λ ws. HadTurns s frames h ws step.self step.plain) (append_assoc first (range_with_len 0 who) (who ∷ []) ∙ ap (λ ws. first ++ ws) (range_first who))
       (had_both s frames h (first ++ range_with_len 0 who) (who ∷ []) c.loop-who-2.self step.self c.loop-who-2.plain step.plain had next);
 }
+
+pub step-requires-clause-going : goal.step-requires-clause-going
+step-requires-clause-going c =
+    let g = c.requires.going in
+    going_on g (c.loop-who.invariant.round g.setting g.frames g.history g.one g.seated)
+
+pub step-requires-in-loop-who-2-clause-going : goal.step-requires-in-loop-who-2-clause-going
+step-requires-in-loop-who-2-clause-going c =
+    let g = c.requires.going in
+    going_on g (c.loop-who-2.invariant.round g.setting g.frames g.history g.one g.seated)

@@ -1,9 +1,10 @@
-use Rattle.std.proofs.Common.{◌≡◌, ℕ, ◌+◌, ◌-◌, ◌<◌, [], ◌∷◌, ◌++◌, length, arith}
+use Rattle.std.proofs.Common.{◌≡◌, ℕ, ◌+◌, ◌-◌, ◌<◌, [], ◌∷◌, ◌++◌, length, arith, refl}
 use Rattle.std.specs.Vec.{with_item}
 use Rattle.xsk_sim.specs.Runs.{IsWholeRun}
 use Rattle.xsk_sim.specs.Standing.{DriverStands, AppStands, TakesTurn}
 use Rattle.xsk_sim.specs.Seats.{DriverSits, AppSits, own_in, HadTurns}
 use Rattle.xsk_sim.proofs.Seating.{each_at, each_set, each_change}
+use Rattle.xsk_sim.proofs.RunSteps.{can_make}
 use Rattle.xsk_sim.proofs.Turning.{on_ok, own_turn, one_turn, driver_on, app_on}
 use Rattle.xsk_sim.proofs.rounds.Workers.step.Goals as goal
 
@@ -56,3 +57,26 @@ returns-in-Some-clause-turn c s frames h one within seated =
         app_count = seated.app_count;
       };
     }) (c.step-in-Some.ensures.turn s frames h one seated.run here.0 here.1)
+
+pub step-requires-clause-can : goal.step-requires-clause-can
+step-requires-clause-can c call is =
+    let g = c.requires.going in
+    let who = c.args.who in
+    let seat = c.index_mut.result.now in
+    let here : DriverSits g.setting (own_in g.history) who seat.machine seat.act =
+    each_at c.args.self.now.drivers.items 0 who who _ seat g.seated.drivers (omega arith) (omega arith) c.index_mut.ensures.value in
+    can_make g.setting g.frames g.history c.args.plain.now who seat.act call g.one g.seated.run here.1 is
+
+pub step-requires-in-Some-clause-can : goal.step-requires-in-Some-clause-can
+step-requires-in-Some-clause-can c call is =
+    let g = c.requires.going in
+    let w = c.args.self.now in
+    let who = c.args.who in
+    let seat = c.in-Some.seat.now in
+    let i : ℕ = who - c.len-drivers.result in
+    let place : who ≡ length g.setting.config.pairs + i = omega (arith, c.len-drivers.ensures, g.seated.driver_count, c.if-place-drivers.false) in
+    let bound = c.in-Some.ensures.variant.0 refl in
+    let below : i < length w.apps.items = omega (arith, w.apps.ok.0, bound) in
+    let here : AppSits g.setting (own_in g.history) who seat.machine seat.act =
+    each_at w.apps.items (length g.setting.config.pairs) i who _ seat g.seated.apps below place c.in-Some.ensures.value in
+    can_make g.setting g.frames g.history c.args.plain.now who seat.act call g.one g.seated.run here.1 is
