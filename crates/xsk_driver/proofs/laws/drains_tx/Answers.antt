@@ -1,5 +1,0 @@
-use Rattle.xsk_driver.proofs.Draining.{drains_tx}
-use Rattle.xsk_driver.proofs.laws.drains_tx.Goals as goal
-
-pub returns : goal.returns
-returns c = drains_tx

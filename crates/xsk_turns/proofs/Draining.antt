@@ -1,0 +1,193 @@
+-- In a whole run each TX ring was found empty after the application had told that it sends no more.
+use Rattle.std.proofs.Common.{◌≡◌, ℕ, ◌+◌, ◌<◌, Bool, true, false, cond, ◌||◌, ◌&&◌, eqb, List, [], ◌∷◌, map, take, refl, ap, ◌∙◌, ⊎_elim, eq-eqb, arith}
+use Rattle.std.proofs.lemmas.Bool.{cases_eq}
+use Rattle.std.proofs.lemmas.List.Sums.{fold_push}
+use Rattle.xsk_umem.specs.declared.batch.Item.{Item}
+use Rattle.xsk_model.specs.Entry.{Told, with_told}
+use Rattle.xsk_model.specs.Ends.{Draining, are_none, unseen_after, draining_after, draining_step, draining_of}
+use Rattle.xsk_model.specs.declared.call.Ring.{Ring}
+use Rattle.xsk_model.specs.declared.call.Ring.TheVariants.{Fill, Comp, Rx, Tx}
+use Rattle.xsk_model.specs.declared.call.Mark.{Mark}
+use Rattle.xsk_model.specs.declared.call.Mark.TheVariants.{RxDone, Gone, TxDone, Cell}
+use Rattle.xsk_model.specs.declared.call.Call.{Call}
+use Rattle.xsk_model.specs.declared.call.Call.TheVariants.{Reserve, Submit, Peek, Release, Swap, Look}
+use Rattle.xsk_model.specs.declared.call.Reply.{Reply}
+use Rattle.xsk_model.specs.declared.call.Reply.TheVariants.{Granted, Full, Submitted, Items, Empty, Released, Old}
+use Rattle.xsk_turns.specs.Turns.{Seat, Kept, Noted, seat_of, turn, moved, stopped, socket_of, application_of, cell_of, pieces_of, laid_out, returned}
+use Rattle.xsk_turns.specs.declared.disposal.DriverCounters.{DriverCounters}
+use Rattle.xsk_turns.specs.Law.{DrainsTx}
+use Rattle.xsk_turns.proofs.Walks.{meet_anything}
+use Rattle.xsk_turns.proofs.TurnPlaces.{Anything, Fact, Place, Family, Receiving, Trying, Sending, Idling, Keeps, holds_of_whole}
+
+pub draining_told : (ms : List Mark) (r : Ring) (l : List Told) (call : Call) (reply : Reply)
+    → draining_of ms r (with_told l call reply) ≡ draining_after r (draining_of ms r l) call reply
+draining_told ms r l call reply = fold_push (draining_step r) (record { unseen = ms; empty = false }) l (record { call = call; reply = reply })
+
+abbrev draining : ℕ → ℕ → List Told → Draining
+draining a t l = draining_of (TxDone a ∷ []) (Tx t) l
+
+-- the mark was seen where this is kept, and the ring was found empty where it had to be
+record IsDrained (a t : ℕ) (tx_done : Bool) (needs : Type 0) (l : List Told) : Type 0 where
+  pub unseen : (draining a t l).unseen ≡ cond tx_done [] (TxDone a ∷ [])
+  pub empty : needs → (draining a t l).empty ≡ true
+
+-- where it had to be found empty
+abbrev Quiet : Noted → Kept → Type 0
+Quiet noted kept = (noted.progress ≡ false) × (noted.full ≡ false) × (kept.tx_done ≡ true)
+
+abbrev Needs : ℕ → Place → Noted → Kept → Type 0
+Needs class Receiving noted kept = ⊥
+Needs class (Trying packet s) noted kept = ⊥
+Needs class (Sending k) noted kept = (class < k) × Quiet noted kept
+Needs class Idling noted kept = Quiet noted kept
+
+other_unseen : (a port index n : ℕ) (b : Bool) → unseen_after (cond b [] (TxDone a ∷ [])) (Cell port index) n ≡ cond b [] (TxDone a ∷ [])
+other_unseen a port index n true = refl
+other_unseen a port index n false = refl
+
+seen_now : (a : ℕ) (same now : Bool) (b : Bool) → same ≡ true
+    → cond (same && now) [] (TxDone a ∷ []) ≡ cond now [] (TxDone a ∷ [])
+seen_now a true now b e = refl
+seen_now a false now b e = absurd (cc)
+
+now_unseen : (a n : ℕ) (b : Bool) → unseen_after (cond b [] (TxDone a ∷ [])) (TxDone a) n ≡ cond (b || eqb n 1) [] (TxDone a ∷ [])
+now_unseen a n true = refl
+now_unseen a n false = seen_now a (eqb a a) (eqb n 1) false (eq-eqb a a refl)
+
+when_found : (same : Bool) (s : Draining) → s.unseen ≡ [] → (s.empty ≡ true) → (cond same (record s { empty = are_none s.unseen }) s).empty ≡ true
+when_found true s e f = ap are_none e
+when_found false s e f = f
+
+found_here : (same : Bool) (s : Draining) → same ≡ true → s.unseen ≡ [] → (cond same (record s { empty = are_none s.unseen }) s).empty ≡ true
+found_here true s e f = ap are_none f
+found_here false s e f = absurd (cc)
+
+same_unseen : (same : Bool) (s : Draining) (b : Bool) → (cond same (record s { empty = b }) s).unseen ≡ s.unseen
+same_unseen true s b = refl
+same_unseen false s b = refl
+
+last_or_before : (class k : ℕ) → class < k + 1 → (class ≡ k → ⊥) → class < k
+last_or_before class k h e = omega arith
+
+module _ (a t : ℕ) where
+  still : (tx_done : Bool) (old new : Type 0) (l : List Told) (call : Call) (reply : Reply) → ((s : Draining) → draining_after (Tx t) s call reply ≡ s) → (new → old)
+      → IsDrained a t tx_done old l → IsDrained a t tx_done new (with_told l call reply)
+  still tx_done old new l call reply e f h =
+      let same = draining_told (TxDone a ∷ []) (Tx t) l call reply ∙ e (draining a t l) in
+      record { unseen = ap (λ s. s.unseen) same ∙ h.unseen; empty = λ n. ap (λ s. s.empty) same ∙ h.empty (f n) }
+
+  fewer : (tx_done : Bool) (old new : Type 0) (l : List Told) → (new → old) → IsDrained a t tx_done old l → IsDrained a t tx_done new l
+  fewer tx_done old new l f h = record { unseen = h.unseen; empty = λ n. h.empty (f n) }
+
+  looked_cell : (tx_done : Bool) (old new : Type 0) (l : List Told) (port index n : ℕ) → (new → ⊥) → IsDrained a t tx_done old l
+      → IsDrained a t tx_done new (with_told l (Look (Cell port index)) (Old n))
+  looked_cell tx_done old new l port index n f h =
+      let same = draining_told (TxDone a ∷ []) (Tx t) l (Look (Cell port index)) (Old n) in
+      record {
+        unseen = ap (λ s. s.unseen) same ∙ ap (λ ms. unseen_after ms (Cell port index) n) h.unseen ∙ other_unseen a port index n tx_done;
+        empty = λ x. absurd (f x);
+      }
+
+  looked_mark : (tx_done : Bool) (old new : Type 0) (l : List Told) (n : ℕ) → (new → ⊥) → IsDrained a t tx_done old l
+      → IsDrained a t (tx_done || eqb n 1) new (with_told l (Look (TxDone a)) (Old n))
+  looked_mark tx_done old new l n f h =
+      let same = draining_told (TxDone a ∷ []) (Tx t) l (Look (TxDone a)) (Old n) in
+      record {
+        unseen = ap (λ s. s.unseen) same ∙ ap (λ ms. unseen_after ms (TxDone a) n) h.unseen ∙ now_unseen a n tx_done;
+        empty = λ x. absurd (f x);
+      }
+
+  -- a Peek on a TX ring
+  peeked : (tx_done : Bool) (old new : Type 0) (l : List Told) (s n : ℕ) (items : List Item) → (new → ⊥) → IsDrained a t tx_done old l
+      → IsDrained a t tx_done new (with_told l (Peek (Tx s) n) (Items items))
+  peeked tx_done old new l s n items f h =
+      let same = draining_told (TxDone a ∷ []) (Tx t) l (Peek (Tx s) n) (Items items) in
+      record {
+        unseen = ap (λ s. s.unseen) same ∙ same_unseen (eqb t s) (draining a t l) false ∙ h.unseen;
+        empty = λ x. absurd (f x);
+      }
+
+  none_unseen : (tx_done : Bool) (old : Type 0) (l : List Told) → tx_done ≡ true → IsDrained a t tx_done old l → (draining a t l).unseen ≡ []
+  none_unseen tx_done old l e h = h.unseen ∙ ap {B = List Mark} (λ b. cond b [] (TxDone a ∷ [])) e
+
+  found_empty : (tx_done : Bool) (class k n s : ℕ) (quiet : Type 0) (l : List Told) → (quiet → tx_done ≡ true) → (class ≡ k → t ≡ s)
+      → IsDrained a t tx_done ((class < k) × quiet) l → IsDrained a t tx_done ((class < k + 1) × quiet) (with_told l (Peek (Tx s) n) Empty)
+  found_empty tx_done class k n s quiet l done is h =
+      let u = draining a t l in
+      let same = draining_told (TxDone a ∷ []) (Tx t) l (Peek (Tx s) n) Empty in
+      record {
+        unseen = ap (λ s. s.unseen) same ∙ same_unseen (eqb t s) u (are_none u.unseen) ∙ h.unseen;
+        empty = λ x.
+            let none = none_unseen tx_done ((class < k) × quiet) l (done x.1) h in
+            ap (λ s. s.empty) same
+            ∙ ⊎_elim (λ (e : class ≡ k). found_here (eqb t s) u (eq-eqb t s (is e)) none)
+            (λ (e : class ≡ k → ⊥). when_found (eqb t s) u none (h.empty (last_or_before class k x.0 e, x.1))) (cases_eq class k);
+      }
+
+module _ (seat : Seat) (class : ℕ) (below : class < seat.classes) where
+  abbrev At : Family
+  At p noted kept l = IsDrained (application_of seat) (socket_of seat class) kept.tx_done (Needs class p noted kept) l
+
+  recounted : (p : Place) (noted : Noted) (kept : Kept) (counters : DriverCounters) → Needs class p noted (record kept { counters = counters }) → Needs class p noted kept
+  recounted Receiving noted kept counters h = h
+  recounted (Trying packet s) noted kept counters h = h
+  recounted (Sending k) noted kept counters h = h
+  recounted Idling noted kept counters h = h
+
+  abbrev Always : Fact
+  Always l = Unit {0}
+
+  abbrev Over : Fact
+  Over l = (draining (application_of seat) (socket_of seat class) l).empty ≡ true
+
+  keeps : Keeps seat Anything Always Over At
+  keeps =
+      let a = application_of seat in
+      let t = socket_of seat class in
+      record {
+        counted = λ p noted kept counters l h. fewer a t kept.tx_done (Needs class p noted kept) (Needs class p noted (record kept { counters = counters })) l (recounted p noted kept counters) h;
+        holds = λ p noted kept l h. tt;
+        short = λ noted kept l packet later h e f. h;
+        missed = λ noted kept l packet later h e f g. h;
+        told = λ noted kept l h e f. fewer a t kept.tx_done ⊥ (Needs class (Sending 0) noted kept) l (λ x. absurd (omega (arith, x.0))) h;
+        tells = λ noted kept l n h f g q. still a t kept.tx_done ⊥ ((class < 0) × Quiet (moved noted) kept) l (Swap (RxDone seat.pair) 1) (Old n) (λ s. refl) (λ x. absurd (omega (arith, x.0))) h;
+        looked_none = λ noted kept l packet n h next q f.
+            looked_cell a t kept.tx_done ⊥ ((class < 0) × Quiet (moved noted) kept) l seat.port (cell_of seat packet) n (λ x. absurd (omega (arith, x.0))) h;
+        looked_long = λ noted kept l packet n s h next q f g.
+            looked_cell a t kept.tx_done ⊥ ((class < 0) × Quiet (moved noted) kept) l seat.port (cell_of seat packet) n (λ x. absurd (omega (arith, x.0))) h;
+        looked_some = λ noted kept l packet n s h next q f g. looked_cell a t kept.tx_done ⊥ ⊥ l seat.port (cell_of seat packet) n (λ x. x) h;
+        waits = λ packet s noted kept l h. fewer a t kept.tx_done ⊥ (Needs class (Sending 0) noted kept) l (λ x. absurd (omega (arith, x.0))) h;
+        try_moved = λ packet s noted kept l h. h;
+        try_empty = λ packet s n noted kept l h q. still a t kept.tx_done ⊥ ⊥ l (Peek (Fill seat.pair) n) Empty (λ s. refl) (λ x. x) h;
+        try_items = λ packet s n items noted kept l h q. still a t kept.tx_done ⊥ ⊥ l (Peek (Fill seat.pair) n) (Items items) (λ s. refl) (λ x. x) h;
+        try_released = λ packet s n noted kept l h q. still a t kept.tx_done ⊥ ⊥ l (Release (Fill seat.pair) n) Released (λ s. refl) (λ x. x) h;
+        try_granted = λ packet s n noted kept l h q. still a t kept.tx_done ⊥ ⊥ l (Reserve (Rx s) n) Granted (λ s. refl) (λ x. x) h;
+        try_full = λ packet s n free noted kept l h q. still a t kept.tx_done ⊥ ⊥ l (Reserve (Rx s) n) (Full free) (λ s. refl) (λ x. x) h;
+        delivers = λ packet s noted kept l h next f g q.
+            still a t kept.tx_done ⊥ ((class < 0) × Quiet (moved noted) kept) l (Submit (Rx s) (laid_out seat.config.geometry packet (take (pieces_of seat packet) kept.spare))) Submitted (λ s. refl)
+            (λ x. absurd (omega (arith, x.0))) h;
+        send_stopped = λ k noted kept l h. fewer a t kept.tx_done (Needs class (Sending k) noted kept) ((class < k) × Quiet (stopped noted) kept) l (λ x. absurd (let no = x.1.1 in cc)) h;
+        send_moved = λ k noted kept l h. fewer a t kept.tx_done (Needs class (Sending k) noted kept) ((class < k) × Quiet (moved noted) kept) l (λ x. absurd (let no = x.1.0 in cc)) h;
+        send_granted = λ k n noted kept l h q. still a t kept.tx_done (Needs class (Sending k) noted kept) (Needs class (Sending k) noted kept) l (Reserve (Comp seat.pair) n) Granted (λ s. refl) (λ x. x) h;
+        send_full = λ k n free noted kept l h q. still a t kept.tx_done (Needs class (Sending k) noted kept) (Needs class (Sending k) noted kept) l (Reserve (Comp seat.pair) n) (Full free) (λ s. refl) (λ x. x) h;
+        completes = λ k packet later noted kept l h f q.
+            still a t kept.tx_done (Needs class (Sending k) noted kept) ((class < k) × Quiet (moved noted) kept) l (Submit (Comp seat.pair) (map returned packet)) Submitted (λ s. refl) (λ x. absurd (let no = x.1.0 in cc)) h;
+        finds_none = λ k noted kept l h f g q.
+            found_empty a t kept.tx_done class k seat.batch (socket_of seat k) (Quiet noted kept) l (λ x. x.2) (λ e. ap (socket_of seat) e) h;
+        gathers = λ k items noted kept l h f g q.
+            peeked a t kept.tx_done (Needs class (Sending k) noted kept) ((class < k + 1) × Quiet (moved noted) kept) l (socket_of seat k) seat.batch items (λ x. let no = x.1.0 in cc) h;
+        send_released = λ k j n noted kept l h q. still a t kept.tx_done (Needs class (Sending k) noted kept) (Needs class (Sending k) noted kept) l (Release (Tx (socket_of seat j)) n) Released (λ s. refl) (λ x. x) h;
+        blocked = λ k noted kept l h e. fewer a t kept.tx_done (Needs class (Sending k) noted kept) (Quiet noted kept) l (λ x. absurd (let no = x.1 in cc)) h;
+        visited = λ noted kept l h e. fewer a t kept.tx_done (Needs class (Sending seat.classes) noted kept) (Quiet noted kept) l (λ x. (below, x)) h;
+        begins = λ noted kept l h. fewer a t kept.tx_done (Quiet noted kept) ⊥ l (λ x. absurd x) h;
+        looked_done = λ noted kept l n h f q. looked_mark a t kept.tx_done (Quiet noted kept) ⊥ l n (λ x. x) h;
+        ends = λ noted kept l n h e f g q.
+            let now = still a t kept.tx_done (Quiet noted kept) (Quiet noted kept) l (Swap (Gone seat.pair) 1) (Old n) (λ s. refl) (λ x. x) h in
+            (tt, now.empty (e, f, g));
+      }
+
+pub drains_tx : DrainsTx
+drains_tx c d class input l whole below =
+    let seat = seat_of c d in
+    holds_of_whole c d input Anything (Always seat class below) (Over seat class below) (At seat class below) (keeps seat class below) l
+    (record { unseen = refl; empty = λ x. absurd x }) (meet_anything (turn seat) _ [] l) whole

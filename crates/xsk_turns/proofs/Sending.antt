@@ -1,0 +1,115 @@
+-- Giving back the first finished packet completes that packet alone, and no other call completes any.
+use Rattle.std.proofs.Common.{◌≡◌, ℕ, zero, suc, ◌+◌, ◌<◌, ◌≤◌, Bool, true, false, cond, eqb, ◌&&◌, List, [], ◌∷◌, ◌++◌, length, get_or, drop, map, flat_map, Option, None, Some, refl, sym, ap, subst, ◌∙◌, ⊎_elim, arith, append_assoc, append-nil, length-append, eq-eqb, ne_eqb}
+use Rattle.std.proofs.lemmas.Bool.{cases_eq, and_from}
+use Rattle.xsk_umem.specs.declared.batch.Item.{Item}
+use Rattle.xsk_model.specs.Config.{Config, pair_at}
+use Rattle.xsk_model.specs.Packets.{bytes_of}
+use Rattle.xsk_model.specs.Numbers.{times}
+use Rattle.xsk_model.specs.Object.{taken}
+use Rattle.xsk_model.specs.Entry.{Told, with_told}
+use Rattle.xsk_model.specs.Own.{completed_by, waiting, sending_of}
+use Rattle.xsk_model.specs.Legal.{IsLegal}
+use Rattle.xsk_model.specs.History.{Fits}
+use Rattle.xsk_model.specs.Sent.{sockets_from, sockets_of, completed_in, sent_from}
+use Rattle.xsk_model.specs.declared.config.SocketInfo.{SocketInfo}
+use Rattle.xsk_model.specs.declared.call.Ring.TheVariants.{Fill, Comp, Rx, Tx}
+use Rattle.xsk_model.specs.declared.call.Call.{Call}
+use Rattle.xsk_model.specs.declared.call.Call.TheVariants.{Reserve, Submit, Peek, Release, Swap, Look}
+use Rattle.xsk_model.specs.declared.call.Reply.{Reply}
+use Rattle.xsk_model.specs.declared.call.Reply.TheVariants.{Granted, Submitted, Items}
+use Rattle.xsk_model.specs.declared.call.Act.{Act}
+use Rattle.xsk_model.specs.declared.call.Act.TheVariants.{Call as Gave, Ended as IsEnded}
+use Rattle.xsk_model.proofs.Completions.{one_completion}
+use Rattle.xsk_turns.specs.Turns.{Seat, Kept, seat_of, returned}
+use Rattle.xsk_turns.specs.Owned.{IsSeat, IsHere, socket_at_class, Owned}
+use Rattle.xsk_turns.specs.Sending.{is_completing, Completes, sent_by, sent_with, sent_by_act}
+use Rattle.xsk_turns.proofs.Completing.{completes}
+use Rattle.xsk_turns.proofs.Legality.{first_class, first_known, behind_first, first_waits}
+use Rattle.xsk_turns.proofs.Owned.{HasKept, has_told}
+use Rattle.xsk_turns.proofs.Places.{class_among}
+
+-- ---- the part that has it
+
+none_left : {X : Type 0} (xs : List X) → length xs ≡ 0 → xs ≡ []
+none_left [] h = refl
+none_left (x ∷ xs) h = absurd (omega arith)
+
+-- a joined list of one element is the part that has it
+only_part : {X : Type 0} (f : ℕ → List X) (x : X) (s : ℕ) (xs : List ℕ) → f s ≡ x ∷ [] → 1 ≤ times s xs → length (flat_map f xs) ≤ 1 → flat_map f xs ≡ x ∷ []
+only_part f x s [] e some few = absurd (omega arith)
+only_part f x s (y ∷ xs) e some few = ⊎_elim
+    (λ (same : y ≡ s).
+    let here : f y ≡ x ∷ [] = ap f same ∙ e in
+    let rest : flat_map f xs ≡ [] = none_left (flat_map f xs) (omega (arith, few, length-append (f y) (flat_map f xs), ap length here)) in
+    ap (λ (zs : List _). zs ++ flat_map f xs) here ∙ ap (λ (zs : List _). x ∷ zs) rest)
+    (λ (other : y ≡ s → ⊥).
+    let later : flat_map f xs ≡ x ∷ [] =
+    only_part f x s xs e (omega (arith, some, ap {B = ℕ} (λ (b : Bool). cond b 1 0) (ne_eqb y s other))) (omega (arith, few, length-append (f y) (flat_map f xs))) in
+    let none : f y ≡ [] = none_left (f y) (omega (arith, few, length-append (f y) (flat_map f xs), ap length later)) in
+    ap (λ (zs : List _). zs ++ flat_map f xs) none ∙ later)
+    (cases_eq y s)
+
+-- ---- what is sent
+
+-- one call more sends what it completes
+pub sent_push : (c : Config) (sockets : List ℕ) (past mine : List Told) (t : Told)
+    → sent_from c sockets past (mine ++ t ∷ []) ≡ sent_from c sockets past mine ++ map (bytes_of c.geometry c.sg) (completed_in c sockets (past ++ mine) t.call)
+sent_push c sockets past [] t =
+    append-nil (map (bytes_of c.geometry c.sg) (completed_in c sockets past t.call))
+    ∙ ap (λ (p : List Told). map (bytes_of c.geometry c.sg) (completed_in c sockets p t.call)) (sym (append-nil past))
+sent_push c sockets past (u ∷ mine) t =
+    let now = map (bytes_of c.geometry c.sg) (completed_in c sockets past u.call) in
+    ap (λ (xs : List (List ℕ)). now ++ xs) (sent_push c sockets (past ++ u ∷ []) mine t)
+    ∙ sym (append_assoc now (sent_from c sockets (past ++ u ∷ []) mine) (map (bytes_of c.geometry c.sg) (completed_in c sockets ((past ++ u ∷ []) ++ mine) t.call)))
+    ∙ ap (λ (p : List Told). (now ++ sent_from c sockets (past ++ u ∷ []) mine) ++ map (bytes_of c.geometry c.sg) (completed_in c sockets p t.call)) (append_assoc past (u ∷ []) mine)
+
+-- ---- the first finished packet
+
+completed_first : (c : Config) (pair : ℕ) (seat : IsSeat c pair) (kept : Kept) (l : List Told) (h : HasKept c pair kept l) → 1 ≤ length kept.finished
+    → IsLegal c l pair (Submit (Comp pair) (map returned (get_or kept.finished 0 [])))
+    → completed_in c (sockets_of c pair) l (Submit (Comp pair) (map returned (get_or kept.finished 0 []))) ≡ get_or kept.finished 0 [] ∷ []
+completed_first c pair seat kept l h some legal =
+    let packet = get_or kept.finished 0 [] in
+    let items = map returned packet in
+    let s = socket_at_class c pair (first_class c pair kept l h some) in
+    let f = λ (t : ℕ). completed_by items (waiting c (sending_of c t l)) in
+    only_part f packet s (sockets_of c pair) (completes packet (behind_first c pair kept l h some) (waiting c (sending_of c s l)) (first_waits c pair kept l h some))
+    (class_among c pair seat (first_class c pair kept l h some) (first_known c pair kept l h some)) (omega (arith, one_completion c pair l items h.own legal))
+
+-- ---- the next call
+
+completes_none : (c : Config) (sockets : List ℕ) (l : List Told) (call : Call) → is_completing call ≡ false → completed_in c sockets l call ≡ []
+completes_none c sockets l (Submit (Comp d) items) e = absurd (cc)
+completes_none c sockets l (Submit (Fill d) items) e = refl
+completes_none c sockets l (Submit (Rx s) items) e = refl
+completes_none c sockets l (Submit (Tx s) items) e = refl
+completes_none c sockets l (Reserve r n) e = refl
+completes_none c sockets l (Peek r n) e = refl
+completes_none c sockets l (Release r n) e = refl
+completes_none c sockets l (Swap m value) e = refl
+completes_none c sockets l (Look m) e = refl
+
+module _ (c : Config) (pair : ℕ) (seat : IsSeat c pair) (l : List Told) (kept : Kept) (call : Call) (reply : Reply) (owned : Owned c pair kept call l) (legal : IsLegal c l pair call) (fits : Fits c l call reply) where
+  by_call : (next : Call) (b : Bool) → is_completing next ≡ b → (is_completing next ≡ true → Completes pair kept reply next) → IsLegal c (with_told l call reply) pair next
+      → map (bytes_of c.geometry c.sg) (completed_in c (sockets_of c pair) (with_told l call reply) next) ≡ cond b (bytes_of c.geometry c.sg (get_or kept.finished 0 []) ∷ []) []
+  by_call next false e completing lawful = ap (map (bytes_of c.geometry c.sg)) (completes_none c (sockets_of c pair) (with_told l call reply) next e)
+  by_call next true e completing lawful =
+      let k = completing e in
+      let give = Submit (Comp pair) (map returned (get_or kept.finished 0 [])) in
+      let h : HasKept c pair kept (with_told l call reply) = has_told c pair kept call reply l owned legal fits (subst (λ r. taken r ≡ []) (sym k.granted) refl) in
+      ap (map (bytes_of c.geometry c.sg))
+      (subst (λ x. completed_in c (sockets_of c pair) (with_told l call reply) x ≡ get_or kept.finished 0 [] ∷ []) (sym k.is)
+      (completed_first c pair seat kept (with_told l call reply) h k.some (subst (λ x. IsLegal c (with_told l call reply) pair x) k.is lawful)))
+
+  pub sent_next : (next : Call) → (is_completing next ≡ true → Completes pair kept reply next) → IsLegal c (with_told l call reply) pair next
+      → sent_with c pair (with_told l call reply) next ≡ sent_with c pair l call ++ sent_by (seat_of c pair) kept (Gave next)
+  sent_next next completing lawful =
+      ap (λ xs. xs ++ map (bytes_of c.geometry c.sg) (completed_in c (sockets_of c pair) (with_told l call reply) next)) (sent_push c (sockets_of c pair) [] l (record { call = call; reply = reply }))
+      ∙ ap (λ xs. sent_with c pair l call ++ xs) (by_call next (is_completing next) refl completing lawful)
+
+  pub sent_end : sent_by_act c pair (with_told l call reply) IsEnded ≡ sent_with c pair l call ++ []
+  sent_end = sent_push c (sockets_of c pair) [] l (record { call = call; reply = reply }) ∙ sym (append-nil (sent_with c pair l call))
+
+-- no packet is sent before the first call, and none by it
+pub sent_first : (c : Config) (pair : ℕ) (call : Call) → is_completing call ≡ false → sent_with c pair [] call ≡ []
+sent_first c pair call e = ap (map (bytes_of c.geometry c.sg)) (completes_none c (sockets_of c pair) [] call e)

@@ -1,0 +1,122 @@
+-- What a driver has: the frames that it keeps, with those of the call that it gave, are those that it peeked and didn't
+-- submit, and what it keeps of them is what its own calls and replies leave. Then each call that it gives is legal.
+use Rattle.std.specs.Prelude.{◌≡◌, ℕ, ◌+◌, ◌<◌, ◌≤◌, ◌==◌, IsTrue, if◌then◌else◌, List, [], ◌∷◌, ◌++◌, length, map, flat_map, All}
+use Rattle.std.specs.List.{slice_index_or}
+use Rattle.xsk_umem.specs.Frame.{Frame}
+use Rattle.xsk_umem.specs.Geometry.{IsGeometry}
+use Rattle.xsk_umem.specs.declared.batch.Item.{Item}
+use Rattle.xsk_model.specs.Config.{Config, IsConfig, IsRegular, classes_of, socket_at}
+use Rattle.xsk_model.specs.Packets.{rest, bytes_of}
+use Rattle.xsk_model.specs.Numbers.{times, numbers}
+use Rattle.xsk_model.specs.Object.{submitted}
+use Rattle.xsk_model.specs.Entry.{Told, with_told}
+use Rattle.xsk_model.specs.Own.{had_of, is_from_fill, peeked_of, waiting, sending_of}
+use Rattle.xsk_model.specs.Legal.{IsLegal}
+use Rattle.xsk_model.specs.History.{Fits, OwnGoesOn}
+use Rattle.xsk_model.specs.Sent.{completed_in, sockets_of, sent_from}
+use Rattle.xsk_model.specs.declared.call.Ring.TheVariants.{Comp, Tx}
+use Rattle.xsk_model.specs.declared.call.Call.{Call}
+use Rattle.xsk_model.specs.declared.call.Call.TheVariants.{Submit}
+use Rattle.xsk_model.specs.declared.call.Reply.{Reply}
+use Rattle.xsk_model.specs.declared.call.Reply.TheVariants.{Items}
+use Rattle.xsk_model.specs.declared.call.Act.{Act}
+use Rattle.xsk_model.specs.declared.call.Act.TheVariants.{Call as Gave, Ended as IsEnded}
+use Rattle.xsk_turns.specs.Turns.{Seat, Kept, seat_of, start, turn, socket_of, group_at, frames_in}
+use Rattle.xsk_turns.specs.Script.{Script, Asks, Ends}
+
+-- a pair of a regular configuration
+pub record IsSeat (c : Config) (pair : ℕ) : Type 0 where
+  pub config : IsConfig c
+  pub regular : IsRegular c
+  pub geometry : IsGeometry c.geometry
+  pub known : pair < length c.pairs
+
+-- the socket of a class
+abbrev pub socket_at_class : Config → ℕ → ℕ → ℕ
+socket_at_class c pair class = socket_of (seat_of c pair) class
+
+-- ---- frames
+
+abbrev pub frame_numbers : List Frame → List ℕ
+frame_numbers frames = map (λ (f : Frame). f.number) frames
+
+-- the numbers of all frames that are kept
+abbrev pub numbers_kept : Kept → List ℕ
+numbers_kept kept = frame_numbers kept.spare ++ flat_map numbers kept.groups ++ flat_map numbers kept.finished ++ frame_numbers kept.lost
+
+-- a frame of the UMEM that came from FILL
+pub record IsSpare (c : Config) (l : List Told) (frame : Frame) : Type 0 where
+  pub number : frame.number < c.geometry.frames
+  pub bytes : length frame.bytes ≡ c.geometry.chunk
+  pub from_fill : IsTrue (is_from_fill frame.number l)
+
+-- ---- packets
+
+-- the packets of one class, where each packet has the class at its place
+abbrev pub of_class : ℕ → List ℕ → List (List Item) → List (List Item)
+of_class class [] packets = []
+of_class class (k ∷ classes) [] = []
+of_class class (k ∷ classes) (packet ∷ packets) = if k == class then packet ∷ of_class class classes packets else of_class class classes packets
+
+-- Each finished packet is of a class. Those of a class are, in order, what waits on its TX ring, behind the packet that the
+-- call completes.
+pub record IsQueue (c : Config) (pair : ℕ) (finished : List (List Item)) (call : Call) (l : List Told) : Type 0 where
+  pub origins : List ℕ
+  pub each : length origins ≡ length finished
+  pub known : All (λ (class : ℕ). class < classes_of c) origins
+  pub waits : (class : ℕ) → class < classes_of c → completed_in c (socket_at_class c pair class ∷ []) l call ++ of_class class origins finished
+      ≡ waiting c (sending_of c (socket_at_class c pair class) l)
+
+-- a driver that keeps this, and gave the call after a list of its calls and replies
+pub record Owned (c : Config) (pair : ℕ) (kept : Kept) (call : Call) (l : List Told) : Type 0 where
+  pub own : OwnGoesOn c pair [] l
+  pub frames : (n : ℕ) → times n (numbers_kept kept) + times n (numbers (submitted call)) ≡ times n (had_of l)
+  pub spare : All (IsSpare c l) kept.spare
+  pub few : length kept.spare ≤ 18
+  pub classes : length kept.groups ≡ classes_of c
+  pub groups : (class : ℕ) → class < classes_of c → group_at kept class ≡ rest c.geometry c.sg (peeked_of (Tx (socket_at_class c pair class)) l)
+  pub queue : IsQueue c pair kept.finished call l
+
+-- a socket that is bound to this port and queue
+pub record IsHere (seat : Seat) (socket : ℕ) : Type 0 where
+  pub known : socket < length seat.config.sockets
+  pub port : (socket_at seat.config.sockets socket).port ≡ seat.port
+  pub queue : (socket_at seat.config.sockets socket).queue ≡ seat.queue
+
+-- ---- the room
+
+-- there is room for the items of a Peek, and their frames are whole
+abbrev pub IsWholeIn : Seat → Frame → Type 0
+IsWholeIn seat frame = length frame.bytes ≡ seat.config.geometry.chunk
+
+pub record HasRoomFor (seat : Seat) (kept : Kept) (items : List Item) : Type 0 where
+  pub spare : length kept.spare + length items ≤ 64
+  pub whole : All (IsWholeIn seat) (frames_in items)
+  pub lost : (class : ℕ) → class < seat.classes → length kept.lost + length (frames_in (group_at kept class)) + length (frames_in items) ≤ seat.config.geometry.frames
+
+abbrev pub HasRoom : Seat → Kept → Reply → Type 0
+HasRoom seat kept (Items items) = HasRoomFor seat kept items
+HasRoom seat kept reply = Unit {0}
+
+-- ---- the laws
+
+-- the calls and replies of a caller, where each reply fits
+abbrev pub AllFit : Config → List Told → List Told → Type 0
+AllFit c past [] = Unit {0}
+AllFit c past (t ∷ l) = Fits c past t.call t.reply × AllFit c (past ++ t ∷ []) l
+
+-- At each call that a driver makes, the frames that it keeps, with those of the call, are those that it peeked and didn't
+-- submit; and the call is legal.
+abbrev pub KeepsFrames : Type 0
+KeepsFrames = (c : Config) (pair : ℕ) (input : List (List ℕ)) (l : List Told) (kept : Kept) (call : Call) (rest : Reply → Script Kept) → IsSeat c pair → AllFit c [] l
+    → Asks (turn (seat_of c pair)) (start (classes_of c) input) l kept call rest → Owned c pair kept call l × IsLegal c l pair call
+
+-- at its end they are those that it keeps
+abbrev pub KeepsFramesAtEnd : Type 0
+KeepsFramesAtEnd = (c : Config) (pair : ℕ) (input : List (List ℕ)) (l : List Told) (kept : Kept) → IsSeat c pair → AllFit c [] l
+    → Ends (turn (seat_of c pair)) (start (classes_of c) input) l kept → OwnGoesOn c pair [] l × ((n : ℕ) → times n (numbers_kept kept) ≡ times n (had_of l))
+
+-- so there is room for each reply that fits
+abbrev pub LeavesRoom : Type 0
+LeavesRoom = (c : Config) (pair : ℕ) (l : List Told) (kept : Kept) (call : Call) (reply : Reply) → IsSeat c pair → Owned c pair kept call l → IsLegal c l pair call → Fits c l call reply
+    → HasRoom (seat_of c pair) kept reply

@@ -1,0 +1,72 @@
+//! The laws of a driver's runs, each the contract of a function that does nothing. They are stated in `specs/Law.antt`,
+//! and those of what it keeps at each call beside the definitions that they speak of.
+
+ghost use Rattle.xsk_turns.specs.Counted.{KeepsCounters, KeepsCountersAtEnd};
+ghost use Rattle.xsk_turns.specs.Disposes.{KeepsDisposals, DisposesAll};
+ghost use Rattle.xsk_turns.specs.Law.{EachDisposedOnce, DeliversInOrder, NothingReceivedLate, TellsRxDone, DrainsTx, CompletesAll};
+ghost use Rattle.xsk_turns.specs.Owned.{KeepsFrames, KeepsFramesAtEnd, LeavesRoom};
+
+/// At each call that a driver makes, its frames are those that it peeked and didn't submit, and the call is legal.
+pub fn keeps_frames()
+    ensures { KeepsFrames }
+{}
+
+/// So are its frames at its end.
+pub fn keeps_frames_at_end()
+    ensures { KeepsFramesAtEnd }
+{}
+
+/// There is room for each reply that fits.
+pub fn leaves_room()
+    ensures { LeavesRoom }
+{}
+
+/// At each call each counter is a count over the driver's own calls and replies, and the disposals of its packets.
+pub fn keeps_counters()
+    ensures { KeepsCounters }
+{}
+
+/// So it is at its end.
+pub fn keeps_counters_at_end()
+    ensures { KeepsCountersAtEnd }
+{}
+
+/// At each call the disposals are those that the driver's attempts leave.
+pub fn keeps_disposals()
+    ensures { KeepsDisposals }
+{}
+
+/// At its end all packets have one.
+pub fn disposes_all()
+    ensures { DisposesAll }
+{}
+
+/// In a whole run each packet of the input has one disposal, in order: the one that the configuration says.
+pub fn each_disposed_once()
+    ensures { EachDisposedOnce }
+{}
+
+/// In a whole run what was submitted on an RX ring are the layouts of the packets that are delivered there, in order.
+pub fn delivers_in_order()
+    ensures { DeliversInOrder }
+{}
+
+/// Nothing is submitted on RX once the driver told that no further packet comes.
+pub fn nothing_received_late()
+    ensures { NothingReceivedLate }
+{}
+
+/// In a whole run it told so.
+pub fn tells_rx_done()
+    ensures { TellsRxDone }
+{}
+
+/// In a whole run each TX ring was found empty after the application had told that it sends no more.
+pub fn drains_tx()
+    ensures { DrainsTx }
+{}
+
+/// In a whole run all packets that were peeked on a TX ring whole are completed.
+pub fn completes_all()
+    ensures { CompletesAll }
+{}

@@ -1,0 +1,7 @@
+//! The turns of the workers, what they keep at each call, and the laws of their runs.
+#![tactic(auto)]
+
+mod disposal;
+pub mod laws;
+
+pub use disposal::{Disposal, DriverCounters};
