@@ -10,7 +10,7 @@ use Rattle.xsk_model.specs.Rings.{caller_of}
 use Rattle.xsk_model.specs.Sent.{sent}
 use Rattle.xsk_model.specs.Stored.{stored_entry}
 use Rattle.xsk_pcap.specs.Written.{written}
-use Rattle.xsk_driver.specs.Inputs.{packets_of_port}
+use Rattle.xsk_turns.specs.Inputs.{packets_of_port}
 use Rattle.xsk_sim.specs.Shown.{Shown, packets_in}
 use Rattle.xsk_plain.specs.Log.{calls_of, entries_of, entry_of}
 use Rattle.xsk_plain.specs.declared.log.Log.{Log}

@@ -5,12 +5,12 @@ use Rattle.std.specs.List.{filter}
 use Rattle.std.proofs.lemmas.Bool.{cases_Bool, cases_eq, cases_lt, and_parts, eq-eqb, ne_eqb, lt-ltb, le-ltb, le-leb, lt-leb, leb-true, ltb-true}
 use Rattle.std.proofs.lemmas.List.Elements.{All-nil, All-cons}
 use Rattle.xsk_model.specs.Config.{Config, socket_at, classes_of, batch_of, map_of}
-use Rattle.xsk_driver.specs.Steering.{queue_of}
-use Rattle.xsk_driver.specs.Inputs.{packets_of_queue}
-use Rattle.xsk_driver.specs.Turns.{Seat, redirect_to, limit_of}
-use Rattle.xsk_driver.specs.Disposals.{disposal_to, disposal_in, is_to, delivered_to}
-use Rattle.xsk_driver.specs.declared.disposal.Disposal.{Disposal}
-use Rattle.xsk_driver.specs.declared.disposal.Disposal.TheVariants.{Delivered, TooLong, Runt, Missed}
+use Rattle.xsk_turns.specs.Steering.{queue_of}
+use Rattle.xsk_turns.specs.Inputs.{packets_of_queue}
+use Rattle.xsk_turns.specs.Turns.{Seat, redirect_to, limit_of}
+use Rattle.xsk_turns.specs.Disposals.{disposal_to, disposal_in, is_to, delivered_to}
+use Rattle.xsk_turns.specs.declared.disposal.Disposal.{Disposal}
+use Rattle.xsk_turns.specs.declared.disposal.Disposal.TheVariants.{Delivered, TooLong, Runt, Missed}
 use Rattle.xsk_laws.specs.Expected.{limit_in, cell_on, socket_on, is_redirected}
 use Rattle.xsk_laws.specs.Forwarded.{with_disposal}
 

@@ -10,19 +10,20 @@ use Rattle.xsk_model.specs.Rings.{app_of, caller_of}
 use Rattle.xsk_model.specs.Packets.{packets, whole_packets, bytes_of}
 use Rattle.xsk_model.specs.Entry.{Entry, own}
 use Rattle.xsk_model.specs.Own.{peeked_of, submitted_of, sending_of}
-use Rattle.xsk_model.specs.History.{OwnGoesOn}
 use Rattle.xsk_model.specs.Ends.{is_mark, draining_of, telling_of}
 use Rattle.xsk_model.specs.Sent.{sent_by}
 use Rattle.xsk_model.specs.declared.call.Ring.TheVariants.{Rx, Tx}
 use Rattle.xsk_model.specs.declared.call.Mark.{Mark}
 use Rattle.xsk_model.specs.declared.call.Mark.TheVariants.{RxDone, TxDone}
-use Rattle.xsk_model.proofs.ScriptLemmas.{whole_run}
+use Rattle.xsk_model.proofs.ScriptLemmas.{whole_run as app_whole_run}
+use Rattle.xsk_turns.proofs.ScriptLemmas.{whole_run}
+use Rattle.xsk_turns.proofs.Owning.{all_fit}
 use Rattle.xsk_model.proofs.Theorems.{own_entries, sent_in_order}
-use Rattle.xsk_driver.specs.Owned.{IsSeat}
-use Rattle.xsk_driver.specs.Turns.{Seat, seat_of, start, turn, application_of, IsWholeDriverRun}
-use Rattle.xsk_driver.specs.Inputs.{packets_of_port}
-use Rattle.xsk_driver.specs.Disposals.{disposal_in, disposals_of, attempts_of, delivered_to}
-use Rattle.xsk_driver.specs.Law.{IsLaidOut, EachDisposedOnce, DeliversInOrder, NothingReceivedLate, DrainsTx, CompletesAll}
+use Rattle.xsk_turns.specs.Owned.{IsSeat, AllFit}
+use Rattle.xsk_turns.specs.Turns.{Seat, seat_of, start, turn, application_of, IsWholeDriverRun}
+use Rattle.xsk_turns.specs.Inputs.{packets_of_port}
+use Rattle.xsk_turns.specs.Disposals.{disposal_in, disposals_of, attempts_of, delivered_to}
+use Rattle.xsk_turns.specs.Law.{IsLaidOut, EachDisposedOnce, DeliversInOrder, NothingReceivedLate, DrainsTx, CompletesAll}
 use Rattle.xsk_app.specs.Standing.{IsOneOf}
 use Rattle.xsk_app.specs.Turns.{pair_of, new_kept, turn as app_turn}
 use Rattle.xsk_app.specs.Law.{LanesPassedOn, NothingSentLate, DrainsRx}
@@ -96,8 +97,8 @@ module _ (w : Workers) (c : Config) (lists : List PacketList) (frames : List Fra
   one : IsOneOf c a
   one = record { config = config; regular = run.regular; known = app_below c p q config place.in_ports place.in_queues }
 
-  goes : (who : ℕ) → OwnGoesOn c who [] (own who h)
-  goes who = own_entries c frames h who run.history
+  fit : (who : ℕ) → AllFit c [] (own who h)
+  fit who = all_fit c who [] (own who h) (own_entries c frames h who run.history)
 
   -- the callers of the two rings
   app_at_o : app_of c (Rx s) ≡ caller_of c a
@@ -172,7 +173,7 @@ module _ (w : Workers) (c : Config) (lists : List PacketList) (frames : List Fra
         (subst (λ n. (draining_of (TxDone n ∷ []) (Tx t) (own d h)).empty ≡ true) same_app
         (w.drains_tx c d k (received_by c lists d) (own d h) (run.drivers d at_p.pair_known) place.in_classes));
     none_late = subst (λ n. (telling_of (TxDone a) (Tx t) (own n h)).late ≡ false) (sym app_at_p)
-        (w.none_sent_late c a t (own (caller_of c a) h) one (whole_run (app_turn c a) (new_kept c) (own (caller_of c a) h) (run.apps a one.known)));
+        (w.none_sent_late c a t (own (caller_of c a) h) one (app_whole_run (app_turn c a) (new_kept c) (own (caller_of c a) h) (run.apps a one.known)));
   }
 
   peeked_all : peeked_of (Tx t) (own d h) ≡ submitted_of (Rx s) (own e h)
@@ -195,13 +196,13 @@ module _ (w : Workers) (c : Config) (lists : List PacketList) (frames : List Fra
   laid =
       subst (λ (l : List (List ℕ)). IsLaidOut c.geometry c.sg l (submitted_of (Rx s) (own e h)))
       (ap (λ (x : Seat). delivered_to x s (received_by c lists e)) (seat_is c o q k e s at_o) ∙ ap (delivered_to (seat_at c e o q) s) (input_is c lists o q k e s at_o))
-      (w.delivers c e s (received_by c lists e) (own e h) seat_e (goes e) (run.drivers e at_o.pair_known))
+      (w.delivers c e s (received_by c lists e) (own e h) seat_e (fit e) (run.drivers e at_o.pair_known))
 
   pub sent_arrived : sent_by c h d t ≡ arrived
   sent_arrived =
       let whole : List (List Item) = whole_packets (packets c.geometry c.sg (peeked_of (Tx t) (own d h))) in
       let done : (sending_of c t (own d h)).completed ≡ length whole =
-      w.completes c d k (received_by c lists d) (own d h) seat_d (goes d) (run.drivers d at_p.pair_known) place.in_classes in
+      w.completes c d k (received_by c lists d) (own d h) seat_d (fit d) (run.drivers d at_p.pair_known) place.in_classes in
       sent_in_order c frames h d t run.history
       ∙ ap (λ n. map (bytes_of c.geometry c.sg) (take n whole)) done
       ∙ ap (map (bytes_of c.geometry c.sg)) (take_all (length whole) whole (omega arith))
@@ -215,7 +216,7 @@ module _ (w : Workers) (c : Config) (lists : List PacketList) (frames : List Fra
   sent_forwarded =
       let input = received c lists o q in
       let said : disposals_of (seat_of c e) input (attempts_of (own e h)) ≡ map (disposal_in (seat_of c e)) input =
-      w.disposed c e input (own e h) seat_e (goes e) (subst (λ (l : List (List ℕ)). IsWholeDriverRun c e l (own e h)) (input_is c lists o q k e s at_o) (run.drivers e at_o.pair_known)) in
+      w.disposed c e input (own e h) (fit e) (subst (λ (l : List (List ℕ)). IsWholeDriverRun c e l (own e h)) (input_is c lists o q k e s at_o) (run.drivers e at_o.pair_known)) in
       sent_arrived
       ∙ sym (with_disposal_is (seat_at c e o q) s input)
       ∙ ap (λ (x : Seat). with_disposal s input (map (disposal_in x) input)) (sym (seat_is c o q k e s at_o))

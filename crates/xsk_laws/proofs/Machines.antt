@@ -1,9 +1,9 @@
 -- The laws of the two machines' whole runs, all that is used of them here.
-use Rattle.xsk_driver.proofs.Disposing.{each_disposed_once}
-use Rattle.xsk_driver.proofs.Delivering.{delivers_in_order}
-use Rattle.xsk_driver.proofs.ReceivingLaws.{nothing_received_late}
-use Rattle.xsk_driver.proofs.Draining.{drains_tx}
-use Rattle.xsk_driver.proofs.CompletingAll.{completes_all}
+use Rattle.xsk_turns.proofs.Saying.{each_disposed_once}
+use Rattle.xsk_turns.proofs.Delivering.{delivers_in_order}
+use Rattle.xsk_turns.proofs.ReceivingLaws.{nothing_received_late}
+use Rattle.xsk_turns.proofs.Draining.{drains_tx}
+use Rattle.xsk_turns.proofs.CompletingAll.{completes_all}
 use Rattle.xsk_app.proofs.LaneLaw.{lanes_passed_on, nothing_sent_late, drains_rx}
 use Rattle.xsk_laws.proofs.Joined.{Workers}
 

@@ -3,8 +3,8 @@ use Rattle.std.proofs.Common.{◌≡◌, ℕ, ◌+◌, ◌*◌, ◌%◌, ◌<◌
 use Rattle.std.specs.List.{filter}
 use Rattle.std.proofs.lemmas.Bool.{eq-eqb}
 use Rattle.xsk_model.specs.Config.{Config, classes_of, map_of}
-use Rattle.xsk_driver.specs.Steering.{queue_of}
-use Rattle.xsk_driver.specs.Inputs.{packets_of_port}
+use Rattle.xsk_turns.specs.Steering.{queue_of}
+use Rattle.xsk_turns.specs.Inputs.{packets_of_port}
 use Rattle.xsk_laws.specs.Expected.{paired, socket_on, cell_on, holds_socket, has_length, is_redirected}
 use Rattle.xsk_laws.specs.Laws.{HasOwnSockets, ExpectedIsOther}
 use Rattle.xsk_laws.proofs.Places.{are_paired}

@@ -5,7 +5,7 @@ use Rattle.xsk_umem.specs.PacketList.{PacketList}
 use Rattle.xsk_model.specs.Config.{Config, IsConfig, pair_at, classes_of}
 use Rattle.xsk_model.specs.Entry.{Entry, own}
 use Rattle.xsk_model.specs.Sent.{sockets_from, sent_from, sent, sent_by}
-use Rattle.xsk_driver.specs.Disposals.{delivered_to}
+use Rattle.xsk_turns.specs.Disposals.{delivered_to}
 use Rattle.xsk_laws.specs.Expected.{paired, driver_on, socket_on, received}
 use Rattle.xsk_laws.specs.Laws.{AreWholeRuns, SentIsExpected, SentIsForwarded, NothingElseIsSent, AllIsExpected, SentIsWithin}
 use Rattle.xsk_laws.proofs.Filters.{seat_at}

@@ -12,10 +12,10 @@ use Rattle.xsk_model.specs.Sent.{completed_in, sent_from}
 use Rattle.xsk_model.specs.declared.call.Ring.TheVariants.{Fill, Comp, Rx, Tx}
 use Rattle.xsk_model.specs.declared.call.Call.{Call}
 use Rattle.xsk_model.specs.declared.call.Call.TheVariants.{Reserve, Submit, Peek, Release, Swap, Look}
-use Rattle.xsk_driver.specs.Turns.{Seat}
-use Rattle.xsk_driver.specs.Disposals.{disposal_in, is_to, delivered_to}
-use Rattle.xsk_driver.specs.declared.disposal.Disposal.{Disposal}
-use Rattle.xsk_driver.specs.declared.disposal.Disposal.TheVariants.{Delivered, NoFrames, RxFull, TooLong, Runt, Missed, Passed, Dropped}
+use Rattle.xsk_turns.specs.Turns.{Seat}
+use Rattle.xsk_turns.specs.Disposals.{disposal_in, is_to, delivered_to}
+use Rattle.xsk_turns.specs.declared.disposal.Disposal.{Disposal}
+use Rattle.xsk_turns.specs.declared.disposal.Disposal.TheVariants.{Delivered, NoFrames, RxFull, TooLong, Runt, Missed, Passed, Dropped}
 
 -- ---- a measure of packets, summed up
 

@@ -9,7 +9,7 @@ use Rattle.xsk_umem.specs.declared.batch.Item.{Item}
 use Rattle.xsk_model.specs.Packets.{HavePieceLengths, HoldPieces, IsLayout, Packet, whole, packets, whole_packets, bytes_of}
 use Rattle.xsk_model.proofs.PacketsLaws.{packets-at}
 use Rattle.xsk_model.proofs.LayoutLaws.{layout_whole}
-use Rattle.xsk_driver.specs.Law.{AreLayouts, IsLaidOut}
+use Rattle.xsk_turns.specs.Law.{AreLayouts, IsLaidOut}
 
 -- the most bytes of a packet
 abbrev pub most_of : Geometry → Bool → ℕ

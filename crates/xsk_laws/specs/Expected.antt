@@ -5,8 +5,8 @@ use Rattle.std.specs.List.{filter}
 use Rattle.xsk_umem.specs.Geometry.{payload_of}
 use Rattle.xsk_umem.specs.PacketList.{PacketList}
 use Rattle.xsk_model.specs.Config.{Config, classes_of, map_of}
-use Rattle.xsk_driver.specs.Steering.{queue_of, class_of}
-use Rattle.xsk_driver.specs.Inputs.{packets_of_port, packets_of_queue}
+use Rattle.xsk_turns.specs.Steering.{queue_of, class_of}
+use Rattle.xsk_turns.specs.Inputs.{packets_of_port, packets_of_queue}
 
 -- the port whose packets a port sends: ports 0 and 1 are a pair, and so are 2 and 3
 abbrev pub paired : ℕ → ℕ

@@ -3,9 +3,9 @@ use Rattle.std.specs.Prelude.{ℕ, if◌then◌else◌, List, [], ◌∷◌}
 use Rattle.xsk_umem.specs.PacketList.{PacketList}
 use Rattle.xsk_model.specs.Config.{Config}
 use Rattle.xsk_model.specs.Entry.{Entry, own}
-use Rattle.xsk_driver.specs.Turns.{seat_of}
-use Rattle.xsk_driver.specs.Disposals.{attempts_of, disposals_of, is_to}
-use Rattle.xsk_driver.specs.declared.disposal.Disposal.{Disposal}
+use Rattle.xsk_turns.specs.Turns.{seat_of}
+use Rattle.xsk_turns.specs.Disposals.{attempts_of, disposals_of, is_to}
+use Rattle.xsk_turns.specs.declared.disposal.Disposal.{Disposal}
 use Rattle.xsk_laws.specs.Expected.{paired, driver_on, socket_on, received}
 
 -- the packets with the disposal that they were delivered to this socket, where the disposals are those of the packets

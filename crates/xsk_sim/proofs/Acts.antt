@@ -14,11 +14,13 @@ use Rattle.xsk_model.specs.declared.call.Act.{Act}
 use Rattle.xsk_model.specs.declared.call.Act.TheVariants.{Call as Calls, Ended as IsEnd}
 use Rattle.xsk_driver.specs.Shown.{Shown as DriverShown}
 use Rattle.xsk_driver.specs.Runs.{StandsWith}
+use Rattle.xsk_driver.proofs.Telling.{tells_with}
 use Rattle.xsk_app.specs.Shown.{Shown as AppShown}
-use Rattle.xsk_driver.specs.Turns.{seat_of, start, turn as driver_turn}
+use Rattle.xsk_turns.specs.Turns.{seat_of, start, turn as driver_turn}
 use Rattle.xsk_app.specs.Turns.{new_kept, turn as app_turn, IsAppRun, IsWholeAppRun}
 use Rattle.xsk_model.specs.Config.{classes_of}
-use Rattle.xsk_model.proofs.ScriptLemmas.{whole_run}
+use Rattle.xsk_model.proofs.ScriptLemmas.{whole_run as app_whole_run}
+use Rattle.xsk_turns.proofs.ScriptLemmas.{whole_run}
 use Rattle.xsk_app.specs.Standing.{IsNew as IsNewApp, HasGot, Comes}
 use Rattle.xsk_sim.specs.Runs.{Setting, input_of, IsWorkerRun}
 use Rattle.xsk_sim.specs.Standing.{other_of, HasRoomToSend, DriverStands, IsApp, AppStands, IsActAfter}
@@ -28,9 +30,13 @@ use Rattle.xsk_sim.specs.Standing.{other_of, HasRoomToSend, DriverStands, IsApp,
 pub driver_after : (s : Setting) (who : ℕ) (d : DriverShown) (act : Act) (l : List Told) → who < length s.config.pairs → HasRoomToSend s who d
     → StandsWith s.config who (input_of s who) d act l → DriverStands s who d act l × IsActAfter s who act l
 driver_after s who d (Calls call) l known room stands =
-    (record { known = known; room = room; stands = stands }, (λ one. stands.0.tells.owns.1, λ whole. stands.2 (whole.driver known), record { driver = λ below. stands.1; app = λ a is. absurd (omega arith) }))
+    let tells = tells_with s.config who (input_of s who) d (Calls call) l stands in (
+      record { known = known; room = room; stands = stands },
+      (λ one. tells.legal, λ whole. tells.more (whole.driver known), record { driver = λ below. tells.run; app = λ a is. absurd (omega arith) }),
+    )
 driver_after s who d IsEnd l known room stands =
-    (record { known = known; room = room; stands = stands }, record { driver = λ below. stands.0; app = λ a is. absurd (omega arith) })
+    let tells = tells_with s.config who (input_of s who) d IsEnd l stands in
+    (record { known = known; room = room; stands = stands }, record { driver = λ below. tells.whole; app = λ a is. absurd (omega arith) })
 
 -- its room stays
 pub room_stays : (s : Setting) (who : ℕ) (old new : DriverShown) → HasRoomToSend s who old
@@ -53,10 +59,10 @@ pub sent_at : (s : Setting) (who : ℕ) (d : DriverShown) (act : Act) (l : List 
 sent_at s who d act l is stands within =
     let ended : StandsWith s.config who (input_of s who) d IsEnd l = subst (λ a. StandsWith s.config who (input_of s who) d a l) is stands.stands in
     let mine = sent_from s.config (sockets_of s.config who) [] l in
-    ended.1.sent.kept (is_false d.sent.overrun (λ overran. ⊎_elim
+    ended.sent.kept (is_false d.sent.overrun (λ overran. ⊎_elim
     (λ (many : d.sent.most_packets < length mine). absurd (omega (arith, many, stands.room.packets, within.count)))
     (λ (many : d.sent.most_bytes < length (concat mine)). absurd (omega (arith, many, stands.room.bytes, within.bytes)))
-    (ended.1.sent.exceeds.0 overran)))
+    (ended.sent.exceeds.0 overran)))
 
 -- ---- applications
 
@@ -106,5 +112,5 @@ pub worker_run : (s : Setting) (who : ℕ) (act : Act) (l : List Told) → IsAct
 worker_run s who (Calls call) l after = after.2
 worker_run s who IsEnd l after = record {
   driver = λ below. whole_run (driver_turn (seat_of s.config who)) (start (classes_of s.config) (input_of s who)) l (after.driver below);
-  app = λ a is. whole_run (app_turn s.config a) (new_kept s.config) l (after.app a is);
+  app = λ a is. app_whole_run (app_turn s.config a) (new_kept s.config) l (after.app a is);
 }

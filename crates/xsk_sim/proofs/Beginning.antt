@@ -10,7 +10,7 @@ use Rattle.xsk_model.specs.Marks.{apps_of}
 use Rattle.xsk_umem.specs.Frame.{Frame}
 use Rattle.xsk_model.specs.Opening.{AreFrames, IsOpened, opening}
 use Rattle.xsk_plain.specs.Engine.{Engine, Shows}
-use Rattle.xsk_driver.specs.Inputs.{numbers_from, numbers_of, inputs_of, packets_of_port, packets_of_queue}
+use Rattle.xsk_turns.specs.Inputs.{numbers_from, numbers_of, inputs_of, packets_of_port, packets_of_queue}
 use Rattle.xsk_driver.specs.Shown.{Shown as DriverShown}
 use Rattle.xsk_driver.specs.Runs.{IsNew as IsNewDriver}
 use Rattle.xsk_app.specs.Shown.{Shown as AppShown}

@@ -12,8 +12,9 @@ use Rattle.xsk_model.specs.Script.{Script, ask, again, ended, never, Along, Turn
 use Rattle.xsk_model.proofs.Folds.{own-append, own-push_same}
 use Rattle.xsk_model.proofs.Histories.{history_first}
 use Rattle.xsk_model.proofs.Replies.{history_entry}
-use Rattle.xsk_model.proofs.ScriptLemmas.{run_next}
-use Rattle.xsk_driver.specs.Turns.{seat_of, start, turn as driver_turn}
+use Rattle.xsk_model.proofs.ScriptLemmas.{run_next as app_run_next}
+use Rattle.xsk_turns.proofs.ScriptLemmas.{run_front, run_next}
+use Rattle.xsk_turns.specs.Turns.{seat_of, start, turn as driver_turn}
 use Rattle.xsk_app.specs.Turns.{new_kept, turn as app_turn}
 use Rattle.xsk_sim.specs.Order.{number_at, start_of, rotated}
 use Rattle.xsk_sim.specs.Rounds.{IsTurn, AreTurns, AreRounds}
@@ -43,7 +44,7 @@ run_first turn start l more h = (h.0, turns_first turn h.0 start l more h.1)
 
 worker_first : (s : Setting) (who : ℕ) (l more : List Told) → IsWorkerRun s who (l ++ more) → IsWorkerRun s who l
 worker_first s who l more run = record {
-  driver = λ below. run_first (driver_turn (seat_of s.config who)) (start (classes_of s.config) (input_of s who)) l more (run.driver below);
+  driver = λ below. run_front (driver_turn (seat_of s.config who)) (start (classes_of s.config) (input_of s who)) l more (run.driver below);
   app = λ a is. run_first (app_turn s.config a) (new_kept s.config) l more (run.app a is);
 }
 
@@ -55,7 +56,7 @@ worker_next s who l t u first second = ⊎_elim
     (λ (high : length s.config.pairs ≤ who).
     let a : ℕ = who - length s.config.pairs in
     let is : who ≡ caller_of s.config a = omega arith in
-    run_next (app_turn s.config a) (new_kept s.config) l t u (first.app a is) (second.app a is))
+    app_run_next (app_turn s.config a) (new_kept s.config) l t u (first.app a is) (second.app a is))
     (cases_lt who (length s.config.pairs))
 
 -- ---- one history

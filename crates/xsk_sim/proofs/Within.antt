@@ -9,8 +9,8 @@ use Rattle.xsk_model.specs.Rings.{caller_of}
 use Rattle.xsk_model.specs.Entry.{Entry, own}
 use Rattle.xsk_model.specs.History.{IsHistory}
 use Rattle.xsk_model.specs.Sent.{sent}
-use Rattle.xsk_driver.specs.Inputs.{packets_of_queue}
-use Rattle.xsk_driver.specs.Steering.{queue_of}
+use Rattle.xsk_turns.specs.Inputs.{packets_of_queue}
+use Rattle.xsk_turns.specs.Steering.{queue_of}
 use Rattle.xsk_laws.specs.Expected.{driver_on}
 use Rattle.xsk_laws.specs.Laws.{AreWholeRuns}
 use Rattle.xsk_laws.proofs.Theorems.{sent_is_within}

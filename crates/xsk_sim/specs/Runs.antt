@@ -11,8 +11,8 @@ use Rattle.xsk_model.specs.History.{IsHistory, state_after}
 use Rattle.xsk_model.specs.Holders.{HasOneHolder}
 use Rattle.xsk_model.specs.Stored.{stored}
 use Rattle.xsk_model.specs.Sent.{sent}
-use Rattle.xsk_driver.specs.Inputs.{packets_of_queue, packets_of_port}
-use Rattle.xsk_driver.specs.Turns.{IsDriverRun, IsWholeDriverRun}
+use Rattle.xsk_turns.specs.Inputs.{packets_of_queue, packets_of_port}
+use Rattle.xsk_turns.specs.Turns.{IsDriverRun, IsWholeDriverRun}
 use Rattle.xsk_app.specs.Turns.{IsAppRun, IsWholeAppRun}
 use Rattle.xsk_sim.specs.Rounds.{AreRounds}
 use Rattle.xsk_sim.specs.Shown.{Shown}

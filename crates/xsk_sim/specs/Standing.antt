@@ -12,7 +12,7 @@ use Rattle.xsk_model.specs.Stored.{stored}
 use Rattle.xsk_model.specs.declared.call.Act.{Act}
 use Rattle.xsk_model.specs.declared.call.Act.TheVariants.{Call as Calls, Ended as IsEnd}
 use Rattle.xsk_plain.specs.Engine.{Engine, Shows}
-use Rattle.xsk_driver.specs.Inputs.{packets_of_port}
+use Rattle.xsk_turns.specs.Inputs.{packets_of_port}
 use Rattle.xsk_driver.specs.Shown.{Shown as DriverShown}
 use Rattle.xsk_driver.specs.Runs.{IsNew as IsNewDriver, StandsWith}
 use Rattle.xsk_app.specs.Shown.{Shown as AppShown}

@@ -6,7 +6,7 @@ ghost use Rattle.xsk_model.specs.Opening.{AreFrames};
 ghost use Rattle.xsk_model.specs.Marks.{apps_of};
 ghost use Rattle.xsk_umem.specs.Frame.{Frame};
 ghost use Rattle.xsk_plain.specs.Log.{calls_of, entries_of};
-ghost use Rattle.xsk_driver.specs.Inputs.{inputs_of};
+ghost use Rattle.xsk_turns.specs.Inputs.{inputs_of};
 ghost use Rattle.xsk_driver.specs.Sent.{IsShort};
 ghost use Rattle.xsk_sim.specs.Shown.{HasShortPackets, packets_in};
 ghost use Rattle.xsk_sim.specs.Runs.{Setting, HasEnded, HasStalled, last_round_of};

@@ -288,6 +288,11 @@ pub fit_push : (c : Config) (past l : List Told) (call : Call) (reply : Reply) �
 fit_push c past [] call reply h fits = (subst (λ m. Fits c m call reply) (append-nil past) fits, tt)
 fit_push c past (t ∷ l) call reply h fits = (h.0, fit_push c (past ++ t ∷ []) l call reply h.1 (subst (λ m. Fits c m call reply) (sym (append_assoc past (t ∷ []) l)) fits))
 
+-- a caller's own entries in a history fit
+pub all_fit : (c : Config) (who : ℕ) (past l : List Told) → OwnGoesOn c who past l → AllFit c past l
+all_fit c who past [] goes = tt
+all_fit c who past (t ∷ l) goes = (goes.1, all_fit c who (past ++ t ∷ []) l goes.2)
+
 module _ (c : Config) (pair : ℕ) (input : List (List ℕ)) (l : List Told) (is : IsSeat c pair) (fit : AllFit c [] l) (left : Script Kept) where
   abbrev begins : Kept
   begins = start (classes_of c) input

@@ -3,7 +3,7 @@ use Rattle.std.specs.List.{concat}
 use Rattle.xsk_umem.specs.PacketList.{PacketList}
 use Rattle.xsk_model.specs.Config.{pair_at}
 use Rattle.xsk_model.specs.declared.config.PairInfo.{PairInfo}
-use Rattle.xsk_driver.specs.Inputs.{packets_of_port}
+use Rattle.xsk_turns.specs.Inputs.{packets_of_port}
 use Rattle.xsk_laws.specs.Expected.{paired}
 use Rattle.xsk_sim.specs.Runs.{Setting}
 use Rattle.xsk_sim.specs.Standing.{other_of, HasRoomToSend}

@@ -11,4 +11,4 @@ returns-clause-begins c s who is none =
 pub returns-clause-goes_on : goal.returns-clause-goes_on
 returns-clause-goes_on c s who l call r stands some may =
     driver_after s who c.next.new.self c.next.result _ stands.known (room_stays s who c.args.self.now c.next.new.self stands.room c.next.ensures.sent_room)
-    (c.next.ensures.goes_on s.config who (input_of s who) l call r stands.stands.0 some (gift_fits s.config l who call r may))
+    (c.next.ensures.goes_on s.config who (input_of s who) l call r stands.stands some (gift_fits s.config l who call r may))
