@@ -22,3 +22,7 @@ pub mod Counts
 pub mod ScriptLemmas
 pub mod Walks
 pub mod Safety
+pub mod Along
+pub mod Apart
+pub mod FirstState
+pub mod FrameTheorems

@@ -99,11 +99,11 @@ home_rings-at P g pool (suc pairs) frames zero h =
 home_rings-at P g pool (suc pairs) frames (suc d) h =
     home_rings-at P g pool pairs (drop pool frames) d (All-drop (λ f. P (home_item g f)) pool frames h)
 
-length-home_rings : (g : Geometry) (pool pairs : ℕ) (frames : List Frame) → length (home_rings g pool pairs frames) ≡ pairs
+pub length-home_rings : (g : Geometry) (pool pairs : ℕ) (frames : List Frame) → length (home_rings g pool pairs frames) ≡ pairs
 length-home_rings g pool zero frames = refl
 length-home_rings g pool (suc pairs) frames = ap suc (length-home_rings g pool pairs (drop pool frames))
 
-numbers-home : (g : Geometry) (frames : List Frame) → numbers (map (home_item g) frames) ≡ map (λ (f : Frame). f.number) frames
+pub numbers-home : (g : Geometry) (frames : List Frame) → numbers (map (home_item g) frames) ≡ map (λ (f : Frame). f.number) frames
 numbers-home g [] = refl
 numbers-home g (f ∷ frames) = ap (λ ns. f.number ∷ ns) (numbers-home g frames)
 
@@ -120,7 +120,7 @@ flat_map-home_rings g pool (suc pairs) frames h =
 
 -- ---- the opening state
 
-all_pools : (frames pairs : ℕ) → frames % pairs ≡ 0 → frames ≡ pairs * (frames / pairs)
+pub all_pools : (frames pairs : ℕ) → frames % pairs ≡ 0 → frames ≡ pairs * (frames / pairs)
 all_pools frames pairs h = omega (arith, h)
 
 module _ (c : Config) (frames : List Frame) (opened : IsOpened c frames) where

@@ -4,15 +4,16 @@ use Rattle.xsk_umem.specs.Frame.{Frame}
 use Rattle.xsk_umem.specs.declared.batch.Item.{Item}
 use Rattle.xsk_model.specs.Config.{Config, IsConfig, HasRing, size_of, callers_of}
 use Rattle.xsk_model.specs.Numbers.{times, numbers}
-use Rattle.xsk_model.specs.Rings.{place, places_of, producer, consumer}
+use Rattle.xsk_model.specs.Rings.{is_ring, place, places_of, app_of, producer, consumer}
 use Rattle.xsk_model.specs.Marks.{HasMark, mark_place, mark_places_of}
-use Rattle.xsk_model.specs.Object.{State, ring_at, mark_at, had_by, peek_reply, after, IsWithinRing}
+use Rattle.xsk_model.specs.Object.{State, ring_at, mark_at, had_by, submitted, peek_reply, reply_at, after, IsWithinRing}
 use Rattle.xsk_model.specs.Entry.{Told, Entry, own, all_told}
 use Rattle.xsk_model.specs.Own.{had_of, part_of, is_on, room_of, held_of, given_of, released_of, peeked_of, submitted_of, sending_of}
 use Rattle.xsk_model.specs.Legal.{IsItemOn, IsKnown, IsLegal}
-use Rattle.xsk_model.specs.Opening.{opening}
+use Rattle.xsk_model.specs.Opening.{IsOpened, opening}
 use Rattle.xsk_model.specs.History.{IsHistory, state_after, MayGive, IsMarkNumber, Fits, OwnGoesOn}
 use Rattle.xsk_model.specs.Holders.{HasOneHolder, out_numbers}
+use Rattle.xsk_model.specs.Homes.{home_app, serves, AreApart, AreBelow, IsFirst}
 use Rattle.xsk_model.specs.Packets.{packets, whole_packets, bytes_of}
 use Rattle.xsk_model.specs.Sent.{sockets_of, completed_in, sent_by}
 use Rattle.xsk_model.specs.declared.call.Ring.{Ring}
@@ -21,6 +22,7 @@ use Rattle.xsk_model.specs.declared.call.Mark.{Mark}
 use Rattle.xsk_model.specs.declared.call.Call.{Call}
 use Rattle.xsk_model.specs.declared.call.Call.TheVariants.{Submit, Peek}
 use Rattle.xsk_model.specs.declared.call.Reply.{Reply}
+use Rattle.xsk_model.specs.declared.call.Reply.TheVariants.{Items}
 
 -- ---- frames
 
@@ -45,6 +47,39 @@ HadAndDistinct = (c : Config) (frames : List Frame) (h : List Entry) (who : ℕ)
 abbrev pub FewInRings : Type 0
 FewInRings = (c : Config) (frames : List Frame) (h : List Entry) → IsHistory c frames h
     → length (flat_map out_numbers (state_after c frames h).rings) ≤ c.geometry.frames
+
+-- frames stay with one application: those of a caller with the one that it serves, those out in a ring with the ring's
+abbrev pub FramesStay : Type 0
+FramesStay = (c : Config) (frames : List Frame) (h : List Entry) (n : ℕ) → IsHistory c frames h
+    → ((who : ℕ) → 1 ≤ times n (had_of (own who h)) → serves c who ≡ home_app c n)
+    × ((r : Ring) → HasRing c r → 1 ≤ times n (out_numbers (ring_at c (state_after c frames h) r)) → app_of c r ≡ home_app c n)
+
+-- two callers' frames are apart, a caller's and those out in a ring, and those out in two rings
+abbrev pub FramesApart : Type 0
+FramesApart = (c : Config) (frames : List Frame) (h : List Entry) → IsHistory c frames h
+    → ((who other : ℕ) → who ≢ other → AreApart (had_of (own who h)) (had_of (own other h)))
+    × ((who : ℕ) (r : Ring) → AreApart (had_of (own who h)) (out_numbers (ring_at c (state_after c frames h) r)))
+    × ((r q : Ring) → HasRing c r → HasRing c q → is_ring r q ≡ false
+    → AreApart (out_numbers (ring_at c (state_after c frames h) r)) (out_numbers (ring_at c (state_after c frames h) q)))
+
+-- each of these frames is one of the UMEM
+abbrev pub FramesBelow : Type 0
+FramesBelow = (c : Config) (frames : List Frame) (h : List Entry) → IsHistory c frames h
+    → ((who : ℕ) → AreBelow c.geometry.frames (had_of (own who h)))
+    × ((r : Ring) → AreBelow c.geometry.frames (out_numbers (ring_at c (state_after c frames h) r)))
+
+-- what a call submits stands with no other caller and in no ring
+abbrev pub SubmitsOwn : Type 0
+SubmitsOwn = (c : Config) (frames : List Frame) (past later : List Entry) (e : Entry) → IsHistory c frames (past ++ e ∷ later)
+    → ((other : ℕ) → other ≢ e.who → AreApart (numbers (submitted e.call)) (had_of (own other past)))
+    × ((r : Ring) → AreApart (numbers (submitted e.call)) (out_numbers (ring_at c (state_after c frames past) r)))
+
+-- ---- the opening
+
+-- at the opening FILL of each pair has the frames of its pool, in order, every other ring is empty, a cell has its
+-- configured number, every other mark is 0, and no caller has a frame
+abbrev pub OpeningIs : Type 0
+OpeningIs = (c : Config) (frames : List Frame) → IsOpened c frames → IsFirst c frames (opening c frames)
 
 -- ---- rings
 
@@ -86,6 +121,28 @@ abbrev pub CountsAgree : Type 0
 CountsAgree = (c : Config) (frames : List Frame) (h : List Entry) (r : Ring) → IsHistory c frames h → HasRing c r
     → length (ring_at c (opening c frames) r).out + given_of r (own (producer c r) h)
     ≡ released_of r (own (consumer c r) h) + length (ring_at c (state_after c frames h) r).held + length (ring_at c (state_after c frames h) r).out
+
+-- what a ring holds and then what is out are the opening's items followed by those submitted, without those released
+abbrev pub HeldAndOut : Type 0
+HeldAndOut = (c : Config) (frames : List Frame) (h : List Entry) (r : Ring) → IsHistory c frames h → HasRing c r
+    → (ring_at c (state_after c frames h) r).held ++ (ring_at c (state_after c frames h) r).out
+    ≡ drop (released_of r (own (consumer c r) h)) ((ring_at c (opening c frames) r).out ++ submitted_of r (own (producer c r) h))
+
+-- what a caller gave, released, submitted and peeked grows by what its later entries add
+abbrev pub CountsGrow : Type 0
+CountsGrow = (past later : List Entry) (who : ℕ) (r : Ring)
+    → (given_of r (own who (past ++ later)) ≡ given_of r (own who past) + given_of r (own who later))
+    × (released_of r (own who (past ++ later)) ≡ released_of r (own who past) + released_of r (own who later))
+    × (submitted_of r (own who (past ++ later)) ≡ submitted_of r (own who past) ++ submitted_of r (own who later))
+    × (peeked_of r (own who (past ++ later)) ≡ peeked_of r (own who past) ++ peeked_of r (own who later))
+
+-- a Peek finds items where its consumer has seen that more were given than it peeked, whatever others did since
+abbrev pub PeekFinds : Type 0
+PeekFinds = (c : Config) (frames : List Frame) (seen later : List Entry) (r : Ring) (n : ℕ) → IsHistory c frames (seen ++ later) → HasRing c r
+    → peeked_of r (own (consumer c r) later) ≡ []
+    → length (peeked_of r (own (consumer c r) seen)) < length (ring_at c (opening c frames) r).out + given_of r (own (producer c r) seen)
+    → reply_at c (state_after c frames (seen ++ later)) (Peek r n)
+    ≡ Items (take n (drop (length (peeked_of r (own (consumer c r) seen))) ((ring_at c (opening c frames) r).out ++ submitted_of r (own (producer c r) (seen ++ later)))))
 
 -- what is out in a ring may stand there
 abbrev pub LawfulItems : Type 0

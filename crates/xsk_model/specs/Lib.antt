@@ -3,6 +3,7 @@ pub mod Descriptor
 pub mod Entry
 pub mod History
 pub mod Holders
+pub mod Homes
 pub mod Laws
 pub mod Legal
 pub mod Marks

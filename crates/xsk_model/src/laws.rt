@@ -1,6 +1,6 @@
 //! The laws of the object, each the contract of a function that does nothing. They are stated in `specs/Laws.antt`.
 
-ghost use Rattle.xsk_model.specs.Laws.{OneHolder, FramesByOwn, HadAndDistinct, InOrder, PeekInOrder, PartsByOwn, ItemsByOwn, WithinSize, LawfulItems, FittingReplies, FittingGifts, OwnEntries, WithinRing, CountsAgree, FewInRings, OneCompletion, SentInOrder, MarkNumbers, OwnPlaces, OwnMarkPlaces, TwoOwners, LeavesOthers, LeavesFolds};
+ghost use Rattle.xsk_model.specs.Laws.{OneHolder, FramesByOwn, HadAndDistinct, InOrder, PeekInOrder, PartsByOwn, ItemsByOwn, WithinSize, LawfulItems, FittingReplies, FittingGifts, OwnEntries, WithinRing, CountsAgree, FewInRings, OneCompletion, SentInOrder, MarkNumbers, OwnPlaces, OwnMarkPlaces, TwoOwners, LeavesOthers, LeavesFolds, FramesStay, FramesApart, FramesBelow, SubmitsOwn, OpeningIs, HeldAndOut, CountsGrow, PeekFinds};
 
 /// After each prefix of a history each frame has one holder: a caller that has it, or a ring in which it is out.
 pub fn one_holder()
@@ -20,6 +20,31 @@ pub fn had_and_distinct()
 /// No more frames are out in rings than the UMEM has.
 pub fn few_in_rings()
     ensures { FewInRings }
+{}
+
+/// Frames stay with one application: those of a caller with the one that it serves, those out in a ring with the ring's.
+pub fn frames_stay()
+    ensures { FramesStay }
+{}
+
+/// Two callers' frames are apart, a caller's and those out in a ring, and those out in two rings.
+pub fn frames_apart()
+    ensures { FramesApart }
+{}
+
+/// Each frame of a caller or a ring is one of the UMEM.
+pub fn frames_below()
+    ensures { FramesBelow }
+{}
+
+/// What a call submits stands with no other caller and in no ring.
+pub fn submits_own()
+    ensures { SubmitsOwn }
+{}
+
+/// What each ring, each mark and each caller's frames are at the opening.
+pub fn opening_is()
+    ensures { OpeningIs }
 {}
 
 /// On each ring the items peeked are a prefix of the opening's items followed by those submitted.
@@ -55,6 +80,21 @@ pub fn within_ring()
 /// The opening's items of a ring and those submitted are as many as those released, held and out.
 pub fn counts_agree()
     ensures { CountsAgree }
+{}
+
+/// What a ring holds and then what is out are the opening's items and those submitted, without those released.
+pub fn held_and_out()
+    ensures { HeldAndOut }
+{}
+
+/// What a caller gave, released, submitted and peeked grows by what its later entries add.
+pub fn counts_grow()
+    ensures { CountsGrow }
+{}
+
+/// A Peek finds items where its consumer has seen that more were given than it peeked.
+pub fn peek_finds()
+    ensures { PeekFinds }
 {}
 
 /// What is out in a ring may stand there.

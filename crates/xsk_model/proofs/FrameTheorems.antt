@@ -1,0 +1,32 @@
+-- The laws of frames, of the opening and of counts, proved.
+use Rattle.xsk_model.specs.History.{state_after}
+use Rattle.xsk_model.specs.Laws.{FramesApart, FramesBelow, SubmitsOwn, OpeningIs}
+use Rattle.xsk_model.proofs.Histories.{history_first, history_sound}
+use Rattle.xsk_model.proofs.Replies.{history_entry}
+use Rattle.xsk_model.proofs.Apart.{callers_apart, caller_ring_apart, rings_apart, caller_below, ring_below, submitted_callers, submitted_rings}
+use Rattle.xsk_model.proofs.FirstState.{opening_first}
+use Rattle.std.proofs.Common.{◌∷◌}
+
+pub frames_apart : FramesApart
+frames_apart c frames h history =
+    let sound = history_sound c frames h history in (
+      λ who other apart. callers_apart c frames (state_after c frames h) h sound who other apart,
+      λ who r. caller_ring_apart c frames (state_after c frames h) h sound who r,
+      λ r q has too apart. rings_apart c frames (state_after c frames h) h sound r q has too apart,
+    )
+
+pub frames_below : FramesBelow
+frames_below c frames h history =
+    let sound = history_sound c frames h history in
+    (λ who. caller_below c frames (state_after c frames h) h sound who, λ r. ring_below c frames (state_after c frames h) h sound r)
+
+pub submits_own : SubmitsOwn
+submits_own c frames past later e history =
+    let legal = (history_entry c frames past later e history).0 in
+    let sound = history_sound c frames past (history_first c frames past (e ∷ later) history) in (
+      λ other apart. submitted_callers c frames (state_after c frames past) past sound e.who other e.call legal apart,
+      λ r. submitted_rings c frames (state_after c frames past) past sound e.who e.call r legal,
+    )
+
+pub opening_is : OpeningIs
+opening_is c frames opened = opening_first c frames opened
