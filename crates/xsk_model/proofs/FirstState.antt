@@ -1,8 +1,7 @@
 -- What each part of the state is at the opening.
-use Rattle.std.proofs.Common.{◌≡◌, ℕ, zero, suc, ◌+◌, ◌-◌, ◌*◌, ◌<◌, ◌≤◌, List, [], ◌∷◌, ◌++◌, length, get_or, take, drop, map, replicate, flat_map, refl, sym, ap, ◌∙◌, arith, suc-mul, mul-le-mul_right}
+use Rattle.std.proofs.Common.{◌≡◌, ℕ, zero, suc, ◌+◌, ◌-◌, ◌*◌, ◌<◌, ◌≤◌, List, ◌∷◌, ◌++◌, length, get_or, take, drop, map, replicate, flat_map, refl, sym, ap, ◌∙◌, arith, suc-mul, mul-le-mul_right}
 use Rattle.std.specs.List.{range_with_len}
-use Rattle.std.proofs.lemmas.List.{length-replicate, get_or-replicate, get_or_append_left, get_or_past, drop-map, take-map}
-use Rattle.std.proofs.Math.Seq.{drop-nil}
+use Rattle.std.proofs.lemmas.List.{length-replicate, get_or-replicate, get_or_append_left, get_or_past, drop-map, take-map, drop-drop}
 use Rattle.xsk_umem.specs.Frame.{Frame}
 use Rattle.xsk_umem.specs.Geometry.{Geometry}
 use Rattle.xsk_model.specs.Config.{Config, HasRing, pool_of}
@@ -22,12 +21,6 @@ use Rattle.xsk_model.proofs.MarkNumbers.{mark_opening}
 
 -- ---- rings
 
-drop-twice : {X : Type 0} (n m k : ℕ) (xs : List X) → m + n ≡ k → drop n (drop m xs) ≡ drop k xs
-drop-twice n zero k xs h = ap (λ j. drop j xs) (omega (arith, h))
-drop-twice n (suc m) k [] h = drop-nil n ∙ sym (drop-nil k)
-drop-twice n (suc m) zero (x ∷ xs) h = absurd (omega (arith, h))
-drop-twice n (suc m) (suc k) (x ∷ xs) h = drop-twice n m k xs (omega (arith, h))
-
 -- the ring of each pool
 home_rings-pool : (g : Geometry) (pool pairs : ℕ) (frames : List Frame) (d k : ℕ) → d < pairs → d * pool ≡ k
     → get_or (home_rings g pool pairs frames) d empty_ring ≡ home_ring g (take pool (drop k frames))
@@ -37,7 +30,7 @@ home_rings-pool g pool (suc pairs) frames zero k h e =
     ap (λ j. home_ring g (take pool (drop j frames))) none
 home_rings-pool g pool (suc pairs) frames (suc d) k h e =
     home_rings-pool g pool pairs (drop pool frames) d (d * pool) (omega arith) refl
-    ∙ ap (λ fs. home_ring g (take pool fs)) (drop-twice (d * pool) pool k frames (omega (arith, e, suc-mul d pool)))
+    ∙ ap (λ fs. home_ring g (take pool fs)) (drop-drop (d * pool) pool frames ∙ ap (λ j. drop j frames) (omega (arith, e, suc-mul d pool)))
 
 first_fill : (c : Config) (frames : List Frame) (d : ℕ) → d < length c.pairs → ring_at c (opening c frames) (Fill d) ≡ first_ring c frames (Fill d)
 first_fill c frames d h =

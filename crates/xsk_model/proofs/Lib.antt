@@ -25,4 +25,6 @@ pub mod Safety
 pub mod Along
 pub mod Apart
 pub mod FirstState
+pub mod Stays
+pub mod Released
 pub mod FrameTheorems

@@ -55,7 +55,7 @@ take-nil : (n : ℕ) → ◌≡◌ {A = List Item} [] (take n [])
 take-nil zero = refl
 take-nil (suc n) = refl
 
-taken-peek : (n : ℕ) (out : List Item) → taken (peek_reply n out) ≡ take n out
+pub taken-peek : (n : ℕ) (out : List Item) → taken (peek_reply n out) ≡ take n out
 taken-peek n [] = take-nil n
 taken-peek n (item ∷ out) = refl
 
@@ -73,15 +73,15 @@ ring_after-room size ring (Release r n) = omega arith
 ring_after-room size ring (Swap m value) = omega arith
 ring_after-room size ring (Look m) = omega arith
 
-cond-held : (b : Bool) (ring : RingState) (n : ℕ) → (cond b (record ring { room = ring.room + n }) ring).held ≡ ring.held
+pub cond-held : (b : Bool) (ring : RingState) (n : ℕ) → (cond b (record ring { room = ring.room + n }) ring).held ≡ ring.held
 cond-held true ring n = refl
 cond-held false ring n = refl
 
-cond-out : (b : Bool) (ring : RingState) (n : ℕ) → (cond b (record ring { room = ring.room + n }) ring).out ≡ ring.out
+pub cond-out : (b : Bool) (ring : RingState) (n : ℕ) → (cond b (record ring { room = ring.room + n }) ring).out ≡ ring.out
 cond-out true ring n = refl
 cond-out false ring n = refl
 
-cond-taken : (b : Bool) (places : ℕ) → taken (cond b Granted (Full places)) ≡ []
+pub cond-taken : (b : Bool) (places : ℕ) → taken (cond b Granted (Full places)) ≡ []
 cond-taken true places = refl
 cond-taken false places = refl
 
@@ -178,7 +178,7 @@ ring_at-after_other c s who (Look m) r h k off = refl
 
 -- ---- frames
 
-ring_count : (n : ℕ) (size : ℕ) (ring : RingState) (call : Call)
+pub ring_count : (n : ℕ) (size : ℕ) (ring : RingState) (call : Call)
     → times n (numbers (taken (ring_reply size ring call))) + times n (numbers (ring_after size ring call).out)
     ≡ times n (numbers ring.out) + times n (numbers (submitted call))
 ring_count n size ring call =

@@ -51,7 +51,7 @@ pub times-had : (c : Config) (frames : List Frame) (s : State) (past : List Entr
     → times n (had_of (own who past)) ≤ 1
 times-had c frames s past who n h = omega (arith, times-apart c frames s past who 0 n h)
 
-times-take : (n k : ℕ) (items : List Item) → times n (numbers (take k items)) ≤ times n (numbers items)
+pub times-take : (n k : ℕ) (items : List Item) → times n (numbers (take k items)) ≤ times n (numbers items)
 times-take n k items =
     let whole = ap (λ xs. times n (numbers xs)) (take-append-drop k items) in
     omega (arith, whole, ap (times n) (numbers-append (take k items) (drop k items)), times-append n (numbers (take k items)) (numbers (drop k items)))

@@ -30,7 +30,7 @@ pub record IsRingSound (c : Config) (first : List Item) (r : Ring) (ring : RingS
 
 -- ---- one ring, one entry
 
-order_moves : (p o q t u o' first : List Item) → p ++ o ≡ first ++ q → t ++ o' ≡ o ++ u → (p ++ t) ++ o' ≡ first ++ (q ++ u)
+pub order_moves : (p o q t u o' first : List Item) → p ++ o ≡ first ++ q → t ++ o' ≡ o ++ u → (p ++ t) ++ o' ≡ first ++ (q ++ u)
 order_moves p o q t u o' first h k =
     append_assoc p t o' ∙ ap (λ x. p ++ x) k ∙ sym (append_assoc p o u) ∙ ap (λ x. x ++ u) h ∙ append_assoc first q u
 
