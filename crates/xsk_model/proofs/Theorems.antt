@@ -11,7 +11,7 @@ use Rattle.xsk_model.specs.Own.{had_of, peeked_of, submitted_of, sending_of}
 use Rattle.xsk_model.specs.Legal.{IsLegal}
 use Rattle.xsk_model.specs.Opening.{opening}
 use Rattle.xsk_model.specs.History.{IsHistory, state_after}
-use Rattle.xsk_model.specs.Laws.{FewInRings, WithinRing, CountsAgree, OneHolder, FramesByOwn, HadAndDistinct, InOrder, PeekInOrder, PartsByOwn, ItemsByOwn, WithinSize, LawfulItems, FittingReplies, FittingGifts, OwnEntries, OneCompletion, SentInOrder, MarkNumbers, OwnPlaces, OwnMarkPlaces, TwoOwners, LeavesOthers, LeavesFolds}
+use Rattle.xsk_model.specs.Laws.{FewInRings, WithinRing, CountsAgree, OneHolder, FramesByOwn, HadAndDistinct, InOrder, PeekInOrder, PartsByOwn, ItemsByOwn, WithinSize, LawfulItems, FittingReplies, FittingGifts, OwnEntries, OneCompletion, SentInOrder, MarkNumbers, OwnPlaces, OwnMarkPlaces, TwoOwners, LeavesOthers, LeavesFold, LeavesFolds}
 use Rattle.xsk_model.specs.declared.call.Ring.{Ring}
 use Rattle.xsk_model.specs.declared.call.Call.TheVariants.{Peek}
 use Rattle.xsk_model.proofs.Counting.{times-append, length-by_times, times-range_past, times-range_within}
@@ -109,8 +109,12 @@ leaves_others c s who other call r has known = (
   λ apart. get_or-set_other s.had who other (had_after (had_by s who) call (reply_at c s call)) [] apart,
 )
 
+pub leaves_fold : (A : Type 0) → LeavesFold A
+leaves_fold A change r first who past e =
+    (λ off. part_of_own-push_other change r first who past e off, λ apart. own-push_other who past e apart)
+
 pub leaves_folds : LeavesFolds
-leaves_folds change r n who past e = (λ off. part_of_own-push_other change r n who past e off, λ apart. own-push_other who past e apart)
+leaves_folds = (leaves_fold ℕ, leaves_fold (List Item))
 
 pub own_entries : OwnEntries
 own_entries c frames h who history = history_own c frames h who history

@@ -207,9 +207,13 @@ abbrev pub LeavesOthers : Type 0
 LeavesOthers = (c : Config) (s : State) (who other : ℕ) (call : Call) (r : Ring) → HasRing c r → IsKnown c call
     → (is_on r call ≡ false → ring_at c (after c s who call) r ≡ ring_at c s r) × (other ≢ who → had_by (after c s who call) other ≡ had_by s other)
 
--- an entry on another ring leaves each number that is folded over a caller's entries on this one, and an entry of
--- another caller all of a caller's own
-abbrev pub LeavesFolds : Type 0
-LeavesFolds = (change : ℕ → Told → ℕ) (r : Ring) (n : ℕ) (who : ℕ) (past : List Entry) (e : Entry)
-    → (is_on r e.call ≡ false → part_of change r n (own who (past ++ e ∷ [])) ≡ part_of change r n (own who past))
+-- an entry on another ring leaves what is folded over a caller's entries on this one, and an entry of another caller all
+-- of a caller's own
+abbrev pub LeavesFold : Type 0 → Type 0
+LeavesFold A = (change : A → Told → A) (r : Ring) (first : A) (who : ℕ) (past : List Entry) (e : Entry)
+    → (is_on r e.call ≡ false → part_of change r first (own who (past ++ e ∷ [])) ≡ part_of change r first (own who past))
     × (e.who ≢ who → own who (past ++ e ∷ []) ≡ own who past)
+
+-- whether numbers are folded or items
+abbrev pub LeavesFolds : Type 0
+LeavesFolds = LeavesFold ℕ × LeavesFold (List Item)
