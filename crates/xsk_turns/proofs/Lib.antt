@@ -1,3 +1,4 @@
+pub mod AppOwned
 pub mod Completing
 pub mod Counting
 pub mod Counts

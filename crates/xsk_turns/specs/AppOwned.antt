@@ -1,0 +1,47 @@
+-- What an application has: at each call the frames that it keeps, with those of the call, are those that it peeked and
+-- didn't submit. Where it is the configuration's only application each call is legal: that frames of other applications'
+-- homes don't come to it is no matter then.
+use Rattle.std.specs.Prelude.{◌≡◌, ℕ, ◌+◌, ◌<◌, List, [], ◌++◌, flat_map}
+use Rattle.xsk_model.specs.Config.{Config, IsConfig, IsRegular}
+use Rattle.xsk_model.specs.Marks.{apps_of}
+use Rattle.xsk_model.specs.Rings.{caller_of}
+use Rattle.xsk_model.specs.Numbers.{times, numbers}
+use Rattle.xsk_model.specs.Object.{submitted}
+use Rattle.xsk_model.specs.Entry.{Told}
+use Rattle.xsk_model.specs.Own.{had_of}
+use Rattle.xsk_model.specs.Legal.{IsLegal}
+use Rattle.xsk_model.specs.declared.call.Call.{Call}
+use Rattle.xsk_model.specs.declared.call.Reply.{Reply}
+use Rattle.xsk_turns.specs.Script.{Script, Asks, Ends}
+use Rattle.xsk_turns.specs.AppTurns.{AppKept, app_turn, app_start}
+use Rattle.xsk_turns.specs.Owned.{AllFit, frame_numbers}
+
+-- one of a regular configuration's applications
+pub record IsApp (c : Config) (app : ℕ) : Type 0 where
+  pub config : IsConfig c
+  pub regular : IsRegular c
+  pub known : app < apps_of c
+
+-- the numbers of all frames that it keeps
+abbrev pub app_numbers : AppKept → List ℕ
+app_numbers kept = flat_map numbers kept.pending ++ flat_map frame_numbers kept.back
+
+-- an application that keeps this, and gave the call after a list of its calls and replies
+abbrev pub AppOwned : AppKept → Call → List Told → Type 0
+AppOwned kept call l = (n : ℕ) → times n (app_numbers kept) + times n (numbers (submitted call)) ≡ times n (had_of l)
+
+-- ---- the laws
+
+-- so it is at each call that an application makes, and there the call is legal where it is the only one
+abbrev pub AppKeepsFrames : Type 0
+AppKeepsFrames = (c : Config) (app : ℕ) (l : List Told) (kept : AppKept) (call : Call) (rest : Reply → Script AppKept) → IsApp c app → AllFit c [] l
+    → Asks (app_turn c app) (app_start c) l kept call rest → AppOwned kept call l
+
+abbrev pub AppCallsLegal : Type 0
+AppCallsLegal = (c : Config) (app : ℕ) (l : List Told) (kept : AppKept) (call : Call) (rest : Reply → Script AppKept) → IsApp c app → apps_of c ≡ 1 → AllFit c [] l
+    → Asks (app_turn c app) (app_start c) l kept call rest → IsLegal c l (caller_of c app) call
+
+-- at its end its frames are those that it keeps
+abbrev pub AppKeepsFramesAtEnd : Type 0
+AppKeepsFramesAtEnd = (c : Config) (app : ℕ) (l : List Told) (kept : AppKept) → IsApp c app → AllFit c [] l
+    → Ends (app_turn c app) (app_start c) l kept → (n : ℕ) → times n (app_numbers kept) ≡ times n (had_of l)

@@ -1,0 +1,222 @@
+-- The turns of the application of ports 2k and 2k + 1 and queue q, without need-wakeup. It has two sides, one for each of
+-- its ports, and a lane from each class of a side to the same class of the other side. A turn visits its lanes, then its
+-- sides, and then looks whether it is at its end. All of this is this project's own.
+use Rattle.std.specs.Prelude.{ℕ, zero, suc, ◌+◌, ◌-◌, ◌*◌, ◌/◌, ◌%◌, ◌==◌, Bool, true, false, ◌&&◌, if◌then◌else◌, List, [], ◌∷◌, ◌++◌, length, map, replicate, take, drop}
+use Rattle.std.specs.List.{slice_index_or, slice_set, take_while}
+use Rattle.xsk_umem.specs.Frame.{Frame}
+use Rattle.xsk_umem.specs.declared.batch.Item.{Item}
+use Rattle.xsk_model.specs.Config.{Config, pool_of, batch_of, classes_of}
+use Rattle.xsk_model.specs.Opening.{home_item}
+use Rattle.xsk_model.specs.Entry.{Told}
+use Rattle.xsk_turns.specs.Script.{Script, ask, again, ended, granted_or_full, on_submitted, items_or_empty, on_released, on_old, IsRun, IsWhole}
+use Rattle.xsk_model.specs.declared.call.Ring.TheVariants.{Fill, Comp, Rx, Tx}
+use Rattle.xsk_model.specs.declared.call.Mark.TheVariants.{RxDone, Gone, TxDone}
+use Rattle.xsk_model.specs.declared.call.Call.TheVariants.{Reserve, Submit, Peek, Release, Swap, Look}
+use Rattle.xsk_turns.specs.Turns.{frames_in}
+
+-- what an application keeps: for each lane the items that it has yet to pass on, for each side the frames that it has yet
+-- to give back, whether the side's driver told that it has no further packet, and whether it told that it has ended; and
+-- whether the application told that it sends nothing more
+pub record AppKept : Type 0 where
+  pub pending : List (List Item)
+  pub back : List (List Frame)
+  pub seen : List Bool
+  pub gone : List Bool
+  pub tx_done : Bool
+
+-- what it notes in a turn: whether both drivers had told each as the turn began, and whether each lane and each side that
+-- was visited so far made a Peek that was Empty
+pub record AppNoted : Type 0 where
+  pub seen : Bool
+  pub gone : Bool
+  pub lanes_empty : Bool
+  pub sides_empty : Bool
+
+-- ---- its numbers
+
+-- the pair of a side: the application has the number k * queues + q, and pairs are numbered port by port
+abbrev pub pair_of : Config → ℕ → ℕ → ℕ
+pair_of c app side = (2 * (app / c.queues) + side) * c.queues + app % c.queues
+
+-- the socket of a side's class: sockets are numbered pair by pair
+abbrev pub side_socket : Config → ℕ → ℕ → ℕ → ℕ
+side_socket c app side class = pair_of c app side * classes_of c + class
+
+-- the sockets of a lane: lanes are numbered by side and class
+abbrev pub rx_of : Config → ℕ → ℕ → ℕ
+rx_of c app lane = side_socket c app (lane / classes_of c) (lane % classes_of c)
+
+abbrev pub tx_of : Config → ℕ → ℕ → ℕ
+tx_of c app lane = side_socket c app (1 - lane / classes_of c) (lane % classes_of c)
+
+abbrev pub lanes_of : Config → ℕ
+lanes_of c = 2 * classes_of c
+
+-- the home of a frame: the pair in whose pool it was at the opening
+abbrev pub home_of : ℕ → Frame → ℕ
+home_of pool frame = frame.number / pool
+
+-- ---- what it keeps, by lane and side
+
+abbrev pub pending_at : AppKept → ℕ → List Item
+pending_at kept lane = slice_index_or kept.pending lane []
+
+abbrev pub with_pending : AppKept → ℕ → List Item → AppKept
+with_pending kept lane items = record kept { pending = slice_set kept.pending lane items }
+
+abbrev pub back_at : AppKept → ℕ → List Frame
+back_at kept side = slice_index_or kept.back side []
+
+abbrev pub with_back : AppKept → ℕ → List Frame → AppKept
+with_back kept side frames = record kept { back = slice_set kept.back side frames }
+
+abbrev pub is_set : List Bool → ℕ → Bool
+is_set flags side = slice_index_or flags side false
+
+abbrev pub both : List Bool → Bool
+both flags = is_set flags 0 && is_set flags 1
+
+abbrev pub is_none : {A : Type 0} → List A → Bool
+is_none [] = true
+is_none (x ∷ xs) = false
+
+-- ---- the lanes
+
+-- a lane's items go on to its TX ring as they are, where it has room for all
+abbrev pub pass_on : Config → ℕ → ℕ → AppKept → (AppKept → Script AppKept) → Script AppKept
+pass_on c app lane kept next =
+    ask kept (Reserve (Tx (tx_of c app lane)) (length (pending_at kept lane)))
+    (granted_or_full
+    (ask (with_pending kept lane []) (Submit (Tx (tx_of c app lane)) (pending_at kept lane)) (on_submitted (next (with_pending kept lane []))))
+    (next kept))
+
+-- the items that a lane received are released and kept, and then passed on
+abbrev pub receive_lane : Config → ℕ → ℕ → AppKept → (AppKept → Script AppKept) → List Item → Script AppKept
+receive_lane c app lane kept next items =
+    ask (with_pending kept lane items) (Release (Rx (rx_of c app lane)) (length items)) (on_released (pass_on c app lane (with_pending kept lane items) next))
+
+-- a visit to a lane with these items pending: where there is none it peeks its RX ring
+abbrev pub visit_lane : Config → ℕ → ℕ → List Item → AppNoted → AppKept → (AppNoted → AppKept → Script AppKept) → Script AppKept
+visit_lane c app lane [] noted kept next =
+    ask kept (Peek (Rx (rx_of c app lane)) (batch_of c))
+    (items_or_empty (receive_lane c app lane kept (next (record noted { lanes_empty = false }))) (next noted kept))
+visit_lane c app lane (item ∷ items) noted kept next = pass_on c app lane kept (next (record noted { lanes_empty = false }))
+
+-- so many more lanes, from this one on
+abbrev pub visit_lanes : Config → ℕ → ℕ → ℕ → AppNoted → AppKept → (AppNoted → AppKept → Script AppKept) → Script AppKept
+visit_lanes c app zero lane noted kept next = next noted kept
+visit_lanes c app (suc more) lane noted kept next =
+    visit_lane c app lane (pending_at kept lane) noted kept (λ noted kept. visit_lanes c app more (lane + 1) noted kept next)
+
+-- ---- the sides
+
+-- the frames from the first one on that go back together: those with its home, at most a batch
+abbrev pub group_of : ℕ → ℕ → Frame → List Frame → List Frame
+group_of pool batch frame frames = take batch (take_while (λ (f : Frame). home_of pool f == home_of pool frame) (frame ∷ frames))
+
+-- These frames of a side go back group by group to the FILL rings of their homes, as far as these have room; so many of
+-- the first have gone already.
+abbrev pub give_back : Config → ℕ → ℕ → List Frame → AppKept → (AppKept → Script AppKept) → Script AppKept
+give_back c side done [] kept next = next (with_back kept side [])
+give_back c side (suc done) (frame ∷ frames) kept next = give_back c side done frames kept next
+give_back c side zero (frame ∷ frames) kept next =
+    ask (with_back kept side (frame ∷ frames)) (Reserve (Fill (home_of (pool_of c) frame)) (length (group_of (pool_of c) (batch_of c) frame frames)))
+    (granted_or_full
+    (ask (with_back kept side (drop (length (group_of (pool_of c) (batch_of c) frame frames)) (frame ∷ frames)))
+    (Submit (Fill (home_of (pool_of c) frame)) (map (home_item c.geometry) (group_of (pool_of c) (batch_of c) frame frames)))
+    (on_submitted (give_back c side (length (group_of (pool_of c) (batch_of c) frame frames) - 1) frames kept next)))
+    (next (with_back kept side (frame ∷ frames))))
+
+-- the items that a side completed are released, and their frames kept and given back
+abbrev pub complete_side : Config → ℕ → ℕ → AppKept → (AppKept → Script AppKept) → List Item → Script AppKept
+complete_side c app side kept next items =
+    ask (with_back kept side (frames_in items)) (Release (Comp (pair_of c app side)) (length items))
+    (on_released (give_back c side zero (frames_in items) (with_back kept side (frames_in items)) next))
+
+-- a visit to a side with these frames to give back: where there is none it peeks its COMPLETION ring
+abbrev pub visit_side : Config → ℕ → ℕ → List Frame → AppNoted → AppKept → (AppNoted → AppKept → Script AppKept) → Script AppKept
+visit_side c app side [] noted kept next =
+    ask kept (Peek (Comp (pair_of c app side)) (batch_of c))
+    (items_or_empty (complete_side c app side kept (next (record noted { sides_empty = false }))) (next noted kept))
+visit_side c app side (frame ∷ frames) noted kept next =
+    give_back c side zero (frame ∷ frames) kept (next (record noted { sides_empty = false }))
+
+-- so many more sides, from this one on
+abbrev pub visit_sides : Config → ℕ → ℕ → ℕ → AppNoted → AppKept → (AppNoted → AppKept → Script AppKept) → Script AppKept
+visit_sides c app zero side noted kept next = next noted kept
+visit_sides c app (suc more) side noted kept next =
+    visit_side c app side (back_at kept side) noted kept (λ noted kept. visit_sides c app more (side + 1) noted kept next)
+
+-- ---- the end
+
+-- a side whose driver's mark had this number: 1 is kept
+abbrev pub with_seen : AppKept → ℕ → ℕ → AppKept
+with_seen kept side done = if done == 1 then record kept { seen = slice_set kept.seen side true } else kept
+
+abbrev pub with_gone : AppKept → ℕ → ℕ → AppKept
+with_gone kept side gone = if gone == 1 then record kept { gone = slice_set kept.gone side true } else kept
+
+-- so many more sides, from this one on: each whose driver has not told yet that it has no further packet is asked
+abbrev pub look_rx_done : Config → ℕ → ℕ → ℕ → AppKept → Script AppKept
+look_rx_done c app zero side kept = again kept
+look_rx_done c app (suc more) side kept =
+    if is_set kept.seen side then look_rx_done c app more (side + 1) kept
+    else ask kept (Look (RxDone (pair_of c app side))) (on_old (λ done. look_rx_done c app more (side + 1) (with_seen kept side done)))
+
+-- so whether the driver has ended
+abbrev pub look_gone : Config → ℕ → ℕ → ℕ → AppKept → Script AppKept
+look_gone c app zero side kept = again kept
+look_gone c app (suc more) side kept =
+    if is_set kept.gone side then look_gone c app more (side + 1) kept
+    else ask kept (Look (Gone (pair_of c app side))) (on_old (λ gone. look_gone c app more (side + 1) (with_gone kept side gone)))
+
+-- Where both drivers had told that they have no further packet as the turn began, and each lane was empty in it, it tells
+-- that it sends nothing more.
+abbrev pub tell_tx_done : ℕ → AppNoted → AppKept → Script AppKept
+tell_tx_done app noted kept =
+    if noted.seen && noted.lanes_empty then ask kept (Swap (TxDone app) 1) (on_old (λ old. again (record kept { tx_done = true }))) else again kept
+
+-- It has ended where both drivers had ended as the turn began, each side was empty in it, and no frame is left to give
+-- back.
+abbrev pub end_or_look : Config → ℕ → AppNoted → AppKept → Script AppKept
+end_or_look c app noted kept =
+    if noted.gone && noted.sides_empty && is_none (back_at kept 0) && is_none (back_at kept 1) then ended kept else look_gone c app 2 0 kept
+
+-- a turn's end, by the facts as they are now
+abbrev pub end_turn : Config → ℕ → AppNoted → AppKept → Script AppKept
+end_turn c app noted kept =
+    if kept.tx_done then end_or_look c app noted kept
+    else if both kept.seen then tell_tx_done app noted kept else look_rx_done c app 2 0 kept
+
+-- ---- a turn
+
+abbrev pub noted_first : AppKept → AppNoted
+noted_first kept = record { seen = both kept.seen; gone = both kept.gone; lanes_empty = true; sides_empty = true }
+
+abbrev pub turn_sides : Config → ℕ → AppNoted → AppKept → Script AppKept
+turn_sides c app noted kept = visit_sides c app 2 0 noted kept (end_turn c app)
+
+-- the lanes are left out where nothing more is sent
+abbrev pub app_turn : Config → ℕ → AppKept → Script AppKept
+app_turn c app kept =
+    if kept.tx_done then turn_sides c app (noted_first kept) kept
+    else visit_lanes c app (lanes_of c) 0 (noted_first kept) kept (turn_sides c app)
+
+-- ---- runs
+
+-- a new application keeps nothing
+abbrev pub app_start : Config → AppKept
+app_start c = record {
+  pending = replicate (lanes_of c) [];
+  back = [] ∷ [] ∷ [];
+  seen = false ∷ false ∷ [];
+  gone = false ∷ false ∷ [];
+  tx_done = false;
+}
+
+-- a list of calls and replies is a run of the application, and a whole one
+abbrev pub IsAppRun : Config → ℕ → List Told → Type 0
+IsAppRun c app l = IsRun (app_turn c app) (app_start c) l
+
+abbrev pub IsWholeAppRun : Config → ℕ → List Told → Type 0
+IsWholeAppRun c app l = IsWhole (app_turn c app) (app_start c) l
