@@ -107,8 +107,11 @@ pub record AppHas (c : Config) (kept : AppKept) (out : List ℕ) (l : List Told)
   pub frames : (side : ℕ) → All (IsBackFrame c.geometry) (back_at kept side)
   pub counts : (n : ℕ) → times n (flat_map numbers kept.pending) + times n (flat_map frame_numbers kept.back) + times n out ≡ times n (had_of l)
 
+pub times-app_numbers : (n : ℕ) (kept : AppKept) → times n (app_numbers kept) ≡ times n (flat_map numbers kept.pending) + times n (flat_map frame_numbers kept.back)
+times-app_numbers n kept = times-append n (flat_map numbers kept.pending) (flat_map frame_numbers kept.back)
+
 pub app_owned : (c : Config) (kept : AppKept) (call : Call) (l : List Told) → AppHas c kept (numbers (submitted call)) l → AppOwned kept call l
-app_owned c kept call l h = λ n. omega (arith, h.counts n, times-append n (flat_map numbers kept.pending) (flat_map frame_numbers kept.back))
+app_owned c kept call l h = λ n. omega (arith, h.counts n, times-app_numbers n kept)
 
 -- an entry that brings no frame
 pub app_told : (c : Config) (kept : AppKept) (call : Call) (reply : Reply) (l : List Told) → taken reply ≡ [] → AppHas c kept (numbers (submitted call)) l

@@ -1,4 +1,7 @@
+pub mod AppGroups
 pub mod AppOwned
+pub mod AppOwning
+pub mod AppPlaces
 pub mod Completing
 pub mod Counting
 pub mod Counts
