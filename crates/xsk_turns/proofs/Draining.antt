@@ -54,15 +54,15 @@ now_unseen : (a n : ℕ) (b : Bool) → unseen_after (cond b [] (TxDone a ∷ []
 now_unseen a n true = refl
 now_unseen a n false = seen_now a (eqb a a) (eqb n 1) false (eq-eqb a a refl)
 
-when_found : (same : Bool) (s : Draining) → s.unseen ≡ [] → (s.empty ≡ true) → (cond same (record s { empty = are_none s.unseen }) s).empty ≡ true
+pub when_found : (same : Bool) (s : Draining) → s.unseen ≡ [] → (s.empty ≡ true) → (cond same (record s { empty = are_none s.unseen }) s).empty ≡ true
 when_found true s e f = ap are_none e
 when_found false s e f = f
 
-found_here : (same : Bool) (s : Draining) → same ≡ true → s.unseen ≡ [] → (cond same (record s { empty = are_none s.unseen }) s).empty ≡ true
+pub found_here : (same : Bool) (s : Draining) → same ≡ true → s.unseen ≡ [] → (cond same (record s { empty = are_none s.unseen }) s).empty ≡ true
 found_here true s e f = ap are_none f
 found_here false s e f = absurd (cc)
 
-same_unseen : (same : Bool) (s : Draining) (b : Bool) → (cond same (record s { empty = b }) s).unseen ≡ s.unseen
+pub same_unseen : (same : Bool) (s : Draining) (b : Bool) → (cond same (record s { empty = b }) s).unseen ≡ s.unseen
 same_unseen true s b = refl
 same_unseen false s b = refl
 

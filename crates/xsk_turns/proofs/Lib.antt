@@ -1,4 +1,6 @@
+pub mod AppDrained
 pub mod AppGroups
+pub mod AppLanes
 pub mod AppOwned
 pub mod AppOwning
 pub mod AppPlaces

@@ -149,11 +149,11 @@ own_push c who past (u ∷ mine) t goes legal fits =
       own_push c who (past ++ u ∷ []) mine t goes.2 (subst (λ (p : List Told). IsLegal c p who t.call) same legal) (subst (λ (p : List Told). Fits c p t.call t.reply) same fits),
     )
 
-cond_same : (b : Bool) (xs ys : List Item) → ys ≡ [] → cond b (xs ++ ys) xs ≡ xs
+pub cond_same : (b : Bool) (xs ys : List Item) → ys ≡ [] → cond b (xs ++ ys) xs ≡ xs
 cond_same true xs ys h = ap (λ (zs : List Item). xs ++ zs) h ∙ append-nil xs
 cond_same false xs ys h = refl
 
-peeked_none : (r : Ring) (l : List Told) (call : Call) (reply : Reply) → taken reply ≡ [] → peeked_of r (with_told l call reply) ≡ peeked_of r l
+pub peeked_none : (r : Ring) (l : List Told) (call : Call) (reply : Reply) → taken reply ≡ [] → peeked_of r (with_told l call reply) ≡ peeked_of r l
 peeked_none r l call reply none = part_of-push peeked_step r [] l (record { call = call; reply = reply }) ∙ cond_same (is_on r call) (peeked_of r l) (taken reply) none
 
 from_fill-push : (n : ℕ) (l : List Told) (call : Call) (reply : Reply)

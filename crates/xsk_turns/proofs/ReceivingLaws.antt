@@ -32,11 +32,11 @@ or_false : (x : Bool) → (x || false) ≡ x
 or_false true = refl
 or_false false = refl
 
-neither : (x y : Bool) → x ≡ false → y ≡ false → (x || y) ≡ false
+pub neither : (x y : Bool) → x ≡ false → y ≡ false → (x || y) ≡ false
 neither true y e f = e
 neither false y e f = f
 
-and_off : (x y : Bool) → x ≡ false → (x && y) ≡ false
+pub and_off : (x y : Bool) → x ≡ false → (x && y) ≡ false
 and_off true y e = absurd (cc)
 and_off false y e = refl
 
@@ -44,7 +44,7 @@ and_none : (x : Bool) → (x && false) ≡ false
 and_none true = refl
 and_none false = refl
 
-now_told : (x y : Bool) → y ≡ true → (x || (y && true)) ≡ true
+pub now_told : (x y : Bool) → y ≡ true → (x || (y && true)) ≡ true
 now_told true y e = refl
 now_told false true e = refl
 now_told false false e = e

@@ -1,6 +1,9 @@
-//! The laws of a driver's runs, each the contract of a function that does nothing. They are stated in `specs/Law.antt`,
-//! and those of what it keeps at each call beside the definitions that they speak of.
+//! The laws of the workers' runs, each the contract of a function that does nothing. They are stated in `specs/Law.antt`
+//! for a driver and in `specs/AppLaw.antt` for an application, and those of what each keeps at each call beside the
+//! definitions that they speak of.
 
+ghost use Rattle.xsk_turns.specs.AppLaw.{LanesInOrder, LanesPassedOn, NothingSentLate, DrainsRx};
+ghost use Rattle.xsk_turns.specs.AppOwned.{AppKeepsFrames, AppCallsLegal, AppKeepsFramesAtEnd};
 ghost use Rattle.xsk_turns.specs.Counted.{KeepsCounters, KeepsCountersAtEnd};
 ghost use Rattle.xsk_turns.specs.Disposes.{KeepsDisposals, DisposesAll};
 ghost use Rattle.xsk_turns.specs.Law.{EachDisposedOnce, DeliversInOrder, NothingReceivedLate, TellsRxDone, DrainsTx, CompletesAll};
@@ -69,4 +72,39 @@ pub fn drains_tx()
 /// In a whole run all packets that were peeked on a TX ring whole are completed.
 pub fn completes_all()
     ensures { CompletesAll }
+{}
+
+/// At each call that an application makes, its frames are those that it peeked and didn't submit.
+pub fn app_keeps_frames()
+    ensures { AppKeepsFrames }
+{}
+
+/// So they are at its end.
+pub fn app_keeps_frames_at_end()
+    ensures { AppKeepsFramesAtEnd }
+{}
+
+/// Each call that the configuration's only application makes is legal.
+pub fn app_calls_legal()
+    ensures { AppCallsLegal }
+{}
+
+/// On each lane of an application the items submitted are the first of those peeked, in order and as they were.
+pub fn lanes_in_order()
+    ensures { LanesInOrder }
+{}
+
+/// In a whole run they are all of those.
+pub fn lanes_passed_on()
+    ensures { LanesPassedOn }
+{}
+
+/// Nothing is submitted on TX once the application told that it sends nothing more.
+pub fn nothing_sent_late()
+    ensures { NothingSentLate }
+{}
+
+/// In a whole run each lane's RX ring was found empty after both drivers had told that they have no further packet.
+pub fn drains_rx()
+    ensures { DrainsRx }
 {}
