@@ -1,12 +1,4 @@
-pub mod TurnLemmas
-pub mod Owned
-pub mod Seats
-pub mod Steps
-pub mod Answered
-pub mod Drained
 pub mod Fresh
-pub mod Going
-pub mod LaneLaw
-pub mod LegalRuns
-pub mod Legality
-pub mod MachineSteps
+pub mod Standing
+pub mod Steps
+pub mod TurnLemmas

@@ -4,64 +4,66 @@ use Rattle.xsk_umem.specs.Frame.{Frame}
 use Rattle.xsk_umem.specs.declared.batch.Item.{Item}
 use Rattle.xsk_model.specs.Config.{Config, pool_of, batch_of}
 use Rattle.xsk_model.specs.Opening.{home_item}
-use Rattle.xsk_model.specs.Script.{ask, on_submitted, begun}
+use Rattle.xsk_turns.specs.Script.{ask, on_submitted, begun}
 use Rattle.xsk_model.specs.declared.call.Ring.TheVariants.{Fill, Comp, Rx}
 use Rattle.xsk_model.specs.declared.call.Mark.TheVariants.{RxDone, Gone}
 use Rattle.xsk_model.specs.declared.call.Call.TheVariants.{Reserve, Submit, Peek, Look}
 use Rattle.xsk_model.specs.declared.call.Reply.TheVariants.{Granted}
-use Rattle.xsk_app.specs.Turns.{Kept, Noted, rx_of, lanes_of, pair_of, pending_at, back_at, with_back, give_back, look_rx_done, look_gone, turn}
+use Rattle.xsk_turns.specs.AppTurns.{AppKept, AppNoted, rx_of, lanes_of, pair_of, pending_at, back_at, with_back, give_back, look_rx_done, look_gone, app_turn}
 use Rattle.xsk_app.specs.Ways.{IsGroup, first_unset}
 use Rattle.xsk_app.specs.Stands.{from_lane, from_side, after_full_side, by_reply, left}
 use Rattle.xsk_app.specs.declared.machine.Wait.TheVariants.{PeekRx, PeekComp, ReserveFill, SubmitFill, LookRxDone, LookGone}
+use Rattle.xsk_turns.proofs.AppGroups.{with_back-same}
 use Rattle.xsk_app.proofs.TurnLemmas.{lane_empty, side_empty, give_back_some, give_back_granted, rx_done_some, gone_some}
 
-pub peek_lane : (c : Config) (app lane : ℕ) (noted : Noted) (kept : Kept) (rx batch : ℕ) → lane < lanes_of c → pending_at kept lane ≡ []
+pub peek_lane : (c : Config) (app lane : ℕ) (noted : AppNoted) (kept : AppKept) (rx batch : ℕ) → lane < lanes_of c → pending_at kept lane ≡ []
     → rx ≡ rx_of c app lane → batch ≡ batch_of c
-    → ask (Peek (Rx rx) batch) (left c app (PeekRx lane) noted kept) ≡ from_lane c app lane noted kept
+    → ask kept (Peek (Rx rx) batch) (left c app (PeekRx lane) noted kept) ≡ from_lane c app lane noted kept
 peek_lane c app lane noted kept rx batch h empty e f =
-    ap (λ (r : ℕ). ask (Peek (Rx r) batch) (left c app (PeekRx lane) noted kept)) e
-    ∙ ap (λ (n : ℕ). ask (Peek (Rx (rx_of c app lane)) n) (left c app (PeekRx lane) noted kept)) f
+    ap (λ (r : ℕ). ask kept (Peek (Rx r) batch) (left c app (PeekRx lane) noted kept)) e
+    ∙ ap (λ (n : ℕ). ask kept (Peek (Rx (rx_of c app lane)) n) (left c app (PeekRx lane) noted kept)) f
     ∙ sym (lane_empty c app lane noted kept h empty)
 
-pub peek_side : (c : Config) (app side : ℕ) (noted : Noted) (kept : Kept) (pair batch : ℕ) → side < 2 → back_at kept side ≡ []
+pub peek_side : (c : Config) (app side : ℕ) (noted : AppNoted) (kept : AppKept) (pair batch : ℕ) → side < 2 → back_at kept side ≡ []
     → pair ≡ pair_of c app side → batch ≡ batch_of c
-    → ask (Peek (Comp pair) batch) (left c app (PeekComp side) noted kept) ≡ from_side c app side noted kept
+    → ask kept (Peek (Comp pair) batch) (left c app (PeekComp side) noted kept) ≡ from_side c app side noted kept
 peek_side c app side noted kept pair batch h empty e f =
-    ap (λ (d : ℕ). ask (Peek (Comp d) batch) (left c app (PeekComp side) noted kept)) e
-    ∙ ap (λ (n : ℕ). ask (Peek (Comp (pair_of c app side)) n) (left c app (PeekComp side) noted kept)) f
+    ap (λ (d : ℕ). ask kept (Peek (Comp d) batch) (left c app (PeekComp side) noted kept)) e
+    ∙ ap (λ (n : ℕ). ask kept (Peek (Comp (pair_of c app side)) n) (left c app (PeekComp side) noted kept)) f
     ∙ sym (side_empty c app side noted kept h empty)
 
-pub reserve_group : (c : Config) (app side : ℕ) (noted : Noted) (kept : Kept) (home count : ℕ)
+pub reserve_group : (c : Config) (app side : ℕ) (noted : AppNoted) (kept : AppKept) (home count : ℕ)
     → IsGroup (pool_of c) (batch_of c) (back_at kept side) home count
-    → ask (Reserve (Fill home) count) (left c app (ReserveFill side home count) noted kept)
+    → ask kept (Reserve (Fill home) count) (left c app (ReserveFill side home count) noted kept)
     ≡ give_back c side zero (back_at kept side) kept (after_full_side c app side noted)
 reserve_group c app side noted kept home count group =
-    sym (give_back_some c side (back_at kept side) kept (after_full_side c app side noted) home count group)
+    ap (λ (k : AppKept). ask k (Reserve (Fill home) count) (left c app (ReserveFill side home count) noted kept)) (sym (with_back-same kept side))
+    ∙ sym (give_back_some c side (back_at kept side) kept (after_full_side c app side noted) home count group)
 
-pub submit_group : (c : Config) (app side : ℕ) (noted : Noted) (kept : Kept) (home count : ℕ) (items : List Item) (rest : List Frame)
+pub submit_group : (c : Config) (app side : ℕ) (noted : AppNoted) (kept : AppKept) (home count : ℕ) (items : List Item) (rest : List Frame)
     → side < length kept.back → IsGroup (pool_of c) (batch_of c) (back_at kept side) home count → 1 ≤ batch_of c
     → items ≡ map (home_item c.geometry) (take count (back_at kept side)) → rest ≡ drop count (back_at kept side)
-    → ask (Submit (Fill home) items) (left c app (SubmitFill side) noted (with_back kept side rest))
+    → ask (with_back kept side rest) (Submit (Fill home) items) (left c app (SubmitFill side) noted (with_back kept side rest))
     ≡ by_reply (give_back c side zero (back_at kept side) kept (after_full_side c app side noted)) Granted
 submit_group c app side noted kept home count items rest h group some e f =
     let next = after_full_side c app side noted in
     let back = back_at kept side in
     let here : back_at (with_back kept side rest) side ≡ rest = get_or-set_same kept.back side rest [] h in
-    ap (λ (xs : List Item). ask (Submit (Fill home) xs) (left c app (SubmitFill side) noted (with_back kept side rest))) e
-    ∙ ap (λ (fs : List Frame). ask (Submit (Fill home) (map (home_item c.geometry) (take count back))) (on_submitted (give_back c side zero fs (with_back kept side rest) next))) here
-    ∙ ap (λ (fs : List Frame). ask (Submit (Fill home) (map (home_item c.geometry) (take count back))) (on_submitted (give_back c side zero fs (with_back kept side fs) next))) f
+    ap (λ (xs : List Item). ask (with_back kept side rest) (Submit (Fill home) xs) (left c app (SubmitFill side) noted (with_back kept side rest))) e
+    ∙ ap (λ (fs : List Frame). ask (with_back kept side rest) (Submit (Fill home) (map (home_item c.geometry) (take count back))) (on_submitted (give_back c side zero fs (with_back kept side rest) next))) here
+    ∙ ap (λ (fs : List Frame). ask (with_back kept side fs) (Submit (Fill home) (map (home_item c.geometry) (take count back))) (on_submitted (give_back c side zero fs (with_back kept side fs) next))) f
     ∙ sym (give_back_granted c side back kept next home count group some)
 
-pub look_at_rx_done : (c : Config) (app side : ℕ) (noted : Noted) (kept : Kept) (at pair : ℕ) → side ≤ 2 → first_unset kept.seen (2 - side) side ≡ Some at
+pub look_at_rx_done : (c : Config) (app side : ℕ) (noted : AppNoted) (kept : AppKept) (at pair : ℕ) → side ≤ 2 → first_unset kept.seen (2 - side) side ≡ Some at
     → pair ≡ pair_of c app at
-    → ask (Look (RxDone pair)) (left c app (LookRxDone at) noted kept) ≡ begun (turn c app) (look_rx_done c app (2 - side) side kept)
+    → ask kept (Look (RxDone pair)) (left c app (LookRxDone at) noted kept) ≡ begun (app_turn c app) (look_rx_done c app (2 - side) side kept)
 look_at_rx_done c app side noted kept at pair h first e =
-    ap (λ (d : ℕ). ask (Look (RxDone d)) (left c app (LookRxDone at) noted kept)) e
-    ∙ ap (begun (turn c app)) (sym (rx_done_some c app side kept at h first))
+    ap (λ (d : ℕ). ask kept (Look (RxDone d)) (left c app (LookRxDone at) noted kept)) e
+    ∙ ap (begun (app_turn c app)) (sym (rx_done_some c app side kept at h first))
 
-pub look_at_gone : (c : Config) (app side : ℕ) (noted : Noted) (kept : Kept) (at pair : ℕ) → side ≤ 2 → first_unset kept.gone (2 - side) side ≡ Some at
+pub look_at_gone : (c : Config) (app side : ℕ) (noted : AppNoted) (kept : AppKept) (at pair : ℕ) → side ≤ 2 → first_unset kept.gone (2 - side) side ≡ Some at
     → pair ≡ pair_of c app at
-    → ask (Look (Gone pair)) (left c app (LookGone at) noted kept) ≡ begun (turn c app) (look_gone c app (2 - side) side kept)
+    → ask kept (Look (Gone pair)) (left c app (LookGone at) noted kept) ≡ begun (app_turn c app) (look_gone c app (2 - side) side kept)
 look_at_gone c app side noted kept at pair h first e =
-    ap (λ (d : ℕ). ask (Look (Gone d)) (left c app (LookGone at) noted kept)) e
-    ∙ ap (begun (turn c app)) (sym (gone_some c app side kept at h first))
+    ap (λ (d : ℕ). ask kept (Look (Gone d)) (left c app (LookGone at) noted kept)) e
+    ∙ ap (begun (app_turn c app)) (sym (gone_some c app side kept at h first))

@@ -1,7 +1,5 @@
-pub mod Law
+pub mod Runs
 pub mod Shown
-pub mod Standing
 pub mod Stands
-pub mod Turns
 pub mod Waits
 pub mod Ways

@@ -3,7 +3,7 @@
 use Rattle.std.specs.Prelude.{ℕ}
 use Rattle.xsk_model.specs.Config.{Config}
 use Rattle.xsk_model.specs.Expected.{Expected}
-use Rattle.xsk_app.specs.Turns.{Kept, Noted}
+use Rattle.xsk_turns.specs.AppTurns.{AppKept, AppNoted}
 use Rattle.xsk_app.specs.declared.machine.Wait.{Wait}
 
 pub record Shown : Type 0 where
@@ -11,5 +11,5 @@ pub record Shown : Type 0 where
   pub config : Config
   pub app : ℕ
   pub wait : Wait
-  pub noted : Noted
-  pub kept : Kept
+  pub noted : AppNoted
+  pub kept : AppKept

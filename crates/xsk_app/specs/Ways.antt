@@ -6,7 +6,7 @@ use Rattle.std.proofs.Props.{props}
 use Rattle.xsk_umem.specs.Frame.{Frame}
 use Rattle.xsk_umem.specs.declared.batch.Item.{Item}
 use Rattle.xsk_model.specs.Config.{Config, pool_of, batch_of}
-use Rattle.xsk_app.specs.Turns.{rx_of, tx_of, lanes_of, home_of, group_of, is_set}
+use Rattle.xsk_turns.specs.AppTurns.{rx_of, tx_of, lanes_of, home_of, group_of, is_set}
 use Rattle.xsk_app.specs.declared.machine.Way.{Way}
 use Rattle.xsk_app.specs.declared.machine.Wait.{Wait}
 use Rattle.xsk_app.specs.declared.machine.Wait.TheVariants.{Start, PeekRx, ReleaseRx, ReserveTx, SubmitTx, PeekComp, ReleaseComp, ReserveFill, SubmitFill, LookRxDone, TellTxDone, LookGone, Ended}
@@ -22,12 +22,11 @@ abbrev pub IsGroup : ℕ → ℕ → List Frame → ℕ → ℕ → Type 0
 IsGroup pool batch [] home count = ⊥
 IsGroup pool batch (frame ∷ frames) home count = (home ≡ home_of pool frame) × (count ≡ length (group_of pool batch frame frames))
 
--- Where it waits there is such a lane or side. It peeks RX where the lane has nothing pending, and COMPLETION where the side
--- has nothing to give back, and it asks
--- for places on FILL for the frames that the side gives back next.
+-- Where it waits there is such a lane or side. It peeks COMPLETION where the side has nothing to give back, and it asks for
+-- places on FILL for the frames that the side gives back next.
 abbrev pub IsReady : Config → List (List Item) → List (List Frame) → Wait → Type 0
 IsReady c pending back Start = Unit {0}
-IsReady c pending back (PeekRx lane) = (lane < length pending) × (length (slice_index_or pending lane []) ≡ 0)
+IsReady c pending back (PeekRx lane) = lane < length pending
 IsReady c pending back (ReleaseRx lane) = lane < length pending
 IsReady c pending back (ReserveTx lane) = lane < length pending
 IsReady c pending back (SubmitTx lane) = lane < length pending
@@ -56,7 +55,7 @@ IsGroup-prop pool batch (frame ∷ frames) home count =
 
 pub IsReady-prop : (c : Config) (pending : List (List Item)) (back : List (List Frame)) (wait : Wait) → IsProp (IsReady c pending back wait)
 IsReady-prop c pending back Start = Unit-prop
-IsReady-prop c pending back (PeekRx lane) = ×_prop le_prop (same_number (length (slice_index_or pending lane [])) 0)
+IsReady-prop c pending back (PeekRx lane) = le_prop
 IsReady-prop c pending back (ReleaseRx lane) = le_prop
 IsReady-prop c pending back (ReserveTx lane) = le_prop
 IsReady-prop c pending back (SubmitTx lane) = le_prop

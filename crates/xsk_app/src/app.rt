@@ -1,9 +1,13 @@
-ghost use Rattle.std.specs.Prelude.{◌≡◌, List, ℕ, ◌+◌, ◌-◌, ◌*◌, ◌/◌, ◌%◌, ◌<◌, ◌≤◌, IfOk, [], ◌∷◌, length, replicate, vec_len, slice_index};
+ghost use Rattle.std.specs.Prelude.{◌≡◌, None, Some, List, ℕ, ◌+◌, ◌-◌, ◌*◌, ◌/◌, ◌%◌, ◌<◌, ◌≤◌, IfOk, [], ◌∷◌, length, replicate, vec_len, slice_index};
 ghost use Rattle.std.specs.List.{slice_index_or};
 ghost use Rattle.xsk_model.specs.Config.{IsRegular};
 ghost use Rattle.xsk_model.specs.Marks.{apps_of};
 ghost use Rattle.xsk_app.specs.declared.machine.Way.{Way};
-ghost use Rattle.xsk_model.specs.Entry.{Told};
+ghost use Rattle.xsk_model.specs.Config.{Config as AConfig};
+ghost use Rattle.xsk_model.specs.Entry.{Told, with_told};
+ghost use Rattle.xsk_model.specs.History.{Fits};
+ghost use Rattle.xsk_model.specs.declared.call.Call.{Call as ACall};
+ghost use Rattle.xsk_model.specs.declared.call.Reply.{Reply as AReply};
 ghost use Rattle.xsk_model.specs.Expected.{CanCome, nothing, expected_of};
 
 use crate::back::Back;
@@ -31,7 +35,7 @@ impl<'a> Model for App<'a> {
 }
 
 impl<'a> App<'a> {
-    ghost use Rattle.xsk_app.specs.Standing.{IsNew, HasGot, Comes};
+    ghost use Rattle.xsk_app.specs.Runs.{IsNew, Stands, Comes};
 
     /// The application with this number, of a regular configuration that has it.
     pub fn new(alloc: Global, config: &'a Config, app: u32) -> Result<App<'a>, OutOfMemory>
@@ -73,7 +77,9 @@ impl<'a> App<'a> {
     pub fn next(&mut self, reply: Option<Reply>) -> Act
         requires { CanCome self.old.expected reply }
         ensures expected { self.new.expected ≡ expected_of result }
-        ensures comes { (l : List Told) → HasGot self.old reply l → Comes self.new result l }
+        ensures begins { (c : AConfig) (app : ℕ) → IsNew c app self.old → reply ≡ None → Comes c app self.new result [] }
+        ensures goes_on { (c : AConfig) (app : ℕ) (l : List Told) (call : ACall) (r : AReply)
+            → Stands c app self.old call l → reply ≡ Some r → Fits c l call r → Comes c app self.new result (with_told l call r) }
         ensures same { (self.new.config ≡ self.old.config) × (self.new.app ≡ self.old.app) }
     {
         self.machine.next(reply)

@@ -1,7 +1,7 @@
 ghost use Rattle.std.specs.Prelude.{◌≡◌, ◌==◌, ◌<◌, ◌≤◌, [], ◌↔◌, IsTrue, IfOk, IsNone, IfSome, length, map, take, drop};
 ghost use Rattle.std.specs.List.{take_while};
 ghost use Rattle.xsk_model.specs.Opening.{home_item};
-ghost use Rattle.xsk_app.specs.Turns.{home_of};
+ghost use Rattle.xsk_turns.specs.AppTurns.{home_of};
 
 use std::alloc::Global;
 use std::collections::VecDeque;
@@ -30,7 +30,7 @@ impl Model for Back {
 }
 
 impl Back {
-    ghost use Rattle.xsk_app.specs.Turns.{frames_in};
+    ghost use Rattle.xsk_turns.specs.Turns.{frames_in};
     ghost use Rattle.xsk_app.specs.Ways.{IsGroup};
 
     pub(crate) fn new(alloc: Global) -> Result<Back, OutOfMemory>

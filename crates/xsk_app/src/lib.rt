@@ -4,7 +4,6 @@
 
 mod app;
 mod back;
-pub mod laws;
 mod machine;
 
 pub use app::App;

@@ -1,9 +1,8 @@
 ghost use Rattle.std.specs.Prelude.{◌≡◌, ℕ, ◌+◌, ◌-◌, ◌<◌, ◌≤◌, [], ◌∷◌, IfSome, length, vec_len, map, take, drop};
 ghost use Rattle.xsk_model.specs.Config.{batch_of, pool_of};
 ghost use Rattle.xsk_model.specs.Marks.{apps_of};
-ghost use Rattle.xsk_model.specs.Numbers.{numbers};
 ghost use Rattle.xsk_model.specs.Expected.{CanCome, expected_by, expected_of};
-ghost use Rattle.xsk_app.specs.Turns.{lanes_of, pair_of};
+ghost use Rattle.xsk_turns.specs.AppTurns.{lanes_of, pair_of};
 ghost use Rattle.xsk_app.specs.Ways.{AreWays, IsGroup, IsReady, IsReady-prop, first_unset};
 
 use crate::back::Back;
@@ -81,17 +80,16 @@ pub(crate) struct Machine<'a> {
 
 impl<'a> Machine<'a> {
     ghost use Rattle.xsk_app.specs.Waits.{expects};
-    ghost use Rattle.xsk_app.specs.Turns.{pass_on, receive, visit_lane, visit_lanes, give_back, complete, visit_side, pending_at, with_pending, back_at, with_back, with_seen, with_gone, look_rx_done, look_gone, tell_tx_done, end_or_look, end_turn, turn_sides};
-    ghost use Rattle.xsk_app.specs.Stands.{Does, KeepsFrames, come_by, to_do, doing, by_reply, IsSame, noted_by, kept_by, from_lane, after_full_lane, from_side, after_full_side};
-    ghost use Rattle.xsk_model.specs.Script.{ask, again};
+    ghost use Rattle.xsk_turns.specs.AppTurns.{pass_on, receive_lane, visit_lane, visit_lanes, give_back, complete_side, visit_side, back_at, with_back, with_seen, with_gone, look_rx_done, look_gone, tell_tx_done, end_or_look, end_turn, turn_sides};
+    ghost use Rattle.xsk_app.specs.Stands.{GoesOn, to_do, doing, by_reply, IsSame, noted_by, kept_by, from_lane, after_full_lane, from_side, after_full_side};
+    ghost use Rattle.xsk_turns.specs.Script.{again};
 
     /// Goes on with the reply to the last call.
     #[inline(always)]
     pub(crate) fn next(&mut self, reply: Option<Reply>) -> Act
         requires { CanCome (expects self.old.wait) reply }
         ensures expected { expects self.new.wait ≡ expected_of result }
-        ensures turns { Does self.old.config.now self.old.app self.new result (to_do self.old.config.now self.old.app self.old reply) }
-        ensures frames { KeepsFrames self.old (come_by reply) self.new result }
+        ensures goes { GoesOn self.old.config.now self.old.app self.new result (to_do self.old.config.now self.old.app self.old reply) }
         ensures same { IsSame self.old self.new }
     {
         match self.wait {
@@ -139,8 +137,7 @@ impl<'a> Machine<'a> {
     /// Begins a turn: with the first lane, or the first side where nothing more is sent.
     fn begin(&mut self) -> Call
         ensures expected { expects self.new.wait ≡ expected_by result }
-        ensures turns { Does self.old.config.now self.old.app self.new (Act.Call result) (again (kept_by self.old)) }
-        ensures frames { KeepsFrames self.old [] self.new (Act.Call result) }
+        ensures goes { GoesOn self.old.config.now self.old.app self.new (Act.Call result) (again (kept_by self.old)) }
         ensures same { IsSame self.old self.new }
     {
         self.turn = Turn {
@@ -160,8 +157,7 @@ impl<'a> Machine<'a> {
     fn open_lane(&mut self, lane: usize) -> Call
         requires { lane < vec_len self.old.pending }
         ensures expected { expects self.new.wait ≡ expected_by result }
-        ensures turns { doing self.old.config.now self.old.app self.new (Act.Call result) ≡ from_lane self.old.config.now self.old.app lane (noted_by self.old.turn) (kept_by self.old) }
-        ensures frames { KeepsFrames self.old [] self.new (Act.Call result) }
+        ensures goes { doing self.old.config.now self.old.app self.new (Act.Call result) ≡ from_lane self.old.config.now self.old.app lane (noted_by self.old.turn) (kept_by self.old) }
         ensures same { IsSame self.old self.new }
     {
         if self.pending[lane].is_empty() {
@@ -174,8 +170,7 @@ impl<'a> Machine<'a> {
 
     fn go_to_lane(&mut self, lane: usize) -> Act
         ensures expected { expects self.new.wait ≡ expected_of result }
-        ensures turns { Does self.old.config.now self.old.app self.new result (from_lane self.old.config.now self.old.app lane (noted_by self.old.turn) (kept_by self.old)) }
-        ensures frames { KeepsFrames self.old [] self.new result }
+        ensures goes { GoesOn self.old.config.now self.old.app self.new result (from_lane self.old.config.now self.old.app lane (noted_by self.old.turn) (kept_by self.old)) }
         ensures same { IsSame self.old self.new }
     {
         if lane < self.pending.len() {
@@ -189,8 +184,7 @@ impl<'a> Machine<'a> {
     fn go_on_full_lane(&mut self, lane: usize) -> Act
         requires { lane < vec_len self.old.pending }
         ensures expected { expects self.new.wait ≡ expected_of result }
-        ensures turns { Does self.old.config.now self.old.app self.new result (after_full_lane self.old.config.now self.old.app lane (noted_by self.old.turn) (kept_by self.old)) }
-        ensures frames { KeepsFrames self.old [] self.new result }
+        ensures goes { GoesOn self.old.config.now self.old.app self.new result (after_full_lane self.old.config.now self.old.app lane (noted_by self.old.turn) (kept_by self.old)) }
         ensures same { IsSame self.old self.new }
     {
         self.turn.lanes_empty = false;
@@ -199,11 +193,9 @@ impl<'a> Machine<'a> {
 
     /// Keeps the items that were received on a lane.
     fn take_received(&mut self, lane: usize, items: Batch) -> Call
-        requires lane { lane < vec_len self.old.pending }
-        requires empty { length (pending_at (kept_by self.old) lane) ≡ 0 }
+        requires { lane < vec_len self.old.pending }
         ensures expected { expects self.new.wait ≡ expected_by result }
-        ensures turns { doing self.old.config.now self.old.app self.new (Act.Call result) ≡ receive self.old.config.now self.old.app lane (kept_by self.old) (after_full_lane self.old.config.now self.old.app lane (noted_by self.old.turn)) items }
-        ensures frames { KeepsFrames self.old (numbers items) self.new (Act.Call result) }
+        ensures goes { doing self.old.config.now self.old.app self.new (Act.Call result) ≡ receive_lane self.old.config.now self.old.app lane (kept_by self.old) (after_full_lane self.old.config.now self.old.app lane (noted_by self.old.turn)) items }
         ensures same { IsSame self.old self.new }
     {
         let count = items.len();
@@ -215,8 +207,7 @@ impl<'a> Machine<'a> {
     fn reserve_tx(&mut self, lane: usize) -> Call
         requires { lane < vec_len self.old.pending }
         ensures expected { expects self.new.wait ≡ expected_by result }
-        ensures turns { doing self.old.config.now self.old.app self.new (Act.Call result) ≡ pass_on self.old.config.now self.old.app lane (kept_by self.old) (after_full_lane self.old.config.now self.old.app lane (noted_by self.old.turn)) }
-        ensures frames { KeepsFrames self.old [] self.new (Act.Call result) }
+        ensures goes { doing self.old.config.now self.old.app self.new (Act.Call result) ≡ pass_on self.old.config.now self.old.app lane (kept_by self.old) (after_full_lane self.old.config.now self.old.app lane (noted_by self.old.turn)) }
         ensures same { IsSame self.old self.new }
     {
         self.wait = Wait::ReserveTx { lane };
@@ -227,8 +218,7 @@ impl<'a> Machine<'a> {
     fn send_on(&mut self, lane: usize) -> Call
         requires { lane < vec_len self.old.pending }
         ensures expected { expects self.new.wait ≡ expected_by result }
-        ensures turns { doing self.old.config.now self.old.app self.new (Act.Call result) ≡ by_reply (pass_on self.old.config.now self.old.app lane (kept_by self.old) (after_full_lane self.old.config.now self.old.app lane (noted_by self.old.turn))) Reply.Granted }
-        ensures frames { KeepsFrames self.old [] self.new (Act.Call result) }
+        ensures goes { doing self.old.config.now self.old.app self.new (Act.Call result) ≡ by_reply (pass_on self.old.config.now self.old.app lane (kept_by self.old) (after_full_lane self.old.config.now self.old.app lane (noted_by self.old.turn))) Reply.Granted }
         ensures same { IsSame self.old self.new }
     {
         self.wait = Wait::SubmitTx { lane };
@@ -240,8 +230,7 @@ impl<'a> Machine<'a> {
     fn open_side(&mut self, side: usize) -> Call
         requires { side < 2 }
         ensures expected { expects self.new.wait ≡ expected_by result }
-        ensures turns { doing self.old.config.now self.old.app self.new (Act.Call result) ≡ from_side self.old.config.now self.old.app side (noted_by self.old.turn) (kept_by self.old) }
-        ensures frames { KeepsFrames self.old [] self.new (Act.Call result) }
+        ensures goes { doing self.old.config.now self.old.app self.new (Act.Call result) ≡ from_side self.old.config.now self.old.app side (noted_by self.old.turn) (kept_by self.old) }
         ensures same { IsSame self.old self.new }
     {
         match self.backs[side].first_group(self.config.pool(), self.batch) {
@@ -255,8 +244,7 @@ impl<'a> Machine<'a> {
 
     fn go_to_side(&mut self, side: usize) -> Act
         ensures expected { expects self.new.wait ≡ expected_of result }
-        ensures turns { Does self.old.config.now self.old.app self.new result (from_side self.old.config.now self.old.app side (noted_by self.old.turn) (kept_by self.old)) }
-        ensures frames { KeepsFrames self.old [] self.new result }
+        ensures goes { GoesOn self.old.config.now self.old.app self.new result (from_side self.old.config.now self.old.app side (noted_by self.old.turn) (kept_by self.old)) }
         ensures same { IsSame self.old self.new }
     {
         if side < SIDES {
@@ -270,8 +258,7 @@ impl<'a> Machine<'a> {
     fn go_on_full_side(&mut self, side: usize) -> Act
         requires { side < 2 }
         ensures expected { expects self.new.wait ≡ expected_of result }
-        ensures turns { Does self.old.config.now self.old.app self.new result (after_full_side self.old.config.now self.old.app side (noted_by self.old.turn) (kept_by self.old)) }
-        ensures frames { KeepsFrames self.old [] self.new result }
+        ensures goes { GoesOn self.old.config.now self.old.app self.new result (after_full_side self.old.config.now self.old.app side (noted_by self.old.turn) (kept_by self.old)) }
         ensures same { IsSame self.old self.new }
     {
         self.turn.sides_empty = false;
@@ -283,8 +270,7 @@ impl<'a> Machine<'a> {
         requires side { side < 2 }
         requires empty { length (back_at (kept_by self.old) side) ≡ 0 }
         ensures expected { expects self.new.wait ≡ expected_by result }
-        ensures turns { doing self.old.config.now self.old.app self.new (Act.Call result) ≡ complete self.old.config.now self.old.app side (kept_by self.old) (after_full_side self.old.config.now self.old.app side (noted_by self.old.turn)) items }
-        ensures frames { KeepsFrames self.old (numbers items) self.new (Act.Call result) }
+        ensures goes { doing self.old.config.now self.old.app self.new (Act.Call result) ≡ complete_side self.old.config.now self.old.app side (kept_by self.old) (after_full_side self.old.config.now self.old.app side (noted_by self.old.turn)) items }
         ensures same { IsSame self.old self.new }
     {
         let count = items.len();
@@ -297,8 +283,7 @@ impl<'a> Machine<'a> {
     fn give_back(&mut self, side: usize) -> Act
         requires { side < 2 }
         ensures expected { expects self.new.wait ≡ expected_of result }
-        ensures turns { Does self.old.config.now self.old.app self.new result (give_back self.old.config.now side 0 (back_at (kept_by self.old) side) (kept_by self.old) (after_full_side self.old.config.now self.old.app side (noted_by self.old.turn))) }
-        ensures frames { KeepsFrames self.old [] self.new result }
+        ensures goes { GoesOn self.old.config.now self.old.app self.new result (give_back self.old.config.now side 0 (back_at (kept_by self.old) side) (kept_by self.old) (after_full_side self.old.config.now self.old.app side (noted_by self.old.turn))) }
         ensures same { IsSame self.old self.new }
     {
         match self.backs[side].first_group(self.config.pool(), self.batch) {
@@ -311,8 +296,7 @@ impl<'a> Machine<'a> {
         requires side { side < 2 }
         requires group { IsGroup (pool_of self.old.config.now) (batch_of self.old.config.now) (back_at (kept_by self.old) side) home count }
         ensures expected { expects self.new.wait ≡ expected_by result }
-        ensures turns { doing self.old.config.now self.old.app self.new (Act.Call result) ≡ give_back self.old.config.now side 0 (back_at (kept_by self.old) side) (kept_by self.old) (after_full_side self.old.config.now self.old.app side (noted_by self.old.turn)) }
-        ensures frames { KeepsFrames self.old [] self.new (Act.Call result) }
+        ensures goes { doing self.old.config.now self.old.app self.new (Act.Call result) ≡ give_back self.old.config.now side 0 (back_at (kept_by self.old) side) (kept_by self.old) (after_full_side self.old.config.now self.old.app side (noted_by self.old.turn)) }
         ensures same { IsSame self.old self.new }
     {
         self.wait = Wait::ReserveFill { side, home, count };
@@ -324,8 +308,7 @@ impl<'a> Machine<'a> {
         requires side { side < 2 }
         requires group { IsGroup (pool_of self.old.config.now) (batch_of self.old.config.now) (back_at (kept_by self.old) side) home count }
         ensures expected { expects self.new.wait ≡ expected_by result }
-        ensures turns { doing self.old.config.now self.old.app self.new (Act.Call result) ≡ by_reply (give_back self.old.config.now side 0 (back_at (kept_by self.old) side) (kept_by self.old) (after_full_side self.old.config.now self.old.app side (noted_by self.old.turn))) Reply.Granted }
-        ensures frames { KeepsFrames self.old [] self.new (Act.Call result) }
+        ensures goes { doing self.old.config.now self.old.app self.new (Act.Call result) ≡ by_reply (give_back self.old.config.now side 0 (back_at (kept_by self.old) side) (kept_by self.old) (after_full_side self.old.config.now self.old.app side (noted_by self.old.turn))) Reply.Granted }
         ensures same { IsSame self.old self.new }
     {
         self.wait = Wait::SubmitFill { side };
@@ -338,8 +321,7 @@ impl<'a> Machine<'a> {
         requires side { side < 2 }
         requires group { IsGroup (pool_of self.old.config.now) (batch_of self.old.config.now) (back_at (kept_by self.old) side) _home _count }
         ensures expected { expects self.new.wait ≡ expected_of result }
-        ensures turns { (free : ℕ) → Does self.old.config.now self.old.app self.new result (by_reply (give_back self.old.config.now side 0 (back_at (kept_by self.old) side) (kept_by self.old) (after_full_side self.old.config.now self.old.app side (noted_by self.old.turn))) (Reply.Full free)) }
-        ensures frames { KeepsFrames self.old [] self.new result }
+        ensures goes { (free : ℕ) → GoesOn self.old.config.now self.old.app self.new result (by_reply (give_back self.old.config.now side 0 (back_at (kept_by self.old) side) (kept_by self.old) (after_full_side self.old.config.now self.old.app side (noted_by self.old.turn))) (Reply.Full free)) }
         ensures same { IsSame self.old self.new }
     {
         self.go_on_full_side(side)
@@ -348,8 +330,7 @@ impl<'a> Machine<'a> {
     /// Ends a turn, by the facts as they are now.
     fn end_turn(&mut self) -> Act
         ensures expected { expects self.new.wait ≡ expected_of result }
-        ensures turns { Does self.old.config.now self.old.app self.new result (end_turn self.old.config.now self.old.app (noted_by self.old.turn) (kept_by self.old)) }
-        ensures frames { KeepsFrames self.old [] self.new result }
+        ensures goes { GoesOn self.old.config.now self.old.app self.new result (end_turn self.old.config.now self.old.app (noted_by self.old.turn) (kept_by self.old)) }
         ensures same { IsSame self.old self.new }
     {
         if self.tx_done {
@@ -365,8 +346,7 @@ impl<'a> Machine<'a> {
     fn look_rx_done(&mut self, side: usize) -> Call
         requires { side ≤ 2 }
         ensures expected { expects self.new.wait ≡ expected_by result }
-        ensures turns { Does self.old.config.now self.old.app self.new (Act.Call result) (look_rx_done self.old.config.now self.old.app (2 - side) side (kept_by self.old)) }
-        ensures frames { KeepsFrames self.old [] self.new (Act.Call result) }
+        ensures goes { GoesOn self.old.config.now self.old.app self.new (Act.Call result) (look_rx_done self.old.config.now self.old.app (2 - side) side (kept_by self.old)) }
         ensures same { IsSame self.old self.new }
     {
         match first_unset(self.seen, side) {
@@ -381,8 +361,7 @@ impl<'a> Machine<'a> {
     fn learn_rx_done(&mut self, side: usize, done: u64) -> Call
         requires { side < 2 }
         ensures expected { expects self.new.wait ≡ expected_by result }
-        ensures turns { Does self.old.config.now self.old.app self.new (Act.Call result) (look_rx_done self.old.config.now self.old.app (2 - (side + 1)) (side + 1) (with_seen (kept_by self.old) side done)) }
-        ensures frames { KeepsFrames self.old [] self.new (Act.Call result) }
+        ensures goes { GoesOn self.old.config.now self.old.app self.new (Act.Call result) (look_rx_done self.old.config.now self.old.app (2 - (side + 1)) (side + 1) (with_seen (kept_by self.old) side done)) }
         ensures same { IsSame self.old self.new }
     {
         if done == 1 {
@@ -394,8 +373,7 @@ impl<'a> Machine<'a> {
     /// Tells that nothing more is sent, where both sides were seen as the turn began and each lane was empty in it.
     fn end_sending(&mut self) -> Call
         ensures expected { expects self.new.wait ≡ expected_by result }
-        ensures turns { Does self.old.config.now self.old.app self.new (Act.Call result) (tell_tx_done self.old.app (noted_by self.old.turn) (kept_by self.old)) }
-        ensures frames { KeepsFrames self.old [] self.new (Act.Call result) }
+        ensures goes { GoesOn self.old.config.now self.old.app self.new (Act.Call result) (tell_tx_done self.old.app (noted_by self.old.turn) (kept_by self.old)) }
         ensures same { IsSame self.old self.new }
     {
         if self.turn.seen && self.turn.lanes_empty {
@@ -409,8 +387,7 @@ impl<'a> Machine<'a> {
     /// Ends where both drivers had ended as the turn began and nothing is left to give back, and else looks for them.
     fn end_or_look(&mut self) -> Act
         ensures expected { expects self.new.wait ≡ expected_of result }
-        ensures turns { Does self.old.config.now self.old.app self.new result (end_or_look self.old.config.now self.old.app (noted_by self.old.turn) (kept_by self.old)) }
-        ensures frames { KeepsFrames self.old [] self.new result }
+        ensures goes { GoesOn self.old.config.now self.old.app self.new result (end_or_look self.old.config.now self.old.app (noted_by self.old.turn) (kept_by self.old)) }
         ensures same { IsSame self.old self.new }
     {
         let nothing_left = self.backs[0].is_empty() && self.backs[1].is_empty();
@@ -425,8 +402,7 @@ impl<'a> Machine<'a> {
     fn look_gone(&mut self, side: usize) -> Call
         requires { side ≤ 2 }
         ensures expected { expects self.new.wait ≡ expected_by result }
-        ensures turns { Does self.old.config.now self.old.app self.new (Act.Call result) (look_gone self.old.config.now self.old.app (2 - side) side (kept_by self.old)) }
-        ensures frames { KeepsFrames self.old [] self.new (Act.Call result) }
+        ensures goes { GoesOn self.old.config.now self.old.app self.new (Act.Call result) (look_gone self.old.config.now self.old.app (2 - side) side (kept_by self.old)) }
         ensures same { IsSame self.old self.new }
     {
         match first_unset(self.gone, side) {
@@ -441,8 +417,7 @@ impl<'a> Machine<'a> {
     fn learn_gone(&mut self, side: usize, gone: u64) -> Call
         requires { side < 2 }
         ensures expected { expects self.new.wait ≡ expected_by result }
-        ensures turns { Does self.old.config.now self.old.app self.new (Act.Call result) (look_gone self.old.config.now self.old.app (2 - (side + 1)) (side + 1) (with_gone (kept_by self.old) side gone)) }
-        ensures frames { KeepsFrames self.old [] self.new (Act.Call result) }
+        ensures goes { GoesOn self.old.config.now self.old.app self.new (Act.Call result) (look_gone self.old.config.now self.old.app (2 - (side + 1)) (side + 1) (with_gone (kept_by self.old) side gone)) }
         ensures same { IsSame self.old self.new }
     {
         if gone == 1 {

@@ -1,7 +1,8 @@
 use Rattle.std.proofs.Common.{rules, arith, ◌≡◌, ◌+◌, ◌*◌, ◌/◌, ◌%◌, ◌≤◌, length}
-use Rattle.xsk_app.specs.Turns.{pair_of, lanes_of}
+use Rattle.xsk_turns.specs.AppTurns.{pair_of, lanes_of}
 use Rattle.xsk_app.specs.Ways.{AreWays}
-use Rattle.xsk_app.proofs.Fresh.{batch_few, batch_some, ways_from, first_pair, second_pair, both_pairs}
+use Rattle.xsk_turns.proofs.Places.{batch_few, batch_some}
+use Rattle.xsk_app.proofs.Fresh.{ways_from, first_pair, second_pair, both_pairs}
 use Rattle.xsk_app.proofs.app.App.new.Goals as goal
 
 pub invariant_of-machine : goal.invariant_of-machine

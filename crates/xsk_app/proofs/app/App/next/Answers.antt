@@ -1,14 +1,25 @@
-use Rattle.std.proofs.Common.{sym, subst}
-use Rattle.xsk_app.specs.Standing.{HasGot}
-use Rattle.xsk_app.proofs.LegalRuns.{comes}
-use Rattle.xsk_app.proofs.MachineSteps.{shown, machine_step}
+use Rattle.std.proofs.Common.{refl, sym, ap, subst}
+use Rattle.xsk_app.specs.Shown.{Shown}
+use Rattle.xsk_app.specs.Stands.{left, GoesOn, to_do}
+use Rattle.xsk_app.proofs.Standing.{comes_first, comes_next}
 use Rattle.xsk_app.proofs.app.App.next.Goals as goal
 
-pub returns-clause-comes : goal.returns-clause-comes
-returns-clause-comes c =
-    let m = c.self.inside.machine in
-    let n = c.next.new.self in
-    λ l got.
-    comes (shown m) (shown n) c.args.reply c.next.result l
-    (machine_step m n c.args.reply c.next.result c.next.ensures.turns c.next.ensures.same c.next.ensures.expected c.next.ensures.frames)
-    (subst (λ s. HasGot s c.args.reply l) (sym c.self.view_is) got)
+pub returns-clause-begins : goal.returns-clause-begins
+returns-clause-begins c config app new none =
+    let view = sym c.self.view_is in
+    let old = c.self.inside.machine in
+    let now = c.next.new.self in
+    comes_first config app old now c.args.self.now _ c.next.result
+    (record { config = ap (λ (s : Shown). s.config) view; app = ap (λ (s : Shown). s.app) view; left = λ k n. ap (λ (s : Shown). left k n s.wait s.noted s.kept) view; kept = ap (λ (s : Shown). s.kept) view })
+    (record { config = refl; app = refl; left = λ k n. refl; kept = refl }) c.next.ensures.same new
+    (subst (λ r. GoesOn old.config.now old.app now c.next.result (to_do old.config.now old.app old r)) none c.next.ensures.goes)
+
+pub returns-clause-goes_on : goal.returns-clause-goes_on
+returns-clause-goes_on c config app l call r stands is fits =
+    let view = sym c.self.view_is in
+    let old = c.self.inside.machine in
+    let now = c.next.new.self in
+    comes_next config app old now c.args.self.now _ c.next.result
+    (record { config = ap (λ (s : Shown). s.config) view; app = ap (λ (s : Shown). s.app) view; left = λ k n. ap (λ (s : Shown). left k n s.wait s.noted s.kept) view; kept = ap (λ (s : Shown). s.kept) view })
+    (record { config = refl; app = refl; left = λ k n. refl; kept = refl }) c.next.ensures.same call r l stands fits
+    (subst (λ r. GoesOn old.config.now old.app now c.next.result (to_do old.config.now old.app old r)) is c.next.ensures.goes)

@@ -1,6 +1,6 @@
 use Rattle.std.proofs.Common.{◌≡◌, ◌+◌, ◌≤◌, ◌++◌, length}
 use Rattle.std.specs.VecDeque.{deque_capacity}
-use Rattle.xsk_app.specs.Turns.{frames_in}
+use Rattle.xsk_turns.specs.Turns.{frames_in}
 use Rattle.xsk_app.proofs.back.Back.keep.Given as goal
 
 abbrev pub invariant-loop : goal.invariant-loop

@@ -1,11 +1,11 @@
 use Rattle.std.proofs.Common.{rules, arith, ◌≡◌, ◌<◌, []}
-use Rattle.xsk_app.specs.Turns.{lanes_of, rx_of, pending_at}
+use Rattle.xsk_turns.specs.AppTurns.{lanes_of, rx_of, pending_at}
 use Rattle.xsk_app.specs.Stands.{noted_by, kept_by}
 use Rattle.xsk_app.proofs.Steps.{peek_lane}
 use Rattle.xsk_app.proofs.machine.Machine.open_lane.Goals as goal
 
-pub returns-then-is_empty-clause-turns : goal.returns-then-is_empty-clause-turns
-returns-then-is_empty-clause-turns c =
+pub returns-then-is_empty-clause-goes : goal.returns-then-is_empty-clause-goes
+returns-then-is_empty-clause-goes c =
     let m = c.args.self.now in
     let here : c.args.lane < lanes_of m.config.now = omega (arith, c.requires, m.lanes) in
     let empty : pending_at (kept_by m) c.args.lane ≡ [] = search rules in

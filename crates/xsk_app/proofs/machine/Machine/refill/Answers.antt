@@ -1,17 +1,15 @@
-use Rattle.std.proofs.Common.{arith, ◌≡◌, ◌<◌, length, map, take, drop, List, [], ap, ◌∙◌}
+use Rattle.std.proofs.Common.{arith, ◌≡◌, length, map, take, drop, List, [], ap, ◌∙◌}
 use Rattle.xsk_umem.specs.Geometry.{Geometry}
 use Rattle.xsk_umem.specs.Frame.{Frame}
 use Rattle.xsk_model.specs.Opening.{home_item}
 use Rattle.std.proofs.lemmas.List.{get_or_default}
-use Rattle.xsk_model.specs.Numbers.{times, numbers}
-use Rattle.xsk_app.proofs.Owned.{frames_back, numbers-home, times-front}
-use Rattle.xsk_app.specs.Turns.{back_at, frame_numbers}
+use Rattle.xsk_turns.specs.AppTurns.{back_at}
 use Rattle.xsk_app.specs.Stands.{noted_by, kept_by}
 use Rattle.xsk_app.proofs.Steps.{submit_group}
 use Rattle.xsk_app.proofs.machine.Machine.refill.Goals as goal
 
-pub returns-clause-turns : goal.returns-clause-turns
-returns-clause-turns c =
+pub returns-clause-goes : goal.returns-clause-goes
+returns-clause-goes c =
     let m = c.args.self.now in
     let n = c.args.count in
     let here : c.index_mut.result.now ≡ back_at (kept_by m) c.args.side =
@@ -22,24 +20,3 @@ returns-clause-turns c =
     let rest = c.give-items.ensures.left ∙ ap (λ (b : List Frame). drop n b) here in
     submit_group m.config.now m.app c.args.side (noted_by m.turn) (kept_by m) c.args.home c.args.count c.give-items.result c.give-items.new.self
     (omega (arith, c.requires.side, m.sides)) c.requires.group (omega (arith, m.some, m.batch_is)) items rest
-
-pub returns-clause-frames : goal.returns-clause-frames
-returns-clause-frames c =
-    let m = c.args.self.now in
-    let n = c.args.count in
-    let side = c.args.side in
-    let h : side < length m.backs.items = omega (arith, c.requires.side, m.sides) in
-    let back = back_at (kept_by m) side in
-    let here : c.index_mut.result.now ≡ back_at (kept_by m) side =
-    c.index_mut.ensures.value ∙ get_or_default m.backs.items side c.index_mut.result.now [] h in
-    let given : numbers c.give-items.result ≡ frame_numbers (take n back) =
-    ap numbers c.give-items.ensures.items ∙ numbers-home c.geometry.result.now (take n c.index_mut.result.now)
-    ∙ ap (λ (b : List Frame). frame_numbers (take n b)) here in
-    let rest : c.give-items.new.self ≡ drop n back = c.give-items.ensures.left ∙ ap (λ (b : List Frame). drop n b) here in
-    λ k. omega (
-      arith,
-      frames_back (kept_by m) side c.give-items.new.self k h,
-      ap (times k) given,
-      ap (λ (b : List Frame). times k (frame_numbers b)) rest,
-      times-front k n back,
-    )
