@@ -1,8 +1,6 @@
 -- What holds of a new application's machine.
-use Rattle.std.proofs.Common.{◌≡◌, ℕ, zero, suc, ◌+◌, ◌-◌, ◌*◌, ◌/◌, ◌%◌, ◌<◌, ◌≤◌, ◌⊎◌, ⊎_elim, Option, Some, None, List, [], ◌∷◌, ◌++◌, length, get_or, slice_index, flat_map, All, IfSome, sym, ap, ◌∙◌, subst, arith, min}
-use Rattle.xsk_model.specs.Config.{Config, IsConfig, IsBound, IsServed, IsRingSize, least, pair_sizes, size_or_none, socket_sizes, batch_of, classes_of}
-use Rattle.xsk_model.specs.declared.config.PairInfo.{PairInfo}
-use Rattle.xsk_model.specs.declared.config.SocketInfo.{SocketInfo}
+use Rattle.std.proofs.Common.{◌≡◌, ℕ, zero, suc, ◌+◌, ◌-◌, ◌*◌, ◌/◌, ◌%◌, ◌<◌, ◌⊎◌, List, [], ◌∷◌, length, get_or, slice_index, sym, ap, ◌∙◌, subst, arith}
+use Rattle.xsk_model.specs.Config.{Config, classes_of}
 use Rattle.xsk_turns.proofs.AppPlaces.{side_below}
 use Rattle.xsk_turns.specs.AppTurns.{pair_of}
 use Rattle.xsk_app.specs.Ways.{AreWays}

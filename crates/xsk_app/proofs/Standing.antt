@@ -1,8 +1,6 @@
 -- From a step of the machine to the list for which the application stands.
-use Rattle.std.proofs.Common.{◌≡◌, ◌↔◌, ℕ, Option, None, Some, List, [], ◌∷◌, ◌++◌, refl, sym, ap, ◌∙◌, subst}
+use Rattle.std.proofs.Common.{◌≡◌, ℕ, List, [], refl, sym, ap, ◌∙◌, subst}
 use Rattle.xsk_model.specs.Config.{Config}
-use Rattle.xsk_model.specs.Marks.{apps_of}
-use Rattle.xsk_model.specs.Rings.{caller_of}
 use Rattle.xsk_model.specs.Entry.{Told, with_told}
 use Rattle.xsk_model.specs.History.{Fits}
 use Rattle.xsk_model.specs.declared.call.Call.{Call}
@@ -17,8 +15,8 @@ use Rattle.xsk_turns.proofs.ScriptLemmas.{leaves_told, run_asks, asks_more, whol
 use Rattle.xsk_turns.proofs.Owning.{fit_push}
 use Rattle.xsk_turns.proofs.AppOwning.{app_keeps_frames, app_calls_legal, app_keeps_frames_at_end}
 use Rattle.xsk_app.specs.Shown.{Shown}
-use Rattle.xsk_app.specs.Stands.{noted_by, kept_by, left, GoesOn, IsSame, to_do}
-use Rattle.xsk_app.specs.Runs.{IsNew, Stands, HasEnded, StandsWith, Comes}
+use Rattle.xsk_app.specs.Stands.{noted_by, kept_by, left, GoesOn, IsSame}
+use Rattle.xsk_app.specs.Runs.{IsNew, Stands, HasEnded, Comes}
 use Rattle.xsk_app.specs.declared.machine.Machine.{Machine}
 
 -- what is shown of a machine

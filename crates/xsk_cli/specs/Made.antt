@@ -5,7 +5,8 @@ use Rattle.xsk_umem.specs.Frame.{Frame}
 use Rattle.xsk_umem.specs.PacketList.{PacketList}
 use Rattle.xsk_model.specs.Sent.{sent}
 use Rattle.xsk_sim.specs.Shown.{Shown, packets_in}
-use Rattle.xsk_sim.specs.Runs.{Setting, HasEnded, HasStalled}
+use Rattle.xsk_turns.specs.Workers.{Setting}
+use Rattle.xsk_sim.specs.Runs.{HasEnded, HasStalled}
 use Rattle.xsk_pcap.specs.Capture.{IsRefused}
 use Rattle.xsk_pcap.specs.Written.{written}
 use Rattle.xsk_pcap.specs.declared.reading.BadCapture.{BadCapture as Cause}

@@ -15,7 +15,6 @@ use Rattle.xsk_model.specs.Sent.{sent_by}
 use Rattle.xsk_model.specs.declared.call.Ring.TheVariants.{Rx, Tx}
 use Rattle.xsk_model.specs.declared.call.Mark.{Mark}
 use Rattle.xsk_model.specs.declared.call.Mark.TheVariants.{RxDone, TxDone}
-use Rattle.xsk_model.proofs.ScriptLemmas.{whole_run as app_whole_run}
 use Rattle.xsk_turns.proofs.ScriptLemmas.{whole_run}
 use Rattle.xsk_turns.proofs.Owning.{all_fit}
 use Rattle.xsk_model.proofs.Theorems.{own_entries, sent_in_order}
@@ -24,9 +23,9 @@ use Rattle.xsk_turns.specs.Turns.{Seat, seat_of, start, turn, application_of, Is
 use Rattle.xsk_turns.specs.Inputs.{packets_of_port}
 use Rattle.xsk_turns.specs.Disposals.{disposal_in, disposals_of, attempts_of, delivered_to}
 use Rattle.xsk_turns.specs.Law.{IsLaidOut, EachDisposedOnce, DeliversInOrder, NothingReceivedLate, DrainsTx, CompletesAll}
-use Rattle.xsk_app.specs.Standing.{IsOneOf}
-use Rattle.xsk_app.specs.Turns.{pair_of, new_kept, turn as app_turn}
-use Rattle.xsk_app.specs.Law.{LanesPassedOn, NothingSentLate, DrainsRx}
+use Rattle.xsk_turns.specs.AppOwned.{IsApp}
+use Rattle.xsk_turns.specs.AppTurns.{pair_of, app_start, app_turn}
+use Rattle.xsk_turns.specs.AppLaw.{LanesPassedOn, NothingSentLate, DrainsRx}
 use Rattle.xsk_laws.specs.Expected.{paired, driver_on, socket_on, received, expected}
 use Rattle.xsk_laws.specs.Forwarded.{with_disposal, forwarded}
 use Rattle.xsk_laws.specs.Laws.{received_by, AreWholeRuns, IsPlace}
@@ -94,7 +93,7 @@ module _ (w : Workers) (c : Config) (lists : List PacketList) (frames : List Fra
   seat_e : IsSeat c e
   seat_e = record { config = config; regular = run.regular; geometry = run.history.opened.geometry; known = at_o.pair_known }
 
-  one : IsOneOf c a
+  one : IsApp c a
   one = record { config = config; regular = run.regular; known = app_below c p q config place.in_ports place.in_queues }
 
   fit : (who : ℕ) → AllFit c [] (own who h)
@@ -173,7 +172,7 @@ module _ (w : Workers) (c : Config) (lists : List PacketList) (frames : List Fra
         (subst (λ n. (draining_of (TxDone n ∷ []) (Tx t) (own d h)).empty ≡ true) same_app
         (w.drains_tx c d k (received_by c lists d) (own d h) (run.drivers d at_p.pair_known) place.in_classes));
     none_late = subst (λ n. (telling_of (TxDone a) (Tx t) (own n h)).late ≡ false) (sym app_at_p)
-        (w.none_sent_late c a t (own (caller_of c a) h) one (app_whole_run (app_turn c a) (new_kept c) (own (caller_of c a) h) (run.apps a one.known)));
+        (w.none_sent_late c a t (own (caller_of c a) h) one (whole_run (app_turn c a) (app_start c) (own (caller_of c a) h) (run.apps a one.known)));
   }
 
   peeked_all : peeked_of (Tx t) (own d h) ≡ submitted_of (Rx s) (own e h)

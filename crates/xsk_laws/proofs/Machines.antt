@@ -4,7 +4,7 @@ use Rattle.xsk_turns.proofs.Delivering.{delivers_in_order}
 use Rattle.xsk_turns.proofs.ReceivingLaws.{nothing_received_late}
 use Rattle.xsk_turns.proofs.Draining.{drains_tx}
 use Rattle.xsk_turns.proofs.CompletingAll.{completes_all}
-use Rattle.xsk_app.proofs.LaneLaw.{lanes_passed_on, nothing_sent_late, drains_rx}
+use Rattle.xsk_turns.proofs.AppLanes.{lanes_passed_on, nothing_sent_late, drains_rx}
 use Rattle.xsk_laws.proofs.Joined.{Workers}
 
 pub workers : Workers

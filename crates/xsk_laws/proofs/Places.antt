@@ -8,7 +8,7 @@ use Rattle.xsk_model.specs.Marks.{apps_of}
 use Rattle.xsk_model.specs.Rings.{pair_on, application_on, port_of, queue_of}
 use Rattle.xsk_model.specs.declared.call.Ring.TheVariants.{Rx}
 use Rattle.xsk_model.proofs.Roles.{pair_on_only}
-use Rattle.xsk_app.specs.Turns.{pair_of, socket_of, rx_of, tx_of, lanes_of}
+use Rattle.xsk_turns.specs.AppTurns.{pair_of, socket_of, rx_of, tx_of, lanes_of}
 use Rattle.xsk_laws.specs.Expected.{paired, driver_on, socket_on}
 
 -- ---- numbers

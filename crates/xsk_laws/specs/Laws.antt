@@ -12,7 +12,7 @@ use Rattle.xsk_model.specs.History.{IsHistory}
 use Rattle.xsk_model.specs.Sent.{sent, sent_by}
 use Rattle.xsk_turns.specs.Inputs.{packets_of_port}
 use Rattle.xsk_turns.specs.Turns.{IsWholeDriverRun}
-use Rattle.xsk_app.specs.Turns.{IsWholeAppRun}
+use Rattle.xsk_turns.specs.AppTurns.{IsWholeAppRun}
 use Rattle.xsk_laws.specs.Expected.{paired, driver_on, socket_on, received, expected, has_length}
 use Rattle.xsk_laws.specs.Forwarded.{forwarded}
 

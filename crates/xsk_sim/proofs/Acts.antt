@@ -17,12 +17,11 @@ use Rattle.xsk_driver.specs.Runs.{StandsWith}
 use Rattle.xsk_driver.proofs.Telling.{tells_with}
 use Rattle.xsk_app.specs.Shown.{Shown as AppShown}
 use Rattle.xsk_turns.specs.Turns.{seat_of, start, turn as driver_turn}
-use Rattle.xsk_app.specs.Turns.{new_kept, turn as app_turn, IsAppRun, IsWholeAppRun}
+use Rattle.xsk_turns.specs.AppTurns.{app_start, app_turn, IsAppRun, IsWholeAppRun}
 use Rattle.xsk_model.specs.Config.{classes_of}
-use Rattle.xsk_model.proofs.ScriptLemmas.{whole_run as app_whole_run}
 use Rattle.xsk_turns.proofs.ScriptLemmas.{whole_run}
-use Rattle.xsk_app.specs.Standing.{IsNew as IsNewApp, HasGot, Comes}
-use Rattle.xsk_sim.specs.Runs.{Setting, input_of, IsWorkerRun}
+use Rattle.xsk_app.specs.Runs.{Stands, Comes}
+use Rattle.xsk_turns.specs.Workers.{Setting, input_of, IsWorkerRun}
 use Rattle.xsk_sim.specs.Standing.{other_of, HasRoomToSend, DriverStands, IsApp, AppStands, IsActAfter}
 
 -- ---- drivers
@@ -66,51 +65,35 @@ sent_at s who d act l is stands within =
 
 -- ---- applications
 
-app_acts : (packets : List PacketList) (a : AppShown) (act : Act) (l : List Told) → Comes a act l
-    → IsActAfter (record { config = a.config; packets = packets }) (caller_of a.config a.app) act l
-app_acts packets a (Calls call) l comes = (
+app_acts : (s : Setting) (a : AppShown) (act : Act) (l : List Told) → Comes s.config a.app a act l → IsActAfter s (caller_of s.config a.app) act l
+app_acts s a (Calls call) l comes = (
   comes.legal,
   λ whole. let e : Calls call ≡ IsEnd = comes.ended.1 (whole.app a.app refl) in cc,
   record {
     driver = λ below. absurd (omega arith);
-    app = λ b is. subst (λ k. IsAppRun a.config k l) (let e : a.app ≡ b = omega arith in e) comes.run;
+    app = λ b is. subst (λ k. IsAppRun s.config k l) (let e : a.app ≡ b = omega arith in e) comes.run;
   },
 )
-app_acts packets a IsEnd l comes = record {
+app_acts s a IsEnd l comes = record {
   driver = λ below. absurd (omega arith);
-  app = λ b is. subst (λ k. IsWholeAppRun a.config k l) (let e : a.app ≡ b = omega arith in e) (comes.ended.0 refl);
+  app = λ b is. subst (λ k. IsWholeAppRun s.config k l) (let e : a.app ≡ b = omega arith in e) (comes.ended.0 refl);
 }
 
-pub app_after : (s : Setting) (who : ℕ) (a : AppShown) (act : Act) (l : List Told) → a.config ≡ s.config → who ≡ caller_of s.config a.app → Comes a act l
-    → AppStands s who a act l × IsActAfter s who act l
-app_after s who a act l config caller comes = (
-  record { config = config; caller = caller; comes = comes },
-  subst (λ w. IsActAfter s w act l) (sym caller)
-      (subst (λ (c : Config). IsActAfter (record { config = c; packets = s.packets }) (caller_of c a.app) act l) config (app_acts s.packets a act l comes)),
-)
+pub app_after : (s : Setting) (who : ℕ) (old new : AppShown) (act : Act) (l : List Told) → old.config ≡ s.config → who ≡ caller_of s.config old.app
+    → (new.config ≡ old.config) × (new.app ≡ old.app) → Comes s.config old.app new act l → AppStands s who new act l × IsActAfter s who act l
+app_after s who old new act l config caller same comes =
+    let mine : who ≡ caller_of s.config new.app = caller ∙ ap (caller_of s.config) (sym same.1) in
+    let now : Comes s.config new.app new act l = subst (λ (n : ℕ). Comes s.config n new act l) (sym same.1) comes in
+    (record { config = same.0 ∙ config; caller = mine; comes = now }, subst (λ w. IsActAfter s w act l) (sym mine) (app_acts s new act l now))
 
--- it goes on from its first act, and from each further one
-pub app_begins : (s : Setting) (who : ℕ) (old new : AppShown) (reply : Option Reply) (act : Act) → IsApp s who old → reply ≡ None
-    → ((l : List Told) → HasGot old reply l → Comes new act l) → (new.config ≡ old.config) × (new.app ≡ old.app)
-    → AppStands s who new act [] × IsActAfter s who act []
-app_begins s who old new reply act is none comes same =
-    app_after s who new act [] (same.0 ∙ is.config) (is.caller ∙ ap (caller_of s.config) (sym same.1))
-    (comes [] (subst (λ r. HasGot old r []) (sym none) (subst (λ (c : Config). IsNewApp c old.app old) (sym is.config) is.is, refl)))
-
-pub app_goes_on : (s : Setting) (who : ℕ) (old new : AppShown) (l : List Told) (call : Call) (r : Reply) (reply : Option Reply) (act : Act)
-    → AppStands s who old (Calls call) l → reply ≡ Some r → MayGive s.config l who call r
-    → ((l : List Told) → HasGot old reply l → Comes new act l) → (new.config ≡ old.config) × (new.app ≡ old.app)
-    → AppStands s who new act (with_told l call r) × IsActAfter s who act (with_told l call r)
-app_goes_on s who old new l call r reply act stands some may comes same =
-    let gives : MayGive old.config l (caller_of old.config old.app) call r =
-    subst (λ (c : Config). MayGive c l (caller_of c old.app) call r) (sym stands.config) (subst (λ w. MayGive s.config l w call r) stands.caller may) in
-    app_after s who new act (with_told l call r) (same.0 ∙ stands.config) (stands.caller ∙ ap (caller_of s.config) (sym same.1))
-    (comes (with_told l call r) (subst (λ x. HasGot old x (with_told l call r)) (sym some) (record { before = l; call = call; stood = stands.comes.stands; may = gives; list = refl })))
+-- the application in a call stood for a list
+pub app_stood : (s : Setting) (who : ℕ) (a : AppShown) (call : Call) (l : List Told) → AppStands s who a (Calls call) l → Stands s.config a.app a call l
+app_stood s who a call l stands = stands.comes.stands
 
 -- a whole run is a run
 pub worker_run : (s : Setting) (who : ℕ) (act : Act) (l : List Told) → IsActAfter s who act l → IsWorkerRun s who l
 worker_run s who (Calls call) l after = after.2
 worker_run s who IsEnd l after = record {
   driver = λ below. whole_run (driver_turn (seat_of s.config who)) (start (classes_of s.config) (input_of s who)) l (after.driver below);
-  app = λ a is. app_whole_run (app_turn s.config a) (new_kept s.config) l (after.app a is);
+  app = λ a is. whole_run (app_turn s.config a) (app_start s.config) l (after.app a is);
 }

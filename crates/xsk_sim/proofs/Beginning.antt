@@ -14,8 +14,8 @@ use Rattle.xsk_turns.specs.Inputs.{numbers_from, numbers_of, inputs_of, packets_
 use Rattle.xsk_driver.specs.Shown.{Shown as DriverShown}
 use Rattle.xsk_driver.specs.Runs.{IsNew as IsNewDriver}
 use Rattle.xsk_app.specs.Shown.{Shown as AppShown}
-use Rattle.xsk_app.specs.Standing.{IsNew as IsNewApp}
-use Rattle.xsk_sim.specs.Runs.{Setting}
+use Rattle.xsk_app.specs.Runs.{IsNew as IsNewApp}
+use Rattle.xsk_turns.specs.Workers.{Setting}
 use Rattle.xsk_sim.specs.Standing.{HasRoomToSend, IsDriver, IsApp, HasRun}
 use Rattle.xsk_sim.specs.Seats.{EachFrom, DriverSits, AppSits, new_own, AreSeated}
 use Rattle.xsk_sim.specs.declared.rounds.Workers.{Workers}

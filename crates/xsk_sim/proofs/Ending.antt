@@ -10,7 +10,8 @@ use Rattle.xsk_model.proofs.Theorems.{one_holder}
 use Rattle.xsk_model.specs.declared.call.Act.TheVariants.{Ended as IsEnd}
 use Rattle.xsk_plain.specs.Engine.{Engine}
 use Rattle.xsk_sim.specs.Shown.{Shown}
-use Rattle.xsk_sim.specs.Runs.{Setting, IsWorkerRun, IsWholeRun, HasEnded, HasStalled, last_round_of}
+use Rattle.xsk_turns.specs.Workers.{Setting, IsWorkerRun, IsWholeRun}
+use Rattle.xsk_sim.specs.Runs.{HasEnded, HasStalled, last_round_of}
 use Rattle.xsk_sim.specs.Standing.{IsActAfter}
 use Rattle.xsk_sim.specs.Seats.{EachFrom, own_in, AreSeated, HadRounds, HaveEnded, kept_lists}
 use Rattle.xsk_sim.specs.declared.rounds.Workers.{Workers}

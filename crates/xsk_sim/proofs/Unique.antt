@@ -8,44 +8,25 @@ use Rattle.xsk_model.specs.Rings.{caller_of}
 use Rattle.xsk_model.specs.Object.{reply_at}
 use Rattle.xsk_model.specs.Entry.{Told, Entry, told, own}
 use Rattle.xsk_model.specs.History.{IsHistory, state_after}
-use Rattle.xsk_model.specs.Script.{Script, ask, again, ended, never, Along, Turns, IsRun}
 use Rattle.xsk_model.proofs.Folds.{own-append, own-push_same}
 use Rattle.xsk_model.proofs.Histories.{history_first}
 use Rattle.xsk_model.proofs.Replies.{history_entry}
-use Rattle.xsk_model.proofs.ScriptLemmas.{run_next as app_run_next}
 use Rattle.xsk_turns.proofs.ScriptLemmas.{run_front, run_next}
 use Rattle.xsk_turns.specs.Turns.{seat_of, start, turn as driver_turn}
-use Rattle.xsk_app.specs.Turns.{new_kept, turn as app_turn}
+use Rattle.xsk_turns.specs.AppTurns.{app_start, app_turn}
 use Rattle.xsk_sim.specs.Order.{number_at, start_of, rotated}
 use Rattle.xsk_sim.specs.Rounds.{IsTurn, AreTurns, AreRounds}
-use Rattle.xsk_sim.specs.Runs.{Setting, input_of, IsWorkerRun, IsWholeRun, IsRoundHistory, HasEnded, OneHistory, OneLog, EndsOrStalls}
+use Rattle.xsk_turns.specs.Workers.{Setting, input_of, IsWorkerRun, IsWholeRun}
+use Rattle.xsk_sim.specs.Runs.{IsRoundHistory, HasEnded, OneHistory, OneLog, EndsOrStalls}
 use Rattle.xsk_sim.specs.Shown.{Shown}
 use Rattle.xsk_model.specs.Stored.{stored}
 
 -- ---- the front of a run
 
-nil_first : (l more : List Told) → l ++ more ≡ [] → l ≡ []
-nil_first l more e = nil_from_length l (omega (arith, ap length e, length-append l more))
-
-along_first : {K : Type 0} (P Q : K → List Told → Type 0) (script : Script K) (l more : List Told)
-    → ((kept : K) (front : List Told) → P kept (front ++ more) → Q kept front) → Along true P script (l ++ more) → Along true Q script l
-along_first P Q (ask call rest) [] more next h = tt
-along_first P Q (ask call rest) (u ∷ l) more next h = (h.0, along_first P Q (rest u.reply) l more next h.1)
-along_first P Q (again kept) l more next h = next kept l h
-along_first P Q ended l more next h = nil_first l more h
-along_first P Q never l more next h = h
-
-turns_first : {K : Type 0} (turn : K → Script K) (n : ℕ) (kept : K) (l more : List Told) → Turns true turn n kept (l ++ more) → Turns true turn n kept l
-turns_first turn zero kept l more h = (tt, nil_first l more h.1)
-turns_first turn (suc n) kept l more h = along_first (Turns true turn n) (Turns true turn n) (turn kept) l more (λ k front. turns_first turn n k front more) h
-
-pub run_first : {K : Type 0} (turn : K → Script K) (start : K) (l more : List Told) → IsRun turn start (l ++ more) → IsRun turn start l
-run_first turn start l more h = (h.0, turns_first turn h.0 start l more h.1)
-
 worker_first : (s : Setting) (who : ℕ) (l more : List Told) → IsWorkerRun s who (l ++ more) → IsWorkerRun s who l
 worker_first s who l more run = record {
   driver = λ below. run_front (driver_turn (seat_of s.config who)) (start (classes_of s.config) (input_of s who)) l more (run.driver below);
-  app = λ a is. run_first (app_turn s.config a) (new_kept s.config) l more (run.app a is);
+  app = λ a is. run_front (app_turn s.config a) (app_start s.config) l more (run.app a is);
 }
 
 -- two runs of a worker with the same list before them make the same call next
@@ -56,7 +37,7 @@ worker_next s who l t u first second = ⊎_elim
     (λ (high : length s.config.pairs ≤ who).
     let a : ℕ = who - length s.config.pairs in
     let is : who ≡ caller_of s.config a = omega arith in
-    app_run_next (app_turn s.config a) (new_kept s.config) l t u (first.app a is) (second.app a is))
+    run_next (app_turn s.config a) (app_start s.config) l t u (first.app a is) (second.app a is))
     (cases_lt who (length s.config.pairs))
 
 -- ---- one history

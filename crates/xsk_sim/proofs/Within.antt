@@ -14,7 +14,7 @@ use Rattle.xsk_turns.specs.Steering.{queue_of}
 use Rattle.xsk_laws.specs.Expected.{driver_on}
 use Rattle.xsk_laws.specs.Laws.{AreWholeRuns}
 use Rattle.xsk_laws.proofs.Theorems.{sent_is_within}
-use Rattle.xsk_sim.specs.Runs.{Setting, IsWholeRun}
+use Rattle.xsk_turns.specs.Workers.{Setting, IsWholeRun}
 use Rattle.xsk_sim.specs.Standing.{other_of}
 use Rattle.xsk_sim.proofs.Acts.{IsWithin}
 

@@ -4,38 +4,15 @@ use Rattle.std.specs.Prelude.{◌≡◌, ℕ, ◌+◌, ◌*◌, ◌<◌, ◌≤�
 use Rattle.std.specs.List.{slice_index_or}
 use Rattle.xsk_umem.specs.Frame.{Frame}
 use Rattle.xsk_umem.specs.PacketList.{PacketList}
-use Rattle.xsk_model.specs.Config.{Config, callers_of, pair_at}
-use Rattle.xsk_model.specs.Rings.{caller_of}
-use Rattle.xsk_model.specs.Entry.{Told, Entry, own}
+use Rattle.xsk_model.specs.Config.{callers_of}
+use Rattle.xsk_model.specs.Entry.{Entry, own}
 use Rattle.xsk_model.specs.History.{IsHistory, state_after}
 use Rattle.xsk_model.specs.Holders.{HasOneHolder}
 use Rattle.xsk_model.specs.Stored.{stored}
 use Rattle.xsk_model.specs.Sent.{sent}
-use Rattle.xsk_turns.specs.Inputs.{packets_of_queue, packets_of_port}
-use Rattle.xsk_turns.specs.Turns.{IsDriverRun, IsWholeDriverRun}
-use Rattle.xsk_app.specs.Turns.{IsAppRun, IsWholeAppRun}
+use Rattle.xsk_turns.specs.Workers.{Setting, IsWorkerRun, IsWholeRun}
 use Rattle.xsk_sim.specs.Rounds.{AreRounds}
 use Rattle.xsk_sim.specs.Shown.{Shown}
-
--- what is run: a configuration over the packets of each port
-pub record Setting : Type 0 where
-  pub config : Config
-  pub packets : List PacketList
-
--- the packets that come to a pair's driver: those of its port that go to its queue
-abbrev pub input_of : Setting → ℕ → List (List ℕ)
-input_of s pair = packets_of_queue s.config.queues (pair_at s.config.pairs pair).queue (packets_of_port s.packets (pair_at s.config.pairs pair).port)
-
--- a caller's own calls and replies are a run: of the driver of its pair over the pair's packets, or of its application
-pub record IsWorkerRun (s : Setting) (who : ℕ) (l : List Told) : Type 0 where
-  pub driver : who < length s.config.pairs → IsDriverRun s.config who (input_of s who) l
-  pub app : (a : ℕ) → who ≡ caller_of s.config a → IsAppRun s.config a l
-
--- they are a whole run: of the driver of its pair over the pair's packets, or of its
--- application
-pub record IsWholeRun (s : Setting) (who : ℕ) (l : List Told) : Type 0 where
-  pub driver : who < length s.config.pairs → IsWholeDriverRun s.config who (input_of s who) l
-  pub app : (a : ℕ) → who ≡ caller_of s.config a → IsWholeAppRun s.config a l
 
 -- the number of all packets, and the last round that a run may have, counted from 0
 abbrev pub count_of : List PacketList → ℕ

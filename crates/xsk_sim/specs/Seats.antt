@@ -11,7 +11,7 @@ use Rattle.xsk_driver.specs.Shown.{Shown as DriverShown}
 use Rattle.xsk_app.specs.Shown.{Shown as AppShown}
 use Rattle.xsk_sim.specs.Order.{start_of, rotated, next_number}
 use Rattle.xsk_sim.specs.Rounds.{AreTurns, AreRounds}
-use Rattle.xsk_sim.specs.Runs.{Setting, IsWholeRun}
+use Rattle.xsk_turns.specs.Workers.{Setting, IsWholeRun}
 use Rattle.xsk_sim.specs.Standing.{DriverStands, AppStands, IsActAfter, HasRun}
 use Rattle.xsk_sim.specs.declared.rounds.Workers.{Workers}
 

@@ -6,7 +6,7 @@ ghost use Rattle.xsk_model.specs.declared.call.Act.{Act as AnAct};
 ghost use Rattle.xsk_model.specs.declared.call.Act.TheVariants.{Call as Calls};
 ghost use Rattle.xsk_model.specs.declared.call.Call.{Call as ACall};
 ghost use Rattle.xsk_model.specs.declared.call.Reply.{Reply as AReply};
-ghost use Rattle.xsk_sim.specs.Runs.{Setting};
+ghost use Rattle.xsk_turns.specs.Workers.{Setting};
 ghost use Rattle.xsk_sim.specs.Standing.{IsDriver, DriverStands, IsApp, AppStands, IsActAfter};
 
 use xsk_app::App;

@@ -4,7 +4,7 @@ ghost use Rattle.xsk_umem.specs.Frame.{Frame};
 ghost use Rattle.xsk_model.specs.Marks.{apps_of};
 ghost use Rattle.xsk_model.specs.Config.{callers_of};
 ghost use Rattle.xsk_model.specs.Entry.{Entry};
-ghost use Rattle.xsk_sim.specs.Runs.{Setting};
+ghost use Rattle.xsk_turns.specs.Workers.{Setting};
 ghost use Rattle.xsk_sim.specs.Seats.{AreSeated, AreGoing, HadTurns, HadRound, HaveEnded};
 
 use crate::order::Order;

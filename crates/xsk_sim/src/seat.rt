@@ -7,7 +7,7 @@ ghost use Rattle.xsk_model.specs.Expected.{expected_of, nothing};
 ghost use Rattle.xsk_model.specs.declared.call.Act.TheVariants.{Call as Calls, Ended as IsEnd};
 ghost use Rattle.xsk_model.specs.declared.call.Call.{Call as ACall};
 ghost use Rattle.xsk_plain.specs.Engine.{CanPerform};
-ghost use Rattle.xsk_sim.specs.Runs.{Setting};
+ghost use Rattle.xsk_turns.specs.Workers.{Setting};
 ghost use Rattle.xsk_sim.specs.Standing.{IsActAfter, HasRun, TakesTurn};
 
 use crate::machine::Machine;

@@ -9,7 +9,8 @@ ghost use Rattle.xsk_plain.specs.Log.{calls_of, entries_of};
 ghost use Rattle.xsk_turns.specs.Inputs.{inputs_of};
 ghost use Rattle.xsk_driver.specs.Sent.{IsShort};
 ghost use Rattle.xsk_sim.specs.Shown.{HasShortPackets, packets_in};
-ghost use Rattle.xsk_sim.specs.Runs.{Setting, HasEnded, HasStalled, last_round_of};
+ghost use Rattle.xsk_turns.specs.Workers.{Setting};
+ghost use Rattle.xsk_sim.specs.Runs.{HasEnded, HasStalled, last_round_of};
 ghost use Rattle.xsk_laws.specs.Expected.{paired};
 ghost use Rattle.xsk_sim.specs.Seats.{EachFrom, AreSeated, AreReady, HadRounds, HaveEnded, DriverSits, AppSits, kept_lists, new_own};
 

@@ -1,7 +1,7 @@
 -- What goes back together from a side, and what is kept there by and by.
 use Rattle.std.proofs.Common.{◌≡◌, ℕ, zero, suc, ◌+◌, ◌-◌, ◌≤◌, Bool, true, false, cond, List, [], ◌∷◌, eqb, length, length-take, one-add, take, drop, refl, ap, arith, eq-eqb}
 use Rattle.std.proofs.lemmas.List.{set-set, set-get_or}
-use Rattle.std.specs.List.{prefix_len, take_while}
+use Rattle.std.specs.List.{prefix_len}
 use Rattle.xsk_umem.specs.Frame.{Frame}
 use Rattle.xsk_turns.specs.AppTurns.{AppKept, back_at, with_back, home_of, group_of}
 

@@ -351,11 +351,11 @@ module _ (c : Config) (a : ℕ) (one : IsApp c a) where
           fronts c a began found kept l inv,
           at_reserve Anything law (with_back kept side (frame ∷ frames)) call l (ask left (Submit r items) (on_submitted (give_back c side (n - 1) frames kept next))) (next (with_back kept side (frame ∷ frames)))
               (λ q. (
-            fronts c a began found kept granted first,
-            at_submit Anything law left (Submit r items) granted (give_back c side (n - 1) frames kept next)
-                (λ q. go_give side (n - 1) frames kept next (with_told granted (Submit r items) Submitted)
-                (off_lanes c a began found kept granted (Submit r items) Submitted (λ t. refl) (λ s. refl) (fill_untold a home items) (λ s u. refl) first) go),
-          ))
+                fronts c a began found kept granted first,
+                at_submit Anything law left (Submit r items) granted (give_back c side (n - 1) frames kept next)
+                    (λ q. go_give side (n - 1) frames kept next (with_told granted (Submit r items) Submitted)
+                    (off_lanes c a began found kept granted (Submit r items) Submitted (λ t. refl) (λ s. refl) (fill_untold a home items) (λ s u. refl) first) go),
+              ))
               (λ free q. go full (with_told l call (Full free))
               (with_frames c a began found kept (with_told l call (Full free)) full (unmoved_by c a began found kept l call (Full free) refl refl (λ t s. refl) (λ s u. refl) inv))),
         )

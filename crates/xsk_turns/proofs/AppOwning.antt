@@ -1,6 +1,6 @@
 -- At each of its calls an application has the frames that it peeked and didn't submit, and the call is legal where it is
 -- the only one.
-use Rattle.std.proofs.Common.{◌≡◌, ℕ, zero, suc, ◌+◌, ◌-◌, ◌<◌, ◌≤◌, Bool, true, false, cond, ◌&&◌, eqb, List, [], ◌∷◌, length, set, take, drop, map, All, refl, sym, ap, ◌∙◌, subst, arith, get_or-set_same, length-set}
+use Rattle.std.proofs.Common.{◌≡◌, ℕ, zero, suc, ◌+◌, ◌-◌, ◌<◌, ◌≤◌, true, false, ◌&&◌, eqb, List, [], ◌∷◌, length, set, take, drop, map, All, refl, sym, ap, ◌∙◌, subst, arith, get_or-set_same, length-set}
 use Rattle.std.proofs.lemmas.List.{length-map}
 use Rattle.std.proofs.lemmas.List.Elements.{All-nil, All-map, All-take, All-drop, All-weaker}
 use Rattle.std.specs.List.{take_while}
@@ -10,7 +10,6 @@ use Rattle.xsk_model.specs.Config.{Config, HasRing, pool_of, batch_of, callers_o
 use Rattle.xsk_model.specs.Marks.{apps_of}
 use Rattle.xsk_model.specs.Numbers.{times, numbers}
 use Rattle.xsk_model.specs.Rings.{caller_of, producer}
-use Rattle.xsk_model.specs.Object.{submitted, taken}
 use Rattle.xsk_model.specs.Entry.{Told, with_told}
 use Rattle.xsk_model.specs.Own.{had_of, room_of}
 use Rattle.xsk_model.specs.Legal.{IsLegal, IsItemOn}
@@ -20,14 +19,13 @@ use Rattle.xsk_model.specs.declared.call.Ring.TheVariants.{Fill, Comp, Rx, Tx}
 use Rattle.xsk_model.specs.declared.call.Mark.TheVariants.{RxDone, Gone, TxDone}
 use Rattle.xsk_model.specs.declared.call.Call.{Call}
 use Rattle.xsk_model.specs.declared.call.Call.TheVariants.{Reserve, Submit, Peek, Release, Swap, Look}
-use Rattle.xsk_model.specs.declared.call.Reply.{Reply}
 use Rattle.xsk_model.specs.declared.call.Reply.TheVariants.{Granted, Full, Submitted, Items, Empty, Released, Old}
 use Rattle.xsk_model.proofs.Safety.{legal_reserve, legal_peek, legal_release, legal_look, legal_swap, had_told, room_told, held_told}
 use Rattle.xsk_turns.specs.Script.{Script, ask, again, ended, on_submitted, Leaves}
 use Rattle.xsk_turns.specs.Turns.{frames_in}
 use Rattle.xsk_turns.specs.Owned.{AllFit, frame_numbers}
 use Rattle.xsk_turns.specs.AppTurns.{AppKept, AppNoted, pair_of, rx_of, tx_of, lanes_of, home_of, group_of, both, is_set, is_none, pending_at, with_pending, back_at, with_back, pass_on, receive_lane, visit_lane, visit_lanes, give_back, complete_side, visit_side, visit_sides, with_seen, with_gone, look_rx_done, look_gone, tell_tx_done, end_turn, turn_sides, noted_first, app_turn, app_start}
-use Rattle.xsk_turns.specs.AppOwned.{IsApp, app_numbers, AppOwned, AppKeepsFrames, AppCallsLegal, AppKeepsFramesAtEnd}
+use Rattle.xsk_turns.specs.AppOwned.{IsApp, AppOwned, AppKeepsFrames, AppCallsLegal, AppKeepsFramesAtEnd}
 use Rattle.xsk_turns.proofs.AppGroups.{with_back-again, with_back-same, group_some, group_front, group_few, shorter}
 use Rattle.xsk_turns.proofs.AppOwned.{AppHas, IsBackFrame, rx_to_tx, tx_to_tx, back_frames, fill_item, numbers-home, times-app_numbers, app_owned, app_told, has_pending, has_back, has_flags, has_none}
 use Rattle.xsk_turns.proofs.AppPlaces.{AppSeats, app_seats}

@@ -1,7 +1,7 @@
 -- The turns of the application of ports 2k and 2k + 1 and queue q, without need-wakeup. It has two sides, one for each of
 -- its ports, and a lane from each class of a side to the same class of the other side. A turn visits its lanes, then its
 -- sides, and then looks whether it is at its end. All of this is this project's own.
-use Rattle.std.specs.Prelude.{ℕ, zero, suc, ◌+◌, ◌-◌, ◌*◌, ◌/◌, ◌%◌, ◌==◌, Bool, true, false, ◌&&◌, if◌then◌else◌, List, [], ◌∷◌, ◌++◌, length, map, replicate, take, drop}
+use Rattle.std.specs.Prelude.{ℕ, zero, suc, ◌+◌, ◌-◌, ◌*◌, ◌/◌, ◌%◌, ◌==◌, Bool, true, false, ◌&&◌, if◌then◌else◌, List, [], ◌∷◌, length, map, replicate, take, drop}
 use Rattle.std.specs.List.{slice_index_or, slice_set, take_while}
 use Rattle.xsk_umem.specs.Frame.{Frame}
 use Rattle.xsk_umem.specs.declared.batch.Item.{Item}

@@ -2,7 +2,7 @@ use Rattle.std.proofs.Common.{◌≡◌, ◌<◌, List, [], vec_len}
 use Rattle.xsk_umem.specs.Frame.{Frame}
 use Rattle.xsk_model.specs.Marks.{apps_of}
 use Rattle.xsk_sim.specs.Order.{number_at}
-use Rattle.xsk_sim.specs.Runs.{Setting}
+use Rattle.xsk_turns.specs.Workers.{Setting}
 use Rattle.xsk_sim.specs.Seats.{AreSeated, HadRounds, HaveEnded}
 use Rattle.xsk_sim.proofs.simulation.make_rounds.Given as goal
 

@@ -1,5 +1,5 @@
 use Rattle.std.proofs.Common.{◌≡◌, length, vec_len}
-use Rattle.xsk_sim.specs.Runs.{Setting}
+use Rattle.xsk_turns.specs.Workers.{Setting}
 use Rattle.xsk_sim.specs.Seats.{EachFrom, AppSits, new_own}
 use Rattle.xsk_sim.proofs.simulation.seat_apps.Given as goal
 

@@ -5,7 +5,7 @@ use Rattle.xsk_model.specs.Config.{pair_at}
 use Rattle.xsk_model.specs.declared.config.PairInfo.{PairInfo}
 use Rattle.xsk_turns.specs.Inputs.{packets_of_port}
 use Rattle.xsk_laws.specs.Expected.{paired}
-use Rattle.xsk_sim.specs.Runs.{Setting}
+use Rattle.xsk_turns.specs.Workers.{Setting}
 use Rattle.xsk_sim.specs.Standing.{other_of, HasRoomToSend}
 use Rattle.xsk_sim.proofs.Seating.{each_none, each_push}
 use Rattle.xsk_sim.proofs.Beginning.{input_numbers, new_driver}

@@ -1,7 +1,8 @@
 use Rattle.std.proofs.Common.{ℕ, [], subst, refl}
 use Rattle.std.specs.Prelude.{IfOk}
 use Rattle.xsk_model.specs.Config.{IsConfig}
-use Rattle.xsk_sim.specs.Runs.{Setting, HasEnded, HasStalled}
+use Rattle.xsk_turns.specs.Workers.{Setting}
+use Rattle.xsk_sim.specs.Runs.{HasEnded, HasStalled}
 use Rattle.xsk_sim.specs.Seats.{AreSeated}
 use Rattle.xsk_sim.proofs.Beginning.{seated_opened}
 use Rattle.xsk_sim.proofs.simulation.simulate.Goals as goal

@@ -1,4 +1,4 @@
-use Rattle.std.proofs.Common.{arith, ◌≡◌, length, map, take, drop, List, [], ap, ◌∙◌}
+use Rattle.std.proofs.Common.{arith, ◌≡◌, map, take, drop, List, [], ap, ◌∙◌}
 use Rattle.xsk_umem.specs.Geometry.{Geometry}
 use Rattle.xsk_umem.specs.Frame.{Frame}
 use Rattle.xsk_model.specs.Opening.{home_item}

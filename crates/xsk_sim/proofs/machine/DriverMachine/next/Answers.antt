@@ -1,5 +1,5 @@
 use Rattle.xsk_model.proofs.Replies.{gift_fits}
-use Rattle.xsk_sim.specs.Runs.{input_of}
+use Rattle.xsk_turns.specs.Workers.{input_of}
 use Rattle.xsk_sim.proofs.Acts.{driver_after, room_stays}
 use Rattle.xsk_sim.proofs.machine.DriverMachine.next.Goals as goal
 

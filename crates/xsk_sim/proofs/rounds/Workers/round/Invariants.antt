@@ -3,7 +3,7 @@ use Rattle.std.specs.List.{range_with_len}
 use Rattle.xsk_umem.specs.Frame.{Frame}
 use Rattle.xsk_model.specs.Marks.{apps_of}
 use Rattle.xsk_model.specs.Entry.{Entry}
-use Rattle.xsk_sim.specs.Runs.{Setting}
+use Rattle.xsk_turns.specs.Workers.{Setting}
 use Rattle.xsk_sim.specs.Seats.{AreSeated, HadTurns}
 use Rattle.xsk_sim.proofs.rounds.Workers.round.Given as goal
 

@@ -1,6 +1,6 @@
 use Rattle.std.proofs.Common.{◌≡◌, ℕ, ◌+◌, ◌-◌, ◌<◌, [], ◌∷◌, ◌++◌, length, arith, refl}
 use Rattle.std.specs.Vec.{with_item}
-use Rattle.xsk_sim.specs.Runs.{IsWholeRun}
+use Rattle.xsk_turns.specs.Workers.{IsWholeRun}
 use Rattle.xsk_sim.specs.Standing.{DriverStands, AppStands, TakesTurn}
 use Rattle.xsk_sim.specs.Seats.{DriverSits, AppSits, own_in, HadTurns}
 use Rattle.xsk_sim.proofs.Seating.{each_at, each_set, each_change}
