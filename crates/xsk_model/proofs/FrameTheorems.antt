@@ -1,13 +1,18 @@
 -- The laws of frames, of the opening and of counts, proved.
+use Rattle.std.proofs.Common.{◌∷◌}
 use Rattle.xsk_model.specs.History.{state_after}
-use Rattle.xsk_model.proofs.Stays.{frames_homed}
-use Rattle.xsk_model.proofs.Released.{held_out, given_more, released_more, submitted_more, peeked_more, finds_items}
-use Rattle.xsk_model.specs.Laws.{HeldAndOut, CountsGrow, PeekFinds, FramesStay, FramesApart, FramesBelow, SubmitsOwn, OpeningIs}
+use Rattle.xsk_model.specs.Laws.{FramesStay, FramesApart, FramesBelow, SubmitsOwn, OpeningIs, HeldAndOut, CountsGrow, PeekFinds}
 use Rattle.xsk_model.proofs.Histories.{history_first, history_sound}
 use Rattle.xsk_model.proofs.Replies.{history_entry}
 use Rattle.xsk_model.proofs.Apart.{callers_apart, caller_ring_apart, rings_apart, caller_below, ring_below, submitted_callers, submitted_rings}
 use Rattle.xsk_model.proofs.FirstState.{opening_first}
-use Rattle.std.proofs.Common.{◌∷◌}
+use Rattle.xsk_model.proofs.Stays.{frames_homed}
+use Rattle.xsk_model.proofs.Released.{held_out, given_more, released_more, submitted_more, peeked_more, finds_items}
+
+pub frames_stay : FramesStay
+frames_stay c frames h n history =
+    let homed = frames_homed c frames h history in
+    (λ who some. homed.callers who n some, λ r has some. homed.rings r n has some)
 
 pub frames_apart : FramesApart
 frames_apart c frames h history =
@@ -32,11 +37,6 @@ submits_own c frames past later e history =
 
 pub opening_is : OpeningIs
 opening_is c frames opened = opening_first c frames opened
-
-pub frames_stay : FramesStay
-frames_stay c frames h n history =
-    let homed = frames_homed c frames h history in
-    (λ who some. homed.callers who n some, λ r has some. homed.rings r n has some)
 
 pub held_and_out : HeldAndOut
 held_and_out c frames h r history has = held_out c frames h r history has

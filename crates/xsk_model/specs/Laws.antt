@@ -62,7 +62,7 @@ FramesApart = (c : Config) (frames : List Frame) (h : List Entry) → IsHistory 
     × ((r q : Ring) → HasRing c r → HasRing c q → is_ring r q ≡ false
     → AreApart (out_numbers (ring_at c (state_after c frames h) r)) (out_numbers (ring_at c (state_after c frames h) q)))
 
--- each of these frames is one of the UMEM
+-- the frames of callers and those out in rings are frames of the UMEM
 abbrev pub FramesBelow : Type 0
 FramesBelow = (c : Config) (frames : List Frame) (h : List Entry) → IsHistory c frames h
     → ((who : ℕ) → AreBelow c.geometry.frames (had_of (own who h)))
