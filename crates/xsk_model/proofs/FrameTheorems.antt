@@ -46,4 +46,4 @@ counts_grow past later who r =
     (given_more r who past later, released_more r who past later, submitted_more r who past later, peeked_more r who past later)
 
 pub peek_finds : PeekFinds
-peek_finds c frames seen later r n history has still more = finds_items c frames seen later r n history has still more
+peek_finds c frames seen later r n history has more = finds_items c frames seen later r n history has more

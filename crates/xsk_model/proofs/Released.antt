@@ -207,30 +207,24 @@ peek_some : (n : ℕ) (out : List Item) → 1 ≤ length out → peek_reply n ou
 peek_some n [] some = absurd (omega arith)
 peek_some n (item ∷ out) some = refl
 
--- what is out where the consumer has peeked nothing since
-out_since : (c : Config) (frames : List Frame) (seen later : List Entry) (r : Ring) → IsHistory c frames (seen ++ later) → HasRing c r
-    → peeked_of r (own (consumer c r) later) ≡ []
-    → (ring_at c (state_after c frames (seen ++ later)) r).out
-    ≡ drop (length (peeked_of r (own (consumer c r) seen))) ((ring_at c (opening c frames) r).out ++ submitted_of r (own (producer c r) (seen ++ later)))
-out_since c frames seen later r history has still =
-    let ring = (history_sound c frames (seen ++ later) history).ring r has in
+-- what is out, by the owners' own entries
+out_by_own : (c : Config) (frames : List Frame) (h : List Entry) (r : Ring) → IsHistory c frames h → HasRing c r
+    → (ring_at c (state_after c frames h) r).out
+    ≡ drop (length (peeked_of r (own (consumer c r) h))) ((ring_at c (opening c frames) r).out ++ submitted_of r (own (producer c r) h))
+out_by_own c frames h r history has =
+    let ring = (history_sound c frames h history).ring r has in
     let first : List Item = (ring_at c (opening c frames) r).out in
-    let peeked : peeked_of r (all_told (seen ++ later)) ≡ peeked_of r (own (consumer c r) seen) =
-    ring.peeked ∙ peeked_more r (consumer c r) seen later ∙ ap (λ x. peeked_of r (own (consumer c r) seen) ++ x) still
-    ∙ append-nil (peeked_of r (own (consumer c r) seen)) in
-    left_over (peeked_of r (all_told (seen ++ later))) (ring_at c (state_after c frames (seen ++ later)) r).out
-    (first ++ submitted_of r (own (producer c r) (seen ++ later))) (length (peeked_of r (own (consumer c r) seen)))
-    (ring.order ∙ ap (λ x. first ++ x) ring.given) (ap length peeked)
+    left_over (peeked_of r (all_told h)) (ring_at c (state_after c frames h) r).out (first ++ submitted_of r (own (producer c r) h))
+    (length (peeked_of r (own (consumer c r) h))) (ring.order ∙ ap (λ x. first ++ x) ring.given) (ap length ring.peeked)
 
 pub finds_items : (c : Config) (frames : List Frame) (seen later : List Entry) (r : Ring) (n : ℕ) → IsHistory c frames (seen ++ later) → HasRing c r
-    → peeked_of r (own (consumer c r) later) ≡ []
-    → length (peeked_of r (own (consumer c r) seen)) < length (ring_at c (opening c frames) r).out + given_of r (own (producer c r) seen)
+    → length (peeked_of r (own (consumer c r) (seen ++ later))) < length (ring_at c (opening c frames) r).out + given_of r (own (producer c r) seen)
     → reply_at c (state_after c frames (seen ++ later)) (Peek r n)
-    ≡ Items (take n (drop (length (peeked_of r (own (consumer c r) seen))) ((ring_at c (opening c frames) r).out ++ submitted_of r (own (producer c r) (seen ++ later)))))
-finds_items c frames seen later r n history has still more =
+    ≡ Items (take n (drop (length (peeked_of r (own (consumer c r) (seen ++ later)))) ((ring_at c (opening c frames) r).out ++ submitted_of r (own (producer c r) (seen ++ later)))))
+finds_items c frames seen later r n history has more =
     let first : List Item = (ring_at c (opening c frames) r).out in
     let all : List Item = first ++ submitted_of r (own (producer c r) (seen ++ later)) in
-    let peeked : ℕ = length (peeked_of r (own (consumer c r) seen)) in
+    let peeked : ℕ = length (peeked_of r (own (consumer c r) (seen ++ later))) in
     let some : 1 ≤ length (drop peeked all) =
     omega (
       arith,
@@ -240,4 +234,4 @@ finds_items c frames seen later r n history has still more =
       given-submitted r (own (producer c r) (seen ++ later)),
       given_more r (producer c r) seen later,
     ) in
-    ap (peek_reply n) (out_since c frames seen later r history has still) ∙ peek_some n (drop peeked all) some
+    ap (peek_reply n) (out_by_own c frames (seen ++ later) r history has) ∙ peek_some n (drop peeked all) some

@@ -136,13 +136,13 @@ CountsGrow = (past later : List Entry) (who : ℕ) (r : Ring)
     × (submitted_of r (own who (past ++ later)) ≡ submitted_of r (own who past) ++ submitted_of r (own who later))
     × (peeked_of r (own who (past ++ later)) ≡ peeked_of r (own who past) ++ peeked_of r (own who later))
 
--- a Peek finds items where its consumer has seen that more were given than it peeked, whatever others did since
+-- A Peek finds items where more were given, as far as its consumer has seen, than it has peeked, whatever others did
+-- since. What it finds are the items that follow those that it peeked.
 abbrev pub PeekFinds : Type 0
 PeekFinds = (c : Config) (frames : List Frame) (seen later : List Entry) (r : Ring) (n : ℕ) → IsHistory c frames (seen ++ later) → HasRing c r
-    → peeked_of r (own (consumer c r) later) ≡ []
-    → length (peeked_of r (own (consumer c r) seen)) < length (ring_at c (opening c frames) r).out + given_of r (own (producer c r) seen)
+    → length (peeked_of r (own (consumer c r) (seen ++ later))) < length (ring_at c (opening c frames) r).out + given_of r (own (producer c r) seen)
     → reply_at c (state_after c frames (seen ++ later)) (Peek r n)
-    ≡ Items (take n (drop (length (peeked_of r (own (consumer c r) seen))) ((ring_at c (opening c frames) r).out ++ submitted_of r (own (producer c r) (seen ++ later)))))
+    ≡ Items (take n (drop (length (peeked_of r (own (consumer c r) (seen ++ later)))) ((ring_at c (opening c frames) r).out ++ submitted_of r (own (producer c r) (seen ++ later)))))
 
 -- what is out in a ring may stand there
 abbrev pub LawfulItems : Type 0

@@ -93,7 +93,7 @@ pub fn counts_grow()
     ensures { CountsGrow }
 {}
 
-/// A Peek finds items where its consumer has seen that more were given than it peeked.
+/// A Peek finds items where its consumer has seen that more were given than it has peeked, and these are they.
 pub fn peek_finds()
     ensures { PeekFinds }
 {}
