@@ -1,13 +1,13 @@
 -- The laws of frames, of the opening and of counts, proved.
 use Rattle.std.proofs.Common.{◌∷◌}
 use Rattle.xsk_model.specs.History.{state_after}
-use Rattle.xsk_model.specs.Laws.{FramesStay, FramesApart, FramesBelow, SubmitsOwn, OpeningIs, HeldAndOut, CountsGrow, PeekFinds}
+use Rattle.xsk_model.specs.Laws.{FramesStay, FramesApart, FramesBelow, SubmitsOwn, OpeningIs, HeldAndOut, CountsGrow, PeekFinds, ReserveFinds}
 use Rattle.xsk_model.proofs.Histories.{history_first, history_sound}
 use Rattle.xsk_model.proofs.Replies.{history_entry}
 use Rattle.xsk_model.proofs.Apart.{callers_apart, caller_ring_apart, rings_apart, caller_below, ring_below, submitted_callers, submitted_rings}
 use Rattle.xsk_model.proofs.FirstState.{opening_first}
 use Rattle.xsk_model.proofs.Stays.{frames_homed}
-use Rattle.xsk_model.proofs.Released.{held_out, given_more, released_more, submitted_more, peeked_more, finds_items}
+use Rattle.xsk_model.proofs.Released.{held_out, given_more, released_more, submitted_more, peeked_more, finds_items, finds_room}
 
 pub frames_stay : FramesStay
 frames_stay c frames h n history =
@@ -47,3 +47,6 @@ counts_grow past later who r =
 
 pub peek_finds : PeekFinds
 peek_finds c frames seen later r n history has more = finds_items c frames seen later r n history has more
+
+pub reserve_finds : ReserveFinds
+reserve_finds c frames seen later r n history has enough = finds_room c frames seen later r n history has enough

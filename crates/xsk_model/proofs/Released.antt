@@ -1,6 +1,6 @@
 -- What a ring holds and what is out in it are all its items without those that were released.
 use Rattle.std.proofs.Common.{◌≡◌, ℕ, ◌+◌, ◌<◌, ◌≤◌, Bool, true, false, cond, nat_le, List, [], ◌∷◌, ◌++◌, length, take, drop, refl, sym, ap, subst, ◌∙◌, ⊎_elim, arith, append_assoc, append-nil, length-append, length-take, length-drop, take-append-drop}
-use Rattle.std.proofs.lemmas.Bool.{cases_Bool}
+use Rattle.std.proofs.lemmas.Bool.{cases_Bool, le-leb}
 use Rattle.std.proofs.lemmas.List.{drop_at}
 use Rattle.xsk_umem.specs.Frame.{Frame}
 use Rattle.xsk_umem.specs.declared.batch.Item.{Item}
@@ -8,14 +8,14 @@ use Rattle.xsk_model.specs.Config.{Config, HasRing, size_of}
 use Rattle.xsk_model.specs.Rings.{place, producer, consumer}
 use Rattle.xsk_model.specs.Object.{RingState, State, ring_at, free, peek_reply, reply_at, ring_after, submitted, taken, IsWithinRing}
 use Rattle.xsk_model.specs.Entry.{Told, Entry, own, all_told}
-use Rattle.xsk_model.specs.Own.{is_on, part_of, released, released_step, submitted_step, given_step, peeked_step, released_of, submitted_of, given_of, peeked_of}
+use Rattle.xsk_model.specs.Own.{is_on, part_of, released, released_step, submitted_step, given_step, peeked_step, released_of, submitted_of, given_of, peeked_of, room_of}
 use Rattle.xsk_model.specs.Legal.{IsLegal}
 use Rattle.xsk_model.specs.Opening.{IsOpened, opening}
 use Rattle.xsk_model.specs.History.{IsHistory, state_after}
 use Rattle.xsk_model.specs.declared.call.Ring.{Ring}
 use Rattle.xsk_model.specs.declared.call.Call.{Call}
 use Rattle.xsk_model.specs.declared.call.Call.TheVariants.{Reserve, Submit, Peek, Release, Swap, Look}
-use Rattle.xsk_model.specs.declared.call.Reply.TheVariants.{Items}
+use Rattle.xsk_model.specs.declared.call.Reply.TheVariants.{Granted, Full, Items}
 use Rattle.xsk_model.proofs.Places.{place_below}
 use Rattle.xsk_model.proofs.Folds.{own-append, part_of-append, part_of_own-push, part_of_own-push_other, part_of_all-push}
 use Rattle.xsk_model.proofs.Moves.{cond-held, cond-out, ring_at-after_same, ring_at-after_other, not_consumer}
@@ -24,6 +24,7 @@ use Rattle.xsk_model.proofs.Opened.{opening-ring}
 use Rattle.xsk_model.proofs.Histories.{history_sound}
 use Rattle.xsk_model.proofs.Counts.{given-submitted, within_ring}
 use Rattle.xsk_model.proofs.Along.{Keeps, along}
+use Rattle.xsk_model.proofs.Theorems.{counts_agree}
 
 -- ---- one call
 
@@ -235,3 +236,16 @@ finds_items c frames seen later r n history has more =
       given_more r (producer c r) seen later,
     ) in
     ap (peek_reply n) (out_by_own c frames (seen ++ later) r history has) ∙ peek_some n (drop peeked all) some
+
+-- ---- a Reserve that is granted
+
+pub finds_room : (c : Config) (frames : List Frame) (seen later : List Entry) (r : Ring) (n : ℕ) → IsHistory c frames (seen ++ later) → HasRing c r
+    → length (ring_at c (opening c frames) r).out + given_of r (own (producer c r) (seen ++ later)) + room_of r (own (producer c r) (seen ++ later)) + n
+    ≤ size_of c r + released_of r (own (consumer c r) seen)
+    → reply_at c (state_after c frames (seen ++ later)) (Reserve r n) ≡ Granted
+finds_room c frames seen later r n history has enough =
+    let ring : RingState = ring_at c (state_after c frames (seen ++ later)) r in
+    let room = ((history_sound c frames (seen ++ later) history).ring r has).room in
+    let counts = counts_agree c frames (seen ++ later) r history has in
+    let places : n ≤ free (size_of c r) ring = omega (arith, enough, room, counts, released_more r (consumer c r) seen later) in
+    ap (λ b. cond b Granted (Full (free (size_of c r) ring))) (le-leb n (free (size_of c r) ring) places)

@@ -20,9 +20,9 @@ use Rattle.xsk_model.specs.declared.call.Ring.{Ring}
 use Rattle.xsk_model.specs.declared.call.Ring.TheVariants.{Comp, Tx}
 use Rattle.xsk_model.specs.declared.call.Mark.{Mark}
 use Rattle.xsk_model.specs.declared.call.Call.{Call}
-use Rattle.xsk_model.specs.declared.call.Call.TheVariants.{Submit, Peek}
+use Rattle.xsk_model.specs.declared.call.Call.TheVariants.{Reserve, Submit, Peek}
 use Rattle.xsk_model.specs.declared.call.Reply.{Reply}
-use Rattle.xsk_model.specs.declared.call.Reply.TheVariants.{Items}
+use Rattle.xsk_model.specs.declared.call.Reply.TheVariants.{Granted, Items}
 
 -- ---- frames
 
@@ -143,6 +143,14 @@ PeekFinds = (c : Config) (frames : List Frame) (seen later : List Entry) (r : Ri
     → length (peeked_of r (own (consumer c r) (seen ++ later))) < length (ring_at c (opening c frames) r).out + given_of r (own (producer c r) seen)
     → reply_at c (state_after c frames (seen ++ later)) (Peek r n)
     ≡ Items (take n (drop (length (peeked_of r (own (consumer c r) (seen ++ later)))) ((ring_at c (opening c frames) r).out ++ submitted_of r (own (producer c r) (seen ++ later)))))
+
+-- a Reserve is granted where the places that its producer gave or has reserved, without those that it has seen released,
+-- leave so many of the ring, whatever others did since
+abbrev pub ReserveFinds : Type 0
+ReserveFinds = (c : Config) (frames : List Frame) (seen later : List Entry) (r : Ring) (n : ℕ) → IsHistory c frames (seen ++ later) → HasRing c r
+    → length (ring_at c (opening c frames) r).out + given_of r (own (producer c r) (seen ++ later)) + room_of r (own (producer c r) (seen ++ later)) + n
+    ≤ size_of c r + released_of r (own (consumer c r) seen)
+    → reply_at c (state_after c frames (seen ++ later)) (Reserve r n) ≡ Granted
 
 -- what is out in a ring may stand there
 abbrev pub LawfulItems : Type 0

@@ -1,7 +1,7 @@
 //! The laws of the object, each the contract of a function that does nothing. They are stated in `specs/Laws.antt`.
 
 ghost use Rattle.xsk_model.specs.Laws.{OneHolder, FramesByOwn, HadAndDistinct, InOrder, PeekInOrder, PartsByOwn, ItemsByOwn, WithinSize, LawfulItems, FittingReplies, FittingGifts, OwnEntries, WithinRing, CountsAgree, FewInRings, OneCompletion, SentInOrder, MarkNumbers, OwnPlaces, OwnMarkPlaces, TwoOwners, LeavesOthers, LeavesFolds};
-ghost use Rattle.xsk_model.specs.Laws.{FramesStay, FramesApart, FramesBelow, SubmitsOwn, OpeningIs, HeldAndOut, CountsGrow, PeekFinds};
+ghost use Rattle.xsk_model.specs.Laws.{FramesStay, FramesApart, FramesBelow, SubmitsOwn, OpeningIs, HeldAndOut, CountsGrow, PeekFinds, ReserveFinds};
 
 /// After each prefix of a history each frame has one holder: a caller that has it, or a ring in which it is out.
 pub fn one_holder()
@@ -96,6 +96,11 @@ pub fn counts_grow()
 /// A Peek finds items where its consumer has seen that more were given than it has peeked, and these are they.
 pub fn peek_finds()
     ensures { PeekFinds }
+{}
+
+/// A Reserve is granted where its producer has seen enough places released.
+pub fn reserve_finds()
+    ensures { ReserveFinds }
 {}
 
 /// What is out in a ring may stand there.
