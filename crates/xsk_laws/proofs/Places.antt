@@ -8,7 +8,7 @@ use Rattle.xsk_model.specs.Marks.{apps_of}
 use Rattle.xsk_model.specs.Rings.{pair_on, application_on, port_of, queue_of}
 use Rattle.xsk_model.specs.declared.call.Ring.TheVariants.{Rx}
 use Rattle.xsk_model.proofs.Roles.{pair_on_only}
-use Rattle.xsk_turns.specs.AppTurns.{pair_of, socket_of, rx_of, tx_of, lanes_of}
+use Rattle.xsk_turns.specs.AppTurns.{pair_of, side_socket, rx_of, tx_of, lanes_of}
 use Rattle.xsk_laws.specs.Expected.{paired, driver_on, socket_on}
 
 -- ---- numbers
@@ -125,14 +125,14 @@ pub lane_rx : (c : Config) (p q k o : ℕ) → q < c.queues → k < classes_of c
 lane_rx c p q k o queue class e =
     let side : lane_on c o k / classes_of c ≡ o % 2 = div-mul-add (o % 2) (classes_of c) k class in
     let rest : lane_on c o k % classes_of c ≡ k = mod-mul-add (o % 2) (classes_of c) k class in
-    ap (λ n. socket_of c (app_on c p q) n (lane_on c o k % classes_of c)) side
-    ∙ ap (λ n. socket_of c (app_on c p q) (o % 2) n) rest
+    ap (λ n. side_socket c (app_on c p q) n (lane_on c o k % classes_of c)) side
+    ∙ ap (λ n. side_socket c (app_on c p q) (o % 2) n) rest
     ∙ ap (λ n. n * classes_of c + k) (side_pair c p q (o % 2) o queue e)
 
 pub lane_tx : (c : Config) (p q k o : ℕ) → q < c.queues → k < classes_of c → p ≡ 2 * (p / 2) + (1 - o % 2) → tx_of c (app_on c p q) (lane_on c o k) ≡ socket_on c p q k
 lane_tx c p q k o queue class e =
     let side : lane_on c o k / classes_of c ≡ o % 2 = div-mul-add (o % 2) (classes_of c) k class in
     let rest : lane_on c o k % classes_of c ≡ k = mod-mul-add (o % 2) (classes_of c) k class in
-    ap (λ n. socket_of c (app_on c p q) (1 - n) (lane_on c o k % classes_of c)) side
-    ∙ ap (λ n. socket_of c (app_on c p q) (1 - o % 2) n) rest
+    ap (λ n. side_socket c (app_on c p q) (1 - n) (lane_on c o k % classes_of c)) side
+    ∙ ap (λ n. side_socket c (app_on c p q) (1 - o % 2) n) rest
     ∙ ap (λ n. n * classes_of c + k) (side_pair c p q (1 - o % 2) p queue e)
