@@ -1,4 +1,4 @@
-pub mod AppDrained
+pub mod AppMarks
 pub mod AppGroups
 pub mod AppLanes
 pub mod AppOwned
