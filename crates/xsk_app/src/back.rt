@@ -1,12 +1,13 @@
 ghost use Rattle.std.specs.Prelude.{◌≡◌, ◌==◌, ◌<◌, ◌≤◌, [], ◌↔◌, IsTrue, IfOk, IsNone, IfSome, length, map, take, drop};
 ghost use Rattle.std.specs.List.{take_while};
-ghost use Rattle.xsk_model.specs.Opening.{home_item};
+ghost use Rattle.xsk_model.specs.Opening.{home_item as item_at_home};
 ghost use Rattle.xsk_turns.specs.AppTurns.{home_of};
 
 use std::alloc::Global;
 use std::collections::VecDeque;
 use std::marker::Model;
-use xsk_umem::{Batch, Frame, Geometry, Item, OutOfMemory, XdpDesc};
+use xsk_model::home_item;
+use xsk_umem::{Batch, Frame, Geometry, OutOfMemory};
 
 /// The most frames that a side has to give back: those of one batch.
 const MOST_BACK: usize = 32;
@@ -77,31 +78,16 @@ impl Back {
     pub(crate) fn give(&mut self, alloc: Global, geometry: &Geometry, count: u32) -> Batch
         requires few { count ≤ 32 }
         requires here { count ≤ length self.old }
-        ensures items { result ≡ map (home_item geometry.now) (take count self.old) }
+        ensures items { result ≡ map (item_at_home geometry.now) (take count self.old) }
         ensures left { self.new ≡ drop count self.old }
     {
         let mut items = Batch::new(alloc);
         for _ in 0..count {
             if let Some(frame) = self.frames.pop_front() {
-                items.push(fill_item(geometry, frame));
+                items.push(home_item(geometry, frame));
             }
         }
         items
-    }
-}
-
-/// The item of a frame on FILL: its base address, with no length and no options.
-fn fill_item(geometry: &Geometry, frame: Frame) -> Item
-    ensures { result ≡ home_item geometry.now frame }
-{
-    let addr = u64::from(frame.number()) * u64::from(geometry.chunk());
-    Item {
-        frame: Some(frame),
-        desc: XdpDesc {
-            addr,
-            len: 0,
-            options: 0,
-        },
     }
 }
 

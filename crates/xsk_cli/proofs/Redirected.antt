@@ -9,13 +9,13 @@ use Rattle.xsk_model.specs.Config.{Config, map_of}
 use Rattle.xsk_model.specs.Rings.{caller_of}
 use Rattle.xsk_model.specs.Sent.{sent}
 use Rattle.xsk_model.specs.Stored.{stored_entry}
+use Rattle.xsk_model.specs.Steering.{paired_port}
 use Rattle.xsk_pcap.specs.Written.{written}
 use Rattle.xsk_turns.specs.Inputs.{packets_of_port}
 use Rattle.xsk_sim.specs.Shown.{Shown, packets_in}
 use Rattle.xsk_plain.specs.Log.{calls_of, entries_of, entry_of}
 use Rattle.xsk_plain.specs.declared.log.Log.{Log}
 use Rattle.xsk_sim.specs.Runs.{HasEnded, HasStalled}
-use Rattle.xsk_laws.specs.Expected.{paired}
 use Rattle.xsk_laws.specs.Laws.{AreWholeRuns, HasOwnSockets}
 use Rattle.xsk_laws.proofs.Theorems.{all_is_expected}
 use Rattle.xsk_laws.proofs.OneQueue.{expected_is_other}
@@ -49,7 +49,7 @@ own_sockets = record { queues = refl; classes = refl; cells = own_cells }
 
 -- each driver sent what the other port received, as far as it is sent on
 sent_on : (lists : List PacketList) (frames : List Frame) (order : ℕ) (run : Shown) (port : ℕ) → (ended : HasEnded (setting_of lists) frames order run) → port < 2
-    → sent c ended.history (port * 1 + 0) ≡ filter is_sent_on (packets_of_port lists (paired port))
+    → sent c ended.history (port * 1 + 0) ≡ filter is_sent_on (packets_of_port lists (paired_port port))
 sent_on lists frames order run port ended below =
     all_is_expected c lists frames ended.history port 0 (whole_runs lists frames order run ended) below (lit< tt) refl
     ∙ expected_is_other c lists port (two_ports-config command_geometry) own_sockets below

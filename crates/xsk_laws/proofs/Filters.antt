@@ -5,13 +5,13 @@ use Rattle.std.specs.List.{filter}
 use Rattle.std.proofs.lemmas.Bool.{cases_Bool, cases_eq, cases_lt, and_parts, eq-eqb, ne_eqb, lt-ltb, le-ltb, le-leb, lt-leb, leb-true, ltb-true}
 use Rattle.std.proofs.lemmas.List.Elements.{All-nil, All-cons}
 use Rattle.xsk_model.specs.Config.{Config, socket_at, classes_of, batch_of, map_of}
-use Rattle.xsk_turns.specs.Steering.{queue_of}
+use Rattle.xsk_model.specs.Steering.{packet_queue, packet_cell, packet_limit, socket_on}
 use Rattle.xsk_turns.specs.Inputs.{packets_of_queue}
 use Rattle.xsk_turns.specs.Turns.{Seat, redirect_to, limit_of}
 use Rattle.xsk_turns.specs.Disposals.{disposal_to, disposal_in, is_to, delivered_to}
 use Rattle.xsk_turns.specs.declared.disposal.Disposal.{Disposal}
 use Rattle.xsk_turns.specs.declared.disposal.Disposal.TheVariants.{Delivered, TooLong, Runt, Missed}
-use Rattle.xsk_laws.specs.Expected.{limit_in, cell_on, socket_on, is_redirected}
+use Rattle.xsk_laws.specs.Expected.{is_redirected}
 use Rattle.xsk_laws.specs.Forwarded.{with_disposal}
 
 -- ---- one packet, by plain tests
@@ -107,19 +107,19 @@ seat_at c d o q = record { config = c; pair = d; port = o; queue = q; classes = 
 -- whether a packet of a port and queue goes to a socket there
 abbrev is_fit : Config → ℕ → ℕ → ℕ → List ℕ → Bool
 is_fit c o q s packet =
-    leb 14 (length packet) && (leb (length packet) (limit_in c) && (ltb (cell_on c q packet) (length (map_of c o)) && eqb (slice_index (map_of c o) (cell_on c q packet)) (s + 1)))
+    leb 14 (length packet) && (leb (length packet) (packet_limit c) && (ltb (packet_cell (classes_of c) q packet) (length (map_of c o)) && eqb (slice_index (map_of c o) (packet_cell (classes_of c) q packet)) (s + 1)))
 
 same_and : (x x' y y' z z' w w' : Bool) → x ≡ x' → y ≡ y' → z ≡ z' → w ≡ w' → (x && (y && (z && w))) ≡ (x' && (y' && (z' && w')))
 same_and x x' y y' z z' w w' e f g h = cc
 
 to_fit : (c : Config) (d o q s : ℕ) (packet : List ℕ) → IsBoundTo c o q s → is_to s (disposal_in (seat_at c d o q) packet) ≡ is_fit c o q s packet
 to_fit c d o q s packet bound =
-    let cell = cell_on c q packet in
+    let cell = packet_cell (classes_of c) q packet in
     let number = slice_index (map_of c o) cell in
     let r = redirect_to c o q number in
     ap (λ (x : Disposal). is_to s (cond (ltb (length packet) 14) Runt (cond (leb (length (map_of c o)) cell) Missed x))) (disposal_goes (seat_at c d o q) packet r)
-    ∙ goes s (ltb (length packet) 14) (leb (length (map_of c o)) cell) (ltb (limit_in c) (length packet)) r
-    ∙ same_and _ _ _ _ _ _ _ _ (sym (leb_not 14 (length packet))) (sym (leb_not (length packet) (limit_in c))) (sym (ltb_not cell (length (map_of c o)))) (named c o q s number bound)
+    ∙ goes s (ltb (length packet) 14) (leb (length (map_of c o)) cell) (ltb (packet_limit c) (length packet)) r
+    ∙ same_and _ _ _ _ _ _ _ _ (sym (leb_not 14 (length packet))) (sym (leb_not (length packet) (packet_limit c))) (sym (ltb_not cell (length (map_of c o)))) (named c o q s number bound)
 
 and_four : (q x y z w : Bool) → (q && (x && y) && (z && w)) ≡ (q && (x && (y && (z && w))))
 and_four true true true z w = refl
@@ -128,11 +128,11 @@ and_four true false y z w = refl
 and_four false x y z w = refl
 
 redirected : (c : Config) (d o q k : ℕ) (packet : List ℕ) → IsBoundTo c o q (socket_on c o q k)
-    → is_redirected c o q k packet ≡ (eqb (queue_of c.queues packet) q && is_to (socket_on c o q k) (disposal_in (seat_at c d o q) packet))
+    → is_redirected c o q k packet ≡ (eqb (packet_queue c.queues packet) q && is_to (socket_on c o q k) (disposal_in (seat_at c d o q) packet))
 redirected c d o q k packet bound =
-    and_four (eqb (queue_of c.queues packet) q) (leb 14 (length packet)) (leb (length packet) (limit_in c)) (ltb (cell_on c q packet) (length (map_of c o)))
-    (eqb (slice_index (map_of c o) (cell_on c q packet)) (socket_on c o q k + 1))
-    ∙ ap (λ x. eqb (queue_of c.queues packet) q && x) (sym (to_fit c d o q (socket_on c o q k) packet bound))
+    and_four (eqb (packet_queue c.queues packet) q) (leb 14 (length packet)) (leb (length packet) (packet_limit c)) (ltb (packet_cell (classes_of c) q packet) (length (map_of c o)))
+    (eqb (slice_index (map_of c o) (packet_cell (classes_of c) q packet)) (socket_on c o q k + 1))
+    ∙ ap (λ x. eqb (packet_queue c.queues packet) q && x) (sym (to_fit c d o q (socket_on c o q k) packet bound))
 
 -- ---- all packets
 
@@ -147,24 +147,24 @@ delivered_is c d o q k [] bound = refl
 delivered_is c d o q k (packet ∷ ps) bound =
     let s = socket_on c o q k in
     let test : List ℕ → Bool = λ (x : List ℕ). is_to s (disposal_in (seat_at c d o q) x) in
-    sym (filter_two (eqb (queue_of c.queues packet) q) (test packet) packet test (filter (is_redirected c o q k) ps) (packets_of_queue c.queues q ps) refl (sym (delivered_is c d o q k ps bound)))
+    sym (filter_two (eqb (packet_queue c.queues packet) q) (test packet) packet test (filter (is_redirected c o q k) ps) (packets_of_queue c.queues q ps) refl (sym (delivered_is c d o q k ps bound)))
     ∙ ap (λ b. cond b (packet ∷ filter (is_redirected c o q k) ps) (filter (is_redirected c o q k) ps)) (sym (redirected c d o q k packet bound))
 
 -- each packet that is delivered has at most the limit's bytes
 pub delivered_few : (c : Config) (d o q s : ℕ) (ps : List (List ℕ)) → IsBoundTo c o q s
-    → All (λ (p : List ℕ). length p ≤ limit_in c) (delivered_to (seat_at c d o q) s ps)
-delivered_few c d o q s [] bound = All-nil (λ (p : List ℕ). length p ≤ limit_in c)
+    → All (λ (p : List ℕ). length p ≤ packet_limit c) (delivered_to (seat_at c d o q) s ps)
+delivered_few c d o q s [] bound = All-nil (λ (p : List ℕ). length p ≤ packet_limit c)
 delivered_few c d o q s (packet ∷ ps) bound =
     let later = delivered_few c d o q s ps bound in
     ⊎_elim
     (λ (e : is_to s (disposal_in (seat_at c d o q) packet) ≡ true).
     let fit : is_fit c o q s packet ≡ true = sym (to_fit c d o q s packet bound) ∙ e in
     let more = (and_parts (leb 14 (length packet)) _ fit).1 in
-    let few : length packet ≤ limit_in c = leb-true (length packet) (limit_in c) (and_parts (leb (length packet) (limit_in c)) _ more).0 in
-    subst (λ b. All (λ (p : List ℕ). length p ≤ limit_in c) (cond b (packet ∷ delivered_to (seat_at c d o q) s ps) (delivered_to (seat_at c d o q) s ps))) (sym e)
-    (All-cons (λ (p : List ℕ). length p ≤ limit_in c) packet (delivered_to (seat_at c d o q) s ps) few later))
+    let few : length packet ≤ packet_limit c = leb-true (length packet) (packet_limit c) (and_parts (leb (length packet) (packet_limit c)) _ more).0 in
+    subst (λ b. All (λ (p : List ℕ). length p ≤ packet_limit c) (cond b (packet ∷ delivered_to (seat_at c d o q) s ps) (delivered_to (seat_at c d o q) s ps))) (sym e)
+    (All-cons (λ (p : List ℕ). length p ≤ packet_limit c) packet (delivered_to (seat_at c d o q) s ps) few later))
     (λ (e : is_to s (disposal_in (seat_at c d o q) packet) ≡ false).
-    subst (λ b. All (λ (p : List ℕ). length p ≤ limit_in c) (cond b (packet ∷ delivered_to (seat_at c d o q) s ps) (delivered_to (seat_at c d o q) s ps))) (sym e) later)
+    subst (λ b. All (λ (p : List ℕ). length p ≤ packet_limit c) (cond b (packet ∷ delivered_to (seat_at c d o q) s ps) (delivered_to (seat_at c d o q) s ps))) (sym e) later)
     (cases_Bool (is_to s (disposal_in (seat_at c d o q) packet)))
 
 -- the packets by their disposals

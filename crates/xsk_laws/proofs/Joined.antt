@@ -12,6 +12,7 @@ use Rattle.xsk_model.specs.Entry.{Entry, own}
 use Rattle.xsk_model.specs.Own.{peeked_of, submitted_of, sending_of}
 use Rattle.xsk_model.specs.Ends.{is_mark, draining_of, telling_of}
 use Rattle.xsk_model.specs.Sent.{sent_by}
+use Rattle.xsk_model.specs.Steering.{paired_port, driver_on, socket_on}
 use Rattle.xsk_model.specs.declared.call.Ring.TheVariants.{Rx, Tx}
 use Rattle.xsk_model.specs.declared.call.Mark.{Mark}
 use Rattle.xsk_model.specs.declared.call.Mark.TheVariants.{RxDone, TxDone}
@@ -26,7 +27,7 @@ use Rattle.xsk_turns.specs.Law.{IsLaidOut, EachDisposedOnce, DeliversInOrder, No
 use Rattle.xsk_turns.specs.AppOwned.{IsApp}
 use Rattle.xsk_turns.specs.AppTurns.{pair_of, app_start, app_turn}
 use Rattle.xsk_turns.specs.AppLaw.{LanesPassedOn, NothingSentLate, DrainsRx}
-use Rattle.xsk_laws.specs.Expected.{paired, driver_on, socket_on, received, expected}
+use Rattle.xsk_laws.specs.Expected.{received, expected}
 use Rattle.xsk_laws.specs.Forwarded.{with_disposal, forwarded}
 use Rattle.xsk_laws.specs.Laws.{received_by, AreWholeRuns, IsPlace}
 use Rattle.xsk_laws.proofs.Emptied.{is_mark-self, has_mark}
@@ -57,7 +58,7 @@ input_is c lists p q k d s at =
 
 module _ (w : Workers) (c : Config) (lists : List PacketList) (frames : List Frame) (h : List Entry) (p q k : ℕ) (run : AreWholeRuns c lists frames h) (place : IsPlace c p q k) where
   abbrev o : ℕ
-  o = paired p
+  o = paired_port p
 
   -- the sending driver and its socket, the receiving driver and its socket, and the application
   abbrev d : ℕ

@@ -3,9 +3,9 @@ use Rattle.std.proofs.Common.{◌≡◌, ℕ, ◌+◌, ◌*◌, ◌%◌, ◌<◌
 use Rattle.std.specs.List.{filter}
 use Rattle.std.proofs.lemmas.Bool.{eq-eqb}
 use Rattle.xsk_model.specs.Config.{Config, classes_of, map_of}
-use Rattle.xsk_turns.specs.Steering.{queue_of}
+use Rattle.xsk_model.specs.Steering.{packet_queue, packet_cell, paired_port, socket_on}
 use Rattle.xsk_turns.specs.Inputs.{packets_of_port}
-use Rattle.xsk_laws.specs.Expected.{paired, socket_on, cell_on, holds_socket, has_length, is_redirected}
+use Rattle.xsk_laws.specs.Expected.{holds_socket, has_length, is_redirected}
 use Rattle.xsk_laws.specs.Laws.{HasOwnSockets, ExpectedIsOther}
 use Rattle.xsk_laws.proofs.Places.{are_paired}
 
@@ -26,9 +26,9 @@ between false x h e f = absurd (cc)
 only_socket : (c : Config) (o : ℕ) → HasOwnSockets c → socket_on c o 0 0 ≡ o
 only_socket c o own = ap (λ n. (o * c.queues + 0) * n + 0) own.classes ∙ ap (λ n. (o * n + 0) * 1 + 0) own.queues ∙ omega arith
 
-own_cell : (c : Config) (o : ℕ) (packet : List ℕ) → HasOwnSockets c → o < c.ports → holds_socket (map_of c o) (cell_on c 0 packet) (socket_on c o 0 0) ≡ true
+own_cell : (c : Config) (o : ℕ) (packet : List ℕ) → HasOwnSockets c → o < c.ports → holds_socket (map_of c o) (packet_cell (classes_of c) 0 packet) (socket_on c o 0 0) ≡ true
 own_cell c o packet own port =
-    let first : cell_on c 0 packet ≡ 0 = omega (arith, mod_one (sum (take 14 packet)) (classes_of c) own.classes) in
+    let first : packet_cell (classes_of c) 0 packet ≡ 0 = omega (arith, mod_one (sum (take 14 packet)) (classes_of c) own.classes) in
     ap (λ n. holds_socket (map_of c o) n (socket_on c o 0 0)) first
     ∙ ap (λ n. holds_socket (map_of c o) 0 n) (only_socket c o own)
     ∙ ap (λ m. holds_socket m 0 o) (own.cells o port)
@@ -36,8 +36,8 @@ own_cell c o packet own port =
 
 pub expected_is_other : ExpectedIsOther
 expected_is_other c lists port config own known =
-    let o = paired port in
+    let o = paired_port port in
     let other : o < c.ports = (are_paired c.ports port config.ports known).in_ports in
     same_filter (is_redirected c o 0 0) (has_length c) (packets_of_port lists o)
-    (λ packet. between (eqb (queue_of c.queues packet) 0) (has_length c packet) (holds_socket (map_of c o) (cell_on c 0 packet) (socket_on c o 0 0))
-    (eq-eqb (queue_of c.queues packet) 0 (mod_one (sum (take 12 packet)) c.queues own.queues)) (own_cell c o packet own other))
+    (λ packet. between (eqb (packet_queue c.queues packet) 0) (has_length c packet) (holds_socket (map_of c o) (packet_cell (classes_of c) 0 packet) (socket_on c o 0 0))
+    (eq-eqb (packet_queue c.queues packet) 0 (mod_one (sum (take 12 packet)) c.queues own.queues)) (own_cell c o packet own other))

@@ -6,10 +6,10 @@ use Rattle.std.proofs.lemmas.Bool.{cases_eq, eq-eqb, ne_eqb}
 use Rattle.xsk_model.specs.Config.{Config, IsConfig, IsRegular, IsBound, pair_at, socket_at, classes_of}
 use Rattle.xsk_model.specs.Marks.{apps_of}
 use Rattle.xsk_model.specs.Rings.{pair_on, application_on, port_of, queue_of}
+use Rattle.xsk_model.specs.Steering.{paired_port, driver_on, socket_on}
 use Rattle.xsk_model.specs.declared.call.Ring.TheVariants.{Rx}
 use Rattle.xsk_model.proofs.Roles.{pair_on_only}
 use Rattle.xsk_turns.specs.AppTurns.{pair_of, side_socket, rx_of, tx_of, lanes_of}
-use Rattle.xsk_laws.specs.Expected.{paired, driver_on, socket_on}
 
 -- ---- numbers
 
@@ -21,10 +21,10 @@ below x q r n h k =
     let e : suc x * q ≡ x * q + q = grind arith in
     omega (arith, h, k, e)
 
-pub paired_even : (port : ℕ) → port % 2 ≡ 0 → paired port ≡ port + 1
+pub paired_even : (port : ℕ) → port % 2 ≡ 0 → paired_port port ≡ port + 1
 paired_even port h = ap (λ b. cond b (port + 1) (port - 1)) (eq-eqb (port % 2) 0 h)
 
-pub paired_odd : (port : ℕ) → (port % 2 ≡ 0 → ⊥) → paired port ≡ port - 1
+pub paired_odd : (port : ℕ) → (port % 2 ≡ 0 → ⊥) → paired_port port ≡ port - 1
 paired_odd port h = ap (λ b. cond b (port + 1) (port - 1)) (ne_eqb (port % 2) 0 h)
 
 -- the two ports of a pair
@@ -35,7 +35,7 @@ pub record ArePaired (ports port other : ℕ) : Type 0 where
   pub here : port ≡ 2 * (port / 2) + (1 - other % 2)
   pub there : other ≡ 2 * (port / 2) + other % 2
 
-pub are_paired : (ports port : ℕ) → (ports ≡ 2) ⊎ (ports ≡ 4) → port < ports → ArePaired ports port (paired port)
+pub are_paired : (ports port : ℕ) → (ports ≡ 2) ⊎ (ports ≡ 4) → port < ports → ArePaired ports port (paired_port port)
 are_paired ports port even h = ⊎_elim
     (λ (e : port % 2 ≡ 0). subst (ArePaired ports port) (sym (paired_even port e))
     (record { in_ports = omega (arith, even); half = omega arith; side = omega arith; here = omega arith; there = omega arith }))

@@ -4,8 +4,8 @@ use Rattle.std.proofs.lemmas.Nat.{div-mul-add, mod-mul-add, div-add-mod'}
 use Rattle.std.proofs.lemmas.Bool.{and_parts, and_from, eqb-true, eq-eqb, false_from_ne_true}
 use Rattle.xsk_model.specs.Config.{Config, IsConfig, IsRegular, socket_at, classes_of}
 use Rattle.xsk_model.specs.Sent.{sockets_from}
+use Rattle.xsk_model.specs.Steering.{driver_on}
 use Rattle.xsk_model.specs.declared.config.SocketInfo.{SocketInfo}
-use Rattle.xsk_laws.specs.Expected.{driver_on}
 use Rattle.xsk_laws.proofs.Totals.{run_of}
 
 -- whether a socket is bound to a port and queue

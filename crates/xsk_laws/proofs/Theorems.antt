@@ -5,8 +5,9 @@ use Rattle.xsk_umem.specs.PacketList.{PacketList}
 use Rattle.xsk_model.specs.Config.{Config, IsConfig, pair_at, classes_of}
 use Rattle.xsk_model.specs.Entry.{Entry, own}
 use Rattle.xsk_model.specs.Sent.{sockets_from, sent_from, sent, sent_by}
+use Rattle.xsk_model.specs.Steering.{paired_port, driver_on, socket_on}
 use Rattle.xsk_turns.specs.Disposals.{delivered_to}
-use Rattle.xsk_laws.specs.Expected.{paired, driver_on, socket_on, received}
+use Rattle.xsk_laws.specs.Expected.{received}
 use Rattle.xsk_laws.specs.Laws.{AreWholeRuns, SentIsExpected, SentIsForwarded, NothingElseIsSent, AllIsExpected, SentIsWithin}
 use Rattle.xsk_laws.proofs.Filters.{seat_at}
 use Rattle.xsk_laws.proofs.Places.{IsAt, is_at}
@@ -29,7 +30,7 @@ module _ (c : Config) (lists : List PacketList) (frames : List Frame) (h : List 
   d = driver_on c p q
 
   abbrev e : ℕ
-  e = driver_on c (paired p) q
+  e = driver_on c (paired_port p) q
 
   config : IsConfig c
   config = run.history.opened.config
@@ -56,16 +57,16 @@ module _ (c : Config) (lists : List PacketList) (frames : List Frame) (h : List 
       first : d * classes_of c ≡ socket_on c p q 0
       first = omega arith
 
-  within : (f : List ℕ → ℕ) → total f (sent c h d) ≤ total f (received c lists (paired p) q)
+  within : (f : List ℕ → ℕ) → total f (sent c h d) ≤ total f (received c lists (paired_port p) q)
   within f =
       let each : (k : ℕ) → k < classes_of c
-      → sent_from c ((d * classes_of c + k) ∷ []) [] (own d h) ≡ delivered_to (seat_at c e (paired p) q) (e * classes_of c + k) (received c lists (paired p) q) =
+      → sent_from c ((d * classes_of c + k) ∷ []) [] (own d h) ≡ delivered_to (seat_at c e (paired_port p) q) (e * classes_of c + k) (received c lists (paired_port p) q) =
       λ k class. sent_arrived workers c lists frames h p q k run (record { in_ports = port; in_queues = queue; in_classes = class }) in
-      let few = sent_few f c (own d h) (seat_at c e (paired p) q) (received c lists (paired p) q) (d * classes_of c) (e * classes_of c) (classes_of c) 0 (classes_of c) (omega arith) each in
+      let few = sent_few f c (own d h) (seat_at c e (paired_port p) q) (received c lists (paired_port p) q) (d * classes_of c) (e * classes_of c) (classes_of c) 0 (classes_of c) (omega arith) each in
       let start : d * classes_of c + 0 ≡ d * classes_of c = omega arith in
       let all : total f (sent c h d) ≡ total f (sent_from c (run_of (d * classes_of c + 0) (classes_of c)) [] (own d h)) =
       ap (total f) (all_sent ∙ ap (λ n. sent_from c (run_of n (classes_of c)) [] (own d h)) (sym start)) in
-      omega (arith, all, few, delivered_within f (seat_at c e (paired p) q) (e * classes_of c + 0) (received c lists (paired p) q))
+      omega (arith, all, few, delivered_within f (seat_at c e (paired_port p) q) (e * classes_of c + 0) (received c lists (paired_port p) q))
 
 pub nothing_else_is_sent : NothingElseIsSent
 nothing_else_is_sent c lists frames h p q run port queue =
@@ -80,7 +81,7 @@ all_is_expected c lists frames h p q run port queue one =
 pub sent_is_within : SentIsWithin
 sent_is_within c lists frames h p q run port queue =
     let sent_here = sent c h (driver_on c p q) in
-    let input = received c lists (paired p) q in (
+    let input = received c lists (paired_port p) q in (
       omega (arith, within c lists frames h p q run port queue (λ _. 1), total-one sent_here, total-one input),
       omega (arith, within c lists frames h p q run port queue (λ (x : List ℕ). length x), total-bytes sent_here, total-bytes input),
     )

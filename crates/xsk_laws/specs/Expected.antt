@@ -2,22 +2,10 @@
 -- It is read off the input and the configuration alone.
 use Rattle.std.specs.Prelude.{ℕ, ◌+◌, ◌-◌, ◌*◌, ◌%◌, ◌==◌, ◌&&◌, Bool, nat_lt, nat_le, if◌then◌else◌, List, length, slice_index}
 use Rattle.std.specs.List.{filter}
-use Rattle.xsk_umem.specs.Geometry.{payload_of}
 use Rattle.xsk_umem.specs.PacketList.{PacketList}
 use Rattle.xsk_model.specs.Config.{Config, classes_of, map_of}
-use Rattle.xsk_turns.specs.Steering.{queue_of, class_of}
+use Rattle.xsk_model.specs.Steering.{packet_queue, packet_cell, packet_limit, paired_port, socket_on}
 use Rattle.xsk_turns.specs.Inputs.{packets_of_port, packets_of_queue}
-
--- the port whose packets a port sends: ports 0 and 1 are a pair, and so are 2 and 3
-abbrev pub paired : ℕ → ℕ
-paired port = if port % 2 == 0 then port + 1 else port - 1
-
--- the driver of a port's queue, and the socket of a class there: pairs are numbered port by port, sockets pair by pair
-abbrev pub driver_on : Config → ℕ → ℕ → ℕ
-driver_on c port queue = port * c.queues + queue
-
-abbrev pub socket_on : Config → ℕ → ℕ → ℕ → ℕ
-socket_on c port queue class = driver_on c port queue * classes_of c + class
 
 -- what a port receives on a queue
 abbrev pub received : Config → List PacketList → ℕ → ℕ → List (List ℕ)
@@ -25,30 +13,22 @@ received c lists port queue = packets_of_queue c.queues queue (packets_of_port l
 
 -- ---- what is redirected
 
--- the most bytes of a packet: those of 18 frames, or without XDP_USE_SG those of one
-abbrev pub limit_in : Config → ℕ
-limit_in c = (if c.sg then 18 else 1) * payload_of c.geometry
-
--- the cell to which a packet is redirected on a queue: that of its class
-abbrev pub cell_on : Config → ℕ → List ℕ → ℕ
-cell_on c queue packet = queue * classes_of c + class_of (classes_of c) packet
-
 -- whether the cell exists and holds the socket, whose number is counted from 1 there
 abbrev pub holds_socket : List ℕ → ℕ → ℕ → Bool
 holds_socket map cell socket = nat_lt cell (length map) && (slice_index map cell == socket + 1)
 
 -- whether a packet has 14 bytes up to the limit
 abbrev pub has_length : Config → List ℕ → Bool
-has_length c packet = nat_le 14 (length packet) && nat_le (length packet) (limit_in c)
+has_length c packet = nat_le 14 (length packet) && nat_le (length packet) (packet_limit c)
 
 -- whether a packet that a port receives goes to the socket of this queue and class: it is of this queue, it has such a
 -- length, and its cell holds that socket
 abbrev pub is_redirected : Config → ℕ → ℕ → ℕ → List ℕ → Bool
 is_redirected c port queue class packet =
-    (queue_of c.queues packet == queue)
+    (packet_queue c.queues packet == queue)
     && has_length c packet
-    && holds_socket (map_of c port) (cell_on c queue packet) (socket_on c port queue class)
+    && holds_socket (map_of c port) (packet_cell (classes_of c) queue packet) (socket_on c port queue class)
 
 -- what a port sends on a queue by the socket of a class, where there is one list of received packets for each port
 abbrev pub expected : Config → List PacketList → ℕ → ℕ → ℕ → List (List ℕ)
-expected c lists port queue class = filter (is_redirected c (paired port) queue class) (packets_of_port lists (paired port))
+expected c lists port queue class = filter (is_redirected c (paired_port port) queue class) (packets_of_port lists (paired_port port))

@@ -3,10 +3,11 @@ use Rattle.std.specs.Prelude.{ℕ, if◌then◌else◌, List, [], ◌∷◌}
 use Rattle.xsk_umem.specs.PacketList.{PacketList}
 use Rattle.xsk_model.specs.Config.{Config}
 use Rattle.xsk_model.specs.Entry.{Entry, own}
+use Rattle.xsk_model.specs.Steering.{paired_port, driver_on, socket_on}
 use Rattle.xsk_turns.specs.Turns.{seat_of}
 use Rattle.xsk_turns.specs.Disposals.{attempts_of, disposals_of, is_to}
 use Rattle.xsk_turns.specs.declared.disposal.Disposal.{Disposal}
-use Rattle.xsk_laws.specs.Expected.{paired, driver_on, socket_on, received}
+use Rattle.xsk_laws.specs.Expected.{received}
 
 -- the packets with the disposal that they were delivered to this socket, where the disposals are those of the packets
 abbrev pub with_disposal : ℕ → List (List ℕ) → List Disposal → List (List ℕ)
@@ -24,4 +25,4 @@ delivered c h lists port queue class =
 
 -- those of the paired port
 abbrev pub forwarded : Config → List Entry → List PacketList → ℕ → ℕ → ℕ → List (List ℕ)
-forwarded c h lists port queue class = delivered c h lists (paired port) queue class
+forwarded c h lists port queue class = delivered c h lists (paired_port port) queue class

@@ -10,10 +10,11 @@ use Rattle.xsk_model.specs.Marks.{apps_of}
 use Rattle.xsk_model.specs.Entry.{Entry, own}
 use Rattle.xsk_model.specs.History.{IsHistory}
 use Rattle.xsk_model.specs.Sent.{sent, sent_by}
+use Rattle.xsk_model.specs.Steering.{paired_port, driver_on, socket_on}
 use Rattle.xsk_turns.specs.Inputs.{packets_of_port}
 use Rattle.xsk_turns.specs.Turns.{IsWholeDriverRun}
 use Rattle.xsk_turns.specs.AppTurns.{IsWholeAppRun}
-use Rattle.xsk_laws.specs.Expected.{paired, driver_on, socket_on, received, expected, has_length}
+use Rattle.xsk_laws.specs.Expected.{received, expected, has_length}
 use Rattle.xsk_laws.specs.Forwarded.{forwarded}
 
 -- what the driver of a pair receives
@@ -79,8 +80,8 @@ AllIsExpected = (c : Config) (lists : List PacketList) (frames : List Frame) (h 
 abbrev pub SentIsWithin : Type 0
 SentIsWithin = (c : Config) (lists : List PacketList) (frames : List Frame) (h : List Entry) (port queue : ℕ)
     → AreWholeRuns c lists frames h → port < c.ports → queue < c.queues
-    → (length (sent c h (driver_on c port queue)) ≤ length (received c lists (paired port) queue))
-    × (length (concat (sent c h (driver_on c port queue))) ≤ length (concat (received c lists (paired port) queue)))
+    → (length (sent c h (driver_on c port queue)) ≤ length (received c lists (paired_port port) queue))
+    × (length (concat (sent c h (driver_on c port queue))) ≤ length (concat (received c lists (paired_port port) queue)))
 
 -- one queue with one socket on each port, and each port's one cell holding the port's own socket
 pub record HasOwnSockets (c : Config) : Type 0 where
@@ -91,4 +92,4 @@ pub record HasOwnSockets (c : Config) : Type 0 where
 -- then what is expected of a port are all packets of the paired port that have 14 bytes up to the limit
 abbrev pub ExpectedIsOther : Type 0
 ExpectedIsOther = (c : Config) (lists : List PacketList) (port : ℕ) → IsConfig c → HasOwnSockets c → port < c.ports
-    → expected c lists port 0 0 ≡ filter (has_length c) (packets_of_port lists (paired port))
+    → expected c lists port 0 0 ≡ filter (has_length c) (packets_of_port lists (paired_port port))

@@ -15,6 +15,8 @@ pub mod Packets
 pub mod Parts
 pub mod Rings
 pub mod Sent
+pub mod Sizes
+pub mod Steering
 pub mod Stored
 pub mod Expected
 pub mod Script

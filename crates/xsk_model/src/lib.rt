@@ -5,6 +5,10 @@
 mod call;
 mod config;
 pub mod laws;
+mod opening;
+pub mod placement;
+pub mod steering;
 
 pub use call::{Act, Call, Mark, Reply, Ring};
 pub use config::{Config, PairInfo, SocketInfo};
+pub use opening::home_item;

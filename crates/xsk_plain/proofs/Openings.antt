@@ -16,11 +16,11 @@ use Rattle.xsk_model.specs.Descriptor.{is_valid, is_inside, fits_chunk, has_know
 use Rattle.xsk_model.specs.Marks.{apps_of, mark_places_of}
 use Rattle.xsk_model.specs.Object.{RingState, empty_ring}
 use Rattle.xsk_model.specs.Opening.{AreFrames, home_item, home_ring, home_rings, opening_cells, opening}
-use Rattle.xsk_model.proofs.Opened.{length-frames, get_or-blanks, opening-marks}
+use Rattle.xsk_model.proofs.Opened.{length-frames, get_or-blanks, opening-marks, length-home_rings}
 use Rattle.xsk_plain.specs.declared.ring_store.RingStore.{RingStore}
 use Rattle.xsk_plain.specs.Engine.{seen, no_part}
 use Rattle.xsk_plain.specs.Kept.{IsKept, AreKept, AllKept}
-use Rattle.xsk_plain.specs.Sizes.{sizes_of}
+use Rattle.xsk_model.specs.Sizes.{sizes_of}
 use Rattle.xsk_plain.specs.Stores.{stored_item_of, home_stored, part_of, parts_of, size_in, sizes_in, IsBlank, Has}
 use Rattle.xsk_plain.proofs.StoreSteps.{part_has, size_at}
 
@@ -91,10 +91,6 @@ home_rings-at g pool (suc pairs) frames (suc k) h =
     home_rings-at g pool pairs (drop pool frames) k (omega arith)
     ∙ (let e : pool + k * pool ≡ suc k * pool = omega (arith, suc-mul k pool) in
     ap (λ (fs : List Frame). home_ring g (take pool fs)) (drop-drop (k * pool) pool frames ∙ ap (λ n. drop n frames) e))
-
-length-home_rings : (g : Geometry) (pool pairs : ℕ) (frames : List Frame) → length (home_rings g pool pairs frames) ≡ pairs
-length-home_rings g pool zero frames = refl
-length-home_rings g pool (suc pairs) frames = ap suc (length-home_rings g pool pairs (drop pool frames))
 
 pub map-home_stored : (g : Geometry) (frames : List Frame) → map stored_item_of (map (home_stored g) frames) ≡ map (home_item g) frames
 map-home_stored g [] = refl

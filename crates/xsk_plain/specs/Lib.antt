@@ -5,7 +5,6 @@ pub mod Log
 pub mod Object
 pub mod Pieces
 pub mod Rooms
-pub mod Sizes
 pub mod Sound
 pub mod Spans
 pub mod Steps

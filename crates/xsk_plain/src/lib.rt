@@ -6,7 +6,6 @@ mod log;
 mod moving;
 mod object;
 mod opening;
-mod places;
 mod plain;
 mod ring_store;
 #[cfg(test)]

@@ -1,15 +1,15 @@
 ghost use Rattle.std.specs.Prelude.{◌≡◌, vec_len};
 ghost use Rattle.xsk_model.specs.Marks.{mark_places_of};
-ghost use Rattle.xsk_plain.specs.Sizes.{sizes_of};
+ghost use Rattle.xsk_model.specs.Sizes.{sizes_of};
 ghost use Rattle.xsk_plain.specs.Stores.{sizes_in};
 
 use crate::log::Log;
 use crate::moving::{give_back, put_items, take_items};
 use crate::opening::{fill_pools, open_marks, open_rings};
-use crate::places::{has_mark, has_ring, mark_place, ring_place};
 use crate::ring_store::RingStore;
 use std::alloc::Global;
 use std::mem;
+use xsk_model::placement::{has_mark, has_ring, mark_place, ring_place};
 use xsk_model::{Call, Config, Mark, Ring};
 use xsk_umem::{Batch, Frames};
 

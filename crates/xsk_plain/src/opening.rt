@@ -2,17 +2,17 @@ ghost use Rattle.std.specs.Prelude.{◌≡◌, ◌+◌, ◌*◌, ◌<◌, ◌≤
 ghost use Rattle.xsk_umem.specs.Geometry.{IsGeometry};
 ghost use Rattle.xsk_model.specs.Config.{IsLawful, map_of};
 ghost use Rattle.xsk_model.specs.Marks.{mark_places_of};
-ghost use Rattle.xsk_model.specs.Opening.{AreFrames, home_item, opening, opening_cells};
+ghost use Rattle.xsk_model.specs.Opening.{AreFrames, opening, opening_cells};
 ghost use Rattle.xsk_plain.specs.Engine.{seen};
 ghost use Rattle.xsk_plain.specs.Kept.{AllKept};
-ghost use Rattle.xsk_plain.specs.Sizes.{sizes_of};
+ghost use Rattle.xsk_model.specs.Sizes.{sizes_of};
 ghost use Rattle.xsk_plain.specs.Stores.{IsBlank, Has, home_stored, parts_of, sizes_in};
 
-use crate::places::{CELLS, first_cell, ring_places};
 use crate::ring_store::RingStore;
 use std::alloc::Global;
-use xsk_model::Config;
-use xsk_umem::{Frame, Frames, Geometry, Item, OutOfMemory, XdpDesc};
+use xsk_model::placement::{CELLS, first_cell, ring_places};
+use xsk_model::{Config, home_item};
+use xsk_umem::{Frames, Geometry, OutOfMemory};
 
 /// All rings of the configuration by place, with nothing in them.
 pub(crate) fn open_rings(alloc: Global, config: &Config) -> Result<Vec<RingStore>, OutOfMemory>
@@ -99,21 +99,6 @@ fn fill_pool(geometry: &Geometry, home: &mut Frames, store: &mut RingStore, pool
 {
     for _ in 0..pool {
         let frame = home.pop_front().unwrap();
-        store.fill(place_home(geometry, frame));
-    }
-}
-
-/// The item of a frame on FILL: its base address, with no length and no options.
-fn place_home(geometry: &Geometry, frame: Frame) -> Item
-    ensures { result ≡ home_item geometry.now frame }
-{
-    let addr = u64::from(frame.number()) * u64::from(geometry.chunk());
-    Item {
-        frame: Some(frame),
-        desc: XdpDesc {
-            addr,
-            len: 0,
-            options: 0,
-        },
+        store.fill(home_item(geometry, frame));
     }
 }

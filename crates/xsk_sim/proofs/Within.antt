@@ -9,9 +9,8 @@ use Rattle.xsk_model.specs.Rings.{caller_of}
 use Rattle.xsk_model.specs.Entry.{Entry, own}
 use Rattle.xsk_model.specs.History.{IsHistory}
 use Rattle.xsk_model.specs.Sent.{sent}
+use Rattle.xsk_model.specs.Steering.{packet_queue, driver_on}
 use Rattle.xsk_turns.specs.Inputs.{packets_of_queue}
-use Rattle.xsk_turns.specs.Steering.{queue_of}
-use Rattle.xsk_laws.specs.Expected.{driver_on}
 use Rattle.xsk_laws.specs.Laws.{AreWholeRuns}
 use Rattle.xsk_laws.proofs.Theorems.{sent_is_within}
 use Rattle.xsk_turns.specs.Workers.{Setting, IsWholeRun}
@@ -36,7 +35,7 @@ one_more false packet few all h = record {
 
 queue_fewer : (queues queue : ℕ) (packets : List (List ℕ)) → IsFewer (packets_of_queue queues queue packets) packets
 queue_fewer queues queue [] = record { count = omega arith; bytes = omega arith }
-queue_fewer queues queue (packet ∷ packets) = one_more (queue_of queues packet == queue) packet (packets_of_queue queues queue packets) packets (queue_fewer queues queue packets)
+queue_fewer queues queue (packet ∷ packets) = one_more (packet_queue queues packet == queue) packet (packets_of_queue queues queue packets) packets (queue_fewer queues queue packets)
 
 -- the bytes of the first packets of a list
 length_concat-take : (packets : List (List ℕ)) (n : ℕ) (packet : List ℕ) → slice_get packets n ≡ Some packet

@@ -9,6 +9,7 @@ use Rattle.xsk_model.specs.Entry.{Told, Entry, own}
 use Rattle.xsk_model.specs.Legal.{IsLegal}
 use Rattle.xsk_model.specs.History.{IsHistory, state_after}
 use Rattle.xsk_model.specs.Stored.{stored}
+use Rattle.xsk_model.specs.Steering.{paired_port}
 use Rattle.xsk_model.specs.declared.call.Act.{Act}
 use Rattle.xsk_model.specs.declared.call.Act.TheVariants.{Call as Calls, Ended as IsEnd}
 use Rattle.xsk_plain.specs.Engine.{Engine, Shows}
@@ -17,7 +18,6 @@ use Rattle.xsk_driver.specs.Shown.{Shown as DriverShown}
 use Rattle.xsk_driver.specs.Runs.{IsNew as IsNewDriver, StandsWith}
 use Rattle.xsk_app.specs.Shown.{Shown as AppShown}
 use Rattle.xsk_app.specs.Runs.{IsNew as IsNewApp, Comes}
-use Rattle.xsk_laws.specs.Expected.{paired}
 use Rattle.xsk_sim.specs.Rounds.{IsTurn}
 use Rattle.xsk_turns.specs.Workers.{Setting, input_of, IsWorkerRun, IsWholeRun}
 
@@ -25,7 +25,7 @@ use Rattle.xsk_turns.specs.Workers.{Setting, input_of, IsWorkerRun, IsWholeRun}
 
 -- what the paired port of a pair's port received
 abbrev pub other_of : Setting → ℕ → List (List ℕ)
-other_of s who = packets_of_port s.packets (paired (pair_at s.config.pairs who).port)
+other_of s who = packets_of_port s.packets (paired_port (pair_at s.config.pairs who).port)
 
 -- a driver has room to send all of it
 pub record HasRoomToSend (s : Setting) (who : ℕ) (d : DriverShown) : Type 0 where

@@ -11,7 +11,6 @@ ghost use Rattle.xsk_driver.specs.Sent.{IsShort};
 ghost use Rattle.xsk_sim.specs.Shown.{HasShortPackets, packets_in};
 ghost use Rattle.xsk_turns.specs.Workers.{Setting};
 ghost use Rattle.xsk_sim.specs.Runs.{HasEnded, HasStalled, last_round_of};
-ghost use Rattle.xsk_laws.specs.Expected.{paired};
 ghost use Rattle.xsk_sim.specs.Seats.{EachFrom, AreSeated, AreReady, HadRounds, HaveEnded, DriverSits, AppSits, kept_lists, new_own};
 
 use crate::order::Order;
@@ -23,6 +22,7 @@ use thiserror::Error;
 use xsk_app::App;
 use xsk_driver::{Driver, Inputs};
 use xsk_model::Config;
+use xsk_model::steering::paired_port;
 use xsk_plain::{Log, Plain};
 use xsk_umem::{Frames, OutOfMemory, PacketList};
 
@@ -220,13 +220,6 @@ fn seat_drivers<'a>(
         seats.push(Seat::new(driver))?;
     }
     Ok(seats)
-}
-
-/// The port to which the packets of a port go.
-fn paired_port(port: u32) -> u32
-    ensures { result ≡ paired port }
-{
-    if port % 2 == 0 { port + 1 } else { port - 1 }
 }
 
 /// The bytes of all packets of a list, if they are fewer than 2^32.

@@ -75,7 +75,6 @@ impl Geometry {
 
     /// The address of a frame's first byte.
     pub fn base_of(&self, frame: u32) -> u64
-        requires { frame < self.now.frames }
         ensures { result ≡ base_of self.now frame }
     {
         u64::from(frame) * u64::from(self.chunk)
@@ -83,7 +82,6 @@ impl Geometry {
 
     /// The address of a frame's data.
     pub fn data_of(&self, frame: u32) -> u64
-        requires { frame < self.now.frames }
         ensures { result ≡ data_of self.now frame }
     {
         self.base_of(frame) + u64::from(self.headroom) + u64::from(RESERVED)

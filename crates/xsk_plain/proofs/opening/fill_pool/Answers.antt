@@ -18,7 +18,7 @@ loop-preserved c =
     let limit = c.pop_front.ensures.limit ∙ ap (λ (q : Frames). q.limit) c.loop.invariant.home in
     record {
       ring = fill_step c.args.geometry.now c.loop.store c.fill.new.self c.args.home.now.items c.pop_front.new.self.items c.loop.counter c.args.store.now.size
-          c.unwrap-frame.result c.place_home.result c.loop.invariant.ring c.place_home.ensures next c.fill.ensures;
+          c.unwrap-frame.result c.home_item.result c.loop.invariant.ring c.home_item.ensures next c.fill.ensures;
       home = ap (λ (fs : List Frame). record { items = fs; limit = c.pop_front.new.self.limit }) (sym (one_more c.args.home.now.items c.pop_front.new.self.items c.loop.counter c.unwrap-frame.result next).1)
           ∙ ap (λ n. record { items = drop (c.loop.counter + 1) c.args.home.now.items; limit = n }) limit;
     }

@@ -1,6 +1,6 @@
 use Rattle.std.proofs.Common.{◌≡◌, ◌++◌, take, map}
 use Rattle.std.specs.Prelude.{All}
-use Rattle.xsk_plain.specs.Sizes.{fill_size, comp_size, rx_size, tx_size}
+use Rattle.xsk_model.specs.Sizes.{fill_size, comp_size, rx_size, tx_size}
 use Rattle.xsk_plain.specs.Stores.{IsBlank, sizes_in}
 use Rattle.xsk_plain.proofs.opening.open_rings.Given as goal
 

@@ -2,9 +2,9 @@ use Rattle.std.proofs.Common.{◌≡◌, ℕ, ◌<◌, List, [], length, ap, ◌
 use Rattle.std.specs.List.{concat}
 use Rattle.xsk_umem.specs.PacketList.{PacketList}
 use Rattle.xsk_model.specs.Config.{pair_at}
+use Rattle.xsk_model.specs.Steering.{paired_port}
 use Rattle.xsk_model.specs.declared.config.PairInfo.{PairInfo}
 use Rattle.xsk_turns.specs.Inputs.{packets_of_port}
-use Rattle.xsk_laws.specs.Expected.{paired}
 use Rattle.xsk_turns.specs.Workers.{Setting}
 use Rattle.xsk_sim.specs.Standing.{other_of, HasRoomToSend}
 use Rattle.xsk_sim.proofs.Seating.{each_none, each_push}
@@ -27,7 +27,7 @@ loop-pair-preserved c =
     let at_other : other.packets ≡ other_of s pair =
     ap (λ (l : PacketList). l.packets) (c.in-Some-Some.ensures'.lookup.3.1 (record { packets = []; spare_packets = 0; spare_bytes = 0 }))
     ∙ ap (λ (port : ℕ). packets_of_port s.packets port) c.paired_port.ensures
-    ∙ ap (λ (pairs : List PairInfo). packets_of_port s.packets (paired (pair_at pairs pair).port)) c.pairs-in-loop-pair.ensures.value in
+    ∙ ap (λ (pairs : List PairInfo). packets_of_port s.packets (paired_port (pair_at pairs pair).port)) c.pairs-in-loop-pair.ensures.value in
     let room : HasRoomToSend s pair c.in_ok-driver.driver = record {
       packets = c.in_ok-driver.ensures.sent_room.0 ∙ c.len.ensures.value ∙ ap (length {A = List ℕ}) at_other;
       bytes = c.in_ok-driver.ensures.sent_room.1 ∙ c.in-Some.ensures ∙ ap (λ (ps : List (List ℕ)). length (concat ps)) at_other;

@@ -3,10 +3,10 @@ ghost use Rattle.xsk_model.specs.Config.{HasRing};
 ghost use Rattle.xsk_model.specs.Rings.{place, places_of};
 ghost use Rattle.xsk_model.specs.Marks.{HasMark, apps_of, mark_place as place_of_mark, mark_places_of};
 
-use xsk_model::{Config, Mark, Ring};
+use crate::{Config, Mark, Ring};
 
 /// The places for rings: FILL by pair, COMPLETION by pair, RX by socket and TX by socket.
-pub(crate) fn ring_places(config: &Config) -> usize
+pub fn ring_places(config: &Config) -> usize
     ensures value { result ≡ places_of config.now }
     ensures few { result ≤ 256 }
 {
@@ -14,7 +14,7 @@ pub(crate) fn ring_places(config: &Config) -> usize
 }
 
 /// The place of a ring among all rings. The ring must exist.
-pub(crate) fn ring_place(config: &Config, ring: Ring) -> usize
+pub fn ring_place(config: &Config, ring: Ring) -> usize
     requires { HasRing config.now ring }
     ensures value { result ≡ place config.now ring }
     ensures within { result < places_of config.now }
@@ -30,7 +30,7 @@ pub(crate) fn ring_place(config: &Config, ring: Ring) -> usize
 }
 
 /// Whether a ring exists.
-pub(crate) fn has_ring(config: &Config, ring: Ring) -> bool
+pub fn has_ring(config: &Config, ring: Ring) -> bool
     ensures { IsTrue result ↔ HasRing config.now ring }
 {
     let pairs = config.pairs();
@@ -47,11 +47,11 @@ pub(crate) fn has_ring(config: &Config, ring: Ring) -> bool
 }
 
 /// The places for the cells of one port.
-pub(crate) const CELLS: u32 = 64;
+pub const CELLS: u32 = 64;
 
 /// The marks that aren't cells: NeedFill by pair, NeedTx by socket, Kick, RxDone and Gone by pair, and TxDone by
 /// application.
-pub(crate) fn first_cell(config: &Config) -> usize
+pub fn first_cell(config: &Config) -> usize
     ensures { result ≡ mark_places_of config.now - 64 * config.now.ports }
 {
     4 * config.pairs().len() + config.sockets().len() + applications(config)
@@ -65,7 +65,7 @@ fn applications(config: &Config) -> usize
 }
 
 /// The place of a mark among all marks. What the mark belongs to must exist.
-pub(crate) fn mark_place(config: &Config, mark: Mark) -> usize
+pub fn mark_place(config: &Config, mark: Mark) -> usize
     requires { HasMark config.now mark }
     ensures value { result ≡ place_of_mark config.now mark }
     ensures within { result < mark_places_of config.now }
@@ -86,7 +86,7 @@ pub(crate) fn mark_place(config: &Config, mark: Mark) -> usize
 }
 
 /// Whether what a mark belongs to exists.
-pub(crate) fn has_mark(config: &Config, mark: Mark) -> bool
+pub fn has_mark(config: &Config, mark: Mark) -> bool
     ensures { IsTrue result ↔ HasMark config.now mark }
 {
     let pairs = config.pairs().len();
