@@ -26,7 +26,7 @@ use Rattle.xsk_model.specs.declared.call.Reply.TheVariants.{Granted, Full, Submi
 use Rattle.xsk_model.proofs.Places.{is_ring-true, place_below}
 use Rattle.xsk_model.proofs.MarkPlaces.{mark_place_below, mark_place_injective}
 use Rattle.xsk_model.proofs.Folds.{own-append, own-push_same, own-push_other}
-use Rattle.xsk_model.proofs.Moves.{ring_at-after_same, ring_at-after_other}
+use Rattle.xsk_model.proofs.Moves.{ring_at-after_same, ring_at-after_other, cond-out}
 use Rattle.xsk_model.proofs.Histories.{IsSound, sound_step, opening_sound}
 
 -- ---- marks in a list
@@ -111,10 +111,6 @@ cond_same false x = refl
 cond_told : (b : Bool) (t u : Telling) → u.told ≡ t.told → (cond b u t).told ≡ t.told
 cond_told true t u h = h
 cond_told false t u h = refl
-
-cond_out : (b : Bool) (ring : RingState) (n : ℕ) → (cond b (record ring { room = ring.room + n }) ring).out ≡ ring.out
-cond_out true ring n = refl
-cond_out false ring n = refl
 
 found_other : (r : Ring) (d : Draining) (q : Ring) (reply : Reply) → is_ring r q ≡ false → found r d q reply ≡ d
 found_other r d q Granted h = refl
@@ -227,7 +223,7 @@ module _ (c : Config) (m : Mark) (r : Ring) (config : IsConfig c) (ring : HasRin
       same_holds m t.told _ d _ (ring_at c s r).out _ (mark_at c s m) _
       (cond_told (eqb who (producer c r)) t t refl) (cond_same (eqb who (consumer c r)) d)
       (⊎_elim
-      (λ (on : is_ring r q ≡ true). out_same s who mine (Reserve q n) legal rings on ∙ cond_out (nat_le n (free (size_of c r) (ring_at c s r))) (ring_at c s r) n)
+      (λ (on : is_ring r q ≡ true). out_same s who mine (Reserve q n) legal rings on ∙ cond-out (nat_le n (free (size_of c r) (ring_at c s r))) (ring_at c s r) n)
       (λ (off : is_ring r q ≡ false). out_other s who mine (Reserve q n) legal off)
       (cases_Bool (is_ring r q)))
       refl h

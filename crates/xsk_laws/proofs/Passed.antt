@@ -14,13 +14,9 @@ use Rattle.xsk_model.specs.History.{IsHistory}
 use Rattle.xsk_model.specs.Ends.{draining_of, telling_of}
 use Rattle.xsk_model.specs.declared.call.Ring.{Ring}
 use Rattle.xsk_model.specs.declared.call.Mark.{Mark}
-use Rattle.xsk_model.proofs.Opened.{get_or-blanks}
+use Rattle.xsk_model.proofs.Opened.{get_or-blanks, length-home_rings}
 use Rattle.xsk_model.proofs.Theorems.{in_order, items_by_own}
 use Rattle.xsk_laws.proofs.Emptied.{has_mark, emptied}
-
-length-home_rings : (g : Geometry) (pool pairs : ℕ) (frames : List Frame) → length (home_rings g pool pairs frames) ≡ pairs
-length-home_rings g pool zero frames = refl
-length-home_rings g pool (suc pairs) frames = ap suc (length-home_rings g pool pairs (drop pool frames))
 
 -- all rings but FILL are empty at the opening
 opening_empty : (c : Config) (frames : List Frame) (r : Ring) → length c.pairs ≤ place c r → (ring_at c (opening c frames) r).out ≡ []

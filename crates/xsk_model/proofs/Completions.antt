@@ -55,7 +55,7 @@ whole_part n (whole items ∷ ps) =
 whole_part n (bad items ∷ ps) =
     omega (arith, whole_part n ps, ap (times n) (numbers-append items (flat_map items_of ps)), times-append n (numbers items) (numbers (flat_map items_of ps)))
 
-times-numbers-append : (n : ℕ) (xs ys : List Item) → times n (numbers (xs ++ ys)) ≡ times n (numbers xs) + times n (numbers ys)
+pub times-numbers-append : (n : ℕ) (xs ys : List Item) → times n (numbers (xs ++ ys)) ≡ times n (numbers xs) + times n (numbers ys)
 times-numbers-append n xs ys = ap (times n) (numbers-append xs ys) ∙ times-append n (numbers xs) (numbers ys)
 
 -- each item stands in one packet or in the rest
@@ -342,7 +342,7 @@ is_same-true (x ∷ xs) (y ∷ ys) h =
     let tail : xs ≡ ys = is_same-true xs ys both.1 in
     cc
 
-is_same-self : (xs : List ℕ) → is_same xs xs ≡ true
+pub is_same-self : (xs : List ℕ) → is_same xs xs ≡ true
 is_same-self [] = refl
 is_same-self (x ∷ xs) = and_from (eqb x x) (is_same xs xs) (eq-eqb x x refl) (is_same-self xs)
 
@@ -458,7 +458,7 @@ module _ (c : Config) (d : ℕ) (below : d < length c.pairs) where
 
 -- ---- a packet has a frame
 
-whole_of_packets : (c : Config) (ps : List Packet) → All (IsPacket c.geometry c.sg) ps → All (IsWhole c.geometry c.sg) (whole_packets ps)
+pub whole_of_packets : (c : Config) (ps : List Packet) → All (IsPacket c.geometry c.sg) ps → All (IsWhole c.geometry c.sg) (whole_packets ps)
 whole_of_packets c [] h = All-nil (IsWhole c.geometry c.sg)
 whole_of_packets c (whole items ∷ ps) h =
     All-cons (IsWhole c.geometry c.sg) items (whole_packets ps) (All-head (IsPacket c.geometry c.sg) (whole items) ps h)

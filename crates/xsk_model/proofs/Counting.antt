@@ -44,10 +44,10 @@ times-flat_map-set n f (x ∷ xs) (suc i) y d h =
 not_it : (a n : ℕ) → n < a → ◌≡◌ {A = ℕ} (cond (eqb a n) 1 0) 0
 not_it a n h = grind (arith, nat_tests)
 
-not_yet : (a n : ℕ) → a < n → ◌≡◌ {A = ℕ} (cond (eqb a n) 1 0) 0
+pub not_yet : (a n : ℕ) → a < n → ◌≡◌ {A = ℕ} (cond (eqb a n) 1 0) 0
 not_yet a n h = grind (arith, nat_tests)
 
-its_own : (a n : ℕ) → a ≡ n → ◌≡◌ {A = ℕ} (cond (eqb a n) 1 0) 1
+pub its_own : (a n : ℕ) → a ≡ n → ◌≡◌ {A = ℕ} (cond (eqb a n) 1 0) 1
 its_own a n h = grind (arith, nat_tests)
 
 pub times-range_below : (n a k : ℕ) → n < a → times n (range_with_len a k) ≡ 0

@@ -16,14 +16,9 @@ use Rattle.xsk_model.specs.declared.call.Ring.TheVariants.{Fill, Comp, Rx, Tx}
 use Rattle.xsk_model.specs.declared.call.Call.{Call}
 use Rattle.xsk_model.specs.declared.call.Call.TheVariants.{Reserve, Submit, Peek, Release, Swap, Look}
 use Rattle.xsk_model.specs.declared.call.Reply.{Reply}
-use Rattle.xsk_model.proofs.PacketsLaws.{packets_from-append}
+use Rattle.xsk_model.proofs.PacketsLaws.{packets_from-append, whole_packets-append}
 use Rattle.xsk_model.proofs.Folds.{part_of-push}
 use Rattle.xsk_model.proofs.OwnRuns.{own_all, fits_taken}
-
-pub whole_packets-append : (ps qs : List Packet) → whole_packets (ps ++ qs) ≡ whole_packets ps ++ whole_packets qs
-whole_packets-append [] qs = refl
-whole_packets-append (whole items ∷ ps) qs = ap (λ xs. items ∷ xs) (whole_packets-append ps qs)
-whole_packets-append (bad items ∷ ps) qs = whole_packets-append ps qs
 
 -- the Whole packets of all that was peeked on a TX ring
 abbrev pub wholes : Config → Sending → List (List Item)

@@ -25,7 +25,7 @@ use Rattle.xsk_model.specs.declared.call.Call.TheVariants.{Reserve, Submit, Peek
 use Rattle.xsk_model.specs.declared.call.Reply.{Reply}
 use Rattle.xsk_model.specs.declared.call.Reply.TheVariants.{Items}
 use Rattle.xsk_model.proofs.Counting.{times-append, times-flat_map-set, numbers-append}
-use Rattle.xsk_model.proofs.Completions.{own_kept}
+use Rattle.xsk_model.proofs.Completions.{own_kept, times-numbers-append}
 use Rattle.xsk_model.proofs.Folds.{part_of-push, part_of-push_same, part_of-push_other}
 use Rattle.xsk_model.proofs.PacketsLaws.{packets_from-append, rest_from-append, packets-items}
 use Rattle.xsk_model.proofs.Places.{is_ring-self}
@@ -277,21 +277,18 @@ has_fill c pair k kept items l h legal fits some news =
 
 -- ---- the items of a Peek on TX
 
-times-items : (n : ℕ) (xs ys : List Item) → times n (numbers (xs ++ ys)) ≡ times n (numbers xs) + times n (numbers ys)
-times-items n xs ys = ap (times n) (numbers-append xs ys) ∙ times-append n (numbers xs) (numbers ys)
-
 -- each item of some packets stands in a whole packet or in a bad one
 whole_and_bad : (n : ℕ) (ps : List Packet) → times n (flat_map numbers (whole_packets ps)) + times n (numbers (bad_ones ps)) ≡ times n (numbers (flat_map items_of ps))
 whole_and_bad n [] = refl
 whole_and_bad n (whole items ∷ ps) =
-    omega (arith, whole_and_bad n ps, times-append n (numbers items) (flat_map numbers (whole_packets ps)), times-items n items (flat_map items_of ps))
+    omega (arith, whole_and_bad n ps, times-append n (numbers items) (flat_map numbers (whole_packets ps)), times-numbers-append n items (flat_map items_of ps))
 whole_and_bad n (bad items ∷ ps) =
-    omega (arith, whole_and_bad n ps, times-items n items (bad_ones ps), times-items n items (flat_map items_of ps))
+    omega (arith, whole_and_bad n ps, times-numbers-append n items (bad_ones ps), times-numbers-append n items (flat_map items_of ps))
 
 times-packets : (n : ℕ) (g : Geometry) (sg : Bool) (xs : List Item)
     → times n (numbers (flat_map items_of (packets g sg xs))) + times n (numbers (rest g sg xs)) ≡ times n (numbers xs)
 times-packets n g sg xs =
-    sym (times-items n (flat_map items_of (packets g sg xs)) (rest g sg xs)) ∙ ap (λ (items : List Item). times n (numbers items)) (packets-items g sg xs)
+    sym (times-numbers-append n (flat_map items_of (packets g sg xs)) (rest g sg xs)) ∙ ap (λ (items : List Item). times n (numbers items)) (packets-items g sg xs)
 
 -- further items, and those of the packet that isn't at its end, go to whole packets, to bad ones, and to the rest
 further_items : (n : ℕ) (g : Geometry) (sg : Bool) (peeked items : List Item)
@@ -302,7 +299,7 @@ further_items n g sg peeked items =
     let all : times n (numbers (flat_map items_of (packets g sg (peeked ++ items)))) ≡ times n (numbers (flat_map items_of (packets g sg peeked))) + times n (numbers (flat_map items_of later)) =
     ap (λ (ps : List Packet). times n (numbers (flat_map items_of ps))) (packets_from-append g sg [] peeked items)
     ∙ ap (λ (xs : List Item). times n (numbers xs)) (flat_map-append items_of (packets g sg peeked) later)
-    ∙ times-items n (flat_map items_of (packets g sg peeked)) (flat_map items_of later) in
+    ∙ times-numbers-append n (flat_map items_of (packets g sg peeked)) (flat_map items_of later) in
     let end : times n (numbers (rest g sg (peeked ++ items))) ≡ times n (numbers (rest_from g sg (rest g sg peeked) items)) =
     ap (λ (xs : List Item). times n (numbers xs)) (rest_from-append g sg [] peeked items) in
     omega (
@@ -312,7 +309,7 @@ further_items n g sg peeked items =
       whole_and_bad n later,
       times-packets n g sg (peeked ++ items),
       times-packets n g sg peeked,
-      times-items n peeked items,
+      times-numbers-append n peeked items,
     )
 
 -- sockets of two classes are two
