@@ -8,14 +8,14 @@ use Rattle.xsk_umem.specs.Frame.{Frame}
 use Rattle.xsk_umem.specs.declared.batch.Item.{Item}
 use Rattle.xsk_model.specs.Config.{Config, IsConfig, HasRing, size_of}
 use Rattle.xsk_model.specs.Rings.{is_ring, places_of, producer, consumer}
-use Rattle.xsk_model.specs.Marks.{HasMark, MaySwap, mark_place, mark_places_of}
+use Rattle.xsk_model.specs.Marks.{HasMark, is_mark, MaySwap, mark_place, mark_places_of}
 use Rattle.xsk_model.specs.Object.{RingState, State, ring_at, mark_at, free, peek_reply, reply_at, ring_after, after}
 use Rattle.xsk_model.specs.Entry.{Told, Entry, told, own}
 use Rattle.xsk_model.specs.Own.{is_on}
 use Rattle.xsk_model.specs.Legal.{IsLegal}
 use Rattle.xsk_model.specs.Opening.{opening}
 use Rattle.xsk_model.specs.History.{GoesOn, after_all, IsHistory, state_after}
-use Rattle.xsk_model.specs.Ends.{is_mark, Draining, are_none, unseen_after, found, looked, draining_after, draining_step, draining_of, Telling, telling_after, telling_step, telling_of}
+use Rattle.xsk_model.specs.Ends.{Draining, are_none, unseen_after, found, looked, draining_after, draining_step, draining_of, Telling, telling_after, telling_step, telling_of}
 use Rattle.xsk_model.specs.declared.call.Ring.{Ring}
 use Rattle.xsk_model.specs.declared.call.Mark.{Mark}
 use Rattle.xsk_model.specs.declared.call.Mark.TheVariants.{NeedFill, NeedTx, Kick, RxDone, Gone, TxDone, Cell}
@@ -195,7 +195,7 @@ own_fold f a who past e = ⊎_elim
     (cases_eq e.who who)
 
 module _ (c : Config) (m : Mark) (r : Ring) (config : IsConfig c) (ring : HasRing c r) (known : HasMark c m)
-    (owned : (who : ℕ) → MaySwap c who m → who ≡ producer c r) where
+    (owned : (mine : List Told) (who value : ℕ) → MaySwap c mine who m value → who ≡ producer c r) where
   -- what is kept over a call by someone: what the producer told, and what the consumer found
   abbrev HoldsAfter : State → ℕ → Call → Reply → Telling → Draining → Type 0
   HoldsAfter s who call reply t d =
@@ -271,7 +271,7 @@ module _ (c : Config) (m : Mark) (r : Ring) (config : IsConfig c) (ring : HasRin
       (⊎_elim
       (λ (e : mark_place c m ≡ mark_place c q) (one : get_or (set s.marks (mark_place c q) value) (mark_place c m) 0 ≡ 1).
       let same : m ≡ q = mark_place_injective c m q config known legal.known e in
-      let by : who ≡ producer c r = owned who (subst (MaySwap c who) (sym same) legal.role) in
+      let by : who ≡ producer c r = owned mine who value (subst (λ x. MaySwap c mine who x value) (sym same) legal.role) in
       let within : mark_place c m < length s.marks = omega (arith, marks, mark_place_below c m config known) in
       let now : get_or (set s.marks (mark_place c q) value) (mark_place c m) 0 ≡ value =
       ap (λ k. get_or (set s.marks k value) (mark_place c m) 0) (sym e) ∙ get_or-set_same s.marks (mark_place c m) value 0 within in
@@ -321,7 +321,7 @@ late_before m r who past more h =
     (subst (λ (t : Telling). t.late ≡ false) (ap (telling_of m r) (own-append who past more) ∙ fold-append (telling_step m r) (record { told = false; late = false }) (own who past) (own who more)) h)
 
 module _ (c : Config) (frames : List Frame) (ms : List Mark) (m : Mark) (r : Ring) (config : IsConfig c) (ring : HasRing c r) (known : HasMark c m)
-    (owned : (who : ℕ) → MaySwap c who m → who ≡ producer c r) where
+    (owned : (mine : List Told) (who value : ℕ) → MaySwap c mine who m value → who ≡ producer c r) where
   abbrev HoldsAt : State → List Entry → Type 0
   HoldsAt s past = Holds m (telling_of m r (own (producer c r) past)).told (draining_of ms r (own (consumer c r) past)) (ring_at c s r).out (mark_at c s m)
 

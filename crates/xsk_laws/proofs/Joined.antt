@@ -7,10 +7,11 @@ use Rattle.xsk_umem.specs.PacketList.{PacketList}
 use Rattle.xsk_umem.specs.declared.batch.Item.{Item}
 use Rattle.xsk_model.specs.Config.{Config, IsConfig, pair_at, classes_of, batch_of}
 use Rattle.xsk_model.specs.Rings.{app_of, caller_of}
+use Rattle.xsk_model.specs.Marks.{is_mark}
 use Rattle.xsk_model.specs.Packets.{packets, whole_packets, bytes_of}
 use Rattle.xsk_model.specs.Entry.{Entry, own}
 use Rattle.xsk_model.specs.Own.{peeked_of, submitted_of, sending_of}
-use Rattle.xsk_model.specs.Ends.{is_mark, draining_of, telling_of}
+use Rattle.xsk_model.specs.Ends.{draining_of, telling_of}
 use Rattle.xsk_model.specs.Sent.{sent_by}
 use Rattle.xsk_model.specs.Steering.{paired_port, driver_on, socket_on}
 use Rattle.xsk_model.specs.declared.call.Ring.TheVariants.{Rx, Tx}
@@ -133,7 +134,7 @@ module _ (w : Workers) (c : Config) (lists : List PacketList) (frames : List Fra
     later = omega arith;
     mark = at_o.pair_known;
     flag = (let known = at_o.pair_known in omega (arith, known));
-    owned = λ who may. may ∙ sym at_o.driver;
+    owned = λ mine who value may. may ∙ sym at_o.driver;
     listed = listed_rx;
     found = subst (λ n. (draining_of told_rx (Rx s) (own n h)).empty ≡ true) (sym app_at_o)
         (subst (λ n. (draining_of told_rx (Rx n) (own (caller_of c a) h)).empty ≡ true) (lane_rx c p q k o place.in_queues place.in_classes pair.there)
@@ -167,7 +168,7 @@ module _ (w : Workers) (c : Config) (lists : List PacketList) (frames : List Fra
     later = omega arith;
     mark = one.known;
     flag = (let known = one.known in omega (arith, known));
-    owned = λ who may. may ∙ sym app_at_p;
+    owned = λ mine who value may. may ∙ sym app_at_p;
     listed = or_left (is_mark (TxDone a) (TxDone a)) false (is_mark-self (TxDone a));
     found = subst (λ n. (draining_of (TxDone a ∷ []) (Tx t) (own n h)).empty ≡ true) (sym at_p.driver)
         (subst (λ n. (draining_of (TxDone n ∷ []) (Tx t) (own d h)).empty ≡ true) same_app

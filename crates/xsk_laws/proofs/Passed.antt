@@ -7,7 +7,7 @@ use Rattle.xsk_model.specs.Config.{Config, HasRing, pool_of}
 use Rattle.xsk_model.specs.Rings.{place, producer, consumer}
 use Rattle.xsk_model.specs.Marks.{HasMark, MaySwap, apps_of, mark_place}
 use Rattle.xsk_model.specs.Object.{RingState, empty_ring, ring_at, mark_at}
-use Rattle.xsk_model.specs.Entry.{Entry, own, all_told}
+use Rattle.xsk_model.specs.Entry.{Told, Entry, own, all_told}
 use Rattle.xsk_model.specs.Own.{peeked_of, submitted_of}
 use Rattle.xsk_model.specs.Opening.{opening, home_rings, opening_cells}
 use Rattle.xsk_model.specs.History.{IsHistory}
@@ -38,7 +38,7 @@ pub record IsDrained (c : Config) (h : List Entry) (ms : List Mark) (m : Mark) (
   pub later : length c.pairs ≤ place c r
   pub mark : HasMark c m
   pub flag : mark_place c m < 4 * length c.pairs + length c.sockets + apps_of c
-  pub owned : (who : ℕ) → MaySwap c who m → who ≡ producer c r
+  pub owned : (mine : List Told) (who value : ℕ) → MaySwap c mine who m value → who ≡ producer c r
   pub listed : has_mark m ms ≡ true
   pub found : (draining_of ms r (own (consumer c r) h)).empty ≡ true
   pub none_late : (telling_of m r (own (producer c r) h)).late ≡ false

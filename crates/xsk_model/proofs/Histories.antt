@@ -5,13 +5,13 @@ use Rattle.xsk_umem.specs.Frame.{Frame}
 use Rattle.xsk_model.specs.Config.{Config, IsConfig, HasRing, size_of, callers_of}
 use Rattle.xsk_model.specs.Numbers.{times}
 use Rattle.xsk_model.specs.Rings.{place, places_of}
-use Rattle.xsk_model.specs.Marks.{HasMark, mark_place, mark_places_of}
+use Rattle.xsk_model.specs.Marks.{HasMark, IsMarkNumber, mark_place, mark_places_of}
 use Rattle.xsk_model.specs.Object.{RingState, State, empty_ring, ring_at, mark_at, had_by, had_after, reply_at, call_ring, ring_after, rings_after, marks_after, after}
 use Rattle.xsk_model.specs.Entry.{Entry, own}
 use Rattle.xsk_model.specs.Own.{had_of}
 use Rattle.xsk_model.specs.Legal.{IsLegal}
 use Rattle.xsk_model.specs.Opening.{IsOpened, opening}
-use Rattle.xsk_model.specs.History.{GoesOn, after_all, IsHistory, state_after, IsMarkNumber}
+use Rattle.xsk_model.specs.History.{GoesOn, after_all, IsHistory, state_after}
 use Rattle.xsk_model.specs.Holders.{holders}
 use Rattle.xsk_model.specs.declared.call.Ring.{Ring}
 use Rattle.xsk_model.specs.declared.call.Mark.{Mark}

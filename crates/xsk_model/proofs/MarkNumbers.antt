@@ -1,4 +1,4 @@
--- A cell keeps its configured number, and each other mark is 0 or 1.
+-- Each mark keeps a number of its kind.
 use Rattle.std.proofs.Common.{◌≡◌, ℕ, ◌+◌, ◌-◌, ◌*◌, ◌<◌, ◌≤◌, List, [], ◌++◌, length, get_or, set, take, replicate, flat_map, sym, ap, subst, ◌∙◌, ⊎_elim, arith, length-take, get_or-set_same, get_or-set_other}
 use Rattle.std.proofs.lemmas.Bool.{cases_eq}
 use Rattle.std.proofs.lemmas.List.{length-replicate, get_or-replicate, get_or_append_left, get_or-append_right}
@@ -6,12 +6,11 @@ use Rattle.std.proofs.lemmas.List.Concat.{get_or-flat_map}
 use Rattle.std.proofs.lemmas.List.Elements.{All-take}
 use Rattle.xsk_umem.specs.Frame.{Frame}
 use Rattle.xsk_model.specs.Config.{Config, IsConfig, IsMap, map_of}
-use Rattle.xsk_model.specs.Marks.{HasMark, MaySwap, apps_of, mark_place, mark_places_of}
+use Rattle.xsk_model.specs.Marks.{HasMark, IsMarkNumber, apps_of, mark_place, mark_places_of}
 use Rattle.xsk_model.specs.Object.{State, mark_at, after}
 use Rattle.xsk_model.specs.Entry.{Told}
 use Rattle.xsk_model.specs.Legal.{IsLegal}
 use Rattle.xsk_model.specs.Opening.{opening_cells, opening}
-use Rattle.xsk_model.specs.History.{IsMarkNumber}
 use Rattle.xsk_model.specs.declared.call.Mark.{Mark}
 use Rattle.xsk_model.specs.declared.call.Mark.TheVariants.{NeedFill, NeedTx, Kick, RxDone, Gone, TxDone, Cell}
 use Rattle.xsk_model.specs.declared.call.Call.{Call}
@@ -20,15 +19,6 @@ use Rattle.xsk_model.proofs.MarkPlaces.{cell_below, mark_place_below, mark_place
 use Rattle.xsk_model.proofs.Opened.{get_or-blanks, length-opening_cells, length-cells}
 
 -- ---- one entry
-
-swapped_number : (c : Config) (who : ℕ) (m : Mark) (value : ℕ) → MaySwap c who m → value ≤ 1 → IsMarkNumber c m value
-swapped_number c who (NeedFill d) value may h = h
-swapped_number c who (NeedTx s) value may h = h
-swapped_number c who (Kick d) value may h = h
-swapped_number c who (RxDone d) value may h = h
-swapped_number c who (Gone d) value may h = h
-swapped_number c who (TxDone a) value may h = h
-swapped_number c who (Cell port index) value may h = absurd may
 
 pub mark_sound : (c : Config) (s : State) (mine : List Told) (who : ℕ) (call : Call) (m : Mark) → IsConfig c → HasMark c m → length s.marks ≡ mark_places_of c
     → IsLegal c mine who call → IsMarkNumber c m (mark_at c s m) → IsMarkNumber c m (mark_at c (after c s who call) m)
@@ -43,7 +33,7 @@ mark_sound c s mine who (Swap q value) m config has len legal h = ⊎_elim
     let within : mark_place c m < length s.marks = omega (arith, len, mark_place_below c m config has) in
     let now : get_or (set s.marks (mark_place c q) value) (mark_place c m) 0 ≡ value =
     ap (λ k. get_or (set s.marks k value) (mark_place c m) 0) (sym e) ∙ get_or-set_same s.marks (mark_place c m) value 0 within in
-    subst (IsMarkNumber c m) (sym now) (subst (λ p. IsMarkNumber c p value) (sym one) (swapped_number c who q value legal.role legal.counted)))
+    subst (IsMarkNumber c m) (sym now) (subst (λ p. IsMarkNumber c p value) (sym one) legal.counted))
     (λ (apart : mark_place c m ≡ mark_place c q → ⊥).
     subst (IsMarkNumber c m) (sym (get_or-set_other s.marks (mark_place c q) (mark_place c m) value 0 apart)) h)
     (cases_eq (mark_place c m) (mark_place c q))

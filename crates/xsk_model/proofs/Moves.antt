@@ -7,6 +7,7 @@ use Rattle.xsk_model.specs.Config.{Config, HasRing, size_of}
 use Rattle.xsk_model.specs.Numbers.{times, numbers}
 use Rattle.xsk_model.specs.Rings.{is_ring, place, places_of, producer, consumer}
 use Rattle.xsk_model.specs.Object.{RingState, State, empty_ring, ring_at, free, reserve_reply, peek_reply, reply_at, call_ring, ring_after, rings_after, submitted, taken, after}
+use Rattle.xsk_model.specs.Entry.{Told}
 use Rattle.xsk_model.specs.Own.{is_on, granted, released}
 use Rattle.xsk_model.specs.Legal.{IsKnown, HasRole}
 use Rattle.xsk_model.specs.Holders.{out_numbers}
@@ -211,21 +212,21 @@ rings_count n c s (Look m) h len = refl
 -- ---- roles
 
 -- who isn't a ring's producer submits nothing there and gets no places
-pub not_producer : (c : Config) (who : ℕ) (call : Call) (r : Ring) → HasRole c who call → is_on r call ≡ true → who ≢ producer c r
+pub not_producer : (c : Config) (mine : List Told) (who : ℕ) (call : Call) (r : Ring) → HasRole c mine who call → is_on r call ≡ true → who ≢ producer c r
     → (submitted call ≡ []) × ((reply : Reply) → granted call reply ≡ 0)
-not_producer c who (Reserve q n) r role on other = absurd (other (role ∙ at_ring (producer c) r q on))
-not_producer c who (Submit q items) r role on other = absurd (other (role ∙ at_ring (producer c) r q on))
-not_producer c who (Peek q n) r role on other = (refl, λ reply. refl)
-not_producer c who (Release q n) r role on other = (refl, λ reply. refl)
-not_producer c who (Swap m value) r role on other = absurd (cc)
-not_producer c who (Look m) r role on other = absurd (cc)
+not_producer c mine who (Reserve q n) r role on other = absurd (other (role ∙ at_ring (producer c) r q on))
+not_producer c mine who (Submit q items) r role on other = absurd (other (role ∙ at_ring (producer c) r q on))
+not_producer c mine who (Peek q n) r role on other = (refl, λ reply. refl)
+not_producer c mine who (Release q n) r role on other = (refl, λ reply. refl)
+not_producer c mine who (Swap m value) r role on other = absurd (cc)
+not_producer c mine who (Look m) r role on other = absurd (cc)
 
 -- who isn't its consumer takes and releases nothing
-pub not_consumer : (c : Config) (s : State) (who : ℕ) (call : Call) (r : Ring) → HasRole c who call → is_on r call ≡ true → who ≢ consumer c r
+pub not_consumer : (c : Config) (s : State) (mine : List Told) (who : ℕ) (call : Call) (r : Ring) → HasRole c mine who call → is_on r call ≡ true → who ≢ consumer c r
     → (taken (reply_at c s call) ≡ []) × (released call ≡ 0)
-not_consumer c s who (Reserve q n) r role on other = (cond-taken (nat_le n (free (size_of c q) (ring_at c s q))) (free (size_of c q) (ring_at c s q)), refl)
-not_consumer c s who (Submit q items) r role on other = (refl, refl)
-not_consumer c s who (Peek q n) r role on other = absurd (other (role ∙ at_ring (consumer c) r q on))
-not_consumer c s who (Release q n) r role on other = absurd (other (role ∙ at_ring (consumer c) r q on))
-not_consumer c s who (Swap m value) r role on other = absurd (cc)
-not_consumer c s who (Look m) r role on other = absurd (cc)
+not_consumer c s mine who (Reserve q n) r role on other = (cond-taken (nat_le n (free (size_of c q) (ring_at c s q))) (free (size_of c q) (ring_at c s q)), refl)
+not_consumer c s mine who (Submit q items) r role on other = (refl, refl)
+not_consumer c s mine who (Peek q n) r role on other = absurd (other (role ∙ at_ring (consumer c) r q on))
+not_consumer c s mine who (Release q n) r role on other = absurd (other (role ∙ at_ring (consumer c) r q on))
+not_consumer c s mine who (Swap m value) r role on other = absurd (cc)
+not_consumer c s mine who (Look m) r role on other = absurd (cc)

@@ -3,7 +3,7 @@ use Rattle.std.proofs.Common.{◌≡◌, ℕ, zero, suc, ◌+◌, ◌-◌, ◌<�
 use Rattle.xsk_umem.specs.declared.batch.Item.{Item}
 use Rattle.xsk_model.specs.Config.{Config, HasRing, callers_of}
 use Rattle.xsk_model.specs.Numbers.{times, numbers, without}
-use Rattle.xsk_model.specs.Marks.{HasMark, MaySwap}
+use Rattle.xsk_model.specs.Marks.{HasMark, IsMarkNumber, MaySwap}
 use Rattle.xsk_model.specs.Rings.{producer, consumer}
 use Rattle.xsk_model.specs.Object.{submitted, taken}
 use Rattle.xsk_model.specs.Entry.{Told, with_told}
@@ -73,8 +73,8 @@ module _ (c : Config) (who : ℕ) (l : List Told) (below : who < callers_of c) w
   pub legal_look : (m : Mark) → HasMark c m → IsLegal c l who (Look m)
   legal_look m has = record { caller = below; known = has; role = tt; counted = tt; frames = λ k. omega arith; items = tt; packets = tt }
 
-  pub legal_swap : (m : Mark) → HasMark c m → MaySwap c who m → IsLegal c l who (Swap m 1)
-  legal_swap m has may = record { caller = below; known = has; role = may; counted = omega arith; frames = λ k. omega arith; items = tt; packets = tt }
+  pub legal_swap : (m : Mark) (value : ℕ) → HasMark c m → MaySwap c l who m value → IsMarkNumber c m value → IsLegal c l who (Swap m value)
+  legal_swap m value has may number = record { caller = below; known = has; role = may; counted = number; frames = λ k. omega arith; items = tt; packets = tt }
 
 -- ---- the reply
 

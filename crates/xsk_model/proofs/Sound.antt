@@ -42,25 +42,25 @@ module _ (c : Config) (s : State) (past : List Entry) (e : Entry) (r : Ring) (le
   room_pushed : room_of r (own (producer c r) (past ++ e ∷ [])) ≡ room_of r (own (producer c r) past) + granted e.call e.reply - length (submitted e.call)
   room_pushed = part_of_own-push room_step r 0 (producer c r) past e on
       (λ other.
-      let idle = not_producer c e.who e.call r legal.role on other in
+      let idle = not_producer c (own e.who past) e.who e.call r legal.role on other in
       omega (arith, ap length idle.0, idle.1 e.reply))
 
   held_pushed : held_of r (own (consumer c r) (past ++ e ∷ [])) ≡ held_of r (own (consumer c r) past) + length (taken e.reply) - released e.call
   held_pushed = part_of_own-push held_step r 0 (consumer c r) past e on
       (λ other.
-      let idle = not_consumer c s e.who e.call r legal.role on other in
+      let idle = not_consumer c s (own e.who past) e.who e.call r legal.role on other in
       omega (arith, ap length idle.0, ap (λ x. length (taken x)) reply, idle.1))
 
   peeked_pushed : peeked_of r (own (consumer c r) (past ++ e ∷ [])) ≡ peeked_of r (own (consumer c r) past) ++ taken e.reply
   peeked_pushed = part_of_own-push peeked_step r [] (consumer c r) past e on
       (λ other.
-      let idle = not_consumer c s e.who e.call r legal.role on other in
+      let idle = not_consumer c s (own e.who past) e.who e.call r legal.role on other in
       ap (λ x. peeked_of r (own (consumer c r) past) ++ x) (ap taken reply ∙ idle.0) ∙ append-nil (peeked_of r (own (consumer c r) past)))
 
   given_pushed : submitted_of r (own (producer c r) (past ++ e ∷ [])) ≡ submitted_of r (own (producer c r) past) ++ submitted e.call
   given_pushed = part_of_own-push submitted_step r [] (producer c r) past e on
       (λ other.
-      let idle = not_producer c e.who e.call r legal.role on other in
+      let idle = not_producer c (own e.who past) e.who e.call r legal.role on other in
       ap (λ x. submitted_of r (own (producer c r) past) ++ x) idle.0 ∙ append-nil (submitted_of r (own (producer c r) past)))
 
   all_peeked : peeked_of r (all_told (past ++ e ∷ [])) ≡ peeked_of r (all_told past) ++ taken e.reply

@@ -4,25 +4,14 @@
 use Rattle.std.specs.Prelude.{ℕ, Bool, true, false, ◌&&◌, ◌||◌, ◌==◌, if◌then◌else◌, List, [], ◌∷◌}
 use Rattle.std.specs.List.{fold}
 use Rattle.xsk_model.specs.Rings.{is_ring}
+use Rattle.xsk_model.specs.Marks.{is_mark}
 use Rattle.xsk_model.specs.Entry.{Told}
 use Rattle.xsk_model.specs.declared.call.Ring.{Ring}
 use Rattle.xsk_model.specs.declared.call.Mark.{Mark}
-use Rattle.xsk_model.specs.declared.call.Mark.TheVariants.{NeedFill, NeedTx, Kick, RxDone, Gone, TxDone, Cell}
 use Rattle.xsk_model.specs.declared.call.Call.{Call}
 use Rattle.xsk_model.specs.declared.call.Call.TheVariants.{Reserve, Submit, Peek, Release, Swap, Look}
 use Rattle.xsk_model.specs.declared.call.Reply.{Reply}
 use Rattle.xsk_model.specs.declared.call.Reply.TheVariants.{Granted, Full, Submitted, Items, Empty, Released, Old}
-
--- whether two marks are one
-abbrev pub is_mark : Mark → Mark → Bool
-is_mark (NeedFill d) (NeedFill e) = d == e
-is_mark (NeedTx s) (NeedTx t) = s == t
-is_mark (Kick d) (Kick e) = d == e
-is_mark (RxDone d) (RxDone e) = d == e
-is_mark (Gone d) (Gone e) = d == e
-is_mark (TxDone a) (TxDone b) = a == b
-is_mark (Cell p i) (Cell q j) = p == q && i == j
-is_mark _ _ = false
 
 -- ---- finding a ring empty
 

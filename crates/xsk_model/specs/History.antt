@@ -1,18 +1,17 @@
 -- Histories: calls of all callers in one order, each legal for its caller after that caller's own earlier ones, and each
 -- with the object's reply at that place.
-use Rattle.std.specs.Prelude.{◌≡◌, ℕ, ◌+◌, ◌<◌, ◌≤◌, List, [], ◌∷◌, ◌++◌, length, All, slice_index}
+use Rattle.std.specs.Prelude.{◌≡◌, ℕ, ◌+◌, ◌<◌, ◌≤◌, List, [], ◌∷◌, ◌++◌, length, All}
 use Rattle.xsk_umem.specs.Frame.{Frame}
 use Rattle.xsk_umem.specs.declared.batch.Item.{Item}
-use Rattle.xsk_model.specs.Config.{Config, map_of}
+use Rattle.xsk_model.specs.Config.{Config}
 use Rattle.xsk_model.specs.Numbers.{times, numbers}
+use Rattle.xsk_model.specs.Marks.{IsMarkNumber}
 use Rattle.xsk_model.specs.Object.{State, reply_at, after}
 use Rattle.xsk_model.specs.Entry.{Told, Entry, own}
 use Rattle.xsk_model.specs.Own.{had_of}
 use Rattle.xsk_model.specs.Legal.{IsLegal, IsItemOn}
 use Rattle.xsk_model.specs.Opening.{IsOpened, opening}
 use Rattle.xsk_model.specs.declared.call.Ring.{Ring}
-use Rattle.xsk_model.specs.declared.call.Mark.{Mark}
-use Rattle.xsk_model.specs.declared.call.Mark.TheVariants.{NeedFill, NeedTx, Kick, RxDone, Gone, TxDone, Cell}
 use Rattle.xsk_model.specs.declared.call.Call.{Call}
 use Rattle.xsk_model.specs.declared.call.Call.TheVariants.{Reserve, Submit, Peek, Release, Swap, Look}
 use Rattle.xsk_model.specs.declared.call.Reply.{Reply}
@@ -52,16 +51,6 @@ pub record AreFresh (c : Config) (mine : List Told) (r : Ring) (n : ℕ) (items 
   pub few : length items ≤ n
   pub lawful : All (IsItemOn c.geometry r) items
   pub fresh : (k : ℕ) → times k (numbers items) + times k (had_of mine) ≤ 1
-
--- a number that a mark may have: a cell has its configured number, and each other mark 0 or 1
-abbrev pub IsMarkNumber : Config → Mark → ℕ → Type 0
-IsMarkNumber c (NeedFill d) value = value ≤ 1
-IsMarkNumber c (NeedTx s) value = value ≤ 1
-IsMarkNumber c (Kick d) value = value ≤ 1
-IsMarkNumber c (RxDone d) value = value ≤ 1
-IsMarkNumber c (Gone d) value = value ≤ 1
-IsMarkNumber c (TxDone a) value = value ≤ 1
-IsMarkNumber c (Cell port index) value = value ≡ slice_index (map_of c port) index
 
 -- a reply that fits a call
 abbrev pub Fits : Config → List Told → Call → Reply → Type 0

@@ -5,13 +5,13 @@ use Rattle.xsk_umem.specs.declared.batch.Item.{Item}
 use Rattle.xsk_model.specs.Config.{Config, IsConfig, HasRing, size_of, callers_of}
 use Rattle.xsk_model.specs.Numbers.{times, numbers}
 use Rattle.xsk_model.specs.Rings.{is_ring, place, places_of, app_of, producer, consumer}
-use Rattle.xsk_model.specs.Marks.{HasMark, mark_place, mark_places_of}
+use Rattle.xsk_model.specs.Marks.{HasMark, mark_place, mark_places_of, IsMarkNumber}
 use Rattle.xsk_model.specs.Object.{State, ring_at, mark_at, had_by, submitted, peek_reply, reply_at, after, IsWithinRing}
 use Rattle.xsk_model.specs.Entry.{Told, Entry, own, all_told}
 use Rattle.xsk_model.specs.Own.{had_of, part_of, is_on, room_of, held_of, given_of, released_of, peeked_of, submitted_of, sending_of}
 use Rattle.xsk_model.specs.Legal.{IsItemOn, IsKnown, IsLegal}
 use Rattle.xsk_model.specs.Opening.{IsOpened, opening}
-use Rattle.xsk_model.specs.History.{IsHistory, state_after, MayGive, IsMarkNumber, Fits, OwnGoesOn}
+use Rattle.xsk_model.specs.History.{IsHistory, state_after, MayGive, Fits, OwnGoesOn}
 use Rattle.xsk_model.specs.Holders.{HasOneHolder, out_numbers}
 use Rattle.xsk_model.specs.Homes.{home_app, serves, AreApart, AreBelow, IsFirst}
 use Rattle.xsk_model.specs.Packets.{packets, whole_packets, bytes_of}
@@ -187,7 +187,7 @@ SentInOrder = (c : Config) (frames : List Frame) (h : List Entry) (d socket : �
 
 -- ---- marks
 
--- a cell has its configured number, and each other mark 0 or 1
+-- each mark has a number of its kind
 abbrev pub MarkNumbers : Type 0
 MarkNumbers = (c : Config) (frames : List Frame) (h : List Entry) (m : Mark) → IsHistory c frames h → HasMark c m
     → IsMarkNumber c m (mark_at c (state_after c frames h) m)

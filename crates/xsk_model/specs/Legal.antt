@@ -11,7 +11,7 @@ use Rattle.xsk_model.specs.Config.{Config, HasRing, callers_of}
 use Rattle.xsk_model.specs.Packets.{IsLayout}
 use Rattle.xsk_model.specs.Numbers.{times, numbers}
 use Rattle.xsk_model.specs.Rings.{producer, consumer, port_of, queue_of}
-use Rattle.xsk_model.specs.Marks.{HasMark, MaySwap}
+use Rattle.xsk_model.specs.Marks.{HasMark, IsMarkNumber, MaySwap}
 use Rattle.xsk_model.specs.Object.{submitted}
 use Rattle.xsk_model.specs.Entry.{Told}
 use Rattle.xsk_model.specs.Own.{had_of, room_of, held_of, is_from_fill, waiting, sending_of}
@@ -29,24 +29,25 @@ IsKnown c (Release r n) = HasRing c r
 IsKnown c (Swap m value) = HasMark c m
 IsKnown c (Look m) = HasMark c m
 
--- the caller is the one whose call it is; every caller may look at every mark
-abbrev pub HasRole : Config → ℕ → Call → Type 0
-HasRole c who (Reserve r n) = who ≡ producer c r
-HasRole c who (Submit r items) = who ≡ producer c r
-HasRole c who (Peek r n) = who ≡ consumer c r
-HasRole c who (Release r n) = who ≡ consumer c r
-HasRole c who (Swap m value) = MaySwap c who m
-HasRole c who (Look m) = Unit {0}
+-- the caller is the one whose call it is; what a Swap sets may hang on the caller's own earlier calls and replies, and
+-- every caller may look at every mark
+abbrev pub HasRole : Config → List Told → ℕ → Call → Type 0
+HasRole c mine who (Reserve r n) = who ≡ producer c r
+HasRole c mine who (Submit r items) = who ≡ producer c r
+HasRole c mine who (Peek r n) = who ≡ consumer c r
+HasRole c mine who (Release r n) = who ≡ consumer c r
+HasRole c mine who (Swap m value) = MaySwap c mine who m value
+HasRole c mine who (Look m) = Unit {0}
 
 -- 1 to 32 at once; a Submit fills places that were reserved, a Release gives back items that were peeked, and a mark is
--- set to 0 or 1
-abbrev pub IsCounted : List Told → Call → Type 0
-IsCounted mine (Reserve r n) = (1 ≤ n) × (n ≤ 32)
-IsCounted mine (Submit r items) = (1 ≤ length items) × (length items ≤ 32) × (length items ≤ room_of r mine)
-IsCounted mine (Peek r n) = (1 ≤ n) × (n ≤ 32)
-IsCounted mine (Release r n) = (1 ≤ n) × (n ≤ 32) × (n ≤ held_of r mine)
-IsCounted mine (Swap m value) = value ≤ 1
-IsCounted mine (Look m) = Unit {0}
+-- set to a number that it may have
+abbrev pub IsCounted : Config → List Told → Call → Type 0
+IsCounted c mine (Reserve r n) = (1 ≤ n) × (n ≤ 32)
+IsCounted c mine (Submit r items) = (1 ≤ length items) × (length items ≤ 32) × (length items ≤ room_of r mine)
+IsCounted c mine (Peek r n) = (1 ≤ n) × (n ≤ 32)
+IsCounted c mine (Release r n) = (1 ≤ n) × (n ≤ 32) × (n ≤ held_of r mine)
+IsCounted c mine (Swap m value) = IsMarkNumber c m value
+IsCounted c mine (Look m) = Unit {0}
 
 -- The caller has the frames that it submits, each as often as it submits it. In a history a caller has each frame once
 -- at most, so this says that it has them and that they are distinct.
@@ -114,8 +115,8 @@ ArePackets c mine (Look m) = Unit {0}
 pub record IsLegal (c : Config) (mine : List Told) (who : ℕ) (call : Call) : Type 0 where
   pub caller : who < callers_of c
   pub known : IsKnown c call
-  pub role : HasRole c who call
-  pub counted : IsCounted mine call
+  pub role : HasRole c mine who call
+  pub counted : IsCounted c mine call
   pub frames : HasFrames mine call
   pub items : AreItems c.geometry call
   pub packets : ArePackets c mine call

@@ -1,12 +1,25 @@
--- The marks of a configuration: those that exist, who may swap each, and the place of each in a list of all.
+-- The marks of a configuration: those that exist, the numbers that each may have, who may swap each, and the place of each
+-- in a list of all.
 -- NeedFill and NeedTx are the need-wakeup flags of af_xdp.rst ("XDP_USE_NEED_WAKEUP bind flag"), and cells are the
 -- entries of XSKMAPs ("XDP_REDIRECT"); the other marks are this project's own.
-use Rattle.std.specs.Prelude.{◌≡◌, ℕ, ◌+◌, ◌*◌, ◌/◌, ◌<◌, ◌⊎◌, length}
+use Rattle.std.specs.Prelude.{◌≡◌, ℕ, ◌+◌, ◌*◌, ◌/◌, ◌<◌, ◌≤◌, ◌⊎◌, Bool, false, ◌&&◌, ◌==◌, List, length, slice_index}
 use Rattle.xsk_model.specs.Config.{Config, HasRing, map_of}
 use Rattle.xsk_model.specs.Rings.{driver_of, app_of, caller_of}
+use Rattle.xsk_model.specs.Entry.{Told}
 use Rattle.xsk_model.specs.declared.call.Ring.TheVariants.{Fill, Tx}
 use Rattle.xsk_model.specs.declared.call.Mark.{Mark}
 use Rattle.xsk_model.specs.declared.call.Mark.TheVariants.{NeedFill, NeedTx, Kick, RxDone, Gone, TxDone, Cell}
+
+-- whether two marks are one
+abbrev pub is_mark : Mark → Mark → Bool
+is_mark (NeedFill d) (NeedFill e) = d == e
+is_mark (NeedTx s) (NeedTx t) = s == t
+is_mark (Kick d) (Kick e) = d == e
+is_mark (RxDone d) (RxDone e) = d == e
+is_mark (Gone d) (Gone e) = d == e
+is_mark (TxDone a) (TxDone b) = a == b
+is_mark (Cell p i) (Cell q j) = p == q && i == j
+is_mark _ _ = false
 
 -- the number of applications
 abbrev pub apps_of : Config → ℕ
@@ -21,6 +34,16 @@ HasMark c (RxDone d) = d < length c.pairs
 HasMark c (Gone d) = d < length c.pairs
 HasMark c (TxDone a) = a < apps_of c
 HasMark c (Cell port index) = (port < c.ports) × (index < length (map_of c port))
+
+-- a number that a mark may have: a cell has its configured number, and each other mark 0 or 1
+abbrev pub IsMarkNumber : Config → Mark → ℕ → Type 0
+IsMarkNumber c (NeedFill d) value = value ≤ 1
+IsMarkNumber c (NeedTx s) value = value ≤ 1
+IsMarkNumber c (Kick d) value = value ≤ 1
+IsMarkNumber c (RxDone d) value = value ≤ 1
+IsMarkNumber c (Gone d) value = value ≤ 1
+IsMarkNumber c (TxDone a) value = value ≤ 1
+IsMarkNumber c (Cell port index) value = value ≡ slice_index (map_of c port) index
 
 -- NeedFill by pair, NeedTx by socket, Kick, RxDone and Gone by pair, TxDone by application, and 64 places of cells for
 -- each port
@@ -37,13 +60,18 @@ mark_place c (Cell port index) = 4 * length c.pairs + length c.sockets + apps_of
 abbrev pub mark_places_of : Config → ℕ
 mark_places_of c = 4 * length c.pairs + length c.sockets + apps_of c + 64 * c.ports
 
--- a caller that may swap a mark: a driver's marks by the driver alone, an application's by the application alone, a
--- pair's kick by both, and a cell by nobody
-abbrev pub MaySwap : Config → ℕ → Mark → Type 0
-MaySwap c who (NeedFill d) = who ≡ d
-MaySwap c who (NeedTx s) = who ≡ driver_of c (Tx s)
-MaySwap c who (Kick d) = (who ≡ d) ⊎ (who ≡ app_of c (Fill d))
-MaySwap c who (RxDone d) = who ≡ d
-MaySwap c who (Gone d) = who ≡ d
-MaySwap c who (TxDone a) = who ≡ caller_of c a
-MaySwap c who (Cell port index) = ⊥
+-- a caller whose mark it is: a driver's marks are the driver's alone, an application's the application's alone, a pair's
+-- kick is both's, and a cell is nobody's
+abbrev pub IsMarkOwner : Config → ℕ → Mark → Type 0
+IsMarkOwner c who (NeedFill d) = who ≡ d
+IsMarkOwner c who (NeedTx s) = who ≡ driver_of c (Tx s)
+IsMarkOwner c who (Kick d) = (who ≡ d) ⊎ (who ≡ app_of c (Fill d))
+IsMarkOwner c who (RxDone d) = who ≡ d
+IsMarkOwner c who (Gone d) = who ≡ d
+IsMarkOwner c who (TxDone a) = who ≡ caller_of c a
+IsMarkOwner c who (Cell port index) = ⊥
+
+-- After its own earlier calls and replies a caller may set a mark to a number of the mark's kind. Of each kind that there is
+-- the mark's owner alone may, whatever came before and to each such number.
+abbrev pub MaySwap : Config → List Told → ℕ → Mark → ℕ → Type 0
+MaySwap c mine who m value = IsMarkOwner c who m

@@ -133,7 +133,7 @@ pub fn sent_in_order()
     ensures { SentInOrder }
 {}
 
-/// A cell has its configured number, and each other mark 0 or 1.
+/// Each mark has a number of its kind.
 pub fn mark_numbers()
     ensures { MarkNumbers }
 {}

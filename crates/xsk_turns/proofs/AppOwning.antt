@@ -284,7 +284,7 @@ module _ (c : Config) (a : ℕ) (one : IsApp c a) where
       let told : AppKept = record kept { tx_done = true } in
       by_case Answers law (noted.seen && noted.lanes_empty) _ _ l
       (λ e. (
-        (app_owned c kept call l has, λ alone. legal_swap c who l seats.caller m seats.known refl),
+        (app_owned c kept call l has, λ alone. legal_swap c who l seats.caller m 1 seats.known refl (omega arith)),
         at_old Answers law kept call l (λ old. again told) (λ n q. has_flags c kept told (with_told l call (Old n)) true refl refl (app_told c kept call (Old n) l refl has)),
       ))
       (λ e. has)

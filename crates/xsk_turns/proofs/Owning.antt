@@ -103,7 +103,7 @@ module _ (c : Config) (pair : ℕ) (is : IsSeat c pair) where
       let look = Look (TxDone (application_of seat)) in
       let leave = Swap (Gone pair) 1 in
       let looks = quiet kept look l tt h (legal_look c pair l (caller_known c pair is) (TxDone (application_of seat)) (app_known c pair is)) in
-      let leaves = quiet kept leave l tt h (legal_swap c pair l (caller_known c pair is) (Gone pair) is.known refl) in
+      let leaves = quiet kept leave l tt h (legal_swap c pair l (caller_known c pair is) (Gone pair) 1 is.known refl (omega arith)) in
       by_case Answers law (noted.progress || noted.full) _ _ l (λ e. h)
       (λ e. by_case Answers law kept.tx_done _ _ l
       (λ done. (leaves, at_old Answers law kept leave l (λ n. ended kept)
@@ -242,7 +242,7 @@ module _ (c : Config) (pair : ℕ) (is : IsSeat c pair) where
   go_receive [] noted kept l h =
       let call = Swap (RxDone pair) 1 in
       let left : Kept = record kept { rx_done = true } in
-      let asked = quiet kept call l tt h (legal_swap c pair l (caller_known c pair is) (RxDone pair) is.known refl) in
+      let asked = quiet kept call l tt h (legal_swap c pair l (caller_known c pair is) (RxDone pair) 1 is.known refl (omega arith)) in
       by_case Answers law kept.rx_done _ _ l (λ f. go_transmit noted kept l h)
       (λ f. (asked, at_old Answers law kept call l (λ n. transmit seat (moved noted) left) (λ n q. go_transmit (moved noted) left (with_told l call (Old n)) (told kept call (Old n) l refl asked q))))
   go_receive (packet ∷ later) noted kept l h =
