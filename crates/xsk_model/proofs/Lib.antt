@@ -28,3 +28,6 @@ pub mod FirstState
 pub mod Stays
 pub mod Released
 pub mod FrameTheorems
+pub mod RingEntries
+pub mod Changes
+pub mod CallTheorems

@@ -11,13 +11,14 @@ use Rattle.xsk_model.specs.Own.{had_of, peeked_of, submitted_of, sending_of}
 use Rattle.xsk_model.specs.Legal.{IsLegal}
 use Rattle.xsk_model.specs.Opening.{opening}
 use Rattle.xsk_model.specs.History.{IsHistory, state_after}
-use Rattle.xsk_model.specs.Laws.{FewInRings, WithinRing, CountsAgree, OneHolder, FramesByOwn, HadAndDistinct, InOrder, PeekInOrder, PartsByOwn, ItemsByOwn, WithinSize, LawfulItems, FittingReplies, FittingGifts, OwnEntries, OneCompletion, SentInOrder, MarkNumbers, OwnPlaces, OwnMarkPlaces, TwoOwners, LeavesOthers, LeavesFold, LeavesFolds}
+use Rattle.xsk_model.specs.Laws.{FewInRings, WithinRing, CountsAgree, OneHolder, FramesByOwn, HadAndDistinct, InOrder, PeekInOrder, PartsByOwn, ItemsByOwn, WithinSize, LawfulItems, FittingReplies, FittingGifts, OwnEntries, OneCompletion, SentInOrder, MarkNumbers, OwnPlaces, OwnMarkPlaces, TwoOwners, LeavesOthers, LeavesFolds}
 use Rattle.xsk_model.specs.declared.call.Ring.{Ring}
 use Rattle.xsk_model.specs.declared.call.Call.TheVariants.{Peek}
 use Rattle.xsk_model.proofs.Counting.{times-append, length-by_times, times-range_past, times-range_within}
 use Rattle.xsk_model.proofs.Places.{place_below, place_injective}
 use Rattle.xsk_model.proofs.MarkPlaces.{mark_place_below, mark_place_injective}
 use Rattle.xsk_model.proofs.Folds.{own-push_other, part_of_own-push_other}
+use Rattle.xsk_model.proofs.RingEntries.{on_ring-push_other}
 use Rattle.xsk_model.proofs.Moves.{ring_at-after_other, known_on}
 use Rattle.xsk_model.proofs.Histories.{history_first, history_sound}
 use Rattle.xsk_model.proofs.Replies.{times-row, times-had, history_entry, entry_fits, gift_fits}
@@ -109,12 +110,13 @@ leaves_others c s who other call r has known = (
   λ apart. get_or-set_other s.had who other (had_after (had_by s who) call (reply_at c s call)) [] apart,
 )
 
-pub leaves_fold : (A : Type 0) → LeavesFold A
-leaves_fold A change r first who past e =
-    (λ off. part_of_own-push_other change r first who past e off, λ apart. own-push_other who past e apart)
-
 pub leaves_folds : LeavesFolds
-leaves_folds = (leaves_fold ℕ, leaves_fold (List Item))
+leaves_folds r who past e = (
+  λ off. on_ring-push_other r who past e off,
+  λ change n off. part_of_own-push_other change r n who past e off,
+  λ change items off. part_of_own-push_other change r items who past e off,
+  λ apart. own-push_other who past e apart,
+)
 
 pub own_entries : OwnEntries
 own_entries c frames h who history = history_own c frames h who history

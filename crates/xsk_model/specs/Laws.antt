@@ -1,11 +1,13 @@
 -- The laws of the object, each over all histories.
-use Rattle.std.specs.Prelude.{◌≡◌, ◌≢◌, ◌↔◌, ℕ, ◌+◌, ◌<◌, ◌≤◌, true, false, List, [], ◌∷◌, ◌++◌, length, take, drop, map, flat_map, All, AllPairs, Contains}
+use Rattle.std.specs.Prelude.{◌≡◌, ◌≢◌, ◌↔◌, ℕ, ◌+◌, ◌<◌, ◌≤◌, Bool, true, false, List, [], ◌∷◌, ◌++◌, length, take, drop, map, flat_map, All, AllPairs, Contains, IfSome}
+use Rattle.std.specs.List.{filter}
 use Rattle.xsk_umem.specs.Frame.{Frame}
+use Rattle.xsk_umem.specs.Geometry.{Geometry, IsGeometry}
 use Rattle.xsk_umem.specs.declared.batch.Item.{Item}
 use Rattle.xsk_model.specs.Config.{Config, IsConfig, HasRing, size_of, callers_of}
 use Rattle.xsk_model.specs.Numbers.{times, numbers}
 use Rattle.xsk_model.specs.Rings.{is_ring, place, places_of, app_of, producer, consumer}
-use Rattle.xsk_model.specs.Marks.{HasMark, mark_place, mark_places_of, IsMarkNumber}
+use Rattle.xsk_model.specs.Marks.{HasMark, mark_place, mark_places_of, IsMarkNumber, IsMarkOwner}
 use Rattle.xsk_model.specs.Object.{State, ring_at, mark_at, had_by, submitted, peek_reply, reply_at, after, IsWithinRing}
 use Rattle.xsk_model.specs.Entry.{Told, Entry, own, all_told}
 use Rattle.xsk_model.specs.Own.{had_of, part_of, is_on, room_of, held_of, given_of, released_of, peeked_of, submitted_of, sending_of}
@@ -14,13 +16,15 @@ use Rattle.xsk_model.specs.Opening.{IsOpened, opening}
 use Rattle.xsk_model.specs.History.{IsHistory, state_after, MayGive, Fits, OwnGoesOn}
 use Rattle.xsk_model.specs.Holders.{HasOneHolder, out_numbers}
 use Rattle.xsk_model.specs.Homes.{home_app, serves, AreApart, AreBelow, IsFirst}
-use Rattle.xsk_model.specs.Packets.{packets, whole_packets, bytes_of}
+use Rattle.xsk_model.specs.Packets.{packets, whole_packets, bytes_of, IsLayout}
 use Rattle.xsk_model.specs.Sent.{sockets_of, completed_in, sent_by}
+use Rattle.xsk_model.specs.OtherWords.{changes, IsFew, WasLastOnFill, IsNextToSend, bare, IsShaped}
 use Rattle.xsk_model.specs.declared.call.Ring.{Ring}
-use Rattle.xsk_model.specs.declared.call.Ring.TheVariants.{Comp, Tx}
+use Rattle.xsk_model.specs.declared.call.Ring.TheVariants.{Comp, Rx, Tx}
 use Rattle.xsk_model.specs.declared.call.Mark.{Mark}
+use Rattle.xsk_model.specs.declared.call.Mark.TheVariants.{Cell}
 use Rattle.xsk_model.specs.declared.call.Call.{Call}
-use Rattle.xsk_model.specs.declared.call.Call.TheVariants.{Reserve, Submit, Peek}
+use Rattle.xsk_model.specs.declared.call.Call.TheVariants.{Reserve, Submit, Peek, Release, Swap}
 use Rattle.xsk_model.specs.declared.call.Reply.{Reply}
 use Rattle.xsk_model.specs.declared.call.Reply.TheVariants.{Granted, Items}
 
@@ -173,6 +177,22 @@ FittingGifts = (c : Config) (mine : List Told) (who : ℕ) (call : Call) (reply 
 abbrev pub OwnEntries : Type 0
 OwnEntries = (c : Config) (frames : List Frame) (h : List Entry) (who : ℕ) → IsHistory c frames h → OwnGoesOn c who [] (own who h)
 
+-- the reply of a history's last call is one that the object may give to its caller
+abbrev pub LastIsGift : Type 0
+LastIsGift = (c : Config) (frames : List Frame) (h : List Entry) (e : Entry) → IsHistory c frames (h ++ e ∷ [])
+    → MayGive c (own e.who h) e.who e.call e.reply
+
+-- ---- one entry more
+
+-- each legal call with the object's reply makes a history longer
+abbrev pub OneMore : Type 0
+OneMore = (c : Config) (frames : List Frame) (h : List Entry) (e : Entry) → IsHistory c frames h → IsLegal c (own e.who h) e.who e.call
+    → e.reply ≡ reply_at c (state_after c frames h) e.call → IsHistory c frames (h ++ e ∷ [])
+
+-- each caller of a history is one that the configuration has
+abbrev pub CallersExist : Type 0
+CallersExist = (c : Config) (frames : List Frame) (h : List Entry) → IsHistory c frames h → All (λ (e : Entry). e.who < callers_of c) h
+
 -- ---- sent packets
 
 -- each Submit on COMPLETION completes one packet of one TX ring
@@ -191,6 +211,17 @@ SentInOrder = (c : Config) (frames : List Frame) (h : List Entry) (d socket : �
 abbrev pub MarkNumbers : Type 0
 MarkNumbers = (c : Config) (frames : List Frame) (h : List Entry) (m : Mark) → IsHistory c frames h → HasMark c m
     → IsMarkNumber c m (mark_at c (state_after c frames h) m)
+
+-- a call that may set a mark sets one that isn't a cell to 0 or 1, and is its owner's
+abbrev pub LegalSwaps : Type 0
+LegalSwaps = (c : Config) (mine : List Told) (who : ℕ) (m : Mark) (value : ℕ)
+    → IsLegal c mine who (Swap m value) ↔ ((who < callers_of c) × HasMark c m × IsMarkOwner c who m × (value ≤ 1) × ((port index : ℕ) → m ≢ Cell port index))
+
+-- a mark is what a Swap of it sets, and what it was after all other calls
+abbrev pub MarksAfter : Type 0
+MarksAfter = (c : Config) (frames : List Frame) (h : List Entry) (e : Entry) (m : Mark) → IsHistory c frames (h ++ e ∷ []) → HasMark c m
+    → ((value : ℕ) → e.call ≡ Swap m value → mark_at c (state_after c frames (h ++ e ∷ [])) m ≡ value)
+    × (((value : ℕ) → e.call ≢ Swap m value) → mark_at c (state_after c frames (h ++ e ∷ [])) m ≡ mark_at c (state_after c frames h) m)
 
 -- ---- places
 
@@ -215,13 +246,51 @@ abbrev pub LeavesOthers : Type 0
 LeavesOthers = (c : Config) (s : State) (who other : ℕ) (call : Call) (r : Ring) → HasRing c r → IsKnown c call
     → (is_on r call ≡ false → ring_at c (after c s who call) r ≡ ring_at c s r) × (other ≢ who → had_by (after c s who call) other ≡ had_by s other)
 
--- an entry on another ring leaves what is folded over a caller's entries on this one, and an entry of another caller all
--- of a caller's own
-abbrev pub LeavesFold : Type 0 → Type 0
-LeavesFold A = (change : A → Told → A) (r : Ring) (first : A) (who : ℕ) (past : List Entry) (e : Entry)
-    → (is_on r e.call ≡ false → part_of change r first (own who (past ++ e ∷ [])) ≡ part_of change r first (own who past))
+-- a call whose reply says that it changes nothing leaves the state as it was
+abbrev pub LeavesState : Type 0
+LeavesState = (c : Config) (frames : List Frame) (h : List Entry) (e : Entry) → IsHistory c frames (h ++ e ∷ []) → changes e.call e.reply ≡ false
+    → state_after c frames (h ++ e ∷ []) ≡ state_after c frames h
+
+-- and each other call leaves another state
+abbrev pub ChangesState : Type 0
+ChangesState = (c : Config) (frames : List Frame) (h : List Entry) (e : Entry) → IsHistory c frames (h ++ e ∷ []) → changes e.call e.reply ≡ true
+    → state_after c frames (h ++ e ∷ []) ≢ state_after c frames h
+
+-- An entry on another ring leaves a caller's own entries on this one, and so what is folded over them, a number or a list of
+-- items; an entry of another caller leaves all of a caller's own.
+abbrev pub LeavesFolds : Type 0
+LeavesFolds = (r : Ring) (who : ℕ) (past : List Entry) (e : Entry)
+    → (is_on r e.call ≡ false → filter (λ (t : Told). is_on r t.call) (own who (past ++ e ∷ [])) ≡ filter (λ (t : Told). is_on r t.call) (own who past))
+    × ((change : ℕ → Told → ℕ) (n : ℕ) → is_on r e.call ≡ false → part_of change r n (own who (past ++ e ∷ [])) ≡ part_of change r n (own who past))
+    × ((change : List Item → Told → List Item) (items : List Item) → is_on r e.call ≡ false → part_of change r items (own who (past ++ e ∷ [])) ≡ part_of change r items (own who past))
     × (e.who ≢ who → own who (past ++ e ∷ []) ≡ own who past)
 
--- whether numbers are folded or items
-abbrev pub LeavesFolds : Type 0
-LeavesFolds = LeavesFold ℕ × LeavesFold (List Item)
+-- ---- legality in other words
+
+-- a caller moves 1 to 32 at once, and gets 1 to 32 items
+abbrev pub FewMoved : Type 0
+FewMoved = (c : Config) (frames : List Frame) (past later : List Entry) (e : Entry) → IsHistory c frames (past ++ e ∷ later)
+    → ((r : Ring) (n : ℕ) → e.call ≡ Reserve r n → IsFew n)
+    × ((r : Ring) (items : List Item) → e.call ≡ Submit r items → IsFew (length items))
+    × ((r : Ring) (n : ℕ) → e.call ≡ Peek r n → IsFew n)
+    × ((r : Ring) (n : ℕ) → e.call ≡ Release r n → IsFew n)
+    × ((items : List Item) → e.reply ≡ Items items → IsFew (length items))
+
+-- each frame that is submitted on RX was last taken from FILL
+abbrev pub FromFill : Type 0
+FromFill = (c : Config) (frames : List Frame) (past later : List Entry) (e : Entry) (s : ℕ) (items : List Item) → IsHistory c frames (past ++ e ∷ later)
+    → e.call ≡ Submit (Rx s) items → All (λ n. WasLastOnFill n (own e.who past)) (numbers items)
+
+-- a Submit on COMPLETION gives back the packet that the driver is to send next on one of its TX rings
+abbrev pub ExactCompletion : Type 0
+ExactCompletion = (c : Config) (frames : List Frame) (past later : List Entry) (e : Entry) (d : ℕ) (items : List Item) → IsHistory c frames (past ++ e ∷ later)
+    → e.call ≡ Submit (Comp d) items → (e.who ≡ d) × IsNextToSend c past d items
+
+-- which call is legal doesn't hang on what the frames of earlier calls and replies hold
+abbrev pub BodiesDontMatter : Type 0
+BodiesDontMatter = (c : Config) (mine other : List Told) (who : ℕ) (call : Call) → map bare mine ≡ map bare other → IsLegal c mine who call → IsLegal c other who call
+
+-- which items may be submitted as one packet on RX is said by their frames, addresses, lengths and options alone
+abbrev pub ShapesDecide : Type 0
+ShapesDecide = (g : Geometry) (sg : Bool) (items : List Item) → IsGeometry g → All (λ (i : Item). IfSome i.frame (λ (f : Frame). length f.bytes ≡ g.chunk)) items
+    → ((packet : List ℕ) × IsLayout g sg packet items) ↔ IsShaped g sg items

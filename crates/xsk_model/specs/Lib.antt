@@ -21,3 +21,4 @@ pub mod Stored
 pub mod Expected
 pub mod Script
 pub mod Ends
+pub mod OtherWords

@@ -2,6 +2,7 @@
 
 ghost use Rattle.xsk_model.specs.Laws.{OneHolder, FramesByOwn, HadAndDistinct, InOrder, PeekInOrder, PartsByOwn, ItemsByOwn, WithinSize, LawfulItems, FittingReplies, FittingGifts, OwnEntries, WithinRing, CountsAgree, FewInRings, OneCompletion, SentInOrder, MarkNumbers, OwnPlaces, OwnMarkPlaces, TwoOwners, LeavesOthers, LeavesFolds};
 ghost use Rattle.xsk_model.specs.Laws.{FramesStay, FramesApart, FramesBelow, SubmitsOwn, OpeningIs, HeldAndOut, CountsGrow, PeekFinds, ReserveFinds};
+ghost use Rattle.xsk_model.specs.Laws.{LastIsGift, OneMore, CallersExist, LegalSwaps, MarksAfter, LeavesState, ChangesState};
 
 /// After each prefix of a history each frame has one holder: a caller that has it, or a ring in which it is out.
 pub fn one_holder()
@@ -161,4 +162,39 @@ pub fn leaves_others()
 /// An entry on another ring, or of another caller, leaves what is folded over a caller's own entries on this ring.
 pub fn leaves_folds()
     ensures { LeavesFolds }
+{}
+
+/// The reply of the last call of a history is one that the object may give to its caller.
+pub fn last_is_gift()
+    ensures { LastIsGift }
+{}
+
+/// Each legal call with the object's reply makes a history longer.
+pub fn one_more()
+    ensures { OneMore }
+{}
+
+/// Each caller of a history is one that the configuration has.
+pub fn callers_exist()
+    ensures { CallersExist }
+{}
+
+/// A legal Swap sets a mark that isn't a cell to 0 or 1, and is made by the mark's owner.
+pub fn legal_swaps()
+    ensures { LegalSwaps }
+{}
+
+/// A mark is what a Swap of it sets, and what it was after all other calls.
+pub fn marks_after()
+    ensures { MarksAfter }
+{}
+
+/// A call whose reply says that it changes nothing leaves the state as it was.
+pub fn leaves_state()
+    ensures { LeavesState }
+{}
+
+/// Each other call leaves another state.
+pub fn changes_state()
+    ensures { ChangesState }
 {}

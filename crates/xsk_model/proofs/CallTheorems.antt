@@ -1,0 +1,99 @@
+-- The laws of single calls, proved.
+use Rattle.std.proofs.Common.{◌≡◌, ◌≢◌, ℕ, ◌<◌, ◌≤◌, true, false, List, [], ◌∷◌, ◌++◌, All, refl, sym, ap, subst, ◌∙◌, arith}
+use Rattle.std.proofs.lemmas.List.Elements.{All-nil, All-cons}
+use Rattle.xsk_umem.specs.Frame.{Frame}
+use Rattle.xsk_model.specs.Config.{Config, callers_of}
+use Rattle.xsk_model.specs.Marks.{IsMarkNumber, IsMarkOwner}
+use Rattle.xsk_model.specs.Object.{State, mark_at, after, reply_at}
+use Rattle.xsk_model.specs.Entry.{Entry, own}
+use Rattle.xsk_model.specs.Opening.{opening}
+use Rattle.xsk_model.specs.History.{GoesOn, IsHistory, state_after}
+use Rattle.xsk_model.specs.OtherWords.{changes}
+use Rattle.xsk_model.specs.Laws.{LastIsGift, OneMore, CallersExist, LegalSwaps, MarksAfter, LeavesState, ChangesState}
+use Rattle.xsk_model.specs.declared.call.Mark.{Mark}
+use Rattle.xsk_model.specs.declared.call.Mark.TheVariants.{NeedFill, NeedTx, Kick, RxDone, Gone, TxDone, Cell}
+use Rattle.xsk_model.specs.declared.call.Call.TheVariants.{Swap}
+use Rattle.xsk_model.proofs.Folds.{own-push_same}
+use Rattle.xsk_model.proofs.Histories.{goes_push, after_all-append, history_first, history_sound}
+use Rattle.xsk_model.proofs.Replies.{history_entry}
+use Rattle.xsk_model.proofs.Safety.{legal_swap}
+use Rattle.xsk_model.proofs.Changes.{leaves_call, changes_call, mark_set, mark_stays}
+
+-- ---- one entry more
+
+pub last_is_gift : LastIsGift
+last_is_gift c frames h e history = record { frames = frames; history = h ++ e ∷ []; legal = history; entries = own-push_same e.who h e refl }
+
+pub one_more : OneMore
+one_more c frames h e history legal reply = record { opened = history.opened; legal = goes_push c (opening c frames) [] h e history.legal legal reply }
+
+callers_go : (c : Config) (s : State) (past h : List Entry) → GoesOn c s past h → All (λ (e : Entry). e.who < callers_of c) h
+callers_go c s past [] goes = All-nil (λ (e : Entry). e.who < callers_of c)
+callers_go c s past (e ∷ es) goes =
+    All-cons (λ (x : Entry). x.who < callers_of c) e es goes.0.caller (callers_go c (after c s e.who e.call) (past ++ e ∷ []) es goes.2)
+
+pub callers_exist : CallersExist
+callers_exist c frames h history = callers_go c (opening c frames) [] h history.legal
+
+-- ---- what a call leaves
+
+-- the state that one entry more leaves
+state_push : (c : Config) (frames : List Frame) (h : List Entry) (e : Entry) → state_after c frames (h ++ e ∷ []) ≡ after c (state_after c frames h) e.who e.call
+state_push c frames h e = after_all-append c (opening c frames) h (e ∷ [])
+
+pub leaves_state : LeavesState
+leaves_state c frames h e history no_change =
+    let entry = history_entry c frames h [] e history in
+    state_push c frames h e
+    ∙ leaves_call c (state_after c frames h) e.who e.call (subst (λ reply. changes e.call reply ≡ false) entry.1 no_change)
+
+pub changes_state : ChangesState
+changes_state c frames h e history change same =
+    let entry = history_entry c frames h [] e history in
+    changes_call c frames h e.who e.call (history_first c frames h (e ∷ []) history) entry.0 (subst (λ reply. changes e.call reply ≡ true) entry.1 change)
+    (sym (state_push c frames h e) ∙ same)
+
+-- ---- marks
+
+pub marks_after_entry : MarksAfter
+marks_after_entry c frames h e m history has =
+    let entry = history_entry c frames h [] e history in
+    let before : IsHistory c frames h = history_first c frames h (e ∷ []) history in
+    let s : State = state_after c frames h in (
+      λ value is.
+          ap (λ (x : State). mark_at c x m) (state_push c frames h e)
+          ∙ ap (λ call. mark_at c (after c s e.who call) m) is
+          ∙ mark_set c s e.who m value history.opened.config has (history_sound c frames h before).marks,
+      λ other.
+          ap (λ (x : State). mark_at c x m) (state_push c frames h e)
+          ∙ mark_stays c s (own e.who h) e.who e.call m history.opened.config has entry.0 other,
+    )
+
+abbrev IsFlag : Mark → ℕ → Type 0
+IsFlag m value = (value ≤ 1) × ((port index : ℕ) → m ≢ Cell port index)
+
+flag_number : (c : Config) (who : ℕ) (m : Mark) (value : ℕ) → IsMarkOwner c who m → IsMarkNumber c m value → IsFlag m value
+flag_number c who (NeedFill d) value may h = (h, λ port index e. absurd (cc))
+flag_number c who (NeedTx s) value may h = (h, λ port index e. absurd (cc))
+flag_number c who (Kick d) value may h = (h, λ port index e. absurd (cc))
+flag_number c who (RxDone d) value may h = (h, λ port index e. absurd (cc))
+flag_number c who (Gone d) value may h = (h, λ port index e. absurd (cc))
+flag_number c who (TxDone a) value may h = (h, λ port index e. absurd (cc))
+flag_number c who (Cell port index) value may h = absurd may
+
+number_of_flag : (c : Config) (who : ℕ) (m : Mark) (value : ℕ) → IsMarkOwner c who m → value ≤ 1 → IsMarkNumber c m value
+number_of_flag c who (NeedFill d) value may h = h
+number_of_flag c who (NeedTx s) value may h = h
+number_of_flag c who (Kick d) value may h = h
+number_of_flag c who (RxDone d) value may h = h
+number_of_flag c who (Gone d) value may h = h
+number_of_flag c who (TxDone a) value may h = h
+number_of_flag c who (Cell port index) value may h = absurd may
+
+pub legal_swaps : LegalSwaps
+legal_swaps c mine who m value = (
+  λ legal.
+      let flag : IsFlag m value = flag_number c who m value legal.role legal.counted in
+      (legal.caller, legal.known, legal.role, flag.0, flag.1),
+  λ h. legal_swap c who mine h.0 m value h.1 h.2 (number_of_flag c who m value h.2 h.3),
+)
