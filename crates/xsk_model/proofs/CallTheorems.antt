@@ -6,18 +6,23 @@ use Rattle.xsk_model.specs.Config.{Config, callers_of}
 use Rattle.xsk_model.specs.Marks.{IsMarkNumber, IsMarkOwner}
 use Rattle.xsk_model.specs.Object.{State, mark_at, after, reply_at}
 use Rattle.xsk_model.specs.Entry.{Entry, own}
+use Rattle.xsk_model.specs.Legal.{IsCounted, IsLegal, AreCompleted}
 use Rattle.xsk_model.specs.Opening.{opening}
-use Rattle.xsk_model.specs.History.{GoesOn, IsHistory, state_after}
+use Rattle.xsk_model.specs.History.{GoesOn, IsHistory, state_after, Fits}
 use Rattle.xsk_model.specs.OtherWords.{changes}
-use Rattle.xsk_model.specs.Laws.{LastIsGift, OneMore, CallersExist, LegalSwaps, MarksAfter, LeavesState, ChangesState}
+use Rattle.xsk_model.specs.Laws.{LastIsGift, OneMore, CallersExist, LegalSwaps, MarksAfter, LeavesState, ChangesState, FewMoved, FromFill, ExactCompletion, BodiesDontMatter}
+use Rattle.xsk_model.specs.declared.call.Ring.TheVariants.{Comp, Rx}
 use Rattle.xsk_model.specs.declared.call.Mark.{Mark}
 use Rattle.xsk_model.specs.declared.call.Mark.TheVariants.{NeedFill, NeedTx, Kick, RxDone, Gone, TxDone, Cell}
-use Rattle.xsk_model.specs.declared.call.Call.TheVariants.{Swap}
+use Rattle.xsk_model.specs.declared.call.Call.{Call}
+use Rattle.xsk_model.specs.declared.call.Call.TheVariants.{Reserve, Submit, Peek, Release, Swap}
 use Rattle.xsk_model.proofs.Folds.{own-push_same}
 use Rattle.xsk_model.proofs.Histories.{goes_push, after_all-append, history_first, history_sound}
-use Rattle.xsk_model.proofs.Replies.{history_entry}
+use Rattle.xsk_model.proofs.Replies.{history_entry, entry_fits}
 use Rattle.xsk_model.proofs.Safety.{legal_swap}
 use Rattle.xsk_model.proofs.Changes.{leaves_call, changes_call, mark_set, mark_stays}
+use Rattle.xsk_model.proofs.Bodies.{same_legal}
+use Rattle.xsk_model.proofs.Legality.{few_given, received_from_fill, completed_next}
 
 -- ---- one entry more
 
@@ -97,3 +102,34 @@ legal_swaps c mine who m value = (
       (legal.caller, legal.known, legal.role, flag.0, flag.1),
   λ h. legal_swap c who mine h.0 m value h.1 h.2 (number_of_flag c who m value h.2 h.3),
 )
+
+-- ---- legality in other words
+
+pub few_moved : FewMoved
+few_moved c frames past later e history =
+    let entry = history_entry c frames past later e history in
+    let legal : (call : Call) → e.call ≡ call → IsLegal c (own e.who past) e.who call = λ call is. subst (IsLegal c (own e.who past) e.who) is entry.0 in (
+      λ r n is. (legal (Reserve r n) is).counted,
+      λ r items is.
+          let counted : IsCounted c (own e.who past) (Submit r items) = (legal (Submit r items) is).counted in
+          (counted.0, counted.1),
+      λ r n is. (legal (Peek r n) is).counted,
+      λ r n is.
+          let counted : IsCounted c (own e.who past) (Release r n) = (legal (Release r n) is).counted in
+          (counted.0, counted.1),
+      λ items is. few_given c (own e.who past) e.who e.call items entry.0 (subst (Fits c (own e.who past) e.call) is (entry_fits c frames past later e history)),
+    )
+
+pub from_fill : FromFill
+from_fill c frames past later e s items history is =
+    let legal : IsLegal c (own e.who past) e.who (Submit (Rx s) items) = subst (IsLegal c (own e.who past) e.who) is (history_entry c frames past later e history).0 in
+    received_from_fill c (own e.who past) items legal.packets
+
+pub exact_completion : ExactCompletion
+exact_completion c frames past later e d items history is =
+    let legal : IsLegal c (own e.who past) e.who (Submit (Comp d) items) = subst (IsLegal c (own e.who past) e.who) is (history_entry c frames past later e history).0 in
+    let by : e.who ≡ d = legal.role in
+    (by, completed_next c frames past d items (history_first c frames past (e ∷ later) history) (subst (λ w. AreCompleted c (own w past) (Comp d) items) by legal.packets))
+
+pub bodies_dont_matter : BodiesDontMatter
+bodies_dont_matter c mine other who call alike legal = same_legal c mine other alike who call legal

@@ -30,4 +30,6 @@ pub mod Released
 pub mod FrameTheorems
 pub mod RingEntries
 pub mod Changes
+pub mod Legality
+pub mod Bodies
 pub mod CallTheorems

@@ -3,6 +3,7 @@
 ghost use Rattle.xsk_model.specs.Laws.{OneHolder, FramesByOwn, HadAndDistinct, InOrder, PeekInOrder, PartsByOwn, ItemsByOwn, WithinSize, LawfulItems, FittingReplies, FittingGifts, OwnEntries, WithinRing, CountsAgree, FewInRings, OneCompletion, SentInOrder, MarkNumbers, OwnPlaces, OwnMarkPlaces, TwoOwners, LeavesOthers, LeavesFolds};
 ghost use Rattle.xsk_model.specs.Laws.{FramesStay, FramesApart, FramesBelow, SubmitsOwn, OpeningIs, HeldAndOut, CountsGrow, PeekFinds, ReserveFinds};
 ghost use Rattle.xsk_model.specs.Laws.{LastIsGift, OneMore, CallersExist, LegalSwaps, MarksAfter, LeavesState, ChangesState};
+ghost use Rattle.xsk_model.specs.Laws.{FewMoved, FromFill, ExactCompletion, BodiesDontMatter};
 
 /// After each prefix of a history each frame has one holder: a caller that has it, or a ring in which it is out.
 pub fn one_holder()
@@ -197,4 +198,24 @@ pub fn leaves_state()
 /// Each other call leaves another state.
 pub fn changes_state()
     ensures { ChangesState }
+{}
+
+/// Callers move 1 to 32 at once.
+pub fn few_moved()
+    ensures { FewMoved }
+{}
+
+/// Each frame that is submitted on RX was last taken from FILL.
+pub fn from_fill()
+    ensures { FromFill }
+{}
+
+/// A Submit on COMPLETION gives back the packet that is to be sent next on one TX ring of the driver.
+pub fn exact_completion()
+    ensures { ExactCompletion }
+{}
+
+/// Which call is legal doesn't hang on what the frames of earlier calls and replies hold.
+pub fn bodies_dont_matter()
+    ensures { BodiesDontMatter }
 {}
