@@ -10,7 +10,7 @@ use Rattle.xsk_model.specs.Legal.{IsCounted, IsLegal, AreCompleted}
 use Rattle.xsk_model.specs.Opening.{opening}
 use Rattle.xsk_model.specs.History.{GoesOn, IsHistory, state_after, Fits}
 use Rattle.xsk_model.specs.OtherWords.{changes}
-use Rattle.xsk_model.specs.Laws.{LastIsGift, OneMore, CallersExist, LegalSwaps, MarksAfter, LeavesState, ChangesState, FewMoved, FromFill, ExactCompletion, BodiesDontMatter}
+use Rattle.xsk_model.specs.Laws.{LastIsGift, OneMore, CallersExist, LegalSwaps, MarksAfter, LeavesState, ChangesState, FewMoved, FromFill, ExactCompletion, BodiesDontMatter, ShapesDecide}
 use Rattle.xsk_model.specs.declared.call.Ring.TheVariants.{Comp, Rx}
 use Rattle.xsk_model.specs.declared.call.Mark.{Mark}
 use Rattle.xsk_model.specs.declared.call.Mark.TheVariants.{NeedFill, NeedTx, Kick, RxDone, Gone, TxDone, Cell}
@@ -22,6 +22,7 @@ use Rattle.xsk_model.proofs.Replies.{history_entry, entry_fits}
 use Rattle.xsk_model.proofs.Safety.{legal_swap}
 use Rattle.xsk_model.proofs.Changes.{leaves_call, changes_call, mark_set, mark_stays}
 use Rattle.xsk_model.proofs.Bodies.{same_legal}
+use Rattle.xsk_model.proofs.Shapes.{layout_shape, shape_layout}
 use Rattle.xsk_model.proofs.Legality.{few_given, received_from_fill, completed_next}
 
 -- ---- one entry more
@@ -133,3 +134,6 @@ exact_completion c frames past later e d items history is =
 
 pub bodies_dont_matter : BodiesDontMatter
 bodies_dont_matter c mine other who call alike legal = same_legal c mine other alike who call legal
+
+pub shapes_decide : ShapesDecide
+shapes_decide g sg items lawful body = (λ layout. layout_shape g sg layout.0 items layout.1, λ shaped. shape_layout g sg items lawful body shaped)

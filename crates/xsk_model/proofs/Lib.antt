@@ -32,4 +32,5 @@ pub mod RingEntries
 pub mod Changes
 pub mod Legality
 pub mod Bodies
+pub mod Shapes
 pub mod CallTheorems

@@ -4,6 +4,7 @@ ghost use Rattle.xsk_model.specs.Laws.{OneHolder, FramesByOwn, HadAndDistinct, I
 ghost use Rattle.xsk_model.specs.Laws.{FramesStay, FramesApart, FramesBelow, SubmitsOwn, OpeningIs, HeldAndOut, CountsGrow, PeekFinds, ReserveFinds};
 ghost use Rattle.xsk_model.specs.Laws.{LastIsGift, OneMore, CallersExist, LegalSwaps, MarksAfter, LeavesState, ChangesState};
 ghost use Rattle.xsk_model.specs.Laws.{FewMoved, FromFill, ExactCompletion, BodiesDontMatter};
+ghost use Rattle.xsk_model.specs.Laws.{ShapesDecide};
 
 /// After each prefix of a history each frame has one holder: a caller that has it, or a ring in which it is out.
 pub fn one_holder()
@@ -218,4 +219,9 @@ pub fn exact_completion()
 /// Which call is legal doesn't hang on what the frames of earlier calls and replies hold.
 pub fn bodies_dont_matter()
     ensures { BodiesDontMatter }
+{}
+
+/// Which items are a packet's layout is said by their frames, addresses, lengths and options alone.
+pub fn shapes_decide()
+    ensures { ShapesDecide }
 {}
