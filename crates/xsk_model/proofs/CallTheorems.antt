@@ -1,10 +1,10 @@
 -- The laws of single calls, proved.
-use Rattle.std.proofs.Common.{◌≡◌, ◌≢◌, ℕ, ◌<◌, ◌≤◌, true, false, List, [], ◌∷◌, ◌++◌, All, refl, sym, ap, subst, ◌∙◌, arith}
+use Rattle.std.proofs.Common.{◌≡◌, ◌≢◌, ℕ, ◌<◌, ◌≤◌, true, false, List, [], ◌∷◌, ◌++◌, All, refl, sym, ap, subst, ◌∙◌}
 use Rattle.std.proofs.lemmas.List.Elements.{All-nil, All-cons}
 use Rattle.xsk_umem.specs.Frame.{Frame}
 use Rattle.xsk_model.specs.Config.{Config, callers_of}
 use Rattle.xsk_model.specs.Marks.{IsMarkNumber, IsMarkOwner}
-use Rattle.xsk_model.specs.Object.{State, mark_at, after, reply_at}
+use Rattle.xsk_model.specs.Object.{State, mark_at, after}
 use Rattle.xsk_model.specs.Entry.{Entry, own}
 use Rattle.xsk_model.specs.Legal.{IsCounted, IsLegal, AreCompleted}
 use Rattle.xsk_model.specs.Opening.{opening}
@@ -15,7 +15,7 @@ use Rattle.xsk_model.specs.declared.call.Ring.TheVariants.{Comp, Rx}
 use Rattle.xsk_model.specs.declared.call.Mark.{Mark}
 use Rattle.xsk_model.specs.declared.call.Mark.TheVariants.{NeedFill, NeedTx, Kick, RxDone, Gone, TxDone, Cell}
 use Rattle.xsk_model.specs.declared.call.Call.{Call}
-use Rattle.xsk_model.specs.declared.call.Call.TheVariants.{Reserve, Submit, Peek, Release, Swap}
+use Rattle.xsk_model.specs.declared.call.Call.TheVariants.{Reserve, Submit, Peek, Release}
 use Rattle.xsk_model.proofs.Folds.{own-push_same}
 use Rattle.xsk_model.proofs.Histories.{goes_push, after_all-append, history_first, history_sound}
 use Rattle.xsk_model.proofs.Replies.{history_entry, entry_fits}

@@ -1,14 +1,14 @@
 -- Which calls change the state.
-use Rattle.std.proofs.Common.{◌≡◌, ◌≢◌, ℕ, zero, suc, ◌+◌, ◌<◌, ◌≤◌, Bool, true, false, cond, not, eqb, nat_le, List, [], ◌∷◌, ◌++◌, length, get_or, set, take, drop, refl, sym, ap, subst, ◌∙◌, ⊎_elim, arith, append-nil, length-append, length-drop, get_or-set_same, get_or-set_other, eqb-true, eq-eqb}
+use Rattle.std.proofs.Common.{◌≡◌, ◌≢◌, ℕ, zero, suc, ◌+◌, ◌≤◌, Bool, true, false, cond, not, eqb, nat_le, List, [], ◌∷◌, ◌++◌, length, get_or, set, take, drop, refl, sym, ap, ◌∙◌, ⊎_elim, arith, append-nil, length-append, length-drop, get_or-set_same, get_or-set_other, eqb-true, eq-eqb}
 use Rattle.std.proofs.lemmas.Bool.{cases_Bool}
 use Rattle.std.proofs.lemmas.List.{set-get_or}
 use Rattle.xsk_umem.specs.Frame.{Frame}
 use Rattle.xsk_umem.specs.declared.batch.Item.{Item}
 use Rattle.xsk_model.specs.Config.{Config, IsConfig, HasRing, size_of}
 use Rattle.xsk_model.specs.Numbers.{numbers, without}
-use Rattle.xsk_model.specs.Rings.{place, places_of}
+use Rattle.xsk_model.specs.Rings.{place}
 use Rattle.xsk_model.specs.Marks.{HasMark, mark_place, mark_places_of}
-use Rattle.xsk_model.specs.Object.{RingState, State, empty_ring, ring_at, mark_at, had_by, had_after, free, reserve_reply, peek_reply, reply_at, ring_after, submitted, taken, after}
+use Rattle.xsk_model.specs.Object.{RingState, State, empty_ring, ring_at, mark_at, had_by, had_after, free, peek_reply, reply_at, ring_after, submitted, taken, after}
 use Rattle.xsk_model.specs.Entry.{Told, Entry, own}
 use Rattle.xsk_model.specs.Own.{is_on}
 use Rattle.xsk_model.specs.Legal.{IsLegal}
@@ -19,11 +19,11 @@ use Rattle.xsk_model.specs.declared.call.Mark.{Mark}
 use Rattle.xsk_model.specs.declared.call.Call.{Call}
 use Rattle.xsk_model.specs.declared.call.Call.TheVariants.{Reserve, Submit, Peek, Release, Swap, Look}
 use Rattle.xsk_model.specs.declared.call.Reply.{Reply}
-use Rattle.xsk_model.specs.declared.call.Reply.TheVariants.{Granted, Full, Submitted, Old}
+use Rattle.xsk_model.specs.declared.call.Reply.TheVariants.{Granted, Full, Old}
 use Rattle.xsk_model.proofs.Places.{is_ring-self, place_below}
 use Rattle.xsk_model.proofs.MarkPlaces.{mark_place_below, mark_place_injective}
 use Rattle.xsk_model.proofs.Moves.{ring_at-after_same}
-use Rattle.xsk_model.proofs.Histories.{IsSound, history_sound}
+use Rattle.xsk_model.proofs.Histories.{history_sound}
 use Rattle.xsk_model.proofs.Theorems.{legal_within_ring}
 
 -- ---- calls that leave the state

@@ -1,6 +1,5 @@
 -- Which calls are legal, in other words than the folds.
-use Rattle.std.proofs.Common.{◌≡◌, ℕ, ◌+◌, ◌-◌, ◌<◌, ◌≤◌, ◌⊎◌, inl, inr, Bool, true, false, cond, nat_lt, List, [], ◌∷◌, ◌++◌, length, take, drop, map, All, refl, sym, ap, subst, ◌∙◌, arith, eq-eqb, length-take, length-drop, take-append-drop}
-use Rattle.std.specs.Prelude.{IsTrue}
+use Rattle.std.proofs.Common.{◌≡◌, ℕ, ◌+◌, ◌≤◌, ◌⊎◌, inl, inr, Bool, true, false, cond, nat_lt, List, [], ◌∷◌, ◌++◌, length, take, drop, All, refl, sym, ap, ◌∙◌, arith, eq-eqb, length-take, length-drop, take-append-drop}
 use Rattle.std.specs.List.{fold}
 use Rattle.std.proofs.lemmas.Bool.{ltb-true, ltb-false}
 use Rattle.std.proofs.lemmas.List.{length-map}
@@ -12,19 +11,17 @@ use Rattle.xsk_model.specs.Packets.{packets, whole_packets, bytes_of}
 use Rattle.xsk_model.specs.Numbers.{times, numbers}
 use Rattle.xsk_model.specs.Object.{taken}
 use Rattle.xsk_model.specs.Entry.{Told, Entry, own}
-use Rattle.xsk_model.specs.Own.{is_fill_peek, fill_step, waiting, sending_of, peeked_of}
+use Rattle.xsk_model.specs.Own.{is_fill_peek, fill_step, sending_of, peeked_of}
 use Rattle.xsk_model.specs.Legal.{IsLegal, AreReceived, AreCompleted}
 use Rattle.xsk_model.specs.History.{IsHistory, Fits}
 use Rattle.xsk_model.specs.Sent.{sent_by}
 use Rattle.xsk_model.specs.OtherWords.{IsFew, WasLastOnFill, IsNextToSend}
-use Rattle.xsk_model.specs.declared.call.Ring.{Ring}
 use Rattle.xsk_model.specs.declared.call.Ring.TheVariants.{Fill, Comp, Rx, Tx}
 use Rattle.xsk_model.specs.declared.call.Call.{Call}
 use Rattle.xsk_model.specs.declared.call.Call.TheVariants.{Reserve, Submit, Peek, Release, Swap, Look}
-use Rattle.xsk_model.specs.declared.call.Reply.{Reply}
 use Rattle.xsk_model.specs.declared.call.Reply.TheVariants.{Items}
 use Rattle.xsk_model.proofs.Theorems.{sent_in_order}
-use Rattle.xsk_model.proofs.OwnRuns.{history_own, fits_taken}
+use Rattle.xsk_model.proofs.OwnRuns.{history_own}
 use Rattle.xsk_model.proofs.Sendings.{peeked_is}
 
 -- ---- numbers

@@ -212,7 +212,7 @@ abbrev pub MarkNumbers : Type 0
 MarkNumbers = (c : Config) (frames : List Frame) (h : List Entry) (m : Mark) → IsHistory c frames h → HasMark c m
     → IsMarkNumber c m (mark_at c (state_after c frames h) m)
 
--- a call that may set a mark sets one that isn't a cell to 0 or 1, and is its owner's
+-- a Swap is legal exactly where a mark that isn't a cell is set to 0 or 1 by its owner
 abbrev pub LegalSwaps : Type 0
 LegalSwaps = (c : Config) (mine : List Told) (who : ℕ) (m : Mark) (value : ℕ)
     → IsLegal c mine who (Swap m value) ↔ ((who < callers_of c) × HasMark c m × IsMarkOwner c who m × (value ≤ 1) × ((port index : ℕ) → m ≢ Cell port index))

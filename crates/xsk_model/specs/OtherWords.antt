@@ -1,7 +1,7 @@
 -- What is said of single calls in other words than those of `Object.antt` and `Own.antt`: whether a call changes the state,
 -- from which ring a frame came last, which packet a driver completes next, the layouts of packets by their lengths alone,
 -- and calls without the bytes of their frames. All of this is this project's own.
-use Rattle.std.specs.Prelude.{◌≡◌, ℕ, ◌<◌, ◌≤◌, ◌⊎◌, Bool, true, false, not, IsTrue, ◌==◌, Option, Some, None, List, [], ◌∷◌, ◌++◌, length, map, All}
+use Rattle.std.specs.Prelude.{◌≡◌, ℕ, ◌<◌, ◌≤◌, ◌⊎◌, Bool, true, false, not, IsTrue, ◌==◌, Some, List, [], ◌∷◌, ◌++◌, length, map, All}
 use Rattle.std.specs.Option.{option_map}
 use Rattle.xsk_umem.specs.Frame.{Frame}
 use Rattle.xsk_umem.specs.Geometry.{Geometry, payload_of, data_of}
@@ -14,7 +14,7 @@ use Rattle.xsk_model.specs.Object.{taken}
 use Rattle.xsk_model.specs.Entry.{Told, Entry, own}
 use Rattle.xsk_model.specs.Own.{peeked_of}
 use Rattle.xsk_model.specs.Sent.{sent_by}
-use Rattle.xsk_model.specs.declared.call.Ring.TheVariants.{Fill, Comp, Rx, Tx}
+use Rattle.xsk_model.specs.declared.call.Ring.TheVariants.{Fill, Comp, Tx}
 use Rattle.xsk_model.specs.declared.call.Call.{Call}
 use Rattle.xsk_model.specs.declared.call.Call.TheVariants.{Reserve, Submit, Peek, Release, Swap, Look}
 use Rattle.xsk_model.specs.declared.call.Reply.{Reply}

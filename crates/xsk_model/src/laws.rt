@@ -181,7 +181,7 @@ pub fn callers_exist()
     ensures { CallersExist }
 {}
 
-/// A legal Swap sets a mark that isn't a cell to 0 or 1, and is made by the mark's owner.
+/// A Swap is legal exactly where a mark that isn't a cell is set to 0 or 1 by its owner.
 pub fn legal_swaps()
     ensures { LegalSwaps }
 {}
