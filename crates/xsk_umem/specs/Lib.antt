@@ -1,4 +1,5 @@
 pub mod Geometry
+pub mod Batch
 pub mod Frame
 pub mod Frames
 pub mod PacketList

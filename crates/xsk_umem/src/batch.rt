@@ -1,9 +1,9 @@
-ghost use Rattle.std.specs.Prelude.{◌≡◌, ◌<◌, ◌≤◌, List, [], ◌∷◌, ◌++◌, length, Some, slice_get, ◌↔◌, IsTrue, IsNone, IfSome, IfNone};
+ghost use Rattle.std.specs.Prelude.{◌≡◌, ◌+◌, ◌<◌, ◌≤◌, List, [], ◌∷◌, ◌++◌, length, Some, slice_get, ◌↔◌, IsTrue, IsNone, IfSome, IfNone};
 
 use crate::Frame;
-use smallvec::SmallVec;
 use std::alloc::Global;
 use std::marker::Model;
+use std::{array, mem};
 
 /// The most items of one batch.
 pub const MOST_ITEMS: usize = 32;
@@ -30,27 +30,34 @@ pub struct Item {
 /// At most 32 items in order, held inline.
 #[derive(Drop)]
 pub struct Batch {
-    items: SmallVec<Item, MOST_ITEMS>,
+    /// The place of the first item.
+    head: usize,
+    len: usize,
+    /// The items from the first on, round the end. Other places have a blank item.
+    places: [Item; MOST_ITEMS],
 }
 
 impl Model for Batch {
-    ghost use Rattle.std.specs.Prelude.{◌≡◌, ◌≤◌, List, length};
+    ghost use Rattle.std.specs.Prelude.{◌<◌, ◌≤◌, List};
     ghost use Rattle.xsk_umem.specs.declared.batch.Item.{Item};
+    ghost use Rattle.xsk_umem.specs.Batch.{items_from};
 
     ghost Value = { List Item };
 
-    ghost view = { λ b. b.items.items };
+    ghost view = { λ b. items_from b.places b.head b.len };
 
-    ghost invariant = { λ b. (b.items.capacity ≡ 32) × (length b.items.items ≤ 32) };
+    ghost invariant = { λ b. (b.head < 32) × (b.len ≤ 32) };
 }
 
 impl Batch {
     /// An empty batch. It takes no memory.
-    pub fn new(alloc: Global) -> Batch
+    pub fn new(_alloc: Global) -> Batch
         ensures { result ≡ [] }
     {
         Batch {
-            items: SmallVec::new(alloc),
+            head: 0,
+            len: 0,
+            places: array::from_fn(|_| Item::default()),
         }
     }
 
@@ -59,7 +66,7 @@ impl Batch {
         ensures value { result ≡ length self.now }
         ensures few { length self.now ≤ 32 }
     {
-        let items = self.items.len();
+        let items = self.len;
         items as u32
     }
 
@@ -67,7 +74,7 @@ impl Batch {
     pub fn is_empty(&self) -> bool
         ensures { IsTrue result ↔ (self.now ≡ []) }
     {
-        self.items.is_empty()
+        self.len == 0
     }
 
     /// Appends an item. Fewer than 32 must stand in the batch.
@@ -75,7 +82,9 @@ impl Batch {
         requires { length self.old < 32 }
         ensures { self.new ≡ self.old ++ item ∷ [] }
     {
-        self.items.push_reserved(item);
+        let end = (self.head + self.len) % MOST_ITEMS;
+        self.places[end] = item;
+        self.len += 1;
     }
 
     /// Takes the first item, and `None` exactly where the batch is empty.
@@ -84,10 +93,24 @@ impl Batch {
         ensures some { IfSome result (λ item. self.old ≡ item ∷ self.new) }
         ensures none { IfNone result (self.new ≡ []) }
     {
-        if self.items.is_empty() {
-            None
-        } else {
-            Some(self.items.remove(0))
+        if self.len == 0 {
+            return None;
+        }
+        let item = mem::replace(&mut self.places[self.head], Item::default());
+        self.head = (self.head + 1) % MOST_ITEMS;
+        self.len -= 1;
+        Some(item)
+    }
+
+    /// Moves all items of another batch to the end of this one, which must have room for them.
+    pub fn append(&mut self, other: &mut Batch)
+        requires { length self.old + length other.old ≤ 32 }
+        ensures items { self.new ≡ self.old ++ other.old }
+        ensures other { other.new ≡ [] }
+    {
+        for _ in 0..other.len() {
+            let item = other.pop_front().unwrap();
+            self.push(item);
         }
     }
 
@@ -96,6 +119,7 @@ impl Batch {
         requires { i < length self.now }
         ensures { IfSome (slice_get self.now i) (λ item. result ≡ item.desc) }
     {
-        self.items[i as usize].desc
+        let place = (self.head + i as usize) % MOST_ITEMS;
+        self.places[place].desc
     }
 }
