@@ -1,3 +1,4 @@
+pub mod Asks
 pub mod Config
 pub mod Descriptor
 pub mod Entry

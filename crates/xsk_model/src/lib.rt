@@ -2,6 +2,7 @@
 //! definitions and laws that all other crates speak of.
 #![tactic(auto)]
 
+mod ask;
 mod call;
 mod config;
 pub mod laws;
@@ -9,6 +10,7 @@ mod opening;
 pub mod placement;
 pub mod steering;
 
+pub use ask::{Answer, Ask};
 pub use call::{Act, Call, Mark, Reply, Ring};
 pub use config::{Config, PairInfo, SocketInfo};
 pub use opening::home_item;
