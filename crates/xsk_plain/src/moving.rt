@@ -1,4 +1,4 @@
-ghost use Rattle.std.specs.Prelude.{◌≡◌, ◌+◌, ◌-◌, ◌≤◌, ◌++◌, length, take, drop, map, vec_len};
+ghost use Rattle.std.specs.Prelude.{◌≡◌, ◌+◌, ◌-◌, ◌≤◌, [], ◌++◌, length, take, drop, map, vec_len};
 ghost use Rattle.xsk_model.specs.Config.{Config as Parts};
 ghost use Rattle.xsk_model.specs.Stored.{stored_item};
 ghost use Rattle.xsk_plain.specs.Engine.{frames_in, frames_of};
@@ -9,25 +9,24 @@ ghost use Rattle.xsk_plain.specs.Stores.{part_of, stored_item_of};
 
 use crate::log::Log;
 use crate::ring_store::{RingStore, Stored};
-use std::alloc::Global;
 use xsk_desc::payload_of;
 use xsk_model::Config;
 use xsk_umem::{Batch, Frame, Frames};
 
-/// Puts the items into reserved places of the ring, and notes each with its payload.
-pub(crate) fn put_items(store: &mut RingStore, log: &mut Log, config: &Config, items: Batch)
+/// Moves the items into reserved places of the ring, and notes each with its payload.
+pub(crate) fn put_items(store: &mut RingStore, log: &mut Log, config: &Config, items: &mut Batch)
     requires spare { 1 ≤ log.old.spare_entries }
     requires start { vec_len log.old.pieces ≡ log.old.begun }
-    requires bytes { items_bytes config.now items ≤ log.old.spare_bytes }
-    requires room { length items ≤ store.old.room }
-    ensures log { NotesItems log.old log.new (items_bytes config.now items) }
-    ensures noted { noted_in log.new ≡ map (stored_item config.now.geometry config.now.sg) items }
+    requires bytes { items_bytes config.now items.old ≤ log.old.spare_bytes }
+    requires room { length items.old ≤ store.old.room }
+    ensures log { NotesItems log.old log.new (items_bytes config.now items.old) }
+    ensures noted { noted_in log.new ≡ map (stored_item config.now.geometry config.now.sg) items.old }
     ensures bytes { Grows log.old.bytes.items log.new.bytes.items }
-    ensures ring { part_of store.new ≡ record { out = map stored_item_of store.old.out.items ++ items; held = store.old.held; room = store.old.room - length items } }
+    ensures ring { part_of store.new ≡ record { out = map stored_item_of store.old.out.items ++ items.old; held = store.old.held; room = store.old.room - length items.old } }
+    ensures left { items.new ≡ [] }
     ensures size { store.new.size ≡ store.old.size }
     ensures kept { AreKept config.now log.old.bytes.items store.old → AreKept config.now log.new.bytes.items store.new }
 {
-    let mut items = items;
     for _ in 0..items.len() {
         let item = items.pop_front().unwrap();
         let payload = log.keep(payload_of(&item, config.geometry(), config.sg()));
@@ -37,27 +36,26 @@ pub(crate) fn put_items(store: &mut RingStore, log: &mut Log, config: &Config, i
     }
 }
 
-/// Takes at most so many items from the ring, and notes each.
-pub(crate) fn take_items(store: &mut RingStore, log: &mut Log, count: u32, alloc: Global) -> Batch
+/// Takes at most so many items from the ring into an empty batch, and notes each.
+pub(crate) fn take_items(store: &mut RingStore, log: &mut Log, count: u32, items: &mut Batch)
+    requires empty { items.old ≡ [] }
     requires spare { 1 ≤ log.old.spare_entries }
     requires start { vec_len log.old.pieces ≡ log.old.begun }
     requires few { count ≤ 32 }
     requires within { AreWithin log.old.bytes.items store.old }
     ensures log { NotesItems log.old log.new 0 }
-    ensures noted { (config : Parts) → AreKept config log.old.bytes.items store.old → noted_in log.new ≡ map (stored_item config.geometry config.sg) result }
+    ensures noted { (config : Parts) → AreKept config log.old.bytes.items store.old → noted_in log.new ≡ map (stored_item config.geometry config.sg) items.new }
     ensures bytes { log.new.bytes.items ≡ log.old.bytes.items }
-    ensures items { result ≡ take count (map stored_item_of store.old.out.items) }
-    ensures ring { part_of store.new ≡ record { out = drop count (map stored_item_of store.old.out.items); held = store.old.held + length result; room = store.old.room } }
+    ensures items { items.new ≡ take count (map stored_item_of store.old.out.items) }
+    ensures ring { part_of store.new ≡ record { out = drop count (map stored_item_of store.old.out.items); held = store.old.held + length items.new; room = store.old.room } }
     ensures size { store.new.size ≡ store.old.size }
     ensures kept { (config : Parts) → AreKept config log.old.bytes.items store.old → AreKept config log.new.bytes.items store.new }
 {
-    let mut items = Batch::new(alloc);
     for _ in 0..count.min(store.len()) {
         let stored = store.take().unwrap();
         log.note(stored.piece());
         items.push(stored.item);
     }
-    items
 }
 
 /// Puts the frames of the ring's items at the end of the queue. Those for which it has no room are dropped.

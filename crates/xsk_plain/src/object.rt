@@ -86,24 +86,26 @@ impl Object {
         self.rings[place].reserve(count)
     }
 
-    /// Puts the items into reserved places of a ring, and notes each in the log with its payload.
-    pub(crate) fn submit(&mut self, ring: Ring, items: Batch, log: &mut Log)
-        requires can { CanPerform self.old.config (parts_of self.old.rings.items) (Submit ring items) }
+    /// Moves the items into reserved places of a ring, and notes each in the log with its payload.
+    pub(crate) fn submit(&mut self, ring: Ring, items: &mut Batch, log: &mut Log)
+        requires can { CanPerform self.old.config (parts_of self.old.rings.items) (Submit ring items.old) }
         requires spare { 1 ≤ log.old.spare_entries }
         requires start { vec_len log.old.pieces ≡ log.old.begun }
-        requires bytes { items_bytes self.old.config items ≤ log.old.spare_bytes }
+        requires bytes { items_bytes self.old.config items.old ≤ log.old.spare_bytes }
         requires kept { AllKept self.old.config log.old.bytes.items self.old.rings.items }
-        ensures changes { ChangesRing self.old self.new ring (Submit ring items) }
+        ensures changes { ChangesRing self.old self.new ring (Submit ring items.old) }
         ensures kept { AllKept self.old.config log.new.bytes.items self.new.rings.items }
-        ensures log { NotesItems log.old log.new (items_bytes self.old.config items) }
-        ensures noted { noted_in log.new ≡ map (stored_item self.old.config.geometry self.old.config.sg) items }
+        ensures log { NotesItems log.old log.new (items_bytes self.old.config items.old) }
+        ensures noted { noted_in log.new ≡ map (stored_item self.old.config.geometry self.old.config.sg) items.old }
+        ensures left { items.new ≡ [] }
     {
         let place = ring_place(&self.config, ring);
         put_items(&mut self.rings[place], log, &self.config, items);
     }
 
-    /// Takes at most so many items from a ring, and notes each in the log.
-    pub(crate) fn peek(&mut self, ring: Ring, count: u32, log: &mut Log, alloc: Global) -> Batch
+    /// Takes at most so many items from a ring into an empty batch, and notes each in the log.
+    pub(crate) fn peek(&mut self, ring: Ring, count: u32, log: &mut Log, items: &mut Batch)
+        requires empty { items.old ≡ [] }
         requires can { CanPerform self.old.config (parts_of self.old.rings.items) (Peek ring count) }
         requires spare { 1 ≤ log.old.spare_entries }
         requires start { vec_len log.old.pieces ≡ log.old.begun }
@@ -111,11 +113,11 @@ impl Object {
         ensures changes { ChangesRing self.old self.new ring (Peek ring count) }
         ensures kept { AllKept self.old.config log.new.bytes.items self.new.rings.items }
         ensures log { NotesItems log.old log.new 0 }
-        ensures noted { noted_in log.new ≡ map (stored_item self.old.config.geometry self.old.config.sg) result }
-        ensures items { result ≡ take count (part_in self.old.config (parts_of self.old.rings.items) ring).out }
+        ensures noted { noted_in log.new ≡ map (stored_item self.old.config.geometry self.old.config.sg) items.new }
+        ensures items { items.new ≡ take count (part_in self.old.config (parts_of self.old.rings.items) ring).out }
     {
         let place = ring_place(&self.config, ring);
-        take_items(&mut self.rings[place], log, count, alloc)
+        take_items(&mut self.rings[place], log, count, items);
     }
 
     /// Frees the places of so many held items of a ring.
@@ -179,7 +181,8 @@ impl Object {
     /// Puts the frames that stand in rings at the end of the queue, ring by ring. Those for which it has no room are
     /// dropped.
     pub(crate) fn empty_into(self, home: &mut Frames)
-        ensures { length home.old.items + length (frames_out (parts_of self.rings.items)) ≤ home.old.limit → home.new.items ≡ home.old.items ++ frames_out (parts_of self.rings.items) }
+        ensures frames { length home.old.items + length (frames_out (parts_of self.rings.items)) ≤ home.old.limit → home.new.items ≡ home.old.items ++ frames_out (parts_of self.rings.items) }
+        ensures limit { home.new.limit ≡ home.old.limit }
     {
         let Object { rings, .. } = self;
         for store in rings {

@@ -1,5 +1,6 @@
 ghost use Rattle.std.specs.Prelude.{◌≡◌, ◌+◌, ◌≤◌, [], ◌∷◌, ◌++◌, ◌↔◌, length, OnOk, IfOk, IfErr, IsTrue};
 ghost use Rattle.xsk_umem.specs.Geometry.{IsGeometry};
+ghost use Rattle.xsk_model.specs.Asks.{joined_call, joined_reply, HasAsked, HasAnswered};
 ghost use Rattle.xsk_model.specs.Config.{Config as Parts, IsLawful};
 ghost use Rattle.xsk_model.specs.Expected.{IsReplyTo, IsReserved, IsPeeked, IsOld};
 ghost use Rattle.xsk_model.specs.Object.{State, reply_at, after};
@@ -14,7 +15,7 @@ use crate::log::{Event, Log};
 use crate::object::Object;
 use std::alloc::Global;
 use std::marker::Model;
-use xsk_model::{Call, Config, Mark, Reply, Ring};
+use xsk_model::{Answer, Ask, Call, Config, Mark, Reply, Ring};
 use xsk_umem::{Batch, Frames, OutOfMemory};
 
 /// The most bytes of a chunk.
@@ -120,19 +121,47 @@ impl Plain {
         ensures entries { self.new.spare_entries + 1 ≡ self.old.spare_entries }
         ensures bytes { self.new.spare_bytes + payload_bytes self.old.config call ≡ self.old.spare_bytes }
     {
-        match call {
-            Call::Reserve(ring, count) => self.reserve(who, ring, count),
-            Call::Submit(ring, items) => self.submit(who, ring, items),
-            Call::Peek(ring, count) => self.peek(who, ring, count),
-            Call::Release(ring, count) => self.release(who, ring, count),
-            Call::Swap(mark, value) => self.swap(who, mark, value),
-            Call::Look(mark) => self.look(who, mark),
+        let mut items = Batch::new(self.alloc);
+        let ask = call.split(&mut items);
+        let answer = self.serve(who, ask, &mut items);
+        answer.joined(items)
+    }
+
+    /// Makes the call as `perform` does, with the items of a Submit taken from the batch, and those of a Peek put there.
+    /// No batch is moved by it. The batch must be empty unless the call is a Submit, and is left empty unless items were
+    /// taken.
+    #[inline(always)]
+    pub fn serve(&mut self, who: u32, ask: Ask, items: &mut Batch) -> Answer
+        requires can { CanPerform self.old.config self.old.rings (joined_call ask items.old) }
+        requires entries { 1 ≤ self.old.spare_entries }
+        requires bytes { payload_bytes self.old.config (joined_call ask items.old) ≤ self.old.spare_bytes }
+        requires items { HasAsked ask items.old }
+
+        // The reply and the change are the object's, in each state that is shown.
+        ensures reply { (s : State) → Shows self.old s → joined_reply result items.new ≡ reply_at self.old.config s (joined_call ask items.old) }
+        ensures state { (s : State) → Shows self.old s → Shows self.new (after self.old.config s who (joined_call ask items.old)) }
+        ensures kind { IsReplyTo (joined_call ask items.old) (joined_reply result items.new) }
+        ensures log { self.new.log ≡ self.old.log ++ stored_entry self.old.config.geometry self.old.config.sg (record { who = who; call = joined_call ask items.old; reply = joined_reply result items.new }) ∷ [] }
+        ensures config { self.new.config ≡ self.old.config }
+        ensures calls { self.new.calls ≡ self.old.calls + 1 }
+        ensures entries { self.new.spare_entries + 1 ≡ self.old.spare_entries }
+        ensures bytes { self.new.spare_bytes + payload_bytes self.old.config (joined_call ask items.old) ≡ self.old.spare_bytes }
+        ensures items { HasAnswered result items.new }
+    {
+        match ask {
+            Ask::Reserve(ring, count) => self.reserve(who, ring, count),
+            Ask::Submit(ring) => self.submit(who, ring, items),
+            Ask::Peek(ring, count) => self.peek(who, ring, count, items),
+            Ask::Release(ring, count) => self.release(who, ring, count),
+            Ask::Swap(mark, value) => self.swap(who, mark, value),
+            Ask::Look(mark) => self.look(who, mark),
         }
     }
 
-    /// The frames that stand in rings, ring by ring and in order.
+    /// The frames that stand in rings, ring by ring and in order, in a queue that has room for all frames.
     pub fn close(self) -> Frames
-        ensures { length (frames_out self.rings) ≤ self.config.geometry.frames → result.items ≡ frames_out self.rings }
+        ensures frames { length (frames_out self.rings) ≤ self.config.geometry.frames → result.items ≡ frames_out self.rings }
+        ensures limit { self.config.geometry.frames ≤ result.limit }
     {
         let Plain {
             object,
@@ -143,90 +172,96 @@ impl Plain {
         home
     }
 
-    fn reserve(&mut self, who: u32, ring: Ring, count: u32) -> Reply
+    fn reserve(&mut self, who: u32, ring: Ring, count: u32) -> Answer
         requires can { CanPerform self.old.config self.old.rings (Call.Reserve ring count) }
         requires entries { 1 ≤ self.old.spare_entries }
-        ensures kind { IsReserved result }
-        ensures enters { Enters self.old self.new who (Call.Reserve ring count) result 0 }
-        ensures follows { FollowsObject self.old self.new who (Call.Reserve ring count) result }
+        ensures kind { IsReserved (joined_reply result []) }
+        ensures left { HasAnswered result [] }
+        ensures enters { Enters self.old self.new who (Call.Reserve ring count) (joined_reply result []) 0 }
+        ensures follows { FollowsObject self.old self.new who (Call.Reserve ring count) (joined_reply result []) }
     {
         match self.object.reserve(ring, count) {
             Ok(()) => {
                 self.log.enter(who, Event::Granted(ring, count));
-                Reply::Granted
+                Answer::Granted
             }
             Err(free) => {
                 self.log.enter(who, Event::Full(ring, count, free));
-                Reply::Full(free)
+                Answer::Full(free)
             }
         }
     }
 
-    fn submit(&mut self, who: u32, ring: Ring, items: Batch) -> Reply
-        requires can { CanPerform self.old.config self.old.rings (Call.Submit ring items) }
+    fn submit(&mut self, who: u32, ring: Ring, items: &mut Batch) -> Answer
+        requires can { CanPerform self.old.config self.old.rings (Call.Submit ring items.old) }
         requires entries { 1 ≤ self.old.spare_entries }
-        requires bytes { items_bytes self.old.config items ≤ self.old.spare_bytes }
-        ensures kind { result ≡ Reply.Submitted }
-        ensures enters { Enters self.old self.new who (Call.Submit ring items) result (items_bytes self.old.config items) }
-        ensures follows { FollowsObject self.old self.new who (Call.Submit ring items) result }
+        requires bytes { items_bytes self.old.config items.old ≤ self.old.spare_bytes }
+        ensures kind { joined_reply result items.new ≡ Reply.Submitted }
+        ensures left { HasAnswered result items.new }
+        ensures enters { Enters self.old self.new who (Call.Submit ring items.old) (joined_reply result items.new) (items_bytes self.old.config items.old) }
+        ensures follows { FollowsObject self.old self.new who (Call.Submit ring items.old) (joined_reply result items.new) }
     {
         self.object.submit(ring, items, &mut self.log);
         self.log.enter(who, Event::Submitted(ring));
-        Reply::Submitted
+        Answer::Submitted
     }
 
-    fn peek(&mut self, who: u32, ring: Ring, count: u32) -> Reply
+    fn peek(&mut self, who: u32, ring: Ring, count: u32, items: &mut Batch) -> Answer
         requires can { CanPerform self.old.config self.old.rings (Call.Peek ring count) }
+        requires empty { items.old ≡ [] }
         requires entries { 1 ≤ self.old.spare_entries }
-        ensures kind { IsPeeked result }
-        ensures enters { Enters self.old self.new who (Call.Peek ring count) result 0 }
-        ensures follows { FollowsObject self.old self.new who (Call.Peek ring count) result }
+        ensures kind { IsPeeked (joined_reply result items.new) }
+        ensures left { HasAnswered result items.new }
+        ensures enters { Enters self.old self.new who (Call.Peek ring count) (joined_reply result items.new) 0 }
+        ensures follows { FollowsObject self.old self.new who (Call.Peek ring count) (joined_reply result items.new) }
     {
-        let items = self.object.peek(ring, count, &mut self.log, self.alloc);
+        self.object.peek(ring, count, &mut self.log, items);
         if items.is_empty() {
-            drop(items);
             self.log.enter(who, Event::Empty(ring, count));
-            Reply::Empty
+            Answer::Empty
         } else {
             self.log.enter(who, Event::Items(ring, count));
-            Reply::Items(items)
+            Answer::Items
         }
     }
 
-    fn release(&mut self, who: u32, ring: Ring, count: u32) -> Reply
+    fn release(&mut self, who: u32, ring: Ring, count: u32) -> Answer
         requires can { CanPerform self.old.config self.old.rings (Call.Release ring count) }
         requires entries { 1 ≤ self.old.spare_entries }
-        ensures kind { result ≡ Reply.Released }
-        ensures enters { Enters self.old self.new who (Call.Release ring count) result 0 }
-        ensures follows { FollowsObject self.old self.new who (Call.Release ring count) result }
+        ensures kind { joined_reply result [] ≡ Reply.Released }
+        ensures left { HasAnswered result [] }
+        ensures enters { Enters self.old self.new who (Call.Release ring count) (joined_reply result []) 0 }
+        ensures follows { FollowsObject self.old self.new who (Call.Release ring count) (joined_reply result []) }
     {
         self.object.release(ring, count);
         self.log.enter(who, Event::Released(ring, count));
-        Reply::Released
+        Answer::Released
     }
 
-    fn swap(&mut self, who: u32, mark: Mark, value: u64) -> Reply
+    fn swap(&mut self, who: u32, mark: Mark, value: u64) -> Answer
         requires can { CanPerform self.old.config self.old.rings (Call.Swap mark value) }
         requires entries { 1 ≤ self.old.spare_entries }
-        ensures kind { IsOld result }
-        ensures enters { Enters self.old self.new who (Call.Swap mark value) result 0 }
-        ensures follows { FollowsObject self.old self.new who (Call.Swap mark value) result }
+        ensures kind { IsOld (joined_reply result []) }
+        ensures left { HasAnswered result [] }
+        ensures enters { Enters self.old self.new who (Call.Swap mark value) (joined_reply result []) 0 }
+        ensures follows { FollowsObject self.old self.new who (Call.Swap mark value) (joined_reply result []) }
     {
         let old = self.object.swap(mark, value);
         self.log.enter(who, Event::Swapped(mark, value, old));
-        Reply::Old(old)
+        Answer::Old(old)
     }
 
-    fn look(&mut self, who: u32, mark: Mark) -> Reply
+    fn look(&mut self, who: u32, mark: Mark) -> Answer
         requires can { CanPerform self.old.config self.old.rings (Call.Look mark) }
         requires entries { 1 ≤ self.old.spare_entries }
-        ensures kind { IsOld result }
-        ensures enters { Enters self.old self.new who (Call.Look mark) result 0 }
-        ensures follows { FollowsObject self.old self.new who (Call.Look mark) result }
+        ensures kind { IsOld (joined_reply result []) }
+        ensures left { HasAnswered result [] }
+        ensures enters { Enters self.old self.new who (Call.Look mark) (joined_reply result []) 0 }
+        ensures follows { FollowsObject self.old self.new who (Call.Look mark) (joined_reply result []) }
     {
         let old = self.object.look(mark);
         self.log.enter(who, Event::Looked(mark, old));
-        Reply::Old(old)
+        Answer::Old(old)
     }
 }
 

@@ -28,7 +28,7 @@ loop-preserved c =
     grows_more c.args.log.now.bytes.items c.loop.log.bytes.items c.note.new.self.bytes.items c.payload_of.result.now c.loop.invariant.bytes (c.note.ensures.bytes ∙ c.keep-payload.ensures.bytes) in
     record {
       entries = c.note.ensures.entries ∙ c.keep-payload.ensures.entries ∙ c.loop.invariant.entries;
-      noted = noted_step (stored_item c.args.config.now.geometry c.args.config.now.sg) (noted_in c.loop.log) (noted_in c.note.new.self) c.pop_front.new.self c.loop.items c.args.items
+      noted = noted_step (stored_item c.args.config.now.geometry c.args.config.now.sg) (noted_in c.loop.log) (noted_in c.note.new.self) c.pop_front.new.self c.loop.items c.args.items.now
           c.unwrap-item.result (item_of c.keep-payload.new.self.bytes.items c.piece.result) noted item first c.loop.invariant.noted;
       len = c.note.ensures.len ∙ c.keep-payload.ensures.len ∙ c.loop.invariant.len;
       begun = c.note.ensures.begun ∙ c.keep-payload.ensures.begun ∙ c.loop.invariant.begun;

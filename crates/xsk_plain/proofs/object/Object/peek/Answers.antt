@@ -19,7 +19,7 @@ returns-clause-changes c =
       config = refl;
       marks = refl;
       rings =
-          let result : length c.take_items.result ≡ length (take c.args.count (map stored_item_of c.index_mut.result.now.out.items)) = ap length c.take_items.ensures.items in
+          let result : length c.take_items.new.items ≡ length (take c.args.count (map stored_item_of c.index_mut.result.now.out.items)) = ap length c.take_items.ensures.items in
           parts-set c.args.self.now.config c.args.self.now.rings.items c.ring_place-place.result c.index_mut.result.now c.take_items.new.store within c.index_mut.ensures.value
           c.args.ring (Peek c.args.ring c.args.count) c.requires.can.0 c.ring_place-place.ensures.value c.args.self.now.sizes
           (c.take_items.ensures.ring

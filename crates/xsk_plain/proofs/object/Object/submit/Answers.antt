@@ -17,7 +17,7 @@ returns-clause-changes c =
       config = refl;
       marks = refl;
       rings = parts-set c.args.self.now.config c.args.self.now.rings.items c.ring_place-place.result c.index_mut.result.now c.put_items.new.store within c.index_mut.ensures.value
-          c.args.ring (Submit c.args.ring c.args.items) c.requires.can.0 c.ring_place-place.ensures.value c.args.self.now.sizes
+          c.args.ring (Submit c.args.ring c.args.items.now) c.requires.can.0 c.ring_place-place.ensures.value c.args.self.now.sizes
           c.put_items.ensures.ring;
     }
 
@@ -33,4 +33,4 @@ pub put_items-requires-clause-room : goal.put_items-requires-clause-room
 put_items-requires-clause-room c =
     let within : c.ring_place-place.result < length c.args.self.now.rings.items = omega (arith, c.ring_place-place.ensures.within, length-rings c.args.self.now.config c.args.self.now.rings.items c.args.self.now.sizes) in
     room_here c.args.self.now.config c.args.self.now.rings.items c.ring_place-place.result c.index_mut.result.now c.index_mut.result.now within c.index_mut.ensures.value
-    c.args.ring (length c.args.items) c.ring_place-place.ensures.value c.requires.can.1
+    c.args.ring (length c.args.items.now) c.ring_place-place.ensures.value c.requires.can.1
