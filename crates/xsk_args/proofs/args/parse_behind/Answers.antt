@@ -1,0 +1,16 @@
+use Rattle.std.proofs.Common.{rules, ◌≡◌, true, false, map, string_bytes}
+use Rattle.std.specs.List.{list_all}
+use Rattle.clap.specs.Words.{all_of, found_of, rows_of}
+use Rattle.xsk_args.specs.Meaning.{fits}
+use Rattle.xsk_args.proofs.Reading.{meant_none, meant_some}
+use Rattle.xsk_args.proofs.args.parse_behind.Goals as goal
+
+pub returns-then-not-all_fit-clause-usage : goal.returns-then-not-all_fit-clause-usage
+returns-then-not-all_fit-clause-usage c =
+    let fit : list_all (fits (λ name. all_of name (rows_of (found_of c.in_ok-matches.matches)))) c.args.table.now ≡ false = search rules in
+    λ _. meant_none c.in_ok-matches.matches c.args.table.now (map string_bytes c.args.words.now) c.in_ok-matches.ensures.told fit
+
+pub returns-clause-told : goal.returns-clause-told
+returns-clause-told c =
+    let fit : list_all (fits (λ name. all_of name (rows_of (found_of c.in_ok-matches.matches)))) c.args.table.now ≡ true = search rules in
+    meant_some c.in_ok-matches.matches c.args.table.now (map string_bytes c.args.words.now) c.in_ok-matches.ensures.told fit

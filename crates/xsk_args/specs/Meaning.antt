@@ -1,0 +1,57 @@
+-- What the words of a command mean. This project's own.
+use Rattle.std.specs.Prelude.{◌≡◌, codes, Bool, true, false, List, [], ◌∷◌, Option, Some, None, is_some, find, map, slice_get, option_and_then, option_map, if◌then◌else◌}
+use Rattle.std.specs.List.{list_all}
+use Rattle.std.specs.Option.{option_map_or}
+use Rattle.std.specs.Str.{bytes_eq}
+use Rattle.xsk_args.specs.Words.{Text, Stated, Said, said_of, spoken}
+use Rattle.xsk_args.specs.Number.{number_in}
+use Rattle.xsk_args.specs.declared.table.OptionRow.{OptionRow}
+use Rattle.xsk_args.specs.declared.table.Takes.{Takes}
+use Rattle.xsk_args.specs.declared.table.Takes.TheVariants.{Nothing, Number, AnyText}
+
+abbrev pub has_value : Takes → Bool
+has_value Nothing = false
+has_value Number = true
+has_value AnyText = true
+
+abbrev pub stated : OptionRow → Stated
+stated row = record { name = row.name.now; has_value = has_value row.takes }
+
+-- what was said under each name: the values of an option, none for a flag, and the files under `FILE`
+abbrev pub Meaning : Type 0
+Meaning = Text → Option (List Text)
+
+-- the value of an option, where it was said and has one
+abbrev pub one_value : Option (List Text) → Option Text
+one_value = option_and_then (λ values. slice_get values 0)
+
+-- the option takes this value
+abbrev pub is_taken : Takes → Text → Bool
+is_taken Nothing value = true
+is_taken Number value = is_some (number_in value)
+is_taken AnyText value = true
+
+-- what was said under the row's name is what it takes
+abbrev pub fits : Meaning → OptionRow → Bool
+fits said row = option_map_or (is_taken row.takes) (one_value (said row.name.now)) true
+
+abbrev pub fitting : List OptionRow → Meaning → Option Meaning
+fitting table said = if list_all (fits said) table then Some said else None
+
+-- the meaning of the words behind the command's name
+abbrev pub meant : List OptionRow → List Text → Option Meaning
+meant table words = option_and_then (λ said. fitting table (λ option. said_of option said)) (spoken (map stated table) words)
+
+-- the meaning of words, where they are the command with this name and these options
+abbrev pub meaning : Text → List OptionRow → List Text → Option Meaning
+meaning name table [] = None
+meaning name table (first ∷ rest) =
+    if bytes_eq first name then meant table rest else None
+
+-- what a list of names with their values says under each name
+abbrev pub under : List Said → Meaning
+under said name = option_map (λ one. one.1) (find (λ one. bytes_eq one.0 name) said)
+
+-- no row has the name of the files
+abbrev pub HasNoFileRow : List OptionRow → Type 0
+HasNoFileRow table = find (λ s. bytes_eq s.name (codes "FILE")) (map stated table) ≡ None

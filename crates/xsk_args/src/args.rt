@@ -1,0 +1,123 @@
+ghost use Rattle.std.specs.Prelude.{◌≡◌, None, Some, IfOk, IsErrOf, codes, is_some, map, option_and_then, option_map, string_bytes};
+ghost use Rattle.std.specs.List.{list_all};
+ghost use Rattle.clap.specs.Words.{all_of, found_of, rows_of};
+ghost use Rattle.xsk_args.specs.Number.{number_in};
+ghost use Rattle.xsk_args.specs.Meaning.{HasNoFileRow, fits, meaning, meant, one_value, under};
+
+use crate::command::{matches, FILES};
+use crate::number::number;
+use crate::{ArgsError, OptionRow, Takes};
+use clap::ArgMatches;
+use std::alloc::Global;
+use std::marker::Model;
+
+/// What the words of a command say, by the names of its options.
+#[derive(Drop)]
+pub struct Args<'a> {
+    matches: ArgMatches<'a>,
+}
+
+impl<'a> Model for Args<'a> {
+    ghost use Rattle.std.specs.Prelude.{List};
+    ghost use Rattle.clap.specs.Words.{found_of, rows_of};
+    ghost use Rattle.xsk_args.specs.Words.{Said};
+    ghost use Rattle.xsk_args.specs.Rules.{said_by};
+
+    ghost Value = { List Said };
+
+    ghost view = { λ a. said_by (rows_of (found_of a.matches)) };
+}
+
+/// Reads words as a command: its name, and then options and files in any order.
+///
+/// An option is `--` and its name. Its value is the next word, or stands after `=`. Each option comes once at most.
+/// `--` ends the options, and the words behind it are files. There is at least one file. No row is named `FILE`.
+pub fn parse<'a>(
+    alloc: Global,
+    name: &str,
+    table: &[OptionRow<'a>],
+    words: &'a [String],
+) -> Result<Args<'a>, ArgsError>
+    requires { HasNoFileRow table.now }
+    ensures told { IfOk result (λ args. meaning name.now table.now (map string_bytes words.now) ≡ Some (under args)) }
+    ensures usage { IsErrOf result ArgsError.Usage → meaning name.now table.now (map string_bytes words.now) ≡ None }
+{
+    let Some((first, rest)) = words.split_first() else {
+        return Err(ArgsError::Usage);
+    };
+    if first.as_str() != name {
+        return Err(ArgsError::Usage);
+    }
+    parse_behind(alloc, table, rest)
+}
+
+/// Reads the words behind the command's name.
+fn parse_behind<'a>(
+    alloc: Global,
+    table: &[OptionRow<'a>],
+    words: &'a [String],
+) -> Result<Args<'a>, ArgsError>
+    requires { HasNoFileRow table.now }
+    ensures told { IfOk result (λ args. meant table.now (map string_bytes words.now) ≡ Some (under args)) }
+    ensures usage { IsErrOf result ArgsError.Usage → meant table.now (map string_bytes words.now) ≡ None }
+{
+    let matches = matches(alloc, table, words)?;
+    if !all_fit(&matches, table) {
+        return Err(ArgsError::Usage);
+    }
+    Ok(Args { matches })
+}
+
+/// Whether each option has a value that it takes.
+fn all_fit(matches: &ArgMatches<'_>, table: &[OptionRow<'_>]) -> bool
+    ensures { result ≡ list_all (fits (λ name. all_of name (rows_of (found_of matches.now)))) table.now }
+{
+    for row in table {
+        if !fits_row(matches, *row) {
+            return false;
+        }
+    }
+    true
+}
+
+fn fits_row(matches: &ArgMatches<'_>, row: OptionRow<'_>) -> bool
+    ensures { result ≡ fits (λ name. all_of name (rows_of (found_of matches.now))) row.entry }
+{
+    match row.takes {
+        Takes::Number => match matches.get_str(row.name) {
+            Some(text) => number(text).is_some(),
+            None => true,
+        },
+        Takes::Nothing | Takes::AnyText => true,
+    }
+}
+
+impl<'a> Args<'a> {
+    /// The number that was said under the name, where one was.
+    pub fn number(&self, name: &str) -> Option<u32>
+        ensures { result ≡ option_and_then number_in (one_value (under self.now name.now)) }
+    {
+        number(self.text(name)?)
+    }
+
+    /// The value that was said under the name, where one was.
+    pub fn text(&self, name: &str) -> Option<&'a str>
+        ensures { option_map (λ text. text.now) result ≡ one_value (under self.now name.now) }
+    {
+        self.matches.get_str(name)
+    }
+
+    /// Whether the option was said.
+    pub fn is_said(&self, name: &str) -> bool
+        ensures { result ≡ is_some (under self.now name.now) }
+    {
+        self.matches.contains_id(name)
+    }
+
+    /// The files in order. What was parsed has one at least.
+    pub fn files(&self) -> Option<&[&'a str]>
+        ensures { option_map (λ files. map (λ file. file.now) files.now) result ≡ under self.now (codes "FILE") }
+    {
+        self.matches.get_strs(FILES)
+    }
+}

@@ -1,0 +1,86 @@
+//! The command that clap is given, and what it finds in the words.
+ghost use Rattle.std.specs.Prelude.{◌≡◌, false, fold, map, string_bytes, IfOk, None, IsErrOf};
+ghost use Rattle.clap.specs.Words.{app_of, rule_of, with_rule};
+ghost use Rattle.xsk_args.specs.Words.{spoken};
+ghost use Rattle.xsk_args.specs.Meaning.{HasNoFileRow, stated};
+ghost use Rattle.xsk_args.specs.Rules.{AreSpelled, IsToldBy, command_app, option_rule};
+
+use crate::{ArgsError, OptionRow, Takes};
+use clap::error::ErrorKind;
+use clap::{Arg, ArgAction, ArgMatches, Command};
+use std::alloc::{AllocError, Global};
+
+/// The name under which clap keeps the files.
+pub(crate) const FILES: &str = "FILE";
+
+/// What clap finds in the words behind the command's name.
+pub(crate) fn matches<'a>(
+    alloc: Global,
+    table: &[OptionRow<'a>],
+    words: &'a [String],
+) -> Result<ArgMatches<'a>, ArgsError>
+    requires { HasNoFileRow table.now }
+    ensures told { IfOk result (λ m. IsToldBy m (spoken (map stated table.now) (map string_bytes words.now))) }
+    ensures usage { IsErrOf result ArgsError.Usage → spoken (map stated table.now) (map string_bytes words.now) ≡ None }
+{
+    note_texts(words);
+    let command = command(alloc, table)?;
+    match command.try_get_matches_from(words) {
+        Ok(matches) => Ok(matches),
+        Err(error) => match error.kind() {
+            ErrorKind::OutOfMemory => Err(ArgsError::OutOfMemory),
+            _ => Err(ArgsError::Usage),
+        },
+    }
+}
+
+/// Each word is text.
+fn note_texts(words: &[String])
+    ensures { AreSpelled (map string_bytes words.now) }
+{
+    for word in words {
+        let _text = word.as_str();
+    }
+}
+
+/// The command, with the options of the table and no others, and at least one file.
+fn command<'a>(alloc: Global, table: &[OptionRow<'a>]) -> Result<Command<'a>, AllocError>
+    ensures { IfOk result (λ c. app_of c ≡ command_app (map stated table.now)) }
+{
+    let files = Arg::new(alloc, FILES)
+        .action(ArgAction::Append)
+        .required(true);
+    let command = Command::new(alloc, "xsk")
+        .no_binary_name(true)
+        .disable_help_flag(true)
+        .disable_help_subcommand(true);
+    let command = with_options(alloc, command, table)?;
+    command.arg(files)
+}
+
+fn with_options<'a>(
+    alloc: Global,
+    command: Command<'a>,
+    table: &[OptionRow<'a>],
+) -> Result<Command<'a>, AllocError>
+    ensures { IfOk result (λ c. app_of c ≡ fold (λ app row. with_rule app (option_rule (stated row))) (app_of command.entry) table.now) }
+{
+    let mut command = command;
+    for row in table {
+        command = command.arg(option(alloc, *row))?;
+    }
+    Ok(command)
+}
+
+fn option<'a>(alloc: Global, row: OptionRow<'a>) -> Arg<'a>
+    ensures rule { rule_of result ≡ option_rule (stated row.entry) }
+    ensures local { result.global ≡ false }
+{
+    let option = Arg::new(alloc, row.name)
+        .long(row.name)
+        .action(ArgAction::Set);
+    match row.takes {
+        Takes::Nothing => option.num_args(0),
+        Takes::Number | Takes::AnyText => option,
+    }
+}

@@ -1,0 +1,15 @@
+//! The words of a command, read with `clap` by a table of the command's options.
+#![tactic(auto)]
+
+mod args;
+mod command;
+mod error;
+mod number;
+mod table;
+
+pub use args::{parse, Args};
+pub use error::ArgsError;
+pub use table::{OptionRow, Takes};
+
+#[cfg(test)]
+mod tests;

@@ -1,0 +1,18 @@
+/// What value an option takes.
+#[derive(Clone, Copy, Debug, PartialEq, Eq)]
+pub enum Takes {
+    /// None: the option is a flag.
+    Nothing,
+    /// One to ten decimal digits, at most 4,294,967,295.
+    Number,
+    /// Any word.
+    AnyText,
+}
+
+/// An option that a command has.
+#[derive(Clone, Copy, Debug, PartialEq, Eq)]
+pub struct OptionRow<'a> {
+    /// The name without its two hyphens.
+    pub name: &'a str,
+    pub takes: Takes,
+}
