@@ -1,0 +1,10 @@
+//! The generator: packets made from a number, for runs that need no captures.
+#![tactic(auto)]
+
+mod draws;
+mod packets;
+
+pub use packets::generate;
+
+#[cfg(test)]
+mod tests;
