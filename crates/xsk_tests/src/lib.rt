@@ -8,4 +8,6 @@ mod commands;
 #[cfg(test)]
 mod configuration;
 #[cfg(test)]
+mod four_ports;
+#[cfg(test)]
 mod short_writes;
