@@ -1,12 +1,12 @@
 -- What a list's spans show after its text has grown.
-use Rattle.std.proofs.Common.{◌≡◌, ℕ, zero, suc, ◌+◌, ◌≤◌, List, [], ◌∷◌, ◌++◌, length, get_or, set, drop, map, refl, sym, ◌∙◌, arith, length-append, length-drop}
+use Rattle.std.proofs.Common.{◌≡◌, ℕ, zero, suc, ◌+◌, ◌≤◌, List, [], ◌∷◌, ◌++◌, length, get_or, set, take, drop, map, refl, sym, ◌∙◌, arith, length-append, length-drop}
 use Rattle.std.specs.Prelude.{All}
-use Rattle.std.proofs.lemmas.List.{drop-append-le, take-append-le, map-append}
-use Rattle.std.proofs.lemmas.List.Elements.{All-head, All-tail, All-push, All-set, All-weaker}
+use Rattle.std.proofs.lemmas.List.{drop-append-le, take-append-le, take-append-drop, length-take-le, map-append}
+use Rattle.std.proofs.lemmas.List.Elements.{All-head, All-tail, All-cons, All-push, All-set, All-weaker}
 use Rattle.std.proofs.Math.Seq.{drop-append_seam, take-length}
 use Rattle.xsk_umem.specs.declared.packet_list.Span.{Span}
 use Rattle.xsk_umem.specs.PacketList.{with_last_extended}
-use Rattle.xsk_umem.specs.Span.{at_span, IsWithin, AreSpans, end_of}
+use Rattle.xsk_umem.specs.Span.{at_span, IsWithin, AreFrom, AreInText, AreSpans, end_of}
 
 -- a span within the text shows the same bytes in a longer text
 at_span-append : (text piece : List ℕ) (span : Span) → IsWithin text span → at_span (text ++ piece) span ≡ at_span text span
@@ -61,9 +61,61 @@ end_of-last (suc i) (first ∷ next ∷ spans) d last = end_of-last i (next ∷ 
 within_longer : (text piece : List ℕ) (spans : List Span) → All (IsWithin text) spans → All (IsWithin (text ++ piece)) spans
 within_longer text piece spans all = All-weaker (IsWithin text) (IsWithin (text ++ piece)) (λ span within. let w : span.start + span.len ≤ length text = within in omega (arith, length-append text piece)) spans all
 
+-- no span begins behind the end of the last
+before_end : (from : ℕ) (spans : List Span) (span : Span) → AreFrom from (span ∷ spans) → from ≤ end_of (span ∷ spans)
+before_end from [] span apart = let h : from ≤ span.start = apart.0 in omega (arith, h)
+before_end from (next ∷ spans) span apart =
+    let first : from ≤ span.start = apart.0 in
+    let rest : span.start + span.len ≤ end_of (next ∷ spans) = before_end (span.start + span.len) spans next apart.1 in
+    omega (arith, first, rest)
+
+-- spans in order end where the last ends, or before
+within_end : (from : ℕ) (spans : List Span) (text : List ℕ) → AreFrom from spans → end_of spans ≤ length text → All (IsWithin text) spans
+within_end from [] text apart end = λ k d h. absurd (omega (arith, h))
+within_end from (span ∷ []) text apart end = All-cons (IsWithin text) span [] end (λ k d h. absurd (omega (arith, h)))
+within_end from (span ∷ next ∷ spans) text apart end =
+    let near : span.start + span.len ≤ end_of (next ∷ spans) = before_end (span.start + span.len) spans next apart.1 in
+    let far : end_of (next ∷ spans) ≤ length text = end in
+    All-cons (IsWithin text) span (next ∷ spans) (omega (arith, near, far)) (within_end (span.start + span.len) (next ∷ spans) text apart.1 far)
+
+pub end_within : (text : List ℕ) (spans : List Span) → All (IsWithin text) spans → end_of spans ≤ length text
+end_within text [] all = omega arith
+end_within text (span ∷ []) all = All-head (IsWithin text) span [] all
+end_within text (span ∷ next ∷ spans) all = end_within text (next ∷ spans) (All-tail (IsWithin text) span (next ∷ spans) all)
+
+-- the text cut behind the last span shows the same packets
+pub cut-spans : (text : List ℕ) (spans : List Span) → AreInText text spans → AreSpans (take (end_of spans) text) spans
+cut-spans text spans are =
+    let len : length (take (end_of spans) text) ≡ end_of spans = length-take-le (end_of spans) text (end_within text spans are.within) in
+    record { within = within_end 0 spans (take (end_of spans) text) are.apart (omega (arith, len)); apart = are.apart; end = sym len }
+
+pub cut-packets : (text : List ℕ) (spans : List Span) → AreInText text spans → map (at_span (take (end_of spans) text)) spans ≡ map (at_span text) spans
+cut-packets text spans are =
+    let cut = cut-spans text spans are in
+    let grown : map (at_span (take (end_of spans) text ++ drop (end_of spans) text)) spans ≡ map (at_span (take (end_of spans) text)) spans =
+    map_at_span-append (take (end_of spans) text) (drop (end_of spans) text) spans cut.within in
+    sym (rw (take-append-drop (end_of spans) text) at grown)
+
+-- spans in order stay so with one behind them, and with another length of the last
+apart-push : (from : ℕ) (spans : List Span) (span : Span) → AreFrom from spans → from ≤ span.start → end_of spans ≤ span.start → AreFrom from (spans ++ span ∷ [])
+apart-push from [] span apart first behind = (first, tt)
+apart-push from (old ∷ []) span apart first behind = (apart.0, (behind, tt))
+apart-push from (old ∷ next ∷ spans) span apart first behind =
+    let far : end_of (next ∷ spans) ≤ span.start = behind in
+    let near : old.start + old.len ≤ end_of (next ∷ spans) = before_end (old.start + old.len) spans next apart.1 in
+    (apart.0, apart-push (old.start + old.len) (next ∷ spans) span apart.1 (omega (arith, near, far)) far)
+
+apart-extend : (from i : ℕ) (spans : List Span) (d new : Span) → AreFrom from spans → i + 1 ≡ length spans → new.start ≡ (get_or spans i d).start → AreFrom from (set spans i new)
+apart-extend from i [] d new apart last start = absurd (omega arith)
+apart-extend from zero (span ∷ []) d new apart last start = (rw start apart.0, tt)
+apart-extend from (suc i) (span ∷ []) d new apart last start = absurd (omega arith)
+apart-extend from zero (span ∷ next ∷ spans) d new apart last start = absurd (omega arith)
+apart-extend from (suc i) (span ∷ next ∷ spans) d new apart last start = (apart.0, apart-extend (span.start + span.len) i (next ∷ spans) d new apart.1 (omega arith) start)
+
 pub spans-push : (text piece : List ℕ) (spans : List Span) (span : Span) → AreSpans text spans → span.start ≡ length text → span.len ≡ length piece → AreSpans (text ++ piece) (spans ++ span ∷ [])
 spans-push text piece spans span are start len = record {
   within = All-push (IsWithin (text ++ piece)) spans span (within_longer text piece spans are.within) (omega (arith, length-append text piece));
+  apart = apart-push 0 spans span are.apart (omega arith) (omega (arith, are.end, start));
   end = end_of-push spans span ∙ omega (arith, length-append text piece);
 }
 
@@ -73,6 +125,7 @@ spans-extend text piece i spans d new are last start len =
     let end : (get_or spans i d).start + (get_or spans i d).len ≡ length text = sym (end_of-last i spans d last) ∙ are.end in
     record {
       within = All-set (IsWithin (text ++ piece)) spans i new (omega (arith, length-append text piece)) (within_longer text piece spans are.within);
+      apart = apart-extend 0 i spans d new are.apart last start;
       end = end_of-set_last i spans new last ∙ omega (arith, length-append text piece);
     }
 

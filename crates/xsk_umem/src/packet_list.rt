@@ -1,15 +1,18 @@
-ghost use Rattle.std.specs.Prelude.{◌≡◌, ◌+◌, ◌<◌, ◌≤◌, List, [], ◌∷◌, ◌++◌, length, Some, slice_get, ◌↔◌, IsTrue, OnOk, OnErr};
+ghost use Rattle.std.specs.Prelude.{◌≡◌, ◌+◌, ◌<◌, ◌≤◌, ◌^◌, List, [], ◌∷◌, ◌++◌, length, map, Some, slice_get, ◌↔◌, IsTrue, OnOk, OnErr};
 ghost use Rattle.xsk_umem.specs.PacketList.{PacketList as Packets, with_last_extended};
+ghost use Rattle.xsk_umem.specs.Span.{at_span, AreInText, end_of};
 
 use crate::OutOfMemory;
 use std::alloc::Global;
 use std::marker::Model;
 
-/// Where a packet's bytes stand in the list's text.
+/// Where a packet's bytes stand in a text.
 #[derive(Clone, Copy, Debug)]
-struct Span {
-    start: usize,
-    len: usize,
+pub struct Span {
+    /// The place of the first byte, counted from 0.
+    pub start: usize,
+    /// The number of bytes.
+    pub len: usize,
 }
 
 /// Packets in order, each a string of bytes. The packets and bytes for which room is reserved are numbers of their own.
@@ -48,6 +51,31 @@ impl PacketList {
             spare_packets: 0,
             spare_bytes: 0,
         }
+    }
+
+    /// A list of the packets that stand in a text, each as a span of it, with no room reserved. The spans must be in
+    /// order and apart, lie within the text, and be fewer than 2^32. It copies no packet and takes no memory.
+    pub fn of_spans(text: Vec<u8>, spans: Vec<Span>) -> PacketList
+        requires spans { AreInText text.items spans.items }
+        requires few { length spans.items < 2 ^ 32 }
+        ensures { result ≡ record { packets = map (at_span text.items) spans.items; spare_packets = 0; spare_bytes = 0 } }
+    {
+        let mut text = text;
+        text.truncate(end(spans.as_slice()));
+        PacketList {
+            text,
+            spans,
+            spare_packets: 0,
+            spare_bytes: 0,
+        }
+    }
+
+    /// A text in which the packets stand, and their spans, in order and apart. It takes no memory.
+    pub fn into_parts(self) -> (Vec<u8>, Vec<Span>)
+        ensures packets { map (at_span result.0.items) result.1.items ≡ self.packets }
+        ensures spans { AreInText result.0.items result.1.items }
+    {
+        (self.text, self.spans)
     }
 
     /// Makes room for at least so many further packets and bytes. The room never gets smaller by it.
@@ -124,14 +152,28 @@ impl PacketList {
         self.spare_bytes -= bytes.len() as u64;
     }
 
-    /// Appends a packet. Where memory can't be had the packets stay as they were.
+    /// Appends a packet. Where memory can't be had the packets stay as they were. Each room falls by no more than it takes.
     pub fn push(&mut self, bytes: &[u8]) -> Result<(), OutOfMemory>
         ensures pushed { OnOk result (self.new.packets ≡ self.old.packets ++ bytes.now ∷ []) }
         ensures refused { OnErr result (self.new.packets ≡ self.old.packets) }
+        ensures spare_packets { self.old.spare_packets ≤ self.new.spare_packets + 1 }
+        ensures spare_bytes { self.old.spare_bytes ≤ self.new.spare_bytes + length bytes.now }
     {
         let bytes_len = u32::try_from(bytes.len()).map_err(|_| OutOfMemory)?;
         self.reserve(1, bytes_len)?;
         self.push_reserved(bytes);
         Ok(())
     }
+}
+
+/// Where the last span ends, and 0 where there is none.
+fn end(spans: &[Span]) -> usize
+    requires { end_of spans.now < 2 ^ 64 }
+    ensures { result ≡ end_of spans.now }
+{
+    if spans.is_empty() {
+        return 0;
+    }
+    let last = spans[spans.len() - 1];
+    last.start + last.len
 }

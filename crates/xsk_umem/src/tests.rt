@@ -24,6 +24,15 @@ fn an_area_of_four_chunks_has_their_addresses(rt: HostRuntime) -> Result<(), Fai
 }
 
 #[test]
+fn the_largest_area_has_all_its_frames(rt: HostRuntime) -> Result<(), Fail> {
+    let (geometry, frames) = Umem::register(rt.alloc(), 4096 * 2048, 2048, 0)?;
+    assert_eq!(rt; geometry.frames(), 4096);
+    assert_eq!(rt; frames.len(), 4096);
+    assert_eq!(rt; geometry.frame_of(4096 * 2048 - 1), Some(4095));
+    Ok(())
+}
+
+#[test]
 fn each_area_that_is_refused_has_its_first_reason(rt: HostRuntime) {
     let cases = [
         (8192, 1024, 0, UmemError::BadChunk),
