@@ -1,4 +1,5 @@
 pub mod Fresh
 pub mod Standing
 pub mod Steps
+pub mod Telling
 pub mod TurnLemmas

@@ -11,12 +11,11 @@ use Rattle.xsk_turns.specs.Script.{Script, ask, again, ended, begun, Leaves}
 use Rattle.xsk_turns.specs.Owned.{AllFit}
 use Rattle.xsk_turns.specs.AppTurns.{AppKept, app_turn, app_start}
 use Rattle.xsk_turns.specs.AppOwned.{IsApp}
-use Rattle.xsk_turns.proofs.ScriptLemmas.{leaves_told, run_asks, asks_more, whole_run}
+use Rattle.xsk_turns.proofs.ScriptLemmas.{leaves_told}
 use Rattle.xsk_turns.proofs.Owning.{fit_push}
-use Rattle.xsk_turns.proofs.AppOwning.{app_keeps_frames, app_calls_legal, app_keeps_frames_at_end}
 use Rattle.xsk_app.specs.Shown.{Shown}
 use Rattle.xsk_app.specs.Stands.{noted_by, kept_by, left, GoesOn, IsSame}
-use Rattle.xsk_app.specs.Runs.{IsNew, Stands, HasEnded, Comes}
+use Rattle.xsk_app.specs.Runs.{IsNew, Stands, StandsWith}
 use Rattle.xsk_app.specs.declared.machine.Machine.{Machine}
 
 -- what is shown of a machine
@@ -26,63 +25,37 @@ pub record Shows (s : Shown) (m : Machine) : Type 0 where
   pub left : (c : Config) (app : ℕ) → left c app s.wait s.noted s.kept ≡ left c app m.wait (noted_by m.turn) (kept_by m)
   pub kept : s.kept ≡ kept_by m
 
--- ---- all that is promised follows by the laws of the turns
-
-comes_asks : (c : Config) (app : ℕ) (s : Shown) (call : Call) (l : List Told) → Stands c app s call l → Comes c app s (Calls call) l
-comes_asks c app s call l stands =
-    let rest = left c app s.wait s.noted s.kept in
-    record {
-      stands = stands;
-      run = run_asks (app_turn c app) (app_start c) s.kept call rest l stands.asks;
-      ended = (λ (e : Calls call ≡ IsEnded). absurd (cc), λ whole. absurd (asks_more (app_turn c app) (app_start c) s.kept call rest l stands.asks whole));
-      frames = app_keeps_frames c app l s.kept call rest stands.one stands.fit stands.asks;
-      legal = λ alone. app_calls_legal c app l s.kept call rest stands.one alone stands.fit stands.asks;
-    }
-
-comes_ended : (c : Config) (app : ℕ) (s : Shown) (l : List Told) → HasEnded c app s l → Comes c app s IsEnded l
-comes_ended c app s l e = record {
-  stands = e;
-  run = whole_run (app_turn c app) (app_start c) l (s.kept, e.ends);
-  ended = (λ same. (s.kept, e.ends), λ whole. refl);
-  frames = app_keeps_frames_at_end c app l s.kept e.one e.fit e.ends;
-  legal = λ alone. tt;
-}
-
--- ---- a step
-
 module _ (c : Config) (app : ℕ) where
   abbrev AreLeft : List Told → Script AppKept → Type 0
   AreLeft l script = Leaves (app_turn c app) (app_turn c app (app_start c)) l script
 
-  comes_with : (now : Machine) (s : Shown) (act : Act) (script : Script AppKept) (l : List Told) → Shows s now → now.config.now ≡ c → now.app ≡ app → IsApp c app → AllFit c [] l
-      → AreLeft l (begun (app_turn c app) script) → GoesOn c app now act script → Comes c app s act l
-  comes_with now s (Calls call) script l shows config same one fit leaves goes =
+  stands_with : (now : Machine) (s : Shown) (act : Act) (script : Script AppKept) (l : List Told) → Shows s now → now.config.now ≡ c → now.app ≡ app → IsApp c app → AllFit c [] l
+      → AreLeft l (begun (app_turn c app) script) → GoesOn c app now act script → StandsWith c app s act l
+  stands_with now s (Calls call) script l shows config same one fit leaves goes =
       let there : ask s.kept call (left c app s.wait s.noted s.kept) ≡ begun (app_turn c app) script =
       ap (λ k. ask k call (left c app s.wait s.noted s.kept)) shows.kept ∙ ap (ask (kept_by now) call) (shows.left c app) ∙ goes in
-      comes_asks c app s call l
-      (record { config = shows.config ∙ config; app = shows.app ∙ same; one = one; fit = fit; asks = subst (AreLeft l) (sym there) leaves })
-  comes_with now s IsEnded script l shows config same one fit leaves goes =
+      record { config = shows.config ∙ config; app = shows.app ∙ same; one = one; fit = fit; asks = subst (AreLeft l) (sym there) leaves }
+  stands_with now s IsEnded script l shows config same one fit leaves goes =
       let there : ended s.kept ≡ begun (app_turn c app) script = ap (λ k. ended k) shows.kept ∙ goes in
-      comes_ended c app s l
-      (record { config = shows.config ∙ config; app = shows.app ∙ same; one = one; fit = fit; ends = subst (AreLeft l) (sym there) leaves })
+      record { config = shows.config ∙ config; app = shows.app ∙ same; one = one; fit = fit; ends = subst (AreLeft l) (sym there) leaves }
 
   module _ (old now : Machine) (before s : Shown) (act : Act) (shows : Shows before old) (shown : Shows s now) (same : IsSame old now) where
     moved : before.config ≡ c → before.app ≡ app → (script : Script AppKept) → GoesOn old.config.now old.app now act script → GoesOn c app now act script
     moved e f script goes =
         subst (λ k. GoesOn k app now act script) (sym shows.config ∙ e) (subst (λ n. GoesOn old.config.now n now act script) (sym shows.app ∙ f) goes)
 
-    pub comes_first : IsNew c app before → GoesOn old.config.now old.app now act (again (kept_by old)) → Comes c app s act []
-    comes_first new goes =
-        comes_with now s act (again (app_start c)) [] shown (ap (λ r. r.now) same.config ∙ sym shows.config ∙ new.config) (same.app ∙ sym shows.app ∙ new.app) new.one tt refl
+    pub stands_new : IsNew c app before → GoesOn old.config.now old.app now act (again (kept_by old)) → StandsWith c app s act []
+    stands_new new goes =
+        stands_with now s act (again (app_start c)) [] shown (ap (λ r. r.now) same.config ∙ sym shows.config ∙ new.config) (same.app ∙ sym shows.app ∙ new.app) new.one tt refl
         (subst (λ k. GoesOn c app now act (again k)) (sym shows.kept ∙ new.kept) (moved new.config new.app (again (kept_by old)) goes))
 
-    pub comes_next : (call : Call) (reply : Reply) (l : List Told) → Stands c app before call l → Fits c l call reply
-        → GoesOn old.config.now old.app now act (left old.config.now old.app old.wait (noted_by old.turn) (kept_by old) reply) → Comes c app s act (with_told l call reply)
-    comes_next call reply l stands fits goes =
+    pub stands_next : (call : Call) (reply : Reply) (l : List Told) → Stands c app before call l → Fits c l call reply
+        → GoesOn old.config.now old.app now act (left old.config.now old.app old.wait (noted_by old.turn) (kept_by old) reply) → StandsWith c app s act (with_told l call reply)
+    stands_next call reply l stands fits goes =
         let rest = left c app before.wait before.noted before.kept in
         let there : left old.config.now old.app old.wait (noted_by old.turn) (kept_by old) ≡ rest =
         ap (λ k. left k old.app old.wait (noted_by old.turn) (kept_by old)) (sym shows.config ∙ stands.config)
         ∙ ap (λ n. left c n old.wait (noted_by old.turn) (kept_by old)) (sym shows.app ∙ stands.app) ∙ sym (shows.left c app) in
-        comes_with now s act (rest reply) (with_told l call reply) shown (ap (λ r. r.now) same.config ∙ sym shows.config ∙ stands.config) (same.app ∙ sym shows.app ∙ stands.app) stands.one
+        stands_with now s act (rest reply) (with_told l call reply) shown (ap (λ r. r.now) same.config ∙ sym shows.config ∙ stands.config) (same.app ∙ sym shows.app ∙ stands.app) stands.one
         (fit_push c [] l call reply stands.fit fits) (leaves_told (app_turn c app) (app_start c) before.kept call rest reply l stands.asks)
         (subst (λ f. GoesOn c app now act (f reply)) there (moved stands.config stands.app (left old.config.now old.app old.wait (noted_by old.turn) (kept_by old) reply) goes))

@@ -189,6 +189,11 @@ give_back_none c side kept next e = none_back c side (back_at kept side) kept ne
 
 -- ---- the looks
 
+-- what is asked by a test, where it is asked so for each outcome
+by_test : (asks : Option ℕ → Script AppKept) (b : Bool) (x y : Script AppKept) (p q : Option ℕ) → x ≡ asks p → y ≡ asks q → cond b x y ≡ asks (cond b p q)
+by_test asks true x y p q h k = h
+by_test asks false x y p q h k = k
+
 abbrev asks_rx_done : Config → ℕ → AppKept → Option ℕ → Script AppKept
 asks_rx_done c app kept None = again kept
 asks_rx_done c app kept (Some side) =
@@ -199,15 +204,8 @@ asks_first : (c : Config) (app more side : ℕ) (kept : AppKept) → more + side
 asks_first c app zero side kept h = refl
 asks_first c app (suc more) side kept h =
     let e : more ≡ 2 - (side + 1) = omega arith in
-    by (is_set kept.seen side) (asks_first c app more (side + 1) kept (omega arith))
+    by_test (asks_rx_done c app kept) (is_set kept.seen side) _ _ (first_unset kept.seen more (side + 1)) (Some side) (asks_first c app more (side + 1) kept (omega arith))
     (ap (λ (m : ℕ). ask kept (Look (RxDone (pair_of c app side))) (on_old (λ done. look_rx_done c app m (side + 1) (with_seen kept side done)))) e)
-  where
-    by : (b : Bool) → look_rx_done c app more (side + 1) kept ≡ asks_rx_done c app kept (first_unset kept.seen more (side + 1))
-        → ask kept (Look (RxDone (pair_of c app side))) (on_old (λ done. look_rx_done c app more (side + 1) (with_seen kept side done))) ≡ asks_rx_done c app kept (Some side)
-        → cond b (look_rx_done c app more (side + 1) kept) (ask kept (Look (RxDone (pair_of c app side))) (on_old (λ done. look_rx_done c app more (side + 1) (with_seen kept side done))))
-        ≡ asks_rx_done c app kept (cond b (first_unset kept.seen more (side + 1)) (Some side))
-    by true later here = later
-    by false later here = here
 
 pub rx_done_some : (c : Config) (app side : ℕ) (kept : AppKept) (at : ℕ) → side ≤ 2 → first_unset kept.seen (2 - side) side ≡ Some at
     → look_rx_done c app (2 - side) side kept
@@ -228,15 +226,8 @@ asks_first_gone : (c : Config) (app more side : ℕ) (kept : AppKept) → more +
 asks_first_gone c app zero side kept h = refl
 asks_first_gone c app (suc more) side kept h =
     let e : more ≡ 2 - (side + 1) = omega arith in
-    by (is_set kept.gone side) (asks_first_gone c app more (side + 1) kept (omega arith))
+    by_test (asks_gone c app kept) (is_set kept.gone side) _ _ (first_unset kept.gone more (side + 1)) (Some side) (asks_first_gone c app more (side + 1) kept (omega arith))
     (ap (λ (m : ℕ). ask kept (Look (Gone (pair_of c app side))) (on_old (λ gone. look_gone c app m (side + 1) (with_gone kept side gone)))) e)
-  where
-    by : (b : Bool) → look_gone c app more (side + 1) kept ≡ asks_gone c app kept (first_unset kept.gone more (side + 1))
-        → ask kept (Look (Gone (pair_of c app side))) (on_old (λ gone. look_gone c app more (side + 1) (with_gone kept side gone))) ≡ asks_gone c app kept (Some side)
-        → cond b (look_gone c app more (side + 1) kept) (ask kept (Look (Gone (pair_of c app side))) (on_old (λ gone. look_gone c app more (side + 1) (with_gone kept side gone))))
-        ≡ asks_gone c app kept (cond b (first_unset kept.gone more (side + 1)) (Some side))
-    by true later here = later
-    by false later here = here
 
 pub gone_some : (c : Config) (app side : ℕ) (kept : AppKept) (at : ℕ) → side ≤ 2 → first_unset kept.gone (2 - side) side ≡ Some at
     → look_gone c app (2 - side) side kept

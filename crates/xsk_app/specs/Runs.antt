@@ -12,7 +12,7 @@ use Rattle.xsk_model.specs.declared.call.Act.{Act}
 use Rattle.xsk_model.specs.declared.call.Act.TheVariants.{Call as Calls, Ended}
 use Rattle.xsk_turns.specs.Script.{Asks, Ends}
 use Rattle.xsk_turns.specs.Owned.{AllFit}
-use Rattle.xsk_turns.specs.AppTurns.{AppKept, app_turn, app_start, IsAppRun, IsWholeAppRun}
+use Rattle.xsk_turns.specs.AppTurns.{app_turn, app_start, IsAppRun, IsWholeAppRun}
 use Rattle.xsk_turns.specs.AppOwned.{IsApp, app_numbers, AppOwned}
 use Rattle.xsk_app.specs.Shown.{Shown}
 use Rattle.xsk_app.specs.Stands.{left}
@@ -44,25 +44,25 @@ pub record HasEnded (c : Config) (a : ℕ) (s : Shown) (l : List Told) : Type 0 
   pub ends : Ends (app_turn c a) (app_start c) l s.kept
 
 abbrev pub StandsWith : Config → ℕ → Shown → Act → List Told → Type 0
-StandsWith c app s (Calls call) l = Stands c app s call l
-StandsWith c app s Ended l = HasEnded c app s l
+StandsWith c a s (Calls call) l = Stands c a s call l
+StandsWith c a s Ended l = HasEnded c a s l
 
--- a call that is given is legal
-abbrev pub IsLegalAct : Config → List Told → ℕ → Act → Type 0
-IsLegalAct c l who (Calls call) = IsLegal c l who call
-IsLegalAct c l who Ended = Unit {0}
+-- ---- what follows of it, by the laws of the turns
 
--- the frames that it keeps, with those that the act takes along, are those that it peeked and didn't submit
-abbrev pub HasFrames : AppKept → Act → List Told → Type 0
-HasFrames kept (Calls call) l = AppOwned kept call l
-HasFrames kept Ended l = (n : ℕ) → times n (app_numbers kept) ≡ times n (had_of l)
+-- Where it gives a call, the list is a run, and no whole one. Its frames, with those of the call, are those that it peeked
+-- and didn't submit. The call is legal where the application is the configuration's only one: that frames of other
+-- applications' homes don't come to it is no matter then.
+pub record Tells (c : Config) (a : ℕ) (s : Shown) (call : Call) (l : List Told) : Type 0 where
+  pub run : IsAppRun c a l
+  pub more : IsWholeAppRun c a l → ⊥
+  pub owned : AppOwned s.kept call l
+  pub legal : apps_of c ≡ 1 → IsLegal c l (caller_of c a) call
 
--- It stands for a list, which is a run, and a whole one exactly where it has ended. The call that it gives is legal after
--- the list, where the application is the configuration's only one: that frames of other applications' homes don't come to
--- it is no matter then.
-pub record Comes (c : Config) (app : ℕ) (s : Shown) (act : Act) (l : List Told) : Type 0 where
-  pub stands : StandsWith c app s act l
-  pub run : IsAppRun c app l
-  pub ended : (act ≡ Ended) ↔ IsWholeAppRun c app l
-  pub frames : HasFrames s.kept act l
-  pub legal : apps_of c ≡ 1 → IsLegalAct c l (caller_of c app) act
+-- Where it has ended, the list is a whole run, and its frames are those that it keeps.
+pub record TellsAll (c : Config) (a : ℕ) (s : Shown) (l : List Told) : Type 0 where
+  pub whole : IsWholeAppRun c a l
+  pub frames : (n : ℕ) → times n (app_numbers s.kept) ≡ times n (had_of l)
+
+abbrev pub TellsWith : Config → ℕ → Shown → Act → List Told → Type 0
+TellsWith c a s (Calls call) l = Tells c a s call l
+TellsWith c a s Ended l = TellsAll c a s l

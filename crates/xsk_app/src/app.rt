@@ -35,7 +35,7 @@ impl<'a> Model for App<'a> {
 }
 
 impl<'a> App<'a> {
-    ghost use Rattle.xsk_app.specs.Runs.{IsNew, Stands, Comes};
+    ghost use Rattle.xsk_app.specs.Runs.{IsNew, Stands, StandsWith, TellsWith};
 
     /// The application with this number, of a regular configuration that has it.
     pub fn new(alloc: Global, config: &'a Config, app: u32) -> Result<App<'a>, OutOfMemory>
@@ -77,10 +77,18 @@ impl<'a> App<'a> {
     pub fn next(&mut self, reply: Option<Reply>) -> Act
         requires { CanCome self.old.expected reply }
         ensures expected { self.new.expected ≡ expected_of result }
-        ensures begins { (c : AConfig) (app : ℕ) → IsNew c app self.old → reply ≡ None → Comes c app self.new result [] }
-        ensures goes_on { (c : AConfig) (app : ℕ) (l : List Told) (call : ACall) (r : AReply)
-            → Stands c app self.old call l → reply ≡ Some r → Fits c l call r → Comes c app self.new result (with_told l call r) }
         ensures same { (self.new.config ≡ self.old.config) × (self.new.app ≡ self.old.app) }
+
+        // The application stands for its calls and replies: where its turns stand after them it keeps what they keep, and
+        // gives the call that they ask for, or has ended as they have.
+        ensures begins { (c : AConfig) (app : ℕ) → IsNew c app self.old → reply ≡ None → StandsWith c app self.new result [] }
+        ensures goes_on { (c : AConfig) (app : ℕ) (l : List Told) (call : ACall) (r : AReply)
+            → Stands c app self.old call l → reply ≡ Some r → Fits c l call r → StandsWith c app self.new result (with_told l call r) }
+
+        // So by the laws of its turns it tells what its own calls and replies leave.
+        ensures tells_first { (c : AConfig) (app : ℕ) → IsNew c app self.old → reply ≡ None → TellsWith c app self.new result [] }
+        ensures tells { (c : AConfig) (app : ℕ) (l : List Told) (call : ACall) (r : AReply)
+            → Stands c app self.old call l → reply ≡ Some r → Fits c l call r → TellsWith c app self.new result (with_told l call r) }
     {
         self.machine.next(reply)
     }
