@@ -4,7 +4,7 @@ ghost use Rattle.clap.specs.Words.{all_of, found_of, rows_of};
 ghost use Rattle.xsk_args.specs.Number.{number_in};
 ghost use Rattle.xsk_args.specs.Meaning.{HasNoFileRow, fits, meaning, meant, one_value, under};
 
-use crate::command::{matches, FILES};
+use crate::command::{FILES, matches};
 use crate::number::number;
 use crate::{ArgsError, OptionRow, Takes};
 use clap::ArgMatches;
@@ -30,12 +30,15 @@ impl<'a> Model for Args<'a> {
 
 /// Reads words as a command: its name, and then options and files in any order.
 ///
-/// An option is `--` and its name. Its value is the next word, or stands after `=`. Each option comes once at most.
-/// `--` ends the options, and the words behind it are files. There is at least one file. No row is named `FILE`.
+/// An option is `--` and its name. Its value stands after `=` or is the next word, which doesn't begin with `-` then,
+/// unless it is that one character. Each option comes once at most. `--` ends the options, and the words behind it are
+/// files. There is at least one file. No row of the table is named `FILE`.
+///
+/// `Usage` comes exactly where the words break one of these rules, unless memory can't be had first.
 pub fn parse<'a>(
     alloc: Global,
     name: &str,
-    table: &[OptionRow<'a>],
+    table: &[OptionRow],
     words: &'a [String],
 ) -> Result<Args<'a>, ArgsError>
     requires { HasNoFileRow table.now }
@@ -54,7 +57,7 @@ pub fn parse<'a>(
 /// Reads the words behind the command's name.
 fn parse_behind<'a>(
     alloc: Global,
-    table: &[OptionRow<'a>],
+    table: &[OptionRow],
     words: &'a [String],
 ) -> Result<Args<'a>, ArgsError>
     requires { HasNoFileRow table.now }
@@ -69,7 +72,7 @@ fn parse_behind<'a>(
 }
 
 /// Whether each option has a value that it takes.
-fn all_fit(matches: &ArgMatches<'_>, table: &[OptionRow<'_>]) -> bool
+fn all_fit(matches: &ArgMatches<'_>, table: &[OptionRow]) -> bool
     ensures { result ≡ list_all (fits (λ name. all_of name (rows_of (found_of matches.now)))) table.now }
 {
     for row in table {
@@ -80,8 +83,8 @@ fn all_fit(matches: &ArgMatches<'_>, table: &[OptionRow<'_>]) -> bool
     true
 }
 
-fn fits_row(matches: &ArgMatches<'_>, row: OptionRow<'_>) -> bool
-    ensures { result ≡ fits (λ name. all_of name (rows_of (found_of matches.now))) row.entry }
+fn fits_row(matches: &ArgMatches<'_>, row: OptionRow) -> bool
+    ensures { result ≡ fits (λ name. all_of name (rows_of (found_of matches.now))) row }
 {
     match row.takes {
         Takes::Number => match matches.get_str(row.name) {

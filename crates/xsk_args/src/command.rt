@@ -16,7 +16,7 @@ pub(crate) const FILES: &str = "FILE";
 /// What clap finds in the words behind the command's name.
 pub(crate) fn matches<'a>(
     alloc: Global,
-    table: &[OptionRow<'a>],
+    table: &[OptionRow],
     words: &'a [String],
 ) -> Result<ArgMatches<'a>, ArgsError>
     requires { HasNoFileRow table.now }
@@ -44,7 +44,7 @@ fn note_texts(words: &[String])
 }
 
 /// The command, with the options of the table and no others, and at least one file.
-fn command<'a>(alloc: Global, table: &[OptionRow<'a>]) -> Result<Command<'a>, AllocError>
+fn command<'a>(alloc: Global, table: &[OptionRow]) -> Result<Command<'a>, AllocError>
     ensures { IfOk result (λ c. app_of c ≡ command_app (map stated table.now)) }
 {
     let files = Arg::new(alloc, FILES)
@@ -61,7 +61,7 @@ fn command<'a>(alloc: Global, table: &[OptionRow<'a>]) -> Result<Command<'a>, Al
 fn with_options<'a>(
     alloc: Global,
     command: Command<'a>,
-    table: &[OptionRow<'a>],
+    table: &[OptionRow],
 ) -> Result<Command<'a>, AllocError>
     ensures { IfOk result (λ c. app_of c ≡ fold (λ app row. with_rule app (option_rule (stated row))) (app_of command.entry) table.now) }
 {
@@ -72,8 +72,8 @@ fn with_options<'a>(
     Ok(command)
 }
 
-fn option<'a>(alloc: Global, row: OptionRow<'a>) -> Arg<'a>
-    ensures rule { rule_of result ≡ option_rule (stated row.entry) }
+fn option<'a>(alloc: Global, row: OptionRow) -> Arg<'a>
+    ensures rule { rule_of result ≡ option_rule (stated row) }
     ensures local { result.global ≡ false }
 {
     let option = Arg::new(alloc, row.name)

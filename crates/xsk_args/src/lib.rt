@@ -7,7 +7,7 @@ mod error;
 mod number;
 mod table;
 
-pub use args::{parse, Args};
+pub use args::{Args, parse};
 pub use error::ArgsError;
 pub use table::{OptionRow, Takes};
 

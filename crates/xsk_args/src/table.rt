@@ -11,8 +11,8 @@ pub enum Takes {
 
 /// An option that a command has.
 #[derive(Clone, Copy, Debug, PartialEq, Eq)]
-pub struct OptionRow<'a> {
+pub struct OptionRow {
     /// The name without its two hyphens.
-    pub name: &'a str,
+    pub name: &'static str,
     pub takes: Takes,
 }

@@ -2,7 +2,7 @@ use super::*;
 use std::alloc::{AllocError, Global};
 use std::test::Fail;
 
-static TABLE: [OptionRow<'static>; 4] = [
+static TABLE: [OptionRow; 4] = [
     OptionRow {
         name: "rx",
         takes: Takes::Number,
@@ -38,14 +38,17 @@ fn is_usage(alloc: Global, line: &str) -> Result<bool, AllocError> {
 
 #[test]
 fn options_and_files_in_any_order(rt: HostRuntime) -> Result<(), Fail> {
-    let words = words_of(rt.alloc(), "simulate a --rx 64 - --sg --prog=x=-y b -- --sg --")?;
+    let words = words_of(
+        rt.alloc(),
+        "simulate a --rx 64 - --sg --prog=x=-y b -- --sg --",
+    )?;
     let args = parse(rt.alloc(), "simulate", TABLE.as_slice(), words.as_slice())?;
     assert_eq!(rt; args.number("rx"), Some(64));
     assert_eq!(rt; args.number("order"), None);
     assert_eq!(rt; args.text("prog"), Some("x=-y"));
     assert!(rt; args.is_said("sg"));
     assert!(rt; !args.is_said("order"));
-    assert_eq!(rt; args.files(), Some(["a", "-", "b", "--sg", "--"].as_slice()));
+    assert!(rt; matches!(args.files(), Some(["a", "-", "b", "--sg", "--"])));
     Ok(())
 }
 
