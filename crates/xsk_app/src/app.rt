@@ -135,3 +135,11 @@ fn new_backs(alloc: Global) -> Result<Vec<Back>, OutOfMemory>
     backs.push(Back::new(alloc)?)?;
     Ok(backs)
 }
+
+/// An application may be sent to another thread.
+#[allow(dead_code)]
+fn is_sent(app: &App<'_>) {
+    needs_send(app);
+}
+
+fn needs_send<T: Send>(_worker: &T) {}

@@ -7,3 +7,4 @@ mod back;
 mod machine;
 
 pub use app::App;
+pub use xsk_model::Act;
