@@ -20,7 +20,8 @@ use Rattle.xsk_turns.specs.Turns.{seat_of, start, turn as driver_turn}
 use Rattle.xsk_turns.specs.AppTurns.{app_start, app_turn, IsAppRun, IsWholeAppRun}
 use Rattle.xsk_model.specs.Config.{classes_of}
 use Rattle.xsk_turns.proofs.ScriptLemmas.{whole_run}
-use Rattle.xsk_app.specs.Runs.{Stands, Comes}
+use Rattle.xsk_app.specs.Runs.{StandsWith as AppStandsWith}
+use Rattle.xsk_app.proofs.Telling.{tells_with as app_tells_with}
 use Rattle.xsk_turns.specs.Workers.{Setting, input_of, IsWorkerRun}
 use Rattle.xsk_sim.specs.Standing.{other_of, HasRoomToSend, DriverStands, IsApp, AppStands, IsActAfter}
 
@@ -65,30 +66,29 @@ sent_at s who d act l is stands within =
 
 -- ---- applications
 
-app_acts : (s : Setting) (a : AppShown) (act : Act) (l : List Told) → Comes s.config a.app a act l → IsActAfter s (caller_of s.config a.app) act l
-app_acts s a (Calls call) l comes = (
-  comes.legal,
-  λ whole. let e : Calls call ≡ IsEnd = comes.ended.1 (whole.app a.app refl) in cc,
-  record {
-    driver = λ below. absurd (omega arith);
-    app = λ b is. subst (λ k. IsAppRun s.config k l) (let e : a.app ≡ b = omega arith in e) comes.run;
-  },
-)
-app_acts s a IsEnd l comes = record {
-  driver = λ below. absurd (omega arith);
-  app = λ b is. subst (λ k. IsWholeAppRun s.config k l) (let e : a.app ≡ b = omega arith in e) (comes.ended.0 refl);
-}
+app_acts : (s : Setting) (a : AppShown) (act : Act) (l : List Told) → AppStandsWith s.config a.app a act l → IsActAfter s (caller_of s.config a.app) act l
+app_acts s a (Calls call) l stands =
+    let tells = app_tells_with s.config a.app a (Calls call) l stands in (
+      tells.legal,
+      λ whole. tells.more (whole.app a.app refl),
+      record {
+        driver = λ below. absurd (omega arith);
+        app = λ b is. subst (λ k. IsAppRun s.config k l) (let e : a.app ≡ b = omega arith in e) tells.run;
+      },
+    )
+app_acts s a IsEnd l stands =
+    let tells = app_tells_with s.config a.app a IsEnd l stands in
+    record {
+      driver = λ below. absurd (omega arith);
+      app = λ b is. subst (λ k. IsWholeAppRun s.config k l) (let e : a.app ≡ b = omega arith in e) tells.whole;
+    }
 
 pub app_after : (s : Setting) (who : ℕ) (old new : AppShown) (act : Act) (l : List Told) → old.config ≡ s.config → who ≡ caller_of s.config old.app
-    → (new.config ≡ old.config) × (new.app ≡ old.app) → Comes s.config old.app new act l → AppStands s who new act l × IsActAfter s who act l
-app_after s who old new act l config caller same comes =
+    → (new.config ≡ old.config) × (new.app ≡ old.app) → AppStandsWith s.config old.app new act l → AppStands s who new act l × IsActAfter s who act l
+app_after s who old new act l config caller same stands =
     let mine : who ≡ caller_of s.config new.app = caller ∙ ap (caller_of s.config) (sym same.1) in
-    let now : Comes s.config new.app new act l = subst (λ (n : ℕ). Comes s.config n new act l) (sym same.1) comes in
-    (record { config = same.0 ∙ config; caller = mine; comes = now }, subst (λ w. IsActAfter s w act l) (sym mine) (app_acts s new act l now))
-
--- the application in a call stood for a list
-pub app_stood : (s : Setting) (who : ℕ) (a : AppShown) (call : Call) (l : List Told) → AppStands s who a (Calls call) l → Stands s.config a.app a call l
-app_stood s who a call l stands = stands.comes.stands
+    let now : AppStandsWith s.config new.app new act l = subst (λ (n : ℕ). AppStandsWith s.config n new act l) (sym same.1) stands in
+    (record { config = same.0 ∙ config; caller = mine; stands = now }, subst (λ w. IsActAfter s w act l) (sym mine) (app_acts s new act l now))
 
 -- a whole run is a run
 pub worker_run : (s : Setting) (who : ℕ) (act : Act) (l : List Told) → IsActAfter s who act l → IsWorkerRun s who l

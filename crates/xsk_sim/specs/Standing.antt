@@ -17,7 +17,7 @@ use Rattle.xsk_turns.specs.Inputs.{packets_of_port}
 use Rattle.xsk_driver.specs.Shown.{Shown as DriverShown}
 use Rattle.xsk_driver.specs.Runs.{IsNew as IsNewDriver, StandsWith}
 use Rattle.xsk_app.specs.Shown.{Shown as AppShown}
-use Rattle.xsk_app.specs.Runs.{IsNew as IsNewApp, Comes}
+use Rattle.xsk_app.specs.Runs.{IsNew as IsNewApp, StandsWith as AppStandsWith}
 use Rattle.xsk_sim.specs.Rounds.{IsTurn}
 use Rattle.xsk_turns.specs.Workers.{Setting, input_of, IsWorkerRun, IsWholeRun}
 
@@ -54,7 +54,7 @@ pub record IsApp (s : Setting) (who : ℕ) (a : AppShown) : Type 0 where
 pub record AppStands (s : Setting) (who : ℕ) (a : AppShown) (act : Act) (l : List Told) : Type 0 where
   pub config : a.config ≡ s.config
   pub caller : who ≡ caller_of s.config a.app
-  pub comes : Comes s.config a.app a act l
+  pub stands : AppStandsWith s.config a.app a act l
 
 -- What a worker gave after a list: a call, where the list is a run and no whole one, or its end, where it is a whole one.
 -- The call is legal where there is one application.
