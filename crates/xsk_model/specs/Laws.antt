@@ -256,8 +256,8 @@ abbrev pub ChangesState : Type 0
 ChangesState = (c : Config) (frames : List Frame) (h : List Entry) (e : Entry) → IsHistory c frames (h ++ e ∷ []) → changes e.call e.reply ≡ true
     → state_after c frames (h ++ e ∷ []) ≢ state_after c frames h
 
--- An entry on another ring leaves a caller's own entries on this one, and so what is folded over them, a number or a list of
--- items; an entry of another caller leaves all of a caller's own.
+-- An entry on another ring leaves a caller's own entries on this one, and so what is folded over them, a number or a
+-- list of items; an entry of another caller leaves all of a caller's own.
 abbrev pub LeavesFolds : Type 0
 LeavesFolds = (r : Ring) (who : ℕ) (past : List Entry) (e : Entry)
     → (is_on r e.call ≡ false → filter (λ (t : Told). is_on r t.call) (own who (past ++ e ∷ [])) ≡ filter (λ (t : Told). is_on r t.call) (own who past))

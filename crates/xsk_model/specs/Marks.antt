@@ -1,5 +1,5 @@
--- The marks of a configuration: those that exist, the numbers that each may have, who may swap each, and the place of each
--- in a list of all.
+-- The marks of a configuration: those that exist, the numbers that each may have, who may swap each, and the place of
+-- each in a list of all.
 -- NeedFill and NeedTx are the need-wakeup flags of af_xdp.rst ("XDP_USE_NEED_WAKEUP bind flag"), and cells are the
 -- entries of XSKMAPs ("XDP_REDIRECT"); the other marks are this project's own.
 use Rattle.std.specs.Prelude.{◌≡◌, ℕ, ◌+◌, ◌*◌, ◌/◌, ◌<◌, ◌≤◌, ◌⊎◌, Bool, false, ◌&&◌, ◌==◌, List, length, slice_index}
@@ -71,7 +71,7 @@ IsMarkOwner c who (Gone d) = who ≡ d
 IsMarkOwner c who (TxDone a) = who ≡ caller_of c a
 IsMarkOwner c who (Cell port index) = ⊥
 
--- After its own earlier calls and replies a caller may set a mark to a number of the mark's kind. Of each kind that there is
--- the mark's owner alone may, whatever came before and to each such number.
+-- After its own earlier calls and replies a caller may set a mark to a number that the mark may have. Of the marks that
+-- there are the owner alone may, whatever came before.
 abbrev pub MaySwap : Config → List Told → ℕ → Mark → ℕ → Type 0
 MaySwap c mine who m value = IsMarkOwner c who m

@@ -1,6 +1,6 @@
--- What is said of single calls in other words than those of `Object.antt` and `Own.antt`: whether a call changes the state,
--- from which ring a frame came last, which packet a driver completes next, the layouts of packets by their lengths alone,
--- and calls without the bytes of their frames. All of this is this project's own.
+-- What is said of single calls in other words than those of `Object.antt` and `Own.antt`: whether a call changes the
+-- state, from which ring a frame came last, which packet a driver completes next, the layouts of packets by their
+-- lengths alone, and calls without the bytes of their frames. All of this is this project's own.
 use Rattle.std.specs.Prelude.{◌≡◌, ℕ, ◌<◌, ◌≤◌, ◌⊎◌, Bool, true, false, not, IsTrue, ◌==◌, Some, List, [], ◌∷◌, ◌++◌, length, map, All}
 use Rattle.std.specs.Option.{option_map}
 use Rattle.xsk_umem.specs.Frame.{Frame}
@@ -93,8 +93,8 @@ bare t = record { call = bare_call t.call; reply = bare_reply t.reply }
 abbrev pub NamesItsData : Geometry → Item → Type 0
 NamesItsData g item = (frame : Frame) × (item.frame ≡ Some frame) × (frame.number < g.frames) × (item.desc.addr ≡ data_of g frame.number)
 
--- each item but the last names as many bytes as a frame holds and has the continuation bit, and the last names 1 to as many
--- and hasn't
+-- each item but the last names as many bytes as a frame holds and has the continuation bit, and the last names 1 to as
+-- many and hasn't
 abbrev pub HaveLayoutLengths : Geometry → List Item → Type 0
 HaveLayoutLengths g [] = ⊥
 HaveLayoutLengths g (last ∷ []) = (1 ≤ last.desc.len) × (last.desc.len ≤ payload_of g) × (last.desc.options ≡ 0)
