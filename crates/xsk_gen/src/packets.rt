@@ -58,9 +58,5 @@ fn draw_bytes(alloc: Global, draws: &mut Draws) -> Result<Vec<u8>, AllocError>
 fn kind(index: u32) -> [u8; 2]
     ensures { result ≡ kind_byte index 12 ∷ kind_byte index 13 ∷ [] }
 {
-    if index % 2 == 0 {
-        [8, 0]
-    } else {
-        [134, 221]
-    }
+    if index % 2 == 0 { [8, 0] } else { [134, 221] }
 }

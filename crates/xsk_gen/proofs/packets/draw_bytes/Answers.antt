@@ -12,8 +12,7 @@ loop-preserved c =
     let x = c.args.draws.now.state in
     let items : c.push.new.self.items ≡ c.loop.bytes.items ++ (c.next.result % 256) ∷ [] = search rules in
     let state : c.next.new.self.state ≡ next_state (state_after c.loop.counter x) = c.next.ensures.state ∙ ap next_state c.loop.invariant.1 in
-    let value : c.next.result ≡ draw x c.loop.counter = c.next.ensures.value ∙ ap drawn state ∙ sym (draw_is x c.loop.counter) in
-    (
+    let value : c.next.result ≡ draw x c.loop.counter = c.next.ensures.value ∙ ap drawn state ∙ sym (draw_is x c.loop.counter) in (
       items ∙ ap₂ (λ xs v. xs ++ (v % 256) ∷ []) c.loop.invariant.0 value ∙ sym (first_more c.loop.counter (λ i. draw x i % 256)),
       state ∙ sym (after_more c.loop.counter x),
     )

@@ -15,8 +15,7 @@ pub loop-index-preserved : goal.loop-index-preserved
 loop-index-preserved c =
     let i = c.loop-index.index in
     let start = first_state c.args.number c.args.port in
-    let pushed : c.push.new.self.packets ≡ c.loop-index.list.packets ++ c.in_ok-bytes.bytes.items ∷ [] = search rules in
-    (
+    let pushed : c.push.new.self.packets ≡ c.loop-index.list.packets ++ c.in_ok-bytes.bytes.items ∷ [] = search rules in (
       pushed
           ∙ ap₂ (λ xs bytes. xs ++ bytes ∷ []) c.loop-index.invariant.0 (c.in_ok-bytes.ensures.bytes ∙ ap (packet_at i) c.loop-index.invariant.1)
           ∙ sym (first_more i (packet c.args.number c.args.port)),

@@ -7,8 +7,7 @@ use Rattle.xsk_gen.proofs.packets.make_packet.Goals as goal
 pub loop-place-init : goal.loop-place-init
 loop-place-init c =
     let x = c.args.draws.now.state in
-    let items : c.extend_from_slice.new.self.items ≡ c.in_ok-bytes.bytes.items ++ c.kind.result = search rules in
-    (
+    let items : c.extend_from_slice.new.self.items ≡ c.in_ok-bytes.bytes.items ++ c.kind.result = search rules in (
       items
           ∙ ap₂ (λ xs ys. xs ++ ys) (c.in_ok-bytes.ensures.bytes ∙ ap (λ s. first 12 (λ i. draw s i % 256)) c.next.ensures.state) c.kind.ensures
           ∙ front c.args.index x,
@@ -18,8 +17,7 @@ loop-place-init c =
 pub loop-place-preserved : goal.loop-place-preserved
 loop-place-preserved c =
     let x = c.args.draws.now.state in
-    let items : c.push.new.self.items ≡ c.loop-place.bytes.items ++ ((c.loop-place.place + c.args.index) % 256) ∷ [] = search rules in
-    (
+    let items : c.push.new.self.items ≡ c.loop-place.bytes.items ++ ((c.loop-place.place + c.args.index) % 256) ∷ [] = search rules in (
       items
           ∙ ap₂ (λ xs v. xs ++ v ∷ []) c.loop-place.invariant.0 (sym (counted c.args.index x c.loop-place.place c.loop-place.invariant.1))
           ∙ sym (first_more c.loop-place.place (byte_at c.args.index x)),
