@@ -1,7 +1,7 @@
 -- What clap builds of the command, and what its parse tells by the table.
-use Rattle.std.proofs.Common.{◌≡◌, ◌∙◌, ◌+◌, ◌&&◌, ℕ, Bool, true, false, not, refl, sym, ap, ap₂, subst, cond, fold, map, List, [], ◌∷◌, ◌++◌, Option, Some, None, Result, Ok, Err, IfOk, append_assoc, append-nil, ⊎_elim, codes}
+use Rattle.std.proofs.Common.{◌≡◌, ◌∙◌, ◌&&◌, Bool, true, false, not, refl, sym, ap, ap₂, subst, fold, map, List, [], ◌∷◌, ◌++◌, Option, Some, None, Result, Ok, Err, IfOk, append_assoc, append-nil, ⊎_elim, codes}
 use Rattle.std.specs.List.{find, list_all, list_any}
-use Rattle.std.specs.Prelude.{count_by, is_some, ◌==◌}
+use Rattle.std.specs.Prelude.{count_by, is_some}
 use Rattle.clap.specs.Walk.{Rule, is_early_multiple, nothing_held, rows_after}
 use Rattle.clap.specs.Faults.{built_fault, has_free_rules, is_free_app}
 use Rattle.clap.specs.Simple.{App, built, filled_from, is_buildable, is_in_order, is_ready, is_ready_leaf, names_of, new_shape, on_top, with_rule}
@@ -9,11 +9,11 @@ use Rattle.clap.specs.Words.{HasKind, HasMatchesOf, IsAmong, all_of, fault_of, i
 use Rattle.clap.specs.declared.parser.matches.ArgMatches.{ArgMatches}
 use Rattle.clap.specs.declared.error.Error.{Error}
 use Rattle.clap.specs.declared.error.kind.ErrorKind.TheVariants as kind
-use Rattle.xsk_args.specs.Words.{Said, Stated, Table, Text, spoken}
+use Rattle.xsk_args.specs.Words.{Said, Table, Text, spoken}
 use Rattle.xsk_args.specs.Meaning.{stated}
 use Rattle.xsk_args.specs.Rules.{AreSpelled, IsToldBy, command_app, files_rule, option_rule}
 use Rattle.xsk_args.specs.declared.table.OptionRow.{OptionRow}
-use Rattle.xsk_args.proofs.Cutting.{Agrees, IsFault, app_by, by_name, clap_reads, done_files, done_rule, rules_by, shape_by}
+use Rattle.xsk_args.proofs.Cutting.{Agrees, IsFault, app_by, by_name, clap_reads, done_rule, rules_by, shape_by}
 
 -- ---- adding rules
 

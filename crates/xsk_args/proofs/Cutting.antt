@@ -1,14 +1,11 @@
 -- What clap's walk over words says, by the table of options.
-use Rattle.std.proofs.Common.{◌≡◌, ◌∙◌, ◌+◌, ◌&&◌, ◌||◌, ℕ, Bool, cond, codes, true, false, not, zero, suc, refl, sym, ap, ap₂, subst, arith, List, [], ◌∷◌, ◌++◌, map, fold, length, take, ◌<◌, Option, Some, None, is_some, true≢false}
-use Rattle.std.specs.List.{find, list_all, list_any, slice_index_or}
+use Rattle.std.proofs.Common.{◌≡◌, ◌∙◌, ◌&&◌, ◌||◌, ℕ, Bool, cond, codes, true, false, not, refl, sym, ap, ap₂, subst, List, [], ◌∷◌, ◌++◌, map, fold, length, Option, Some, None, is_some, true≢false}
+use Rattle.std.specs.List.{find, list_all, list_any}
 use Rattle.std.specs.Option.{option_map, option_map_or, unwrap_or}
-use Rattle.std.specs.Str.{IsUtf8, bytes_eq, chars}
+use Rattle.std.specs.Str.{bytes_eq, chars}
 use Rattle.std.specs.Char.{encode_utf8}
 use Rattle.std.specs.Prelude.{slice_get, drop, option_and_then, ◌==◌}
 use Rattle.std.proofs.lemmas.Slice.Eq.{bytes_eq-Decides}
-use Rattle.std.proofs.lemmas.Str.{IsUtf8-past_char, encodes-chars}
-use Rattle.std.proofs.lemmas.Bool.{eqb-true}
-use Rattle.std.proofs.Math.Utf8.{encodes}
 use Rattle.clap.specs.Lexer.{long_of, long_of_rest, name_and_value, short_of, short_of_rest, strip_byte}
 use Rattle.clap.specs.Facts.{explicit_source, unwrap_or_range}
 use Rattle.clap.specs.Walk.{Held, Row, Rule, Walk, Waiting, idle, positional, all_of, arg_by_id, arg_by_index, arg_by_long, arg_by_short, at_row, has_row, with_values, without, walked, with_default, settled, settled_rows, used, nothing_held}
@@ -24,7 +21,7 @@ use Rattle.clap.specs.declared.builder.range.ValueRange.{ValueRange}
 use Rattle.clap.specs.declared.builder.action.ArgAction.TheVariants.{Set, Append}
 use Rattle.clap.specs.declared.parser.matches.ValueSource.{ValueSource}
 use Rattle.clap.specs.declared.parser.matches.ValueSource.TheVariants.{DefaultValue, CommandLine}
-use Rattle.xsk_args.specs.Rules.{IsSpelled, AreSpelled}
+use Rattle.xsk_args.specs.Rules.{AreSpelled}
 use Rattle.xsk_args.specs.Words.{Text, Stated, Table, Said, State, Word, ready, awaits, ended, breaks, opens, says, cut, file, is_dashed, is_end, is_once, is_said, kept, named, name_read, option_read, read_on, said_of, spoken, whole, word_read}
 
 abbrev range_of : Bool → ValueRange

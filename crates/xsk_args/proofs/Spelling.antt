@@ -1,5 +1,5 @@
 -- Words that are text begin as clap's walk over words needs it.
-use Rattle.std.proofs.Common.{◌≡◌, ◌∙◌, ◌+◌, ◌<◌, ℕ, Bool, cond, true, false, zero, suc, refl, sym, ap, subst, arith, List, [], ◌∷◌, map, length, take, Option, Some, None}
+use Rattle.std.proofs.Common.{◌≡◌, ◌∙◌, ◌+◌, ◌<◌, ℕ, Bool, cond, true, false, zero, suc, refl, sym, ap, subst, arith, List, [], ◌∷◌, map, length, take, Some, None}
 use Rattle.std.specs.List.{slice_index_or}
 use Rattle.std.specs.Str.{IsUtf8, chars}
 use Rattle.std.specs.Char.{encode_utf8}
@@ -7,7 +7,7 @@ use Rattle.std.specs.Prelude.{slice_get, option_and_then, ◌==◌}
 use Rattle.std.proofs.lemmas.Str.{IsUtf8-past_char, encodes-chars}
 use Rattle.std.proofs.lemmas.Bool.{eqb-true}
 use Rattle.std.proofs.Math.Utf8.{encodes}
-use Rattle.clap.specs.Lexer.{short_of, short_of_rest}
+use Rattle.clap.specs.Lexer.{short_of_rest}
 use Rattle.xsk_args.specs.Rules.{IsSpelled, AreSpelled}
 use Rattle.xsk_args.specs.Words.{Text}
 use Rattle.xsk_args.proofs.Cutting.{some≢none, some_same}

@@ -85,7 +85,7 @@ drained_on c s first past e r legal on sound h =
     lets_go (size_of c r) (ring_at c s r) e.call (within_ring c first past e.who e.call r (ring_at c s r) legal on sound) in
     let more : released_of r (own (consumer c r) (past ++ e ∷ [])) ≡ released_of r (own (consumer c r) past) + released e.call =
     part_of_own-push released_step r 0 (consumer c r) past e on
-    (λ other. omega (arith, (not_consumer c s e.who e.call r legal.role on other).1)) in
+    (λ other. omega (arith, (not_consumer c s (own e.who past) e.who e.call r legal.role on other).1)) in
     let given : submitted_of r (all_told (past ++ e ∷ [])) ≡ submitted_of r (all_told past) ++ submitted e.call =
     part_of_all-push submitted_step r [] past e
     ∙ ap (λ b. cond b (submitted_of r (all_told past) ++ submitted e.call) (submitted_of r (all_told past))) on in

@@ -4,7 +4,7 @@ use Rattle.std.proofs.lemmas.List.{map-append, take-append-le}
 use Rattle.std.proofs.lemmas.List.Sums.{fold_push}
 use Rattle.xsk_umem.specs.declared.batch.Item.{Item}
 use Rattle.xsk_model.specs.Config.{Config}
-use Rattle.xsk_model.specs.Packets.{Packet, whole, bad, packets, packets_from, rest, whole_packets, bytes_of}
+use Rattle.xsk_model.specs.Packets.{packets, packets_from, rest, whole_packets, bytes_of}
 use Rattle.xsk_model.specs.Numbers.{numbers}
 use Rattle.xsk_model.specs.Rings.{is_ring}
 use Rattle.xsk_model.specs.Object.{taken}

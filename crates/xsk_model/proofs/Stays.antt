@@ -81,7 +81,7 @@ pub record IsHomed (c : Config) (s : State) (past : List Entry) : Type 0 where
   pub rings : (r : Ring) (n : ℕ) → HasRing c r → 1 ≤ times n (out_numbers (ring_at c s r)) → app_of c r ≡ home_app c n
 
 -- what a Peek takes comes from a ring of the caller's application
-taken_homed : (c : Config) (s : State) (past : List Entry) (who : ℕ) (call : Call) (n : ℕ) → IsConfig c → IsHomed c s past → IsKnown c call → HasRole c who call
+taken_homed : (c : Config) (s : State) (past : List Entry) (who : ℕ) (call : Call) (n : ℕ) → IsConfig c → IsHomed c s past → IsKnown c call → HasRole c (own who past) who call
     → 1 ≤ times n (numbers (taken (reply_at c s call))) → serves c who ≡ home_app c n
 taken_homed c s past who (Reserve q k) n config h known role some =
     let none = ap (λ xs. times n (numbers xs)) (cond-taken (nat_le k (free (size_of c q) (ring_at c s q))) (free (size_of c q) (ring_at c s q))) in

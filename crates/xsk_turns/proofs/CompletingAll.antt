@@ -1,5 +1,5 @@
 -- In a whole run all packets that were peeked on a TX ring whole are completed, since nothing finished is left.
-use Rattle.std.proofs.Common.{◌≡◌, ℕ, ◌<◌, ◌≤◌, List, [], ◌∷◌, length, drop, ap, sym, ◌∙◌, length-drop, arith, refl}
+use Rattle.std.proofs.Common.{◌≡◌, ℕ, ◌≤◌, List, [], ◌∷◌, length, drop, ap, sym, ◌∙◌, length-drop, arith, refl}
 use Rattle.xsk_umem.specs.declared.batch.Item.{Item}
 use Rattle.xsk_model.specs.Packets.{packets, whole_packets}
 use Rattle.xsk_model.specs.Own.{sending_of}

@@ -13,21 +13,18 @@ use Rattle.xsk_model.specs.Numbers.{times, numbers}
 use Rattle.xsk_model.specs.Entry.{Told}
 use Rattle.xsk_model.specs.Own.{room_of, is_from_fill, completed_by, waiting, sending_of}
 use Rattle.xsk_model.specs.Legal.{IsLegal, AreReceived}
-use Rattle.xsk_model.specs.declared.call.Ring.TheVariants.{Fill, Comp, Rx, Tx}
-use Rattle.xsk_model.specs.declared.call.Mark.TheVariants.{RxDone, Gone, TxDone, Cell}
-use Rattle.xsk_model.specs.declared.call.Call.{Call}
+use Rattle.xsk_model.specs.declared.call.Ring.TheVariants.{Comp, Rx}
 use Rattle.xsk_model.specs.declared.call.Call.TheVariants.{Submit}
 use Rattle.xsk_model.specs.Sent.{sockets_of}
 use Rattle.xsk_model.proofs.Completions.{one_completion}
 use Rattle.xsk_model.proofs.Counting.{times-append}
-use Rattle.xsk_model.proofs.Safety.{legal_reserve, legal_peek, legal_look, legal_swap}
-use Rattle.xsk_turns.specs.Turns.{Kept, seat_of, limit_of, pieces_of, laid_out, returned, application_of}
+use Rattle.xsk_turns.specs.Turns.{Kept, seat_of, limit_of, pieces_of, laid_out, returned}
 use Rattle.xsk_turns.specs.Owned.{IsHere}
 use Rattle.xsk_turns.specs.Owned.{IsSeat, of_class, socket_at_class, frame_numbers, IsSpare, Owned}
 use Rattle.xsk_turns.proofs.Completing.{waiting_whole, whole_some, waiting_lawful, numbers-returned, all_returned, are_completed, completes}
 use Rattle.xsk_turns.proofs.Layouts.{layout, items_on, pieces_some, one_piece, length-laid_out, numbers-laid_out}
-use Rattle.xsk_turns.proofs.Owned.{HasKept, IsQuiet, times-kept, sockets_apart}
-use Rattle.xsk_turns.proofs.Places.{batch_some, batch_few, class_here, class_among, rx_ring, tx_ring, caller_known, port_known, app_known}
+use Rattle.xsk_turns.proofs.Owned.{HasKept, times-kept, sockets_apart}
+use Rattle.xsk_turns.proofs.Places.{class_here, class_among, rx_ring, caller_known}
 use Rattle.xsk_turns.proofs.Rooms.{IsOwnFrame}
 
 -- ---- the frames of a packet that is laid out
@@ -134,7 +131,7 @@ module _ (c : Config) (pair socket : ℕ) (seat : IsSeat c pair) (kept : Kept) (
   pub legal_rx : pieces_of (seat_of c pair) packet ≤ room_of (Rx socket) l → IsLegal c l pair (Submit (Rx socket) items)
   legal_rx room =
       let ring = rx_ring c pair seat socket here in
-          record {
+      record {
         caller = caller_known c pair seat;
         known = ring.0;
         role = ring.1;

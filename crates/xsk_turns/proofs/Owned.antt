@@ -24,7 +24,7 @@ use Rattle.xsk_model.specs.declared.call.Call.{Call}
 use Rattle.xsk_model.specs.declared.call.Call.TheVariants.{Reserve, Submit, Peek, Release, Swap, Look}
 use Rattle.xsk_model.specs.declared.call.Reply.{Reply}
 use Rattle.xsk_model.specs.declared.call.Reply.TheVariants.{Items}
-use Rattle.xsk_model.proofs.Counting.{times-append, times-flat_map-set, numbers-append}
+use Rattle.xsk_model.proofs.Counting.{times-append, times-flat_map-set}
 use Rattle.xsk_model.proofs.Completions.{own_kept, times-numbers-append}
 use Rattle.xsk_model.proofs.Folds.{part_of-push, part_of-push_same, part_of-push_other}
 use Rattle.xsk_model.proofs.PacketsLaws.{packets_from-append, rest_from-append, packets-items}

@@ -12,7 +12,7 @@ use Rattle.xsk_model.specs.Object.{taken}
 use Rattle.xsk_model.specs.Entry.{Told, with_told}
 use Rattle.xsk_model.specs.Legal.{IsLegal}
 use Rattle.xsk_model.specs.History.{Fits, OwnGoesOn}
-use Rattle.xsk_model.specs.Own.{had_of, room_of}
+use Rattle.xsk_model.specs.Own.{room_of}
 use Rattle.xsk_model.specs.Packets.{IsWhole}
 use Rattle.xsk_model.specs.declared.call.Ring.TheVariants.{Fill, Comp, Rx, Tx}
 use Rattle.xsk_model.specs.declared.call.Mark.TheVariants.{RxDone, Gone, TxDone, Cell}
@@ -22,14 +22,14 @@ use Rattle.xsk_model.specs.declared.call.Reply.{Reply}
 use Rattle.xsk_model.specs.declared.call.Reply.TheVariants.{Granted, Full, Submitted, Items, Empty, Released, Old}
 use Rattle.xsk_model.proofs.Safety.{legal_reserve, legal_peek, legal_release, legal_look, legal_swap, room_told, held_told}
 use Rattle.xsk_turns.specs.Script.{Script, Leaves, Ends, ask, again, ended, on_submitted, on_released}
-use Rattle.xsk_turns.specs.Turns.{Seat, Kept, Noted, seat_of, start, moved, stopped, settled, socket_of, application_of, cell_of, redirect_to, limit_of, pieces_of, laid_out, supplied, dropped, with_rx_full, with_fill_empty, with_tx_empty, returned, gathered, idle, complete, visit, visit_from, transmit, deliver, reserve, go_on, take_spare, find_spare, direct, receive, turn}
-use Rattle.xsk_turns.specs.Owned.{IsSeat, IsHere, socket_at_class, numbers_kept, IsSpare, Owned, AllFit, KeepsFrames, KeepsFramesAtEnd}
+use Rattle.xsk_turns.specs.Turns.{Seat, Kept, Noted, seat_of, start, moved, stopped, settled, application_of, cell_of, redirect_to, limit_of, pieces_of, laid_out, supplied, dropped, with_rx_full, with_fill_empty, with_tx_empty, returned, gathered, idle, complete, visit, visit_from, transmit, deliver, reserve, go_on, take_spare, find_spare, direct, receive, turn}
+use Rattle.xsk_turns.specs.Owned.{IsSeat, IsHere, socket_at_class, IsSpare, Owned, AllFit, KeepsFrames, KeepsFramesAtEnd}
 use Rattle.xsk_turns.specs.declared.disposal.Disposal.TheVariants.{Delivered, TooLong, Runt, Missed}
 use Rattle.xsk_turns.proofs.Completing.{whole_some}
 use Rattle.xsk_turns.proofs.Layouts.{pieces_some, few_pieces}
 use Rattle.xsk_turns.proofs.Legality.{first_whole, legal_rx, owned_rx, legal_comp, owned_comp}
 use Rattle.xsk_turns.proofs.Owned.{HasKept, IsQuiet, owned_quiet, times-kept, has_told, has_fill, has_tx}
-use Rattle.xsk_turns.proofs.Places.{batch_some, batch_few, class_here, classes_some, rx_ring, tx_ring, caller_known, port_known, app_known}
+use Rattle.xsk_turns.proofs.Places.{batch_some, batch_few, class_here, rx_ring, tx_ring, caller_known, port_known, app_known}
 use Rattle.xsk_turns.proofs.Rooms.{fill_frames}
 use Rattle.xsk_turns.proofs.Walks.{Premise, Law, Holds, Says, MeetAlong, Fitting, meet_fitting, meets_law, at_reserve, at_submit, at_peek, at_release, at_old, by_case, says_left}
 
@@ -106,8 +106,11 @@ module _ (c : Config) (pair : ℕ) (is : IsSeat c pair) where
       let leaves = quiet kept leave l tt h (legal_swap c pair l (caller_known c pair is) (Gone pair) 1 is.known refl (omega arith)) in
       by_case Answers law (noted.progress || noted.full) _ _ l (λ e. h)
       (λ e. by_case Answers law kept.tx_done _ _ l
-      (λ done. (leaves, at_old Answers law kept leave l (λ n. ended kept)
-      (λ n q. (told kept leave (Old n) l refl leaves q, none (not_full noted.progress noted.full e)))))
+      (λ done. (
+        leaves,
+        at_old Answers law kept leave l (λ n. ended kept)
+            (λ n q. (told kept leave (Old n) l refl leaves q, none (not_full noted.progress noted.full e))),
+      ))
       (λ f. by_case Answers law kept.rx_done _ _ l
       (λ done. (looks, at_old Answers law kept look l (λ n. again (record kept { tx_done = kept.tx_done || eqb n 1 })) (λ n q. told kept look (Old n) l refl looks q)))
       (λ g. h)))

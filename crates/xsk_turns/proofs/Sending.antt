@@ -1,8 +1,7 @@
 -- Giving back the first finished packet completes that packet alone, and no other call completes any.
-use Rattle.std.proofs.Common.{◌≡◌, ℕ, zero, suc, ◌+◌, ◌<◌, ◌≤◌, Bool, true, false, cond, eqb, ◌&&◌, List, [], ◌∷◌, ◌++◌, length, get_or, drop, map, flat_map, Option, None, Some, refl, sym, ap, subst, ◌∙◌, ⊎_elim, arith, append_assoc, append-nil, length-append, eq-eqb, ne_eqb}
-use Rattle.std.proofs.lemmas.Bool.{cases_eq, and_from}
-use Rattle.xsk_umem.specs.declared.batch.Item.{Item}
-use Rattle.xsk_model.specs.Config.{Config, pair_at}
+use Rattle.std.proofs.Common.{◌≡◌, ℕ, ◌≤◌, Bool, true, false, cond, List, [], ◌∷◌, ◌++◌, length, get_or, map, flat_map, refl, sym, ap, subst, ◌∙◌, ⊎_elim, arith, append_assoc, append-nil, length-append, ne_eqb}
+use Rattle.std.proofs.lemmas.Bool.{cases_eq}
+use Rattle.xsk_model.specs.Config.{Config}
 use Rattle.xsk_model.specs.Packets.{bytes_of}
 use Rattle.xsk_model.specs.Numbers.{times}
 use Rattle.xsk_model.specs.Object.{taken}
@@ -10,18 +9,15 @@ use Rattle.xsk_model.specs.Entry.{Told, with_told}
 use Rattle.xsk_model.specs.Own.{completed_by, waiting, sending_of}
 use Rattle.xsk_model.specs.Legal.{IsLegal}
 use Rattle.xsk_model.specs.History.{Fits}
-use Rattle.xsk_model.specs.Sent.{sockets_from, sockets_of, completed_in, sent_from}
-use Rattle.xsk_model.specs.declared.config.SocketInfo.{SocketInfo}
+use Rattle.xsk_model.specs.Sent.{sockets_of, completed_in, sent_from}
 use Rattle.xsk_model.specs.declared.call.Ring.TheVariants.{Fill, Comp, Rx, Tx}
 use Rattle.xsk_model.specs.declared.call.Call.{Call}
 use Rattle.xsk_model.specs.declared.call.Call.TheVariants.{Reserve, Submit, Peek, Release, Swap, Look}
 use Rattle.xsk_model.specs.declared.call.Reply.{Reply}
-use Rattle.xsk_model.specs.declared.call.Reply.TheVariants.{Granted, Submitted, Items}
-use Rattle.xsk_model.specs.declared.call.Act.{Act}
 use Rattle.xsk_model.specs.declared.call.Act.TheVariants.{Call as Gave, Ended as IsEnded}
 use Rattle.xsk_model.proofs.Completions.{one_completion}
-use Rattle.xsk_turns.specs.Turns.{Seat, Kept, seat_of, returned}
-use Rattle.xsk_turns.specs.Owned.{IsSeat, IsHere, socket_at_class, Owned}
+use Rattle.xsk_turns.specs.Turns.{Kept, seat_of, returned}
+use Rattle.xsk_turns.specs.Owned.{IsSeat, socket_at_class, Owned}
 use Rattle.xsk_turns.specs.Sending.{is_completing, Completes, sent_by, sent_with, sent_by_act}
 use Rattle.xsk_turns.proofs.Completing.{completes}
 use Rattle.xsk_turns.proofs.Legality.{first_class, first_known, behind_first, first_waits}

@@ -1,26 +1,22 @@
 -- What a driver has: the frames that it keeps, with those of the call that it gave, are those that it peeked and didn't
 -- submit, and what it keeps of them is what its own calls and replies leave. Then each call that it gives is legal.
 use Rattle.std.specs.Prelude.{◌≡◌, ℕ, ◌+◌, ◌<◌, ◌≤◌, ◌==◌, IsTrue, if◌then◌else◌, List, [], ◌∷◌, ◌++◌, length, map, flat_map, All}
-use Rattle.std.specs.List.{slice_index_or}
 use Rattle.xsk_umem.specs.Frame.{Frame}
 use Rattle.xsk_umem.specs.Geometry.{IsGeometry}
 use Rattle.xsk_umem.specs.declared.batch.Item.{Item}
 use Rattle.xsk_model.specs.Config.{Config, IsConfig, IsRegular, classes_of, socket_at}
-use Rattle.xsk_model.specs.Packets.{rest, bytes_of}
+use Rattle.xsk_model.specs.Packets.{rest}
 use Rattle.xsk_model.specs.Numbers.{times, numbers}
 use Rattle.xsk_model.specs.Object.{submitted}
-use Rattle.xsk_model.specs.Entry.{Told, with_told}
+use Rattle.xsk_model.specs.Entry.{Told}
 use Rattle.xsk_model.specs.Own.{had_of, is_from_fill, peeked_of, waiting, sending_of}
 use Rattle.xsk_model.specs.Legal.{IsLegal}
 use Rattle.xsk_model.specs.History.{Fits, OwnGoesOn}
-use Rattle.xsk_model.specs.Sent.{completed_in, sockets_of, sent_from}
-use Rattle.xsk_model.specs.declared.call.Ring.TheVariants.{Comp, Tx}
+use Rattle.xsk_model.specs.Sent.{completed_in}
+use Rattle.xsk_model.specs.declared.call.Ring.TheVariants.{Tx}
 use Rattle.xsk_model.specs.declared.call.Call.{Call}
-use Rattle.xsk_model.specs.declared.call.Call.TheVariants.{Submit}
 use Rattle.xsk_model.specs.declared.call.Reply.{Reply}
 use Rattle.xsk_model.specs.declared.call.Reply.TheVariants.{Items}
-use Rattle.xsk_model.specs.declared.call.Act.{Act}
-use Rattle.xsk_model.specs.declared.call.Act.TheVariants.{Call as Gave, Ended as IsEnded}
 use Rattle.xsk_turns.specs.Turns.{Seat, Kept, seat_of, start, turn, socket_of, group_at, frames_in}
 use Rattle.xsk_turns.specs.Script.{Script, Asks, Ends}
 

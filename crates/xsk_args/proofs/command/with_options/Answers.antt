@@ -1,6 +1,6 @@
-use Rattle.std.proofs.Common.{rules, ◌≡◌, ◌∙◌, ap, ap₂, sym, fold, ◌<◌, length, take, arith, slice_index_or}
+use Rattle.std.proofs.Common.{◌∙◌, ap₂, sym, ◌<◌, length, arith}
 use Rattle.std.proofs.lemmas.List.Sums.{fold_more}
-use Rattle.clap.specs.Words.{App, app_of, rule_of, with_rule}
+use Rattle.clap.specs.Words.{App, app_of, with_rule}
 use Rattle.xsk_args.specs.Meaning.{stated}
 use Rattle.xsk_args.specs.Rules.{option_rule}
 use Rattle.xsk_args.specs.declared.table.OptionRow.{OptionRow}

@@ -1,4 +1,4 @@
-use Rattle.std.proofs.Common.{rules, ◌≡◌, ◌∙◌, ◌+◌, ◌%◌, ap, ap₂, sym, arith, [], ◌∷◌, ◌++◌}
+use Rattle.std.proofs.Common.{rules, ◌≡◌, ◌∙◌, ◌%◌, ap, ap₂, sym, arith, [], ◌∷◌, ◌++◌}
 use Rattle.xsk_gen.specs.Generator.{draw, drawn, first, next_state, state_after}
 use Rattle.xsk_gen.proofs.Firsts.{first_more, first_none}
 use Rattle.xsk_gen.proofs.States.{after_more, after_none, draw_is}

@@ -1,4 +1,4 @@
-use Rattle.std.proofs.Common.{rules, ◌≡◌, ◌∙◌, ◌*◌, ap, ap₂, sym, arith, [], ◌∷◌, ◌++◌}
+use Rattle.std.proofs.Common.{rules, ◌≡◌, ◌∙◌, ap, ap₂, sym, arith, [], ◌∷◌, ◌++◌}
 use Rattle.xsk_umem.specs.PacketList.{PacketList}
 use Rattle.xsk_gen.specs.Generator.{first, first_state, packet, packet_at, state_after}
 use Rattle.xsk_gen.proofs.Firsts.{first_more, first_none}

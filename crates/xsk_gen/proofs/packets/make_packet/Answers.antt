@@ -1,5 +1,5 @@
-use Rattle.std.proofs.Common.{rules, ◌≡◌, ◌∙◌, ◌+◌, ◌≤◌, ◌%◌, ap, ap₂, sym, arith, [], ◌∷◌, ◌++◌}
-use Rattle.xsk_gen.specs.Generator.{byte_at, draw, drawn, first, length_at, state_after}
+use Rattle.std.proofs.Common.{rules, ◌≡◌, ◌∙◌, ◌+◌, ◌%◌, ap, ap₂, sym, arith, [], ◌∷◌, ◌++◌}
+use Rattle.xsk_gen.specs.Generator.{byte_at, draw, drawn, first, state_after}
 use Rattle.xsk_gen.proofs.Firsts.{counted, first_more, front}
 use Rattle.xsk_gen.proofs.States.{after_next, first_draw}
 use Rattle.xsk_gen.proofs.packets.make_packet.Goals as goal

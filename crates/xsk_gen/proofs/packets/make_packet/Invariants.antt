@@ -1,5 +1,5 @@
 use Rattle.std.proofs.Common.{◌≡◌, ◌≤◌}
-use Rattle.xsk_gen.specs.Generator.{byte_at, first, state_after}
+use Rattle.xsk_gen.specs.Generator.{byte_at, first}
 use Rattle.xsk_gen.proofs.packets.make_packet.Given as goal
 
 abbrev pub invariant-loop-place : goal.invariant-loop-place

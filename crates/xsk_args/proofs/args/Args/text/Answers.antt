@@ -1,4 +1,4 @@
-use Rattle.std.proofs.Common.{◌∙◌, ap, sym, List, option_map}
+use Rattle.std.proofs.Common.{◌∙◌, ap, sym, List}
 use Rattle.clap.specs.Words.{found_of, rows_of}
 use Rattle.xsk_args.specs.Words.{Said}
 use Rattle.xsk_args.specs.Meaning.{one_value, under}
