@@ -1,5 +1,5 @@
 -- The laws of single calls, proved.
-use Rattle.std.proofs.Common.{◌≡◌, ◌≢◌, ℕ, ◌<◌, ◌≤◌, true, false, List, [], ◌∷◌, ◌++◌, All, refl, sym, ap, subst, ◌∙◌}
+use Rattle.std.proofs.Common.{◌≡◌, ◌≢◌, ℕ, ◌<◌, ◌≤◌, true, false, List, [], ◌∷◌, ◌++◌, All, refl, sym, ap, subst, arith, ◌∙◌}
 use Rattle.std.proofs.lemmas.List.Elements.{All-nil, All-cons}
 use Rattle.xsk_umem.specs.Frame.{Frame}
 use Rattle.xsk_model.specs.Config.{Config, callers_of}
@@ -19,7 +19,6 @@ use Rattle.xsk_model.specs.declared.call.Call.TheVariants.{Reserve, Submit, Peek
 use Rattle.xsk_model.proofs.Folds.{own-push_same}
 use Rattle.xsk_model.proofs.Histories.{goes_push, after_all-append, history_first, history_sound}
 use Rattle.xsk_model.proofs.Replies.{history_entry, entry_fits}
-use Rattle.xsk_model.proofs.Safety.{legal_swap}
 use Rattle.xsk_model.proofs.Changes.{leaves_call, changes_call, mark_set, mark_stays}
 use Rattle.xsk_model.proofs.Bodies.{same_legal}
 use Rattle.xsk_model.proofs.Shapes.{layout_shape, shape_layout}
@@ -101,7 +100,7 @@ legal_swaps c mine who m value = (
   λ legal.
       let flag : IsFlag m value = flag_number c who m value legal.role legal.counted in
       (legal.caller, legal.known, legal.role, flag.0, flag.1),
-  λ h. legal_swap c who mine h.0 m value h.1 h.2 (number_of_flag c who m value h.2 h.3),
+  λ h. record { caller = h.0; known = h.1; role = h.2; counted = number_of_flag c who m value h.2 h.3; frames = λ n. omega arith; items = tt; packets = tt },
 )
 
 -- ---- legality in other words

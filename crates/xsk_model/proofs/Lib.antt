@@ -19,9 +19,6 @@ pub mod OwnRuns
 pub mod Sendings
 pub mod Completions
 pub mod Counts
-pub mod ScriptLemmas
-pub mod Walks
-pub mod Safety
 pub mod Along
 pub mod Apart
 pub mod FirstState

@@ -20,6 +20,5 @@ pub mod Sizes
 pub mod Steering
 pub mod Stored
 pub mod Expected
-pub mod Script
 pub mod Ends
 pub mod OtherWords

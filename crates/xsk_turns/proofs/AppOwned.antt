@@ -21,7 +21,7 @@ use Rattle.xsk_model.specs.declared.call.Ring.TheVariants.{Fill, Rx, Tx}
 use Rattle.xsk_model.specs.declared.call.Call.{Call}
 use Rattle.xsk_model.specs.declared.call.Reply.{Reply}
 use Rattle.xsk_model.proofs.Counting.{times-append, times-flat_map-set}
-use Rattle.xsk_model.proofs.Safety.{had_told}
+use Rattle.xsk_turns.proofs.LegalCalls.{had_told}
 use Rattle.xsk_turns.specs.Turns.{frame_in, frames_in}
 use Rattle.xsk_turns.specs.Owned.{frame_numbers}
 use Rattle.xsk_turns.specs.AppTurns.{AppKept, lanes_of, pending_at, with_pending, back_at, with_back, app_start}

@@ -9,6 +9,7 @@ pub mod Counting
 pub mod Counts
 pub mod Disposing
 pub mod Layouts
+pub mod LegalCalls
 pub mod Legality
 pub mod Owned
 pub mod Owning

@@ -29,7 +29,7 @@ use Rattle.xsk_model.proofs.Completions.{own_kept, times-numbers-append}
 use Rattle.xsk_model.proofs.Folds.{part_of-push, part_of-push_same, part_of-push_other}
 use Rattle.xsk_model.proofs.PacketsLaws.{packets_from-append, rest_from-append, packets-items}
 use Rattle.xsk_model.proofs.Places.{is_ring-self}
-use Rattle.xsk_model.proofs.Safety.{had_told}
+use Rattle.xsk_turns.proofs.LegalCalls.{had_told}
 use Rattle.xsk_model.proofs.Sendings.{wholes, more_wholes, wholes-append, sending_of-push, peeked_is}
 use Rattle.xsk_turns.specs.Turns.{Kept, frame_in, frames_in, bad_ones, group_at, gathered, seat_of}
 use Rattle.xsk_turns.specs.Owned.{IsSeat, of_class, socket_at_class, frame_numbers, numbers_kept, IsSpare, Owned}

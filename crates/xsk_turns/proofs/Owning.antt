@@ -20,7 +20,7 @@ use Rattle.xsk_model.specs.declared.call.Call.{Call}
 use Rattle.xsk_model.specs.declared.call.Call.TheVariants.{Reserve, Submit, Peek, Release, Swap, Look}
 use Rattle.xsk_model.specs.declared.call.Reply.{Reply}
 use Rattle.xsk_model.specs.declared.call.Reply.TheVariants.{Granted, Full, Submitted, Items, Empty, Released, Old}
-use Rattle.xsk_model.proofs.Safety.{legal_reserve, legal_peek, legal_release, legal_look, legal_swap, room_told, held_told}
+use Rattle.xsk_turns.proofs.LegalCalls.{legal_reserve, legal_peek, legal_release, legal_look, legal_swap, room_told, held_told}
 use Rattle.xsk_turns.specs.Script.{Script, Leaves, Ends, ask, again, ended, on_submitted, on_released}
 use Rattle.xsk_turns.specs.Turns.{Seat, Kept, Noted, seat_of, start, moved, stopped, settled, application_of, cell_of, redirect_to, limit_of, pieces_of, laid_out, supplied, dropped, with_rx_full, with_fill_empty, with_tx_empty, returned, gathered, idle, complete, visit, visit_from, transmit, deliver, reserve, go_on, take_spare, find_spare, direct, receive, turn}
 use Rattle.xsk_turns.specs.Owned.{IsSeat, IsHere, socket_at_class, IsSpare, Owned, AllFit, KeepsFrames, KeepsFramesAtEnd}
