@@ -10,4 +10,6 @@ mod configuration;
 #[cfg(test)]
 mod four_ports;
 #[cfg(test)]
+mod many_packets;
+#[cfg(test)]
 mod short_writes;
