@@ -1,8 +1,7 @@
 -- On an RX or a TX ring that is drained the consumer has peeked exactly what the producer submitted.
-use Rattle.std.proofs.Common.{◌≡◌, ℕ, zero, suc, ◌+◌, ◌*◌, ◌<◌, ◌≤◌, true, false, List, [], ◌++◌, length, drop, replicate, flat_map, refl, sym, ap, ◌∙◌, arith, append-nil}
+use Rattle.std.proofs.Common.{◌≡◌, ℕ, ◌+◌, ◌*◌, ◌<◌, ◌≤◌, true, false, List, [], ◌++◌, length, replicate, flat_map, sym, ap, ◌∙◌, arith, append-nil}
 use Rattle.std.proofs.lemmas.List.{length-replicate, get_or-replicate, get_or_append_left, get_or_past}
 use Rattle.xsk_umem.specs.Frame.{Frame}
-use Rattle.xsk_umem.specs.Geometry.{Geometry}
 use Rattle.xsk_model.specs.Config.{Config, HasRing, pool_of}
 use Rattle.xsk_model.specs.Rings.{place, producer, consumer}
 use Rattle.xsk_model.specs.Marks.{HasMark, MaySwap, apps_of, mark_place}

@@ -1,6 +1,6 @@
 -- What each port sends: of the packets that its paired port receives those that go to a socket, each whole and in order.
 -- It is read off the input and the configuration alone.
-use Rattle.std.specs.Prelude.{ℕ, ◌+◌, ◌-◌, ◌*◌, ◌%◌, ◌==◌, ◌&&◌, Bool, nat_lt, nat_le, if◌then◌else◌, List, length, slice_index}
+use Rattle.std.specs.Prelude.{ℕ, ◌+◌, ◌==◌, ◌&&◌, Bool, nat_lt, nat_le, List, length, slice_index}
 use Rattle.std.specs.List.{filter}
 use Rattle.xsk_umem.specs.PacketList.{PacketList}
 use Rattle.xsk_model.specs.Config.{Config, classes_of, map_of}
