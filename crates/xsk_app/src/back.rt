@@ -1,3 +1,4 @@
+//! The frames that an application has to give back to FILL.
 ghost use Rattle.std.specs.Prelude.{◌≡◌, ◌==◌, ◌<◌, ◌≤◌, [], ◌↔◌, IsTrue, IfOk, IsNone, IfSome, length, map, take, drop};
 ghost use Rattle.std.specs.List.{take_while};
 ghost use Rattle.xsk_model.specs.Opening.{home_item as item_at_home};

@@ -1,3 +1,15 @@
+//! The application's machine: it makes one call, waits for the reply, and goes on by it.
+//!
+//! ```text
+//! lanes  PeekRx ──> ReleaseRx ──> ReserveTx ──> SubmitTx           lane by lane. RX empty: the next lane
+//!                                                                  TX full: the packets stay pending for the next turn
+//! sides  PeekComp ──> ReleaseComp ──> ReserveFill ──> SubmitFill   side by side. COMPLETION empty: the next side
+//!                                         └─<────────────┘         by groups of one home. FILL full: they stay
+//! end    LookRxDone of each side ──> the next turn                 until both have told, and then, where all lanes
+//!        TellTxDone ──> the next turn                              were empty, once; from then on without lanes
+//!        LookGone of each side ──> the next turn, or Ended         where both had ended as the turn began, sides
+//!                                                                  were empty and nothing is left to give back
+//! ```
 ghost use Rattle.std.specs.Prelude.{◌≡◌, ℕ, ◌+◌, ◌-◌, ◌<◌, ◌≤◌, [], ◌∷◌, IfSome, length, vec_len, map, take, drop};
 ghost use Rattle.xsk_model.specs.Config.{batch_of, pool_of};
 ghost use Rattle.xsk_model.specs.Marks.{apps_of};

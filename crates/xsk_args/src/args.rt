@@ -1,3 +1,4 @@
+//! A command's words, read by its table of options.
 ghost use Rattle.std.specs.Prelude.{◌≡◌, None, Some, IfOk, IsErrOf, codes, is_some, map, option_and_then, option_map, string_bytes};
 ghost use Rattle.std.specs.List.{list_all};
 ghost use Rattle.clap.specs.Words.{all_of, found_of, rows_of};

@@ -1,3 +1,4 @@
+//! Why words are refused.
 use std::alloc::AllocError;
 use thiserror::Error;
 

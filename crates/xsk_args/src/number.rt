@@ -1,3 +1,4 @@
+//! Numbers in words.
 ghost use Rattle.std.specs.Prelude.{◌≡◌};
 ghost use Rattle.std.specs.Str.{all_ascii_digits};
 ghost use Rattle.xsk_args.specs.Number.{number_in};

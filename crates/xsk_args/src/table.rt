@@ -1,3 +1,4 @@
+//! The table of a command's options.
 /// What value an option takes.
 #[derive(Clone, Copy, Debug, PartialEq, Eq)]
 pub enum Takes {

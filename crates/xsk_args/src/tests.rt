@@ -1,3 +1,4 @@
+//! Tests of commands, options, values and files.
 use super::*;
 use std::alloc::{AllocError, Global};
 use std::test::Fail;

@@ -1,3 +1,4 @@
+//! The outputs of a command, and its report.
 ghost use Rattle.std.specs.Prelude.{◌≡◌, ◌<◌, false, true, IfErr, IfSome, OnOk};
 ghost use Rattle.xsk_io.specs.Bay.{Same, SameBut, Grows, GrowsByPart};
 ghost use Rattle.xsk_cli.specs.Cause.{IsCaused, NeverFalls};

@@ -1,3 +1,4 @@
+//! The command on one thread, from its words to its status.
 ghost use Rattle.std.specs.Prelude.{◌≡◌, ◌↔◌, ℕ, ◌<◌, ◌≤◌, false, true, List, Some, IfErr, IfOk, IfSome, OnOk, map, length, string_bytes};
 ghost use Rattle.std.specs.Io.KnownBytes.{IsAtEnd};
 ghost use Rattle.xsk_io.specs.Bay.{Same, SameBut};

@@ -1,3 +1,4 @@
+//! How a command ends.
 ghost use Rattle.std.specs.Prelude.{◌≡◌};
 ghost use Rattle.xsk_cli.specs.ExitStatus.{exit_status_of};
 

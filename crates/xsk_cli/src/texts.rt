@@ -1,3 +1,4 @@
+//! The run of a simulation, and the texts that it leaves.
 ghost use Rattle.std.specs.Prelude.{◌≡◌, ℕ, ◌+◌, ◌<◌, ◌≤◌, ◌⊎◌, ◌^◌, ◌∷◌, [], All, List, IfErr, IfOk, IsTrue, OnOk, length, vec_len, string_bytes};
 ghost use Rattle.std.specs.List.{concat};
 ghost use Rattle.xsk_pcap.specs.Capture.{IsCapture, IsRefused};

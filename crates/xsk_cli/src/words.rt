@@ -1,3 +1,4 @@
+//! The words of a command.
 ghost use Rattle.std.specs.Prelude.{◌↔◌, IfSome, IsSome, IsTrue, map, string_bytes};
 ghost use Rattle.xsk_cli.specs.Words.{AreFiles, IsFile, IsAccepted};
 

@@ -1,3 +1,4 @@
+//! Which descriptors are valid, the fault of those that aren't, and the number of pieces of a packet.
 ghost use Rattle.std.specs.Prelude.{◌≡◌, ℕ, ◌≤◌, List, length, is_ok};
 ghost use Rattle.std.specs.Int.{div_ceil};
 ghost use Rattle.std.specs.Result.{result_err};

@@ -1,3 +1,4 @@
+//! Items put together into packets.
 ghost use Rattle.std.specs.Prelude.{◌≡◌, ◌≤◌, List, [], ◌∷◌, ◌++◌, length, option_to_list};
 ghost use Rattle.xsk_umem.specs.Geometry.{Geometry as Numbers};
 ghost use Rattle.xsk_umem.specs.declared.batch.Item.{Item as AnItem};

@@ -1,3 +1,4 @@
+//! The bytes of an item's packet in its frame.
 ghost use Rattle.std.specs.Prelude.{◌≡◌};
 ghost use Rattle.xsk_model.specs.Descriptor.{payload};
 

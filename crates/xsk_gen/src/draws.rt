@@ -1,3 +1,4 @@
+//! The numbers that the generator draws.
 ghost use Rattle.std.specs.Prelude.{◌≡◌, ◌<◌};
 ghost use Rattle.xsk_gen.specs.Generator.{drawn, first_state, next_state};
 

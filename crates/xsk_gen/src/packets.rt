@@ -1,3 +1,4 @@
+//! The packets of a number and a port.
 ghost use Rattle.std.specs.Prelude.{◌≡◌, ◌<◌, ◌%◌, [], ◌∷◌, IfOk, OnOk};
 ghost use Rattle.xsk_gen.specs.Generator.{draw, first, kind_byte, packet, packet_at, state_after};
 

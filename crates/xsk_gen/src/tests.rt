@@ -1,3 +1,4 @@
+//! A test of the first packets.
 use super::*;
 use std::test::Fail;
 use xsk_umem::PacketList;

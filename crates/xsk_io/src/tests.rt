@@ -1,3 +1,4 @@
+//! Tests of streams in memory and in files.
 ghost use Rattle.std.specs.Prelude.{◌≡◌, false, IfSome, OnOk};
 ghost use Rattle.xsk_io.specs.declared.bay.Stream.{Stream};
 

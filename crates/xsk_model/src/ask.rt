@@ -1,3 +1,4 @@
+//! Calls and replies without their items, which stand in a batch beside them.
 ghost use Rattle.std.specs.Prelude.{◌≡◌, []};
 ghost use Rattle.xsk_model.specs.Asks.{joined_call, joined_reply, HasAsked, HasAnswered};
 

@@ -1,3 +1,4 @@
+//! Rings and marks, calls on the object and their replies.
 use xsk_umem::Batch;
 
 /// One of the rings of af_xdp.rst, "Rings". FILL and COMPLETION belong to a pair, RX and TX to a socket.

@@ -1,3 +1,4 @@
+//! The item with which a frame stands in FILL at the opening.
 ghost use Rattle.std.specs.Prelude.{◌≡◌};
 ghost use Rattle.xsk_model.specs.Opening.{home_item as item_at_home};
 

@@ -1,3 +1,4 @@
+//! The places of rings and marks in lists of all, and the sizes of rings.
 ghost use Rattle.std.specs.Prelude.{◌≡◌, ◌-◌, ◌*◌, ◌<◌, ◌≤◌, ◌↔◌, IsTrue};
 ghost use Rattle.xsk_model.specs.Config.{HasRing};
 ghost use Rattle.xsk_model.specs.Rings.{place, places_of};

@@ -1,3 +1,4 @@
+//! Where a packet goes: its queue, class and cell, and the most bytes that it may have.
 ghost use Rattle.std.specs.Prelude.{◌≡◌, ◌+◌, ◌*◌, ◌^◌, ◌<◌, ◌≤◌, length, sum};
 ghost use Rattle.xsk_umem.specs.Geometry.{payload_of};
 ghost use Rattle.xsk_model.specs.Steering.{packet_queue as queue_of_packet, packet_class as class_of_packet, packet_cell as cell_of_packet, packet_limit as limit_of_packet, paired_port as port_paired};

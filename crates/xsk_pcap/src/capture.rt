@@ -1,3 +1,4 @@
+//! A capture as it is written.
 ghost use Rattle.std.specs.Prelude.{◌≡◌, ◌+◌, ◌*◌, ◌/◌, ◌%◌, ◌^◌, ◌<◌, ◌≤◌, [], ◌∷◌, ◌++◌, length, vec_capacity, IfOk, OnOk, OnErr};
 ghost use Rattle.std.specs.List.{concat, AllByRecursion};
 ghost use Rattle.byteorder.specs.Endian.{little_bytes};

@@ -1,3 +1,4 @@
+//! The byte order of a capture.
 ghost use Rattle.std.specs.Prelude.{◌≡◌, ◌≤◌, length};
 
 use byteorder::{BigEndian, ByteOrder, LittleEndian};

@@ -1,3 +1,4 @@
+//! The laws of captures, each the contract of a function that does nothing.
 ghost use Rattle.xsk_pcap.specs.Laws.{OneReading, OneRefusal, RefusedIsNoCapture, WrittenReadsBack};
 
 /// Bytes are a capture of one list of packets at most.

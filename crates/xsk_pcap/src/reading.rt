@@ -1,3 +1,4 @@
+//! Captures read as lists of packets, or the first failing check with its place.
 ghost use Rattle.std.specs.Prelude.{◌≡◌, ◌≤◌, ℕ, List, [], length, IfOk, IfErr, MatchResult};
 ghost use Rattle.std.specs.List.{AllByRecursion};
 ghost use Rattle.xsk_pcap.specs.Capture.{is_magic as magic_test, IsCapture, IsShort, IsRefused, IsCause};

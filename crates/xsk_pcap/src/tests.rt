@@ -1,3 +1,4 @@
+//! Tests of captures in both byte orders, and of refusals.
 ghost use Rattle.std.specs.Prelude.{◌≡◌, [], ◌∷◌, IfOk};
 
 use super::*;

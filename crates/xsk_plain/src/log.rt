@@ -1,3 +1,4 @@
+//! The log of all calls and replies, with payloads in place of frames.
 ghost use Rattle.std.specs.Prelude.{◌≡◌, ◌+◌, ◌*◌, ◌<◌, ◌≤◌, ◌^◌, [], length, vec_len, vec_capacity, All, OnOk};
 ghost use Rattle.xsk_plain.specs.Pieces.{IsPieceIn, IsRowIn};
 

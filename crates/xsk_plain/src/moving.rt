@@ -1,3 +1,4 @@
+//! Items moved into rings, out of rings, and given back.
 ghost use Rattle.std.specs.Prelude.{◌≡◌, ◌+◌, ◌-◌, ◌≤◌, [], ◌++◌, length, take, drop, map, vec_len};
 ghost use Rattle.xsk_model.specs.Config.{Config as Parts};
 ghost use Rattle.xsk_model.specs.Stored.{stored_item};

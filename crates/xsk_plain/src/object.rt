@@ -1,3 +1,4 @@
+//! The rings and marks of a configuration, and single calls on them.
 ghost use Rattle.std.specs.Prelude.{◌≡◌, vec_len};
 ghost use Rattle.xsk_model.specs.Marks.{mark_places_of};
 ghost use Rattle.xsk_model.specs.Sizes.{sizes_of};

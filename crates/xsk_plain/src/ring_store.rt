@@ -1,3 +1,4 @@
+//! One ring with its entries and what each side has reserved and peeked.
 ghost use Rattle.std.specs.Prelude.{◌≡◌, ◌+◌, ◌≤◌, length};
 ghost use Rattle.std.specs.VecDeque.{deque_len, deque_capacity};
 

@@ -1,3 +1,4 @@
+//! Drivers and applications as machines of one kind.
 ghost use Rattle.std.specs.Prelude.{◌≡◌, ℕ, None, Some, List, []};
 ghost use Rattle.xsk_model.specs.Entry.{Told, with_told};
 ghost use Rattle.xsk_model.specs.Expected.{Expected, CanCome, expected_of};

@@ -1,3 +1,4 @@
+//! The order of the workers in each round.
 ghost use Rattle.std.specs.Prelude.{◌≡◌, ◌<◌, ◌*◌, ◌/◌, ◌%◌, ◌^◌};
 
 /// The order numbers of rounds: each is the one before it times 1103515245, modulo 2^32.

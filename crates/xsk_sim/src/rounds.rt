@@ -1,3 +1,4 @@
+//! Rounds, in which each worker makes one call.
 ghost use Rattle.std.specs.Prelude.{◌≡◌, ◌<◌, ◌+◌, ◌^◌, ◌↔◌, ℕ, List, IsTrue, [], ◌∷◌, vec_len, OnOk};
 ghost use Rattle.xsk_umem.specs.Geometry.{IsGeometry};
 ghost use Rattle.xsk_umem.specs.Frame.{Frame};

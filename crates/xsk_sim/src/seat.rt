@@ -1,3 +1,4 @@
+//! A worker in the rounds, with its next call.
 ghost use Rattle.std.specs.Prelude.{◌≡◌, ℕ, List, [], IsTrue, ◌↔◌, All, OnOk};
 ghost use Rattle.xsk_umem.specs.Geometry.{IsGeometry};
 ghost use Rattle.xsk_umem.specs.Frame.{Frame};

@@ -1,3 +1,4 @@
+//! A whole simulation: from a configuration and packets to what was sent and the log.
 ghost use Rattle.std.specs.Prelude.{◌≡◌, ◌<◌, ◌≤◌, ◌+◌, ℕ, Err, List, [], All, IfSome, IfOk, OnOk, length, map, vec_len};
 ghost use Rattle.std.specs.List.{concat, slice_index_or};
 ghost use Rattle.xsk_umem.specs.Geometry.{IsGeometry};

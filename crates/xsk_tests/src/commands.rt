@@ -1,3 +1,4 @@
+//! Commands over a bay.
 ghost use Rattle.std.specs.Prelude.{◌≡◌, false, IfOk};
 ghost use Rattle.xsk_io.specs.declared.bay.Stream.{Stream as AStream};
 ghost use Rattle.xsk_io.specs.Memory.{is_open_of};

@@ -1,3 +1,4 @@
+//! A configuration tells its parts, with the sockets and pairs of ports that tests use.
 ghost use Rattle.std.specs.Prelude.{◌≡◌};
 
 use std::test::Fail;

@@ -1,4 +1,4 @@
-//! Two hundred packets of each port cross in one run: the longest that fit, those that are a byte too long, and short ones.
+//! Two hundred packets of each port cross in one run: the longest that fit, some a byte too long, and short ones.
 
 use crate::commands::{HEADER, holds, simulate_words};
 use std::alloc::Global;

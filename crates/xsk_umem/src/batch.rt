@@ -1,3 +1,4 @@
+//! Descriptors, items, and batches of items held in a ring of places.
 ghost use Rattle.std.specs.Prelude.{◌≡◌, ◌+◌, ◌<◌, ◌≤◌, List, [], ◌∷◌, ◌++◌, length, Some, slice_get, ◌↔◌, IsTrue, IsNone, IfSome, IfNone};
 
 use crate::Frame;

@@ -1,3 +1,4 @@
+//! Frames, each a number and its chunk, and queues of frames.
 ghost use Rattle.std.specs.Prelude.{◌≡◌, ◌+◌, ◌<◌, ◌≤◌, [], ◌∷◌, ◌++◌, length, replicate, ◌↔◌, IsTrue, IfOk, IsNone, IfSome, IfNone};
 ghost use Rattle.std.specs.VecDeque.{deque_capacity};
 ghost use Rattle.xsk_umem.specs.Frame.{Frame as Body, IsFrame, written_at};

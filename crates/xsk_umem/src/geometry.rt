@@ -1,3 +1,4 @@
+//! The geometry of a UMEM: addresses by frame number, and what stands in a frame.
 ghost use Rattle.std.specs.Prelude.{◌≡◌, ◌<◌};
 ghost use Rattle.xsk_umem.specs.Geometry.{Geometry as Numbers, IsGeometry, payload_of, base_of, data_of, frame_of};
 

@@ -1,3 +1,4 @@
+//! Lists of packets, as spans of one text.
 ghost use Rattle.std.specs.Prelude.{◌≡◌, ◌+◌, ◌<◌, ◌≤◌, ◌^◌, List, [], ◌∷◌, ◌++◌, length, map, Some, slice_get, ◌↔◌, IsTrue, OnOk, OnErr};
 ghost use Rattle.xsk_umem.specs.PacketList.{PacketList as Packets, with_last_extended};
 ghost use Rattle.xsk_umem.specs.Span.{at_span, AreInText, end_of};

@@ -1,3 +1,4 @@
+//! Tests of registrations, batches and packet lists.
 use super::*;
 use std::test::Fail;
 

@@ -1,3 +1,4 @@
+//! The registration of a UMEM: its geometry with its frames, or why it is refused.
 ghost use Rattle.std.specs.Prelude.{◌≡◌, ℕ, ◌/◌, ◌≤◌, Option, Some, None, Result, Err, IfOk, IsOkUnless};
 ghost use Rattle.xsk_umem.specs.Geometry.{IsChunkSize};
 ghost use Rattle.xsk_umem.specs.Registration.{fresh, first_refusal};
