@@ -1,10 +1,11 @@
-use Rattle.std.proofs.Common.{◌≡◌, ℕ, ◌≤◌, inl, inr, false, [], ◌∷◌, refl, lit<, lit≤, Some}
+use Rattle.std.proofs.Common.{ℕ, ◌≤◌, inl, inr, false, [], ◌∷◌, refl, lit<, lit≤, Some}
 use Rattle.std.specs.Prelude.{All, IsSome}
 use Rattle.std.proofs.lemmas.List.Elements.{All-cons, All-nil}
 use Rattle.xsk_umem.specs.Geometry.{Geometry}
-use Rattle.xsk_model.specs.Config.{Config, IsConfig, IsRingSize, IsBound, IsServed, IsMap}
+use Rattle.xsk_model.specs.Config.{Config, IsConfig, IsRegular, IsRingSize, IsBound, IsServed, IsMap}
 use Rattle.xsk_model.specs.declared.config.PairInfo.{PairInfo}
 use Rattle.xsk_model.specs.declared.config.SocketInfo.{SocketInfo}
+use Rattle.xsk_plain.proofs.Legality.{fresh_are_frames}
 use Rattle.xsk_tests.proofs.four_ports.four_ports_are_opened_over_the_most_frames.Goals as goal
 
 abbrev socket : ℕ → SocketInfo
@@ -80,3 +81,13 @@ of_parts-config-requires g c =
       c.in_ok-vec-3.ensures.items,
       c.in_ok-vec-4.ensures.items,
     ) (four_ports-config c.in_ok-geometry.geometry)
+
+pub open-requires-clause-lawful : goal.open-requires-clause-lawful
+open-requires-clause-lawful g c =
+    let regular : IsRegular c.of_parts-config.result = c.regular.ensures.0 c.if-not-regular.false in
+    regular.lawful
+
+pub open-requires-clause-frames : goal.open-requires-clause-frames
+open-requires-clause-frames g c =
+    rw (c.of_parts-config.ensures, c.in_ok-geometry.ensures.geometry, c.in_ok-geometry.ensures.frames)
+    (fresh_are_frames (record { frames = 4096; chunk = 2048; headroom = 0 }))
