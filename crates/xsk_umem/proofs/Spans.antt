@@ -1,12 +1,14 @@
 -- What a list's spans show after its text has grown.
 use Rattle.std.proofs.Common.{◌≡◌, ℕ, zero, suc, ◌+◌, ◌≤◌, List, [], ◌∷◌, ◌++◌, length, get_or, set, take, drop, map, refl, sym, ◌∙◌, arith, length-append, length-drop}
-use Rattle.std.specs.Prelude.{All}
+use Rattle.std.specs.Prelude.{All, sum_by}
+use Rattle.std.specs.List.{concat}
 use Rattle.std.proofs.lemmas.List.{drop-append-le, take-append-le, take-append-drop, length-take-le, map-append}
 use Rattle.std.proofs.lemmas.List.Elements.{All-head, All-tail, All-cons, All-push, All-set, All-weaker}
+use Rattle.std.proofs.lemmas.List.Sums.{sum_by-cons}
 use Rattle.std.proofs.Math.Seq.{drop-append_seam, take-length}
 use Rattle.xsk_umem.specs.declared.packet_list.Span.{Span}
 use Rattle.xsk_umem.specs.PacketList.{with_last_extended}
-use Rattle.xsk_umem.specs.Span.{at_span, IsWithin, AreFrom, AreInText, AreSpans, end_of}
+use Rattle.xsk_umem.specs.Span.{at_span, len_of, IsWithin, AreFrom, AreInText, AreSpans, end_of}
 
 -- a span within the text shows the same bytes in a longer text
 at_span-append : (text piece : List ℕ) (span : Span) → IsWithin text span → at_span (text ++ piece) span ≡ at_span text span
@@ -150,3 +152,36 @@ map_at_span-extend text piece (suc i) (first ∷ next ∷ spans) d new all last 
     let rest : map (at_span (text ++ piece)) (set (next ∷ spans) i new) ≡ with_last_extended (map (at_span text) (next ∷ spans)) piece =
     map_at_span-extend text piece i (next ∷ spans) d new (All-tail (IsWithin text) first (next ∷ spans) all) (omega arith) end start len in
     rw (here, rest) refl
+
+-- spans that stand apart have no more bytes than the text in which they stand
+sum_before_end : (from : ℕ) (spans : List Span) (span : Span) → AreFrom from (span ∷ spans) → from + sum_by len_of (span ∷ spans) ≤ end_of (span ∷ spans)
+sum_before_end from [] span apart =
+    let first : from ≤ span.start = apart.0 in
+    rw (sum_by-cons len_of span []) (omega (arith, first))
+sum_before_end from (next ∷ spans) span apart =
+    let first : from ≤ span.start = apart.0 in
+    let rest : span.start + span.len + sum_by len_of (next ∷ spans) ≤ end_of (next ∷ spans) = sum_before_end (span.start + span.len) spans next apart.1 in
+    let sum : sum_by len_of (span ∷ next ∷ spans) ≡ span.len + sum_by len_of (next ∷ spans) = sum_by-cons len_of span (next ∷ spans) in
+    omega (arith, first, rest, sum)
+
+pub sum_within : (text : List ℕ) (spans : List Span) → AreFrom 0 spans → All (IsWithin text) spans → sum_by len_of spans ≤ length text
+sum_within text [] apart all = omega arith
+sum_within text (span ∷ spans) apart all =
+    let end : end_of (span ∷ spans) ≤ length text = end_within text (span ∷ spans) all in
+    let sum : 0 + sum_by len_of (span ∷ spans) ≤ end_of (span ∷ spans) = sum_before_end 0 spans span apart in
+    omega (arith, end, sum)
+
+length-at_span : (text : List ℕ) (span : Span) → IsWithin text span → length (at_span text span) ≡ span.len
+length-at_span text span within =
+    let start : span.start + span.len ≤ length text = within in
+    let rest : span.len ≤ length (drop span.start text) = omega (arith, start, length-drop span.start text) in
+    length-take-le span.len (drop span.start text) rest
+
+-- the packets have the bytes of their spans
+pub length-packets : (text : List ℕ) (spans : List Span) → All (IsWithin text) spans → length (concat (map (at_span text) spans)) ≡ sum_by len_of spans
+length-packets text [] all = refl
+length-packets text (span ∷ spans) all =
+    let first : length (at_span text span) ≡ span.len = length-at_span text span (All-head (IsWithin text) span spans all) in
+    let rest : length (concat (map (at_span text) spans)) ≡ sum_by len_of spans = length-packets text spans (All-tail (IsWithin text) span spans all) in
+    let sum : sum_by len_of (span ∷ spans) ≡ span.len + sum_by len_of spans = sum_by-cons len_of span spans in
+    length-append (at_span text span) (concat (map (at_span text) spans)) ∙ omega (arith, first, rest, sum)

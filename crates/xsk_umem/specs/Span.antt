@@ -5,6 +5,9 @@ use Rattle.xsk_umem.specs.declared.packet_list.Span.{Span}
 abbrev pub at_span : List ℕ → Span → List ℕ
 at_span text span = take span.len (drop span.start text)
 
+abbrev pub len_of : Span → ℕ
+len_of span = span.len
+
 abbrev pub IsWithin : List ℕ → Span → Type 0
 IsWithin text span = span.start + span.len ≤ length text
 

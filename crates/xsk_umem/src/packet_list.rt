@@ -1,7 +1,8 @@
 //! Lists of packets, as spans of one text.
-ghost use Rattle.std.specs.Prelude.{◌≡◌, ◌+◌, ◌<◌, ◌≤◌, ◌^◌, List, [], ◌∷◌, ◌++◌, length, map, Some, slice_get, ◌↔◌, IsTrue, OnOk, OnErr};
+ghost use Rattle.std.specs.Prelude.{◌≡◌, ◌+◌, ◌<◌, ◌≤◌, ◌^◌, List, [], ◌∷◌, ◌++◌, length, map, sum_by, Some, slice_get, ◌↔◌, IsTrue, OnOk, OnErr};
+ghost use Rattle.std.specs.List.{concat};
 ghost use Rattle.xsk_umem.specs.PacketList.{PacketList as Packets, with_last_extended};
-ghost use Rattle.xsk_umem.specs.Span.{at_span, AreInText, end_of};
+ghost use Rattle.xsk_umem.specs.Span.{at_span, len_of, AreInText, end_of};
 
 use crate::OutOfMemory;
 use std::alloc::Global;
@@ -112,6 +113,13 @@ impl PacketList {
         self.spans.is_empty()
     }
 
+    /// The number of bytes of all packets.
+    pub fn bytes(&self) -> u64
+        ensures { result ≡ length (concat self.now.packets) }
+    {
+        total(self.spans.as_slice())
+    }
+
     /// The bytes of packet `i`, counted from 0.
     pub fn get(&self, i: u32) -> &[u8]
         requires { i < length self.now.packets }
@@ -153,10 +161,12 @@ impl PacketList {
         self.spare_bytes -= bytes.len() as u64;
     }
 
-    /// Appends a packet. Where memory can't be had the packets stay as they were. Each room falls by no more than it takes.
+    /// Appends a packet. Where memory can't be had the packets stay as they were, and no room gets smaller. Otherwise
+    /// each room falls by no more than the packet takes.
     pub fn push(&mut self, bytes: &[u8]) -> Result<(), OutOfMemory>
         ensures pushed { OnOk result (self.new.packets ≡ self.old.packets ++ bytes.now ∷ []) }
         ensures refused { OnErr result (self.new.packets ≡ self.old.packets) }
+        ensures kept { OnErr result ((self.old.spare_packets ≤ self.new.spare_packets) × (self.old.spare_bytes ≤ self.new.spare_bytes)) }
         ensures spare_packets { self.old.spare_packets ≤ self.new.spare_packets + 1 }
         ensures spare_bytes { self.old.spare_bytes ≤ self.new.spare_bytes + length bytes.now }
     {
@@ -177,4 +187,16 @@ fn end(spans: &[Span]) -> usize
     }
     let last = spans[spans.len() - 1];
     last.start + last.len
+}
+
+/// The bytes of all spans.
+fn total(spans: &[Span]) -> u64
+    requires { sum_by len_of spans.now < 2 ^ 64 }
+    ensures { result ≡ sum_by len_of spans.now }
+{
+    let mut total = 0;
+    for span in spans {
+        total += span.len as u64;
+    }
+    total
 }

@@ -91,6 +91,7 @@ fn packets_are_kept_whole(rt: HostRuntime) -> Result<(), Fail> {
     list.push_reserved(b"th");
     list.extend_last(b"ree");
     assert!(rt; list.len() == 3);
+    assert!(rt; list.bytes() == 8);
     assert_eq!(rt; list.get(0), b"one".as_slice());
     assert_eq!(rt; list.get(1), b"".as_slice());
     assert_eq!(rt; list.get(2), b"three".as_slice());
