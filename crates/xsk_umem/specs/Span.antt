@@ -1,6 +1,7 @@
 -- The packets of a list, as parts of a text.
-use Rattle.std.specs.Prelude.{◌≡◌, ℕ, ◌+◌, ◌≤◌, All, List, [], ◌∷◌, length, take, drop}
+use Rattle.std.specs.Prelude.{◌≡◌, ℕ, ◌+◌, ◌≤◌, All, Option, Some, None, List, [], ◌∷◌, length, take, drop}
 use Rattle.xsk_umem.specs.declared.packet_list.Span.{Span}
+use Rattle.xsk_umem.specs.declared.packet_list.Gaps.{Gaps}
 
 abbrev pub at_span : List ℕ → Span → List ℕ
 at_span text span = take span.len (drop span.start text)
@@ -11,11 +12,10 @@ len_of span = span.len
 abbrev pub IsWithin : List ℕ → Span → Type 0
 IsWithin text span = span.start + span.len ≤ length text
 
--- where the last span ends
-abbrev pub end_of : List Span → ℕ
-end_of [] = 0
-end_of (span ∷ []) = span.start + span.len
-end_of (span ∷ next ∷ spans) = end_of (next ∷ spans)
+-- where the last span ends, and the place itself where there is none
+abbrev pub end_of : ℕ → List Span → ℕ
+end_of from [] = from
+end_of from (span ∷ spans) = end_of (span.start + span.len) spans
 
 -- each span begins behind the place, and behind the end of the one before it
 abbrev pub AreFrom : ℕ → List Span → Type 0
@@ -27,8 +27,34 @@ pub record AreInText (text : List ℕ) (spans : List Span) : Type 0 where
   pub within : All (IsWithin text) spans
   pub apart : AreFrom 0 spans
 
--- and the last ends with it
-pub record AreSpans (text : List ℕ) (spans : List Span) : Type 0 where
+-- spans in order and apart from a place on, of which the last ends with the text
+pub record AreSpans (from : ℕ) (text : List ℕ) (spans : List Span) : Type 0 where
   pub within : All (IsWithin text) spans
-  pub apart : AreFrom 0 spans
-  pub end : end_of spans ≡ length text
+  pub apart : AreFrom from spans
+  pub end : end_of from spans ≡ length text
+
+-- ---- gaps
+
+-- the spans of packets that stand one behind the other from a place on, each behind a gap
+abbrev pub spans_from : ℕ → ℕ → List (List ℕ) → List Span
+spans_from from gap [] = []
+spans_from from gap (packet ∷ packets) = (record { start = from + gap; len = length packet }) ∷ spans_from (from + gap + length packet) gap packets
+
+-- spans that stand so
+abbrev pub AreSpaced : ℕ → ℕ → List Span → Type 0
+AreSpaced from gap [] = Unit {0}
+AreSpaced from gap (span ∷ spans) = (span.start ≡ from + gap) × AreSpaced (span.start + span.len) gap spans
+
+-- the further gap before the first packet and the gap before each, none where spans were handed in
+abbrev pub first_gap : Option Gaps → ℕ
+first_gap None = 0
+first_gap (Some gaps) = gaps.first
+
+abbrev pub gap_before : Option Gaps → ℕ
+gap_before None = 0
+gap_before (Some gaps) = gaps.before_each
+
+-- spans with these gaps; those that were handed in may stand anywhere
+abbrev pub HaveGaps : Option Gaps → List Span → Type 0
+HaveGaps None spans = Unit {0}
+HaveGaps (Some gaps) spans = AreSpaced gaps.first gaps.before_each spans

@@ -13,7 +13,7 @@ pub use batch::{Batch, Item, XdpDesc};
 pub use frame::{Frame, Frames};
 pub use geometry::Geometry;
 pub use memory::OutOfMemory;
-pub use packet_list::{PacketList, Span};
+pub use packet_list::{Gaps, PacketList, Parts, Span};
 pub use umem::{Umem, UmemError};
 
 #[cfg(test)]

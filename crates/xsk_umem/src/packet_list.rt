@@ -1,8 +1,9 @@
 //! Lists of packets, as spans of one text.
-ghost use Rattle.std.specs.Prelude.{◌≡◌, ◌+◌, ◌<◌, ◌≤◌, ◌^◌, List, [], ◌∷◌, ◌++◌, length, map, sum_by, Some, slice_get, ◌↔◌, IsTrue, OnOk, OnErr};
+ghost use Rattle.std.specs.Prelude.{◌≡◌, ◌+◌, ◌<◌, ◌≤◌, ◌^◌, List, [], ◌∷◌, ◌++◌, length, map, replicate, sum_by, Some, slice_get, ◌↔◌, IsTrue, IfOk, OnOk, OnErr, vec_len, vec_capacity};
 ghost use Rattle.std.specs.List.{concat};
+ghost use Rattle.xsk_umem.specs.declared.packet_list.Gaps.{Gaps};
 ghost use Rattle.xsk_umem.specs.PacketList.{PacketList as Packets, with_last_extended};
-ghost use Rattle.xsk_umem.specs.Span.{at_span, len_of, AreInText, end_of};
+ghost use Rattle.xsk_umem.specs.Span.{at_span, len_of, AreInText, end_of, spans_from, first_gap, gap_before};
 
 use crate::OutOfMemory;
 use std::alloc::Global;
@@ -17,28 +18,55 @@ pub struct Span {
     pub len: usize,
 }
 
+/// The bytes that a list keeps free in its text, for what is written there later.
+#[derive(Clone, Copy, Debug, PartialEq, Eq)]
+pub struct Gaps {
+    /// The bytes before the gap of the first packet.
+    pub first: u32,
+    /// The bytes before each packet.
+    pub before_each: u32,
+}
+
+/// What a list is made of.
+#[derive(Debug, Drop)]
+pub struct Parts {
+    /// The text in which the packets stand.
+    pub text: Vec<u8>,
+    /// Where they stand in it.
+    pub spans: Vec<Span>,
+    /// The gaps between them. None where the list was made of spans, which may stand anywhere.
+    pub gaps: Option<Gaps>,
+}
+
+const NO_GAPS: Gaps = Gaps {
+    first: 0,
+    before_each: 0,
+};
+
 /// Packets in order, each a string of bytes. The packets and bytes for which room is reserved are numbers of their own.
 #[derive(Debug, Drop)]
 pub struct PacketList {
     text: Vec<u8>,
     spans: Vec<Span>,
+    gaps: Option<Gaps>,
     spare_packets: u32,
     spare_bytes: u64,
 }
 
 impl Model for PacketList {
-    ghost use Rattle.std.specs.Prelude.{◌+◌, ◌<◌, ◌≤◌, ◌^◌, map, vec_len, vec_capacity};
+    ghost use Rattle.std.specs.Prelude.{◌+◌, ◌*◌, ◌<◌, ◌≤◌, ◌^◌, map, vec_len, vec_capacity};
     ghost use Rattle.xsk_umem.specs.PacketList.{PacketList as Packets};
 
     ghost Value = { Packets };
 
-    ghost use Rattle.xsk_umem.specs.Span.{at_span, AreSpans};
+    ghost use Rattle.xsk_umem.specs.Span.{at_span, AreSpans, HaveGaps, first_gap, gap_before};
 
     ghost view = { λ p. record { packets = map (at_span p.text.items) p.spans.items; spare_packets = p.spare_packets; spare_bytes = p.spare_bytes } };
 
-    ghost invariant = { λ p. AreSpans p.text.items p.spans.items
+    ghost invariant = { λ p. AreSpans (first_gap p.gaps) p.text.items p.spans.items
+        × HaveGaps p.gaps p.spans.items
         × (vec_len p.spans + p.spare_packets ≤ vec_capacity p.spans)
-        × (vec_len p.text + p.spare_bytes ≤ vec_capacity p.text)
+        × (vec_len p.text + (p.spare_packets * gap_before p.gaps + p.spare_bytes) ≤ vec_capacity p.text)
         × (vec_len p.spans + p.spare_packets < 2 ^ 32) };
 }
 
@@ -50,9 +78,25 @@ impl PacketList {
         PacketList {
             text: Vec::new(alloc),
             spans: Vec::new(alloc),
+            gaps: Some(NO_GAPS),
             spare_packets: 0,
             spare_bytes: 0,
         }
+    }
+
+    /// An empty list that keeps gaps in its text.
+    pub fn with_gaps(alloc: Global, gaps: Gaps) -> Result<PacketList, OutOfMemory>
+        ensures { IfOk result (λ list. list ≡ record { packets = []; spare_packets = 0; spare_bytes = 0 }) }
+    {
+        let mut text = Vec::with_capacity(alloc, gaps.first as usize)?;
+        append_gap(&mut text, gaps.first);
+        Ok(PacketList {
+            text,
+            spans: Vec::new(alloc),
+            gaps: Some(gaps),
+            spare_packets: 0,
+            spare_bytes: 0,
+        })
     }
 
     /// A list of the packets that stand in a text, each as a span of it, with no room reserved. The spans must be in
@@ -67,20 +111,28 @@ impl PacketList {
         PacketList {
             text,
             spans,
+            gaps: None,
             spare_packets: 0,
             spare_bytes: 0,
         }
     }
 
-    /// A text in which the packets stand, and their spans, in order and apart. It takes no memory.
-    pub fn into_parts(self) -> (Vec<u8>, Vec<Span>)
-        ensures packets { map (at_span result.0.items) result.1.items ≡ self.packets }
-        ensures spans { AreInText result.0.items result.1.items }
+    /// What the list is made of: a text that ends with the last packet, or with the first gap where there is none, and the
+    /// packets' spans, in order and apart, which the gaps tell exactly. It takes no memory.
+    pub fn into_parts(self) -> Parts
+        ensures packets { map (at_span result.text.items) result.spans.items ≡ self.packets }
+        ensures spans { AreInText result.text.items result.spans.items }
+        ensures end { end_of (first_gap result.gaps) result.spans.items ≡ length result.text.items }
+        ensures gaps { (gaps : Gaps) → result.gaps ≡ Some gaps → result.spans.items ≡ spans_from gaps.first gaps.before_each self.packets }
     {
-        (self.text, self.spans)
+        Parts {
+            text: self.text,
+            spans: self.spans,
+            gaps: self.gaps,
+        }
     }
 
-    /// Makes room for at least so many further packets and bytes. The room never gets smaller by it.
+    /// Makes room for at least so many further packets with their gaps, and bytes. The room never gets smaller by it.
     pub fn reserve(&mut self, packets: u32, bytes: u32) -> Result<(), OutOfMemory>
         ensures packets { self.new.packets ≡ self.old.packets }
         ensures room { OnOk result ((packets ≤ self.new.spare_packets) × (bytes ≤ self.new.spare_bytes)) }
@@ -91,8 +143,12 @@ impl PacketList {
         if u64::from(packets) + self.spans.len() as u64 > u64::from(u32::MAX) {
             return Err(OutOfMemory);
         }
+        let gaps = u64::from(packets) * u64::from(before_each(self.gaps));
+        let Some(room) = gaps.checked_add(bytes) else {
+            return Err(OutOfMemory);
+        };
         self.spans.reserve(packets as usize)?;
-        self.text.reserve(bytes as usize)?;
+        self.text.reserve(room as usize)?;
         self.spare_packets = packets;
         self.spare_bytes = bytes;
         Ok(())
@@ -137,6 +193,7 @@ impl PacketList {
         ensures spare_packets { self.new.spare_packets + 1 ≡ self.old.spare_packets }
         ensures spare_bytes { self.new.spare_bytes + length bytes.now ≡ self.old.spare_bytes }
     {
+        append_gap(&mut self.text, before_each(self.gaps));
         let start = self.text.len();
         self.text.extend_from_slice(bytes).unwrap();
         self.spans.push_reserved(Span {
@@ -177,10 +234,32 @@ impl PacketList {
     }
 }
 
+/// The bytes of the gap before each packet.
+fn before_each(gaps: Option<Gaps>) -> u32
+    ensures { result ≡ gap_before gaps }
+{
+    match gaps {
+        Some(gaps) => gaps.before_each,
+        None => 0,
+    }
+}
+
+/// Appends so many zero bytes, for which there must be room.
+fn append_gap(text: &mut Vec<u8>, gap: u32)
+    requires { vec_len text.old + gap ≤ vec_capacity text.old }
+    ensures items { text.new.items ≡ text.old.items ++ replicate gap 0 }
+    ensures len { vec_len text.new ≡ vec_len text.old + gap }
+    ensures capacity { vec_capacity text.new ≡ vec_capacity text.old }
+{
+    for _ in 0..gap {
+        text.push_reserved(0);
+    }
+}
+
 /// Where the last span ends, and 0 where there is none.
 fn end(spans: &[Span]) -> usize
-    requires { end_of spans.now < 2 ^ 64 }
-    ensures { result ≡ end_of spans.now }
+    requires { end_of 0 spans.now < 2 ^ 64 }
+    ensures { result ≡ end_of 0 spans.now }
 {
     if spans.is_empty() {
         return 0;

@@ -97,3 +97,32 @@ fn packets_are_kept_whole(rt: HostRuntime) -> Result<(), Fail> {
     assert_eq!(rt; list.get(2), b"three".as_slice());
     Ok(())
 }
+
+#[test]
+fn a_list_keeps_the_gaps_that_it_was_made_with(rt: HostRuntime) -> Result<(), Fail> {
+    let gaps = Gaps {
+        first: 24,
+        before_each: 16,
+    };
+    let mut list = PacketList::with_gaps(rt.alloc(), gaps)?;
+    list.reserve(2, 6)?;
+    list.push_reserved(b"one");
+    list.push_reserved(b"t");
+    list.extend_last(b"wo");
+    list.push(b"")?;
+    assert!(rt; list.bytes() == 6);
+    let parts = list.into_parts();
+    assert!(rt; parts.gaps == Some(gaps));
+    assert!(rt; parts.text.len() == 78);
+    let starts = [
+        parts.spans[0].start,
+        parts.spans[1].start,
+        parts.spans[2].start,
+    ];
+    assert_eq!(rt; starts, [40, 59, 78]);
+    assert_eq!(rt; &parts.text[40..43], b"one".as_slice());
+    assert_eq!(rt; &parts.text[59..62], b"two".as_slice());
+    let of_spans = PacketList::of_spans(parts.text, parts.spans).into_parts();
+    assert!(rt; of_spans.gaps.is_none());
+    Ok(())
+}

@@ -2,13 +2,13 @@ use Rattle.std.proofs.Common.{◌≡◌, ◌<◌, ◌≤◌, length, sym, ap, ar
 use Rattle.std.specs.Prelude.{sum_by}
 use Rattle.std.specs.List.{concat}
 use Rattle.xsk_umem.specs.PacketList.{PacketList}
-use Rattle.xsk_umem.specs.Span.{len_of}
+use Rattle.xsk_umem.specs.Span.{len_of, first_gap}
 use Rattle.xsk_umem.proofs.Spans.{length-packets, sum_within}
 use Rattle.xsk_umem.proofs.packet_list.PacketList.bytes.Goals as goal
 
 pub total-requires : goal.total-requires
 total-requires c =
-    let within : sum_by len_of c.self.inside.spans.items ≤ length c.self.inside.text.items = sum_within c.self.inside.text.items c.self.inside.spans.items c.self.invariant.0.apart c.self.invariant.0.within in
+    let within : sum_by len_of c.self.inside.spans.items ≤ length c.self.inside.text.items = sum_within (first_gap c.self.inside.gaps) c.self.inside.text.items c.self.inside.spans.items c.self.invariant.0 in
     let few : length c.self.inside.text.items < 18446744073709551616 = search rules in
     rw c.as_slice.ensures.value (omega (arith, within, few))
 
