@@ -1,3 +1,4 @@
+pub mod AskTheorems
 pub mod Maps
 pub mod Least
 pub mod LayoutLaws

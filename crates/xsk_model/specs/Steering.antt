@@ -1,7 +1,7 @@
 -- Where packets go, by their bytes and by the numbers of a configuration. That a sum of a packet's first bytes chooses its
 -- queue and its class is this project's own: it stands for the hash by which a device spreads packets over its queues, and
 -- for a program's choice of a socket. So are the pairs of ports.
-use Rattle.std.specs.Prelude.{ℕ, ◌+◌, ◌-◌, ◌*◌, ◌%◌, ◌==◌, if◌then◌else◌, List, take, sum}
+use Rattle.std.specs.Prelude.{ℕ, ◌+◌, ◌-◌, ◌*◌, ◌/◌, ◌%◌, ◌==◌, if◌then◌else◌, List, take, sum}
 use Rattle.xsk_umem.specs.Geometry.{payload_of}
 use Rattle.xsk_model.specs.Config.{Config, classes_of}
 
@@ -36,3 +36,13 @@ driver_on c port queue = port * c.queues + queue
 
 abbrev pub socket_on : Config → ℕ → ℕ → ℕ → ℕ
 socket_on c port queue class = driver_on c port queue * classes_of c + class
+
+-- ---- applications
+
+-- the ports of an application, one on each of its sides, and its queue: applications are numbered by pairs of ports, and
+-- then by queue
+abbrev pub port_on : Config → ℕ → ℕ → ℕ
+port_on c app side = 2 * (app / c.queues) + side
+
+abbrev pub queue_on : Config → ℕ → ℕ
+queue_on c app = app % c.queues

@@ -1,6 +1,7 @@
 //! Calls and replies without their items, which stand in a batch beside them.
 ghost use Rattle.std.specs.Prelude.{◌≡◌, []};
-ghost use Rattle.xsk_model.specs.Asks.{joined_call, joined_reply, HasAsked, HasAnswered};
+ghost use Rattle.xsk_model.specs.Asks.{joined_call, joined_reply, ask_of, answer_of, HasAsked, HasAnswered};
+ghost use Rattle.xsk_model.specs.Object.{submitted, taken};
 
 use crate::call::{Call, Mark, Reply, Ring};
 use xsk_umem::Batch;
@@ -45,6 +46,8 @@ impl Call {
     /// The call without its items, which are put into the batch. It must be empty, and stays so unless the call is a Submit.
     pub fn split(self, items: &mut Batch) -> Ask
         requires { items.old ≡ [] }
+        ensures ask { result ≡ ask_of self }
+        ensures submitted { items.new ≡ submitted self }
         ensures call { joined_call result items.new ≡ self }
         ensures items { HasAsked result items.new }
     {
@@ -83,6 +86,8 @@ impl Reply {
     /// The reply without its items, which are put into the batch. It must be empty, and stays so unless items were taken.
     pub fn split(self, items: &mut Batch) -> Answer
         requires { items.old ≡ [] }
+        ensures answer { result ≡ answer_of self }
+        ensures taken { items.new ≡ taken self }
         ensures reply { joined_reply result items.new ≡ self }
         ensures items { HasAnswered result items.new }
     {

@@ -1,10 +1,12 @@
-//! The laws of the object, each the contract of a function that does nothing. They are stated in `specs/Laws.antt`.
+//! The laws of the object, each the contract of a function that does nothing. They are stated in `specs/Laws.antt`,
+//! and those of calls and replies without their items in `specs/Asks.antt`.
 
 ghost use Rattle.xsk_model.specs.Laws.{OneHolder, FramesByOwn, HadAndDistinct, InOrder, PeekInOrder, PartsByOwn, ItemsByOwn, WithinSize, LawfulItems, FittingReplies, FittingGifts, OwnEntries, WithinRing, CountsAgree, FewInRings, OneCompletion, SentInOrder, MarkNumbers, OwnPlaces, OwnMarkPlaces, TwoOwners, LeavesOthers, LeavesFolds};
 ghost use Rattle.xsk_model.specs.Laws.{FramesStay, FramesApart, FramesBelow, SubmitsOwn, OpeningIs, HeldAndOut, CountsGrow, PeekFinds, ReserveFinds};
 ghost use Rattle.xsk_model.specs.Laws.{LastIsGift, OneMore, CallersExist, LegalSwaps, MarksAfter, LeavesState, ChangesState};
 ghost use Rattle.xsk_model.specs.Laws.{FewMoved, FromFill, ExactCompletion, BodiesDontMatter};
 ghost use Rattle.xsk_model.specs.Laws.{ShapesDecide};
+ghost use Rattle.xsk_model.specs.Asks.{CallsSplit, AsksJoin, RepliesSplit, AnswersJoin};
 
 /// After each prefix of a history each frame has one holder: a caller that has it, or a ring in which it is out.
 pub fn one_holder()
@@ -224,4 +226,24 @@ pub fn bodies_dont_matter()
 /// Which items are a packet's layout is said by their frames, addresses, lengths and options alone.
 pub fn shapes_decide()
     ensures { ShapesDecide }
+{}
+
+/// A call is its form without items, joined with the items that it submits.
+pub fn calls_split()
+    ensures { CallsSplit }
+{}
+
+/// An ask that is joined with items splits to the ask, and to the items exactly where it has such beside it.
+pub fn asks_join()
+    ensures { AsksJoin }
+{}
+
+/// A reply is its form without items, joined with the items that were taken.
+pub fn replies_split()
+    ensures { RepliesSplit }
+{}
+
+/// An answer that is joined with items splits to the answer, and to the items exactly where it has such beside it.
+pub fn answers_join()
+    ensures { AnswersJoin }
 {}

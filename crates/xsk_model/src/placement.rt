@@ -2,8 +2,9 @@
 ghost use Rattle.std.specs.Prelude.{◌≡◌, ◌-◌, ◌*◌, ◌<◌, ◌≤◌, ◌↔◌, IsTrue};
 ghost use Rattle.xsk_model.specs.Config.{HasRing};
 ghost use Rattle.xsk_model.specs.Rings.{place, places_of};
-ghost use Rattle.xsk_model.specs.Marks.{HasMark, apps_of, mark_place as place_of_mark, mark_places_of};
+ghost use Rattle.xsk_model.specs.Marks.{HasMark, mark_place as place_of_mark, mark_places_of};
 
+use crate::steering::applications;
 use crate::{Config, Mark, Ring};
 
 /// The places for rings: FILL by pair, COMPLETION by pair, RX by socket and TX by socket.
@@ -55,14 +56,7 @@ pub const CELLS: u32 = 64;
 pub fn first_cell(config: &Config) -> usize
     ensures { result ≡ mark_places_of config.now - 64 * config.now.ports }
 {
-    4 * config.pairs().len() + config.sockets().len() + applications(config)
-}
-
-fn applications(config: &Config) -> usize
-    ensures value { result ≡ apps_of config.now }
-    ensures few { result ≤ 8 }
-{
-    (config.ports() / 2) as usize * config.queues() as usize
+    4 * config.pairs().len() + config.sockets().len() + applications(config) as usize
 }
 
 /// The place of a mark among all marks. What the mark belongs to must exist.
@@ -96,7 +90,7 @@ pub fn has_mark(config: &Config, mark: Mark) -> bool
         Mark::NeedFill(pair) | Mark::Kick(pair) | Mark::RxDone(pair) | Mark::Gone(pair) => {
             (pair as usize) < pairs
         }
-        Mark::TxDone(app) => (app as usize) < applications(config),
+        Mark::TxDone(app) => app < applications(config),
         Mark::Cell(port, index) => port < config.ports() && index < config.cells(port),
     }
 }

@@ -1,7 +1,11 @@
-//! Where a packet goes: its queue, class and cell, and the most bytes that it may have.
+//! Where a packet goes: its queue, class and cell, the most bytes that it may have, and the numbers of those who move it.
 ghost use Rattle.std.specs.Prelude.{◌≡◌, ◌+◌, ◌*◌, ◌^◌, ◌<◌, ◌≤◌, length, sum};
 ghost use Rattle.xsk_umem.specs.Geometry.{payload_of};
-ghost use Rattle.xsk_model.specs.Steering.{packet_queue as queue_of_packet, packet_class as class_of_packet, packet_cell as cell_of_packet, packet_limit as limit_of_packet, paired_port as port_paired};
+ghost use Rattle.xsk_model.specs.Steering.{packet_queue as queue_of_packet, packet_class as class_of_packet, packet_cell as cell_of_packet, packet_limit as limit_of_packet, paired_port as port_paired, driver_on as driver_of_queue, socket_on as socket_of_class, port_on as port_of_side, queue_on as queue_of_app};
+ghost use Rattle.xsk_model.specs.Config.{IsLawful, IsRegular, classes_of, pool_of};
+ghost use Rattle.xsk_model.specs.Homes.{home_pair as home_of_frame};
+ghost use Rattle.xsk_model.specs.Marks.{apps_of};
+ghost use Rattle.xsk_model.specs.Rings.{application_on as application_of_queue};
 
 use crate::Config;
 
@@ -60,6 +64,75 @@ pub fn paired_port(port: u32) -> u32
     ensures { result ≡ port_paired port }
 {
     if port % 2 == 0 { port + 1 } else { port - 1 }
+}
+
+/// The driver of a port's queue in a regular configuration, where pairs are numbered port by port. Both must exist.
+pub fn driver_on(config: &Config, port: u32, queue: u32) -> u32
+    requires port { port < config.now.ports }
+    requires queue { queue < config.now.queues }
+    ensures value { result ≡ driver_of_queue config.now port queue }
+    ensures few { result < 16 }
+{
+    let _ports = config.ports();
+    port * config.queues() + queue
+}
+
+/// The socket of a class of a port's queue in a regular configuration, where sockets are numbered pair by pair. All
+/// three must exist.
+pub fn socket_on(config: &Config, port: u32, queue: u32, class: u32) -> u32
+    requires port { port < config.now.ports }
+    requires queue { queue < config.now.queues }
+    requires class { class < classes_of config.now }
+    ensures { result ≡ socket_of_class config.now port queue class }
+{
+    let classes = config.sockets().len() as u32 / config.pairs().len() as u32;
+    driver_on(config, port, queue) * classes + class
+}
+
+/// The number of applications: one for each queue of two paired ports.
+pub fn applications(config: &Config) -> u32
+    ensures value { result ≡ apps_of config.now }
+    ensures few { result ≤ 8 }
+{
+    (config.ports() / 2) * config.queues()
+}
+
+/// The application of a port's queue, which it has with the paired port's. Both must exist.
+pub fn application_on(config: &Config, port: u32, queue: u32) -> u32
+    requires port { port < config.now.ports }
+    requires queue { queue < config.now.queues }
+    ensures value { result ≡ application_of_queue config.now port queue }
+    ensures exists { result < apps_of config.now }
+{
+    let _ports = config.ports();
+    (port / 2) * config.queues() + queue
+}
+
+/// The port on a side, 0 or 1, of an application, which must exist.
+pub fn port_on(config: &Config, app: u32, side: u32) -> u32
+    requires app { app < apps_of config.now }
+    requires side { side < 2 }
+    ensures value { result ≡ port_of_side config.now app side }
+    ensures exists { result < config.now.ports }
+{
+    let _ports = config.ports();
+    2 * (app / config.queues()) + side
+}
+
+/// The queue of an application.
+pub fn queue_on(config: &Config, app: u32) -> u32
+    ensures value { result ≡ queue_of_app config.now app }
+    ensures exists { result < config.now.queues }
+{
+    app % config.queues()
+}
+
+/// The pair in whose pool a frame is at home. The configuration must be lawful.
+pub fn home_pair(config: &Config, frame: u32) -> u32
+    requires { IsLawful config.now }
+    ensures { result ≡ home_of_frame config.now frame }
+{
+    frame / config.pool()
 }
 
 fn sum_of(bytes: &[u8]) -> u32
