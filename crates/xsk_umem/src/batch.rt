@@ -65,7 +65,7 @@ impl Batch {
     /// The number of items, 0 to 32.
     pub fn len(&self) -> u32
         ensures value { result ≡ length self.now }
-        ensures few { length self.now ≤ 32 }
+        ensures few { length self.now ≤ MOST_ITEMS }
     {
         let items = self.len;
         items as u32
@@ -80,7 +80,7 @@ impl Batch {
 
     /// Appends an item. Fewer than 32 must stand in the batch.
     pub fn push(&mut self, item: Item)
-        requires { length self.old < 32 }
+        requires { length self.old < MOST_ITEMS }
         ensures { self.new ≡ self.old ++ item ∷ [] }
     {
         let end = (self.head + self.len) % MOST_ITEMS;
@@ -105,7 +105,7 @@ impl Batch {
 
     /// Moves all items of another batch to the end of this one, which must have room for them.
     pub fn append(&mut self, other: &mut Batch)
-        requires { length self.old + length other.old ≤ 32 }
+        requires { length self.old + length other.old ≤ MOST_ITEMS }
         ensures items { self.new ≡ self.old ++ other.old }
         ensures other { other.new ≡ [] }
     {

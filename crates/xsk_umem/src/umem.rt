@@ -77,7 +77,7 @@ impl Umem {
     }
 
     fn fresh(alloc: Global, count: u32, chunk: u32) -> Result<Frames, OutOfMemory>
-        requires count { count ≤ 4096 }
+        requires count { count ≤ MOST_FRAMES }
         requires chunk { IsChunkSize chunk }
         ensures { IfOk result (λ frames. frames ≡ record { items = fresh chunk count; limit = count }) }
     {
