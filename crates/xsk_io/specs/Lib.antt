@@ -1,3 +1,4 @@
 pub mod Bay
 pub mod Memory
 pub mod Files
+pub mod Failing

@@ -3,6 +3,7 @@ ghost use Rattle.std.specs.Prelude.{◌≡◌, ◌≢◌, ℕ, ◌+◌, ◌-◌,
 ghost use Rattle.xsk_io.specs.Bay.{HasNumber, SameBut};
 ghost use Rattle.xsk_io.specs.Files.{StreamCounts, FilesState, no_counts, no_files, count_of, is_file_open, file_faults};
 
+use crate::counts::Counts;
 use crate::{Bay, BayFailed, Stream};
 use std::io::{ErrorKind, Read, Write};
 use std::marker::Model;
@@ -152,73 +153,6 @@ fn write_again<F: Write>(file: &mut F, piece: &[u8]) -> Result<usize, BayFailed>
         }
     }
     Err(BayFailed)
-}
-
-/// The faults of one kind of call, by stream.
-#[derive(Drop)]
-struct Counts {
-    inputs: [u64; 4],
-    outputs: [u64; 4],
-    report: u64,
-}
-
-impl Model for Counts {
-    ghost use Rattle.xsk_io.specs.Files.{StreamCounts};
-
-    ghost Value = { StreamCounts };
-
-    ghost view = { λ c. record { inputs = c.inputs; outputs = c.outputs; report = c.report } };
-}
-
-impl Counts {
-    fn new() -> Counts
-        ensures { result ≡ no_counts }
-    {
-        Counts {
-            inputs: [0; 4],
-            outputs: [0; 4],
-            report: 0,
-        }
-    }
-
-    /// Counts the call if it failed. A count at its last value stays there.
-    fn note<T>(&mut self, stream: Stream, outcome: Result<T, BayFailed>) -> Result<T, BayFailed>
-        requires { HasNumber stream }
-        ensures outcome { result ≡ outcome }
-        ensures ok { OnOk result (self.new ≡ self.old) }
-        ensures risen { OnErr result
-            (count_of self.new stream ≡ min (count_of self.old stream + 1) (2 ^ 64 - 1)) }
-        ensures never_falls { count_of self.old stream ≤ count_of self.new stream }
-        ensures others { SameBut stream (count_of self.old) (count_of self.new) }
-    {
-        if outcome.is_err() {
-            self.raise(stream);
-        }
-        outcome
-    }
-
-    fn raise(&mut self, stream: Stream)
-        requires { HasNumber stream }
-        ensures risen { count_of self.new stream ≡ min (count_of self.old stream + 1) (2 ^ 64 - 1) }
-        ensures never_falls { count_of self.old stream ≤ count_of self.new stream }
-        ensures others { SameBut stream (count_of self.old) (count_of self.new) }
-    {
-        match stream {
-            Stream::Input(number) => raise_at(&mut self.inputs, number as usize),
-            Stream::Output(number) => raise_at(&mut self.outputs, number as usize),
-            Stream::Report => self.report = self.report.saturating_add(1),
-        }
-    }
-}
-
-fn raise_at(counts: &mut [u64], place: usize)
-    requires { place < length counts.old }
-    ensures risen { slice_index counts.new place ≡ min (slice_index counts.old place + 1) (2 ^ 64 - 1) }
-    ensures never_falls { slice_index counts.old place ≤ slice_index counts.new place }
-    ensures others { (other : ℕ) → other ≢ place
-        → slice_index counts.new other ≡ slice_index counts.old other }
-{
-    counts[place] = counts[place].saturating_add(1);
 }
 
 /// The bay over real files and the standard output, which is the report.

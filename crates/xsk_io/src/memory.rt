@@ -5,6 +5,7 @@ ghost use Rattle.std.specs.Option.{option_map};
 ghost use Rattle.xsk_io.specs.Bay.{HasNumber, IsInput, TakesWrites};
 ghost use Rattle.xsk_io.specs.declared.bay.Stream.{Stream};
 ghost use Rattle.xsk_io.specs.Memory.{InputState, OutputState, MemoryState, HasStreams, new_input, new_output, new_memory, left_of, held_of, told_name, opened_input, opened_output, read_input, written_output, after_open, after_read, after_write};
+ghost use Rattle.xsk_io.specs.Failing.{after_refusal};
 
 use crate::Stream;
 use std::alloc::{AllocError, Global};
@@ -86,6 +87,12 @@ impl Source {
         }
     }
 
+    fn refuse(&mut self, name: &str)
+        ensures { self.new ≡ record self.old { asked = told_name name.now } }
+    {
+        self.asked.keep(name);
+    }
+
     fn open(&mut self, name: &str)
         ensures { self.new ≡ opened_input self.old name.now }
     {
@@ -143,6 +150,12 @@ impl Sink {
             room,
             is_told: true,
         })
+    }
+
+    fn refuse(&mut self, name: &str)
+        ensures { self.new ≡ record self.old { asked = told_name name.now } }
+    {
+        self.asked.keep(name);
     }
 
     fn open(&mut self, name: &str)
@@ -233,6 +246,26 @@ impl Memory {
             Stream::Output(number) => {
                 let output = &mut self.outputs[number as usize];
                 output.open(name);
+            }
+            Stream::Report => unreachable!(),
+        }
+    }
+
+    /// Keeps the name of an open that fails.
+    pub(crate) fn refuse(&mut self, stream: Stream, name: &str)
+        requires numbered { HasNumber stream }
+        requires not_report { stream ≢ Stream.Report }
+        ensures streams { HasStreams self.old }
+        ensures after { self.new ≡ after_refusal self.old stream name.now }
+    {
+        match stream {
+            Stream::Input(number) => {
+                let input = &mut self.inputs[number as usize];
+                input.refuse(name);
+            }
+            Stream::Output(number) => {
+                let output = &mut self.outputs[number as usize];
+                output.refuse(name);
             }
             Stream::Report => unreachable!(),
         }

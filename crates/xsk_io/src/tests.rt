@@ -1,11 +1,11 @@
 //! Tests of streams in memory and in files.
-ghost use Rattle.std.specs.Prelude.{◌≡◌, false, IfSome, OnOk};
+ghost use Rattle.std.specs.Prelude.{◌≡◌, ◌≤◌, false, IfSome, OnOk};
 ghost use Rattle.xsk_io.specs.declared.bay.Stream.{Stream};
 
 use super::*;
 use std::alloc::Global;
 use std::fs;
-use std::test::Fail;
+use std::test::Fail as TestFail;
 
 /// Copies an input to an output, over any bay.
 fn copy<B: Bay>(
@@ -27,7 +27,7 @@ fn copy<B: Bay>(
 }
 
 /// What a copy leaves in memory that has room for four bytes.
-fn copied(alloc: Global, text: &[u8]) -> Result<Option<Vec<u8>>, Fail> {
+fn copied(alloc: Global, text: &[u8]) -> Result<Option<Vec<u8>>, TestFail> {
     let mut bay = SteadyBay::new(alloc, vec![in alloc; text.to_vec(alloc)?]?, 4)?;
     copy(alloc, &mut bay, "in", "copy", 5)?;
     match bay.output(Stream::Output(3)) {
@@ -37,7 +37,7 @@ fn copied(alloc: Global, text: &[u8]) -> Result<Option<Vec<u8>>, Fail> {
 }
 
 #[test]
-fn memory_tells_what_fits_its_room(rt: HostRuntime) -> Result<(), Fail> {
+fn memory_tells_what_fits_its_room(rt: HostRuntime) -> Result<(), TestFail> {
     let alloc = rt.alloc();
     for text in [b"".as_slice(), b"abcd".as_slice()] {
         let told = copied(alloc, text)?.ok_or("it isn't told")?;
@@ -52,7 +52,7 @@ fn copy_file(rt: &HostRuntime, from: &str, to: &str) -> Result<(), ReadError> {
 }
 
 #[test]
-fn files_are_read_and_written(rt: HostRuntime) -> Result<(), Fail> {
+fn files_are_read_and_written(rt: HostRuntime) -> Result<(), TestFail> {
     fs::write(&rt, "short.tmp", b"abcde".as_slice())?;
     fs::write(&rt, "long.tmp", b"abcdef".as_slice())?;
     fs::write(&rt, "copy.tmp", b"an older and longer text".as_slice())?;
@@ -76,7 +76,7 @@ fn files_are_read_and_written(rt: HostRuntime) -> Result<(), Fail> {
 }
 
 #[test]
-fn a_folder_opens_and_fails_at_its_first_read(rt: HostRuntime) -> Result<(), Fail> {
+fn a_folder_opens_and_fails_at_its_first_read(rt: HostRuntime) -> Result<(), TestFail> {
     let mut bay = FileBay::new(&rt);
     bay.open(Stream::Input(1), ".")?;
     assert_eq!(rt; bay.read(Stream::Input(1), &mut [0u8; 4]), Err(BayFailed));
@@ -84,7 +84,69 @@ fn a_folder_opens_and_fails_at_its_first_read(rt: HostRuntime) -> Result<(), Fai
 }
 
 #[test]
-fn the_report_is_printed(rt: HostRuntime) -> Result<(), Fail> {
+fn the_report_is_printed(rt: HostRuntime) -> Result<(), TestFail> {
     write_whole(&mut FileBay::new(&rt), Stream::Report, b"reported\n")?;
+    Ok(())
+}
+
+/// What a copy of these bytes leaves in memory, and how it ends, where these calls fail and a write takes so many bytes.
+fn copied_with(
+    alloc: Global,
+    text: &[u8],
+    fails: &[Fail],
+    most: u32,
+) -> Result<(Result<(), ReadError>, Vec<u8>), TestFail>
+    requires { 1 ≤ most }
+{
+    let mut bay = MemoryBay::new(
+        alloc,
+        vec![in alloc; text.to_vec(alloc)?]?,
+        100,
+        fails.to_vec(alloc)?,
+    )?;
+    bay.take_at_most(most);
+    let outcome = copy(alloc, &mut bay, "in", "copy", 5);
+    let left = bay
+        .output(Stream::Output(3))
+        .ok_or("it isn't told")?
+        .to_vec(alloc)?;
+    Ok((outcome, left))
+}
+
+#[test]
+fn calls_fail_by_their_numbers(rt: HostRuntime) -> Result<(), TestFail> {
+    let alloc = rt.alloc();
+    let fault = Err(ReadError::Fault);
+    for (fails, most, outcome, left) in [
+        ([].as_slice(), 2, Ok(()), b"abcd".as_slice()),
+        ([Fail::Open(1)].as_slice(), 4, fault, b"".as_slice()),
+        ([Fail::Open(2)].as_slice(), 4, fault, b"".as_slice()),
+        (
+            [Fail::Open(3), Fail::Read(3), Fail::Write(5)].as_slice(),
+            1,
+            Ok(()),
+            b"abcd".as_slice(),
+        ),
+        ([Fail::Read(1)].as_slice(), 4, fault, b"".as_slice()),
+        ([Fail::Read(2)].as_slice(), 4, fault, b"".as_slice()),
+        ([Fail::Write(1)].as_slice(), 4, fault, b"".as_slice()),
+        (
+            [Fail::Write(3), Fail::Open(9)].as_slice(),
+            1,
+            fault,
+            b"ab".as_slice(),
+        ),
+        ([Fail::Write(2)].as_slice(), 3, fault, b"abc".as_slice()),
+        (
+            [Fail::Open(0), Fail::Read(0), Fail::Write(0)].as_slice(),
+            4,
+            Ok(()),
+            b"abcd".as_slice(),
+        ),
+    ] {
+        let (ended, held) = copied_with(alloc, b"abcd", fails, most)?;
+        assert_eq!(rt; ended, outcome);
+        assert_eq!(rt; held.as_slice(), left);
+    }
     Ok(())
 }

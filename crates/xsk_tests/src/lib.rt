@@ -8,8 +8,8 @@ mod commands;
 #[cfg(test)]
 mod configuration;
 #[cfg(test)]
+mod faults;
+#[cfg(test)]
 mod four_ports;
 #[cfg(test)]
 mod many_packets;
-#[cfg(test)]
-mod short_writes;
