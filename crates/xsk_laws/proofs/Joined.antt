@@ -35,7 +35,8 @@ use Rattle.xsk_laws.proofs.Emptied.{is_mark-self, has_mark}
 use Rattle.xsk_laws.proofs.Passed.{IsDrained, passed}
 use Rattle.xsk_laws.proofs.Wholes.{wholes}
 use Rattle.xsk_laws.proofs.Filters.{IsBoundTo, seat_at, delivered_is, delivered_few, with_disposal_is}
-use Rattle.xsk_laws.proofs.Places.{ArePaired, are_paired, app_on, IsAt, is_at, app_below, side_pair, lane_on, lane_below, lane_rx, lane_tx}
+use Rattle.xsk_model.proofs.Seats.{IsAt, is_at}
+use Rattle.xsk_laws.proofs.Places.{ArePaired, are_paired, app_on, app_below, side_pair, lane_on, lane_below, lane_rx, lane_tx}
 
 -- what holds of the workers' whole runs
 pub record Workers : Type 0 where

@@ -10,7 +10,7 @@ use Rattle.xsk_turns.specs.Disposals.{delivered_to}
 use Rattle.xsk_laws.specs.Expected.{received}
 use Rattle.xsk_laws.specs.Laws.{AreWholeRuns, SentIsExpected, SentIsForwarded, NothingElseIsSent, AllIsExpected, SentIsWithin}
 use Rattle.xsk_laws.proofs.Filters.{seat_at}
-use Rattle.xsk_laws.proofs.Places.{IsAt, is_at}
+use Rattle.xsk_model.proofs.Seats.{IsAt, is_at}
 use Rattle.xsk_laws.proofs.Machines.{workers}
 use Rattle.xsk_laws.proofs.Joined.{sent_arrived, sent_expected, sent_forwarded}
 use Rattle.xsk_laws.proofs.Totals.{total, total-one, total-bytes, run_of, delivered_within, sent_few}

@@ -78,7 +78,7 @@ pair_on_only (pair ∷ pairs) port queue (suc d) one h at =
 
 -- ---- the callers
 
-app_below : (ports queues port queue : ℕ) → (ports ≡ 2) ⊎ (ports ≡ 4) → port < ports → queue < queues
+pub app_below : (ports queues port queue : ℕ) → (ports ≡ 2) ⊎ (ports ≡ 4) → port < ports → queue < queues
     → (port / 2) * queues + queue < (ports / 2) * queues
 app_below ports queues port queue even h k =
     let half : suc (port / 2) ≤ ports / 2 = omega (arith, even, h) in

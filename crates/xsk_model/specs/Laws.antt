@@ -4,9 +4,10 @@ use Rattle.std.specs.List.{filter}
 use Rattle.xsk_umem.specs.Frame.{Frame}
 use Rattle.xsk_umem.specs.Geometry.{Geometry, IsGeometry}
 use Rattle.xsk_umem.specs.declared.batch.Item.{Item}
-use Rattle.xsk_model.specs.Config.{Config, IsConfig, HasRing, size_of, callers_of}
+use Rattle.xsk_model.specs.Config.{Config, IsConfig, IsRegular, HasRing, size_of, callers_of, classes_of}
 use Rattle.xsk_model.specs.Numbers.{times, numbers}
-use Rattle.xsk_model.specs.Rings.{is_ring, place, places_of, app_of, producer, consumer}
+use Rattle.xsk_model.specs.Rings.{is_ring, place, places_of, port_of, queue_of, driver_of, application_on, caller_of, app_of, producer, consumer}
+use Rattle.xsk_model.specs.Steering.{driver_on, socket_on}
 use Rattle.xsk_model.specs.Marks.{HasMark, mark_place, mark_places_of, IsMarkNumber, IsMarkOwner}
 use Rattle.xsk_model.specs.Object.{State, ring_at, mark_at, had_by, submitted, peek_reply, reply_at, after, IsWithinRing}
 use Rattle.xsk_model.specs.Entry.{Told, Entry, own, all_told}
@@ -233,6 +234,19 @@ OwnPlaces = (c : Config) (r s : Ring) → HasRing c r → HasRing c s → (place
 abbrev pub OwnMarkPlaces : Type 0
 OwnMarkPlaces = (c : Config) (m n : Mark) → IsConfig c → HasMark c m → HasMark c n
     → (mark_place c m < mark_places_of c) × (mark_place c m ≡ mark_place c n → m ≡ n)
+
+-- the driver, the sockets and the application of a port's queue in a regular configuration
+pub record AreSeated (c : Config) (port queue class : ℕ) : Type 0 where
+  pub rx : HasRing c (Rx (socket_on c port queue class))
+  pub tx : HasRing c (Tx (socket_on c port queue class))
+  pub on_port : port_of c (Rx (socket_on c port queue class)) ≡ port
+  pub on_queue : queue_of c (Rx (socket_on c port queue class)) ≡ queue
+  pub driver : driver_of c (Rx (socket_on c port queue class)) ≡ driver_on c port queue
+  pub app : app_of c (Rx (socket_on c port queue class)) ≡ caller_of c (application_on c port queue)
+
+abbrev pub RegularSeats : Type 0
+RegularSeats = (c : Config) (port queue class : ℕ) → IsConfig c → IsRegular c → port < c.ports → queue < c.queues → class < classes_of c
+    → AreSeated c port queue class
 
 -- a ring's producer and its consumer are two callers
 abbrev pub TwoOwners : Type 0

@@ -5,7 +5,7 @@ ghost use Rattle.xsk_model.specs.Laws.{OneHolder, FramesByOwn, HadAndDistinct, I
 ghost use Rattle.xsk_model.specs.Laws.{FramesStay, FramesApart, FramesBelow, SubmitsOwn, OpeningIs, HeldAndOut, CountsGrow, PeekFinds, ReserveFinds};
 ghost use Rattle.xsk_model.specs.Laws.{LastIsGift, OneMore, CallersExist, LegalSwaps, MarksAfter, LeavesState, ChangesState};
 ghost use Rattle.xsk_model.specs.Laws.{FewMoved, FromFill, ExactCompletion, BodiesDontMatter};
-ghost use Rattle.xsk_model.specs.Laws.{ShapesDecide};
+ghost use Rattle.xsk_model.specs.Laws.{ShapesDecide, RegularSeats};
 ghost use Rattle.xsk_model.specs.Asks.{CallsSplit, AsksJoin, RepliesSplit, AnswersJoin};
 
 /// After each prefix of a history each frame has one holder: a caller that has it, or a ring in which it is out.
@@ -151,6 +151,12 @@ pub fn own_places()
 /// Each mark has a place of its own.
 pub fn own_mark_places()
     ensures { OwnMarkPlaces }
+{}
+
+/// The driver, the sockets and the application of a port's queue have the numbers that `steering` computes, where the
+/// configuration is regular.
+pub fn regular_seats()
+    ensures { RegularSeats }
 {}
 
 /// A ring's producer and its consumer are two callers.

@@ -9,14 +9,14 @@ ghost use Rattle.xsk_model.specs.Rings.{application_on as application_of_queue};
 
 use crate::Config;
 
-/// The bytes of a packet that choose its queue.
-const QUEUE_BYTES: usize = 12;
+/// The bytes of a packet that choose its queue: both addresses of an Ethernet header.
+pub const QUEUE_BYTES: usize = 12;
 
-/// The bytes of a packet that choose its class.
-const CLASS_BYTES: usize = 14;
+/// The bytes of a packet that choose its class: an Ethernet header, the least that a packet has.
+pub const CLASS_BYTES: usize = 14;
 
 /// The most frames of a packet (CONFIG_MAX_SKB_FRAGS and one).
-const MOST_FRAMES: u32 = 18;
+pub const MOST_FRAGMENTS: u32 = 18;
 
 /// The queue of a packet: the sum of its first 12 bytes (of all, where it has fewer) modulo the number of queues.
 pub fn packet_queue(packet: &[u8], queues: u32) -> u32
@@ -48,12 +48,12 @@ pub fn packet_cell(packet: &[u8], queue: u32, classes: u32) -> u32
 /// The most bytes of a packet: those of 18 frames, or without XDP_USE_SG those of one.
 pub fn packet_limit(config: &Config) -> u32
     ensures value { result ≡ limit_of_packet config.now }
-    ensures few { result ≤ 18 * payload_of config.now.geometry }
+    ensures few { result ≤ MOST_FRAGMENTS * payload_of config.now.geometry }
     ensures small { payload_of config.now.geometry ≤ 4096 }
 {
     let payload = config.geometry().payload();
     if config.sg() {
-        MOST_FRAMES * payload
+        MOST_FRAGMENTS * payload
     } else {
         payload
     }
@@ -136,7 +136,7 @@ pub fn home_pair(config: &Config, frame: u32) -> u32
 }
 
 fn sum_of(bytes: &[u8]) -> u32
-    requires { length bytes.now ≤ 14 }
+    requires { length bytes.now ≤ CLASS_BYTES }
     ensures { result ≡ sum bytes.now }
 {
     let mut sum = 0;
