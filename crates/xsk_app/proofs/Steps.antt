@@ -1,5 +1,5 @@
 -- What each call of an application's machine and its wait come to, in the machine's own terms.
-use Rattle.std.proofs.Common.{◌≡◌, ℕ, zero, ◌-◌, ◌<◌, ◌≤◌, Some, List, [], length, map, take, drop, sym, ap, ◌∙◌, get_or-set_same}
+use Rattle.std.proofs.Common.{◌≡◌, ℕ, zero, ◌++◌, ◌-◌, ◌<◌, ◌≤◌, Some, List, [], length, map, take, drop, sym, ap, ◌∙◌, get_or-set_same}
 use Rattle.xsk_umem.specs.Frame.{Frame}
 use Rattle.xsk_umem.specs.declared.batch.Item.{Item}
 use Rattle.xsk_model.specs.Config.{Config, pool_of, batch_of}
@@ -7,12 +7,12 @@ use Rattle.xsk_model.specs.Opening.{home_item}
 use Rattle.xsk_turns.specs.Script.{ask, on_submitted, begun}
 use Rattle.xsk_model.specs.declared.call.Ring.TheVariants.{Fill, Comp, Rx}
 use Rattle.xsk_model.specs.declared.call.Mark.TheVariants.{RxDone, Gone}
-use Rattle.xsk_model.specs.declared.call.Call.TheVariants.{Reserve, Submit, Peek, Look}
+use Rattle.xsk_model.specs.declared.call.Call.TheVariants.{Reserve, Submit, Peek, Release, Look}
 use Rattle.xsk_model.specs.declared.call.Reply.TheVariants.{Granted}
-use Rattle.xsk_turns.specs.AppTurns.{AppKept, AppNoted, rx_of, lanes_of, pair_of, pending_at, back_at, with_back, give_back, look_rx_done, look_gone, app_turn}
+use Rattle.xsk_turns.specs.AppTurns.{AppKept, AppNoted, rx_of, lanes_of, pair_of, pending_at, with_pending, back_at, with_back, receive_lane, give_back, look_rx_done, look_gone, app_turn}
 use Rattle.xsk_app.specs.Ways.{IsGroup, first_unset}
-use Rattle.xsk_app.specs.Stands.{from_lane, from_side, after_full_side, by_reply, left}
-use Rattle.xsk_app.specs.declared.machine.Wait.TheVariants.{PeekRx, PeekComp, ReserveFill, SubmitFill, LookRxDone, LookGone}
+use Rattle.xsk_app.specs.Stands.{from_lane, after_full_lane, from_side, after_full_side, by_reply, left}
+use Rattle.xsk_app.specs.declared.machine.Wait.TheVariants.{PeekRx, ReleaseRx, PeekComp, ReserveFill, SubmitFill, LookRxDone, LookGone}
 use Rattle.xsk_turns.proofs.AppGroups.{with_back-same}
 use Rattle.xsk_app.proofs.TurnLemmas.{lane_empty, side_empty, give_back_some, give_back_granted, rx_done_some, gone_some}
 
@@ -23,6 +23,16 @@ peek_lane c app lane noted kept rx batch h empty e f =
     ap (λ (r : ℕ). ask kept (Peek (Rx r) batch) (left c app (PeekRx lane) noted kept)) e
     ∙ ap (λ (n : ℕ). ask kept (Peek (Rx (rx_of c app lane)) n) (left c app (PeekRx lane) noted kept)) f
     ∙ sym (lane_empty c app lane noted kept h empty)
+
+pub release_lane : (c : Config) (app lane : ℕ) (noted : AppNoted) (kept : AppKept) (items pending : List Item) (rx count : ℕ) → pending_at kept lane ≡ []
+    → pending ≡ pending_at kept lane ++ items → rx ≡ rx_of c app lane → count ≡ length items
+    → ask (with_pending kept lane pending) (Release (Rx rx) count) (left c app (ReleaseRx lane) noted (with_pending kept lane pending))
+    ≡ receive_lane c app lane kept (after_full_lane c app lane noted) items
+release_lane c app lane noted kept items pending rx count empty is e f =
+    let same : pending ≡ items = is ∙ ap (λ (xs : List Item). xs ++ items) empty in
+    ap (λ (r : ℕ). ask (with_pending kept lane pending) (Release (Rx r) count) (left c app (ReleaseRx lane) noted (with_pending kept lane pending))) e
+    ∙ ap (λ (n : ℕ). ask (with_pending kept lane pending) (Release (Rx (rx_of c app lane)) n) (left c app (ReleaseRx lane) noted (with_pending kept lane pending))) f
+    ∙ ap (λ (xs : List Item). ask (with_pending kept lane xs) (Release (Rx (rx_of c app lane)) (length items)) (left c app (ReleaseRx lane) noted (with_pending kept lane xs))) same
 
 pub peek_side : (c : Config) (app side : ℕ) (noted : AppNoted) (kept : AppKept) (pair batch : ℕ) → side < 2 → back_at kept side ≡ []
     → pair ≡ pair_of c app side → batch ≡ batch_of c

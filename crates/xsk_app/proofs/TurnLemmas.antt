@@ -167,16 +167,14 @@ give_back_granted c side (frame ∷ frames) kept next home count h some =
     ∙ ap (λ (g : List Frame). ask left (Submit (Fill home) (map (home_item c.geometry) g)) (on_submitted (give_back c side (n - 1) frames kept next))) items
     ∙ ap (λ (s : Script AppKept). ask left (Submit (Fill home) (map (home_item c.geometry) (take count (frame ∷ frames)))) (on_submitted s)) later
 
-full_back : (c : Config) (side : ℕ) (back : List Frame) (kept : AppKept) (next : AppKept → Script AppKept) (home count free : ℕ)
-    → IsGroup (pool_of c) (batch_of c) back home count → by_reply (give_back c side zero back kept next) (Full free) ≡ next (with_back kept side back)
-full_back c side [] kept next home count free h = absurd h
-full_back c side (frame ∷ frames) kept next home count free h = refl
+full_back : (c : Config) (side : ℕ) (back : List Frame) (kept : AppKept) (next : AppKept → Script AppKept) (free : ℕ) → back ≢ []
+    → by_reply (give_back c side zero back kept next) (Full free) ≡ next (with_back kept side back)
+full_back c side [] kept next free some = absurd (some refl)
+full_back c side (frame ∷ frames) kept next free some = refl
 
-pub give_back_full : (c : Config) (side : ℕ) (kept : AppKept) (next : AppKept → Script AppKept) (home count free : ℕ)
-    → IsGroup (pool_of c) (batch_of c) (back_at kept side) home count
+pub give_back_full : (c : Config) (side : ℕ) (kept : AppKept) (next : AppKept → Script AppKept) (free : ℕ) → back_at kept side ≢ []
     → by_reply (give_back c side zero (back_at kept side) kept next) (Full free) ≡ next kept
-give_back_full c side kept next home count free h =
-    full_back c side (back_at kept side) kept next home count free h ∙ ap next (with_back-same kept side)
+give_back_full c side kept next free some = full_back c side (back_at kept side) kept next free some ∙ ap next (with_back-same kept side)
 
 none_back : (c : Config) (side : ℕ) (back : List Frame) (kept : AppKept) (next : AppKept → Script AppKept) → back ≡ []
     → give_back c side zero back kept next ≡ next (with_back kept side back)

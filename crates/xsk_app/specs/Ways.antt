@@ -22,11 +22,11 @@ abbrev pub IsGroup : ℕ → ℕ → List Frame → ℕ → ℕ → Type 0
 IsGroup pool batch [] home count = ⊥
 IsGroup pool batch (frame ∷ frames) home count = (home ≡ home_of pool frame) × (count ≡ length (group_of pool batch frame frames))
 
--- Where it waits there is such a lane or side. It peeks COMPLETION where the side has nothing to give back, and it asks for
--- places on FILL for the frames that the side gives back next.
+-- Where it waits there is such a lane or side. It peeks RX where no item of the lane is pending, and COMPLETION where the side
+-- has nothing to give back; and it asks for places on FILL for the frames that the side gives back next.
 abbrev pub IsReady : Config → List (List Item) → List (List Frame) → Wait → Type 0
 IsReady c pending back Start = Unit {0}
-IsReady c pending back (PeekRx lane) = lane < length pending
+IsReady c pending back (PeekRx lane) = (lane < length pending) × (length (slice_index_or pending lane []) ≡ 0)
 IsReady c pending back (ReleaseRx lane) = lane < length pending
 IsReady c pending back (ReserveTx lane) = lane < length pending
 IsReady c pending back (SubmitTx lane) = lane < length pending
@@ -55,7 +55,7 @@ IsGroup-prop pool batch (frame ∷ frames) home count =
 
 pub IsReady-prop : (c : Config) (pending : List (List Item)) (back : List (List Frame)) (wait : Wait) → IsProp (IsReady c pending back wait)
 IsReady-prop c pending back Start = Unit-prop
-IsReady-prop c pending back (PeekRx lane) = le_prop
+IsReady-prop c pending back (PeekRx lane) = ×_prop le_prop (same_number (length (slice_index_or pending lane [])) 0)
 IsReady-prop c pending back (ReleaseRx lane) = le_prop
 IsReady-prop c pending back (ReserveTx lane) = le_prop
 IsReady-prop c pending back (SubmitTx lane) = le_prop

@@ -10,12 +10,13 @@ ghost use Rattle.xsk_model.specs.History.{Fits};
 ghost use Rattle.xsk_model.specs.declared.call.Call.{Call as ACall};
 ghost use Rattle.xsk_model.specs.declared.call.Reply.{Reply as AReply};
 ghost use Rattle.xsk_model.specs.Expected.{CanCome, nothing, expected_of};
+ghost use Rattle.xsk_turns.specs.Stepping.{joined_ask, joined_answer, IsGivenBack, IsLent};
 
 use crate::back::Back;
 use crate::machine::{Machine, Turn, Wait, Way};
 use std::alloc::Global;
 use std::marker::Model;
-use xsk_model::{Act, Config, Reply};
+use xsk_model::{Act, Answer, Ask, Config, Reply};
 use xsk_umem::{Batch, OutOfMemory};
 
 /// The application of one queue of two paired ports, as a worker that makes one call at a time.
@@ -74,7 +75,6 @@ impl<'a> App<'a> {
     }
 
     /// Goes on with the reply to the last call (none at first), and gives the next call, or tells that it has ended.
-    #[inline(always)]
     pub fn next(&mut self, reply: Option<Reply>) -> Act
         requires { CanCome self.old.expected reply }
         ensures expected { self.new.expected ≡ expected_of result }
@@ -91,7 +91,56 @@ impl<'a> App<'a> {
         ensures tells { (c : AConfig) (app : ℕ) (l : List Told) (call : ACall) (r : AReply)
             → Stands c app self.old call l → reply ≡ Some r → Fits c l call r → TellsWith c app self.new result (with_told l call r) }
     {
-        self.machine.next(reply)
+        let mut items = Batch::new(self.machine.alloc);
+        let answer = split(reply, &mut items);
+        let ask = self.step(answer, &mut items);
+        joined(ask, items)
+    }
+
+    /// Goes on as `next` does, with the items of a reply taken from the batch, and those of a call put there; `None` tells
+    /// that it has ended. No batch is moved by it. The batch must be empty unless items were taken, and is left empty
+    /// unless the call is a Submit.
+    #[inline(always)]
+    pub fn step(&mut self, answer: Option<Answer>, items: &mut Batch) -> Option<Ask>
+        requires comes { CanCome self.old.expected (joined_answer answer items.old) }
+        requires lent { IsLent answer items.old }
+        ensures expected { self.new.expected ≡ expected_of (joined_ask result items.new) }
+        ensures given_back { IsGivenBack result items.new }
+        ensures same { (self.new.config ≡ self.old.config) × (self.new.app ≡ self.old.app) }
+        ensures begins { (c : AConfig) (app : ℕ) → IsNew c app self.old → joined_answer answer items.old ≡ None → StandsWith c app self.new (joined_ask result items.new) [] }
+        ensures goes_on { (c : AConfig) (app : ℕ) (l : List Told) (call : ACall) (r : AReply)
+            → Stands c app self.old call l → joined_answer answer items.old ≡ Some r → Fits c l call r
+            → StandsWith c app self.new (joined_ask result items.new) (with_told l call r) }
+        ensures tells_first { (c : AConfig) (app : ℕ) → IsNew c app self.old → joined_answer answer items.old ≡ None
+            → TellsWith c app self.new (joined_ask result items.new) [] }
+        ensures tells { (c : AConfig) (app : ℕ) (l : List Told) (call : ACall) (r : AReply)
+            → Stands c app self.old call l → joined_answer answer items.old ≡ Some r → Fits c l call r
+            → TellsWith c app self.new (joined_ask result items.new) (with_told l call r) }
+    {
+        self.machine.step(answer, items)
+    }
+}
+
+/// A reply without its items, which are put into an empty batch.
+fn split(reply: Option<Reply>, items: &mut Batch) -> Option<Answer>
+    requires { items.old ≡ [] }
+    ensures reply { joined_answer result items.new ≡ reply }
+    ensures items { IsLent result items.new }
+{
+    match reply {
+        Some(reply) => Some(reply.split(items)),
+        None => None,
+    }
+}
+
+/// What is done next, with the batch's items.
+fn joined(ask: Option<Ask>, items: Batch) -> Act
+    requires { IsGivenBack ask items }
+    ensures { result ≡ joined_ask ask items }
+{
+    match ask {
+        Some(ask) => Act::Call(ask.joined(items)),
+        None => Act::Ended,
     }
 }
 

@@ -49,15 +49,15 @@ impl Back {
         self.frames.is_empty()
     }
 
-    /// Keeps the frames of items that were taken. None may stand here before.
-    pub(crate) fn keep(&mut self, items: Batch)
+    /// Takes the items out of a batch, and keeps their frames. None may stand here before.
+    pub(crate) fn keep(&mut self, items: &mut Batch)
         requires { self.old ≡ [] }
-        ensures { self.new ≡ frames_in items }
+        ensures frames { self.new ≡ frames_in items.old }
+        ensures items { items.new ≡ [] }
     {
-        let count = items.len();
-        let mut items = items;
-        for _ in 0..count {
-            if let Some(frame) = items.pop_front().and_then(|item| item.frame) {
+        for _ in 0..items.len() {
+            let item = items.pop_front().unwrap();
+            if let Some(frame) = item.frame {
                 self.frames.push_back_reserved(frame);
             }
         }
@@ -75,20 +75,18 @@ impl Back {
         Some((home, count as u32))
     }
 
-    /// Takes so many of the first frames, as items for FILL. So many must stand here.
-    pub(crate) fn give(&mut self, alloc: Global, geometry: &Geometry, count: u32) -> Batch
+    /// Puts so many of the first frames into an empty batch, as items for FILL. So many must stand here.
+    pub(crate) fn give(&mut self, geometry: &Geometry, count: u32, items: &mut Batch)
         requires few { count ≤ 32 }
         requires here { count ≤ length self.old }
-        ensures items { result ≡ map (item_at_home geometry.now) (take count self.old) }
+        requires empty { items.old ≡ [] }
+        ensures items { items.new ≡ map (item_at_home geometry.now) (take count self.old) }
         ensures left { self.new ≡ drop count self.old }
     {
-        let mut items = Batch::new(alloc);
         for _ in 0..count {
-            if let Some(frame) = self.frames.pop_front() {
-                items.push(home_item(geometry, frame));
-            }
+            let frame = self.frames.pop_front().unwrap();
+            items.push(home_item(geometry, frame));
         }
-        items
     }
 }
 

@@ -10,17 +10,20 @@
 //!        LookGone of each side ──> the next turn, or Ended         where both had ended as the turn began, sides
 //!                                                                  were empty and nothing is left to give back
 //! ```
-ghost use Rattle.std.specs.Prelude.{◌≡◌, ℕ, ◌+◌, ◌-◌, ◌<◌, ◌≤◌, [], ◌∷◌, IfSome, length, vec_len, map, take, drop};
+ghost use Rattle.std.specs.Prelude.{◌≡◌, ◌≢◌, ℕ, ◌+◌, ◌-◌, ◌<◌, ◌≤◌, [], ◌∷◌, IfSome, length, vec_len, map, take, drop};
 ghost use Rattle.xsk_model.specs.Config.{batch_of, pool_of};
 ghost use Rattle.xsk_model.specs.Marks.{apps_of};
+ghost use Rattle.xsk_model.specs.Asks.{joined_call, HasAsked};
 ghost use Rattle.xsk_model.specs.Expected.{CanCome, expected_by, expected_of};
+ghost use Rattle.xsk_model.specs.declared.call.Act.TheVariants as act;
+ghost use Rattle.xsk_model.specs.declared.call.Reply.TheVariants as reply;
 ghost use Rattle.xsk_turns.specs.AppTurns.{lanes_of, pair_of};
+ghost use Rattle.xsk_turns.specs.Stepping.{joined_ask, joined_answer, IsGivenBack, IsLent};
 ghost use Rattle.xsk_app.specs.Ways.{AreWays, IsGroup, IsReady, IsReady-prop, first_unset};
 
 use crate::back::Back;
 use std::alloc::Global;
-use std::mem;
-use xsk_model::{Act, Call, Config, Mark, Reply, Ring};
+use xsk_model::{Answer, Ask, Config, Mark, Ring};
 use xsk_umem::Batch;
 
 /// The sides of the application: its two ports.
@@ -92,54 +95,56 @@ pub(crate) struct Machine<'a> {
 
 impl<'a> Machine<'a> {
     ghost use Rattle.xsk_app.specs.Waits.{expects};
-    ghost use Rattle.xsk_turns.specs.AppTurns.{pass_on, receive_lane, visit_lane, visit_lanes, give_back, complete_side, visit_side, back_at, with_back, with_seen, with_gone, look_rx_done, look_gone, tell_tx_done, end_or_look, end_turn, turn_sides};
+    ghost use Rattle.xsk_turns.specs.AppTurns.{pass_on, receive_lane, visit_lane, visit_lanes, give_back, complete_side, visit_side, back_at, pending_at, with_back, with_seen, with_gone, look_rx_done, look_gone, tell_tx_done, end_or_look, end_turn, turn_sides};
     ghost use Rattle.xsk_app.specs.Stands.{GoesOn, to_do, doing, by_reply, IsSame, noted_by, kept_by, from_lane, after_full_lane, from_side, after_full_side};
     ghost use Rattle.xsk_turns.specs.Script.{again};
 
-    /// Goes on with the reply to the last call.
+    /// Goes on with the answer to the last call, whose items stand in the batch, and leaves there the items of the next one.
     #[inline(always)]
-    pub(crate) fn next(&mut self, reply: Option<Reply>) -> Act
-        requires { CanCome (expects self.old.wait) reply }
-        ensures expected { expects self.new.wait ≡ expected_of result }
-        ensures goes { GoesOn self.old.config.now self.old.app self.new result (to_do self.old.config.now self.old.app self.old reply) }
+    pub(crate) fn step(&mut self, answer: Option<Answer>, items: &mut Batch) -> Option<Ask>
+        requires comes { CanCome (expects self.old.wait) (joined_answer answer items.old) }
+        requires lent { IsLent answer items.old }
+        ensures expected { expects self.new.wait ≡ expected_of (joined_ask result items.new) }
+        ensures goes { GoesOn self.old.config.now self.old.app self.new (joined_ask result items.new) (to_do self.old.config.now self.old.app self.old (joined_answer answer items.old)) }
         ensures same { IsSame self.old self.new }
+        ensures given_back { IsGivenBack result items.new }
     {
         match self.wait {
-            Wait::Start => Act::Call(self.begin()),
-            Wait::PeekRx { lane } => match reply {
-                Some(Reply::Items(items)) => Act::Call(self.take_received(lane, items)),
-                Some(Reply::Empty) => self.go_to_lane(lane + 1),
+            Wait::Start => Some(self.begin()),
+            Wait::PeekRx { lane } => match answer {
+                Some(Answer::Items) => Some(self.take_received(lane, items)),
+                Some(Answer::Empty) => self.go_to_lane(lane + 1),
                 _ => unreachable!(),
             },
-            Wait::ReleaseRx { lane } => Act::Call(self.reserve_tx(lane)),
-            Wait::ReserveTx { lane } => match reply {
-                Some(Reply::Granted) => Act::Call(self.send_on(lane)),
-                Some(Reply::Full(_)) => self.go_on_full_lane(lane),
+            Wait::ReleaseRx { lane } => Some(self.reserve_tx(lane)),
+            Wait::ReserveTx { lane } => match answer {
+                Some(Answer::Granted) => Some(self.send_on(lane, items)),
+                Some(Answer::Full(_)) => self.go_on_full_lane(lane),
                 _ => unreachable!(),
             },
             Wait::SubmitTx { lane } => self.go_on_full_lane(lane),
-            Wait::PeekComp { side } => match reply {
-                Some(Reply::Items(items)) => Act::Call(self.take_completed(side, items)),
-                Some(Reply::Empty) => self.go_to_side(side + 1),
+            Wait::PeekComp { side } => match answer {
+                Some(Answer::Items) => Some(self.take_completed(side, items)),
+                Some(Answer::Empty) => self.go_to_side(side + 1),
                 _ => unreachable!(),
             },
             Wait::ReleaseComp { side } => self.give_back(side),
-            Wait::ReserveFill { side, home, count } => match reply {
-                Some(Reply::Granted) => Act::Call(self.refill(side, home, count)),
-                Some(Reply::Full(_)) => self.find_fill_full(side, home, count),
+            Wait::ReserveFill { side, home, count } => match answer {
+                Some(Answer::Granted) => Some(self.refill(side, home, count, items)),
+                Some(Answer::Full(_)) => self.find_fill_full(side),
                 _ => unreachable!(),
             },
             Wait::SubmitFill { side } => self.give_back(side),
-            Wait::LookRxDone { side } => match reply {
-                Some(Reply::Old(done)) => Act::Call(self.learn_rx_done(side, done)),
+            Wait::LookRxDone { side } => match answer {
+                Some(Answer::Old(done)) => Some(self.learn_rx_done(side, done)),
                 _ => unreachable!(),
             },
             Wait::TellTxDone => {
                 self.tx_done = true;
-                Act::Call(self.begin())
+                Some(self.begin())
             }
-            Wait::LookGone { side } => match reply {
-                Some(Reply::Old(gone)) => Act::Call(self.learn_gone(side, gone)),
+            Wait::LookGone { side } => match answer {
+                Some(Answer::Old(gone)) => Some(self.learn_gone(side, gone)),
                 _ => unreachable!(),
             },
             Wait::Ended => unreachable!(),
@@ -147,9 +152,9 @@ impl<'a> Machine<'a> {
     }
 
     /// Begins a turn: with the first lane, or the first side where nothing more is sent.
-    fn begin(&mut self) -> Call
-        ensures expected { expects self.new.wait ≡ expected_by result }
-        ensures goes { GoesOn self.old.config.now self.old.app self.new (Act.Call result) (again (kept_by self.old)) }
+    fn begin(&mut self) -> Ask
+        ensures expected { expects self.new.wait ≡ expected_by (joined_call result []) }
+        ensures goes { GoesOn self.old.config.now self.old.app self.new (act.Call (joined_call result [])) (again (kept_by self.old)) }
         ensures same { IsSame self.old self.new }
     {
         self.turn = Turn {
@@ -166,111 +171,118 @@ impl<'a> Machine<'a> {
     }
 
     /// Peeks the lane's RX ring, or asks for places on its TX ring where packets are pending.
-    fn open_lane(&mut self, lane: usize) -> Call
+    fn open_lane(&mut self, lane: usize) -> Ask
         requires { lane < vec_len self.old.pending }
-        ensures expected { expects self.new.wait ≡ expected_by result }
-        ensures goes { doing self.old.config.now self.old.app self.new (Act.Call result) ≡ from_lane self.old.config.now self.old.app lane (noted_by self.old.turn) (kept_by self.old) }
+        ensures expected { expects self.new.wait ≡ expected_by (joined_call result []) }
+        ensures goes { doing self.old.config.now self.old.app self.new (act.Call (joined_call result [])) ≡ from_lane self.old.config.now self.old.app lane (noted_by self.old.turn) (kept_by self.old) }
         ensures same { IsSame self.old self.new }
     {
         if self.pending[lane].is_empty() {
             self.wait = Wait::PeekRx { lane };
-            Call::Peek(Ring::Rx(self.ways[lane].rx), self.batch)
+            Ask::Peek(Ring::Rx(self.ways[lane].rx), self.batch)
         } else {
             self.reserve_tx(lane)
         }
     }
 
-    fn go_to_lane(&mut self, lane: usize) -> Act
-        ensures expected { expects self.new.wait ≡ expected_of result }
-        ensures goes { GoesOn self.old.config.now self.old.app self.new result (from_lane self.old.config.now self.old.app lane (noted_by self.old.turn) (kept_by self.old)) }
+    fn go_to_lane(&mut self, lane: usize) -> Option<Ask>
+        ensures expected { expects self.new.wait ≡ expected_of (joined_ask result []) }
+        ensures goes { GoesOn self.old.config.now self.old.app self.new (joined_ask result []) (from_lane self.old.config.now self.old.app lane (noted_by self.old.turn) (kept_by self.old)) }
         ensures same { IsSame self.old self.new }
     {
         if lane < self.pending.len() {
-            Act::Call(self.open_lane(lane))
+            Some(self.open_lane(lane))
         } else {
             self.go_to_side(0)
         }
     }
 
     /// Goes on behind a lane that had packets.
-    fn go_on_full_lane(&mut self, lane: usize) -> Act
+    fn go_on_full_lane(&mut self, lane: usize) -> Option<Ask>
         requires { lane < vec_len self.old.pending }
-        ensures expected { expects self.new.wait ≡ expected_of result }
-        ensures goes { GoesOn self.old.config.now self.old.app self.new result (after_full_lane self.old.config.now self.old.app lane (noted_by self.old.turn) (kept_by self.old)) }
+        ensures expected { expects self.new.wait ≡ expected_of (joined_ask result []) }
+        ensures goes { GoesOn self.old.config.now self.old.app self.new (joined_ask result []) (after_full_lane self.old.config.now self.old.app lane (noted_by self.old.turn) (kept_by self.old)) }
         ensures same { IsSame self.old self.new }
     {
         self.turn.lanes_empty = false;
         self.go_to_lane(lane + 1)
     }
 
-    /// Keeps the items that were received on a lane.
-    fn take_received(&mut self, lane: usize, items: Batch) -> Call
-        requires { lane < vec_len self.old.pending }
-        ensures expected { expects self.new.wait ≡ expected_by result }
-        ensures goes { doing self.old.config.now self.old.app self.new (Act.Call result) ≡ receive_lane self.old.config.now self.old.app lane (kept_by self.old) (after_full_lane self.old.config.now self.old.app lane (noted_by self.old.turn)) items }
+    /// Keeps the items that were received on a lane that had none.
+    fn take_received(&mut self, lane: usize, items: &mut Batch) -> Ask
+        requires lane { lane < vec_len self.old.pending }
+        requires empty { pending_at (kept_by self.old) lane ≡ [] }
+        ensures expected { expects self.new.wait ≡ expected_by (joined_call result items.new) }
+        ensures goes { doing self.old.config.now self.old.app self.new (act.Call (joined_call result items.new)) ≡ receive_lane self.old.config.now self.old.app lane (kept_by self.old) (after_full_lane self.old.config.now self.old.app lane (noted_by self.old.turn)) items.old }
         ensures same { IsSame self.old self.new }
+        ensures items { items.new ≡ [] }
     {
         let count = items.len();
         self.wait = Wait::ReleaseRx { lane };
-        self.pending[lane] = items;
-        Call::Release(Ring::Rx(self.ways[lane].rx), count)
+        self.pending[lane].append(items);
+        Ask::Release(Ring::Rx(self.ways[lane].rx), count)
     }
 
-    fn reserve_tx(&mut self, lane: usize) -> Call
+    /// Asks for places on the lane's TX ring.
+    fn reserve_tx(&mut self, lane: usize) -> Ask
         requires { lane < vec_len self.old.pending }
-        ensures expected { expects self.new.wait ≡ expected_by result }
-        ensures goes { doing self.old.config.now self.old.app self.new (Act.Call result) ≡ pass_on self.old.config.now self.old.app lane (kept_by self.old) (after_full_lane self.old.config.now self.old.app lane (noted_by self.old.turn)) }
+        ensures expected { expects self.new.wait ≡ expected_by (joined_call result []) }
+        ensures goes { doing self.old.config.now self.old.app self.new (act.Call (joined_call result [])) ≡ pass_on self.old.config.now self.old.app lane (kept_by self.old) (after_full_lane self.old.config.now self.old.app lane (noted_by self.old.turn)) }
         ensures same { IsSame self.old self.new }
     {
         self.wait = Wait::ReserveTx { lane };
-        Call::Reserve(Ring::Tx(self.ways[lane].tx), self.pending[lane].len())
+        Ask::Reserve(Ring::Tx(self.ways[lane].tx), self.pending[lane].len())
     }
 
     /// Puts the lane's pending items on its TX ring as they are.
-    fn send_on(&mut self, lane: usize) -> Call
-        requires { lane < vec_len self.old.pending }
-        ensures expected { expects self.new.wait ≡ expected_by result }
-        ensures goes { doing self.old.config.now self.old.app self.new (Act.Call result) ≡ by_reply (pass_on self.old.config.now self.old.app lane (kept_by self.old) (after_full_lane self.old.config.now self.old.app lane (noted_by self.old.turn))) Reply.Granted }
+    fn send_on(&mut self, lane: usize, items: &mut Batch) -> Ask
+        requires lane { lane < vec_len self.old.pending }
+        requires empty { items.old ≡ [] }
+        ensures expected { expects self.new.wait ≡ expected_by (joined_call result items.new) }
+        ensures goes { doing self.old.config.now self.old.app self.new (act.Call (joined_call result items.new)) ≡ by_reply (pass_on self.old.config.now self.old.app lane (kept_by self.old) (after_full_lane self.old.config.now self.old.app lane (noted_by self.old.turn))) reply.Granted }
         ensures same { IsSame self.old self.new }
+        ensures items { HasAsked result items.new }
     {
         self.wait = Wait::SubmitTx { lane };
-        let items = mem::replace(&mut self.pending[lane], Batch::new(self.alloc));
-        Call::Submit(Ring::Tx(self.ways[lane].tx), items)
+        let pending = &mut self.pending[lane];
+        let _count = pending.len();
+        items.append(pending);
+        Ask::Submit(Ring::Tx(self.ways[lane].tx))
     }
 
     /// Peeks the side's COMPLETION ring, or gives back the frames that it has.
-    fn open_side(&mut self, side: usize) -> Call
+    fn open_side(&mut self, side: usize) -> Ask
         requires { side < 2 }
-        ensures expected { expects self.new.wait ≡ expected_by result }
-        ensures goes { doing self.old.config.now self.old.app self.new (Act.Call result) ≡ from_side self.old.config.now self.old.app side (noted_by self.old.turn) (kept_by self.old) }
+        ensures expected { expects self.new.wait ≡ expected_by (joined_call result []) }
+        ensures goes { doing self.old.config.now self.old.app self.new (act.Call (joined_call result [])) ≡ from_side self.old.config.now self.old.app side (noted_by self.old.turn) (kept_by self.old) }
         ensures same { IsSame self.old self.new }
     {
         match self.backs[side].first_group(self.config.pool(), self.batch) {
             Some((home, count)) => self.reserve_fill(side, home, count),
             None => {
                 self.wait = Wait::PeekComp { side };
-                Call::Peek(Ring::Comp(self.pairs[side]), self.batch)
+                Ask::Peek(Ring::Comp(self.pairs[side]), self.batch)
             }
         }
     }
 
-    fn go_to_side(&mut self, side: usize) -> Act
-        ensures expected { expects self.new.wait ≡ expected_of result }
-        ensures goes { GoesOn self.old.config.now self.old.app self.new result (from_side self.old.config.now self.old.app side (noted_by self.old.turn) (kept_by self.old)) }
+    fn go_to_side(&mut self, side: usize) -> Option<Ask>
+        ensures expected { expects self.new.wait ≡ expected_of (joined_ask result []) }
+        ensures goes { GoesOn self.old.config.now self.old.app self.new (joined_ask result []) (from_side self.old.config.now self.old.app side (noted_by self.old.turn) (kept_by self.old)) }
         ensures same { IsSame self.old self.new }
     {
         if side < SIDES {
-            Act::Call(self.open_side(side))
+            Some(self.open_side(side))
         } else {
             self.end_turn()
         }
     }
 
     /// Goes on behind a side that had frames.
-    fn go_on_full_side(&mut self, side: usize) -> Act
+    fn go_on_full_side(&mut self, side: usize) -> Option<Ask>
         requires { side < 2 }
-        ensures expected { expects self.new.wait ≡ expected_of result }
-        ensures goes { GoesOn self.old.config.now self.old.app self.new result (after_full_side self.old.config.now self.old.app side (noted_by self.old.turn) (kept_by self.old)) }
+        ensures expected { expects self.new.wait ≡ expected_of (joined_ask result []) }
+        ensures goes { GoesOn self.old.config.now self.old.app self.new (joined_ask result []) (after_full_side self.old.config.now self.old.app side (noted_by self.old.turn) (kept_by self.old)) }
         ensures same { IsSame self.old self.new }
     {
         self.turn.sides_empty = false;
@@ -278,102 +290,105 @@ impl<'a> Machine<'a> {
     }
 
     /// Keeps the frames that were completed on a side that had none.
-    fn take_completed(&mut self, side: usize, items: Batch) -> Call
+    fn take_completed(&mut self, side: usize, items: &mut Batch) -> Ask
         requires side { side < 2 }
-        requires empty { length (back_at (kept_by self.old) side) ≡ 0 }
-        ensures expected { expects self.new.wait ≡ expected_by result }
-        ensures goes { doing self.old.config.now self.old.app self.new (Act.Call result) ≡ complete_side self.old.config.now self.old.app side (kept_by self.old) (after_full_side self.old.config.now self.old.app side (noted_by self.old.turn)) items }
+        requires empty { back_at (kept_by self.old) side ≡ [] }
+        ensures expected { expects self.new.wait ≡ expected_by (joined_call result items.new) }
+        ensures goes { doing self.old.config.now self.old.app self.new (act.Call (joined_call result items.new)) ≡ complete_side self.old.config.now self.old.app side (kept_by self.old) (after_full_side self.old.config.now self.old.app side (noted_by self.old.turn)) items.old }
         ensures same { IsSame self.old self.new }
+        ensures items { items.new ≡ [] }
     {
         let count = items.len();
         self.wait = Wait::ReleaseComp { side };
         self.backs[side].keep(items);
-        Call::Release(Ring::Comp(self.pairs[side]), count)
+        Ask::Release(Ring::Comp(self.pairs[side]), count)
     }
 
     /// Gives back the next frames that have one home, or goes on where the side has none.
-    fn give_back(&mut self, side: usize) -> Act
+    fn give_back(&mut self, side: usize) -> Option<Ask>
         requires { side < 2 }
-        ensures expected { expects self.new.wait ≡ expected_of result }
-        ensures goes { GoesOn self.old.config.now self.old.app self.new result (give_back self.old.config.now side 0 (back_at (kept_by self.old) side) (kept_by self.old) (after_full_side self.old.config.now self.old.app side (noted_by self.old.turn))) }
+        ensures expected { expects self.new.wait ≡ expected_of (joined_ask result []) }
+        ensures goes { GoesOn self.old.config.now self.old.app self.new (joined_ask result []) (give_back self.old.config.now side 0 (back_at (kept_by self.old) side) (kept_by self.old) (after_full_side self.old.config.now self.old.app side (noted_by self.old.turn))) }
         ensures same { IsSame self.old self.new }
     {
         match self.backs[side].first_group(self.config.pool(), self.batch) {
-            Some((home, count)) => Act::Call(self.reserve_fill(side, home, count)),
+            Some((home, count)) => Some(self.reserve_fill(side, home, count)),
             None => self.go_on_full_side(side),
         }
     }
 
-    fn reserve_fill(&mut self, side: usize, home: u32, count: u32) -> Call
+    fn reserve_fill(&mut self, side: usize, home: u32, count: u32) -> Ask
         requires side { side < 2 }
         requires group { IsGroup (pool_of self.old.config.now) (batch_of self.old.config.now) (back_at (kept_by self.old) side) home count }
-        ensures expected { expects self.new.wait ≡ expected_by result }
-        ensures goes { doing self.old.config.now self.old.app self.new (Act.Call result) ≡ give_back self.old.config.now side 0 (back_at (kept_by self.old) side) (kept_by self.old) (after_full_side self.old.config.now self.old.app side (noted_by self.old.turn)) }
+        ensures expected { expects self.new.wait ≡ expected_by (joined_call result []) }
+        ensures goes { doing self.old.config.now self.old.app self.new (act.Call (joined_call result [])) ≡ give_back self.old.config.now side 0 (back_at (kept_by self.old) side) (kept_by self.old) (after_full_side self.old.config.now self.old.app side (noted_by self.old.turn)) }
         ensures same { IsSame self.old self.new }
     {
         self.wait = Wait::ReserveFill { side, home, count };
-        Call::Reserve(Ring::Fill(home), count)
+        Ask::Reserve(Ring::Fill(home), count)
     }
 
     /// Puts the side's first frames on the FILL ring of their home.
-    fn refill(&mut self, side: usize, home: u32, count: u32) -> Call
+    fn refill(&mut self, side: usize, home: u32, count: u32, items: &mut Batch) -> Ask
         requires side { side < 2 }
         requires group { IsGroup (pool_of self.old.config.now) (batch_of self.old.config.now) (back_at (kept_by self.old) side) home count }
-        ensures expected { expects self.new.wait ≡ expected_by result }
-        ensures goes { doing self.old.config.now self.old.app self.new (Act.Call result) ≡ by_reply (give_back self.old.config.now side 0 (back_at (kept_by self.old) side) (kept_by self.old) (after_full_side self.old.config.now self.old.app side (noted_by self.old.turn))) Reply.Granted }
+        requires empty { items.old ≡ [] }
+        ensures expected { expects self.new.wait ≡ expected_by (joined_call result items.new) }
+        ensures goes { doing self.old.config.now self.old.app self.new (act.Call (joined_call result items.new)) ≡ by_reply (give_back self.old.config.now side 0 (back_at (kept_by self.old) side) (kept_by self.old) (after_full_side self.old.config.now self.old.app side (noted_by self.old.turn))) reply.Granted }
         ensures same { IsSame self.old self.new }
+        ensures items { HasAsked result items.new }
     {
         self.wait = Wait::SubmitFill { side };
-        let items = self.backs[side].give(self.alloc, self.config.geometry(), count);
-        Call::Submit(Ring::Fill(home), items)
+        self.backs[side].give(self.config.geometry(), count, items);
+        Ask::Submit(Ring::Fill(home))
     }
 
     /// Keeps the side's frames, for which the FILL ring of their home has no room.
-    fn find_fill_full(&mut self, side: usize, _home: u32, _count: u32) -> Act
+    fn find_fill_full(&mut self, side: usize) -> Option<Ask>
         requires side { side < 2 }
-        requires group { IsGroup (pool_of self.old.config.now) (batch_of self.old.config.now) (back_at (kept_by self.old) side) _home _count }
-        ensures expected { expects self.new.wait ≡ expected_of result }
-        ensures goes { (free : ℕ) → GoesOn self.old.config.now self.old.app self.new result (by_reply (give_back self.old.config.now side 0 (back_at (kept_by self.old) side) (kept_by self.old) (after_full_side self.old.config.now self.old.app side (noted_by self.old.turn))) (Reply.Full free)) }
+        requires some { back_at (kept_by self.old) side ≢ [] }
+        ensures expected { expects self.new.wait ≡ expected_of (joined_ask result []) }
+        ensures goes { (free : ℕ) → GoesOn self.old.config.now self.old.app self.new (joined_ask result []) (by_reply (give_back self.old.config.now side 0 (back_at (kept_by self.old) side) (kept_by self.old) (after_full_side self.old.config.now self.old.app side (noted_by self.old.turn))) (reply.Full free)) }
         ensures same { IsSame self.old self.new }
     {
         self.go_on_full_side(side)
     }
 
     /// Ends a turn, by the facts as they are now.
-    fn end_turn(&mut self) -> Act
-        ensures expected { expects self.new.wait ≡ expected_of result }
-        ensures goes { GoesOn self.old.config.now self.old.app self.new result (end_turn self.old.config.now self.old.app (noted_by self.old.turn) (kept_by self.old)) }
+    fn end_turn(&mut self) -> Option<Ask>
+        ensures expected { expects self.new.wait ≡ expected_of (joined_ask result []) }
+        ensures goes { GoesOn self.old.config.now self.old.app self.new (joined_ask result []) (end_turn self.old.config.now self.old.app (noted_by self.old.turn) (kept_by self.old)) }
         ensures same { IsSame self.old self.new }
     {
         if self.tx_done {
             self.end_or_look()
         } else if self.seen[0] && self.seen[1] {
-            Act::Call(self.end_sending())
+            Some(self.end_sending())
         } else {
-            Act::Call(self.look_rx_done(0))
+            Some(self.look_rx_done(0))
         }
     }
 
     /// Looks at the first side from this one on that has not told that it has no further packet.
-    fn look_rx_done(&mut self, side: usize) -> Call
+    fn look_rx_done(&mut self, side: usize) -> Ask
         requires { side ≤ 2 }
-        ensures expected { expects self.new.wait ≡ expected_by result }
-        ensures goes { GoesOn self.old.config.now self.old.app self.new (Act.Call result) (look_rx_done self.old.config.now self.old.app (2 - side) side (kept_by self.old)) }
+        ensures expected { expects self.new.wait ≡ expected_by (joined_call result []) }
+        ensures goes { GoesOn self.old.config.now self.old.app self.new (act.Call (joined_call result [])) (look_rx_done self.old.config.now self.old.app (2 - side) side (kept_by self.old)) }
         ensures same { IsSame self.old self.new }
     {
         match first_unset(self.seen, side) {
             Some(side) => {
                 self.wait = Wait::LookRxDone { side };
-                Call::Look(Mark::RxDone(self.pairs[side]))
+                Ask::Look(Mark::RxDone(self.pairs[side]))
             }
             None => self.begin(),
         }
     }
 
-    fn learn_rx_done(&mut self, side: usize, done: u64) -> Call
+    fn learn_rx_done(&mut self, side: usize, done: u64) -> Ask
         requires { side < 2 }
-        ensures expected { expects self.new.wait ≡ expected_by result }
-        ensures goes { GoesOn self.old.config.now self.old.app self.new (Act.Call result) (look_rx_done self.old.config.now self.old.app (2 - (side + 1)) (side + 1) (with_seen (kept_by self.old) side done)) }
+        ensures expected { expects self.new.wait ≡ expected_by (joined_call result []) }
+        ensures goes { GoesOn self.old.config.now self.old.app self.new (act.Call (joined_call result [])) (look_rx_done self.old.config.now self.old.app (2 - (side + 1)) (side + 1) (with_seen (kept_by self.old) side done)) }
         ensures same { IsSame self.old self.new }
     {
         if done == 1 {
@@ -383,53 +398,53 @@ impl<'a> Machine<'a> {
     }
 
     /// Tells that nothing more is sent, where both sides were seen as the turn began and each lane was empty in it.
-    fn end_sending(&mut self) -> Call
-        ensures expected { expects self.new.wait ≡ expected_by result }
-        ensures goes { GoesOn self.old.config.now self.old.app self.new (Act.Call result) (tell_tx_done self.old.app (noted_by self.old.turn) (kept_by self.old)) }
+    fn end_sending(&mut self) -> Ask
+        ensures expected { expects self.new.wait ≡ expected_by (joined_call result []) }
+        ensures goes { GoesOn self.old.config.now self.old.app self.new (act.Call (joined_call result [])) (tell_tx_done self.old.app (noted_by self.old.turn) (kept_by self.old)) }
         ensures same { IsSame self.old self.new }
     {
         if self.turn.seen && self.turn.lanes_empty {
             self.wait = Wait::TellTxDone;
-            Call::Swap(Mark::TxDone(self.app), 1)
+            Ask::Swap(Mark::TxDone(self.app), 1)
         } else {
             self.begin()
         }
     }
 
     /// Ends where both drivers had ended as the turn began and nothing is left to give back, and else looks for them.
-    fn end_or_look(&mut self) -> Act
-        ensures expected { expects self.new.wait ≡ expected_of result }
-        ensures goes { GoesOn self.old.config.now self.old.app self.new result (end_or_look self.old.config.now self.old.app (noted_by self.old.turn) (kept_by self.old)) }
+    fn end_or_look(&mut self) -> Option<Ask>
+        ensures expected { expects self.new.wait ≡ expected_of (joined_ask result []) }
+        ensures goes { GoesOn self.old.config.now self.old.app self.new (joined_ask result []) (end_or_look self.old.config.now self.old.app (noted_by self.old.turn) (kept_by self.old)) }
         ensures same { IsSame self.old self.new }
     {
         let nothing_left = self.backs[0].is_empty() && self.backs[1].is_empty();
         if self.turn.gone && self.turn.sides_empty && nothing_left {
             self.wait = Wait::Ended;
-            return Act::Ended;
+            return None;
         }
-        Act::Call(self.look_gone(0))
+        Some(self.look_gone(0))
     }
 
     /// Looks at the first side from this one on whose driver isn't known to have ended.
-    fn look_gone(&mut self, side: usize) -> Call
+    fn look_gone(&mut self, side: usize) -> Ask
         requires { side ≤ 2 }
-        ensures expected { expects self.new.wait ≡ expected_by result }
-        ensures goes { GoesOn self.old.config.now self.old.app self.new (Act.Call result) (look_gone self.old.config.now self.old.app (2 - side) side (kept_by self.old)) }
+        ensures expected { expects self.new.wait ≡ expected_by (joined_call result []) }
+        ensures goes { GoesOn self.old.config.now self.old.app self.new (act.Call (joined_call result [])) (look_gone self.old.config.now self.old.app (2 - side) side (kept_by self.old)) }
         ensures same { IsSame self.old self.new }
     {
         match first_unset(self.gone, side) {
             Some(side) => {
                 self.wait = Wait::LookGone { side };
-                Call::Look(Mark::Gone(self.pairs[side]))
+                Ask::Look(Mark::Gone(self.pairs[side]))
             }
             None => self.begin(),
         }
     }
 
-    fn learn_gone(&mut self, side: usize, gone: u64) -> Call
+    fn learn_gone(&mut self, side: usize, gone: u64) -> Ask
         requires { side < 2 }
-        ensures expected { expects self.new.wait ≡ expected_by result }
-        ensures goes { GoesOn self.old.config.now self.old.app self.new (Act.Call result) (look_gone self.old.config.now self.old.app (2 - (side + 1)) (side + 1) (with_gone (kept_by self.old) side gone)) }
+        ensures expected { expects self.new.wait ≡ expected_by (joined_call result []) }
+        ensures goes { GoesOn self.old.config.now self.old.app self.new (act.Call (joined_call result [])) (look_gone self.old.config.now self.old.app (2 - (side + 1)) (side + 1) (with_gone (kept_by self.old) side gone)) }
         ensures same { IsSame self.old self.new }
     {
         if gone == 1 {

@@ -3,5 +3,6 @@
 
 mod disposal;
 pub mod laws;
+pub mod stepping;
 
 pub use disposal::{Disposal, DriverCounters};

@@ -8,6 +8,6 @@ use Rattle.xsk_app.proofs.machine.Machine.find_fill_full.Goals as goal
 pub returns-clause-goes : goal.returns-clause-goes
 returns-clause-goes c =
     let m = c.args.self.now in
+    let next = after_full_side m.config.now m.app c.args.side (noted_by m.turn) in
     λ free. c.go_on_full_side.ensures.goes
-    ∙ ap (begun (app_turn m.config.now m.app)) (sym (give_back_full m.config.now c.args.side (kept_by m) (after_full_side m.config.now m.app c.args.side (noted_by m.turn))
-    c.args._home c.args._count free c.requires.group))
+    ∙ ap (begun (app_turn m.config.now m.app)) (sym (give_back_full m.config.now c.args.side (kept_by m) next free c.requires.some))

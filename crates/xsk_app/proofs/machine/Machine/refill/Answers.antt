@@ -14,9 +14,9 @@ returns-clause-goes c =
     let n = c.args.count in
     let here : c.index_mut.result.now ≡ back_at (kept_by m) c.args.side =
     c.index_mut.ensures.value ∙ get_or_default m.backs.items c.args.side c.index_mut.result.now [] (omega (arith, c.requires.side, m.sides)) in
-    let items = c.give-items.ensures.items
+    let items = c.give.ensures.items
     ∙ ap (λ (g : Geometry). map (home_item g) (take n c.index_mut.result.now)) c.geometry.ensures.value
     ∙ ap (λ (b : List Frame). map (home_item m.config.now.geometry) (take n b)) here in
-    let rest = c.give-items.ensures.left ∙ ap (λ (b : List Frame). drop n b) here in
-    submit_group m.config.now m.app c.args.side (noted_by m.turn) (kept_by m) c.args.home c.args.count c.give-items.result c.give-items.new.self
+    let rest = c.give.ensures.left ∙ ap (λ (b : List Frame). drop n b) here in
+    submit_group m.config.now m.app c.args.side (noted_by m.turn) (kept_by m) c.args.home c.args.count c.give.new.items c.give.new.self
     (omega (arith, c.requires.side, m.sides)) c.requires.group (omega (arith, m.some, m.batch_is)) items rest

@@ -1,0 +1,151 @@
+//! The packets that a driver put together and didn't complete yet.
+ghost use Rattle.std.specs.Prelude.{◌≡◌, ℕ, ◌+◌, List, [], ◌∷◌, ◌++◌, ◌<◌, ◌≤◌, length, map, take, drop, false, IfOk, MatchOption};
+ghost use Rattle.std.specs.List.{slice_index_or};
+ghost use Rattle.std.specs.VecDeque.{deque_capacity};
+ghost use Rattle.xsk_umem.specs.Geometry.{IsGeometry};
+ghost use Rattle.xsk_model.specs.Packets.{bytes_of};
+ghost use Rattle.xsk_turns.specs.Turns.{returned};
+ghost use Rattle.xsk_driver.specs.Sent.{Sends, last_length};
+ghost use Rattle.xsk_driver.specs.Sendings.{sendings_of};
+
+use crate::sending::Sending;
+use std::alloc::Global;
+use std::collections::VecDeque;
+use std::marker::Model;
+use xsk_desc::{MOST_FRAMES, payload_of};
+use xsk_umem::{Batch, Geometry, Item, OutOfMemory, XdpDesc};
+
+/// The most packets that are finished and not completed.
+pub(crate) const MOST_FINISHED: usize = 128;
+
+/// The packets that were put together and not completed yet, in order: their items one after the other, and how many each
+/// has.
+#[derive(Drop)]
+pub(crate) struct Finished {
+    items: VecDeque<Item>,
+    lengths: VecDeque<u32>,
+}
+
+impl Model for Finished {
+    ghost use Rattle.std.specs.Prelude.{◌≡◌, ◌≤◌, List, All, length};
+    ghost use Rattle.std.specs.List.{sum};
+    ghost use Rattle.std.specs.VecDeque.{deque_capacity};
+    ghost use Rattle.xsk_umem.specs.declared.batch.Item.{Item};
+    ghost use Rattle.xsk_driver.specs.Finished.{cut_by};
+
+    ghost Value = { List (List Item) };
+
+    ghost view = { λ f. cut_by f.lengths.items f.items.items };
+
+    ghost invariant = { λ f. (sum f.lengths.items ≡ length f.items.items) × All (λ n. n ≤ 18) f.lengths.items
+        × (2304 ≤ deque_capacity f.items) × (128 ≤ deque_capacity f.lengths) };
+}
+
+impl Finished {
+    /// No packet, with room for 128.
+    pub(crate) fn new(alloc: Global) -> Result<Finished, OutOfMemory>
+        ensures { IfOk result (λ f. f ≡ []) }
+    {
+        Ok(Finished {
+            items: VecDeque::with_capacity(alloc, MOST_FINISHED * MOST_FRAMES as usize)?,
+            lengths: VecDeque::with_capacity(alloc, MOST_FINISHED)?,
+        })
+    }
+
+    /// The number of packets.
+    pub(crate) fn len(&self) -> usize
+        ensures { result ≡ length self.now }
+    {
+        self.lengths.len()
+    }
+
+    /// The number of items of the first packet, if there is one.
+    pub(crate) fn first_len(&self) -> Option<u32>
+        ensures { MatchOption result (self.now ≡ []) (λ n. (1 ≤ length self.now) × (n ≡ length (slice_index_or self.now 0 []))) }
+    {
+        self.lengths.front().copied()
+    }
+
+    /// Appends a packet of the batch's items, and leaves it empty.
+    pub(crate) fn push(&mut self, items: &mut Batch)
+        requires room { length self.old < 128 }
+        requires few { length items.old ≤ 18 }
+        ensures packets { self.new ≡ self.old ++ items.old ∷ [] }
+        ensures items { items.new ≡ [] }
+    {
+        let length = items.len();
+        append(&mut self.items, items);
+        self.lengths.push_back_reserved(length);
+    }
+
+    /// Takes the first packet: keeps its bytes as sent, and puts its items with their addresses alone into the batch.
+    pub(crate) fn complete_first(
+        &mut self,
+        geometry: &Geometry,
+        sg: bool,
+        sending: &mut Sending,
+        items: &mut Batch,
+    )
+        requires lawful { IsGeometry geometry.now }
+        requires empty { items.old ≡ [] }
+        ensures packets { 1 ≤ length self.old → self.new ≡ drop 1 self.old }
+        ensures items { 1 ≤ length self.old → items.new ≡ map returned (slice_index_or self.old 0 []) }
+        ensures limits { (sending.new.most_packets ≡ sending.old.most_packets) × (sending.new.most_bytes ≡ sending.old.most_bytes) }
+        ensures sends { 1 ≤ length self.old → (packets : List (List ℕ)) → Sends (sendings_of sending.old) packets
+            → Sends (sendings_of sending.new) (packets ++ bytes_of geometry.now sg (slice_index_or self.old 0 []) ∷ []) }
+    {
+        let Some(length) = self.lengths.pop_front() else {
+            return;
+        };
+        sending.begin();
+        send(&mut self.items, length, geometry, sg, sending, items);
+    }
+}
+
+/// Moves all items of the batch to the end of the queue, which has room for them.
+fn append(queue: &mut VecDeque<Item>, items: &mut Batch)
+    requires { length queue.old.items + length items.old ≤ deque_capacity queue.old }
+    ensures queue { queue.new.items ≡ queue.old.items ++ items.old }
+    ensures items { items.new ≡ [] }
+    ensures capacity { deque_capacity queue.new ≡ deque_capacity queue.old }
+{
+    while let Some(item) = items.pop_front() {
+        queue.push_back_reserved(item);
+    }
+}
+
+/// Takes the first items of the queue, so many, for the packet that was begun last: appends their bytes to it, and puts the
+/// items with their addresses alone into the batch.
+fn send(
+    queue: &mut VecDeque<Item>,
+    count: u32,
+    geometry: &Geometry,
+    sg: bool,
+    sending: &mut Sending,
+    items: &mut Batch,
+)
+    requires lawful { IsGeometry geometry.now }
+    requires few { count ≤ 18 }
+    requires some { count ≤ length queue.old.items }
+    requires empty { items.old ≡ [] }
+    requires begun { sending.old.overrun ≡ false → last_length sending.old.list.packets ≡ 0 }
+    ensures queue { queue.new.items ≡ drop count queue.old.items }
+    ensures items { items.new ≡ map returned (take count queue.old.items) }
+    ensures capacity { deque_capacity queue.new ≡ deque_capacity queue.old }
+    ensures limits { (sending.new.most_packets ≡ sending.old.most_packets) × (sending.new.most_bytes ≡ sending.old.most_bytes) }
+    ensures sends { (packets : List (List ℕ)) → Sends (sendings_of sending.old) (packets ++ [] ∷ [])
+        → Sends (sendings_of sending.new) (packets ++ bytes_of geometry.now sg (take count queue.old.items) ∷ []) }
+{
+    for _ in 0..count {
+        let item = queue.pop_front().unwrap();
+        sending.extend(payload_of(&item, geometry, sg));
+        items.push(Item {
+            frame: item.frame,
+            desc: XdpDesc {
+                addr: item.desc.addr,
+                len: 0,
+                options: 0,
+            },
+        });
+    }
+}
