@@ -1,0 +1,97 @@
+-- What holds of an accepted layout.
+use Rattle.std.proofs.Common.{◌≡◌, ℕ, zero, suc, ◌+◌, ◌%◌, ◌^◌, ◌<◌, ◌≤◌, ◌⊎◌, ◌&&◌, true, eqb, ltb, leb, List, [], ◌∷◌, ◌++◌, refl, arith, Option, None, Some, subst, inl, inr}
+use Rattle.std.specs.Prelude.{IsSome}
+use Rattle.std.specs.List.{list_any, range_with_len}
+use Rattle.std.proofs.lemmas.Bool.{cases_Bool, eqb-true}
+use Rattle.std.proofs.lemmas.Bool.Decides.{nat_tests}
+use Rattle.std.proofs.Math.Nat.{pow-le-pow_right}
+use Rattle.xsk_model.specs.Config.{IsRingSize}
+use Rattle.xsk_socket.specs.declared.layout.Layout.{Layout}
+use Rattle.xsk_socket.specs.declared.layout.Unlawful.{Unlawful}
+use Rattle.xsk_socket.specs.Fits.{Fits, IsCount}
+use Rattle.xsk_socket.specs.Layout.{Demand, demands, fault_of, first_unmet, is_count, is_port_count, is_ring_size, pairs_in, pool_in}
+
+-- each demand is met
+AreMet : List Demand → Type 0
+AreMet [] = Unit {0}
+AreMet (d ∷ rest) = (d.0 ≡ true) × AreMet rest
+
+met : (ds : List Demand) → first_unmet ds ≡ None → AreMet ds
+unfolding AreMet
+met [] none = tt
+met (d ∷ rest) none =
+    elim (cases_Bool d.0) [
+      | inl holds ↦ (holds, met rest (rw holds at none))
+      | inr fails ↦ let some : Some d.1 ≡ None = rw fails at none in absurd (cc)
+    ]
+
+power_in : (a n size : ℕ) → list_any (λ k. eqb size (2 ^ k)) (range_with_len a n) ≡ true → (k : ℕ) × (size ≡ 2 ^ k) × (a ≤ k) × (k < a + n)
+power_in a zero size is = absurd (cc)
+power_in a (suc n) size is =
+    elim (cases_Bool (eqb size (2 ^ a))) [
+      | inl here ↦ (a, eqb-true size (2 ^ a) here, omega arith, omega arith)
+      | inr other ↦
+          let rest : list_any (λ k. eqb size (2 ^ k)) (range_with_len (a + 1) n) ≡ true = rw other at is in
+          let found = power_in (a + 1) n size rest in
+          (found.0, found.1, omega arith, omega arith)
+    ]
+
+pub ring_size : (size : ℕ) → is_ring_size size ≡ true → IsRingSize size
+ring_size size is =
+    let found = power_in 1 11 size is in
+    let least : 2 ^ 1 ≤ 2 ^ found.0 = pow-le-pow_right {n = 2} (omega arith) {i = 1} {j = found.0} found.2 in
+    let most : 2 ^ found.0 ≤ 2 ^ 11 = pow-le-pow_right {n = 2} (omega arith) {i = found.0} {j = 11} (omega (arith, found.3)) in
+    record {
+      power = (found.0, found.1);
+      least = rw found.1 least;
+      most = rw found.1 most;
+    }
+
+port_count : (n : ℕ) → is_port_count n ≡ true → (n ≡ 2) ⊎ (n ≡ 4)
+port_count n is = grind (arith, nat_tests)
+
+count : (n : ℕ) → is_count n ≡ true → IsCount n
+count n is = grind (arith, nat_tests)
+
+frames_fit : (n pairs : ℕ) → (ltb 0 n && leb n 4096 && eqb (n % pairs) 0) ≡ true → (0 < n) × (n ≤ 4096) × (n % pairs ≡ 0)
+frames_fit n pairs is = grind (arith, nat_tests)
+
+pool_fits : (pool fill : ℕ) → leb pool fill ≡ true → pool ≤ fill
+pool_fits pool fill is = grind (arith, nat_tests)
+
+-- demands of which those before are met, or not all are
+pub met_before : (xs ys : List Demand) → first_unmet xs ≡ None → first_unmet (xs ++ ys) ≡ first_unmet ys
+met_before [] ys none = refl
+met_before (d ∷ xs) ys none =
+    elim (cases_Bool d.0) [
+      | inl holds ↦ rw holds (met_before xs ys (rw holds at none))
+      | inr fails ↦ let some : Some d.1 ≡ None = rw fails at none in absurd (cc)
+    ]
+
+pub unmet_before : (xs ys : List Demand) (r : Option Unlawful) → IsSome r → r ≡ first_unmet xs → r ≡ first_unmet (xs ++ ys)
+unmet_before [] ys r some is = let some : IsSome {T = Unlawful} None = subst IsSome is some in absurd (cc)
+unmet_before (d ∷ xs) ys r some is =
+    elim (cases_Bool d.0) [
+      | inl holds ↦ rw holds (unmet_before xs ys r some (rw holds at is))
+      | inr fails ↦ rw fails (rw fails at is)
+    ]
+
+pub fits : (l : Layout) → fault_of l ≡ None → Fits l
+unfolding AreMet
+fits l none =
+    let all = met (demands l) none in
+    let rest = all.1.1.1.1.1.1 in
+    let of_frames = frames_fit l.frames (pairs_in l) rest.0 in
+    record {
+      ports = port_count l.ports all.0;
+      queues = count l.queues all.1.0;
+      sockets = count l.sockets all.1.1.0;
+      some = of_frames.0;
+      few = of_frames.1;
+      divides = of_frames.2;
+      rx = ring_size l.rx rest.1.0;
+      tx = ring_size l.tx rest.1.1.0;
+      fill = ring_size l.fill rest.1.1.1.0;
+      comp = ring_size l.comp rest.1.1.1.1.0;
+      pool = pool_fits (pool_in l) l.fill rest.1.1.1.1.1.0;
+    }

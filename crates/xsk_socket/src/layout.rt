@@ -1,0 +1,162 @@
+//! What a command can ask for, and why it is refused.
+ghost use Rattle.std.specs.Prelude.{◌≡◌, None, Some, OnOk, if◌then◌else◌};
+ghost use Rattle.std.specs.Result.{result_err};
+ghost use Rattle.xsk_socket.specs.Fits.{HasCounts};
+ghost use Rattle.xsk_socket.specs.Layout.{fault_of, first_unmet, is_count, is_port_count, is_ring_size, on_counts, on_rings, on_umem};
+
+/// The bytes at the start of each chunk that never hold a packet's data.
+const RESERVED: u32 = 256;
+
+/// The most frames of one UMEM.
+const MOST_FRAMES: u32 = 4096;
+
+/// A layout: how many ports, queues and sockets there are, the UMEM, and the size of each kind of ring.
+///
+/// Each queue of each port has one pair of FILL and COMPLETION rings and the same number of sockets, each with RX and
+/// TX.
+#[derive(Clone, Copy, Debug, PartialEq, Eq)]
+pub struct Layout {
+    /// The ports: 2 or 4.
+    pub ports: u32,
+    /// The queues of each port: 1, 2 or 4.
+    pub queues: u32,
+    /// The sockets of each queue: 1, 2 or 4.
+    pub sockets: u32,
+    /// The files that were named.
+    pub files: u32,
+    /// The files that have to be named for each port.
+    pub files_wanted_per_port: u32,
+    /// The bytes of a chunk: 2,048 or 4,096.
+    pub chunk: u32,
+    /// The bytes that are kept free before the data of a frame: below the chunk less 256.
+    pub headroom: u32,
+    /// The frames of the UMEM: 1 to 4,096, the same number for each queue of each port.
+    pub frames: u32,
+    /// The entries of each RX ring: a power of two from 2 to 2,048, as of the other rings.
+    pub rx: u32,
+    /// The entries of each TX ring.
+    pub tx: u32,
+    /// The entries of each FILL ring, at least as many as a queue has frames.
+    pub fill: u32,
+    /// The entries of each COMPLETION ring.
+    pub comp: u32,
+    /// Whether packets may have several frames (XDP_USE_SG).
+    pub sg: bool,
+    /// Whether the need-wakeup flags are used (XDP_USE_NEED_WAKEUP).
+    pub wakeup: bool,
+    /// The cell of each port's XSKMAP that is left empty, if one is.
+    pub empty: Option<u32>,
+}
+
+/// Why a layout is refused: what is wrong, with its value.
+#[derive(Clone, Copy, Debug, PartialEq, Eq)]
+pub enum Unlawful {
+    /// There are neither 2 nor 4 ports.
+    Ports(u32),
+    /// A port has no 1, 2 or 4 queues.
+    Queues(u32),
+    /// A queue has no 1, 2 or 4 sockets.
+    Sockets(u32),
+    /// There aren't as many files as all ports together want.
+    Files(u32),
+    /// The chunk has neither 2,048 nor 4,096 bytes.
+    Chunk(u32),
+    /// The headroom leaves no room for data.
+    Headroom(u32),
+    /// There are no frames, more than 4,096, or not the same number for each queue of each port.
+    Frames(u32),
+    /// The size of the RX rings is no power of two from 2 to 2,048.
+    Rx(u32),
+    /// The size of the TX rings is none.
+    Tx(u32),
+    /// The size of the FILL rings is none.
+    Fill(u32),
+    /// The size of the COMPLETION rings is none.
+    Comp(u32),
+    /// The frames of a queue, of which there are so many, don't fit its FILL ring.
+    Pool(u32),
+    /// There is no such cell.
+    Empty(u32),
+}
+
+/// Whether a layout is accepted, and else the first reason of [`Unlawful`], in its order, with its value.
+pub fn check_layout(layout: &Layout) -> Result<(), Unlawful>
+    ensures { result_err result ≡ fault_of layout.now }
+{
+    check_counts(layout)?;
+    check_umem(layout)?;
+    check_rings(layout)?;
+    match layout.empty {
+        Some(cell) => unless(cell < layout.queues * layout.sockets, Unlawful::Empty(cell)),
+        None => Ok(()),
+    }
+}
+
+fn check_counts(layout: &Layout) -> Result<(), Unlawful>
+    ensures refusal { result_err result ≡ first_unmet (on_counts layout.now) }
+    ensures counts { OnOk result (HasCounts layout.now) }
+{
+    unless(is_port_count(layout.ports), Unlawful::Ports(layout.ports))?;
+    unless(is_count(layout.queues), Unlawful::Queues(layout.queues))?;
+    unless(is_count(layout.sockets), Unlawful::Sockets(layout.sockets))?;
+    let wanted = u64::from(layout.files_wanted_per_port) * u64::from(layout.ports);
+    unless(
+        u64::from(layout.files) == wanted,
+        Unlawful::Files(layout.files),
+    )
+}
+
+fn check_umem(layout: &Layout) -> Result<(), Unlawful>
+    requires { HasCounts layout.now }
+    ensures { result_err result ≡ first_unmet (on_umem layout.now) }
+{
+    let has_chunk = layout.chunk == 2048 || layout.chunk == 4096;
+    unless(has_chunk, Unlawful::Chunk(layout.chunk))?;
+    let has_data = layout.headroom < layout.chunk - RESERVED;
+    unless(has_data, Unlawful::Headroom(layout.headroom))?;
+    let frames = layout.frames;
+    let left = frames % (layout.ports * layout.queues);
+    let divided = 0 < frames && frames <= MOST_FRAMES && left == 0;
+    unless(divided, Unlawful::Frames(frames))
+}
+
+fn check_rings(layout: &Layout) -> Result<(), Unlawful>
+    requires { HasCounts layout.now }
+    ensures { result_err result ≡ first_unmet (on_rings layout.now) }
+{
+    unless(is_ring_size(layout.rx), Unlawful::Rx(layout.rx))?;
+    unless(is_ring_size(layout.tx), Unlawful::Tx(layout.tx))?;
+    unless(is_ring_size(layout.fill), Unlawful::Fill(layout.fill))?;
+    unless(is_ring_size(layout.comp), Unlawful::Comp(layout.comp))?;
+    let pool = layout.frames / (layout.ports * layout.queues);
+    unless(pool <= layout.fill, Unlawful::Pool(pool))
+}
+
+/// The refusal, unless the condition holds.
+fn unless(holds: bool, refusal: Unlawful) -> Result<(), Unlawful>
+    ensures { result_err result ≡ (if holds then None else Some refusal) }
+{
+    if holds { Ok(()) } else { Err(refusal) }
+}
+
+fn is_port_count(ports: u32) -> bool
+    ensures { result ≡ is_port_count ports }
+{
+    ports == 2 || ports == 4
+}
+
+fn is_count(count: u32) -> bool
+    ensures { result ≡ is_count count }
+{
+    count == 1 || count == 2 || count == 4
+}
+
+/// Whether a ring can have so many entries: a power of two from 2 to 2,048.
+pub(crate) fn is_ring_size(size: u32) -> bool
+    ensures { result ≡ is_ring_size size }
+{
+    matches!(
+        size,
+        2 | 4 | 8 | 16 | 32 | 64 | 128 | 256 | 512 | 1024 | 2048
+    )
+}
