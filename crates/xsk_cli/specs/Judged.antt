@@ -3,6 +3,7 @@
 -- are this project's own.
 use Rattle.std.specs.Prelude.{◌≡◌, ℕ, zero, suc, ◌+◌, ◌<◌, ◌≤◌, List, length}
 use Rattle.std.specs.List.{concat}
+use Rattle.xsk_pcap.specs.Limits.{most_packets, most_bytes}
 use Rattle.xsk_pcap.specs.Capture.{IsCapture, IsRefused}
 use Rattle.xsk_pcap.specs.declared.reading.BadCapture.{BadCapture as Cause}
 use Rattle.xsk_cli.specs.declared.status.Excess.{Excess}
@@ -29,8 +30,8 @@ bytes_in packets0 packets1 = length (concat packets0) + length (concat packets1)
 -- and they are within the limits of both together
 pub record AreTaken (in0 in1 : List ℕ) (packets0 packets1 : List (List ℕ)) : Type 0 where
   pub captures : AreCaptures in0 in1 packets0 packets1
-  pub packets : packets_in packets0 packets1 ≤ 65536
-  pub bytes : bytes_in packets0 packets1 ≤ 33554432
+  pub packets : packets_in packets0 packets1 ≤ most_packets
+  pub bytes : bytes_in packets0 packets1 ≤ most_bytes
 
 -- the lowest input that is no capture, and its first check that fails
 abbrev pub IsBadCapture : List ℕ → List ℕ → ℕ → Cause → Type 0
@@ -44,15 +45,15 @@ pub record HaveTooMany (in0 in1 : List ℕ) (n : ℕ) : Type 0 where
   pub packets1 : List (List ℕ)
   pub captures : AreCaptures in0 in1 packets0 packets1
   pub number : n ≡ packets_in packets0 packets1
-  pub above : 65536 < n
+  pub above : most_packets < n
 
 pub record HaveTooLarge (in0 in1 : List ℕ) (n : ℕ) : Type 0 where
   pub packets0 : List (List ℕ)
   pub packets1 : List (List ℕ)
   pub captures : AreCaptures in0 in1 packets0 packets1
-  pub few : packets_in packets0 packets1 ≤ 65536
+  pub few : packets_in packets0 packets1 ≤ most_packets
   pub number : n ≡ bytes_in packets0 packets1
-  pub above : 33554432 < n
+  pub above : most_bytes < n
 
 abbrev pub IsTooMuch : List ℕ → List ℕ → Excess → Type 0
 IsTooMuch in0 in1 (Input zero) = 34603032 < length in0

@@ -3,11 +3,13 @@ use Rattle.std.specs.Prelude.{◌≡◌, ℕ, ◌<◌, ◌≤◌, ◌⊎◌, Opt
 use Rattle.std.specs.Fmt.{decimal}
 use Rattle.xsk_umem.specs.Frame.{Frame}
 use Rattle.xsk_umem.specs.PacketList.{PacketList}
+use Rattle.xsk_model.specs.Limits.{ethernet_header}
 use Rattle.xsk_model.specs.Sent.{sent}
 use Rattle.xsk_sim.specs.Shown.{Shown, packets_in}
 use Rattle.xsk_turns.specs.Workers.{Setting}
 use Rattle.xsk_sim.specs.Runs.{HasEnded, HasStalled}
 use Rattle.xsk_pcap.specs.Capture.{IsRefused}
+use Rattle.xsk_pcap.specs.Limits.{most_packets, most_bytes}
 use Rattle.xsk_pcap.specs.Written.{written}
 use Rattle.xsk_pcap.specs.declared.reading.BadCapture.{BadCapture as Cause}
 use Rattle.xsk_pcap.specs.declared.reading.BadCapture.TheVariants.{ShortHeader, BadMagic, BadVersion, BadLink, Truncated, RecordTooLong, OutOfMemory as NoMemory}
@@ -34,7 +36,7 @@ HavePackets lists packets0 packets1 = map packets_in lists ≡ packets0 ∷ pack
 
 -- whether a packet is sent on by the other port: it has 14 bytes up to the 3,840 that a frame holds
 abbrev pub is_sent_on : List ℕ → Bool
-is_sent_on packet = nat_le 14 (length packet) && nat_le (length packet) 3840
+is_sent_on packet = nat_le ethernet_header (length packet) && nat_le (length packet) 3840
 
 -- The texts of a run of the packets of both ports that has ended: what each driver sent, and the number of calls. What is
 -- sent by each port is exactly what the other port received and sends on, in order and whole.
@@ -172,8 +174,8 @@ IsRefusal port bytes OutOfMemory = Unit {0}
 -- by how much the packets of both ports pass the limits
 abbrev pub IsAbove : List (List ℕ) → List (List ℕ) → Excess → Type 0
 IsAbove packets0 packets1 (Input port) = ⊥
-IsAbove packets0 packets1 (Packets n) = (n ≡ packets_of_both packets0 packets1) × (65536 < n)
-IsAbove packets0 packets1 (Bytes n) = (packets_of_both packets0 packets1 ≤ 65536) × (n ≡ bytes_in packets0 packets1) × (33554432 < n)
+IsAbove packets0 packets1 (Packets n) = (n ≡ packets_of_both packets0 packets1) × (most_packets < n)
+IsAbove packets0 packets1 (Bytes n) = (packets_of_both packets0 packets1 ≤ most_packets) × (n ≡ bytes_in packets0 packets1) × (most_bytes < n)
 
 abbrev pub IsExcess : List (List ℕ) → List (List ℕ) → Status → Type 0
 IsExcess packets0 packets1 Done = ⊥

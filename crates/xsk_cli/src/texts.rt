@@ -1,6 +1,7 @@
 //! The run of a simulation, and the texts that it leaves.
 ghost use Rattle.std.specs.Prelude.{◌≡◌, ℕ, ◌+◌, ◌<◌, ◌≤◌, ◌⊎◌, ◌^◌, ◌∷◌, [], All, List, IfErr, IfOk, IsTrue, OnOk, length, vec_len, string_bytes};
 ghost use Rattle.std.specs.List.{concat};
+ghost use Rattle.xsk_pcap.specs.Limits.{most_packets, most_bytes};
 ghost use Rattle.xsk_pcap.specs.Capture.{IsCapture, IsRefused};
 ghost use Rattle.xsk_pcap.specs.declared.reading.BadCapture.{BadCapture as ACause};
 ghost use Rattle.xsk_pcap.specs.Written.{written};
@@ -110,31 +111,19 @@ fn refused_for(port: u32, cause: BadCapture) -> Status
 /// Tests the limits of both ports together: the packets first, then the captured bytes.
 fn check_limits(first: &PacketList, second: &PacketList) -> Result<(), Status>
     requires small { bytes_in first.now.packets second.now.packets < 2 ^ 64 }
-    ensures packets { OnOk result (packets_in first.now.packets second.now.packets ≤ 65536) }
-    ensures bytes { OnOk result (bytes_in first.now.packets second.now.packets ≤ 33554432) }
+    ensures packets { OnOk result (packets_in first.now.packets second.now.packets ≤ most_packets) }
+    ensures bytes { OnOk result (bytes_in first.now.packets second.now.packets ≤ most_bytes) }
     ensures excess { IfErr result (IsExcess first.now.packets second.now.packets) }
 {
     let packets = u64::from(first.len()) + u64::from(second.len());
     if packets > MOST_PACKETS {
         return Err(Status::TooMuch(Excess::Packets(packets)));
     }
-    let bytes = bytes_of(first) + bytes_of(second);
+    let bytes = first.bytes() + second.bytes();
     if bytes > MOST_BYTES {
         return Err(Status::TooMuch(Excess::Bytes(bytes)));
     }
     Ok(())
-}
-
-/// The bytes of all packets of a list.
-fn bytes_of(list: &PacketList) -> u64
-    requires { length (concat list.now.packets) < 2 ^ 64 }
-    ensures { result ≡ length (concat list.now.packets) }
-{
-    let mut bytes = 0;
-    for number in 0..list.len() {
-        bytes += list.get(number).len() as u64;
-    }
-    bytes
 }
 
 /// Runs the lists of both ports.
@@ -157,27 +146,12 @@ fn capture_text(alloc: Global, list: &PacketList) -> Result<Vec<u8>, OutOfMemory
     requires { All IsShort list.now.packets }
     ensures { IfOk result (λ text. text.items ≡ written (list.now.packets ∷ [])) }
 {
-    if u64::from(list.len()) > MOST_PACKETS || !fits_capture(list) {
+    if u64::from(list.len()) > MOST_PACKETS || list.bytes() > MOST_BYTES {
         return Err(OutOfMemory);
     }
     let mut capture = Capture::start(alloc)?;
     capture.add(list)?;
     Ok(capture.into_bytes())
-}
-
-/// Whether the bytes of all packets of a list are within the limit.
-fn fits_capture(list: &PacketList) -> bool
-    ensures { IsTrue result → length (concat list.now.packets) ≤ 33554432 }
-{
-    let mut left = MOST_BYTES;
-    for number in 0..list.len() {
-        let len = list.get(number).len() as u64;
-        if len > left {
-            return false;
-        }
-        left -= len;
-    }
-    true
 }
 
 /// The one line of the report.

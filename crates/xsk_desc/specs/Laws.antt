@@ -4,6 +4,7 @@ use Rattle.xsk_umem.specs.Geometry.{Geometry, IsGeometry}
 use Rattle.xsk_umem.specs.declared.batch.Item.{Item}
 use Rattle.xsk_umem.specs.declared.batch.XdpDesc.{XdpDesc}
 use Rattle.xsk_model.specs.Descriptor.{is_valid}
+use Rattle.xsk_model.specs.Limits.{most_fragments}
 use Rattle.xsk_model.specs.Packets.{IsCut, IsLayout, Packet, whole, packets, rest, items_of, bytes_of, IsPacket, IsUnfinished}
 use Rattle.xsk_desc.specs.Fault.{fault_of}
 
@@ -37,5 +38,5 @@ HasNoOtherPackets = (g : Geometry) (sg : Bool) (made : List Packet) (kept : List
 
 -- the layout of a packet in at most 18 frames has one packet, which is whole and has its bytes
 abbrev pub LayoutIsPacket : Type 0
-LayoutIsPacket = (g : Geometry) (sg : Bool) (packet : List ℕ) (items : List Item) → IsGeometry g → IsLayout g sg packet items → length items ≤ 18
+LayoutIsPacket = (g : Geometry) (sg : Bool) (packet : List ℕ) (items : List Item) → IsGeometry g → IsLayout g sg packet items → length items ≤ most_fragments
     → (packets g sg items ≡ whole items ∷ []) × (rest g sg items ≡ []) × (bytes_of g sg items ≡ packet)

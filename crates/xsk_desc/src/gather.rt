@@ -2,6 +2,7 @@
 ghost use Rattle.std.specs.Prelude.{◌≡◌, ◌≤◌, List, [], ◌∷◌, ◌++◌, length, option_to_list};
 ghost use Rattle.xsk_umem.specs.Geometry.{Geometry as Numbers};
 ghost use Rattle.xsk_umem.specs.declared.batch.Item.{Item as AnItem};
+ghost use Rattle.xsk_model.specs.Limits.{most_fragments};
 ghost use Rattle.xsk_model.specs.Packets.{ended_by, group_after, packets};
 ghost use Rattle.xsk_desc.specs.Kept.{Kept};
 
@@ -9,10 +10,8 @@ use crate::descriptor::{CONTINUED, validate};
 use std::alloc::Global;
 use std::marker::Model;
 use std::mem;
+use xsk_model::steering::MOST_FRAGMENTS;
 use xsk_umem::{Batch, Geometry, Item};
-
-/// The most frames of one packet.
-pub const MOST_FRAMES: u32 = 18;
 
 /// What the next item of a list ends.
 #[derive(Drop)]
@@ -69,7 +68,7 @@ impl Gather {
             → packets geometry.now self.old.sg (pushed ++ item ∷ []) ≡ packets geometry.now self.old.sg pushed ++ option_to_list (packet_of result) }
         ensures stands { (pushed : List AnItem) → StandsFor geometry.now self.old pushed → StandsFor geometry.now self.new (pushed ++ item ∷ []) }
     {
-        let too_many = self.items.len() >= MOST_FRAMES;
+        let too_many = self.items.len() >= MOST_FRAGMENTS;
         let valid = validate(item.desc, geometry, self.sg).is_ok();
         let continues = item.desc.options == CONTINUED;
         self.items.push(item);
@@ -85,7 +84,7 @@ impl Gather {
     /// The number of items of the packet that isn't finished yet, 0 to 18.
     pub fn rest(&self) -> u32
         ensures value { result ≡ length self.now.items }
-        ensures few { length self.now.items ≤ 18 }
+        ensures few { length self.now.items ≤ most_fragments }
     {
         let _items = &self.items;
         self.items.len()

@@ -1,5 +1,5 @@
 -- How often numbers stand in lists that are made of others.
-use Rattle.std.proofs.Common.{◌≡◌, ℕ, zero, suc, ◌+◌, ◌-◌, ◌<◌, ◌≤◌, Bool, true, false, cond, eqb, List, [], ◌∷◌, ◌++◌, length, get_or, set, flat_map, refl, sym, ◌∙◌, append_assoc, arith, zero-add, ⊎_elim}
+use Rattle.std.proofs.Common.{◌≡◌, ℕ, zero, suc, ◌+◌, ◌-◌, ◌<◌, ◌≤◌, Bool, true, false, cond, eqb, List, [], ◌∷◌, ◌++◌, length, get_or, set, flat_map, refl, sym, ap, ◌∙◌, append_assoc, arith, zero-add, ⊎_elim}
 use Rattle.std.proofs.lemmas.Bool.{cases_eq}
 use Rattle.std.specs.List.{range_with_len}
 use Rattle.std.proofs.lemmas.Bool.Decides.{nat_tests}
@@ -49,6 +49,10 @@ not_yet a n h = grind (arith, nat_tests)
 
 pub its_own : (a n : ℕ) → a ≡ n → ◌≡◌ {A = ℕ} (cond (eqb a n) 1 0) 1
 its_own a n h = grind (arith, nat_tests)
+
+pub range-push : (a n : ℕ) → range_with_len a (suc n) ≡ range_with_len a n ++ (a + n) ∷ []
+range-push a zero = let e : a ≡ a + 0 = omega arith in ap (λ k. k ∷ []) e
+range-push a (suc n) = let e : a + 1 + n ≡ a + suc n = omega arith in ap (λ ks. a ∷ ks) (range-push (a + 1) n) ∙ ap (λ k. a ∷ (range_with_len (a + 1) n ++ k ∷ [])) e
 
 pub times-range_below : (n a k : ℕ) → n < a → times n (range_with_len a k) ≡ 0
 times-range_below n a zero h = refl

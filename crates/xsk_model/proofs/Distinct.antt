@@ -4,9 +4,7 @@ use Rattle.std.proofs.lemmas.Bool.{cases_eq, cases_lt}
 use Rattle.std.proofs.lemmas.Bool.Decides.{nat_tests}
 use Rattle.std.proofs.lemmas.List.{get_or_default}
 use Rattle.xsk_model.specs.Numbers.{times}
-
-here : (x n : ℕ) → x ≡ n → ◌≡◌ {A = ℕ} (cond (eqb x n) 1 0) 1
-here x n h = grind (arith, nat_tests)
+use Rattle.xsk_model.proofs.Counting.{its_own}
 
 elsewhere : (x n : ℕ) → (x ≡ n → ⊥) → ◌≡◌ {A = ℕ} (cond (eqb x n) 1 0) 0
 elsewhere x n h = grind (arith, nat_tests)
@@ -17,7 +15,7 @@ Contains-times [] n h = absurd (omega (arith, h.1))
 Contains-times (x ∷ xs) n h = contained xs x n h.0 h.1 h.2 (λ k. Contains-times xs n k)
   where
     contained : (xs : List ℕ) (x n k : ℕ) → k < length (x ∷ xs) → get_or (x ∷ xs) k n ≡ n → (Contains xs n → 1 ≤ times n xs) → 1 ≤ times n (x ∷ xs)
-    contained xs x n zero within is rest = omega (arith, here x n is)
+    contained xs x n zero within is rest = omega (arith, its_own x n is)
     contained xs x n (suc k) within is rest = omega (arith, rest (k, omega arith, is))
 
 pub times-Contains : (xs : List ℕ) (n : ℕ) → 1 ≤ times n xs → Contains xs n
@@ -37,7 +35,7 @@ times-distinct (x ∷ xs) h n =
     ⊎_elim
     (λ (e : x ≡ n).
     let none : times n xs ≤ 0 = none_later xs x n e (λ k within. h 0 (suc k) n (omega arith) (omega arith)) in
-    omega (arith, here x n e, none))
+    omega (arith, its_own x n e, none))
     (λ (e : x ≡ n → ⊥). omega (arith, elsewhere x n e, rest))
     (cases_eq x n)
   where
@@ -54,7 +52,7 @@ distinct_from_times [] h i j d less within = absurd (omega arith)
 distinct_from_times (x ∷ xs) h zero zero d less within = absurd (omega arith)
 distinct_from_times (x ∷ xs) h zero (suc j) d less within = λ (e : x ≡ get_or xs j d).
     let later : Contains xs x = (j, omega arith, get_or_default xs j x d (omega arith) ∙ sym e) in
-    absurd (omega (arith, h x, here x x refl, Contains-times xs x later))
+    absurd (omega (arith, h x, its_own x x refl, Contains-times xs x later))
 distinct_from_times (x ∷ xs) h (suc i) zero d less within = absurd (omega arith)
 distinct_from_times (x ∷ xs) h (suc i) (suc j) d less within =
     distinct_from_times xs (λ n. omega (arith, h n)) i j d (omega arith) (omega arith)

@@ -1,4 +1,5 @@
 pub mod AskTheorems
+pub mod Payloads
 pub mod Seats
 pub mod Maps
 pub mod Least

@@ -1,7 +1,6 @@
 -- What a ring holds and what is out in it are all its items without those that were released.
 use Rattle.std.proofs.Common.{◌≡◌, ℕ, ◌+◌, ◌<◌, ◌≤◌, Bool, true, false, cond, nat_le, List, [], ◌∷◌, ◌++◌, length, take, drop, refl, sym, ap, subst, ◌∙◌, ⊎_elim, arith, append_assoc, append-nil, length-append, length-take, length-drop, take-append-drop}
 use Rattle.std.proofs.lemmas.Bool.{cases_Bool, le-leb}
-use Rattle.std.proofs.lemmas.List.{drop_at}
 use Rattle.xsk_umem.specs.Frame.{Frame}
 use Rattle.xsk_umem.specs.declared.batch.Item.{Item}
 use Rattle.xsk_model.specs.Config.{Config, HasRing, size_of}
@@ -24,7 +23,7 @@ use Rattle.xsk_model.proofs.Opened.{opening-ring}
 use Rattle.xsk_model.proofs.Histories.{history_sound}
 use Rattle.xsk_model.proofs.Counts.{given-submitted, within_ring}
 use Rattle.xsk_model.proofs.Along.{Keeps, along}
-use Rattle.xsk_model.proofs.Theorems.{counts_agree}
+use Rattle.xsk_model.proofs.Theorems.{counts_agree, left_over}
 
 -- ---- one call
 
@@ -139,9 +138,6 @@ opening_drained c frames opened r has =
     record { gone = []; count = refl; rest = ap (λ x. x ++ ring.out) held ∙ sym (append-nil ring.out) }
 
 -- what is left of a list behind its front
-left_over : (front rest all : List Item) (n : ℕ) → front ++ rest ≡ all → length front ≡ n → rest ≡ drop n all
-left_over front rest all n h len = sym (drop_at front rest n len) ∙ ap (drop n) h
-
 pub held_out : (c : Config) (frames : List Frame) (h : List Entry) (r : Ring) → IsHistory c frames h → HasRing c r
     → (ring_at c (state_after c frames h) r).held ++ (ring_at c (state_after c frames h) r).out
     ≡ drop (released_of r (own (consumer c r) h)) ((ring_at c (opening c frames) r).out ++ submitted_of r (own (producer c r) h))

@@ -55,8 +55,8 @@ pub in_order : InOrder
 in_order c frames h r history has = ((history_sound c frames h history).ring r has).order
 
 -- what is left of a list behind its front
-left_over : (front out all : List Item) → front ++ out ≡ all → out ≡ drop (length front) all
-left_over front out all h = sym (drop_at front out (length front) refl) ∙ ap (drop (length front)) h
+pub left_over : (front rest all : List Item) (n : ℕ) → front ++ rest ≡ all → length front ≡ n → rest ≡ drop n all
+left_over front rest all n h len = sym (drop_at front rest n len) ∙ ap (drop n) h
 
 peeked_call : (c : Config) (frames : List Frame) (past later : List Entry) (r : Ring) (n : ℕ) (e : Entry) → IsHistory c frames (past ++ e ∷ later) → e.call ≡ Peek r n
     → IsLegal c (own e.who past) e.who (Peek r n) × (e.reply ≡ peek_reply n (ring_at c (state_after c frames past) r).out)
@@ -68,7 +68,7 @@ pub peek_in_order : PeekInOrder
 peek_in_order c frames past later r n e history is =
     let entry = peeked_call c frames past later r n e history is in
     let order = in_order c frames past r (history_first c frames past (e ∷ later) history) entry.0.known in
-    entry.1 ∙ ap (peek_reply n) (left_over (peeked_of r (all_told past)) (ring_at c (state_after c frames past) r).out ((ring_at c (opening c frames) r).out ++ submitted_of r (all_told past)) order)
+    entry.1 ∙ ap (peek_reply n) (left_over (peeked_of r (all_told past)) (ring_at c (state_after c frames past) r).out ((ring_at c (opening c frames) r).out ++ submitted_of r (all_told past)) (length (peeked_of r (all_told past))) order refl)
 
 pub parts_by_own : PartsByOwn
 parts_by_own c frames h r history has =

@@ -2,7 +2,7 @@
 use Rattle.std.specs.Prelude.{◌≡◌, ℕ, ◌+◌, ◌*◌, ◌/◌, ◌%◌, ◌^◌, ◌<◌, ◌≤◌, ◌⊎◌, ◌&&◌, ◌==◌, Bool, List, [], ◌∷◌, ◌++◌, length, min, All, Any, EachIndex, Option, Some, None, IsSome, IfSome, count_by, slice_set, unwrap_or}
 use Rattle.std.specs.List.{flat_map, slice_index_or}
 use Rattle.xsk_umem.specs.Geometry.{Geometry}
-use Rattle.xsk_umem.specs.declared.batch.TheConstants.{MOST_ITEMS}
+use Rattle.xsk_umem.specs.Limits.{most_items}
 use Rattle.xsk_model.specs.declared.config.SocketInfo.{SocketInfo}
 use Rattle.xsk_model.specs.declared.config.PairInfo.{PairInfo}
 use Rattle.xsk_model.specs.declared.call.Ring.{Ring}
@@ -117,7 +117,7 @@ socket_sizes socket = size_or_none socket.rx ++ size_or_none socket.tx
 
 -- the most items of one call: 32, or the least ring's size where that is less
 abbrev pub batch_of : Config → ℕ
-batch_of c = least MOST_ITEMS (flat_map pair_sizes c.pairs ++ flat_map socket_sizes c.sockets)
+batch_of c = least most_items (flat_map pair_sizes c.pairs ++ flat_map socket_sizes c.sockets)
 
 -- the pairs divide the frames into pools, and each pool fits each FILL ring
 pub record IsLawful (c : Config) : Type 0 where

@@ -6,7 +6,7 @@ use Rattle.std.specs.Option.{option_map}
 use Rattle.xsk_umem.specs.Frame.{Frame}
 use Rattle.xsk_umem.specs.Geometry.{Geometry, frame_of}
 use Rattle.xsk_umem.specs.declared.batch.Item.{Item}
-use Rattle.xsk_umem.specs.declared.batch.TheConstants.{MOST_ITEMS}
+use Rattle.xsk_umem.specs.Limits.{most_items}
 use Rattle.xsk_umem.specs.declared.batch.XdpDesc.{XdpDesc}
 use Rattle.xsk_model.specs.Config.{Config, HasRing, callers_of}
 use Rattle.xsk_model.specs.Packets.{IsLayout}
@@ -43,10 +43,10 @@ HasRole c mine who (Look m) = Unit {0}
 -- 1 to 32 at once; a Submit fills places that were reserved, a Release gives back items that were peeked, and a mark is
 -- set to a number that it may have
 abbrev pub IsCounted : Config → List Told → Call → Type 0
-IsCounted c mine (Reserve r n) = (1 ≤ n) × (n ≤ MOST_ITEMS)
-IsCounted c mine (Submit r items) = (1 ≤ length items) × (length items ≤ MOST_ITEMS) × (length items ≤ room_of r mine)
-IsCounted c mine (Peek r n) = (1 ≤ n) × (n ≤ MOST_ITEMS)
-IsCounted c mine (Release r n) = (1 ≤ n) × (n ≤ MOST_ITEMS) × (n ≤ held_of r mine)
+IsCounted c mine (Reserve r n) = (1 ≤ n) × (n ≤ most_items)
+IsCounted c mine (Submit r items) = (1 ≤ length items) × (length items ≤ most_items) × (length items ≤ room_of r mine)
+IsCounted c mine (Peek r n) = (1 ≤ n) × (n ≤ most_items)
+IsCounted c mine (Release r n) = (1 ≤ n) × (n ≤ most_items) × (n ≤ held_of r mine)
 IsCounted c mine (Swap m value) = IsMarkNumber c m value
 IsCounted c mine (Look m) = Unit {0}
 

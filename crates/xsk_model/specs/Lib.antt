@@ -7,6 +7,7 @@ pub mod Holders
 pub mod Homes
 pub mod Laws
 pub mod Legal
+pub mod Limits
 pub mod Marks
 pub mod Numbers
 pub mod Object

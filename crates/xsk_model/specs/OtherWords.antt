@@ -6,7 +6,7 @@ use Rattle.std.specs.Option.{option_map}
 use Rattle.xsk_umem.specs.Frame.{Frame}
 use Rattle.xsk_umem.specs.Geometry.{Geometry, payload_of, data_of}
 use Rattle.xsk_umem.specs.declared.batch.Item.{Item}
-use Rattle.xsk_umem.specs.declared.batch.TheConstants.{MOST_ITEMS}
+use Rattle.xsk_umem.specs.Limits.{most_items}
 use Rattle.xsk_model.specs.Config.{Config, HasRing}
 use Rattle.xsk_model.specs.Numbers.{times, numbers}
 use Rattle.xsk_model.specs.Packets.{packets, whole_packets}
@@ -32,7 +32,7 @@ changes call reply = true
 
 -- 1 to 32 at once
 abbrev pub IsFew : ℕ → Type 0
-IsFew n = (1 ≤ n) × (n ≤ MOST_ITEMS)
+IsFew n = (1 ≤ n) × (n ≤ most_items)
 
 -- a caller's last call that took the frame was a Peek on FILL
 pub record WasLastOnFill (n : ℕ) (mine : List Told) : Type 0 where

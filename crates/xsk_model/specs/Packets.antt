@@ -6,9 +6,9 @@ use Rattle.std.specs.Prelude.{◌≡◌, ℕ, ◌+◌, ◌<◌, ◌≤◌, Bool,
 use Rattle.std.specs.List.{concat}
 use Rattle.xsk_umem.specs.Geometry.{Geometry, payload_of, data_of}
 use Rattle.xsk_umem.specs.Frame.{Frame}
-use Rattle.xsk_umem.specs.declared.geometry.TheConstants.{RESERVED}
+use Rattle.xsk_umem.specs.Limits.{reserved_bytes}
 use Rattle.xsk_umem.specs.declared.batch.Item.{Item}
-use Rattle.xsk_model.specs.declared.steering.TheConstants.{MOST_FRAGMENTS}
+use Rattle.xsk_model.specs.Limits.{most_fragments}
 use Rattle.xsk_model.specs.Descriptor.{is_valid, payload}
 
 -- ---- a packet in frames
@@ -34,7 +34,7 @@ pub record HoldsPiece (g : Geometry) (item : Item) (piece : List ℕ) (options :
   pub frame : Frame
   pub is : item ≡ record { frame = Some frame; desc = record { addr = data_of g frame.number; len = length piece; options = options } }
   pub in_umem : frame.number < g.frames
-  pub bytes : take (length piece) (drop (g.headroom + RESERVED) frame.bytes) ≡ piece
+  pub bytes : take (length piece) (drop (g.headroom + reserved_bytes) frame.bytes) ≡ piece
 
 -- each item holds its piece
 abbrev pub HoldPieces : Geometry → List Item → List (List ℕ) → Type 0
@@ -61,7 +61,7 @@ pub data Packet : Type 0 where
 -- the packet rule: what the next item ends, where `group` are the items before it that belong to no packet yet
 abbrev pub ended_by : Geometry → Bool → List Item → Item → Option Packet
 ended_by g sg group item =
-    if nat_le MOST_FRAGMENTS (length group) then Some (bad (group ++ item ∷ []))
+    if nat_le most_fragments (length group) then Some (bad (group ++ item ∷ []))
     else if not (is_valid g sg item.desc) then Some (bad (group ++ item ∷ []))
     else if item.desc.options == 1 then None
     else Some (whole (group ++ item ∷ []))
@@ -116,7 +116,7 @@ pub record Continues (g : Geometry) (sg : Bool) (item : Item) : Type 0 where
 
 -- a packet that isn't finished
 pub record IsUnfinished (g : Geometry) (sg : Bool) (items : List Item) : Type 0 where
-  pub few : length items ≤ MOST_FRAGMENTS
+  pub few : length items ≤ most_fragments
   pub continued : All (Continues g sg) items
 
 -- a whole packet: 1 to 18 valid items, of which the last alone lacks the continuation bit
@@ -124,7 +124,7 @@ pub record IsWhole (g : Geometry) (sg : Bool) (items : List Item) : Type 0 where
   pub front : List Item
   pub last : Item
   pub is : items ≡ front ++ last ∷ []
-  pub few : length items ≤ MOST_FRAGMENTS
+  pub few : length items ≤ most_fragments
   pub continued : All (Continues g sg) front
   pub valid : IsTrue (is_valid g sg last.desc)
   pub bit : last.desc.options ≡ 0

@@ -4,17 +4,17 @@
 use Rattle.std.specs.Prelude.{ℕ, ◌+◌, ◌-◌, ◌*◌, ◌/◌, ◌%◌, ◌==◌, if◌then◌else◌, List, take, sum}
 use Rattle.xsk_umem.specs.Geometry.{payload_of}
 use Rattle.xsk_model.specs.Config.{Config, classes_of}
-use Rattle.xsk_model.specs.declared.steering.TheConstants.{QUEUE_BYTES, CLASS_BYTES, MOST_FRAGMENTS}
+use Rattle.xsk_model.specs.Limits.{most_fragments, ethernet_addresses, ethernet_header}
 
 -- ---- packets
 
 -- the queue of a packet: the sum of its first 12 bytes, modulo the number of queues
 abbrev pub packet_queue : ℕ → List ℕ → ℕ
-packet_queue queues packet = sum (take QUEUE_BYTES packet) % queues
+packet_queue queues packet = sum (take ethernet_addresses packet) % queues
 
 -- its class: the sum of its first 14 bytes, modulo the number of classes
 abbrev pub packet_class : ℕ → List ℕ → ℕ
-packet_class classes packet = sum (take CLASS_BYTES packet) % classes
+packet_class classes packet = sum (take ethernet_header packet) % classes
 
 -- the cell to which it is redirected on a queue: that of its class
 abbrev pub packet_cell : ℕ → ℕ → List ℕ → ℕ
@@ -22,7 +22,7 @@ packet_cell classes queue packet = queue * classes + packet_class classes packet
 
 -- the most bytes of a packet: those of 18 frames, or without XDP_USE_SG those of one
 abbrev pub packet_limit : Config → ℕ
-packet_limit c = (if c.sg then MOST_FRAGMENTS else 1) * payload_of c.geometry
+packet_limit c = (if c.sg then most_fragments else 1) * payload_of c.geometry
 
 -- ---- ports
 

@@ -4,6 +4,7 @@ ghost use Rattle.xsk_umem.specs.Geometry.{payload_of};
 ghost use Rattle.xsk_model.specs.Steering.{packet_queue as queue_of_packet, packet_class as class_of_packet, packet_cell as cell_of_packet, packet_limit as limit_of_packet, paired_port as port_paired, driver_on as driver_of_queue, socket_on as socket_of_class, port_on as port_of_side, queue_on as queue_of_app};
 ghost use Rattle.xsk_model.specs.Config.{IsLawful, IsRegular, classes_of, pool_of};
 ghost use Rattle.xsk_model.specs.Homes.{home_pair as home_of_frame};
+ghost use Rattle.xsk_model.specs.Limits.{most_fragments, ethernet_header};
 ghost use Rattle.xsk_model.specs.Marks.{apps_of};
 ghost use Rattle.xsk_model.specs.Rings.{application_on as application_of_queue};
 
@@ -48,7 +49,7 @@ pub fn packet_cell(packet: &[u8], queue: u32, classes: u32) -> u32
 /// The most bytes of a packet: those of 18 frames, or without XDP_USE_SG those of one.
 pub fn packet_limit(config: &Config) -> u32
     ensures value { result ≡ limit_of_packet config.now }
-    ensures few { result ≤ MOST_FRAGMENTS * payload_of config.now.geometry }
+    ensures few { result ≤ most_fragments * payload_of config.now.geometry }
     ensures small { payload_of config.now.geometry ≤ 4096 }
 {
     let payload = config.geometry().payload();
@@ -136,7 +137,7 @@ pub fn home_pair(config: &Config, frame: u32) -> u32
 }
 
 fn sum_of(bytes: &[u8]) -> u32
-    requires { length bytes.now ≤ CLASS_BYTES }
+    requires { length bytes.now ≤ ethernet_header }
     ensures { result ≡ sum bytes.now }
 {
     let mut sum = 0;

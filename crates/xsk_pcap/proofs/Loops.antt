@@ -2,6 +2,7 @@
 use Rattle.std.proofs.Common.{◌≡◌, ℕ, ◌+◌, ◌<◌, ◌≤◌, List, [], ◌∷◌, ◌++◌, length, drop, map, Some, refl, sym, ap, subst, ◌∙◌, append_assoc, arith}
 use Rattle.std.specs.List.{flat_map, concat, AllByRecursion}
 use Rattle.std.proofs.lemmas.List.{append-nil, length-append}
+use Rattle.xsk_umem.proofs.Lengths.{length_concat-push}
 use Rattle.xsk_pcap.specs.declared.endianness.Endianness.{Endianness}
 use Rattle.xsk_pcap.specs.declared.reading.BadCapture.{BadCapture}
 use Rattle.xsk_pcap.specs.Capture.{header_bytes, Record, record_bytes, IsShort, AreRecords, Begins, IsCapture, record_refusal}
@@ -10,10 +11,6 @@ use Rattle.xsk_pcap.proofs.Grammar.{Begins-push}
 use Rattle.xsk_pcap.proofs.Unique.{short_of, front_unique, length-record, EndsAt-refused, Begins-body}
 
 -- ---- measuring
-
-concat-push : (packets : List (List ℕ)) (packet : List ℕ) → length (concat (packets ++ packet ∷ [])) ≡ length (concat packets) + length packet
-concat-push [] packet = omega (arith, length-append packet [])
-concat-push (p ∷ ps) packet = omega (arith, concat-push ps packet, length-append p (concat (ps ++ packet ∷ [])), length-append p (concat ps))
 
 -- a record takes at least 16 bytes beside its packet
 pub length-begins_record : (order : Endianness) (bytes packet rest : List ℕ) → BeginsRecord order bytes packet rest → length bytes ≡ 16 + length packet + length rest
@@ -29,7 +26,7 @@ Measures-push order bytes rest packet more count total m next = record {
   packets = m.packets ++ packet ∷ [];
   begins = Begins-push order bytes m.packets rest packet more m.begins next;
   count_is = omega (arith, length-append m.packets (packet ∷ []), m.count_is);
-  total_is = omega (arith, concat-push m.packets packet, m.total_is);
+  total_is = omega (arith, length_concat-push m.packets packet, m.total_is);
 }
 
 -- ---- copying

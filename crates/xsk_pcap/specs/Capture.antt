@@ -7,6 +7,7 @@ use Rattle.xsk_pcap.specs.declared.endianness.Endianness.{Endianness}
 use Rattle.xsk_pcap.specs.declared.endianness.Endianness.TheVariants.{Little, Big}
 use Rattle.xsk_pcap.specs.declared.reading.BadCapture.{BadCapture}
 use Rattle.xsk_pcap.specs.declared.reading.BadCapture.TheVariants.{ShortHeader, BadMagic, BadVersion, BadLink, Truncated, RecordTooLong, OutOfMemory}
+use Rattle.xsk_pcap.specs.Limits.{most_captured}
 use Rattle.xsk_pcap.specs.Numbers.{field, number_in}
 
 -- ---- what a capture is
@@ -42,7 +43,7 @@ record_bytes order r =
 
 -- few enough captured bytes
 abbrev pub IsShort : List ℕ → Type 0
-IsShort packet = length packet ≤ 262144
+IsShort packet = length packet ≤ most_captured
 
 -- the bytes are the records of these packets, one after another
 pub record AreRecords (order : Endianness) (bytes : List ℕ) (packets : List (List ℕ)) : Type 0 where
@@ -92,7 +93,7 @@ captured_in order bytes = number_in order 4 (drop 8 bytes)
 abbrev pub record_refusal : Endianness → ℕ → List ℕ → Option BadCapture
 record_refusal order offset bytes =
     if nat_lt (length bytes) 16 then Some (Truncated offset)
-    else if nat_lt 262144 (captured_in order bytes) then Some (RecordTooLong offset)
+    else if nat_lt most_captured (captured_in order bytes) then Some (RecordTooLong offset)
     else if nat_lt (length bytes - 16) (captured_in order bytes) then Some (Truncated offset)
     else None
 

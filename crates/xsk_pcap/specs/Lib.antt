@@ -1,4 +1,5 @@
 pub mod Numbers
+pub mod Limits
 pub mod Capture
 pub mod Written
 pub mod Laws

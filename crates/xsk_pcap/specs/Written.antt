@@ -2,10 +2,11 @@
 use Rattle.std.specs.Prelude.{ℕ, ◌+◌, ◌/◌, ◌%◌, ◌≤◌, List, [], ◌∷◌, ◌++◌, length}
 use Rattle.std.specs.List.{flat_map, concat, AllByRecursion}
 use Rattle.xsk_pcap.specs.declared.endianness.Endianness.TheVariants.{Little}
+use Rattle.xsk_pcap.specs.Limits.{most_captured, most_packets, most_bytes}
 use Rattle.xsk_pcap.specs.Capture.{Header, header_bytes, Record, record_bytes, IsShort}
 
 abbrev pub written_header : Header
-written_header = record { magic = 0xa1b2c3d4; zone = 0; figures = 0; snaplen = 262144 }
+written_header = record { magic = 0xa1b2c3d4; zone = 0; figures = 0; snaplen = most_captured }
 
 -- record k, whose time is k microseconds
 abbrev pub written_record : ℕ → List ℕ → Record
@@ -31,5 +32,5 @@ written lists = header_bytes Little written_header ++ text_of 0 (all_packets lis
 -- what may be written into one capture; these limits are this project's own
 pub record IsWritable (lists : List (List (List ℕ))) : Type 0 where
   pub each : AllByRecursion IsShort (all_packets lists)
-  pub packets : length (all_packets lists) ≤ 65536
-  pub bytes : length (concat (all_packets lists)) ≤ 33554432
+  pub packets : length (all_packets lists) ≤ most_packets
+  pub bytes : length (concat (all_packets lists)) ≤ most_bytes

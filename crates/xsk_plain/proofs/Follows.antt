@@ -1,7 +1,6 @@
 -- The steps on what the engine keeps are those of the object in each state that it shows.
 use Rattle.std.proofs.Common.{◌≡◌, ℕ, ◌+◌, ◌-◌, ◌≤◌, Bool, true, false, cond, nat_le, Option, Some, None, List, [], ◌∷◌, length, get_or, set, take, drop, map, refl, sym, ap, ◌∙◌, arith, length-append, length-drop, suc, zero}
 use Rattle.std.proofs.lemmas.List.{map-set}
-use Rattle.std.proofs.lemmas.Bool.Decides.{nat_tests}
 use Rattle.xsk_umem.specs.declared.batch.Item.{Item}
 use Rattle.xsk_model.specs.Config.{Config, size_of}
 use Rattle.xsk_model.specs.Rings.{place}
@@ -14,6 +13,7 @@ use Rattle.xsk_model.specs.declared.call.Reply.TheVariants.{Granted, Full, Items
 use Rattle.xsk_plain.specs.Engine.{Part, Engine, no_part, seen, Shows, part_in}
 use Rattle.xsk_plain.specs.Steps.{part_after, parts_after, reply_to, FollowsObject}
 use Rattle.xsk_plain.proofs.Openings.{seen_at}
+use Rattle.xsk_plain.proofs.StoreSteps.{reserve_yes, reserve_no}
 
 seen-cond : (b : Bool) (x y : RingState) → seen (cond b x y) ≡ cond b (seen x) (seen y)
 seen-cond true x y = refl
@@ -62,12 +62,6 @@ follows old new who call answer rings marks reply = record {
 }
 
 -- ---- replies
-
-reserve_yes : (n places : ℕ) (x y : Reply) → n ≤ places → cond (nat_le n places) x y ≡ x
-reserve_yes n places x y h = grind (arith, nat_tests)
-
-reserve_no : (n places : ℕ) (x y : Reply) → (n ≤ places → ⊥) → cond (nat_le n places) x y ≡ y
-reserve_no n places x y h = grind (arith, nat_tests)
 
 pub reply_granted : (n places : ℕ) → n ≤ places → Granted ≡ reserve_reply n places
 reply_granted n places h = sym (reserve_yes n places Granted (Full places) h)

@@ -12,6 +12,7 @@ use Rattle.xsk_model.specs.Holders.{out_numbers}
 use Rattle.xsk_model.specs.Object.{RingState}
 use Rattle.xsk_model.specs.History.{state_after}
 use Rattle.xsk_model.specs.declared.call.Call.TheVariants.{Reserve, Submit, Peek, Release, Swap, Look}
+use Rattle.xsk_model.proofs.Counting.{range-push}
 use Rattle.xsk_model.proofs.Places.{is_ring-self}
 use Rattle.xsk_model.proofs.Theorems.{legal_within_ring, few_in_rings}
 use Rattle.xsk_plain.specs.Engine.{Part, seen, frames_of, frames_in, frames_out}
@@ -56,16 +57,12 @@ few_frames_out frames h engine history shows =
     let same : length (frames_out (map seen (state_after engine.config frames h).rings)) ≡ length (frames_out engine.rings) = ap (λ (ps : List Part). length (frames_out ps)) shows.rings in
     omega (arith, few, same, count_rings (state_after engine.config frames h).rings)
 
-range_snoc : (a n : ℕ) → range_with_len a (suc n) ≡ range_with_len a n ++ (a + n) ∷ []
-range_snoc a zero = let e : a ≡ a + 0 = omega arith in ap (λ k. k ∷ []) e
-range_snoc a (suc n) = let e : a + 1 + n ≡ a + suc n = omega arith in ap (λ ks. a ∷ ks) (range_snoc (a + 1) n) ∙ ap (λ k. a ∷ (range_with_len (a + 1) n ++ k ∷ [])) e
-
 fresh_numbers : (chunk n : ℕ) → map (λ (f : Frame). f.number) (fresh chunk n) ≡ range_with_len 0 n
 fresh_numbers chunk zero = refl
 fresh_numbers chunk (suc n) =
     map-append (λ (f : Frame). f.number) (fresh chunk n) ((record { number = n; bytes = replicate chunk 0 }) ∷ [])
     ∙ ap (λ ks. ks ++ n ∷ []) (fresh_numbers chunk n)
-    ∙ (let e : n ≡ 0 + n = omega arith in ap (λ k. range_with_len 0 n ++ k ∷ []) e) ∙ sym (range_snoc 0 n)
+    ∙ (let e : n ≡ 0 + n = omega arith in ap (λ k. range_with_len 0 n ++ k ∷ []) e) ∙ sym (range-push 0 n)
 
 fresh_bodies : (chunk n : ℕ) → All (λ (f : Frame). length f.bytes ≡ chunk) (fresh chunk n)
 fresh_bodies chunk zero = All-nil (λ (f : Frame). length f.bytes ≡ chunk)

@@ -133,11 +133,11 @@ part_has store items peeked reserved entries h =
 pub kept_same : (c : Config) (bytes : List ℕ) (before after : RingStore) → after.out.items ≡ before.out.items → AreKept c bytes before → AreKept c bytes after
 kept_same c bytes before after same kept = All-same (IsKept c bytes) after.out.items before.out.items same kept
 
-reserve_yes : (n places : ℕ) (part other : Part) → n ≤ places → cond (nat_le n places) part other ≡ part
-reserve_yes n places part other h = grind (arith, nat_tests)
+pub reserve_yes : {X : Type 0} (n places : ℕ) (x y : X) → n ≤ places → cond (nat_le n places) x y ≡ x
+reserve_yes n places x y h = grind (arith, nat_tests)
 
-reserve_no : (n places : ℕ) (part other : Part) → (n ≤ places → ⊥) → cond (nat_le n places) part other ≡ other
-reserve_no n places part other h = grind (arith, nat_tests)
+pub reserve_no : {X : Type 0} (n places : ℕ) (x y : X) → (n ≤ places → ⊥) → cond (nat_le n places) x y ≡ y
+reserve_no n places x y h = grind (arith, nat_tests)
 
 -- a Reserve on one store, by its answer
 pub reserved : {X : Type 0} (before after : RingStore) (r : Ring) (n : ℕ) (answer : Result X ℕ) → (IsOk answer ↔ (n ≤ free_in before.size (part_of before)))

@@ -4,6 +4,7 @@
 use Rattle.std.specs.Prelude.{◌≡◌, ℕ, ◌≤◌, Option, Some, None, List, [], ◌∷◌, length, map, flat_map}
 use Rattle.std.specs.List.{slice_index_or}
 use Rattle.xsk_umem.specs.Frame.{Frame}
+use Rattle.xsk_umem.specs.Limits.{most_items}
 use Rattle.xsk_umem.specs.declared.batch.Item.{Item}
 use Rattle.xsk_model.specs.Config.{Config, HasRing}
 use Rattle.xsk_model.specs.Rings.{place}
@@ -52,7 +53,7 @@ part_in c rings r = slice_index_or rings (place c r) no_part
 abbrev pub CanPerform : Config → List Part → Call → Type 0
 CanPerform c rings (Reserve r n) = HasRing c r
 CanPerform c rings (Submit r items) = HasRing c r × (length items ≤ (part_in c rings r).room)
-CanPerform c rings (Peek r n) = HasRing c r × (1 ≤ n) × (n ≤ 32)
+CanPerform c rings (Peek r n) = HasRing c r × (1 ≤ n) × (n ≤ most_items)
 CanPerform c rings (Release r n) = HasRing c r × (n ≤ (part_in c rings r).held)
 CanPerform c rings (Swap m value) = HasMark c m
 CanPerform c rings (Look m) = HasMark c m

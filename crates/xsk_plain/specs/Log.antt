@@ -3,6 +3,7 @@
 use Rattle.std.specs.Prelude.{◌≡◌, ℕ, ◌+◌, ◌≤◌, List, ◌∷◌, [], ◌++◌, length, drop, map, vec_len}
 use Rattle.std.specs.Option.{option_map}
 use Rattle.xsk_umem.specs.Frame.{Frame}
+use Rattle.xsk_umem.specs.Limits.{most_items}
 use Rattle.xsk_umem.specs.declared.batch.Item.{Item}
 use Rattle.xsk_model.specs.Entry.{Entry}
 use Rattle.xsk_model.specs.declared.call.Call.{Call}
@@ -99,6 +100,6 @@ pub record NotesItems (old new : Log) (bytes : ℕ) : Type 0 where
   pub entries : entries_of new ≡ entries_of old
   pub len : vec_len new.rows ≡ vec_len old.rows
   pub begun : new.begun ≡ old.begun
-  pub few : vec_len new.pieces ≤ new.begun + 32
+  pub few : vec_len new.pieces ≤ new.begun + most_items
   pub spare_entries : new.spare_entries ≡ old.spare_entries
   pub spare_bytes : new.spare_bytes + bytes ≡ old.spare_bytes

@@ -1,5 +1,6 @@
 //! The log of all calls and replies, with payloads in place of frames.
 ghost use Rattle.std.specs.Prelude.{◌≡◌, ◌+◌, ◌*◌, ◌<◌, ◌≤◌, ◌^◌, [], length, vec_len, vec_capacity, All, OnOk};
+ghost use Rattle.xsk_umem.specs.Limits.{most_items};
 ghost use Rattle.xsk_plain.specs.Pieces.{IsPieceIn, IsRowIn};
 
 use std::alloc::Global;
@@ -132,7 +133,7 @@ impl Log {
     /// Adds an item to the entry that is being made.
     pub(crate) fn note(&mut self, piece: Piece)
         requires spare { 1 ≤ self.old.spare_entries }
-        requires few { vec_len self.old.pieces < self.old.begun + 32 }
+        requires few { vec_len self.old.pieces < self.old.begun + most_items }
         requires payload { IsPieceIn self.old.bytes.items piece }
         ensures { NotesPiece self.old self.new piece }
     {
@@ -142,7 +143,7 @@ impl Log {
     /// Ends the entry that is being made, with the items that were noted for it.
     pub(crate) fn enter(&mut self, who: u32, event: Event)
         requires spare { 1 ≤ self.old.spare_entries }
-        requires few { vec_len self.old.pieces ≤ self.old.begun + 32 }
+        requires few { vec_len self.old.pieces ≤ self.old.begun + most_items }
         ensures { EndsEntry self.old self.new who event }
     {
         let end = self.pieces.len();

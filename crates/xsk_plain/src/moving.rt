@@ -1,5 +1,6 @@
 //! Items moved into rings, out of rings, and given back.
 ghost use Rattle.std.specs.Prelude.{◌≡◌, ◌+◌, ◌-◌, ◌≤◌, [], ◌++◌, length, take, drop, map, vec_len};
+ghost use Rattle.xsk_umem.specs.Limits.{most_items};
 ghost use Rattle.xsk_model.specs.Config.{Config as Parts};
 ghost use Rattle.xsk_model.specs.Stored.{stored_item};
 ghost use Rattle.xsk_plain.specs.Engine.{frames_in, frames_of};
@@ -42,7 +43,7 @@ pub(crate) fn take_items(store: &mut RingStore, log: &mut Log, count: u32, items
     requires empty { items.old ≡ [] }
     requires spare { 1 ≤ log.old.spare_entries }
     requires start { vec_len log.old.pieces ≡ log.old.begun }
-    requires few { count ≤ 32 }
+    requires few { count ≤ most_items }
     requires within { AreWithin log.old.bytes.items store.old }
     ensures log { NotesItems log.old log.new 0 }
     ensures noted { (config : Parts) → AreKept config log.old.bytes.items store.old → noted_in log.new ≡ map (stored_item config.geometry config.sg) items.new }

@@ -2,7 +2,7 @@
 -- are this project's own.
 use Rattle.std.specs.Prelude.{ℕ, zero, suc, ◌-◌, ◌/◌, ◌%◌, ◌==◌, ◌||◌, Option, Some, None, if◌then◌else◌, not, nat_lt, nat_le, List, [], ◌∷◌, ◌++◌, replicate}
 use Rattle.xsk_umem.specs.Frame.{Frame}
-use Rattle.xsk_umem.specs.declared.geometry.TheConstants.{RESERVED, MOST_FRAMES}
+use Rattle.xsk_umem.specs.Limits.{reserved_bytes, most_frames}
 use Rattle.xsk_umem.specs.declared.umem.UmemError.{UmemError}
 use Rattle.xsk_umem.specs.declared.umem.UmemError.TheVariants.{BadChunk, BadHeadroom, BadLength, TooLarge}
 
@@ -10,9 +10,9 @@ use Rattle.xsk_umem.specs.declared.umem.UmemError.TheVariants.{BadChunk, BadHead
 abbrev pub first_refusal : ℕ → ℕ → ℕ → Option UmemError
 first_refusal len chunk headroom =
     if not (chunk == 2048 || chunk == 4096) then Some BadChunk
-    else if nat_le (chunk - RESERVED) headroom then Some BadHeadroom
+    else if nat_le (chunk - reserved_bytes) headroom then Some BadHeadroom
     else if len == 0 || not (len % chunk == 0) then Some BadLength
-    else if nat_lt MOST_FRAMES (len / chunk) then Some TooLarge
+    else if nat_lt most_frames (len / chunk) then Some TooLarge
     else None
 
 -- the frames 0, 1, 2 and so on up to a count, each of one chunk of zero bytes

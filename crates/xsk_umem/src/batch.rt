@@ -1,5 +1,6 @@
 //! Descriptors, items, and batches of items held in a ring of places.
 ghost use Rattle.std.specs.Prelude.{◌≡◌, ◌+◌, ◌<◌, ◌≤◌, List, [], ◌∷◌, ◌++◌, length, Some, slice_get, ◌↔◌, IsTrue, IsNone, IfSome, IfNone};
+ghost use Rattle.xsk_umem.specs.Limits.{most_items};
 
 use crate::Frame;
 use std::alloc::Global;
@@ -65,7 +66,7 @@ impl Batch {
     /// The number of items, 0 to 32.
     pub fn len(&self) -> u32
         ensures value { result ≡ length self.now }
-        ensures few { length self.now ≤ MOST_ITEMS }
+        ensures few { length self.now ≤ most_items }
     {
         let items = self.len;
         items as u32
@@ -80,7 +81,7 @@ impl Batch {
 
     /// Appends an item. Fewer than 32 must stand in the batch.
     pub fn push(&mut self, item: Item)
-        requires { length self.old < MOST_ITEMS }
+        requires { length self.old < most_items }
         ensures { self.new ≡ self.old ++ item ∷ [] }
     {
         let end = (self.head + self.len) % MOST_ITEMS;
@@ -105,7 +106,7 @@ impl Batch {
 
     /// Moves all items of another batch to the end of this one, which must have room for them.
     pub fn append(&mut self, other: &mut Batch)
-        requires { length self.old + length other.old ≤ MOST_ITEMS }
+        requires { length self.old + length other.old ≤ most_items }
         ensures items { self.new ≡ self.old ++ other.old }
         ensures other { other.new ≡ [] }
     {

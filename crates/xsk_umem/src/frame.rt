@@ -4,7 +4,7 @@ ghost use Rattle.std.specs.VecDeque.{deque_capacity};
 ghost use Rattle.xsk_umem.specs.Frame.{Frame as Body, IsFrame, written_at};
 ghost use Rattle.xsk_umem.specs.Frames.{Frames as Queue};
 ghost use Rattle.xsk_umem.specs.Geometry.{IsChunkSize};
-ghost use Rattle.xsk_umem.specs.declared.geometry.TheConstants.{MOST_FRAMES};
+ghost use Rattle.xsk_umem.specs.Limits.{most_frames};
 
 use crate::OutOfMemory;
 use std::alloc::Global;
@@ -35,7 +35,7 @@ impl Model for Frame {
 
 impl Frame {
     pub(crate) fn zeroed(alloc: Global, number: u32, chunk: u32) -> Result<Frame, OutOfMemory>
-        requires number { number < MOST_FRAMES }
+        requires number { number < most_frames }
         requires chunk { IsChunkSize chunk }
         ensures { IfOk result (λ f. f ≡ record { number = number; bytes = replicate chunk 0 }) }
     {

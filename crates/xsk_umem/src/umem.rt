@@ -1,6 +1,7 @@
 //! The registration of a UMEM: its geometry with its frames, or why it is refused.
 ghost use Rattle.std.specs.Prelude.{◌≡◌, ℕ, ◌/◌, ◌≤◌, Option, Some, None, Result, Err, IfOk, IsOkUnless};
 ghost use Rattle.xsk_umem.specs.Geometry.{IsChunkSize};
+ghost use Rattle.xsk_umem.specs.Limits.{most_frames};
 ghost use Rattle.xsk_umem.specs.Registration.{fresh, first_refusal};
 
 use crate::geometry::{MOST_FRAMES, RESERVED};
@@ -77,7 +78,7 @@ impl Umem {
     }
 
     fn fresh(alloc: Global, count: u32, chunk: u32) -> Result<Frames, OutOfMemory>
-        requires count { count ≤ MOST_FRAMES }
+        requires count { count ≤ most_frames }
         requires chunk { IsChunkSize chunk }
         ensures { IfOk result (λ frames. frames ≡ record { items = fresh chunk count; limit = count }) }
     {
