@@ -8,7 +8,7 @@ pub mod laws;
 mod payload;
 
 pub use descriptor::{DescError, fragments, validate};
-pub use gather::{Gather, Gathered, MOST_FRAMES};
+pub use gather::{Ending, Gather, Gathered, MOST_FRAMES, judge};
 pub use payload::payload_of;
 
 #[cfg(test)]
