@@ -5,15 +5,41 @@ ghost use Rattle.xsk_umem.specs.declared.batch.Item.{Item as AnItem};
 ghost use Rattle.xsk_model.specs.Limits.{most_fragments};
 ghost use Rattle.xsk_model.specs.Packets.{ended_by, group_after, packets};
 ghost use Rattle.xsk_desc.specs.Kept.{Kept};
+ghost use Rattle.xsk_desc.specs.Gather.{packet_by};
 
 use crate::descriptor::{CONTINUED, validate};
 use std::alloc::Global;
 use std::marker::Model;
 use std::mem;
 use xsk_model::steering::MOST_FRAGMENTS;
-use xsk_umem::{Batch, Geometry, Item};
+use xsk_umem::{Batch, Geometry, Item, XdpDesc};
 
 /// What the next item of a list ends.
+#[derive(Clone, Copy, Debug, PartialEq, Eq)]
+pub enum Ending {
+    /// The packet goes on.
+    More,
+    /// A packet, which is whole with this item.
+    Whole,
+    /// All items since the last end with this one, which is invalid or the 19th.
+    Bad,
+}
+
+/// What the next item ends, where `before` items stand before it that belong to no packet yet, and `sg` says that the socket
+/// has XDP_USE_SG.
+pub fn judge(before: u32, desc: XdpDesc, geometry: &Geometry, sg: bool) -> Ending
+    ensures { (group : List AnItem) (item : AnItem) → before ≡ length group → desc ≡ item.desc → packet_by result (group ++ item ∷ []) ≡ ended_by geometry.now sg group item }
+{
+    if before >= MOST_FRAGMENTS || validate(desc, geometry, sg).is_err() {
+        Ending::Bad
+    } else if desc.options == CONTINUED {
+        Ending::More
+    } else {
+        Ending::Whole
+    }
+}
+
+/// What the next item of a list ends, with its items.
 #[derive(Drop)]
 pub enum Gathered {
     /// The packet goes on, and the item is kept.
@@ -68,16 +94,12 @@ impl Gather {
             → packets geometry.now self.old.sg (pushed ++ item ∷ []) ≡ packets geometry.now self.old.sg pushed ++ option_to_list (packet_of result) }
         ensures stands { (pushed : List AnItem) → StandsFor geometry.now self.old pushed → StandsFor geometry.now self.new (pushed ++ item ∷ []) }
     {
-        let too_many = self.items.len() >= MOST_FRAGMENTS;
-        let valid = validate(item.desc, geometry, self.sg).is_ok();
-        let continues = item.desc.options == CONTINUED;
+        let ending = judge(self.items.len(), item.desc, geometry, self.sg);
         self.items.push(item);
-        if too_many || !valid {
-            Gathered::Bad(mem::replace(&mut self.items, Batch::new(self.alloc)))
-        } else if continues {
-            Gathered::More
-        } else {
-            Gathered::Whole(mem::replace(&mut self.items, Batch::new(self.alloc)))
+        match ending {
+            Ending::More => Gathered::More,
+            Ending::Whole => Gathered::Whole(mem::replace(&mut self.items, Batch::new(self.alloc))),
+            Ending::Bad => Gathered::Bad(mem::replace(&mut self.items, Batch::new(self.alloc))),
         }
     }
 

@@ -8,7 +8,7 @@ pub mod laws;
 mod payload;
 
 pub use descriptor::{DescError, fragments, validate};
-pub use gather::{Gather, Gathered};
+pub use gather::{Ending, Gather, Gathered, judge};
 pub use payload::payload_of;
 
 #[cfg(test)]

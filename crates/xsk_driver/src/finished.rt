@@ -16,7 +16,7 @@ use xsk_desc::{MOST_FRAMES, payload_of};
 use xsk_umem::{Batch, Geometry, Item, OutOfMemory, XdpDesc};
 
 /// The most packets that are finished and not completed.
-pub(crate) const MOST_FINISHED: usize = 128;
+const MOST_FINISHED: usize = 128;
 
 /// The packets that were put together and not completed yet, in order: their items one after the other, and how many each
 /// has.
@@ -52,13 +52,6 @@ impl Finished {
         })
     }
 
-    /// The number of packets.
-    pub(crate) fn len(&self) -> usize
-        ensures { result ≡ length self.now }
-    {
-        self.lengths.len()
-    }
-
     /// The number of items of the first packet, if there is one.
     pub(crate) fn first_len(&self) -> Option<u32>
         ensures { MatchOption result (self.now ≡ []) (λ n. (1 ≤ length self.now) × (n ≡ length (slice_index_or self.now 0 []))) }
@@ -86,17 +79,16 @@ impl Finished {
         sending: &mut Sending,
         items: &mut Batch,
     )
+        requires some { 1 ≤ length self.old }
         requires lawful { IsGeometry geometry.now }
         requires empty { items.old ≡ [] }
-        ensures packets { 1 ≤ length self.old → self.new ≡ drop 1 self.old }
-        ensures items { 1 ≤ length self.old → items.new ≡ map returned (slice_index_or self.old 0 []) }
+        ensures packets { self.new ≡ drop 1 self.old }
+        ensures items { items.new ≡ map returned (slice_index_or self.old 0 []) }
         ensures limits { (sending.new.most_packets ≡ sending.old.most_packets) × (sending.new.most_bytes ≡ sending.old.most_bytes) }
-        ensures sends { 1 ≤ length self.old → (packets : List (List ℕ)) → Sends (sendings_of sending.old) packets
+        ensures sends { (packets : List (List ℕ)) → Sends (sendings_of sending.old) packets
             → Sends (sendings_of sending.new) (packets ++ bytes_of geometry.now sg (slice_index_or self.old 0 []) ∷ []) }
     {
-        let Some(length) = self.lengths.pop_front() else {
-            return;
-        };
+        let length = self.lengths.pop_front().unwrap();
         sending.begin();
         send(&mut self.items, length, geometry, sg, sending, items);
     }

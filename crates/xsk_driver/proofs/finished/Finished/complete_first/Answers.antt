@@ -1,4 +1,4 @@
-use Rattle.std.proofs.Common.{◌≡◌, ◌≤◌, ◌∷◌, ◌∙◌, sym, ap, length, List, subst, arith}
+use Rattle.std.proofs.Common.{◌≡◌, ◌≤◌, ◌∷◌, ◌∙◌, sym, ap, length, List, subst, arith, rules}
 use Rattle.std.specs.Prelude.{All}
 use Rattle.std.specs.List.{sum}
 use Rattle.std.proofs.lemmas.List.Elements.{All-tail}
@@ -6,11 +6,11 @@ use Rattle.xsk_umem.specs.declared.batch.Item.{Item}
 use Rattle.xsk_driver.proofs.Packing.{sum_later}
 use Rattle.xsk_driver.proofs.finished.Finished.complete_first.Goals as goal
 
-pub invariant_of-self-2 : goal.invariant_of-self-2
-invariant_of-self-2 c =
-    let split : c.self.inside.lengths.items ≡ c.in-Some.length ∷ c.pop_front.new.self.items = c.in-Some.ensures.items in (
-      sum_later c.in-Some.length c.pop_front.new.self.items c.self.inside.items.items (ap sum (sym split) ∙ c.self.invariant.0) ∙ ap (λ (is : List Item). length is) (sym c.send.ensures.queue),
-      All-tail (λ n. n ≤ 18) c.in-Some.length c.pop_front.new.self.items (subst (All (λ n. n ≤ 18)) split c.self.invariant.1),
+pub invariant_of-self : goal.invariant_of-self
+invariant_of-self c =
+    let split : c.self.inside.lengths.items ≡ c.unwrap-length.result ∷ c.pop_front.new.self.items = search rules in (
+      sum_later c.unwrap-length.result c.pop_front.new.self.items c.self.inside.items.items (ap sum (sym split) ∙ c.self.invariant.0) ∙ ap (λ (is : List Item). length is) (sym c.send.ensures.queue),
+      All-tail (λ n. n ≤ 18) c.unwrap-length.result c.pop_front.new.self.items (subst (All (λ n. n ≤ 18)) split c.self.invariant.1),
       omega (arith, c.send.ensures.capacity, c.self.invariant.2),
-      omega (arith, c.in-Some.ensures.capacity, c.self.invariant.3),
+      omega (arith, c.pop_front.ensures.capacity, c.self.invariant.3),
     )

@@ -1,0 +1,6 @@
+use Rattle.std.proofs.Common.{◌≡◌, []}
+use Rattle.std.specs.Prelude.{replicate}
+use Rattle.xsk_driver.proofs.driver.empty_groups.Given as goal
+
+abbrev pub invariant-loop : goal.invariant-loop
+invariant-loop l = l.groups.items ≡ replicate l.counter []
