@@ -1,9 +1,7 @@
-//! Tests of layouts: each refusal with its value, and the regular configurations of the least and the largest.
-ghost use Rattle.std.specs.Prelude.{◌≡◌, None};
-ghost use Rattle.xsk_socket.specs.Layout.{fault_of};
-
+//! Tests of setups, call by call, and of layouts: each refusal with its value, and the least and the largest.
 use super::*;
 use std::alloc::Global;
+use std::process::Abort;
 use std::test::Fail;
 use xsk_model::{Config, PairInfo, SocketInfo};
 use xsk_umem::Umem;
@@ -145,5 +143,240 @@ fn the_least_regular_configuration(rt: HostRuntime) -> Result<(), Fail> {
     assert_eq!(rt; config.pairs(), [pair(0), pair(1)].as_slice());
     assert!(rt; config.regular());
     assert_eq!(rt; config.pool(), 128);
+    assert_eq!(rt; maps(rt.alloc(), &config)?.as_slice(), [1, 2].as_slice());
+    Ok(())
+}
+
+#[test]
+fn the_largest_regular_configuration(rt: HostRuntime) -> Result<(), Fail> {
+    let layout = Layout {
+        ports: 4,
+        queues: 4,
+        sockets: 4,
+        files: 8,
+        frames: 4096,
+        fill: 256,
+        sg: true,
+        wakeup: true,
+        empty: Some(15),
+        ..least()
+    };
+    let config = configure(rt.alloc(), &layout)?;
+    assert_eq!(rt; config.sockets().len(), 64);
+    assert_eq!(rt; config.pairs().len(), 16);
+    assert!(rt; config.regular());
+    assert!(rt; config.sg());
+    assert!(rt; config.wakeup());
+    let cells = maps(rt.alloc(), &config)?;
+    assert_eq!(rt; cells.len(), 64);
+    for (index, cell) in cells.iter().enumerate() {
+        let number = if index % 16 == 15 {
+            0
+        } else {
+            index as u64 + 1
+        };
+        assert_eq!(rt; *cell, number);
+    }
+    Ok(())
+}
+
+/// The cells of all ports, one port behind another.
+fn maps(alloc: Global, config: &Config) -> Result<Vec<u64>, Fail> {
+    let mut all = Vec::new(alloc);
+    for port in 0..config.ports() {
+        for index in 0..config.cells(port) {
+            all.push(config.cell(port, index))?;
+        }
+    }
+    Ok(all)
+}
+
+/// A setup of two ports with one queue, over eight frames of 2,048 bytes.
+fn setup(alloc: Global) -> Result<Setup, Fail> {
+    let (geometry, _frames) = Umem::register(alloc, 16_384, 2048, 0)?;
+    Ok(Setup::new(alloc, geometry, 2, 1))
+}
+
+#[test]
+fn two_sockets_call_by_call(rt: HostRuntime) -> Result<(), Fail> {
+    let mut setup = setup(rt.alloc())?;
+    let none = Err(SetupError::NoSuchSocket);
+    assert_eq!(rt; setup.bind(5, 0, 0, XDP_COPY, None), none);
+    assert_eq!(rt; setup.socket(), Ok(0));
+    assert_eq!(rt; setup.ring(0, RingKind::Rx, 3), Err(SetupError::BadSize));
+    assert_eq!(rt; setup.ring(0, RingKind::Rx, 4), Ok(()));
+    assert_eq!(rt; setup.ring(0, RingKind::Rx, 8), Err(SetupError::RingTwice));
+    assert_eq!(rt;
+        setup.bind(0, 0, 0, XDP_COPY, None),
+        Err(SetupError::NoPair)
+    );
+    assert_eq!(rt; setup.ring(0, RingKind::Fill, 4), Ok(()));
+    assert_eq!(rt; setup.ring(0, RingKind::Comp, 4), Ok(()));
+    let no_mode = Err(SetupError::NoZeroCopy);
+    assert_eq!(rt; setup.bind(0, 0, 0, XDP_ZEROCOPY, None), no_mode);
+    assert_eq!(rt; setup.bind(0, 0, 0, 32, None), Err(SetupError::BadFlags));
+    assert_eq!(rt;
+        setup.bind(0, 0, 1, XDP_COPY, None),
+        Err(SetupError::NoSuchQueue)
+    );
+    let unbound = Err(SetupError::NotBoundYet);
+    assert_eq!(rt; setup.bind(0, 0, 0, XDP_SHARED_UMEM, Some(0)), unbound);
+    assert_eq!(rt; setup.bind(0, 0, 0, XDP_COPY, None), Ok(()));
+    assert_eq!(rt;
+        setup.bind(0, 0, 0, XDP_COPY, None),
+        Err(SetupError::AlreadyBound)
+    );
+    second_socket(&rt, rt.alloc(), setup)
+}
+
+fn second_socket(rt: &impl Abort, alloc: Global, mut setup: Setup) -> Result<(), Fail> {
+    assert_eq!(rt; setup.socket(), Ok(1));
+    let bad = Err(SetupError::BadFlags);
+    assert_eq!(rt;
+        setup.bind(1, 0, 0, XDP_SHARED_UMEM | XDP_COPY, Some(0)),
+        bad
+    );
+    assert_eq!(rt;
+        setup.bind(1, 0, 0, XDP_SHARED_UMEM, Some(0)),
+        Err(SetupError::NoRing)
+    );
+    assert_eq!(rt; setup.ring(1, RingKind::Tx, 4), Ok(()));
+    assert_eq!(rt; setup.ring(1, RingKind::Fill, 4), Ok(()));
+    let twice = Err(SetupError::PairTwice);
+    assert_eq!(rt; setup.bind(1, 0, 0, XDP_SHARED_UMEM, Some(0)), twice);
+    assert_eq!(rt;
+        setup.bind(1, 1, 0, XDP_SHARED_UMEM, Some(0)),
+        Err(SetupError::NoPair)
+    );
+    assert_eq!(rt; setup.ring(1, RingKind::Comp, 4), Ok(()));
+    let mut setup = match setup.seal() {
+        Ok(_) => return Err(Fail::from("sealed with a socket that isn't bound")),
+        Err((error, setup)) => {
+            assert_eq!(rt; error, SetupError::NotBoundYet);
+            setup
+        }
+    };
+    assert_eq!(rt; setup.bind(1, 1, 0, XDP_SHARED_UMEM, Some(0)), Ok(()));
+    let Ok(config) = setup.seal() else {
+        return Err(Fail::from("not sealed"));
+    };
+    assert_eq!(rt; config.pairs().len(), 2);
+    assert_eq!(rt; config.sockets().len(), 2);
+    assert!(rt; config.lawful());
+    assert_eq!(rt; config.pool(), 4);
+    assert!(rt; !config.regular());
+    assert!(rt; !config.sg() && !config.wakeup());
+    assert_eq!(rt; maps(alloc, &config)?.as_slice(), [1, 2].as_slice());
+    Ok(())
+}
+
+#[test]
+fn flags_that_are_refused(rt: HostRuntime) -> Result<(), Fail> {
+    let mut setup = setup(rt.alloc())?;
+    for number in 0..3 {
+        assert_eq!(rt; setup.socket(), Ok(number));
+        assert_eq!(rt; setup.ring(number, RingKind::Tx, 2), Ok(()));
+    }
+    assert_eq!(rt; setup.ring(0, RingKind::Fill, 2), Ok(()));
+    assert_eq!(rt; setup.ring(0, RingKind::Comp, 2048), Ok(()));
+    let bad = Err(SetupError::BadFlags);
+    assert_eq!(rt; setup.bind(0, 9, 9, XDP_SHARED_UMEM, None), bad);
+    assert_eq!(rt; setup.bind(0, 9, 9, XDP_COPY, Some(1)), bad);
+    assert_eq!(rt; setup.bind(0, 9, 9, XDP_COPY | XDP_ZEROCOPY, None), bad);
+    assert_eq!(rt; setup.bind(0, 9, 9, u32::MAX, None), bad);
+    assert_eq!(rt;
+        setup.bind(0, 9, 9, XDP_USE_SG | XDP_ZEROCOPY, None),
+        Err(SetupError::NoZeroCopy)
+    );
+    assert_eq!(rt;
+        setup.bind(0, 0, 0, XDP_USE_SG | XDP_USE_NEED_WAKEUP, None),
+        Ok(())
+    );
+    assert_eq!(rt; setup.bind(1, 0, 0, XDP_COPY, None), bad);
+    assert_eq!(rt;
+        setup.bind(1, 0, 0, XDP_SHARED_UMEM, Some(2)),
+        Err(SetupError::NotBoundYet)
+    );
+    assert_eq!(rt;
+        setup.bind(1, 0, 0, XDP_SHARED_UMEM, Some(7)),
+        Err(SetupError::NotBoundYet)
+    );
+    assert_eq!(rt; setup.bind(1, 0, 0, XDP_SHARED_UMEM, Some(0)), Ok(()));
+    assert_eq!(rt; setup.bind(2, 0, 0, XDP_SHARED_UMEM, Some(1)), Ok(()));
+    assert_eq!(rt;
+        setup.ring(2, RingKind::Rx, 0),
+        Err(SetupError::AlreadyBound)
+    );
+    let Ok(config) = setup.seal() else {
+        return Err(Fail::from("not sealed"));
+    };
+    assert!(rt; config.sg() && config.wakeup());
+    assert_eq!(rt; config.pairs().len(), 1);
+    assert_eq!(rt; maps(rt.alloc(), &config)?.as_slice(), [1, 2, 3].as_slice());
+    Ok(())
+}
+
+#[test]
+fn cells_go_by_queue_and_then_by_number(rt: HostRuntime) -> Result<(), Fail> {
+    let (geometry, _frames) = Umem::register(rt.alloc(), 16_384, 2048, 0)?;
+    let mut setup = Setup::new(rt.alloc(), geometry, 2, 2);
+    let places = [(1, 1), (0, 1), (1, 0), (1, 1), (0, 0)];
+    for (number, (port, queue)) in places.iter().enumerate() {
+        let number = number as u32;
+        assert_eq!(rt; setup.socket(), Ok(number));
+        assert_eq!(rt; setup.ring(number, RingKind::Rx, 2), Ok(()));
+        if number != 3 {
+            assert_eq!(rt; setup.ring(number, RingKind::Fill, 2), Ok(()));
+            assert_eq!(rt; setup.ring(number, RingKind::Comp, 2), Ok(()));
+        }
+        let (flags, shared) = if number == 0 {
+            (XDP_COPY, None)
+        } else {
+            (XDP_SHARED_UMEM, Some(0))
+        };
+        assert_eq!(rt; setup.bind(number, *port, *queue, flags, shared), Ok(()));
+    }
+    let Ok(config) = setup.seal() else {
+        return Err(Fail::from("not sealed"));
+    };
+    assert_eq!(rt;
+        maps(rt.alloc(), &config)?.as_slice(),
+        [5, 2, 3, 1, 4].as_slice()
+    );
+    let pair = |port, queue| PairInfo {
+        port,
+        queue,
+        fill: 2,
+        comp: 2,
+    };
+    let pairs = [pair(1, 1), pair(0, 1), pair(1, 0), pair(0, 0)];
+    assert_eq!(rt; config.pairs(), pairs.as_slice());
+    Ok(())
+}
+
+#[test]
+fn sixty_four_sockets_and_one_more(rt: HostRuntime) -> Result<(), Fail> {
+    let mut setup = setup(rt.alloc())?;
+    for number in 0..64 {
+        assert_eq!(rt; setup.socket(), Ok(number));
+        assert_eq!(rt; setup.ring(number, RingKind::Rx, 2048), Ok(()));
+        if number == 0 {
+            assert_eq!(rt; setup.ring(0, RingKind::Fill, 8), Ok(()));
+            assert_eq!(rt; setup.ring(0, RingKind::Comp, 8), Ok(()));
+            assert_eq!(rt; setup.bind(0, 1, 0, 0, None), Ok(()));
+        } else {
+            assert_eq!(rt;
+                setup.bind(number, 1, 0, XDP_SHARED_UMEM, Some(number - 1)),
+                Ok(())
+            );
+        }
+    }
+    assert_eq!(rt; setup.socket(), Err(SetupError::TooMany));
+    let Ok(config) = setup.seal() else {
+        return Err(Fail::from("not sealed"));
+    };
+    assert_eq!(rt; config.cells(0), 0);
+    assert_eq!(rt; config.cells(1), 64);
+    assert_eq!(rt; config.cell(1, 63), 64);
     Ok(())
 }
