@@ -1,13 +1,12 @@
 -- What a further call leaves, part by part.
-use Rattle.std.proofs.Common.{◌≡◌, ℕ, ◌+◌, ◌<◌, ◌≢◌, ◌&&◌, Bool, true, false, cond, eqb, List, [], ◌∷◌, ◌++◌, length, get_or, set, refl, sym, ap, ap₂, ◌∙◌, arith, Option, Some, None}
+use Rattle.std.proofs.Common.{◌≡◌, ℕ, ◌+◌, ◌<◌, ◌≢◌, List, [], ◌∷◌, ◌++◌, length, get_or, set, refl, sym, ap, ap₂, ◌∙◌, arith, Some}
 use Rattle.std.proofs.lemmas.Bool.{eq-eqb, ne_eqb}
-use Rattle.xsk_socket.specs.declared.socket.Place.{Place}
 use Rattle.xsk_socket.specs.declared.socket.RingKind.{RingKind}
 use Rattle.xsk_socket.specs.declared.socket.RingKind.TheVariants.{Rx, Tx, Fill, Comp}
 use Rattle.xsk_socket.specs.declared.socket.Socket.{Socket}
 use Rattle.xsk_socket.specs.Regular.{numbered}
 use Rattle.xsk_socket.specs.Rings.{with_ring}
-use Rattle.xsk_socket.specs.Setup.{Made, no_socket, place_of, ring_of, socket_of, sockets_of}
+use Rattle.xsk_socket.specs.Setup.{Made, no_socket, socket_of, sockets_of}
 use Rattle.xsk_socket.specs.Setup.Made.{socket, ring, bind}
 use Rattle.xsk_socket.proofs.Numbered.{get_or-numbered, length-numbered, numbered_more, numbered_same, set_numbered}
 

@@ -1,26 +1,24 @@
 -- The configuration of a sound setup whose sockets are all bound.
-use Rattle.std.proofs.Common.{◌≡◌, ℕ, zero, suc, ◌+◌, ◌-◌, ◌<◌, ◌≤◌, ◌⊎◌, ◌&&◌, ◌||◌, Bool, true, false, cond, eqb, ltb, not, List, [], ◌∷◌, ◌++◌, length, map, get_or, refl, sym, ap, ap₂, ◌∙◌, subst, inl, inr, arith, Option, Some, None, add-zero, append-nil}
-use Rattle.std.specs.Prelude.{All, Any, count_by, filter, IfSome, IsSome, is_some, unwrap_or}
+use Rattle.std.proofs.Common.{◌≡◌, ℕ, zero, suc, ◌+◌, ◌-◌, ◌<◌, ◌≤◌, ◌&&◌, Bool, true, false, cond, eqb, ltb, List, [], ◌∷◌, ◌++◌, length, map, get_or, refl, sym, ap, ap₂, ◌∙◌, subst, inl, inr, arith, Option, Some, None, add-zero, append-nil}
+use Rattle.std.specs.Prelude.{All, count_by, filter, IfSome, is_some}
 use Rattle.std.specs.List.{flat_map, list_all, range_with_len, sum_by}
-use Rattle.std.proofs.lemmas.Bool.{and_parts, cases_Bool, cases_eq, eq-eqb, eqb-true}
+use Rattle.std.proofs.lemmas.Bool.{cases_Bool}
 use Rattle.std.proofs.lemmas.Bool.Decides.{nat_tests}
 use Rattle.std.proofs.lemmas.Grind.{flat_map-append}
 use Rattle.std.proofs.lemmas.List.{length-append, length-map, get_or-map}
 use Rattle.std.proofs.lemmas.List.Elements.{All-append, All-cons, All-get_or, All-head, All-map, All-nil, All-tail, All-weaker}
 use Rattle.std.proofs.lemmas.List.FromFn.{filter_of_map_range_with_len_more}
 use Rattle.std.proofs.lemmas.List.Sums.{AllPass-from_list_all, count_by-le-length, length-filter, sum_by-cons}
-use Rattle.xsk_umem.specs.Geometry.{Geometry}
-use Rattle.xsk_model.specs.Config.{Config, IsBound, IsConfig, IsMap, IsRingSize, IsServed, pairs_at}
+use Rattle.xsk_model.specs.Config.{IsBound, IsConfig, IsMap, IsServed, pairs_at}
 use Rattle.xsk_model.specs.declared.config.PairInfo.{PairInfo}
-use Rattle.xsk_model.specs.declared.config.SocketInfo.{SocketInfo}
 use Rattle.xsk_socket.specs.declared.socket.Place.{Place}
 use Rattle.xsk_socket.specs.declared.socket.Socket.{Socket}
 use Rattle.xsk_socket.specs.Bound.{bound_in, info_in, map_on}
 use Rattle.xsk_socket.specs.Regular.{numbered}
-use Rattle.xsk_socket.specs.Sealed.{info_of, is_on, on_port, on_queue, placed, sealed}
-use Rattle.xsk_socket.specs.Setup.{Made, State, StandsFor, has_pair, is_bound, no_socket, place_of, socket_at, socket_of, sockets_of}
-use Rattle.xsk_socket.specs.Sound.{IsPair, IsPlaced, IsSetup, IsSocket, is_at}
-use Rattle.xsk_socket.proofs.Numbered.{all_numbered, get_or-numbered, length-numbered, numbered_more, numbered_same}
+use Rattle.xsk_socket.specs.Sealed.{info_of, is_on, on_port, on_queue, placed}
+use Rattle.xsk_socket.specs.Setup.{Made, State, has_pair, is_bound, no_socket, place_of, socket_at, socket_of, sockets_of}
+use Rattle.xsk_socket.specs.Sound.{IsPair, IsPlaced, IsSetup, IsSocket}
+use Rattle.xsk_socket.proofs.Numbered.{all_numbered, get_or-numbered, length-numbered, numbered_same}
 use Rattle.xsk_socket.proofs.Setups.{some_counted}
 
 -- ---- lists

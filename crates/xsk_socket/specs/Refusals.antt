@@ -1,6 +1,6 @@
 -- Why a call of a setup is refused: the first of its conditions that holds. The conditions are of af_xdp.rst and of the
 -- kernel's checks; their order and their names are this project's own.
-use Rattle.std.specs.Prelude.{ℕ, ◌==◌, ◌&&◌, ◌||◌, not, nat_lt, nat_le, Bool, true, false, List, [], ◌∷◌, ◌++◌, length, Option, Some, None, is_some, bit_and, if◌then◌else◌}
+use Rattle.std.specs.Prelude.{ℕ, ◌==◌, ◌&&◌, ◌||◌, not, nat_lt, nat_le, Bool, false, List, [], ◌∷◌, ◌++◌, length, Option, Some, None, is_some, bit_and, if◌then◌else◌}
 use Rattle.std.specs.List.{list_all}
 use Rattle.xsk_socket.specs.declared.socket.RingKind.{RingKind}
 use Rattle.xsk_socket.specs.declared.error.SetupError.{SetupError}

@@ -1,7 +1,7 @@
 -- The setup of sockets over one UMEM, as what its accepted calls leave (af_xdp.rst, "Concepts", "XDP_SHARED_UMEM bind
 -- flag" and "XDP_USE_NEED_WAKEUP bind flag"; if_xdp.h for the flags). That a UMEM has at most 64 sockets is this project's
 -- own.
-use Rattle.std.specs.Prelude.{◌≡◌, ℕ, ◌+◌, ◌==◌, ◌&&◌, ◌||◌, not, Bool, List, [], ◌∷◌, ◌++◌, length, Option, Some, None, is_some, unwrap_or, if◌then◌else◌, true, false}
+use Rattle.std.specs.Prelude.{◌≡◌, ℕ, ◌+◌, ◌==◌, ◌&&◌, Bool, List, [], ◌∷◌, ◌++◌, Option, Some, None, is_some, unwrap_or, if◌then◌else◌, true, false}
 use Rattle.std.specs.List.{list_any, slice_index_or}
 use Rattle.xsk_umem.specs.Geometry.{Geometry}
 use Rattle.xsk_model.specs.declared.config.PairInfo.{PairInfo}

@@ -1,5 +1,5 @@
 -- What holds of every setup.
-use Rattle.std.specs.Prelude.{◌≡◌, ℕ, ◌<◌, ◌≤◌, ◌⊎◌, List, length, Option, Some, IfSome, IsSome, All, Any, count_by, true}
+use Rattle.std.specs.Prelude.{◌≡◌, ℕ, ◌<◌, ◌≤◌, ◌⊎◌, List, length, Some, IfSome, IsSome, All, Any, count_by, true}
 use Rattle.xsk_model.specs.Config.{IsRingSize, pairs_at}
 use Rattle.xsk_model.specs.declared.config.PairInfo.{PairInfo}
 use Rattle.xsk_socket.specs.declared.socket.Place.{Place}

@@ -161,6 +161,7 @@ impl Setup {
     pub fn seal(self) -> Result<Config, (SetupError, Setup)>
         ensures refused { (e : _) → seal_refusal self ≡ Some e → result ≡ Err (e, self) }
         ensures accepted { seal_refusal self ≡ None → (IsOk result ⊎ (result ≡ Err (SetupError.OutOfMemory, self))) }
+        ensures over { IfOk result (λ config. (config.geometry ≡ self.geometry) × (config.ports ≡ self.ports) × (config.queues ≡ self.queues)) }
         ensures config { IfOk result (λ config. (calls : _) → StandsFor calls self → config ≡ sealed self.geometry self.ports self.queues calls) }
     {
         if self.sockets.is_empty() || !all_bound(self.sockets.as_slice()) {

@@ -1,11 +1,9 @@
-use Rattle.std.proofs.Common.{rules, ◌≡◌, ◌∙◌, ℕ, Bool, ◌+◌, ◌-◌, ◌<◌, ◌++◌, length, List, [], ◌∷◌, cond, get_or, refl, ap, ap₂, sym, arith, append_assoc}
+use Rattle.std.proofs.Common.{◌≡◌, ◌∙◌, ℕ, Bool, ◌+◌, ◌-◌, ◌++◌, List, [], ◌∷◌, cond, ap, ap₂, sym, arith, append_assoc}
 use Rattle.std.specs.Prelude.{filter}
-use Rattle.xsk_socket.specs.declared.socket.Socket.{Socket}
 use Rattle.xsk_socket.specs.Regular.{numbered}
 use Rattle.xsk_socket.specs.Sealed.{is_on}
-use Rattle.xsk_socket.specs.Setup.{no_socket, socket_at}
+use Rattle.xsk_socket.specs.Setup.{socket_at}
 use Rattle.xsk_socket.proofs.Sealing.{filter_more}
-use Rattle.xsk_socket.proofs.Setups.{own_is}
 use Rattle.xsk_socket.proofs.seal.add_bound.Goals as goal
 
 step : (old now : List ℕ) (p : ℕ → Bool) (n : ℕ) (start : List ℕ) (here : Bool) → now ≡ old ++ cond here ((n + 1) ∷ []) [] → here ≡ p (n + 1)

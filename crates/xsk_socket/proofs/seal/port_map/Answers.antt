@@ -1,5 +1,5 @@
-use Rattle.std.proofs.Common.{◌≡◌, ◌∙◌, ◌++◌, ap, sym}
-use Rattle.xsk_socket.specs.Bound.{bound_in, map_on}
+use Rattle.std.proofs.Common.{◌∙◌, ◌++◌, ap, sym}
+use Rattle.xsk_socket.specs.Bound.{bound_in}
 use Rattle.xsk_socket.proofs.Sealing.{map_more}
 use Rattle.xsk_socket.proofs.seal.port_map.Goals as goal
 

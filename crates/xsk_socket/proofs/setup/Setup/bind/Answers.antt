@@ -1,12 +1,10 @@
-use Rattle.std.proofs.Common.{rules, ◌≡◌, ℕ, refl, ◌∙◌, ◌<◌, Option, Some, None, get_or, length, set, ap, ap₂, sym, subst}
+use Rattle.std.proofs.Common.{◌≡◌, ℕ, refl, ◌∙◌, ◌<◌, Option, Some, None, get_or, length, set, ap, ap₂, sym, subst}
 use Rattle.std.specs.Prelude.{unwrap_or}
 use Rattle.xsk_socket.specs.declared.socket.Socket.{Socket}
 use Rattle.xsk_socket.specs.Refusals.{bind_refusal}
 use Rattle.xsk_socket.specs.Rings.{paired}
 use Rattle.xsk_socket.specs.Setup.{State, StandsFor, socket_at}
-use Rattle.xsk_socket.specs.Sound.{IsSetup}
 use Rattle.xsk_socket.proofs.Outcomes.{more_binds, own_rings}
-use Rattle.xsk_socket.proofs.Refused.{clear, not_past}
 use Rattle.xsk_socket.proofs.Setups.{MayBind, may_bind, more_bind, own_is}
 use Rattle.xsk_socket.proofs.setup.Setup.bind.Goals as goal
 

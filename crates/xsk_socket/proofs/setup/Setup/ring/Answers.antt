@@ -1,13 +1,9 @@
-use Rattle.std.proofs.Common.{rules, ◌≡◌, ◌∙◌, ◌<◌, [], ◌∷◌, ◌++◌, List, None, true, false, get_or, length, set, ap, arith, sym, subst}
-use Rattle.xsk_model.specs.Config.{IsRingSize}
+use Rattle.std.proofs.Common.{rules, ◌≡◌, ◌∙◌, ◌<◌, None, true, length, set, ap}
 use Rattle.xsk_socket.specs.declared.socket.Socket.{Socket}
 use Rattle.xsk_socket.specs.Layout.{is_ring_size}
-use Rattle.xsk_socket.specs.Rings.{with_ring}
-use Rattle.xsk_socket.specs.Setup.{State, StandsFor, no_socket, socket_at}
-use Rattle.xsk_socket.specs.Sound.{IsSetup}
+use Rattle.xsk_socket.specs.Setup.{State, socket_at}
 use Rattle.xsk_socket.proofs.Accepted.{ring_size}
 use Rattle.xsk_socket.proofs.Outcomes.{more_rings}
-use Rattle.xsk_socket.proofs.Refused.{none_of}
 use Rattle.xsk_socket.proofs.Setups.{more_ring, own_is}
 use Rattle.xsk_socket.proofs.setup.Setup.ring.Goals as goal
 

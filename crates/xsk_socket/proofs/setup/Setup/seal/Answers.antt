@@ -2,13 +2,10 @@ use Rattle.std.proofs.Common.{rules, ◌≡◌, ◌∙◌, ◌<◌, true, length
 use Rattle.std.specs.List.{list_all}
 use Rattle.std.specs.Prelude.{unwrap_or}
 use Rattle.std.specs.Vec.{vec_items}
-use Rattle.xsk_model.specs.Config.{Config}
 use Rattle.xsk_socket.specs.Bound.{info_in, map_on}
-use Rattle.xsk_socket.specs.Refusals.{has_flag}
 use Rattle.xsk_socket.specs.Regular.{numbered}
 use Rattle.xsk_socket.specs.Sealed.{info_of, on_port, sealed}
-use Rattle.xsk_socket.specs.Setup.{State, StandsFor, flags_of, is_bound, pairs_of, sockets_of}
-use Rattle.xsk_socket.specs.Sound.{IsSetup}
+use Rattle.xsk_socket.specs.Setup.{State, StandsFor, flags_of, is_bound, sockets_of}
 use Rattle.xsk_socket.proofs.Sealing.{infos_are, maps_are, setup-config}
 use Rattle.xsk_socket.proofs.setup.Setup.seal.Goals as goal
 

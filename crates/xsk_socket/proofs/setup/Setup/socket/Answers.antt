@@ -1,9 +1,5 @@
-use Rattle.std.proofs.Common.{rules, ◌≡◌, ◌∙◌, ◌<◌, [], ◌∷◌, ◌++◌, List, length, ap, arith, sym, subst}
-use Rattle.std.specs.Prelude.{Option}
-use Rattle.xsk_socket.specs.declared.socket.Socket.{Socket}
-use Rattle.xsk_model.specs.declared.config.PairInfo.{PairInfo}
-use Rattle.xsk_socket.specs.Setup.{State, StandsFor, no_socket}
-use Rattle.xsk_socket.specs.Sound.{IsSetup}
+use Rattle.std.proofs.Common.{rules, ◌≡◌, ◌∙◌, ◌<◌, [], ◌∷◌, ◌++◌, length, ap}
+use Rattle.xsk_socket.specs.Setup.{State, no_socket}
 use Rattle.xsk_socket.proofs.Outcomes.{more_sockets}
 use Rattle.xsk_socket.proofs.Setups.{more_socket}
 use Rattle.xsk_socket.proofs.setup.Setup.socket.Goals as goal
