@@ -1,3 +1,7 @@
 pub mod Accepted
 pub mod Numbered
+pub mod Outcomes
+pub mod Refused
 pub mod Regularity
+pub mod Sealing
+pub mod Setups

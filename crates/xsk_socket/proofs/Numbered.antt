@@ -1,8 +1,9 @@
 -- Lists by number.
-use Rattle.std.proofs.Common.{◌≡◌, ℕ, zero, suc, ◌+◌, ◌<◌, Bool, true, false, cond, [], ◌∷◌, ◌++◌, length, get_or, refl, ◌∙◌, arith, subst, inl, inr, ◌≢◌}
+use Rattle.std.proofs.Common.{◌≡◌, ℕ, zero, suc, ◌+◌, ◌<◌, Bool, true, false, cond, [], ◌∷◌, ◌++◌, length, get_or, refl, ◌∙◌, arith, subst, inl, inr, ◌≢◌, ap₂, set, sym}
 use Rattle.std.specs.Prelude.{All, count_by}
-use Rattle.std.proofs.lemmas.Bool.{cases_Bool}
-use Rattle.std.proofs.lemmas.List.FromFn.{map-range_with_len_more, length-map-range_with_len, get_or-map-range_with_len, sum_by-map-range_with_len_more}
+use Rattle.std.proofs.lemmas.Bool.{cases_Bool, cases_eq}
+use Rattle.std.proofs.lemmas.List.{length-set, get_or-set_same, get_or-set_other}
+use Rattle.std.proofs.lemmas.List.FromFn.{fill_by_all, map-range_with_len_more, length-map-range_with_len, get_or-map-range_with_len, sum_by-map-range_with_len_more}
 use Rattle.xsk_socket.specs.Regular.{numbered}
 
 pub numbered_more : {A : Type 0} (n : ℕ) (f : ℕ → A) → numbered (n + 1) f ≡ numbered n f ++ f n ∷ []
@@ -47,3 +48,22 @@ count_one p (suc n) f here below holds alone =
           let other : here ≢ n = λ is. let last : p (f n) ≡ true = subst (λ k. p (f k) ≡ true) is holds in absurd (cc) in
           count_more p n f ∙ rw (fails, count_one p n f here (omega (arith, other)) holds (λ i within is. alone i (omega (arith, within)) is)) refl
     ]
+
+pub numbered_same : {A : Type 0} (n : ℕ) (f g : ℕ → A) → ((i : ℕ) → i < n → f i ≡ g i) → numbered n f ≡ numbered n g
+numbered_same zero f g same = refl
+numbered_same (suc n) f g same =
+    let next : n + 1 ≡ suc n = omega arith in
+    subst (λ k. numbered k f ≡ numbered k g) next
+    (numbered_more n f
+    ∙ ap₂ (λ xs x. xs ++ x ∷ []) (numbered_same n f g (λ i below. same i (omega (arith, below)))) (same n (omega arith))
+    ∙ sym (numbered_more n g))
+
+-- a list by number, of which one entry was written
+pub set_numbered : {A : Type 0} (n : ℕ) (f g : ℕ → A) (s : ℕ) (v : A) → s < n → g s ≡ v → ((i : ℕ) → i ≢ s → f i ≡ g i) → set (numbered n f) s v ≡ numbered n g
+set_numbered n f g s v below here other =
+    fill_by_all g (set (numbered n f) s v) n v (length-set (numbered n f) s v ∙ length-numbered n f) (λ i within.
+    let inside : s < length (numbered n f) = rw (length-numbered n f) below in
+    elim (cases_eq i s) [
+      | inl is ↦ subst (λ k. get_or (set (numbered n f) s v) k v ≡ g k) (sym is) (get_or-set_same (numbered n f) s v v inside ∙ sym here)
+      | inr apart ↦ get_or-set_other (numbered n f) s i v v apart ∙ get_or-numbered n f i v within ∙ other i apart
+    ])

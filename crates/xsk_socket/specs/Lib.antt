@@ -1,3 +1,9 @@
-pub mod Layout
+pub mod Bound
 pub mod Fits
+pub mod Layout
+pub mod Refusals
 pub mod Regular
+pub mod Rings
+pub mod Sealed
+pub mod Setup
+pub mod Sound
