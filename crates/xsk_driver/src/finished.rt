@@ -12,7 +12,8 @@ use crate::sending::Sending;
 use std::alloc::Global;
 use std::collections::VecDeque;
 use std::marker::Model;
-use xsk_desc::{MOST_FRAMES, payload_of};
+use xsk_desc::payload_of;
+use xsk_model::steering::MOST_FRAGMENTS;
 use xsk_umem::{Batch, Geometry, Item, OutOfMemory, XdpDesc};
 
 /// The most packets that are finished and not completed.
@@ -47,7 +48,7 @@ impl Finished {
         ensures { IfOk result (λ f. f ≡ []) }
     {
         Ok(Finished {
-            items: VecDeque::with_capacity(alloc, MOST_FINISHED * MOST_FRAMES as usize)?,
+            items: VecDeque::with_capacity(alloc, MOST_FINISHED * MOST_FRAGMENTS as usize)?,
             lengths: VecDeque::with_capacity(alloc, MOST_FINISHED)?,
         })
     }
