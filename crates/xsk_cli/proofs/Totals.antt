@@ -24,10 +24,3 @@ length_concat-take_few [] (suc n) = omega arith
 length_concat-take_few (first ∷ packets) (suc n) =
     omega (arith, length-append first (concat (take n packets)), length-append first (concat packets), length_concat-take_few packets n)
 
--- one list within the limits may be written
-pub one_list-writable : (packets : List (List ℕ)) → All IsShort packets → length packets ≤ 65536 → length (concat packets) ≤ 33554432 → IsWritable (packets ∷ [])
-one_list-writable packets short few small = record {
-  each = rw append-nil (recursion_from_All IsShort packets short);
-  packets = rw append-nil few;
-  bytes = rw append-nil small;
-}

@@ -8,8 +8,12 @@ mod commands;
 #[cfg(test)]
 mod configuration;
 #[cfg(test)]
+mod files;
+#[cfg(test)]
 mod four_ports;
 #[cfg(test)]
 mod many_packets;
+#[cfg(test)]
+mod refusals;
 #[cfg(test)]
 mod short_writes;
