@@ -1,6 +1,11 @@
-pub mod FiveWords
+pub mod Ports
+pub mod Planning
 pub mod Totals
+pub mod Reading
+pub mod Writing
+pub mod Telling
 pub mod TwoPortsLaws
-pub mod Refusals
-pub mod Ending
-pub mod Redirected
+pub mod Judging
+pub mod Running
+pub mod Unique
+pub mod Answering

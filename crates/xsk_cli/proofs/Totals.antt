@@ -1,15 +1,26 @@
--- Lists within the limits of a capture.
-use Rattle.std.proofs.Common.{◌≡◌, ℕ, ◌≤◌, List, [], ◌∷◌, length, append-nil}
-use Rattle.std.specs.Prelude.{All}
+-- The bytes of the first packets of a list.
+use Rattle.std.proofs.Common.{◌≡◌, ℕ, zero, suc, ◌+◌, List, [], ◌∷◌, length, take, Some, arith, add-one, ◌≤◌, length-append, append-nil}
+use Rattle.std.specs.Prelude.{All, slice_get}
 use Rattle.std.specs.List.{concat}
 use Rattle.std.proofs.lemmas.List.Elements.{recursion_from_All}
 use Rattle.xsk_pcap.specs.Capture.{IsShort}
 use Rattle.xsk_pcap.specs.Written.{IsWritable}
 
--- one list within the limits may be written
-pub one_list-writable : (packets : List (List ℕ)) → All IsShort packets → length packets ≤ 65536 → length (concat packets) ≤ 33554432 → IsWritable (packets ∷ [])
-one_list-writable packets short few small = record {
-  each = rw append-nil (recursion_from_All IsShort packets short);
-  packets = rw append-nil few;
-  bytes = rw append-nil small;
-}
+pub length_concat-take : (packets : List (List ℕ)) (n : ℕ) (packet : List ℕ) → slice_get packets n ≡ Some packet
+    → length (concat (take (suc n) packets)) ≡ length (concat (take n packets)) + length packet
+length_concat-take [] n packet is = absurd (cc)
+length_concat-take (first ∷ packets) zero packet is = let same : first ≡ packet = cc in rw (← same) (omega (arith, length-append first []))
+length_concat-take (first ∷ packets) (suc n) packet is =
+    omega (arith, length-append first (concat (take (suc n) packets)), length-append first (concat (take n packets)), length_concat-take packets n packet is)
+
+pub length_concat-take_more : (packets : List (List ℕ)) (n : ℕ) (packet : List ℕ) → slice_get packets n ≡ Some packet
+    → length (concat (take (n + 1) packets)) ≡ length (concat (take n packets)) + length packet
+length_concat-take_more packets n packet is = rw add-one (length_concat-take packets n packet is)
+
+-- they are at most those of all packets
+pub length_concat-take_few : (packets : List (List ℕ)) (n : ℕ) → length (concat (take n packets)) ≤ length (concat packets)
+length_concat-take_few packets zero = omega arith
+length_concat-take_few [] (suc n) = omega arith
+length_concat-take_few (first ∷ packets) (suc n) =
+    omega (arith, length-append first (concat (take n packets)), length-append first (concat packets), length_concat-take_few packets n)
+

@@ -1,75 +1,50 @@
--- What of two inputs is refused once their bytes are there, and in which order: an input that is too long, then the first
+-- What of the inputs is refused once their bytes are there, and in which order: an input that is too long, then the first
 -- capture that is none (pcap-savefile(5)), then too many packets, then too many captured bytes. The limits and this order
 -- are this project's own.
-use Rattle.std.specs.Prelude.{◌≡◌, ℕ, zero, suc, ◌+◌, ◌<◌, ◌≤◌, List, length}
-use Rattle.std.specs.List.{concat}
-use Rattle.xsk_pcap.specs.Limits.{most_packets, most_bytes}
+use Rattle.std.specs.Prelude.{◌≡◌, ◌≢◌, ℕ, ◌<◌, ◌≤◌, nat_lt, List, [], length, Option, Some, None, if◌then◌else◌, sum_by}
+use Rattle.std.specs.List.{concat, slice_index_or}
 use Rattle.xsk_pcap.specs.Capture.{IsCapture, IsRefused}
 use Rattle.xsk_pcap.specs.declared.reading.BadCapture.{BadCapture as Cause}
+use Rattle.xsk_pcap.specs.declared.reading.BadCapture.TheVariants.{OutOfMemory as NoMemory}
 use Rattle.xsk_cli.specs.declared.status.Excess.{Excess}
-use Rattle.xsk_cli.specs.declared.status.Excess.TheVariants.{Input, Packets, Bytes}
-use Rattle.xsk_cli.specs.declared.status.Status.{Status}
-use Rattle.xsk_cli.specs.declared.status.Status.TheVariants.{Done, Usage, BadCapture, ReadFault, WriteFault, OpenFault, Stalled, TooMuch, OutOfMemory}
+use Rattle.xsk_cli.specs.declared.status.Excess.TheVariants.{Packets, Bytes}
 
--- neither input has more bytes than a capture of 65,536 packets with 33,554,432 bytes
-abbrev pub AreFew : List ℕ → List ℕ → Type 0
-AreFew in0 in1 = (length in0 ≤ 34603032) × (length in1 ≤ 34603032)
+-- the bytes of a port's input
+abbrev pub bytes_of : List (List ℕ) → ℕ → List ℕ
+bytes_of inputs port = slice_index_or inputs port []
 
--- both are captures, of these packets
-pub record AreCaptures (in0 in1 : List ℕ) (packets0 packets1 : List (List ℕ)) : Type 0 where
-  pub few : AreFew in0 in1
-  pub first : IsCapture in0 packets0
-  pub second : IsCapture in1 packets1
+-- so many ports, from 0 on, have inputs with no more bytes than a capture of 65,536 packets with 33,554,432 bytes
+abbrev pub AreShort : List (List ℕ) → ℕ → Type 0
+AreShort inputs count = (port : ℕ) → port < count → length (bytes_of inputs port) ≤ 34603032
 
-abbrev pub packets_in : List (List ℕ) → List (List ℕ) → ℕ
-packets_in packets0 packets1 = length packets0 + length packets1
+-- the lowest port with a longer one
+pub record IsTooLong (inputs : List (List ℕ)) (port : ℕ) : Type 0 where
+  pub known : port < length inputs
+  pub long : 34603032 < length (bytes_of inputs port)
+  pub before : AreShort inputs port
 
-abbrev pub bytes_in : List (List ℕ) → List (List ℕ) → ℕ
-bytes_in packets0 packets1 = length (concat packets0) + length (concat packets1)
+-- all are captures, with a list of packets each
+pub record AreCaptures (inputs : List (List ℕ)) (lists : List (List (List ℕ))) : Type 0 where
+  pub count : length lists ≡ length inputs
+  pub each : (port : ℕ) → port < length inputs → IsCapture (bytes_of inputs port) (slice_index_or lists port [])
 
--- and they are within the limits of both together
-pub record AreTaken (in0 in1 : List ℕ) (packets0 packets1 : List (List ℕ)) : Type 0 where
-  pub captures : AreCaptures in0 in1 packets0 packets1
-  pub packets : packets_in packets0 packets1 ≤ most_packets
-  pub bytes : bytes_in packets0 packets1 ≤ most_bytes
+-- the lowest port whose input is no capture, and the first check of it that fails, which isn't want of memory
+pub record IsBadCapture (inputs : List (List ℕ)) (port : ℕ) (cause : Cause) : Type 0 where
+  pub known : port < length inputs
+  pub before : (lower : ℕ) → lower < port → (packets : List (List ℕ)) × IsCapture (bytes_of inputs lower) packets
+  pub refused : IsRefused (bytes_of inputs port) cause
+  pub check : cause ≢ NoMemory
 
--- the lowest input that is no capture, and its first check that fails
-abbrev pub IsBadCapture : List ℕ → List ℕ → ℕ → Cause → Type 0
-IsBadCapture in0 in1 zero cause = AreFew in0 in1 × IsRefused in0 cause
-IsBadCapture in0 in1 (suc zero) cause = AreFew in0 in1 × ((packets0 : List (List ℕ)) × IsCapture in0 packets0) × IsRefused in1 cause
-IsBadCapture in0 in1 (suc (suc port)) cause = ⊥
+-- the packets, and captured bytes, of all inputs together
+abbrev pub packets_in : List (List (List ℕ)) → ℕ
+packets_in lists = sum_by (λ (packets : List (List ℕ)). length packets) lists
 
--- the number of packets, or of bytes, of two captures
-pub record HaveTooMany (in0 in1 : List ℕ) (n : ℕ) : Type 0 where
-  pub packets0 : List (List ℕ)
-  pub packets1 : List (List ℕ)
-  pub captures : AreCaptures in0 in1 packets0 packets1
-  pub number : n ≡ packets_in packets0 packets1
-  pub above : most_packets < n
+abbrev pub bytes_in : List (List (List ℕ)) → ℕ
+bytes_in lists = sum_by (λ (packets : List (List ℕ)). length (concat packets)) lists
 
-pub record HaveTooLarge (in0 in1 : List ℕ) (n : ℕ) : Type 0 where
-  pub packets0 : List (List ℕ)
-  pub packets1 : List (List ℕ)
-  pub captures : AreCaptures in0 in1 packets0 packets1
-  pub few : packets_in packets0 packets1 ≤ most_packets
-  pub number : n ≡ bytes_in packets0 packets1
-  pub above : most_bytes < n
-
-abbrev pub IsTooMuch : List ℕ → List ℕ → Excess → Type 0
-IsTooMuch in0 in1 (Input zero) = 34603032 < length in0
-IsTooMuch in0 in1 (Input (suc zero)) = (length in0 ≤ 34603032) × (34603032 < length in1)
-IsTooMuch in0 in1 (Input (suc (suc port))) = ⊥
-IsTooMuch in0 in1 (Packets n) = HaveTooMany in0 in1 n
-IsTooMuch in0 in1 (Bytes n) = HaveTooLarge in0 in1 n
-
--- the status with which these inputs are refused
-abbrev pub IsDue : List ℕ → List ℕ → Status → Type 0
-IsDue in0 in1 Done = ⊥
-IsDue in0 in1 Usage = ⊥
-IsDue in0 in1 (BadCapture port cause) = IsBadCapture in0 in1 port cause
-IsDue in0 in1 (ReadFault port) = ⊥
-IsDue in0 in1 (WriteFault stream) = ⊥
-IsDue in0 in1 (OpenFault stream) = ⊥
-IsDue in0 in1 (Stalled round) = ⊥
-IsDue in0 in1 (TooMuch excess) = IsTooMuch in0 in1 excess
-IsDue in0 in1 OutOfMemory = ⊥
+-- the first limit that they pass
+abbrev pub excess_of : List (List (List ℕ)) → Option Excess
+excess_of lists =
+    if nat_lt 65536 (packets_in lists) then Some (Packets (packets_in lists))
+    else if nat_lt 33554432 (bytes_in lists) then Some (Bytes (bytes_in lists))
+    else None

@@ -3,5 +3,8 @@ pub mod ExitStatus
 pub mod TwoPorts
 pub mod Words
 pub mod Judged
+pub mod Outcome
 pub mod Streams
-pub mod Made
+pub mod Line
+pub mod Ends
+pub mod Steps

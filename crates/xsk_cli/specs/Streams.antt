@@ -1,220 +1,126 @@
--- What stands in the streams once a command has ended, by its status. The texts are written in this order: the outputs,
--- and then the report.
-use Rattle.std.specs.Prelude.{◌≡◌, ◌≢◌, ℕ, zero, suc, ◌<◌, ◌≤◌, length, Bool, true, Result, Ok, Err, Option, List, [], take, IfSome}
+-- What a command did to its streams, once it has ended. It opens its files one after another: the inputs, of which each is
+-- read to its end before the next, and then the outputs, of which each is written before the next. After them comes the
+-- report.
+use Rattle.std.specs.Prelude.{◌≡◌, ℕ, ◌+◌, ◌<◌, ◌≤◌, ◌⊎◌, nat_lt, length, Bool, List, [], take, Option, IfSome, Result, Ok, Err}
+use Rattle.std.specs.Io.KnownBytes.{IsAtEnd}
 use Rattle.std.specs.List.{slice_index_or}
-use Rattle.xsk_io.specs.Bay.{Grows, GrowsByPart}
+use Rattle.xsk_io.specs.Bay.{Grows, GrowsByPart, Rose}
+use Rattle.xsk_io.specs.declared.bay.Kind.{Kind}
+use Rattle.xsk_io.specs.declared.bay.Kind.TheVariants.{Write}
 use Rattle.xsk_io.specs.declared.bay.Stream.{Stream}
 use Rattle.xsk_io.specs.declared.bay.Stream.TheVariants.{Input, Output, Report}
-use Rattle.xsk_cli.specs.declared.status.Excess.{Excess}
-use Rattle.xsk_cli.specs.declared.status.Excess.TheVariants.{Input as TooLong, Packets, Bytes}
+use Rattle.xsk_cli.specs.declared.status.Excess.TheVariants.{Input as TooLong}
 use Rattle.xsk_cli.specs.declared.status.Status.{Status}
 use Rattle.xsk_cli.specs.declared.status.Status.TheVariants.{Done, Usage, BadCapture, ReadFault, WriteFault, OpenFault, Stalled, TooMuch, OutOfMemory}
+use Rattle.xsk_cli.specs.Words.{Plan}
 
--- what is written: a text for each output and one for the report
-pub record Written : Type 0 where
-  pub out0 : List ℕ
-  pub out1 : List ℕ
-  pub report : List ℕ
+-- what a bay tells of its streams at a moment
+pub record Moment : Type 0 where
+  pub is_open : Stream → Bool
+  pub asked : Stream → Option (List ℕ)
+  pub left : Stream → Option (List ℕ)
+  pub held : Stream → Option (List ℕ)
+  pub faults : Kind → Stream → ℕ
 
--- the streams that are written
-abbrev pub IsWritten : Stream → Type 0
-IsWritten (Input port) = ⊥
-IsWritten (Output port) = Unit {0}
-IsWritten Report = Unit {0}
+-- the name is the text, where the bay tells it; and so of what a stream holds
+abbrev pub IsTold : Option (List ℕ) → List ℕ → Type 0
+IsTold told text = IfSome told (λ bytes. bytes ≡ text)
 
--- each of them holds what it held
-abbrev pub SameTexts : (Stream → Option (List ℕ)) → (Stream → Option (List ℕ)) → Type 0
-SameTexts old new = (stream : Stream) → IsWritten stream → new stream ≡ old stream
+-- a stream holds a front of a text, where the bay tells what it holds
+abbrev pub IsFront : Option (List ℕ) → List ℕ → Type 0
+IsFront told text = IfSome told (λ bytes. (n : ℕ) × (bytes ≡ take n text))
 
--- a stream holds a text, or a front of it, where the bay tells what it holds
-abbrev pub Holds : (Stream → Option (List ℕ)) → Stream → List ℕ → Type 0
-Holds held stream text = IfSome (held stream) (λ bytes. bytes ≡ text)
+-- ---- how far a command came
 
-abbrev pub HoldsFront : (Stream → Option (List ℕ)) → Stream → List ℕ → Type 0
-HoldsFront held stream text = IfSome (held stream) (λ bytes. (n : ℕ) × (bytes ≡ take n text))
+-- how many of its inputs were opened and read to their ends, and how many outputs were opened and hold their whole texts
+pub record Reach : Type 0 where
+  pub inputs : ℕ
+  pub ends : ℕ
+  pub outputs : ℕ
+  pub wholes : ℕ
 
--- each of them but both outputs and the report holds what it held
-abbrev pub SameElsewhere : (Stream → Option (List ℕ)) → (Stream → Option (List ℕ)) → Type 0
-SameElsewhere old new = (stream : Stream) → IsWritten stream → stream ≢ Output 0 → stream ≢ Output 1 → stream ≢ Report → new stream ≡ old stream
+-- it failed at an input or after the inputs, or at an output
+abbrev pub at_input : ℕ → ℕ → Reach
+at_input inputs ends = record { inputs = inputs; ends = ends; outputs = 0; wholes = 0 }
 
-pub record HasAll (old new : Stream → Option (List ℕ)) (texts : Written) : Type 0 where
-  pub out0 : Holds new (Output 0) texts.out0
-  pub out1 : Holds new (Output 1) texts.out1
-  pub report : Grows (old Report) (new Report) texts.report
-  pub elsewhere : SameElsewhere old new
+abbrev pub at_output : ℕ → ℕ → ℕ → Reach
+at_output inputs outputs wholes = record { inputs = inputs; ends = inputs; outputs = outputs; wholes = wholes }
 
--- the first output's write failed: a front of its text stands there
-pub record HasPartOfFirst (old new : Stream → Option (List ℕ)) (texts : Written) : Type 0 where
-  pub out0 : HoldsFront new (Output 0) texts.out0
-  pub out1 : new (Output 1) ≡ old (Output 1)
-  pub report : new Report ≡ old Report
-  pub elsewhere : SameElsewhere old new
+-- where its memory ran out: at an input or after the inputs
+pub record RanOut (count : ℕ) (reach : Reach) : Type 0 where
+  pub known : reach.inputs ≤ count
+  pub ends : reach.ends ≤ reach.inputs
+  pub last : reach.inputs ≤ reach.ends + 1
+  pub outputs : reach.outputs ≡ 0
+  pub wholes : reach.wholes ≡ 0
 
--- the second output wasn't opened: the first has its text
-pub record HasFirst (old new : Stream → Option (List ℕ)) (texts : Written) : Type 0 where
-  pub out0 : Holds new (Output 0) texts.out0
-  pub out1 : new (Output 1) ≡ old (Output 1)
-  pub report : new Report ≡ old Report
-  pub elsewhere : SameElsewhere old new
+-- how far it came with a status, where it has so many inputs and outputs
+abbrev pub Reaches : ℕ → ℕ → Status → Reach → Type 0
+Reaches inputs outputs Done reach = reach ≡ at_output inputs outputs outputs
+Reaches inputs outputs Usage reach = reach ≡ at_input 0 0
+Reaches inputs outputs (BadCapture port cause) reach = reach ≡ at_input inputs inputs
+Reaches inputs outputs (ReadFault port) reach = (port < inputs) × (reach ≡ at_input (port + 1) port)
+Reaches inputs outputs (WriteFault (Input port)) reach = ⊥
+Reaches inputs outputs (WriteFault (Output port)) reach = (port < outputs) × (reach ≡ at_output inputs (port + 1) port)
+Reaches inputs outputs (WriteFault Report) reach = reach ≡ at_output inputs outputs outputs
+Reaches inputs outputs (OpenFault (Input port)) reach = (port < inputs) × (reach ≡ at_input port port)
+Reaches inputs outputs (OpenFault (Output port)) reach = (port < outputs) × (reach ≡ at_output inputs port port)
+Reaches inputs outputs (OpenFault Report) reach = ⊥
+Reaches inputs outputs (Stalled round) reach = reach ≡ at_input inputs inputs
+Reaches inputs outputs (TooMuch (TooLong port)) reach = (port < inputs) × (reach ≡ at_input (port + 1) port)
+Reaches inputs outputs (TooMuch excess) reach = reach ≡ at_input inputs inputs
+Reaches inputs outputs OutOfMemory reach = RanOut inputs reach
 
--- its write failed
-pub record HasPartOfSecond (old new : Stream → Option (List ℕ)) (texts : Written) : Type 0 where
-  pub out0 : Holds new (Output 0) texts.out0
-  pub out1 : HoldsFront new (Output 1) texts.out1
-  pub report : new Report ≡ old Report
-  pub elsewhere : SameElsewhere old new
+-- ---- what the streams tell then
 
--- the report's write failed
-pub record HasOutputs (old new : Stream → Option (List ℕ)) (texts : Written) : Type 0 where
-  pub out0 : Holds new (Output 0) texts.out0
-  pub out1 : Holds new (Output 1) texts.out1
-  pub report : GrowsByPart (old Report) (new Report) texts.report
-  pub elsewhere : SameElsewhere old new
+-- of the inputs with these names, so many are open, each by its own name, and so many of them were read to their ends,
+-- with these bytes; the others are as they were
+pub record AreRead (names bytes : List (List ℕ)) (opened ended : ℕ) (old new : Moment) : Type 0 where
+  pub open_now : (port : ℕ) → new.is_open (Input port) ≡ nat_lt port opened
+  pub asked : (port : ℕ) → port < opened → IsTold (new.asked (Input port)) (slice_index_or names port [])
+  pub at_end : (port : ℕ) → port < ended → IsAtEnd (new.left (Input port))
+  pub all : (port : ℕ) → port < ended → IsTold (old.left (Input port)) (slice_index_or bytes port [])
+  pub later : (port : ℕ) → opened ≤ port → new.left (Input port) ≡ old.left (Input port)
 
-abbrev pub StandsAtOpenFault : (Stream → Option (List ℕ)) → (Stream → Option (List ℕ)) → Written → Stream → Type 0
-StandsAtOpenFault old new texts (Input port) = SameTexts old new
-StandsAtOpenFault old new texts (Output zero) = SameTexts old new
-StandsAtOpenFault old new texts (Output (suc zero)) = HasFirst old new texts
-StandsAtOpenFault old new texts (Output (suc (suc port))) = ⊥
-StandsAtOpenFault old new texts Report = ⊥
+-- of the outputs with these names, so many are open, each by its own name, and so many of them hold their whole texts; one
+-- that is open and doesn't holds a front of its own; the others are as they were
+pub record AreWritten (names texts : List (List ℕ)) (opened whole : ℕ) (old new : Moment) : Type 0 where
+  pub open_now : (port : ℕ) → new.is_open (Output port) ≡ nat_lt port opened
+  pub asked : (port : ℕ) → port < opened → IsTold (new.asked (Output port)) (slice_index_or names port [])
+  pub wholes : (port : ℕ) → port < whole → IsTold (new.held (Output port)) (slice_index_or texts port [])
+  pub fronts : (port : ℕ) → whole ≤ port → port < opened → IsFront (new.held (Output port)) (slice_index_or texts port [])
+  pub later : (port : ℕ) → opened ≤ port → new.held (Output port) ≡ old.held (Output port)
 
-abbrev pub StandsAtWriteFault : (Stream → Option (List ℕ)) → (Stream → Option (List ℕ)) → Written → Stream → Type 0
-StandsAtWriteFault old new texts (Input port) = ⊥
-StandsAtWriteFault old new texts (Output zero) = HasPartOfFirst old new texts
-StandsAtWriteFault old new texts (Output (suc zero)) = HasPartOfSecond old new texts
-StandsAtWriteFault old new texts (Output (suc (suc port))) = ⊥
-StandsAtWriteFault old new texts Report = HasOutputs old new texts
 
--- what each stream holds, where it held something else before
-abbrev pub Stands : (Stream → Option (List ℕ)) → (Stream → Option (List ℕ)) → Written → Status → Type 0
-Stands old new texts Done = HasAll old new texts
-Stands old new texts Usage = SameTexts old new
-Stands old new texts (BadCapture port cause) = SameTexts old new
-Stands old new texts (ReadFault port) = SameTexts old new
-Stands old new texts (WriteFault stream) = StandsAtWriteFault old new texts stream
-Stands old new texts (OpenFault stream) = StandsAtOpenFault old new texts stream
-Stands old new texts (Stalled round) = SameTexts old new
-Stands old new texts (TooMuch excess) = SameTexts old new
-Stands old new texts OutOfMemory = SameTexts old new
+-- the report got its text, or a front of it
+abbrev pub IsReported : List ℕ → Status → Moment → Moment → Type 0
+IsReported text Done old new = Grows (old.held Report) (new.held Report) text
+IsReported text (WriteFault Report) old new = GrowsByPart (old.held Report) (new.held Report) text
+IsReported text (WriteFault stream) old new = new.held Report ≡ old.held Report
+IsReported text status old new = Unit {0}
 
--- whether a command got so far that its texts were made
-abbrev pub HasTexts : Status → Type 0
-HasTexts Done = Unit {0}
-HasTexts Usage = ⊥
-HasTexts (BadCapture port cause) = ⊥
-HasTexts (ReadFault port) = ⊥
-HasTexts (WriteFault stream) = Unit {0}
-HasTexts (OpenFault stream) = IsWritten stream
-HasTexts (Stalled round) = ⊥
-HasTexts (TooMuch excess) = ⊥
-HasTexts OutOfMemory = ⊥
+-- ---- the line of a refusal
+
+-- a status that is told in a line
+abbrev pub HasLine : Status → Type 0
+HasLine Done = ⊥
+HasLine (WriteFault stream) = ⊥
+HasLine status = Unit {0}
+
+-- the report got the line or, where a write failed, a front of it
+abbrev pub GotLine : List ℕ → Moment → Moment → Type 0
+GotLine line old new =
+    Grows (old.held Report) (new.held Report) line
+    ⊎ (GrowsByPart (old.held Report) (new.held Report) line × Rose (old.faults Write Report) (new.faults Write Report))
 
 -- ---- names
 
--- the file of each stream
-abbrev pub name_of : List ℕ → List ℕ → List ℕ → List ℕ → Stream → List ℕ
-name_of in0 in1 out0 out1 (Input zero) = in0
-name_of in0 in1 out0 out1 (Input (suc zero)) = in1
-name_of in0 in1 out0 out1 (Input (suc (suc port))) = []
-name_of in0 in1 out0 out1 (Output zero) = out0
-name_of in0 in1 out0 out1 (Output (suc zero)) = out1
-name_of in0 in1 out0 out1 (Output (suc (suc port))) = []
-name_of in0 in1 out0 out1 Report = []
+-- the file of a stream
+abbrev pub name_of : Plan → Stream → List ℕ
+name_of plan (Input port) = slice_index_or plan.inputs port []
+name_of plan (Output port) = slice_index_or plan.outputs port []
+name_of plan Report = []
 
--- the word of each stream in `simulate IN0 IN1 OUT0 OUT1`
-abbrev pub word_of : List (List ℕ) → Stream → List ℕ
-word_of words = name_of (slice_index_or words 1 []) (slice_index_or words 2 []) (slice_index_or words 3 []) (slice_index_or words 4 [])
-
--- the stream's last open was asked with its own name, where the bay tells that
-abbrev pub IsAskedBy : (Stream → List ℕ) → (Stream → Option (List ℕ)) → Stream → Type 0
-IsAskedBy names asked stream = IfSome (asked stream) (λ name. name ≡ names stream)
-
--- both inputs and both outputs
-abbrev pub IsFile : Stream → Type 0
-IsFile (Input port) = port < 2
-IsFile (Output port) = port < 2
-IsFile Report = ⊥
-
--- a stream whose open failed
-abbrev pub HasFailed : Stream → Status → Type 0
-HasFailed stream Done = ⊥
-HasFailed stream Usage = ⊥
-HasFailed stream (BadCapture port cause) = ⊥
-HasFailed stream (ReadFault port) = ⊥
-HasFailed stream (WriteFault s) = ⊥
-HasFailed stream (OpenFault s) = s ≡ stream
-HasFailed stream (Stalled round) = ⊥
-HasFailed stream (TooMuch excess) = ⊥
-HasFailed stream OutOfMemory = ⊥
-
--- each file that is open, or whose open failed, was asked by its own name
-pub record AreAsked (names : Stream → List ℕ) (asked : Stream → Option (List ℕ)) (open_now : Stream → Bool) (status : Status) : Type 0 where
-  pub opened : (stream : Stream) → IsFile stream → open_now stream ≡ true → IsAskedBy names asked stream
-  pub failed : (stream : Stream) → IsFile stream → HasFailed stream status → IsAskedBy names asked stream
-
--- ---- a whole command
-
-abbrev pub status_in : {A : Type 0} → Result A Status → Status
+abbrev pub status_in : Result Unit Status → Status
 status_in (Ok done) = Done
 status_in (Err status) = status
-
--- ---- the steps
-
--- how reading the input of a port fails, where so much was left of it
-abbrev pub IsInputFailure : ℕ → Option (List ℕ) → Status → Type 0
-IsInputFailure port left Done = ⊥
-IsInputFailure port left Usage = ⊥
-IsInputFailure port left (BadCapture p cause) = ⊥
-IsInputFailure port left (ReadFault p) = p ≡ port
-IsInputFailure port left (WriteFault stream) = ⊥
-IsInputFailure port left (OpenFault stream) = stream ≡ Input port
-IsInputFailure port left (Stalled round) = ⊥
-IsInputFailure port left (TooMuch excess) = (excess ≡ TooLong port) × IfSome left (λ bytes. 34603032 < length bytes)
-IsInputFailure port left OutOfMemory = Unit {0}
-
--- how writing a text to a stream fails, and what the stream holds then
-abbrev pub IsOutputFailure : Stream → List ℕ → Option (List ℕ) → Option (List ℕ) → Status → Type 0
-IsOutputFailure stream text old new Done = ⊥
-IsOutputFailure stream text old new Usage = ⊥
-IsOutputFailure stream text old new (BadCapture p cause) = ⊥
-IsOutputFailure stream text old new (ReadFault p) = ⊥
-IsOutputFailure stream text old new (WriteFault s) = (s ≡ stream) × IfSome new (λ bytes. (n : ℕ) × (bytes ≡ take n text))
-IsOutputFailure stream text old new (OpenFault s) = (s ≡ stream) × (new ≡ old)
-IsOutputFailure stream text old new (Stalled round) = ⊥
-IsOutputFailure stream text old new (TooMuch excess) = ⊥
-IsOutputFailure stream text old new OutOfMemory = ⊥
-
-abbrev pub IsReportFailure : List ℕ → Option (List ℕ) → Option (List ℕ) → Status → Type 0
-IsReportFailure text old new Done = ⊥
-IsReportFailure text old new Usage = ⊥
-IsReportFailure text old new (BadCapture p cause) = ⊥
-IsReportFailure text old new (ReadFault p) = ⊥
-IsReportFailure text old new (WriteFault s) = (s ≡ Report) × GrowsByPart old new text
-IsReportFailure text old new (OpenFault s) = ⊥
-IsReportFailure text old new (Stalled round) = ⊥
-IsReportFailure text old new (TooMuch excess) = ⊥
-IsReportFailure text old new OutOfMemory = ⊥
-
--- how reading both inputs fails
-abbrev pub IsTooLong : Option (List ℕ) → Option (List ℕ) → Excess → Type 0
-IsTooLong left0 left1 (TooLong zero) = IfSome left0 (λ bytes. 34603032 < length bytes)
-IsTooLong left0 left1 (TooLong (suc zero)) = IfSome left0 (λ bytes. length bytes ≤ 34603032) × IfSome left1 (λ bytes. 34603032 < length bytes)
-IsTooLong left0 left1 (TooLong (suc (suc port))) = ⊥
-IsTooLong left0 left1 (Packets n) = ⊥
-IsTooLong left0 left1 (Bytes n) = ⊥
-
-abbrev pub IsInput : Stream → Type 0
-IsInput (Input port) = Unit {0}
-IsInput (Output port) = ⊥
-IsInput Report = ⊥
-
-abbrev pub AreNotRead : Option (List ℕ) → Option (List ℕ) → Status → Type 0
-AreNotRead left0 left1 Done = ⊥
-AreNotRead left0 left1 Usage = ⊥
-AreNotRead left0 left1 (BadCapture p cause) = ⊥
-AreNotRead left0 left1 (ReadFault p) = Unit {0}
-AreNotRead left0 left1 (WriteFault stream) = ⊥
-AreNotRead left0 left1 (OpenFault stream) = IsInput stream
-AreNotRead left0 left1 (Stalled round) = ⊥
-AreNotRead left0 left1 (TooMuch excess) = IsTooLong left0 left1 excess
-AreNotRead left0 left1 OutOfMemory = Unit {0}

@@ -1,19 +1,22 @@
--- Which words are a command: this project's own.
-use Rattle.std.specs.Prelude.{◌≡◌, ◌≢◌, ℕ, ◌≤◌, ◌⊎◌, List, [], ◌∷◌, length, codes, slice_index}
-use Rattle.std.specs.List.{slice_index_or}
+-- Which words are a command, and what it does with its streams. This project's own.
+use Rattle.std.specs.Prelude.{ℕ, ◌==◌, codes, List, [], length, take, drop, Option, Some, None, option_and_then, if◌then◌else◌, unwrap_or}
+use Rattle.xsk_args.specs.Meaning.{Meaning, meaning}
 
--- a word is a file where it has at most one character, or doesn't begin with `-`
-abbrev pub IsFile : List ℕ → Type 0
-IsFile word = (length word ≤ 1) ⊎ (slice_index word 0 ≢ 45)
+-- the files that a command reads and those that it writes: one of each for each port
+pub record Plan : Type 0 where
+  pub inputs : List (List ℕ)
+  pub outputs : List (List ℕ)
 
--- `simulate IN0 IN1 OUT0 OUT1`
-abbrev pub IsAccepted : List (List ℕ) → Type 0
-IsAccepted (command ∷ in0 ∷ in1 ∷ out0 ∷ out1 ∷ []) = (command ≡ codes "simulate") × IsFile in0 × IsFile in1 × IsFile out0 × IsFile out1
-IsAccepted words = ⊥
+abbrev pub no_plan : Plan
+no_plan = record { inputs = []; outputs = [] }
 
--- the files of a command
-pub record AreFiles (words : List (List ℕ)) (in0 in1 out0 out1 : List ℕ) : Type 0 where
-  pub first_input : slice_index_or words 1 [] ≡ in0
-  pub second_input : slice_index_or words 2 [] ≡ in1
-  pub first_output : slice_index_or words 3 [] ≡ out0
-  pub second_output : slice_index_or words 4 [] ≡ out1
+-- the inputs come first, and then as many outputs
+abbrev pub plan_over : List (List ℕ) → Option Plan
+plan_over files = if length files == 4 then Some (record { inputs = take 2 files; outputs = drop 2 files }) else None
+
+abbrev pub plan_by : Meaning → Option Plan
+plan_by said = plan_over (unwrap_or (said (codes "FILE")) [])
+
+-- `simulate IN0 IN1 OUT0 OUT1`, of which `--` ends the options, and there are none
+abbrev pub plan_of : List (List ℕ) → Option Plan
+plan_of words = option_and_then plan_by (meaning (codes "simulate") [] words)

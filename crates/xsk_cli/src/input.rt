@@ -1,48 +1,79 @@
-//! The inputs of a command, read and judged.
-ghost use Rattle.std.specs.Prelude.{◌≡◌, ◌<◌, ◌≤◌, false, true, length, IfErr, IfOk, IfSome, OnOk};
+//! The inputs of a command, read to their ends.
+ghost use Rattle.std.specs.Prelude.{◌≡◌, ℕ, ◌<◌, ◌≤◌, false, true, length, map, vec_len, IfErr, IfOk, OnOk};
 ghost use Rattle.std.specs.Io.KnownBytes.{IsAtEnd};
 ghost use Rattle.xsk_io.specs.Bay.{SameBut};
-ghost use Rattle.xsk_io.specs.declared.bay.Stream.TheVariants.{Input};
+ghost use Rattle.xsk_io.specs.declared.bay.Stream.{Stream as AStream};
 ghost use Rattle.xsk_cli.specs.Cause.{IsCaused, NeverFalls};
-ghost use Rattle.xsk_cli.specs.Streams.{IsInputFailure, SameTexts};
+ghost use Rattle.xsk_cli.specs.Ends.{Ends};
+ghost use Rattle.xsk_cli.specs.Steps.{FailsReading, HaveRead, read_status};
+ghost use Rattle.xsk_cli.specs.Streams.{IsTold};
+ghost use Rattle.xsk_cli.specs.Words.{Plan};
 
-use crate::{Excess, Status};
+use crate::failure::ReadFailure;
 use std::alloc::Global;
 use xsk_io::{Bay, ReadError, Stream, read_whole};
 
 /// The most bytes of one input: a capture of 65,536 packets with 33,554,432 captured bytes.
 const MOST_BYTES: usize = 24 + 16 * 65_536 + 33_554_432;
 
+/// Opens the inputs by their names and reads them to their ends, one after another.
+pub(crate) fn read_inputs<B: Bay>(
+    alloc: Global,
+    bay: &mut B,
+    names: &[&str],
+) -> Result<Vec<Vec<u8>>, ReadFailure>
+    requires few { length names.now ≤ 4 }
+    requires closed { (stream : AStream) → B.is_open bay.old stream ≡ false }
+    ensures read { IfOk result (λ inputs. HaveRead (map (λ name. name.now) names.now) (map (λ bytes. bytes.items) inputs.items) (length names.now)
+        (record { is_open = B.is_open bay.old; asked = B.asked bay.old; left = B.left bay.old; held = B.held bay.old; faults = B.faults bay.old })
+        (record { is_open = B.is_open bay.new; asked = B.asked bay.new; left = B.left bay.new; held = B.held bay.new; faults = B.faults bay.new })) }
+    ensures failed { (plan : Plan) → plan.inputs ≡ map (λ name. name.now) names.now → IfErr result (λ failure. Ends plan
+        (record { is_open = B.is_open bay.old; asked = B.asked bay.old; left = B.left bay.old; held = B.held bay.old; faults = B.faults bay.old })
+        (record { is_open = B.is_open bay.new; asked = B.asked bay.new; left = B.left bay.new; held = B.held bay.new; faults = B.faults bay.new })
+        (read_status failure)) }
+    ensures report { B.held bay.new Stream.Report ≡ B.held bay.old Stream.Report }
+    ensures falls { NeverFalls (B.faults bay.old) (B.faults bay.new) }
+    ensures cause { IfErr result (λ failure. IsCaused (B.faults bay.old) (B.faults bay.new) (read_status failure)) }
+{
+    let mut inputs = Vec::with_capacity(alloc, names.len())?;
+    for port in 0..names.len() as u32 {
+        let bytes = read_input(alloc, bay, port, names[port as usize])?;
+        inputs.push_reserved(bytes);
+    }
+    Ok(inputs)
+}
+
 /// Opens the input of a port and reads it to its end.
-pub(crate) fn read_input<B: Bay>(
+fn read_input<B: Bay>(
     alloc: Global,
     bay: &mut B,
     port: u32,
     name: &str,
-) -> Result<Vec<u8>, Status>
-    requires port { port < 2 }
+) -> Result<Vec<u8>, ReadFailure>
+    requires port { port < 4 }
     requires closed { B.is_open bay.old (Stream.Input port) ≡ false }
-    ensures bytes { IfOk result (λ bytes. IfSome (B.left bay.old (Stream.Input port)) (λ all. all ≡ bytes.items)) }
-    ensures few { IfOk result (λ bytes. length bytes.items ≤ 34603032) }
-    ensures failed { IfErr result (IsInputFailure port (B.left bay.old (Stream.Input port))) }
+    ensures bytes { IfOk result (λ bytes. IsTold (B.left bay.old (Stream.Input port)) bytes.items) }
+    ensures short { IfOk result (λ bytes. length bytes.items ≤ 34603032) }
+    ensures failed { IfErr result (FailsReading port
+        (record { is_open = B.is_open bay.old; asked = B.asked bay.old; left = B.left bay.old; held = B.held bay.old; faults = B.faults bay.old })
+        (record { is_open = B.is_open bay.new; asked = B.asked bay.new; left = B.left bay.new; held = B.held bay.new; faults = B.faults bay.new })) }
     ensures end { OnOk result (IsAtEnd (B.left bay.new (Stream.Input port))) }
+    ensures open { OnOk result (B.is_open bay.new (Stream.Input port) ≡ true) }
+    ensures asked { IsTold (B.asked bay.new (Stream.Input port)) name.now }
     ensures left { SameBut (Stream.Input port) (B.left bay.old) (B.left bay.new) }
     ensures opened { SameBut (Stream.Input port) (B.is_open bay.old) (B.is_open bay.new) }
-    ensures open { OnOk result (B.is_open bay.new (Stream.Input port) ≡ true) }
-    ensures asked { IfSome (B.asked bay.new (Stream.Input port)) (λ word. word ≡ name.now) }
     ensures asked_others { SameBut (Stream.Input port) (B.asked bay.old) (B.asked bay.new) }
-    ensures held { SameTexts (B.held bay.old) (B.held bay.new) }
+    ensures held { SameBut (Stream.Input port) (B.held bay.old) (B.held bay.new) }
     ensures falls { NeverFalls (B.faults bay.old) (B.faults bay.new) }
-    ensures cause { IfErr result (IsCaused (B.faults bay.old) (B.faults bay.new)) }
 {
     let stream = Stream::Input(port);
     if bay.open(stream, name).is_err() {
-        return Err(Status::OpenFault { stream });
+        return Err(ReadFailure::Unopened(port));
     }
     match read_whole(alloc, bay, stream, MOST_BYTES) {
         Ok(bytes) => Ok(bytes),
-        Err(ReadError::TooLong) => Err(Status::TooMuch(Excess::Input(port))),
-        Err(ReadError::Fault) => Err(Status::ReadFault { port }),
-        Err(ReadError::OutOfMemory) => Err(Status::OutOfMemory),
+        Err(ReadError::TooLong) => Err(ReadFailure::TooLong(port)),
+        Err(ReadError::Fault) => Err(ReadFailure::Unread(port)),
+        Err(ReadError::OutOfMemory) => Err(ReadFailure::OutOfMemory),
     }
 }

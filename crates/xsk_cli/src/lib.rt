@@ -1,12 +1,16 @@
 //! The commands: the words of a command line, and what is read, run and written for them over any bay.
 #![tactic(auto)]
 
+mod captures;
+mod failure;
 mod input;
+pub mod laws;
+mod line;
 mod output;
 mod plain;
+mod run;
 mod setup;
 mod status;
-mod texts;
 mod words;
 
 pub use plain::run_plain;

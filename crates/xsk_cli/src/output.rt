@@ -1,57 +1,98 @@
 //! The outputs of a command, and its report.
-ghost use Rattle.std.specs.Prelude.{◌≡◌, ◌<◌, false, true, IfErr, IfSome, OnOk};
-ghost use Rattle.xsk_io.specs.Bay.{Same, SameBut, Grows, GrowsByPart};
+ghost use Rattle.std.specs.Prelude.{◌≡◌, ℕ, ◌<◌, ◌≤◌, false, true, length, map, IfErr, OnOk};
+ghost use Rattle.xsk_io.specs.Bay.{Same, SameBut, Grows};
 ghost use Rattle.xsk_cli.specs.Cause.{IsCaused, NeverFalls};
-ghost use Rattle.xsk_cli.specs.Streams.{Holds, IsOutputFailure, IsReportFailure};
+ghost use Rattle.xsk_cli.specs.Steps.{FailsOutput, FailsOutputs, FailsWriting, write_status, written_in};
+ghost use Rattle.xsk_cli.specs.Streams.{AreWritten, IsTold};
 
-use crate::Status;
+use crate::failure::WriteFailure;
+use crate::run::Texts;
 use xsk_io::{Bay, Stream, write_whole};
 
-/// Opens the output of a port and writes its text.
-pub(crate) fn write_output<B: Bay>(
+/// Opens the outputs by their names and writes them, one after another, and then writes the report.
+pub(crate) fn write_texts<B: Bay>(
     bay: &mut B,
-    port: u32,
-    name: &str,
-    text: &[u8],
-) -> Result<(), Status>
-    requires port { port < 2 }
-    requires closed { B.is_open bay.old (Stream.Output port) ≡ false }
-    ensures whole { OnOk result (Holds (B.held bay.new) (Stream.Output port) text.now) }
-    ensures failed { IfErr result (IsOutputFailure (Stream.Output port) text.now (B.held bay.old (Stream.Output port)) (B.held bay.new (Stream.Output port))) }
-    ensures held_others { SameBut (Stream.Output port) (B.held bay.old) (B.held bay.new) }
-    ensures open { OnOk result (B.is_open bay.new (Stream.Output port) ≡ true) }
-    ensures asked { IfSome (B.asked bay.new (Stream.Output port)) (λ word. word ≡ name.now) }
-    ensures asked_others { SameBut (Stream.Output port) (B.asked bay.old) (B.asked bay.new) }
+    names: &[&str],
+    texts: &Texts,
+) -> Result<(), WriteFailure>
+    requires few { length names.now ≤ 4 }
+    requires texts { length texts.now.outputs.items ≡ length names.now }
+    requires closed { (port : ℕ) → B.is_open bay.old (Stream.Output port) ≡ false }
+    ensures written { OnOk result (AreWritten (map (λ name. name.now) names.now) (written_in texts.now).outputs (length names.now) (length names.now)
+        (record { is_open = B.is_open bay.old; asked = B.asked bay.old; left = B.left bay.old; held = B.held bay.old; faults = B.faults bay.old })
+        (record { is_open = B.is_open bay.new; asked = B.asked bay.new; left = B.left bay.new; held = B.held bay.new; faults = B.faults bay.new })) }
+    ensures report { OnOk result (Grows (B.held bay.old Stream.Report) (B.held bay.new Stream.Report) (written_in texts.now).report) }
+    ensures failed { IfErr result (FailsWriting (map (λ name. name.now) names.now) (written_in texts.now)
+        (record { is_open = B.is_open bay.old; asked = B.asked bay.old; left = B.left bay.old; held = B.held bay.old; faults = B.faults bay.old })
+        (record { is_open = B.is_open bay.new; asked = B.asked bay.new; left = B.left bay.new; held = B.held bay.new; faults = B.faults bay.new })) }
+    ensures opened { (port : ℕ) → B.is_open bay.new (Stream.Input port) ≡ B.is_open bay.old (Stream.Input port) }
+    ensures asked { (port : ℕ) → B.asked bay.new (Stream.Input port) ≡ B.asked bay.old (Stream.Input port) }
     ensures left { Same (B.left bay.old) (B.left bay.new) }
-    ensures opened { SameBut (Stream.Output port) (B.is_open bay.old) (B.is_open bay.new) }
     ensures falls { NeverFalls (B.faults bay.old) (B.faults bay.new) }
-    ensures cause { IfErr result (IsCaused (B.faults bay.old) (B.faults bay.new)) }
+    ensures cause { IfErr result (λ failure. IsCaused (B.faults bay.old) (B.faults bay.new) (write_status failure)) }
 {
-    let stream = Stream::Output(port);
-    if bay.open(stream, name).is_err() {
-        return Err(Status::OpenFault { stream });
-    }
-    if write_whole(bay, stream, text).is_err() {
-        return Err(Status::WriteFault { stream });
+    write_outputs(bay, names, texts.outputs.as_slice())?;
+    if write_whole(bay, Stream::Report, texts.report.as_bytes()).is_err() {
+        return Err(WriteFailure::Unwritten(Stream::Report));
     }
     Ok(())
 }
 
-/// Writes the report.
-pub(crate) fn write_report<B: Bay>(bay: &mut B, text: &[u8]) -> Result<(), Status>
-    ensures whole { OnOk result (Grows (B.held bay.old Stream.Report) (B.held bay.new Stream.Report) text.now) }
-    ensures failed { IfErr result (IsReportFailure text.now (B.held bay.old Stream.Report) (B.held bay.new Stream.Report)) }
-    ensures held_others { SameBut Stream.Report (B.held bay.old) (B.held bay.new) }
-    ensures opened { Same (B.is_open bay.old) (B.is_open bay.new) }
-    ensures asked { Same (B.asked bay.old) (B.asked bay.new) }
+/// Opens the outputs by their names and writes them, one after another.
+fn write_outputs<B: Bay>(
+    bay: &mut B,
+    names: &[&str],
+    texts: &[Vec<u8>],
+) -> Result<(), WriteFailure>
+    requires few { length names.now ≤ 4 }
+    requires texts { length texts.now ≡ length names.now }
+    requires closed { (port : ℕ) → B.is_open bay.old (Stream.Output port) ≡ false }
+    ensures written { OnOk result (AreWritten (map (λ name. name.now) names.now) (map (λ text. text.items) texts.now) (length names.now) (length names.now)
+        (record { is_open = B.is_open bay.old; asked = B.asked bay.old; left = B.left bay.old; held = B.held bay.old; faults = B.faults bay.old })
+        (record { is_open = B.is_open bay.new; asked = B.asked bay.new; left = B.left bay.new; held = B.held bay.new; faults = B.faults bay.new })) }
+    ensures failed { IfErr result (FailsOutputs (map (λ name. name.now) names.now) (map (λ text. text.items) texts.now)
+        (record { is_open = B.is_open bay.old; asked = B.asked bay.old; left = B.left bay.old; held = B.held bay.old; faults = B.faults bay.old })
+        (record { is_open = B.is_open bay.new; asked = B.asked bay.new; left = B.left bay.new; held = B.held bay.new; faults = B.faults bay.new })) }
+    ensures report { B.held bay.new Stream.Report ≡ B.held bay.old Stream.Report }
+    ensures opened { (port : ℕ) → B.is_open bay.new (Stream.Input port) ≡ B.is_open bay.old (Stream.Input port) }
+    ensures asked { (port : ℕ) → B.asked bay.new (Stream.Input port) ≡ B.asked bay.old (Stream.Input port) }
     ensures left { Same (B.left bay.old) (B.left bay.new) }
     ensures falls { NeverFalls (B.faults bay.old) (B.faults bay.new) }
-    ensures cause { IfErr result (IsCaused (B.faults bay.old) (B.faults bay.new)) }
+    ensures cause { IfErr result (λ failure. IsCaused (B.faults bay.old) (B.faults bay.new) (write_status failure)) }
 {
-    if write_whole(bay, Stream::Report, text).is_err() {
-        return Err(Status::WriteFault {
-            stream: Stream::Report,
-        });
+    for port in 0..names.len() as u32 {
+        write_output(bay, port, names[port as usize], texts[port as usize].as_slice())?;
+    }
+    Ok(())
+}
+
+/// Opens the output of a port and writes its text.
+fn write_output<B: Bay>(
+    bay: &mut B,
+    port: u32,
+    name: &str,
+    text: &[u8],
+) -> Result<(), WriteFailure>
+    requires port { port < 4 }
+    requires closed { B.is_open bay.old (Stream.Output port) ≡ false }
+    ensures whole { OnOk result (IsTold (B.held bay.new (Stream.Output port)) text.now) }
+    ensures open { OnOk result (B.is_open bay.new (Stream.Output port) ≡ true) }
+    ensures failed { IfErr result (FailsOutput port text.now
+        (record { is_open = B.is_open bay.old; asked = B.asked bay.old; left = B.left bay.old; held = B.held bay.old; faults = B.faults bay.old })
+        (record { is_open = B.is_open bay.new; asked = B.asked bay.new; left = B.left bay.new; held = B.held bay.new; faults = B.faults bay.new })) }
+    ensures asked { IsTold (B.asked bay.new (Stream.Output port)) name.now }
+    ensures held { SameBut (Stream.Output port) (B.held bay.old) (B.held bay.new) }
+    ensures opened { SameBut (Stream.Output port) (B.is_open bay.old) (B.is_open bay.new) }
+    ensures asked_others { SameBut (Stream.Output port) (B.asked bay.old) (B.asked bay.new) }
+    ensures left { Same (B.left bay.old) (B.left bay.new) }
+    ensures falls { NeverFalls (B.faults bay.old) (B.faults bay.new) }
+{
+    let stream = Stream::Output(port);
+    if bay.open(stream, name).is_err() {
+        return Err(WriteFailure::Unopened(port));
+    }
+    if write_whole(bay, stream, text).is_err() {
+        return Err(WriteFailure::Unwritten(stream));
     }
     Ok(())
 }

@@ -1,106 +1,155 @@
 //! The command on one thread, from its words to its status.
-ghost use Rattle.std.specs.Prelude.{◌≡◌, ◌↔◌, ℕ, ◌<◌, ◌≤◌, false, true, List, Some, IfErr, IfOk, IfSome, OnOk, map, length, string_bytes};
-ghost use Rattle.std.specs.Io.KnownBytes.{IsAtEnd};
-ghost use Rattle.xsk_io.specs.Bay.{Same, SameBut};
+ghost use Rattle.std.specs.Prelude.{◌≡◌, ℕ, ◌⊎◌, false, None, Some, List, length, map, string_bytes, unwrap_or};
+ghost use Rattle.xsk_io.specs.Bay.{CountsOnly, Same, SameBut};
+ghost use Rattle.xsk_io.specs.declared.bay.Kind.{Kind};
 ghost use Rattle.xsk_io.specs.declared.bay.Stream.{Stream as AStream};
-ghost use Rattle.xsk_cli.specs.Cause.{IsCaused, IsFaultCaused, NeverFalls};
-ghost use Rattle.xsk_cli.specs.Made.{Ends, IsJudged, written_in};
-ghost use Rattle.xsk_cli.specs.Streams.{AreAsked, AreNotRead, HasTexts, SameTexts, Stands, name_of, status_in, word_of};
-ghost use Rattle.xsk_cli.specs.Words.{IsAccepted};
+ghost use Rattle.xsk_pcap.specs.declared.reading.BadCapture.TheVariants.{OutOfMemory as NoMemory};
+ghost use Rattle.xsk_args.specs.Meaning.{under};
+ghost use Rattle.xsk_cli.specs.Cause.{IsCaused, NeverFalls};
+ghost use Rattle.xsk_cli.specs.Ends.{Answers, AreTaken, AreTold, Ends, IsComplete, NoneRose};
+ghost use Rattle.xsk_cli.specs.Line.{line_of};
+ghost use Rattle.xsk_cli.specs.Outcome.{IsOutcome, Outcome};
+ghost use Rattle.xsk_cli.specs.Steps.{plan_in};
+ghost use Rattle.xsk_cli.specs.Streams.{GotLine, HasLine, status_in};
+ghost use Rattle.xsk_cli.specs.Words.{Plan as APlan, no_plan, plan_by, plan_of};
 
 use crate::Status;
-use crate::input::read_input;
-use crate::output::{write_output, write_report};
-use crate::texts::{Texts, make_texts};
-use crate::words::{Files, parse};
+use crate::captures::take_captures;
+use crate::input::read_inputs;
+use crate::line::line;
+use crate::output::write_texts;
+use crate::run::make_texts;
+use crate::words::Plan;
 use std::alloc::Global;
-use xsk_io::{Bay, Stream};
+use xsk_args::{Args, OptionRow, parse};
+use xsk_io::{Bay, Stream, write_whole};
+
+/// The options of `simulate`.
+const OPTIONS: [OptionRow; 0] = [];
 
 /// Does what the words of a command line say, over a bay of which no stream is open.
 ///
 /// `simulate IN0 IN1 OUT0 OUT1` reads a capture for each of two ports, forwards the packets of each port to the other,
-/// and writes a capture for each port, and then the line `calls N` with the number of calls to the report.
+/// and writes a capture for each port, and then the line `calls N` with the number of calls to the report. A refusal is
+/// told in one line to the report.
 pub fn run_plain<B: Bay>(alloc: Global, words: &[String], bay: &mut B) -> Status
     requires { (stream : AStream) → B.is_open bay.old stream ≡ false }
-    ensures usage { (result ≡ Status.Usage) ↔ (IsAccepted (map string_bytes words.now) → ⊥) }
-    ensures cause { IsFaultCaused (B.faults bay.old) (B.faults bay.new) result }
-    ensures read0 { result ≡ Status.Done → IsAtEnd (B.left bay.new (Stream.Input 0)) }
-    ensures read1 { result ≡ Status.Done → IsAtEnd (B.left bay.new (Stream.Input 1)) }
+    ensures usage { result ≡ Status.Usage → plan_of (map string_bytes words.now) ≡ None }
+    ensures no_plan { plan_of (map string_bytes words.now) ≡ None → (result ≡ Status.Usage) ⊎ (result ≡ Status.OutOfMemory) }
+    ensures cause { IsCaused (B.faults bay.old) (B.faults bay.new) result }
+    ensures uncounted { result ≡ Status.Usage → CountsOnly Kind.Write Stream.Report (B.faults bay.old) (B.faults bay.new) }
 
-    // Inputs whose bytes the bay tells are refused exactly where a refusal is due.
-    ensures judged { (in0 in1 : List ℕ) → IsAccepted (map string_bytes words.now) → B.left bay.old (Stream.Input 0) ≡ Some in0
-        → B.left bay.old (Stream.Input 1) ≡ Some in1 → IsJudged in0 in1 result }
+    // What the streams are, and why. Where the words are no command it has no streams.
+    ensures ends { Ends (unwrap_or (plan_of (map string_bytes words.now)) no_plan)
+        (record { is_open = B.is_open bay.old; asked = B.asked bay.old; left = B.left bay.old; held = B.held bay.old; faults = B.faults bay.old })
+        (record { is_open = B.is_open bay.new; asked = B.asked bay.new; left = B.left bay.new; held = B.held bay.new; faults = B.faults bay.new })
+        result }
+    ensures line { HasLine result → GotLine (line_of result)
+        (record { is_open = B.is_open bay.old; asked = B.asked bay.old; left = B.left bay.old; held = B.held bay.old; faults = B.faults bay.old })
+        (record { is_open = B.is_open bay.new; asked = B.asked bay.new; left = B.left bay.new; held = B.held bay.new; faults = B.faults bay.new }) }
+    ensures check { (port : ℕ) → result ≡ Status.BadCapture port NoMemory → ⊥ }
 
-    // The texts that stand in the streams, by the status.
-    ensures ends { Ends (B.held bay.old) (B.held bay.new) (B.left bay.old (Stream.Input 0)) (B.left bay.old (Stream.Input 1)) result }
-    ensures unopened { (HasTexts result → ⊥) → (port : ℕ) → B.is_open bay.new (Stream.Output port) ≡ false }
-    ensures names { AreAsked (word_of (map string_bytes words.now)) (B.asked bay.new) (B.is_open bay.new) result }
+    // Inputs whose bytes the bay tells are answered with their outcome, of which there is one.
+    ensures answers { (plan : APlan) (inputs : List (List ℕ)) (outcome : Outcome) → plan_of (map string_bytes words.now) ≡ Some plan
+        → AreTold plan inputs (record { is_open = B.is_open bay.old; asked = B.asked bay.old; left = B.left bay.old; held = B.held bay.old; faults = B.faults bay.old })
+        → IsOutcome inputs outcome → Answers outcome result }
+
+    // Captures within the limits come to texts or stall, where no count of faults has risen and memory can be had.
+    ensures complete { (plan : APlan) (inputs : List (List ℕ)) → plan_of (map string_bytes words.now) ≡ Some plan
+        → AreTold plan inputs (record { is_open = B.is_open bay.old; asked = B.asked bay.old; left = B.left bay.old; held = B.held bay.old; faults = B.faults bay.old })
+        → AreTaken inputs → NoneRose (B.faults bay.old) (B.faults bay.new) → IsComplete result }
 {
-    let Some(files) = parse(words) else {
-        return Status::Usage;
-    };
-    match run_files(alloc, &files, bay) {
+    let status = status_of(run_words(alloc, words, bay));
+    tell(bay, &status);
+    status
+}
+
+fn status_of(answer: Result<(), Status>) -> Status
+    ensures { result ≡ status_in answer }
+{
+    match answer {
         Ok(()) => Status::Done,
         Err(status) => status,
     }
 }
 
-/// Reads both inputs, runs them, and writes both outputs and the report.
-fn run_files<B: Bay>(alloc: Global, files: &Files<'_>, bay: &mut B) -> Result<(), Status>
+/// Does what the words say, and tells nothing of a refusal.
+fn run_words<B: Bay>(alloc: Global, words: &[String], bay: &mut B) -> Result<(), Status>
     requires { (stream : AStream) → B.is_open bay.old stream ≡ false }
-    ensures cause { IfErr result (IsCaused (B.faults bay.old) (B.faults bay.new)) }
-    ensures read0 { OnOk result (IsAtEnd (B.left bay.new (Stream.Input 0))) }
-    ensures read1 { OnOk result (IsAtEnd (B.left bay.new (Stream.Input 1))) }
-    ensures judged { (in0 in1 : List ℕ) → B.left bay.old (Stream.Input 0) ≡ Some in0 → B.left bay.old (Stream.Input 1) ≡ Some in1
-        → IsJudged in0 in1 (status_in result) }
-    ensures ends { Ends (B.held bay.old) (B.held bay.new) (B.left bay.old (Stream.Input 0)) (B.left bay.old (Stream.Input 1)) (status_in result) }
-    ensures unopened { (HasTexts (status_in result) → ⊥) → (port : ℕ) → B.is_open bay.new (Stream.Output port) ≡ false }
-    ensures names { AreAsked (name_of files.now.in0.now files.now.in1.now files.now.out0.now files.now.out1.now) (B.asked bay.new) (B.is_open bay.new) (status_in result) }
-{
-    let inputs = read_inputs(alloc, files, bay)?;
-    let texts = make_texts(alloc, inputs.first.as_slice(), inputs.second.as_slice())?;
-    write_all(files, &texts, bay)
-}
-
-/// The bytes of both inputs.
-#[derive(Drop)]
-struct Inputs {
-    first: Vec<u8>,
-    second: Vec<u8>,
-}
-
-/// Opens both inputs and reads them to their ends.
-fn read_inputs<B: Bay>(alloc: Global, files: &Files<'_>, bay: &mut B) -> Result<Inputs, Status>
-    requires { (stream : AStream) → B.is_open bay.old stream ≡ false }
-    ensures cause { IfErr result (IsCaused (B.faults bay.old) (B.faults bay.new)) }
+    ensures usage { status_in result ≡ Status.Usage → plan_of (map string_bytes words.now) ≡ None }
+    ensures no_plan { plan_of (map string_bytes words.now) ≡ None → (status_in result ≡ Status.Usage) ⊎ (status_in result ≡ Status.OutOfMemory) }
+    ensures ends { Ends (unwrap_or (plan_of (map string_bytes words.now)) no_plan)
+        (record { is_open = B.is_open bay.old; asked = B.asked bay.old; left = B.left bay.old; held = B.held bay.old; faults = B.faults bay.old })
+        (record { is_open = B.is_open bay.new; asked = B.asked bay.new; left = B.left bay.new; held = B.held bay.new; faults = B.faults bay.new })
+        (status_in result) }
+    ensures silent { HasLine (status_in result) → B.held bay.new Stream.Report ≡ B.held bay.old Stream.Report }
+    ensures cause { IsCaused (B.faults bay.old) (B.faults bay.new) (status_in result) }
     ensures falls { NeverFalls (B.faults bay.old) (B.faults bay.new) }
-    ensures read0 { OnOk result (IsAtEnd (B.left bay.new (Stream.Input 0))) }
-    ensures read1 { OnOk result (IsAtEnd (B.left bay.new (Stream.Input 1))) }
-    ensures first { IfOk result (λ inputs. IfSome (B.left bay.old (Stream.Input 0)) (λ all. all ≡ inputs.first.items)) }
-    ensures second { IfOk result (λ inputs. IfSome (B.left bay.old (Stream.Input 1)) (λ all. all ≡ inputs.second.items)) }
-    ensures first_few { IfOk result (λ inputs. length inputs.first.items ≤ 34603032) }
-    ensures second_few { IfOk result (λ inputs. length inputs.second.items ≤ 34603032) }
-    ensures failed { IfErr result (AreNotRead (B.left bay.old (Stream.Input 0)) (B.left bay.old (Stream.Input 1))) }
-    ensures held { SameTexts (B.held bay.old) (B.held bay.new) }
-    ensures unopened { (port : ℕ) → B.is_open bay.new (Stream.Output port) ≡ false }
-    ensures names { AreAsked (name_of files.now.in0.now files.now.in1.now files.now.out0.now files.now.out1.now) (B.asked bay.new) (B.is_open bay.new) (status_in result) }
+    ensures uncounted { status_in result ≡ Status.Usage → (kind : Kind) → Same (B.faults bay.old kind) (B.faults bay.new kind) }
 {
-    let first = read_input(alloc, bay, 0, files.in0)?;
-    let second = read_input(alloc, bay, 1, files.in1)?;
-    Ok(Inputs { first, second })
+    let args = parse(alloc, "simulate", &OPTIONS, words)?;
+    run_args(alloc, &args, bay)
 }
 
-/// Opens and writes both outputs, and then writes the report.
-fn write_all<B: Bay>(files: &Files<'_>, texts: &Texts, bay: &mut B) -> Result<(), Status>
-    requires { (port : ℕ) → B.is_open bay.old (Stream.Output port) ≡ false }
-    ensures cause { IfErr result (IsCaused (B.faults bay.old) (B.faults bay.new)) }
-    ensures left { Same (B.left bay.old) (B.left bay.new) }
-    ensures texts { HasTexts (status_in result) }
-    ensures stands { Stands (B.held bay.old) (B.held bay.new) (written_in texts.now) (status_in result) }
-    ensures names { AreAsked (name_of files.now.in0.now files.now.in1.now files.now.out0.now files.now.out1.now) (B.asked bay.old) (B.is_open bay.old) Status.Done
-        → AreAsked (name_of files.now.in0.now files.now.in1.now files.now.out0.now files.now.out1.now) (B.asked bay.new) (B.is_open bay.new) (status_in result) }
+/// Does what parsed words say.
+fn run_args<B: Bay>(alloc: Global, args: &Args<'_>, bay: &mut B) -> Result<(), Status>
+    requires { (stream : AStream) → B.is_open bay.old stream ≡ false }
+    ensures usage { status_in result ≡ Status.Usage → plan_by (under args.now) ≡ None }
+    ensures no_plan { plan_by (under args.now) ≡ None → status_in result ≡ Status.Usage }
+    ensures ends { Ends (unwrap_or (plan_by (under args.now)) no_plan)
+        (record { is_open = B.is_open bay.old; asked = B.asked bay.old; left = B.left bay.old; held = B.held bay.old; faults = B.faults bay.old })
+        (record { is_open = B.is_open bay.new; asked = B.asked bay.new; left = B.left bay.new; held = B.held bay.new; faults = B.faults bay.new })
+        (status_in result) }
+    ensures silent { HasLine (status_in result) → B.held bay.new Stream.Report ≡ B.held bay.old Stream.Report }
+    ensures cause { IsCaused (B.faults bay.old) (B.faults bay.new) (status_in result) }
+    ensures falls { NeverFalls (B.faults bay.old) (B.faults bay.new) }
+    ensures uncounted { status_in result ≡ Status.Usage → (kind : Kind) → Same (B.faults bay.old kind) (B.faults bay.new kind) }
 {
-    write_output(bay, 0, files.out0, texts.out0.as_slice())?;
-    write_output(bay, 1, files.out1, texts.out1.as_slice())?;
-    write_report(bay, texts.report.as_bytes())
+    match Plan::of(args) {
+        Some(plan) => run_plan(alloc, &plan, bay),
+        None => Err(Status::Usage),
+    }
+}
+
+/// Reads the inputs, runs them, and writes the outputs and the report.
+fn run_plan<B: Bay>(alloc: Global, plan: &Plan<'_, '_>, bay: &mut B) -> Result<(), Status>
+    requires inputs { length plan.now.inputs.now ≡ 2 }
+    requires outputs { length plan.now.outputs.now ≡ 2 }
+    requires closed { (stream : AStream) → B.is_open bay.old stream ≡ false }
+    ensures usage { status_in result ≡ Status.Usage → ⊥ }
+    ensures ends { Ends (plan_in plan.now)
+        (record { is_open = B.is_open bay.old; asked = B.asked bay.old; left = B.left bay.old; held = B.held bay.old; faults = B.faults bay.old })
+        (record { is_open = B.is_open bay.new; asked = B.asked bay.new; left = B.left bay.new; held = B.held bay.new; faults = B.faults bay.new })
+        (status_in result) }
+    ensures silent { HasLine (status_in result) → B.held bay.new Stream.Report ≡ B.held bay.old Stream.Report }
+    ensures cause { IsCaused (B.faults bay.old) (B.faults bay.new) (status_in result) }
+    ensures falls { NeverFalls (B.faults bay.old) (B.faults bay.new) }
+{
+    let inputs = read_inputs(alloc, bay, plan.inputs)?;
+    let lists = take_captures(alloc, inputs.as_slice())?;
+    drop(inputs);
+    let texts = make_texts(alloc, lists.as_slice())?;
+    write_texts(bay, plan.outputs, &texts)?;
+    Ok(())
+}
+
+/// Writes the line of a refusal to the report. A fault there changes nothing.
+fn tell<B: Bay>(bay: &mut B, status: &Status)
+    ensures line { HasLine status.now → GotLine (line_of status.now)
+        (record { is_open = B.is_open bay.old; asked = B.asked bay.old; left = B.left bay.old; held = B.held bay.old; faults = B.faults bay.old })
+        (record { is_open = B.is_open bay.new; asked = B.asked bay.new; left = B.left bay.new; held = B.held bay.new; faults = B.faults bay.new }) }
+    ensures silent { (HasLine status.now → ⊥) → B.held bay.new Stream.Report ≡ B.held bay.old Stream.Report }
+    ensures held { SameBut Stream.Report (B.held bay.old) (B.held bay.new) }
+    ensures opened { Same (B.is_open bay.old) (B.is_open bay.new) }
+    ensures asked { Same (B.asked bay.old) (B.asked bay.new) }
+    ensures left { Same (B.left bay.old) (B.left bay.new) }
+    ensures falls { NeverFalls (B.faults bay.old) (B.faults bay.new) }
+    ensures counts { CountsOnly Kind.Write Stream.Report (B.faults bay.old) (B.faults bay.new) }
+{
+    match status {
+        Status::Done | Status::WriteFault { .. } => {}
+        _ => {
+            let _told = write_whole(bay, Stream::Report, line(status).as_str().as_bytes());
+        }
+    }
 }

@@ -2,6 +2,8 @@
 ghost use Rattle.std.specs.Prelude.{◌≡◌, ◌/◌, IfOk};
 ghost use Rattle.xsk_model.specs.Config.{IsRegular};
 ghost use Rattle.xsk_model.specs.Opening.{AreFrames};
+ghost use Rattle.xsk_umem.specs.Registration.{fresh};
+ghost use Rattle.xsk_cli.specs.Outcome.{frames};
 ghost use Rattle.xsk_cli.specs.TwoPorts.{two_ports, command_geometry};
 
 use std::alloc::Global;
@@ -20,7 +22,8 @@ const ENTRIES: u32 = 2048;
 pub(crate) fn set_up(alloc: Global) -> Result<(Config, Frames), OutOfMemory>
     ensures config { IfOk result (λ made. made.0 ≡ two_ports command_geometry) }
     ensures regular { IfOk result (λ made. IsRegular made.0) }
-    ensures frames { IfOk result (λ made. AreFrames command_geometry made.1.items) }
+    ensures frames { IfOk result (λ made. made.1.items ≡ frames) }
+    ensures known { IfOk result (λ made. AreFrames command_geometry made.1.items) }
 {
     let (geometry, frames) = register(alloc, FRAMES * u64::from(CHUNK), CHUNK)?;
     Ok((configure(alloc, geometry)?, frames))
@@ -29,7 +32,8 @@ pub(crate) fn set_up(alloc: Global) -> Result<(Config, Frames), OutOfMemory>
 /// A UMEM without headroom: its geometry and its frames.
 fn register(alloc: Global, len: u64, chunk: u32) -> Result<(Geometry, Frames), OutOfMemory>
     ensures geometry { IfOk result (λ made. made.0 ≡ record { frames = len / chunk; chunk = chunk; headroom = 0 }) }
-    ensures frames { IfOk result (λ made. AreFrames made.0 made.1.items) }
+    ensures frames { IfOk result (λ made. made.1.items ≡ fresh chunk (len / chunk)) }
+    ensures known { IfOk result (λ made. AreFrames made.0 made.1.items) }
 {
     match Umem::register(alloc, len, chunk, 0) {
         Ok(made) => Ok(made),

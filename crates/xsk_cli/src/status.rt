@@ -2,9 +2,9 @@
 ghost use Rattle.std.specs.Prelude.{◌≡◌};
 ghost use Rattle.xsk_cli.specs.ExitStatus.{exit_status_of};
 
+use xsk_args::ArgsError;
 use xsk_io::Stream;
 use xsk_pcap::BadCapture;
-use xsk_umem::OutOfMemory;
 
 /// Which limit was passed, and by how much came.
 #[derive(Clone, Copy, Debug, PartialEq, Eq)]
@@ -59,13 +59,16 @@ impl Status {
     }
 }
 
-impl From<OutOfMemory> for Status {
+impl From<ArgsError> for Status {
     ghost use Rattle.std.specs.Prelude.{◌≡◌};
-    ghost use Rattle.xsk_cli.specs.declared.status.Status.TheVariants.{OutOfMemory as NoMemory};
+    ghost use Rattle.xsk_cli.specs.Steps.{args_status};
 
-    ghost from_gives = { λ _ status. status ≡ NoMemory };
+    ghost from_gives = { λ error status. status ≡ args_status error };
 
-    fn from(_error: OutOfMemory) -> Status {
-        Status::OutOfMemory
+    fn from(error: ArgsError) -> Status {
+        match error {
+            ArgsError::Usage => Status::Usage,
+            ArgsError::OutOfMemory => Status::OutOfMemory,
+        }
     }
 }

@@ -103,15 +103,28 @@ fn captures_are_judged_with_their_places(rt: HostRuntime) -> Result<(), Fail> {
     let compressed = [
         0x1f, 0x8b, 8, 0, 0, 0, 0, 0, 0, 0, 0, 0, 0, 0, 0, 0, 0, 0, 0, 0, 0, 0, 0, 0,
     ];
-    let cases = [
-        (&BIG_ENDIAN[..53], BadCapture::Truncated { at: 24 }),
-        (compressed.as_slice(), BadCapture::BadMagic),
-        (&HEADER[..23], BadCapture::ShortHeader),
+    let cases: [(&[u8], BadCapture, &str); 3] = [
+        (
+            &BIG_ENDIAN[..53],
+            BadCapture::Truncated { at: 24 },
+            "bad capture 1 truncated 24\n",
+        ),
+        (
+            compressed.as_slice(),
+            BadCapture::BadMagic,
+            "bad capture 1 bad magic\n",
+        ),
+        (
+            &HEADER[..23],
+            BadCapture::ShortHeader,
+            "bad capture 1 short header\n",
+        ),
     ];
-    for (bytes, cause) in cases {
+    for (bytes, cause, line) in cases {
         let (status, bay) = simulated(rt.alloc(), &HEADER, bytes)?;
         assert_eq!(rt; status, Status::BadCapture { port: 1, cause });
-        assert!(rt; holds(&bay, Stream::Report, b"".as_slice()));
+        assert_eq!(rt; status.exit_status(), 3);
+        assert!(rt; holds(&bay, Stream::Report, line.as_bytes()));
     }
     Ok(())
 }
@@ -134,19 +147,25 @@ fn so_many_packets_are_taken_and_no_more(rt: HostRuntime) -> Result<(), Fail> {
     assert_eq!(rt; status, Status::Done);
     assert!(rt; holds(&bay, Stream::Output(1), HEADER.as_slice()));
     let text = capture_of(rt.alloc(), lens.as_slice())?;
-    let (status, _bay) = simulated(rt.alloc(), text.as_slice(), &HEADER)?;
+    let (status, bay) = simulated(rt.alloc(), text.as_slice(), &HEADER)?;
     assert_eq!(rt; status, Status::TooMuch(Excess::Packets(65_537)));
+    assert_eq!(rt; status.exit_status(), 9);
+    assert!(rt; holds(&bay, Stream::Report, b"too much packets 65537\n".as_slice()));
     Ok(())
 }
 
 #[test]
 fn words_that_are_no_command_are_refused(rt: HostRuntime) -> Result<(), Fail> {
-    let cases: [&[&str]; 5] = [
+    let cases: [&[&str]; 9] = [
         &[],
         &["sim", "a", "b", "c", "d"],
+        &["a", "simulate", "b", "c", "d"],
+        &["simulate"],
         &["simulate", "a", "b", "c"],
         &["simulate", "a", "b", "c", "d", "e"],
         &["simulate", "a", "b", "-c", "d"],
+        &["simulate", "a", "b", "c", "d", "--help"],
+        &["simulate", "a", "b", "--", "c"],
     ];
     for case in cases {
         let mut words = Vec::new(rt.alloc());
@@ -154,10 +173,22 @@ fn words_that_are_no_command_are_refused(rt: HostRuntime) -> Result<(), Fail> {
             words.push(String::from_str(rt.alloc(), word)?)?;
         }
         let mut bay = bay_over(rt.alloc(), &HEADER, &HEADER)?;
-        assert_eq!(rt;
-            run_plain(rt.alloc(), words.as_slice(), &mut bay),
-            Status::Usage
-        );
+        let status = run_plain(rt.alloc(), words.as_slice(), &mut bay);
+        assert_eq!(rt; status, Status::Usage);
+        assert_eq!(rt; status.exit_status(), 2);
+        assert!(rt; holds(&bay, Stream::Report, b"usage\n".as_slice()));
     }
+    Ok(())
+}
+
+#[test]
+fn files_behind_two_hyphens_may_begin_with_one(rt: HostRuntime) -> Result<(), Fail> {
+    let mut words = Vec::new(rt.alloc());
+    for word in ["simulate", "-", "--", "-b", "--c", "d"] {
+        words.push(String::from_str(rt.alloc(), word)?)?;
+    }
+    let mut bay = bay_over(rt.alloc(), &HEADER, &HEADER)?;
+    let status = run_plain(rt.alloc(), words.as_slice(), &mut bay);
+    assert_eq!(rt; status, Status::Done);
     Ok(())
 }

@@ -10,6 +10,10 @@ mod configuration;
 #[cfg(test)]
 mod faults;
 #[cfg(test)]
+mod files;
+#[cfg(test)]
 mod four_ports;
 #[cfg(test)]
 mod many_packets;
+#[cfg(test)]
+mod refusals;

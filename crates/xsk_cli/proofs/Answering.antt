@@ -1,0 +1,115 @@
+-- What a command answers for inputs whose bytes are told.
+use Rattle.std.proofs.Common.{◌≡◌, ℕ, ◌+◌, ◌<◌, ◌≤◌, List, [], length, get_or, refl, sym, ap, ◌∙◌, subst, arith, Some, None, Option}
+use Rattle.std.specs.Prelude.{IfSome}
+use Rattle.xsk_io.specs.Bay.{Rose}
+use Rattle.xsk_io.specs.declared.bay.Kind.TheVariants.{Open, Read, Write}
+use Rattle.xsk_io.specs.declared.bay.Stream.TheVariants.{Input, Output, Report}
+use Rattle.xsk_pcap.specs.declared.reading.BadCapture.{BadCapture as Cause}
+use Rattle.xsk_cli.specs.Cause.{IsCaused}
+use Rattle.xsk_cli.specs.Ends.{ComesOf, Ends, AreTold, Answers, AreTaken, NoneRose, IsComplete}
+use Rattle.xsk_cli.specs.Judged.{bytes_of, AreShort, AreCaptures, excess_of}
+use Rattle.xsk_cli.specs.Outcome.{Written, Outcome, long, bad, passed, stalled, made, IsOutcome, IsOutcomeIn}
+use Rattle.xsk_cli.specs.Streams.{Moment, Reach, Reaches, IsTold}
+use Rattle.xsk_cli.specs.Words.{Plan}
+use Rattle.xsk_cli.specs.declared.status.Excess.{Excess}
+use Rattle.xsk_cli.specs.declared.status.Excess.TheVariants.{Input as TooLong, Packets, Bytes}
+use Rattle.xsk_cli.specs.declared.status.Status.{Status}
+use Rattle.xsk_cli.specs.declared.status.Status.TheVariants.{Done, Usage, BadCapture, ReadFault, WriteFault, OpenFault, Stalled, TooMuch, OutOfMemory}
+use Rattle.xsk_cli.proofs.Ports.{same_lists}
+use Rattle.xsk_cli.proofs.Unique.{one_outcome, same_captures, bad_not_captures}
+
+told_is : (left : Option (List ℕ)) (bytes text : List ℕ) → left ≡ Some bytes → IsTold left text → bytes ≡ text
+told_is left bytes text is h = subst (λ l. IsTold l text) is h
+
+module _ (plan : Plan) (old new : Moment) (inputs : List (List ℕ)) (told : AreTold plan inputs old) where
+  -- all inputs were read
+  same_inputs : (status : Status) → (ends : Ends plan old new status) → ends.reach.ends ≡ length plan.inputs → ends.inputs ≡ inputs
+  same_inputs status ends all =
+      same_lists [] ends.inputs inputs (ends.count ∙ all ∙ sym told.count)
+      (λ i h.
+        let below : i < ends.reach.ends = omega (arith, h, ends.count) in
+        let known : i < length inputs = omega (arith, below, all, told.count) in
+        sym (told_is (old.left (Input i)) (bytes_of inputs i) (get_or ends.inputs i []) (told.each i known) (ends.reads.all i below)))
+
+  same_outcome : (status : Status) (mine outcome : Outcome) → (ends : Ends plan old new status) → ends.reach.ends ≡ length plan.inputs → IsOutcome ends.inputs mine → IsOutcome inputs outcome → outcome ≡ mine
+  same_outcome status mine outcome ends all is other =
+      one_outcome inputs outcome mine other (subst (λ i. IsOutcome i mine) (same_inputs status ends all) is)
+
+  -- an input before the one that is too long
+  read_short : (port : ℕ) → (ends : Ends plan old new (TooMuch (TooLong port))) → (i : ℕ) → i < port → length (bytes_of inputs i) ≤ 34603032
+  read_short port ends i h =
+      let below : i < ends.reach.ends = omega (arith, h, ap (λ (r : Reach). r.ends) ends.reaches.1) in
+      let known : i < length inputs = omega (arith, h, ends.reaches.0, told.count) in
+      omega (
+        arith,
+        ap length (told_is (old.left (Input i)) (bytes_of inputs i) (get_or ends.inputs i []) (told.each i known) (ends.reads.all i below)),
+        ends.short i below,
+      )
+
+  too_long : (port : ℕ) → (ends : Ends plan old new (TooMuch (TooLong port))) → IsOutcome inputs (long port)
+  too_long port ends =
+      let known : port < length inputs = omega (arith, ends.reaches.0, told.count) in
+      record {
+        known = known;
+        long = subst (λ l. IfSome l (λ b. 34603032 < length b)) (told.each port known) ends.comes;
+        before = read_short port ends;
+      }
+
+  reached : (status : Status) (r : Reach) → (ends : Ends plan old new status) → ends.reach ≡ r → ends.reach.ends ≡ r.ends
+  reached status r ends is = ap (λ (x : Reach). x.ends) is
+
+  pub answered : (status : Status) (outcome : Outcome) → Ends plan old new status → (status ≡ Usage → ⊥) → IsOutcome inputs outcome → Answers outcome status
+  answered Done outcome ends words h = (ends.texts, same_outcome Done (made ends.texts) outcome ends (reached Done _ ends ends.reaches) ends.comes h)
+  answered Usage outcome ends words h = absurd (words refl)
+  answered (BadCapture port cause) outcome ends words h =
+      same_outcome (BadCapture port cause) (bad port cause) outcome ends (reached (BadCapture port cause) _ ends ends.reaches) ends.comes h
+  answered (ReadFault port) outcome ends words h = tt
+  answered (WriteFault (Input port)) outcome ends words h = absurd ends.reaches
+  answered (WriteFault (Output port)) outcome ends words h =
+      (ends.texts, same_outcome (WriteFault (Output port)) (made ends.texts) outcome ends (reached (WriteFault (Output port)) _ ends ends.reaches.1) ends.comes h)
+  answered (WriteFault Report) outcome ends words h =
+      (ends.texts, same_outcome (WriteFault Report) (made ends.texts) outcome ends (reached (WriteFault Report) _ ends ends.reaches) ends.comes h)
+  answered (OpenFault (Input port)) outcome ends words h = tt
+  answered (OpenFault (Output port)) outcome ends words h =
+      (ends.texts, same_outcome (OpenFault (Output port)) (made ends.texts) outcome ends (reached (OpenFault (Output port)) _ ends ends.reaches.1) ends.comes h)
+  answered (OpenFault Report) outcome ends words h = absurd ends.reaches
+  answered (Stalled round) outcome ends words h = same_outcome (Stalled round) (stalled round) outcome ends (reached (Stalled round) _ ends ends.reaches) ends.comes h
+  answered (TooMuch (TooLong port)) outcome ends words h = one_outcome inputs outcome (long port) h (too_long port ends)
+  answered (TooMuch (Packets n)) outcome ends words h =
+      same_outcome (TooMuch (Packets n)) (passed (Packets n)) outcome ends (reached (TooMuch (Packets n)) _ ends ends.reaches) ends.comes h
+  answered (TooMuch (Bytes n)) outcome ends words h =
+      same_outcome (TooMuch (Bytes n)) (passed (Bytes n)) outcome ends (reached (TooMuch (Bytes n)) _ ends ends.reaches) ends.comes h
+  answered OutOfMemory outcome ends words h = tt
+
+  -- ---- completeness
+
+  not_bad : AreTaken inputs → (port : ℕ) (cause : Cause) → IsOutcome inputs (bad port cause) → ⊥
+  not_bad taken port cause h = bad_not_captures inputs port cause taken.1.0 h.1 taken.1.1
+
+  not_passed : AreTaken inputs → (excess : Excess) → IsOutcomeIn inputs (passed excess) → ⊥
+  not_passed taken excess h =
+      let same = same_captures inputs h.0 taken.1.0 h.1 taken.1.1 in
+      let none : excess_of h.0 ≡ None = ap excess_of same ∙ taken.1.2 in
+      let no = sym h.2 ∙ none in
+      absurd cc
+
+  mine : (status : Status) (outcome : Outcome) → (ends : Ends plan old new status) → ends.reach.ends ≡ length plan.inputs → IsOutcome ends.inputs outcome → IsOutcome inputs outcome
+  mine status outcome ends all is = subst (λ i. IsOutcome i outcome) (same_inputs status ends all) is
+
+  pub completes : (status : Status) → Ends plan old new status → (status ≡ Usage → ⊥) → AreTaken inputs → NoneRose old.faults new.faults → IsCaused old.faults new.faults status → IsComplete status
+  completes Done ends words taken none caused = tt
+  completes Usage ends words taken none caused = absurd (words refl)
+  completes (BadCapture port cause) ends words taken none caused =
+      not_bad taken port cause (mine (BadCapture port cause) (bad port cause) ends (reached (BadCapture port cause) _ ends ends.reaches) ends.comes)
+  completes (ReadFault port) ends words taken none caused = none Read (Input port) caused
+  completes (WriteFault stream) ends words taken none caused = none Write stream caused
+  completes (OpenFault stream) ends words taken none caused = none Open stream caused
+  completes (Stalled round) ends words taken none caused = tt
+  completes (TooMuch (TooLong port)) ends words taken none caused =
+      let long = too_long port ends in
+      omega (arith, long.long, taken.0 port long.known)
+  completes (TooMuch (Packets n)) ends words taken none caused =
+      not_passed taken (Packets n) (mine (TooMuch (Packets n)) (passed (Packets n)) ends (reached (TooMuch (Packets n)) _ ends ends.reaches) ends.comes).1
+  completes (TooMuch (Bytes n)) ends words taken none caused =
+      not_passed taken (Bytes n) (mine (TooMuch (Bytes n)) (passed (Bytes n)) ends (reached (TooMuch (Bytes n)) _ ends ends.reaches) ends.comes).1
+  completes OutOfMemory ends words taken none caused = tt

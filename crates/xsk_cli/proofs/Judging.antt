@@ -1,0 +1,146 @@
+-- The inputs' captures, judged one after another.
+use Rattle.std.proofs.Common.{◌≡◌, ℕ, zero, suc, ◌+◌, ◌*◌, ◌<◌, ◌≤◌, List, [], ◌∷◌, ◌++◌, length, map, get_or, refl, sym, ap, ◌∙◌, subst, arith, length-append, inl, inr, ⊎_elim, Some, None, Option, true, false, ltb}
+use Rattle.std.specs.Prelude.{sum_by, ◌≢◌, Result, Err, IfErr}
+use Rattle.std.specs.List.{concat, flat_map}
+use Rattle.std.proofs.lemmas.List.{map-append, length-map, get_or-map}
+use Rattle.std.proofs.lemmas.List.Sums.{sum_by-append}
+use Rattle.std.proofs.lemmas.Bool.Decides.{nat_tests}
+use Rattle.xsk_umem.specs.PacketList.{PacketList}
+use Rattle.xsk_pcap.specs.Capture.{IsCapture, IsRefused, IsCause, Record, record_bytes, header_bytes}
+use Rattle.xsk_pcap.specs.declared.endianness.Endianness.{Endianness}
+use Rattle.xsk_pcap.specs.declared.reading.BadCapture.{BadCapture as Cause}
+use Rattle.xsk_pcap.specs.declared.reading.BadCapture.TheVariants.{OutOfMemory as NoCause}
+use Rattle.xsk_pcap.proofs.Unique.{length-record}
+use Rattle.xsk_cli.specs.Judged.{bytes_of, AreShort, AreCaptures, IsBadCapture, packets_in, bytes_in, excess_of}
+use Rattle.xsk_cli.specs.Outcome.{listed}
+use Rattle.xsk_cli.specs.Steps.{FailsRunning, IsRefusal, MakesNone, lists_in}
+use Rattle.xsk_cli.specs.declared.failure.RunFailure.{RunFailure}
+use Rattle.xsk_cli.specs.declared.failure.RunFailure.TheVariants.{BadCapture as Bad, TooMuch as Excessive, Stalled as Stalls, OutOfMemory as NoMemory}
+use Rattle.xsk_cli.specs.declared.status.Excess.{Excess}
+use Rattle.xsk_cli.specs.declared.status.Excess.TheVariants.{Packets, Bytes}
+use Rattle.xsk_cli.proofs.Ports.{push_each, small_sum}
+
+-- the first inputs are captures, and these are the lists of their packets
+pub record HaveTaken (inputs : List (List ℕ)) (lists : List PacketList) (n : ℕ) : Type 0 where
+  pub count : length lists ≡ n
+  pub each : (port : ℕ) → port < n → IsCapture (bytes_of inputs port) (get_or (lists_in lists) port [])
+  pub bare : lists ≡ map listed (lists_in lists)
+
+pub none_taken : (inputs : List (List ℕ)) → HaveTaken inputs [] 0
+none_taken inputs = record { count = refl; each = λ port h. absurd (omega (arith, h)); bare = refl }
+
+pub taken_more : (inputs : List (List ℕ)) (lists : List PacketList) (list : PacketList) (n : ℕ) → HaveTaken inputs lists n → IsCapture (bytes_of inputs n) list.packets → list ≡ listed list.packets
+    → HaveTaken inputs (lists ++ list ∷ []) (n + 1)
+taken_more inputs lists list n have is bare =
+    let packets : PacketList → List (List ℕ) = λ (l : PacketList). l.packets in
+    let parts : lists_in (lists ++ list ∷ []) ≡ lists_in lists ++ list.packets ∷ [] = map-append packets lists (list ∷ []) in
+    record {
+      count = length-append lists (list ∷ []) ∙ ap (λ k. k + 1) have.count;
+      each = subst (λ ls. (port : ℕ) → port < n + 1 → IsCapture (bytes_of inputs port) (get_or ls port [])) (sym parts)
+          (push_each (λ port ps. IsCapture (bytes_of inputs port) ps) [] (lists_in lists) list.packets n (length-map lists packets ∙ have.count) have.each is);
+      bare =
+          ap (λ ls. ls ++ list ∷ []) have.bare ∙ ap (λ l. map listed (lists_in lists) ++ l ∷ []) bare
+          ∙ sym (map-append listed (lists_in lists) (list.packets ∷ [])) ∙ ap (map listed) (sym parts);
+    }
+
+pub all_captures : (inputs : List (List ℕ)) (lists : List PacketList) → HaveTaken inputs lists (length inputs) → AreCaptures inputs (lists_in lists)
+all_captures inputs lists have = record { count = length-map lists (λ (l : PacketList). l.packets) ∙ have.count; each = have.each }
+
+pub refusal_makes : (inputs : List (List ℕ)) (lists : List PacketList) (n : ℕ) (failure : RunFailure) → HaveTaken inputs lists n → n < length inputs → AreShort inputs (length inputs)
+    → IsRefusal n (bytes_of inputs n) failure → MakesNone inputs failure
+refusal_makes inputs lists n (Bad at cause) have known short h =
+    subst (λ k. MakesNone inputs (Bad k cause)) (sym h.0)
+    (short, record { known = known; before = λ lower l. (get_or (lists_in lists) lower [], have.each lower l); refused = h.1; check = h.2 })
+refusal_makes inputs lists n (Excessive excess) have known short h = absurd h
+refusal_makes inputs lists n (Stalls round) have known short h = absurd h
+refusal_makes inputs lists n NoMemory have known short h = tt
+
+pub excess_makes : (inputs : List (List ℕ)) (lists : List PacketList) (excess : Excess) → AreCaptures inputs (lists_in lists) → AreShort inputs (length inputs) → excess_of (lists_in lists) ≡ Some excess
+    → MakesNone inputs (Excessive excess)
+excess_makes inputs lists excess captures short is = (short, (lists_in lists, captures, is))
+
+-- ---- causes
+
+-- a cause that isn't want of memory is a check that fails
+pub real : (bytes : List ℕ) (cause : Cause) → cause ≢ NoCause → IsCause bytes cause → IsRefused bytes cause
+real bytes cause other h = ⊎_elim (λ r. r) (λ m. absurd (other m.0)) h
+
+-- ---- sizes
+
+length-records : (order : Endianness) (records : List Record) → length (concat (map (λ (r : Record). r.packet) records)) ≤ length (flat_map (record_bytes order) records)
+length-records order [] = omega arith
+length-records order (r ∷ records) =
+    let rest : List ℕ = flat_map (record_bytes order) records in
+    omega (arith, length-record order r rest, length-append r.packet rest, length-append r.packet (concat (map (λ (r : Record). r.packet) records)), length-records order records)
+
+-- a capture has no more captured bytes than bytes
+length-captured : (bytes : List ℕ) (packets : List (List ℕ)) → IsCapture bytes packets → length (concat packets) ≤ length bytes
+length-captured bytes packets h =
+    let b = h.1 in
+    let records = b.records in
+    omega (
+      arith,
+      length-records h.0 records.records,
+      ap (λ (ps : List (List ℕ)). length (concat ps)) records.packets_are,
+      ap length records.bytes_are,
+      ap length b.whole,
+      length-append (header_bytes h.0 b.header) (b.body ++ []),
+      length-append b.body [],
+    )
+
+-- so all of them have few
+pub bytes_small : (inputs : List (List ℕ)) (lists : List (List (List ℕ))) → AreCaptures inputs lists → AreShort inputs (length inputs) → length inputs ≤ 4 → bytes_in lists ≤ 138412128
+bytes_small inputs lists captures short few =
+    let sum = small_sum (λ (packets : List (List ℕ)). length (concat packets)) [] lists
+        (λ i h.
+          let known : i < length inputs = omega (arith, h, captures.count) in
+          omega (arith, length-captured (bytes_of inputs i) (get_or lists i []) (captures.each i known), short i known)) in
+    omega (arith, sum, captures.count, few)
+
+-- ---- limits
+
+pub within_limits : (lists : List (List (List ℕ))) → packets_in lists ≤ 65536 → bytes_in lists ≤ 33554432 → excess_of lists ≡ None
+within_limits lists packets bytes = grind (arith, nat_tests)
+
+pub many_packets : (lists : List (List (List ℕ))) → 65536 < packets_in lists → excess_of lists ≡ Some (Packets (packets_in lists))
+many_packets lists packets = grind (arith, nat_tests)
+
+pub many_bytes : (lists : List (List (List ℕ))) → packets_in lists ≤ 65536 → 33554432 < bytes_in lists → excess_of lists ≡ Some (Bytes (bytes_in lists))
+many_bytes lists packets bytes = grind (arith, nat_tests)
+
+pub limits_of : (lists : List (List (List ℕ))) → excess_of lists ≡ None → (packets_in lists ≤ 65536) × (bytes_in lists ≤ 33554432)
+limits_of lists h = (grind (arith, nat_tests, h), grind (arith, nat_tests, h))
+
+-- ---- sums over lists
+
+pub packets_of : (lists : List PacketList) → sum_by (λ (list : PacketList). length list.packets) lists ≡ packets_in (lists_in lists)
+packets_of [] = refl
+packets_of (list ∷ lists) =
+    sum_by-append (λ (l : PacketList). length l.packets) (list ∷ []) lists ∙ ap (λ n. (0 + length list.packets) + n) (packets_of lists)
+    ∙ sym (sum_by-append (λ (packets : List (List ℕ)). length packets) (list.packets ∷ []) (lists_in lists))
+
+pub bytes_of_lists : (lists : List PacketList) → sum_by (λ (list : PacketList). length (concat list.packets)) lists ≡ bytes_in (lists_in lists)
+bytes_of_lists [] = refl
+bytes_of_lists (list ∷ lists) =
+    sum_by-append (λ (l : PacketList). length (concat l.packets)) (list ∷ []) lists ∙ ap (λ n. (0 + length (concat list.packets)) + n) (bytes_of_lists lists)
+    ∙ sym (sum_by-append (λ (packets : List (List ℕ)). length (concat packets)) (list.packets ∷ []) (lists_in lists))
+
+-- ---- the bytes that the code has
+
+pub text_at : {X : Type 0} (text : X → List ℕ) (xs : List X) (port : ℕ) (d : X) (bytes : List ℕ) → port < length xs → bytes ≡ text (get_or xs port d) → bytes ≡ bytes_of (map text xs) port
+text_at text xs port d bytes known is = is ∙ sym (get_or-map text xs port d [] known)
+
+pub short_all : {X : Type 0} (text : X → List ℕ) (xs : List X) → AreShort (map text xs) (length xs) → AreShort (map text xs) (length (map text xs))
+short_all text xs short = subst (AreShort (map text xs)) (sym (length-map xs text)) short
+
+-- an answer with such a failure
+pub answer_makes : {A : Type 0} (answer : Result A RunFailure) (failure : RunFailure) (inputs : List (List ℕ)) → answer ≡ Err failure → MakesNone inputs failure → IfErr answer (MakesNone inputs)
+answer_makes answer failure inputs is makes = subst (λ r. IfErr r (MakesNone inputs)) (sym is) makes
+
+-- a run that gives nothing
+pub running_makes : (inputs : List (List ℕ)) (lists : List (List (List ℕ))) (failure : RunFailure) → AreShort inputs (length inputs) → AreCaptures inputs lists → excess_of lists ≡ None → FailsRunning lists failure
+    → MakesNone inputs failure
+running_makes inputs lists (Bad at cause) short captures within h = absurd h
+running_makes inputs lists (Excessive excess) short captures within h = absurd h
+running_makes inputs lists (Stalls round) short captures within h = (short, (lists, captures, (within, h)))
+running_makes inputs lists NoMemory short captures within h = tt

@@ -1,0 +1,237 @@
+-- The inputs, read one after another.
+use Rattle.std.proofs.Common.{◌≡◌, ℕ, ◌+◌, ◌<◌, ◌≤◌, ltb, Bool, true, false, List, [], ◌∷◌, ◌++◌, length, get_or, map, refl, sym, ap, ◌∙◌, subst, inl, inr, ⊎_elim, arith, length-append, Option}
+use Rattle.std.specs.Prelude.{◌≢◌, IfSome, IfErr, Result, Err}
+use Rattle.std.specs.Io.KnownBytes.{IsAtEnd}
+use Rattle.std.proofs.lemmas.Bool.{cases_eq}
+use Rattle.std.proofs.lemmas.List.{get_or-map, length-map}
+use Rattle.xsk_io.specs.Bay.{Rose, SameBut}
+use Rattle.xsk_io.proofs.Steps.{Rose-earlier}
+use Rattle.xsk_io.specs.declared.bay.Kind.{Kind}
+use Rattle.xsk_io.specs.declared.bay.Kind.TheVariants.{Open, Read}
+use Rattle.xsk_io.specs.declared.bay.Stream.{Stream}
+use Rattle.xsk_io.specs.declared.bay.Stream.TheVariants.{Input, Output, Report}
+use Rattle.xsk_cli.specs.Cause.{IsCaused, NeverFalls}
+use Rattle.xsk_cli.specs.Ends.{ComesOf, Ends}
+use Rattle.xsk_cli.specs.Judged.{AreShort}
+use Rattle.xsk_cli.specs.Outcome.{Written}
+use Rattle.xsk_cli.specs.Streams.{Moment, IsTold, at_input, Reaches, AreRead, AreWritten, IsReported, name_of}
+use Rattle.xsk_cli.specs.Steps.{FailsReading, HaveRead, args_status, read_status}
+use Rattle.xsk_args.specs.declared.error.ArgsError.{ArgsError}
+use Rattle.xsk_args.specs.declared.error.ArgsError.TheVariants.{Usage as IsUsage, OutOfMemory as ArgsMemory}
+use Rattle.xsk_cli.specs.Words.{Plan}
+use Rattle.xsk_cli.specs.declared.failure.ReadFailure.{ReadFailure}
+use Rattle.xsk_cli.specs.declared.failure.ReadFailure.TheVariants.{Unopened, Unread, TooLong, OutOfMemory as NoRoom}
+use Rattle.xsk_cli.specs.declared.status.Excess.TheVariants.{Input as LongInput}
+use Rattle.xsk_cli.specs.declared.status.Status.{Status}
+use Rattle.xsk_cli.specs.declared.status.Status.TheVariants.{Usage, ReadFault, OpenFault, TooMuch, OutOfMemory}
+use Rattle.xsk_cli.proofs.Ports.{step, push_each, none_below, not_below_itself, below_next, below_as_before}
+
+pub record Touched (one : Stream) (old new : Moment) : Type 0 where
+  pub opened : SameBut one old.is_open new.is_open
+  pub asked : SameBut one old.asked new.asked
+  pub left : SameBut one old.left new.left
+  pub held : SameBut one old.held new.held
+
+pub other_input : (port n : ℕ) → (port ≡ n → ⊥) → Input port ≢ Input n
+other_input port n h e = h (let i : port ≡ n = cc in i)
+
+pub lower_input : (port n : ℕ) → port < n → Input port ≢ Input n
+lower_input port n h = other_input port n (λ e. omega (arith, e, h))
+
+pub higher_input : (port n : ℕ) → n + 1 ≤ port → Input port ≢ Input n
+higher_input port n h = other_input port n (λ e. omega (arith, e, h))
+
+output_is_no_input : (port n : ℕ) → Output port ≢ Input n
+output_is_no_input port n e = cc
+
+report_is_no_input : (n : ℕ) → Report ≢ Input n
+report_is_no_input n e = cc
+
+-- ---- one more input
+
+module _ (names bytes : List (List ℕ)) (n : ℕ) (old mid new : Moment) (have : HaveRead names bytes n old mid) (touched : Touched (Input n) mid new) (told : IsTold (new.asked (Input n)) (get_or names n [])) where
+  open_more : new.is_open (Input n) ≡ true → (port : ℕ) → new.is_open (Input port) ≡ ltb port (n + 1)
+  open_more is_open port = ⊎_elim
+      (λ (e : port ≡ n). subst (λ k. new.is_open (Input k) ≡ true) (sym e) is_open ∙ below_next n port e)
+      (λ (ne : port ≡ n → ⊥). touched.opened (Input port) (other_input port n ne) ∙ have.reads.open_now port ∙ below_as_before n port ne)
+      (cases_eq port n)
+
+  open_same : new.is_open (Input n) ≡ false → (port : ℕ) → new.is_open (Input port) ≡ ltb port n
+  open_same closed port = ⊎_elim
+      (λ (e : port ≡ n). subst (λ k. new.is_open (Input k) ≡ false) (sym e) closed ∙ not_below_itself n port e)
+      (λ (ne : port ≡ n → ⊥). touched.opened (Input port) (other_input port n ne) ∙ have.reads.open_now port)
+      (cases_eq port n)
+
+  asked_before : (port : ℕ) → port < n → IsTold (new.asked (Input port)) (get_or names port [])
+  asked_before port h = subst (λ a. IsTold a (get_or names port [])) (sym (touched.asked (Input port) (lower_input port n h))) (have.reads.asked port h)
+
+  asked_more : (port : ℕ) → port < n + 1 → IsTold (new.asked (Input port)) (get_or names port [])
+  asked_more = step (λ port. IsTold (new.asked (Input port)) (get_or names port [])) n asked_before told
+
+  at_end_before : (port : ℕ) → port < n → IsAtEnd (new.left (Input port))
+  at_end_before port h = subst IsAtEnd (sym (touched.left (Input port) (lower_input port n h))) (have.reads.at_end port h)
+
+  later_more : (port : ℕ) → n + 1 ≤ port → new.left (Input port) ≡ old.left (Input port)
+  later_more port h = touched.left (Input port) (higher_input port n h) ∙ have.reads.later port (omega (arith, h))
+
+  outputs_closed : (port : ℕ) → new.is_open (Output port) ≡ false
+  outputs_closed port = touched.opened (Output port) (output_is_no_input port n) ∙ have.outputs port
+
+  outputs_held : (port : ℕ) → new.held (Output port) ≡ old.held (Output port)
+  outputs_held port = touched.held (Output port) (output_is_no_input port n) ∙ have.held port
+
+  pub read_more : (text : List ℕ) → new.is_open (Input n) ≡ true → IsTold (mid.left (Input n)) text → length text ≤ 34603032 → IsAtEnd (new.left (Input n))
+      → HaveRead names (bytes ++ text ∷ []) (n + 1) old new
+  read_more text is_open is short at_end = record {
+    count_is = length-append bytes (text ∷ []) ∙ ap (λ k. k + 1) have.count_is;
+    short = push_each (λ port b. length b ≤ 34603032) [] bytes text n have.count_is have.short short;
+    reads = record {
+      open_now = open_more is_open;
+      asked = asked_more;
+      at_end = step (λ port. IsAtEnd (new.left (Input port))) n at_end_before at_end;
+      all = push_each (λ port b. IsTold (old.left (Input port)) b) [] bytes text n have.count_is have.reads.all (subst (λ l. IsTold l text) (have.reads.later n (omega arith)) is);
+      later = later_more;
+    };
+    outputs = outputs_closed;
+    held = outputs_held;
+    report = touched.held Report (report_is_no_input n) ∙ have.report;
+  }
+
+  -- it is open, and wasn't read to its end
+  unread : new.is_open (Input n) ≡ true → AreRead names bytes (n + 1) n old new
+  unread is_open = record { open_now = open_more is_open; asked = asked_more; at_end = at_end_before; all = have.reads.all; later = later_more }
+
+  later_same : new.left (Input n) ≡ mid.left (Input n) → (port : ℕ) → n ≤ port → new.left (Input port) ≡ old.left (Input port)
+  later_same left port h = ⊎_elim
+      (λ (e : port ≡ n). subst (λ k. new.left (Input k) ≡ mid.left (Input k)) (sym e) left ∙ have.reads.later port h)
+      (λ (ne : port ≡ n → ⊥). touched.left (Input port) (other_input port n ne) ∙ have.reads.later port h)
+      (cases_eq port n)
+
+  -- it isn't open
+  unopened : new.is_open (Input n) ≡ false → new.left (Input n) ≡ mid.left (Input n) → AreRead names bytes n n old new
+  unopened closed left = record { open_now = open_same closed; asked = asked_before; at_end = at_end_before; all = have.reads.all; later = later_same left }
+
+abbrev no_texts : Written
+no_texts = record { outputs = []; report = [] }
+
+pub none_written : (names texts : List (List ℕ)) (old new : Moment) → ((port : ℕ) → new.is_open (Output port) ≡ false) → ((port : ℕ) → new.held (Output port) ≡ old.held (Output port))
+    → AreWritten names texts 0 0 old new
+none_written names texts old new closed held = record {
+  open_now = λ port. closed port ∙ none_below port;
+  asked = λ port h. absurd (omega (arith, h));
+  wholes = λ port h. absurd (omega (arith, h));
+  fronts = λ port h l. absurd (omega (arith, l));
+  later = λ port h. held port;
+}
+
+-- ---- how it ends
+
+module _ (plan : Plan) (bytes : List (List ℕ)) (n : ℕ) (old mid new : Moment) (have : HaveRead plan.inputs bytes n old mid) (known : n < length plan.inputs) (touched : Touched (Input n) mid new)
+    (told : IsTold (new.asked (Input n)) (get_or plan.inputs n [])) where
+  writes : AreWritten plan.outputs [] 0 0 old new
+  writes = none_written plan.outputs [] old new (outputs_closed plan.inputs bytes n old mid new have touched told) (outputs_held plan.inputs bytes n old mid new have touched told)
+
+  ends_unopened : new.is_open (Input n) ≡ false → new.left (Input n) ≡ mid.left (Input n) → Ends plan old new (OpenFault (Input n))
+  ends_unopened closed left = record {
+    inputs = bytes;
+    texts = no_texts;
+    reach = at_input n n;
+    reaches = (known, refl);
+    count = have.count_is;
+    short = have.short;
+    reads = unopened plan.inputs bytes n old mid new have touched told closed left;
+    writes = writes;
+    reported = tt;
+    asked = λ stream e. subst (λ s. IsTold (new.asked s) (name_of plan s)) (let i : Input n ≡ stream = cc in i) told;
+    comes = tt;
+  }
+
+  ends_unread : (status : Status) → new.is_open (Input n) ≡ true → Reaches (length plan.inputs) (length plan.outputs) status (at_input (n + 1) n)
+      → ((stream : Stream) → status ≡ OpenFault stream → ⊥) → ComesOf bytes no_texts old status → IsReported [] status old new → Ends plan old new status
+  ends_unread status is_open reaches other comes reported = record {
+    inputs = bytes;
+    texts = no_texts;
+    reach = at_input (n + 1) n;
+    reaches = reaches;
+    count = have.count_is;
+    short = have.short;
+    reads = unread plan.inputs bytes n old mid new have touched told is_open;
+    writes = writes;
+    reported = reported;
+    asked = λ stream e. absurd (other stream e);
+    comes = comes;
+  }
+
+  pub reading_fails : (failure : ReadFailure) → FailsReading n mid new failure → Ends plan old new (read_status failure)
+  reading_fails (Unopened at) h = subst (λ k. Ends plan old new (OpenFault (Input k))) (sym h.0) (ends_unopened h.1 h.2)
+  reading_fails (Unread at) h = subst (λ k. Ends plan old new (ReadFault k)) (sym h.0) (ends_unread (ReadFault n) h.1 (known, refl) (λ stream e. cc) tt tt)
+  reading_fails (TooLong at) h = subst (λ k. Ends plan old new (TooMuch (LongInput k))) (sym h.0)
+      (ends_unread (TooMuch (LongInput n)) h.1 (known, refl) (λ stream e. cc) (subst (λ l. IfSome l (λ b. 34603032 < length b)) (have.reads.later n (omega arith)) h.2) tt)
+  reading_fails NoRoom h = ends_unread OutOfMemory h (record { known = omega (arith, known); ends = omega arith; last = omega arith; outputs = refl; wholes = refl }) (λ stream e. cc) tt tt
+
+  pub reading_caused : (failure : ReadFailure) → NeverFalls old.faults mid.faults → FailsReading n mid new failure → IsCaused old.faults new.faults (read_status failure)
+  reading_caused (Unopened at) falls h =
+      subst (λ k. Rose (old.faults Open (Input k)) (new.faults Open (Input k))) (sym h.0) (Rose-earlier _ _ _ (falls Open (Input n)) h.3)
+  reading_caused (Unread at) falls h =
+      subst (λ k. Rose (old.faults Read (Input k)) (new.faults Read (Input k))) (sym h.0) (Rose-earlier _ _ _ (falls Read (Input n)) h.2)
+  reading_caused (TooLong at) falls h = tt
+  reading_caused NoRoom falls h = tt
+
+-- nothing was done
+pub nothing_read : (names : List (List ℕ)) (old : Moment) → ((stream : Stream) → old.is_open stream ≡ false) → HaveRead names [] 0 old old
+nothing_read names old closed = record {
+  count_is = refl;
+  short = λ port h. absurd (omega (arith, h));
+  reads = record {
+    open_now = λ port. closed (Input port) ∙ none_below port;
+    asked = λ port h. absurd (omega (arith, h));
+    at_end = λ port h. absurd (omega (arith, h));
+    all = λ port h. absurd (omega (arith, h));
+    later = λ port h. refl;
+  };
+  outputs = λ port. closed (Output port);
+  held = λ port. refl;
+  report = refl;
+}
+
+nothing_ends : (plan : Plan) (old : Moment) (status : Status) → ((stream : Stream) → old.is_open stream ≡ false) → Reaches (length plan.inputs) (length plan.outputs) status (at_input 0 0)
+    → ((stream : Stream) → status ≡ OpenFault stream → ⊥) → ComesOf [] no_texts old status → IsReported [] status old old → Ends plan old old status
+nothing_ends plan old status closed reaches other comes reported =
+    let none = nothing_read plan.inputs old closed in
+    record {
+      inputs = [];
+      texts = no_texts;
+      reach = at_input 0 0;
+      reaches = reaches;
+      count = refl;
+      short = none.short;
+      reads = none.reads;
+      writes = none_written plan.outputs [] old old none.outputs (λ port. refl);
+      reported = reported;
+      asked = λ stream e. absurd (other stream e);
+      comes = comes;
+    }
+
+pub ends_at_once : (plan : Plan) (old : Moment) → ((stream : Stream) → old.is_open stream ≡ false) → Ends plan old old OutOfMemory
+ends_at_once plan old closed =
+    nothing_ends plan old OutOfMemory closed (record { known = omega arith; ends = omega arith; last = omega arith; outputs = refl; wholes = refl }) (λ stream e. cc) tt tt
+
+pub usage_ends : (plan : Plan) (old : Moment) → ((stream : Stream) → old.is_open stream ≡ false) → Ends plan old old Usage
+usage_ends plan old closed = nothing_ends plan old Usage closed refl (λ stream e. cc) tt tt
+
+-- an answer with such a failure
+pub answer_ends : {A : Type 0} (answer : Result A ReadFailure) (failure : ReadFailure) (plan : Plan) (old new : Moment) → answer ≡ Err failure → Ends plan old new (read_status failure)
+    → IfErr answer (λ f. Ends plan old new (read_status f))
+answer_ends answer failure plan old new is ends = subst (λ r. IfErr r (λ f. Ends plan old new (read_status f))) (sym is) ends
+
+-- a name among those of a list
+pub told_name : {X : Type 0} (text : X → List ℕ) (names : List X) (port : ℕ) (d : X) (asked : Option (List ℕ)) → port < length names → IsTold asked (text (get_or names port d)) → IsTold asked (get_or (map text names) port [])
+told_name text names port d asked known told = subst (λ t. IsTold asked t) (sym (get_or-map text names port d [] known)) told
+
+pub known_name : {X : Type 0} (text : X → List ℕ) (names : List X) (port : ℕ) → port < length names → port < length (map text names)
+known_name text names port known = omega (arith, known, length-map names text)
+
+-- words that aren't read
+pub args_ends : (plan : Plan) (old : Moment) → ((stream : Stream) → old.is_open stream ≡ false) → (error : ArgsError) → Ends plan old old (args_status error)
+args_ends plan old closed IsUsage = usage_ends plan old closed
+args_ends plan old closed ArgsMemory = ends_at_once plan old closed

@@ -1,0 +1,126 @@
+-- The bytes of the inputs have one outcome.
+use Rattle.std.proofs.Common.{◌≡◌, ℕ, ◌+◌, ◌<◌, ◌≤◌, ◌⊎◌, List, [], length, get_or, refl, sym, ap, ◌∙◌, subst, inl, inr, ⊎_elim, arith, Some, None, Option}
+use Rattle.std.proofs.lemmas.Bool.{cases_order}
+use Rattle.std.proofs.lemmas.List.{length-map}
+use Rattle.std.proofs.lemmas.Option.{same_Some}
+use Rattle.xsk_model.specs.Stored.{stored_entry}
+use Rattle.xsk_pcap.specs.Capture.{IsCapture}
+use Rattle.xsk_pcap.specs.declared.reading.BadCapture.{BadCapture as Cause}
+use Rattle.xsk_pcap.proofs.CaptureLaws.{one_reading, one_refusal, refused_is_no_capture}
+use Rattle.xsk_sim.specs.Shown.{Shown}
+use Rattle.xsk_sim.specs.Runs.{HasEnded}
+use Rattle.xsk_sim.proofs.Unique.{one_log, ends_or_stalls}
+use Rattle.xsk_cli.specs.Judged.{bytes_of, AreShort, IsTooLong, AreCaptures, IsBadCapture, excess_of}
+use Rattle.xsk_cli.specs.Outcome.{Written, Outcome, long, bad, passed, stalled, made, AreTextsOf, IsOutcomeOf, IsOutcomeIn, IsOutcome, OneOutcome, config, setting_of, frames, report_of}
+use Rattle.xsk_cli.specs.declared.status.Excess.{Excess}
+use Rattle.xsk_cli.proofs.Ports.{same_lists}
+
+-- ---- captures
+
+pub same_captures : (inputs : List (List ℕ)) (some others : List (List (List ℕ))) → AreCaptures inputs some → AreCaptures inputs others → some ≡ others
+same_captures inputs some others a b =
+    same_lists [] some others (a.count ∙ sym b.count)
+    (λ i h.
+      let known : i < length inputs = omega (arith, h, a.count) in
+      one_reading (bytes_of inputs i) (get_or some i []) (get_or others i []) (a.each i known) (b.each i known))
+
+one_long : (inputs : List (List ℕ)) (p q : ℕ) → IsTooLong inputs p → IsTooLong inputs q → p ≡ q
+one_long inputs p q a b = ⊎_elim
+    (λ (e : p ≡ q). e)
+    (λ other. ⊎_elim
+        (λ (l : p < q). absurd (omega (arith, a.long, b.before p l)))
+        (λ (l : q < p). absurd (omega (arith, b.long, a.before q l)))
+        other)
+    (cases_order p q)
+
+long_not_short : (inputs : List (List ℕ)) (p : ℕ) → IsTooLong inputs p → AreShort inputs (length inputs) → ⊥
+long_not_short inputs p a short = omega (arith, a.long, short p a.known)
+
+refused_port : (inputs : List (List ℕ)) (p q : ℕ) (c d : Cause) → IsBadCapture inputs p c → IsBadCapture inputs q d → p < q → ⊥
+refused_port inputs p q c d a b l = let before = b.before p l in refused_is_no_capture (bytes_of inputs p) c before.0 a.refused before.1
+
+one_bad : (inputs : List (List ℕ)) (p q : ℕ) (c d : Cause) → IsBadCapture inputs p c → IsBadCapture inputs q d → bad p c ≡ bad q d
+one_bad inputs p q c d a b = ⊎_elim
+    (λ (e : p ≡ q).
+      ap (λ port. bad port c) e ∙ ap (bad q) (one_refusal (bytes_of inputs q) c d (subst (λ k. IsBadCapture inputs k c) e a).refused b.refused))
+    (λ other. ⊎_elim
+        (λ (l : p < q). absurd (refused_port inputs p q c d a b l))
+        (λ (l : q < p). absurd (refused_port inputs q p d c b a l))
+        other)
+    (cases_order p q)
+
+pub bad_not_captures : (inputs : List (List ℕ)) (p : ℕ) (c : Cause) (lists : List (List (List ℕ))) → IsBadCapture inputs p c → AreCaptures inputs lists → ⊥
+bad_not_captures inputs p c lists a b = refused_is_no_capture (bytes_of inputs p) c (get_or lists p []) a.refused (b.each p a.known)
+
+-- ---- runs
+
+count_of_log : (lists : List (List (List ℕ))) (run : Shown) → (ended : HasEnded (setting_of lists) frames 0 run) → length run.log ≡ length ended.history
+count_of_log lists run ended = ap length ended.log ∙ length-map ended.history (stored_entry config.geometry config.sg)
+
+one_report : (lists : List (List (List ℕ))) (a b : Written) → AreTextsOf lists a → AreTextsOf lists b → a.report ≡ b.report
+one_report lists a b s t =
+    s.report
+    ∙ ap report_of (sym (count_of_log lists s.run s.ended) ∙ ap length (one_log (setting_of lists) frames 0 s.run t.run s.ended t.ended) ∙ count_of_log lists t.run t.ended)
+    ∙ sym t.report
+
+one_made : (lists : List (List (List ℕ))) (a b : Written) → AreTextsOf lists a → AreTextsOf lists b → made a ≡ made b
+one_made lists a b s t =
+    ap (λ outputs. made (record { outputs = outputs; report = a.report })) (s.redirected ∙ sym t.redirected)
+    ∙ ap (λ report. made (record { outputs = b.outputs; report = report })) (one_report lists a b s t)
+
+none_some : {A : Type 0} (excess : Option Excess) (e : Excess) → excess ≡ Some e → excess ≡ None → A
+none_some excess e is none = let no = sym is ∙ none in absurd cc
+
+one_of : (lists : List (List (List ℕ))) (a b : Outcome) → IsOutcomeOf lists a → IsOutcomeOf lists b → a ≡ b
+one_of lists (long p) b x y = absurd x
+one_of lists (bad p c) b x y = absurd x
+one_of lists (passed e) (long p) x y = absurd y
+one_of lists (passed e) (bad p c) x y = absurd y
+one_of lists (passed e) (passed f) x y = ap passed (same_Some e f (sym x ∙ y))
+one_of lists (passed e) (stalled r) x y = none_some (excess_of lists) e x y.0
+one_of lists (passed e) (made t) x y = none_some (excess_of lists) e x y.0
+one_of lists (stalled r) (long p) x y = absurd y
+one_of lists (stalled r) (bad p c) x y = absurd y
+one_of lists (stalled r) (passed e) x y = none_some (excess_of lists) e y x.0
+one_of lists (stalled r) (stalled s) x y = ap stalled (x.1.last ∙ sym y.1.last)
+one_of lists (stalled r) (made t) x y = absurd (ends_or_stalls (setting_of lists) frames 0 r y.1.run y.1.ended x.1)
+one_of lists (made t) (long p) x y = absurd y
+one_of lists (made t) (bad p c) x y = absurd y
+one_of lists (made t) (passed e) x y = none_some (excess_of lists) e y x.0
+one_of lists (made t) (stalled r) x y = absurd (ends_or_stalls (setting_of lists) frames 0 r x.1.run x.1.ended y.1)
+one_of lists (made t) (made u) x y = one_made lists t u x.1 y.1
+
+one_in : (inputs : List (List ℕ)) (a b : Outcome) → IsOutcomeIn inputs a → IsOutcomeIn inputs b → a ≡ b
+one_in inputs a b x y = one_of y.0 a b (subst (λ lists. IsOutcomeOf lists a) (same_captures inputs x.0 y.0 x.1 y.1) x.2) y.2
+
+-- ---- the outcome
+
+-- short inputs come to something
+data Later (inputs : List (List ℕ)) (outcome : Outcome) : Type 0 where
+  is_bad : (port : ℕ) (cause : Cause) → outcome ≡ bad port cause → IsBadCapture inputs port cause → Later inputs outcome
+  is_in : IsOutcomeIn inputs outcome → Later inputs outcome
+
+later : (inputs : List (List ℕ)) (outcome : Outcome) → IsOutcome inputs outcome → ((p : ℕ) × (outcome ≡ long p) × IsTooLong inputs p) ⊎ (AreShort inputs (length inputs) × Later inputs outcome)
+later inputs (long p) h = inl (p, refl, h)
+later inputs (bad p c) h = inr (h.0, is_bad p c refl h.1)
+later inputs (passed e) h = inr (h.0, is_in h.1)
+later inputs (stalled r) h = inr (h.0, is_in h.1)
+later inputs (made t) h = inr (h.0, is_in h.1)
+
+one_later : (inputs : List (List ℕ)) (a b : Outcome) → Later inputs a → Later inputs b → a ≡ b
+one_later inputs a b (is_bad p c e x) (is_bad q d f y) = e ∙ one_bad inputs p q c d x y ∙ sym f
+one_later inputs a b (is_bad p c e x) (is_in y) = absurd (bad_not_captures inputs p c y.0 x y.1)
+one_later inputs a b (is_in x) (is_bad q d f y) = absurd (bad_not_captures inputs q d x.0 y x.1)
+one_later inputs a b (is_in x) (is_in y) = one_in inputs a b x y
+
+pub one_outcome : OneOutcome
+one_outcome inputs a b x y = ⊎_elim
+    (λ xl. ⊎_elim
+        (λ yl. xl.1 ∙ ap long (one_long inputs xl.0 yl.0 xl.2 yl.2) ∙ sym yl.1)
+        (λ ys. absurd (long_not_short inputs xl.0 xl.2 ys.0))
+        (later inputs b y))
+    (λ xs. ⊎_elim
+        (λ yl. absurd (long_not_short inputs yl.0 yl.2 xs.0))
+        (λ ys. one_later inputs a b xs.1 ys.1)
+        (later inputs b y))
+    (later inputs a x)

@@ -1,0 +1,143 @@
+-- How a command ends once its inputs were read.
+use Rattle.std.proofs.Common.{◌≡◌, ℕ, ◌+◌, ◌<◌, ◌≤◌, Bool, cond, ltb, true, false, Option, Some, None, List, [], ◌∷◌, ◌++◌, length, get_or, refl, sym, ap, ◌∙◌, subst, ⊎_elim, arith}
+use Rattle.std.specs.Prelude.{◌≢◌, IfSome, Result, Err}
+use Rattle.std.specs.Io.KnownBytes.{IsAtEnd}
+use Rattle.std.proofs.lemmas.Bool.{cases_eq}
+use Rattle.xsk_io.specs.Bay.{Grows, GrowsByPart, Rose, Same, SameBut}
+use Rattle.xsk_io.proofs.Steps.{Rose-earlier}
+use Rattle.xsk_io.specs.declared.bay.Kind.TheVariants.{Open, Write}
+use Rattle.xsk_io.specs.declared.bay.Stream.{Stream}
+use Rattle.xsk_io.specs.declared.bay.Stream.TheVariants.{Input, Output, Report}
+use Rattle.xsk_cli.specs.Cause.{IsCaused, NeverFalls}
+use Rattle.xsk_cli.specs.Ends.{ComesOf, Ends}
+use Rattle.xsk_cli.specs.Judged.{packets_in, bytes_in, excess_of}
+use Rattle.xsk_cli.specs.declared.status.Excess.{Excess}
+use Rattle.std.proofs.lemmas.List.FromFn.{length-map-range_with_len}
+use Rattle.xsk_cli.specs.Outcome.{Written, made, IsOutcome, AreTextsOf, capture_of, sent_on_by}
+use Rattle.xsk_cli.specs.Streams.{Moment, IsTold, IsFront, at_output, at_input, Reaches, AreRead, AreWritten, IsReported, name_of, status_in}
+use Rattle.xsk_cli.specs.Steps.{FailsOutput, FailsOutputs, FailsWriting, HaveRead, MakesNone, run_status, write_status}
+use Rattle.xsk_cli.specs.Words.{Plan}
+use Rattle.xsk_cli.specs.declared.failure.RunFailure.{RunFailure}
+use Rattle.xsk_cli.specs.declared.failure.RunFailure.TheVariants.{BadCapture as Bad, TooMuch as Excessive, Stalled as Stalls, OutOfMemory as NoMemory}
+use Rattle.xsk_cli.specs.declared.failure.WriteFailure.{WriteFailure}
+use Rattle.xsk_cli.specs.declared.failure.WriteFailure.TheVariants.{Unopened, Unwritten}
+use Rattle.xsk_cli.specs.declared.status.Excess.TheVariants.{Input as LongInput, Packets, Bytes}
+use Rattle.xsk_cli.specs.declared.status.Status.{Status}
+use Rattle.xsk_cli.specs.declared.status.Status.TheVariants.{Done, BadCapture, WriteFault, OpenFault, Stalled, TooMuch, OutOfMemory}
+use Rattle.xsk_cli.proofs.Ports.{step, not_below_itself, below_next, below_as_before}
+use Rattle.xsk_cli.proofs.Reading.{Touched, none_written}
+
+-- the outputs are as they were
+pub still_written : (names texts : List (List ℕ)) (opened whole : ℕ) (old mid new : Moment) → AreWritten names texts opened whole old mid → Same mid.is_open new.is_open → Same mid.asked new.asked
+    → ((port : ℕ) → new.held (Output port) ≡ mid.held (Output port)) → AreWritten names texts opened whole old new
+still_written names texts opened whole old mid new are opened_same asked held = record {
+  open_now = λ port. opened_same (Output port) ∙ are.open_now port;
+  asked = λ port h. subst (λ a. IsTold a (get_or names port [])) (sym (asked (Output port))) (are.asked port h);
+  wholes = λ port h. subst (λ a. IsTold a (get_or texts port [])) (sym (held port)) (are.wholes port h);
+  fronts = λ port h l. subst (λ a. IsFront a (get_or texts port [])) (sym (held port)) (are.fronts port h l);
+  later = λ port h. held port ∙ are.later port h;
+}
+
+-- ---- the whole command
+
+-- the inputs' part of a moment
+pub record SameInputs (old new : Moment) : Type 0 where
+  pub opened : (port : ℕ) → new.is_open (Input port) ≡ old.is_open (Input port)
+  pub asked : (port : ℕ) → new.asked (Input port) ≡ old.asked (Input port)
+  pub left : (port : ℕ) → new.left (Input port) ≡ old.left (Input port)
+
+pub read_still : (names bytes : List (List ℕ)) (opened ended : ℕ) (old mid new : Moment) → AreRead names bytes opened ended old mid → SameInputs mid new → AreRead names bytes opened ended old new
+read_still names bytes opened ended old mid new are same = record {
+  open_now = λ port. same.opened port ∙ are.open_now port;
+  asked = λ port h. subst (λ a. IsTold a (get_or names port [])) (sym (same.asked port)) (are.asked port h);
+  at_end = λ port h. subst IsAtEnd (sym (same.left port)) (are.at_end port h);
+  all = are.all;
+  later = λ port h. same.left port ∙ are.later port h;
+}
+
+written_since : (names texts : List (List ℕ)) (opened whole : ℕ) (old mid new : Moment) → AreWritten names texts opened whole mid new → ((port : ℕ) → mid.held (Output port) ≡ old.held (Output port))
+    → AreWritten names texts opened whole old new
+written_since names texts opened whole old mid new are same = record {
+  open_now = are.open_now;
+  asked = are.asked;
+  wholes = are.wholes;
+  fronts = are.fronts;
+  later = λ port h. are.later port h ∙ same port;
+}
+
+-- no limit of all inputs is that of one input
+no_long_in : (a b : Bool) (n m port : ℕ) → ◌≡◌ {A = Option Excess} (cond a (Some (Packets n)) (cond b (Some (Bytes m)) None)) (Some (LongInput port)) → ⊥
+no_long_in true b n m port e = cc
+no_long_in false true n m port e = cc
+no_long_in false false n m port e = cc
+
+no_long : (lists : List (List (List ℕ))) (port : ℕ) → excess_of lists ≡ Some (LongInput port) → ⊥
+no_long lists port h = no_long_in (ltb 65536 (packets_in lists)) (ltb 33554432 (bytes_in lists)) (packets_in lists) (bytes_in lists) port h
+
+module _ (plan : Plan) (bytes : List (List ℕ)) (old mid new : Moment) (have : HaveRead plan.inputs bytes (length plan.inputs) old mid) where
+  abbrev no_texts : Written
+  no_texts = record { outputs = []; report = [] }
+
+  refused : (status : Status) → Reaches (length plan.inputs) (length plan.outputs) status (at_input (length plan.inputs) (length plan.inputs)) → IsReported [] status old mid
+      → ((stream : Stream) → status ≡ OpenFault stream → ⊥) → ComesOf bytes no_texts old status → Ends plan old mid status
+  refused status reaches reported other comes = record {
+    inputs = bytes;
+    texts = no_texts;
+    reach = at_input (length plan.inputs) (length plan.inputs);
+    reaches = reaches;
+    count = have.count_is;
+    short = have.short;
+    reads = have.reads;
+    writes = none_written plan.outputs [] old mid have.outputs have.held;
+    reported = reported;
+    asked = λ stream e. absurd (other stream e);
+    comes = comes;
+  }
+
+  pub run_fails : (failure : RunFailure) → MakesNone bytes failure → Ends plan old mid (run_status failure)
+  run_fails (Bad port cause) h = refused (BadCapture port cause) refl tt (λ stream e. cc) h
+  run_fails (Excessive (LongInput port)) h = absurd (no_long h.1.0 port h.1.2)
+  run_fails (Excessive (Packets n)) h = refused (TooMuch (Packets n)) refl tt (λ stream e. cc) h
+  run_fails (Excessive (Bytes n)) h = refused (TooMuch (Bytes n)) refl tt (λ stream e. cc) h
+  run_fails (Stalls round) h = refused (Stalled round) refl tt (λ stream e. cc) h
+  run_fails NoMemory h = refused OutOfMemory (record { known = omega arith; ends = omega arith; last = omega arith; outputs = refl; wholes = refl }) tt (λ stream e. cc) tt
+
+  module _ (texts : Written) (is : IsOutcome bytes (made texts)) (same : SameInputs mid new) where
+    wrote : (status : Status) (opened whole : ℕ) → Reaches (length plan.inputs) (length plan.outputs) status (at_output (length plan.inputs) opened whole)
+        → AreWritten plan.outputs texts.outputs opened whole mid new → IsReported texts.report status old new
+        → ((stream : Stream) → status ≡ OpenFault stream → IsTold (new.asked stream) (name_of plan stream)) → ComesOf bytes texts old status → Ends plan old new status
+    wrote status opened whole reaches writes reported asked comes = record {
+      inputs = bytes;
+      texts = texts;
+      reach = at_output (length plan.inputs) opened whole;
+      reaches = reaches;
+      count = have.count_is;
+      short = have.short;
+      reads = read_still plan.inputs bytes (length plan.inputs) (length plan.inputs) old mid new have.reads same;
+      writes = written_since plan.outputs texts.outputs opened whole old mid new writes have.held;
+      reported = reported;
+      asked = asked;
+      comes = comes;
+    }
+
+    pub done_ends : AreWritten plan.outputs texts.outputs (length plan.outputs) (length plan.outputs) mid new → Grows (mid.held Report) (new.held Report) texts.report → Ends plan old new Done
+    done_ends writes grown =
+        wrote Done (length plan.outputs) (length plan.outputs) refl writes (subst (λ m. Grows m (new.held Report) texts.report) have.report grown) (λ stream e. absurd (cc)) is
+
+    pub unwritten_ends : (failure : WriteFailure) → FailsWriting plan.outputs texts mid new failure → Ends plan old new (write_status failure)
+    unwritten_ends (Unopened port) h =
+        wrote (OpenFault (Output port)) port port (h.0.0, refl) h.0.1 tt
+        (λ stream e. subst (λ s. IsTold (new.asked s) (name_of plan s)) (let i : Output port ≡ stream = cc in i) h.0.2) is
+    unwritten_ends (Unwritten (Input port)) h = absurd h.0
+    unwritten_ends (Unwritten (Output port)) h =
+        wrote (WriteFault (Output port)) (port + 1) port (h.0.0, refl) h.0.1 (h.1 ∙ have.report) (λ stream e. absurd (cc)) is
+    unwritten_ends (Unwritten Report) h =
+        wrote (WriteFault Report) (length plan.outputs) (length plan.outputs) refl h.0 (subst (λ m. GrowsByPart m (new.held Report) texts.report) have.report h.1) (λ stream e. absurd (cc)) is
+
+-- an answer with such a status
+pub status_ends : (answer : Result Unit Status) (status : Status) (plan : Plan) (old new : Moment) → answer ≡ Err status → Ends plan old new status → Ends plan old new (status_in answer)
+status_ends answer status plan old new is ends = subst (λ r. Ends plan old new (status_in r)) (sym is) ends
+
+-- there is a text for each port
+pub texts_count : (lists : List (List (List ℕ))) (texts : Written) → AreTextsOf lists texts → length texts.outputs ≡ 2
+texts_count lists texts are = ap length are.redirected ∙ length-map-range_with_len (λ port. capture_of (sent_on_by lists port)) 0 2

@@ -1,0 +1,78 @@
+use Rattle.std.proofs.Common.{rules, ◌≡◌, ◌≤◌, length, map, sym, subst, arith, ap, ◌∙◌, None}
+use Rattle.std.proofs.lemmas.List.{length-map}
+use Rattle.xsk_cli.specs.Judged.{AreShort, AreCaptures, excess_of}
+use Rattle.xsk_cli.specs.Outcome.{made, IsOutcome, AreTextsOf}
+use Rattle.xsk_cli.specs.Steps.{FailsRunning, FailsWriting, HaveRead, MakesNone, lists_in, plan_in, run_status, write_status, written_in}
+use Rattle.xsk_cli.specs.Streams.{Moment, AreWritten}
+use Rattle.xsk_cli.proofs.Judging.{running_makes, short_all}
+use Rattle.xsk_cli.proofs.Writing.{SameInputs, run_fails, unwritten_ends, done_ends, status_ends, texts_count}
+use Rattle.xsk_cli.proofs.plain.run_plan.Goals as goal
+
+pub returns-in_err-lists-clause-ends : goal.returns-in_err-lists-clause-ends
+returns-in_err-lists-clause-ends g c =
+    let old : Moment = record { is_open = g.B.Bay.is_open c.args.bay.now; asked = g.B.Bay.asked c.args.bay.now; left = g.B.Bay.left c.args.bay.now; held = g.B.Bay.held c.args.bay.now; faults = g.B.Bay.faults c.args.bay.now } in
+    let mid : Moment = record { is_open = g.B.Bay.is_open c.read_inputs.new.bay; asked = g.B.Bay.asked c.read_inputs.new.bay; left = g.B.Bay.left c.read_inputs.new.bay; held = g.B.Bay.held c.read_inputs.new.bay; faults = g.B.Bay.faults c.read_inputs.new.bay } in
+    let plan = plan_in c.args.plan.now in
+    let bytes = map (λ bytes. bytes.items) c.in_ok-inputs.inputs.items in
+    let failure = c.in_err-lists.field-0.0 in
+    let have : HaveRead plan.inputs bytes (length plan.inputs) old mid = subst (λ n. HaveRead plan.inputs bytes n old mid) (sym (length-map c.args.plan.now.inputs.now (λ name. name.now))) c.in_ok-inputs.ensures.read in
+    let makes : MakesNone bytes failure = subst (λ inputs. MakesNone (map (λ bytes. bytes.items) inputs) failure) c.as_slice.ensures.value c.in_err-lists.ensures.failed in
+    status_ends c.from_residual-in_err-lists.result (run_status failure) plan old mid (search rules) (run_fails plan bytes old mid mid have failure makes)
+
+pub returns-in_err-texts-clause-ends : goal.returns-in_err-texts-clause-ends
+returns-in_err-texts-clause-ends g c =
+    let old : Moment = record { is_open = g.B.Bay.is_open c.args.bay.now; asked = g.B.Bay.asked c.args.bay.now; left = g.B.Bay.left c.args.bay.now; held = g.B.Bay.held c.args.bay.now; faults = g.B.Bay.faults c.args.bay.now } in
+    let mid : Moment = record { is_open = g.B.Bay.is_open c.read_inputs.new.bay; asked = g.B.Bay.asked c.read_inputs.new.bay; left = g.B.Bay.left c.read_inputs.new.bay; held = g.B.Bay.held c.read_inputs.new.bay; faults = g.B.Bay.faults c.read_inputs.new.bay } in
+    let plan = plan_in c.args.plan.now in
+    let bytes = map (λ bytes. bytes.items) c.in_ok-inputs.inputs.items in
+    let lists = lists_in c.in_ok-lists.lists.items in
+    let failure = c.in_err-texts.field-0.0 in
+    let have : HaveRead plan.inputs bytes (length plan.inputs) old mid = subst (λ n. HaveRead plan.inputs bytes n old mid) (sym (length-map c.args.plan.now.inputs.now (λ name. name.now))) c.in_ok-inputs.ensures.read in
+    let short : AreShort bytes (length bytes) = subst (AreShort bytes) (sym have.count_is) have.short in
+    let captures : AreCaptures bytes lists = subst (λ inputs. AreCaptures (map (λ bytes. bytes.items) inputs) lists) c.as_slice.ensures.value c.in_ok-lists.ensures.taken in
+    let fails : FailsRunning lists failure = subst (λ ls. FailsRunning (lists_in ls) failure) c.as_slice-2.ensures.value c.in_err-texts.ensures.failed in
+    status_ends c.from_residual-in_err-texts.result (run_status failure) plan old mid (search rules)
+    (run_fails plan bytes old mid mid have failure (running_makes bytes lists failure short captures c.in_ok-lists.ensures.within fails))
+
+pub write_texts-requires-clause-texts : goal.write_texts-requires-clause-texts
+write_texts-requires-clause-texts g c =
+    omega (arith, texts_count (lists_in c.as_slice-2.result.now) (written_in c.in_ok-texts.texts) c.in_ok-texts.ensures.made, length-map c.in_ok-texts.texts.outputs.items (λ text. text.items), c.requires.outputs)
+
+pub returns-in_err-write_texts-clause-ends : goal.returns-in_err-write_texts-clause-ends
+returns-in_err-write_texts-clause-ends g c =
+    let old : Moment = record { is_open = g.B.Bay.is_open c.args.bay.now; asked = g.B.Bay.asked c.args.bay.now; left = g.B.Bay.left c.args.bay.now; held = g.B.Bay.held c.args.bay.now; faults = g.B.Bay.faults c.args.bay.now } in
+    let mid : Moment = record { is_open = g.B.Bay.is_open c.read_inputs.new.bay; asked = g.B.Bay.asked c.read_inputs.new.bay; left = g.B.Bay.left c.read_inputs.new.bay; held = g.B.Bay.held c.read_inputs.new.bay; faults = g.B.Bay.faults c.read_inputs.new.bay } in
+    let new : Moment = record { is_open = g.B.Bay.is_open c.write_texts.new.bay; asked = g.B.Bay.asked c.write_texts.new.bay; left = g.B.Bay.left c.write_texts.new.bay; held = g.B.Bay.held c.write_texts.new.bay; faults = g.B.Bay.faults c.write_texts.new.bay } in
+    let plan = plan_in c.args.plan.now in
+    let bytes = map (λ bytes. bytes.items) c.in_ok-inputs.inputs.items in
+    let lists = lists_in c.in_ok-lists.lists.items in
+    let texts = written_in c.in_ok-texts.texts in
+    let failure = c.in_err-write_texts.field-0.0 in
+    let have : HaveRead plan.inputs bytes (length plan.inputs) old mid = subst (λ n. HaveRead plan.inputs bytes n old mid) (sym (length-map c.args.plan.now.inputs.now (λ name. name.now))) c.in_ok-inputs.ensures.read in
+    let short : AreShort bytes (length bytes) = subst (AreShort bytes) (sym have.count_is) have.short in
+    let captures : AreCaptures bytes lists = subst (λ inputs. AreCaptures (map (λ bytes. bytes.items) inputs) lists) c.as_slice.ensures.value c.in_ok-lists.ensures.taken in
+    let is : AreTextsOf lists texts = subst (λ ls. AreTextsOf (lists_in ls) texts) c.as_slice-2.ensures.value c.in_ok-texts.ensures.made in
+    let outcome : IsOutcome bytes (made texts) = (short, (lists, captures, (c.in_ok-lists.ensures.within, is))) in
+    let same : SameInputs mid new = record { opened = c.write_texts.ensures.opened; asked = c.write_texts.ensures.asked; left = λ port. c.write_texts.ensures.left _ } in
+    status_ends c.from_residual-in_err-write_texts.result (write_status failure) plan old new (search rules)
+    (unwritten_ends plan bytes old mid new have texts outcome same failure c.in_err-write_texts.ensures.failed)
+
+pub returns-clause-ends : goal.returns-clause-ends
+returns-clause-ends g c =
+    let old : Moment = record { is_open = g.B.Bay.is_open c.args.bay.now; asked = g.B.Bay.asked c.args.bay.now; left = g.B.Bay.left c.args.bay.now; held = g.B.Bay.held c.args.bay.now; faults = g.B.Bay.faults c.args.bay.now } in
+    let mid : Moment = record { is_open = g.B.Bay.is_open c.read_inputs.new.bay; asked = g.B.Bay.asked c.read_inputs.new.bay; left = g.B.Bay.left c.read_inputs.new.bay; held = g.B.Bay.held c.read_inputs.new.bay; faults = g.B.Bay.faults c.read_inputs.new.bay } in
+    let new : Moment = record { is_open = g.B.Bay.is_open c.write_texts.new.bay; asked = g.B.Bay.asked c.write_texts.new.bay; left = g.B.Bay.left c.write_texts.new.bay; held = g.B.Bay.held c.write_texts.new.bay; faults = g.B.Bay.faults c.write_texts.new.bay } in
+    let plan = plan_in c.args.plan.now in
+    let bytes = map (λ bytes. bytes.items) c.in_ok-inputs.inputs.items in
+    let lists = lists_in c.in_ok-lists.lists.items in
+    let texts = written_in c.in_ok-texts.texts in
+    let have : HaveRead plan.inputs bytes (length plan.inputs) old mid = subst (λ n. HaveRead plan.inputs bytes n old mid) (sym (length-map c.args.plan.now.inputs.now (λ name. name.now))) c.in_ok-inputs.ensures.read in
+    let short : AreShort bytes (length bytes) = subst (AreShort bytes) (sym have.count_is) have.short in
+    let captures : AreCaptures bytes lists = subst (λ inputs. AreCaptures (map (λ bytes. bytes.items) inputs) lists) c.as_slice.ensures.value c.in_ok-lists.ensures.taken in
+    let is : AreTextsOf lists texts = subst (λ ls. AreTextsOf (lists_in ls) texts) c.as_slice-2.ensures.value c.in_ok-texts.ensures.made in
+    let outcome : IsOutcome bytes (made texts) = (short, (lists, captures, (c.in_ok-lists.ensures.within, is))) in
+    let same : SameInputs mid new = record { opened = c.write_texts.ensures.opened; asked = c.write_texts.ensures.asked; left = λ port. c.write_texts.ensures.left _ } in
+    let count : length plan.outputs ≡ length c.args.plan.now.outputs.now = length-map c.args.plan.now.outputs.now (λ name. name.now) in
+    let writes : AreWritten plan.outputs texts.outputs (length plan.outputs) (length plan.outputs) mid new =
+    subst (λ n. AreWritten plan.outputs texts.outputs n n mid new) (sym count) c.in_ok-write_texts.ensures.written in
+    done_ends plan bytes old mid new have texts outcome same writes c.in_ok-write_texts.ensures.report

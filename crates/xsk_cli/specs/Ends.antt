@@ -1,0 +1,73 @@
+-- How a command ends: what it did to its streams, and why. What it makes of its inputs is a function of their bytes.
+use Rattle.std.specs.Prelude.{◌≡◌, ℕ, ◌<◌, ◌⊎◌, length, List, Some, None, IfSome}
+use Rattle.xsk_io.specs.Bay.{Rose}
+use Rattle.xsk_io.specs.declared.bay.Kind.{Kind}
+use Rattle.xsk_io.specs.declared.bay.Stream.{Stream}
+use Rattle.xsk_io.specs.declared.bay.Stream.TheVariants.{Input, Output, Report}
+use Rattle.xsk_cli.specs.Words.{Plan}
+use Rattle.xsk_cli.specs.Judged.{bytes_of, AreShort, AreCaptures, excess_of}
+use Rattle.xsk_cli.specs.Outcome.{Written, Outcome, long, bad, passed, stalled, made, IsOutcome}
+use Rattle.xsk_cli.specs.Streams.{Moment, IsTold, Reach, Reaches, AreRead, AreWritten, IsReported, name_of}
+use Rattle.xsk_cli.specs.declared.status.Excess.TheVariants.{Input as TooLong}
+use Rattle.xsk_cli.specs.declared.status.Status.{Status}
+use Rattle.xsk_cli.specs.declared.status.Status.TheVariants.{Done, Usage, BadCapture, ReadFault, WriteFault, OpenFault, Stalled, TooMuch, OutOfMemory}
+
+-- the status comes of these inputs: they were too long or refused, their run stalled, or these are its texts
+abbrev pub ComesOf : List (List ℕ) → Written → Moment → Status → Type 0
+ComesOf inputs texts old Done = IsOutcome inputs (made texts)
+ComesOf inputs texts old (BadCapture port cause) = IsOutcome inputs (bad port cause)
+ComesOf inputs texts old (WriteFault stream) = IsOutcome inputs (made texts)
+ComesOf inputs texts old (OpenFault (Output port)) = IsOutcome inputs (made texts)
+ComesOf inputs texts old (Stalled round) = IsOutcome inputs (stalled round)
+ComesOf inputs texts old (TooMuch (TooLong port)) = IfSome (old.left (Input port)) (λ bytes. 34603032 < length bytes)
+ComesOf inputs texts old (TooMuch excess) = IsOutcome inputs (passed excess)
+ComesOf inputs texts old status = Unit {0}
+
+-- how a command with this plan ends
+pub record Ends (plan : Plan) (old new : Moment) (status : Status) : Type 0 where
+  -- the bytes of the inputs that were read to their ends, and the texts
+  pub inputs : List (List ℕ)
+  pub texts : Written
+  pub reach : Reach
+  pub reaches : Reaches (length plan.inputs) (length plan.outputs) status reach
+  pub count : length inputs ≡ reach.ends
+  pub short : AreShort inputs reach.ends
+  pub reads : AreRead plan.inputs inputs reach.inputs reach.ends old new
+  pub writes : AreWritten plan.outputs texts.outputs reach.outputs reach.wholes old new
+  pub reported : IsReported texts.report status old new
+  pub asked : (stream : Stream) → status ≡ OpenFault stream → IsTold (new.asked stream) (name_of plan stream)
+  pub comes : ComesOf inputs texts old status
+
+-- ---- inputs whose bytes the bay tells
+
+pub record AreTold (plan : Plan) (inputs : List (List ℕ)) (old : Moment) : Type 0 where
+  pub count : length inputs ≡ length plan.inputs
+  pub each : (port : ℕ) → port < length inputs → old.left (Input port) ≡ Some (bytes_of inputs port)
+
+-- the status is that of the outcome, unless a fault or want of memory came before
+abbrev pub Answers : Outcome → Status → Type 0
+Answers outcome Done = (texts : Written) × (outcome ≡ made texts)
+Answers outcome Usage = ⊥
+Answers outcome (BadCapture port cause) = outcome ≡ bad port cause
+Answers outcome (WriteFault stream) = (texts : Written) × (outcome ≡ made texts)
+Answers outcome (OpenFault (Output port)) = (texts : Written) × (outcome ≡ made texts)
+Answers outcome (Stalled round) = outcome ≡ stalled round
+Answers outcome (TooMuch (TooLong port)) = outcome ≡ long port
+Answers outcome (TooMuch excess) = outcome ≡ passed excess
+Answers outcome status = Unit {0}
+
+-- ---- completeness
+
+-- captures within the limits
+abbrev pub AreTaken : List (List ℕ) → Type 0
+AreTaken inputs = AreShort inputs (length inputs) × ((lists : List (List (List ℕ))) × AreCaptures inputs lists × (excess_of lists ≡ None))
+
+abbrev pub NoneRose : (Kind → Stream → ℕ) → (Kind → Stream → ℕ) → Type 0
+NoneRose old new = (kind : Kind) (stream : Stream) → Rose (old kind stream) (new kind stream) → ⊥
+
+-- what is answered where nothing was refused and nothing failed
+abbrev pub IsComplete : Status → Type 0
+IsComplete Done = Unit {0}
+IsComplete (Stalled round) = Unit {0}
+IsComplete OutOfMemory = Unit {0}
+IsComplete status = ⊥

@@ -1,0 +1,44 @@
+-- The line that tells a refusal. This project's own.
+use Rattle.std.specs.Prelude.{ℕ, List, [], ◌++◌, codes}
+use Rattle.std.specs.Fmt.{decimal}
+use Rattle.xsk_io.specs.declared.bay.Stream.{Stream}
+use Rattle.xsk_io.specs.declared.bay.Stream.TheVariants.{Input, Output, Report}
+use Rattle.xsk_pcap.specs.declared.reading.BadCapture.{BadCapture as Cause}
+use Rattle.xsk_pcap.specs.declared.reading.BadCapture.TheVariants.{ShortHeader, BadMagic, BadVersion, BadLink, Truncated, RecordTooLong, OutOfMemory as NoMemory}
+use Rattle.xsk_cli.specs.declared.status.Excess.{Excess}
+use Rattle.xsk_cli.specs.declared.status.Excess.TheVariants.{Input as TooLong, Packets, Bytes}
+use Rattle.xsk_cli.specs.declared.status.Status.{Status}
+use Rattle.xsk_cli.specs.declared.status.Status.TheVariants.{Done, Usage, BadCapture, ReadFault, WriteFault, OpenFault, Stalled, TooMuch, OutOfMemory}
+
+abbrev pub cause_text : Cause → List ℕ
+cause_text ShortHeader = codes "short header"
+cause_text BadMagic = codes "bad magic"
+cause_text BadVersion = codes "bad version"
+cause_text BadLink = codes "bad link"
+cause_text (Truncated at) = codes "truncated " ++ decimal at
+cause_text (RecordTooLong at) = codes "record too long " ++ decimal at
+cause_text NoMemory = codes "out of memory"
+
+abbrev pub stream_text : Stream → List ℕ
+stream_text (Input port) = codes "input " ++ decimal port
+stream_text (Output port) = codes "output " ++ decimal port
+stream_text Report = codes "report"
+
+abbrev pub excess_text : Excess → List ℕ
+excess_text (TooLong port) = codes "input " ++ decimal port
+excess_text (Packets n) = codes "packets " ++ decimal n
+excess_text (Bytes n) = codes "bytes " ++ decimal n
+
+abbrev pub status_text : Status → List ℕ
+status_text Done = codes "done"
+status_text Usage = codes "usage"
+status_text (BadCapture port cause) = codes "bad capture " ++ decimal port ++ codes " " ++ cause_text cause
+status_text (ReadFault port) = codes "read fault " ++ decimal port
+status_text (WriteFault stream) = codes "write fault " ++ stream_text stream
+status_text (OpenFault stream) = codes "open fault " ++ stream_text stream
+status_text (Stalled round) = codes "stalled " ++ decimal round
+status_text (TooMuch excess) = codes "too much " ++ excess_text excess
+status_text OutOfMemory = codes "out of memory"
+
+abbrev pub line_of : Status → List ℕ
+line_of status = status_text status ++ codes "\n"

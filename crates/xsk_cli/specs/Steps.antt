@@ -1,0 +1,123 @@
+-- What the steps of a command answer, and what they leave.
+use Rattle.std.specs.Prelude.{◌≡◌, ◌≢◌, ℕ, ◌+◌, ◌<◌, true, false, length, List, [], map, IfSome}
+use Rattle.std.specs.List.{slice_index_or}
+use Rattle.xsk_umem.specs.PacketList.{PacketList}
+use Rattle.xsk_io.specs.Bay.{GrowsByPart, Rose}
+use Rattle.xsk_io.specs.declared.bay.Kind.TheVariants.{Open, Read, Write}
+use Rattle.xsk_io.specs.declared.bay.Stream.{Stream}
+use Rattle.xsk_io.specs.declared.bay.Stream.TheVariants.{Input, Output, Report}
+use Rattle.xsk_pcap.specs.Capture.{IsRefused}
+use Rattle.xsk_pcap.specs.declared.reading.BadCapture.TheVariants.{OutOfMemory as NoCause}
+use Rattle.xsk_sim.specs.Runs.{HasStalled}
+use Rattle.xsk_cli.specs.Judged.{AreShort}
+use Rattle.xsk_cli.specs.Outcome.{Written, bad, passed, stalled, IsOutcome, setting_of, frames}
+use Rattle.xsk_args.specs.declared.error.ArgsError.{ArgsError}
+use Rattle.xsk_args.specs.declared.error.ArgsError.TheVariants.{Usage as IsUsage, OutOfMemory as ArgsMemory}
+use Rattle.xsk_cli.specs.declared.run.Texts.{Texts}
+use Rattle.xsk_cli.specs.declared.words.Plan.{Plan as CodePlan}
+use Rattle.xsk_cli.specs.Words.{Plan}
+use Rattle.xsk_cli.specs.Streams.{Moment, IsTold, IsFront, AreRead, AreWritten}
+use Rattle.xsk_cli.specs.declared.failure.ReadFailure.{ReadFailure}
+use Rattle.xsk_cli.specs.declared.failure.ReadFailure.TheVariants.{Unopened as NoInput, Unread, TooLong, OutOfMemory as NoRoom}
+use Rattle.xsk_cli.specs.declared.failure.RunFailure.{RunFailure}
+use Rattle.xsk_cli.specs.declared.failure.RunFailure.TheVariants.{BadCapture as Bad, TooMuch as Excessive, Stalled as Stalls, OutOfMemory as NoMemory}
+use Rattle.xsk_cli.specs.declared.failure.WriteFailure.{WriteFailure}
+use Rattle.xsk_cli.specs.declared.failure.WriteFailure.TheVariants.{Unopened, Unwritten}
+use Rattle.xsk_cli.specs.declared.status.Excess.TheVariants.{Input as LongInput}
+use Rattle.xsk_cli.specs.declared.status.Status.{Status}
+use Rattle.xsk_cli.specs.declared.status.Status.TheVariants.{Usage, BadCapture, ReadFault, WriteFault, OpenFault, Stalled, TooMuch, OutOfMemory}
+
+-- the plan that the code has
+abbrev pub plan_in : CodePlan → Plan
+plan_in plan = record { inputs = map (λ name. name.now) plan.inputs.now; outputs = map (λ name. name.now) plan.outputs.now }
+
+-- ---- the statuses of failures
+
+abbrev pub args_status : ArgsError → Status
+args_status IsUsage = Usage
+args_status ArgsMemory = OutOfMemory
+
+abbrev pub read_status : ReadFailure → Status
+read_status (NoInput port) = OpenFault (Input port)
+read_status (Unread port) = ReadFault port
+read_status (TooLong port) = TooMuch (LongInput port)
+read_status NoRoom = OutOfMemory
+
+abbrev pub run_status : RunFailure → Status
+run_status (Bad port cause) = BadCapture port cause
+run_status (Excessive excess) = TooMuch excess
+run_status (Stalls round) = Stalled round
+run_status NoMemory = OutOfMemory
+
+abbrev pub write_status : WriteFailure → Status
+write_status (Unopened port) = OpenFault (Output port)
+write_status (Unwritten stream) = WriteFault stream
+
+-- ---- reading
+
+-- how reading the input of a port fails
+abbrev pub FailsReading : ℕ → Moment → Moment → ReadFailure → Type 0
+FailsReading port old new (NoInput at) = (at ≡ port) × (new.is_open (Input port) ≡ false) × (new.left (Input port) ≡ old.left (Input port))
+    × Rose (old.faults Open (Input port)) (new.faults Open (Input port))
+FailsReading port old new (Unread at) = (at ≡ port) × (new.is_open (Input port) ≡ true) × Rose (old.faults Read (Input port)) (new.faults Read (Input port))
+FailsReading port old new (TooLong at) = (at ≡ port) × (new.is_open (Input port) ≡ true) × IfSome (old.left (Input port)) (λ bytes. 34603032 < length bytes)
+FailsReading port old new NoRoom = new.is_open (Input port) ≡ true
+
+-- the first inputs were read to their ends, and nothing else was opened or written
+pub record HaveRead (names bytes : List (List ℕ)) (count : ℕ) (old new : Moment) : Type 0 where
+  pub count_is : length bytes ≡ count
+  pub short : AreShort bytes count
+  pub reads : AreRead names bytes count count old new
+  pub outputs : (port : ℕ) → new.is_open (Output port) ≡ false
+  pub held : (port : ℕ) → new.held (Output port) ≡ old.held (Output port)
+  pub report : new.held Report ≡ old.held Report
+
+-- ---- the run
+
+-- why there are no texts of inputs
+abbrev pub MakesNone : List (List ℕ) → RunFailure → Type 0
+MakesNone inputs (Bad port cause) = IsOutcome inputs (bad port cause)
+MakesNone inputs (Excessive excess) = IsOutcome inputs (passed excess)
+MakesNone inputs (Stalls round) = IsOutcome inputs (stalled round)
+MakesNone inputs NoMemory = Unit {0}
+
+-- the packets of lists
+abbrev pub lists_in : List PacketList → List (List (List ℕ))
+lists_in = map (λ (list : PacketList). list.packets)
+
+-- why the bytes of a port's input give no packets
+abbrev pub IsRefusal : ℕ → List ℕ → RunFailure → Type 0
+IsRefusal port bytes (Bad at cause) = (at ≡ port) × IsRefused bytes cause × (cause ≢ NoCause)
+IsRefusal port bytes NoMemory = Unit {0}
+IsRefusal port bytes failure = ⊥
+
+-- why a run of packets gives nothing
+abbrev pub FailsRunning : List (List (List ℕ)) → RunFailure → Type 0
+FailsRunning lists (Stalls round) = HasStalled (setting_of lists) frames 0 round
+FailsRunning lists NoMemory = Unit {0}
+FailsRunning lists failure = ⊥
+
+abbrev pub written_in : Texts → Written
+written_in texts = record { outputs = map (λ text. text.items) texts.outputs.items; report = texts.report.bytes.items }
+
+-- ---- writing
+
+-- how writing the outputs fails
+abbrev pub FailsOutputs : List (List ℕ) → List (List ℕ) → Moment → Moment → WriteFailure → Type 0
+FailsOutputs names texts old new (Unopened port) =
+    (port < length names) × AreWritten names texts port port old new × IsTold (new.asked (Output port)) (slice_index_or names port [])
+FailsOutputs names texts old new (Unwritten (Output port)) = (port < length names) × AreWritten names texts (port + 1) port old new
+FailsOutputs names texts old new (Unwritten stream) = ⊥
+
+-- how writing the outputs and then the report fails
+abbrev pub FailsWriting : List (List ℕ) → Written → Moment → Moment → WriteFailure → Type 0
+FailsWriting names texts old new (Unwritten Report) =
+    AreWritten names texts.outputs (length names) (length names) old new × GrowsByPart (old.held Report) (new.held Report) texts.report
+FailsWriting names texts old new failure = FailsOutputs names texts.outputs old new failure × (new.held Report ≡ old.held Report)
+
+-- how writing the output of a port fails
+abbrev pub FailsOutput : ℕ → List ℕ → Moment → Moment → WriteFailure → Type 0
+FailsOutput port text old new (Unopened at) = (at ≡ port) × (new.is_open (Output port) ≡ false) × (new.held (Output port) ≡ old.held (Output port))
+    × Rose (old.faults Open (Output port)) (new.faults Open (Output port))
+FailsOutput port text old new (Unwritten stream) = (stream ≡ Output port) × (new.is_open (Output port) ≡ true) × IsFront (new.held (Output port)) text
+    × Rose (old.faults Write (Output port)) (new.faults Write (Output port))

@@ -1,0 +1,130 @@
+//! The captures of the inputs, judged.
+ghost use Rattle.std.specs.Prelude.{◌≡◌, ℕ, ◌<◌, ◌≤◌, ◌^◌, None, Some, List, IfErr, IfOk, OnOk, length, map};
+ghost use Rattle.std.specs.List.{concat};
+ghost use Rattle.xsk_pcap.specs.Capture.{IsCapture, IsRefused};
+ghost use Rattle.xsk_umem.specs.PacketList.{PacketList as Packets};
+ghost use Rattle.xsk_cli.specs.Judged.{AreCaptures, AreShort, bytes_in, excess_of, packets_in};
+ghost use Rattle.xsk_cli.specs.Outcome.{listed};
+ghost use Rattle.xsk_cli.specs.Steps.{IsRefusal, MakesNone, lists_in};
+
+use crate::Excess;
+use crate::failure::RunFailure;
+use std::alloc::Global;
+use xsk_pcap::{BadCapture, read};
+use xsk_umem::PacketList;
+
+/// The most packets, and captured bytes, of all inputs together.
+const MOST_PACKETS: u64 = 65_536;
+
+const MOST_BYTES: u64 = 33_554_432;
+
+/// The packets of each port's capture, all together within the limits.
+pub(crate) fn take_captures(
+    alloc: Global,
+    inputs: &[Vec<u8>],
+) -> Result<Vec<PacketList>, RunFailure>
+    requires few { length inputs.now ≤ 4 }
+    requires short { AreShort (map (λ bytes. bytes.items) inputs.now) (length inputs.now) }
+    ensures taken { IfOk result (λ lists. AreCaptures (map (λ bytes. bytes.items) inputs.now) (lists_in lists.items)) }
+    ensures within { IfOk result (λ lists. excess_of (lists_in lists.items) ≡ None) }
+    ensures listed { IfOk result (λ lists. lists.items ≡ map listed (lists_in lists.items)) }
+    ensures failed { IfErr result (MakesNone (map (λ bytes. bytes.items) inputs.now)) }
+{
+    let lists = read_captures(alloc, inputs)?;
+    match check_limits(lists.as_slice()) {
+        Ok(()) => Ok(lists),
+        Err(excess) => Err(RunFailure::TooMuch(excess)),
+    }
+}
+
+/// The packets of each port's capture.
+fn read_captures(alloc: Global, inputs: &[Vec<u8>]) -> Result<Vec<PacketList>, RunFailure>
+    requires few { length inputs.now ≤ 4 }
+    requires short { AreShort (map (λ bytes. bytes.items) inputs.now) (length inputs.now) }
+    ensures read { IfOk result (λ lists. AreCaptures (map (λ bytes. bytes.items) inputs.now) (lists_in lists.items)) }
+    ensures listed { IfOk result (λ lists. lists.items ≡ map listed (lists_in lists.items)) }
+    ensures failed { IfErr result (MakesNone (map (λ bytes. bytes.items) inputs.now)) }
+{
+    let mut lists = Vec::with_capacity(alloc, inputs.len())?;
+    for port in 0..inputs.len() as u32 {
+        let list = read_capture(alloc, port, inputs[port as usize].as_slice())?;
+        lists.push_reserved(list);
+    }
+    Ok(lists)
+}
+
+/// The packets of a port's capture, with no room for others.
+fn read_capture(alloc: Global, port: u32, bytes: &[u8]) -> Result<PacketList, RunFailure>
+    ensures found { IfOk result (λ list. IsCapture bytes.now list.packets) }
+    ensures listed { IfOk result (λ list. list ≡ listed list.packets) }
+    ensures failed { IfErr result (IsRefusal port bytes.now) }
+{
+    match read(alloc, bytes) {
+        Ok(list) => Ok(without_room(list)),
+        Err(BadCapture::OutOfMemory) => Err(RunFailure::OutOfMemory),
+        Err(cause) => Err(RunFailure::BadCapture { port, cause }),
+    }
+}
+
+/// The list without the room for further packets.
+fn without_room(list: PacketList) -> PacketList
+    ensures { result ≡ listed list.packets }
+{
+    let _count = list.len();
+    let (text, spans) = list.into_parts();
+    PacketList::of_spans(text, spans)
+}
+
+/// Tests the limits of all lists together: the packets first, then the captured bytes.
+fn check_limits(lists: &[PacketList]) -> Result<(), Excess>
+    requires few { length lists.now ≤ 4 }
+    requires small { bytes_in (lists_in lists.now) < 2 ^ 64 }
+    ensures within { OnOk result (excess_of (lists_in lists.now) ≡ None) }
+    ensures excess { IfErr result (λ excess. excess_of (lists_in lists.now) ≡ Some excess) }
+{
+    let packets = count_packets(lists);
+    if packets > MOST_PACKETS {
+        return Err(Excess::Packets(packets));
+    }
+    let bytes = count_bytes(lists);
+    if bytes > MOST_BYTES {
+        return Err(Excess::Bytes(bytes));
+    }
+    Ok(())
+}
+
+/// The packets of all lists.
+fn count_packets(lists: &[PacketList]) -> u64
+    requires { length lists.now ≤ 4 }
+    ensures { result ≡ packets_in (lists_in lists.now) }
+{
+    let mut packets = 0;
+    for list in lists {
+        packets += u64::from(list.len());
+    }
+    packets
+}
+
+/// The bytes of all packets of all lists.
+fn count_bytes(lists: &[PacketList]) -> u64
+    requires { bytes_in (lists_in lists.now) < 2 ^ 64 }
+    ensures { result ≡ bytes_in (lists_in lists.now) }
+{
+    let mut bytes = 0;
+    for list in lists {
+        bytes += bytes_of(list);
+    }
+    bytes
+}
+
+/// The bytes of all packets of a list.
+fn bytes_of(list: &PacketList) -> u64
+    requires { length (concat list.now.packets) < 2 ^ 64 }
+    ensures { result ≡ length (concat list.now.packets) }
+{
+    let mut bytes = 0;
+    for number in 0..list.len() {
+        bytes += list.get(number).len() as u64;
+    }
+    bytes
+}

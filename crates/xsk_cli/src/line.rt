@@ -1,0 +1,139 @@
+//! The line that tells a refusal, in a buffer of its own.
+ghost use Rattle.std.specs.Prelude.{◌≡◌, ◌+◌, ◌≤◌, ◌++◌};
+ghost use Rattle.std.specs.Fmt.{decimal};
+ghost use Rattle.arrayvec.specs.ArrayString.{array_string_len};
+ghost use Rattle.xsk_cli.specs.Line.{cause_text, excess_text, line_of, status_text, stream_text};
+
+use crate::{Excess, Status};
+use arrayvec::ArrayString;
+use itoa::Buffer;
+use xsk_io::Stream;
+use xsk_pcap::BadCapture;
+
+/// The room of a line.
+const ROOM: usize = 96;
+
+/// The line of a status. It takes no memory.
+pub(crate) fn line(status: &Status) -> ArrayString<96>
+    ensures { result.bytes ≡ line_of status.now }
+{
+    let mut line = ArrayString::<ROOM>::new();
+    push_status(&mut line, status);
+    line.push_str("\n");
+    line
+}
+
+fn push_status(line: &mut ArrayString<96>, status: &Status)
+    requires { array_string_len line.old ≤ 0 }
+    ensures text { line.new.bytes ≡ line.old.bytes ++ status_text status.now }
+    ensures room { array_string_len line.new ≤ 95 }
+{
+    match status {
+        Status::Done => line.push_str("done"),
+        Status::Usage => line.push_str("usage"),
+        Status::BadCapture { port, cause } => {
+            line.push_str("bad capture ");
+            push_u32(line, *port);
+            line.push_str(" ");
+            push_cause(line, *cause);
+        }
+        Status::ReadFault { port } => {
+            line.push_str("read fault ");
+            push_u32(line, *port);
+        }
+        Status::WriteFault { stream } => {
+            line.push_str("write fault ");
+            push_stream(line, *stream);
+        }
+        Status::OpenFault { stream } => {
+            line.push_str("open fault ");
+            push_stream(line, *stream);
+        }
+        Status::Stalled { round } => {
+            line.push_str("stalled ");
+            push_u64(line, *round);
+        }
+        Status::TooMuch(excess) => {
+            line.push_str("too much ");
+            push_excess(line, *excess);
+        }
+        Status::OutOfMemory => line.push_str("out of memory"),
+    }
+}
+
+fn push_cause(line: &mut ArrayString<96>, cause: BadCapture)
+    requires { array_string_len line.old ≤ 50 }
+    ensures text { line.new.bytes ≡ line.old.bytes ++ cause_text cause }
+    ensures room { array_string_len line.new ≤ array_string_len line.old + 40 }
+{
+    match cause {
+        BadCapture::ShortHeader => line.push_str("short header"),
+        BadCapture::BadMagic => line.push_str("bad magic"),
+        BadCapture::BadVersion => line.push_str("bad version"),
+        BadCapture::BadLink => line.push_str("bad link"),
+        BadCapture::Truncated { at } => {
+            line.push_str("truncated ");
+            push_u64(line, at);
+        }
+        BadCapture::RecordTooLong { at } => {
+            line.push_str("record too long ");
+            push_u64(line, at);
+        }
+        BadCapture::OutOfMemory => line.push_str("out of memory"),
+    }
+}
+
+fn push_stream(line: &mut ArrayString<96>, stream: Stream)
+    requires { array_string_len line.old ≤ 50 }
+    ensures text { line.new.bytes ≡ line.old.bytes ++ stream_text stream }
+    ensures room { array_string_len line.new ≤ array_string_len line.old + 40 }
+{
+    match stream {
+        Stream::Input(port) => {
+            line.push_str("input ");
+            push_u32(line, port);
+        }
+        Stream::Output(port) => {
+            line.push_str("output ");
+            push_u32(line, port);
+        }
+        Stream::Report => line.push_str("report"),
+    }
+}
+
+fn push_excess(line: &mut ArrayString<96>, excess: Excess)
+    requires { array_string_len line.old ≤ 50 }
+    ensures text { line.new.bytes ≡ line.old.bytes ++ excess_text excess }
+    ensures room { array_string_len line.new ≤ array_string_len line.old + 40 }
+{
+    match excess {
+        Excess::Input(port) => {
+            line.push_str("input ");
+            push_u32(line, port);
+        }
+        Excess::Packets(packets) => {
+            line.push_str("packets ");
+            push_u64(line, packets);
+        }
+        Excess::Bytes(bytes) => {
+            line.push_str("bytes ");
+            push_u64(line, bytes);
+        }
+    }
+}
+
+fn push_u32(line: &mut ArrayString<96>, number: u32)
+    requires { array_string_len line.old ≤ 76 }
+    ensures text { line.new.bytes ≡ line.old.bytes ++ decimal number }
+    ensures room { array_string_len line.new ≤ array_string_len line.old + 10 }
+{
+    line.push_str(Buffer::new().format(number));
+}
+
+fn push_u64(line: &mut ArrayString<96>, number: u64)
+    requires { array_string_len line.old ≤ 76 }
+    ensures text { line.new.bytes ≡ line.old.bytes ++ decimal number }
+    ensures room { array_string_len line.new ≤ array_string_len line.old + 20 }
+{
+    line.push_str(Buffer::new().format(number));
+}
