@@ -1,0 +1,17 @@
+pub mod WordRows
+pub mod Seating
+pub mod Changed
+pub mod Slots
+pub mod Knowing
+pub mod Shifting
+pub mod Adding
+pub mod RingSteps
+pub mod Reserving
+pub mod Releasing
+pub mod Submitting
+pub mod Peeking
+pub mod Placing
+pub mod Fetching
+pub mod Moving
+pub mod Holding
+pub mod Readying

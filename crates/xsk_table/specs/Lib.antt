@@ -1,0 +1,4 @@
+pub mod View
+pub mod Rule
+pub mod Plays
+pub mod Held
