@@ -15,3 +15,7 @@ pub mod Fetching
 pub mod Moving
 pub mod Holding
 pub mod Readying
+pub mod Laying
+pub mod NewTable
+pub mod FirstEnds
+pub mod Deals

@@ -57,7 +57,7 @@ standing_len q items = length-append q.held (q.out ++ items) ∙ ap (λ n. lengt
 places_differ : (a b n : ℕ) → 0 < n → a < b → b < a + n → a % n ≡ b % n → ⊥
 places_differ a b n enough lt near e = let is = one_turn a b n (omega arith) near e in omega arith
 
-entries_differ : (c : Config) (r : Ring) (a b : ℕ) → 0 < size_of c r → a < b → b < a + size_of c r → entry_of c r a ≡ entry_of c r b → ⊥
+pub entries_differ : (c : Config) (r : Ring) (a b : ℕ) → 0 < size_of c r → a < b → b < a + size_of c r → entry_of c r a ≡ entry_of c r b → ⊥
 entries_differ c r a b enough lt near e = places_differ a b (size_of c r) enough lt near (ap place_in e)
 
 pub whole_ring : (k : Setup) (words : List ℕ) (r : Ring) (q : RingState) (a b : ℕ) (items : List Item) (x : Item) → IsConfig k.config → HasRing k.config r → length words ≡ words_of k.config

@@ -5,7 +5,9 @@
 mod counting;
 mod end;
 mod moves;
+mod opening;
 mod pass;
+mod passes;
 mod shared;
 mod steps;
 mod view;
@@ -13,5 +15,6 @@ mod view;
 pub use counting::Steps;
 pub use end::End;
 pub use pass::Pass;
-pub use shared::Shared;
+pub use passes::Passes;
+pub use shared::{Shared, SharedRefused};
 pub use view::{Asking, Key, Law, View};

@@ -28,6 +28,7 @@ use xsk_umem::{Batch, Item};
 use xsk_words::{CONSUMER, PRODUCER};
 
 /// A caller's way to the rings. It knows what its own calls left, and holds no slot between them.
+#[derive(Drop)]
 pub struct Pass {
     pub(crate) seat: Chair,
     pub(crate) who: u32,
