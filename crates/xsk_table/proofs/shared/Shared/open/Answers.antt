@@ -1,0 +1,22 @@
+use Rattle.std.proofs.Common.{rules, ◌≡◌, ◌∙◌, sym, ap, subst, map, List, ℕ, Option, Some, refl}
+use Rattle.atomic_table.specs.Table.{opening}
+use Rattle.xsk_umem.specs.Frame.{Frame}
+use Rattle.xsk_model.specs.Opening.{IsOpened}
+use Rattle.xsk_table.specs.View.{Setup, newcomer}
+use Rattle.xsk_table.specs.Rule.{Rule, all_callers}
+use Rattle.xsk_table.specs.Opening.{WordsOpen}
+use Rattle.xsk_table.proofs.Deals.{new_rest}
+use Rattle.xsk_table.proofs.NewTable.{opens}
+use Rattle.xsk_table.proofs.shared.Shared.open.Goals as goal
+
+pub new-requires : goal.new-requires
+new-requires c =
+    let k : Setup = record { config = c.args.config; first = c.args.first; frames = c.args.frames.items } in
+    let key : k ≡ record { config = c.of.result.value; first = c.args.first; frames = c.of-2.result.value.items } = λ i. record { config = sym c.of.ensures i; first = c.args.first; frames = (sym c.of-2.ensures i).items } in
+    let opened : IsOpened c.args.config c.args.frames.items = record { geometry = c.geometry-geometry.ensures.lawful; config = c.ports-ports.ensures.lawful; lawful = c.requires.lawful; umem = c.requires.frames } in
+    let words : WordsOpen c.args.config c.args.first c.as_slice.result.now = subst (WordsOpen c.args.config c.args.first) (sym c.as_slice.ensures.value) c.in-Ok.ensures.words in
+    let P : Setup × List (Option Frame) → Type 0 = λ t. Rule t.0 (opening c.as_slice.result.now t.1 (newcomer t.0 (all_callers t.0))) in
+    subst P (λ i. (key i, sym c.move_out.ensures.slots i)) (opens k c.as_slice.result.now opened c.ranges.first.fits words)
+
+pub invariant_of-result : goal.invariant_of-result
+invariant_of-result c = new_rest _ c.deal-passes.result.items c.deal-passes.ensures

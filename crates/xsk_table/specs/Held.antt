@@ -1,0 +1,73 @@
+-- A pass: what its caller knows, and what it keeps at run time.
+use Rattle.std.specs.Prelude.{◌≡◌, ℕ, ◌+◌, ◌^◌, ◌<◌, ◌≤◌, List, [], ◌∷◌, length, get_or, Option}
+use Rattle.atomic_table.specs.Seated.{TableId}
+use Rattle.xsk_umem.specs.Frame.{Frame}
+use Rattle.xsk_umem.specs.declared.batch.Item.{Item}
+use Rattle.xsk_model.specs.Config.{Config, HasRing, size_of}
+use Rattle.xsk_model.specs.Rings.{place, places_of, producer, consumer}
+use Rattle.xsk_model.specs.Entry.{Told, own}
+use Rattle.xsk_model.specs.Own.{given_of, released_of, room_of, held_of}
+use Rattle.xsk_model.specs.History.{IsHistory}
+use Rattle.xsk_model.specs.declared.call.Ring.{Ring}
+use Rattle.xsk_words.specs.Layout.{ring_base, words_of}
+use Rattle.xsk_table.specs.View.{Setup, Flight, taking, View, newcomer}
+use Rattle.xsk_table.specs.Rule.{wrapped, opened, lying}
+use Rattle.xsk_table.specs.declared.end.End.{End}
+
+-- a table as its callers see it: which one it is, and its setup
+pub record Board : Type 0 where
+  pub table : TableId
+  pub setup : Setup
+
+-- a pass as its caller sees it: the table to which it belongs, the caller, and what the caller knows
+pub record Holder : Type 0 where
+  pub table : TableId
+  pub who : ℕ
+  pub view : View
+
+-- a pass that no call was made with
+abbrev pub new_pass : Board → ℕ → Holder
+new_pass b who = record { table = b.table; who = who; view = newcomer b.setup (who ∷ []) }
+
+-- a pass belongs to a table
+pub record Belongs (b : Board) (p : Holder) : Type 0 where
+  pub table : p.table ≡ b.table
+  pub setup : p.view.setup ≡ b.setup
+
+-- ---- what a pass keeps
+
+abbrev pub no_end : End
+no_end = record { near = 0; far = 0; base = 0; mask = 0 }
+
+-- where a ring's words stand and its size; on a ring that the caller fills what it gave, and that with what it has
+-- reserved; on one that it empties what it released, and that with what it holds
+pub record EndHolds (k : Setup) (who : ℕ) (mine : List Told) (r : Ring) (e : End) : Type 0 where
+  pub base_is : e.base ≡ ring_base k.config r
+  pub base_few : e.base ≤ 1056768
+  pub mask_is : e.mask + 1 ≡ size_of k.config r
+  pub fills : who ≡ producer k.config r
+      → (e.near ≡ wrapped k (opened k r + given_of r mine)) × (e.far ≡ wrapped k (opened k r + given_of r mine + room_of r mine))
+  pub empties : who ≡ consumer k.config r → (e.near ≡ wrapped k (released_of r mine)) × (e.far ≡ wrapped k (released_of r mine + held_of r mine))
+
+pub record EndsHold (k : Setup) (who : ℕ) (mine : List Told) (ends : List End) : Type 0 where
+  pub wide : length ends ≡ places_of k.config
+  pub each : (r : Ring) → HasRing k.config r → EndHolds k who mine r (get_or ends (place k.config r) no_end)
+
+-- the items that a Peek has left are on a ring that the caller empties, and it holds them there
+abbrev pub AreLeft : Config → ℕ → List Told → Ring → List Item → Type 0
+AreLeft c who mine r items = HasRing c r × (who ≡ consumer c r) × (length items ≤ held_of r mine)
+
+-- what holds of a pass: its seat has one caller and holds no slot, and the counts are those of its own calls
+pub record PassHolds (v : View) (slots : List (ℕ × Option Frame)) (who : ℕ) (ends : List End) (flying : ℕ) : Type 0 where
+  pub one : v.callers ≡ who ∷ []
+  pub alone : v.others ≡ []
+  pub ends_hold : EndsHold v.setup who (own who v.seen) ends
+  pub flying_is : flying ≡ length (lying v.flight)
+  pub slots_are : slots ≡ []
+  pub left : (r : Ring) (items : List Item) → v.flight ≡ taking r items → AreLeft v.setup.config who (own who v.seen) r items
+  pub history : IsHistory v.setup.config v.setup.frames v.seen
+
+-- what holds of a table: it has a word for each of the layout
+pub record TableHolds (c : Config) (k : Setup) (table : TableId) : Type 0 where
+  pub config_is : c ≡ k.config
+  pub words : table.words ≡ words_of k.config

@@ -1,0 +1,5 @@
+pub mod View
+pub mod Rule
+pub mod Plays
+pub mod Held
+pub mod Opening

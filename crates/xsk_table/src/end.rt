@@ -1,0 +1,14 @@
+//! What a pass keeps of a ring.
+
+/// Two counts of a caller on a ring, and where the ring's words stand.
+#[derive(Clone, Copy)]
+pub struct End {
+    /// The word that the caller raises.
+    pub near: u32,
+    /// As far as it may raise it.
+    pub far: u32,
+    /// The ring's first word.
+    pub base: usize,
+    /// The ring's size, less one.
+    pub mask: u32,
+}

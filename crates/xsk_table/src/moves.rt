@@ -1,0 +1,192 @@
+//! How frames move into a ring and out of it. A frame's slot is with the caller only while the frame is moved.
+ghost use Rattle.std.specs.Prelude.{Option, None, List, [], ◌∷◌, length, ◌≡◌, ◌+◌, ◌-◌, ◌%◌, ◌^◌, ◌<◌, ◌≤◌, ℕ};
+ghost use Rattle.std.specs.Option.{option_map};
+ghost use Rattle.xsk_umem.specs.Frame.{Frame as Body};
+ghost use Rattle.xsk_umem.specs.declared.batch.Item.{Item as Thing};
+ghost use Rattle.xsk_umem.specs.Geometry.{IsGeometry, frame_of};
+ghost use Rattle.xsk_model.specs.Config.{HasRing, IsRingSize, size_of, callers_of};
+ghost use Rattle.xsk_model.specs.Rings.{consumer};
+ghost use Rattle.xsk_model.specs.Entry.{own};
+ghost use Rattle.xsk_model.specs.Own.{given_of};
+ghost use Rattle.xsk_words.specs.Layout.{entry_words, ring_base, word_at};
+ghost use Rattle.xsk_table.specs.View.{taking, fetching, writing, placing};
+ghost use Rattle.xsk_table.specs.Rule.{wrapped, entry_of, opened, lying};
+ghost use Rattle.xsk_table.specs.Plays.{Placed, Lifted, PutIn, Fetched, Settled, CanPlace, IsPlacing, IsTaken, IsFirst, Emptied, TakenOut, ask_for, ask_item, emptied};
+
+use crate::steps::{Board, Chair};
+use crate::view::{Asking, Fetching, Lifting, Placing, Settling};
+use std::marker::Brand;
+use xsk_model::Ring;
+use xsk_umem::{Frame, Geometry, Item, XdpDesc};
+use xsk_words::{ENTRIES, PRODUCER};
+
+/// Where the entry of a count stands in a ring, for a size that is a power of two.
+fn entry_place(count: u32, mask: u32) -> usize
+    requires { IsRingSize (mask + 1) }
+    ensures { result ≡ count % (mask + 1) }
+{
+    (count & mask) as usize
+}
+
+/// A look that takes the empty slot of an item's frame.
+fn lift<J: Asking>(board: &Board, seat: &mut Chair, who: u32, ring: Ring, item: &Item, word: usize)
+    requires table { seat.old.table_id ≡ board.now.table_id }
+    requires ask { J.ask ≡ ask_item board.now.key who ring item.now }
+    requires word { word < board.now.table_id.words }
+    requires one_word { entry_words ring ≡ 1 }
+    requires can { CanPlace (ask_item board.now.key who ring item.now) seat.old.me.0 }
+    requires flight { IsPlacing ring seat.old.me.0.flight }
+    ensures same { (seat.new.table_id ≡ seat.old.table_id) × (seat.new.id ≡ seat.old.id) }
+    ensures told { Lifted (ask_item board.now.key who ring item.now) seat.old.me seat.new.me }
+{
+    board.load::<Lifting<J>>(seat, word);
+}
+
+fn write_entry<J: Asking>(
+    board: &Board,
+    seat: &mut Chair,
+    who: u32,
+    ring: Ring,
+    item: Item,
+    word: usize,
+)
+    requires table { seat.old.table_id ≡ board.now.table_id }
+    requires ask { J.ask ≡ ask_item board.now.key who ring item }
+    requires word { (word ≡ word_at board.now.key.config (entry_of board.now.key.config ring (board.now.key.first + (opened board.now.key ring + given_of ring (own who seat.old.me.0.seen) + length (lying seat.old.me.0.flight))))) × (word < board.now.table_id.words) }
+    requires can { CanPlace (ask_item board.now.key who ring item) seat.old.me.0 }
+    requires flight { seat.old.me.0.flight ≡ writing ring (lying seat.old.me.0.flight) item }
+    requires front { IsTaken item.frame seat.old.me.1 }
+    ensures same { (seat.new.table_id ≡ seat.old.table_id) × (seat.new.id ≡ seat.old.id) }
+    ensures told { Placed (ask_item board.now.key who ring item) seat.old.me seat.new.me }
+{
+    let Item { frame, desc } = item;
+    match frame {
+        Some(frame) => {
+            let number = frame.number() as usize;
+            drop(board.exchange(seat, number, Some(frame)));
+            board.store::<Placing<J>>(seat, word, desc.addr);
+        }
+        None => board.store::<Placing<J>>(seat, word, desc.addr),
+    }
+}
+
+/// Moves an item's frame into its slot, and writes its address last. `near` is the producer word, `placed` the number of
+/// items placed before, and `base` the place of the ring's first word.
+#[allow(clippy::too_many_arguments)]
+pub(crate) fn place(
+    board: &Board,
+    seat: &mut Chair,
+    who: u32,
+    ring: Ring,
+    item: Item,
+    near: u32,
+    placed: u32,
+    base: usize,
+    mask: u32,
+)
+    requires table { seat.old.table_id ≡ board.now.table_id }
+    requires size { (mask + 1 ≡ size_of board.now.key.config ring) × IsRingSize (mask + 1) }
+    requires base { (base ≡ ring_base board.now.key.config ring) × (base + (33 + mask) ≤ board.now.table_id.words) × (base ≤ 1056768) }
+    requires near { near ≡ wrapped board.now.key (opened board.now.key ring + given_of ring (own who seat.old.me.0.seen)) }
+    requires placed { placed ≡ length (lying seat.old.me.0.flight) }
+    requires one_word { entry_words ring ≡ 1 }
+    requires can { CanPlace (ask_item board.now.key who ring item) seat.old.me.0 }
+    requires flight { IsPlacing ring seat.old.me.0.flight }
+    ensures same { (seat.new.table_id ≡ seat.old.table_id) × (seat.new.id ≡ seat.old.id) }
+    ensures told { PutIn ring item seat.old.me seat.new.me }
+{
+    let word = base + ENTRIES + entry_place(near.wrapping_add(placed), mask);
+    lift::<Brand>(board, seat, who, ring, &item, base + PRODUCER);
+    write_entry::<Brand>(board, seat, who, ring, item, word);
+}
+
+fn read_entry<J: Asking>(board: &Board, seat: &mut Chair, who: u32, ring: Ring, word: usize) -> u64
+    requires table { seat.old.table_id ≡ board.now.table_id }
+    requires ask { J.ask ≡ ask_for board.now.key who ring 0 }
+    requires caller { (seat.old.me.0.callers ≡ who ∷ []) × HasRing board.now.key.config ring × (who ≡ consumer board.now.key.config ring) × (who < callers_of board.now.key.config) }
+    requires alone { seat.old.me.0.others ≡ [] }
+    requires flight { (x : Thing) × (left : List Thing) × (seat.old.me.0.flight ≡ taking ring (x ∷ left)) }
+    requires word { (word < board.now.table_id.words) × ((count : ℕ) × (count + length (lying seat.old.me.0.flight) ≡ emptied (ask_for board.now.key who ring 0) seat.old.me.0) × (word ≡ word_at board.now.key.config (entry_of board.now.key.config ring (board.now.key.first + count)))) }
+    ensures same { (seat.new.table_id ≡ seat.old.table_id) × (seat.new.id ≡ seat.old.id) }
+    ensures told { (x : Thing) (left : List Thing) → seat.old.me.0.flight ≡ taking ring (x ∷ left) → Fetched (ask_for board.now.key who ring 0) x left seat.old.me result seat.new.me }
+{
+    board.load::<Fetching<J>>(seat, word)
+}
+
+/// A look that gives the slot of the fetched frame home, empty.
+fn settle<J: Asking>(board: &Board, seat: &mut Chair, who: u32, ring: Ring, word: usize)
+    requires table { seat.old.table_id ≡ board.now.table_id }
+    requires ask { J.ask ≡ ask_for board.now.key who ring 0 }
+    requires word { word < board.now.table_id.words }
+    requires caller { (seat.old.me.0.callers ≡ who ∷ []) × HasRing board.now.key.config ring × (who ≡ consumer board.now.key.config ring) × (who < callers_of board.now.key.config) }
+    requires alone { seat.old.me.0.others ≡ [] }
+    requires flight { (x : Thing) × (left : List Thing) × (seat.old.me.0.flight ≡ fetching ring x left) × IsFirst x.frame None seat.old.me.1 }
+    ensures same { (seat.new.table_id ≡ seat.old.table_id) × (seat.new.id ≡ seat.old.id) }
+    ensures told { (x : Thing) (left : List Thing) → seat.old.me.0.flight ≡ fetching ring x left → Settled (ask_for board.now.key who ring 0) x left seat.old.me seat.new.me }
+{
+    board.load::<Settling<J>>(seat, word);
+}
+
+/// The frame in which an address lies, with a division by a constant.
+fn number_of(geometry: &Geometry, addr: u64) -> Option<u32>
+    ensures { result ≡ frame_of geometry.now addr }
+{
+    let chunk = geometry.chunk();
+    if addr >= u64::from(geometry.frames()) * u64::from(chunk) {
+        None
+    } else if chunk == 4096 {
+        Some((addr / 4096) as u32)
+    } else {
+        Some((addr / 2048) as u32)
+    }
+}
+
+/// Takes the frame of an address out of its slot, which was taken last.
+fn empty_slot(board: &Board, seat: &mut Chair, geometry: &Geometry, addr: u64) -> Option<Frame>
+    requires table { seat.old.table_id ≡ board.now.table_id }
+    requires front { (f : Option Body) × (option_map (λ (g : Body). g.number) f ≡ frame_of geometry.now addr) × IsFirst f f seat.old.me.1 }
+    ensures same { (seat.new.table_id ≡ seat.old.table_id) × (seat.new.id ≡ seat.old.id) }
+    ensures told { (f : Option Body) → option_map (λ (g : Body). g.number) f ≡ frame_of geometry.now addr → IsFirst f f seat.old.me.1 → Emptied f seat.old.me result seat.new.me }
+{
+    match number_of(geometry, addr) {
+        Some(number) => board.exchange(seat, number as usize, None),
+        None => None,
+    }
+}
+
+/// The next item of a Peek, with its frame. `position` is its count, and `base` the place of the ring's first word.
+#[allow(clippy::too_many_arguments)]
+pub(crate) fn fetch(
+    board: &Board,
+    seat: &mut Chair,
+    geometry: &Geometry,
+    who: u32,
+    ring: Ring,
+    position: u32,
+    base: usize,
+    mask: u32,
+) -> Item
+    requires table { (seat.old.table_id ≡ board.now.table_id) × (geometry.now ≡ board.now.key.config.geometry) }
+    requires size { (mask + 1 ≡ size_of board.now.key.config ring) × IsRingSize (mask + 1) }
+    requires base { (base ≡ ring_base board.now.key.config ring) × (base + (33 + mask) ≤ board.now.table_id.words) × (base ≤ 1056768) }
+    requires one_word { entry_words ring ≡ 1 }
+    requires caller { (seat.old.me.0.callers ≡ who ∷ []) × HasRing board.now.key.config ring × (who ≡ consumer board.now.key.config ring) × (who < callers_of board.now.key.config) }
+    requires alone { seat.old.me.0.others ≡ [] }
+    requires flight { (x : Thing) × (left : List Thing) × (seat.old.me.0.flight ≡ taking ring (x ∷ left)) }
+    requires position { (count : ℕ) × (count + length (lying seat.old.me.0.flight) ≡ emptied (ask_for board.now.key who ring 0) seat.old.me.0) × (position ≡ wrapped board.now.key count) }
+    ensures same { (seat.new.table_id ≡ seat.old.table_id) × (seat.new.id ≡ seat.old.id) }
+    ensures told { (x : Thing) (left : List Thing) → seat.old.me.0.flight ≡ taking ring (x ∷ left) → TakenOut ring x left result seat.old.me seat.new.me }
+{
+    let word = base + ENTRIES + entry_place(position, mask);
+    let addr = read_entry::<Brand>(board, seat, who, ring, word);
+    let frame = empty_slot(board, seat, geometry, addr);
+    settle::<Brand>(board, seat, who, ring, word);
+    Item {
+        frame,
+        desc: XdpDesc {
+            addr,
+            len: 0,
+            options: 0,
+        },
+    }
+}

@@ -1,0 +1,241 @@
+//! A caller's way to the rings: the step calls.
+ghost use Rattle.std.specs.Prelude.{List, [], ◌∷◌, ◌++◌, ℕ, length, ◌≡◌, ◌+◌, ◌<◌, ◌≤◌};
+ghost use Rattle.xsk_umem.specs.declared.batch.Item.{Item as Thing};
+ghost use Rattle.xsk_model.specs.Config.{HasRing};
+ghost use Rattle.xsk_model.specs.Rings.{consumer};
+ghost use Rattle.xsk_model.specs.Entry.{own};
+ghost use Rattle.xsk_model.specs.Own.{granted};
+ghost use Rattle.xsk_model.specs.Legal.{IsLegal};
+ghost use Rattle.xsk_model.specs.declared.call.Ring.{Ring as Line};
+ghost use Rattle.xsk_model.specs.declared.call.Call.TheVariants.{Reserve, Submit, Peek, Release};
+ghost use Rattle.xsk_model.specs.declared.call.Reply.TheVariants.{Submitted, Released};
+ghost use Rattle.xsk_words.specs.Layout.{entry_words};
+ghost use Rattle.xsk_table.specs.View.{idle, placing, taking};
+ghost use Rattle.xsk_table.specs.Rule.{lying};
+ghost use Rattle.xsk_table.specs.Plays.{Extends, IsPlacing, still, items_reply};
+ghost use Rattle.xsk_table.specs.Held.{Belongs};
+
+use crate::counting::Steps;
+use crate::end::End;
+use crate::shared::Shared;
+use crate::steps::Chair;
+use crate::{moves, steps};
+use std::marker::Model;
+use std::sync::ledger::Ledger;
+use xsk_model::placement::ring_place;
+use xsk_model::{Reply, Ring};
+use xsk_umem::{Batch, Item};
+use xsk_words::{CONSUMER, PRODUCER};
+
+/// A caller's way to the rings. It knows what its own calls left, and holds no slot between them.
+#[derive(Drop)]
+pub struct Pass {
+    pub(crate) seat: Chair,
+    pub(crate) who: u32,
+    /// What it keeps of each ring, by place.
+    pub(crate) ends: Vec<End>,
+    /// The items of the call in flight: those that are placed, or those that are left.
+    pub(crate) flying: u32,
+}
+
+impl Model for Pass {
+    ghost use Rattle.xsk_table.specs.Held.{Holder, PassHolds};
+
+    ghost Value = { Holder };
+
+    ghost view = { λ p. record { table = p.seat.table_id; who = p.who; view = p.seat.me.0 } };
+
+    ghost invariant = { λ p. PassHolds p.seat.me.0 p.seat.me.1 p.who p.ends.items p.flying };
+}
+
+/// The places that a Reserve of `n` got.
+fn granted_by(reply: &Reply, n: u32) -> u32
+    ensures { (r : Line) → result ≡ granted (Reserve r n) reply.now }
+{
+    match reply {
+        Reply::Granted => n,
+        _ => 0,
+    }
+}
+
+impl Pass {
+    /// The number of the caller.
+    pub fn caller(&self) -> u32
+        ensures { result ≡ self.now.who }
+    {
+        self.who
+    }
+
+    /// The look of a Reserve. It adds the Reserve with its reply to the history, and counts one look.
+    pub fn reserve_step<L: Ledger>(
+        &mut self,
+        shared: &Shared,
+        ring: Ring,
+        n: u32,
+        steps: &mut Steps<L>,
+    ) -> Reply
+        requires belongs { Belongs shared.now self.old }
+        requires legal { IsLegal self.old.view.setup.config (own self.old.who self.old.view.seen) self.old.who (Reserve ring n) }
+        requires rests { self.old.view.flight ≡ idle }
+        ensures same { (self.new.table ≡ self.old.table) × (self.new.who ≡ self.old.who) }
+        ensures flight { self.new.view.flight ≡ idle }
+        ensures history { Extends self.old.view.setup self.old.who (Reserve ring n) result self.old.view self.new.view }
+        ensures steps { steps.new ≡ steps.old + 1 }
+    {
+        let place = ring_place(&shared.config, ring);
+        let end = self.ends[place];
+        let reply = steps::reserve_step(
+            &shared.table.shared,
+            &mut self.seat,
+            self.who,
+            ring,
+            n,
+            end.far,
+            end.mask + 1,
+            end.base + CONSUMER,
+        );
+        steps.tick();
+        let far = end.far.wrapping_add(granted_by(&reply, n));
+        self.ends[place] = End { far, ..end };
+        reply
+    }
+
+    /// Puts the first item of `rest` into its entry, behind those that are placed, and its frame into its slot. The
+    /// placed items and `rest` must make a legal Submit. It adds nothing to the history.
+    pub fn place(&mut self, shared: &Shared, ring: Ring, rest: &mut Batch)
+        requires belongs { Belongs shared.now self.old }
+        requires one_word { entry_words ring ≡ 1 }
+        requires flight { IsPlacing ring self.old.view.flight }
+        requires legal { IsLegal self.old.view.setup.config (own self.old.who self.old.view.seen) self.old.who (Submit ring (lying self.old.view.flight ++ rest.old)) }
+        requires some { 1 ≤ length rest.old }
+        ensures same { (self.new.table ≡ self.old.table) × (self.new.who ≡ self.old.who) }
+        ensures placed { (x : Thing) × (rest.old ≡ x ∷ rest.new) × (self.new.view ≡ record self.old.view { flight = placing ring (lying self.old.view.flight ++ x ∷ []) }) }
+    {
+        let Some(item) = rest.pop_front() else {
+            unreachable!()
+        };
+        let place = ring_place(&shared.config, ring);
+        let end = self.ends[place];
+        moves::place(
+            &shared.table.shared,
+            &mut self.seat,
+            self.who,
+            ring,
+            item,
+            end.near,
+            self.flying,
+            end.base,
+            end.mask,
+        );
+        self.flying += 1;
+    }
+
+    /// Raises the producer over the items that are placed. It adds the Submit to the history.
+    pub fn raise_producer(&mut self, shared: &Shared, ring: Ring)
+        requires belongs { Belongs shared.now self.old }
+        requires flight { self.old.view.flight ≡ placing ring (lying self.old.view.flight) }
+        requires legal { IsLegal self.old.view.setup.config (own self.old.who self.old.view.seen) self.old.who (Submit ring (lying self.old.view.flight)) }
+        ensures same { (self.new.table ≡ self.old.table) × (self.new.who ≡ self.old.who) }
+        ensures flight { self.new.view.flight ≡ idle }
+        ensures history { Extends self.old.view.setup self.old.who (Submit ring (lying self.old.view.flight)) Submitted self.old.view self.new.view }
+    {
+        let place = ring_place(&shared.config, ring);
+        let end = self.ends[place];
+        steps::raise_producer(
+            &shared.table.shared,
+            &mut self.seat,
+            self.who,
+            ring,
+            end.near,
+            self.flying,
+            end.base + PRODUCER,
+        );
+        let near = end.near.wrapping_add(self.flying);
+        self.ends[place] = End { near, ..end };
+        self.flying = 0;
+    }
+
+    /// The look of a Peek. It adds the Peek with its reply to the history, counts one look, and tells how many items
+    /// there are, which `fetch` then gives.
+    pub fn peek_step<L: Ledger>(
+        &mut self,
+        shared: &Shared,
+        ring: Ring,
+        n: u32,
+        steps: &mut Steps<L>,
+    ) -> u32
+        requires belongs { Belongs shared.now self.old }
+        requires legal { IsLegal self.old.view.setup.config (own self.old.who self.old.view.seen) self.old.who (Peek ring n) }
+        requires rests { self.old.view.flight ≡ idle }
+        ensures same { (self.new.table ≡ self.old.table) × (self.new.who ≡ self.old.who) }
+        ensures history { (items : List Thing) × (length items ≡ result) × (self.new.view.flight ≡ still ring items) × Extends self.old.view.setup self.old.who (Peek ring n) (items_reply items) self.old.view self.new.view }
+        ensures steps { steps.new ≡ steps.old + 1 }
+    {
+        let place = ring_place(&shared.config, ring);
+        let end = self.ends[place];
+        let count = steps::peek_step(
+            &shared.table.shared,
+            &mut self.seat,
+            self.who,
+            ring,
+            n,
+            end.far,
+            end.base + PRODUCER,
+        );
+        steps.tick();
+        let far = end.far.wrapping_add(count);
+        self.ends[place] = End { far, ..end };
+        self.flying = count;
+        count
+    }
+
+    /// The next item of the last Peek, with its frame. It adds nothing to the history.
+    pub fn fetch(&mut self, shared: &Shared, ring: Ring) -> Item
+        requires belongs { Belongs shared.now self.old }
+        requires one_word { entry_words ring ≡ 1 }
+        requires flight { (x : Thing) × (left : List Thing) × (self.old.view.flight ≡ taking ring (x ∷ left)) }
+        ensures same { (self.new.table ≡ self.old.table) × (self.new.who ≡ self.old.who) }
+        ensures taken { (x : Thing) (left : List Thing) → self.old.view.flight ≡ taking ring (x ∷ left) → (result ≡ x) × (self.new.view ≡ record self.old.view { flight = still ring left }) }
+    {
+        let left = self.flying;
+        let place = ring_place(&shared.config, ring);
+        let end = self.ends[place];
+        let position = end.far.wrapping_sub(left);
+        let item = moves::fetch(
+            &shared.table.shared,
+            &mut self.seat,
+            shared.config.geometry(),
+            self.who,
+            ring,
+            position,
+            end.base,
+            end.mask,
+        );
+        self.flying = left - 1;
+        item
+    }
+
+    /// Raises the consumer. It adds the Release to the history.
+    pub fn raise_consumer(&mut self, shared: &Shared, ring: Ring, n: u32)
+        requires belongs { Belongs shared.now self.old }
+        requires legal { IsLegal self.old.view.setup.config (own self.old.who self.old.view.seen) self.old.who (Release ring n) }
+        requires rests { self.old.view.flight ≡ idle }
+        ensures same { (self.new.table ≡ self.old.table) × (self.new.who ≡ self.old.who) }
+        ensures flight { self.new.view.flight ≡ idle }
+        ensures history { Extends self.old.view.setup self.old.who (Release ring n) Released self.old.view self.new.view }
+    {
+        let place = ring_place(&shared.config, ring);
+        let end = self.ends[place];
+        steps::raise_consumer(
+            &shared.table.shared,
+            &mut self.seat,
+            self.who,
+            ring,
+            n,
+            end.near,
+            end.base + CONSUMER,
+        );
+        let near = end.near.wrapping_add(n);
+        self.ends[place] = End { near, ..end };
+    }
+}

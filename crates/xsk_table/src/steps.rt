@@ -1,0 +1,200 @@
+//! The steps on words: each is one load or one store, with the arithmetic around it.
+ghost use Rattle.std.specs.Prelude.{List, [], ◌∷◌, length, ◌≡◌, ◌+◌, ◌%◌, ◌^◌, ◌<◌};
+ghost use Rattle.xsk_umem.specs.declared.batch.Item.{Item};
+ghost use Rattle.xsk_model.specs.Config.{size_of};
+ghost use Rattle.xsk_model.specs.Entry.{own};
+ghost use Rattle.xsk_model.specs.Own.{given_of, released_of};
+ghost use Rattle.xsk_model.specs.declared.call.Call.TheVariants.{Reserve, Submit, Peek, Release};
+ghost use Rattle.xsk_model.specs.declared.call.Reply.TheVariants.{Submitted, Released};
+ghost use Rattle.xsk_words.specs.Layout.{producer, consumer, word_at};
+ghost use Rattle.xsk_table.specs.View.{idle, placing};
+ghost use Rattle.xsk_table.specs.Rule.{wrapped, opened, lying};
+ghost use Rattle.xsk_table.specs.Plays.{IsReady, Reserved, Extends, Ended, Peeked, items_reply, still, ask_for, filled as filled_of, emptied};
+
+use crate::view::{Asking, Key, Law, Peeking, Raising, Releasing, Reserving, View};
+use atomic_table::{Seat, Shared};
+use std::marker::Brand;
+use xsk_model::{Reply, Ring};
+use xsk_umem::Frame;
+use xsk_words::used;
+
+/// The words and slots that all callers share.
+pub(crate) type Board = Shared<Option<Frame>, View, Key, Law>;
+
+/// The seat of a caller.
+pub(crate) type Chair = Seat<Option<Frame>, View>;
+
+fn look_room<J: Asking>(
+    board: &Board,
+    seat: &mut Chair,
+    who: u32,
+    ring: Ring,
+    n: u32,
+    word: usize,
+) -> u64
+    requires table { seat.old.table_id ≡ board.now.table_id }
+    requires ask { J.ask ≡ ask_for board.now.key who ring n }
+    requires word { (word ≡ word_at board.now.key.config (consumer ring)) × (word < board.now.table_id.words) }
+    requires ready { IsReady (ask_for board.now.key who ring n) (Reserve ring n) seat.old.me.0 × (seat.old.me.0.flight ≡ idle) }
+    ensures same { (seat.new.table_id ≡ seat.old.table_id) × (seat.new.id ≡ seat.old.id) }
+    ensures told { Reserved (ask_for board.now.key who ring n) seat.old.me result seat.new.me }
+{
+    board.load::<Reserving<J>>(seat, word)
+}
+
+/// The look of a Reserve. `filled` counts what was submitted and reserved.
+#[allow(clippy::too_many_arguments)]
+pub(crate) fn reserve_step(
+    board: &Board,
+    seat: &mut Chair,
+    who: u32,
+    ring: Ring,
+    n: u32,
+    filled: u32,
+    size: u32,
+    word: usize,
+) -> Reply
+    requires table { seat.old.table_id ≡ board.now.table_id }
+    requires size { size ≡ size_of board.now.key.config ring }
+    requires word { (word ≡ word_at board.now.key.config (consumer ring)) × (word < board.now.table_id.words) }
+    requires filled { filled ≡ wrapped board.now.key (filled_of (ask_for board.now.key who ring n) seat.old.me.0) }
+    requires ready { IsReady (ask_for board.now.key who ring n) (Reserve ring n) seat.old.me.0 × (seat.old.me.0.flight ≡ idle) }
+    ensures same { (seat.new.table_id ≡ seat.old.table_id) × (seat.new.id ≡ seat.old.id) }
+    ensures slots { seat.new.me.1 ≡ seat.old.me.1 }
+    ensures flight { seat.new.me.0.flight ≡ idle }
+    ensures history { Extends board.now.key who (Reserve ring n) result seat.old.me.0 seat.new.me.0 }
+{
+    let found = look_room::<Brand>(board, seat, who, ring, n, word);
+    let free = size - used(filled, found as u32);
+    if n <= free {
+        Reply::Granted
+    } else {
+        Reply::Full(free)
+    }
+}
+
+fn write_consumer<J: Asking>(
+    board: &Board,
+    seat: &mut Chair,
+    who: u32,
+    ring: Ring,
+    n: u32,
+    word: usize,
+    new: u32,
+)
+    requires table { seat.old.table_id ≡ board.now.table_id }
+    requires ask { J.ask ≡ ask_for board.now.key who ring n }
+    requires word { (word ≡ word_at board.now.key.config (consumer ring)) × (word < board.now.table_id.words) }
+    requires new { new ≡ wrapped board.now.key (released_of ring (own who seat.old.me.0.seen) + n) }
+    requires ready { IsReady (ask_for board.now.key who ring n) (Release ring n) seat.old.me.0 × (seat.old.me.0.flight ≡ idle) }
+    ensures same { (seat.new.table_id ≡ seat.old.table_id) × (seat.new.id ≡ seat.old.id) }
+    ensures told { Ended (ask_for board.now.key who ring n) (Release ring n) Released seat.old.me seat.new.me }
+{
+    board.store::<Releasing<J>>(seat, word, new as u64)
+}
+
+/// The raise of the consumer. `near` is the consumer word.
+pub(crate) fn raise_consumer(
+    board: &Board,
+    seat: &mut Chair,
+    who: u32,
+    ring: Ring,
+    n: u32,
+    near: u32,
+    word: usize,
+)
+    requires table { seat.old.table_id ≡ board.now.table_id }
+    requires word { (word ≡ word_at board.now.key.config (consumer ring)) × (word < board.now.table_id.words) }
+    requires near { near ≡ wrapped board.now.key (released_of ring (own who seat.old.me.0.seen)) }
+    requires ready { IsReady (ask_for board.now.key who ring n) (Release ring n) seat.old.me.0 × (seat.old.me.0.flight ≡ idle) }
+    ensures same { (seat.new.table_id ≡ seat.old.table_id) × (seat.new.id ≡ seat.old.id) }
+    ensures slots { seat.new.me.1 ≡ seat.old.me.1 }
+    ensures flight { seat.new.me.0.flight ≡ idle }
+    ensures history { Extends board.now.key who (Release ring n) Released seat.old.me.0 seat.new.me.0 }
+{
+    write_consumer::<Brand>(board, seat, who, ring, n, word, near.wrapping_add(n));
+}
+
+fn write_producer<J: Asking>(
+    board: &Board,
+    seat: &mut Chair,
+    who: u32,
+    ring: Ring,
+    word: usize,
+    new: u32,
+)
+    requires table { seat.old.table_id ≡ board.now.table_id }
+    requires ask { J.ask ≡ ask_for board.now.key who ring 0 }
+    requires word { (word ≡ word_at board.now.key.config (producer ring)) × (word < board.now.table_id.words) }
+    requires flight { seat.old.me.0.flight ≡ placing ring (lying seat.old.me.0.flight) }
+    requires new { new ≡ wrapped board.now.key (opened board.now.key ring + given_of ring (own who seat.old.me.0.seen) + length (lying seat.old.me.0.flight)) }
+    requires ready { IsReady (ask_for board.now.key who ring 0) (Submit ring (lying seat.old.me.0.flight)) seat.old.me.0 }
+    ensures same { (seat.new.table_id ≡ seat.old.table_id) × (seat.new.id ≡ seat.old.id) }
+    ensures told { Ended (ask_for board.now.key who ring 0) (Submit ring (lying seat.old.me.0.flight)) Submitted seat.old.me seat.new.me }
+{
+    board.store::<Raising<J>>(seat, word, new as u64)
+}
+
+/// The raise of the producer. `near` is the producer word, and `placed` the number of items that are placed.
+pub(crate) fn raise_producer(
+    board: &Board,
+    seat: &mut Chair,
+    who: u32,
+    ring: Ring,
+    near: u32,
+    placed: u32,
+    word: usize,
+)
+    requires table { seat.old.table_id ≡ board.now.table_id }
+    requires word { (word ≡ word_at board.now.key.config (producer ring)) × (word < board.now.table_id.words) }
+    requires near { near ≡ wrapped board.now.key (opened board.now.key ring + given_of ring (own who seat.old.me.0.seen)) }
+    requires placed { placed ≡ length (lying seat.old.me.0.flight) }
+    requires flight { seat.old.me.0.flight ≡ placing ring (lying seat.old.me.0.flight) }
+    requires ready { IsReady (ask_for board.now.key who ring 0) (Submit ring (lying seat.old.me.0.flight)) seat.old.me.0 }
+    ensures same { (seat.new.table_id ≡ seat.old.table_id) × (seat.new.id ≡ seat.old.id) }
+    ensures slots { seat.new.me.1 ≡ seat.old.me.1 }
+    ensures flight { seat.new.me.0.flight ≡ idle }
+    ensures history { Extends board.now.key who (Submit ring (lying seat.old.me.0.flight)) Submitted seat.old.me.0 seat.new.me.0 }
+{
+    write_producer::<Brand>(board, seat, who, ring, word, near.wrapping_add(placed));
+}
+
+fn look_items<J: Asking>(
+    board: &Board,
+    seat: &mut Chair,
+    who: u32,
+    ring: Ring,
+    n: u32,
+    word: usize,
+) -> u64
+    requires table { seat.old.table_id ≡ board.now.table_id }
+    requires ask { J.ask ≡ ask_for board.now.key who ring n }
+    requires word { (word ≡ word_at board.now.key.config (producer ring)) × (word < board.now.table_id.words) }
+    requires ready { IsReady (ask_for board.now.key who ring n) (Peek ring n) seat.old.me.0 × (seat.old.me.0.flight ≡ idle) }
+    ensures same { (seat.new.table_id ≡ seat.old.table_id) × (seat.new.id ≡ seat.old.id) }
+    ensures told { Peeked (ask_for board.now.key who ring n) seat.old.me result seat.new.me }
+{
+    board.load::<Peeking<J>>(seat, word)
+}
+
+/// The look of a Peek. `far` counts what was released and is held.
+pub(crate) fn peek_step(
+    board: &Board,
+    seat: &mut Chair,
+    who: u32,
+    ring: Ring,
+    n: u32,
+    far: u32,
+    word: usize,
+) -> u32
+    requires table { seat.old.table_id ≡ board.now.table_id }
+    requires word { (word ≡ word_at board.now.key.config (producer ring)) × (word < board.now.table_id.words) }
+    requires far { far ≡ wrapped board.now.key (emptied (ask_for board.now.key who ring n) seat.old.me.0) }
+    requires ready { IsReady (ask_for board.now.key who ring n) (Peek ring n) seat.old.me.0 × (seat.old.me.0.flight ≡ idle) }
+    ensures same { (seat.new.table_id ≡ seat.old.table_id) × (seat.new.id ≡ seat.old.id) }
+    ensures slots { seat.new.me.1 ≡ seat.old.me.1 }
+    ensures history { (items : List Item) × (length items ≡ result) × (seat.new.me.0.flight ≡ still ring items) × Extends board.now.key who (Peek ring n) (items_reply items) seat.old.me.0 seat.new.me.0 }
+{
+    let found = look_items::<Brand>(board, seat, who, ring, n, word);
+    used(found as u32, far).min(n)
+}

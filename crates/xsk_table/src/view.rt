@@ -1,0 +1,162 @@
+//! What a seat of the table knows, the rule, and what each step tells.
+ghost use Rattle.std.specs.Prelude.{◌≡◌};
+
+use atomic_table::{Play, Split, TableRule};
+use std::marker::{Brand, Model, PhantomData};
+use std::snapshot::Snapshot;
+use xsk_model::Config;
+use xsk_umem::{Frame, Frames};
+
+/// What a seat knows. No value of it is made.
+pub struct View;
+
+impl Model for View {
+    ghost use Rattle.std.specs.Prelude.{[]};
+    ghost use Rattle.xsk_table.specs.View.{View as Seen, no_setup, newcomer};
+
+    ghost Value = { Seen };
+
+    ghost view = { λ _. newcomer no_setup [] };
+}
+
+/// What the table is told once.
+#[derive(Drop)]
+pub struct Key {
+    pub config: Snapshot<Config>,
+    pub first: u32,
+    pub frames: Snapshot<Frames>,
+}
+
+impl Model for Key {
+    ghost use Rattle.xsk_table.specs.View.{Setup};
+
+    ghost Value = { Setup };
+
+    ghost view = { λ k. record { config = k.config.value; first = k.first; frames = k.frames.value.items } };
+}
+
+/// The rule of the table.
+pub struct Law;
+
+impl TableRule<Option<Frame>, View, Key> for Law {
+    ghost use Rattle.xsk_table.specs.View.{newcomer};
+    ghost use Rattle.xsk_table.specs.Rule.{Rule, all_callers};
+
+    ghost holds = { λ k s. Rule k s };
+
+    ghost first = { λ k. newcomer k (all_callers k) };
+}
+
+/// What a step is for. Each call of a step picks it.
+pub trait Asking {
+    ghost use Rattle.xsk_table.specs.Plays.{Ask};
+
+    ghost ask: { Ask };
+}
+
+impl Asking for Brand {
+    ghost use Rattle.xsk_model.specs.declared.call.Ring.TheVariants.{Fill};
+    ghost use Rattle.xsk_table.specs.View.{no_setup};
+    ghost use Rattle.xsk_table.specs.Plays.{ask_for};
+
+    ghost ask = { ask_for no_setup 0 (Fill 0) 0 };
+}
+
+/// The look of a Reserve.
+pub struct Reserving<J> {
+    marker: PhantomData<J>,
+}
+
+impl<J: Asking> Play<Option<Frame>, View> for Reserving<J> {
+    ghost use Rattle.xsk_table.specs.Plays.{reserves};
+
+    ghost then = { reserves J.ask };
+}
+
+/// The look that takes the slot of a frame.
+pub struct Lifting<J> {
+    marker: PhantomData<J>,
+}
+
+impl<J: Asking> Play<Option<Frame>, View> for Lifting<J> {
+    ghost use Rattle.xsk_table.specs.Plays.{lifts};
+
+    ghost then = { lifts J.ask };
+}
+
+/// The write of an entry, which gives the slot home with the frame.
+pub struct Placing<J> {
+    marker: PhantomData<J>,
+}
+
+impl<J: Asking> Play<Option<Frame>, View> for Placing<J> {
+    ghost use Rattle.xsk_table.specs.Plays.{places};
+
+    ghost then = { places J.ask };
+}
+
+/// The raise of the producer.
+pub struct Raising<J> {
+    marker: PhantomData<J>,
+}
+
+impl<J: Asking> Play<Option<Frame>, View> for Raising<J> {
+    ghost use Rattle.xsk_table.specs.Plays.{submits};
+
+    ghost then = { submits J.ask };
+}
+
+/// The look of a Peek.
+pub struct Peeking<J> {
+    marker: PhantomData<J>,
+}
+
+impl<J: Asking> Play<Option<Frame>, View> for Peeking<J> {
+    ghost use Rattle.xsk_table.specs.Plays.{peeks};
+
+    ghost then = { peeks J.ask };
+}
+
+/// The read of an entry, which takes the slot with the frame.
+pub struct Fetching<J> {
+    marker: PhantomData<J>,
+}
+
+impl<J: Asking> Play<Option<Frame>, View> for Fetching<J> {
+    ghost use Rattle.xsk_table.specs.Plays.{fetches};
+
+    ghost then = { fetches J.ask };
+}
+
+/// The look that gives the slot home, empty.
+pub struct Settling<J> {
+    marker: PhantomData<J>,
+}
+
+impl<J: Asking> Play<Option<Frame>, View> for Settling<J> {
+    ghost use Rattle.xsk_table.specs.Plays.{settles};
+
+    ghost then = { settles J.ask };
+}
+
+/// The raise of the consumer.
+pub struct Releasing<J> {
+    marker: PhantomData<J>,
+}
+
+impl<J: Asking> Play<Option<Frame>, View> for Releasing<J> {
+    ghost use Rattle.xsk_table.specs.Plays.{releases};
+
+    ghost then = { releases J.ask };
+}
+
+/// How the opening deals the callers out.
+pub struct Dealing;
+
+impl Split<View> for Dealing {
+    ghost use Rattle.xsk_table.specs.View.{first_caller, other_callers};
+
+    ghost left = { other_callers };
+
+    ghost right = { first_caller };
+}
