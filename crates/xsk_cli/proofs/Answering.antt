@@ -1,15 +1,14 @@
 -- What a command answers for inputs whose bytes are told.
-use Rattle.std.proofs.Common.{◌≡◌, ℕ, ◌+◌, ◌<◌, ◌≤◌, List, [], length, get_or, refl, sym, ap, ◌∙◌, subst, arith, Some, None, Option}
+use Rattle.std.proofs.Common.{◌≡◌, ℕ, ◌<◌, ◌≤◌, List, [], length, get_or, refl, sym, ap, ◌∙◌, subst, arith, Some, None, Option}
 use Rattle.std.specs.Prelude.{IfSome}
-use Rattle.xsk_io.specs.Bay.{Rose}
 use Rattle.xsk_io.specs.declared.bay.Kind.TheVariants.{Open, Read, Write}
 use Rattle.xsk_io.specs.declared.bay.Stream.TheVariants.{Input, Output, Report}
 use Rattle.xsk_pcap.specs.declared.reading.BadCapture.{BadCapture as Cause}
 use Rattle.xsk_cli.specs.Cause.{IsCaused}
-use Rattle.xsk_cli.specs.Ends.{ComesOf, Ends, AreTold, Answers, AreTaken, NoneRose, IsComplete}
-use Rattle.xsk_cli.specs.Judged.{bytes_of, AreShort, AreCaptures, excess_of}
-use Rattle.xsk_cli.specs.Outcome.{Written, Outcome, long, bad, passed, stalled, made, IsOutcome, IsOutcomeIn}
-use Rattle.xsk_cli.specs.Streams.{Moment, Reach, Reaches, IsTold}
+use Rattle.xsk_cli.specs.Ends.{Ends, AreTold, Answers, AreTaken, NoneRose, IsComplete}
+use Rattle.xsk_cli.specs.Judged.{bytes_of, excess_of}
+use Rattle.xsk_cli.specs.Outcome.{Outcome, long, bad, passed, stalled, made, IsOutcome, IsOutcomeIn}
+use Rattle.xsk_cli.specs.Streams.{Moment, Reach, IsTold}
 use Rattle.xsk_cli.specs.Words.{Plan}
 use Rattle.xsk_cli.specs.declared.status.Excess.{Excess}
 use Rattle.xsk_cli.specs.declared.status.Excess.TheVariants.{Input as TooLong, Packets, Bytes}
@@ -27,9 +26,9 @@ module _ (plan : Plan) (old new : Moment) (inputs : List (List ℕ)) (told : Are
   same_inputs status ends all =
       same_lists [] ends.inputs inputs (ends.count ∙ all ∙ sym told.count)
       (λ i h.
-        let below : i < ends.reach.ends = omega (arith, h, ends.count) in
-        let known : i < length inputs = omega (arith, below, all, told.count) in
-        sym (told_is (old.left (Input i)) (bytes_of inputs i) (get_or ends.inputs i []) (told.each i known) (ends.reads.all i below)))
+      let below : i < ends.reach.ends = omega (arith, h, ends.count) in
+      let known : i < length inputs = omega (arith, below, all, told.count) in
+      sym (told_is (old.left (Input i)) (bytes_of inputs i) (get_or ends.inputs i []) (told.each i known) (ends.reads.all i below)))
 
   same_outcome : (status : Status) (mine outcome : Outcome) → (ends : Ends plan old new status) → ends.reach.ends ≡ length plan.inputs → IsOutcome ends.inputs mine → IsOutcome inputs outcome → outcome ≡ mine
   same_outcome status mine outcome ends all is other =

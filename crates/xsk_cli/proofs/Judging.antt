@@ -1,23 +1,19 @@
 -- The inputs' captures, judged one after another.
-use Rattle.std.proofs.Common.{◌≡◌, ℕ, zero, suc, ◌+◌, ◌*◌, ◌<◌, ◌≤◌, List, [], ◌∷◌, ◌++◌, length, map, get_or, refl, sym, ap, ◌∙◌, subst, arith, length-append, inl, inr, ⊎_elim, Some, None, Option, true, false, ltb}
-use Rattle.std.specs.Prelude.{sum_by, ◌≢◌, Result, Err, IfErr}
+use Rattle.std.proofs.Common.{◌≡◌, ℕ, ◌+◌, ◌<◌, ◌≤◌, List, [], ◌∷◌, ◌++◌, length, map, get_or, refl, sym, ap, ◌∙◌, subst, arith, length-append, None}
+use Rattle.std.specs.Prelude.{sum_by, Result, Err, IfErr}
 use Rattle.std.specs.List.{concat, flat_map}
 use Rattle.std.proofs.lemmas.List.{map-append, length-map, get_or-map}
 use Rattle.std.proofs.lemmas.List.Sums.{sum_by-append}
 use Rattle.std.proofs.lemmas.Bool.Decides.{nat_tests}
 use Rattle.xsk_umem.specs.PacketList.{PacketList}
-use Rattle.xsk_pcap.specs.Capture.{IsCapture, IsRefused, IsCause, Record, record_bytes, header_bytes}
+use Rattle.xsk_pcap.specs.Capture.{IsCapture, Record, record_bytes, header_bytes}
 use Rattle.xsk_pcap.specs.declared.endianness.Endianness.{Endianness}
-use Rattle.xsk_pcap.specs.declared.reading.BadCapture.{BadCapture as Cause}
-use Rattle.xsk_pcap.specs.declared.reading.BadCapture.TheVariants.{OutOfMemory as NoCause}
 use Rattle.xsk_pcap.proofs.Unique.{length-record}
-use Rattle.xsk_cli.specs.Judged.{bytes_of, AreShort, AreCaptures, IsBadCapture, packets_in, bytes_in, excess_of}
+use Rattle.xsk_cli.specs.Judged.{bytes_of, AreShort, AreCaptures, packets_in, bytes_in, excess_of}
 use Rattle.xsk_cli.specs.Outcome.{listed}
 use Rattle.xsk_cli.specs.Steps.{FailsRunning, IsRefusal, MakesNone, lists_in}
 use Rattle.xsk_cli.specs.declared.failure.RunFailure.{RunFailure}
 use Rattle.xsk_cli.specs.declared.failure.RunFailure.TheVariants.{BadCapture as Bad, TooMuch as Excessive, Stalled as Stalls, OutOfMemory as NoMemory}
-use Rattle.xsk_cli.specs.declared.status.Excess.{Excess}
-use Rattle.xsk_cli.specs.declared.status.Excess.TheVariants.{Packets, Bytes}
 use Rattle.xsk_cli.proofs.Ports.{push_each, small_sum}
 
 -- the first inputs are captures, and these are the lists of their packets
@@ -25,9 +21,6 @@ pub record HaveTaken (inputs : List (List ℕ)) (lists : List PacketList) (n : �
   pub count : length lists ≡ n
   pub each : (port : ℕ) → port < n → IsCapture (bytes_of inputs port) (get_or (lists_in lists) port [])
   pub bare : lists ≡ map listed (lists_in lists)
-
-pub none_taken : (inputs : List (List ℕ)) → HaveTaken inputs [] 0
-none_taken inputs = record { count = refl; each = λ port h. absurd (omega (arith, h)); bare = refl }
 
 pub taken_more : (inputs : List (List ℕ)) (lists : List PacketList) (list : PacketList) (n : ℕ) → HaveTaken inputs lists n → IsCapture (bytes_of inputs n) list.packets → list ≡ listed list.packets
     → HaveTaken inputs (lists ++ list ∷ []) (n + 1)
@@ -43,9 +36,6 @@ taken_more inputs lists list n have is bare =
           ∙ sym (map-append listed (lists_in lists) (list.packets ∷ [])) ∙ ap (map listed) (sym parts);
     }
 
-pub all_captures : (inputs : List (List ℕ)) (lists : List PacketList) → HaveTaken inputs lists (length inputs) → AreCaptures inputs (lists_in lists)
-all_captures inputs lists have = record { count = length-map lists (λ (l : PacketList). l.packets) ∙ have.count; each = have.each }
-
 pub refusal_makes : (inputs : List (List ℕ)) (lists : List PacketList) (n : ℕ) (failure : RunFailure) → HaveTaken inputs lists n → n < length inputs → AreShort inputs (length inputs)
     → IsRefusal n (bytes_of inputs n) failure → MakesNone inputs failure
 refusal_makes inputs lists n (Bad at cause) have known short h =
@@ -54,16 +44,6 @@ refusal_makes inputs lists n (Bad at cause) have known short h =
 refusal_makes inputs lists n (Excessive excess) have known short h = absurd h
 refusal_makes inputs lists n (Stalls round) have known short h = absurd h
 refusal_makes inputs lists n NoMemory have known short h = tt
-
-pub excess_makes : (inputs : List (List ℕ)) (lists : List PacketList) (excess : Excess) → AreCaptures inputs (lists_in lists) → AreShort inputs (length inputs) → excess_of (lists_in lists) ≡ Some excess
-    → MakesNone inputs (Excessive excess)
-excess_makes inputs lists excess captures short is = (short, (lists_in lists, captures, is))
-
--- ---- causes
-
--- a cause that isn't want of memory is a check that fails
-pub real : (bytes : List ℕ) (cause : Cause) → cause ≢ NoCause → IsCause bytes cause → IsRefused bytes cause
-real bytes cause other h = ⊎_elim (λ r. r) (λ m. absurd (other m.0)) h
 
 -- ---- sizes
 
@@ -92,21 +72,12 @@ length-captured bytes packets h =
 pub bytes_small : (inputs : List (List ℕ)) (lists : List (List (List ℕ))) → AreCaptures inputs lists → AreShort inputs (length inputs) → length inputs ≤ 4 → bytes_in lists ≤ 138412128
 bytes_small inputs lists captures short few =
     let sum = small_sum (λ (packets : List (List ℕ)). length (concat packets)) [] lists
-        (λ i h.
-          let known : i < length inputs = omega (arith, h, captures.count) in
-          omega (arith, length-captured (bytes_of inputs i) (get_or lists i []) (captures.each i known), short i known)) in
+    (λ i h.
+    let known : i < length inputs = omega (arith, h, captures.count) in
+    omega (arith, length-captured (bytes_of inputs i) (get_or lists i []) (captures.each i known), short i known)) in
     omega (arith, sum, captures.count, few)
 
 -- ---- limits
-
-pub within_limits : (lists : List (List (List ℕ))) → packets_in lists ≤ 65536 → bytes_in lists ≤ 33554432 → excess_of lists ≡ None
-within_limits lists packets bytes = grind (arith, nat_tests)
-
-pub many_packets : (lists : List (List (List ℕ))) → 65536 < packets_in lists → excess_of lists ≡ Some (Packets (packets_in lists))
-many_packets lists packets = grind (arith, nat_tests)
-
-pub many_bytes : (lists : List (List (List ℕ))) → packets_in lists ≤ 65536 → 33554432 < bytes_in lists → excess_of lists ≡ Some (Bytes (bytes_in lists))
-many_bytes lists packets bytes = grind (arith, nat_tests)
 
 pub limits_of : (lists : List (List (List ℕ))) → excess_of lists ≡ None → (packets_in lists ≤ 65536) × (bytes_in lists ≤ 33554432)
 limits_of lists h = (grind (arith, nat_tests, h), grind (arith, nat_tests, h))

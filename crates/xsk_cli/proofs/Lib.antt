@@ -1,9 +1,7 @@
 pub mod Ports
-pub mod Planning
 pub mod Totals
 pub mod Reading
 pub mod Writing
-pub mod Telling
 pub mod TwoPortsLaws
 pub mod Judging
 pub mod Running

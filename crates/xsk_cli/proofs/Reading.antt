@@ -1,18 +1,16 @@
 -- The inputs, read one after another.
-use Rattle.std.proofs.Common.{◌≡◌, ℕ, ◌+◌, ◌<◌, ◌≤◌, ltb, Bool, true, false, List, [], ◌∷◌, ◌++◌, length, get_or, map, refl, sym, ap, ◌∙◌, subst, inl, inr, ⊎_elim, arith, length-append, Option}
+use Rattle.std.proofs.Common.{◌≡◌, ℕ, ◌+◌, ◌<◌, ◌≤◌, ltb, true, false, List, [], ◌∷◌, ◌++◌, length, get_or, map, refl, sym, ap, ◌∙◌, subst, ⊎_elim, arith, length-append, Option}
 use Rattle.std.specs.Prelude.{◌≢◌, IfSome, IfErr, Result, Err}
 use Rattle.std.specs.Io.KnownBytes.{IsAtEnd}
 use Rattle.std.proofs.lemmas.Bool.{cases_eq}
 use Rattle.std.proofs.lemmas.List.{get_or-map, length-map}
 use Rattle.xsk_io.specs.Bay.{Rose, SameBut}
 use Rattle.xsk_io.proofs.Steps.{Rose-earlier}
-use Rattle.xsk_io.specs.declared.bay.Kind.{Kind}
 use Rattle.xsk_io.specs.declared.bay.Kind.TheVariants.{Open, Read}
 use Rattle.xsk_io.specs.declared.bay.Stream.{Stream}
 use Rattle.xsk_io.specs.declared.bay.Stream.TheVariants.{Input, Output, Report}
 use Rattle.xsk_cli.specs.Cause.{IsCaused, NeverFalls}
 use Rattle.xsk_cli.specs.Ends.{ComesOf, Ends}
-use Rattle.xsk_cli.specs.Judged.{AreShort}
 use Rattle.xsk_cli.specs.Outcome.{Written}
 use Rattle.xsk_cli.specs.Streams.{Moment, IsTold, at_input, Reaches, AreRead, AreWritten, IsReported, name_of}
 use Rattle.xsk_cli.specs.Steps.{FailsReading, HaveRead, args_status, read_status}

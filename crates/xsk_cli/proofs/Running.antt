@@ -1,5 +1,5 @@
 -- What a run of the command sent is what the other port received.
-use Rattle.std.proofs.Common.{◌≡◌, ℕ, zero, suc, ◌+◌, ◌*◌, ◌<◌, ◌≤◌, Bool, cond, true, false, List, [], ◌∷◌, ◌++◌, length, map, get_or, refl, sym, ap, ◌∙◌, subst, lit<, arith, None, length-append, append-nil}
+use Rattle.std.proofs.Common.{◌≡◌, ℕ, zero, suc, ◌+◌, ◌*◌, ◌<◌, ◌≤◌, Bool, cond, true, false, List, [], ◌∷◌, length, map, get_or, refl, ap, ◌∙◌, subst, lit<, arith, None, length-append, append-nil}
 use Rattle.std.proofs.lemmas.List.Elements.{recursion_from_All}
 use Rattle.xsk_pcap.specs.Capture.{IsShort}
 use Rattle.xsk_pcap.specs.Written.{IsWritable}
@@ -23,8 +23,8 @@ use Rattle.xsk_sim.specs.Runs.{HasEnded, HasStalled}
 use Rattle.xsk_laws.specs.Laws.{AreWholeRuns, HasOwnSockets}
 use Rattle.xsk_laws.proofs.Theorems.{all_is_expected}
 use Rattle.xsk_laws.proofs.OneQueue.{expected_is_other}
-use Rattle.xsk_cli.specs.Judged.{packets_in, bytes_in, excess_of}
-use Rattle.xsk_cli.specs.Outcome.{Written, listed, config, setting_of, frames, capture_of, is_sent_on, sent_on_by, ports, report_of, AreTextsOf}
+use Rattle.xsk_cli.specs.Judged.{excess_of}
+use Rattle.xsk_cli.specs.Outcome.{Written, listed, config, setting_of, frames, capture_of, is_sent_on, sent_on_by, report_of, AreTextsOf}
 use Rattle.xsk_cli.specs.TwoPorts.{command_geometry}
 use Rattle.xsk_cli.proofs.Judging.{limits_of}
 use Rattle.xsk_cli.proofs.Ports.{same_map}

@@ -1,10 +1,7 @@
 -- The bytes of the first packets of a list.
-use Rattle.std.proofs.Common.{◌≡◌, ℕ, zero, suc, ◌+◌, List, [], ◌∷◌, length, take, Some, arith, add-one, ◌≤◌, length-append, append-nil}
-use Rattle.std.specs.Prelude.{All, slice_get}
+use Rattle.std.proofs.Common.{◌≡◌, ℕ, zero, suc, ◌+◌, List, [], ◌∷◌, length, take, Some, arith, add-one, ◌≤◌, length-append}
+use Rattle.std.specs.Prelude.{slice_get}
 use Rattle.std.specs.List.{concat}
-use Rattle.std.proofs.lemmas.List.Elements.{recursion_from_All}
-use Rattle.xsk_pcap.specs.Capture.{IsShort}
-use Rattle.xsk_pcap.specs.Written.{IsWritable}
 
 pub length_concat-take : (packets : List (List ℕ)) (n : ℕ) (packet : List ℕ) → slice_get packets n ≡ Some packet
     → length (concat (take (suc n) packets)) ≡ length (concat (take n packets)) + length packet
@@ -23,4 +20,3 @@ length_concat-take_few packets zero = omega arith
 length_concat-take_few [] (suc n) = omega arith
 length_concat-take_few (first ∷ packets) (suc n) =
     omega (arith, length-append first (concat (take n packets)), length-append first (concat packets), length_concat-take_few packets n)
-

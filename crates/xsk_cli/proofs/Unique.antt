@@ -1,10 +1,9 @@
 -- The bytes of the inputs have one outcome.
-use Rattle.std.proofs.Common.{◌≡◌, ℕ, ◌+◌, ◌<◌, ◌≤◌, ◌⊎◌, List, [], length, get_or, refl, sym, ap, ◌∙◌, subst, inl, inr, ⊎_elim, arith, Some, None, Option}
+use Rattle.std.proofs.Common.{◌≡◌, ℕ, ◌<◌, ◌⊎◌, List, [], length, get_or, refl, sym, ap, ◌∙◌, subst, inl, inr, ⊎_elim, arith, Some, None, Option}
 use Rattle.std.proofs.lemmas.Bool.{cases_order}
 use Rattle.std.proofs.lemmas.List.{length-map}
 use Rattle.std.proofs.lemmas.Option.{same_Some}
 use Rattle.xsk_model.specs.Stored.{stored_entry}
-use Rattle.xsk_pcap.specs.Capture.{IsCapture}
 use Rattle.xsk_pcap.specs.declared.reading.BadCapture.{BadCapture as Cause}
 use Rattle.xsk_pcap.proofs.CaptureLaws.{one_reading, one_refusal, refused_is_no_capture}
 use Rattle.xsk_sim.specs.Shown.{Shown}
@@ -21,16 +20,16 @@ pub same_captures : (inputs : List (List ℕ)) (some others : List (List (List �
 same_captures inputs some others a b =
     same_lists [] some others (a.count ∙ sym b.count)
     (λ i h.
-      let known : i < length inputs = omega (arith, h, a.count) in
-      one_reading (bytes_of inputs i) (get_or some i []) (get_or others i []) (a.each i known) (b.each i known))
+    let known : i < length inputs = omega (arith, h, a.count) in
+    one_reading (bytes_of inputs i) (get_or some i []) (get_or others i []) (a.each i known) (b.each i known))
 
 one_long : (inputs : List (List ℕ)) (p q : ℕ) → IsTooLong inputs p → IsTooLong inputs q → p ≡ q
 one_long inputs p q a b = ⊎_elim
     (λ (e : p ≡ q). e)
     (λ other. ⊎_elim
-        (λ (l : p < q). absurd (omega (arith, a.long, b.before p l)))
-        (λ (l : q < p). absurd (omega (arith, b.long, a.before q l)))
-        other)
+    (λ (l : p < q). absurd (omega (arith, a.long, b.before p l)))
+    (λ (l : q < p). absurd (omega (arith, b.long, a.before q l)))
+    other)
     (cases_order p q)
 
 long_not_short : (inputs : List (List ℕ)) (p : ℕ) → IsTooLong inputs p → AreShort inputs (length inputs) → ⊥
@@ -42,11 +41,11 @@ refused_port inputs p q c d a b l = let before = b.before p l in refused_is_no_c
 one_bad : (inputs : List (List ℕ)) (p q : ℕ) (c d : Cause) → IsBadCapture inputs p c → IsBadCapture inputs q d → bad p c ≡ bad q d
 one_bad inputs p q c d a b = ⊎_elim
     (λ (e : p ≡ q).
-      ap (λ port. bad port c) e ∙ ap (bad q) (one_refusal (bytes_of inputs q) c d (subst (λ k. IsBadCapture inputs k c) e a).refused b.refused))
+    ap (λ port. bad port c) e ∙ ap (bad q) (one_refusal (bytes_of inputs q) c d (subst (λ k. IsBadCapture inputs k c) e a).refused b.refused))
     (λ other. ⊎_elim
-        (λ (l : p < q). absurd (refused_port inputs p q c d a b l))
-        (λ (l : q < p). absurd (refused_port inputs q p d c b a l))
-        other)
+    (λ (l : p < q). absurd (refused_port inputs p q c d a b l))
+    (λ (l : q < p). absurd (refused_port inputs q p d c b a l))
+    other)
     (cases_order p q)
 
 pub bad_not_captures : (inputs : List (List ℕ)) (p : ℕ) (c : Cause) (lists : List (List (List ℕ))) → IsBadCapture inputs p c → AreCaptures inputs lists → ⊥
@@ -116,11 +115,11 @@ one_later inputs a b (is_in x) (is_in y) = one_in inputs a b x y
 pub one_outcome : OneOutcome
 one_outcome inputs a b x y = ⊎_elim
     (λ xl. ⊎_elim
-        (λ yl. xl.1 ∙ ap long (one_long inputs xl.0 yl.0 xl.2 yl.2) ∙ sym yl.1)
-        (λ ys. absurd (long_not_short inputs xl.0 xl.2 ys.0))
-        (later inputs b y))
+    (λ yl. xl.1 ∙ ap long (one_long inputs xl.0 yl.0 xl.2 yl.2) ∙ sym yl.1)
+    (λ ys. absurd (long_not_short inputs xl.0 xl.2 ys.0))
+    (later inputs b y))
     (λ xs. ⊎_elim
-        (λ yl. absurd (long_not_short inputs yl.0 yl.2 xs.0))
-        (λ ys. one_later inputs a b xs.1 ys.1)
-        (later inputs b y))
+    (λ yl. absurd (long_not_short inputs yl.0 yl.2 xs.0))
+    (λ ys. one_later inputs a b xs.1 ys.1)
+    (later inputs b y))
     (later inputs a x)

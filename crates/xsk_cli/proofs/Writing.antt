@@ -1,21 +1,17 @@
 -- How a command ends once its inputs were read.
-use Rattle.std.proofs.Common.{◌≡◌, ℕ, ◌+◌, ◌<◌, ◌≤◌, Bool, cond, ltb, true, false, Option, Some, None, List, [], ◌∷◌, ◌++◌, length, get_or, refl, sym, ap, ◌∙◌, subst, ⊎_elim, arith}
-use Rattle.std.specs.Prelude.{◌≢◌, IfSome, Result, Err}
+use Rattle.std.proofs.Common.{◌≡◌, ℕ, ◌+◌, Bool, cond, ltb, true, false, Option, Some, None, List, [], length, get_or, refl, sym, ap, ◌∙◌, subst, arith}
+use Rattle.std.specs.Prelude.{Result, Err}
 use Rattle.std.specs.Io.KnownBytes.{IsAtEnd}
-use Rattle.std.proofs.lemmas.Bool.{cases_eq}
-use Rattle.xsk_io.specs.Bay.{Grows, GrowsByPart, Rose, Same, SameBut}
-use Rattle.xsk_io.proofs.Steps.{Rose-earlier}
-use Rattle.xsk_io.specs.declared.bay.Kind.TheVariants.{Open, Write}
+use Rattle.xsk_io.specs.Bay.{Grows, GrowsByPart, Same}
 use Rattle.xsk_io.specs.declared.bay.Stream.{Stream}
 use Rattle.xsk_io.specs.declared.bay.Stream.TheVariants.{Input, Output, Report}
-use Rattle.xsk_cli.specs.Cause.{IsCaused, NeverFalls}
 use Rattle.xsk_cli.specs.Ends.{ComesOf, Ends}
 use Rattle.xsk_cli.specs.Judged.{packets_in, bytes_in, excess_of}
 use Rattle.xsk_cli.specs.declared.status.Excess.{Excess}
 use Rattle.std.proofs.lemmas.List.FromFn.{length-map-range_with_len}
 use Rattle.xsk_cli.specs.Outcome.{Written, made, IsOutcome, AreTextsOf, capture_of, sent_on_by}
 use Rattle.xsk_cli.specs.Streams.{Moment, IsTold, IsFront, at_output, at_input, Reaches, AreRead, AreWritten, IsReported, name_of, status_in}
-use Rattle.xsk_cli.specs.Steps.{FailsOutput, FailsOutputs, FailsWriting, HaveRead, MakesNone, run_status, write_status}
+use Rattle.xsk_cli.specs.Steps.{FailsWriting, HaveRead, MakesNone, run_status, write_status}
 use Rattle.xsk_cli.specs.Words.{Plan}
 use Rattle.xsk_cli.specs.declared.failure.RunFailure.{RunFailure}
 use Rattle.xsk_cli.specs.declared.failure.RunFailure.TheVariants.{BadCapture as Bad, TooMuch as Excessive, Stalled as Stalls, OutOfMemory as NoMemory}
@@ -24,8 +20,7 @@ use Rattle.xsk_cli.specs.declared.failure.WriteFailure.TheVariants.{Unopened, Un
 use Rattle.xsk_cli.specs.declared.status.Excess.TheVariants.{Input as LongInput, Packets, Bytes}
 use Rattle.xsk_cli.specs.declared.status.Status.{Status}
 use Rattle.xsk_cli.specs.declared.status.Status.TheVariants.{Done, BadCapture, WriteFault, OpenFault, Stalled, TooMuch, OutOfMemory}
-use Rattle.xsk_cli.proofs.Ports.{step, not_below_itself, below_next, below_as_before}
-use Rattle.xsk_cli.proofs.Reading.{Touched, none_written}
+use Rattle.xsk_cli.proofs.Reading.{none_written}
 
 -- the outputs are as they were
 pub still_written : (names texts : List (List ℕ)) (opened whole : ℕ) (old mid new : Moment) → AreWritten names texts opened whole old mid → Same mid.is_open new.is_open → Same mid.asked new.asked

@@ -1,16 +1,16 @@
 -- How a command ends: what it did to its streams, and why. What it makes of its inputs is a function of their bytes.
-use Rattle.std.specs.Prelude.{◌≡◌, ℕ, ◌<◌, ◌⊎◌, length, List, Some, None, IfSome}
+use Rattle.std.specs.Prelude.{◌≡◌, ℕ, ◌<◌, length, List, Some, None, IfSome}
 use Rattle.xsk_io.specs.Bay.{Rose}
 use Rattle.xsk_io.specs.declared.bay.Kind.{Kind}
 use Rattle.xsk_io.specs.declared.bay.Stream.{Stream}
-use Rattle.xsk_io.specs.declared.bay.Stream.TheVariants.{Input, Output, Report}
+use Rattle.xsk_io.specs.declared.bay.Stream.TheVariants.{Input, Output}
 use Rattle.xsk_cli.specs.Words.{Plan}
 use Rattle.xsk_cli.specs.Judged.{bytes_of, AreShort, AreCaptures, excess_of}
 use Rattle.xsk_cli.specs.Outcome.{Written, Outcome, long, bad, passed, stalled, made, IsOutcome}
 use Rattle.xsk_cli.specs.Streams.{Moment, IsTold, Reach, Reaches, AreRead, AreWritten, IsReported, name_of}
 use Rattle.xsk_cli.specs.declared.status.Excess.TheVariants.{Input as TooLong}
 use Rattle.xsk_cli.specs.declared.status.Status.{Status}
-use Rattle.xsk_cli.specs.declared.status.Status.TheVariants.{Done, Usage, BadCapture, ReadFault, WriteFault, OpenFault, Stalled, TooMuch, OutOfMemory}
+use Rattle.xsk_cli.specs.declared.status.Status.TheVariants.{Done, Usage, BadCapture, WriteFault, OpenFault, Stalled, TooMuch, OutOfMemory}
 
 -- the status comes of these inputs: they were too long or refused, their run stalled, or these are its texts
 abbrev pub ComesOf : List (List ℕ) → Written → Moment → Status → Type 0

@@ -1,7 +1,7 @@
 -- What a command did to its streams, once it has ended. It opens its files one after another: the inputs, of which each is
 -- read to its end before the next, and then the outputs, of which each is written before the next. After them comes the
 -- report.
-use Rattle.std.specs.Prelude.{◌≡◌, ℕ, ◌+◌, ◌<◌, ◌≤◌, ◌⊎◌, nat_lt, length, Bool, List, [], take, Option, IfSome, Result, Ok, Err}
+use Rattle.std.specs.Prelude.{◌≡◌, ℕ, ◌+◌, ◌<◌, ◌≤◌, ◌⊎◌, nat_lt, Bool, List, [], take, Option, IfSome, Result, Ok, Err}
 use Rattle.std.specs.Io.KnownBytes.{IsAtEnd}
 use Rattle.std.specs.List.{slice_index_or}
 use Rattle.xsk_io.specs.Bay.{Grows, GrowsByPart, Rose}
@@ -90,7 +90,6 @@ pub record AreWritten (names texts : List (List ℕ)) (opened whole : ℕ) (old 
   pub wholes : (port : ℕ) → port < whole → IsTold (new.held (Output port)) (slice_index_or texts port [])
   pub fronts : (port : ℕ) → whole ≤ port → port < opened → IsFront (new.held (Output port)) (slice_index_or texts port [])
   pub later : (port : ℕ) → opened ≤ port → new.held (Output port) ≡ old.held (Output port)
-
 
 -- the report got its text, or a front of it
 abbrev pub IsReported : List ℕ → Status → Moment → Moment → Type 0

@@ -39,11 +39,7 @@ pub(crate) fn write_texts<B: Bay>(
 }
 
 /// Opens the outputs by their names and writes them, one after another.
-fn write_outputs<B: Bay>(
-    bay: &mut B,
-    names: &[&str],
-    texts: &[Vec<u8>],
-) -> Result<(), WriteFailure>
+fn write_outputs<B: Bay>(bay: &mut B, names: &[&str], texts: &[Vec<u8>]) -> Result<(), WriteFailure>
     requires few { length names.now ≤ 4 }
     requires texts { length texts.now ≡ length names.now }
     requires closed { (port : ℕ) → B.is_open bay.old (Stream.Output port) ≡ false }
@@ -61,18 +57,18 @@ fn write_outputs<B: Bay>(
     ensures cause { IfErr result (λ failure. IsCaused (B.faults bay.old) (B.faults bay.new) (write_status failure)) }
 {
     for port in 0..names.len() as u32 {
-        write_output(bay, port, names[port as usize], texts[port as usize].as_slice())?;
+        write_output(
+            bay,
+            port,
+            names[port as usize],
+            texts[port as usize].as_slice(),
+        )?;
     }
     Ok(())
 }
 
 /// Opens the output of a port and writes its text.
-fn write_output<B: Bay>(
-    bay: &mut B,
-    port: u32,
-    name: &str,
-    text: &[u8],
-) -> Result<(), WriteFailure>
+fn write_output<B: Bay>(bay: &mut B, port: u32, name: &str, text: &[u8]) -> Result<(), WriteFailure>
     requires port { port < 4 }
     requires closed { B.is_open bay.old (Stream.Output port) ≡ false }
     ensures whole { OnOk result (IsTold (B.held bay.new (Stream.Output port)) text.now) }

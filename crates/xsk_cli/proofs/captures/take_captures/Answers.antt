@@ -1,4 +1,4 @@
-use Rattle.std.proofs.Common.{◌≤◌, length, map, arith, subst, sym}
+use Rattle.std.proofs.Common.{◌≤◌, length, map, arith}
 use Rattle.std.proofs.lemmas.List.{length-map}
 use Rattle.xsk_cli.specs.Judged.{bytes_in}
 use Rattle.xsk_cli.specs.Steps.{lists_in}

@@ -1,7 +1,6 @@
 use Rattle.std.proofs.Common.{◌≡◌, ◌≤◌, map, length, vec_len, vec_capacity}
 use Rattle.xsk_cli.specs.Cause.{NeverFalls}
 use Rattle.xsk_cli.specs.Steps.{HaveRead}
-use Rattle.xsk_cli.specs.Streams.{Moment}
 use Rattle.xsk_cli.proofs.input.read_inputs.Given as goal
 
 abbrev pub invariant-loop-port : goal.invariant-loop-port

@@ -1,11 +1,10 @@
-use Rattle.std.proofs.Common.{◌≡◌, map, string_bytes, sym, ap, ◌∙◌, subst, Some, None}
+use Rattle.std.proofs.Common.{◌≡◌, map, string_bytes, sym, ap, ◌∙◌, subst}
 use Rattle.std.specs.Prelude.{unwrap_or}
 use Rattle.xsk_io.proofs.Steps.{Rose-later}
 use Rattle.xsk_cli.specs.Cause.{IsCaused}
 use Rattle.xsk_cli.specs.Ends.{Ends, NoneRose}
-use Rattle.xsk_cli.specs.Streams.{Moment, status_in}
-use Rattle.xsk_cli.specs.Words.{Plan, no_plan, plan_of}
-use Rattle.xsk_cli.specs.declared.status.Status.TheVariants.{Usage}
+use Rattle.xsk_cli.specs.Streams.{Moment}
+use Rattle.xsk_cli.specs.Words.{no_plan, plan_of}
 use Rattle.xsk_cli.proofs.Answering.{answered, completes}
 use Rattle.xsk_cli.proofs.plain.run_plain.Goals as goal
 

@@ -1,10 +1,10 @@
-use Rattle.std.proofs.Common.{rules, ◌≡◌, ◌≤◌, length, map, sym, subst, arith, ap, ◌∙◌, None}
+use Rattle.std.proofs.Common.{rules, ◌≡◌, length, map, sym, subst, arith}
 use Rattle.std.proofs.lemmas.List.{length-map}
-use Rattle.xsk_cli.specs.Judged.{AreShort, AreCaptures, excess_of}
+use Rattle.xsk_cli.specs.Judged.{AreShort, AreCaptures}
 use Rattle.xsk_cli.specs.Outcome.{made, IsOutcome, AreTextsOf}
-use Rattle.xsk_cli.specs.Steps.{FailsRunning, FailsWriting, HaveRead, MakesNone, lists_in, plan_in, run_status, write_status, written_in}
+use Rattle.xsk_cli.specs.Steps.{FailsRunning, HaveRead, MakesNone, lists_in, plan_in, run_status, write_status, written_in}
 use Rattle.xsk_cli.specs.Streams.{Moment, AreWritten}
-use Rattle.xsk_cli.proofs.Judging.{running_makes, short_all}
+use Rattle.xsk_cli.proofs.Judging.{running_makes}
 use Rattle.xsk_cli.proofs.Writing.{SameInputs, run_fails, unwritten_ends, done_ends, status_ends, texts_count}
 use Rattle.xsk_cli.proofs.plain.run_plan.Goals as goal
 
