@@ -119,12 +119,14 @@ module _ (k : Setup) (words : List ℕ) (opened_is : IsOpened k.config k.frames)
   lies_open : (r : Ring) (j : ℕ) (x : Item) → HasRing k.config r → IsItemOn k.config.geometry r x → get_elem? (first_ring k.config k.frames r).out j ≡ some x
       → Lies k.config words r (k.first + 0 + j) x × IsHome homes x.frame
   lies_open (Fill d) j x h lawful e =
-      let t = pool_item k.config k.frames opened_is d j x h e in
-      (record {
-        address = ap (λ n. at k.config words (entry_of k.config (Fill d) n)) (let z : k.first + 0 + j ≡ k.first + j = omega arith in z) ∙ w.entries d h j t.0 ∙ sym t.1;
-        other = λ two. absurd (cc);
-        lawful = lawful;
-      }, t.2)
+      let t = pool_item k.config k.frames opened_is d j x h e in (
+        record {
+          address = ap (λ n. at k.config words (entry_of k.config (Fill d) n)) (let z : k.first + 0 + j ≡ k.first + j = omega arith in z) ∙ w.entries d h j t.0 ∙ sym t.1;
+          other = λ two. absurd (cc);
+          lawful = lawful;
+        },
+        t.2,
+      )
   lies_open (Comp d) j x h lawful e = absurd (some-ne-none x (sym e))
   lies_open (Rx s) j x h lawful e = absurd (some-ne-none x (sym e))
   lies_open (Tx s) j x h lawful e = absurd (some-ne-none x (sym e))

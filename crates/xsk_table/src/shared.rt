@@ -59,12 +59,7 @@ struct Room {
     passes: Vec<Option<Pass>>,
 }
 
-fn take_room(
-    alloc: Global,
-    config: &Config,
-    first: u32,
-    frames: u32,
-) -> Result<Room, OutOfMemory>
+fn take_room(alloc: Global, config: &Config, first: u32, frames: u32) -> Result<Room, OutOfMemory>
     requires { IsLawful config.now }
     ensures words { IfOk result (λ room. WordsOpen config.now first room.words.items) }
     ensures slots { IfOk result (λ room. (room.slots.items ≡ []) × (frames ≤ vec_capacity room.slots)) }
@@ -213,3 +208,15 @@ impl Shared {
         &self.config
     }
 }
+
+/// A table may be shared by threads, and passes and frames sent to them.
+#[allow(dead_code)]
+fn is_shared(shared: &Shared, pass: &Pass, frame: &Frame) {
+    needs_sync(shared);
+    needs_send(pass);
+    needs_send(frame);
+}
+
+fn needs_sync<T: Sync>(_shared: &T) {}
+
+fn needs_send<T: Send>(_sent: &T) {}
