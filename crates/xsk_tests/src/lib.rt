@@ -13,3 +13,5 @@ mod four_ports;
 mod many_packets;
 #[cfg(test)]
 mod short_writes;
+#[cfg(test)]
+mod small_rings;
