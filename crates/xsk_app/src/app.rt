@@ -1,5 +1,5 @@
 //! The application, as other crates use it.
-ghost use Rattle.std.specs.Prelude.{◌≡◌, None, Some, List, ℕ, ◌+◌, ◌-◌, ◌*◌, ◌/◌, ◌%◌, ◌<◌, ◌≤◌, IfOk, [], ◌∷◌, length, replicate, vec_len, slice_index};
+ghost use Rattle.std.specs.Prelude.{◌≡◌, None, Some, false, List, ℕ, ◌+◌, ◌-◌, ◌*◌, ◌/◌, ◌%◌, ◌<◌, ◌≤◌, IfOk, [], ◌∷◌, length, replicate, vec_len, slice_index};
 ghost use Rattle.std.specs.List.{slice_index_or};
 ghost use Rattle.xsk_model.specs.Config.{IsRegular};
 ghost use Rattle.xsk_model.specs.Marks.{apps_of};
@@ -17,6 +17,7 @@ use crate::machine::{Machine, Turn, Wait, Way};
 use std::alloc::Global;
 use std::marker::Model;
 use xsk_model::{Act, Answer, Ask, Config, Reply};
+use xsk_turns::stepping::{join_ask, split_reply};
 use xsk_umem::{Batch, OutOfMemory};
 
 /// The application of one queue of two paired ports, as a worker that makes one call at a time.
@@ -39,10 +40,12 @@ impl<'a> Model for App<'a> {
 impl<'a> App<'a> {
     ghost use Rattle.xsk_app.specs.Runs.{IsNew, Stands, StandsWith, TellsWith};
 
-    /// The application with this number, of a regular configuration that has it.
+    /// The application with this number, of a regular configuration that has it and is without need-wakeup, which an
+    /// application doesn't know yet.
     pub fn new(alloc: Global, config: &'a Config, app: u32) -> Result<App<'a>, OutOfMemory>
         requires regular { IsRegular config.now }
         requires app { app < apps_of config.now }
+        requires wakeup { config.now.wakeup ≡ false }
         ensures expected { IfOk result (λ a. a.expected ≡ nothing) }
         ensures new { IfOk result (λ a. IsNew config.now app a) }
     {
@@ -92,9 +95,9 @@ impl<'a> App<'a> {
             → Stands c app self.old call l → reply ≡ Some r → Fits c l call r → TellsWith c app self.new result (with_told l call r) }
     {
         let mut items = Batch::new(self.machine.alloc);
-        let answer = split(reply, &mut items);
+        let answer = split_reply(reply, &mut items);
         let ask = self.step(answer, &mut items);
-        joined(ask, items)
+        join_ask(ask, items)
     }
 
     /// Goes on as `next` does, with the items of a reply taken from the batch, and those of a call put there; `None` tells
@@ -118,29 +121,6 @@ impl<'a> App<'a> {
             → TellsWith c app self.new (joined_ask result items.new) (with_told l call r) }
     {
         self.machine.step(answer, items)
-    }
-}
-
-/// A reply without its items, which are put into an empty batch.
-fn split(reply: Option<Reply>, items: &mut Batch) -> Option<Answer>
-    requires { items.old ≡ [] }
-    ensures reply { joined_answer result items.new ≡ reply }
-    ensures items { IsLent result items.new }
-{
-    match reply {
-        Some(reply) => Some(reply.split(items)),
-        None => None,
-    }
-}
-
-/// What is done next, with the batch's items.
-fn joined(ask: Option<Ask>, items: Batch) -> Act
-    requires { IsGivenBack ask items }
-    ensures { result ≡ joined_ask ask items }
-{
-    match ask {
-        Some(ask) => Act::Call(ask.joined(items)),
-        None => Act::Ended,
     }
 }
 

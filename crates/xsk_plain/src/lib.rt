@@ -12,4 +12,4 @@ mod ring_store;
 mod tests;
 
 pub use log::Log;
-pub use plain::{OpenRefused, Plain, payload_room};
+pub use plain::{OpenRefused, Plain, items_room, payload_room};

@@ -3,6 +3,7 @@ ghost use Rattle.std.specs.Prelude.{◌≡◌, ◌+◌, ◌≤◌, [], ◌∷◌
 ghost use Rattle.xsk_umem.specs.Geometry.{IsGeometry};
 ghost use Rattle.xsk_model.specs.Asks.{joined_call, joined_reply, HasAsked, HasAnswered};
 ghost use Rattle.xsk_model.specs.Config.{Config as Parts, IsLawful};
+ghost use Rattle.xsk_model.specs.declared.ask.Ask.{Ask as AnAsk};
 ghost use Rattle.xsk_model.specs.Expected.{IsReplyTo, IsReserved, IsPeeked, IsOld};
 ghost use Rattle.xsk_model.specs.Object.{State, reply_at, after};
 ghost use Rattle.xsk_model.specs.Opening.{AreFrames, opening};
@@ -274,4 +275,11 @@ pub fn payload_room(call: &Call) -> u32
         Call::Submit(_, items) => items.len() * MOST_CHUNK,
         _ => 0,
     }
+}
+
+/// The most payload bytes that the log keeps of a call with these items beside it.
+pub fn items_room(items: &Batch) -> u32
+    ensures { (config : Parts) (ask : AnAsk) → IsGeometry config.geometry → payload_bytes config (joined_call ask items.now) ≤ result }
+{
+    items.len() * MOST_CHUNK
 }

@@ -1,12 +1,17 @@
 -- The workers at the beginning of a run.
-use Rattle.std.proofs.Common.{◌≡◌, ℕ, ◌<◌, List, [], length, vec_len, sym, subst, ap, ◌∙◌}
-use Rattle.std.proofs.lemmas.List.{get_or-map}
+use Rattle.std.proofs.Common.{◌≡◌, ℕ, ◌*◌, ◌<◌, List, [], length, vec_len, sym, subst, ap, ◌∙◌, arith}
+use Rattle.std.proofs.lemmas.List.{get_or-map, get_or_default}
+use Rattle.std.proofs.lemmas.Nat.{div_below}
 use Rattle.std.specs.List.{slice_index_or}
+use Rattle.xsk_turns.specs.Stepping.{joined_ask}
 use Rattle.xsk_umem.specs.PacketList.{PacketList}
 use Rattle.xsk_umem.specs.Geometry.{IsGeometry}
-use Rattle.xsk_model.specs.Config.{Config, IsConfig, IsLawful, pair_at}
+use Rattle.xsk_model.specs.Config.{Config, IsConfig, IsLawful, IsRegular, pair_at}
+use Rattle.xsk_model.specs.declared.config.PairInfo.{PairInfo}
 use Rattle.xsk_model.specs.Rings.{caller_of}
 use Rattle.xsk_model.specs.Marks.{apps_of}
+use Rattle.xsk_model.specs.Steering.{paired_port}
+use Rattle.xsk_laws.proofs.Places.{are_paired}
 use Rattle.xsk_umem.specs.Frame.{Frame}
 use Rattle.xsk_model.specs.Opening.{AreFrames, IsOpened, opening}
 use Rattle.xsk_plain.specs.Engine.{Engine, Shows}
@@ -16,7 +21,8 @@ use Rattle.xsk_driver.specs.Runs.{IsNew as IsNewDriver}
 use Rattle.xsk_app.specs.Shown.{Shown as AppShown}
 use Rattle.xsk_app.specs.Runs.{IsNew as IsNewApp}
 use Rattle.xsk_turns.specs.Workers.{Setting}
-use Rattle.xsk_sim.specs.Standing.{HasRoomToSend, IsDriver, IsApp, HasRun}
+use Rattle.xsk_workers.specs.Standing.{HasRoomToSend, IsDriver, IsApp}
+use Rattle.xsk_sim.specs.Standing.{HasRun}
 use Rattle.xsk_sim.specs.Seats.{EachFrom, DriverSits, AppSits, new_own, AreSeated}
 use Rattle.xsk_sim.specs.declared.rounds.Workers.{Workers}
 
@@ -28,6 +34,23 @@ input_numbers c packets inputs pair list is known at =
     ap (λ (all : List (List ℕ)). slice_index_or all pair []) is
     ∙ get_or-map (numbers_of c packets) c.pairs pair (record { port = 0; queue = 0; fill = 0; comp = 0 }) [] known
     ∙ ap (numbers_from c.queues (pair_at c.pairs pair).queue 0) (sym at)
+
+-- its port and the paired one are ports of the configuration
+pub ports_known : (c : Config) (pairs : List PairInfo) (count pair : ℕ) → IsRegular c → IsConfig c → pairs ≡ c.pairs → count ≡ c.ports → pair < length pairs
+    → ((pair_at pairs pair).port < count) × (paired_port (pair_at pairs pair).port < count)
+ports_known c pairs count pair regular is same counted below =
+    let known : pair < length c.pairs = subst (λ (ps : List PairInfo). pair < length ps) same below in
+    let some : 0 < c.queues = omega (arith, is.queues) in
+    let port : (pair_at c.pairs pair).port < c.ports =
+    subst (λ (n : ℕ). n < c.ports) (sym (regular.seats pair known).0) (div_below pair c.queues c.ports some (omega (arith, known, regular.pairs))) in
+    subst (λ (ps : List PairInfo). ((pair_at ps pair).port < count) × (paired_port (pair_at ps pair).port < count)) (sym same)
+    (subst (λ (n : ℕ). ((pair_at c.pairs pair).port < n) × (paired_port (pair_at c.pairs pair).port < n)) (sym counted)
+    (port, (are_paired c.ports (pair_at c.pairs pair).port is.ports port).in_ports))
+
+-- the list of a port
+pub list_at : (lists : List PacketList) (port : ℕ) (list : PacketList) → list ≡ slice_index_or lists port list → port < length lists → list.packets ≡ packets_of_port lists port
+list_at lists port list is below =
+    ap (λ (l : PacketList). l.packets) (is ∙ get_or_default lists port list (record { packets = []; spare_packets = 0; spare_bytes = 0 }) below)
 
 pub new_driver : (s : Setting) (pair : ℕ) (list : List (List ℕ)) (d : DriverShown) → pair < length s.config.pairs → HasRoomToSend s pair d
     → list ≡ packets_of_port s.packets (pair_at s.config.pairs pair).port
@@ -57,8 +80,8 @@ run_begins s frames engine opened config shows log =
 -- the workers of a copy of the configuration are seated in an object that was opened with it
 pub seated_first : (c copy : Config) (packets : List PacketList) (frames : List Frame) (w : Workers) (engine : Engine) → copy ≡ c → IsOpened c frames → engine.config ≡ c
     → Shows engine (opening c frames) → engine.log ≡ []
-    → EachFrom w.drivers.items 0 (λ who seat. DriverSits (record { config = copy; packets = packets }) new_own who seat.machine seat.act)
-    → EachFrom w.apps.items (length copy.pairs) (λ who seat. AppSits (record { config = copy; packets = packets }) new_own who seat.machine seat.act)
+    → EachFrom w.drivers.items 0 (λ who seat. DriverSits (record { config = copy; packets = packets }) new_own who seat.machine (joined_ask seat.ask seat.items))
+    → EachFrom w.apps.items (length copy.pairs) (λ who seat. AppSits (record { config = copy; packets = packets }) new_own who seat.machine (joined_ask seat.ask seat.items))
     → vec_len w.drivers ≡ length copy.pairs → vec_len w.apps ≡ apps_of copy → AreSeated (record { config = c; packets = packets }) frames [] w engine
 seated_first c copy packets frames w engine is opened config shows log drivers apps driver_count app_count =
     subst (λ (k : Config). AreSeated (record { config = k; packets = packets }) frames [] w engine) is
@@ -74,8 +97,8 @@ seated_first c copy packets frames w engine is opened config shows log drivers a
 -- so they are with a lawful configuration and all frames of its UMEM
 pub seated_opened : (c copy : Config) (packets : List PacketList) (frames : List Frame) (w : Workers) (engine : Engine) → copy ≡ c → IsGeometry copy.geometry → IsConfig c
     → IsLawful c → AreFrames c.geometry frames → engine.config ≡ c → Shows engine (opening c frames) → engine.log ≡ []
-    → EachFrom w.drivers.items 0 (λ who seat. DriverSits (record { config = copy; packets = packets }) new_own who seat.machine seat.act)
-    → EachFrom w.apps.items (length copy.pairs) (λ who seat. AppSits (record { config = copy; packets = packets }) new_own who seat.machine seat.act)
+    → EachFrom w.drivers.items 0 (λ who seat. DriverSits (record { config = copy; packets = packets }) new_own who seat.machine (joined_ask seat.ask seat.items))
+    → EachFrom w.apps.items (length copy.pairs) (λ who seat. AppSits (record { config = copy; packets = packets }) new_own who seat.machine (joined_ask seat.ask seat.items))
     → vec_len w.drivers ≡ length copy.pairs → vec_len w.apps ≡ apps_of copy → AreSeated (record { config = c; packets = packets }) frames [] w engine
 seated_opened c copy packets frames w engine is geometry known lawful umem config shows log drivers apps driver_count app_count =
     let opened : IsOpened c frames = record { geometry = subst (λ (k : Config). IsGeometry k.geometry) is geometry; config = known; lawful = lawful; umem = umem } in

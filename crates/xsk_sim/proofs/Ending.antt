@@ -1,6 +1,7 @@
 -- How a run ends.
 use Rattle.std.proofs.Common.{◌≡◌, ℕ, ◌+◌, ◌<◌, ◌≤◌, List, [], length, get_or, ap, subst, ◌∙◌, arith, ⊎_elim}
 use Rattle.std.proofs.lemmas.Bool.{cases_lt}
+use Rattle.xsk_turns.specs.Stepping.{joined_ask}
 use Rattle.xsk_umem.specs.Frame.{Frame}
 use Rattle.xsk_model.specs.Config.{IsRegular, callers_of}
 use Rattle.xsk_model.specs.Entry.{Entry, own}
@@ -12,33 +13,33 @@ use Rattle.xsk_plain.specs.Engine.{Engine}
 use Rattle.xsk_sim.specs.Shown.{Shown}
 use Rattle.xsk_turns.specs.Workers.{Setting, IsWorkerRun, IsWholeRun}
 use Rattle.xsk_sim.specs.Runs.{HasEnded, HasStalled, last_round_of}
-use Rattle.xsk_sim.specs.Standing.{IsActAfter}
+use Rattle.xsk_workers.specs.Standing.{IsActAfter}
 use Rattle.xsk_sim.specs.Seats.{EachFrom, own_in, AreSeated, HadRounds, HaveEnded, kept_lists}
 use Rattle.xsk_sim.specs.declared.rounds.Workers.{Workers}
-use Rattle.xsk_sim.proofs.Acts.{worker_run, sent_at}
+use Rattle.xsk_workers.proofs.Acts.{worker_run, sent_at}
 use Rattle.xsk_sim.proofs.Within.{AreWithin, are_within}
 use Rattle.xsk_sim.proofs.Seating.{each_at, each_of, each_shows, each_tells, each_change, each_move, all_whole, some_open, IsOpen}
 
 module _ (s : Setting) (frames : List Frame) (h : List Entry) (w : Workers) (engine : Engine) (seated : AreSeated s frames h w engine) where
-  drivers_after : EachFrom w.drivers.items 0 (λ who seat. IsActAfter s who seat.act (own_in h who))
+  drivers_after : EachFrom w.drivers.items 0 (λ who seat. IsActAfter s who (joined_ask seat.ask seat.items) (own_in h who))
   drivers_after = each_change w.drivers.items 0 _ _ seated.drivers (λ k x low high sits. sits.1)
 
-  apps_after : EachFrom w.apps.items (length s.config.pairs) (λ who seat. IsActAfter s who seat.act (own_in h who))
+  apps_after : EachFrom w.apps.items (length s.config.pairs) (λ who seat. IsActAfter s who (joined_ask seat.ask seat.items) (own_in h who))
   apps_after = each_change w.apps.items (length s.config.pairs) _ _ seated.apps (λ k x low high sits. sits.1)
 
   -- each worker's own calls and replies are a run
   pub all_runs : (who : ℕ) → who < callers_of s.config → IsWorkerRun s who (own who h)
   all_runs who below = ⊎_elim
       (λ (low : who < length s.config.pairs). each_tells w.drivers.items 0 _ (λ k. IsWorkerRun s k (own k h)) drivers_after
-      (λ k seat after. worker_run s k seat.act (own k h) after) who (omega arith) (omega (arith, low, seated.driver_count, w.drivers.ok.0)))
+      (λ k seat after. worker_run s k (joined_ask seat.ask seat.items) (own k h) after) who (omega arith) (omega (arith, low, seated.driver_count, w.drivers.ok.0)))
       (λ (high : length s.config.pairs ≤ who). each_tells w.apps.items (length s.config.pairs) _ (λ k. IsWorkerRun s k (own k h)) apps_after
-      (λ k seat after. worker_run s k seat.act (own k h) after) who high (omega (arith, below, seated.app_count, w.apps.ok.0)))
+      (λ k seat after. worker_run s k (joined_ask seat.ask seat.items) (own k h) after) who high (omega (arith, below, seated.app_count, w.apps.ok.0)))
       (cases_lt who (length s.config.pairs))
 
   -- all have ended, and so each one's own calls and replies are a whole run
   pub whole_runs : HaveEnded w → (who : ℕ) → who < callers_of s.config → IsWholeRun s who (own who h)
   whole_runs ended who below =
-      let apps_ended : EachFrom w.apps.items (length s.config.pairs) (λ k seat. seat.act ≡ IsEnd) = each_move w.apps.items 0 (length s.config.pairs) _ ended.1 in
+      let apps_ended : EachFrom w.apps.items (length s.config.pairs) (λ k seat. joined_ask seat.ask seat.items ≡ IsEnd) = each_move w.apps.items 0 (length s.config.pairs) _ ended.1 in
       ⊎_elim
       (λ (low : who < length s.config.pairs). all_whole s (own_in h) w.drivers.items _ 0 drivers_after ended.0 who (omega arith) (omega (arith, low, seated.driver_count, w.drivers.ok.0)))
       (λ (high : length s.config.pairs ≤ who). all_whole s (own_in h) w.apps.items _ (length s.config.pairs) apps_after apps_ended who high (omega (arith, below, seated.app_count, w.apps.ok.0)))
@@ -47,8 +48,8 @@ module _ (s : Setting) (frames : List Frame) (h : List Entry) (w : Workers) (eng
   -- or some worker's aren't
   pub open_run : (HaveEnded w → ⊥) → IsOpen s (own_in h) 0 (callers_of s.config)
   open_run going = ⊎_elim
-      (λ (drivers : EachFrom w.drivers.items 0 (λ k seat. seat.act ≡ IsEnd)). ⊎_elim
-      (λ (apps : EachFrom w.apps.items (length s.config.pairs) (λ k seat. seat.act ≡ IsEnd)). absurd (going (drivers, each_move w.apps.items (length s.config.pairs) 0 _ apps)))
+      (λ (drivers : EachFrom w.drivers.items 0 (λ k seat. joined_ask seat.ask seat.items ≡ IsEnd)). ⊎_elim
+      (λ (apps : EachFrom w.apps.items (length s.config.pairs) (λ k seat. joined_ask seat.ask seat.items ≡ IsEnd)). absurd (going (drivers, each_move w.apps.items (length s.config.pairs) 0 _ apps)))
       (λ (some : IsOpen s (own_in h) (length s.config.pairs) (length s.config.pairs + length w.apps.items)).
       record { who = some.who; low = omega arith; high = omega (arith, some.high, seated.app_count, w.apps.ok.0); open_run = some.open_run })
       (some_open s (own_in h) w.apps.items _ (length s.config.pairs) apps_after))
@@ -64,7 +65,7 @@ module _ (s : Setting) (frames : List Frame) (h : List Entry) (w : Workers) (eng
       let sits = each_at w.drivers.items 0 i i _ d seated.drivers below e at in
       let act = each_at w.drivers.items 0 i i _ d ended.0 below e at in
       let known : i < length s.config.pairs = omega (arith, below, seated.driver_count, w.drivers.ok.0) in
-      subst (λ k. d.machine.sent.packets ≡ sent s.config h k) e (sent_at s i d.machine d.act (own i h) act sits.0 (within i known)))
+      subst (λ k. d.machine.sent.packets ≡ sent s.config h k) e (sent_at s i d.machine (joined_ask d.ask d.items) (own i h) act sits.0 (within i known)))
 
   pub all_sent : HaveEnded w → AreWithin s h → (pair : ℕ) → pair < length s.config.pairs → get_or (kept_lists w) pair [] ≡ sent s.config h pair
   all_sent ended within pair below =

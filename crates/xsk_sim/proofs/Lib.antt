@@ -1,4 +1,3 @@
-pub mod Acts
 pub mod RunSteps
 pub mod Seating
 pub mod Turning

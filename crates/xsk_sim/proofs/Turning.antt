@@ -1,5 +1,5 @@
 -- Turns of callers, one after the other.
-use Rattle.std.proofs.Common.{◌≡◌, ℕ, zero, suc, ◌+◌, ◌-◌, ◌^◌, ◌<◌, ◌≤◌, List, [], ◌∷◌, ◌++◌, length, refl, sym, subst, ap, ◌∙◌, arith, append_assoc, append-nil, ⊎_elim}
+use Rattle.std.proofs.Common.{◌≡◌, ℕ, zero, suc, ◌+◌, ◌-◌, ◌^◌, ◌<◌, ◌≤◌, List, [], ◌∷◌, ◌++◌, length, refl, sym, subst, ap, ◌∙◌, arith, append_assoc, append-nil, vec_len, ⊎_elim}
 use Rattle.std.specs.Prelude.{OnOk}
 use Rattle.std.proofs.Common.{Result, Ok, Err}
 use Rattle.std.specs.List.{range_with_len}
@@ -15,7 +15,7 @@ use Rattle.xsk_app.specs.Shown.{Shown as AppShown}
 use Rattle.xsk_sim.specs.Order.{next_number, number_at, start_of, rotated}
 use Rattle.xsk_sim.specs.Rounds.{IsTurn, AreTurns, AreRounds}
 use Rattle.xsk_turns.specs.Workers.{Setting, IsWholeRun}
-use Rattle.xsk_sim.specs.Standing.{DriverStands, AppStands, IsActAfter}
+use Rattle.xsk_workers.specs.Standing.{DriverStands, AppStands, IsActAfter}
 use Rattle.xsk_sim.specs.Seats.{AreGoing, DriverSits, AppSits, own_in, AreSeated, HadTurns, HadRound, HadRounds}
 use Rattle.xsk_sim.specs.declared.rounds.Workers.{Workers}
 
@@ -91,13 +91,6 @@ range_first k =
     let f : suc k ≡ k + 1 = omega arith in
     ap (λ (j : ℕ). range_with_len 0 k ++ j ∷ []) e ∙ sym (range-push 0 k) ∙ ap (range_with_len 0) f
 
--- the callers are the drivers and the applications
-pub callers_are : (c : Config) (d a callers : ℕ) → IsConfig c → apps_of c ≡ 1 → d ≡ length c.pairs → a ≡ apps_of c → (d + a < 2 ^ 32 → callers ≡ d + a) → callers ≡ callers_of c
-callers_are c d a callers is one drivers apps count =
-    let few = is.pairs_few in
-    let sum : callers ≡ d + a = count (omega (arith, few, one, drivers, apps)) in
-    sum ∙ (omega (arith, one, drivers, apps))
-
 -- ---- rounds
 
 pub rounds_push : (s : Setting) (frames : List Frame) (order count number next : ℕ) (w v : Workers) (engine later : Engine) → (had : HadRounds s frames order count w engine)
@@ -121,3 +114,9 @@ rounds_none s frames order w engine seated = record { history = []; rounds = ref
 -- workers that had turns go on
 pub going_on : {w v : Workers} {before after : Engine} {callers : List ℕ} → (g : AreGoing w before) → HadTurns g.setting g.frames g.history callers v after → AreGoing v after
 going_on g had = record { setting = g.setting; frames = g.frames; history = g.history ++ had.entries; one = g.one; seated = had.seated }
+
+-- and are 1 at least, and few
+pub going_few : {w : Workers} {engine : Engine} → AreGoing w engine → (vec_len w.drivers + vec_len w.apps < 2 ^ 32) × (0 < vec_len w.drivers + vec_len w.apps)
+going_few g =
+    let few = g.seated.run.legal.opened.config.pairs_few in
+    (omega (arith, few, g.one, g.seated.driver_count, g.seated.app_count), omega (arith, g.one, g.seated.app_count))

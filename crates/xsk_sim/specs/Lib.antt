@@ -4,3 +4,4 @@ pub mod Runs
 pub mod Seats
 pub mod Shown
 pub mod Standing
+pub mod Given

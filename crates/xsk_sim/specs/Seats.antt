@@ -1,5 +1,6 @@
 -- The workers in their seats, each with its number among the callers.
 use Rattle.std.specs.Prelude.{◌≡◌, ℕ, ◌+◌, map, List, [], ◌∷◌, ◌++◌, length, vec_len}
+use Rattle.xsk_turns.specs.Stepping.{joined_ask}
 use Rattle.xsk_umem.specs.Frame.{Frame}
 use Rattle.xsk_model.specs.Config.{callers_of}
 use Rattle.xsk_model.specs.Marks.{apps_of}
@@ -12,7 +13,8 @@ use Rattle.xsk_app.specs.Shown.{Shown as AppShown}
 use Rattle.xsk_sim.specs.Order.{start_of, rotated, next_number}
 use Rattle.xsk_sim.specs.Rounds.{AreTurns, AreRounds}
 use Rattle.xsk_turns.specs.Workers.{Setting, IsWholeRun}
-use Rattle.xsk_sim.specs.Standing.{DriverStands, AppStands, IsActAfter, HasRun}
+use Rattle.xsk_workers.specs.Standing.{DriverStands, AppStands, IsActAfter}
+use Rattle.xsk_sim.specs.Standing.{HasRun}
 use Rattle.xsk_sim.specs.declared.rounds.Workers.{Workers}
 
 -- each element of a list holds with its number, of which the first is given
@@ -38,8 +40,8 @@ new_own who = []
 -- has run
 pub record AreSeated (s : Setting) (frames : List Frame) (h : List Entry) (w : Workers) (engine : Engine) : Type 0 where
   pub run : HasRun s frames h engine
-  pub drivers : EachFrom w.drivers.items 0 (λ who seat. DriverSits s (own_in h) who seat.machine seat.act)
-  pub apps : EachFrom w.apps.items (length s.config.pairs) (λ who seat. AppSits s (own_in h) who seat.machine seat.act)
+  pub drivers : EachFrom w.drivers.items 0 (λ who seat. DriverSits s (own_in h) who seat.machine (joined_ask seat.ask seat.items))
+  pub apps : EachFrom w.apps.items (length s.config.pairs) (λ who seat. AppSits s (own_in h) who seat.machine (joined_ask seat.ask seat.items))
   pub driver_count : vec_len w.drivers ≡ length s.config.pairs
   pub app_count : vec_len w.apps ≡ apps_of s.config
 
@@ -77,7 +79,7 @@ pub record HadRounds (s : Setting) (frames : List Frame) (order count : ℕ) (w 
 
 -- all have ended
 abbrev pub HaveEnded : Workers → Type 0
-HaveEnded w = EachFrom w.drivers.items 0 (λ who seat. seat.act ≡ IsEnd) × EachFrom w.apps.items 0 (λ who seat. seat.act ≡ IsEnd)
+HaveEnded w = EachFrom w.drivers.items 0 (λ who seat. joined_ask seat.ask seat.items ≡ IsEnd) × EachFrom w.apps.items 0 (λ who seat. joined_ask seat.ask seat.items ≡ IsEnd)
 
 -- what the drivers keep of the packets that they sent
 abbrev pub kept_lists : Workers → List (List (List ℕ))

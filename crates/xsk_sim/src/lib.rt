@@ -2,7 +2,6 @@
 #![tactic(auto)]
 
 pub mod laws;
-mod machine;
 mod order;
 mod rounds;
 mod seat;

@@ -3,7 +3,6 @@ ghost use Rattle.std.specs.Prelude.{◌≡◌, ◌<◌, ◌+◌, ◌^◌, ◌↔
 ghost use Rattle.xsk_umem.specs.Geometry.{IsGeometry};
 ghost use Rattle.xsk_umem.specs.Frame.{Frame};
 ghost use Rattle.xsk_model.specs.Marks.{apps_of};
-ghost use Rattle.xsk_model.specs.Config.{callers_of};
 ghost use Rattle.xsk_model.specs.Entry.{Entry};
 ghost use Rattle.xsk_turns.specs.Workers.{Setting};
 ghost use Rattle.xsk_sim.specs.Seats.{AreSeated, AreGoing, HadTurns, HadRound, HaveEnded};
@@ -24,10 +23,10 @@ pub(crate) struct Workers<'a> {
 
 impl Workers<'_> {
     fn count(&self) -> u32
-        ensures { vec_len self.now.drivers + vec_len self.now.apps < 2 ^ 32 → result ≡ vec_len self.now.drivers + vec_len self.now.apps }
+        requires few { vec_len self.now.drivers + vec_len self.now.apps < 2 ^ 32 }
+        ensures { result ≡ vec_len self.now.drivers + vec_len self.now.apps }
     {
-        let count = self.drivers.len().saturating_add(self.apps.len());
-        u32::try_from(count).unwrap_or(u32::MAX)
+        (self.drivers.len() + self.apps.len()) as u32
     }
 
     /// Whether all workers have ended.
@@ -57,9 +56,6 @@ impl Workers<'_> {
             → OnOk result (HadRound s frames h order.old.number order.new.number self.new plain.new) }
     {
         let callers = self.count();
-        if callers == 0 {
-            return Ok(());
-        }
         let start = order.start(callers);
         for who in start..callers {
             self.step(plain, who)?;
@@ -70,23 +66,23 @@ impl Workers<'_> {
         Ok(())
     }
 
+    /// Lets the worker with this number make its call, if it hasn't ended.
     fn step(&mut self, plain: &mut Plain, who: u32) -> Result<(), OutOfMemory>
         requires geometry { IsGeometry plain.old.config.geometry }
         requires going { AreGoing self.old plain.old }
+        requires who { who < vec_len self.old.drivers + vec_len self.old.apps }
         ensures config { plain.new.config ≡ plain.old.config }
         ensures drivers { vec_len self.new.drivers ≡ vec_len self.old.drivers }
-        ensures turn { (s : Setting) (frames : List Frame) (h : List Entry) → apps_of s.config ≡ 1 → who < callers_of s.config
-            → AreSeated s frames h self.old plain.old
+        ensures apps { vec_len self.new.apps ≡ vec_len self.old.apps }
+        ensures turn { (s : Setting) (frames : List Frame) (h : List Entry) → apps_of s.config ≡ 1 → AreSeated s frames h self.old plain.old
             → OnOk result (HadTurns s frames h (who ∷ []) self.new plain.new) }
     {
         let place = who as usize;
         let drivers = self.drivers.len();
         if place < drivers {
-            return self.drivers[place].step(plain, who);
-        }
-        match self.apps.get_mut(place - drivers) {
-            Some(seat) => seat.step(plain, who),
-            None => Ok(()),
+            self.drivers[place].step(plain, who)
+        } else {
+            self.apps[place - drivers].step(plain, who)
         }
     }
 }

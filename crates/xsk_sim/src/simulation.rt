@@ -1,5 +1,5 @@
 //! A whole simulation: from a configuration and packets to what was sent and the log.
-ghost use Rattle.std.specs.Prelude.{◌≡◌, ◌<◌, ◌≤◌, ◌+◌, ℕ, Err, List, [], All, IfSome, IfOk, OnOk, length, map, vec_len};
+ghost use Rattle.std.specs.Prelude.{◌≡◌, ◌<◌, ◌≤◌, ◌+◌, ℕ, false, Err, List, [], All, IfSome, IfOk, OnOk, length, map, vec_len};
 ghost use Rattle.std.specs.List.{concat, slice_index_or};
 ghost use Rattle.xsk_umem.specs.Geometry.{IsGeometry};
 ghost use Rattle.xsk_model.specs.Config.{IsRegular};
@@ -10,6 +10,7 @@ ghost use Rattle.xsk_plain.specs.Log.{calls_of, entries_of};
 ghost use Rattle.xsk_turns.specs.Inputs.{inputs_of};
 ghost use Rattle.xsk_driver.specs.Sent.{IsShort};
 ghost use Rattle.xsk_sim.specs.Shown.{HasShortPackets, packets_in};
+ghost use Rattle.xsk_turns.specs.Stepping.{joined_ask};
 ghost use Rattle.xsk_turns.specs.Workers.{Setting};
 ghost use Rattle.xsk_sim.specs.Runs.{HasEnded, HasStalled, last_round_of};
 ghost use Rattle.xsk_sim.specs.Seats.{EachFrom, AreSeated, AreReady, HadRounds, HaveEnded, DriverSits, AppSits, kept_lists, new_own};
@@ -92,7 +93,8 @@ const FIRST_ROUNDS: u64 = 1_023;
 const PACKET_ROUNDS: u64 = 256;
 
 /// Runs the drivers and applications of a regular configuration in rounds until all have ended, over one list of
-/// packets for each port. The frames are all frames of its UMEM, and `order` is the number of the rounds' order.
+/// packets for each port. The frames are all frames of its UMEM, and `order` is the number of the rounds' order. The
+/// configuration has one application, and is without need-wakeup, which the workers don't know yet.
 ///
 /// It stalls exactly where some worker hasn't ended after round 1,023 + 256 x packets, which is then its round. A run
 /// that has ended is a legal history in rounds in which each worker's own calls and
@@ -107,6 +109,7 @@ pub fn simulate(
 ) -> Result<Run, SimError>
     requires regular { IsRegular config }
     requires one { apps_of config ≡ 1 }
+    requires wakeup { config.wakeup ≡ false }
     requires frames { AreFrames config.geometry frames.items }
     requires lists { length packets.now ≡ config.ports }
     ensures pairs { IfOk result (λ run. run.pairs ≡ length config.pairs) }
@@ -201,24 +204,21 @@ fn seat_drivers<'a>(
     inputs: &'a Inputs,
 ) -> Result<Vec<Seat<Driver<'a>>>, OutOfMemory>
     requires regular { IsRegular config.now }
+    requires lists { length packets.now ≡ config.now.ports }
     requires inputs { inputs.now ≡ inputs_of config.now packets.now }
     ensures count { IfOk result (λ seats. vec_len seats ≡ length config.now.pairs) }
-    ensures seated { IfOk result (λ seats. EachFrom seats.items 0 (λ who seat. DriverSits (record { config = config.now; packets = packets.now }) new_own who seat.machine seat.act)) }
+    ensures seated { IfOk result (λ seats. EachFrom seats.items 0 (λ who seat. DriverSits (record { config = config.now; packets = packets.now }) new_own who seat.machine (joined_ask seat.ask seat.items))) }
 {
     let mut seats = Vec::with_capacity(alloc, config.pairs().len())?;
     for pair in 0..config.pairs().len() as u32 {
         let port = config.pairs()[pair as usize].port;
-        let (Some(list), Some(other)) = (
-            packets.get(port as usize),
-            packets.get(paired_port(port) as usize),
-        ) else {
-            return Err(OutOfMemory);
-        };
+        let list = &packets[port as usize];
+        let other = &packets[paired_port(port) as usize];
         let Some(bytes) = bytes_of(other) else {
             return Err(OutOfMemory);
         };
         let driver = Driver::new(alloc, config, pair, list, inputs, other.len(), bytes)?;
-        seats.push(Seat::new(driver))?;
+        seats.push(Seat::new(alloc, driver))?;
     }
     Ok(seats)
 }
@@ -239,15 +239,16 @@ fn bytes_of(list: &PacketList) -> Option<u32>
 
 /// An application for each queue of two paired ports.
 fn seat_apps<'a>(alloc: Global, config: &'a Config) -> Result<Vec<Seat<App<'a>>>, OutOfMemory>
-    requires { IsRegular config.now }
+    requires regular { IsRegular config.now }
+    requires wakeup { config.now.wakeup ≡ false }
     ensures count { IfOk result (λ seats. vec_len seats ≡ apps_of config.now) }
     ensures seated { (s : Setting) → s.config ≡ config.now
-        → IfOk result (λ seats. EachFrom seats.items (length config.now.pairs) (λ who seat. AppSits s new_own who seat.machine seat.act)) }
+        → IfOk result (λ seats. EachFrom seats.items (length config.now.pairs) (λ who seat. AppSits s new_own who seat.machine (joined_ask seat.ask seat.items))) }
 {
     let count = (config.ports() / 2) * config.queues();
     let mut seats = Vec::with_capacity(alloc, count as usize)?;
     for app in 0..count {
-        seats.push(Seat::new(App::new(alloc, config, app)?))?;
+        seats.push(Seat::new(alloc, App::new(alloc, config, app)?))?;
     }
     Ok(seats)
 }

@@ -1,4 +1,4 @@
-use Rattle.std.proofs.Common.{◌≡◌, ℕ, ◌<◌, List, [], length, ap, ◌∙◌, arith}
+use Rattle.std.proofs.Common.{◌≡◌, ℕ, ◌<◌, List, length, sym, ap, subst, ◌∙◌, arith}
 use Rattle.std.specs.List.{concat}
 use Rattle.xsk_umem.specs.PacketList.{PacketList}
 use Rattle.xsk_model.specs.Config.{pair_at}
@@ -6,9 +6,9 @@ use Rattle.xsk_model.specs.Steering.{paired_port}
 use Rattle.xsk_model.specs.declared.config.PairInfo.{PairInfo}
 use Rattle.xsk_turns.specs.Inputs.{packets_of_port}
 use Rattle.xsk_turns.specs.Workers.{Setting}
-use Rattle.xsk_sim.specs.Standing.{other_of, HasRoomToSend}
+use Rattle.xsk_workers.specs.Standing.{other_of, HasRoomToSend}
 use Rattle.xsk_sim.proofs.Seating.{each_none, each_push}
-use Rattle.xsk_sim.proofs.Beginning.{input_numbers, new_driver}
+use Rattle.xsk_sim.proofs.Beginning.{input_numbers, list_at, new_driver, ports_known}
 use Rattle.xsk_sim.proofs.simulation.seat_drivers.Goals as goal
 
 pub loop-pair-init : goal.loop-pair-init
@@ -19,15 +19,18 @@ loop-pair-preserved c =
     let s : Setting = record { config = c.args.config.now; packets = c.args.packets.now } in
     let pair = c.loop-pair.pair in
     let known : pair < length s.config.pairs = omega (arith, c.loop-pair-test.true, ap (length {A = PairInfo}) c.pairs-2.ensures.value) in
-    let list = c.in-Some-Some.list.now in
+    let pairs = c.pairs-in-loop-pair in
+    let below : pair < length pairs.result.now = omega (arith, known, ap (length {A = PairInfo}) pairs.ensures.value) in
+    let ports = ports_known s.config pairs.result.now (length s.packets) pair c.requires.regular pairs.ensures.lawful pairs.ensures.value c.requires.lists below in
+    let list = c.index-packets-port.result in
     let at : list.packets ≡ packets_of_port s.packets (pair_at s.config.pairs pair).port =
-    ap (λ (l : PacketList). l.packets) (c.in-Some-Some.ensures.lookup.3.1 (record { packets = []; spare_packets = 0; spare_bytes = 0 }))
-    ∙ ap (λ (pairs : List PairInfo). packets_of_port s.packets (pair_at pairs pair).port) c.pairs-in-loop-pair.ensures.value in
-    let other : PacketList = c.in-Some-Some.other.now in
+    list_at s.packets (pair_at pairs.result.now pair).port list c.index-packets-port.is ports.0
+    ∙ ap (λ (ps : List PairInfo). packets_of_port s.packets (pair_at ps pair).port) pairs.ensures.value in
+    let other : PacketList = c.index-packets-paired_port.result in
     let at_other : other.packets ≡ other_of s pair =
-    ap (λ (l : PacketList). l.packets) (c.in-Some-Some.ensures'.lookup.3.1 (record { packets = []; spare_packets = 0; spare_bytes = 0 }))
+    list_at s.packets c.paired_port.result other c.index-packets-paired_port.is (subst (λ (n : ℕ). n < length s.packets) (sym c.paired_port.ensures) ports.1)
     ∙ ap (λ (port : ℕ). packets_of_port s.packets port) c.paired_port.ensures
-    ∙ ap (λ (pairs : List PairInfo). packets_of_port s.packets (paired_port (pair_at pairs pair).port)) c.pairs-in-loop-pair.ensures.value in
+    ∙ ap (λ (ps : List PairInfo). packets_of_port s.packets (paired_port (pair_at ps pair).port)) pairs.ensures.value in
     let room : HasRoomToSend s pair c.in_ok-driver.driver = record {
       packets = c.in_ok-driver.ensures.sent_room.0 ∙ c.len.ensures.value ∙ ap (length {A = List ℕ}) at_other;
       bytes = c.in_ok-driver.ensures.sent_room.1 ∙ c.in-Some.ensures ∙ ap (λ (ps : List (List ℕ)). length (concat ps)) at_other;
@@ -41,3 +44,16 @@ loop-pair-preserved c =
       seated = rw c.in_ok-push.ensures.items
           (each_push c.loop-pair.seats.items 0 pair _ c.new-in-loop-pair.result c.loop-pair.invariant.seated (omega (arith, count, items)) (c.new-in-loop-pair.ensures s pair new));
     }
+
+pub bounds-packets-port : goal.bounds-packets-port
+bounds-packets-port c =
+    let pairs = c.pairs-in-loop-pair in
+    let below : c.loop-pair.pair < length pairs.result.now = omega (arith, c.loop-pair-test.true, ap (length {A = PairInfo}) c.pairs-2.ensures.value, ap (length {A = PairInfo}) pairs.ensures.value) in
+    (ports_known c.args.config.now pairs.result.now (length c.args.packets.now) c.loop-pair.pair c.requires.regular pairs.ensures.lawful pairs.ensures.value c.requires.lists below).0
+
+pub bounds-packets-paired_port : goal.bounds-packets-paired_port
+bounds-packets-paired_port c =
+    let pairs = c.pairs-in-loop-pair in
+    let below : c.loop-pair.pair < length pairs.result.now = omega (arith, c.loop-pair-test.true, ap (length {A = PairInfo}) c.pairs-2.ensures.value, ap (length {A = PairInfo}) pairs.ensures.value) in
+    subst (λ (n : ℕ). n < length c.args.packets.now) (sym c.paired_port.ensures)
+    (ports_known c.args.config.now pairs.result.now (length c.args.packets.now) c.loop-pair.pair c.requires.regular pairs.ensures.lawful pairs.ensures.value c.requires.lists below).1

@@ -1,4 +1,5 @@
 use Rattle.std.proofs.Common.{◌≡◌, ◌<◌, false, true, length, get_or, sym, refl, arith, ◌∙◌, rules}
+use Rattle.xsk_turns.specs.Stepping.{joined_ask}
 use Rattle.xsk_model.specs.declared.call.Act.TheVariants.{Ended as IsEnd}
 use Rattle.xsk_sim.proofs.Seating.{each_at, each_of}
 use Rattle.xsk_sim.proofs.rounds.Workers.have_ended.Goals as goal
@@ -11,7 +12,7 @@ returns-then-not-has_ended c = (
       let i = c.loop-seat.seat-index in
       let at : c.seat-item.result ≡ get_or w.drivers.items i c.seat-item.result = search (rules, c.seat-item.is, c.deref-seat-items.ensures.value) in
       let below : i < length w.drivers.items = omega (arith, c.loop-seat-test.true) in
-      let ended : c.seat-item.result.act ≡ IsEnd = each_at w.drivers.items 0 i i _ c.seat-item.result all.0 below (omega arith) at in
+      let ended : joined_ask c.seat-item.result.ask c.seat-item.result.items ≡ IsEnd = each_at w.drivers.items 0 i i _ c.seat-item.result all.0 below (omega arith) at in
       sym c.if-not-has_ended.true ∙ c.has_ended.ensures.1 ended,
 )
 
@@ -24,7 +25,7 @@ returns-then-not-has_ended-2 c = (
       let seat = c.seat-item-in-loop-seat-2.result in
       let at : seat ≡ get_or w.apps.items i seat = search (rules, c.seat-item-in-loop-seat-2.is, c.deref-seat-items-2.ensures.value) in
       let below : i < length w.apps.items = omega (arith, c.loop-seat-2-test.true) in
-      let ended : seat.act ≡ IsEnd = each_at w.apps.items 0 i i _ seat all.1 below (omega arith) at in
+      let ended : joined_ask seat.ask seat.items ≡ IsEnd = each_at w.apps.items 0 i i _ seat all.1 below (omega arith) at in
       sym c.if-not-has_ended-2.true ∙ c.has_ended-in-loop-seat-2.ensures.1 ended,
 )
 

@@ -1,7 +1,9 @@
 use Rattle.std.proofs.Common.{◌≡◌, ℕ, ◌+◌, ◌-◌, ◌<◌, [], ◌∷◌, ◌++◌, length, arith, refl}
 use Rattle.std.specs.Vec.{with_item}
+use Rattle.xsk_turns.specs.Stepping.{joined_ask}
 use Rattle.xsk_turns.specs.Workers.{IsWholeRun}
-use Rattle.xsk_sim.specs.Standing.{DriverStands, AppStands, TakesTurn}
+use Rattle.xsk_workers.specs.Standing.{DriverStands, AppStands}
+use Rattle.xsk_sim.specs.Standing.{TakesTurn}
 use Rattle.xsk_sim.specs.Seats.{DriverSits, AppSits, own_in, HadTurns}
 use Rattle.xsk_sim.proofs.Seating.{each_at, each_set, each_change}
 use Rattle.xsk_sim.proofs.RunSteps.{can_make}
@@ -9,13 +11,13 @@ use Rattle.xsk_sim.proofs.Turning.{on_ok, own_turn, one_turn, driver_on, app_on}
 use Rattle.xsk_sim.proofs.rounds.Workers.step.Goals as goal
 
 pub returns-then-place-drivers-clause-turn : goal.returns-then-place-drivers-clause-turn
-returns-then-place-drivers-clause-turn c s frames h one within seated =
+returns-then-place-drivers-clause-turn c s frames h one seated =
     let who = c.args.who in
     let w = c.args.self.now in
     let v = c.step.new.self in
-    let here : DriverSits s (own_in h) who c.index_mut.result.now.machine c.index_mut.result.now.act =
+    let here : DriverSits s (own_in h) who c.index_mut.result.now.machine (joined_ask c.index_mut.result.now.ask c.index_mut.result.now.items) =
     each_at w.drivers.items 0 who who _ c.index_mut.result.now seated.drivers (omega arith) (omega arith) c.index_mut.ensures.value in
-    on_ok c.step.result (TakesTurn s frames who h (DriverStands s who v.machine v.act) v.act c.step.new.plain)
+    on_ok c.step.result (TakesTurn s frames who h (DriverStands s who v.machine (joined_ask v.ask v.items)) (joined_ask v.ask v.items) c.step.new.plain)
     (HadTurns s frames h (who ∷ []) (record { drivers = with_item w.drivers who v; apps = w.apps }) c.step.new.plain)
     (λ t. record {
       entries = t.entries;
@@ -23,60 +25,59 @@ returns-then-place-drivers-clause-turn c s frames h one within seated =
       seated = record {
         run = t.run;
         drivers = each_set w.drivers.items 0 who who _ _ v seated.drivers (omega arith)
-            (λ k x other sits. driver_on s h (h ++ t.entries) k x.machine x.act (own_turn (IsWholeRun s) h who k t.entries t.turn other) sits) (t.stands, t.after);
+            (λ k x other sits. driver_on s h (h ++ t.entries) k x.machine (joined_ask x.ask x.items) (own_turn (IsWholeRun s) h who k t.entries t.turn other) sits) (t.stands, t.after);
         apps = each_change w.apps.items (length s.config.pairs) _ _ seated.apps
-            (λ k x low high sits. app_on s h (h ++ t.entries) k x.machine x.act (own_turn (IsWholeRun s) h who k t.entries t.turn (λ is. omega (arith, low, is, seated.driver_count, c.if-place-drivers.true))) sits);
+            (λ k x low high sits. app_on s h (h ++ t.entries) k x.machine (joined_ask x.ask x.items) (own_turn (IsWholeRun s) h who k t.entries t.turn (λ is. omega (arith, low, is, seated.driver_count, c.if-place-drivers.true))) sits);
         driver_count = seated.driver_count;
         app_count = seated.app_count;
       };
     }) (c.step.ensures.turn s frames h one seated.run here.0 here.1)
 
-pub returns-in-Some-clause-turn : goal.returns-in-Some-clause-turn
-returns-in-Some-clause-turn c s frames h one within seated =
+pub returns-else-place-drivers-clause-turn : goal.returns-else-place-drivers-clause-turn
+returns-else-place-drivers-clause-turn c s frames h one seated =
     let who = c.args.who in
     let w = c.args.self.now in
-    let v = c.step-in-Some.new.self in
+    let v = c.step-else-place-drivers.new.self in
     let i : ℕ = who - c.len-drivers.result in
     let place : who ≡ length s.config.pairs + i = omega (arith, c.len-drivers.ensures, seated.driver_count, c.if-place-drivers.false) in
     let some = w.apps.ok.0 in
-    let below : i < length w.apps.items = omega (arith, some, seated.app_count, place, within) in
-    let here : AppSits s (own_in h) who c.in-Some.seat.now.machine c.in-Some.seat.now.act =
-    each_at w.apps.items (length s.config.pairs) i who _ c.in-Some.seat.now seated.apps below place c.in-Some.ensures.value in
-    on_ok c.step-in-Some.result (TakesTurn s frames who h (AppStands s who v.machine v.act) v.act c.step-in-Some.new.plain)
-    (HadTurns s frames h (who ∷ []) (record { drivers = w.drivers; apps = with_item w.apps i v }) c.step-in-Some.new.plain)
+    let below : i < length w.apps.items = omega (arith, some, seated.driver_count, place, c.requires.who) in
+    let here : AppSits s (own_in h) who c.index_mut-else-place-drivers.result.now.machine (joined_ask c.index_mut-else-place-drivers.result.now.ask c.index_mut-else-place-drivers.result.now.items) =
+    each_at w.apps.items (length s.config.pairs) i who _ c.index_mut-else-place-drivers.result.now seated.apps below place c.index_mut-else-place-drivers.ensures.value in
+    on_ok c.step-else-place-drivers.result (TakesTurn s frames who h (AppStands s who v.machine (joined_ask v.ask v.items)) (joined_ask v.ask v.items) c.step-else-place-drivers.new.plain)
+    (HadTurns s frames h (who ∷ []) (record { drivers = w.drivers; apps = with_item w.apps i v }) c.step-else-place-drivers.new.plain)
     (λ t. record {
       entries = t.entries;
       turns = one_turn (IsWholeRun s) h who t.entries t.turn;
       seated = record {
         run = t.run;
         drivers = each_change w.drivers.items 0 _ _ seated.drivers
-            (λ k x low high sits. driver_on s h (h ++ t.entries) k x.machine x.act (own_turn (IsWholeRun s) h who k t.entries t.turn (λ is. omega (arith, high, is, place, seated.driver_count, w.drivers.ok.0))) sits);
+            (λ k x low high sits. driver_on s h (h ++ t.entries) k x.machine (joined_ask x.ask x.items) (own_turn (IsWholeRun s) h who k t.entries t.turn (λ is. omega (arith, high, is, place, seated.driver_count, w.drivers.ok.0))) sits);
         apps = each_set w.apps.items (length s.config.pairs) i who _ _ v seated.apps place
-            (λ k x other sits. app_on s h (h ++ t.entries) k x.machine x.act (own_turn (IsWholeRun s) h who k t.entries t.turn other) sits) (t.stands, t.after);
+            (λ k x other sits. app_on s h (h ++ t.entries) k x.machine (joined_ask x.ask x.items) (own_turn (IsWholeRun s) h who k t.entries t.turn other) sits) (t.stands, t.after);
         driver_count = seated.driver_count;
         app_count = seated.app_count;
       };
-    }) (c.step-in-Some.ensures.turn s frames h one seated.run here.0 here.1)
+    }) (c.step-else-place-drivers.ensures.turn s frames h one seated.run here.0 here.1)
 
 pub step-requires-clause-can : goal.step-requires-clause-can
 step-requires-clause-can c call is =
     let g = c.requires.going in
     let who = c.args.who in
     let seat = c.index_mut.result.now in
-    let here : DriverSits g.setting (own_in g.history) who seat.machine seat.act =
+    let here : DriverSits g.setting (own_in g.history) who seat.machine (joined_ask seat.ask seat.items) =
     each_at c.args.self.now.drivers.items 0 who who _ seat g.seated.drivers (omega arith) (omega arith) c.index_mut.ensures.value in
-    can_make g.setting g.frames g.history c.args.plain.now who seat.act call g.one g.seated.run here.1 is
+    can_make g.setting g.frames g.history c.args.plain.now who (joined_ask seat.ask seat.items) call g.one g.seated.run here.1 is
 
-pub step-requires-in-Some-clause-can : goal.step-requires-in-Some-clause-can
-step-requires-in-Some-clause-can c call is =
+pub step-requires-else-place-drivers-clause-can : goal.step-requires-else-place-drivers-clause-can
+step-requires-else-place-drivers-clause-can c call is =
     let g = c.requires.going in
     let w = c.args.self.now in
     let who = c.args.who in
-    let seat = c.in-Some.seat.now in
+    let seat = c.index_mut-else-place-drivers.result.now in
     let i : ℕ = who - c.len-drivers.result in
     let place : who ≡ length g.setting.config.pairs + i = omega (arith, c.len-drivers.ensures, g.seated.driver_count, c.if-place-drivers.false) in
-    let bound = c.in-Some.ensures.variant.0 refl in
-    let below : i < length w.apps.items = omega (arith, w.apps.ok.0, bound) in
-    let here : AppSits g.setting (own_in g.history) who seat.machine seat.act =
-    each_at w.apps.items (length g.setting.config.pairs) i who _ seat g.seated.apps below place c.in-Some.ensures.value in
-    can_make g.setting g.frames g.history c.args.plain.now who seat.act call g.one g.seated.run here.1 is
+    let below : i < length w.apps.items = omega (arith, w.apps.ok.0, g.seated.driver_count, place, c.requires.who) in
+    let here : AppSits g.setting (own_in g.history) who seat.machine (joined_ask seat.ask seat.items) =
+    each_at w.apps.items (length g.setting.config.pairs) i who _ seat g.seated.apps below place c.index_mut-else-place-drivers.ensures.value in
+    can_make g.setting g.frames g.history c.args.plain.now who (joined_ask seat.ask seat.items) call g.one g.seated.run here.1 is

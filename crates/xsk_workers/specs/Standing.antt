@@ -1,0 +1,56 @@
+-- Where the workers of a setting stand, each for its own calls and replies, and what each gave after them.
+use Rattle.std.specs.Prelude.{◌≡◌, ℕ, ◌<◌, List, length}
+use Rattle.std.specs.List.{concat}
+use Rattle.xsk_model.specs.Config.{pair_at}
+use Rattle.xsk_model.specs.Rings.{caller_of}
+use Rattle.xsk_model.specs.Marks.{apps_of}
+use Rattle.xsk_model.specs.Entry.{Told}
+use Rattle.xsk_model.specs.Legal.{IsLegal}
+use Rattle.xsk_model.specs.Steering.{paired_port}
+use Rattle.xsk_model.specs.declared.call.Act.{Act}
+use Rattle.xsk_model.specs.declared.call.Act.TheVariants.{Call as Calls, Ended as IsEnd}
+use Rattle.xsk_turns.specs.Inputs.{packets_of_port}
+use Rattle.xsk_turns.specs.Workers.{Setting, input_of, IsWorkerRun, IsWholeRun}
+use Rattle.xsk_driver.specs.Shown.{Shown as DriverShown}
+use Rattle.xsk_driver.specs.Runs.{IsNew as IsNewDriver, StandsWith}
+use Rattle.xsk_app.specs.Shown.{Shown as AppShown}
+use Rattle.xsk_app.specs.Runs.{IsNew as IsNewApp, StandsWith as AppStandsWith}
+
+-- what the paired port of a pair's port received
+abbrev pub other_of : Setting → ℕ → List (List ℕ)
+other_of s who = packets_of_port s.packets (paired_port (pair_at s.config.pairs who).port)
+
+-- a driver has room to send all of it
+pub record HasRoomToSend (s : Setting) (who : ℕ) (d : DriverShown) : Type 0 where
+  pub packets : d.sent.most_packets ≡ length (other_of s who)
+  pub bytes : d.sent.most_bytes ≡ length (concat (other_of s who))
+
+-- the new driver of a pair
+pub record IsDriver (s : Setting) (who : ℕ) (d : DriverShown) : Type 0 where
+  pub known : who < length s.config.pairs
+  pub room : HasRoomToSend s who d
+  pub is : IsNewDriver s.config who (input_of s who) d
+
+-- the driver of a pair stands for a list, and gave this act after it
+pub record DriverStands (s : Setting) (who : ℕ) (d : DriverShown) (act : Act) (l : List Told) : Type 0 where
+  pub known : who < length s.config.pairs
+  pub room : HasRoomToSend s who d
+  pub stands : StandsWith s.config who (input_of s who) d act l
+
+-- a new application
+pub record IsApp (s : Setting) (who : ℕ) (a : AppShown) : Type 0 where
+  pub config : a.config ≡ s.config
+  pub caller : who ≡ caller_of s.config a.app
+  pub is : IsNewApp s.config a.app a
+
+-- an application stands for a list, and gave this act after it
+pub record AppStands (s : Setting) (who : ℕ) (a : AppShown) (act : Act) (l : List Told) : Type 0 where
+  pub config : a.config ≡ s.config
+  pub caller : who ≡ caller_of s.config a.app
+  pub stands : AppStandsWith s.config a.app a act l
+
+-- What a worker gave after a list: a call, where the list is a run and no whole one, or its end, where it is a whole one.
+-- The call is legal where there is one application.
+abbrev pub IsActAfter : Setting → ℕ → Act → List Told → Type 0
+IsActAfter s who (Calls call) l = (apps_of s.config ≡ 1 → IsLegal s.config l who call) × (IsWholeRun s who l → ⊥) × IsWorkerRun s who l
+IsActAfter s who IsEnd l = IsWholeRun s who l

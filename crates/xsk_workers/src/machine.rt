@@ -1,0 +1,69 @@
+//! Drivers and applications as machines of one kind.
+ghost use Rattle.std.specs.Prelude.{◌≡◌, ℕ, None, Some, List, []};
+ghost use Rattle.xsk_model.specs.Entry.{Told, with_told};
+ghost use Rattle.xsk_model.specs.Expected.{Expected, CanCome, expected_of};
+ghost use Rattle.xsk_model.specs.History.{MayGive};
+ghost use Rattle.xsk_model.specs.declared.call.Act.{Act};
+ghost use Rattle.xsk_model.specs.declared.call.Act.TheVariants.{Call as Calls};
+ghost use Rattle.xsk_model.specs.declared.call.Call.{Call};
+ghost use Rattle.xsk_model.specs.declared.call.Reply.{Reply};
+ghost use Rattle.xsk_turns.specs.Stepping.{joined_answer, joined_ask, IsLent, IsGivenBack};
+ghost use Rattle.xsk_turns.specs.Workers.{Setting};
+ghost use Rattle.xsk_workers.specs.Standing.{IsDriver, DriverStands, IsApp, AppStands, IsActAfter};
+
+use xsk_app::App;
+use xsk_driver::Driver;
+use xsk_model::{Answer, Ask};
+use xsk_umem::Batch;
+
+/// A worker that makes one call at a time and goes on with its reply, whose items stand in a batch that is lent.
+pub trait Machine {
+    // What it waits for.
+    ghost expected: { Self → Expected };
+
+    // It is new, as this caller of a setting.
+    ghost is_new: { Setting → ℕ → Self → Type 0 };
+
+    // As this caller it stands for a list of its calls and replies, and gave this act after it.
+    ghost stands: { Setting → ℕ → Self → Act → List Told → Type 0 };
+
+    /// Goes on with the answer to the last call (none at first) and gives the next call, or `None` where it has ended. The
+    /// batch has items only where some were taken, and is left with items only for a Submit.
+    fn step(&mut self, answer: Option<Answer>, items: &mut Batch) -> Option<Ask>
+        requires comes { CanCome (expected self.old) (joined_answer answer items.old) }
+        requires lent { IsLent answer items.old }
+        ensures given_back { IsGivenBack result items.new }
+        ensures expected { expected self.new ≡ expected_of (joined_ask result items.new) }
+        ensures begins { (s : Setting) (who : ℕ) → is_new s who self.old → joined_answer answer items.old ≡ None
+            → stands s who self.new (joined_ask result items.new) [] × IsActAfter s who (joined_ask result items.new) [] }
+        ensures goes_on { (s : Setting) (who : ℕ) (l : List Told) (call : Call) (r : Reply)
+            → stands s who self.old (Calls call) l → joined_answer answer items.old ≡ Some r → MayGive s.config l who call r
+            → stands s who self.new (joined_ask result items.new) (with_told l call r)
+            × IsActAfter s who (joined_ask result items.new) (with_told l call r) };
+}
+
+impl Machine for Driver<'_> {
+    ghost expected = { λ d. d.expected };
+
+    ghost is_new = { IsDriver };
+
+    ghost stands = { DriverStands };
+
+    #[inline(always)]
+    fn step(&mut self, answer: Option<Answer>, items: &mut Batch) -> Option<Ask> {
+        Driver::step(self, answer, items)
+    }
+}
+
+impl Machine for App<'_> {
+    ghost expected = { λ a. a.expected };
+
+    ghost is_new = { IsApp };
+
+    ghost stands = { AppStands };
+
+    #[inline(always)]
+    fn step(&mut self, answer: Option<Answer>, items: &mut Batch) -> Option<Ask> {
+        App::step(self, answer, items)
+    }
+}
