@@ -13,10 +13,10 @@ use Rattle.xsk_plain.specs.Engine.{Engine}
 use Rattle.xsk_sim.specs.Shown.{Shown}
 use Rattle.xsk_turns.specs.Workers.{Setting, IsWorkerRun, IsWholeRun}
 use Rattle.xsk_sim.specs.Runs.{HasEnded, HasStalled, last_round_of}
-use Rattle.xsk_workers.specs.Standing.{IsActAfter}
+use Rattle.xsk_machine.specs.Standing.{IsActAfter}
 use Rattle.xsk_sim.specs.Seats.{EachFrom, own_in, AreSeated, HadRounds, HaveEnded, kept_lists}
 use Rattle.xsk_sim.specs.declared.rounds.Workers.{Workers}
-use Rattle.xsk_workers.proofs.Acts.{worker_run, sent_at}
+use Rattle.xsk_machine.proofs.Acts.{worker_run, sent_at}
 use Rattle.xsk_sim.proofs.Within.{AreWithin, are_within}
 use Rattle.xsk_sim.proofs.Seating.{each_at, each_of, each_shows, each_tells, each_change, each_move, all_whole, some_open, IsOpen}
 

@@ -19,7 +19,7 @@ use Rattle.xsk_model.proofs.Histories.{goes_push, after_all-append}
 use Rattle.xsk_plain.specs.Engine.{Engine, Shows, CanPerform}
 use Rattle.xsk_plain.proofs.Legality.{legal_can_perform}
 use Rattle.xsk_turns.specs.Workers.{Setting}
-use Rattle.xsk_workers.specs.Standing.{IsActAfter}
+use Rattle.xsk_machine.specs.Standing.{IsActAfter}
 use Rattle.xsk_sim.specs.Standing.{HasRun, TakesTurn}
 
 -- the engine made a call and entered it

@@ -10,7 +10,7 @@ ghost use Rattle.xsk_model.specs.declared.call.Call.{Call};
 ghost use Rattle.xsk_plain.specs.Engine.{CanPerform};
 ghost use Rattle.xsk_turns.specs.Stepping.{joined_ask, IsGivenBack};
 ghost use Rattle.xsk_turns.specs.Workers.{Setting};
-ghost use Rattle.xsk_workers.specs.Standing.{IsActAfter};
+ghost use Rattle.xsk_machine.specs.Standing.{IsActAfter};
 ghost use Rattle.xsk_sim.specs.Given.{IsGivenBack-prop};
 ghost use Rattle.xsk_sim.specs.Standing.{HasRun, TakesTurn};
 
@@ -18,7 +18,7 @@ use std::alloc::Global;
 use xsk_model::Ask;
 use xsk_plain::{Plain, items_room};
 use xsk_umem::{Batch, OutOfMemory};
-use xsk_workers::Machine;
+use xsk_machine::Machine;
 
 /// A worker in the rounds, with the call that it makes next (none where it has ended) and the batch that is lent to its
 /// calls, in which the items of a Submit stand.

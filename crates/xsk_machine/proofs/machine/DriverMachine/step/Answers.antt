@@ -1,8 +1,8 @@
 use Rattle.xsk_turns.specs.Stepping.{joined_ask}
 use Rattle.xsk_model.proofs.Replies.{gift_fits}
 use Rattle.xsk_turns.specs.Workers.{input_of}
-use Rattle.xsk_workers.proofs.Acts.{driver_after, room_stays}
-use Rattle.xsk_workers.proofs.machine.DriverMachine.step.Goals as goal
+use Rattle.xsk_machine.proofs.Acts.{driver_after, room_stays}
+use Rattle.xsk_machine.proofs.machine.DriverMachine.step.Goals as goal
 
 pub returns-clause-begins : goal.returns-clause-begins
 returns-clause-begins c s who is none =

@@ -1,7 +1,7 @@
 use Rattle.xsk_turns.specs.Stepping.{joined_ask}
 use Rattle.xsk_model.proofs.Replies.{gift_fits}
-use Rattle.xsk_workers.proofs.Acts.{app_after}
-use Rattle.xsk_workers.proofs.machine.AppMachine.step.Goals as goal
+use Rattle.xsk_machine.proofs.Acts.{app_after}
+use Rattle.xsk_machine.proofs.machine.AppMachine.step.Goals as goal
 
 pub returns-clause-begins : goal.returns-clause-begins
 returns-clause-begins c s who is none =
