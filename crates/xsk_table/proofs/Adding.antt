@@ -1,13 +1,12 @@
 -- A step that adds an entry on a ring: what is left to show is the ring, the caller's flight and the frames.
-use Rattle.std.proofs.Common.{◌≡◌, ◌≢◌, ℕ, ◌+◌, ◌<◌, true, false, List, [], ◌∷◌, ◌++◌, length, get_or, set, refl, ap, sym, ◌∙◌, arith, subst, ⊎_elim, append_assoc, cond, nat_le}
-use Rattle.std.specs.Prelude.{Option, Some, None}
+use Rattle.std.proofs.Common.{◌≡◌, ◌≢◌, ℕ, ◌+◌, true, false, List, [], ◌∷◌, ◌++◌, length, get_or, set, refl, ap, sym, ◌∙◌, arith, subst, ⊎_elim, nat_le}
+use Rattle.std.specs.Prelude.{Option}
 use mathlib.Core.Option.{some}
 use lib.ListN.{get_elem?}
 use Rattle.std.proofs.lemmas.Bool.{cases_eq, cases_Bool}
 use Rattle.atomic_table.specs.Table.{State}
 use Rattle.xsk_umem.specs.Frame.{Frame}
-use Rattle.xsk_umem.specs.declared.batch.Item.{Item}
-use Rattle.xsk_model.specs.Config.{Config, HasRing, size_of, callers_of}
+use Rattle.xsk_model.specs.Config.{Config, HasRing, size_of}
 use Rattle.xsk_model.specs.Numbers.{times, numbers}
 use Rattle.xsk_model.specs.Rings as rings
 use Rattle.xsk_model.specs.Rings.{is_ring}
@@ -24,7 +23,6 @@ use Rattle.xsk_model.specs.declared.call.Ring.{Ring}
 use Rattle.xsk_model.specs.declared.call.Mark.{Mark}
 use Rattle.xsk_model.specs.declared.call.Call.{Call}
 use Rattle.xsk_model.specs.declared.call.Call.TheVariants.{Reserve, Submit, Peek, Release, Swap, Look}
-use Rattle.xsk_model.specs.declared.call.Reply.{Reply}
 use Rattle.xsk_model.proofs.Places.{is_ring-true, is_ring-self, place_below}
 use Rattle.xsk_model.proofs.Folds.{own-push_same, own-push_other, part_of_own-push, part_of_own-push_other}
 use Rattle.xsk_model.proofs.Moves.{ring_at-after_same, ring_at-after_other, not_producer, not_consumer, cond-held}
@@ -32,7 +30,7 @@ use Rattle.xsk_model.proofs.Histories.{history_sound, after_all-append}
 use Rattle.xsk_model.proofs.CallTheorems.{one_more}
 use Rattle.xsk_words.specs.Layout.{mark}
 use Rattle.xsk_table.specs.View.{Setup, Flight, idle, View}
-use Rattle.xsk_table.specs.Rule.{at, opened, given, released, written, lying, aloft, AllHome, RingHolds, IsInFlight, StartsWith, Rule}
+use Rattle.xsk_table.specs.Rule.{at, opened, given, released, written, lying, aloft, AllHome, RingHolds, IsInFlight, Rule}
 use Rattle.xsk_table.specs.Plays.{Extends, entry}
 use Rattle.xsk_table.proofs.WordRows.{SameWords}
 use Rattle.xsk_table.proofs.Seating.{longer}

@@ -1,19 +1,16 @@
 -- Frames that move into slots, and passes that are dealt out.
-use Rattle.std.proofs.Common.{◌≡◌, ◌≢◌, ℕ, ◌+◌, ◌-◌, ◌*◌, ◌<◌, ◌≤◌, suc, zero, List, [], ◌∷◌, ◌++◌, map, length, get_or, set, take, drop, refl, ap, sym, ◌∙◌, arith, subst, ◌⊎◌, inl, inr, ⊎_elim, Option, Some, None, append_assoc, length-append}
+use Rattle.std.proofs.Common.{◌≡◌, ◌≢◌, ℕ, ◌+◌, ◌-◌, ◌<◌, ◌≤◌, suc, zero, List, [], ◌∷◌, ◌++◌, map, length, get_or, set, take, refl, ap, sym, ◌∙◌, arith, subst, ◌⊎◌, inl, inr, ⊎_elim, Option, Some, None, length-append}
 use Rattle.std.specs.List.{range_with_len}
 use mathlib.Core.Option.{some, some-injective, some-ne-none}
 use lib.ListN.{get_elem?}
-use Rattle.std.proofs.lemmas.List.{length-map, map_push, get_or-map, take_more}
+use Rattle.std.proofs.lemmas.List.{get_or-map, take_more}
 use Rattle.std.proofs.lemmas.List.FromFn.{map-range_with_len_more}
 use Rattle.atomic_table.proofs.Lists.{at_set, at_map}
 use Rattle.xsk_umem.specs.Frame.{Frame}
-use Rattle.xsk_umem.specs.Frames.{Frames}
 use Rattle.xsk_model.specs.Config.{Config, callers_of}
-use Rattle.xsk_model.specs.History.{IsHistory}
 use Rattle.xsk_model.specs.declared.call.Ring.{Ring}
 use Rattle.xsk_model.specs.Opening.{IsOpened}
-use Rattle.xsk_table.specs.View.{Setup, Flight, idle, taking, View, newcomer, first_caller, other_callers}
-use Rattle.xsk_table.specs.Rule.{all_callers}
+use Rattle.xsk_table.specs.View.{Setup, idle, taking, View, newcomer, first_caller, other_callers}
 use Rattle.xsk_table.specs.Held.{Board, Holder, PassHolds, new_pass}
 use Rattle.xsk_table.specs.Opening.{AllFirst, AtRest, FirstEnds, list_of, new_passes}
 use Rattle.xsk_table.specs.declared.end.End.{End}

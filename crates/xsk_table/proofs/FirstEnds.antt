@@ -1,5 +1,5 @@
 -- What passes keep before their first call.
-use Rattle.std.proofs.Common.{◌≡◌, ◌≢◌, ℕ, ◌+◌, ◌-◌, ◌*◌, ◌/◌, ◌%◌, ◌^◌, ◌<◌, ◌≤◌, suc, zero, List, [], ◌∷◌, ◌++◌, length, get_or, set, take, refl, ap, sym, ◌∙◌, arith, subst, ⊎_elim, Option, Some, None, length-append}
+use Rattle.std.proofs.Common.{◌≡◌, ◌≢◌, ℕ, ◌+◌, ◌-◌, ◌*◌, ◌%◌, ◌^◌, ◌<◌, ◌≤◌, List, [], ◌∷◌, ◌++◌, length, get_or, set, take, refl, ap, sym, ◌∙◌, arith, subst, ⊎_elim, Option, Some, None, length-append}
 use Rattle.std.specs.List.{sum}
 use mathlib.Core.Option.{some}
 use lib.ListN.{get_elem?}
@@ -23,7 +23,7 @@ use Rattle.xsk_words.proofs.Rows.{length-widths_of, few_words}
 use Rattle.xsk_table.specs.View.{Setup, idle}
 use Rattle.xsk_table.specs.Rule.{wrapped, opened}
 use Rattle.xsk_table.specs.Opening.{first_count, Begins, AreFirst, FirstEnds, AtRest}
-use Rattle.xsk_table.specs.Held.{Holder, EndHolds, EndsHold, no_end}
+use Rattle.xsk_table.specs.Held.{Holder, EndHolds, no_end}
 use Rattle.xsk_table.specs.declared.end.End.{End}
 use Rattle.xsk_table.proofs.WordRows.{ring_size}
 use Rattle.xsk_table.proofs.NewTable.{opened_is_first}

@@ -1,21 +1,19 @@
 -- What a seat of one caller knows of the rule, and what the rule's history says of a ring.
-use Rattle.std.proofs.Common.{◌≡◌, ◌≢◌, ℕ, ◌+◌, ◌<◌, ◌≤◌, true, List, [], ◌∷◌, ◌++◌, length, get_or, set, refl, ap, sym, ◌∙◌, arith, subst, append-nil, get_or-set_same}
+use Rattle.std.proofs.Common.{◌≡◌, ℕ, ◌+◌, ◌<◌, ◌≤◌, List, [], ◌∷◌, length, get_or, set, ap, sym, ◌∙◌, arith, subst, append-nil, get_or-set_same}
 use Rattle.std.specs.Prelude.{Option}
 use mathlib.Core.Option.{some}
 use lib.ListN.{get_elem?}
 use Rattle.atomic_table.specs.Table.{State}
 use Rattle.xsk_umem.specs.Frame.{Frame}
-use Rattle.xsk_model.specs.Config.{Config, HasRing, size_of, callers_of}
+use Rattle.xsk_model.specs.Config.{HasRing, size_of, callers_of}
 use Rattle.xsk_model.specs.Numbers.{times}
 use Rattle.xsk_model.specs.Rings as rings
 use Rattle.xsk_model.specs.Rings.{is_ring}
-use Rattle.xsk_model.specs.Object.{RingState}
 use Rattle.xsk_model.specs.Entry.{Told, Entry, own}
 use Rattle.xsk_model.specs.Own.{given_of, released_of, room_of, held_of}
 use Rattle.xsk_model.specs.Legal.{IsLegal}
 use Rattle.xsk_model.specs.declared.call.Ring.{Ring}
 use Rattle.xsk_model.specs.declared.call.Call.{Call}
-use Rattle.xsk_model.proofs.Places.{is_ring-self, is_ring-true}
 use Rattle.xsk_model.proofs.Theorems.{parts_by_own, within_size, counts_agree}
 use Rattle.xsk_table.specs.View.{Setup, Flight, idle, View}
 use Rattle.xsk_table.specs.Rule.{opened, given, released, StartsWith, Knows, Rule}

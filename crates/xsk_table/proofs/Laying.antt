@@ -1,7 +1,7 @@
 -- The words of a new table, word by word.
-use Rattle.std.proofs.Common.{◌≡◌, ◌≢◌, ℕ, ◌+◌, ◌-◌, ◌*◌, ◌%◌, ◌^◌, ◌<◌, ◌≤◌, suc, zero, List, [], ◌∷◌, ◌++◌, length, get_or, set, replicate, refl, sym, ap, ◌∙◌, arith, subst, ◌⊎◌, ⊎_elim, Option, Some, None, length-append, take}
+use Rattle.std.proofs.Common.{◌≡◌, ◌≢◌, ℕ, ◌+◌, ◌-◌, ◌*◌, ◌%◌, ◌^◌, ◌<◌, ◌≤◌, suc, zero, List, [], ◌∷◌, ◌++◌, length, get_or, set, replicate, refl, sym, ap, ◌∙◌, arith, subst, ⊎_elim, Some, length-append, take}
 use Rattle.std.specs.Prelude.{All, slice_get, slice_index}
-use Rattle.std.proofs.lemmas.Bool.{cases_eq, cases_lt}
+use Rattle.std.proofs.lemmas.Bool.{cases_eq}
 use Rattle.std.proofs.lemmas.Option.{get_or_from_slice_get}
 use Rattle.std.proofs.lemmas.List.{length-set, length-replicate, get_or_append_left, get_or-append_right}
 use Rattle.xsk_umem.specs.Geometry.{base_of}
@@ -13,7 +13,7 @@ use Rattle.xsk_model.specs.declared.call.Ring.{Ring}
 use Rattle.xsk_model.specs.declared.call.Ring.TheVariants.{Fill, Comp, Rx, Tx}
 use Rattle.xsk_model.specs.declared.call.Mark.{Mark}
 use Rattle.xsk_model.specs.declared.call.Mark.TheVariants.{NeedFill, NeedTx, Kick, RxDone, Gone, TxDone, Cell}
-use Rattle.xsk_words.specs.Layout.{width_of, ring_base, marks_base, words_of, Word, producer, consumer, entry, second, mark, HasWord, word_at}
+use Rattle.xsk_words.specs.Layout.{width_of, ring_base, marks_base, words_of, Word, producer, consumer, mark, HasWord, word_at}
 use Rattle.xsk_words.proofs.Rows.{base_within, own_words}
 use Rattle.xsk_table.specs.Rule.{at, entry_of}
 use Rattle.xsk_table.specs.Opening.{first_count, ArePooled, WordsOpen, IsOfFill, IsOfCell, Spares, SparesBelow, AreCells, IsFilled}

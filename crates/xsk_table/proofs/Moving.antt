@@ -1,5 +1,5 @@
 -- Where entries stand by the counts of a pass, and what comes out of a slot.
-use Rattle.std.proofs.Common.{◌≡◌, ℕ, ◌+◌, ◌-◌, ◌*◌, ◌/◌, ◌%◌, ◌^◌, ◌<◌, ◌≤◌, List, [], ◌∷◌, length, refl, ap, sym, ◌∙◌, arith, subst, Option, Some, None, bit_and}
+use Rattle.std.proofs.Common.{◌≡◌, ℕ, ◌+◌, ◌-◌, ◌*◌, ◌%◌, ◌^◌, ◌<◌, List, [], ◌∷◌, length, refl, ap, sym, ◌∙◌, arith, subst, Option, Some, None, bit_and}
 use Rattle.std.specs.Option.{option_map}
 use Rattle.std.proofs.lemmas.Nat.{and_mask}
 use Rattle.atomic_table.specs.Table.{rest}
@@ -11,7 +11,7 @@ use Rattle.xsk_model.specs.Legal.{IsItemOn}
 use Rattle.xsk_model.specs.declared.call.Ring.{Ring}
 use Rattle.xsk_model.specs.declared.call.Ring.TheVariants.{Fill, Comp, Rx, Tx}
 use Rattle.xsk_words.specs.Layout.{entry_words, ring_base, word_at}
-use Rattle.xsk_table.specs.View.{Setup, fetching, View}
+use Rattle.xsk_table.specs.View.{Setup, View}
 use Rattle.xsk_model.specs.Entry.{own}
 use Rattle.xsk_model.specs.Own.{given_of}
 use Rattle.xsk_table.specs.Rule.{wrapped, entry_of, opened, lying}

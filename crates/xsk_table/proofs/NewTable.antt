@@ -1,25 +1,23 @@
 -- The rule holds of a new table.
-use Rattle.std.proofs.Common.{◌≡◌, ◌≢◌, ℕ, ◌+◌, ◌-◌, ◌*◌, ◌/◌, ◌%◌, ◌^◌, ◌<◌, ◌≤◌, suc, zero, List, [], ◌∷◌, ◌++◌, map, length, get_or, take, drop, replicate, flat_map, refl, ap, sym, ◌∙◌, arith, subst, ◌⊎◌, ⊎_elim, append-nil, Option, Some, None}
+use Rattle.std.proofs.Common.{◌≡◌, ℕ, ◌+◌, ◌*◌, ◌/◌, ◌%◌, ◌^◌, ◌<◌, ◌≤◌, suc, zero, List, [], ◌∷◌, ◌++◌, map, length, get_or, drop, replicate, refl, ap, sym, ◌∙◌, arith, subst, append-nil, Some}
 use Rattle.std.specs.Prelude.{All}
-use Rattle.std.specs.List.{range_with_len}
 use mathlib.Core.Option.{some, some-injective, some-ne-none}
 use lib.ListN.{get_elem?}
-use Rattle.std.proofs.lemmas.List.{length-replicate, length-map, get_or-map, get_or-replicate}
+use Rattle.std.proofs.lemmas.List.{length-replicate, length-map, get_or-map}
 use Rattle.std.proofs.lemmas.List.{length-take, length-drop, get_or-take, get_or-drop}
 use Rattle.std.proofs.lemmas.List.FromFn.{length-range_with_len, get_or-range_with_len}
 use Rattle.std.proofs.Math.Nat.{div-lt_iff_lt-mul, div-mul-le_self, lt-div-mul-add}
 use Rattle.atomic_table.specs.Table.{opening}
 use Rattle.atomic_table.proofs.Lists.{at_map}
 use Rattle.xsk_umem.specs.Frame.{Frame}
-use Rattle.xsk_umem.specs.Geometry.{base_of, IsGeometry}
+use Rattle.xsk_umem.specs.Geometry.{base_of}
 use Rattle.xsk_umem.specs.Batch.{blank}
 use Rattle.xsk_umem.specs.declared.batch.Item.{Item}
-use Rattle.xsk_model.specs.Config.{Config, IsConfig, HasRing, size_of, callers_of, pool_of}
-use Rattle.xsk_model.specs.Numbers.{times, numbers}
+use Rattle.xsk_model.specs.Config.{Config, HasRing, callers_of, pool_of}
+use Rattle.xsk_model.specs.Numbers.{times}
 use Rattle.xsk_model.specs.Rings as rings
-use Rattle.xsk_model.specs.Object.{RingState, ring_at, empty_ring}
+use Rattle.xsk_model.specs.Object.{RingState}
 use Rattle.xsk_model.specs.Homes.{first_ring, pool_at}
-use Rattle.xsk_model.specs.Holders.{out_numbers}
 use Rattle.xsk_model.specs.Opening as openings
 use Rattle.xsk_model.specs.Opening.{AreFrames, IsOpened, home_item}
 use Rattle.xsk_model.specs.Legal.{IsItemOn}
@@ -31,11 +29,9 @@ use Rattle.xsk_model.proofs.Opened.{length-frames, numbers-home, all_pools}
 use Rattle.xsk_model.proofs.FirstState.{opening_ring_is, opening_numbers, opening_mark_is, pool_numbers}
 use Rattle.xsk_model.proofs.Replies.{times-row}
 use Rattle.xsk_model.proofs.Theorems.{lawful_items}
-use Rattle.xsk_words.specs.Layout.{Word}
 use Rattle.xsk_table.specs.View.{Setup, Flight, idle, View, newcomer}
-use Rattle.xsk_table.specs.Rule.{at, entry_of, wrapped, opened, Lies, nothing, standing, RingHolds, Homes, IsHome, AllHome, lying, written, IsInFlight, Knows, Rule, all_callers}
+use Rattle.xsk_table.specs.Rule.{at, entry_of, opened, Lies, nothing, RingHolds, Homes, IsHome, AllHome, lying, written, IsInFlight, Knows, Rule, all_callers}
 use Rattle.xsk_table.specs.Opening.{WordsOpen, first_count}
-use Rattle.xsk_table.proofs.Seating.{seated}
 
 -- ---- lists
 

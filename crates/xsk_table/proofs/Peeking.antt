@@ -1,5 +1,5 @@
 -- The look of a Peek keeps the rule.
-use Rattle.std.proofs.Common.{◌≡◌, ◌≢◌, ℕ, ◌+◌, ◌-◌, ◌%◌, ◌^◌, ◌≤◌, suc, zero, List, [], ◌∷◌, ◌++◌, length, get_or, set, take, drop, min, refl, ap, sym, ◌∙◌, arith, subst, get_or-set_other, length-take, take-append-drop}
+use Rattle.std.proofs.Common.{◌≡◌, ◌≢◌, ℕ, ◌+◌, ◌≤◌, suc, zero, List, [], ◌∷◌, ◌++◌, length, get_or, set, take, drop, min, refl, ap, sym, ◌∙◌, arith, subst, get_or-set_other, length-take, take-append-drop}
 use Rattle.std.specs.Prelude.{slice_index}
 use mathlib.Core.Option.{none}
 use lib.Seq.{set-get_or}

@@ -1,6 +1,6 @@
 -- Placing an item: a step takes the empty slot of its frame, and the write of the address word brings it home with the
 -- frame.
-use Rattle.std.proofs.Common.{◌≡◌, ◌≢◌, ℕ, ◌+◌, ◌-◌, ◌*◌, ◌%◌, ◌<◌, ◌≤◌, suc, zero, false, List, [], ◌∷◌, ◌++◌, length, get_or, set, refl, ap, sym, ◌∙◌, arith, subst, ◌⊎◌, inl, inr, ⊎_elim, append_assoc, length-append}
+use Rattle.std.proofs.Common.{◌≡◌, ℕ, ◌+◌, ◌%◌, ◌<◌, ◌≤◌, suc, zero, false, List, [], ◌∷◌, ◌++◌, length, get_or, set, refl, ap, sym, ◌∙◌, arith, subst, ◌⊎◌, inl, inr, ⊎_elim, append_assoc, length-append}
 use Rattle.std.specs.Prelude.{Option, Some, None}
 use mathlib.Core.Option.{some, none, some-injective, some-ne-none}
 use mathlib.Core.Option as maybe
@@ -12,26 +12,25 @@ use Rattle.atomic_table.proofs.Lists.{one_turn, set_here}
 use Rattle.xsk_umem.specs.Frame.{Frame}
 use Rattle.xsk_umem.specs.declared.batch.Item.{Item}
 use Rattle.xsk_model.specs.Config.{Config, IsConfig, HasRing, size_of, callers_of}
-use Rattle.xsk_model.specs.Numbers.{times, numbers, number_of}
+use Rattle.xsk_model.specs.Numbers.{times, numbers}
 use Rattle.xsk_model.specs.Rings as rings
 use Rattle.xsk_model.specs.Rings.{is_ring}
 use Rattle.xsk_model.specs.Marks.{HasMark}
 use Rattle.xsk_model.specs.Object.{RingState}
 use Rattle.xsk_model.specs.Entry.{Told, own}
-use Rattle.xsk_model.specs.Own.{had_of, given_of, room_of}
+use Rattle.xsk_model.specs.Own.{had_of, given_of}
 use Rattle.xsk_model.specs.Legal.{IsItemOn}
 use Rattle.xsk_model.specs.declared.call.Ring.{Ring}
 use Rattle.xsk_model.specs.declared.call.Mark.{Mark}
-use Rattle.xsk_model.proofs.Places.{is_ring-true}
 use Rattle.xsk_model.proofs.Roles.{two_owners}
-use Rattle.xsk_words.specs.Layout.{entry_words, words_of, Word, producer, consumer, entry, second, mark, HasWord, word_at}
+use Rattle.xsk_words.specs.Layout.{entry_words, words_of, Word, producer, consumer, mark, HasWord, word_at}
 use Rattle.xsk_table.specs.View.{Setup, Flight, idle, placing, writing, taking, fetching, View}
 use Rattle.xsk_table.specs.Rule.{at, entry_of, second_of, opened, given, released, Lies, Written, nothing, written, standing, lying, aloft, Homes, IsHome, AllHome, HasAll, RingHolds, Rule}
 use Rattle.xsk_table.specs.Plays.{Seated, Ask, IsPlacing, CanPlace, IsFirst, with_slot, without_slot, Lifted, lifts, Placed, places, IsTaken, PutIn}
 use Rattle.xsk_table.proofs.WordRows.{SameWords, same_words, write_here, write_else, write_other_ring, write_no_mark, other_ring, ring_word, place_in}
-use Rattle.xsk_table.proofs.Changed.{now, ring_now, flight_of}
-use Rattle.xsk_table.proofs.Slots.{numbers-last, number_one, IsFree, Has, has_one, free_one, homes_put, put_else, vacant_else, takes_of, gives_of, taken_homes, taken_slots, given_homes, gives_valid, given_slots, had_once, is_frame, vacant_had}
-use Rattle.xsk_table.proofs.Knowing.{Numbers, numbers_are, known, given_seen, room_seen, flight_here, flight_then}
+use Rattle.xsk_table.proofs.Changed.{ring_now, flight_of}
+use Rattle.xsk_table.proofs.Slots.{numbers-last, IsFree, Has, has_one, free_one, homes_put, put_else, vacant_else, takes_of, gives_of, taken_homes, taken_slots, given_homes, gives_valid, given_slots, had_once, is_frame, vacant_had}
+use Rattle.xsk_table.proofs.Knowing.{numbers_are, known, given_seen, room_seen, flight_here, flight_then}
 use Rattle.xsk_table.proofs.Shifting.{shifted}
 use Rattle.xsk_table.proofs.RingSteps.{place_below, lies_write, lies_at, written_here, written_else, half_here, half_else}
 use Rattle.xsk_table.proofs.Submitting.{home-append}

@@ -1,15 +1,13 @@
 -- A pass that places and fetches items.
-use Rattle.std.proofs.Common.{◌≡◌, ℕ, ◌+◌, ◌-◌, ◌*◌, ◌%◌, ◌^◌, ◌<◌, ◌≤◌, List, [], ◌∷◌, ◌++◌, length, get_or, refl, ap, sym, ◌∙◌, arith, subst, Option, length-append}
+use Rattle.std.proofs.Common.{◌≡◌, ℕ, ◌+◌, ◌-◌, ◌*◌, ◌%◌, ◌^◌, ◌<◌, ◌≤◌, List, [], ◌∷◌, ◌++◌, length, get_or, ap, sym, ◌∙◌, arith, subst, Option, length-append}
 use Rattle.std.specs.Prelude.{All}
 use Rattle.std.proofs.Math.Seq.{get_or-append_seam}
 use Rattle.xsk_umem.specs.Frame.{Frame}
 use Rattle.xsk_umem.specs.Batch.{blank}
 use Rattle.xsk_umem.specs.declared.batch.Item.{Item}
-use Rattle.xsk_model.specs.Config.{HasRing, size_of, callers_of}
+use Rattle.xsk_model.specs.Config.{HasRing, size_of}
 use Rattle.xsk_model.specs.Numbers.{times, numbers}
-use Rattle.xsk_model.specs.Rings.{place, producer, consumer}
 use Rattle.xsk_model.specs.Entry.{own}
-use Rattle.xsk_model.specs.Own.{released_of, held_of}
 use Rattle.xsk_model.specs.Legal.{IsItemOn, IsLegal}
 use Rattle.xsk_model.specs.declared.call.Ring.{Ring}
 use Rattle.xsk_model.specs.declared.call.Call.TheVariants.{Submit}
@@ -17,8 +15,8 @@ use Rattle.xsk_model.proofs.Counting.{times-append, numbers-append}
 use Rattle.xsk_words.specs.Layout.{entry_words, ring_base, marks_base, words_of}
 use Rattle.xsk_words.proofs.Rows.{base_within}
 use Rattle.xsk_table.specs.View.{Setup, Flight, placing, taking, View}
-use Rattle.xsk_table.specs.Rule.{wrapped, lying, HasAll}
-use Rattle.xsk_table.specs.Plays.{Ask, ask_for, ask_item, CanPlace, PutIn, still, emptied}
+use Rattle.xsk_table.specs.Rule.{wrapped, lying}
+use Rattle.xsk_table.specs.Plays.{ask_for, ask_item, CanPlace, PutIn, still, emptied}
 use Rattle.xsk_table.specs.Held.{AreLeft, EndHolds, PassHolds}
 use Rattle.xsk_table.specs.declared.end.End.{End}
 use Rattle.xsk_table.proofs.Slots.{numbers-cons, numbers-last}

@@ -1,23 +1,23 @@
 -- The raise of the consumer keeps the rule.
-use Rattle.std.proofs.Common.{◌≡◌, ◌≢◌, ℕ, ◌+◌, ◌≤◌, List, [], ◌∷◌, ◌++◌, length, get_or, set, refl, ap, sym, ◌∙◌, subst, get_or-set_other}
+use Rattle.std.proofs.Common.{◌≡◌, ◌≢◌, ℕ, ◌+◌, ◌≤◌, [], ◌∷◌, ◌++◌, length, get_or, set, refl, ap, sym, ◌∙◌, subst, get_or-set_other}
 use mathlib.Core.Option.{none}
 use Rattle.std.proofs.lemmas.List.{length-set}
 use Rattle.atomic_table.specs.Table.{step, keeps, Allows}
 use Rattle.xsk_model.specs.Config.{size_of}
 use Rattle.xsk_model.specs.Numbers.{times, numbers}
 use Rattle.xsk_model.specs.Rings as rings
-use Rattle.xsk_model.specs.Object.{RingState, ring_after}
+use Rattle.xsk_model.specs.Object.{RingState}
 use Rattle.xsk_model.specs.Entry.{own}
 use Rattle.xsk_model.specs.Own.{is_on, released_of}
 use Rattle.xsk_model.specs.declared.call.Call.TheVariants.{Release}
 use Rattle.xsk_model.specs.declared.call.Reply.TheVariants.{Released}
 use Rattle.xsk_model.proofs.Roles.{two_owners}
 use Rattle.xsk_words.specs.Layout.{consumer, word_at}
-use Rattle.xsk_table.specs.View.{Setup, Flight, idle, View}
+use Rattle.xsk_table.specs.View.{Flight, idle, View}
 use Rattle.xsk_table.specs.Rule.{wrapped, given, released, written, aloft, RingHolds, Rule}
 use Rattle.xsk_table.specs.Plays.{Seated, Ask, IsReady, releases, entry}
 use Rattle.xsk_table.proofs.WordRows.{write_other_ring, write_no_mark, other_ring, ring_word}
-use Rattle.xsk_table.proofs.Changed.{Change, now, ring_now}
+use Rattle.xsk_table.proofs.Changed.{Change, ring_now}
 use Rattle.xsk_table.proofs.Knowing.{known, legal_now, released_seen, held_seen}
 use Rattle.xsk_table.proofs.Adding.{adds, acts}
 use Rattle.xsk_table.proofs.RingSteps.{release_ring}

@@ -1,21 +1,19 @@
 -- The look of a Reserve keeps the rule.
-use Rattle.std.proofs.Common.{◌≡◌, ℕ, ◌+◌, ◌-◌, ◌%◌, ◌^◌, ◌<◌, ◌≤◌, nat_le, List, [], ◌∷◌, ◌++◌, length, get_or, set, refl, ap, sym, ◌∙◌, arith, subst}
+use Rattle.std.proofs.Common.{◌≡◌, ℕ, ◌+◌, ◌≤◌, nat_le, List, [], ◌∷◌, ◌++◌, length, get_or, set, refl, ap, sym, ◌∙◌, arith, subst}
 use Rattle.std.specs.Prelude.{slice_index}
 use mathlib.Core.Option.{none}
 use lib.Seq.{set-get_or}
-use Rattle.std.proofs.lemmas.Bool.Decides.{nat_tests}
 use Rattle.atomic_table.specs.Table.{step, keeps, Allows}
 use Rattle.xsk_model.specs.Config.{size_of}
 use Rattle.xsk_model.specs.Numbers.{times, numbers}
 use Rattle.xsk_model.specs.Object.{RingState, free, ring_after, reply_at}
-use Rattle.xsk_model.specs.Entry.{own}
 use Rattle.xsk_model.specs.Own.{is_on}
 use Rattle.xsk_model.specs.declared.call.Call.TheVariants.{Reserve}
 use Rattle.xsk_model.proofs.Moves.{cond-out}
 use Rattle.xsk_words.specs.Words.{used_of}
 use Rattle.xsk_words.specs.Layout.{consumer, word_at}
 use Rattle.xsk_words.proofs.Counts.{used_is}
-use Rattle.xsk_table.specs.View.{Setup, Flight, idle, View}
+use Rattle.xsk_table.specs.View.{Flight, idle, View}
 use Rattle.xsk_table.specs.Rule.{wrapped, nothing, given, released, written, aloft, AllHome, RingHolds, Rule}
 use Rattle.xsk_table.specs.Plays.{Seated, Ask, IsReady, reserves, filled, entry}
 use Rattle.xsk_table.proofs.WordRows.{same_words, ring_size}

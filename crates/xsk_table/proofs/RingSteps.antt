@@ -1,5 +1,5 @@
 -- What a ring's words stand for after a step on it.
-use Rattle.std.proofs.Common.{◌≡◌, ◌≢◌, ℕ, ◌+◌, ◌-◌, ◌*◌, ◌%◌, ◌^◌, ◌<◌, ◌≤◌, suc, zero, Bool, true, false, cond, nat_le, List, [], ◌∷◌, ◌++◌, length, get_or, set, take, drop, refl, ap, sym, ◌∙◌, arith, subst, append_assoc, append-nil, length-append, length-drop, take-append-drop}
+use Rattle.std.proofs.Common.{◌≡◌, ℕ, ◌+◌, ◌%◌, ◌<◌, ◌≤◌, suc, zero, Bool, false, cond, nat_le, List, [], ◌∷◌, ◌++◌, length, set, take, drop, refl, ap, sym, ◌∙◌, arith, subst, append_assoc, append-nil, take-append-drop}
 use mathlib.Core.Option.{some, some-ne-none}
 use lib.ListN.{get_elem?}
 use Rattle.xsk_umem.specs.declared.batch.Item.{Item}
@@ -10,9 +10,9 @@ use Rattle.xsk_model.specs.declared.call.Ring.{Ring}
 use Rattle.xsk_model.specs.declared.call.Call.TheVariants.{Reserve, Submit, Peek, Release}
 use Rattle.xsk_model.proofs.Places.{is_ring-self}
 use Rattle.xsk_model.proofs.Moves.{cond-held, cond-out}
-use Rattle.xsk_words.specs.Layout.{entry_words, words_of, Word, producer, consumer, entry, second, HasWord, word_at}
-use Rattle.xsk_table.specs.View.{Setup, Flight, placing, writing}
-use Rattle.xsk_table.specs.Rule.{wrapped, at, entry_of, second_of, Lies, Written, nothing, written, standing, RingHolds}
+use Rattle.xsk_words.specs.Layout.{words_of, Word, producer, consumer, HasWord, word_at}
+use Rattle.xsk_table.specs.View.{Setup, placing, writing}
+use Rattle.xsk_table.specs.Rule.{wrapped, entry_of, second_of, Lies, Written, nothing, written, standing, RingHolds}
 use Rattle.xsk_table.proofs.WordRows.{ring_size, write_here, write_else}
 
 -- ---- what a Submit has written

@@ -1,5 +1,5 @@
 -- The seats after a step of one of them, and a seat cut in two.
-use Rattle.std.proofs.Common.{◌≡◌, ◌≢◌, ℕ, ◌+◌, ◌<◌, ◌≤◌, suc, zero, List, [], ◌∷◌, ◌++◌, take, drop, length, get_or, set, flat_map, refl, ap, sym, ◌∙◌, arith, subst, ⊎_elim, append_assoc, append-nil, get_or-set_other}
+use Rattle.std.proofs.Common.{◌≡◌, ◌≢◌, ℕ, ◌+◌, ◌<◌, ◌≤◌, suc, zero, List, [], ◌∷◌, ◌++◌, take, drop, set, flat_map, refl, ap, sym, ◌∙◌, arith, subst, ⊎_elim, append_assoc, get_or-set_other}
 use mathlib.Core.Option.{some, some-injective, some-ne-none}
 use lib.ListN.{get_elem?}
 use Rattle.std.proofs.lemmas.Bool.Decides.{nat_tests}

@@ -7,7 +7,7 @@ use lib.ListN.{get_elem?}
 use Rattle.std.proofs.lemmas.Bool.{cases_eq, cases_lt}
 use Rattle.std.proofs.lemmas.Bool.Decides.{nat_tests}
 use Rattle.std.proofs.lemmas.List.{length-set}
-use Rattle.atomic_table.specs.Table.{State, Act, keeps, takes, gives, rest, homes_after, carried_after, Valid}
+use Rattle.atomic_table.specs.Table.{State, Act, keeps, takes, gives, homes_after, carried_after, Valid}
 use Rattle.atomic_table.proofs.Lists.{set_here, set_else}
 use Rattle.xsk_umem.specs.Frame.{Frame}
 use Rattle.xsk_umem.specs.declared.batch.Item.{Item}
@@ -21,7 +21,7 @@ use Rattle.xsk_model.specs.declared.call.Ring.TheVariants.{Fill}
 use Rattle.xsk_model.proofs.Counting.{times-append, numbers-append}
 use Rattle.xsk_model.proofs.FrameTheorems.{frames_apart, frames_below}
 use Rattle.xsk_table.specs.View.{Setup, Flight, idle, placing, writing, taking, fetching, View}
-use Rattle.xsk_table.specs.Rule.{lying, aloft, Homes, IsHome, IsVacant, AllHome, HasAll, IsInFlight, Rule}
+use Rattle.xsk_table.specs.Rule.{lying, aloft, Homes, IsHome, IsVacant, AllHome, IsInFlight, Rule}
 use Rattle.xsk_table.specs.Plays.{IsFirst, with_slot, without_slot}
 use Rattle.xsk_table.proofs.Changed.{now, ring_now, flight_of}
 

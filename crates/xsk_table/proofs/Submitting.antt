@@ -1,5 +1,5 @@
 -- The raise of the producer keeps the rule.
-use Rattle.std.proofs.Common.{◌≡◌, ◌≢◌, ℕ, ◌+◌, List, [], ◌∷◌, ◌++◌, length, set, refl, ap, sym, ◌∙◌, arith, subst}
+use Rattle.std.proofs.Common.{◌≡◌, ℕ, ◌+◌, List, [], ◌∷◌, ◌++◌, length, set, refl, ap, sym, ◌∙◌, arith, subst}
 use mathlib.Core.Option.{none}
 use Rattle.std.proofs.lemmas.List.{length-set}
 use Rattle.atomic_table.specs.Table.{step, keeps, Allows}
@@ -13,11 +13,11 @@ use Rattle.xsk_model.specs.declared.call.Call.TheVariants.{Submit}
 use Rattle.xsk_model.specs.declared.call.Reply.TheVariants.{Submitted}
 use Rattle.xsk_model.proofs.Counting.{times-append, numbers-append}
 use Rattle.xsk_words.specs.Layout.{producer, word_at}
-use Rattle.xsk_table.specs.View.{Setup, Flight, idle, placing, View}
+use Rattle.xsk_table.specs.View.{Flight, idle, placing, View}
 use Rattle.xsk_table.specs.Rule.{wrapped, opened, given, released, Written, written, lying, aloft, AllHome, Homes, RingHolds, Rule}
 use Rattle.xsk_table.specs.Plays.{Seated, Ask, IsReady, Ended, submits, entry}
 use Rattle.xsk_table.proofs.WordRows.{write_other_ring, write_no_mark, other_ring, ring_word}
-use Rattle.xsk_table.proofs.Changed.{Change, now, ring_now}
+use Rattle.xsk_table.proofs.Changed.{Change, ring_now}
 use Rattle.xsk_table.proofs.Knowing.{known, legal_now, given_seen, flight_here, flight_then}
 use Rattle.xsk_table.proofs.Adding.{adds, acts}
 use Rattle.xsk_table.proofs.RingSteps.{submit_ring, written_here, written_else}

@@ -1,5 +1,5 @@
 -- A pass: what its caller knows, and what it keeps at run time.
-use Rattle.std.specs.Prelude.{◌≡◌, ℕ, ◌+◌, ◌^◌, ◌<◌, ◌≤◌, List, [], ◌∷◌, length, get_or, Option}
+use Rattle.std.specs.Prelude.{◌≡◌, ℕ, ◌+◌, ◌≤◌, List, [], ◌∷◌, length, get_or, Option}
 use Rattle.atomic_table.specs.Seated.{TableId}
 use Rattle.xsk_umem.specs.Frame.{Frame}
 use Rattle.xsk_umem.specs.declared.batch.Item.{Item}
@@ -10,7 +10,7 @@ use Rattle.xsk_model.specs.Own.{given_of, released_of, room_of, held_of}
 use Rattle.xsk_model.specs.History.{IsHistory}
 use Rattle.xsk_model.specs.declared.call.Ring.{Ring}
 use Rattle.xsk_words.specs.Layout.{ring_base, words_of}
-use Rattle.xsk_table.specs.View.{Setup, Flight, taking, View, newcomer}
+use Rattle.xsk_table.specs.View.{Setup, taking, View, newcomer}
 use Rattle.xsk_table.specs.Rule.{wrapped, opened, lying}
 use Rattle.xsk_table.specs.declared.end.End.{End}
 

@@ -1,13 +1,13 @@
 -- What each step tells its caller.
-use Rattle.std.specs.Prelude.{◌≡◌, ℕ, ◌+◌, ◌-◌, ◌%◌, ◌^◌, ◌<◌, ◌≤◌, List, [], ◌∷◌, ◌++◌, length, min, Option, Some, None}
+use Rattle.std.specs.Prelude.{◌≡◌, ℕ, ◌+◌, ◌^◌, ◌<◌, ◌≤◌, List, [], ◌∷◌, ◌++◌, length, min, Option, Some, None}
 use Rattle.atomic_table.specs.Table.{Me, Step, rest}
 use Rattle.xsk_umem.specs.Frame.{Frame}
 use Rattle.xsk_umem.specs.declared.batch.Item.{Item}
 use Rattle.xsk_umem.specs.Batch.{blank}
 use Rattle.xsk_model.specs.Config.{HasRing, size_of}
 use Rattle.xsk_model.specs.Rings as rings
-use Rattle.xsk_model.specs.Object.{reply_at, reserve_reply, peek_reply}
-use Rattle.xsk_model.specs.Entry.{Told, Entry, own, with_told}
+use Rattle.xsk_model.specs.Object.{reply_at, reserve_reply}
+use Rattle.xsk_model.specs.Entry.{Entry, own, with_told}
 use Rattle.xsk_model.specs.Own.{given_of, released_of, room_of, held_of}
 use Rattle.xsk_model.specs.History.{IsHistory, state_after}
 use Rattle.xsk_model.specs.Legal.{IsItemOn, IsLegal}

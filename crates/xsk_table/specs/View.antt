@@ -1,5 +1,5 @@
 -- What a seat of the table knows, and what the table is told once.
-use Rattle.std.specs.Prelude.{ℕ, Bool, false, List, [], take, drop}
+use Rattle.std.specs.Prelude.{ℕ, false, List, [], take, drop}
 use Rattle.xsk_umem.specs.Frame.{Frame}
 use Rattle.xsk_umem.specs.declared.batch.Item.{Item}
 use Rattle.xsk_model.specs.Config.{Config}

@@ -1,8 +1,8 @@
 //! Counted looks at the other side's count.
-ghost use Rattle.std.specs.Prelude.{◌≡◌, ◌+◌};
+ghost use Rattle.std.specs.Prelude.{◌≡◌, ◌+◌, ◌≤◌};
 
 use std::marker::Model;
-use std::sync::ledger::{Book, Ledger, Share};
+use std::sync::ledger::{Blank, Book, Ledger, Share};
 
 /// How many looks at the other side's count were taken. It takes no bytes, and only `tick` changes it.
 #[derive(Drop)]
@@ -22,6 +22,16 @@ impl<L: Ledger> Model for Steps<L> {
 }
 
 impl<L: Ledger> Steps<L> {
+    /// A counter at 0, of a fresh ledger that has parts.
+    pub fn new(blank: Blank) -> Steps<L>
+        requires name { blank.name ≡ L.name }
+        requires parts { (blank.parts ≡ L.parts) × (1 ≤ blank.parts) }
+        ensures { result ≡ 0 }
+    {
+        let (book, share) = blank.open();
+        Steps { book, share }
+    }
+
     /// One look more.
     pub fn tick(&mut self)
         ensures { self.new ≡ self.old + 1 }

@@ -1,4 +1,4 @@
-use Rattle.std.proofs.Common.{rules, ◌+◌, ◌<◌, ◌∙◌, ap, sym, subst, arith}
+use Rattle.std.proofs.Common.{◌+◌, ◌<◌, ◌∙◌, ap, sym, subst, arith}
 use Rattle.xsk_table.specs.View.{View}
 use Rattle.xsk_table.specs.Plays.{ask_for}
 use Rattle.xsk_umem.specs.Geometry.{frame_of}

@@ -1,7 +1,7 @@
 use Rattle.std.proofs.Common.{rules, refl, subst, sym, Option}
 use Rattle.xsk_umem.specs.Frame.{Frame}
 use Rattle.xsk_table.specs.Plays.{IsFirst}
-use Rattle.xsk_table.proofs.Placing.{writes_keep, writes_first, placed_moved}
+use Rattle.xsk_table.proofs.Placing.{writes_keep, writes_first}
 use Rattle.xsk_table.proofs.moves.write_entry.Goals as goal
 
 pub store-requires : goal.store-requires

@@ -1,8 +1,7 @@
-use Rattle.std.proofs.Common.{rules, ◌≡◌, ◌+◌, ◌*◌, ◌<◌, ◌≤◌, ◌∙◌, ap, sym, subst, arith, length, List}
+use Rattle.std.proofs.Common.{rules, ◌+◌, ◌<◌, sym, subst, arith}
 use Rattle.xsk_model.specs.Rings.{places_of}
 use Rattle.xsk_table.specs.View.{Setup}
 use Rattle.xsk_table.specs.Opening.{AreFirst}
-use Rattle.xsk_table.specs.declared.end.End.{End}
 use Rattle.xsk_table.proofs.FirstEnds.{first_more, width_more, base_small}
 use Rattle.xsk_table.proofs.opening.lay_ends.Goals as goal
 

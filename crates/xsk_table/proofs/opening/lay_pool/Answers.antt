@@ -1,4 +1,4 @@
-use Rattle.std.proofs.Common.{◌+◌, ◌*◌, ◌%◌, ◌^◌, ◌<◌, ◌∙◌, ap, sym, subst, arith, length}
+use Rattle.std.proofs.Common.{◌+◌, ◌*◌, ◌%◌, ◌^◌, ◌<◌, ◌∙◌, ap, subst}
 use Rattle.xsk_umem.specs.Geometry.{base_of}
 use Rattle.xsk_model.specs.Config.{pair_at}
 use Rattle.xsk_table.proofs.Laying.{pooled_none, pooled_more, fill_word, fill_below}

@@ -1,4 +1,4 @@
-use Rattle.std.proofs.Common.{◌≡◌, ℕ, ◌<◌, length}
+use Rattle.std.proofs.Common.{ℕ, ◌<◌, length}
 use Rattle.xsk_model.specs.Config.{map_of}
 use Rattle.xsk_table.specs.Opening.{SparesBelow, IsOfFill, IsOfCell, IsFilled, AreCells}
 use Rattle.xsk_table.proofs.opening.lay_words.Given as goal

@@ -1,11 +1,10 @@
-use Rattle.std.proofs.Common.{rules, ◌≡◌, ◌+◌, ◌-◌, ◌<◌, ◌≤◌, ℕ, [], map, length, set, sym, ap, subst, ◌∙◌, arith, List}
+use Rattle.std.proofs.Common.{rules, ◌≡◌, ◌+◌, ◌-◌, ◌<◌, map, sym, ap, subst, ◌∙◌, arith}
 use Rattle.std.specs.Vec.{vec_items}
 use Rattle.std.specs.List.{range_with_len}
 use Rattle.std.proofs.lemmas.List.{map-set, length-set}
-use Rattle.xsk_table.specs.View.{View, newcomer, first_caller, other_callers}
+use Rattle.xsk_table.specs.View.{newcomer, first_caller, other_callers}
 use Rattle.xsk_table.specs.Plays.{Seated}
 use Rattle.xsk_table.specs.Held.{Board, Holder, new_pass}
-use Rattle.xsk_table.specs.declared.end.End.{End}
 use Rattle.xsk_table.proofs.Seating.{deals}
 use Rattle.xsk_table.proofs.Deals.{FirstFrom, from_set, seat_first, seat_others, new_holds, passes_more, read_at}
 use Rattle.xsk_table.proofs.shared.deal.Goals as goal

@@ -1,9 +1,9 @@
-use Rattle.std.proofs.Common.{◌≡◌, ◌≢◌, ◌+◌, ◌<◌, ◌≤◌, ℕ, List, Option, Some, None, take, length, get_or, set, sym, ap, subst, ◌∙◌, arith, length-take, get_or-set_other}
+use Rattle.std.proofs.Common.{ℕ, Some, None, length, get_or, ap, ◌∙◌, arith, length-take, get_or-set_other}
 use Rattle.std.proofs.lemmas.List.{length-set, length-map, take_all}
 use Rattle.xsk_umem.specs.Frame.{Frame}
 use Rattle.xsk_umem.specs.Frames.{Frames}
 use Rattle.xsk_words.proofs.Rows.{any_default}
-use Rattle.xsk_table.proofs.Deals.{slotted, back_more}
+use Rattle.xsk_table.proofs.Deals.{back_more}
 use Rattle.xsk_table.proofs.shared.move_back.Goals as goal
 
 pub put_back-requires : goal.put_back-requires

@@ -1,4 +1,4 @@
-use Rattle.std.proofs.Common.{◌≡◌, ◌+◌, ◌++◌, sym, ap, subst, ◌∙◌, arith}
+use Rattle.std.proofs.Common.{◌≡◌, ◌++◌, sym, ap, subst, ◌∙◌}
 use Rattle.xsk_model.specs.Config.{Config, HasRing, size_of}
 use Rattle.xsk_model.specs.Rings.{place}
 use Rattle.xsk_model.specs.Entry.{own}
@@ -10,7 +10,7 @@ use Rattle.xsk_table.specs.Rule.{lying}
 use Rattle.xsk_table.specs.Plays.{CanPlace, ask_item}
 use Rattle.xsk_table.specs.Held.{Board, Holder}
 use Rattle.xsk_table.proofs.Holding.{end_holds}
-use Rattle.xsk_table.proofs.Readying.{can_place, pass_placed, entries_within}
+use Rattle.xsk_table.proofs.Readying.{can_place, entries_within}
 use Rattle.xsk_table.proofs.pass.Pass.place.Goals as goal
 
 pub place-requires-clause-base : goal.place-requires-clause-base

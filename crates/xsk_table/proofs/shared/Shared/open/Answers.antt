@@ -1,4 +1,4 @@
-use Rattle.std.proofs.Common.{rules, ◌≡◌, ◌∙◌, sym, ap, subst, map, List, ℕ, Option, Some, refl}
+use Rattle.std.proofs.Common.{◌≡◌, sym, subst, List, Option}
 use Rattle.atomic_table.specs.Table.{opening}
 use Rattle.xsk_umem.specs.Frame.{Frame}
 use Rattle.xsk_model.specs.Opening.{IsOpened}
