@@ -1,5 +1,4 @@
 pub mod Ports
-pub mod Totals
 pub mod Reading
 pub mod Writing
 pub mod TwoPortsLaws

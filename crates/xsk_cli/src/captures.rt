@@ -71,8 +71,8 @@ fn without_room(list: PacketList) -> PacketList
     ensures { result ≡ listed list.packets }
 {
     let _count = list.len();
-    let (text, spans) = list.into_parts();
-    PacketList::of_spans(text, spans)
+    let parts = list.into_parts();
+    PacketList::of_spans(parts.text, parts.spans)
 }
 
 /// Tests the limits of all lists together: the packets first, then the captured bytes.
@@ -112,19 +112,7 @@ fn count_bytes(lists: &[PacketList]) -> u64
 {
     let mut bytes = 0;
     for list in lists {
-        bytes += bytes_of(list);
-    }
-    bytes
-}
-
-/// The bytes of all packets of a list.
-fn bytes_of(list: &PacketList) -> u64
-    requires { length (concat list.now.packets) < 2 ^ 64 }
-    ensures { result ≡ length (concat list.now.packets) }
-{
-    let mut bytes = 0;
-    for number in 0..list.len() {
-        bytes += list.get(number).len() as u64;
+        bytes += list.bytes();
     }
     bytes
 }

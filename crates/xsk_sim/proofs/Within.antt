@@ -37,18 +37,6 @@ queue_fewer : (queues queue : ℕ) (packets : List (List ℕ)) → IsFewer (pack
 queue_fewer queues queue [] = record { count = omega arith; bytes = omega arith }
 queue_fewer queues queue (packet ∷ packets) = one_more (packet_queue queues packet == queue) packet (packets_of_queue queues queue packets) packets (queue_fewer queues queue packets)
 
--- the bytes of the first packets of a list
-length_concat-take : (packets : List (List ℕ)) (n : ℕ) (packet : List ℕ) → slice_get packets n ≡ Some packet
-    → length (concat (take (suc n) packets)) ≡ length (concat (take n packets)) + length packet
-length_concat-take [] n packet is = absurd (cc)
-length_concat-take (first ∷ packets) zero packet is = let same : first ≡ packet = cc in rw (← same) (omega (arith, length-append first []))
-length_concat-take (first ∷ packets) (suc n) packet is =
-    omega (arith, length-append first (concat (take (suc n) packets)), length-append first (concat (take n packets)), length_concat-take packets n packet is)
-
-pub length_concat-take_more : (packets : List (List ℕ)) (n : ℕ) (packet : List ℕ) → slice_get packets n ≡ Some packet
-    → length (concat (take (n + 1) packets)) ≡ length (concat (take n packets)) + length packet
-length_concat-take_more packets n packet is = rw add-one (length_concat-take packets n packet is)
-
 -- ---- drivers
 
 -- each driver's packets are no more than what its paired port received

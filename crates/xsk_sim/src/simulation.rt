@@ -227,14 +227,7 @@ fn seat_drivers<'a>(
 fn bytes_of(list: &PacketList) -> Option<u32>
     ensures { IfSome result (λ bytes. bytes ≡ length (concat list.now.packets)) }
 {
-    let mut bytes = 0u32;
-    for number in 0..list.len() {
-        let Ok(more) = u32::try_from(list.get(number).len()) else {
-            return None;
-        };
-        bytes = bytes.checked_add(more)?;
-    }
-    Some(bytes)
+    u32::try_from(list.bytes()).ok()
 }
 
 /// An application for each queue of two paired ports.
