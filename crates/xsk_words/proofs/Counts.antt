@@ -1,7 +1,7 @@
 -- Counts that wrap, and packed descriptors.
-use Rattle.std.proofs.Common.{◌≡◌, ℕ, ◌+◌, ◌-◌, ◌*◌, ◌/◌, ◌%◌, ◌^◌, ◌<◌, ◌≤◌, refl, arith}
+use Rattle.std.proofs.Common.{◌≡◌, ℕ, refl, arith}
 use Rattle.xsk_umem.specs.declared.batch.XdpDesc.{XdpDesc}
-use Rattle.xsk_words.specs.Words.{used_of, second_word, unpacked, PackedBack, UnpackedBack, UsedIs}
+use Rattle.xsk_words.specs.Words.{PackedBack, UnpackedBack, UsedIs}
 
 pub used_is : UsedIs
 used_is producer consumer le lt = omega arith

@@ -4,18 +4,17 @@ use Rattle.std.specs.Prelude.{IsSome, unwrap_or}
 use Rattle.std.specs.List.{sum}
 use Rattle.std.proofs.lemmas.Bool.{cases_Bool}
 use Rattle.std.proofs.lemmas.List.{length-map, get_or-map, get_or_append_left, get_or-append_right}
-use Rattle.std.proofs.lemmas.List.Sums.{sum_by_more, sum_by_more_le}
+use Rattle.std.proofs.lemmas.List.Sums.{sum_by_more_le}
 use Rattle.std.proofs.Math.Nat.{mul-le-mul}
 use Rattle.std.proofs.Math.Seq.{get_or-take, take-take}
 use Rattle.xsk_model.specs.Config.{Config, IsConfig, HasRing, size_of, socket_at}
 use Rattle.xsk_model.specs.Rings.{is_ring, place, places_of}
-use Rattle.xsk_model.specs.Marks.{HasMark, apps_of, mark_place, mark_places_of}
+use Rattle.xsk_model.specs.Marks.{apps_of, mark_place, mark_places_of}
 use Rattle.xsk_model.specs.declared.config.PairInfo.{PairInfo}
 use Rattle.xsk_model.specs.declared.config.SocketInfo.{SocketInfo}
 use Rattle.xsk_model.specs.declared.call.Ring.{Ring}
 use Rattle.xsk_model.specs.declared.call.Ring.TheVariants.{Fill, Comp, Rx, Tx}
-use Rattle.xsk_model.specs.declared.call.Mark.{Mark}
-use Rattle.xsk_model.proofs.Places.{is_ring-true, place_below, place_injective, places_apart}
+use Rattle.xsk_model.proofs.Places.{is_ring-true, place_below, places_apart}
 use Rattle.xsk_model.proofs.MarkPlaces.{mark_place_below, mark_place_injective}
 use Rattle.xsk_words.specs.Layout.{OwnWords, entry_words, width_of, width_or_none, fill_width, comp_width, rx_width, tx_width, widths_of, ring_base, marks_base, words_of, Word, producer, consumer, entry, second, mark, HasWord, word_at}
 

@@ -1,4 +1,4 @@
-use Rattle.std.proofs.Common.{◌≡◌, ℕ, ◌≤◌, inl, inr, false, [], ◌∷◌, refl, lit<, lit≤, Some, None}
+use Rattle.std.proofs.Common.{ℕ, ◌≤◌, inl, inr, false, [], ◌∷◌, refl, lit<, lit≤, Some, None}
 use Rattle.std.specs.Prelude.{All, IsSome}
 use Rattle.std.proofs.lemmas.List.Elements.{All-cons, All-nil}
 use Rattle.xsk_umem.specs.Geometry.{Geometry}
