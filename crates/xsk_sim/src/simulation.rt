@@ -204,6 +204,7 @@ fn seat_drivers<'a>(
     inputs: &'a Inputs,
 ) -> Result<Vec<Seat<Driver<'a>>>, OutOfMemory>
     requires regular { IsRegular config.now }
+    requires wakeup { config.now.wakeup ≡ false }
     requires lists { length packets.now ≡ config.now.ports }
     requires inputs { inputs.now ≡ inputs_of config.now packets.now }
     ensures count { IfOk result (λ seats. vec_len seats ≡ length config.now.pairs) }
