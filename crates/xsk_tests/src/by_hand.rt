@@ -1,5 +1,5 @@
 //! Each worker by hand, over its calls in the exchange of one packet of 60 bytes from port 0 to port 1.
-ghost use Rattle.std.specs.Prelude.{◌≡◌, ◌<◌, IfOk, IfSome, Some, length};
+ghost use Rattle.std.specs.Prelude.{◌≡◌, ◌<◌, IfOk, IfSome, Some, false, length};
 ghost use Rattle.xsk_model.specs.Config.{IsRegular};
 ghost use Rattle.xsk_model.specs.Marks.{apps_of};
 ghost use Rattle.xsk_model.specs.Expected.{Expected, CanCome, expected_by, expected_of, nothing};
@@ -187,6 +187,7 @@ fn two_ports(alloc: Global) -> Result<(Config, Frames), Fail>
     ensures pairs { IfOk result (λ made. length made.0.pairs ≡ 2) }
     ensures ports { IfOk result (λ made. made.0.ports ≡ 2) }
     ensures apps { IfOk result (λ made. 0 < apps_of made.0) }
+    ensures wakeup { IfOk result (λ made. made.0.wakeup ≡ false) }
 {
     let (geometry, frames) = Umem::register(alloc, 256 * 4096, 4096, 0)?;
     let sockets = vec![in alloc; socket_on(0), socket_on(1)]?;
