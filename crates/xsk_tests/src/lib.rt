@@ -17,3 +17,5 @@ mod four_ports;
 mod many_packets;
 #[cfg(test)]
 mod refusals;
+#[cfg(test)]
+mod small_rings;
