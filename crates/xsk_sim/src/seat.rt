@@ -15,10 +15,10 @@ ghost use Rattle.xsk_sim.specs.Given.{IsGivenBack-prop};
 ghost use Rattle.xsk_sim.specs.Standing.{HasRun, TakesTurn};
 
 use std::alloc::Global;
+use xsk_machine::Machine;
 use xsk_model::Ask;
 use xsk_plain::{Plain, items_room};
 use xsk_umem::{Batch, OutOfMemory};
-use xsk_machine::Machine;
 
 /// A worker in the rounds, with the call that it makes next (none where it has ended) and the batch that is lent to its
 /// calls, in which the items of a Submit stand.

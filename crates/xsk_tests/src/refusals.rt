@@ -40,7 +40,13 @@ fn a_byte_too_many_is_refused(rt: HostRuntime) -> Result<(), Fail> {
     let (status, bay) = answered(rt.alloc(), &HEADER, text.as_slice())?;
     assert_eq!(rt; status, Status::TooMuch(Excess::Bytes(33_554_433)));
     assert_eq!(rt; status.exit_status(), 9);
-    assert!(rt; holds(&bay, Stream::Report, b"too much bytes 33554433\n".as_slice()));
+    assert!(rt;
+        holds(
+            &bay,
+            Stream::Report,
+            b"too much bytes 33554433\n".as_slice()
+        )
+    );
     Ok(())
 }
 
@@ -70,6 +76,12 @@ fn the_lower_port_is_judged_first(rt: HostRuntime) -> Result<(), Fail> {
     let cut = capture_of(rt.alloc(), &[60])?;
     let (status, bay) = answered(rt.alloc(), &cut.as_slice()[..99], &HEADER[..23])?;
     assert_eq!(rt; status.exit_status(), 3);
-    assert!(rt; holds(&bay, Stream::Report, b"bad capture 0 truncated 24\n".as_slice()));
+    assert!(rt;
+        holds(
+            &bay,
+            Stream::Report,
+            b"bad capture 0 truncated 24\n".as_slice()
+        )
+    );
     Ok(())
 }
