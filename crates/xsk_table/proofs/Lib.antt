@@ -19,3 +19,4 @@ pub mod Laying
 pub mod NewTable
 pub mod FirstEnds
 pub mod Deals
+pub mod FreshFrames

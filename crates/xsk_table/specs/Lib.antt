@@ -3,3 +3,4 @@ pub mod Rule
 pub mod Plays
 pub mod Held
 pub mod Opening
+pub mod TwoPorts

@@ -18,3 +18,6 @@ pub use pass::Pass;
 pub use passes::Passes;
 pub use shared::{Shared, SharedRefused};
 pub use view::{Asking, Key, Law, View};
+
+#[cfg(test)]
+mod tests;
