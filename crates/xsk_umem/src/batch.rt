@@ -116,6 +116,15 @@ impl Batch {
         }
     }
 
+    /// Item `i`, counted from 0.
+    pub fn item(&self, i: u32) -> &Item
+        requires { i < length self.now }
+        ensures { slice_get self.now i ≡ Some result.now }
+    {
+        let at = (self.head + i as usize) % MOST_ITEMS;
+        &self.places[at]
+    }
+
     /// The descriptor of item `i`, counted from 0.
     pub fn desc(&self, i: u32) -> XdpDesc
         requires { i < length self.now }
