@@ -1,8 +1,8 @@
 use Rattle.xsk_cli.proofs.TwoPortsLaws.{two_ports-config}
-use Rattle.xsk_tests.proofs.configuration.a_configuration_tells_its_parts.Goals as goal
+use Rattle.xsk_worker_tests.proofs.by_hand.two_ports.Goals as goal
 
 pub of_parts-config-requires : goal.of_parts-config-requires
-of_parts-config-requires g c =
+of_parts-config-requires c =
     rw (
       c.in_ok-sockets.ensures.items,
       c.socket_on.ensures,

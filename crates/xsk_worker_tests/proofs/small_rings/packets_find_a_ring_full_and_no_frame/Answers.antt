@@ -4,7 +4,7 @@ use Rattle.std.proofs.lemmas.List.Elements.{All-cons, All-nil}
 use Rattle.xsk_umem.specs.Geometry.{Geometry}
 use Rattle.xsk_model.specs.Config.{Config, IsConfig, IsRingSize, IsBound, IsServed, IsMap}
 use Rattle.xsk_plain.proofs.Legality.{fresh_are_frames}
-use Rattle.xsk_tests.proofs.small_rings.packets_find_a_ring_full_and_no_frame.Goals as goal
+use Rattle.xsk_worker_tests.proofs.small_rings.packets_find_a_ring_full_and_no_frame.Goals as goal
 
 abbrev small : Geometry → Config
 small g = record {

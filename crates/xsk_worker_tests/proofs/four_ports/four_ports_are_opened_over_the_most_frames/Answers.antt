@@ -6,7 +6,7 @@ use Rattle.xsk_model.specs.Config.{Config, IsConfig, IsRegular, IsRingSize, IsBo
 use Rattle.xsk_model.specs.declared.config.PairInfo.{PairInfo}
 use Rattle.xsk_model.specs.declared.config.SocketInfo.{SocketInfo}
 use Rattle.xsk_plain.proofs.Legality.{fresh_are_frames}
-use Rattle.xsk_tests.proofs.four_ports.four_ports_are_opened_over_the_most_frames.Goals as goal
+use Rattle.xsk_worker_tests.proofs.four_ports.four_ports_are_opened_over_the_most_frames.Goals as goal
 
 abbrev socket : ℕ → SocketInfo
 socket p = record { port = p; queue = 0; rx = Some 2048; tx = Some 2048 }

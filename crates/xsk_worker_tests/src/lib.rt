@@ -1,0 +1,11 @@
+//! Tests of the workers and the object together: each worker by hand, runs over small rings, the largest UMEM.
+#![tactic(auto)]
+
+#[cfg(test)]
+mod by_hand;
+#[cfg(test)]
+mod configuration;
+#[cfg(test)]
+mod four_ports;
+#[cfg(test)]
+mod small_rings;
