@@ -1,0 +1,13 @@
+//! Programs that decide of each packet what becomes of it, as an XDP program that is attached to a device does (af_xdp.rst,
+//! "Overview" and "XSKMAP / BPF_MAP_TYPE_XSKMAP").
+#![tactic(auto)]
+
+pub mod laws;
+mod program;
+mod rule;
+
+pub use program::XdpProgram;
+pub use rule::{Rule, Verdict};
+
+#[cfg(test)]
+mod tests;
