@@ -189,13 +189,7 @@ fn settle<J: Asking>(board: &Board, seat: &mut Chair, who: u32, ring: Ring, word
 }
 
 /// The read of an entry's second word, which gives the slot of the fetched frame home, empty.
-fn read_second<J: Asking>(
-    board: &Board,
-    seat: &mut Chair,
-    who: u32,
-    ring: Ring,
-    word: usize,
-) -> u64
+fn read_second<J: Asking>(board: &Board, seat: &mut Chair, who: u32, ring: Ring, word: usize) -> u64
     requires table { seat.old.table_id ≡ board.now.table_id }
     requires ask { J.ask ≡ ask_for board.now.key who ring 0 }
     requires two_words { words_of_entry ring ≡ 2 }

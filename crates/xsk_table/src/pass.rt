@@ -19,6 +19,7 @@ use crate::end::End;
 use crate::shared::Shared;
 use crate::steps::Chair;
 use crate::{moves, steps};
+use std::alloc::Global;
 use std::marker::Model;
 use std::sync::ledger::Ledger;
 use xsk_model::placement::ring_place;
@@ -35,6 +36,7 @@ pub struct Pass {
     pub(crate) ends: Vec<End>,
     /// The items of the call in flight: those that are placed, or those that are left.
     pub(crate) flying: u32,
+    pub(crate) alloc: Global,
 }
 
 impl Model for Pass {
@@ -63,6 +65,11 @@ impl Pass {
         ensures { result ≡ self.now.who }
     {
         self.who
+    }
+
+    /// The allocator by which an empty batch is made. It is asked for no memory.
+    pub fn alloc(&self) -> Global {
+        self.alloc
     }
 
     /// The look of a Reserve. It adds the Reserve with its reply to the history, and counts one look.

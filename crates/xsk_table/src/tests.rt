@@ -1,9 +1,9 @@
 //! Tests of a table's opening, of its passes, and of the steps on FILL and on TX.
-ghost use Rattle.std.specs.Prelude.{◌≡◌, ◌+◌, ◌≤◌, IfOk, List, Some, length};
+ghost use Rattle.std.specs.Prelude.{◌≡◌, ◌+◌, ◌^◌, ◌<◌, ◌≤◌, IfOk, List, [], ◌∷◌, Some, length};
 ghost use Rattle.xsk_umem.specs.declared.batch.Item.{Item as Thing};
-ghost use Rattle.xsk_model.specs.declared.call.Ring.TheVariants.{Fill};
+ghost use Rattle.xsk_model.specs.declared.call.Ring.TheVariants.{Fill, Tx};
 ghost use Rattle.xsk_model.specs.Entry.{own};
-ghost use Rattle.xsk_model.specs.Own.{room_of};
+ghost use Rattle.xsk_model.specs.Own.{room_of, held_of};
 ghost use Rattle.xsk_table.specs.View.{idle};
 ghost use Rattle.xsk_table.specs.Plays.{still};
 ghost use Rattle.xsk_model.specs.Config.{IsRingSize};
@@ -226,14 +226,12 @@ fn fill_goes_round<L: Ledger, R: Abort>(
     Ok(())
 }
 
-/// The application puts an item without a frame on TX, round `round`.
-fn application_sends<R: Abort, L: Ledger>(
+/// The application reserves a place of TX.
+fn application_reserves_one<R: Abort, L: Ledger>(
     rt: &R,
-    alloc: Global,
     shared: &Shared,
     app: &mut Pass,
     steps: &mut Steps<L>,
-    round: u32,
 )
     requires belongs { Belongs shared.now app.old }
     requires setup { (first : _) × (shared.now.setup ≡ setup_of 4 first) }
@@ -242,11 +240,25 @@ fn application_sends<R: Abort, L: Ledger>(
     ensures belongs { Belongs shared.now app.new }
     ensures caller { app.new.who ≡ 2 }
     ensures flight { app.new.view.flight ≡ idle }
+    ensures room { 1 ≤ room_of (Tx 0) (own 2 app.new.view.seen) }
 {
     let reply = app.reserve_step(shared, Ring::Tx(0), 1, steps);
     let Reply::Granted = reply else {
         panic!(rt; "the ring is full")
     };
+}
+
+/// It puts the round's item there.
+fn application_sends(alloc: Global, shared: &Shared, app: &mut Pass, round: u32)
+    requires belongs { Belongs shared.now app.old }
+    requires setup { (first : _) × (shared.now.setup ≡ setup_of 4 first) }
+    requires caller { app.old.who ≡ 2 }
+    requires rests { app.old.view.flight ≡ idle }
+    requires room { 1 ≤ room_of (Tx 0) (own 2 app.old.view.seen) }
+    ensures belongs { Belongs shared.now app.new }
+    ensures caller { app.new.who ≡ 2 }
+    ensures flight { app.new.view.flight ≡ idle }
+{
     let mut batch = Batch::new(alloc);
     batch.push(Item {
         frame: None,
@@ -267,13 +279,12 @@ fn sent_in(round: u32) -> XdpDesc
     }
 }
 
-/// The driver takes one item from TX, which must be that of the round, and frees its place.
-fn driver_takes<R: Abort, L: Ledger>(
+/// The driver finds one item on TX.
+fn driver_peeks_one<R: Abort, L: Ledger>(
     rt: &R,
     shared: &Shared,
     driver: &mut Pass,
     steps: &mut Steps<L>,
-    round: u32,
 )
     requires belongs { Belongs shared.now driver.old }
     requires setup { (first : _) × (shared.now.setup ≡ setup_of 4 first) }
@@ -281,12 +292,37 @@ fn driver_takes<R: Abort, L: Ledger>(
     requires rests { driver.old.view.flight ≡ idle }
     ensures belongs { Belongs shared.now driver.new }
     ensures caller { driver.new.who ≡ 0 }
-    ensures flight { driver.new.view.flight ≡ idle }
+    ensures flight { (x : Thing) × (driver.new.view.flight ≡ still (Tx 0) (x ∷ [])) }
+    ensures held { 1 ≤ held_of (Tx 0) (own 0 driver.new.view.seen) }
 {
     let count = driver.peek_step(shared, Ring::Tx(0), 1, steps);
     assert!(rt; count == 1);
+}
+
+/// It takes the item, which must be that of the round.
+fn driver_takes<R: Abort>(rt: &R, shared: &Shared, driver: &mut Pass, round: u32)
+    requires belongs { Belongs shared.now driver.old }
+    requires caller { driver.old.who ≡ 0 }
+    requires flight { (x : Thing) × (driver.old.view.flight ≡ still (Tx 0) (x ∷ [])) }
+    ensures caller { driver.new.who ≡ 0 }
+    ensures table { driver.new.table ≡ driver.old.table }
+    ensures view { driver.new.view ≡ record driver.old.view { flight = idle } }
+{
     let item = driver.fetch(shared, Ring::Tx(0));
     assert!(rt; item.frame.is_none() && item.desc == sent_in(round));
+}
+
+/// It frees the place.
+fn driver_frees(shared: &Shared, driver: &mut Pass)
+    requires belongs { Belongs shared.now driver.old }
+    requires setup { (first : _) × (shared.now.setup ≡ setup_of 4 first) }
+    requires caller { driver.old.who ≡ 0 }
+    requires rests { driver.old.view.flight ≡ idle }
+    requires held { 1 ≤ held_of (Tx 0) (own 0 driver.old.view.seen) }
+    ensures belongs { Belongs shared.now driver.new }
+    ensures caller { driver.new.who ≡ 0 }
+    ensures flight { driver.new.view.flight ≡ idle }
+{
     driver.raise_consumer(shared, Ring::Tx(0), 1);
 }
 
@@ -327,9 +363,12 @@ fn six_go_through_tx<L: Ledger, R: Abort>(
         panic!(rt; "no application")
     };
     let mut steps = Steps::<L>::new(blank);
-    for round in 0..6 {
-        application_sends(rt, alloc, &shared, &mut app, &mut steps, round);
-        driver_takes(rt, &shared, &mut driver, &mut steps, round);
+    'rounds: for round in 0..6 {
+        application_reserves_one(rt, &shared, &mut app, &mut steps);
+        application_sends(alloc, &shared, &mut app, round);
+        driver_peeks_one(rt, &shared, &mut driver, &mut steps);
+        driver_takes(rt, &shared, &mut driver, round);
+        driver_frees(&shared, &mut driver);
     }
     all_is_free(rt, &shared, &mut app, &mut steps);
     Ok(())

@@ -1,6 +1,5 @@
-use Rattle.std.proofs.Common.{◌+◌, ◌%◌, ◌∙◌, ◌∷◌, ap, sym, length}
+use Rattle.std.proofs.Common.{◌+◌, ◌%◌, ◌∙◌, ap, sym}
 use Rattle.xsk_table.specs.View.{View}
-use Rattle.xsk_table.specs.Rule.{lying}
 use Rattle.xsk_table.specs.Plays.{ask_for}
 use Rattle.xsk_umem.specs.Geometry.{frame_of}
 use Rattle.xsk_table.proofs.Moving.{this_place, first_word, entry_fits, some_words, place_small, fetched_front, emptied_first, still_position, out}

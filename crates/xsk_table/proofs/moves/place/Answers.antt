@@ -1,4 +1,4 @@
-use Rattle.std.proofs.Common.{arith, ◌%◌, ◌^◌, ◌+◌, ◌<◌}
+use Rattle.std.proofs.Common.{arith, ◌%◌, ◌^◌, ◌+◌}
 use Rattle.xsk_table.specs.Plays.{ask_item}
 use Rattle.xsk_table.proofs.Moving.{placed_word, lifted_word, place_small, entry_fits, some_words}
 use Rattle.xsk_table.proofs.moves.place.Goals as goal
@@ -9,7 +9,7 @@ take_slot-requires-clause-base c = let b = c.requires.base in (omega arith, b.2)
 pub take_slot-requires-clause-word : goal.take_slot-requires-clause-word
 take_slot-requires-clause-word c =
     placed_word (ask_item c.args.board.now.key c.args.who c.args.ring c.args.item) c.args.seat.now.me c.args.base c.args.mask c.args.near c.args.placed c.entry_word-word.result
-        c.requires.base.0 c.requires.size.0 c.requires.size.1 c.requires.near c.requires.placed c.entry_word-word.ensures.value
+    c.requires.base.0 c.requires.size.0 c.requires.size.1 c.requires.near c.requires.placed c.entry_word-word.ensures.value
 
 pub take_slot-requires-clause-within : goal.take_slot-requires-clause-within
 take_slot-requires-clause-within c = (
