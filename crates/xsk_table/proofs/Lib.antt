@@ -20,3 +20,4 @@ pub mod NewTable
 pub mod FirstEnds
 pub mod Deals
 pub mod FreshFrames
+mod TestParts

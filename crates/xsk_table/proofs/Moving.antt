@@ -1,21 +1,24 @@
 -- Where entries stand by the counts of a pass, and what comes out of a slot.
-use Rattle.std.proofs.Common.{◌≡◌, ℕ, ◌+◌, ◌-◌, ◌*◌, ◌%◌, ◌^◌, ◌<◌, List, [], ◌∷◌, length, refl, ap, sym, ◌∙◌, arith, subst, Option, Some, None, bit_and}
+use Rattle.std.proofs.Common.{◌≡◌, ℕ, ◌+◌, ◌-◌, ◌*◌, ◌%◌, ◌^◌, ◌<◌, ◌≤◌, List, [], ◌∷◌, length, refl, ap, sym, ◌∙◌, arith, subst, Option, Some, None, bit_and}
 use Rattle.std.specs.Option.{option_map}
 use Rattle.std.proofs.lemmas.Nat.{and_mask}
 use Rattle.atomic_table.specs.Table.{rest}
 use Rattle.xsk_umem.specs.Frame.{Frame}
 use Rattle.xsk_umem.specs.Geometry.{Geometry, frame_of}
 use Rattle.xsk_umem.specs.declared.batch.Item.{Item}
+use Rattle.xsk_umem.specs.declared.batch.XdpDesc.{XdpDesc}
 use Rattle.xsk_model.specs.Config.{Config, IsRingSize, size_of}
 use Rattle.xsk_model.specs.Legal.{IsItemOn}
 use Rattle.xsk_model.specs.declared.call.Ring.{Ring}
 use Rattle.xsk_model.specs.declared.call.Ring.TheVariants.{Fill, Comp, Rx, Tx}
+use Rattle.xsk_words.specs.Words.{second_word, unpacked}
 use Rattle.xsk_words.specs.Layout.{entry_words, ring_base, word_at}
-use Rattle.xsk_table.specs.View.{Setup, View}
-use Rattle.xsk_model.specs.Entry.{own}
-use Rattle.xsk_model.specs.Own.{given_of}
-use Rattle.xsk_table.specs.Rule.{wrapped, entry_of, opened, lying}
-use Rattle.xsk_table.specs.Plays.{Seated, Ask, with_slot, without_slot, IsFirst, Lifted, Fetched, Settled, Emptied, TakenOut, still}
+use Rattle.xsk_words.proofs.Counts.{packed_back}
+use Rattle.xsk_table.specs.View.{Setup, Flight, taking, View}
+use Rattle.xsk_model.specs.Entry.{Entry, own}
+use Rattle.xsk_model.specs.Own.{given_of, released_of, held_of}
+use Rattle.xsk_table.specs.Rule.{wrapped, entry_of, second_of, opened, lying}
+use Rattle.xsk_table.specs.Plays.{Seated, Ask, with_slot, without_slot, IsFirst, Lifted, Fetched, Settled, Emptied, TakenOut, still, emptied, ask_for}
 use Rattle.xsk_table.proofs.WordRows.{divides}
 use Rattle.xsk_table.proofs.Placing.{gone}
 
@@ -36,15 +39,45 @@ next_place k size a near placed h is =
 pub this_place : (k : Setup) (size a position : ℕ) → IsRingSize size → position ≡ wrapped k a → position % size ≡ (k.first + a) % size
 this_place k size a position h is = ap (λ n. n % size) is ∙ divides size (k.first + a) h
 
--- the word of an entry that has one word
-pub entry_word : (c : Config) (r : Ring) (base mask p count : ℕ) → base ≡ ring_base c r → entry_words r ≡ 1 → mask + 1 ≡ size_of c r → p ≡ count % (mask + 1) → base + 32 + p ≡ word_at c (entry_of c r count)
-entry_word c r base mask p count at one size is =
-    let place : ℕ = count % size_of c r in
-    let here : p ≡ place = is ∙ ap (λ n. count % n) size in
-    let words : entry_words r * place ≡ 1 * place = ap (λ n. n * place) one in
+-- an entry has one word or two
+pub one_or_two : (r : Ring) → (entry_words r ≡ 2 → ⊥) → entry_words r ≡ 1
+one_or_two (Fill d) h = refl
+one_or_two (Comp d) h = refl
+one_or_two (Rx s) h = absurd (h refl)
+one_or_two (Tx s) h = absurd (h refl)
+
+pub few_words : (r : Ring) (p : ℕ) → entry_words r * p ≤ 2 * p
+few_words (Fill d) p = omega arith
+few_words (Comp d) p = omega arith
+few_words (Rx s) p = omega arith
+few_words (Tx s) p = omega arith
+
+pub some_words : (r : Ring) (word words : ℕ) → word + entry_words r ≤ words → word < words
+some_words (Fill d) word words h = omega arith
+some_words (Comp d) word words h = omega arith
+some_words (Rx s) word words h = omega arith
+some_words (Tx s) word words h = omega arith
+
+-- the first word of an entry, and the second
+pub first_word : (c : Config) (r : Ring) (base mask p count word : ℕ) → base ≡ ring_base c r → mask + 1 ≡ size_of c r → p ≡ count % (mask + 1) → word ≡ base + (32 + entry_words r * p) → word ≡ word_at c (entry_of c r count)
+first_word c r base mask p count word at size is here =
+    let place : p ≡ count % size_of c r = is ∙ ap (λ n. count % n) size in
+    here ∙ (λ i. at i + (32 + entry_words r * place i))
+
+pub behind : (c : Config) (r : Ring) (count word : ℕ) → word ≡ word_at c (entry_of c r count) → word + 1 ≡ word_at c (second_of c r count)
+behind c r count word is =
     let b : ℕ = ring_base c r in
-    let e : ℕ = entry_words r * place in
-    omega arith
+    let e : ℕ = entry_words r * (count % size_of c r) in
+    let z : word ≡ b + (32 + e) = is in
+    let goal : word + 1 ≡ b + (33 + e) = omega arith in
+    goal
+
+-- an entry lies within its ring
+pub entry_fits : (r : Ring) (base size p word words : ℕ) → p < size → word ≡ base + (32 + entry_words r * p) → base + (32 + entry_words r * size) ≤ words → word + entry_words r ≤ words
+entry_fits (Fill d) base size p word words lt is le = omega arith
+entry_fits (Comp d) base size p word words lt is le = omega arith
+entry_fits (Rx s) base size p word words lt is le = omega arith
+entry_fits (Tx s) base size p word words lt is le = omega arith
 
 pub place_small : (count mask : ℕ) → count % (mask + 1) < mask + 1
 place_small count mask = omega arith
@@ -108,30 +141,48 @@ pub emptied_first : (f result : Option Frame) (m m' : Seated) → Emptied f m re
 emptied_first f result m m' h = subst (IsFirst f None) (sym h.slots) (first_with f None (without_slot f m.1))
 
 -- an item of a ring whose entries have one word has an address alone
-item_is : (g : Geometry) (r : Ring) (x : Item) (f : Option Frame) (addr : ℕ) → entry_words r ≡ 1 → f ≡ x.frame → addr ≡ x.desc.addr → IsItemOn g r x
-    → record { frame = f; desc = record { addr = addr; len = 0; options = 0 } } ≡ x
-item_is g (Fill d) x f addr one a b h = λ i. record { frame = a i; desc = record { addr = b i; len = sym h.plain.0 i; options = sym h.plain.1 i } }
-item_is g (Comp d) x f addr one a b h = λ i. record { frame = a i; desc = record { addr = b i; len = sym h.plain.0 i; options = sym h.plain.1 i } }
-item_is g (Rx s) x f addr one a b h = absurd (cc)
-item_is g (Tx s) x f addr one a b h = absurd (cc)
+pub desc_one : (g : Geometry) (r : Ring) (x : Item) (addr : ℕ) → entry_words r ≡ 1 → addr ≡ x.desc.addr → IsItemOn g r x → record { addr = addr; len = 0; options = 0 } ≡ x.desc
+desc_one g (Fill d) x addr one a h = λ i. record { addr = a i; len = sym h.plain.0 i; options = sym h.plain.1 i }
+desc_one g (Comp d) x addr one a h = λ i. record { addr = a i; len = sym h.plain.0 i; options = sym h.plain.1 i }
+desc_one g (Rx s) x addr one a h = absurd (cc)
+desc_one g (Tx s) x addr one a h = absurd (cc)
 
-pub out : (a : Ask) (x : Item) (left : List Item) (m m' m'' n : Seated) (found : ℕ) (result : Option Frame) → entry_words a.ring ≡ 1 → Fetched a x left m found m' → Emptied x.frame m' result m'' → Settled a x left m'' n
-    → TakenOut a.ring x left (record { frame = result; desc = record { addr = found; len = 0; options = 0 } }) m n
-out a x left m m' m'' n found result one h e down = record {
-  item = item_is a.setup.config.geometry a.ring x result found one e.frame h.found_is h.lawful;
+-- one of another ring is in its two words
+pub desc_two : (g : Geometry) (r : Ring) (x : Item) (addr second : ℕ) → addr ≡ x.desc.addr → second ≡ second_word x.desc → IsItemOn g r x → unpacked addr second ≡ x.desc
+desc_two g r x addr second a b h = (λ i. unpacked (a i) (b i)) ∙ packed_back x.desc h.len
+
+-- its count is the same once its slot is taken
+pub still_position : (k : Setup) (who : ℕ) (r : Ring) (v w : View) (count : ℕ) (x : Item) (left : List Item) → v.flight ≡ taking r (x ∷ left) → w.seen ≡ v.seen
+    → count + length (lying v.flight) ≡ emptied (ask_for k who r 0) v → count + length (x ∷ left) ≡ emptied (ask_for k who r 0) w
+still_position k who r v w count x left flies same at_count =
+    ap (λ (f : Flight). count + length (lying f)) (sym flies) ∙ at_count ∙ ap (λ (l : List Entry). released_of r (own who l) + held_of r (own who l)) (sym same)
+
+pub out : (a : Ask) (x : Item) (left : List Item) (m m' m'' n : Seated) (found : ℕ) (result : Option Frame) (desc : XdpDesc) → Fetched a x left m found m' → Emptied x.frame m' result m'' → Settled a x left m'' n → desc ≡ x.desc
+    → TakenOut a.ring x left (record { frame = result; desc = desc }) m n
+out a x left m m' m'' n found result desc h e down same = record {
+  item = λ i. record { frame = e.frame i; desc = same i };
   view = down.view ∙ ap (λ (v : View). record v { flight = still a.ring left }) (e.view ∙ h.view);
   slots = down.slots ∙ ap (without_slot x.frame) e.slots ∙ gone x.frame None (without_slot x.frame m'.1) ∙ ap (without_slot x.frame) h.slots ∙ gone x.frame x.frame m.1;
 }
 
--- the word behind the items that are placed, once the slot is taken
-pub placed_word : (a : Ask) (m m' : Seated) (base mask near placed p : ℕ) → Lifted a m m' → base ≡ ring_base a.setup.config a.ring → entry_words a.ring ≡ 1 → mask + 1 ≡ size_of a.setup.config a.ring → IsRingSize (mask + 1)
-    → near ≡ wrapped a.setup (opened a.setup a.ring + given_of a.ring (own a.who m.0.seen)) → placed ≡ length (lying m.0.flight) → p ≡ ((near + placed) % 2 ^ 32) % (mask + 1)
-    → base + 32 + p ≡ word_at a.setup.config (entry_of a.setup.config a.ring (a.setup.first + (opened a.setup a.ring + given_of a.ring (own a.who m'.0.seen) + length (lying m'.0.flight))))
-placed_word a m m' base mask near placed p did at one size power near_is placed_is p_is =
+-- the entry behind the items that are placed
+pub placed_word : (a : Ask) (m : Seated) (base mask near placed word : ℕ) → base ≡ ring_base a.setup.config a.ring → mask + 1 ≡ size_of a.setup.config a.ring → IsRingSize (mask + 1)
+    → near ≡ wrapped a.setup (opened a.setup a.ring + given_of a.ring (own a.who m.0.seen)) → placed ≡ length (lying m.0.flight) → word ≡ base + (32 + entry_words a.ring * (((near + placed) % 2 ^ 32) % (mask + 1)))
+    → word ≡ word_at a.setup.config (entry_of a.setup.config a.ring (a.setup.first + (opened a.setup a.ring + given_of a.ring (own a.who m.0.seen) + length (lying m.0.flight))))
+placed_word a m base mask near placed word at size power near_is placed_is here =
     let k = a.setup in
     let r = a.ring in
     let n : ℕ = opened k r + given_of r (own a.who m.0.seen) in
-    let P : View → Type 0 = λ v. base + 32 + p ≡ word_at k.config (entry_of k.config r (k.first + (opened k r + given_of r (own a.who v.seen) + length (lying v.flight)))) in
-    let place : p ≡ (k.first + (n + length (lying m.0.flight))) % (mask + 1) =
-    p_is ∙ next_place k (mask + 1) n near placed power near_is ∙ ap (λ l. (k.first + (n + l)) % (mask + 1)) placed_is in
-    subst P (sym did.view) (entry_word k.config r base mask p (k.first + (n + length (lying m.0.flight))) at one size place)
+    let place : ((near + placed) % 2 ^ 32) % (mask + 1) ≡ (k.first + (n + length (lying m.0.flight))) % (mask + 1) =
+    next_place k (mask + 1) n near placed power near_is ∙ ap (λ l. (k.first + (n + l)) % (mask + 1)) placed_is in
+    first_word k.config r base mask _ (k.first + (n + length (lying m.0.flight))) word at size place here
+
+-- it is the same once the slot is taken
+pub lifted_word : (a : Ask) (m m' : Seated) (word : ℕ) → Lifted a m m'
+    → word ≡ word_at a.setup.config (entry_of a.setup.config a.ring (a.setup.first + (opened a.setup a.ring + given_of a.ring (own a.who m.0.seen) + length (lying m.0.flight))))
+    → word ≡ word_at a.setup.config (entry_of a.setup.config a.ring (a.setup.first + (opened a.setup a.ring + given_of a.ring (own a.who m'.0.seen) + length (lying m'.0.flight))))
+lifted_word a m m' word did is =
+    let k = a.setup in
+    let r = a.ring in
+    let P : View → Type 0 = λ v. word ≡ word_at k.config (entry_of k.config r (k.first + (opened k r + given_of r (own a.who v.seen) + length (lying v.flight)))) in
+    subst P (sym did.view) is

@@ -1,5 +1,5 @@
--- Placing an item: a step takes the empty slot of its frame, and the write of the address word brings it home with the
--- frame.
+-- Placing an item: a step takes the empty slot of its frame, which writes the second word of the entry where it has one,
+-- and the write of the address word brings it home with the frame.
 use Rattle.std.proofs.Common.{◌≡◌, ℕ, ◌+◌, ◌%◌, ◌<◌, ◌≤◌, suc, zero, false, List, [], ◌∷◌, ◌++◌, length, get_or, set, refl, ap, sym, ◌∙◌, arith, subst, ◌⊎◌, inl, inr, ⊎_elim, append_assoc, length-append}
 use Rattle.std.specs.Prelude.{Option, Some, None}
 use mathlib.Core.Option.{some, none, some-injective, some-ne-none}
@@ -23,6 +23,7 @@ use Rattle.xsk_model.specs.Legal.{IsItemOn}
 use Rattle.xsk_model.specs.declared.call.Ring.{Ring}
 use Rattle.xsk_model.specs.declared.call.Mark.{Mark}
 use Rattle.xsk_model.proofs.Roles.{two_owners}
+use Rattle.xsk_words.specs.Words.{second_word}
 use Rattle.xsk_words.specs.Layout.{entry_words, words_of, Word, producer, consumer, mark, HasWord, word_at}
 use Rattle.xsk_table.specs.View.{Setup, Flight, idle, placing, writing, taking, fetching, View}
 use Rattle.xsk_table.specs.Rule.{at, entry_of, second_of, opened, given, released, Lies, Written, nothing, written, standing, lying, aloft, Homes, IsHome, AllHome, HasAll, RingHolds, Rule}
@@ -58,6 +59,9 @@ places_differ a b n enough lt near e = let is = one_turn a b n (omega arith) nea
 
 pub entries_differ : (c : Config) (r : Ring) (a b : ℕ) → 0 < size_of c r → a < b → b < a + size_of c r → entry_of c r a ≡ entry_of c r b → ⊥
 entries_differ c r a b enough lt near e = places_differ a b (size_of c r) enough lt near (ap place_in e)
+
+seconds_differ : (c : Config) (r : Ring) (a b : ℕ) → 0 < size_of c r → a < b → b < a + size_of c r → second_of c r a ≡ second_of c r b → ⊥
+seconds_differ c r a b enough lt near e = places_differ a b (size_of c r) enough lt near (ap place_in e)
 
 pub whole_ring : (k : Setup) (words : List ℕ) (r : Ring) (q : RingState) (a b : ℕ) (items : List Item) (x : Item) → IsConfig k.config → HasRing k.config r → length words ≡ words_of k.config
     → IsItemOn k.config.geometry r x → a ≡ b + length q.held + length q.out → length q.out + length q.held + q.room ≤ size_of k.config r
@@ -104,6 +108,37 @@ half_ring k words r q a b items x one room ok = record {
   entries = ok.entries;
   half = λ y there two. absurd (omega arith);
 }
+
+within_list : (l : List Item) (i : ℕ) (x : Item) → get_elem? l i ≡ some x → i < length l
+within_list [] i x e = absurd (some-ne-none x (sym e))
+within_list (y ∷ l) zero x e = omega arith
+within_list (y ∷ l) (suc i) x e = let h = within_list l i x e in omega arith
+
+-- where they have two, the second is written first
+second_ring : (k : Setup) (words : List ℕ) (r : Ring) (q : RingState) (a b : ℕ) (items : List Item) (x : Item) → IsConfig k.config → HasRing k.config r → length words ≡ words_of k.config
+    → entry_words r ≡ 2 → a ≡ b + length q.held + length q.out → length q.out + length q.held + q.room ≤ size_of k.config r → length items + 1 ≤ q.room
+    → RingHolds k words r q a b (record { whole = items; half = [] })
+    → RingHolds k (set words (word_at k.config (second_of k.config r (k.first + (a + length items)))) (second_word x.desc)) r q a b (record { whole = items; half = x ∷ [] })
+second_ring k words r q a b items x config has wide two counts room fits ok =
+    let c = k.config in
+    let new : ℕ = k.first + (a + length items) in
+    let size : ℕ = size_of c r in
+    let below : new % size < size = place_below c r new config has in
+    let some_size : 0 < size = omega arith in
+    let word : Word = second_of c r new in
+    let there : HasWord c word = (has, below, two) in
+    let value : ℕ = second_word x.desc in
+    record {
+      producer_is = write_else c words word value config there (producer r) has (λ e. cc) ∙ ok.producer_is;
+      consumer_is = write_else c words word value config there (consumer r) has (λ e. cc) ∙ ok.consumer_is;
+      within = fits;
+      entries = λ j y at_j.
+          let lt = within_list (standing q items) j y at_j in
+          let far : k.first + b + j < new = omega (arith, standing_len q items) in
+          let near : new < k.first + b + j + size = omega (arith, standing_len q items) in
+          lies_write c words r (k.first + b + j) y word value config has there (λ e. cc) (seconds_differ c r (k.first + b + j) new some_size far near) (ok.entries j y at_j);
+      half = λ y at_0 again. write_here c words word value config there wide ∙ ap (λ (z : Item). second_word z.desc) (some-injective x y at_0);
+    }
 
 -- ---- flights that place
 
@@ -195,6 +230,35 @@ lifts_look slots id me a word one can is_placing s rule wide at_id small =
     let t = lifts_by id me a can is_placing s rule at_id s.words refl (λ r' has' off. same_words k.config s.words r') (λ m has'. refl)
     (half_ring k s.words r (ring_now k s rule r) (given k r rule.log) (released k r rule.log) (lying v.flight) a.item one room) in
     (t.0, t.1, t.2, subst (λ (ws : List ℕ). Rule k record { words = ws; homes = homes_after s.homes me.1 t.1; views = set s.views id t.0 }) (sym (set-get_or s.words word 0)) t.3, t.4)
+
+-- by the write of the second word, where they have two
+pub lifts_store : (slots id : ℕ) (me : Seated) (a : Ask) (word new : ℕ) → entry_words a.ring ≡ 2 → new ≡ second_word a.item.desc → CanPlace a me.0 → IsPlacing a.ring me.0.flight
+    → word ≡ word_at a.setup.config (second_of a.setup.config a.ring (a.setup.first + (opened a.setup a.ring + given_of a.ring (own a.who me.0.seen) + length (lying me.0.flight))))
+    → Allows (Rule a.setup) slots id me word (λ _. new) (λ _. lifts a (step slots word new 0 none) me new)
+lifts_store slots id me a word new two new_is can is_placing at_word s rule wide at_id small =
+    let k = a.setup in
+    let c = k.config in
+    let r = a.ring in
+    let who = a.who in
+    let v = me.0 in
+    let items = lying v.flight in
+    let config = rule.legal.opened.config in
+    let caller : who < callers_of c = subst (λ (n : ℕ). n < callers_of c) (sym can.role) (two_owners c r config can.ring).0 in
+    let kn = known k s rule id who v at_id can.one caller in
+    let room : length items + 1 ≤ (ring_now k s rule r).room = subst (λ (n : ℕ). length items + 1 ≤ n) (sym (room_seen k s rule who v kn r can.ring can.role)) can.room in
+    let nums = numbers_are k s rule r can.ring in
+    let given_is = given_seen k s rule who v kn r can.ring can.role in
+    let count : ℕ = k.first + (given k r rule.log + length items) in
+    let spot : Word = second_of c r count in
+    let there : HasWord c spot = (can.ring, place_below c r count config can.ring, two) in
+    let value : ℕ = second_word a.item.desc in
+    let is_word : word_at c spot ≡ word = ap (λ n. word_at c (second_of c r (k.first + (n + length items)))) given_is ∙ sym at_word in
+    let t = lifts_by id me a can is_placing s rule at_id (set s.words (word_at c spot) value) (length-set s.words _ _)
+    (λ r' has' off. write_other_ring c s.words spot value config there r' has' (other_ring r' r off))
+    (λ m has'. write_no_mark c s.words spot value config there m has' (ring_word r))
+    (second_ring k s.words r (ring_now k s rule r) (given k r rule.log) (released k r rule.log) items a.item config can.ring rule.words_len two nums.counts nums.within room) in
+    let P : ℕ × ℕ → Type 0 = λ z. Rule k record { words = set s.words z.0 z.1; homes = homes_after s.homes me.1 t.1; views = set s.views id t.0 } in
+    (t.0, t.1, t.2, subst P (λ i. (is_word i, sym new_is i)) t.3, t.4)
 
 -- ---- the address is written
 

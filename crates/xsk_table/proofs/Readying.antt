@@ -105,12 +105,12 @@ pass_fetched v w slots slots' who ends flying r x left ok flies now same =
     }
 
 -- a ring's entries lie among the words
-pub entries_within : (k : Setup) (who : ℕ) (r : Ring) (e : End) (words : ℕ) → HasRing k.config r → entry_words r ≡ 1 → e.base ≡ ring_base k.config r → e.mask + 1 ≡ size_of k.config r → words ≡ words_of k.config → e.base + (33 + e.mask) ≤ words
-entries_within k who r e words has one base mask is =
+pub entries_within : (k : Setup) (who : ℕ) (r : Ring) (e : End) (words : ℕ) → HasRing k.config r → e.base ≡ ring_base k.config r → e.mask + 1 ≡ size_of k.config r → words ≡ words_of k.config
+    → e.base + (32 + entry_words r * (e.mask + 1)) ≤ words
+entries_within k who r e words has base mask is =
     let within = base_within k.config r has in
-    let size : ℕ = size_of k.config r in
-    let wide : entry_words r * size ≡ 1 * size = ap (λ n. n * size) one in
-    let n : ℕ = entry_words r * size in
+    let n : ℕ = entry_words r * size_of k.config r in
     let m : ℕ = marks_base k.config in
     let b : ℕ = ring_base k.config r in
-    omega arith
+    let le : e.base + (32 + n) ≤ words = omega arith in
+    subst (λ (t : ℕ). e.base + (32 + entry_words r * t) ≤ words) (sym mask) le

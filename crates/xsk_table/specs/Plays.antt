@@ -16,7 +16,7 @@ use Rattle.xsk_model.specs.declared.call.Call.{Call}
 use Rattle.xsk_model.specs.declared.call.Call.TheVariants.{Reserve, Submit, Peek, Release}
 use Rattle.xsk_model.specs.declared.call.Reply.{Reply}
 use Rattle.xsk_model.specs.declared.call.Reply.TheVariants.{Submitted, Items, Empty, Released}
-use Rattle.xsk_words.specs.Words.{used_of}
+use Rattle.xsk_words.specs.Words.{used_of, second_word}
 use Rattle.xsk_table.specs.View.{Setup, Flight, idle, placing, writing, taking, fetching, View}
 use Rattle.xsk_table.specs.Rule.{wrapped, opened, lying, HasAll}
 
@@ -180,6 +180,10 @@ pub record Settled (a : Ask) (x : Item) (left : List Item) (m m' : Seated) : Typ
 
 abbrev pub settles : Ask → Step (Option Frame) → Seated → ℕ → Seated → Type 0
 settles a st m found m' = (x : Item) (left : List Item) → m.0.flight ≡ fetching a.ring x left → Settled a x left m m'
+
+-- the same by the read of the entry's second word
+abbrev pub reads : Ask → Step (Option Frame) → Seated → ℕ → Seated → Type 0
+reads a st m found m' = (x : Item) (left : List Item) → m.0.flight ≡ fetching a.ring x left → Settled a x left m m' × (found ≡ second_word x.desc)
 
 -- the slot of an item's frame was taken last, whatever lies in it
 abbrev pub IsTaken : Option Frame → List (ℕ × Option Frame) → Type 0

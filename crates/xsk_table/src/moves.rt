@@ -1,5 +1,5 @@
 //! How frames move into a ring and out of it. A frame's slot is with the caller only while the frame is moved.
-ghost use Rattle.std.specs.Prelude.{Option, None, List, [], ◌∷◌, length, ◌≡◌, ◌+◌, ◌-◌, ◌%◌, ◌^◌, ◌<◌, ◌≤◌, ℕ};
+ghost use Rattle.std.specs.Prelude.{Option, None, List, [], ◌∷◌, length, ◌≡◌, ◌+◌, ◌-◌, ◌*◌, ◌%◌, ◌^◌, ◌<◌, ◌≤◌, ℕ};
 ghost use Rattle.std.specs.Option.{option_map};
 ghost use Rattle.xsk_umem.specs.Frame.{Frame as Body};
 ghost use Rattle.xsk_umem.specs.declared.batch.Item.{Item as Thing};
@@ -8,19 +8,21 @@ ghost use Rattle.xsk_model.specs.Config.{HasRing, IsRingSize, size_of, callers_o
 ghost use Rattle.xsk_model.specs.Rings.{consumer};
 ghost use Rattle.xsk_model.specs.Entry.{own};
 ghost use Rattle.xsk_model.specs.Own.{given_of};
-ghost use Rattle.xsk_words.specs.Layout.{entry_words, ring_base, word_at};
+ghost use Rattle.xsk_model.specs.Legal.{IsItemOn};
+ghost use Rattle.xsk_words.specs.Words.{second_word};
+ghost use Rattle.xsk_words.specs.Layout.{entry_words as words_of_entry, ring_base, word_at};
 ghost use Rattle.xsk_table.specs.View.{taking, fetching, writing, placing};
-ghost use Rattle.xsk_table.specs.Rule.{wrapped, entry_of, opened, lying};
+ghost use Rattle.xsk_table.specs.Rule.{wrapped, entry_of, second_of, opened, lying};
 ghost use Rattle.xsk_table.specs.Plays.{Placed, Lifted, PutIn, Fetched, Settled, CanPlace, IsPlacing, IsTaken, IsFirst, Emptied, TakenOut, ask_for, ask_item, emptied};
 
 use crate::steps::{Board, Chair};
-use crate::view::{Asking, Fetching, Lifting, Placing, Settling};
+use crate::view::{Asking, Fetching, Lifting, Placing, Reading, Settling};
 use std::marker::Brand;
 use xsk_model::Ring;
 use xsk_umem::{Frame, Geometry, Item, XdpDesc};
-use xsk_words::{ENTRIES, PRODUCER};
+use xsk_words::{ENTRIES, PRODUCER, entry_words, pack, unpack};
 
-/// Where the entry of a count stands in a ring, for a size that is a power of two.
+/// The place of a count among a ring's entries, for a size that is a power of two.
 fn entry_place(count: u32, mask: u32) -> usize
     requires { IsRingSize (mask + 1) }
     ensures { result ≡ count % (mask + 1) }
@@ -28,18 +30,78 @@ fn entry_place(count: u32, mask: u32) -> usize
     (count & mask) as usize
 }
 
-/// A look that takes the empty slot of an item's frame.
+/// The first word of the entry of a count, in the ring that begins at `base`.
+fn entry_word(base: usize, ring: Ring, count: u32, mask: u32) -> usize
+    requires size { IsRingSize (mask + 1) }
+    requires base { base ≤ 1056768 }
+    ensures value { result ≡ base + (32 + words_of_entry ring * (count % (mask + 1))) }
+    ensures few { result ≤ 1060894 }
+{
+    base + (ENTRIES + entry_words(ring) * entry_place(count, mask))
+}
+
+/// A look that takes the empty slot of an item's frame, where nothing stands behind an entry's address.
 fn lift<J: Asking>(board: &Board, seat: &mut Chair, who: u32, ring: Ring, item: &Item, word: usize)
     requires table { seat.old.table_id ≡ board.now.table_id }
     requires ask { J.ask ≡ ask_item board.now.key who ring item.now }
     requires word { word < board.now.table_id.words }
-    requires one_word { entry_words ring ≡ 1 }
+    requires one_word { words_of_entry ring ≡ 1 }
     requires can { CanPlace (ask_item board.now.key who ring item.now) seat.old.me.0 }
     requires flight { IsPlacing ring seat.old.me.0.flight }
     ensures same { (seat.new.table_id ≡ seat.old.table_id) × (seat.new.id ≡ seat.old.id) }
     ensures told { Lifted (ask_item board.now.key who ring item.now) seat.old.me seat.new.me }
 {
     board.load::<Lifting<J>>(seat, word);
+}
+
+/// The write of an entry's second word, which takes the empty slot of the item's frame.
+fn write_second<J: Asking>(
+    board: &Board,
+    seat: &mut Chair,
+    who: u32,
+    ring: Ring,
+    item: &Item,
+    word: usize,
+)
+    requires table { seat.old.table_id ≡ board.now.table_id }
+    requires ask { J.ask ≡ ask_item board.now.key who ring item.now }
+    requires word { (word ≡ word_at board.now.key.config (second_of board.now.key.config ring (board.now.key.first + (opened board.now.key ring + given_of ring (own who seat.old.me.0.seen) + length (lying seat.old.me.0.flight))))) × (word < board.now.table_id.words) }
+    requires two_words { words_of_entry ring ≡ 2 }
+    requires can { CanPlace (ask_item board.now.key who ring item.now) seat.old.me.0 }
+    requires flight { IsPlacing ring seat.old.me.0.flight }
+    ensures same { (seat.new.table_id ≡ seat.old.table_id) × (seat.new.id ≡ seat.old.id) }
+    ensures told { Lifted (ask_item board.now.key who ring item.now) seat.old.me seat.new.me }
+{
+    let (_, second) = pack(item.desc);
+    board.store::<Lifting<J>>(seat, word, second);
+}
+
+/// Takes the empty slot of an item's frame, and writes what stands behind the address in the item's entry, which begins
+/// at `word`. `base` is the place of the ring's first word.
+#[allow(clippy::too_many_arguments)]
+fn take_slot(
+    board: &Board,
+    seat: &mut Chair,
+    who: u32,
+    ring: Ring,
+    item: &Item,
+    base: usize,
+    word: usize,
+)
+    requires table { seat.old.table_id ≡ board.now.table_id }
+    requires base { (base + 8 < board.now.table_id.words) × (base ≤ 1056768) }
+    requires word { word ≡ word_at board.now.key.config (entry_of board.now.key.config ring (board.now.key.first + (opened board.now.key ring + given_of ring (own who seat.old.me.0.seen) + length (lying seat.old.me.0.flight)))) }
+    requires within { (word + words_of_entry ring ≤ board.now.table_id.words) × (word ≤ 1060894) }
+    requires can { CanPlace (ask_item board.now.key who ring item.now) seat.old.me.0 }
+    requires flight { IsPlacing ring seat.old.me.0.flight }
+    ensures same { (seat.new.table_id ≡ seat.old.table_id) × (seat.new.id ≡ seat.old.id) }
+    ensures told { Lifted (ask_item board.now.key who ring item.now) seat.old.me seat.new.me }
+{
+    if entry_words(ring) == 2 {
+        write_second::<Brand>(board, seat, who, ring, item, word + 1);
+    } else {
+        lift::<Brand>(board, seat, who, ring, item, base + PRODUCER);
+    }
 }
 
 fn write_entry<J: Asking>(
@@ -86,17 +148,16 @@ pub(crate) fn place(
 )
     requires table { seat.old.table_id ≡ board.now.table_id }
     requires size { (mask + 1 ≡ size_of board.now.key.config ring) × IsRingSize (mask + 1) }
-    requires base { (base ≡ ring_base board.now.key.config ring) × (base + (33 + mask) ≤ board.now.table_id.words) × (base ≤ 1056768) }
+    requires base { (base ≡ ring_base board.now.key.config ring) × (base + (32 + words_of_entry ring * (mask + 1)) ≤ board.now.table_id.words) × (base ≤ 1056768) }
     requires near { near ≡ wrapped board.now.key (opened board.now.key ring + given_of ring (own who seat.old.me.0.seen)) }
     requires placed { placed ≡ length (lying seat.old.me.0.flight) }
-    requires one_word { entry_words ring ≡ 1 }
     requires can { CanPlace (ask_item board.now.key who ring item) seat.old.me.0 }
     requires flight { IsPlacing ring seat.old.me.0.flight }
     ensures same { (seat.new.table_id ≡ seat.old.table_id) × (seat.new.id ≡ seat.old.id) }
     ensures told { PutIn ring item seat.old.me seat.new.me }
 {
-    let word = base + ENTRIES + entry_place(near.wrapping_add(placed), mask);
-    lift::<Brand>(board, seat, who, ring, &item, base + PRODUCER);
+    let word = entry_word(base, ring, near.wrapping_add(placed), mask);
+    take_slot(board, seat, who, ring, &item, base, word);
     write_entry::<Brand>(board, seat, who, ring, item, word);
 }
 
@@ -113,7 +174,7 @@ fn read_entry<J: Asking>(board: &Board, seat: &mut Chair, who: u32, ring: Ring, 
     board.load::<Fetching<J>>(seat, word)
 }
 
-/// A look that gives the slot of the fetched frame home, empty.
+/// A look that gives the slot of the fetched frame home, empty, where nothing stands behind an entry's address.
 fn settle<J: Asking>(board: &Board, seat: &mut Chair, who: u32, ring: Ring, word: usize)
     requires table { seat.old.table_id ≡ board.now.table_id }
     requires ask { J.ask ≡ ask_for board.now.key who ring 0 }
@@ -125,6 +186,52 @@ fn settle<J: Asking>(board: &Board, seat: &mut Chair, who: u32, ring: Ring, word
     ensures told { (x : Thing) (left : List Thing) → seat.old.me.0.flight ≡ fetching ring x left → Settled (ask_for board.now.key who ring 0) x left seat.old.me seat.new.me }
 {
     board.load::<Settling<J>>(seat, word);
+}
+
+/// The read of an entry's second word, which gives the slot of the fetched frame home, empty.
+fn read_second<J: Asking>(board: &Board, seat: &mut Chair, who: u32, ring: Ring, word: usize) -> u64
+    requires table { seat.old.table_id ≡ board.now.table_id }
+    requires ask { J.ask ≡ ask_for board.now.key who ring 0 }
+    requires two_words { words_of_entry ring ≡ 2 }
+    requires caller { (seat.old.me.0.callers ≡ who ∷ []) × HasRing board.now.key.config ring × (who ≡ consumer board.now.key.config ring) × (who < callers_of board.now.key.config) }
+    requires alone { seat.old.me.0.others ≡ [] }
+    requires flight { (x : Thing) × (left : List Thing) × (seat.old.me.0.flight ≡ fetching ring x left) × IsFirst x.frame None seat.old.me.1 × ((count : ℕ) × (count + length (x ∷ left) ≡ emptied (ask_for board.now.key who ring 0) seat.old.me.0) × (word ≡ word_at board.now.key.config (second_of board.now.key.config ring (board.now.key.first + count)))) }
+    requires word { word < board.now.table_id.words }
+    ensures same { (seat.new.table_id ≡ seat.old.table_id) × (seat.new.id ≡ seat.old.id) }
+    ensures told { (x : Thing) (left : List Thing) → seat.old.me.0.flight ≡ fetching ring x left → Settled (ask_for board.now.key who ring 0) x left seat.old.me seat.new.me × (result ≡ second_word x.desc) }
+{
+    board.load::<Reading<J>>(seat, word)
+}
+
+/// The descriptor of the item that is being fetched, by its address and what stands behind that in its entry, which
+/// begins at `word`. The slot of its frame goes home, empty.
+fn read_desc(
+    board: &Board,
+    seat: &mut Chair,
+    who: u32,
+    ring: Ring,
+    addr: u64,
+    word: usize,
+) -> XdpDesc
+    requires table { seat.old.table_id ≡ board.now.table_id }
+    requires caller { (seat.old.me.0.callers ≡ who ∷ []) × HasRing board.now.key.config ring × (who ≡ consumer board.now.key.config ring) × (who < callers_of board.now.key.config) }
+    requires alone { seat.old.me.0.others ≡ [] }
+    requires flight { (x : Thing) × (left : List Thing) × (seat.old.me.0.flight ≡ fetching ring x left) × IsFirst x.frame None seat.old.me.1 × ((count : ℕ) × (count + length (x ∷ left) ≡ emptied (ask_for board.now.key who ring 0) seat.old.me.0) × (word ≡ word_at board.now.key.config (entry_of board.now.key.config ring (board.now.key.first + count)))) }
+    requires within { (word + words_of_entry ring ≤ board.now.table_id.words) × (word ≤ 1060894) }
+    ensures same { (seat.new.table_id ≡ seat.old.table_id) × (seat.new.id ≡ seat.old.id) }
+    ensures told { (x : Thing) (left : List Thing) → seat.old.me.0.flight ≡ fetching ring x left → addr ≡ x.desc.addr → IsItemOn board.now.key.config.geometry ring x → Settled (ask_for board.now.key who ring 0) x left seat.old.me seat.new.me × (result ≡ x.desc) }
+{
+    if entry_words(ring) == 2 {
+        let second = read_second::<Brand>(board, seat, who, ring, word + 1);
+        unpack(addr, second)
+    } else {
+        settle::<Brand>(board, seat, who, ring, word);
+        XdpDesc {
+            addr,
+            len: 0,
+            options: 0,
+        }
+    }
 }
 
 /// The frame in which an address lies, with a division by a constant.
@@ -168,8 +275,7 @@ pub(crate) fn fetch(
 ) -> Item
     requires table { (seat.old.table_id ≡ board.now.table_id) × (geometry.now ≡ board.now.key.config.geometry) }
     requires size { (mask + 1 ≡ size_of board.now.key.config ring) × IsRingSize (mask + 1) }
-    requires base { (base ≡ ring_base board.now.key.config ring) × (base + (33 + mask) ≤ board.now.table_id.words) × (base ≤ 1056768) }
-    requires one_word { entry_words ring ≡ 1 }
+    requires base { (base ≡ ring_base board.now.key.config ring) × (base + (32 + words_of_entry ring * (mask + 1)) ≤ board.now.table_id.words) × (base ≤ 1056768) }
     requires caller { (seat.old.me.0.callers ≡ who ∷ []) × HasRing board.now.key.config ring × (who ≡ consumer board.now.key.config ring) × (who < callers_of board.now.key.config) }
     requires alone { seat.old.me.0.others ≡ [] }
     requires flight { (x : Thing) × (left : List Thing) × (seat.old.me.0.flight ≡ taking ring (x ∷ left)) }
@@ -177,16 +283,9 @@ pub(crate) fn fetch(
     ensures same { (seat.new.table_id ≡ seat.old.table_id) × (seat.new.id ≡ seat.old.id) }
     ensures told { (x : Thing) (left : List Thing) → seat.old.me.0.flight ≡ taking ring (x ∷ left) → TakenOut ring x left result seat.old.me seat.new.me }
 {
-    let word = base + ENTRIES + entry_place(position, mask);
+    let word = entry_word(base, ring, position, mask);
     let addr = read_entry::<Brand>(board, seat, who, ring, word);
     let frame = empty_slot(board, seat, geometry, addr);
-    settle::<Brand>(board, seat, who, ring, word);
-    Item {
-        frame,
-        desc: XdpDesc {
-            addr,
-            len: 0,
-            options: 0,
-        },
-    }
+    let desc = read_desc(board, seat, who, ring, addr, word);
+    Item { frame, desc }
 }

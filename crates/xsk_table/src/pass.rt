@@ -9,7 +9,6 @@ ghost use Rattle.xsk_model.specs.Legal.{IsLegal};
 ghost use Rattle.xsk_model.specs.declared.call.Ring.{Ring as Line};
 ghost use Rattle.xsk_model.specs.declared.call.Call.TheVariants.{Reserve, Submit, Peek, Release};
 ghost use Rattle.xsk_model.specs.declared.call.Reply.TheVariants.{Submitted, Released};
-ghost use Rattle.xsk_words.specs.Layout.{entry_words};
 ghost use Rattle.xsk_table.specs.View.{idle, placing, taking};
 ghost use Rattle.xsk_table.specs.Rule.{lying};
 ghost use Rattle.xsk_table.specs.Plays.{Extends, IsPlacing, still, items_reply};
@@ -20,6 +19,7 @@ use crate::end::End;
 use crate::shared::Shared;
 use crate::steps::Chair;
 use crate::{moves, steps};
+use std::alloc::Global;
 use std::marker::Model;
 use std::sync::ledger::Ledger;
 use xsk_model::placement::ring_place;
@@ -36,6 +36,7 @@ pub struct Pass {
     pub(crate) ends: Vec<End>,
     /// The items of the call in flight: those that are placed, or those that are left.
     pub(crate) flying: u32,
+    pub(crate) alloc: Global,
 }
 
 impl Model for Pass {
@@ -64,6 +65,11 @@ impl Pass {
         ensures { result ≡ self.now.who }
     {
         self.who
+    }
+
+    /// The allocator by which an empty batch is made. It is asked for no memory.
+    pub fn alloc(&self) -> Global {
+        self.alloc
     }
 
     /// The look of a Reserve. It adds the Reserve with its reply to the history, and counts one look.
@@ -104,7 +110,6 @@ impl Pass {
     /// placed items and `rest` must make a legal Submit. It adds nothing to the history.
     pub fn place(&mut self, shared: &Shared, ring: Ring, rest: &mut Batch)
         requires belongs { Belongs shared.now self.old }
-        requires one_word { entry_words ring ≡ 1 }
         requires flight { IsPlacing ring self.old.view.flight }
         requires legal { IsLegal self.old.view.setup.config (own self.old.who self.old.view.seen) self.old.who (Submit ring (lying self.old.view.flight ++ rest.old)) }
         requires some { 1 ≤ length rest.old }
@@ -192,7 +197,6 @@ impl Pass {
     /// The next item of the last Peek, with its frame. It adds nothing to the history.
     pub fn fetch(&mut self, shared: &Shared, ring: Ring) -> Item
         requires belongs { Belongs shared.now self.old }
-        requires one_word { entry_words ring ≡ 1 }
         requires flight { (x : Thing) × (left : List Thing) × (self.old.view.flight ≡ taking ring (x ∷ left)) }
         ensures same { (self.new.table ≡ self.old.table) × (self.new.who ≡ self.old.who) }
         ensures taken { (x : Thing) (left : List Thing) → self.old.view.flight ≡ taking ring (x ∷ left) → (result ≡ x) × (self.new.view ≡ record self.old.view { flight = still ring left }) }

@@ -141,6 +141,7 @@ fn deal(
             who,
             ends: list,
             flying: 0,
+            alloc,
         }));
     }
     passes

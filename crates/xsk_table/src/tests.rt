@@ -1,9 +1,9 @@
-//! Tests of a table's opening, of its passes, and of the steps on FILL.
-ghost use Rattle.std.specs.Prelude.{◌≡◌, ◌+◌, ◌≤◌, IfOk, List, Some, length};
+//! Tests of a table's opening, of its passes, and of the steps on FILL and on TX.
+ghost use Rattle.std.specs.Prelude.{◌≡◌, ◌+◌, ◌^◌, ◌<◌, ◌≤◌, IfOk, List, [], ◌∷◌, Some, length};
 ghost use Rattle.xsk_umem.specs.declared.batch.Item.{Item as Thing};
-ghost use Rattle.xsk_model.specs.declared.call.Ring.TheVariants.{Fill};
+ghost use Rattle.xsk_model.specs.declared.call.Ring.TheVariants.{Fill, Tx};
 ghost use Rattle.xsk_model.specs.Entry.{own};
-ghost use Rattle.xsk_model.specs.Own.{room_of};
+ghost use Rattle.xsk_model.specs.Own.{room_of, held_of};
 ghost use Rattle.xsk_table.specs.View.{idle};
 ghost use Rattle.xsk_table.specs.Plays.{still};
 ghost use Rattle.xsk_model.specs.Config.{IsRingSize};
@@ -224,6 +224,184 @@ fn fill_goes_round<L: Ledger, R: Abort>(
     application_submits(alloc, &shared, &mut app);
     driver_finds(rt, &shared, &mut driver, &mut steps);
     Ok(())
+}
+
+/// The application reserves a place of TX.
+fn application_reserves_one<R: Abort, L: Ledger>(
+    rt: &R,
+    shared: &Shared,
+    app: &mut Pass,
+    steps: &mut Steps<L>,
+)
+    requires belongs { Belongs shared.now app.old }
+    requires setup { (first : _) × (shared.now.setup ≡ setup_of 4 first) }
+    requires caller { app.old.who ≡ 2 }
+    requires rests { app.old.view.flight ≡ idle }
+    ensures belongs { Belongs shared.now app.new }
+    ensures caller { app.new.who ≡ 2 }
+    ensures flight { app.new.view.flight ≡ idle }
+    ensures room { 1 ≤ room_of (Tx 0) (own 2 app.new.view.seen) }
+{
+    let reply = app.reserve_step(shared, Ring::Tx(0), 1, steps);
+    let Reply::Granted = reply else {
+        panic!(rt; "the ring is full")
+    };
+}
+
+/// It puts the round's item there.
+fn application_sends(alloc: Global, shared: &Shared, app: &mut Pass, round: u32)
+    requires belongs { Belongs shared.now app.old }
+    requires setup { (first : _) × (shared.now.setup ≡ setup_of 4 first) }
+    requires caller { app.old.who ≡ 2 }
+    requires rests { app.old.view.flight ≡ idle }
+    requires room { 1 ≤ room_of (Tx 0) (own 2 app.old.view.seen) }
+    ensures belongs { Belongs shared.now app.new }
+    ensures caller { app.new.who ≡ 2 }
+    ensures flight { app.new.view.flight ≡ idle }
+{
+    let mut batch = Batch::new(alloc);
+    batch.push(Item {
+        frame: None,
+        desc: sent_in(round),
+    });
+    app.place(shared, Ring::Tx(0), &mut batch);
+    app.raise_producer(shared, Ring::Tx(0));
+}
+
+/// What is sent in a round: an address beyond the UMEM, with a length and options.
+fn sent_in(round: u32) -> XdpDesc
+    ensures { (16384 ≤ result.addr) × (result.addr < 2 ^ 64) × (result.len < 2 ^ 32) × (result.options < 2 ^ 32) }
+{
+    XdpDesc {
+        addr: 16384 + u64::from(round),
+        len: 60u32.wrapping_add(round),
+        options: 4_294_967_295u32.wrapping_sub(round),
+    }
+}
+
+/// The driver finds one item on TX.
+fn driver_peeks_one<R: Abort, L: Ledger>(
+    rt: &R,
+    shared: &Shared,
+    driver: &mut Pass,
+    steps: &mut Steps<L>,
+)
+    requires belongs { Belongs shared.now driver.old }
+    requires setup { (first : _) × (shared.now.setup ≡ setup_of 4 first) }
+    requires caller { driver.old.who ≡ 0 }
+    requires rests { driver.old.view.flight ≡ idle }
+    ensures belongs { Belongs shared.now driver.new }
+    ensures caller { driver.new.who ≡ 0 }
+    ensures flight { (x : Thing) × (driver.new.view.flight ≡ still (Tx 0) (x ∷ [])) }
+    ensures held { 1 ≤ held_of (Tx 0) (own 0 driver.new.view.seen) }
+{
+    let count = driver.peek_step(shared, Ring::Tx(0), 1, steps);
+    assert!(rt; count == 1);
+}
+
+/// It takes the item, which must be that of the round.
+fn driver_takes<R: Abort>(rt: &R, shared: &Shared, driver: &mut Pass, round: u32)
+    requires belongs { Belongs shared.now driver.old }
+    requires caller { driver.old.who ≡ 0 }
+    requires flight { (x : Thing) × (driver.old.view.flight ≡ still (Tx 0) (x ∷ [])) }
+    ensures caller { driver.new.who ≡ 0 }
+    ensures table { driver.new.table ≡ driver.old.table }
+    ensures view { driver.new.view ≡ record driver.old.view { flight = idle } }
+{
+    let item = driver.fetch(shared, Ring::Tx(0));
+    assert!(rt; item.frame.is_none() && item.desc == sent_in(round));
+}
+
+/// It frees the place.
+fn driver_frees(shared: &Shared, driver: &mut Pass)
+    requires belongs { Belongs shared.now driver.old }
+    requires setup { (first : _) × (shared.now.setup ≡ setup_of 4 first) }
+    requires caller { driver.old.who ≡ 0 }
+    requires rests { driver.old.view.flight ≡ idle }
+    requires held { 1 ≤ held_of (Tx 0) (own 0 driver.old.view.seen) }
+    ensures belongs { Belongs shared.now driver.new }
+    ensures caller { driver.new.who ≡ 0 }
+    ensures flight { driver.new.view.flight ≡ idle }
+{
+    driver.raise_consumer(shared, Ring::Tx(0), 1);
+}
+
+/// What a TX ring of 4 entries, from which all was taken, answers.
+fn all_is_free<R: Abort, L: Ledger>(rt: &R, shared: &Shared, app: &mut Pass, steps: &mut Steps<L>)
+    requires belongs { Belongs shared.now app.old }
+    requires setup { (first : _) × (shared.now.setup ≡ setup_of 4 first) }
+    requires caller { app.old.who ≡ 2 }
+    requires rests { app.old.view.flight ≡ idle }
+{
+    let Reply::Full(free) = app.reserve_step(shared, Ring::Tx(0), 5, steps) else {
+        panic!(rt; "the places are granted")
+    };
+    assert!(rt; free == 4);
+    let Reply::Granted = app.reserve_step(shared, Ring::Tx(0), 4, steps) else {
+        panic!(rt; "the ring is full")
+    };
+    let Reply::Full(free) = app.reserve_step(shared, Ring::Tx(0), 1, steps) else {
+        panic!(rt; "a place is granted")
+    };
+    assert!(rt; free == 0);
+}
+
+fn six_go_through_tx<L: Ledger, R: Abort>(
+    rt: &R,
+    alloc: Global,
+    first: u32,
+    blank: Blank,
+) -> Result<(), Fail>
+    requires name { blank.name ≡ L.name }
+    requires parts { (blank.parts ≡ L.parts) × (1 ≤ blank.parts) }
+{
+    let (shared, mut passes) = opened(alloc, 4, first)?;
+    let Some(mut driver) = passes.take(0) else {
+        panic!(rt; "no driver")
+    };
+    let Some(mut app) = passes.take(2) else {
+        panic!(rt; "no application")
+    };
+    let mut steps = Steps::<L>::new(blank);
+    'rounds: for round in 0..6 {
+        application_reserves_one(rt, &shared, &mut app, &mut steps);
+        application_sends(alloc, &shared, &mut app, round);
+        driver_peeks_one(rt, &shared, &mut driver, &mut steps);
+        driver_takes(rt, &shared, &mut driver, round);
+        driver_frees(&shared, &mut driver);
+    }
+    all_is_free(rt, &shared, &mut app, &mut steps);
+    Ok(())
+}
+
+#[test]
+fn six_go_through_tx_from_zero(rt: HostRuntime) -> Result<(), Fail> {
+    six_go_through_tx::<Brand, HostRuntime>(&rt, rt.alloc(), 0, Blank::new(1))
+}
+
+#[test]
+fn six_go_through_tx_from_one(rt: HostRuntime) -> Result<(), Fail> {
+    six_go_through_tx::<Brand, HostRuntime>(&rt, rt.alloc(), 1, Blank::new(1))
+}
+
+#[test]
+fn six_go_through_tx_over_half_of_the_counts(rt: HostRuntime) -> Result<(), Fail> {
+    six_go_through_tx::<Brand, HostRuntime>(&rt, rt.alloc(), 2_147_483_647, Blank::new(1))
+}
+
+#[test]
+fn six_go_through_tx_up_to_the_last_counts(rt: HostRuntime) -> Result<(), Fail> {
+    six_go_through_tx::<Brand, HostRuntime>(&rt, rt.alloc(), 4_294_967_292, Blank::new(1))
+}
+
+#[test]
+fn six_go_through_tx_where_counts_wrap(rt: HostRuntime) -> Result<(), Fail> {
+    six_go_through_tx::<Brand, HostRuntime>(&rt, rt.alloc(), 4_294_967_293, Blank::new(1))
+}
+
+#[test]
+fn six_go_through_tx_from_the_last_count(rt: HostRuntime) -> Result<(), Fail> {
+    six_go_through_tx::<Brand, HostRuntime>(&rt, rt.alloc(), 4_294_967_295, Blank::new(1))
 }
 
 #[test]

@@ -73,7 +73,7 @@ impl<J: Asking> Play<Option<Frame>, View> for Reserving<J> {
     ghost then = { reserves J.ask };
 }
 
-/// The look that takes the slot of a frame.
+/// The look, or the write of an entry's second word, that takes the slot of a frame.
 pub struct Lifting<J> {
     marker: PhantomData<J>,
 }
@@ -137,6 +137,17 @@ impl<J: Asking> Play<Option<Frame>, View> for Settling<J> {
     ghost use Rattle.xsk_table.specs.Plays.{settles};
 
     ghost then = { settles J.ask };
+}
+
+/// The read of an entry's second word, which gives the slot home, empty.
+pub struct Reading<J> {
+    marker: PhantomData<J>,
+}
+
+impl<J: Asking> Play<Option<Frame>, View> for Reading<J> {
+    ghost use Rattle.xsk_table.specs.Plays.{reads};
+
+    ghost then = { reads J.ask };
 }
 
 /// The raise of the consumer.

@@ -3,6 +3,3 @@ use Rattle.xsk_table.proofs.moves.fetch.Given as goal
 
 abbrev pub ghosts-read_entry : goal.ghosts-read_entry
 ghosts-read_entry a = record { ask = ask_for a.board.now.key a.who a.ring 0 }
-
-abbrev pub ghosts-settle : goal.ghosts-settle
-ghosts-settle a = record { ask = ask_for a.board.now.key a.who a.ring 0 }

@@ -1,8 +1,5 @@
 use Rattle.xsk_table.specs.Plays.{ask_item}
 use Rattle.xsk_table.proofs.moves.place.Given as goal
 
-abbrev pub ghosts-lift : goal.ghosts-lift
-ghosts-lift a = record { ask = ask_item a.board.now.key a.who a.ring a.item.now }
-
 abbrev pub ghosts-write_entry : goal.ghosts-write_entry
 ghosts-write_entry a = record { ask = ask_item a.board.now.key a.who a.ring a.item }

@@ -1,7 +1,8 @@
-use Rattle.std.proofs.Common.{◌≡◌, ◌+◌, ◌-◌, ◌%◌, ◌^◌, ◌<◌, ℕ, List, ◌∷◌, length, sym, ap, subst, ◌∙◌, arith}
+use Rattle.std.proofs.Common.{◌≡◌, ◌+◌, ◌-◌, ◌%◌, ◌^◌, ◌<◌, ℕ, List, [], ◌∷◌, length, sym, ap, subst, ◌∙◌, arith}
 use Rattle.xsk_umem.specs.declared.batch.Item.{Item as Thing}
-use Rattle.xsk_model.specs.Config.{Config, HasRing, size_of}
-use Rattle.xsk_model.specs.Rings.{place}
+use Rattle.xsk_model.specs.Config.{Config, HasRing, size_of, callers_of}
+use Rattle.xsk_model.specs.Rings.{place, consumer}
+use Rattle.xsk_model.proofs.Roles.{two_owners}
 use Rattle.xsk_words.specs.Layout.{ring_base}
 use Rattle.xsk_table.specs.View.{Setup, taking}
 use Rattle.xsk_table.specs.Rule.{wrapped, lying}
@@ -21,6 +22,18 @@ ring_place-place-requires c =
     let same = ap (λ (s : Setup). s.config) setup ∙ sym c.shared.invariant.config_is in
     subst (λ (g : Config). HasRing g c.args.ring) same (c.self.invariant.left c.args.ring (f.0 ∷ f.1) f.2).0
 
+pub fetch-item-requires-clause-caller : goal.fetch-item-requires-clause-caller
+fetch-item-requires-clause-caller c =
+    let is = sym c.self.view_is in
+    let v = c.self.inside.seat.me.0 in
+    let L : Holder → Type 0 = λ h. (x : Thing) × (left : List Thing) × (h.view.flight ≡ taking c.args.ring (x ∷ left)) in
+    let f = subst L is c.requires.flight in
+    let left = c.self.invariant.left c.args.ring (f.0 ∷ f.1) f.2 in
+    let setup : v.setup ≡ c.shared.inside.table.shared.key = ap (λ (h : Holder). h.view.setup) (sym is) ∙ c.requires.belongs.setup ∙ ap (λ (b : Board). b.setup) (sym c.shared.view_is) in
+    let below = (two_owners v.setup.config c.args.ring c.self.invariant.history.opened.config left.0).1 in
+    let P : Setup → Type 0 = λ k. (v.callers ≡ c.self.inside.who ∷ []) × HasRing k.config c.args.ring × (c.self.inside.who ≡ consumer k.config c.args.ring) × (c.self.inside.who < callers_of k.config) in
+    subst P setup (c.self.invariant.one, left.0, left.1, subst (λ (n : ℕ). n < callers_of v.setup.config) (sym left.1) below)
+
 pub fetch-item-requires-clause-base : goal.fetch-item-requires-clause-base
 fetch-item-requires-clause-base c =
     let is = sym c.self.view_is in
@@ -35,7 +48,7 @@ fetch-item-requires-clause-base c =
     let has : HasRing k.config c.args.ring = subst (λ (s : Setup). HasRing s.config c.args.ring) setup there in
     let base = end.base_is ∙ ap (λ (s : Setup). ring_base s.config c.args.ring) setup in
     let mask = end.mask_is ∙ ap (λ (s : Setup). size_of s.config c.args.ring) setup in
-    (base, entries_within k c.self.inside.who c.args.ring c.index-end.result.now _ has c.requires.one_word base mask c.shared.invariant.words, end.base_few)
+    (base, entries_within k c.self.inside.who c.args.ring c.index-end.result.now _ has base mask c.shared.invariant.words, end.base_few)
 
 pub fetch-item-requires-clause-position : goal.fetch-item-requires-clause-position
 fetch-item-requires-clause-position c =

@@ -26,7 +26,7 @@ place-requires-clause-base c =
     let has : HasRing k.config c.args.ring = subst (λ (s : Setup). HasRing s.config c.args.ring) setup legal.known in
     let base = end.base_is ∙ ap (λ (s : Setup). ring_base s.config c.args.ring) setup in
     let mask = end.mask_is ∙ ap (λ (s : Setup). size_of s.config c.args.ring) setup in
-    (base, entries_within k c.self.inside.who c.args.ring c.index-end.result.now _ has c.requires.one_word base mask c.shared.invariant.words, end.base_few)
+    (base, entries_within k c.self.inside.who c.args.ring c.index-end.result.now _ has base mask c.shared.invariant.words, end.base_few)
 
 pub place-requires-clause-can : goal.place-requires-clause-can
 place-requires-clause-can c =

@@ -1,0 +1,96 @@
+-- What a ring call on the table tells its caller: the call and its reply at the end of a legal history, and of that what
+-- stands in the ring at this point.
+use Rattle.std.specs.Prelude.{◌≡◌, ◌↔◌, ℕ, ◌<◌, List, [], ◌∷◌, ◌++◌}
+use Rattle.xsk_umem.specs.declared.batch.Item.{Item}
+use Rattle.xsk_model.specs.Config.{size_of}
+use Rattle.xsk_model.specs.Rings.{producer}
+use Rattle.xsk_model.specs.Object.{State, ring_at, free, taken}
+use Rattle.xsk_model.specs.Entry.{Entry, own, with_told}
+use Rattle.xsk_model.specs.Own.{peeked_of, submitted_of}
+use Rattle.xsk_model.specs.Opening.{opening}
+use Rattle.xsk_model.specs.History.{state_after, MayGive}
+use Rattle.xsk_model.specs.Legal.{IsLegal}
+use Rattle.xsk_model.specs.declared.call.Ring.{Ring}
+use Rattle.xsk_model.specs.declared.call.Call.{Call}
+use Rattle.xsk_model.specs.declared.call.Call.TheVariants.{Reserve, Submit, Peek, Release, Swap, Look}
+use Rattle.xsk_model.specs.declared.call.Reply.{Reply}
+use Rattle.xsk_model.specs.declared.call.Reply.TheVariants.{Full, Empty}
+use Rattle.xsk_table.specs.View.{idle, View}
+use Rattle.xsk_table.specs.Plays.{Extends}
+use Rattle.xsk_table.specs.Held.{Board, Holder, Belongs}
+
+-- ---- before a call
+
+-- a call on a ring, and no call on a mark
+abbrev pub IsOnRing : Call → Type 0
+IsOnRing (Reserve r n) = Unit {0}
+IsOnRing (Submit r items) = Unit {0}
+IsOnRing (Peek r n) = Unit {0}
+IsOnRing (Release r n) = Unit {0}
+IsOnRing (Swap m value) = ⊥
+IsOnRing (Look m) = ⊥
+
+-- a pass of this table that has no call in flight, whose caller may make the call after its own earlier ones
+pub record MayAsk (b : Board) (p : Holder) (call : Call) : Type 0 where
+  pub belongs : Belongs b p
+  pub rests : p.view.flight ≡ idle
+  pub legal : IsLegal p.view.setup.config (own p.who p.view.seen) p.who call
+
+-- ---- after a call
+
+-- it is the same caller of the same table, again with no call in flight, and what it has seen ends with the call
+pub record Served (p q : Holder) (call : Call) (reply : Reply) : Type 0 where
+  pub table : q.table ≡ p.table
+  pub who : q.who ≡ p.who
+  pub rests : q.view.flight ≡ idle
+  pub history : Extends p.view.setup p.who call reply p.view q.view
+
+-- a history without its last entry
+abbrev pub before_last : List Entry → List Entry
+before_last [] = []
+before_last (e ∷ []) = []
+before_last (e ∷ f ∷ es) = e ∷ before_last (f ∷ es)
+
+-- the object at the point where the last call of a view's history was made
+abbrev pub point_of : View → State
+point_of v = state_after v.setup.config v.setup.frames (before_last v.seen)
+
+-- a Reserve is Full exactly where fewer places than it asks for are free at its point, and tells how many they are
+abbrev pub TellsFree : View → Call → Reply → Type 0
+TellsFree v (Reserve r n) reply = (places : ℕ) → (reply ≡ Full places) ↔ ((places ≡ free (size_of v.setup.config r) (ring_at v.setup.config (point_of v) r)) × (places < n))
+TellsFree v (Submit r items) reply = Unit {0}
+TellsFree v (Peek r n) reply = Unit {0}
+TellsFree v (Release r n) reply = Unit {0}
+TellsFree v (Swap m value) reply = Unit {0}
+TellsFree v (Look m) reply = Unit {0}
+
+-- a Peek is Empty exactly where no item is out at its point
+abbrev pub TellsEmpty : View → Call → Reply → Type 0
+TellsEmpty v (Reserve r n) reply = Unit {0}
+TellsEmpty v (Submit r items) reply = Unit {0}
+TellsEmpty v (Peek r n) reply = (reply ≡ Empty) ↔ ((ring_at v.setup.config (point_of v) r).out ≡ [])
+TellsEmpty v (Release r n) reply = Unit {0}
+TellsEmpty v (Swap m value) reply = Unit {0}
+TellsEmpty v (Look m) reply = Unit {0}
+
+-- all items that came into a ring, whole: those of the opening, and those that its producer submitted
+abbrev pub brought : View → Ring → List Item
+brought v r = (ring_at v.setup.config (opening v.setup.config v.setup.frames) r).out ++ submitted_of r (own (producer v.setup.config r) v.seen)
+
+-- a Peek gives the items that follow those peeked before, as they were submitted: descriptors, frames and all their
+-- bytes; behind them are those that are out afterwards
+abbrev pub GivesSubmitted : Holder → View → Call → Reply → Type 0
+GivesSubmitted p v (Reserve r n) reply = Unit {0}
+GivesSubmitted p v (Submit r items) reply = Unit {0}
+GivesSubmitted p v (Peek r n) reply =
+    brought v r ≡ (peeked_of r (own p.who p.view.seen) ++ taken reply) ++ (ring_at v.setup.config (state_after v.setup.config v.setup.frames v.seen) r).out
+GivesSubmitted p v (Release r n) reply = Unit {0}
+GivesSubmitted p v (Swap m value) reply = Unit {0}
+GivesSubmitted p v (Look m) reply = Unit {0}
+
+-- ---- a law
+
+-- the reply of a call is one that the object may give to the caller, which has then made this call and no other
+abbrev pub MayGiveServed : Type 0
+MayGiveServed = (p q : Holder) (call : Call) (reply : Reply) → Served p q call reply
+    → MayGive p.view.setup.config (own p.who p.view.seen) p.who call reply × (own q.who q.view.seen ≡ with_told (own p.who p.view.seen) call reply)
