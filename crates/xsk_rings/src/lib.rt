@@ -6,3 +6,6 @@ pub mod laws;
 mod serving;
 
 pub use calls::RingCalls;
+
+#[cfg(test)]
+mod tests;
