@@ -8,6 +8,7 @@ pub mod Completing
 pub mod Counting
 pub mod Counts
 pub mod Disposing
+pub mod DriverWalk
 pub mod Layouts
 pub mod LegalCalls
 pub mod Legality

@@ -1,0 +1,469 @@
+-- The one walk along a driver's turns. A law of its runs says what holds at each place of a turn, and what each entry of the
+-- list, a call with its reply, makes of it; then it holds along every run.
+use Rattle.std.proofs.Common.{◌≡◌, ℕ, zero, suc, ◌+◌, ◌-◌, ◌%◌, ◌<◌, Bool, true, false, ◌||◌, nat_lt, nat_le, eqb, Option, Some, None, List, [], ◌∷◌, ◌++◌, length, map, take, drop, refl, ap, subst, arith}
+use Rattle.xsk_umem.specs.declared.batch.Item.{Item}
+use Rattle.xsk_model.specs.Config.{map_of}
+use Rattle.xsk_model.specs.Entry.{Told, with_told}
+use Rattle.xsk_model.specs.declared.call.Ring.{Ring}
+use Rattle.xsk_model.specs.declared.call.Ring.TheVariants.{Fill, Comp, Rx, Tx}
+use Rattle.xsk_model.specs.declared.call.Mark.TheVariants.{RxDone, Gone, TxDone, Cell}
+use Rattle.xsk_model.specs.declared.call.Call.{Call}
+use Rattle.xsk_model.specs.declared.call.Call.TheVariants.{Reserve, Submit, Peek, Release, Swap, Look}
+use Rattle.xsk_model.specs.declared.call.Reply.{Reply}
+use Rattle.xsk_model.specs.declared.call.Reply.TheVariants.{Granted, Full, Submitted, Items, Empty, Released, Old}
+use Rattle.xsk_turns.specs.Script.{Script, ask, again, ended, never, on_submitted, on_released, Asks, Ends, IsLive, IsRun, Leaves}
+use Rattle.xsk_turns.specs.Turns.{Seat, Kept, Noted, moved, stopped, settled, dropped, supplied, with_rx_full, with_fill_empty, with_tx_empty, visit_from, socket_of, application_of, cell_of, redirect_to, limit_of, pieces_of, laid_out, returned, gathered, idle, complete, visit, transmit, deliver, reserve, go_on, take_spare, find_spare, direct, receive, turn}
+use Rattle.xsk_turns.specs.declared.disposal.Disposal.TheVariants.{Delivered, TooLong, Runt, Missed}
+use Rattle.xsk_turns.proofs.Walks.{Premise, Law, Due, nothing, room, held, Holds, Says, MeetAlong, at_reserve, at_submit, at_peek, at_release, at_old, by_case, by_option, says_left, meets_law}
+
+-- ---- the places of a turn, and its calls
+
+-- a driver receives, tries a packet that goes to a socket, sends once so many classes are visited, or is idle
+pub data Place : Type 0 where
+  Receiving : Place
+  Trying : List ℕ → ℕ → Due → Place
+  Sending : ℕ → Due → Place
+  Idling : Place
+
+-- what holds at a place
+abbrev pub Family : Type 1
+Family = Place → Noted → Kept → List Told → Type 0
+
+abbrev pub fresh : Noted
+fresh = record { progress = false; full = false }
+
+-- a call, by the packet and its socket, by the class and the finished packets, or by the class
+pub data Point : Type 0 where
+  TellRxDone : Point
+  LookCell : List ℕ → Point
+  PeekFill : List ℕ → ℕ → Point
+  ReleaseFill : List ℕ → ℕ → ℕ → Point
+  ReserveRx : List ℕ → ℕ → Point
+  SubmitRx : List ℕ → ℕ → Point
+  ReserveComp : ℕ → List Item → List (List Item) → Point
+  SubmitComp : ℕ → List Item → List (List Item) → Point
+  PeekTx : ℕ → Point
+  ReleaseTx : ℕ → ℕ → Point
+  LookTxDone : Point
+  TellGone : Point
+
+abbrev pub place_of : Seat → Point → Place
+place_of seat TellRxDone = Receiving
+place_of seat (LookCell packet) = Receiving
+place_of seat (PeekFill packet s) = Trying packet s nothing
+place_of seat (ReleaseFill packet s n) = Trying packet s (held (Fill seat.pair) n)
+place_of seat (ReserveRx packet s) = Trying packet s nothing
+place_of seat (SubmitRx packet s) = Trying packet s (room (Rx s) (pieces_of seat packet))
+place_of seat (ReserveComp k packet later) = Sending k nothing
+place_of seat (SubmitComp k packet later) = Sending k (room (Comp seat.pair) (length packet))
+place_of seat (PeekTx k) = Sending k nothing
+place_of seat (ReleaseTx k n) = Sending (k + 1) (held (Tx (socket_of seat k)) n)
+place_of seat LookTxDone = Idling
+place_of seat TellGone = Idling
+
+abbrev pub call_at : Seat → Point → Kept → Call
+call_at seat TellRxDone kept = Swap (RxDone seat.pair) 1
+call_at seat (LookCell packet) kept = Look (Cell seat.port (cell_of seat packet))
+call_at seat (PeekFill packet s) kept = Peek (Fill seat.pair) (pieces_of seat packet - length kept.spare)
+call_at seat (ReleaseFill packet s n) kept = Release (Fill seat.pair) n
+call_at seat (ReserveRx packet s) kept = Reserve (Rx s) (pieces_of seat packet)
+call_at seat (SubmitRx packet s) kept = Submit (Rx s) (laid_out seat.config.geometry packet (take (pieces_of seat packet) kept.spare))
+call_at seat (ReserveComp k packet later) kept = Reserve (Comp seat.pair) (length packet)
+call_at seat (SubmitComp k packet later) kept = Submit (Comp seat.pair) (map returned packet)
+call_at seat (PeekTx k) kept = Peek (Tx (socket_of seat k)) seat.batch
+call_at seat (ReleaseTx k n) kept = Release (Tx (socket_of seat k)) n
+call_at seat LookTxDone kept = Look (TxDone (application_of seat))
+call_at seat TellGone kept = Swap (Gone seat.pair) 1
+
+-- what is kept once the call is given: a Submit takes its frames along
+abbrev pub kept_at : Seat → Point → Kept → Kept
+kept_at seat (SubmitRx packet s) kept = record kept { spare = drop (pieces_of seat packet) kept.spare }
+kept_at seat (SubmitComp k packet later) kept = record kept { finished = later }
+kept_at seat point kept = kept
+
+-- the next packet is long enough and goes to a cell, which redirected it to the socket, and fits it
+pub record IsNext (seat : Seat) (coming : List (List ℕ)) (packet : List ℕ) : Type 0 where
+  pub later : List (List ℕ)
+  pub is : coming ≡ packet ∷ later
+  pub long : nat_lt (length packet) 14 ≡ false
+  pub cell : nat_le (length (map_of seat.config seat.port)) (cell_of seat packet) ≡ false
+
+pub record IsTried (seat : Seat) (coming : List (List ℕ)) (packet : List ℕ) (s : ℕ) : Type 0 where
+  pub next : IsNext seat coming packet
+  pub number : ℕ
+  pub target : redirect_to seat.config seat.port seat.queue number ≡ Some s
+  pub fits : nat_lt (limit_of seat) (length packet) ≡ false
+
+-- what is known where a call is given
+abbrev pub Known : Seat → Point → Noted → Kept → Type 0
+Known seat TellRxDone noted kept = (kept.coming ≡ []) × (kept.rx_done ≡ false)
+Known seat (LookCell packet) noted kept = IsNext seat kept.coming packet
+Known seat (PeekFill packet s) noted kept = IsTried seat kept.coming packet s × (nat_le (pieces_of seat packet) (length kept.spare) ≡ false)
+Known seat (ReleaseFill packet s n) noted kept = IsTried seat kept.coming packet s
+Known seat (ReserveRx packet s) noted kept = IsTried seat kept.coming packet s × (nat_le (pieces_of seat packet) (length kept.spare) ≡ true)
+Known seat (SubmitRx packet s) noted kept = IsTried seat kept.coming packet s × (nat_le (pieces_of seat packet) (length kept.spare) ≡ true)
+Known seat (ReserveComp k packet later) noted kept = kept.finished ≡ packet ∷ later
+Known seat (SubmitComp k packet later) noted kept = kept.finished ≡ packet ∷ later
+Known seat (PeekTx k) noted kept = (k < seat.classes) × (kept.finished ≡ [])
+Known seat (ReleaseTx k n) noted kept = k < seat.classes
+Known seat LookTxDone noted kept = kept.rx_done ≡ true
+Known seat TellGone noted kept = (noted.progress ≡ false) × (noted.full ≡ false) × (kept.tx_done ≡ true)
+
+-- ---- what each reply makes of it
+
+-- the entries, each a call and its reply
+pub data Entry : Type 0 where
+  told_rx_done : ℕ → Entry
+  looked_none : List ℕ → ℕ → Entry
+  looked_long : List ℕ → ℕ → ℕ → Entry
+  looked_some : List ℕ → ℕ → ℕ → Entry
+  fill_empty : List ℕ → ℕ → Entry
+  fill_items : List ℕ → ℕ → List Item → Entry
+  fill_released : List ℕ → ℕ → ℕ → Entry
+  rx_granted : List ℕ → ℕ → Entry
+  rx_full : List ℕ → ℕ → ℕ → Entry
+  rx_submitted : List ℕ → ℕ → Entry
+  comp_granted : ℕ → List Item → List (List Item) → Entry
+  comp_full : ℕ → List Item → List (List Item) → ℕ → Entry
+  comp_submitted : ℕ → List Item → List (List Item) → Entry
+  tx_empty : ℕ → Entry
+  tx_items : ℕ → List Item → Entry
+  tx_released : ℕ → ℕ → Entry
+  looked_tx_done : ℕ → Entry
+
+abbrev pub point_of : Entry → Point
+point_of (told_rx_done n) = TellRxDone
+point_of (looked_none packet n) = LookCell packet
+point_of (looked_long packet n s) = LookCell packet
+point_of (looked_some packet n s) = LookCell packet
+point_of (fill_empty packet s) = PeekFill packet s
+point_of (fill_items packet s items) = PeekFill packet s
+point_of (fill_released packet s n) = ReleaseFill packet s n
+point_of (rx_granted packet s) = ReserveRx packet s
+point_of (rx_full packet s free) = ReserveRx packet s
+point_of (rx_submitted packet s) = SubmitRx packet s
+point_of (comp_granted k packet later) = ReserveComp k packet later
+point_of (comp_full k packet later free) = ReserveComp k packet later
+point_of (comp_submitted k packet later) = SubmitComp k packet later
+point_of (tx_empty k) = PeekTx k
+point_of (tx_items k items) = PeekTx k
+point_of (tx_released k n) = ReleaseTx k n
+point_of (looked_tx_done n) = LookTxDone
+
+abbrev pub reply_of : Entry → Reply
+reply_of (told_rx_done n) = Old n
+reply_of (looked_none packet n) = Old n
+reply_of (looked_long packet n s) = Old n
+reply_of (looked_some packet n s) = Old n
+reply_of (fill_empty packet s) = Empty
+reply_of (fill_items packet s items) = Items items
+reply_of (fill_released packet s n) = Released
+reply_of (rx_granted packet s) = Granted
+reply_of (rx_full packet s free) = Full free
+reply_of (rx_submitted packet s) = Submitted
+reply_of (comp_granted k packet later) = Granted
+reply_of (comp_full k packet later free) = Full free
+reply_of (comp_submitted k packet later) = Submitted
+reply_of (tx_empty k) = Empty
+reply_of (tx_items k items) = Items items
+reply_of (tx_released k n) = Released
+reply_of (looked_tx_done n) = Old n
+
+abbrev pub to_place : Seat → Entry → Place
+to_place seat (looked_some packet n s) = Trying packet s nothing
+to_place seat (fill_items packet s items) = Trying packet s (held (Fill seat.pair) (length items))
+to_place seat (fill_released packet s n) = Trying packet s nothing
+to_place seat (rx_granted packet s) = Trying packet s (room (Rx s) (pieces_of seat packet))
+to_place seat (comp_granted k packet later) = Sending k (room (Comp seat.pair) (length packet))
+to_place seat (comp_full k packet later free) = Idling
+to_place seat (comp_submitted k packet later) = Sending k nothing
+to_place seat (tx_empty k) = Sending (k + 1) nothing
+to_place seat (tx_items k items) = Sending (k + 1) (held (Tx (socket_of seat k)) (length items))
+to_place seat (tx_released k n) = Sending (k + 1) nothing
+to_place seat (looked_tx_done n) = Receiving
+to_place seat entry = Sending 0 nothing
+
+abbrev pub noted_after : Entry → Noted → Noted
+noted_after (looked_some packet n s) noted = noted
+noted_after (fill_empty packet s) noted = noted
+noted_after (fill_items packet s items) noted = noted
+noted_after (rx_full packet s free) noted = stopped noted
+noted_after (rx_submitted packet s) noted = moved noted
+noted_after (comp_granted k packet later) noted = noted
+noted_after (comp_full k packet later free) noted = stopped noted
+noted_after (tx_empty k) noted = noted
+noted_after (tx_released k n) noted = noted
+noted_after (looked_tx_done n) noted = fresh
+noted_after entry noted = moved noted
+
+abbrev pub kept_after : Seat → Entry → Kept → Kept
+kept_after seat (told_rx_done n) kept = record kept { rx_done = true }
+kept_after seat (looked_none packet n) kept = settled kept Missed
+kept_after seat (looked_long packet n s) kept = dropped kept TooLong
+kept_after seat (fill_empty packet s) kept = with_fill_empty kept
+kept_after seat (fill_items packet s items) kept = supplied kept items
+kept_after seat (rx_full packet s free) kept = with_rx_full (s % seat.classes) kept
+kept_after seat (rx_submitted packet s) kept = settled (record kept { spare = drop (pieces_of seat packet) kept.spare }) (Delivered s)
+kept_after seat (comp_submitted k packet later) kept = record kept { finished = later }
+kept_after seat (tx_empty k) kept = with_tx_empty k kept
+kept_after seat (tx_items k items) kept = gathered seat k kept items
+kept_after seat (looked_tx_done n) kept = record kept { tx_done = kept.tx_done || eqb n 1 }
+kept_after seat entry kept = kept
+
+-- where a cell's number leads
+abbrev pub Leads : Seat → Entry → Type 0
+Leads seat (looked_none packet n) = redirect_to seat.config seat.port seat.queue n ≡ None
+Leads seat (looked_long packet n s) = (redirect_to seat.config seat.port seat.queue n ≡ Some s) × (nat_lt (limit_of seat) (length packet) ≡ true)
+Leads seat (looked_some packet n s) = (redirect_to seat.config seat.port seat.queue n ≡ Some s) × (nat_lt (limit_of seat) (length packet) ≡ false)
+Leads seat entry = Unit {0}
+
+-- ---- what goes on without a call
+
+pub data Pass : Type 0 where
+  runt : List ℕ → List (List ℕ) → Pass
+  missed : List ℕ → List (List ℕ) → Pass
+  none_comes : Pass
+  waits : List ℕ → ℕ → Pass
+  visited : Pass
+  idles : Pass
+
+abbrev pub Passing : Seat → Family → Pass → Noted → Kept → List Told → Type 0
+Passing seat At (runt packet later) noted kept l =
+    At Receiving noted kept l → (kept.coming ≡ packet ∷ later) × (nat_lt (length packet) 14 ≡ true) → At Receiving (moved noted) (settled kept Runt) l
+Passing seat At (missed packet later) noted kept l =
+    At Receiving noted kept l → (kept.coming ≡ packet ∷ later) × (nat_lt (length packet) 14 ≡ false) × (nat_le (length (map_of seat.config seat.port)) (cell_of seat packet) ≡ true)
+    → At Receiving (moved noted) (settled kept Missed) l
+Passing seat At none_comes noted kept l = At Receiving noted kept l → (kept.coming ≡ []) × (kept.rx_done ≡ true) → At (Sending 0 nothing) noted kept l
+Passing seat At (waits packet s) noted kept l = At (Trying packet s nothing) noted kept l → IsTried seat kept.coming packet s → At (Sending 0 nothing) noted kept l
+Passing seat At visited noted kept l = At (Sending seat.classes nothing) noted kept l → kept.finished ≡ [] → At Idling noted kept l
+Passing seat At idles noted kept l = At Idling noted kept l → Unit {0} → At Receiving fresh kept l
+
+-- ---- a law
+
+-- what is said at each call, and at the end
+abbrev pub Said : Type 1
+Said = Kept → Call → List Told → Type 0
+
+abbrev pub AtCalls : Seat → Family → Said → Type 0
+AtCalls seat At A = (p : Point) (noted : Noted) (kept : Kept) (l : List Told) → Known seat p noted kept → At (place_of seat p) noted kept l → A (kept_at seat p kept) (call_at seat p kept) l
+
+abbrev pub AtEntries : Seat → Premise Kept → Family → Said → Type 0
+AtEntries seat Q At A = (e : Entry) (noted : Noted) (kept : Kept) (l : List Told) → Known seat (point_of e) noted kept → Leads seat e
+    → At (place_of seat (point_of e)) noted kept l → A (kept_at seat (point_of e) kept) (call_at seat (point_of e) kept) l
+    → Q (kept_at seat (point_of e) kept) l (call_at seat (point_of e) kept) (reply_of e)
+    → At (to_place seat e) (noted_after e noted) (kept_after seat e kept) (with_told l (call_at seat (point_of e) kept) (reply_of e))
+
+abbrev pub AtPasses : Seat → Family → Type 0
+AtPasses seat At = (p : Pass) (noted : Noted) (kept : Kept) (l : List Told) → Passing seat At p noted kept l
+
+abbrev pub AtEnd : Seat → Premise Kept → Family → Said → (Kept → List Told → Type 0) → Type 0
+AtEnd seat Q At A E = (noted : Noted) (kept : Kept) (l : List Told) (n : ℕ) → Known seat TellGone noted kept → At Idling noted kept l → A kept (Swap (Gone seat.pair) 1) l
+    → Q kept l (Swap (Gone seat.pair) 1) (Old n) → E kept (with_told l (Swap (Gone seat.pair) 1) (Old n))
+
+pub record IsLaw (seat : Seat) (Q : Premise Kept) (At : Family) (A : Said) (E : Kept → List Told → Type 0) : Type 0 where
+  pub calls : AtCalls seat At A
+  pub entries : AtEntries seat Q At A
+  pub passes : AtPasses seat At
+  pub ends : AtEnd seat Q At A E
+
+both_off : (x y : Bool) → (x || y) ≡ false → (x ≡ false) × (y ≡ false)
+both_off true y e = absurd (cc)
+both_off false y e = (refl, e)
+
+module _ (seat : Seat) (Q : Premise Kept) (At : Family) (A : Said) (E : Kept → List Told → Type 0) (is : IsLaw seat Q At A E) where
+  abbrev law : Law Kept
+  law = record { begins = λ kept l. At Receiving fresh kept l; asks = A; ends = E }
+
+  abbrev Along : Script Kept → List Told → Type 0
+  Along s l = Holds Q law s l
+
+  go_idle : (noted : Noted) (kept : Kept) (l : List Told) → At Idling noted kept l → Along (idle seat noted kept) l
+  go_idle noted kept l h =
+      let look = Look (TxDone (application_of seat)) in
+      let leave = Swap (Gone seat.pair) 1 in
+      by_case Q law (noted.progress || noted.full) _ _ l (λ e. is.passes idles noted kept l h tt)
+      (λ e. by_case Q law kept.tx_done _ _ l
+      (λ done.
+      let off = both_off noted.progress noted.full e in
+      let gives = is.calls TellGone noted kept l (off.0, off.1, done) h in
+      (gives, at_old Q law kept leave l (λ n. ended kept) (λ n q. is.ends noted kept l n (off.0, off.1, done) h gives q)))
+      (λ f. by_case Q law kept.rx_done _ _ l
+      (λ done.
+      let gives = is.calls LookTxDone noted kept l done h in (
+        gives,
+        at_old Q law kept look l (λ n. again (record kept { tx_done = kept.tx_done || eqb n 1 })) (λ n q. is.entries (looked_tx_done n) noted kept l done tt h gives q),
+      ))
+      (λ g. is.passes idles noted kept l h tt)))
+
+  -- wherever a class's packets are all completed
+  abbrev Visiting : (Noted → Kept → Script Kept) → ℕ → Type 0
+  Visiting next k = (noted : Noted) (kept : Kept) (l : List Told) → At (Sending k nothing) noted kept l → kept.finished ≡ [] → Along (next noted kept) l
+
+  go_complete : (k : ℕ) (packets : List (List Item)) (noted : Noted) (kept : Kept) (next : Noted → Kept → Script Kept) (l : List Told) → At (Sending k nothing) noted kept l
+      → kept.finished ≡ packets → Visiting next k → Along (complete seat packets noted kept next) l
+  go_complete k [] noted kept next l h e go = go noted kept l h e
+  go_complete k (packet ∷ later) noted kept next l h e go =
+      let call = Reserve (Comp seat.pair) (length packet) in
+      let give = Submit (Comp seat.pair) (map returned packet) in
+      let granted = with_told l call Granted in
+      let left : Kept = record kept { finished = later } in
+      let asked = is.calls (ReserveComp k packet later) noted kept l e h in (
+        asked,
+        at_reserve Q law kept call l (ask left give (on_submitted (complete seat later (moved noted) left next))) (idle seat (stopped noted) kept)
+            (λ q.
+            let now = is.entries (comp_granted k packet later) noted kept l e tt h asked q in
+            let gives = is.calls (SubmitComp k packet later) noted kept granted e now in (
+              gives,
+              at_submit Q law left give granted (complete seat later (moved noted) left next)
+                  (λ r. go_complete k later (moved noted) left next (with_told granted give Submitted) (is.entries (comp_submitted k packet later) noted kept granted e tt now gives r) refl go),
+            ))
+            (λ free q. go_idle (stopped noted) kept (with_told l call (Full free)) (is.entries (comp_full k packet later free) noted kept l e tt h asked q)),
+      )
+
+  go_visit : (more k : ℕ) (noted : Noted) (kept : Kept) (l : List Told) → k + more ≡ seat.classes → At (Sending k nothing) noted kept l → kept.finished ≡ []
+      → Along (visit seat more k noted kept) l
+  go_visit zero k noted kept l e h none =
+      let all : k ≡ seat.classes = omega arith in
+      go_idle noted kept l (is.passes visited noted kept l (subst (λ j. At (Sending j nothing) noted kept l) all h) none)
+  go_visit (suc more) k noted kept l e h none =
+      let call = Peek (Tx (socket_of seat k)) seat.batch in
+      let below : k < seat.classes = omega arith in
+      let on : (k + 1) + more ≡ seat.classes = omega arith in
+      let asked = is.calls (PeekTx k) noted kept l (below, none) h in (
+        asked,
+        at_peek Q law kept call l
+            (λ items. ask (gathered seat k kept items) (Release (Tx (socket_of seat k)) (length items)) (on_released (complete seat (gathered seat k kept items).finished (moved noted) (gathered seat k kept items) (visit seat more (k + 1)))))
+            (visit seat more (k + 1) noted (with_tx_empty k kept))
+            (λ items q.
+            let peeked = with_told l call (Items items) in
+            let give = Release (Tx (socket_of seat k)) (length items) in
+            let got = gathered seat k kept items in
+            let now = is.entries (tx_items k items) noted kept l (below, none) tt h asked q in
+            let gives = is.calls (ReleaseTx k (length items)) (moved noted) got peeked below now in (
+              gives,
+              at_release Q law got give peeked (complete seat got.finished (moved noted) got (visit seat more (k + 1)))
+                  (λ r. go_complete (k + 1) got.finished (moved noted) got (visit seat more (k + 1)) (with_told peeked give Released)
+                  (is.entries (tx_released k (length items)) (moved noted) got peeked below tt now gives r) refl (λ noted kept l h none. go_visit more (k + 1) noted kept l on h none)),
+            ))
+            (λ q. go_visit more (k + 1) noted (with_tx_empty k kept) (with_told l call Empty) on (is.entries (tx_empty k) noted kept l (below, none) tt h asked q) none),
+      )
+
+  go_transmit : (noted : Noted) (kept : Kept) (l : List Told) → At (Sending 0 nothing) noted kept l → Along (transmit seat noted kept) l
+  go_transmit noted kept l h =
+      go_complete 0 kept.finished noted kept (visit_from seat 0) l h refl (λ noted kept l h none. go_visit (seat.classes - 0) 0 noted kept l (omega arith) h none)
+
+  -- ---- a packet that is tried
+
+  module _ (packet : List ℕ) (s : ℕ) where
+    go_reserve : (noted : Noted) (kept : Kept) (l : List Told) → At (Trying packet s nothing) noted kept l → IsTried seat kept.coming packet s
+        → nat_le (pieces_of seat packet) (length kept.spare) ≡ true → Along (reserve seat packet s noted kept) l
+    go_reserve noted kept l h tried enough =
+        let n = pieces_of seat packet in
+        let call = Reserve (Rx s) n in
+        let give = Submit (Rx s) (laid_out seat.config.geometry packet (take n kept.spare)) in
+        let granted = with_told l call Granted in
+        let fewer : Kept = record kept { spare = drop n kept.spare } in
+        let left : Kept = settled fewer (Delivered s) in
+        let full : Kept = with_rx_full (s % seat.classes) kept in
+        let asked = is.calls (ReserveRx packet s) noted kept l (tried, enough) h in (
+          asked,
+          at_reserve Q law kept call l (deliver seat packet s (moved noted) kept) (transmit seat (stopped noted) full)
+              (λ q.
+              let now = is.entries (rx_granted packet s) noted kept l (tried, enough) tt h asked q in
+              let gives = is.calls (SubmitRx packet s) (moved noted) kept granted (tried, enough) now in (
+                gives,
+                at_submit Q law fewer give granted (transmit seat (moved (moved noted)) left)
+                    (λ r. go_transmit (moved (moved noted)) left (with_told granted give Submitted) (is.entries (rx_submitted packet s) (moved noted) kept granted (tried, enough) tt now gives r)),
+              ))
+              (λ free q. go_transmit (stopped noted) full (with_told l call (Full free)) (is.entries (rx_full packet s free) noted kept l (tried, enough) tt h asked q)),
+        )
+
+    go_more : (noted : Noted) (kept : Kept) (l : List Told) → At (Trying packet s nothing) noted kept l → IsTried seat kept.coming packet s → Along (go_on seat packet s noted kept) l
+    go_more noted kept l h tried =
+        by_case Q law (nat_le (pieces_of seat packet) (length kept.spare)) _ _ l (go_reserve noted kept l h tried) (λ e. go_transmit noted kept l (is.passes (waits packet s) noted kept l h tried))
+
+    go_find : (noted : Noted) (kept : Kept) (l : List Told) → At (Trying packet s nothing) noted kept l → IsTried seat kept.coming packet s → Along (find_spare seat packet s noted kept) l
+    go_find noted kept l h tried =
+        let call = Peek (Fill seat.pair) (pieces_of seat packet - length kept.spare) in
+        by_case Q law (nat_le (pieces_of seat packet) (length kept.spare)) _ _ l (go_reserve noted kept l h tried)
+        (λ e.
+        let asked = is.calls (PeekFill packet s) noted kept l (tried, e) h in (
+          asked,
+          at_peek Q law kept call l (take_spare seat packet s noted kept) (transmit seat noted (with_fill_empty kept))
+              (λ items q.
+              let peeked = with_told l call (Items items) in
+              let give = Release (Fill seat.pair) (length items) in
+              let more : Kept = supplied kept items in
+              let now = is.entries (fill_items packet s items) noted kept l (tried, e) tt h asked q in
+              let gives = is.calls (ReleaseFill packet s (length items)) noted more peeked tried now in (
+                gives,
+                at_release Q law more give peeked (go_on seat packet s (moved noted) more)
+                    (λ r. go_more (moved noted) more (with_told peeked give Released) (is.entries (fill_released packet s (length items)) noted more peeked tried tt now gives r) tried),
+              ))
+              (λ q. go_transmit noted (with_fill_empty kept) (with_told l call Empty) (is.entries (fill_empty packet s) noted kept l (tried, e) tt h asked q)),
+        ))
+
+  -- ---- receiving
+
+  go_receive : (coming : List (List ℕ)) (noted : Noted) (kept : Kept) (l : List Told) → At Receiving noted kept l → kept.coming ≡ coming → Along (receive seat coming noted kept) l
+  go_receive [] noted kept l h e =
+      let call = Swap (RxDone seat.pair) 1 in
+      let left : Kept = record kept { rx_done = true } in
+      by_case Q law kept.rx_done _ _ l (λ f. go_transmit noted kept l (is.passes none_comes noted kept l h (e, f)))
+      (λ f.
+      let gives = is.calls TellRxDone noted kept l (e, f) h in (
+        gives,
+        at_old Q law kept call l (λ n. transmit seat (moved noted) left)
+            (λ n q. go_transmit (moved noted) left (with_told l call (Old n)) (is.entries (told_rx_done n) noted kept l (e, f) tt h gives q)),
+      ))
+  go_receive (packet ∷ later) noted kept l h e =
+      let call = Look (Cell seat.port (cell_of seat packet)) in
+      let to = λ (n : ℕ). redirect_to seat.config seat.port seat.queue n in
+      let rest : drop 1 kept.coming ≡ later = ap (drop 1) e in
+      by_case Q law (nat_lt (length packet) 14) _ _ l (λ f. go_receive later (moved noted) (settled kept Runt) l (is.passes (runt packet later) noted kept l h (e, f)) rest)
+      (λ f. by_case Q law (nat_le (length (map_of seat.config seat.port)) (cell_of seat packet)) _ _ l
+      (λ g. go_receive later (moved noted) (settled kept Missed) l (is.passes (missed packet later) noted kept l h (e, f, g)) rest)
+      (λ g.
+      let next : IsNext seat kept.coming packet = record { later = later; is = e; long = f; cell = g } in
+      let gives = is.calls (LookCell packet) noted kept l next h in (
+        gives,
+        at_old Q law kept call l (λ n. direct seat packet noted kept (to n))
+            (λ n q.
+            let told = with_told l call (Old n) in
+            by_option (to n) (λ o. Along (direct seat packet noted kept o) told)
+            (λ none. go_transmit (moved noted) (settled kept Missed) told (is.entries (looked_none packet n) noted kept l next none h gives q))
+            (λ s some. by_case Q law (nat_lt (limit_of seat) (length packet)) _ _ told
+            (λ long. go_transmit (moved noted) (dropped kept TooLong) told (is.entries (looked_long packet n s) noted kept l next (some, long) h gives q))
+            (λ fits. go_find packet s noted kept told (is.entries (looked_some packet n s) noted kept l next (some, fits) h gives q) (record { next = next; number = n; target = some; fits = fits })))),
+      )))
+
+  go_turn : (kept : Kept) (l : List Told) → At Receiving fresh kept l → Along (turn seat kept) l
+  go_turn kept l h = go_receive kept.coming fresh kept l h refl
+
+  -- ---- runs
+
+  module _ (begins : Kept) (first : At Receiving fresh begins []) (l : List Told) (meets : MeetAlong (turn seat) Q (turn seat begins) [] l) where
+    -- what it says where a list stops
+    says : (left : Script Kept) → Leaves (turn seat) (turn seat begins) l left → Says law left l
+    says left leaves = says_left Q law (turn seat) go_turn begins l left first meets leaves
+
+    pub at_call : (kept : Kept) (call : Call) (rest : Reply → Script Kept) → Asks (turn seat) begins l kept call rest → A kept call l
+    at_call kept call rest asks = says (ask kept call rest) asks
+
+    pub at_end : (kept : Kept) → Ends (turn seat) begins l kept → E kept l
+    at_end kept ends = says (ended kept) ends
+
+    -- a law may stand on what this one says at each call
+    pub meets_said : (left : Script Kept) → Leaves (turn seat) (turn seat begins) l left → MeetAlong (turn seat) (λ kept m call reply. A kept call m × Q kept m call reply) (turn seat begins) [] l
+    meets_said left leaves = meets_law Q law (turn seat) go_turn begins l left first meets leaves
+
+    -- what it says of each run
+    pub of_run : (I : List Told → Type 0) → ((kept : Kept) → At Receiving fresh kept l → I l) → ((kept : Kept) (call : Call) → A kept call l → I l) → ((kept : Kept) → E kept l → I l)
+        → IsRun (turn seat) begins l → I l
+    of_run I x y z run = by run.0 run.2 (says run.0 run.1)
+      where
+        by : (left : Script Kept) → IsLive left → Says law left l → I l
+        by (ask kept call rest) live h = y kept call h
+        by (again kept) live h = x kept h
+        by (ended kept) live h = z kept h
+        by never live h = absurd live
