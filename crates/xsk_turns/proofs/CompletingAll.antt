@@ -20,7 +20,7 @@ all_done completed all h e = omega (arith, length-drop completed all)
 
 pub completes_all : CompletesAll
 completes_all c d class input l is fit whole below =
-    let has = has_ended c d input l whole.0 is fit whole.1 in
+    let has = has_ended c d input l is fit whole.0 whole.1 in
     let s = socket_of (seat_of c d) class in
     let u = sending_of c s l in
     let within = (own_kept c d is.known l has.0.own).within s in

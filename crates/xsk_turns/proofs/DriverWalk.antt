@@ -14,7 +14,7 @@ use Rattle.xsk_model.specs.declared.call.Reply.TheVariants.{Granted, Full, Submi
 use Rattle.xsk_turns.specs.Script.{Script, ask, again, ended, never, on_submitted, on_released, Asks, Ends, IsLive, IsRun, Leaves}
 use Rattle.xsk_turns.specs.Turns.{Seat, Kept, Noted, moved, stopped, settled, dropped, supplied, with_rx_full, with_fill_empty, with_tx_empty, visit_from, socket_of, application_of, cell_of, redirect_to, limit_of, pieces_of, laid_out, returned, gathered, idle, complete, visit, transmit, deliver, reserve, go_on, take_spare, find_spare, direct, receive, turn}
 use Rattle.xsk_turns.specs.declared.disposal.Disposal.TheVariants.{Delivered, TooLong, Runt, Missed}
-use Rattle.xsk_turns.proofs.Walks.{Premise, Law, Due, nothing, room, held, Holds, Says, MeetAlong, at_reserve, at_submit, at_peek, at_release, at_old, by_case, by_option, says_left, meets_law}
+use Rattle.xsk_turns.proofs.Walks.{Premise, Law, Due, nothing_due, submit_due, release_due, Holds, Says, MeetAlong, at_reserve, at_submit, at_peek, at_release, at_old, by_case, by_option, says_left, meets_law}
 
 -- ---- the places of a turn, and its calls
 
@@ -50,14 +50,14 @@ pub data Point : Type 0 where
 abbrev pub place_of : Seat → Point → Place
 place_of seat TellRxDone = Receiving
 place_of seat (LookCell packet) = Receiving
-place_of seat (PeekFill packet s) = Trying packet s nothing
-place_of seat (ReleaseFill packet s n) = Trying packet s (held (Fill seat.pair) n)
-place_of seat (ReserveRx packet s) = Trying packet s nothing
-place_of seat (SubmitRx packet s) = Trying packet s (room (Rx s) (pieces_of seat packet))
-place_of seat (ReserveComp k packet later) = Sending k nothing
-place_of seat (SubmitComp k packet later) = Sending k (room (Comp seat.pair) (length packet))
-place_of seat (PeekTx k) = Sending k nothing
-place_of seat (ReleaseTx k n) = Sending (k + 1) (held (Tx (socket_of seat k)) n)
+place_of seat (PeekFill packet s) = Trying packet s nothing_due
+place_of seat (ReleaseFill packet s n) = Trying packet s (release_due (Fill seat.pair) n)
+place_of seat (ReserveRx packet s) = Trying packet s nothing_due
+place_of seat (SubmitRx packet s) = Trying packet s (submit_due (Rx s) (pieces_of seat packet))
+place_of seat (ReserveComp k packet later) = Sending k nothing_due
+place_of seat (SubmitComp k packet later) = Sending k (submit_due (Comp seat.pair) (length packet))
+place_of seat (PeekTx k) = Sending k nothing_due
+place_of seat (ReleaseTx k n) = Sending (k + 1) (release_due (Tx (socket_of seat k)) n)
 place_of seat LookTxDone = Idling
 place_of seat TellGone = Idling
 
@@ -170,18 +170,18 @@ reply_of (tx_released k n) = Released
 reply_of (looked_tx_done n) = Old n
 
 abbrev pub to_place : Seat → Entry → Place
-to_place seat (looked_some packet n s) = Trying packet s nothing
-to_place seat (fill_items packet s items) = Trying packet s (held (Fill seat.pair) (length items))
-to_place seat (fill_released packet s n) = Trying packet s nothing
-to_place seat (rx_granted packet s) = Trying packet s (room (Rx s) (pieces_of seat packet))
-to_place seat (comp_granted k packet later) = Sending k (room (Comp seat.pair) (length packet))
+to_place seat (looked_some packet n s) = Trying packet s nothing_due
+to_place seat (fill_items packet s items) = Trying packet s (release_due (Fill seat.pair) (length items))
+to_place seat (fill_released packet s n) = Trying packet s nothing_due
+to_place seat (rx_granted packet s) = Trying packet s (submit_due (Rx s) (pieces_of seat packet))
+to_place seat (comp_granted k packet later) = Sending k (submit_due (Comp seat.pair) (length packet))
 to_place seat (comp_full k packet later free) = Idling
-to_place seat (comp_submitted k packet later) = Sending k nothing
-to_place seat (tx_empty k) = Sending (k + 1) nothing
-to_place seat (tx_items k items) = Sending (k + 1) (held (Tx (socket_of seat k)) (length items))
-to_place seat (tx_released k n) = Sending (k + 1) nothing
+to_place seat (comp_submitted k packet later) = Sending k nothing_due
+to_place seat (tx_empty k) = Sending (k + 1) nothing_due
+to_place seat (tx_items k items) = Sending (k + 1) (release_due (Tx (socket_of seat k)) (length items))
+to_place seat (tx_released k n) = Sending (k + 1) nothing_due
 to_place seat (looked_tx_done n) = Receiving
-to_place seat entry = Sending 0 nothing
+to_place seat entry = Sending 0 nothing_due
 
 abbrev pub noted_after : Entry → Noted → Noted
 noted_after (looked_some packet n s) noted = noted
@@ -233,9 +233,9 @@ Passing seat At (runt packet later) noted kept l =
 Passing seat At (missed packet later) noted kept l =
     At Receiving noted kept l → (kept.coming ≡ packet ∷ later) × (nat_lt (length packet) 14 ≡ false) × (nat_le (length (map_of seat.config seat.port)) (cell_of seat packet) ≡ true)
     → At Receiving (moved noted) (settled kept Missed) l
-Passing seat At none_comes noted kept l = At Receiving noted kept l → (kept.coming ≡ []) × (kept.rx_done ≡ true) → At (Sending 0 nothing) noted kept l
-Passing seat At (waits packet s) noted kept l = At (Trying packet s nothing) noted kept l → IsTried seat kept.coming packet s → At (Sending 0 nothing) noted kept l
-Passing seat At visited noted kept l = At (Sending seat.classes nothing) noted kept l → kept.finished ≡ [] → At Idling noted kept l
+Passing seat At none_comes noted kept l = At Receiving noted kept l → (kept.coming ≡ []) × (kept.rx_done ≡ true) → At (Sending 0 nothing_due) noted kept l
+Passing seat At (waits packet s) noted kept l = At (Trying packet s nothing_due) noted kept l → IsTried seat kept.coming packet s → At (Sending 0 nothing_due) noted kept l
+Passing seat At visited noted kept l = At (Sending seat.classes nothing_due) noted kept l → kept.finished ≡ [] → At Idling noted kept l
 Passing seat At idles noted kept l = At Idling noted kept l → Unit {0} → At Receiving fresh kept l
 
 -- ---- a law
@@ -297,9 +297,9 @@ module _ (seat : Seat) (Q : Premise Kept) (At : Family) (A : Said) (E : Kept →
 
   -- wherever a class's packets are all completed
   abbrev Visiting : (Noted → Kept → Script Kept) → ℕ → Type 0
-  Visiting next k = (noted : Noted) (kept : Kept) (l : List Told) → At (Sending k nothing) noted kept l → kept.finished ≡ [] → Along (next noted kept) l
+  Visiting next k = (noted : Noted) (kept : Kept) (l : List Told) → At (Sending k nothing_due) noted kept l → kept.finished ≡ [] → Along (next noted kept) l
 
-  go_complete : (k : ℕ) (packets : List (List Item)) (noted : Noted) (kept : Kept) (next : Noted → Kept → Script Kept) (l : List Told) → At (Sending k nothing) noted kept l
+  go_complete : (k : ℕ) (packets : List (List Item)) (noted : Noted) (kept : Kept) (next : Noted → Kept → Script Kept) (l : List Told) → At (Sending k nothing_due) noted kept l
       → kept.finished ≡ packets → Visiting next k → Along (complete seat packets noted kept next) l
   go_complete k [] noted kept next l h e go = go noted kept l h e
   go_complete k (packet ∷ later) noted kept next l h e go =
@@ -320,11 +320,11 @@ module _ (seat : Seat) (Q : Premise Kept) (At : Family) (A : Said) (E : Kept →
             (λ free q. go_idle (stopped noted) kept (with_told l call (Full free)) (is.entries (comp_full k packet later free) noted kept l e tt h asked q)),
       )
 
-  go_visit : (more k : ℕ) (noted : Noted) (kept : Kept) (l : List Told) → k + more ≡ seat.classes → At (Sending k nothing) noted kept l → kept.finished ≡ []
+  go_visit : (more k : ℕ) (noted : Noted) (kept : Kept) (l : List Told) → k + more ≡ seat.classes → At (Sending k nothing_due) noted kept l → kept.finished ≡ []
       → Along (visit seat more k noted kept) l
   go_visit zero k noted kept l e h none =
       let all : k ≡ seat.classes = omega arith in
-      go_idle noted kept l (is.passes visited noted kept l (subst (λ j. At (Sending j nothing) noted kept l) all h) none)
+      go_idle noted kept l (is.passes visited noted kept l (subst (λ j. At (Sending j nothing_due) noted kept l) all h) none)
   go_visit (suc more) k noted kept l e h none =
       let call = Peek (Tx (socket_of seat k)) seat.batch in
       let below : k < seat.classes = omega arith in
@@ -348,14 +348,14 @@ module _ (seat : Seat) (Q : Premise Kept) (At : Family) (A : Said) (E : Kept →
             (λ q. go_visit more (k + 1) noted (with_tx_empty k kept) (with_told l call Empty) on (is.entries (tx_empty k) noted kept l (below, none) tt h asked q) none),
       )
 
-  go_transmit : (noted : Noted) (kept : Kept) (l : List Told) → At (Sending 0 nothing) noted kept l → Along (transmit seat noted kept) l
+  go_transmit : (noted : Noted) (kept : Kept) (l : List Told) → At (Sending 0 nothing_due) noted kept l → Along (transmit seat noted kept) l
   go_transmit noted kept l h =
       go_complete 0 kept.finished noted kept (visit_from seat 0) l h refl (λ noted kept l h none. go_visit (seat.classes - 0) 0 noted kept l (omega arith) h none)
 
   -- ---- a packet that is tried
 
   module _ (packet : List ℕ) (s : ℕ) where
-    go_reserve : (noted : Noted) (kept : Kept) (l : List Told) → At (Trying packet s nothing) noted kept l → IsTried seat kept.coming packet s
+    go_reserve : (noted : Noted) (kept : Kept) (l : List Told) → At (Trying packet s nothing_due) noted kept l → IsTried seat kept.coming packet s
         → nat_le (pieces_of seat packet) (length kept.spare) ≡ true → Along (reserve seat packet s noted kept) l
     go_reserve noted kept l h tried enough =
         let n = pieces_of seat packet in
@@ -378,11 +378,11 @@ module _ (seat : Seat) (Q : Premise Kept) (At : Family) (A : Said) (E : Kept →
               (λ free q. go_transmit (stopped noted) full (with_told l call (Full free)) (is.entries (rx_full packet s free) noted kept l (tried, enough) tt h asked q)),
         )
 
-    go_more : (noted : Noted) (kept : Kept) (l : List Told) → At (Trying packet s nothing) noted kept l → IsTried seat kept.coming packet s → Along (go_on seat packet s noted kept) l
+    go_more : (noted : Noted) (kept : Kept) (l : List Told) → At (Trying packet s nothing_due) noted kept l → IsTried seat kept.coming packet s → Along (go_on seat packet s noted kept) l
     go_more noted kept l h tried =
         by_case Q law (nat_le (pieces_of seat packet) (length kept.spare)) _ _ l (go_reserve noted kept l h tried) (λ e. go_transmit noted kept l (is.passes (waits packet s) noted kept l h tried))
 
-    go_find : (noted : Noted) (kept : Kept) (l : List Told) → At (Trying packet s nothing) noted kept l → IsTried seat kept.coming packet s → Along (find_spare seat packet s noted kept) l
+    go_find : (noted : Noted) (kept : Kept) (l : List Told) → At (Trying packet s nothing_due) noted kept l → IsTried seat kept.coming packet s → Along (find_spare seat packet s noted kept) l
     go_find noted kept l h tried =
         let call = Peek (Fill seat.pair) (pieces_of seat packet - length kept.spare) in
         by_case Q law (nat_le (pieces_of seat packet) (length kept.spare)) _ _ l (go_reserve noted kept l h tried)

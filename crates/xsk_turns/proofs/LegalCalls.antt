@@ -18,6 +18,7 @@ use Rattle.xsk_model.specs.declared.call.Reply.TheVariants.{Granted, Items}
 use Rattle.xsk_model.proofs.Folds.{had_of-push, part_of-push_same}
 use Rattle.xsk_model.proofs.Counting.{times-append, times-without}
 use Rattle.xsk_model.proofs.Places.{is_ring-self}
+use Rattle.xsk_turns.proofs.Walks.{Due, nothing_due, submit_due, release_due}
 
 -- ---- what an entry leaves
 
@@ -37,6 +38,12 @@ pub held_told : (l : List Told) (r : Ring) (n : ℕ) (items : List Item) → len
 held_told l r n items =
     let e = part_of-push_same held_step r 0 l (record { call = Peek r n; reply = Items items }) (is_ring-self r) in
     omega (arith, e)
+
+-- what is due: the room is there, and the items are held
+abbrev pub IsDue : Due → List Told → Type 0
+IsDue nothing_due l = Unit {0}
+IsDue (submit_due r n) l = n ≤ room_of r l
+IsDue (release_due r n) l = (1 ≤ n) × (n ≤ 32) × (n ≤ held_of r l)
 
 -- ---- single calls
 
