@@ -88,26 +88,27 @@ pub record IsNext (seat : Seat) (coming : List (List ℕ)) (packet : List ℕ) :
   pub long : nat_lt (length packet) 14 ≡ false
   pub cell : nat_le (length (map_of seat.config seat.port)) (cell_of seat packet) ≡ false
 
-pub record IsTried (seat : Seat) (coming : List (List ℕ)) (packet : List ℕ) (s : ℕ) : Type 0 where
+pub record IsTried (seat : Seat) (Q : Premise Kept) (coming : List (List ℕ)) (packet : List ℕ) (s : ℕ) : Type 0 where
   pub next : IsNext seat coming packet
   pub number : ℕ
+  pub looked : (kept : Kept) × (l : List Told) × Q kept l (Look (Cell seat.port (cell_of seat packet))) (Old number)
   pub target : redirect_to seat.config seat.port seat.queue number ≡ Some s
   pub fits : nat_lt (limit_of seat) (length packet) ≡ false
 
 -- what is known where a call is given
-abbrev pub Known : Seat → Point → Noted → Kept → Type 0
-Known seat TellRxDone noted kept = (kept.coming ≡ []) × (kept.rx_done ≡ false)
-Known seat (LookCell packet) noted kept = IsNext seat kept.coming packet
-Known seat (PeekFill packet s) noted kept = IsTried seat kept.coming packet s × (nat_le (pieces_of seat packet) (length kept.spare) ≡ false)
-Known seat (ReleaseFill packet s n) noted kept = IsTried seat kept.coming packet s
-Known seat (ReserveRx packet s) noted kept = IsTried seat kept.coming packet s × (nat_le (pieces_of seat packet) (length kept.spare) ≡ true)
-Known seat (SubmitRx packet s) noted kept = IsTried seat kept.coming packet s × (nat_le (pieces_of seat packet) (length kept.spare) ≡ true)
-Known seat (ReserveComp k packet later) noted kept = kept.finished ≡ packet ∷ later
-Known seat (SubmitComp k packet later) noted kept = kept.finished ≡ packet ∷ later
-Known seat (PeekTx k) noted kept = (k < seat.classes) × (kept.finished ≡ [])
-Known seat (ReleaseTx k n) noted kept = k < seat.classes
-Known seat LookTxDone noted kept = kept.rx_done ≡ true
-Known seat TellGone noted kept = (noted.progress ≡ false) × (noted.full ≡ false) × (kept.tx_done ≡ true)
+abbrev pub Known : Seat → Premise Kept → Point → Noted → Kept → Type 0
+Known seat Q TellRxDone noted kept = (kept.coming ≡ []) × (kept.rx_done ≡ false)
+Known seat Q (LookCell packet) noted kept = IsNext seat kept.coming packet
+Known seat Q (PeekFill packet s) noted kept = IsTried seat Q kept.coming packet s × (nat_le (pieces_of seat packet) (length kept.spare) ≡ false)
+Known seat Q (ReleaseFill packet s n) noted kept = IsTried seat Q kept.coming packet s
+Known seat Q (ReserveRx packet s) noted kept = IsTried seat Q kept.coming packet s × (nat_le (pieces_of seat packet) (length kept.spare) ≡ true)
+Known seat Q (SubmitRx packet s) noted kept = IsTried seat Q kept.coming packet s × (nat_le (pieces_of seat packet) (length kept.spare) ≡ true)
+Known seat Q (ReserveComp k packet later) noted kept = kept.finished ≡ packet ∷ later
+Known seat Q (SubmitComp k packet later) noted kept = kept.finished ≡ packet ∷ later
+Known seat Q (PeekTx k) noted kept = (k < seat.classes) × (kept.finished ≡ [])
+Known seat Q (ReleaseTx k n) noted kept = k < seat.classes
+Known seat Q LookTxDone noted kept = kept.rx_done ≡ true
+Known seat Q TellGone noted kept = (noted.progress ≡ false) × (noted.full ≡ false) × (kept.tx_done ≡ true)
 
 -- ---- what each reply makes of it
 
@@ -227,16 +228,16 @@ pub data Pass : Type 0 where
   visited : Pass
   idles : Pass
 
-abbrev pub Passing : Seat → Family → Pass → Noted → Kept → List Told → Type 0
-Passing seat At (runt packet later) noted kept l =
+abbrev pub Passing : Seat → Premise Kept → Family → Pass → Noted → Kept → List Told → Type 0
+Passing seat Q At (runt packet later) noted kept l =
     At Receiving noted kept l → (kept.coming ≡ packet ∷ later) × (nat_lt (length packet) 14 ≡ true) → At Receiving (moved noted) (settled kept Runt) l
-Passing seat At (missed packet later) noted kept l =
+Passing seat Q At (missed packet later) noted kept l =
     At Receiving noted kept l → (kept.coming ≡ packet ∷ later) × (nat_lt (length packet) 14 ≡ false) × (nat_le (length (map_of seat.config seat.port)) (cell_of seat packet) ≡ true)
     → At Receiving (moved noted) (settled kept Missed) l
-Passing seat At none_comes noted kept l = At Receiving noted kept l → (kept.coming ≡ []) × (kept.rx_done ≡ true) → At (Sending 0 nothing_due) noted kept l
-Passing seat At (waits packet s) noted kept l = At (Trying packet s nothing_due) noted kept l → IsTried seat kept.coming packet s → At (Sending 0 nothing_due) noted kept l
-Passing seat At visited noted kept l = At (Sending seat.classes nothing_due) noted kept l → kept.finished ≡ [] → At Idling noted kept l
-Passing seat At idles noted kept l = At Idling noted kept l → Unit {0} → At Receiving fresh kept l
+Passing seat Q At none_comes noted kept l = At Receiving noted kept l → (kept.coming ≡ []) × (kept.rx_done ≡ true) → At (Sending 0 nothing_due) noted kept l
+Passing seat Q At (waits packet s) noted kept l = At (Trying packet s nothing_due) noted kept l → IsTried seat Q kept.coming packet s → At (Sending 0 nothing_due) noted kept l
+Passing seat Q At visited noted kept l = At (Sending seat.classes nothing_due) noted kept l → kept.finished ≡ [] → At Idling noted kept l
+Passing seat Q At idles noted kept l = At Idling noted kept l → Unit {0} → At Receiving fresh kept l
 
 -- ---- a law
 
@@ -244,26 +245,26 @@ Passing seat At idles noted kept l = At Idling noted kept l → Unit {0} → At 
 abbrev pub Said : Type 1
 Said = Kept → Call → List Told → Type 0
 
-abbrev pub AtCalls : Seat → Family → Said → Type 0
-AtCalls seat At A = (p : Point) (noted : Noted) (kept : Kept) (l : List Told) → Known seat p noted kept → At (place_of seat p) noted kept l → A (kept_at seat p kept) (call_at seat p kept) l
+abbrev pub AtCalls : Seat → Premise Kept → Family → Said → Type 0
+AtCalls seat Q At A = (p : Point) (noted : Noted) (kept : Kept) (l : List Told) → Known seat Q p noted kept → At (place_of seat p) noted kept l → A (kept_at seat p kept) (call_at seat p kept) l
 
 abbrev pub AtEntries : Seat → Premise Kept → Family → Said → Type 0
-AtEntries seat Q At A = (e : Entry) (noted : Noted) (kept : Kept) (l : List Told) → Known seat (point_of e) noted kept → Leads seat e
+AtEntries seat Q At A = (e : Entry) (noted : Noted) (kept : Kept) (l : List Told) → Known seat Q (point_of e) noted kept → Leads seat e
     → At (place_of seat (point_of e)) noted kept l → A (kept_at seat (point_of e) kept) (call_at seat (point_of e) kept) l
     → Q (kept_at seat (point_of e) kept) l (call_at seat (point_of e) kept) (reply_of e)
     → At (to_place seat e) (noted_after e noted) (kept_after seat e kept) (with_told l (call_at seat (point_of e) kept) (reply_of e))
 
-abbrev pub AtPasses : Seat → Family → Type 0
-AtPasses seat At = (p : Pass) (noted : Noted) (kept : Kept) (l : List Told) → Passing seat At p noted kept l
+abbrev pub AtPasses : Seat → Premise Kept → Family → Type 0
+AtPasses seat Q At = (p : Pass) (noted : Noted) (kept : Kept) (l : List Told) → Passing seat Q At p noted kept l
 
 abbrev pub AtEnd : Seat → Premise Kept → Family → Said → (Kept → List Told → Type 0) → Type 0
-AtEnd seat Q At A E = (noted : Noted) (kept : Kept) (l : List Told) (n : ℕ) → Known seat TellGone noted kept → At Idling noted kept l → A kept (Swap (Gone seat.pair) 1) l
+AtEnd seat Q At A E = (noted : Noted) (kept : Kept) (l : List Told) (n : ℕ) → Known seat Q TellGone noted kept → At Idling noted kept l → A kept (Swap (Gone seat.pair) 1) l
     → Q kept l (Swap (Gone seat.pair) 1) (Old n) → E kept (with_told l (Swap (Gone seat.pair) 1) (Old n))
 
 pub record IsLaw (seat : Seat) (Q : Premise Kept) (At : Family) (A : Said) (E : Kept → List Told → Type 0) : Type 0 where
-  pub calls : AtCalls seat At A
+  pub calls : AtCalls seat Q At A
   pub entries : AtEntries seat Q At A
-  pub passes : AtPasses seat At
+  pub passes : AtPasses seat Q At
   pub ends : AtEnd seat Q At A E
 
 both_off : (x y : Bool) → (x || y) ≡ false → (x ≡ false) × (y ≡ false)
@@ -355,7 +356,7 @@ module _ (seat : Seat) (Q : Premise Kept) (At : Family) (A : Said) (E : Kept →
   -- ---- a packet that is tried
 
   module _ (packet : List ℕ) (s : ℕ) where
-    go_reserve : (noted : Noted) (kept : Kept) (l : List Told) → At (Trying packet s nothing_due) noted kept l → IsTried seat kept.coming packet s
+    go_reserve : (noted : Noted) (kept : Kept) (l : List Told) → At (Trying packet s nothing_due) noted kept l → IsTried seat Q kept.coming packet s
         → nat_le (pieces_of seat packet) (length kept.spare) ≡ true → Along (reserve seat packet s noted kept) l
     go_reserve noted kept l h tried enough =
         let n = pieces_of seat packet in
@@ -378,11 +379,11 @@ module _ (seat : Seat) (Q : Premise Kept) (At : Family) (A : Said) (E : Kept →
               (λ free q. go_transmit (stopped noted) full (with_told l call (Full free)) (is.entries (rx_full packet s free) noted kept l (tried, enough) tt h asked q)),
         )
 
-    go_more : (noted : Noted) (kept : Kept) (l : List Told) → At (Trying packet s nothing_due) noted kept l → IsTried seat kept.coming packet s → Along (go_on seat packet s noted kept) l
+    go_more : (noted : Noted) (kept : Kept) (l : List Told) → At (Trying packet s nothing_due) noted kept l → IsTried seat Q kept.coming packet s → Along (go_on seat packet s noted kept) l
     go_more noted kept l h tried =
         by_case Q law (nat_le (pieces_of seat packet) (length kept.spare)) _ _ l (go_reserve noted kept l h tried) (λ e. go_transmit noted kept l (is.passes (waits packet s) noted kept l h tried))
 
-    go_find : (noted : Noted) (kept : Kept) (l : List Told) → At (Trying packet s nothing_due) noted kept l → IsTried seat kept.coming packet s → Along (find_spare seat packet s noted kept) l
+    go_find : (noted : Noted) (kept : Kept) (l : List Told) → At (Trying packet s nothing_due) noted kept l → IsTried seat Q kept.coming packet s → Along (find_spare seat packet s noted kept) l
     go_find noted kept l h tried =
         let call = Peek (Fill seat.pair) (pieces_of seat packet - length kept.spare) in
         by_case Q law (nat_le (pieces_of seat packet) (length kept.spare)) _ _ l (go_reserve noted kept l h tried)
@@ -434,7 +435,7 @@ module _ (seat : Seat) (Q : Premise Kept) (At : Family) (A : Said) (E : Kept →
             (λ none. go_transmit (moved noted) (settled kept Missed) told (is.entries (looked_none packet n) noted kept l next none h gives q))
             (λ s some. by_case Q law (nat_lt (limit_of seat) (length packet)) _ _ told
             (λ long. go_transmit (moved noted) (dropped kept TooLong) told (is.entries (looked_long packet n s) noted kept l next (some, long) h gives q))
-            (λ fits. go_find packet s noted kept told (is.entries (looked_some packet n s) noted kept l next (some, fits) h gives q) (record { next = next; number = n; target = some; fits = fits })))),
+            (λ fits. go_find packet s noted kept told (is.entries (looked_some packet n s) noted kept l next (some, fits) h gives q) (record { next = next; number = n; looked = (kept, l, q); target = some; fits = fits })))),
       )))
 
   go_turn : (kept : Kept) (l : List Told) → At Receiving fresh kept l → Along (turn seat kept) l

@@ -103,7 +103,7 @@ module _ (c : Config) (pair : ℕ) (is : IsSeat c pair) where
       by_sg false e = let one = few_pieces c.geometry is.geometry 1 packet (subst (λ (b : Bool). length packet ≤ cond b 18 1 * payload_of c.geometry) e short) in omega (arith, one)
 
   -- a packet that is tried is neither too short nor too long, and its socket is here
-  module _ (packet : List ℕ) (s : ℕ) (coming : List (List ℕ)) (tried : IsTried seat coming packet s) where
+  module _ (packet : List ℕ) (s : ℕ) (coming : List (List ℕ)) (tried : IsTried seat Answers coming packet s) where
     long : 14 ≤ length packet
     long = not_less (length packet) 14 tried.next.long
 
@@ -116,7 +116,7 @@ module _ (c : Config) (pair : ℕ) (is : IsSeat c pair) where
     here : IsHere seat s
     here = redirect_here seat tried.number s tried.target
 
-  calls : AtCalls seat At Asked
+  calls : AtCalls seat Answers At Asked
   calls TellRxDone noted kept l known h = quiet kept _ l tt h.0 (legal_swap c pair l (caller_known c pair is) (RxDone pair) 1 is.known refl (omega arith))
   calls (LookCell packet) noted kept l known h = quiet kept _ l tt h.0 (legal_look c pair l (caller_known c pair is) (Cell seat.port (cell_of seat packet)) (port_known c pair is, less _ _ known.cell))
   calls (PeekFill packet s) noted kept l known h =
@@ -172,7 +172,7 @@ module _ (c : Config) (pair : ℕ) (is : IsSeat c pair) where
   entries (comp_full k packet later free) noted kept l known leads h a q = (told kept _ (Full free) l refl a q, λ f. absurd (cc))
   entries e noted kept l known leads h a q = (told (kept_at seat (point_of e) kept) (call_at seat (point_of e) kept) (reply_of e) l refl a q, tt)
 
-  passes : AtPasses seat At
+  passes : AtPasses seat Answers At
   passes visited noted kept l = λ h none. (h.0, λ f. none)
   passes idles noted kept l = λ h e. (h.0, tt)
   passes p noted kept l = λ h e. h
