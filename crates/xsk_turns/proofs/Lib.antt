@@ -15,11 +15,9 @@ pub mod Legality
 pub mod Owned
 pub mod Owning
 pub mod Places
-pub mod Quiet
 pub mod Rooms
 pub mod ScriptLemmas
 pub mod Seats
-pub mod TurnPlaces
 pub mod Walks
 pub mod Saying
 pub mod Sending
