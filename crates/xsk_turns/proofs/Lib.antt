@@ -4,6 +4,7 @@ pub mod AppLanes
 pub mod AppOwned
 pub mod AppOwning
 pub mod AppPlaces
+pub mod AppWalk
 pub mod Completing
 pub mod Counting
 pub mod Counts

@@ -1,0 +1,451 @@
+-- The one walk along an application's turns. A law of its runs says what holds at each place of a turn, and what each entry
+-- of the list, a call with its reply, makes of it; then it holds along every run.
+use Rattle.std.proofs.Common.{◌≡◌, ℕ, zero, suc, ◌+◌, ◌-◌, ◌<◌, ◌≤◌, true, false, ◌&&◌, eqb, List, [], ◌∷◌, length, drop, map, refl, sym, ap, ◌∙◌, subst, arith}
+use Rattle.xsk_umem.specs.Frame.{Frame}
+use Rattle.xsk_umem.specs.declared.batch.Item.{Item}
+use Rattle.xsk_model.specs.Config.{Config, pool_of, batch_of}
+use Rattle.xsk_model.specs.Opening.{home_item}
+use Rattle.xsk_model.specs.Entry.{Told, with_told}
+use Rattle.xsk_model.specs.declared.call.Ring.TheVariants.{Fill, Comp, Rx, Tx}
+use Rattle.xsk_model.specs.declared.call.Mark.TheVariants.{RxDone, Gone, TxDone}
+use Rattle.xsk_model.specs.declared.call.Call.{Call}
+use Rattle.xsk_model.specs.declared.call.Call.TheVariants.{Reserve, Submit, Peek, Release, Swap, Look}
+use Rattle.xsk_model.specs.declared.call.Reply.{Reply}
+use Rattle.xsk_model.specs.declared.call.Reply.TheVariants.{Granted, Full, Submitted, Items, Empty, Released, Old}
+use Rattle.xsk_turns.specs.Script.{Script, ask, again, ended, never, on_submitted, Asks, Ends, IsLive, IsRun, Leaves}
+use Rattle.xsk_turns.specs.Turns.{frames_in}
+use Rattle.xsk_turns.specs.AppTurns.{AppKept, AppNoted, pair_of, rx_of, tx_of, lanes_of, home_of, group_of, both, is_set, is_none, pending_at, with_pending, back_at, with_back, pass_on, receive_lane, visit_lane, visit_lanes, give_back, complete_side, visit_side, visit_sides, with_seen, with_gone, look_rx_done, look_gone, end_turn, turn_sides, noted_first, app_turn}
+use Rattle.xsk_turns.specs.AppOwned.{IsApp}
+use Rattle.xsk_turns.proofs.AppGroups.{with_back-again, with_back-same, group_some, shorter}
+use Rattle.xsk_turns.proofs.Places.{batch_some}
+use Rattle.xsk_turns.proofs.Walks.{Premise, Law, Due, nothing_due, submit_due, release_due, Holds, Says, MeetAlong, at_reserve, at_submit, at_peek, at_release, at_old, by_case, says_left}
+
+-- ---- the places of a turn, and its calls
+
+-- an application comes to a lane or to a side, is at one, is at the end of its turn, or looks at marks there
+pub data Place : Type 0 where
+  Lanes : ℕ → Place
+  Lane : ℕ → Due → Place
+  Sides : ℕ → Place
+  Side : ℕ → Due → Place
+  Ending : Place
+  Looking : Place
+
+abbrev pub Family : Type 1
+Family = Place → AppNoted → AppKept → List Told → Type 0
+
+-- a lane or a side wasn't empty
+abbrev pub busy_lane : AppNoted → AppNoted
+busy_lane noted = record noted { lanes_empty = false }
+
+abbrev pub busy_side : AppNoted → AppNoted
+busy_side noted = record noted { sides_empty = false }
+
+-- a call, by the lane, or by the side and the frames that it has yet to give back
+pub data Point : Type 0 where
+  PeekRx : ℕ → Point
+  ReleaseRx : ℕ → ℕ → Point
+  ReserveTx : ℕ → Point
+  SubmitTx : ℕ → Point
+  PeekComp : ℕ → Point
+  ReleaseComp : ℕ → ℕ → Point
+  ReserveFill : ℕ → Frame → List Frame → Point
+  SubmitFill : ℕ → Frame → List Frame → Point
+  LookRxDone : ℕ → Point
+  TellTxDone : Point
+  LookGone : ℕ → Point
+
+abbrev pub group : Config → Frame → List Frame → List Frame
+group c frame frames = group_of (pool_of c) (batch_of c) frame frames
+
+abbrev pub place_of : Config → ℕ → Point → AppKept → Place
+place_of c a (PeekRx lane) kept = Lanes lane
+place_of c a (ReleaseRx lane n) kept = Lane lane (release_due (Rx (rx_of c a lane)) n)
+place_of c a (ReserveTx lane) kept = Lane lane nothing_due
+place_of c a (SubmitTx lane) kept = Lane lane (submit_due (Tx (tx_of c a lane)) (length (pending_at kept lane)))
+place_of c a (PeekComp side) kept = Sides side
+place_of c a (ReleaseComp side n) kept = Side side (release_due (Comp (pair_of c a side)) n)
+place_of c a (ReserveFill side frame frames) kept = Side side nothing_due
+place_of c a (SubmitFill side frame frames) kept = Side side (submit_due (Fill (home_of (pool_of c) frame)) (length (group c frame frames)))
+place_of c a TellTxDone kept = Ending
+place_of c a point kept = Looking
+
+abbrev pub call_at : Config → ℕ → Point → AppKept → Call
+call_at c a (PeekRx lane) kept = Peek (Rx (rx_of c a lane)) (batch_of c)
+call_at c a (ReleaseRx lane n) kept = Release (Rx (rx_of c a lane)) n
+call_at c a (ReserveTx lane) kept = Reserve (Tx (tx_of c a lane)) (length (pending_at kept lane))
+call_at c a (SubmitTx lane) kept = Submit (Tx (tx_of c a lane)) (pending_at kept lane)
+call_at c a (PeekComp side) kept = Peek (Comp (pair_of c a side)) (batch_of c)
+call_at c a (ReleaseComp side n) kept = Release (Comp (pair_of c a side)) n
+call_at c a (ReserveFill side frame frames) kept = Reserve (Fill (home_of (pool_of c) frame)) (length (group c frame frames))
+call_at c a (SubmitFill side frame frames) kept = Submit (Fill (home_of (pool_of c) frame)) (map (home_item c.geometry) (group c frame frames))
+call_at c a (LookRxDone side) kept = Look (RxDone (pair_of c a side))
+call_at c a TellTxDone kept = Swap (TxDone a) 1
+call_at c a (LookGone side) kept = Look (Gone (pair_of c a side))
+
+-- what is kept before the call, and once it is given: a Submit takes its items along
+abbrev pub kept_before : Point → AppKept → AppKept
+kept_before (ReserveFill side frame frames) kept = with_back kept side (frame ∷ frames)
+kept_before (SubmitFill side frame frames) kept = with_back kept side (frame ∷ frames)
+kept_before point kept = kept
+
+abbrev pub kept_at : Config → Point → AppKept → AppKept
+kept_at c (SubmitTx lane) kept = with_pending kept lane []
+kept_at c (ReserveFill side frame frames) kept = with_back kept side (frame ∷ frames)
+kept_at c (SubmitFill side frame frames) kept = with_back kept side (drop (length (group c frame frames)) (frame ∷ frames))
+kept_at c point kept = kept
+
+-- what is known where a call is given
+abbrev pub Known : Config → Point → AppNoted → AppKept → Type 0
+Known c (PeekRx lane) noted kept = (lane < lanes_of c) × (kept.tx_done ≡ false) × (pending_at kept lane ≡ [])
+Known c (ReleaseRx lane n) noted kept = (lane < lanes_of c) × (kept.tx_done ≡ false)
+Known c (ReserveTx lane) noted kept = (lane < lanes_of c) × (kept.tx_done ≡ false)
+Known c (SubmitTx lane) noted kept = (lane < lanes_of c) × (kept.tx_done ≡ false)
+Known c (PeekComp side) noted kept = (side < 2) × (back_at kept side ≡ [])
+Known c (LookRxDone side) noted kept = (side < 2) × (is_set kept.seen side ≡ false)
+Known c TellTxDone noted kept = (kept.tx_done ≡ false) × ((noted.seen && noted.lanes_empty) ≡ true)
+Known c (ReleaseComp side n) noted kept = side < 2
+Known c (ReserveFill side frame frames) noted kept = side < 2
+Known c (SubmitFill side frame frames) noted kept = side < 2
+Known c (LookGone side) noted kept = side < 2
+
+-- ---- what each reply makes of it
+
+pub data Entry : Type 0 where
+  rx_empty : ℕ → Entry
+  rx_items : ℕ → List Item → Entry
+  rx_released : ℕ → ℕ → Entry
+  tx_granted : ℕ → Entry
+  tx_full : ℕ → ℕ → Entry
+  tx_submitted : ℕ → Entry
+  comp_empty : ℕ → Entry
+  comp_items : ℕ → List Item → Entry
+  comp_released : ℕ → ℕ → Entry
+  fill_granted : ℕ → Frame → List Frame → Entry
+  fill_full : ℕ → Frame → List Frame → ℕ → Entry
+  fill_submitted : ℕ → Frame → List Frame → Entry
+  looked_rx_done : ℕ → ℕ → Entry
+  told_tx_done : ℕ → Entry
+  looked_gone : ℕ → ℕ → Entry
+
+abbrev pub point_of : Entry → Point
+point_of (rx_empty lane) = PeekRx lane
+point_of (rx_items lane items) = PeekRx lane
+point_of (rx_released lane n) = ReleaseRx lane n
+point_of (tx_granted lane) = ReserveTx lane
+point_of (tx_full lane free) = ReserveTx lane
+point_of (tx_submitted lane) = SubmitTx lane
+point_of (comp_empty side) = PeekComp side
+point_of (comp_items side items) = PeekComp side
+point_of (comp_released side n) = ReleaseComp side n
+point_of (fill_granted side frame frames) = ReserveFill side frame frames
+point_of (fill_full side frame frames free) = ReserveFill side frame frames
+point_of (fill_submitted side frame frames) = SubmitFill side frame frames
+point_of (looked_rx_done side n) = LookRxDone side
+point_of (told_tx_done n) = TellTxDone
+point_of (looked_gone side n) = LookGone side
+
+abbrev pub reply_of : Entry → Reply
+reply_of (rx_empty lane) = Empty
+reply_of (rx_items lane items) = Items items
+reply_of (rx_released lane n) = Released
+reply_of (tx_granted lane) = Granted
+reply_of (tx_full lane free) = Full free
+reply_of (tx_submitted lane) = Submitted
+reply_of (comp_empty side) = Empty
+reply_of (comp_items side items) = Items items
+reply_of (comp_released side n) = Released
+reply_of (fill_granted side frame frames) = Granted
+reply_of (fill_full side frame frames free) = Full free
+reply_of (fill_submitted side frame frames) = Submitted
+reply_of (looked_rx_done side n) = Old n
+reply_of (told_tx_done n) = Old n
+reply_of (looked_gone side n) = Old n
+
+abbrev pub to_place : Config → ℕ → Entry → AppKept → Place
+to_place c a (rx_empty lane) kept = Lanes (lane + 1)
+to_place c a (rx_items lane items) kept = Lane lane (release_due (Rx (rx_of c a lane)) (length items))
+to_place c a (rx_released lane n) kept = Lane lane nothing_due
+to_place c a (tx_granted lane) kept = Lane lane (submit_due (Tx (tx_of c a lane)) (length (pending_at kept lane)))
+to_place c a (tx_full lane free) kept = Lanes (lane + 1)
+to_place c a (tx_submitted lane) kept = Lanes (lane + 1)
+to_place c a (comp_empty side) kept = Sides (side + 1)
+to_place c a (comp_items side items) kept = Side side (release_due (Comp (pair_of c a side)) (length items))
+to_place c a (comp_released side n) kept = Side side nothing_due
+to_place c a (fill_granted side frame frames) kept = Side side (submit_due (Fill (home_of (pool_of c) frame)) (length (group c frame frames)))
+to_place c a (fill_full side frame frames free) kept = Sides (side + 1)
+to_place c a (fill_submitted side frame frames) kept = Side side nothing_due
+to_place c a entry kept = Looking
+
+abbrev pub noted_after : Entry → AppNoted → AppNoted
+noted_after (rx_items lane items) noted = busy_lane noted
+noted_after (comp_items side items) noted = busy_side noted
+noted_after entry noted = noted
+
+abbrev pub kept_after : Config → Entry → AppKept → AppKept
+kept_after c (rx_items lane items) kept = with_pending kept lane items
+kept_after c (tx_submitted lane) kept = with_pending kept lane []
+kept_after c (comp_items side items) kept = with_back kept side (frames_in items)
+kept_after c (fill_granted side frame frames) kept = with_back kept side (frame ∷ frames)
+kept_after c (fill_full side frame frames free) kept = with_back kept side (frame ∷ frames)
+kept_after c (fill_submitted side frame frames) kept = with_back kept side (drop (length (group c frame frames)) (frame ∷ frames))
+kept_after c (looked_rx_done side n) kept = with_seen kept side n
+kept_after c (told_tx_done n) kept = record kept { tx_done = true }
+kept_after c (looked_gone side n) kept = with_gone kept side n
+kept_after c entry kept = kept
+
+-- ---- what goes on without a call
+
+pub data Pass : Type 0 where
+  no_lanes : Pass
+  has_items : ℕ → Item → List Item → Pass
+  lanes_done : Pass
+  has_frames : ℕ → Frame → List Frame → Pass
+  all_given : ℕ → Pass
+  sides_done : Pass
+  looks : Pass
+  begins : Pass
+
+abbrev pub Passing : Config → Family → Pass → AppNoted → AppKept → List Told → Type 0
+Passing c At no_lanes noted kept l = At (Lanes 0) noted kept l → kept.tx_done ≡ true → At (Sides 0) noted kept l
+Passing c At (has_items lane item items) noted kept l = At (Lanes lane) noted kept l → pending_at kept lane ≡ item ∷ items → At (Lane lane nothing_due) (busy_lane noted) kept l
+Passing c At lanes_done noted kept l = At (Lanes (lanes_of c)) noted kept l → kept.tx_done ≡ false → At (Sides 0) noted kept l
+Passing c At (has_frames side frame frames) noted kept l = At (Sides side) noted kept l → back_at kept side ≡ frame ∷ frames → At (Side side nothing_due) (busy_side noted) kept l
+Passing c At (all_given side) noted kept l = At (Side side nothing_due) noted kept l → Unit {0} → At (Sides (side + 1)) noted kept l
+Passing c At sides_done noted kept l = At (Sides 2) noted kept l → Unit {0} → At Ending noted kept l
+Passing c At looks noted kept l = At Ending noted kept l → Unit {0} → At Looking noted kept l
+Passing c At begins noted kept l = At Looking noted kept l → Unit {0} → At (Lanes 0) (noted_first kept) kept l
+
+-- ---- a law
+
+-- what is said at each call, and at the end
+abbrev pub Said : Type 1
+Said = AppKept → Call → List Told → Type 0
+
+abbrev pub AtCalls : Config → ℕ → Family → Said → Type 0
+AtCalls c a At A = (p : Point) (noted : AppNoted) (kept : AppKept) (l : List Told) → Known c p noted kept → At (place_of c a p kept) noted (kept_before p kept) l → A (kept_at c p kept) (call_at c a p kept) l
+
+abbrev pub AtEntries : Config → ℕ → Premise AppKept → Family → Said → Type 0
+AtEntries c a Q At A = (e : Entry) (noted : AppNoted) (kept : AppKept) (l : List Told) → Known c (point_of e) noted kept
+    → At (place_of c a (point_of e) kept) noted (kept_before (point_of e) kept) l → A (kept_at c (point_of e) kept) (call_at c a (point_of e) kept) l
+    → Q (kept_at c (point_of e) kept) l (call_at c a (point_of e) kept) (reply_of e)
+    → At (to_place c a e kept) (noted_after e noted) (kept_after c e kept) (with_told l (call_at c a (point_of e) kept) (reply_of e))
+
+abbrev pub AtPasses : Config → Family → Type 0
+AtPasses c At = (p : Pass) (noted : AppNoted) (kept : AppKept) (l : List Told) → Passing c At p noted kept l
+
+pub record IsLaw (c : Config) (a : ℕ) (Q : Premise AppKept) (At : Family) (A : Said) (E : AppKept → List Told → Type 0) : Type 0 where
+  pub calls : AtCalls c a At A
+  pub entries : AtEntries c a Q At A
+  pub passes : AtPasses c At
+  pub ends : (noted : AppNoted) (kept : AppKept) (l : List Told) → kept.tx_done ≡ true → At Ending noted kept l → E kept l
+
+module _ (c : Config) (a : ℕ) (one : IsApp c a) (Q : Premise AppKept) (At : Family) (A : Said) (E : AppKept → List Told → Type 0) (is : IsLaw c a Q At A E) where
+  abbrev law : Law AppKept
+  law = record { begins = λ kept l. At (Lanes 0) (noted_first kept) kept l; asks = A; ends = E }
+
+  abbrev Along : Script AppKept → List Told → Type 0
+  Along s l = Holds Q law s l
+
+  abbrev Continues : Place → (AppNoted → AppKept → Script AppKept) → Type 0
+  Continues place next = (noted : AppNoted) (kept : AppKept) (l : List Told) → At place noted kept l → Along (next noted kept) l
+
+  -- while it still sends
+  abbrev Sends : ℕ → AppNoted → (AppKept → Script AppKept) → Type 0
+  Sends lane noted next = (kept : AppKept) (l : List Told) → kept.tx_done ≡ false → At (Lanes lane) noted kept l → Along (next kept) l
+
+  -- ---- the lanes
+
+  go_pass_on : (lane : ℕ) (noted : AppNoted) (kept : AppKept) (next : AppKept → Script AppKept) (l : List Told) → (lane < lanes_of c) × (kept.tx_done ≡ false)
+      → At (Lane lane nothing_due) noted kept l → Sends (lane + 1) noted next → Along (pass_on c a lane kept next) l
+  go_pass_on lane noted kept next l known h go =
+      let items = pending_at kept lane in
+      let call = Reserve (Tx (tx_of c a lane)) (length items) in
+      let give = Submit (Tx (tx_of c a lane)) items in
+      let granted = with_told l call Granted in
+      let left = with_pending kept lane [] in
+      let asked = is.calls (ReserveTx lane) noted kept l known h in (
+        asked,
+        at_reserve Q law kept call l (ask left give (on_submitted (next left))) (next kept)
+            (λ q.
+            let now = is.entries (tx_granted lane) noted kept l known h asked q in
+            let gives = is.calls (SubmitTx lane) noted kept granted known now in
+            (gives, at_submit Q law left give granted (next left) (λ r. go left (with_told granted give Submitted) known.1 (is.entries (tx_submitted lane) noted kept granted known now gives r))))
+            (λ free q. go kept (with_told l call (Full free)) known.1 (is.entries (tx_full lane free) noted kept l known h asked q)),
+      )
+
+  go_lane : (lane : ℕ) (items : List Item) (noted : AppNoted) (kept : AppKept) (next : AppNoted → AppKept → Script AppKept) (l : List Told) → (lane < lanes_of c) × (kept.tx_done ≡ false)
+      → pending_at kept lane ≡ items → At (Lanes lane) noted kept l → ((noted : AppNoted) → Sends (lane + 1) noted (next noted)) → Along (visit_lane c a lane items noted kept next) l
+  go_lane lane [] noted kept next l known e h go =
+      let r = Rx (rx_of c a lane) in
+      let call = Peek r (batch_of c) in
+      let full = busy_lane noted in
+      let asked = is.calls (PeekRx lane) noted kept l (known.0, known.1, e) h in (
+        asked,
+        at_peek Q law kept call l (receive_lane c a lane kept (next full)) (next noted kept)
+            (λ items q.
+            let more = with_pending kept lane items in
+            let give = Release r (length items) in
+            let peeked = with_told l call (Items items) in
+            let now = is.entries (rx_items lane items) noted kept l (known.0, known.1, e) h asked q in
+            let gives = is.calls (ReleaseRx lane (length items)) full more peeked known now in (
+              gives,
+              at_release Q law more give peeked (pass_on c a lane more (next full))
+                  (λ r. go_pass_on lane full more (next full) (with_told peeked give Released) known (is.entries (rx_released lane (length items)) full more peeked known now gives r) (go full)),
+            ))
+            (λ q. go noted kept (with_told l call Empty) known.1 (is.entries (rx_empty lane) noted kept l (known.0, known.1, e) h asked q)),
+      )
+  go_lane lane (item ∷ items) noted kept next l known e h go =
+      go_pass_on lane (busy_lane noted) kept (next (busy_lane noted)) l known (is.passes (has_items lane item items) noted kept l h e) (go (busy_lane noted))
+
+  go_lanes : (more lane : ℕ) (noted : AppNoted) (kept : AppKept) (next : AppNoted → AppKept → Script AppKept) (l : List Told) → lane + more ≡ lanes_of c → kept.tx_done ≡ false
+      → At (Lanes lane) noted kept l → Continues (Sides 0) next → Along (visit_lanes c a more lane noted kept next) l
+  go_lanes zero lane noted kept next l e sends h go =
+      let all : lane ≡ lanes_of c = omega (arith, e) in go noted kept l (is.passes lanes_done noted kept l (subst (λ k. At (Lanes k) noted kept l) all h) sends)
+  go_lanes (suc more) lane noted kept next l e sends h go =
+      go_lane lane (pending_at kept lane) noted kept (λ noted kept. visit_lanes c a more (lane + 1) noted kept next) l (omega (arith, e), sends) refl h
+      (λ noted kept l sends h. go_lanes more (lane + 1) noted kept next l (omega (arith, e)) sends h go)
+
+  -- ---- the sides
+
+  go_give : (side done : ℕ) (frames : List Frame) (noted : AppNoted) (kept : AppKept) (next : AppNoted → AppKept → Script AppKept) (l : List Told) → side < 2
+      → At (Side side nothing_due) noted (with_back kept side (drop done frames)) l → Continues (Sides (side + 1)) next → Along (give_back c side done frames kept (next noted)) l
+  go_give side zero [] noted kept next l below h go = go noted (with_back kept side []) l (is.passes (all_given side) noted (with_back kept side []) l h tt)
+  go_give side (suc done) [] noted kept next l below h go = go noted (with_back kept side []) l (is.passes (all_given side) noted (with_back kept side []) l h tt)
+  go_give side (suc done) (frame ∷ frames) noted kept next l below h go = go_give side done frames noted kept next l below h go
+  go_give side zero (frame ∷ frames) noted kept next l below h go =
+      let n = length (group c frame frames) in
+      let home = home_of (pool_of c) frame in
+      let now = with_back kept side (frame ∷ frames) in
+      let left = with_back kept side (drop n (frame ∷ frames)) in
+      let call = Reserve (Fill home) n in
+      let give = Submit (Fill home) (map (home_item c.geometry) (group c frame frames)) in
+      let granted = with_told l call Granted in
+      let sent = with_told granted give Submitted in
+      let fewer = shorter n frame frames (group_some (pool_of c) (batch_of c) frame frames (batch_some c one.config)) in
+      let asked = is.calls (ReserveFill side frame frames) noted kept l below h in (
+        asked,
+        at_reserve Q law now call l (ask left give (on_submitted (give_back c side (n - 1) frames kept (next noted)))) (next noted now)
+            (λ q.
+            let has = is.entries (fill_granted side frame frames) noted kept l below h asked q in
+            let gives = is.calls (SubmitFill side frame frames) noted kept granted below has in (
+              gives,
+              at_submit Q law left give granted (give_back c side (n - 1) frames kept (next noted))
+                  (λ r. go_give side (n - 1) frames noted kept next sent below
+                  (subst (λ fs. At (Side side nothing_due) noted (with_back kept side fs) sent) fewer (is.entries (fill_submitted side frame frames) noted kept granted below has gives r)) go),
+            ))
+            (λ free q. go noted now (with_told l call (Full free)) (is.entries (fill_full side frame frames free) noted kept l below h asked q)),
+      )
+
+  go_side : (side : ℕ) (frames : List Frame) (noted : AppNoted) (kept : AppKept) (next : AppNoted → AppKept → Script AppKept) (l : List Told) → side < 2
+      → back_at kept side ≡ frames → At (Sides side) noted kept l → Continues (Sides (side + 1)) next → Along (visit_side c a side frames noted kept next) l
+  go_side side [] noted kept next l below e h go =
+      let r = Comp (pair_of c a side) in
+      let call = Peek r (batch_of c) in
+      let full = busy_side noted in
+      let asked = is.calls (PeekComp side) noted kept l (below, e) h in (
+        asked,
+        at_peek Q law kept call l (complete_side c a side kept (next full)) (next noted kept)
+            (λ items q.
+            let frames = frames_in items in
+            let more = with_back kept side frames in
+            let give = Release r (length items) in
+            let peeked = with_told l call (Items items) in
+            let given = with_told peeked give Released in
+            let now = is.entries (comp_items side items) noted kept l (below, e) h asked q in
+            let gives = is.calls (ReleaseComp side (length items)) full more peeked below now in (
+              gives,
+              at_release Q law more give peeked (give_back c side zero frames more (next full))
+                  (λ r. go_give side zero frames full more next given below
+                  (subst (λ k. At (Side side nothing_due) full k given) (sym (with_back-again kept side frames frames)) (is.entries (comp_released side (length items)) full more peeked below now gives r)) go),
+            ))
+            (λ q. go noted kept (with_told l call Empty) (is.entries (comp_empty side) noted kept l (below, e) h asked q)),
+      )
+  go_side side (frame ∷ frames) noted kept next l below e h go =
+      let same : with_back kept side (frame ∷ frames) ≡ kept = ap (with_back kept side) (sym e) ∙ with_back-same kept side in
+      go_give side zero (frame ∷ frames) (busy_side noted) kept next l below
+      (subst (λ k. At (Side side nothing_due) (busy_side noted) k l) (sym same) (is.passes (has_frames side frame frames) noted kept l h e)) go
+
+  go_sides : (more side : ℕ) (noted : AppNoted) (kept : AppKept) (next : AppNoted → AppKept → Script AppKept) (l : List Told) → side + more ≡ 2
+      → At (Sides side) noted kept l → Continues Ending next → Along (visit_sides c a more side noted kept next) l
+  go_sides zero side noted kept next l e h go =
+      let all : side ≡ 2 = omega (arith, e) in go noted kept l (is.passes sides_done noted kept l (subst (λ k. At (Sides k) noted kept l) all h) tt)
+  go_sides (suc more) side noted kept next l e h go =
+      go_side side (back_at kept side) noted kept (λ noted kept. visit_sides c a more (side + 1) noted kept next) l (omega (arith, e)) refl h
+      (λ noted kept l h. go_sides more (side + 1) noted kept next l (omega (arith, e)) h go)
+
+  -- ---- the end
+
+  go_rx_done : (more side : ℕ) (noted : AppNoted) (kept : AppKept) (l : List Told) → side + more ≡ 2 → At Looking noted kept l → Along (look_rx_done c a more side kept) l
+  go_rx_done zero side noted kept l e h = is.passes begins noted kept l h tt
+  go_rx_done (suc more) side noted kept l e h =
+      let call = Look (RxDone (pair_of c a side)) in
+      by_case Q law (is_set kept.seen side) _ _ l (λ f. go_rx_done more (side + 1) noted kept l (omega (arith, e)) h)
+      (λ f.
+      let asked = is.calls (LookRxDone side) noted kept l (omega (arith, e), f) h in (
+        asked,
+        at_old Q law kept call l (λ done. look_rx_done c a more (side + 1) (with_seen kept side done))
+            (λ n q. go_rx_done more (side + 1) noted (with_seen kept side n) (with_told l call (Old n)) (omega (arith, e)) (is.entries (looked_rx_done side n) noted kept l (omega (arith, e), f) h asked q)),
+      ))
+
+  go_gone : (more side : ℕ) (noted : AppNoted) (kept : AppKept) (l : List Told) → side + more ≡ 2 → At Looking noted kept l → Along (look_gone c a more side kept) l
+  go_gone zero side noted kept l e h = is.passes begins noted kept l h tt
+  go_gone (suc more) side noted kept l e h =
+      let call = Look (Gone (pair_of c a side)) in
+      by_case Q law (is_set kept.gone side) _ _ l (λ f. go_gone more (side + 1) noted kept l (omega (arith, e)) h)
+      (λ f.
+      let asked = is.calls (LookGone side) noted kept l (omega (arith, e)) h in (
+        asked,
+        at_old Q law kept call l (λ gone. look_gone c a more (side + 1) (with_gone kept side gone))
+            (λ n q. go_gone more (side + 1) noted (with_gone kept side n) (with_told l call (Old n)) (omega (arith, e)) (is.entries (looked_gone side n) noted kept l (omega (arith, e)) h asked q)),
+      ))
+
+  go_end : Continues Ending (end_turn c a)
+  go_end noted kept l h =
+      let call = Swap (TxDone a) 1 in
+      let told : AppKept = record kept { tx_done = true } in
+      let looking = is.passes looks noted kept l h tt in
+      by_case Q law kept.tx_done _ _ l
+      (λ done. by_case Q law (noted.gone && noted.sides_empty && is_none (back_at kept 0) && is_none (back_at kept 1)) _ _ l (λ e. is.ends noted kept l done h) (λ e. go_gone 2 0 noted kept l refl looking))
+      (λ sends. by_case Q law (both kept.seen) _ _ l
+      (λ e. by_case Q law (noted.seen && noted.lanes_empty) _ _ l
+      (λ f.
+      let asked = is.calls TellTxDone noted kept l (sends, f) h in (
+        asked,
+        at_old Q law kept call l (λ old. again told)
+            (λ n q. is.passes begins noted told (with_told l call (Old n)) (is.entries (told_tx_done n) noted kept l (sends, f) h asked q) tt),
+      ))
+      (λ f. is.passes begins noted kept l looking tt))
+      (λ e. go_rx_done 2 0 noted kept l refl looking))
+
+  go_turn_sides : Continues (Sides 0) (turn_sides c a)
+  go_turn_sides noted kept l h = go_sides 2 0 noted kept (end_turn c a) l refl h go_end
+
+  go_turn : (kept : AppKept) (l : List Told) → At (Lanes 0) (noted_first kept) kept l → Along (app_turn c a kept) l
+  go_turn kept l h =
+      by_case Q law kept.tx_done _ _ l (λ done. go_turn_sides (noted_first kept) kept l (is.passes no_lanes (noted_first kept) kept l h done))
+      (λ sends. go_lanes (lanes_of c) 0 (noted_first kept) kept (turn_sides c a) l (omega arith) sends h go_turn_sides)
+
+  -- ---- runs
+
+  module _ (begins : AppKept) (first : At (Lanes 0) (noted_first begins) begins []) (l : List Told) (meets : MeetAlong (app_turn c a) Q (app_turn c a begins) [] l) where
+    -- what it says where a list stops
+    says : (left : Script AppKept) → Leaves (app_turn c a) (app_turn c a begins) l left → Says law left l
+    says left leaves = says_left Q law (app_turn c a) go_turn begins l left first meets leaves
+
+    pub at_call : (kept : AppKept) (call : Call) (rest : Reply → Script AppKept) → Asks (app_turn c a) begins l kept call rest → A kept call l
+    at_call kept call rest asks = says (ask kept call rest) asks
+
+    pub at_end : (kept : AppKept) → Ends (app_turn c a) begins l kept → E kept l
+    at_end kept ends = says (ended kept) ends
+
+    -- what it says of each run
+    pub of_run : (I : List Told → Type 0) → ((kept : AppKept) → At (Lanes 0) (noted_first kept) kept l → I l) → ((kept : AppKept) (call : Call) → A kept call l → I l) → ((kept : AppKept) → E kept l → I l)
+        → IsRun (app_turn c a) begins l → I l
+    of_run I x y z run = by run.0 run.2 (says run.0 run.1)
+      where
+        by : (left : Script AppKept) → IsLive left → Says law left l → I l
+        by (ask kept call rest) live h = y kept call h
+        by (again kept) live h = x kept h
+        by (ended kept) live h = z kept h
+        by never live h = absurd live
