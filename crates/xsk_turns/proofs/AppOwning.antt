@@ -4,22 +4,8 @@ use Rattle.std.proofs.Common.{◌≡◌, ℕ, zero, suc, ◌+◌, ◌-◌, ◌<�
 use Rattle.std.proofs.lemmas.List.{length-map}
 use Rattle.std.proofs.lemmas.List.Elements.{All-nil, All-map, All-take, All-drop, All-weaker}
 use Rattle.std.specs.List.{take_while}
-use Rattle.xsk_umem.specs.Frame.{Frame}
-use Rattle.xsk_umem.specs.declared.batch.Item.{Item}
-use Rattle.xsk_model.specs.Config.{Config, pool_of, batch_of}
-use Rattle.xsk_model.specs.Marks.{apps_of}
-use Rattle.xsk_model.specs.Numbers.{times, numbers}
-use Rattle.xsk_model.specs.Object.{submitted, taken}
-use Rattle.xsk_model.specs.Rings.{caller_of}
-use Rattle.xsk_model.specs.Entry.{Told, with_told}
-use Rattle.xsk_model.specs.Legal.{IsLegal, IsItemOn}
-use Rattle.xsk_model.specs.Opening.{home_item}
-use Rattle.xsk_model.specs.declared.call.Ring.TheVariants.{Fill, Comp, Rx, Tx}
-use Rattle.xsk_model.specs.declared.call.Mark.TheVariants.{RxDone, Gone, TxDone}
-use Rattle.xsk_model.specs.declared.call.Call.{Call}
-use Rattle.xsk_model.specs.declared.call.Call.TheVariants.{Reserve, Submit, Peek, Release, Swap, Look}
-use Rattle.xsk_model.specs.declared.call.Reply.{Reply}
-use Rattle.xsk_model.specs.declared.call.Reply.TheVariants.{Granted, Full, Submitted, Items, Empty, Released, Old}
+use Rattle.xsk_turns.proofs.Object.{Frame, Config, pool_of, batch_of, caller_of, apps_of, times, numbers, submitted, taken, home_item, IsLegal, IsItemOn}
+use Rattle.xsk_turns.proofs.Calls.{Item, Told, with_told, Fill, Comp, Rx, Tx, RxDone, Gone, TxDone, Call, Reserve, Submit, Peek, Release, Swap, Look, Reply, Granted, Full, Submitted, Items, Empty, Released, Old}
 use Rattle.xsk_turns.proofs.LegalCalls.{legal_reserve, legal_peek, legal_release, legal_look, legal_swap, had_told, room_told, held_told, IsDue}
 use Rattle.xsk_turns.specs.Script.{Script, Asks}
 use Rattle.xsk_turns.specs.Turns.{frames_in}

@@ -1,8 +1,7 @@
 -- In a whole run all packets that were peeked on a TX ring whole are completed, since nothing finished is left.
 use Rattle.std.proofs.Common.{◌≡◌, ℕ, ◌≤◌, List, [], ◌∷◌, length, drop, ap, sym, ◌∙◌, length-drop, arith, refl}
 use Rattle.xsk_umem.specs.declared.batch.Item.{Item}
-use Rattle.xsk_model.specs.Packets.{packets, whole_packets}
-use Rattle.xsk_model.specs.Own.{sending_of}
+use Rattle.xsk_turns.proofs.Object.{packets, whole_packets, sending_of}
 use Rattle.xsk_model.proofs.Completions.{own_kept}
 use Rattle.xsk_model.proofs.Sendings.{wholes, peeked_is}
 use Rattle.xsk_turns.specs.Turns.{seat_of, socket_of}

@@ -2,18 +2,8 @@
 use Rattle.std.proofs.Common.{◌≡◌, ℕ, ◌+◌, ◌<◌, Bool, true, false, cond, ◌||◌, ◌&&◌, eqb, List, [], ◌∷◌, map, take, refl, ap, ◌∙◌, ⊎_elim, eq-eqb, arith}
 use Rattle.std.proofs.lemmas.Bool.{cases_eq}
 use Rattle.std.proofs.lemmas.List.Sums.{fold_push}
-use Rattle.xsk_umem.specs.declared.batch.Item.{Item}
-use Rattle.xsk_model.specs.Config.{classes_of}
-use Rattle.xsk_model.specs.Entry.{Told, with_told}
-use Rattle.xsk_model.specs.Ends.{Draining, are_none, unseen_after, draining_after, draining_step, draining_of}
-use Rattle.xsk_model.specs.declared.call.Ring.{Ring}
-use Rattle.xsk_model.specs.declared.call.Ring.TheVariants.{Fill, Comp, Rx, Tx}
-use Rattle.xsk_model.specs.declared.call.Mark.{Mark}
-use Rattle.xsk_model.specs.declared.call.Mark.TheVariants.{RxDone, Gone, TxDone, Cell}
-use Rattle.xsk_model.specs.declared.call.Call.{Call}
-use Rattle.xsk_model.specs.declared.call.Call.TheVariants.{Reserve, Submit, Peek, Release, Swap, Look}
-use Rattle.xsk_model.specs.declared.call.Reply.{Reply}
-use Rattle.xsk_model.specs.declared.call.Reply.TheVariants.{Granted, Full, Submitted, Items, Empty, Released, Old}
+use Rattle.xsk_turns.proofs.Calls.{Item, Told, with_told, Ring, Fill, Comp, Rx, Tx, Mark, RxDone, Gone, TxDone, Cell, Call, Reserve, Submit, Peek, Release, Swap, Look, Reply, Granted, Full, Submitted, Items, Empty, Released, Old}
+use Rattle.xsk_turns.proofs.Object.{classes_of, Draining, are_none, unseen_after, draining_after, draining_step, draining_of}
 use Rattle.xsk_turns.specs.Turns.{Seat, Kept, Noted, seat_of, start, turn, socket_of, application_of, cell_of}
 use Rattle.xsk_turns.specs.Law.{DrainsTx}
 use Rattle.xsk_turns.proofs.Walks.{Anything, meet_anything}

@@ -5,6 +5,7 @@ pub mod AppOwned
 pub mod AppOwning
 pub mod AppPlaces
 pub mod AppWalk
+pub mod Calls
 pub mod Completing
 pub mod Counting
 pub mod Counts
@@ -13,6 +14,7 @@ pub mod DriverWalk
 pub mod Layouts
 pub mod LegalCalls
 pub mod Legality
+pub mod Object
 pub mod Owned
 pub mod Owning
 pub mod Places

@@ -4,22 +4,8 @@ use Rattle.std.proofs.lemmas.Bool.Decides.{nat_tests}
 use Rattle.std.proofs.lemmas.List.{length-replicate}
 use Rattle.std.proofs.lemmas.List.Elements.{All-nil}
 use Rattle.std.specs.Prelude.{◌&&◌, if◌then◌else◌, ◌==◌}
-use Rattle.xsk_umem.specs.Geometry.{payload_of}
-use Rattle.xsk_umem.specs.declared.batch.Item.{Item}
-use Rattle.xsk_model.specs.Config.{Config, classes_of, map_of, socket_at}
-use Rattle.xsk_model.specs.Numbers.{times, numbers}
-use Rattle.xsk_model.specs.Object.{taken}
-use Rattle.xsk_model.specs.Entry.{Told, with_told}
-use Rattle.xsk_model.specs.Legal.{IsLegal}
-use Rattle.xsk_model.specs.History.{Fits, OwnGoesOn}
-use Rattle.xsk_model.specs.Own.{room_of}
-use Rattle.xsk_model.specs.Packets.{IsWhole}
-use Rattle.xsk_model.specs.declared.call.Ring.TheVariants.{Fill, Comp, Rx, Tx}
-use Rattle.xsk_model.specs.declared.call.Mark.TheVariants.{RxDone, Gone, TxDone, Cell}
-use Rattle.xsk_model.specs.declared.call.Call.{Call}
-use Rattle.xsk_model.specs.declared.call.Call.TheVariants.{Reserve, Submit, Peek, Release, Swap, Look}
-use Rattle.xsk_model.specs.declared.call.Reply.{Reply}
-use Rattle.xsk_model.specs.declared.call.Reply.TheVariants.{Granted, Full, Submitted, Items, Empty, Released, Old}
+use Rattle.xsk_turns.proofs.Object.{payload_of, Config, classes_of, map_of, socket_at, times, numbers, IsWhole, taken, room_of, IsLegal, Fits, OwnGoesOn}
+use Rattle.xsk_turns.proofs.Calls.{Item, Told, with_told, Fill, Comp, Rx, Tx, RxDone, Gone, TxDone, Cell, Call, Reserve, Submit, Peek, Release, Swap, Look, Reply, Granted, Full, Submitted, Items, Empty, Released, Old}
 use Rattle.xsk_turns.proofs.LegalCalls.{legal_reserve, legal_peek, legal_release, legal_look, legal_swap, room_told, held_told, IsDue}
 use Rattle.xsk_turns.specs.Script.{Script, Leaves, Ends}
 use Rattle.xsk_turns.specs.Turns.{Seat, Kept, Noted, seat_of, start, turn, application_of, cell_of, redirect_to, limit_of, pieces_of, returned}

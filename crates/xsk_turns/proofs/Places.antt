@@ -3,13 +3,7 @@ use Rattle.std.proofs.Common.{◌≡◌, ℕ, zero, suc, ◌+◌, ◌*◌, ◌/�
 use Rattle.std.proofs.lemmas.Bool.{and_from}
 use Rattle.std.proofs.lemmas.Nat.{div-mul-add}
 use Rattle.std.proofs.lemmas.List.Elements.{All-head, All-tail}
-use Rattle.xsk_model.specs.Config.{Config, pair_at, IsConfig, IsBound, IsServed, IsRingSize, HasRing, socket_at, callers_of, classes_of, batch_of, least, pair_sizes, size_or_none, socket_sizes}
-use Rattle.xsk_model.specs.Numbers.{times}
-use Rattle.xsk_model.specs.Sent.{sockets_from, sockets_of}
-use Rattle.xsk_model.specs.Marks.{apps_of}
-use Rattle.xsk_model.specs.Rings.{port_of, queue_of, producer, consumer}
-use Rattle.xsk_model.specs.declared.config.PairInfo.{PairInfo}
-use Rattle.xsk_model.specs.declared.config.SocketInfo.{SocketInfo}
+use Rattle.xsk_turns.proofs.Object.{Config, pair_at, IsConfig, IsBound, IsServed, IsRingSize, HasRing, socket_at, callers_of, classes_of, batch_of, least, pair_sizes, size_or_none, socket_sizes, PairInfo, SocketInfo, port_of, queue_of, producer, consumer, apps_of, times, sockets_from, sockets_of}
 use Rattle.xsk_model.specs.declared.call.Ring.TheVariants.{Fill, Rx, Tx}
 use Rattle.xsk_model.proofs.Least.{least-append}
 use Rattle.xsk_model.proofs.Roles.{pair_on_only, app_of_below}

@@ -1,18 +1,8 @@
 -- Nothing is submitted on RX once the driver told that no further packet comes, and in a whole run it told so.
 use Rattle.std.proofs.Common.{◌≡◌, ℕ, Bool, true, false, ◌||◌, ◌&&◌, eqb, List, [], ◌∷◌, map, take, drop, refl, sym, ap, ◌∙◌, subst, eq-eqb}
 use Rattle.std.proofs.lemmas.List.Sums.{fold_push}
-use Rattle.xsk_umem.specs.declared.batch.Item.{Item}
-use Rattle.xsk_model.specs.Config.{Config, classes_of}
-use Rattle.xsk_model.specs.Entry.{Told, with_told}
-use Rattle.xsk_model.specs.Ends.{Telling, telling_after, telling_step, telling_of}
-use Rattle.xsk_model.specs.declared.call.Ring.{Ring}
-use Rattle.xsk_model.specs.declared.call.Ring.TheVariants.{Fill, Comp, Rx, Tx}
-use Rattle.xsk_model.specs.declared.call.Mark.{Mark}
-use Rattle.xsk_model.specs.declared.call.Mark.TheVariants.{RxDone, Gone, TxDone, Cell}
-use Rattle.xsk_model.specs.declared.call.Call.{Call}
-use Rattle.xsk_model.specs.declared.call.Call.TheVariants.{Reserve, Submit, Peek, Release, Swap, Look}
-use Rattle.xsk_model.specs.declared.call.Reply.{Reply}
-use Rattle.xsk_model.specs.declared.call.Reply.TheVariants.{Granted, Full, Submitted, Items, Empty, Released, Old}
+use Rattle.xsk_turns.proofs.Calls.{Item, Told, with_told, Ring, Fill, Comp, Rx, Tx, Mark, RxDone, Gone, TxDone, Cell, Call, Reserve, Submit, Peek, Release, Swap, Look, Reply, Granted, Full, Submitted, Items, Empty, Released, Old}
+use Rattle.xsk_turns.proofs.Object.{Config, classes_of, Telling, telling_after, telling_step, telling_of}
 use Rattle.xsk_turns.specs.Turns.{Seat, Kept, Noted, seat_of, start, turn, returned}
 use Rattle.xsk_turns.specs.Law.{NothingReceivedLate, TellsRxDone}
 use Rattle.xsk_turns.proofs.Walks.{Anything, meet_anything}
