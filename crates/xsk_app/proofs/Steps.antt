@@ -1,14 +1,8 @@
 -- What each call of an application's machine and its wait come to, in the machine's own terms.
 use Rattle.std.proofs.Common.{◌≡◌, ℕ, zero, ◌++◌, ◌-◌, ◌<◌, ◌≤◌, Some, List, [], length, map, take, drop, sym, ap, ◌∙◌, get_or-set_same}
-use Rattle.xsk_umem.specs.Frame.{Frame}
-use Rattle.xsk_umem.specs.declared.batch.Item.{Item}
-use Rattle.xsk_model.specs.Config.{Config, pool_of, batch_of}
-use Rattle.xsk_model.specs.Opening.{home_item}
+use Rattle.xsk_turns.proofs.Object.{Frame, Config, pool_of, batch_of, home_item}
+use Rattle.xsk_turns.proofs.Calls.{Item, Fill, Comp, Rx, RxDone, Gone, Reserve, Submit, Peek, Release, Look, Granted}
 use Rattle.xsk_turns.specs.Script.{ask, on_submitted, begun}
-use Rattle.xsk_model.specs.declared.call.Ring.TheVariants.{Fill, Comp, Rx}
-use Rattle.xsk_model.specs.declared.call.Mark.TheVariants.{RxDone, Gone}
-use Rattle.xsk_model.specs.declared.call.Call.TheVariants.{Reserve, Submit, Peek, Release, Look}
-use Rattle.xsk_model.specs.declared.call.Reply.TheVariants.{Granted}
 use Rattle.xsk_turns.specs.AppTurns.{AppKept, AppNoted, rx_of, lanes_of, pair_of, pending_at, with_pending, back_at, with_back, receive_lane, give_back, look_rx_done, look_gone, app_turn}
 use Rattle.xsk_app.specs.Ways.{IsGroup, first_unset}
 use Rattle.xsk_app.specs.Stands.{from_lane, after_full_lane, from_side, after_full_side, by_reply, left}

@@ -1,15 +1,9 @@
 -- What the parts of an application's turn come to, by where they begin and what is kept.
 use Rattle.std.proofs.Common.{◌≡◌, ◌≢◌, ℕ, zero, suc, ◌+◌, ◌-◌, ◌<◌, ◌≤◌, Bool, true, false, cond, Option, Some, None, List, [], ◌∷◌, ◌/◌, eqb, length, length-take, map, get_or, take, drop, refl, sym, ap, ◌∙◌, subst, arith}
 use Rattle.std.specs.List.{prefix_len, take_while}
-use Rattle.xsk_umem.specs.Frame.{Frame}
-use Rattle.xsk_umem.specs.declared.batch.Item.{Item}
-use Rattle.xsk_model.specs.Config.{Config, pool_of, batch_of}
-use Rattle.xsk_model.specs.Opening.{home_item}
+use Rattle.xsk_turns.proofs.Object.{Frame, Config, pool_of, batch_of, home_item}
+use Rattle.xsk_turns.proofs.Calls.{Item, Fill, Comp, Rx, RxDone, Gone, Reserve, Submit, Peek, Look, Granted, Full}
 use Rattle.xsk_turns.specs.Script.{Script, ask, again, items_or_empty, on_old, granted_or_full, on_submitted, begun}
-use Rattle.xsk_model.specs.declared.call.Ring.TheVariants.{Fill, Comp, Rx}
-use Rattle.xsk_model.specs.declared.call.Mark.TheVariants.{RxDone, Gone}
-use Rattle.xsk_model.specs.declared.call.Call.TheVariants.{Reserve, Submit, Peek, Look}
-use Rattle.xsk_model.specs.declared.call.Reply.TheVariants.{Granted, Full}
 use Rattle.xsk_turns.specs.AppTurns.{AppKept, AppNoted, rx_of, lanes_of, pair_of, pending_at, back_at, with_back, is_set, receive_lane, pass_on, visit_lane, visit_lanes, group_of, home_of, give_back, complete_side, visit_side, visit_sides, with_seen, with_gone, look_rx_done, look_gone, end_turn, turn_sides, app_turn}
 use Rattle.xsk_turns.proofs.AppGroups.{with_back-again, with_back-same, group_some, group_front}
 use Rattle.xsk_app.specs.Ways.{IsGroup, first_unset}
