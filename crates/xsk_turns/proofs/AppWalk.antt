@@ -49,42 +49,31 @@ pub data Point : Type 0 where
 abbrev pub group : Config → Frame → List Frame → List Frame
 group c frame frames = group_of (pool_of c) (batch_of c) frame frames
 
-abbrev pub place_of : Config → ℕ → Point → AppKept → Place
-place_of c a (PeekRx lane) kept = Lanes lane
-place_of c a (ReleaseRx lane n) kept = Lane lane (release_due (Rx (rx_of c a lane)) n)
-place_of c a (ReserveTx lane) kept = Lane lane nothing_due
-place_of c a (SubmitTx lane) kept = Lane lane (submit_due (Tx (tx_of c a lane)) (length (pending_at kept lane)))
-place_of c a (PeekComp side) kept = Sides side
-place_of c a (ReleaseComp side n) kept = Side side (release_due (Comp (pair_of c a side)) n)
-place_of c a (ReserveFill side frame frames) kept = Side side nothing_due
-place_of c a (SubmitFill side frame frames) kept = Side side (submit_due (Fill (home_of (pool_of c) frame)) (length (group c frame frames)))
-place_of c a TellTxDone kept = Ending
-place_of c a point kept = Looking
+-- where each call is given, the call, and what is kept once it is given: a Submit takes its items along
+abbrev pub asked : Config → ℕ → Point → AppKept → Place × Call × AppKept
+asked c a (PeekRx lane) kept = (Lanes lane, Peek (Rx (rx_of c a lane)) (batch_of c), kept)
+asked c a (ReleaseRx lane n) kept = (Lane lane (release_due (Rx (rx_of c a lane)) n), Release (Rx (rx_of c a lane)) n, kept)
+asked c a (ReserveTx lane) kept = (Lane lane nothing_due, Reserve (Tx (tx_of c a lane)) (length (pending_at kept lane)), kept)
+asked c a (SubmitTx lane) kept = (Lane lane (submit_due (Tx (tx_of c a lane)) (length (pending_at kept lane))), Submit (Tx (tx_of c a lane)) (pending_at kept lane), with_pending kept lane [])
+asked c a (PeekComp side) kept = (Sides side, Peek (Comp (pair_of c a side)) (batch_of c), kept)
+asked c a (ReleaseComp side n) kept = (Side side (release_due (Comp (pair_of c a side)) n), Release (Comp (pair_of c a side)) n, kept)
+asked c a (ReserveFill side frame frames) kept = (Side side nothing_due, Reserve (Fill (home_of (pool_of c) frame)) (length (group c frame frames)), with_back kept side (frame ∷ frames))
+asked c a (SubmitFill side frame frames) kept = (Side side (submit_due (Fill (home_of (pool_of c) frame)) (length (group c frame frames))), Submit (Fill (home_of (pool_of c) frame)) (map (home_item c.geometry) (group c frame frames)), with_back kept side (drop (length (group c frame frames)) (frame ∷ frames)))
+asked c a (LookRxDone side) kept = (Looking, Look (RxDone (pair_of c a side)), kept)
+asked c a TellTxDone kept = (Ending, Swap (TxDone a) 1, kept)
+asked c a (LookGone side) kept = (Looking, Look (Gone (pair_of c a side)), kept)
 
 abbrev pub call_at : Config → ℕ → Point → AppKept → Call
-call_at c a (PeekRx lane) kept = Peek (Rx (rx_of c a lane)) (batch_of c)
-call_at c a (ReleaseRx lane n) kept = Release (Rx (rx_of c a lane)) n
-call_at c a (ReserveTx lane) kept = Reserve (Tx (tx_of c a lane)) (length (pending_at kept lane))
-call_at c a (SubmitTx lane) kept = Submit (Tx (tx_of c a lane)) (pending_at kept lane)
-call_at c a (PeekComp side) kept = Peek (Comp (pair_of c a side)) (batch_of c)
-call_at c a (ReleaseComp side n) kept = Release (Comp (pair_of c a side)) n
-call_at c a (ReserveFill side frame frames) kept = Reserve (Fill (home_of (pool_of c) frame)) (length (group c frame frames))
-call_at c a (SubmitFill side frame frames) kept = Submit (Fill (home_of (pool_of c) frame)) (map (home_item c.geometry) (group c frame frames))
-call_at c a (LookRxDone side) kept = Look (RxDone (pair_of c a side))
-call_at c a TellTxDone kept = Swap (TxDone a) 1
-call_at c a (LookGone side) kept = Look (Gone (pair_of c a side))
+call_at c a p kept = (asked c a p kept).1
 
--- what is kept before the call, and once it is given: a Submit takes its items along
+abbrev pub kept_at : Config → ℕ → Point → AppKept → AppKept
+kept_at c a p kept = (asked c a p kept).2
+
+-- what is kept before it
 abbrev pub kept_before : Point → AppKept → AppKept
 kept_before (ReserveFill side frame frames) kept = with_back kept side (frame ∷ frames)
 kept_before (SubmitFill side frame frames) kept = with_back kept side (frame ∷ frames)
 kept_before point kept = kept
-
-abbrev pub kept_at : Config → Point → AppKept → AppKept
-kept_at c (SubmitTx lane) kept = with_pending kept lane []
-kept_at c (ReserveFill side frame frames) kept = with_back kept side (frame ∷ frames)
-kept_at c (SubmitFill side frame frames) kept = with_back kept side (drop (length (group c frame frames)) (frame ∷ frames))
-kept_at c point kept = kept
 
 -- what is known where a call is given
 abbrev pub Known : Config → Point → AppNoted → AppKept → Type 0
@@ -119,71 +108,46 @@ pub data Entry : Type 0 where
   told_tx_done : ℕ → Entry
   looked_gone : ℕ → ℕ → Entry
 
+abbrev pub told : Entry → Point × Reply
+told (rx_empty lane) = (PeekRx lane, Empty)
+told (rx_items lane items) = (PeekRx lane, Items items)
+told (rx_released lane n) = (ReleaseRx lane n, Released)
+told (tx_granted lane) = (ReserveTx lane, Granted)
+told (tx_full lane free) = (ReserveTx lane, Full free)
+told (tx_submitted lane) = (SubmitTx lane, Submitted)
+told (comp_empty side) = (PeekComp side, Empty)
+told (comp_items side items) = (PeekComp side, Items items)
+told (comp_released side n) = (ReleaseComp side n, Released)
+told (fill_granted side frame frames) = (ReserveFill side frame frames, Granted)
+told (fill_full side frame frames free) = (ReserveFill side frame frames, Full free)
+told (fill_submitted side frame frames) = (SubmitFill side frame frames, Submitted)
+told (looked_rx_done side n) = (LookRxDone side, Old n)
+told (told_tx_done n) = (TellTxDone, Old n)
+told (looked_gone side n) = (LookGone side, Old n)
+
 abbrev pub point_of : Entry → Point
-point_of (rx_empty lane) = PeekRx lane
-point_of (rx_items lane items) = PeekRx lane
-point_of (rx_released lane n) = ReleaseRx lane n
-point_of (tx_granted lane) = ReserveTx lane
-point_of (tx_full lane free) = ReserveTx lane
-point_of (tx_submitted lane) = SubmitTx lane
-point_of (comp_empty side) = PeekComp side
-point_of (comp_items side items) = PeekComp side
-point_of (comp_released side n) = ReleaseComp side n
-point_of (fill_granted side frame frames) = ReserveFill side frame frames
-point_of (fill_full side frame frames free) = ReserveFill side frame frames
-point_of (fill_submitted side frame frames) = SubmitFill side frame frames
-point_of (looked_rx_done side n) = LookRxDone side
-point_of (told_tx_done n) = TellTxDone
-point_of (looked_gone side n) = LookGone side
+point_of e = (told e).0
 
 abbrev pub reply_of : Entry → Reply
-reply_of (rx_empty lane) = Empty
-reply_of (rx_items lane items) = Items items
-reply_of (rx_released lane n) = Released
-reply_of (tx_granted lane) = Granted
-reply_of (tx_full lane free) = Full free
-reply_of (tx_submitted lane) = Submitted
-reply_of (comp_empty side) = Empty
-reply_of (comp_items side items) = Items items
-reply_of (comp_released side n) = Released
-reply_of (fill_granted side frame frames) = Granted
-reply_of (fill_full side frame frames free) = Full free
-reply_of (fill_submitted side frame frames) = Submitted
-reply_of (looked_rx_done side n) = Old n
-reply_of (told_tx_done n) = Old n
-reply_of (looked_gone side n) = Old n
+reply_of e = (told e).1
 
-abbrev pub to_place : Config → ℕ → Entry → AppKept → Place
-to_place c a (rx_empty lane) kept = Lanes (lane + 1)
-to_place c a (rx_items lane items) kept = Lane lane (release_due (Rx (rx_of c a lane)) (length items))
-to_place c a (rx_released lane n) kept = Lane lane nothing_due
-to_place c a (tx_granted lane) kept = Lane lane (submit_due (Tx (tx_of c a lane)) (length (pending_at kept lane)))
-to_place c a (tx_full lane free) kept = Lanes (lane + 1)
-to_place c a (tx_submitted lane) kept = Lanes (lane + 1)
-to_place c a (comp_empty side) kept = Sides (side + 1)
-to_place c a (comp_items side items) kept = Side side (release_due (Comp (pair_of c a side)) (length items))
-to_place c a (comp_released side n) kept = Side side nothing_due
-to_place c a (fill_granted side frame frames) kept = Side side (submit_due (Fill (home_of (pool_of c) frame)) (length (group c frame frames)))
-to_place c a (fill_full side frame frames free) kept = Sides (side + 1)
-to_place c a (fill_submitted side frame frames) kept = Side side nothing_due
-to_place c a entry kept = Looking
-
-abbrev pub noted_after : Entry → AppNoted → AppNoted
-noted_after (rx_items lane items) noted = busy_lane noted
-noted_after (comp_items side items) noted = busy_side noted
-noted_after entry noted = noted
-
-abbrev pub kept_after : Config → Entry → AppKept → AppKept
-kept_after c (rx_items lane items) kept = with_pending kept lane items
-kept_after c (tx_submitted lane) kept = with_pending kept lane []
-kept_after c (comp_items side items) kept = with_back kept side (frames_in items)
-kept_after c (fill_granted side frame frames) kept = with_back kept side (frame ∷ frames)
-kept_after c (fill_full side frame frames free) kept = with_back kept side (frame ∷ frames)
-kept_after c (fill_submitted side frame frames) kept = with_back kept side (drop (length (group c frame frames)) (frame ∷ frames))
-kept_after c (looked_rx_done side n) kept = with_seen kept side n
-kept_after c (told_tx_done n) kept = record kept { tx_done = true }
-kept_after c (looked_gone side n) kept = with_gone kept side n
-kept_after c entry kept = kept
+-- where each leads, with what is noted and kept there
+abbrev pub leads : Config → ℕ → Entry → AppNoted → AppKept → Place × AppNoted × AppKept
+leads c a (rx_empty lane) noted kept = (Lanes (lane + 1), noted, kept)
+leads c a (rx_items lane items) noted kept = (Lane lane (release_due (Rx (rx_of c a lane)) (length items)), busy_lane noted, with_pending kept lane items)
+leads c a (rx_released lane n) noted kept = (Lane lane nothing_due, noted, kept)
+leads c a (tx_granted lane) noted kept = (Lane lane (submit_due (Tx (tx_of c a lane)) (length (pending_at kept lane))), noted, kept)
+leads c a (tx_full lane free) noted kept = (Lanes (lane + 1), noted, kept)
+leads c a (tx_submitted lane) noted kept = (Lanes (lane + 1), noted, with_pending kept lane [])
+leads c a (comp_empty side) noted kept = (Sides (side + 1), noted, kept)
+leads c a (comp_items side items) noted kept = (Side side (release_due (Comp (pair_of c a side)) (length items)), busy_side noted, with_back kept side (frames_in items))
+leads c a (comp_released side n) noted kept = (Side side nothing_due, noted, kept)
+leads c a (fill_granted side frame frames) noted kept = (Side side (submit_due (Fill (home_of (pool_of c) frame)) (length (group c frame frames))), noted, with_back kept side (frame ∷ frames))
+leads c a (fill_full side frame frames free) noted kept = (Sides (side + 1), noted, with_back kept side (frame ∷ frames))
+leads c a (fill_submitted side frame frames) noted kept = (Side side nothing_due, noted, with_back kept side (drop (length (group c frame frames)) (frame ∷ frames)))
+leads c a (looked_rx_done side n) noted kept = (Looking, noted, with_seen kept side n)
+leads c a (told_tx_done n) noted kept = (Looking, noted, record kept { tx_done = true })
+leads c a (looked_gone side n) noted kept = (Looking, noted, with_gone kept side n)
 
 -- ---- what goes on without a call
 
@@ -214,13 +178,13 @@ abbrev pub Said : Type 1
 Said = AppKept → Call → List Told → Type 0
 
 abbrev pub AtCalls : Config → ℕ → Family → Said → Type 0
-AtCalls c a At A = (p : Point) (noted : AppNoted) (kept : AppKept) (l : List Told) → Known c p noted kept → At (place_of c a p kept) noted (kept_before p kept) l → A (kept_at c p kept) (call_at c a p kept) l
+AtCalls c a At A = (p : Point) (noted : AppNoted) (kept : AppKept) (l : List Told) → Known c p noted kept → At (asked c a p kept).0 noted (kept_before p kept) l → A (kept_at c a p kept) (call_at c a p kept) l
 
 abbrev pub AtEntries : Config → ℕ → Premise AppKept → Family → Said → Type 0
 AtEntries c a Q At A = (e : Entry) (noted : AppNoted) (kept : AppKept) (l : List Told) → Known c (point_of e) noted kept
-    → At (place_of c a (point_of e) kept) noted (kept_before (point_of e) kept) l → A (kept_at c (point_of e) kept) (call_at c a (point_of e) kept) l
-    → Q (kept_at c (point_of e) kept) l (call_at c a (point_of e) kept) (reply_of e)
-    → At (to_place c a e kept) (noted_after e noted) (kept_after c e kept) (with_told l (call_at c a (point_of e) kept) (reply_of e))
+    → At (asked c a (point_of e) kept).0 noted (kept_before (point_of e) kept) l → A (kept_at c a (point_of e) kept) (call_at c a (point_of e) kept) l
+    → Q (kept_at c a (point_of e) kept) l (call_at c a (point_of e) kept) (reply_of e)
+    → At (leads c a e noted kept).0 (leads c a e noted kept).1 (leads c a e noted kept).2 (with_told l (call_at c a (point_of e) kept) (reply_of e))
 
 abbrev pub AtPasses : Config → Family → Type 0
 AtPasses c At = (p : Pass) (noted : AppNoted) (kept : AppKept) (l : List Told) → Passing c At p noted kept l

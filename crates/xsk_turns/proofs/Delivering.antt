@@ -187,28 +187,28 @@ module _ (c : Config) (d s : ℕ) (is : IsSeat c d) (input : List (List ℕ)) wh
   }
 
   entries : AtEntries seat (Fitting c) At Asked
-  entries (told_rx_done n) noted kept l known leads h a q =
+  entries (told_rx_done n) noted kept l known found h a q =
       let now = still kept l (Swap (RxDone d) 1) (Old n) refl h in record { given = now.given; spare = now.spare; over = record { none = λ x. known.0; first = λ x. refl } }
-  entries (looked_none packet n) noted kept l known leads h a q = skips kept packet known.later Missed _ known.is (to_none c d kept.coming packet known n q leads) refl (still kept l _ (Old n) refl h)
-  entries (looked_long packet n t) noted kept l known leads h a q =
-      let now = skips kept packet known.later TooLong _ known.is (to_some c d kept.coming packet known n q t true leads.0 leads.1) refl (still kept l _ (Old n) refl h) in
+  entries (looked_none packet n) noted kept l known found h a q = skips kept packet known.later Missed _ known.is (to_none c d kept.coming packet known n q found) refl (still kept l _ (Old n) refl h)
+  entries (looked_long packet n t) noted kept l known found h a q =
+      let now = skips kept packet known.later TooLong _ known.is (to_some c d kept.coming packet known n q t true found.0 found.1) refl (still kept l _ (Old n) refl h) in
       record { given = now.given; spare = now.spare; over = now.over }
-  entries (fill_items packet t items) noted kept l known leads h a q =
+  entries (fill_items packet t items) noted kept l known found h a q =
       let now = still kept l _ (Items items) refl h in
       record { given = now.given; spare = All-append (IsOwnFrame c.geometry) kept.spare (frames_in items) now.spare (own_frames c.geometry (Fill d) items q.lawful); over = now.over }
-  entries (rx_submitted packet t) noted kept l known leads h a q = record {
+  entries (rx_submitted packet t) noted kept l known found h a q = record {
     given = is_delivered kept l packet t known.0 known.1 h;
     spare = All-drop (IsOwnFrame c.geometry) (pieces_of seat packet) kept.spare h.spare;
     over = over_later kept.rx_done kept.tx_done kept.coming h.over;
   }
-  entries (comp_submitted k packet later) noted kept l known leads h a q = record {
+  entries (comp_submitted k packet later) noted kept l known found h a q = record {
     given = subst (IsGiven seat s input kept.coming) (sym (on_other (Rx s) l (Submit (Comp d) (map returned packet)) Submitted refl)) h.given;
     spare = h.spare;
     over = h.over;
   }
-  entries (looked_tx_done n) noted kept l known leads h a q =
+  entries (looked_tx_done n) noted kept l known found h a q =
       let now = still kept l (Look (TxDone (application_of seat))) (Old n) refl h in record { given = now.given; spare = now.spare; over = record { none = now.over.none; first = λ x. known } }
-  entries e noted kept l known leads h a q =
+  entries e noted kept l known found h a q =
       let now = still kept l (call_at seat (point_of e) kept) (reply_of e) refl h in record { given = now.given; spare = now.spare; over = now.over }
 
   passes : AtPasses seat (Fitting c) At

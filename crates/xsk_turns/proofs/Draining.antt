@@ -7,7 +7,7 @@ use Rattle.xsk_turns.proofs.Object.{classes_of, Draining, are_none, unseen_after
 use Rattle.xsk_turns.specs.Turns.{Seat, Kept, Noted, seat_of, start, turn, socket_of, application_of, cell_of}
 use Rattle.xsk_turns.specs.Law.{DrainsTx}
 use Rattle.xsk_turns.proofs.Walks.{Anything, meet_anything}
-use Rattle.xsk_turns.proofs.DriverWalk.{Place, Sending, Idling, Family, call_at, told_rx_done, looked_none, looked_long, looked_some, fill_empty, rx_full, rx_submitted, comp_full, comp_submitted, tx_empty, tx_items, looked_tx_done, point_of, reply_of, to_place, none_comes, waits, visited, idles, AtEntries, AtPasses, IsLaw, at_end}
+use Rattle.xsk_turns.proofs.DriverWalk.{Place, Sending, Idling, Family, call_at, told_rx_done, looked_none, looked_long, looked_some, fill_empty, rx_full, rx_submitted, comp_full, comp_submitted, tx_empty, tx_items, looked_tx_done, point_of, reply_of, leads, none_comes, waits, visited, idles, AtEntries, AtPasses, IsLaw, at_end}
 
 pub draining_told : (ms : List Mark) (r : Ring) (l : List Told) (call : Call) (reply : Reply)
     → draining_of ms r (with_told l call reply) ≡ draining_after r (draining_of ms r l) call reply
@@ -130,20 +130,20 @@ module _ (seat : Seat) (class : ℕ) (below : class < seat.classes) where
   t = socket_of seat class
 
   entries : AtEntries seat Anything At Asked
-  entries (looked_none packet n) noted kept l known leads h x q = looked_cell a t kept.tx_done ⊥ _ l seat.port (cell_of seat packet) n (λ x. absurd (omega (arith, x.0))) h
-  entries (looked_long packet n s) noted kept l known leads h x q = looked_cell a t kept.tx_done ⊥ _ l seat.port (cell_of seat packet) n (λ x. absurd (omega (arith, x.0))) h
-  entries (looked_some packet n s) noted kept l known leads h x q = looked_cell a t kept.tx_done ⊥ ⊥ l seat.port (cell_of seat packet) n (λ x. x) h
-  entries (told_rx_done n) noted kept l known leads h x q = still a t kept.tx_done ⊥ _ l _ (Old n) (λ s. refl) (λ x. absurd (omega (arith, x.0))) h
-  entries (fill_empty packet s) noted kept l known leads h x q = still a t kept.tx_done ⊥ _ l _ Empty (λ s. refl) (λ x. absurd (omega (arith, x.0))) h
-  entries (rx_full packet s free) noted kept l known leads h x q = still a t kept.tx_done ⊥ _ l _ (Full free) (λ s. refl) (λ x. absurd (omega (arith, x.0))) h
-  entries (rx_submitted packet s) noted kept l known leads h x q = still a t kept.tx_done ⊥ _ l _ Submitted (λ s. refl) (λ x. absurd (omega (arith, x.0))) h
-  entries (comp_full k packet later free) noted kept l known leads h x q = still a t kept.tx_done _ _ l _ (Full free) (λ s. refl) (λ x. absurd (let no = x.1 in cc)) h
-  entries (comp_submitted k packet later) noted kept l known leads h x q = still a t kept.tx_done _ _ l _ Submitted (λ s. refl) (λ x. absurd (let no = x.1.0 in cc)) h
-  entries (tx_empty k) noted kept l known leads h x q = found_empty a t kept.tx_done class k seat.batch (socket_of seat k) (Quiet noted kept) l (λ x. x.2) (λ e. ap (socket_of seat) e) h
-  entries (tx_items k items) noted kept l known leads h x q = peeked a t kept.tx_done _ _ l (socket_of seat k) seat.batch items (λ x. let no = x.1.0 in cc) h
-  entries (looked_tx_done n) noted kept l known leads h x q = looked_mark a t kept.tx_done _ ⊥ l n (λ x. x) h
-  entries e noted kept l known leads h x q =
-      still a t kept.tx_done (Needs class (to_place seat e) noted kept) (Needs class (to_place seat e) noted kept) l (call_at seat (point_of e) kept) (reply_of e) (λ s. refl) (λ x. x) h
+  entries (looked_none packet n) noted kept l known found h x q = looked_cell a t kept.tx_done ⊥ _ l seat.port (cell_of seat packet) n (λ x. absurd (omega (arith, x.0))) h
+  entries (looked_long packet n s) noted kept l known found h x q = looked_cell a t kept.tx_done ⊥ _ l seat.port (cell_of seat packet) n (λ x. absurd (omega (arith, x.0))) h
+  entries (looked_some packet n s) noted kept l known found h x q = looked_cell a t kept.tx_done ⊥ ⊥ l seat.port (cell_of seat packet) n (λ x. x) h
+  entries (told_rx_done n) noted kept l known found h x q = still a t kept.tx_done ⊥ _ l _ (Old n) (λ s. refl) (λ x. absurd (omega (arith, x.0))) h
+  entries (fill_empty packet s) noted kept l known found h x q = still a t kept.tx_done ⊥ _ l _ Empty (λ s. refl) (λ x. absurd (omega (arith, x.0))) h
+  entries (rx_full packet s free) noted kept l known found h x q = still a t kept.tx_done ⊥ _ l _ (Full free) (λ s. refl) (λ x. absurd (omega (arith, x.0))) h
+  entries (rx_submitted packet s) noted kept l known found h x q = still a t kept.tx_done ⊥ _ l _ Submitted (λ s. refl) (λ x. absurd (omega (arith, x.0))) h
+  entries (comp_full k packet later free) noted kept l known found h x q = still a t kept.tx_done _ _ l _ (Full free) (λ s. refl) (λ x. absurd (let no = x.1 in cc)) h
+  entries (comp_submitted k packet later) noted kept l known found h x q = still a t kept.tx_done _ _ l _ Submitted (λ s. refl) (λ x. absurd (let no = x.1.0 in cc)) h
+  entries (tx_empty k) noted kept l known found h x q = found_empty a t kept.tx_done class k seat.batch (socket_of seat k) (Quiet noted kept) l (λ x. x.2) (λ e. ap (socket_of seat) e) h
+  entries (tx_items k items) noted kept l known found h x q = peeked a t kept.tx_done _ _ l (socket_of seat k) seat.batch items (λ x. let no = x.1.0 in cc) h
+  entries (looked_tx_done n) noted kept l known found h x q = looked_mark a t kept.tx_done _ ⊥ l n (λ x. x) h
+  entries e noted kept l known found h x q =
+      still a t kept.tx_done (Needs class (leads seat e noted kept).0 noted kept) (Needs class (leads seat e noted kept).0 noted kept) l (call_at seat (point_of e) kept) (reply_of e) (λ s. refl) (λ x. x) h
 
   passes : AtPasses seat Anything At
   passes none_comes noted kept l = λ h e. fewer a t kept.tx_done ⊥ _ l (λ x. absurd (omega (arith, x.0))) h

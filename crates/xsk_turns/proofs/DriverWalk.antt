@@ -39,39 +39,26 @@ pub data Point : Type 0 where
   LookTxDone : Point
   TellGone : Point
 
-abbrev pub place_of : Seat → Point → Place
-place_of seat TellRxDone = Receiving
-place_of seat (LookCell packet) = Receiving
-place_of seat (PeekFill packet s) = Trying packet s nothing_due
-place_of seat (ReleaseFill packet s n) = Trying packet s (release_due (Fill seat.pair) n)
-place_of seat (ReserveRx packet s) = Trying packet s nothing_due
-place_of seat (SubmitRx packet s) = Trying packet s (submit_due (Rx s) (pieces_of seat packet))
-place_of seat (ReserveComp k packet later) = Sending k nothing_due
-place_of seat (SubmitComp k packet later) = Sending k (submit_due (Comp seat.pair) (length packet))
-place_of seat (PeekTx k) = Sending k nothing_due
-place_of seat (ReleaseTx k n) = Sending (k + 1) (release_due (Tx (socket_of seat k)) n)
-place_of seat LookTxDone = Idling
-place_of seat TellGone = Idling
+-- where each call is given, the call, and what is kept once it is given: a Submit takes its frames along
+abbrev pub asked : Seat → Point → Kept → Place × Call × Kept
+asked seat TellRxDone kept = (Receiving, Swap (RxDone seat.pair) 1, kept)
+asked seat (LookCell packet) kept = (Receiving, Look (Cell seat.port (cell_of seat packet)), kept)
+asked seat (PeekFill packet s) kept = (Trying packet s nothing_due, Peek (Fill seat.pair) (pieces_of seat packet - length kept.spare), kept)
+asked seat (ReleaseFill packet s n) kept = (Trying packet s (release_due (Fill seat.pair) n), Release (Fill seat.pair) n, kept)
+asked seat (ReserveRx packet s) kept = (Trying packet s nothing_due, Reserve (Rx s) (pieces_of seat packet), kept)
+asked seat (SubmitRx packet s) kept = (Trying packet s (submit_due (Rx s) (pieces_of seat packet)), Submit (Rx s) (laid_out seat.config.geometry packet (take (pieces_of seat packet) kept.spare)), record kept { spare = drop (pieces_of seat packet) kept.spare })
+asked seat (ReserveComp k packet later) kept = (Sending k nothing_due, Reserve (Comp seat.pair) (length packet), kept)
+asked seat (SubmitComp k packet later) kept = (Sending k (submit_due (Comp seat.pair) (length packet)), Submit (Comp seat.pair) (map returned packet), record kept { finished = later })
+asked seat (PeekTx k) kept = (Sending k nothing_due, Peek (Tx (socket_of seat k)) seat.batch, kept)
+asked seat (ReleaseTx k n) kept = (Sending (k + 1) (release_due (Tx (socket_of seat k)) n), Release (Tx (socket_of seat k)) n, kept)
+asked seat LookTxDone kept = (Idling, Look (TxDone (application_of seat)), kept)
+asked seat TellGone kept = (Idling, Swap (Gone seat.pair) 1, kept)
 
 abbrev pub call_at : Seat → Point → Kept → Call
-call_at seat TellRxDone kept = Swap (RxDone seat.pair) 1
-call_at seat (LookCell packet) kept = Look (Cell seat.port (cell_of seat packet))
-call_at seat (PeekFill packet s) kept = Peek (Fill seat.pair) (pieces_of seat packet - length kept.spare)
-call_at seat (ReleaseFill packet s n) kept = Release (Fill seat.pair) n
-call_at seat (ReserveRx packet s) kept = Reserve (Rx s) (pieces_of seat packet)
-call_at seat (SubmitRx packet s) kept = Submit (Rx s) (laid_out seat.config.geometry packet (take (pieces_of seat packet) kept.spare))
-call_at seat (ReserveComp k packet later) kept = Reserve (Comp seat.pair) (length packet)
-call_at seat (SubmitComp k packet later) kept = Submit (Comp seat.pair) (map returned packet)
-call_at seat (PeekTx k) kept = Peek (Tx (socket_of seat k)) seat.batch
-call_at seat (ReleaseTx k n) kept = Release (Tx (socket_of seat k)) n
-call_at seat LookTxDone kept = Look (TxDone (application_of seat))
-call_at seat TellGone kept = Swap (Gone seat.pair) 1
+call_at seat p kept = (asked seat p kept).1
 
--- what is kept once the call is given: a Submit takes its frames along
 abbrev pub kept_at : Seat → Point → Kept → Kept
-kept_at seat (SubmitRx packet s) kept = record kept { spare = drop (pieces_of seat packet) kept.spare }
-kept_at seat (SubmitComp k packet later) kept = record kept { finished = later }
-kept_at seat point kept = kept
+kept_at seat p kept = (asked seat p kept).2
 
 -- the next packet is long enough and goes to a cell, which redirected it to the socket, and fits it
 pub record IsNext (seat : Seat) (coming : List (List ℕ)) (packet : List ℕ) : Type 0 where
@@ -124,91 +111,57 @@ pub data Entry : Type 0 where
   tx_released : ℕ → ℕ → Entry
   looked_tx_done : ℕ → Entry
 
+abbrev pub told : Entry → Point × Reply
+told (told_rx_done n) = (TellRxDone, Old n)
+told (looked_none packet n) = (LookCell packet, Old n)
+told (looked_long packet n s) = (LookCell packet, Old n)
+told (looked_some packet n s) = (LookCell packet, Old n)
+told (fill_empty packet s) = (PeekFill packet s, Empty)
+told (fill_items packet s items) = (PeekFill packet s, Items items)
+told (fill_released packet s n) = (ReleaseFill packet s n, Released)
+told (rx_granted packet s) = (ReserveRx packet s, Granted)
+told (rx_full packet s free) = (ReserveRx packet s, Full free)
+told (rx_submitted packet s) = (SubmitRx packet s, Submitted)
+told (comp_granted k packet later) = (ReserveComp k packet later, Granted)
+told (comp_full k packet later free) = (ReserveComp k packet later, Full free)
+told (comp_submitted k packet later) = (SubmitComp k packet later, Submitted)
+told (tx_empty k) = (PeekTx k, Empty)
+told (tx_items k items) = (PeekTx k, Items items)
+told (tx_released k n) = (ReleaseTx k n, Released)
+told (looked_tx_done n) = (LookTxDone, Old n)
+
 abbrev pub point_of : Entry → Point
-point_of (told_rx_done n) = TellRxDone
-point_of (looked_none packet n) = LookCell packet
-point_of (looked_long packet n s) = LookCell packet
-point_of (looked_some packet n s) = LookCell packet
-point_of (fill_empty packet s) = PeekFill packet s
-point_of (fill_items packet s items) = PeekFill packet s
-point_of (fill_released packet s n) = ReleaseFill packet s n
-point_of (rx_granted packet s) = ReserveRx packet s
-point_of (rx_full packet s free) = ReserveRx packet s
-point_of (rx_submitted packet s) = SubmitRx packet s
-point_of (comp_granted k packet later) = ReserveComp k packet later
-point_of (comp_full k packet later free) = ReserveComp k packet later
-point_of (comp_submitted k packet later) = SubmitComp k packet later
-point_of (tx_empty k) = PeekTx k
-point_of (tx_items k items) = PeekTx k
-point_of (tx_released k n) = ReleaseTx k n
-point_of (looked_tx_done n) = LookTxDone
+point_of e = (told e).0
 
 abbrev pub reply_of : Entry → Reply
-reply_of (told_rx_done n) = Old n
-reply_of (looked_none packet n) = Old n
-reply_of (looked_long packet n s) = Old n
-reply_of (looked_some packet n s) = Old n
-reply_of (fill_empty packet s) = Empty
-reply_of (fill_items packet s items) = Items items
-reply_of (fill_released packet s n) = Released
-reply_of (rx_granted packet s) = Granted
-reply_of (rx_full packet s free) = Full free
-reply_of (rx_submitted packet s) = Submitted
-reply_of (comp_granted k packet later) = Granted
-reply_of (comp_full k packet later free) = Full free
-reply_of (comp_submitted k packet later) = Submitted
-reply_of (tx_empty k) = Empty
-reply_of (tx_items k items) = Items items
-reply_of (tx_released k n) = Released
-reply_of (looked_tx_done n) = Old n
+reply_of e = (told e).1
 
-abbrev pub to_place : Seat → Entry → Place
-to_place seat (looked_some packet n s) = Trying packet s nothing_due
-to_place seat (fill_items packet s items) = Trying packet s (release_due (Fill seat.pair) (length items))
-to_place seat (fill_released packet s n) = Trying packet s nothing_due
-to_place seat (rx_granted packet s) = Trying packet s (submit_due (Rx s) (pieces_of seat packet))
-to_place seat (comp_granted k packet later) = Sending k (submit_due (Comp seat.pair) (length packet))
-to_place seat (comp_full k packet later free) = Idling
-to_place seat (comp_submitted k packet later) = Sending k nothing_due
-to_place seat (tx_empty k) = Sending (k + 1) nothing_due
-to_place seat (tx_items k items) = Sending (k + 1) (release_due (Tx (socket_of seat k)) (length items))
-to_place seat (tx_released k n) = Sending (k + 1) nothing_due
-to_place seat (looked_tx_done n) = Receiving
-to_place seat entry = Sending 0 nothing_due
+-- where each leads, with what is noted and kept there
+abbrev pub leads : Seat → Entry → Noted → Kept → Place × Noted × Kept
+leads seat (told_rx_done n) noted kept = (Sending 0 nothing_due, moved noted, record kept { rx_done = true })
+leads seat (looked_none packet n) noted kept = (Sending 0 nothing_due, moved noted, settled kept Missed)
+leads seat (looked_long packet n s) noted kept = (Sending 0 nothing_due, moved noted, dropped kept TooLong)
+leads seat (looked_some packet n s) noted kept = (Trying packet s nothing_due, noted, kept)
+leads seat (fill_empty packet s) noted kept = (Sending 0 nothing_due, noted, with_fill_empty kept)
+leads seat (fill_items packet s items) noted kept = (Trying packet s (release_due (Fill seat.pair) (length items)), noted, supplied kept items)
+leads seat (fill_released packet s n) noted kept = (Trying packet s nothing_due, moved noted, kept)
+leads seat (rx_granted packet s) noted kept = (Trying packet s (submit_due (Rx s) (pieces_of seat packet)), moved noted, kept)
+leads seat (rx_full packet s free) noted kept = (Sending 0 nothing_due, stopped noted, with_rx_full (s % seat.classes) kept)
+leads seat (rx_submitted packet s) noted kept = (Sending 0 nothing_due, moved noted, settled (record kept { spare = drop (pieces_of seat packet) kept.spare }) (Delivered s))
+leads seat (comp_granted k packet later) noted kept = (Sending k (submit_due (Comp seat.pair) (length packet)), noted, kept)
+leads seat (comp_full k packet later free) noted kept = (Idling, stopped noted, kept)
+leads seat (comp_submitted k packet later) noted kept = (Sending k nothing_due, moved noted, record kept { finished = later })
+leads seat (tx_empty k) noted kept = (Sending (k + 1) nothing_due, noted, with_tx_empty k kept)
+leads seat (tx_items k items) noted kept = (Sending (k + 1) (release_due (Tx (socket_of seat k)) (length items)), moved noted, gathered seat k kept items)
+leads seat (tx_released k n) noted kept = (Sending (k + 1) nothing_due, noted, kept)
+leads seat (looked_tx_done n) noted kept = (Receiving, fresh, record kept { tx_done = kept.tx_done || eqb n 1 })
 
-abbrev pub noted_after : Entry → Noted → Noted
-noted_after (looked_some packet n s) noted = noted
-noted_after (fill_empty packet s) noted = noted
-noted_after (fill_items packet s items) noted = noted
-noted_after (rx_full packet s free) noted = stopped noted
-noted_after (rx_submitted packet s) noted = moved noted
-noted_after (comp_granted k packet later) noted = noted
-noted_after (comp_full k packet later free) noted = stopped noted
-noted_after (tx_empty k) noted = noted
-noted_after (tx_released k n) noted = noted
-noted_after (looked_tx_done n) noted = fresh
-noted_after entry noted = moved noted
-
-abbrev pub kept_after : Seat → Entry → Kept → Kept
-kept_after seat (told_rx_done n) kept = record kept { rx_done = true }
-kept_after seat (looked_none packet n) kept = settled kept Missed
-kept_after seat (looked_long packet n s) kept = dropped kept TooLong
-kept_after seat (fill_empty packet s) kept = with_fill_empty kept
-kept_after seat (fill_items packet s items) kept = supplied kept items
-kept_after seat (rx_full packet s free) kept = with_rx_full (s % seat.classes) kept
-kept_after seat (rx_submitted packet s) kept = settled (record kept { spare = drop (pieces_of seat packet) kept.spare }) (Delivered s)
-kept_after seat (comp_submitted k packet later) kept = record kept { finished = later }
-kept_after seat (tx_empty k) kept = with_tx_empty k kept
-kept_after seat (tx_items k items) kept = gathered seat k kept items
-kept_after seat (looked_tx_done n) kept = record kept { tx_done = kept.tx_done || eqb n 1 }
-kept_after seat entry kept = kept
-
--- where a cell's number leads
-abbrev pub Leads : Seat → Entry → Type 0
-Leads seat (looked_none packet n) = redirect_to seat.config seat.port seat.queue n ≡ None
-Leads seat (looked_long packet n s) = (redirect_to seat.config seat.port seat.queue n ≡ Some s) × (nat_lt (limit_of seat) (length packet) ≡ true)
-Leads seat (looked_some packet n s) = (redirect_to seat.config seat.port seat.queue n ≡ Some s) × (nat_lt (limit_of seat) (length packet) ≡ false)
-Leads seat entry = Unit {0}
+-- what it finds of a cell's number
+abbrev pub Finds : Seat → Entry → Type 0
+Finds seat (looked_none packet n) = redirect_to seat.config seat.port seat.queue n ≡ None
+Finds seat (looked_long packet n s) = (redirect_to seat.config seat.port seat.queue n ≡ Some s) × (nat_lt (limit_of seat) (length packet) ≡ true)
+Finds seat (looked_some packet n s) = (redirect_to seat.config seat.port seat.queue n ≡ Some s) × (nat_lt (limit_of seat) (length packet) ≡ false)
+Finds seat entry = Unit {0}
 
 -- ---- what goes on without a call
 
@@ -238,13 +191,13 @@ abbrev pub Said : Type 1
 Said = Kept → Call → List Told → Type 0
 
 abbrev pub AtCalls : Seat → Premise Kept → Family → Said → Type 0
-AtCalls seat Q At A = (p : Point) (noted : Noted) (kept : Kept) (l : List Told) → Known seat Q p noted kept → At (place_of seat p) noted kept l → A (kept_at seat p kept) (call_at seat p kept) l
+AtCalls seat Q At A = (p : Point) (noted : Noted) (kept : Kept) (l : List Told) → Known seat Q p noted kept → At (asked seat p kept).0 noted kept l → A (kept_at seat p kept) (call_at seat p kept) l
 
 abbrev pub AtEntries : Seat → Premise Kept → Family → Said → Type 0
-AtEntries seat Q At A = (e : Entry) (noted : Noted) (kept : Kept) (l : List Told) → Known seat Q (point_of e) noted kept → Leads seat e
-    → At (place_of seat (point_of e)) noted kept l → A (kept_at seat (point_of e) kept) (call_at seat (point_of e) kept) l
+AtEntries seat Q At A = (e : Entry) (noted : Noted) (kept : Kept) (l : List Told) → Known seat Q (point_of e) noted kept → Finds seat e
+    → At (asked seat (point_of e) kept).0 noted kept l → A (kept_at seat (point_of e) kept) (call_at seat (point_of e) kept) l
     → Q (kept_at seat (point_of e) kept) l (call_at seat (point_of e) kept) (reply_of e)
-    → At (to_place seat e) (noted_after e noted) (kept_after seat e kept) (with_told l (call_at seat (point_of e) kept) (reply_of e))
+    → At (leads seat e noted kept).0 (leads seat e noted kept).1 (leads seat e noted kept).2 (with_told l (call_at seat (point_of e) kept) (reply_of e))
 
 abbrev pub AtPasses : Seat → Premise Kept → Family → Type 0
 AtPasses seat Q At = (p : Pass) (noted : Noted) (kept : Kept) (l : List Told) → Passing seat Q At p noted kept l

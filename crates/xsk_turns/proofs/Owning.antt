@@ -142,21 +142,21 @@ module _ (c : Config) (pair : ℕ) (is : IsSeat c pair) where
   calls TellGone noted kept l known h = quiet kept _ l tt h.0 (legal_swap c pair l (caller_known c pair is) (Gone pair) 1 is.known refl (omega arith))
 
   entries : AtEntries seat Answers At Asked
-  entries (fill_items packet s items) noted kept l known leads h a q =
+  entries (fill_items packet s items) noted kept l known found h a q =
       let n = pieces_of seat packet - length kept.spare in
       let below = less (pieces_of seat packet) (length kept.spare) known.1 in
       let few = few packet s kept.coming known.0 in (
         has_fill c pair n kept items l a.0 a.1 q (omega (arith, below, few)) (fill_frames c pair n l items q.lawful),
         (q.some, omega (arith, q.few, few), held_told l (Fill pair) n items),
       )
-  entries (tx_items k items) noted kept l known leads h a q = (
+  entries (tx_items k items) noted kept l known found h a q = (
     has_tx c pair k seat.batch kept items l is known.0 a.0 a.1 q,
     (q.some, omega (arith, q.few, batch_few c), held_told l (Tx (socket_at_class c pair k)) seat.batch items),
   )
-  entries (rx_granted packet s) noted kept l known leads h a q = (told kept _ Granted l refl a q, room_told l (Rx s) (pieces_of seat packet))
-  entries (comp_granted k packet later) noted kept l known leads h a q = (told kept _ Granted l refl a q, room_told l (Comp pair) (length packet))
-  entries (comp_full k packet later free) noted kept l known leads h a q = (told kept _ (Full free) l refl a q, λ f. absurd (cc))
-  entries e noted kept l known leads h a q = (told (kept_at seat (point_of e) kept) (call_at seat (point_of e) kept) (reply_of e) l refl a q, tt)
+  entries (rx_granted packet s) noted kept l known found h a q = (told kept _ Granted l refl a q, room_told l (Rx s) (pieces_of seat packet))
+  entries (comp_granted k packet later) noted kept l known found h a q = (told kept _ Granted l refl a q, room_told l (Comp pair) (length packet))
+  entries (comp_full k packet later free) noted kept l known found h a q = (told kept _ (Full free) l refl a q, λ f. absurd (cc))
+  entries e noted kept l known found h a q = (told (kept_at seat (point_of e) kept) (call_at seat (point_of e) kept) (reply_of e) l refl a q, tt)
 
   passes : AtPasses seat Answers At
   passes visited noted kept l = λ h none. (h.0, λ f. none)

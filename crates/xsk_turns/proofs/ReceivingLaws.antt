@@ -115,19 +115,19 @@ module _ (c : Config) (d s : ℕ) where
   calls p noted kept l known h = h.late
 
   entries : AtEntries seat Anything (At d s) (OnTime d s)
-  entries (told_rx_done n) noted kept l known leads h a q = tells d s kept.rx_done kept.tx_done kept.coming l n known.0 h
-  entries (looked_none packet n) noted kept l known leads h a q = dropped d s kept.rx_done kept.tx_done kept.coming _ (still d s kept.rx_done kept.tx_done kept.coming l _ (Old n) (λ u. refl) h)
-  entries (looked_long packet n t) noted kept l known leads h a q = dropped d s kept.rx_done kept.tx_done kept.coming _ (still d s kept.rx_done kept.tx_done kept.coming l _ (Old n) (λ u. refl) h)
-  entries (rx_submitted packet t) noted kept l known leads h a q =
+  entries (told_rx_done n) noted kept l known found h a q = tells d s kept.rx_done kept.tx_done kept.coming l n known.0 h
+  entries (looked_none packet n) noted kept l known found h a q = dropped d s kept.rx_done kept.tx_done kept.coming _ (still d s kept.rx_done kept.tx_done kept.coming l _ (Old n) (λ u. refl) h)
+  entries (looked_long packet n t) noted kept l known found h a q = dropped d s kept.rx_done kept.tx_done kept.coming _ (still d s kept.rx_done kept.tx_done kept.coming l _ (Old n) (λ u. refl) h)
+  entries (rx_submitted packet t) noted kept l known found h a q =
       let call = call_at seat (SubmitRx packet t) kept in
       let off = not_told d s kept.rx_done kept.tx_done kept.coming l packet known.0.next.later h known.0.next.is in
       let told = with_told l call Submitted in
       dropped d s kept.rx_done kept.tx_done kept.coming told
       (subst (λ b. IsTold d s b kept.tx_done kept.coming told) (sym off) (submits d s t _ kept.tx_done kept.coming l (subst (λ b. IsTold d s b kept.tx_done kept.coming l) off h)))
-  entries (comp_submitted k packet later) noted kept l known leads h a q = comp d s kept.rx_done kept.tx_done kept.coming l d (map returned packet) h
-  entries (looked_tx_done n) noted kept l known leads h a q =
+  entries (comp_submitted k packet later) noted kept l known found h a q = comp d s kept.rx_done kept.tx_done kept.coming l d (map returned packet) h
+  entries (looked_tx_done n) noted kept l known found h a q =
       let now = still d s kept.rx_done kept.tx_done kept.coming l _ (Old n) (λ u. refl) h in record { told = now.told; late = now.late; none = now.none; first = λ g. known }
-  entries e noted kept l known leads h a q = still d s kept.rx_done kept.tx_done kept.coming l (call_at seat (point_of e) kept) (reply_of e) (λ u. refl) h
+  entries e noted kept l known found h a q = still d s kept.rx_done kept.tx_done kept.coming l (call_at seat (point_of e) kept) (reply_of e) (λ u. refl) h
 
   passes : AtPasses seat Anything (At d s)
   passes (runt packet later) noted kept l = λ h e. dropped d s kept.rx_done kept.tx_done kept.coming l h
