@@ -383,7 +383,7 @@ module _ (c : Config) (a : ℕ) (one : IsApp c a) (l : List Told) where
   along : IsAppRun c a l → Lawful c a l
   along run =
       of_run c a one Anything (At c a one) (Asked c a one) (Ended c a one) (law c a one) (app_start c) first l (meet_anything (app_turn c a) (app_turn c a (app_start c)) [] l) (Lawful c a)
-      (λ kept h. lawful c a (noted_first kept) 0 kept l h) (λ kept call h. h) (λ kept h. h.lawful) run
+      (λ kept m h. lawful c a (noted_first kept) 0 kept m h) (λ kept call m h. h) (λ kept m h. h.lawful) run
 
   whole : IsWholeAppRun c a l → AtEnd c a l
   whole run = at_end c a one Anything (At c a one) (Asked c a one) (Ended c a one) (law c a one) (app_start c) first l (meet_anything (app_turn c a) (app_turn c a (app_start c)) [] l) run.0 run.1

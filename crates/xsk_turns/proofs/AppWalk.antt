@@ -3,13 +3,13 @@
 use Rattle.std.proofs.Common.{◌≡◌, ℕ, zero, suc, ◌+◌, ◌-◌, ◌<◌, ◌≤◌, true, false, ◌&&◌, eqb, List, [], ◌∷◌, length, drop, map, refl, sym, ap, ◌∙◌, subst, arith}
 use Rattle.xsk_turns.proofs.Object.{Frame, Config, pool_of, batch_of, home_item}
 use Rattle.xsk_turns.proofs.Calls.{Item, Told, with_told, Fill, Comp, Rx, Tx, RxDone, Gone, TxDone, Call, Reserve, Submit, Peek, Release, Swap, Look, Reply, Granted, Full, Submitted, Items, Empty, Released, Old}
-use Rattle.xsk_turns.specs.Script.{Script, ask, again, ended, never, on_submitted, Asks, Ends, IsLive, IsRun, Leaves}
+use Rattle.xsk_turns.specs.Script.{Script, ask, again, ended, on_submitted, Asks, Ends, IsRun, Leaves}
 use Rattle.xsk_turns.specs.Turns.{frames_in}
 use Rattle.xsk_turns.specs.AppTurns.{AppKept, AppNoted, pair_of, rx_of, tx_of, lanes_of, home_of, group_of, both, is_set, is_none, pending_at, with_pending, back_at, with_back, pass_on, receive_lane, visit_lane, visit_lanes, give_back, complete_side, visit_side, visit_sides, with_seen, with_gone, look_rx_done, look_gone, end_turn, turn_sides, noted_first, app_turn}
 use Rattle.xsk_turns.specs.AppOwned.{IsApp}
 use Rattle.xsk_turns.proofs.AppGroups.{with_back-again, with_back-same, group_some, shorter}
 use Rattle.xsk_turns.proofs.Places.{batch_some}
-use Rattle.xsk_turns.proofs.Walks.{Premise, Law, Due, nothing_due, submit_due, release_due, Holds, Says, MeetAlong, at_reserve, at_submit, at_peek, at_release, at_old, by_case, says_left}
+use Rattle.xsk_turns.proofs.Walks.{Premise, Law, Due, nothing_due, submit_due, release_due, Holds, Says, MeetAlong, at_reserve, at_submit, at_peek, at_release, at_old, by_case, says_left, says_run}
 
 -- ---- the places of a turn, and its calls
 
@@ -395,12 +395,6 @@ module _ (c : Config) (a : ℕ) (one : IsApp c a) (Q : Premise AppKept) (At : Fa
     at_end kept ends = says (ended kept) ends
 
     -- what it says of each run
-    pub of_run : (I : List Told → Type 0) → ((kept : AppKept) → At (Lanes 0) (noted_first kept) kept l → I l) → ((kept : AppKept) (call : Call) → A kept call l → I l) → ((kept : AppKept) → E kept l → I l)
+    pub of_run : (I : List Told → Type 0) → ((kept : AppKept) (m : List Told) → At (Lanes 0) (noted_first kept) kept m → I m) → ((kept : AppKept) (call : Call) (m : List Told) → A kept call m → I m) → ((kept : AppKept) (m : List Told) → E kept m → I m)
         → IsRun (app_turn c a) begins l → I l
-    of_run I x y z run = by run.0 run.2 (says run.0 run.1)
-      where
-        by : (left : Script AppKept) → IsLive left → Says law left l → I l
-        by (ask kept call rest) live h = y kept call h
-        by (again kept) live h = x kept h
-        by (ended kept) live h = z kept h
-        by never live h = absurd live
+    of_run I x y z run = says_run Q law (app_turn c a) go_turn I x y z begins l first meets run

@@ -3,10 +3,10 @@
 use Rattle.std.proofs.Common.{◌≡◌, ℕ, zero, suc, ◌+◌, ◌-◌, ◌%◌, ◌<◌, Bool, true, false, ◌||◌, nat_lt, nat_le, eqb, Option, Some, None, List, [], ◌∷◌, ◌++◌, length, map, take, drop, refl, ap, subst, arith}
 use Rattle.xsk_turns.proofs.Calls.{Item, Told, with_told, Ring, Fill, Comp, Rx, Tx, RxDone, Gone, TxDone, Cell, Call, Reserve, Submit, Peek, Release, Swap, Look, Reply, Granted, Full, Submitted, Items, Empty, Released, Old}
 use Rattle.xsk_model.specs.Config.{map_of}
-use Rattle.xsk_turns.specs.Script.{Script, ask, again, ended, never, on_submitted, on_released, Asks, Ends, IsLive, IsRun, Leaves}
+use Rattle.xsk_turns.specs.Script.{Script, ask, again, ended, on_submitted, on_released, Asks, Ends, IsRun, Leaves}
 use Rattle.xsk_turns.specs.Turns.{Seat, Kept, Noted, moved, stopped, settled, dropped, supplied, with_rx_full, with_fill_empty, with_tx_empty, visit_from, socket_of, application_of, cell_of, redirect_to, limit_of, pieces_of, laid_out, returned, gathered, idle, complete, visit, transmit, deliver, reserve, go_on, take_spare, find_spare, direct, receive, turn}
 use Rattle.xsk_turns.specs.declared.disposal.Disposal.TheVariants.{Delivered, TooLong, Runt, Missed}
-use Rattle.xsk_turns.proofs.Walks.{Premise, Law, Due, nothing_due, submit_due, release_due, Holds, Says, MeetAlong, at_reserve, at_submit, at_peek, at_release, at_old, by_case, by_option, says_left, meets_law}
+use Rattle.xsk_turns.proofs.Walks.{Premise, Law, Due, nothing_due, submit_due, release_due, Holds, Says, MeetAlong, at_reserve, at_submit, at_peek, at_release, at_old, by_case, by_option, says_left, says_run, meets_law}
 
 -- ---- the places of a turn, and its calls
 
@@ -404,12 +404,6 @@ module _ (seat : Seat) (Q : Premise Kept) (At : Family) (A : Said) (E : Kept →
     meets_said left leaves = meets_law Q law (turn seat) go_turn begins l left first meets leaves
 
     -- what it says of each run
-    pub of_run : (I : List Told → Type 0) → ((kept : Kept) → At Receiving fresh kept l → I l) → ((kept : Kept) (call : Call) → A kept call l → I l) → ((kept : Kept) → E kept l → I l)
+    pub of_run : (I : List Told → Type 0) → ((kept : Kept) (m : List Told) → At Receiving fresh kept m → I m) → ((kept : Kept) (call : Call) (m : List Told) → A kept call m → I m) → ((kept : Kept) (m : List Told) → E kept m → I m)
         → IsRun (turn seat) begins l → I l
-    of_run I x y z run = by run.0 run.2 (says run.0 run.1)
-      where
-        by : (left : Script Kept) → IsLive left → Says law left l → I l
-        by (ask kept call rest) live h = y kept call h
-        by (again kept) live h = x kept h
-        by (ended kept) live h = z kept h
-        by never live h = absurd live
+    of_run I x y z run = says_run Q law (turn seat) go_turn I x y z begins l first meets run

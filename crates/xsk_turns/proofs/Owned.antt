@@ -76,28 +76,16 @@ all_one P (suc n) x h = All-cons P x (replicate n x) h (all_one P n x h)
 -- ---- calls that move no frame and complete nothing
 
 abbrev pub IsQuiet : Call → Type 0
-IsQuiet (Reserve r n) = Unit {0}
 IsQuiet (Submit r items) = ⊥
-IsQuiet (Peek r n) = Unit {0}
-IsQuiet (Release r n) = Unit {0}
-IsQuiet (Swap m value) = Unit {0}
-IsQuiet (Look m) = Unit {0}
+IsQuiet call = Unit {0}
 
 quiet_none : (call : Call) → IsQuiet call → submitted call ≡ []
-quiet_none (Reserve r n) q = refl
 quiet_none (Submit r items) q = absurd q
-quiet_none (Peek r n) q = refl
-quiet_none (Release r n) q = refl
-quiet_none (Swap m value) q = refl
-quiet_none (Look m) q = refl
+quiet_none call q = refl
 
 pub quiet_done : (c : Config) (sockets : List ℕ) (l : List Told) (call : Call) → IsQuiet call → completed_in c sockets l call ≡ []
-quiet_done c sockets l (Reserve r n) q = refl
 quiet_done c sockets l (Submit r items) q = absurd q
-quiet_done c sockets l (Peek r n) q = refl
-quiet_done c sockets l (Release r n) q = refl
-quiet_done c sockets l (Swap m value) q = refl
-quiet_done c sockets l (Look m) q = refl
+quiet_done c sockets l call q = refl
 
 pub owned_quiet : (c : Config) (pair : ℕ) (kept : Kept) (call : Call) (l : List Told) → IsQuiet call → HasKept c pair kept l → Owned c pair kept call l
 owned_quiet c pair kept call l q h = record {
@@ -153,8 +141,6 @@ cond_waits false c u items none = refl
 
 waits_after : (c : Config) (s : ℕ) (l : List Told) (call : Call) (reply : Reply) (ws : List (List Item)) → taken reply ≡ []
     → completed_in c (s ∷ []) l call ++ ws ≡ waiting c (sending_of c s l) → ws ≡ waiting c (sending_after c s (sending_of c s l) call reply)
-waits_after c s l (Reserve r n) reply ws none h = h
-waits_after c s l (Submit (Fill d) items) reply ws none h = h
 waits_after c s l (Submit (Comp d) items) reply ws none h =
     let u = sending_of c s l in
     let done = completed_by items (waiting c u) in
@@ -162,12 +148,8 @@ waits_after c s l (Submit (Comp d) items) reply ws none h =
     sym (drop_at done ws (length done) refl)
     ∙ ap (λ (xs : List (List Item)). drop (length done) xs) (sym front ∙ h)
     ∙ drop-drop (length done) u.completed (wholes c u)
-waits_after c s l (Submit (Rx t) items) reply ws none h = h
-waits_after c s l (Submit (Tx t) items) reply ws none h = h
 waits_after c s l (Peek r n) reply ws none h = h ∙ sym (cond_waits (is_ring (Tx s) r) c (sending_of c s l) (taken reply) none)
-waits_after c s l (Release r n) reply ws none h = h
-waits_after c s l (Swap m value) reply ws none h = h
-waits_after c s l (Look m) reply ws none h = h
+waits_after c s l call reply ws none h = h
 
 -- an entry that brings no frame
 pub has_told : (c : Config) (pair : ℕ) (kept : Kept) (call : Call) (reply : Reply) (l : List Told) → Owned c pair kept call l → IsLegal c l pair call → Fits c l call reply

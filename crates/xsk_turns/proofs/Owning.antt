@@ -27,10 +27,7 @@ here_if : (seat : Seat) (number socket : ℕ) (a b c d : Bool) → (a ≡ true �
 here_if seat number socket true true true true some known port queue h =
     let is : number - 1 ≡ socket = cc in
     subst (IsHere seat) is (record { known = known refl; port = port refl; queue = queue refl })
-here_if seat number socket false b c d some known port queue h = cc
-here_if seat number socket true false c d some known port queue h = cc
-here_if seat number socket true true false d some known port queue h = cc
-here_if seat number socket true true true false some known port queue h = cc
+here_if seat number socket a b c d some known port queue h = cc
 
 pub redirect_here : (seat : Seat) (number socket : ℕ) → redirect_to seat.config seat.port seat.queue number ≡ Some socket → IsHere seat socket
 redirect_here seat number socket h =

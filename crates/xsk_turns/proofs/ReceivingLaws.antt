@@ -148,7 +148,7 @@ module _ (c : Config) (d s : ℕ) where
 pub nothing_received_late : NothingReceivedLate
 nothing_received_late c d s input l run =
     of_run (seat_of c d) Anything (At d s) (OnTime d s) (Over d s) (law c d s) (start (classes_of c) input) (first c d s input) l (meet_anything (turn (seat_of c d)) _ [] l)
-    (λ m. (telling_of (RxDone d) (Rx s) m).late ≡ false) (λ kept h. h.late) (λ kept call h. h) (λ kept h. h.0) run
+    (λ m. (telling_of (RxDone d) (Rx s) m).late ≡ false) (λ kept m h. h.late) (λ kept call m h. h) (λ kept m h. h.0) run
 
 pub tells_rx_done : TellsRxDone
 tells_rx_done c d s input l whole =

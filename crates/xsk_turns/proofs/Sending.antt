@@ -65,14 +65,7 @@ completed_first c pair seat kept l h some legal =
 
 completes_none : (c : Config) (sockets : List ℕ) (l : List Told) (call : Call) → is_completing call ≡ false → completed_in c sockets l call ≡ []
 completes_none c sockets l (Submit (Comp d) items) e = absurd (cc)
-completes_none c sockets l (Submit (Fill d) items) e = refl
-completes_none c sockets l (Submit (Rx s) items) e = refl
-completes_none c sockets l (Submit (Tx s) items) e = refl
-completes_none c sockets l (Reserve r n) e = refl
-completes_none c sockets l (Peek r n) e = refl
-completes_none c sockets l (Release r n) e = refl
-completes_none c sockets l (Swap m value) e = refl
-completes_none c sockets l (Look m) e = refl
+completes_none c sockets l call e = refl
 
 module _ (c : Config) (pair : ℕ) (seat : IsSeat c pair) (l : List Told) (kept : Kept) (call : Call) (reply : Reply) (owned : Owned c pair kept call l) (legal : IsLegal c l pair call) (fits : Fits c l call reply) where
   by_call : (next : Call) (b : Bool) → is_completing next ≡ b → (is_completing next ≡ true → Completes pair kept reply next) → IsLegal c (with_told l call reply) pair next
