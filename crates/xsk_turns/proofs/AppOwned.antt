@@ -1,11 +1,10 @@
 -- What an application has of items and frames, and what each entry leaves of it.
-use Rattle.std.proofs.Common.{◌≡◌, ℕ, zero, suc, ◌+◌, ◌*◌, ◌/◌, ◌^◌, ◌<◌, ◌≤◌, Bool, true, false, cond, nat_lt, Option, Some, None, List, [], ◌∷◌, length, get_or, set, map, flat_map, replicate, All, refl, sym, ap, ◌∙◌, subst, ⊎_elim, arith, get_or-set_same, get_or-set_other, length-set, lit<}
+use Rattle.std.proofs.Common.{◌≡◌, ℕ, zero, suc, ◌+◌, ◌*◌, ◌/◌, ◌^◌, ◌<◌, ◌≤◌, Bool, true, false, cond, nat_lt, Option, Some, None, List, [], ◌∷◌, length, get_or, set, map, flat_map, replicate, All, refl, sym, ap, ◌∙◌, subst, ⊎_elim, arith, get_or-set_same, get_or-set_other, length-set, lit<, option_map}
 use Rattle.std.proofs.lemmas.Bool.{cases_eq}
 use Rattle.std.proofs.lemmas.Bool.Decides.{nat_tests}
 use Rattle.std.proofs.lemmas.List.{length-replicate}
 use Rattle.std.proofs.lemmas.List.Elements.{All-nil, All-cons, All-head, All-tail, All-append}
 use Rattle.std.proofs.Math.Nat.{div-mul-le_self, mul-div_left}
-use Rattle.std.specs.Option.{option_map}
 use Rattle.xsk_turns.proofs.Object.{Geometry, Frame, Config, times, numbers, submitted, taken, had_of, home_item, IsItemOn}
 use Rattle.xsk_turns.proofs.Calls.{Item, Told, with_told, Ring, Fill, Rx, Tx, Call, Reply}
 use Rattle.xsk_model.proofs.Counting.{times-append, times-flat_map-set}

@@ -1,6 +1,5 @@
 -- In a whole run what was submitted on an RX ring are the layouts of the packets that are delivered there, in order.
-use Rattle.std.proofs.Common.{◌≡◌, ℕ, ◌*◌, ◌≤◌, ◌⊎◌, inl, inr, Bool, true, false, cond, eqb, nat_lt, nat_le, Option, Some, None, List, [], ◌∷◌, ◌++◌, length, map, flat_map, take, drop, All, refl, sym, ap, ◌∙◌, subst, append-nil, append_assoc, length-take-le, arith, slice_index}
-use Rattle.std.specs.Prelude.{IsTrue, if◌then◌else◌}
+use Rattle.std.proofs.Common.{◌≡◌, ℕ, ◌*◌, ◌≤◌, ◌⊎◌, inl, inr, Bool, true, false, cond, eqb, nat_lt, nat_le, Option, Some, None, List, [], ◌∷◌, ◌++◌, length, map, flat_map, take, drop, All, refl, sym, ap, ◌∙◌, subst, append-nil, append_assoc, length-take-le, arith, slice_index, IsTrue, if◌then◌else◌}
 use Rattle.std.proofs.lemmas.Bool.{ltb-false}
 use Rattle.std.proofs.lemmas.Bool.Decides.{nat_tests}
 use Rattle.std.proofs.lemmas.List.Concat.{flat_map-append}
