@@ -1,11 +1,11 @@
 -- The one walk along an application's turns. A law of its runs says what holds at each place of a turn, and what each entry
 -- of the list, a call with its reply, makes of it; then it holds along every run.
-use Rattle.std.proofs.Common.{◌≡◌, ℕ, zero, suc, ◌+◌, ◌-◌, ◌<◌, ◌≤◌, true, false, ◌&&◌, eqb, List, [], ◌∷◌, length, drop, map, refl, sym, ap, ◌∙◌, subst, arith}
+use Rattle.std.proofs.Common.{◌≡◌, ℕ, zero, suc, ◌+◌, ◌-◌, ◌<◌, ◌≤◌, Bool, true, false, ◌&&◌, eqb, List, [], ◌∷◌, length, drop, map, refl, sym, ap, ◌∙◌, subst, arith}
 use Rattle.xsk_turns.proofs.Object.{Frame, Config, pool_of, batch_of, home_item}
-use Rattle.xsk_turns.proofs.Calls.{Item, Told, with_told, Fill, Comp, Rx, Tx, RxDone, Gone, TxDone, Call, Reserve, Submit, Peek, Release, Swap, Look, Reply, Granted, Full, Submitted, Items, Empty, Released, Old}
+use Rattle.xsk_turns.proofs.Calls.{Item, Told, with_told, Fill, Comp, Rx, Tx, Mark, RxDone, Gone, TxDone, Call, Reserve, Submit, Peek, Release, Swap, Look, Reply, Granted, Full, Submitted, Items, Empty, Released, Old}
 use Rattle.xsk_turns.specs.Script.{Script, ask, again, ended, on_submitted, Asks, Ends, IsRun, Leaves}
 use Rattle.xsk_turns.specs.Turns.{frames_in}
-use Rattle.xsk_turns.specs.AppTurns.{AppKept, AppNoted, pair_of, rx_of, tx_of, lanes_of, home_of, group_of, both, is_set, is_none, pending_at, with_pending, back_at, with_back, pass_on, receive_lane, visit_lane, visit_lanes, give_back, complete_side, visit_side, visit_sides, with_seen, with_gone, look_rx_done, look_gone, end_turn, turn_sides, noted_first, app_turn}
+use Rattle.xsk_turns.specs.AppTurns.{AppKept, AppNoted, pair_of, rx_of, tx_of, lanes_of, home_of, group_of, both, is_set, is_none, pending_at, with_pending, back_at, with_back, pass_on, receive_lane, visit_lane, visit_lanes, give_back, complete_side, visit_side, visit_sides, with_seen, with_gone, look_marks, look_rx_done, look_gone, end_turn, turn_sides, noted_first, app_turn}
 use Rattle.xsk_turns.specs.AppOwned.{IsApp}
 use Rattle.xsk_turns.proofs.AppGroups.{with_back-again, with_back-same, group_some, shorter}
 use Rattle.xsk_turns.proofs.Places.{batch_some}
@@ -331,29 +331,30 @@ module _ (c : Config) (a : ℕ) (one : IsApp c a) (Q : Premise AppKept) (At : Fa
 
   -- ---- the end
 
-  go_rx_done : (more side : ℕ) (noted : AppNoted) (kept : AppKept) (l : List Told) → side + more ≡ 2 → At Looking noted kept l → Along (look_rx_done c a more side kept) l
-  go_rx_done zero side noted kept l e h = is.passes begins noted kept l h tt
-  go_rx_done (suc more) side noted kept l e h =
-      let call = Look (RxDone (pair_of c a side)) in
-      by_case Q law (is_set kept.seen side) _ _ l (λ f. go_rx_done more (side + 1) noted kept l (omega (arith, e)) h)
+  go_marks : (flags : AppKept → List Bool) (mark : ℕ → Mark) (with_flag : AppKept → ℕ → ℕ → AppKept) (noted : AppNoted)
+      → ((side : ℕ) (kept : AppKept) (l : List Told) → side < 2 → is_set (flags kept) side ≡ false → At Looking noted kept l
+      → A kept (Look (mark side)) l × ((n : ℕ) → Q kept l (Look (mark side)) (Old n) → At Looking noted (with_flag kept side n) (with_told l (Look (mark side)) (Old n))))
+      → (more side : ℕ) (kept : AppKept) (l : List Told) → side + more ≡ 2 → At Looking noted kept l → Along (look_marks flags mark with_flag more side kept) l
+  go_marks flags mark with_flag noted step zero side kept l e h = is.passes begins noted kept l h tt
+  go_marks flags mark with_flag noted step (suc more) side kept l e h =
+      let on = go_marks flags mark with_flag noted step more (side + 1) in
+      by_case Q law (is_set (flags kept) side) _ _ l (λ f. on kept l (omega (arith, e)) h)
       (λ f.
-      let asked = is.calls (LookRxDone side) noted kept l (omega (arith, e), f) h in (
-        asked,
-        at_old Q law kept call l (λ done. look_rx_done c a more (side + 1) (with_seen kept side done))
-            (λ n q. go_rx_done more (side + 1) noted (with_seen kept side n) (with_told l call (Old n)) (omega (arith, e)) (is.entries (looked_rx_done side n) noted kept l (omega (arith, e), f) h asked q)),
+      let now = step side kept l (omega (arith, e)) f h in (
+        now.0,
+        at_old Q law kept (Look (mark side)) l (λ n. look_marks flags mark with_flag more (side + 1) (with_flag kept side n))
+            (λ n q. on (with_flag kept side n) (with_told l (Look (mark side)) (Old n)) (omega (arith, e)) (now.1 n q)),
       ))
 
-  go_gone : (more side : ℕ) (noted : AppNoted) (kept : AppKept) (l : List Told) → side + more ≡ 2 → At Looking noted kept l → Along (look_gone c a more side kept) l
-  go_gone zero side noted kept l e h = is.passes begins noted kept l h tt
-  go_gone (suc more) side noted kept l e h =
-      let call = Look (Gone (pair_of c a side)) in
-      by_case Q law (is_set kept.gone side) _ _ l (λ f. go_gone more (side + 1) noted kept l (omega (arith, e)) h)
-      (λ f.
-      let asked = is.calls (LookGone side) noted kept l (omega (arith, e)) h in (
-        asked,
-        at_old Q law kept call l (λ gone. look_gone c a more (side + 1) (with_gone kept side gone))
-            (λ n q. go_gone more (side + 1) noted (with_gone kept side n) (with_told l call (Old n)) (omega (arith, e)) (is.entries (looked_gone side n) noted kept l (omega (arith, e)) h asked q)),
-      ))
+  go_rx_done : (noted : AppNoted) (kept : AppKept) (l : List Told) → At Looking noted kept l → Along (look_rx_done c a 2 0 kept) l
+  go_rx_done noted kept l h =
+      go_marks (λ (k : AppKept). k.seen) (λ side. RxDone (pair_of c a side)) with_seen noted
+      (λ side kept l below f h. let asked = is.calls (LookRxDone side) noted kept l (below, f) h in (asked, λ n q. is.entries (looked_rx_done side n) noted kept l (below, f) h asked q)) 2 0 kept l refl h
+
+  go_gone : (noted : AppNoted) (kept : AppKept) (l : List Told) → At Looking noted kept l → Along (look_gone c a 2 0 kept) l
+  go_gone noted kept l h =
+      go_marks (λ (k : AppKept). k.gone) (λ side. Gone (pair_of c a side)) with_gone noted
+      (λ side kept l below f h. let asked = is.calls (LookGone side) noted kept l below h in (asked, λ n q. is.entries (looked_gone side n) noted kept l below h asked q)) 2 0 kept l refl h
 
   go_end : Continues Ending (end_turn c a)
   go_end noted kept l h =
@@ -361,7 +362,7 @@ module _ (c : Config) (a : ℕ) (one : IsApp c a) (Q : Premise AppKept) (At : Fa
       let told : AppKept = record kept { tx_done = true } in
       let looking = is.passes looks noted kept l h tt in
       by_case Q law kept.tx_done _ _ l
-      (λ done. by_case Q law (noted.gone && noted.sides_empty && is_none (back_at kept 0) && is_none (back_at kept 1)) _ _ l (λ e. is.ends noted kept l done h) (λ e. go_gone 2 0 noted kept l refl looking))
+      (λ done. by_case Q law (noted.gone && noted.sides_empty && is_none (back_at kept 0) && is_none (back_at kept 1)) _ _ l (λ e. is.ends noted kept l done h) (λ e. go_gone noted kept l looking))
       (λ sends. by_case Q law (both kept.seen) _ _ l
       (λ e. by_case Q law (noted.seen && noted.lanes_empty) _ _ l
       (λ f.
@@ -371,7 +372,7 @@ module _ (c : Config) (a : ℕ) (one : IsApp c a) (Q : Premise AppKept) (At : Fa
             (λ n q. is.passes begins noted told (with_told l call (Old n)) (is.entries (told_tx_done n) noted kept l (sends, f) h asked q) tt),
       ))
       (λ f. is.passes begins noted kept l looking tt))
-      (λ e. go_rx_done 2 0 noted kept l refl looking))
+      (λ e. go_rx_done noted kept l looking))
 
   go_turn_sides : Continues (Sides 0) (turn_sides c a)
   go_turn_sides noted kept l h = go_sides 2 0 noted kept (end_turn c a) l refl h go_end
