@@ -1,6 +1,7 @@
 -- On each lane the items submitted are the first of those peeked, and at the end all of them; and there its RX ring was
 -- found empty, after both drivers had told that they have no further packet.
 use Rattle.std.proofs.Common.{◌≡◌, ℕ, zero, suc, ◌+◌, ◌-◌, ◌<◌, Bool, true, false, cond, ◌&&◌, eqb, List, [], ◌∷◌, ◌++◌, length, map, drop, set, refl, sym, ap, ◌∙◌, subst, ⊎_elim, arith, append-nil, eq-eqb, ne_eqb, get_or-set_same, get_or-set_other, length-set}
+use Rattle.std.proofs.Math.Bool.{and-false}
 use Rattle.std.proofs.lemmas.Bool.{cases_eq, and_parts}
 use Rattle.std.proofs.lemmas.List.{length-replicate}
 use Rattle.xsk_turns.proofs.Object.{Frame, Config, pool_of, batch_of, submitted, taken, is_on, submitted_of, peeked_of, submitted_step, peeked_step, home_item, Telling, telling_after, telling_of, Draining, are_none, unseen_after, draining_after}
@@ -14,19 +15,12 @@ use Rattle.xsk_turns.proofs.AppMarks.{side_marks, draining, unseen_sides, none_u
 use Rattle.xsk_turns.proofs.AppOwned.{none_pending}
 use Rattle.xsk_turns.proofs.AppPlaces.{rx_lane, tx_lane}
 use Rattle.xsk_turns.proofs.Draining.{draining_told, same_unseen, when_found, found_here}
-use Rattle.xsk_turns.proofs.Owned.{cond_same, peeked_none}
+use Rattle.xsk_turns.proofs.Owned.{cond_same, peeked_none, none_submitted, other_submitted}
 use Rattle.xsk_turns.proofs.ReceivingLaws.{telling_told, and_off, now_told}
 use Rattle.xsk_turns.proofs.Walks.{Anything, meet_anything}
 use Rattle.xsk_turns.proofs.AppWalk.{Lanes, Lane, Looking, Family, busy_lane, busy_side, PeekRx, ReleaseRx, ReserveTx, SubmitTx, LookRxDone, LookGone, group, call_at, kept_before, rx_empty, rx_items, rx_released, tx_granted, tx_full, tx_submitted, comp_items, fill_submitted, looked_rx_done, told_tx_done, looked_gone, point_of, reply_of, no_lanes, has_items, has_frames, looks, begins, Said, AtCalls, AtEntries, AtPasses, IsLaw, at_end, of_run}
 
 -- ---- what an entry leaves of a ring's items
-
-none_submitted : (r : Ring) (l : List Told) (call : Call) (reply : Reply) → submitted call ≡ [] → submitted_of r (with_told l call reply) ≡ submitted_of r l
-none_submitted r l call reply e =
-    part_of-push submitted_step r [] l (record { call = call; reply = reply }) ∙ cond_same (is_on r call) (submitted_of r l) (submitted call) e
-
-other_submitted : (r : Ring) (l : List Told) (call : Call) (reply : Reply) → is_on r call ≡ false → submitted_of r (with_told l call reply) ≡ submitted_of r l
-other_submitted r l call reply e = part_of-push_other submitted_step r [] l (record { call = call; reply = reply }) e
 
 other_peeked : (r : Ring) (l : List Told) (call : Call) (reply : Reply) → is_on r call ≡ false → peeked_of r (with_told l call reply) ≡ peeked_of r l
 other_peeked r l call reply e = part_of-push_other peeked_step r [] l (record { call = call; reply = reply }) e
@@ -85,10 +79,6 @@ at_last c a noted upto kept l done h = record {
 
 -- ---- entries that change nothing
 
-and_false : (x : Bool) → (x && false) ≡ false
-and_false true = refl
-and_false false = refl
-
 module _ (c : Config) (a : ℕ) (noted : AppNoted) (upto : ℕ) (kept : AppKept) (l : List Told) (h : InOrder c a noted upto kept l) where
   -- an entry that changes nothing of the lanes' items, of what was told, and of what was found
   unmoved : (call : Call) (reply : Reply) → ((t : ℕ) → submitted_of (Tx t) (with_told l call reply) ≡ submitted_of (Tx t) l) → ((s : ℕ) → peeked_of (Rx s) (with_told l call reply) ≡ peeked_of (Rx s) l)
@@ -121,7 +111,7 @@ module _ (c : Config) (a : ℕ) (noted : AppNoted) (upto : ℕ) (kept : AppKept)
       unmoved call Submitted (λ t. other_submitted (Tx t) l call Submitted refl) (λ s. other_peeked (Rx s) l call Submitted refl)
       (λ t.
       telling_told (TxDone a) (Tx t) l call Submitted ∙ ap (λ s. telling_after (TxDone a) (Tx t) s call) (h.telling t)
-      ∙ ap (λ b. let s : Telling = record { told = kept.tx_done; late = b } in s) (and_false kept.tx_done)) (λ s u. refl)
+      ∙ ap (λ b. let s : Telling = record { told = kept.tx_done; late = b } in s) (and-false kept.tx_done)) (λ s u. refl)
 
   -- frames that were sent
   completed : (d n : ℕ) (items : List Item) → InOrder c a noted upto kept (with_told l (Peek (Comp d) n) (Items items))

@@ -1,5 +1,6 @@
 -- In a whole run what was submitted on an RX ring are the layouts of the packets that are delivered there, in order.
-use Rattle.std.proofs.Common.{◌≡◌, ℕ, ◌*◌, ◌≤◌, ◌⊎◌, inl, inr, Bool, true, false, cond, eqb, nat_lt, nat_le, Option, Some, None, List, [], ◌∷◌, ◌++◌, length, map, flat_map, take, drop, All, refl, sym, ap, ◌∙◌, subst, append-nil, append_assoc, length-take-le, arith, slice_index, IsTrue, if◌then◌else◌}
+use Rattle.std.proofs.Common.{◌≡◌, ℕ, ◌*◌, ◌≤◌, ◌⊎◌, inl, inr, Bool, true, false, cond, eqb, nat_lt, nat_le, Option, Some, None, List, [], ◌∷◌, ◌++◌, length, map, flat_map, take, drop, All, refl, sym, ap, ◌∙◌, subst, append-nil, append_assoc, length-take-le, arith, slice_index, IsTrue, if◌then◌else◌, leb-true}
+use Rattle.xsk_turns.proofs.Owned.{none_submitted, other_submitted}
 use Rattle.std.proofs.lemmas.Bool.{ltb-false}
 use Rattle.std.proofs.lemmas.Bool.Decides.{nat_tests}
 use Rattle.std.proofs.lemmas.List.Concat.{flat_map-append}
@@ -39,20 +40,6 @@ laid_out-more g sg packets all packet items h k =
           ∙ sym (flat_map-append (λ (layout : List Item). layout) h.0 (items ∷ [])),
       layouts-append g sg packets h.0 packet items h.2 k,
     )
-
--- ---- what an entry leaves of what was submitted
-
-unmoved : (b : Bool) (xs ys : List Item) → ys ≡ [] → cond b (xs ++ ys) xs ≡ xs
-unmoved true xs ys e = ap (λ zs. xs ++ zs) e ∙ append-nil xs
-unmoved false xs ys e = refl
-
-nothing_more : (r : Ring) (l : List Told) (call : Call) (reply : Reply) → submitted call ≡ [] → submitted_of r (with_told l call reply) ≡ submitted_of r l
-nothing_more r l call reply e =
-    part_of-push submitted_step r [] l (record { call = call; reply = reply }) ∙ unmoved (is_on r call) (submitted_of r l) (submitted call) e
-
-on_other : (r : Ring) (l : List Told) (call : Call) (reply : Reply) → is_on r call ≡ false → submitted_of r (with_told l call reply) ≡ submitted_of r l
-on_other r l call reply e =
-    part_of-push submitted_step r [] l (record { call = call; reply = reply }) ∙ ap (λ b. cond b (submitted_of r l ++ submitted call) (submitted_of r l)) e
 
 -- ---- what holds
 
@@ -114,9 +101,6 @@ short_enough : (sg : Bool) (len payload : ℕ) → nat_lt ((if sg then 18 else 1
 short_enough true len payload e = inl refl
 short_enough false len payload e = inr (ltb-false (1 * payload) len e)
 
-counted : (n m : ℕ) → nat_le n m ≡ true → n ≤ m
-counted n m e = grind (arith, nat_tests)
-
 long_some : (n : ℕ) → nat_lt n 14 ≡ false → 1 ≤ n
 long_some n e = omega (arith, ltb-false n 14 e)
 
@@ -140,7 +124,7 @@ module _ (c : Config) (d s : ℕ) (is : IsSeat c d) (input : List (List ℕ)) wh
 
   still : (kept : Kept) (l : List Told) (call : Call) (reply : Reply) → submitted call ≡ [] → IsSettled kept l → IsSettled kept (with_told l call reply)
   still kept l call reply e h = record {
-    given = subst (IsGiven seat s input kept.coming) (sym (nothing_more (Rx s) l call reply e)) h.given;
+    given = subst (IsGiven seat s input kept.coming) (sym (none_submitted (Rx s) l call reply e)) h.given;
     spare = h.spare;
     over = h.over;
   }
@@ -151,7 +135,7 @@ module _ (c : Config) (d s : ℕ) (is : IsSeat c d) (input : List (List ℕ)) wh
       → IsLayout c.geometry c.sg packet (laid_out c.geometry packet (take (pieces_of seat packet) kept.spare))
   is_layout kept packet long fits enough own =
       let frames = take (pieces_of seat packet) kept.spare in
-      let count : length frames ≡ pieces_of seat packet = length-take-le (pieces_of seat packet) kept.spare (counted (pieces_of seat packet) (length kept.spare) enough) in
+      let count : length frames ≡ pieces_of seat packet = length-take-le (pieces_of seat packet) kept.spare (leb-true (pieces_of seat packet) (length kept.spare) enough) in
       let some : 1 ≤ length packet = long_some (length packet) long in
       let single : IsTrue c.sg ⊎ (length (laid_out c.geometry packet frames) ≡ 1) =
       elim (short_enough c.sg (length packet) (payload_of c.geometry) fits) [
@@ -201,7 +185,7 @@ module _ (c : Config) (d s : ℕ) (is : IsSeat c d) (input : List (List ℕ)) wh
     over = over_later kept.rx_done kept.tx_done kept.coming h.over;
   }
   entries (comp_submitted k packet later) noted kept l known found h a q = record {
-    given = subst (IsGiven seat s input kept.coming) (sym (on_other (Rx s) l (Submit (Comp d) (map returned packet)) Submitted refl)) h.given;
+    given = subst (IsGiven seat s input kept.coming) (sym (other_submitted (Rx s) l (Submit (Comp d) (map returned packet)) Submitted refl)) h.given;
     spare = h.spare;
     over = h.over;
   }

@@ -1,6 +1,7 @@
 -- The one walk along a driver's turns. A law of its runs says what holds at each place of a turn, and what each entry of the
 -- list, a call with its reply, makes of it; then it holds along every run.
 use Rattle.std.proofs.Common.{◌≡◌, ℕ, zero, suc, ◌+◌, ◌-◌, ◌%◌, ◌<◌, Bool, true, false, ◌||◌, nat_lt, nat_le, eqb, Option, Some, None, List, [], ◌∷◌, ◌++◌, length, map, take, drop, refl, ap, subst, arith}
+use Rattle.std.proofs.lemmas.Bool.{or_parts}
 use Rattle.xsk_turns.proofs.Calls.{Item, Told, with_told, Ring, Fill, Comp, Rx, Tx, RxDone, Gone, TxDone, Cell, Call, Reserve, Submit, Peek, Release, Swap, Look, Reply, Granted, Full, Submitted, Items, Empty, Released, Old}
 use Rattle.xsk_model.specs.Config.{map_of}
 use Rattle.xsk_turns.specs.Script.{Script, ask, again, ended, on_submitted, on_released, Asks, Ends, IsRun, Leaves}
@@ -212,10 +213,6 @@ pub record IsLaw (seat : Seat) (Q : Premise Kept) (At : Family) (A : Said) (E : 
   pub passes : AtPasses seat Q At
   pub ends : AtEnd seat Q At A E
 
-both_off : (x y : Bool) → (x || y) ≡ false → (x ≡ false) × (y ≡ false)
-both_off true y e = absurd (cc)
-both_off false y e = (refl, e)
-
 module _ (seat : Seat) (Q : Premise Kept) (At : Family) (A : Said) (E : Kept → List Told → Type 0) (is : IsLaw seat Q At A E) where
   abbrev law : Law Kept
   law = record { begins = λ kept l. At Receiving fresh kept l; asks = A; ends = E }
@@ -230,7 +227,7 @@ module _ (seat : Seat) (Q : Premise Kept) (At : Family) (A : Said) (E : Kept →
       by_case Q law (noted.progress || noted.full) _ _ l (λ e. is.passes idles noted kept l h tt)
       (λ e. by_case Q law kept.tx_done _ _ l
       (λ done.
-      let off = both_off noted.progress noted.full e in
+      let off = or_parts noted.progress noted.full e in
       let gives = is.calls TellGone noted kept l (off.0, off.1, done) h in
       (gives, at_old Q law kept leave l (λ n. ended kept) (λ n q. is.ends noted kept l n (off.0, off.1, done) h gives q)))
       (λ f. by_case Q law kept.rx_done _ _ l

@@ -5,7 +5,7 @@ use Rattle.std.proofs.lemmas.List.{drop-append-le, length-replicate, map-append}
 use Rattle.std.proofs.lemmas.List.Concat.{flat_map-append}
 use Rattle.std.proofs.lemmas.List.Elements.{All-nil, All-cons, All-append, All-weaker}
 use Rattle.std.proofs.lemmas.List.Sums.{fold_push}
-use Rattle.xsk_turns.proofs.Object.{Geometry, Frame, Config, classes_of, is_ring, times, number_of, numbers, Packet, whole, bad, items_of, packets, packets_from, rest, rest_from, whole_packets, submitted, taken, Sending, had_of, is_on, is_fill_peek, fill_step, is_from_fill, peeked_step, peeked_of, completed_by, waiting, sending_after, sending_of, IsLegal, Fits, AreFresh, OwnGoesOn, completed_in}
+use Rattle.xsk_turns.proofs.Object.{Geometry, Frame, Config, classes_of, is_ring, times, number_of, numbers, Packet, whole, bad, items_of, packets, packets_from, rest, rest_from, whole_packets, submitted, taken, Sending, had_of, is_on, is_fill_peek, fill_step, is_from_fill, peeked_step, peeked_of, completed_by, waiting, sending_after, sending_of, IsLegal, Fits, AreFresh, OwnGoesOn, completed_in, submitted_of, submitted_step}
 use Rattle.xsk_turns.proofs.Calls.{Item, Told, with_told, Ring, Fill, Comp, Rx, Tx, Call, Reserve, Submit, Peek, Release, Swap, Look, Reply, Items}
 use Rattle.xsk_model.proofs.Counting.{times-append, times-flat_map-set}
 use Rattle.xsk_model.proofs.Completions.{own_kept, times-numbers-append}
@@ -126,6 +126,13 @@ cond_same false xs ys h = refl
 
 pub peeked_none : (r : Ring) (l : List Told) (call : Call) (reply : Reply) → taken reply ≡ [] → peeked_of r (with_told l call reply) ≡ peeked_of r l
 peeked_none r l call reply none = part_of-push peeked_step r [] l (record { call = call; reply = reply }) ∙ cond_same (is_on r call) (peeked_of r l) (taken reply) none
+
+pub none_submitted : (r : Ring) (l : List Told) (call : Call) (reply : Reply) → submitted call ≡ [] → submitted_of r (with_told l call reply) ≡ submitted_of r l
+none_submitted r l call reply e =
+    part_of-push submitted_step r [] l (record { call = call; reply = reply }) ∙ cond_same (is_on r call) (submitted_of r l) (submitted call) e
+
+pub other_submitted : (r : Ring) (l : List Told) (call : Call) (reply : Reply) → is_on r call ≡ false → submitted_of r (with_told l call reply) ≡ submitted_of r l
+other_submitted r l call reply e = part_of-push_other submitted_step r [] l (record { call = call; reply = reply }) e
 
 from_fill-push : (n : ℕ) (l : List Told) (call : Call) (reply : Reply)
     → is_from_fill n (with_told l call reply) ≡ cond (nat_lt 0 (times n (numbers (taken reply)))) (is_fill_peek call) (is_from_fill n l)

@@ -1,5 +1,5 @@
 -- At each of its calls a driver has the frames that it peeked and didn't submit, and the call is legal.
-use Rattle.std.proofs.Common.{◌≡◌, ℕ, zero, suc, ◌+◌, ◌-◌, ◌*◌, ◌%◌, ◌<◌, ◌≤◌, Bool, true, false, cond, ◌||◌, eqb, nat_lt, nat_le, Option, Some, None, List, [], ◌∷◌, ◌++◌, length, map, take, drop, get_or, flat_map, replicate, refl, sym, ap, ◌∙◌, subst, arith, append-nil, append_assoc, ◌&&◌, if◌then◌else◌, ◌==◌}
+use Rattle.std.proofs.Common.{◌≡◌, ℕ, zero, suc, ◌+◌, ◌-◌, ◌*◌, ◌%◌, ◌<◌, ◌≤◌, Bool, true, false, cond, ◌||◌, eqb, nat_lt, nat_le, Option, Some, None, List, [], ◌∷◌, ◌++◌, length, map, take, drop, get_or, flat_map, replicate, refl, sym, ap, ◌∙◌, subst, arith, append-nil, append_assoc, ◌&&◌, if◌then◌else◌, ◌==◌, leb-true, leb-false, ltb-false}
 use Rattle.std.proofs.lemmas.Bool.Decides.{nat_tests}
 use Rattle.std.proofs.lemmas.List.{length-replicate}
 use Rattle.std.proofs.lemmas.List.Elements.{All-nil}
@@ -32,15 +32,6 @@ pub redirect_here : (seat : Seat) (number socket : ℕ) → redirect_to seat.con
 redirect_here seat number socket h =
     here_if seat number socket (nat_lt 0 number) (nat_lt (number - 1) (length seat.config.sockets)) ((socket_at seat.config.sockets (number - 1)).port == seat.port) ((socket_at seat.config.sockets (number - 1)).queue == seat.queue)
     (λ e. grind (arith, nat_tests)) (λ e. grind (arith, nat_tests)) (λ e. grind (arith, nat_tests)) (λ e. grind (arith, nat_tests)) h
-
-at_least : (n m : ℕ) → nat_le n m ≡ true → n ≤ m
-at_least n m e = grind (arith, nat_tests)
-
-less : (n m : ℕ) → nat_le n m ≡ false → m < n
-less n m e = grind (arith, nat_tests)
-
-not_less : (n m : ℕ) → nat_lt n m ≡ false → m ≤ n
-not_less n m e = grind (arith, nat_tests)
 
 -- ---- the law
 
@@ -87,10 +78,10 @@ module _ (c : Config) (pair : ℕ) (is : IsSeat c pair) where
   -- a packet that is tried is neither too short nor too long, and its socket is here
   module _ (packet : List ℕ) (s : ℕ) (coming : List (List ℕ)) (tried : IsTried seat Answers coming packet s) where
     long : 14 ≤ length packet
-    long = not_less (length packet) 14 tried.next.long
+    long = ltb-false (length packet) 14 tried.next.long
 
     short : length packet ≤ limit_of seat
-    short = not_less (limit_of seat) (length packet) tried.fits
+    short = ltb-false (limit_of seat) (length packet) tried.fits
 
     few : pieces_of seat packet ≤ 18
     few = pieces_few packet short
@@ -100,9 +91,9 @@ module _ (c : Config) (pair : ℕ) (is : IsSeat c pair) where
 
   calls : AtCalls seat Answers At Asked
   calls TellRxDone noted kept l known h = quiet kept _ l tt h.0 (legal_swap c pair l (caller_known c pair is) (RxDone pair) 1 is.known refl (omega arith))
-  calls (LookCell packet) noted kept l known h = quiet kept _ l tt h.0 (legal_look c pair l (caller_known c pair is) (Cell seat.port (cell_of seat packet)) (port_known c pair is, less _ _ known.cell))
+  calls (LookCell packet) noted kept l known h = quiet kept _ l tt h.0 (legal_look c pair l (caller_known c pair is) (Cell seat.port (cell_of seat packet)) (port_known c pair is, leb-false _ _ known.cell))
   calls (PeekFill packet s) noted kept l known h =
-      let below = less (pieces_of seat packet) (length kept.spare) known.1 in
+      let below = leb-false (pieces_of seat packet) (length kept.spare) known.1 in
       let few = few packet s kept.coming known.0 in
       quiet kept _ l tt h.0 (legal_peek c pair l (caller_known c pair is) (Fill pair) (pieces_of seat packet - length kept.spare) is.known refl (omega (arith, below)) (omega (arith, few)))
   calls (ReleaseFill packet s n) noted kept l known h = quiet kept _ l tt h.0 (legal_release c pair l (caller_known c pair is) (Fill pair) n is.known refl h.1.0 h.1.1 h.1.2)
@@ -115,7 +106,7 @@ module _ (c : Config) (pair : ℕ) (is : IsSeat c pair) where
       let short = short packet s kept.coming known.0 in
       let few = few packet s kept.coming known.0 in
       let here = here packet s kept.coming known.0 in
-      let enough = at_least _ _ known.1 in
+      let enough = leb-true _ _ known.1 in
       (owned_rx c pair s is kept l h.0 packet long short few enough here, legal_rx c pair s is kept l h.0 packet long short few enough here h.1)
   calls (ReserveComp k packet later) noted kept l known h =
       let some : 1 ≤ length kept.finished = omega (arith, ap length known) in
@@ -140,7 +131,7 @@ module _ (c : Config) (pair : ℕ) (is : IsSeat c pair) where
   entries : AtEntries seat Answers At Asked
   entries (fill_items packet s items) noted kept l known found h a q =
       let n = pieces_of seat packet - length kept.spare in
-      let below = less (pieces_of seat packet) (length kept.spare) known.1 in
+      let below = leb-false (pieces_of seat packet) (length kept.spare) known.1 in
       let few = few packet s kept.coming known.0 in (
         has_fill c pair n kept items l a.0 a.1 q (omega (arith, below, few)) (fill_frames c pair n l items q.lawful),
         (q.some, omega (arith, q.few, few), held_told l (Fill pair) n items),

@@ -1,5 +1,7 @@
 -- Nothing is submitted on RX once the driver told that no further packet comes, and in a whole run it told so.
 use Rattle.std.proofs.Common.{◌≡◌, ℕ, Bool, true, false, ◌||◌, ◌&&◌, eqb, List, [], ◌∷◌, map, take, drop, refl, sym, ap, ◌∙◌, subst, eq-eqb}
+use Rattle.std.proofs.lemmas.Bool.{or_from}
+use Rattle.std.proofs.Math.Bool.{or-false, and-false}
 use Rattle.std.proofs.lemmas.List.Sums.{fold_push}
 use Rattle.xsk_turns.proofs.Calls.{Item, Told, with_told, Ring, Fill, Comp, Rx, Tx, Mark, RxDone, Gone, TxDone, Cell, Call, Reserve, Submit, Peek, Release, Swap, Look, Reply, Granted, Full, Submitted, Items, Empty, Released, Old}
 use Rattle.xsk_turns.proofs.Object.{Config, classes_of, Telling, telling_after, telling_step, telling_of}
@@ -18,21 +20,9 @@ pub record IsTold (d s : ℕ) (rx_done tx_done : Bool) (coming : List (List ℕ)
   pub none : rx_done ≡ true → coming ≡ []
   pub first : tx_done ≡ true → rx_done ≡ true
 
-or_false : (x : Bool) → (x || false) ≡ x
-or_false true = refl
-or_false false = refl
-
-pub neither : (x y : Bool) → x ≡ false → y ≡ false → (x || y) ≡ false
-neither true y e f = e
-neither false y e f = f
-
 pub and_off : (x y : Bool) → x ≡ false → (x && y) ≡ false
 and_off true y e = absurd (cc)
 and_off false y e = refl
-
-and_none : (x : Bool) → (x && false) ≡ false
-and_none true = refl
-and_none false = refl
 
 pub now_told : (x y : Bool) → y ≡ true → (x || (y && true)) ≡ true
 now_told true y e = refl
@@ -61,7 +51,7 @@ module _ (d s : ℕ) where
       let same = telling_told (RxDone d) (Rx s) l (Submit (Rx t) items) Submitted in
       record {
         told = ap (λ u. u.told) same ∙ h.told;
-        late = ap (λ u. u.late) same ∙ neither u.late (u.told && eqb s t) h.late (and_off u.told (eqb s t) h.told);
+        late = ap (λ u. u.late) same ∙ or_from u.late (u.told && eqb s t) h.late (and_off u.told (eqb s t) h.told);
         none = h.none;
         first = h.first;
       }
@@ -73,7 +63,7 @@ module _ (d s : ℕ) where
       let same = telling_told (RxDone d) (Rx s) l (Submit (Comp pair) items) Submitted in
       record {
         told = ap (λ u. u.told) same ∙ h.told;
-        late = ap (λ u. u.late) same ∙ neither u.late (u.told && false) h.late (and_none u.told);
+        late = ap (λ u. u.late) same ∙ or_from u.late (u.told && false) h.late (and-false u.told);
         none = h.none;
         first = h.first;
       }
@@ -95,7 +85,7 @@ module _ (d s : ℕ) where
   left rx_done tx_done coming l n h =
       let u = telling_of (RxDone d) (Rx s) l in
       let same = telling_told (RxDone d) (Rx s) l (Swap (Gone d) 1) (Old n) in
-      record { told = ap (λ u. u.told) same ∙ or_false u.told ∙ h.told; late = ap (λ u. u.late) same ∙ h.late; none = h.none; first = h.first }
+      record { told = ap (λ u. u.told) same ∙ or-false u.told ∙ h.told; late = ap (λ u. u.late) same ∙ h.late; none = h.none; first = h.first }
 
   abbrev At : Family
   At place noted kept l = IsTold d s kept.rx_done kept.tx_done kept.coming l
