@@ -7,8 +7,7 @@ use Rattle.xsk_model.specs.declared.call.Ring.TheVariants.{Fill, Comp, Rx, Tx}
 use Rattle.xsk_model.proofs.Roles.{app_of_below}
 use Rattle.xsk_turns.specs.AppTurns.{pair_of, side_socket, rx_of, tx_of, lanes_of}
 use Rattle.xsk_turns.specs.AppOwned.{IsApp}
-use Rattle.xsk_turns.proofs.Places.{batch_some, batch_few}
-use Rattle.xsk_turns.proofs.Seats.{queues_some}
+use Rattle.xsk_turns.proofs.Places.{queues_some, batch_some, batch_few}
 
 pub record AppSeats (c : Config) (a : ℕ) : Type 0 where
   pub known : a < apps_of c

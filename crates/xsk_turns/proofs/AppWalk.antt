@@ -386,14 +386,11 @@ module _ (c : Config) (a : ℕ) (one : IsApp c a) (Q : Premise AppKept) (At : Fa
 
   module _ (begins : AppKept) (first : At (Lanes 0) (noted_first begins) begins []) (l : List Told) (meets : MeetAlong (app_turn c a) Q (app_turn c a begins) [] l) where
     -- what it says where a list stops
-    says : (left : Script AppKept) → Leaves (app_turn c a) (app_turn c a begins) l left → Says law left l
-    says left leaves = says_left Q law (app_turn c a) go_turn begins l left first meets leaves
-
     pub at_call : (kept : AppKept) (call : Call) (rest : Reply → Script AppKept) → Asks (app_turn c a) begins l kept call rest → A kept call l
-    at_call kept call rest asks = says (ask kept call rest) asks
+    at_call kept call rest asks = says_left Q law (app_turn c a) go_turn begins l (ask kept call rest) first meets asks
 
     pub at_end : (kept : AppKept) → Ends (app_turn c a) begins l kept → E kept l
-    at_end kept ends = says (ended kept) ends
+    at_end kept ends = says_left Q law (app_turn c a) go_turn begins l (ended kept) first meets ends
 
     -- what it says of each run
     pub of_run : (I : List Told → Type 0) → ((kept : AppKept) (m : List Told) → At (Lanes 0) (noted_first kept) kept m → I m) → ((kept : AppKept) (call : Call) (m : List Told) → A kept call m → I m) → ((kept : AppKept) (m : List Told) → E kept m → I m)

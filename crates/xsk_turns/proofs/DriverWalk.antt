@@ -387,14 +387,11 @@ module _ (seat : Seat) (Q : Premise Kept) (At : Family) (A : Said) (E : Kept →
 
   module _ (begins : Kept) (first : At Receiving fresh begins []) (l : List Told) (meets : MeetAlong (turn seat) Q (turn seat begins) [] l) where
     -- what it says where a list stops
-    says : (left : Script Kept) → Leaves (turn seat) (turn seat begins) l left → Says law left l
-    says left leaves = says_left Q law (turn seat) go_turn begins l left first meets leaves
-
     pub at_call : (kept : Kept) (call : Call) (rest : Reply → Script Kept) → Asks (turn seat) begins l kept call rest → A kept call l
-    at_call kept call rest asks = says (ask kept call rest) asks
+    at_call kept call rest asks = says_left Q law (turn seat) go_turn begins l (ask kept call rest) first meets asks
 
     pub at_end : (kept : Kept) → Ends (turn seat) begins l kept → E kept l
-    at_end kept ends = says (ended kept) ends
+    at_end kept ends = says_left Q law (turn seat) go_turn begins l (ended kept) first meets ends
 
     -- a law may stand on what this one says at each call
     pub meets_said : (left : Script Kept) → Leaves (turn seat) (turn seat begins) l left → MeetAlong (turn seat) (λ kept m call reply. A kept call m × Q kept m call reply) (turn seat begins) [] l

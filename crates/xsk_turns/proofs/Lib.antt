@@ -20,7 +20,6 @@ pub mod Owning
 pub mod Places
 pub mod Rooms
 pub mod ScriptLemmas
-pub mod Seats
 pub mod Walks
 pub mod Saying
 pub mod Sending

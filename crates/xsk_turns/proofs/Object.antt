@@ -2,7 +2,7 @@
 -- nothing.
 pub use Rattle.xsk_umem.specs.Geometry.{payload_of, Geometry, IsGeometry, IsChunkSize, area_of, data_of, frame_of}
 pub use Rattle.xsk_umem.specs.Frame.{Frame, written_at}
-pub use Rattle.xsk_model.specs.Config.{Config, pool_of, batch_of, classes_of, IsConfig, pair_at, map_of, HasRing, callers_of, socket_at, IsBound, IsServed, IsRingSize, least, pair_sizes, size_or_none, socket_sizes}
+pub use Rattle.xsk_model.specs.Config.{Config, pool_of, batch_of, classes_of, IsConfig, IsRegular, pair_at, map_of, HasRing, callers_of, socket_at, IsBound, IsServed, IsRingSize, least, pair_sizes, size_or_none, socket_sizes}
 pub use Rattle.xsk_model.specs.declared.config.PairInfo.{PairInfo}
 pub use Rattle.xsk_model.specs.declared.config.SocketInfo.{SocketInfo}
 pub use Rattle.xsk_model.specs.Rings.{caller_of, application_on, app_of, producer, consumer, is_ring, port_of, queue_of}
