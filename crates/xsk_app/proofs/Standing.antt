@@ -1,12 +1,8 @@
 -- From a step of the machine to the list for which the application stands.
 use Rattle.std.proofs.Common.{◌≡◌, ℕ, List, [], refl, sym, ap, ◌∙◌, subst}
-use Rattle.xsk_model.specs.Config.{Config}
-use Rattle.xsk_model.specs.Entry.{Told, with_told}
-use Rattle.xsk_model.specs.History.{Fits}
-use Rattle.xsk_model.specs.declared.call.Call.{Call}
-use Rattle.xsk_model.specs.declared.call.Act.{Act}
+use Rattle.xsk_turns.proofs.Object.{Config, Fits}
+use Rattle.xsk_turns.proofs.Calls.{Told, with_told, Call, Reply, Act}
 use Rattle.xsk_model.specs.declared.call.Act.TheVariants.{Call as Calls, Ended as IsEnded}
-use Rattle.xsk_model.specs.declared.call.Reply.{Reply}
 use Rattle.xsk_turns.specs.Script.{Script, ask, again, ended, begun, Leaves}
 use Rattle.xsk_turns.specs.Owned.{AllFit}
 use Rattle.xsk_turns.specs.AppTurns.{AppKept, app_turn, app_start}

@@ -1,20 +1,14 @@
 -- What each call of an application's machine and its wait come to, in the machine's own terms.
 use Rattle.std.proofs.Common.{◌≡◌, ℕ, zero, ◌++◌, ◌-◌, ◌<◌, ◌≤◌, Some, List, [], length, map, take, drop, sym, ap, ◌∙◌, get_or-set_same}
-use Rattle.xsk_umem.specs.Frame.{Frame}
-use Rattle.xsk_umem.specs.declared.batch.Item.{Item}
-use Rattle.xsk_model.specs.Config.{Config, pool_of, batch_of}
-use Rattle.xsk_model.specs.Opening.{home_item}
-use Rattle.xsk_turns.specs.Script.{ask, on_submitted, begun}
-use Rattle.xsk_model.specs.declared.call.Ring.TheVariants.{Fill, Comp, Rx}
-use Rattle.xsk_model.specs.declared.call.Mark.TheVariants.{RxDone, Gone}
-use Rattle.xsk_model.specs.declared.call.Call.TheVariants.{Reserve, Submit, Peek, Release, Look}
-use Rattle.xsk_model.specs.declared.call.Reply.TheVariants.{Granted}
-use Rattle.xsk_turns.specs.AppTurns.{AppKept, AppNoted, rx_of, lanes_of, pair_of, pending_at, with_pending, back_at, with_back, receive_lane, give_back, look_rx_done, look_gone, app_turn}
-use Rattle.xsk_app.specs.Ways.{IsGroup, first_unset}
+use Rattle.xsk_turns.proofs.Object.{Frame, Config, pool_of, batch_of, home_item}
+use Rattle.xsk_turns.proofs.Calls.{Item, Fill, Comp, Rx, Reserve, Submit, Peek, Release, Granted}
+use Rattle.xsk_turns.specs.Script.{ask, on_submitted}
+use Rattle.xsk_turns.specs.AppTurns.{AppKept, AppNoted, rx_of, lanes_of, pair_of, pending_at, with_pending, back_at, with_back, receive_lane, give_back}
+use Rattle.xsk_app.specs.Ways.{IsGroup}
 use Rattle.xsk_app.specs.Stands.{from_lane, after_full_lane, from_side, after_full_side, by_reply, left}
-use Rattle.xsk_app.specs.declared.machine.Wait.TheVariants.{PeekRx, ReleaseRx, PeekComp, ReserveFill, SubmitFill, LookRxDone, LookGone}
+use Rattle.xsk_app.specs.declared.machine.Wait.TheVariants.{PeekRx, ReleaseRx, PeekComp, ReserveFill, SubmitFill}
 use Rattle.xsk_turns.proofs.AppGroups.{with_back-same}
-use Rattle.xsk_app.proofs.TurnLemmas.{lane_empty, side_empty, give_back_some, give_back_granted, rx_done_some, gone_some}
+use Rattle.xsk_app.proofs.TurnLemmas.{lane_empty, side_empty, give_back_some, give_back_granted}
 
 pub peek_lane : (c : Config) (app lane : ℕ) (noted : AppNoted) (kept : AppKept) (rx batch : ℕ) → lane < lanes_of c → pending_at kept lane ≡ []
     → rx ≡ rx_of c app lane → batch ≡ batch_of c
@@ -63,17 +57,3 @@ submit_group c app side noted kept home count items rest h group some e f =
     ∙ ap (λ (fs : List Frame). ask (with_back kept side rest) (Submit (Fill home) (map (home_item c.geometry) (take count back))) (on_submitted (give_back c side zero fs (with_back kept side rest) next))) here
     ∙ ap (λ (fs : List Frame). ask (with_back kept side fs) (Submit (Fill home) (map (home_item c.geometry) (take count back))) (on_submitted (give_back c side zero fs (with_back kept side fs) next))) f
     ∙ sym (give_back_granted c side back kept next home count group some)
-
-pub look_at_rx_done : (c : Config) (app side : ℕ) (noted : AppNoted) (kept : AppKept) (at pair : ℕ) → side ≤ 2 → first_unset kept.seen (2 - side) side ≡ Some at
-    → pair ≡ pair_of c app at
-    → ask kept (Look (RxDone pair)) (left c app (LookRxDone at) noted kept) ≡ begun (app_turn c app) (look_rx_done c app (2 - side) side kept)
-look_at_rx_done c app side noted kept at pair h first e =
-    ap (λ (d : ℕ). ask kept (Look (RxDone d)) (left c app (LookRxDone at) noted kept)) e
-    ∙ ap (begun (app_turn c app)) (sym (rx_done_some c app side kept at h first))
-
-pub look_at_gone : (c : Config) (app side : ℕ) (noted : AppNoted) (kept : AppKept) (at pair : ℕ) → side ≤ 2 → first_unset kept.gone (2 - side) side ≡ Some at
-    → pair ≡ pair_of c app at
-    → ask kept (Look (Gone pair)) (left c app (LookGone at) noted kept) ≡ begun (app_turn c app) (look_gone c app (2 - side) side kept)
-look_at_gone c app side noted kept at pair h first e =
-    ap (λ (d : ℕ). ask kept (Look (Gone d)) (left c app (LookGone at) noted kept)) e
-    ∙ ap (begun (app_turn c app)) (sym (gone_some c app side kept at h first))

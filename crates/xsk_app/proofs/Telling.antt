@@ -1,9 +1,7 @@
 -- All that is promised of an application follows from where it stands.
 use Rattle.std.proofs.Common.{ℕ, List}
 use Rattle.xsk_model.specs.Config.{Config}
-use Rattle.xsk_model.specs.Entry.{Told}
-use Rattle.xsk_model.specs.declared.call.Call.{Call}
-use Rattle.xsk_model.specs.declared.call.Act.{Act}
+use Rattle.xsk_turns.proofs.Calls.{Told, Call, Act}
 use Rattle.xsk_model.specs.declared.call.Act.TheVariants.{Call as Calls, Ended as IsEnded}
 use Rattle.xsk_turns.specs.AppTurns.{app_turn, app_start}
 use Rattle.xsk_turns.proofs.ScriptLemmas.{run_asks, asks_more}

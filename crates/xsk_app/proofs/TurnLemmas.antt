@@ -1,16 +1,10 @@
 -- What the parts of an application's turn come to, by where they begin and what is kept.
 use Rattle.std.proofs.Common.{◌≡◌, ◌≢◌, ℕ, zero, suc, ◌+◌, ◌-◌, ◌<◌, ◌≤◌, Bool, true, false, cond, Option, Some, None, List, [], ◌∷◌, ◌/◌, eqb, length, length-take, map, get_or, take, drop, refl, sym, ap, ◌∙◌, subst, arith}
 use Rattle.std.specs.List.{prefix_len, take_while}
-use Rattle.xsk_umem.specs.Frame.{Frame}
-use Rattle.xsk_umem.specs.declared.batch.Item.{Item}
-use Rattle.xsk_model.specs.Config.{Config, pool_of, batch_of}
-use Rattle.xsk_model.specs.Opening.{home_item}
+use Rattle.xsk_turns.proofs.Object.{Frame, Config, pool_of, batch_of, home_item}
+use Rattle.xsk_turns.proofs.Calls.{Item, Fill, Comp, Rx, Mark, Reserve, Submit, Peek, Look, Granted, Full}
 use Rattle.xsk_turns.specs.Script.{Script, ask, again, items_or_empty, on_old, granted_or_full, on_submitted, begun}
-use Rattle.xsk_model.specs.declared.call.Ring.TheVariants.{Fill, Comp, Rx}
-use Rattle.xsk_model.specs.declared.call.Mark.TheVariants.{RxDone, Gone}
-use Rattle.xsk_model.specs.declared.call.Call.TheVariants.{Reserve, Submit, Peek, Look}
-use Rattle.xsk_model.specs.declared.call.Reply.TheVariants.{Granted, Full}
-use Rattle.xsk_turns.specs.AppTurns.{AppKept, AppNoted, rx_of, lanes_of, pair_of, pending_at, back_at, with_back, is_set, receive_lane, pass_on, visit_lane, visit_lanes, group_of, home_of, give_back, complete_side, visit_side, visit_sides, with_seen, with_gone, look_rx_done, look_gone, end_turn, turn_sides, app_turn}
+use Rattle.xsk_turns.specs.AppTurns.{AppKept, AppNoted, rx_of, lanes_of, pair_of, pending_at, back_at, with_back, is_set, receive_lane, pass_on, visit_lane, visit_lanes, group_of, home_of, give_back, complete_side, visit_side, visit_sides, look_marks, end_turn, turn_sides, app_turn}
 use Rattle.xsk_turns.proofs.AppGroups.{with_back-again, with_back-same, group_some, group_front}
 use Rattle.xsk_app.specs.Ways.{IsGroup, first_unset}
 use Rattle.xsk_app.specs.Stands.{from_lane, after_lane, after_full_lane, from_side, after_side, after_full_side, by_reply}
@@ -192,49 +186,28 @@ by_test : (asks : Option ℕ → Script AppKept) (b : Bool) (x y : Script AppKep
 by_test asks true x y p q h k = h
 by_test asks false x y p q h k = k
 
-abbrev asks_rx_done : Config → ℕ → AppKept → Option ℕ → Script AppKept
-asks_rx_done c app kept None = again kept
-asks_rx_done c app kept (Some side) =
-    ask kept (Look (RxDone (pair_of c app side))) (on_old (λ done. look_rx_done c app (2 - (side + 1)) (side + 1) (with_seen kept side done)))
+module _ (c : Config) (app : ℕ) (flags : AppKept → List Bool) (mark : ℕ → Mark) (with_flag : AppKept → ℕ → ℕ → AppKept) where
+  abbrev asks_mark : AppKept → Option ℕ → Script AppKept
+  asks_mark kept None = again kept
+  asks_mark kept (Some side) = ask kept (Look (mark side)) (on_old (λ number. look_marks flags mark with_flag (2 - (side + 1)) (side + 1) (with_flag kept side number)))
 
-asks_first : (c : Config) (app more side : ℕ) (kept : AppKept) → more + side ≡ 2
-    → look_rx_done c app more side kept ≡ asks_rx_done c app kept (first_unset kept.seen more side)
-asks_first c app zero side kept h = refl
-asks_first c app (suc more) side kept h =
-    let e : more ≡ 2 - (side + 1) = omega arith in
-    by_test (asks_rx_done c app kept) (is_set kept.seen side) _ _ (first_unset kept.seen more (side + 1)) (Some side) (asks_first c app more (side + 1) kept (omega arith))
-    (ap (λ (m : ℕ). ask kept (Look (RxDone (pair_of c app side))) (on_old (λ done. look_rx_done c app m (side + 1) (with_seen kept side done)))) e)
+  asks_first : (more side : ℕ) (kept : AppKept) → more + side ≡ 2 → look_marks flags mark with_flag more side kept ≡ asks_mark kept (first_unset (flags kept) more side)
+  asks_first zero side kept h = refl
+  asks_first (suc more) side kept h =
+      let e : more ≡ 2 - (side + 1) = omega arith in
+      by_test (asks_mark kept) (is_set (flags kept) side) _ _ (first_unset (flags kept) more (side + 1)) (Some side) (asks_first more (side + 1) kept (omega arith))
+      (ap (λ (m : ℕ). ask kept (Look (mark side)) (on_old (λ number. look_marks flags mark with_flag m (side + 1) (with_flag kept side number)))) e)
 
-pub rx_done_some : (c : Config) (app side : ℕ) (kept : AppKept) (at : ℕ) → side ≤ 2 → first_unset kept.seen (2 - side) side ≡ Some at
-    → look_rx_done c app (2 - side) side kept
-    ≡ ask kept (Look (RxDone (pair_of c app at))) (on_old (λ done. look_rx_done c app (2 - (at + 1)) (at + 1) (with_seen kept at done)))
-rx_done_some c app side kept at h e = asks_first c app (2 - side) side kept (omega arith) ∙ ap (asks_rx_done c app kept) e
+  -- the next mark that isn't set is looked at, or a new turn begins
+  pub looks_at : (side : ℕ) (kept : AppKept) (at : ℕ) (m : Mark) → side ≤ 2 → first_unset (flags kept) (2 - side) side ≡ Some at → m ≡ mark at
+      → ask kept (Look m) (on_old (λ number. look_marks flags mark with_flag (2 - (at + 1)) (at + 1) (with_flag kept at number))) ≡ begun (app_turn c app) (look_marks flags mark with_flag (2 - side) side kept)
+  looks_at side kept at m h e is =
+      ap (λ (x : Mark). ask kept (Look x) (on_old (λ number. look_marks flags mark with_flag (2 - (at + 1)) (at + 1) (with_flag kept at number)))) is
+      ∙ ap (begun (app_turn c app)) (sym (asks_first (2 - side) side kept (omega arith) ∙ ap (asks_mark kept) e))
 
-pub rx_done_none : (c : Config) (app side : ℕ) (kept : AppKept) → side ≤ 2 → first_unset kept.seen (2 - side) side ≡ None
-    → look_rx_done c app (2 - side) side kept ≡ again kept
-rx_done_none c app side kept h e = asks_first c app (2 - side) side kept (omega arith) ∙ ap (asks_rx_done c app kept) e
-
-abbrev asks_gone : Config → ℕ → AppKept → Option ℕ → Script AppKept
-asks_gone c app kept None = again kept
-asks_gone c app kept (Some side) =
-    ask kept (Look (Gone (pair_of c app side))) (on_old (λ gone. look_gone c app (2 - (side + 1)) (side + 1) (with_gone kept side gone)))
-
-asks_first_gone : (c : Config) (app more side : ℕ) (kept : AppKept) → more + side ≡ 2
-    → look_gone c app more side kept ≡ asks_gone c app kept (first_unset kept.gone more side)
-asks_first_gone c app zero side kept h = refl
-asks_first_gone c app (suc more) side kept h =
-    let e : more ≡ 2 - (side + 1) = omega arith in
-    by_test (asks_gone c app kept) (is_set kept.gone side) _ _ (first_unset kept.gone more (side + 1)) (Some side) (asks_first_gone c app more (side + 1) kept (omega arith))
-    (ap (λ (m : ℕ). ask kept (Look (Gone (pair_of c app side))) (on_old (λ gone. look_gone c app m (side + 1) (with_gone kept side gone)))) e)
-
-pub gone_some : (c : Config) (app side : ℕ) (kept : AppKept) (at : ℕ) → side ≤ 2 → first_unset kept.gone (2 - side) side ≡ Some at
-    → look_gone c app (2 - side) side kept
-    ≡ ask kept (Look (Gone (pair_of c app at))) (on_old (λ gone. look_gone c app (2 - (at + 1)) (at + 1) (with_gone kept at gone)))
-gone_some c app side kept at h e = asks_first_gone c app (2 - side) side kept (omega arith) ∙ ap (asks_gone c app kept) e
-
-pub gone_none : (c : Config) (app side : ℕ) (kept : AppKept) → side ≤ 2 → first_unset kept.gone (2 - side) side ≡ None
-    → look_gone c app (2 - side) side kept ≡ again kept
-gone_none c app side kept h e = asks_first_gone c app (2 - side) side kept (omega arith) ∙ ap (asks_gone c app kept) e
+  pub looks_no_more : (side : ℕ) (kept : AppKept) → side ≤ 2 → first_unset (flags kept) (2 - side) side ≡ None
+      → begun (app_turn c app) (again kept) ≡ begun (app_turn c app) (look_marks flags mark with_flag (2 - side) side kept)
+  looks_no_more side kept h e = ap (begun (app_turn c app)) (sym (asks_first (2 - side) side kept (omega arith) ∙ ap (asks_mark kept) e))
 
 pub group_here : (pool batch : ℕ) (back : List Frame) (home count : ℕ) → IsGroup pool batch back home count → back ≢ []
 group_here pool batch [] home count h = λ e. h

@@ -1,11 +1,7 @@
 -- Which sides' marks an application has found to be 1.
 use Rattle.std.proofs.Common.{◌≡◌, ℕ, zero, suc, ◌<◌, Bool, true, false, cond, ◌&&◌, eqb, List, [], ◌∷◌, ◌++◌, length, set, refl, sym, ap, ◌∙◌, arith, eq-eqb, ne_eqb, get_or-set_same, get_or-set_other}
-use Rattle.xsk_model.specs.Config.{Config}
-use Rattle.xsk_model.specs.Entry.{Told}
-use Rattle.xsk_model.specs.Ends.{Draining, unseen_after, draining_of}
-use Rattle.xsk_model.specs.declared.call.Ring.TheVariants.{Rx}
-use Rattle.xsk_model.specs.declared.call.Mark.{Mark}
-use Rattle.xsk_model.specs.declared.call.Mark.TheVariants.{RxDone, Gone}
+use Rattle.xsk_turns.proofs.Object.{Config, Draining, unseen_after, draining_of}
+use Rattle.xsk_turns.proofs.Calls.{Told, Rx, Mark, RxDone, Gone}
 use Rattle.xsk_turns.specs.AppTurns.{pair_of, rx_of, is_set}
 use Rattle.xsk_turns.specs.AppOwned.{IsApp}
 use Rattle.xsk_turns.proofs.AppPlaces.{pairs_apart}

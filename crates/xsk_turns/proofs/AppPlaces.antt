@@ -2,15 +2,12 @@
 use Rattle.std.proofs.Common.{◌≡◌, ℕ, suc, ◌+◌, ◌-◌, ◌*◌, ◌/◌, ◌%◌, ◌<◌, ◌≤◌, ◌⊎◌, ⊎_elim, length, sym, ap, ◌∙◌, subst, arith, mul-le-mul_right}
 use Rattle.std.proofs.Math.Nat.{mod-eq-sub-div-mul}
 use Rattle.std.proofs.lemmas.Nat.{div-mul-add, div_below, div-add-mod'}
-use Rattle.xsk_model.specs.Config.{Config, HasRing, pool_of, batch_of, classes_of, callers_of}
-use Rattle.xsk_model.specs.Marks.{apps_of}
-use Rattle.xsk_model.specs.Rings.{caller_of, application_on, app_of, producer, consumer}
+use Rattle.xsk_turns.proofs.Object.{Config, HasRing, pool_of, batch_of, classes_of, callers_of, caller_of, application_on, app_of, producer, consumer, apps_of}
 use Rattle.xsk_model.specs.declared.call.Ring.TheVariants.{Fill, Comp, Rx, Tx}
 use Rattle.xsk_model.proofs.Roles.{app_of_below}
 use Rattle.xsk_turns.specs.AppTurns.{pair_of, side_socket, rx_of, tx_of, lanes_of}
 use Rattle.xsk_turns.specs.AppOwned.{IsApp}
-use Rattle.xsk_turns.proofs.Places.{batch_some, batch_few}
-use Rattle.xsk_turns.proofs.Seats.{queues_some}
+use Rattle.xsk_turns.proofs.Places.{queues_some, batch_some, batch_few}
 
 pub record AppSeats (c : Config) (a : ℕ) : Type 0 where
   pub known : a < apps_of c

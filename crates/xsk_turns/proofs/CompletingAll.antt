@@ -1,8 +1,7 @@
 -- In a whole run all packets that were peeked on a TX ring whole are completed, since nothing finished is left.
 use Rattle.std.proofs.Common.{◌≡◌, ℕ, ◌≤◌, List, [], ◌∷◌, length, drop, ap, sym, ◌∙◌, length-drop, arith, refl}
 use Rattle.xsk_umem.specs.declared.batch.Item.{Item}
-use Rattle.xsk_model.specs.Packets.{packets, whole_packets}
-use Rattle.xsk_model.specs.Own.{sending_of}
+use Rattle.xsk_turns.proofs.Object.{packets, whole_packets, sending_of}
 use Rattle.xsk_model.proofs.Completions.{own_kept}
 use Rattle.xsk_model.proofs.Sendings.{wholes, peeked_is}
 use Rattle.xsk_turns.specs.Turns.{seat_of, socket_of}
@@ -20,7 +19,7 @@ all_done completed all h e = omega (arith, length-drop completed all)
 
 pub completes_all : CompletesAll
 completes_all c d class input l is fit whole below =
-    let has = has_ended c d input l whole.0 is fit whole.1 in
+    let has = has_ended c d input l is fit whole.0 whole.1 in
     let s = socket_of (seat_of c d) class in
     let u = sending_of c s l in
     let within = (own_kept c d is.known l has.0.own).within s in

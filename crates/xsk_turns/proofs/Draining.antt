@@ -2,22 +2,12 @@
 use Rattle.std.proofs.Common.{◌≡◌, ℕ, ◌+◌, ◌<◌, Bool, true, false, cond, ◌||◌, ◌&&◌, eqb, List, [], ◌∷◌, map, take, refl, ap, ◌∙◌, ⊎_elim, eq-eqb, arith}
 use Rattle.std.proofs.lemmas.Bool.{cases_eq}
 use Rattle.std.proofs.lemmas.List.Sums.{fold_push}
-use Rattle.xsk_umem.specs.declared.batch.Item.{Item}
-use Rattle.xsk_model.specs.Entry.{Told, with_told}
-use Rattle.xsk_model.specs.Ends.{Draining, are_none, unseen_after, draining_after, draining_step, draining_of}
-use Rattle.xsk_model.specs.declared.call.Ring.{Ring}
-use Rattle.xsk_model.specs.declared.call.Ring.TheVariants.{Fill, Comp, Rx, Tx}
-use Rattle.xsk_model.specs.declared.call.Mark.{Mark}
-use Rattle.xsk_model.specs.declared.call.Mark.TheVariants.{RxDone, Gone, TxDone, Cell}
-use Rattle.xsk_model.specs.declared.call.Call.{Call}
-use Rattle.xsk_model.specs.declared.call.Call.TheVariants.{Reserve, Submit, Peek, Release, Swap, Look}
-use Rattle.xsk_model.specs.declared.call.Reply.{Reply}
-use Rattle.xsk_model.specs.declared.call.Reply.TheVariants.{Granted, Full, Submitted, Items, Empty, Released, Old}
-use Rattle.xsk_turns.specs.Turns.{Seat, Kept, Noted, seat_of, turn, moved, stopped, socket_of, application_of, cell_of, pieces_of, laid_out, returned}
-use Rattle.xsk_turns.specs.declared.disposal.DriverCounters.{DriverCounters}
+use Rattle.xsk_turns.proofs.Calls.{Item, Told, with_told, Ring, Fill, Comp, Rx, Tx, Mark, RxDone, Gone, TxDone, Cell, Call, Reserve, Submit, Peek, Release, Swap, Look, Reply, Granted, Full, Submitted, Items, Empty, Released, Old}
+use Rattle.xsk_turns.proofs.Object.{classes_of, Draining, are_none, unseen_after, draining_after, draining_step, draining_of}
+use Rattle.xsk_turns.specs.Turns.{Seat, Kept, Noted, seat_of, start, turn, socket_of, application_of, cell_of}
 use Rattle.xsk_turns.specs.Law.{DrainsTx}
-use Rattle.xsk_turns.proofs.Walks.{meet_anything}
-use Rattle.xsk_turns.proofs.TurnPlaces.{Anything, Fact, Place, Family, Receiving, Trying, Sending, Idling, Keeps, holds_of_whole}
+use Rattle.xsk_turns.proofs.Walks.{Anything, meet_anything}
+use Rattle.xsk_turns.proofs.DriverWalk.{Place, Sending, Idling, Family, call_at, told_rx_done, looked_none, looked_long, looked_some, fill_empty, rx_full, rx_submitted, comp_full, comp_submitted, tx_empty, tx_items, looked_tx_done, point_of, reply_of, leads, none_comes, waits, visited, idles, AtEntries, AtPasses, IsLaw, at_end}
 
 pub draining_told : (ms : List Mark) (r : Ring) (l : List Told) (call : Call) (reply : Reply)
     → draining_of ms r (with_told l call reply) ≡ draining_after r (draining_of ms r l) call reply
@@ -36,10 +26,9 @@ abbrev Quiet : Noted → Kept → Type 0
 Quiet noted kept = (noted.progress ≡ false) × (noted.full ≡ false) × (kept.tx_done ≡ true)
 
 abbrev Needs : ℕ → Place → Noted → Kept → Type 0
-Needs class Receiving noted kept = ⊥
-Needs class (Trying packet s) noted kept = ⊥
-Needs class (Sending k) noted kept = (class < k) × Quiet noted kept
+Needs class (Sending k due) noted kept = (class < k) × Quiet noted kept
 Needs class Idling noted kept = Quiet noted kept
+Needs class place noted kept = ⊥
 
 other_unseen : (a port index n : ℕ) (b : Bool) → unseen_after (cond b [] (TxDone a ∷ [])) (Cell port index) n ≡ cond b [] (TxDone a ∷ [])
 other_unseen a port index n true = refl
@@ -128,66 +117,51 @@ module _ (seat : Seat) (class : ℕ) (below : class < seat.classes) where
   abbrev At : Family
   At p noted kept l = IsDrained (application_of seat) (socket_of seat class) kept.tx_done (Needs class p noted kept) l
 
-  recounted : (p : Place) (noted : Noted) (kept : Kept) (counters : DriverCounters) → Needs class p noted (record kept { counters = counters }) → Needs class p noted kept
-  recounted Receiving noted kept counters h = h
-  recounted (Trying packet s) noted kept counters h = h
-  recounted (Sending k) noted kept counters h = h
-  recounted Idling noted kept counters h = h
+  abbrev Asked : Kept → Call → List Told → Type 0
+  Asked kept call l = Unit {0}
 
-  abbrev Always : Fact
-  Always l = Unit {0}
+  abbrev Over : Kept → List Told → Type 0
+  Over kept l = (draining (application_of seat) (socket_of seat class) l).empty ≡ true
 
-  abbrev Over : Fact
-  Over l = (draining (application_of seat) (socket_of seat class) l).empty ≡ true
+  abbrev a : ℕ
+  a = application_of seat
 
-  keeps : Keeps seat Anything Always Over At
-  keeps =
-      let a = application_of seat in
-      let t = socket_of seat class in
-      record {
-        counted = λ p noted kept counters l h. fewer a t kept.tx_done (Needs class p noted kept) (Needs class p noted (record kept { counters = counters })) l (recounted p noted kept counters) h;
-        holds = λ p noted kept l h. tt;
-        short = λ noted kept l packet later h e f. h;
-        missed = λ noted kept l packet later h e f g. h;
-        told = λ noted kept l h e f. fewer a t kept.tx_done ⊥ (Needs class (Sending 0) noted kept) l (λ x. absurd (omega (arith, x.0))) h;
-        tells = λ noted kept l n h f g q. still a t kept.tx_done ⊥ ((class < 0) × Quiet (moved noted) kept) l (Swap (RxDone seat.pair) 1) (Old n) (λ s. refl) (λ x. absurd (omega (arith, x.0))) h;
-        looked_none = λ noted kept l packet n h next q f.
-            looked_cell a t kept.tx_done ⊥ ((class < 0) × Quiet (moved noted) kept) l seat.port (cell_of seat packet) n (λ x. absurd (omega (arith, x.0))) h;
-        looked_long = λ noted kept l packet n s h next q f g.
-            looked_cell a t kept.tx_done ⊥ ((class < 0) × Quiet (moved noted) kept) l seat.port (cell_of seat packet) n (λ x. absurd (omega (arith, x.0))) h;
-        looked_some = λ noted kept l packet n s h next q f g. looked_cell a t kept.tx_done ⊥ ⊥ l seat.port (cell_of seat packet) n (λ x. x) h;
-        waits = λ packet s noted kept l h. fewer a t kept.tx_done ⊥ (Needs class (Sending 0) noted kept) l (λ x. absurd (omega (arith, x.0))) h;
-        try_moved = λ packet s noted kept l h. h;
-        try_empty = λ packet s n noted kept l h q. still a t kept.tx_done ⊥ ⊥ l (Peek (Fill seat.pair) n) Empty (λ s. refl) (λ x. x) h;
-        try_items = λ packet s n items noted kept l h q. still a t kept.tx_done ⊥ ⊥ l (Peek (Fill seat.pair) n) (Items items) (λ s. refl) (λ x. x) h;
-        try_released = λ packet s n noted kept l h q. still a t kept.tx_done ⊥ ⊥ l (Release (Fill seat.pair) n) Released (λ s. refl) (λ x. x) h;
-        try_granted = λ packet s n noted kept l h q. still a t kept.tx_done ⊥ ⊥ l (Reserve (Rx s) n) Granted (λ s. refl) (λ x. x) h;
-        try_full = λ packet s n free noted kept l h q. still a t kept.tx_done ⊥ ⊥ l (Reserve (Rx s) n) (Full free) (λ s. refl) (λ x. x) h;
-        delivers = λ packet s noted kept l h next f g q.
-            still a t kept.tx_done ⊥ ((class < 0) × Quiet (moved noted) kept) l (Submit (Rx s) (laid_out seat.config.geometry packet (take (pieces_of seat packet) kept.spare))) Submitted (λ s. refl)
-            (λ x. absurd (omega (arith, x.0))) h;
-        send_stopped = λ k noted kept l h. fewer a t kept.tx_done (Needs class (Sending k) noted kept) ((class < k) × Quiet (stopped noted) kept) l (λ x. absurd (let no = x.1.1 in cc)) h;
-        send_moved = λ k noted kept l h. fewer a t kept.tx_done (Needs class (Sending k) noted kept) ((class < k) × Quiet (moved noted) kept) l (λ x. absurd (let no = x.1.0 in cc)) h;
-        send_granted = λ k n noted kept l h q. still a t kept.tx_done (Needs class (Sending k) noted kept) (Needs class (Sending k) noted kept) l (Reserve (Comp seat.pair) n) Granted (λ s. refl) (λ x. x) h;
-        send_full = λ k n free noted kept l h q. still a t kept.tx_done (Needs class (Sending k) noted kept) (Needs class (Sending k) noted kept) l (Reserve (Comp seat.pair) n) (Full free) (λ s. refl) (λ x. x) h;
-        completes = λ k packet later noted kept l h f q.
-            still a t kept.tx_done (Needs class (Sending k) noted kept) ((class < k) × Quiet (moved noted) kept) l (Submit (Comp seat.pair) (map returned packet)) Submitted (λ s. refl) (λ x. absurd (let no = x.1.0 in cc)) h;
-        finds_none = λ k noted kept l h f g q.
-            found_empty a t kept.tx_done class k seat.batch (socket_of seat k) (Quiet noted kept) l (λ x. x.2) (λ e. ap (socket_of seat) e) h;
-        gathers = λ k items noted kept l h f g q.
-            peeked a t kept.tx_done (Needs class (Sending k) noted kept) ((class < k + 1) × Quiet (moved noted) kept) l (socket_of seat k) seat.batch items (λ x. let no = x.1.0 in cc) h;
-        send_released = λ k j n noted kept l h q. still a t kept.tx_done (Needs class (Sending k) noted kept) (Needs class (Sending k) noted kept) l (Release (Tx (socket_of seat j)) n) Released (λ s. refl) (λ x. x) h;
-        blocked = λ k noted kept l h e. fewer a t kept.tx_done (Needs class (Sending k) noted kept) (Quiet noted kept) l (λ x. absurd (let no = x.1 in cc)) h;
-        visited = λ noted kept l h e. fewer a t kept.tx_done (Needs class (Sending seat.classes) noted kept) (Quiet noted kept) l (λ x. (below, x)) h;
-        begins = λ noted kept l h. fewer a t kept.tx_done (Quiet noted kept) ⊥ l (λ x. absurd x) h;
-        looked_done = λ noted kept l n h f q. looked_mark a t kept.tx_done (Quiet noted kept) ⊥ l n (λ x. x) h;
-        ends = λ noted kept l n h e f g q.
-            let now = still a t kept.tx_done (Quiet noted kept) (Quiet noted kept) l (Swap (Gone seat.pair) 1) (Old n) (λ s. refl) (λ x. x) h in
-            (tt, now.empty (e, f, g));
-      }
+  abbrev t : ℕ
+  t = socket_of seat class
+
+  entries : AtEntries seat Anything At Asked
+  entries (looked_none packet n) noted kept l known found h x q = looked_cell a t kept.tx_done ⊥ _ l seat.port (cell_of seat packet) n (λ x. absurd (omega (arith, x.0))) h
+  entries (looked_long packet n s) noted kept l known found h x q = looked_cell a t kept.tx_done ⊥ _ l seat.port (cell_of seat packet) n (λ x. absurd (omega (arith, x.0))) h
+  entries (looked_some packet n s) noted kept l known found h x q = looked_cell a t kept.tx_done ⊥ ⊥ l seat.port (cell_of seat packet) n (λ x. x) h
+  entries (told_rx_done n) noted kept l known found h x q = still a t kept.tx_done ⊥ _ l _ (Old n) (λ s. refl) (λ x. absurd (omega (arith, x.0))) h
+  entries (fill_empty packet s) noted kept l known found h x q = still a t kept.tx_done ⊥ _ l _ Empty (λ s. refl) (λ x. absurd (omega (arith, x.0))) h
+  entries (rx_full packet s free) noted kept l known found h x q = still a t kept.tx_done ⊥ _ l _ (Full free) (λ s. refl) (λ x. absurd (omega (arith, x.0))) h
+  entries (rx_submitted packet s) noted kept l known found h x q = still a t kept.tx_done ⊥ _ l _ Submitted (λ s. refl) (λ x. absurd (omega (arith, x.0))) h
+  entries (comp_full k packet later free) noted kept l known found h x q = still a t kept.tx_done _ _ l _ (Full free) (λ s. refl) (λ x. absurd (let no = x.1 in cc)) h
+  entries (comp_submitted k packet later) noted kept l known found h x q = still a t kept.tx_done _ _ l _ Submitted (λ s. refl) (λ x. absurd (let no = x.1.0 in cc)) h
+  entries (tx_empty k) noted kept l known found h x q = found_empty a t kept.tx_done class k seat.batch (socket_of seat k) (Quiet noted kept) l (λ x. x.2) (λ e. ap (socket_of seat) e) h
+  entries (tx_items k items) noted kept l known found h x q = peeked a t kept.tx_done _ _ l (socket_of seat k) seat.batch items (λ x. let no = x.1.0 in cc) h
+  entries (looked_tx_done n) noted kept l known found h x q = looked_mark a t kept.tx_done _ ⊥ l n (λ x. x) h
+  entries e noted kept l known found h x q =
+      still a t kept.tx_done (Needs class (leads seat e noted kept).0 noted kept) (Needs class (leads seat e noted kept).0 noted kept) l (call_at seat (point_of e) kept) (reply_of e) (λ s. refl) (λ x. x) h
+
+  passes : AtPasses seat Anything At
+  passes none_comes noted kept l = λ h e. fewer a t kept.tx_done ⊥ _ l (λ x. absurd (omega (arith, x.0))) h
+  passes (waits packet s) noted kept l = λ h e. fewer a t kept.tx_done ⊥ _ l (λ x. absurd (omega (arith, x.0))) h
+  passes visited noted kept l = λ h e. fewer a t kept.tx_done _ _ l (λ x. (below, x)) h
+  passes idles noted kept l = λ h e. fewer a t kept.tx_done _ ⊥ l (λ x. absurd x) h
+  passes p noted kept l = λ h e. h
+
+  law : IsLaw seat Anything At Asked Over
+  law = record {
+    calls = λ p noted kept l known h. tt;
+    entries = entries;
+    passes = passes;
+    ends = λ noted kept l n known h x q. (still a t kept.tx_done (Quiet noted kept) (Quiet noted kept) l (Swap (Gone seat.pair) 1) (Old n) (λ s. refl) (λ x. x) h).empty known;
+  }
 
 pub drains_tx : DrainsTx
 drains_tx c d class input l whole below =
     let seat = seat_of c d in
-    holds_of_whole c d input Anything (Always seat class below) (Over seat class below) (At seat class below) (keeps seat class below) l
-    (record { unseen = refl; empty = λ x. absurd x }) (meet_anything (turn seat) _ [] l) whole
+    at_end seat Anything (At seat class below) (Asked seat class below) (Over seat class below) (law seat class below) (start (classes_of c) input)
+    (record { unseen = refl; empty = λ x. absurd x }) l (meet_anything (turn seat) _ [] l) whole.0 whole.1

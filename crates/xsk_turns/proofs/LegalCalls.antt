@@ -1,23 +1,11 @@
 -- What an entry leaves of what its caller has, and single calls that are legal.
 use Rattle.std.proofs.Common.{◌≡◌, ℕ, ◌+◌, ◌-◌, ◌<◌, ◌≤◌, List, length, ap, ◌∙◌, arith}
-use Rattle.xsk_umem.specs.declared.batch.Item.{Item}
-use Rattle.xsk_model.specs.Config.{Config, HasRing, callers_of}
-use Rattle.xsk_model.specs.Numbers.{times, numbers, without}
-use Rattle.xsk_model.specs.Marks.{HasMark, IsMarkNumber, MaySwap}
-use Rattle.xsk_model.specs.Rings.{producer, consumer}
-use Rattle.xsk_model.specs.Object.{submitted, taken}
-use Rattle.xsk_model.specs.Entry.{Told, with_told}
-use Rattle.xsk_model.specs.Own.{had_of, room_of, held_of, room_step, held_step}
-use Rattle.xsk_model.specs.Legal.{IsLegal}
-use Rattle.xsk_model.specs.declared.call.Ring.{Ring}
-use Rattle.xsk_model.specs.declared.call.Mark.{Mark}
-use Rattle.xsk_model.specs.declared.call.Call.{Call}
-use Rattle.xsk_model.specs.declared.call.Call.TheVariants.{Reserve, Peek, Release, Swap, Look}
-use Rattle.xsk_model.specs.declared.call.Reply.{Reply}
-use Rattle.xsk_model.specs.declared.call.Reply.TheVariants.{Granted, Items}
+use Rattle.xsk_turns.proofs.Calls.{Item, Told, with_told, Ring, Mark, Call, Reserve, Peek, Release, Swap, Look, Reply, Granted, Items}
+use Rattle.xsk_turns.proofs.Object.{Config, HasRing, callers_of, producer, consumer, HasMark, IsMarkNumber, MaySwap, times, numbers, without, submitted, taken, had_of, room_of, held_of, room_step, held_step, IsLegal}
 use Rattle.xsk_model.proofs.Folds.{had_of-push, part_of-push_same}
 use Rattle.xsk_model.proofs.Counting.{times-append, times-without}
 use Rattle.xsk_model.proofs.Places.{is_ring-self}
+use Rattle.xsk_turns.proofs.Walks.{Due, nothing_due, submit_due, release_due}
 
 -- ---- what an entry leaves
 
@@ -37,6 +25,12 @@ pub held_told : (l : List Told) (r : Ring) (n : ℕ) (items : List Item) → len
 held_told l r n items =
     let e = part_of-push_same held_step r 0 l (record { call = Peek r n; reply = Items items }) (is_ring-self r) in
     omega (arith, e)
+
+-- what is due: the room is there, and the items are held
+abbrev pub IsDue : Due → List Told → Type 0
+IsDue nothing_due l = Unit {0}
+IsDue (submit_due r n) l = n ≤ room_of r l
+IsDue (release_due r n) l = (1 ≤ n) × (n ≤ 32) × (n ≤ held_of r l)
 
 -- ---- single calls
 

@@ -1,21 +1,10 @@
 -- Each call that a driver gives is legal, and what it keeps goes on.
-use Rattle.std.proofs.Common.{◌≡◌, ℕ, zero, suc, ◌+◌, ◌*◌, ◌<◌, ◌≤◌, ◌⊎◌, Bool, true, false, cond, eqb, inl, inr, List, [], ◌∷◌, ◌++◌, length, get_or, take, drop, map, flat_map, All, refl, sym, ap, subst, ◌∙◌, ⊎_elim, arith, append-nil, length-append, length-take-le, eq-eqb, ne_eqb}
-use Rattle.std.specs.Prelude.{IsTrue}
+use Rattle.std.proofs.Common.{◌≡◌, ℕ, zero, suc, ◌+◌, ◌*◌, ◌<◌, ◌≤◌, ◌⊎◌, Bool, true, false, cond, eqb, inl, inr, List, [], ◌∷◌, ◌++◌, length, get_or, take, drop, map, flat_map, All, refl, sym, ap, subst, ◌∙◌, ⊎_elim, arith, append-nil, length-append, length-take-le, eq-eqb, ne_eqb, IsTrue}
 use Rattle.std.proofs.lemmas.Bool.{cases_eq}
 use Rattle.std.proofs.lemmas.List.{length-map, length-drop, nil_from_length}
 use Rattle.std.proofs.lemmas.List.Elements.{All-nil, All-cons, All-head, All-tail, All-take, All-drop, All-weaker}
-use Rattle.xsk_umem.specs.Frame.{Frame}
-use Rattle.xsk_umem.specs.Geometry.{payload_of}
-use Rattle.xsk_umem.specs.declared.batch.Item.{Item}
-use Rattle.xsk_model.specs.Config.{Config, classes_of}
-use Rattle.xsk_model.specs.Packets.{IsLayout, IsWhole}
-use Rattle.xsk_model.specs.Numbers.{times, numbers}
-use Rattle.xsk_model.specs.Entry.{Told}
-use Rattle.xsk_model.specs.Own.{room_of, is_from_fill, completed_by, waiting, sending_of}
-use Rattle.xsk_model.specs.Legal.{IsLegal, AreReceived}
-use Rattle.xsk_model.specs.declared.call.Ring.TheVariants.{Comp, Rx}
-use Rattle.xsk_model.specs.declared.call.Call.TheVariants.{Submit}
-use Rattle.xsk_model.specs.Sent.{sockets_of}
+use Rattle.xsk_turns.proofs.Object.{payload_of, Frame, Config, classes_of, times, numbers, IsLayout, IsWhole, room_of, is_from_fill, completed_by, waiting, sending_of, IsLegal, AreReceived, sockets_of}
+use Rattle.xsk_turns.proofs.Calls.{Item, Told, Comp, Rx, Submit}
 use Rattle.xsk_model.proofs.Completions.{one_completion}
 use Rattle.xsk_model.proofs.Counting.{times-append}
 use Rattle.xsk_turns.specs.Turns.{Kept, seat_of, limit_of, pieces_of, laid_out, returned}

@@ -5,25 +5,8 @@ use Rattle.std.proofs.lemmas.List.{drop-append-le, length-replicate, map-append}
 use Rattle.std.proofs.lemmas.List.Concat.{flat_map-append}
 use Rattle.std.proofs.lemmas.List.Elements.{All-nil, All-cons, All-append, All-weaker}
 use Rattle.std.proofs.lemmas.List.Sums.{fold_push}
-use Rattle.xsk_umem.specs.Frame.{Frame}
-use Rattle.xsk_umem.specs.Geometry.{Geometry}
-use Rattle.xsk_umem.specs.declared.batch.Item.{Item}
-use Rattle.xsk_model.specs.Config.{Config, classes_of}
-use Rattle.xsk_model.specs.Packets.{Packet, whole, bad, items_of, packets, packets_from, rest, rest_from, whole_packets}
-use Rattle.xsk_model.specs.Numbers.{times, number_of, numbers}
-use Rattle.xsk_model.specs.Rings.{is_ring}
-use Rattle.xsk_model.specs.Object.{submitted, taken}
-use Rattle.xsk_model.specs.Entry.{Told, with_told}
-use Rattle.xsk_model.specs.Own.{Sending, had_of, is_on, is_fill_peek, fill_step, is_from_fill, peeked_step, peeked_of, completed_by, waiting, sending_after, sending_of}
-use Rattle.xsk_model.specs.Legal.{IsLegal}
-use Rattle.xsk_model.specs.History.{Fits, AreFresh, OwnGoesOn}
-use Rattle.xsk_model.specs.Sent.{completed_in}
-use Rattle.xsk_model.specs.declared.call.Ring.{Ring}
-use Rattle.xsk_model.specs.declared.call.Ring.TheVariants.{Fill, Comp, Rx, Tx}
-use Rattle.xsk_model.specs.declared.call.Call.{Call}
-use Rattle.xsk_model.specs.declared.call.Call.TheVariants.{Reserve, Submit, Peek, Release, Swap, Look}
-use Rattle.xsk_model.specs.declared.call.Reply.{Reply}
-use Rattle.xsk_model.specs.declared.call.Reply.TheVariants.{Items}
+use Rattle.xsk_turns.proofs.Object.{Geometry, Frame, Config, classes_of, is_ring, times, number_of, numbers, Packet, whole, bad, items_of, packets, packets_from, rest, rest_from, whole_packets, submitted, taken, Sending, had_of, is_on, is_fill_peek, fill_step, is_from_fill, peeked_step, peeked_of, completed_by, waiting, sending_after, sending_of, IsLegal, Fits, AreFresh, OwnGoesOn, completed_in, submitted_of, submitted_step}
+use Rattle.xsk_turns.proofs.Calls.{Item, Told, with_told, Ring, Fill, Comp, Rx, Tx, Call, Reserve, Submit, Peek, Release, Swap, Look, Reply, Items}
 use Rattle.xsk_model.proofs.Counting.{times-append, times-flat_map-set}
 use Rattle.xsk_model.proofs.Completions.{own_kept, times-numbers-append}
 use Rattle.xsk_model.proofs.Folds.{part_of-push, part_of-push_same, part_of-push_other}
@@ -93,28 +76,16 @@ all_one P (suc n) x h = All-cons P x (replicate n x) h (all_one P n x h)
 -- ---- calls that move no frame and complete nothing
 
 abbrev pub IsQuiet : Call → Type 0
-IsQuiet (Reserve r n) = Unit {0}
 IsQuiet (Submit r items) = ⊥
-IsQuiet (Peek r n) = Unit {0}
-IsQuiet (Release r n) = Unit {0}
-IsQuiet (Swap m value) = Unit {0}
-IsQuiet (Look m) = Unit {0}
+IsQuiet call = Unit {0}
 
 quiet_none : (call : Call) → IsQuiet call → submitted call ≡ []
-quiet_none (Reserve r n) q = refl
 quiet_none (Submit r items) q = absurd q
-quiet_none (Peek r n) q = refl
-quiet_none (Release r n) q = refl
-quiet_none (Swap m value) q = refl
-quiet_none (Look m) q = refl
+quiet_none call q = refl
 
 pub quiet_done : (c : Config) (sockets : List ℕ) (l : List Told) (call : Call) → IsQuiet call → completed_in c sockets l call ≡ []
-quiet_done c sockets l (Reserve r n) q = refl
 quiet_done c sockets l (Submit r items) q = absurd q
-quiet_done c sockets l (Peek r n) q = refl
-quiet_done c sockets l (Release r n) q = refl
-quiet_done c sockets l (Swap m value) q = refl
-quiet_done c sockets l (Look m) q = refl
+quiet_done c sockets l call q = refl
 
 pub owned_quiet : (c : Config) (pair : ℕ) (kept : Kept) (call : Call) (l : List Told) → IsQuiet call → HasKept c pair kept l → Owned c pair kept call l
 owned_quiet c pair kept call l q h = record {
@@ -156,6 +127,13 @@ cond_same false xs ys h = refl
 pub peeked_none : (r : Ring) (l : List Told) (call : Call) (reply : Reply) → taken reply ≡ [] → peeked_of r (with_told l call reply) ≡ peeked_of r l
 peeked_none r l call reply none = part_of-push peeked_step r [] l (record { call = call; reply = reply }) ∙ cond_same (is_on r call) (peeked_of r l) (taken reply) none
 
+pub none_submitted : (r : Ring) (l : List Told) (call : Call) (reply : Reply) → submitted call ≡ [] → submitted_of r (with_told l call reply) ≡ submitted_of r l
+none_submitted r l call reply e =
+    part_of-push submitted_step r [] l (record { call = call; reply = reply }) ∙ cond_same (is_on r call) (submitted_of r l) (submitted call) e
+
+pub other_submitted : (r : Ring) (l : List Told) (call : Call) (reply : Reply) → is_on r call ≡ false → submitted_of r (with_told l call reply) ≡ submitted_of r l
+other_submitted r l call reply e = part_of-push_other submitted_step r [] l (record { call = call; reply = reply }) e
+
 from_fill-push : (n : ℕ) (l : List Told) (call : Call) (reply : Reply)
     → is_from_fill n (with_told l call reply) ≡ cond (nat_lt 0 (times n (numbers (taken reply)))) (is_fill_peek call) (is_from_fill n l)
 from_fill-push n l call reply = fold_push (fill_step n) false l (record { call = call; reply = reply })
@@ -170,8 +148,6 @@ cond_waits false c u items none = refl
 
 waits_after : (c : Config) (s : ℕ) (l : List Told) (call : Call) (reply : Reply) (ws : List (List Item)) → taken reply ≡ []
     → completed_in c (s ∷ []) l call ++ ws ≡ waiting c (sending_of c s l) → ws ≡ waiting c (sending_after c s (sending_of c s l) call reply)
-waits_after c s l (Reserve r n) reply ws none h = h
-waits_after c s l (Submit (Fill d) items) reply ws none h = h
 waits_after c s l (Submit (Comp d) items) reply ws none h =
     let u = sending_of c s l in
     let done = completed_by items (waiting c u) in
@@ -179,12 +155,8 @@ waits_after c s l (Submit (Comp d) items) reply ws none h =
     sym (drop_at done ws (length done) refl)
     ∙ ap (λ (xs : List (List Item)). drop (length done) xs) (sym front ∙ h)
     ∙ drop-drop (length done) u.completed (wholes c u)
-waits_after c s l (Submit (Rx t) items) reply ws none h = h
-waits_after c s l (Submit (Tx t) items) reply ws none h = h
 waits_after c s l (Peek r n) reply ws none h = h ∙ sym (cond_waits (is_ring (Tx s) r) c (sending_of c s l) (taken reply) none)
-waits_after c s l (Release r n) reply ws none h = h
-waits_after c s l (Swap m value) reply ws none h = h
-waits_after c s l (Look m) reply ws none h = h
+waits_after c s l call reply ws none h = h
 
 -- an entry that brings no frame
 pub has_told : (c : Config) (pair : ℕ) (kept : Kept) (call : Call) (reply : Reply) (l : List Told) → Owned c pair kept call l → IsLegal c l pair call → Fits c l call reply

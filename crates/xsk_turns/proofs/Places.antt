@@ -1,22 +1,32 @@
 -- The rings and marks of a driver in a regular configuration, and the numbers of its calls.
-use Rattle.std.proofs.Common.{◌≡◌, ℕ, zero, suc, ◌+◌, ◌*◌, ◌/◌, ◌%◌, ◌<◌, ◌≤◌, min, Bool, true, false, cond, eqb, ◌&&◌, get_or, eq-eqb, Option, None, Some, List, [], ◌∷◌, ◌++◌, length, flat_map, All, IfSome, sym, ap, ◌∙◌, arith, mul-le-mul_right}
+use Rattle.std.proofs.Common.{◌≡◌, ℕ, zero, suc, ◌+◌, ◌*◌, ◌/◌, ◌%◌, ◌<◌, ◌≤◌, min, Bool, true, false, cond, eqb, ◌&&◌, get_or, eq-eqb, Option, None, Some, List, [], ◌∷◌, ◌++◌, length, flat_map, All, IfSome, sym, ap, ◌∙◌, arith, mul-le-mul_right, ◌⊎◌, inl, inr}
 use Rattle.std.proofs.lemmas.Bool.{and_from}
+use Rattle.std.proofs.Math.Nat.{div-lt_iff_lt-mul}
 use Rattle.std.proofs.lemmas.Nat.{div-mul-add}
 use Rattle.std.proofs.lemmas.List.Elements.{All-head, All-tail}
-use Rattle.xsk_model.specs.Config.{Config, pair_at, IsConfig, IsBound, IsServed, IsRingSize, HasRing, socket_at, callers_of, classes_of, batch_of, least, pair_sizes, size_or_none, socket_sizes}
-use Rattle.xsk_model.specs.Numbers.{times}
-use Rattle.xsk_model.specs.Sent.{sockets_from, sockets_of}
-use Rattle.xsk_model.specs.Marks.{apps_of}
-use Rattle.xsk_model.specs.Rings.{port_of, queue_of, producer, consumer}
-use Rattle.xsk_model.specs.declared.config.PairInfo.{PairInfo}
-use Rattle.xsk_model.specs.declared.config.SocketInfo.{SocketInfo}
+use Rattle.xsk_turns.proofs.Object.{Config, pair_at, IsConfig, IsBound, IsServed, IsRingSize, HasRing, socket_at, callers_of, classes_of, batch_of, least, pair_sizes, size_or_none, socket_sizes, PairInfo, SocketInfo, port_of, queue_of, producer, consumer, apps_of, times, sockets_from, sockets_of, IsRegular}
 use Rattle.xsk_model.specs.declared.call.Ring.TheVariants.{Fill, Rx, Tx}
 use Rattle.xsk_model.proofs.Least.{least-append}
 use Rattle.xsk_model.proofs.Roles.{pair_on_only, app_of_below}
 use Rattle.xsk_turns.specs.Turns.{seat_of, application_of}
-use Rattle.xsk_turns.specs.Owned.{IsHere}
-use Rattle.xsk_turns.specs.Owned.{IsSeat, socket_at_class}
-use Rattle.xsk_turns.proofs.Seats.{queues_some, port_within}
+use Rattle.xsk_turns.specs.Owned.{IsSeat, IsHere, socket_at_class}
+
+-- ---- the pairs
+
+pub queues_some : (q : ℕ) → ((q ≡ 1) ⊎ (q ≡ 2) ⊎ (q ≡ 4)) → 0 < q
+queues_some q h = elim h [ inl e ↦ omega arith | inr f ↦ elim f [ inl e ↦ omega arith | inr e ↦ omega arith ] ]
+
+pub port_within : (c : Config) (d : ℕ) → IsConfig c → IsRegular c → d < length c.pairs → (pair_at c.pairs d).port < c.ports
+port_within c d is regular within =
+    let some : 0 < c.queues = queues_some c.queues is.queues in
+    let below : d < c.ports * c.queues = omega (arith, regular.pairs) in
+    rw (regular.seats d within).0 ((div-lt_iff_lt-mul {k = c.queues} {x = d} {y = c.ports} some).1 below)
+
+pub queue_within : (c : Config) (d : ℕ) → IsConfig c → IsRegular c → d < length c.pairs → (pair_at c.pairs d).queue < 4
+queue_within c d is regular within =
+    let some : 0 < c.queues = queues_some c.queues is.queues in
+    let few : c.queues ≤ 4 = elim is.queues [ inl e ↦ omega arith | inr f ↦ elim f [ inl e ↦ omega arith | inr e ↦ omega arith ] ] in
+    rw (regular.seats d within).1 (omega (arith, some, few))
 
 -- ---- the batch
 

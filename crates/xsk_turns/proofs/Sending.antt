@@ -1,19 +1,8 @@
 -- Giving back the first finished packet completes that packet alone, and no other call completes any.
 use Rattle.std.proofs.Common.{◌≡◌, ℕ, ◌≤◌, Bool, true, false, cond, List, [], ◌∷◌, ◌++◌, length, get_or, map, flat_map, refl, sym, ap, subst, ◌∙◌, ⊎_elim, arith, append_assoc, append-nil, length-append, ne_eqb}
 use Rattle.std.proofs.lemmas.Bool.{cases_eq}
-use Rattle.xsk_model.specs.Config.{Config}
-use Rattle.xsk_model.specs.Packets.{bytes_of}
-use Rattle.xsk_model.specs.Numbers.{times}
-use Rattle.xsk_model.specs.Object.{taken}
-use Rattle.xsk_model.specs.Entry.{Told, with_told}
-use Rattle.xsk_model.specs.Own.{completed_by, waiting, sending_of}
-use Rattle.xsk_model.specs.Legal.{IsLegal}
-use Rattle.xsk_model.specs.History.{Fits}
-use Rattle.xsk_model.specs.Sent.{sockets_of, completed_in, sent_from}
-use Rattle.xsk_model.specs.declared.call.Ring.TheVariants.{Fill, Comp, Rx, Tx}
-use Rattle.xsk_model.specs.declared.call.Call.{Call}
-use Rattle.xsk_model.specs.declared.call.Call.TheVariants.{Reserve, Submit, Peek, Release, Swap, Look}
-use Rattle.xsk_model.specs.declared.call.Reply.{Reply}
+use Rattle.xsk_turns.proofs.Object.{Config, times, bytes_of, taken, completed_by, waiting, sending_of, IsLegal, Fits, sockets_of, completed_in, sent_from}
+use Rattle.xsk_turns.proofs.Calls.{Told, with_told, Fill, Comp, Rx, Tx, Call, Reserve, Submit, Peek, Release, Swap, Look, Reply}
 use Rattle.xsk_model.specs.declared.call.Act.TheVariants.{Call as Gave, Ended as IsEnded}
 use Rattle.xsk_model.proofs.Completions.{one_completion}
 use Rattle.xsk_turns.specs.Turns.{Kept, seat_of, returned}
@@ -76,14 +65,7 @@ completed_first c pair seat kept l h some legal =
 
 completes_none : (c : Config) (sockets : List ℕ) (l : List Told) (call : Call) → is_completing call ≡ false → completed_in c sockets l call ≡ []
 completes_none c sockets l (Submit (Comp d) items) e = absurd (cc)
-completes_none c sockets l (Submit (Fill d) items) e = refl
-completes_none c sockets l (Submit (Rx s) items) e = refl
-completes_none c sockets l (Submit (Tx s) items) e = refl
-completes_none c sockets l (Reserve r n) e = refl
-completes_none c sockets l (Peek r n) e = refl
-completes_none c sockets l (Release r n) e = refl
-completes_none c sockets l (Swap m value) e = refl
-completes_none c sockets l (Look m) e = refl
+completes_none c sockets l call e = refl
 
 module _ (c : Config) (pair : ℕ) (seat : IsSeat c pair) (l : List Told) (kept : Kept) (call : Call) (reply : Reply) (owned : Owned c pair kept call l) (legal : IsLegal c l pair call) (fits : Fits c l call reply) where
   by_call : (next : Call) (b : Bool) → is_completing next ≡ b → (is_completing next ≡ true → Completes pair kept reply next) → IsLegal c (with_told l call reply) pair next

@@ -10,6 +10,7 @@ use Rattle.xsk_model.specs.Opening.{home_item}
 use Rattle.xsk_model.specs.Entry.{Told}
 use Rattle.xsk_turns.specs.Script.{Script, ask, again, ended, granted_or_full, on_submitted, items_or_empty, on_released, on_old, IsRun, IsWhole}
 use Rattle.xsk_model.specs.declared.call.Ring.TheVariants.{Fill, Comp, Rx, Tx}
+use Rattle.xsk_model.specs.declared.call.Mark.{Mark}
 use Rattle.xsk_model.specs.declared.call.Mark.TheVariants.{RxDone, Gone, TxDone}
 use Rattle.xsk_model.specs.declared.call.Call.TheVariants.{Reserve, Submit, Peek, Release, Swap, Look}
 use Rattle.xsk_turns.specs.Turns.{frames_in}
@@ -156,19 +157,19 @@ with_seen kept side done = if done == 1 then record kept { seen = slice_set kept
 abbrev pub with_gone : AppKept → ℕ → ℕ → AppKept
 with_gone kept side gone = if gone == 1 then record kept { gone = slice_set kept.gone side true } else kept
 
--- so many more sides, from this one on: each whose driver has not told yet that it has no further packet is asked
-abbrev pub look_rx_done : Config → ℕ → ℕ → ℕ → AppKept → Script AppKept
-look_rx_done c app zero side kept = again kept
-look_rx_done c app (suc more) side kept =
-    if is_set kept.seen side then look_rx_done c app more (side + 1) kept
-    else ask kept (Look (RxDone (pair_of c app side))) (on_old (λ done. look_rx_done c app more (side + 1) (with_seen kept side done)))
+-- so many more sides, from this one on: the mark of each that isn't kept as set is looked at
+abbrev pub look_marks : (AppKept → List Bool) → (ℕ → Mark) → (AppKept → ℕ → ℕ → AppKept) → ℕ → ℕ → AppKept → Script AppKept
+look_marks flags mark with_flag zero side kept = again kept
+look_marks flags mark with_flag (suc more) side kept =
+    if is_set (flags kept) side then look_marks flags mark with_flag more (side + 1) kept
+    else ask kept (Look (mark side)) (on_old (λ number. look_marks flags mark with_flag more (side + 1) (with_flag kept side number)))
 
--- so whether the driver has ended
+-- whether each driver has no further packet, and whether it has ended
+abbrev pub look_rx_done : Config → ℕ → ℕ → ℕ → AppKept → Script AppKept
+look_rx_done c app = look_marks (λ (kept : AppKept). kept.seen) (λ side. RxDone (pair_of c app side)) with_seen
+
 abbrev pub look_gone : Config → ℕ → ℕ → ℕ → AppKept → Script AppKept
-look_gone c app zero side kept = again kept
-look_gone c app (suc more) side kept =
-    if is_set kept.gone side then look_gone c app more (side + 1) kept
-    else ask kept (Look (Gone (pair_of c app side))) (on_old (λ gone. look_gone c app more (side + 1) (with_gone kept side gone)))
+look_gone c app = look_marks (λ (kept : AppKept). kept.gone) (λ side. Gone (pair_of c app side)) with_gone
 
 -- Where both drivers had told that they have no further packet as the turn began, and each lane was empty in it, it tells
 -- that it sends nothing more.

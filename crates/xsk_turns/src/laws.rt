@@ -10,11 +10,13 @@ ghost use Rattle.xsk_turns.specs.Law.{EachDisposedOnce, DeliversInOrder, Nothing
 ghost use Rattle.xsk_turns.specs.Owned.{KeepsFrames, KeepsFramesAtEnd, LeavesRoom};
 
 /// At each call that a driver makes, its frames are those that it peeked and didn't submit, and the call is legal.
+#[tactic(auto, using(crate::proofs::Owning::keeps_frames))]
 pub fn keeps_frames()
     ensures { KeepsFrames }
 {}
 
 /// So are its frames at its end.
+#[tactic(auto, using(crate::proofs::Owning::keeps_frames_at_end))]
 pub fn keeps_frames_at_end()
     ensures { KeepsFramesAtEnd }
 {}
@@ -25,31 +27,37 @@ pub fn leaves_room()
 {}
 
 /// At each call each counter is a count over the driver's own calls and replies, and the disposals of its packets.
+#[tactic(auto, using(crate::proofs::Counting::keeps_counters))]
 pub fn keeps_counters()
     ensures { KeepsCounters }
 {}
 
 /// So it is at its end.
+#[tactic(auto, using(crate::proofs::Counting::keeps_counters_at_end))]
 pub fn keeps_counters_at_end()
     ensures { KeepsCountersAtEnd }
 {}
 
 /// At each call the disposals are those that the driver's attempts leave.
+#[tactic(auto, using(crate::proofs::Disposing::keeps_disposals))]
 pub fn keeps_disposals()
     ensures { KeepsDisposals }
 {}
 
 /// At its end all packets have one.
+#[tactic(auto, using(crate::proofs::Disposing::disposes_all))]
 pub fn disposes_all()
     ensures { DisposesAll }
 {}
 
 /// In a whole run each packet of the input has one disposal, in order: the one that the configuration says.
+#[tactic(auto, using(crate::proofs::Saying::each_disposed_once))]
 pub fn each_disposed_once()
     ensures { EachDisposedOnce }
 {}
 
 /// In a whole run what was submitted on an RX ring are the layouts of the packets that are delivered there, in order.
+#[tactic(auto, using(crate::proofs::Delivering::delivers_in_order))]
 pub fn delivers_in_order()
     ensures { DeliversInOrder }
 {}
@@ -75,36 +83,43 @@ pub fn completes_all()
 {}
 
 /// At each call that an application makes, its frames are those that it peeked and didn't submit.
+#[tactic(auto, using(crate::proofs::AppOwning::app_keeps_frames))]
 pub fn app_keeps_frames()
     ensures { AppKeepsFrames }
 {}
 
 /// So they are at its end.
+#[tactic(auto, using(crate::proofs::AppOwning::app_keeps_frames_at_end))]
 pub fn app_keeps_frames_at_end()
     ensures { AppKeepsFramesAtEnd }
 {}
 
 /// Each call that the configuration's only application makes is legal.
+#[tactic(auto, using(crate::proofs::AppOwning::app_calls_legal))]
 pub fn app_calls_legal()
     ensures { AppCallsLegal }
 {}
 
 /// On each lane of an application the items submitted are the first of those peeked, in order and as they were.
+#[tactic(auto, using(crate::proofs::AppLanes::lanes_in_order))]
 pub fn lanes_in_order()
     ensures { LanesInOrder }
 {}
 
 /// In a whole run they are all of those.
+#[tactic(auto, using(crate::proofs::AppLanes::lanes_passed_on))]
 pub fn lanes_passed_on()
     ensures { LanesPassedOn }
 {}
 
 /// Nothing is submitted on TX once the application told that it sends nothing more.
+#[tactic(auto, using(crate::proofs::AppLanes::nothing_sent_late))]
 pub fn nothing_sent_late()
     ensures { NothingSentLate }
 {}
 
 /// In a whole run each lane's RX ring was found empty after both drivers had told that they have no further packet.
+#[tactic(auto, using(crate::proofs::AppLanes::drains_rx))]
 pub fn drains_rx()
     ensures { DrainsRx }
 {}

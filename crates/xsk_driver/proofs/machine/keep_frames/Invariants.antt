@@ -1,5 +1,4 @@
-use Rattle.std.proofs.Common.{◌≡◌, ◌≤◌, ◌+◌, length}
-use Rattle.std.specs.Prelude.{All}
+use Rattle.std.proofs.Common.{◌≡◌, ◌≤◌, ◌+◌, length, All}
 use Rattle.std.specs.VecDeque.{deque_capacity}
 use Rattle.xsk_turns.specs.Turns.{frames_in}
 use Rattle.xsk_driver.specs.Groups.{IsWholeFrame}

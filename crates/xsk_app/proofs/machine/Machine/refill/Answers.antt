@@ -1,7 +1,5 @@
 use Rattle.std.proofs.Common.{arith, ◌≡◌, map, take, drop, List, [], ap, ◌∙◌}
-use Rattle.xsk_umem.specs.Geometry.{Geometry}
-use Rattle.xsk_umem.specs.Frame.{Frame}
-use Rattle.xsk_model.specs.Opening.{home_item}
+use Rattle.xsk_turns.proofs.Object.{Geometry, Frame, home_item}
 use Rattle.std.proofs.lemmas.List.{get_or_default}
 use Rattle.xsk_turns.specs.AppTurns.{back_at}
 use Rattle.xsk_app.specs.Stands.{noted_by, kept_by}

@@ -1,6 +1,5 @@
 use Rattle.std.proofs.Common.{◌≡◌, Option, None, Some, List, [], refl, sym, ap}
-use Rattle.xsk_umem.specs.declared.batch.Item.{Item}
-use Rattle.xsk_model.specs.declared.ask.Answer.{Answer}
+use Rattle.xsk_turns.proofs.Calls.{Item, Answer}
 use Rattle.xsk_turns.specs.Stepping.{joined_answer, joined_ask}
 use Rattle.xsk_driver.specs.Shown.{Shown}
 use Rattle.xsk_driver.proofs.Standing.{stands_new, stands_next}

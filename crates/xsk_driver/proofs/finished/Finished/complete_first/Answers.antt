@@ -1,6 +1,4 @@
-use Rattle.std.proofs.Common.{◌≡◌, ◌≤◌, ◌∷◌, ◌∙◌, sym, ap, length, List, subst, arith, rules}
-use Rattle.std.specs.Prelude.{All}
-use Rattle.std.specs.List.{sum}
+use Rattle.std.proofs.Common.{◌≡◌, ◌≤◌, ◌∷◌, ◌∙◌, sym, ap, length, List, subst, arith, rules, All, sum}
 use Rattle.std.proofs.lemmas.List.Elements.{All-tail}
 use Rattle.xsk_umem.specs.declared.batch.Item.{Item}
 use Rattle.xsk_driver.proofs.Packing.{sum_later}

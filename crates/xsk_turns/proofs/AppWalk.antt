@@ -1,0 +1,398 @@
+-- The one walk along an application's turns. A law of its runs says what holds at each place of a turn, and what each entry
+-- of the list, a call with its reply, makes of it; then it holds along every run.
+use Rattle.std.proofs.Common.{◌≡◌, ℕ, zero, suc, ◌+◌, ◌-◌, ◌<◌, ◌≤◌, Bool, true, false, ◌&&◌, eqb, List, [], ◌∷◌, length, drop, map, refl, sym, ap, ◌∙◌, subst, arith}
+use Rattle.xsk_turns.proofs.Object.{Frame, Config, pool_of, batch_of, home_item}
+use Rattle.xsk_turns.proofs.Calls.{Item, Told, with_told, Fill, Comp, Rx, Tx, Mark, RxDone, Gone, TxDone, Call, Reserve, Submit, Peek, Release, Swap, Look, Reply, Granted, Full, Submitted, Items, Empty, Released, Old}
+use Rattle.xsk_turns.specs.Script.{Script, ask, again, ended, on_submitted, Asks, Ends, IsRun, Leaves}
+use Rattle.xsk_turns.specs.Turns.{frames_in}
+use Rattle.xsk_turns.specs.AppTurns.{AppKept, AppNoted, pair_of, rx_of, tx_of, lanes_of, home_of, group_of, both, is_set, is_none, pending_at, with_pending, back_at, with_back, pass_on, receive_lane, visit_lane, visit_lanes, give_back, complete_side, visit_side, visit_sides, with_seen, with_gone, look_marks, look_rx_done, look_gone, end_turn, turn_sides, noted_first, app_turn}
+use Rattle.xsk_turns.specs.AppOwned.{IsApp}
+use Rattle.xsk_turns.proofs.AppGroups.{with_back-again, with_back-same, group_some, shorter}
+use Rattle.xsk_turns.proofs.Places.{batch_some}
+use Rattle.xsk_turns.proofs.Walks.{Premise, Law, Due, nothing_due, submit_due, release_due, Holds, Says, MeetAlong, at_reserve, at_submit, at_peek, at_release, at_old, by_case, says_left, says_run}
+
+-- ---- the places of a turn, and its calls
+
+-- an application comes to a lane or to a side, is at one, is at the end of its turn, or looks at marks there
+pub data Place : Type 0 where
+  Lanes : ℕ → Place
+  Lane : ℕ → Due → Place
+  Sides : ℕ → Place
+  Side : ℕ → Due → Place
+  Ending : Place
+  Looking : Place
+
+abbrev pub Family : Type 1
+Family = Place → AppNoted → AppKept → List Told → Type 0
+
+-- a lane or a side wasn't empty
+abbrev pub busy_lane : AppNoted → AppNoted
+busy_lane noted = record noted { lanes_empty = false }
+
+abbrev pub busy_side : AppNoted → AppNoted
+busy_side noted = record noted { sides_empty = false }
+
+-- a call, by the lane, or by the side and the frames that it has yet to give back
+pub data Point : Type 0 where
+  PeekRx : ℕ → Point
+  ReleaseRx : ℕ → ℕ → Point
+  ReserveTx : ℕ → Point
+  SubmitTx : ℕ → Point
+  PeekComp : ℕ → Point
+  ReleaseComp : ℕ → ℕ → Point
+  ReserveFill : ℕ → Frame → List Frame → Point
+  SubmitFill : ℕ → Frame → List Frame → Point
+  LookRxDone : ℕ → Point
+  TellTxDone : Point
+  LookGone : ℕ → Point
+
+abbrev pub group : Config → Frame → List Frame → List Frame
+group c frame frames = group_of (pool_of c) (batch_of c) frame frames
+
+-- where each call is given, the call, and what is kept once it is given: a Submit takes its items along
+abbrev pub asked : Config → ℕ → Point → AppKept → Place × Call × AppKept
+asked c a (PeekRx lane) kept = (Lanes lane, Peek (Rx (rx_of c a lane)) (batch_of c), kept)
+asked c a (ReleaseRx lane n) kept = (Lane lane (release_due (Rx (rx_of c a lane)) n), Release (Rx (rx_of c a lane)) n, kept)
+asked c a (ReserveTx lane) kept = (Lane lane nothing_due, Reserve (Tx (tx_of c a lane)) (length (pending_at kept lane)), kept)
+asked c a (SubmitTx lane) kept = (Lane lane (submit_due (Tx (tx_of c a lane)) (length (pending_at kept lane))), Submit (Tx (tx_of c a lane)) (pending_at kept lane), with_pending kept lane [])
+asked c a (PeekComp side) kept = (Sides side, Peek (Comp (pair_of c a side)) (batch_of c), kept)
+asked c a (ReleaseComp side n) kept = (Side side (release_due (Comp (pair_of c a side)) n), Release (Comp (pair_of c a side)) n, kept)
+asked c a (ReserveFill side frame frames) kept = (Side side nothing_due, Reserve (Fill (home_of (pool_of c) frame)) (length (group c frame frames)), with_back kept side (frame ∷ frames))
+asked c a (SubmitFill side frame frames) kept = (Side side (submit_due (Fill (home_of (pool_of c) frame)) (length (group c frame frames))), Submit (Fill (home_of (pool_of c) frame)) (map (home_item c.geometry) (group c frame frames)), with_back kept side (drop (length (group c frame frames)) (frame ∷ frames)))
+asked c a (LookRxDone side) kept = (Looking, Look (RxDone (pair_of c a side)), kept)
+asked c a TellTxDone kept = (Ending, Swap (TxDone a) 1, kept)
+asked c a (LookGone side) kept = (Looking, Look (Gone (pair_of c a side)), kept)
+
+abbrev pub call_at : Config → ℕ → Point → AppKept → Call
+call_at c a p kept = (asked c a p kept).1
+
+abbrev pub kept_at : Config → ℕ → Point → AppKept → AppKept
+kept_at c a p kept = (asked c a p kept).2
+
+-- what is kept before it
+abbrev pub kept_before : Point → AppKept → AppKept
+kept_before (ReserveFill side frame frames) kept = with_back kept side (frame ∷ frames)
+kept_before (SubmitFill side frame frames) kept = with_back kept side (frame ∷ frames)
+kept_before point kept = kept
+
+-- what is known where a call is given
+abbrev pub Known : Config → Point → AppNoted → AppKept → Type 0
+Known c (PeekRx lane) noted kept = (lane < lanes_of c) × (kept.tx_done ≡ false) × (pending_at kept lane ≡ [])
+Known c (ReleaseRx lane n) noted kept = (lane < lanes_of c) × (kept.tx_done ≡ false)
+Known c (ReserveTx lane) noted kept = (lane < lanes_of c) × (kept.tx_done ≡ false)
+Known c (SubmitTx lane) noted kept = (lane < lanes_of c) × (kept.tx_done ≡ false)
+Known c (PeekComp side) noted kept = (side < 2) × (back_at kept side ≡ [])
+Known c (LookRxDone side) noted kept = (side < 2) × (is_set kept.seen side ≡ false)
+Known c TellTxDone noted kept = (kept.tx_done ≡ false) × ((noted.seen && noted.lanes_empty) ≡ true)
+Known c (ReleaseComp side n) noted kept = side < 2
+Known c (ReserveFill side frame frames) noted kept = side < 2
+Known c (SubmitFill side frame frames) noted kept = side < 2
+Known c (LookGone side) noted kept = side < 2
+
+-- ---- what each reply makes of it
+
+pub data Entry : Type 0 where
+  rx_empty : ℕ → Entry
+  rx_items : ℕ → List Item → Entry
+  rx_released : ℕ → ℕ → Entry
+  tx_granted : ℕ → Entry
+  tx_full : ℕ → ℕ → Entry
+  tx_submitted : ℕ → Entry
+  comp_empty : ℕ → Entry
+  comp_items : ℕ → List Item → Entry
+  comp_released : ℕ → ℕ → Entry
+  fill_granted : ℕ → Frame → List Frame → Entry
+  fill_full : ℕ → Frame → List Frame → ℕ → Entry
+  fill_submitted : ℕ → Frame → List Frame → Entry
+  looked_rx_done : ℕ → ℕ → Entry
+  told_tx_done : ℕ → Entry
+  looked_gone : ℕ → ℕ → Entry
+
+abbrev pub told : Entry → Point × Reply
+told (rx_empty lane) = (PeekRx lane, Empty)
+told (rx_items lane items) = (PeekRx lane, Items items)
+told (rx_released lane n) = (ReleaseRx lane n, Released)
+told (tx_granted lane) = (ReserveTx lane, Granted)
+told (tx_full lane free) = (ReserveTx lane, Full free)
+told (tx_submitted lane) = (SubmitTx lane, Submitted)
+told (comp_empty side) = (PeekComp side, Empty)
+told (comp_items side items) = (PeekComp side, Items items)
+told (comp_released side n) = (ReleaseComp side n, Released)
+told (fill_granted side frame frames) = (ReserveFill side frame frames, Granted)
+told (fill_full side frame frames free) = (ReserveFill side frame frames, Full free)
+told (fill_submitted side frame frames) = (SubmitFill side frame frames, Submitted)
+told (looked_rx_done side n) = (LookRxDone side, Old n)
+told (told_tx_done n) = (TellTxDone, Old n)
+told (looked_gone side n) = (LookGone side, Old n)
+
+abbrev pub point_of : Entry → Point
+point_of e = (told e).0
+
+abbrev pub reply_of : Entry → Reply
+reply_of e = (told e).1
+
+-- where each leads, with what is noted and kept there
+abbrev pub leads : Config → ℕ → Entry → AppNoted → AppKept → Place × AppNoted × AppKept
+leads c a (rx_empty lane) noted kept = (Lanes (lane + 1), noted, kept)
+leads c a (rx_items lane items) noted kept = (Lane lane (release_due (Rx (rx_of c a lane)) (length items)), busy_lane noted, with_pending kept lane items)
+leads c a (rx_released lane n) noted kept = (Lane lane nothing_due, noted, kept)
+leads c a (tx_granted lane) noted kept = (Lane lane (submit_due (Tx (tx_of c a lane)) (length (pending_at kept lane))), noted, kept)
+leads c a (tx_full lane free) noted kept = (Lanes (lane + 1), noted, kept)
+leads c a (tx_submitted lane) noted kept = (Lanes (lane + 1), noted, with_pending kept lane [])
+leads c a (comp_empty side) noted kept = (Sides (side + 1), noted, kept)
+leads c a (comp_items side items) noted kept = (Side side (release_due (Comp (pair_of c a side)) (length items)), busy_side noted, with_back kept side (frames_in items))
+leads c a (comp_released side n) noted kept = (Side side nothing_due, noted, kept)
+leads c a (fill_granted side frame frames) noted kept = (Side side (submit_due (Fill (home_of (pool_of c) frame)) (length (group c frame frames))), noted, with_back kept side (frame ∷ frames))
+leads c a (fill_full side frame frames free) noted kept = (Sides (side + 1), noted, with_back kept side (frame ∷ frames))
+leads c a (fill_submitted side frame frames) noted kept = (Side side nothing_due, noted, with_back kept side (drop (length (group c frame frames)) (frame ∷ frames)))
+leads c a (looked_rx_done side n) noted kept = (Looking, noted, with_seen kept side n)
+leads c a (told_tx_done n) noted kept = (Looking, noted, record kept { tx_done = true })
+leads c a (looked_gone side n) noted kept = (Looking, noted, with_gone kept side n)
+
+-- ---- what goes on without a call
+
+pub data Pass : Type 0 where
+  no_lanes : Pass
+  has_items : ℕ → Item → List Item → Pass
+  lanes_done : Pass
+  has_frames : ℕ → Frame → List Frame → Pass
+  all_given : ℕ → Pass
+  sides_done : Pass
+  looks : Pass
+  begins : Pass
+
+abbrev pub Passing : Config → Family → Pass → AppNoted → AppKept → List Told → Type 0
+Passing c At no_lanes noted kept l = At (Lanes 0) noted kept l → kept.tx_done ≡ true → At (Sides 0) noted kept l
+Passing c At (has_items lane item items) noted kept l = At (Lanes lane) noted kept l → pending_at kept lane ≡ item ∷ items → At (Lane lane nothing_due) (busy_lane noted) kept l
+Passing c At lanes_done noted kept l = At (Lanes (lanes_of c)) noted kept l → kept.tx_done ≡ false → At (Sides 0) noted kept l
+Passing c At (has_frames side frame frames) noted kept l = At (Sides side) noted kept l → back_at kept side ≡ frame ∷ frames → At (Side side nothing_due) (busy_side noted) kept l
+Passing c At (all_given side) noted kept l = At (Side side nothing_due) noted kept l → Unit {0} → At (Sides (side + 1)) noted kept l
+Passing c At sides_done noted kept l = At (Sides 2) noted kept l → Unit {0} → At Ending noted kept l
+Passing c At looks noted kept l = At Ending noted kept l → Unit {0} → At Looking noted kept l
+Passing c At begins noted kept l = At Looking noted kept l → Unit {0} → At (Lanes 0) (noted_first kept) kept l
+
+-- ---- a law
+
+-- what is said at each call, and at the end
+abbrev pub Said : Type 1
+Said = AppKept → Call → List Told → Type 0
+
+abbrev pub AtCalls : Config → ℕ → Family → Said → Type 0
+AtCalls c a At A = (p : Point) (noted : AppNoted) (kept : AppKept) (l : List Told) → Known c p noted kept → At (asked c a p kept).0 noted (kept_before p kept) l → A (kept_at c a p kept) (call_at c a p kept) l
+
+abbrev pub AtEntries : Config → ℕ → Premise AppKept → Family → Said → Type 0
+AtEntries c a Q At A = (e : Entry) (noted : AppNoted) (kept : AppKept) (l : List Told) → Known c (point_of e) noted kept
+    → At (asked c a (point_of e) kept).0 noted (kept_before (point_of e) kept) l → A (kept_at c a (point_of e) kept) (call_at c a (point_of e) kept) l
+    → Q (kept_at c a (point_of e) kept) l (call_at c a (point_of e) kept) (reply_of e)
+    → At (leads c a e noted kept).0 (leads c a e noted kept).1 (leads c a e noted kept).2 (with_told l (call_at c a (point_of e) kept) (reply_of e))
+
+abbrev pub AtPasses : Config → Family → Type 0
+AtPasses c At = (p : Pass) (noted : AppNoted) (kept : AppKept) (l : List Told) → Passing c At p noted kept l
+
+pub record IsLaw (c : Config) (a : ℕ) (Q : Premise AppKept) (At : Family) (A : Said) (E : AppKept → List Told → Type 0) : Type 0 where
+  pub calls : AtCalls c a At A
+  pub entries : AtEntries c a Q At A
+  pub passes : AtPasses c At
+  pub ends : (noted : AppNoted) (kept : AppKept) (l : List Told) → kept.tx_done ≡ true → At Ending noted kept l → E kept l
+
+module _ (c : Config) (a : ℕ) (one : IsApp c a) (Q : Premise AppKept) (At : Family) (A : Said) (E : AppKept → List Told → Type 0) (is : IsLaw c a Q At A E) where
+  abbrev law : Law AppKept
+  law = record { begins = λ kept l. At (Lanes 0) (noted_first kept) kept l; asks = A; ends = E }
+
+  abbrev Along : Script AppKept → List Told → Type 0
+  Along s l = Holds Q law s l
+
+  abbrev Continues : Place → (AppNoted → AppKept → Script AppKept) → Type 0
+  Continues place next = (noted : AppNoted) (kept : AppKept) (l : List Told) → At place noted kept l → Along (next noted kept) l
+
+  -- while it still sends
+  abbrev Sends : ℕ → AppNoted → (AppKept → Script AppKept) → Type 0
+  Sends lane noted next = (kept : AppKept) (l : List Told) → kept.tx_done ≡ false → At (Lanes lane) noted kept l → Along (next kept) l
+
+  -- ---- the lanes
+
+  go_pass_on : (lane : ℕ) (noted : AppNoted) (kept : AppKept) (next : AppKept → Script AppKept) (l : List Told) → (lane < lanes_of c) × (kept.tx_done ≡ false)
+      → At (Lane lane nothing_due) noted kept l → Sends (lane + 1) noted next → Along (pass_on c a lane kept next) l
+  go_pass_on lane noted kept next l known h go =
+      let items = pending_at kept lane in
+      let call = Reserve (Tx (tx_of c a lane)) (length items) in
+      let give = Submit (Tx (tx_of c a lane)) items in
+      let granted = with_told l call Granted in
+      let left = with_pending kept lane [] in
+      let asked = is.calls (ReserveTx lane) noted kept l known h in (
+        asked,
+        at_reserve Q law kept call l (ask left give (on_submitted (next left))) (next kept)
+            (λ q.
+            let now = is.entries (tx_granted lane) noted kept l known h asked q in
+            let gives = is.calls (SubmitTx lane) noted kept granted known now in
+            (gives, at_submit Q law left give granted (next left) (λ r. go left (with_told granted give Submitted) known.1 (is.entries (tx_submitted lane) noted kept granted known now gives r))))
+            (λ free q. go kept (with_told l call (Full free)) known.1 (is.entries (tx_full lane free) noted kept l known h asked q)),
+      )
+
+  go_lane : (lane : ℕ) (items : List Item) (noted : AppNoted) (kept : AppKept) (next : AppNoted → AppKept → Script AppKept) (l : List Told) → (lane < lanes_of c) × (kept.tx_done ≡ false)
+      → pending_at kept lane ≡ items → At (Lanes lane) noted kept l → ((noted : AppNoted) → Sends (lane + 1) noted (next noted)) → Along (visit_lane c a lane items noted kept next) l
+  go_lane lane [] noted kept next l known e h go =
+      let r = Rx (rx_of c a lane) in
+      let call = Peek r (batch_of c) in
+      let full = busy_lane noted in
+      let asked = is.calls (PeekRx lane) noted kept l (known.0, known.1, e) h in (
+        asked,
+        at_peek Q law kept call l (receive_lane c a lane kept (next full)) (next noted kept)
+            (λ items q.
+            let more = with_pending kept lane items in
+            let give = Release r (length items) in
+            let peeked = with_told l call (Items items) in
+            let now = is.entries (rx_items lane items) noted kept l (known.0, known.1, e) h asked q in
+            let gives = is.calls (ReleaseRx lane (length items)) full more peeked known now in (
+              gives,
+              at_release Q law more give peeked (pass_on c a lane more (next full))
+                  (λ r. go_pass_on lane full more (next full) (with_told peeked give Released) known (is.entries (rx_released lane (length items)) full more peeked known now gives r) (go full)),
+            ))
+            (λ q. go noted kept (with_told l call Empty) known.1 (is.entries (rx_empty lane) noted kept l (known.0, known.1, e) h asked q)),
+      )
+  go_lane lane (item ∷ items) noted kept next l known e h go =
+      go_pass_on lane (busy_lane noted) kept (next (busy_lane noted)) l known (is.passes (has_items lane item items) noted kept l h e) (go (busy_lane noted))
+
+  go_lanes : (more lane : ℕ) (noted : AppNoted) (kept : AppKept) (next : AppNoted → AppKept → Script AppKept) (l : List Told) → lane + more ≡ lanes_of c → kept.tx_done ≡ false
+      → At (Lanes lane) noted kept l → Continues (Sides 0) next → Along (visit_lanes c a more lane noted kept next) l
+  go_lanes zero lane noted kept next l e sends h go =
+      let all : lane ≡ lanes_of c = omega (arith, e) in go noted kept l (is.passes lanes_done noted kept l (subst (λ k. At (Lanes k) noted kept l) all h) sends)
+  go_lanes (suc more) lane noted kept next l e sends h go =
+      go_lane lane (pending_at kept lane) noted kept (λ noted kept. visit_lanes c a more (lane + 1) noted kept next) l (omega (arith, e), sends) refl h
+      (λ noted kept l sends h. go_lanes more (lane + 1) noted kept next l (omega (arith, e)) sends h go)
+
+  -- ---- the sides
+
+  go_give : (side done : ℕ) (frames : List Frame) (noted : AppNoted) (kept : AppKept) (next : AppNoted → AppKept → Script AppKept) (l : List Told) → side < 2
+      → At (Side side nothing_due) noted (with_back kept side (drop done frames)) l → Continues (Sides (side + 1)) next → Along (give_back c side done frames kept (next noted)) l
+  go_give side zero [] noted kept next l below h go = go noted (with_back kept side []) l (is.passes (all_given side) noted (with_back kept side []) l h tt)
+  go_give side (suc done) [] noted kept next l below h go = go noted (with_back kept side []) l (is.passes (all_given side) noted (with_back kept side []) l h tt)
+  go_give side (suc done) (frame ∷ frames) noted kept next l below h go = go_give side done frames noted kept next l below h go
+  go_give side zero (frame ∷ frames) noted kept next l below h go =
+      let n = length (group c frame frames) in
+      let home = home_of (pool_of c) frame in
+      let now = with_back kept side (frame ∷ frames) in
+      let left = with_back kept side (drop n (frame ∷ frames)) in
+      let call = Reserve (Fill home) n in
+      let give = Submit (Fill home) (map (home_item c.geometry) (group c frame frames)) in
+      let granted = with_told l call Granted in
+      let sent = with_told granted give Submitted in
+      let fewer = shorter n frame frames (group_some (pool_of c) (batch_of c) frame frames (batch_some c one.config)) in
+      let asked = is.calls (ReserveFill side frame frames) noted kept l below h in (
+        asked,
+        at_reserve Q law now call l (ask left give (on_submitted (give_back c side (n - 1) frames kept (next noted)))) (next noted now)
+            (λ q.
+            let has = is.entries (fill_granted side frame frames) noted kept l below h asked q in
+            let gives = is.calls (SubmitFill side frame frames) noted kept granted below has in (
+              gives,
+              at_submit Q law left give granted (give_back c side (n - 1) frames kept (next noted))
+                  (λ r. go_give side (n - 1) frames noted kept next sent below
+                  (subst (λ fs. At (Side side nothing_due) noted (with_back kept side fs) sent) fewer (is.entries (fill_submitted side frame frames) noted kept granted below has gives r)) go),
+            ))
+            (λ free q. go noted now (with_told l call (Full free)) (is.entries (fill_full side frame frames free) noted kept l below h asked q)),
+      )
+
+  go_side : (side : ℕ) (frames : List Frame) (noted : AppNoted) (kept : AppKept) (next : AppNoted → AppKept → Script AppKept) (l : List Told) → side < 2
+      → back_at kept side ≡ frames → At (Sides side) noted kept l → Continues (Sides (side + 1)) next → Along (visit_side c a side frames noted kept next) l
+  go_side side [] noted kept next l below e h go =
+      let r = Comp (pair_of c a side) in
+      let call = Peek r (batch_of c) in
+      let full = busy_side noted in
+      let asked = is.calls (PeekComp side) noted kept l (below, e) h in (
+        asked,
+        at_peek Q law kept call l (complete_side c a side kept (next full)) (next noted kept)
+            (λ items q.
+            let frames = frames_in items in
+            let more = with_back kept side frames in
+            let give = Release r (length items) in
+            let peeked = with_told l call (Items items) in
+            let given = with_told peeked give Released in
+            let now = is.entries (comp_items side items) noted kept l (below, e) h asked q in
+            let gives = is.calls (ReleaseComp side (length items)) full more peeked below now in (
+              gives,
+              at_release Q law more give peeked (give_back c side zero frames more (next full))
+                  (λ r. go_give side zero frames full more next given below
+                  (subst (λ k. At (Side side nothing_due) full k given) (sym (with_back-again kept side frames frames)) (is.entries (comp_released side (length items)) full more peeked below now gives r)) go),
+            ))
+            (λ q. go noted kept (with_told l call Empty) (is.entries (comp_empty side) noted kept l (below, e) h asked q)),
+      )
+  go_side side (frame ∷ frames) noted kept next l below e h go =
+      let same : with_back kept side (frame ∷ frames) ≡ kept = ap (with_back kept side) (sym e) ∙ with_back-same kept side in
+      go_give side zero (frame ∷ frames) (busy_side noted) kept next l below
+      (subst (λ k. At (Side side nothing_due) (busy_side noted) k l) (sym same) (is.passes (has_frames side frame frames) noted kept l h e)) go
+
+  go_sides : (more side : ℕ) (noted : AppNoted) (kept : AppKept) (next : AppNoted → AppKept → Script AppKept) (l : List Told) → side + more ≡ 2
+      → At (Sides side) noted kept l → Continues Ending next → Along (visit_sides c a more side noted kept next) l
+  go_sides zero side noted kept next l e h go =
+      let all : side ≡ 2 = omega (arith, e) in go noted kept l (is.passes sides_done noted kept l (subst (λ k. At (Sides k) noted kept l) all h) tt)
+  go_sides (suc more) side noted kept next l e h go =
+      go_side side (back_at kept side) noted kept (λ noted kept. visit_sides c a more (side + 1) noted kept next) l (omega (arith, e)) refl h
+      (λ noted kept l h. go_sides more (side + 1) noted kept next l (omega (arith, e)) h go)
+
+  -- ---- the end
+
+  go_marks : (flags : AppKept → List Bool) (mark : ℕ → Mark) (with_flag : AppKept → ℕ → ℕ → AppKept) (noted : AppNoted)
+      → ((side : ℕ) (kept : AppKept) (l : List Told) → side < 2 → is_set (flags kept) side ≡ false → At Looking noted kept l
+      → A kept (Look (mark side)) l × ((n : ℕ) → Q kept l (Look (mark side)) (Old n) → At Looking noted (with_flag kept side n) (with_told l (Look (mark side)) (Old n))))
+      → (more side : ℕ) (kept : AppKept) (l : List Told) → side + more ≡ 2 → At Looking noted kept l → Along (look_marks flags mark with_flag more side kept) l
+  go_marks flags mark with_flag noted step zero side kept l e h = is.passes begins noted kept l h tt
+  go_marks flags mark with_flag noted step (suc more) side kept l e h =
+      let on = go_marks flags mark with_flag noted step more (side + 1) in
+      by_case Q law (is_set (flags kept) side) _ _ l (λ f. on kept l (omega (arith, e)) h)
+      (λ f.
+      let now = step side kept l (omega (arith, e)) f h in (
+        now.0,
+        at_old Q law kept (Look (mark side)) l (λ n. look_marks flags mark with_flag more (side + 1) (with_flag kept side n))
+            (λ n q. on (with_flag kept side n) (with_told l (Look (mark side)) (Old n)) (omega (arith, e)) (now.1 n q)),
+      ))
+
+  go_rx_done : (noted : AppNoted) (kept : AppKept) (l : List Told) → At Looking noted kept l → Along (look_rx_done c a 2 0 kept) l
+  go_rx_done noted kept l h =
+      go_marks (λ (k : AppKept). k.seen) (λ side. RxDone (pair_of c a side)) with_seen noted
+      (λ side kept l below f h. let asked = is.calls (LookRxDone side) noted kept l (below, f) h in (asked, λ n q. is.entries (looked_rx_done side n) noted kept l (below, f) h asked q)) 2 0 kept l refl h
+
+  go_gone : (noted : AppNoted) (kept : AppKept) (l : List Told) → At Looking noted kept l → Along (look_gone c a 2 0 kept) l
+  go_gone noted kept l h =
+      go_marks (λ (k : AppKept). k.gone) (λ side. Gone (pair_of c a side)) with_gone noted
+      (λ side kept l below f h. let asked = is.calls (LookGone side) noted kept l below h in (asked, λ n q. is.entries (looked_gone side n) noted kept l below h asked q)) 2 0 kept l refl h
+
+  go_end : Continues Ending (end_turn c a)
+  go_end noted kept l h =
+      let call = Swap (TxDone a) 1 in
+      let told : AppKept = record kept { tx_done = true } in
+      let looking = is.passes looks noted kept l h tt in
+      by_case Q law kept.tx_done _ _ l
+      (λ done. by_case Q law (noted.gone && noted.sides_empty && is_none (back_at kept 0) && is_none (back_at kept 1)) _ _ l (λ e. is.ends noted kept l done h) (λ e. go_gone noted kept l looking))
+      (λ sends. by_case Q law (both kept.seen) _ _ l
+      (λ e. by_case Q law (noted.seen && noted.lanes_empty) _ _ l
+      (λ f.
+      let asked = is.calls TellTxDone noted kept l (sends, f) h in (
+        asked,
+        at_old Q law kept call l (λ old. again told)
+            (λ n q. is.passes begins noted told (with_told l call (Old n)) (is.entries (told_tx_done n) noted kept l (sends, f) h asked q) tt),
+      ))
+      (λ f. is.passes begins noted kept l looking tt))
+      (λ e. go_rx_done noted kept l looking))
+
+  go_turn_sides : Continues (Sides 0) (turn_sides c a)
+  go_turn_sides noted kept l h = go_sides 2 0 noted kept (end_turn c a) l refl h go_end
+
+  go_turn : (kept : AppKept) (l : List Told) → At (Lanes 0) (noted_first kept) kept l → Along (app_turn c a kept) l
+  go_turn kept l h =
+      by_case Q law kept.tx_done _ _ l (λ done. go_turn_sides (noted_first kept) kept l (is.passes no_lanes (noted_first kept) kept l h done))
+      (λ sends. go_lanes (lanes_of c) 0 (noted_first kept) kept (turn_sides c a) l (omega arith) sends h go_turn_sides)
+
+  -- ---- runs
+
+  module _ (begins : AppKept) (first : At (Lanes 0) (noted_first begins) begins []) (l : List Told) (meets : MeetAlong (app_turn c a) Q (app_turn c a begins) [] l) where
+    -- what it says where a list stops
+    pub at_call : (kept : AppKept) (call : Call) (rest : Reply → Script AppKept) → Asks (app_turn c a) begins l kept call rest → A kept call l
+    at_call kept call rest asks = says_left Q law (app_turn c a) go_turn begins l (ask kept call rest) first meets asks
+
+    pub at_end : (kept : AppKept) → Ends (app_turn c a) begins l kept → E kept l
+    at_end kept ends = says_left Q law (app_turn c a) go_turn begins l (ended kept) first meets ends
+
+    -- what it says of each run
+    pub of_run : (I : List Told → Type 0) → ((kept : AppKept) (m : List Told) → At (Lanes 0) (noted_first kept) kept m → I m) → ((kept : AppKept) (call : Call) (m : List Told) → A kept call m → I m) → ((kept : AppKept) (m : List Told) → E kept m → I m)
+        → IsRun (app_turn c a) begins l → I l
+    of_run I x y z run = says_run Q law (app_turn c a) go_turn I x y z begins l first meets run

@@ -1,0 +1,403 @@
+-- The one walk along a driver's turns. A law of its runs says what holds at each place of a turn, and what each entry of the
+-- list, a call with its reply, makes of it; then it holds along every run.
+use Rattle.std.proofs.Common.{◌≡◌, ℕ, zero, suc, ◌+◌, ◌-◌, ◌%◌, ◌<◌, Bool, true, false, ◌||◌, nat_lt, nat_le, eqb, Option, Some, None, List, [], ◌∷◌, ◌++◌, length, map, take, drop, refl, ap, subst, arith}
+use Rattle.std.proofs.lemmas.Bool.{or_parts}
+use Rattle.xsk_turns.proofs.Calls.{Item, Told, with_told, Ring, Fill, Comp, Rx, Tx, RxDone, Gone, TxDone, Cell, Call, Reserve, Submit, Peek, Release, Swap, Look, Reply, Granted, Full, Submitted, Items, Empty, Released, Old}
+use Rattle.xsk_model.specs.Config.{map_of}
+use Rattle.xsk_turns.specs.Script.{Script, ask, again, ended, on_submitted, on_released, Asks, Ends, IsRun, Leaves}
+use Rattle.xsk_turns.specs.Turns.{Seat, Kept, Noted, moved, stopped, settled, dropped, supplied, with_rx_full, with_fill_empty, with_tx_empty, visit_from, socket_of, application_of, cell_of, redirect_to, limit_of, pieces_of, laid_out, returned, gathered, idle, complete, visit, transmit, deliver, reserve, go_on, take_spare, find_spare, direct, receive, turn}
+use Rattle.xsk_turns.specs.declared.disposal.Disposal.TheVariants.{Delivered, TooLong, Runt, Missed}
+use Rattle.xsk_turns.proofs.Walks.{Premise, Law, Due, nothing_due, submit_due, release_due, Holds, Says, MeetAlong, at_reserve, at_submit, at_peek, at_release, at_old, by_case, by_option, says_left, says_run, meets_law}
+
+-- ---- the places of a turn, and its calls
+
+-- a driver receives, tries a packet that goes to a socket, sends once so many classes are visited, or is idle
+pub data Place : Type 0 where
+  Receiving : Place
+  Trying : List ℕ → ℕ → Due → Place
+  Sending : ℕ → Due → Place
+  Idling : Place
+
+-- what holds at a place
+abbrev pub Family : Type 1
+Family = Place → Noted → Kept → List Told → Type 0
+
+abbrev pub fresh : Noted
+fresh = record { progress = false; full = false }
+
+-- a call, by the packet and its socket, by the class and the finished packets, or by the class
+pub data Point : Type 0 where
+  TellRxDone : Point
+  LookCell : List ℕ → Point
+  PeekFill : List ℕ → ℕ → Point
+  ReleaseFill : List ℕ → ℕ → ℕ → Point
+  ReserveRx : List ℕ → ℕ → Point
+  SubmitRx : List ℕ → ℕ → Point
+  ReserveComp : ℕ → List Item → List (List Item) → Point
+  SubmitComp : ℕ → List Item → List (List Item) → Point
+  PeekTx : ℕ → Point
+  ReleaseTx : ℕ → ℕ → Point
+  LookTxDone : Point
+  TellGone : Point
+
+-- where each call is given, the call, and what is kept once it is given: a Submit takes its frames along
+abbrev pub asked : Seat → Point → Kept → Place × Call × Kept
+asked seat TellRxDone kept = (Receiving, Swap (RxDone seat.pair) 1, kept)
+asked seat (LookCell packet) kept = (Receiving, Look (Cell seat.port (cell_of seat packet)), kept)
+asked seat (PeekFill packet s) kept = (Trying packet s nothing_due, Peek (Fill seat.pair) (pieces_of seat packet - length kept.spare), kept)
+asked seat (ReleaseFill packet s n) kept = (Trying packet s (release_due (Fill seat.pair) n), Release (Fill seat.pair) n, kept)
+asked seat (ReserveRx packet s) kept = (Trying packet s nothing_due, Reserve (Rx s) (pieces_of seat packet), kept)
+asked seat (SubmitRx packet s) kept = (Trying packet s (submit_due (Rx s) (pieces_of seat packet)), Submit (Rx s) (laid_out seat.config.geometry packet (take (pieces_of seat packet) kept.spare)), record kept { spare = drop (pieces_of seat packet) kept.spare })
+asked seat (ReserveComp k packet later) kept = (Sending k nothing_due, Reserve (Comp seat.pair) (length packet), kept)
+asked seat (SubmitComp k packet later) kept = (Sending k (submit_due (Comp seat.pair) (length packet)), Submit (Comp seat.pair) (map returned packet), record kept { finished = later })
+asked seat (PeekTx k) kept = (Sending k nothing_due, Peek (Tx (socket_of seat k)) seat.batch, kept)
+asked seat (ReleaseTx k n) kept = (Sending (k + 1) (release_due (Tx (socket_of seat k)) n), Release (Tx (socket_of seat k)) n, kept)
+asked seat LookTxDone kept = (Idling, Look (TxDone (application_of seat)), kept)
+asked seat TellGone kept = (Idling, Swap (Gone seat.pair) 1, kept)
+
+abbrev pub call_at : Seat → Point → Kept → Call
+call_at seat p kept = (asked seat p kept).1
+
+abbrev pub kept_at : Seat → Point → Kept → Kept
+kept_at seat p kept = (asked seat p kept).2
+
+-- the next packet is long enough and goes to a cell, which redirected it to the socket, and fits it
+pub record IsNext (seat : Seat) (coming : List (List ℕ)) (packet : List ℕ) : Type 0 where
+  pub later : List (List ℕ)
+  pub is : coming ≡ packet ∷ later
+  pub long : nat_lt (length packet) 14 ≡ false
+  pub cell : nat_le (length (map_of seat.config seat.port)) (cell_of seat packet) ≡ false
+
+pub record IsTried (seat : Seat) (Q : Premise Kept) (coming : List (List ℕ)) (packet : List ℕ) (s : ℕ) : Type 0 where
+  pub next : IsNext seat coming packet
+  pub number : ℕ
+  pub looked : (kept : Kept) × (l : List Told) × Q kept l (Look (Cell seat.port (cell_of seat packet))) (Old number)
+  pub target : redirect_to seat.config seat.port seat.queue number ≡ Some s
+  pub fits : nat_lt (limit_of seat) (length packet) ≡ false
+
+-- what is known where a call is given
+abbrev pub Known : Seat → Premise Kept → Point → Noted → Kept → Type 0
+Known seat Q TellRxDone noted kept = (kept.coming ≡ []) × (kept.rx_done ≡ false)
+Known seat Q (LookCell packet) noted kept = IsNext seat kept.coming packet
+Known seat Q (PeekFill packet s) noted kept = IsTried seat Q kept.coming packet s × (nat_le (pieces_of seat packet) (length kept.spare) ≡ false)
+Known seat Q (ReleaseFill packet s n) noted kept = IsTried seat Q kept.coming packet s
+Known seat Q (ReserveRx packet s) noted kept = IsTried seat Q kept.coming packet s × (nat_le (pieces_of seat packet) (length kept.spare) ≡ true)
+Known seat Q (SubmitRx packet s) noted kept = IsTried seat Q kept.coming packet s × (nat_le (pieces_of seat packet) (length kept.spare) ≡ true)
+Known seat Q (ReserveComp k packet later) noted kept = kept.finished ≡ packet ∷ later
+Known seat Q (SubmitComp k packet later) noted kept = kept.finished ≡ packet ∷ later
+Known seat Q (PeekTx k) noted kept = (k < seat.classes) × (kept.finished ≡ [])
+Known seat Q (ReleaseTx k n) noted kept = k < seat.classes
+Known seat Q LookTxDone noted kept = kept.rx_done ≡ true
+Known seat Q TellGone noted kept = (noted.progress ≡ false) × (noted.full ≡ false) × (kept.tx_done ≡ true)
+
+-- ---- what each reply makes of it
+
+-- the entries, each a call and its reply
+pub data Entry : Type 0 where
+  told_rx_done : ℕ → Entry
+  looked_none : List ℕ → ℕ → Entry
+  looked_long : List ℕ → ℕ → ℕ → Entry
+  looked_some : List ℕ → ℕ → ℕ → Entry
+  fill_empty : List ℕ → ℕ → Entry
+  fill_items : List ℕ → ℕ → List Item → Entry
+  fill_released : List ℕ → ℕ → ℕ → Entry
+  rx_granted : List ℕ → ℕ → Entry
+  rx_full : List ℕ → ℕ → ℕ → Entry
+  rx_submitted : List ℕ → ℕ → Entry
+  comp_granted : ℕ → List Item → List (List Item) → Entry
+  comp_full : ℕ → List Item → List (List Item) → ℕ → Entry
+  comp_submitted : ℕ → List Item → List (List Item) → Entry
+  tx_empty : ℕ → Entry
+  tx_items : ℕ → List Item → Entry
+  tx_released : ℕ → ℕ → Entry
+  looked_tx_done : ℕ → Entry
+
+abbrev pub told : Entry → Point × Reply
+told (told_rx_done n) = (TellRxDone, Old n)
+told (looked_none packet n) = (LookCell packet, Old n)
+told (looked_long packet n s) = (LookCell packet, Old n)
+told (looked_some packet n s) = (LookCell packet, Old n)
+told (fill_empty packet s) = (PeekFill packet s, Empty)
+told (fill_items packet s items) = (PeekFill packet s, Items items)
+told (fill_released packet s n) = (ReleaseFill packet s n, Released)
+told (rx_granted packet s) = (ReserveRx packet s, Granted)
+told (rx_full packet s free) = (ReserveRx packet s, Full free)
+told (rx_submitted packet s) = (SubmitRx packet s, Submitted)
+told (comp_granted k packet later) = (ReserveComp k packet later, Granted)
+told (comp_full k packet later free) = (ReserveComp k packet later, Full free)
+told (comp_submitted k packet later) = (SubmitComp k packet later, Submitted)
+told (tx_empty k) = (PeekTx k, Empty)
+told (tx_items k items) = (PeekTx k, Items items)
+told (tx_released k n) = (ReleaseTx k n, Released)
+told (looked_tx_done n) = (LookTxDone, Old n)
+
+abbrev pub point_of : Entry → Point
+point_of e = (told e).0
+
+abbrev pub reply_of : Entry → Reply
+reply_of e = (told e).1
+
+-- where each leads, with what is noted and kept there
+abbrev pub leads : Seat → Entry → Noted → Kept → Place × Noted × Kept
+leads seat (told_rx_done n) noted kept = (Sending 0 nothing_due, moved noted, record kept { rx_done = true })
+leads seat (looked_none packet n) noted kept = (Sending 0 nothing_due, moved noted, settled kept Missed)
+leads seat (looked_long packet n s) noted kept = (Sending 0 nothing_due, moved noted, dropped kept TooLong)
+leads seat (looked_some packet n s) noted kept = (Trying packet s nothing_due, noted, kept)
+leads seat (fill_empty packet s) noted kept = (Sending 0 nothing_due, noted, with_fill_empty kept)
+leads seat (fill_items packet s items) noted kept = (Trying packet s (release_due (Fill seat.pair) (length items)), noted, supplied kept items)
+leads seat (fill_released packet s n) noted kept = (Trying packet s nothing_due, moved noted, kept)
+leads seat (rx_granted packet s) noted kept = (Trying packet s (submit_due (Rx s) (pieces_of seat packet)), moved noted, kept)
+leads seat (rx_full packet s free) noted kept = (Sending 0 nothing_due, stopped noted, with_rx_full (s % seat.classes) kept)
+leads seat (rx_submitted packet s) noted kept = (Sending 0 nothing_due, moved noted, settled (record kept { spare = drop (pieces_of seat packet) kept.spare }) (Delivered s))
+leads seat (comp_granted k packet later) noted kept = (Sending k (submit_due (Comp seat.pair) (length packet)), noted, kept)
+leads seat (comp_full k packet later free) noted kept = (Idling, stopped noted, kept)
+leads seat (comp_submitted k packet later) noted kept = (Sending k nothing_due, moved noted, record kept { finished = later })
+leads seat (tx_empty k) noted kept = (Sending (k + 1) nothing_due, noted, with_tx_empty k kept)
+leads seat (tx_items k items) noted kept = (Sending (k + 1) (release_due (Tx (socket_of seat k)) (length items)), moved noted, gathered seat k kept items)
+leads seat (tx_released k n) noted kept = (Sending (k + 1) nothing_due, noted, kept)
+leads seat (looked_tx_done n) noted kept = (Receiving, fresh, record kept { tx_done = kept.tx_done || eqb n 1 })
+
+-- what it finds of a cell's number
+abbrev pub Finds : Seat → Entry → Type 0
+Finds seat (looked_none packet n) = redirect_to seat.config seat.port seat.queue n ≡ None
+Finds seat (looked_long packet n s) = (redirect_to seat.config seat.port seat.queue n ≡ Some s) × (nat_lt (limit_of seat) (length packet) ≡ true)
+Finds seat (looked_some packet n s) = (redirect_to seat.config seat.port seat.queue n ≡ Some s) × (nat_lt (limit_of seat) (length packet) ≡ false)
+Finds seat entry = Unit {0}
+
+-- ---- what goes on without a call
+
+pub data Pass : Type 0 where
+  runt : List ℕ → List (List ℕ) → Pass
+  missed : List ℕ → List (List ℕ) → Pass
+  none_comes : Pass
+  waits : List ℕ → ℕ → Pass
+  visited : Pass
+  idles : Pass
+
+abbrev pub Passing : Seat → Premise Kept → Family → Pass → Noted → Kept → List Told → Type 0
+Passing seat Q At (runt packet later) noted kept l =
+    At Receiving noted kept l → (kept.coming ≡ packet ∷ later) × (nat_lt (length packet) 14 ≡ true) → At Receiving (moved noted) (settled kept Runt) l
+Passing seat Q At (missed packet later) noted kept l =
+    At Receiving noted kept l → (kept.coming ≡ packet ∷ later) × (nat_lt (length packet) 14 ≡ false) × (nat_le (length (map_of seat.config seat.port)) (cell_of seat packet) ≡ true)
+    → At Receiving (moved noted) (settled kept Missed) l
+Passing seat Q At none_comes noted kept l = At Receiving noted kept l → (kept.coming ≡ []) × (kept.rx_done ≡ true) → At (Sending 0 nothing_due) noted kept l
+Passing seat Q At (waits packet s) noted kept l = At (Trying packet s nothing_due) noted kept l → IsTried seat Q kept.coming packet s → At (Sending 0 nothing_due) noted kept l
+Passing seat Q At visited noted kept l = At (Sending seat.classes nothing_due) noted kept l → kept.finished ≡ [] → At Idling noted kept l
+Passing seat Q At idles noted kept l = At Idling noted kept l → Unit {0} → At Receiving fresh kept l
+
+-- ---- a law
+
+-- what is said at each call, and at the end
+abbrev pub Said : Type 1
+Said = Kept → Call → List Told → Type 0
+
+abbrev pub AtCalls : Seat → Premise Kept → Family → Said → Type 0
+AtCalls seat Q At A = (p : Point) (noted : Noted) (kept : Kept) (l : List Told) → Known seat Q p noted kept → At (asked seat p kept).0 noted kept l → A (kept_at seat p kept) (call_at seat p kept) l
+
+abbrev pub AtEntries : Seat → Premise Kept → Family → Said → Type 0
+AtEntries seat Q At A = (e : Entry) (noted : Noted) (kept : Kept) (l : List Told) → Known seat Q (point_of e) noted kept → Finds seat e
+    → At (asked seat (point_of e) kept).0 noted kept l → A (kept_at seat (point_of e) kept) (call_at seat (point_of e) kept) l
+    → Q (kept_at seat (point_of e) kept) l (call_at seat (point_of e) kept) (reply_of e)
+    → At (leads seat e noted kept).0 (leads seat e noted kept).1 (leads seat e noted kept).2 (with_told l (call_at seat (point_of e) kept) (reply_of e))
+
+abbrev pub AtPasses : Seat → Premise Kept → Family → Type 0
+AtPasses seat Q At = (p : Pass) (noted : Noted) (kept : Kept) (l : List Told) → Passing seat Q At p noted kept l
+
+abbrev pub AtEnd : Seat → Premise Kept → Family → Said → (Kept → List Told → Type 0) → Type 0
+AtEnd seat Q At A E = (noted : Noted) (kept : Kept) (l : List Told) (n : ℕ) → Known seat Q TellGone noted kept → At Idling noted kept l → A kept (Swap (Gone seat.pair) 1) l
+    → Q kept l (Swap (Gone seat.pair) 1) (Old n) → E kept (with_told l (Swap (Gone seat.pair) 1) (Old n))
+
+pub record IsLaw (seat : Seat) (Q : Premise Kept) (At : Family) (A : Said) (E : Kept → List Told → Type 0) : Type 0 where
+  pub calls : AtCalls seat Q At A
+  pub entries : AtEntries seat Q At A
+  pub passes : AtPasses seat Q At
+  pub ends : AtEnd seat Q At A E
+
+module _ (seat : Seat) (Q : Premise Kept) (At : Family) (A : Said) (E : Kept → List Told → Type 0) (is : IsLaw seat Q At A E) where
+  abbrev law : Law Kept
+  law = record { begins = λ kept l. At Receiving fresh kept l; asks = A; ends = E }
+
+  abbrev Along : Script Kept → List Told → Type 0
+  Along s l = Holds Q law s l
+
+  go_idle : (noted : Noted) (kept : Kept) (l : List Told) → At Idling noted kept l → Along (idle seat noted kept) l
+  go_idle noted kept l h =
+      let look = Look (TxDone (application_of seat)) in
+      let leave = Swap (Gone seat.pair) 1 in
+      by_case Q law (noted.progress || noted.full) _ _ l (λ e. is.passes idles noted kept l h tt)
+      (λ e. by_case Q law kept.tx_done _ _ l
+      (λ done.
+      let off = or_parts noted.progress noted.full e in
+      let gives = is.calls TellGone noted kept l (off.0, off.1, done) h in
+      (gives, at_old Q law kept leave l (λ n. ended kept) (λ n q. is.ends noted kept l n (off.0, off.1, done) h gives q)))
+      (λ f. by_case Q law kept.rx_done _ _ l
+      (λ done.
+      let gives = is.calls LookTxDone noted kept l done h in (
+        gives,
+        at_old Q law kept look l (λ n. again (record kept { tx_done = kept.tx_done || eqb n 1 })) (λ n q. is.entries (looked_tx_done n) noted kept l done tt h gives q),
+      ))
+      (λ g. is.passes idles noted kept l h tt)))
+
+  -- wherever a class's packets are all completed
+  abbrev Visiting : (Noted → Kept → Script Kept) → ℕ → Type 0
+  Visiting next k = (noted : Noted) (kept : Kept) (l : List Told) → At (Sending k nothing_due) noted kept l → kept.finished ≡ [] → Along (next noted kept) l
+
+  go_complete : (k : ℕ) (packets : List (List Item)) (noted : Noted) (kept : Kept) (next : Noted → Kept → Script Kept) (l : List Told) → At (Sending k nothing_due) noted kept l
+      → kept.finished ≡ packets → Visiting next k → Along (complete seat packets noted kept next) l
+  go_complete k [] noted kept next l h e go = go noted kept l h e
+  go_complete k (packet ∷ later) noted kept next l h e go =
+      let call = Reserve (Comp seat.pair) (length packet) in
+      let give = Submit (Comp seat.pair) (map returned packet) in
+      let granted = with_told l call Granted in
+      let left : Kept = record kept { finished = later } in
+      let asked = is.calls (ReserveComp k packet later) noted kept l e h in (
+        asked,
+        at_reserve Q law kept call l (ask left give (on_submitted (complete seat later (moved noted) left next))) (idle seat (stopped noted) kept)
+            (λ q.
+            let now = is.entries (comp_granted k packet later) noted kept l e tt h asked q in
+            let gives = is.calls (SubmitComp k packet later) noted kept granted e now in (
+              gives,
+              at_submit Q law left give granted (complete seat later (moved noted) left next)
+                  (λ r. go_complete k later (moved noted) left next (with_told granted give Submitted) (is.entries (comp_submitted k packet later) noted kept granted e tt now gives r) refl go),
+            ))
+            (λ free q. go_idle (stopped noted) kept (with_told l call (Full free)) (is.entries (comp_full k packet later free) noted kept l e tt h asked q)),
+      )
+
+  go_visit : (more k : ℕ) (noted : Noted) (kept : Kept) (l : List Told) → k + more ≡ seat.classes → At (Sending k nothing_due) noted kept l → kept.finished ≡ []
+      → Along (visit seat more k noted kept) l
+  go_visit zero k noted kept l e h none =
+      let all : k ≡ seat.classes = omega arith in
+      go_idle noted kept l (is.passes visited noted kept l (subst (λ j. At (Sending j nothing_due) noted kept l) all h) none)
+  go_visit (suc more) k noted kept l e h none =
+      let call = Peek (Tx (socket_of seat k)) seat.batch in
+      let below : k < seat.classes = omega arith in
+      let on : (k + 1) + more ≡ seat.classes = omega arith in
+      let asked = is.calls (PeekTx k) noted kept l (below, none) h in (
+        asked,
+        at_peek Q law kept call l
+            (λ items. ask (gathered seat k kept items) (Release (Tx (socket_of seat k)) (length items)) (on_released (complete seat (gathered seat k kept items).finished (moved noted) (gathered seat k kept items) (visit seat more (k + 1)))))
+            (visit seat more (k + 1) noted (with_tx_empty k kept))
+            (λ items q.
+            let peeked = with_told l call (Items items) in
+            let give = Release (Tx (socket_of seat k)) (length items) in
+            let got = gathered seat k kept items in
+            let now = is.entries (tx_items k items) noted kept l (below, none) tt h asked q in
+            let gives = is.calls (ReleaseTx k (length items)) (moved noted) got peeked below now in (
+              gives,
+              at_release Q law got give peeked (complete seat got.finished (moved noted) got (visit seat more (k + 1)))
+                  (λ r. go_complete (k + 1) got.finished (moved noted) got (visit seat more (k + 1)) (with_told peeked give Released)
+                  (is.entries (tx_released k (length items)) (moved noted) got peeked below tt now gives r) refl (λ noted kept l h none. go_visit more (k + 1) noted kept l on h none)),
+            ))
+            (λ q. go_visit more (k + 1) noted (with_tx_empty k kept) (with_told l call Empty) on (is.entries (tx_empty k) noted kept l (below, none) tt h asked q) none),
+      )
+
+  go_transmit : (noted : Noted) (kept : Kept) (l : List Told) → At (Sending 0 nothing_due) noted kept l → Along (transmit seat noted kept) l
+  go_transmit noted kept l h =
+      go_complete 0 kept.finished noted kept (visit_from seat 0) l h refl (λ noted kept l h none. go_visit (seat.classes - 0) 0 noted kept l (omega arith) h none)
+
+  -- ---- a packet that is tried
+
+  module _ (packet : List ℕ) (s : ℕ) where
+    go_reserve : (noted : Noted) (kept : Kept) (l : List Told) → At (Trying packet s nothing_due) noted kept l → IsTried seat Q kept.coming packet s
+        → nat_le (pieces_of seat packet) (length kept.spare) ≡ true → Along (reserve seat packet s noted kept) l
+    go_reserve noted kept l h tried enough =
+        let n = pieces_of seat packet in
+        let call = Reserve (Rx s) n in
+        let give = Submit (Rx s) (laid_out seat.config.geometry packet (take n kept.spare)) in
+        let granted = with_told l call Granted in
+        let fewer : Kept = record kept { spare = drop n kept.spare } in
+        let left : Kept = settled fewer (Delivered s) in
+        let full : Kept = with_rx_full (s % seat.classes) kept in
+        let asked = is.calls (ReserveRx packet s) noted kept l (tried, enough) h in (
+          asked,
+          at_reserve Q law kept call l (deliver seat packet s (moved noted) kept) (transmit seat (stopped noted) full)
+              (λ q.
+              let now = is.entries (rx_granted packet s) noted kept l (tried, enough) tt h asked q in
+              let gives = is.calls (SubmitRx packet s) (moved noted) kept granted (tried, enough) now in (
+                gives,
+                at_submit Q law fewer give granted (transmit seat (moved (moved noted)) left)
+                    (λ r. go_transmit (moved (moved noted)) left (with_told granted give Submitted) (is.entries (rx_submitted packet s) (moved noted) kept granted (tried, enough) tt now gives r)),
+              ))
+              (λ free q. go_transmit (stopped noted) full (with_told l call (Full free)) (is.entries (rx_full packet s free) noted kept l (tried, enough) tt h asked q)),
+        )
+
+    go_more : (noted : Noted) (kept : Kept) (l : List Told) → At (Trying packet s nothing_due) noted kept l → IsTried seat Q kept.coming packet s → Along (go_on seat packet s noted kept) l
+    go_more noted kept l h tried =
+        by_case Q law (nat_le (pieces_of seat packet) (length kept.spare)) _ _ l (go_reserve noted kept l h tried) (λ e. go_transmit noted kept l (is.passes (waits packet s) noted kept l h tried))
+
+    go_find : (noted : Noted) (kept : Kept) (l : List Told) → At (Trying packet s nothing_due) noted kept l → IsTried seat Q kept.coming packet s → Along (find_spare seat packet s noted kept) l
+    go_find noted kept l h tried =
+        let call = Peek (Fill seat.pair) (pieces_of seat packet - length kept.spare) in
+        by_case Q law (nat_le (pieces_of seat packet) (length kept.spare)) _ _ l (go_reserve noted kept l h tried)
+        (λ e.
+        let asked = is.calls (PeekFill packet s) noted kept l (tried, e) h in (
+          asked,
+          at_peek Q law kept call l (take_spare seat packet s noted kept) (transmit seat noted (with_fill_empty kept))
+              (λ items q.
+              let peeked = with_told l call (Items items) in
+              let give = Release (Fill seat.pair) (length items) in
+              let more : Kept = supplied kept items in
+              let now = is.entries (fill_items packet s items) noted kept l (tried, e) tt h asked q in
+              let gives = is.calls (ReleaseFill packet s (length items)) noted more peeked tried now in (
+                gives,
+                at_release Q law more give peeked (go_on seat packet s (moved noted) more)
+                    (λ r. go_more (moved noted) more (with_told peeked give Released) (is.entries (fill_released packet s (length items)) noted more peeked tried tt now gives r) tried),
+              ))
+              (λ q. go_transmit noted (with_fill_empty kept) (with_told l call Empty) (is.entries (fill_empty packet s) noted kept l (tried, e) tt h asked q)),
+        ))
+
+  -- ---- receiving
+
+  go_receive : (coming : List (List ℕ)) (noted : Noted) (kept : Kept) (l : List Told) → At Receiving noted kept l → kept.coming ≡ coming → Along (receive seat coming noted kept) l
+  go_receive [] noted kept l h e =
+      let call = Swap (RxDone seat.pair) 1 in
+      let left : Kept = record kept { rx_done = true } in
+      by_case Q law kept.rx_done _ _ l (λ f. go_transmit noted kept l (is.passes none_comes noted kept l h (e, f)))
+      (λ f.
+      let gives = is.calls TellRxDone noted kept l (e, f) h in (
+        gives,
+        at_old Q law kept call l (λ n. transmit seat (moved noted) left)
+            (λ n q. go_transmit (moved noted) left (with_told l call (Old n)) (is.entries (told_rx_done n) noted kept l (e, f) tt h gives q)),
+      ))
+  go_receive (packet ∷ later) noted kept l h e =
+      let call = Look (Cell seat.port (cell_of seat packet)) in
+      let to = λ (n : ℕ). redirect_to seat.config seat.port seat.queue n in
+      let rest : drop 1 kept.coming ≡ later = ap (drop 1) e in
+      by_case Q law (nat_lt (length packet) 14) _ _ l (λ f. go_receive later (moved noted) (settled kept Runt) l (is.passes (runt packet later) noted kept l h (e, f)) rest)
+      (λ f. by_case Q law (nat_le (length (map_of seat.config seat.port)) (cell_of seat packet)) _ _ l
+      (λ g. go_receive later (moved noted) (settled kept Missed) l (is.passes (missed packet later) noted kept l h (e, f, g)) rest)
+      (λ g.
+      let next : IsNext seat kept.coming packet = record { later = later; is = e; long = f; cell = g } in
+      let gives = is.calls (LookCell packet) noted kept l next h in (
+        gives,
+        at_old Q law kept call l (λ n. direct seat packet noted kept (to n))
+            (λ n q.
+            let told = with_told l call (Old n) in
+            by_option (to n) (λ o. Along (direct seat packet noted kept o) told)
+            (λ none. go_transmit (moved noted) (settled kept Missed) told (is.entries (looked_none packet n) noted kept l next none h gives q))
+            (λ s some. by_case Q law (nat_lt (limit_of seat) (length packet)) _ _ told
+            (λ long. go_transmit (moved noted) (dropped kept TooLong) told (is.entries (looked_long packet n s) noted kept l next (some, long) h gives q))
+            (λ fits. go_find packet s noted kept told (is.entries (looked_some packet n s) noted kept l next (some, fits) h gives q) (record { next = next; number = n; looked = (kept, l, q); target = some; fits = fits })))),
+      )))
+
+  go_turn : (kept : Kept) (l : List Told) → At Receiving fresh kept l → Along (turn seat kept) l
+  go_turn kept l h = go_receive kept.coming fresh kept l h refl
+
+  -- ---- runs
+
+  module _ (begins : Kept) (first : At Receiving fresh begins []) (l : List Told) (meets : MeetAlong (turn seat) Q (turn seat begins) [] l) where
+    -- what it says where a list stops
+    pub at_call : (kept : Kept) (call : Call) (rest : Reply → Script Kept) → Asks (turn seat) begins l kept call rest → A kept call l
+    at_call kept call rest asks = says_left Q law (turn seat) go_turn begins l (ask kept call rest) first meets asks
+
+    pub at_end : (kept : Kept) → Ends (turn seat) begins l kept → E kept l
+    at_end kept ends = says_left Q law (turn seat) go_turn begins l (ended kept) first meets ends
+
+    -- a law may stand on what this one says at each call
+    pub meets_said : (left : Script Kept) → Leaves (turn seat) (turn seat begins) l left → MeetAlong (turn seat) (λ kept m call reply. A kept call m × Q kept m call reply) (turn seat begins) [] l
+    meets_said left leaves = meets_law Q law (turn seat) go_turn begins l left first meets leaves
+
+    -- what it says of each run
+    pub of_run : (I : List Told → Type 0) → ((kept : Kept) (m : List Told) → At Receiving fresh kept m → I m) → ((kept : Kept) (call : Call) (m : List Told) → A kept call m → I m) → ((kept : Kept) (m : List Told) → E kept m → I m)
+        → IsRun (turn seat) begins l → I l
+    of_run I x y z run = says_run Q law (turn seat) go_turn I x y z begins l first meets run
