@@ -1,0 +1,5 @@
+pub mod Drivers
+pub mod Received
+pub mod Sources
+pub mod Steps
+pub mod Submits
