@@ -2,7 +2,7 @@
 -- A Submit and a Peek are noted item by item, so a standing may also stand for a list and the first items of one more
 -- call.
 use Rattle.std.specs.Prelude.{◌≡◌, ℕ, ◌+◌, ◌<◌, nat_lt, Bool, false, if◌then◌else◌, Option, None, List, [], ◌∷◌, ◌++◌, length, map, take, drop, flat_map}
-use Rattle.std.specs.List.{fold, slice_index_or}
+use Rattle.std.specs.List.{fold, slice_index_or, slice_set}
 use Rattle.xsk_umem.specs.declared.batch.Item.{Item}
 use Rattle.xsk_umem.specs.declared.batch.XdpDesc.{XdpDesc}
 use Rattle.xsk_model.specs.Config.{Config, HasRing, callers_of}
@@ -61,8 +61,15 @@ places_at kept i = slice_index_or kept.places i (record { room = 0; held = 0 })
 abbrev pub source_at : Noted → ℕ → Option Ring
 source_at kept n = slice_index_or kept.sources n None
 
+abbrev pub no_queue : Queue
+no_queue = record { descs = []; begun = 0; limit = 0 }
+
 abbrev pub queue_at : Noted → ℕ → Queue
-queue_at kept s = slice_index_or kept.queues s (record { descs = []; begun = 0; limit = 0 })
+queue_at kept s = slice_index_or kept.queues s no_queue
+
+-- with something else kept of the ring of a place
+abbrev pub with_places : Noted → ℕ → Places → Noted
+with_places kept i places = record kept { places = slice_set kept.places i places }
 
 -- Room, held items and frames are those that `mine` leaves. The queues are those that `queued` leaves, without the first
 -- `back` items of each.
@@ -86,6 +93,12 @@ pub record StandsFor (c : Config) (kept : Noted) (mine : List Told) : Type 0 whe
   pub caller : kept.who < callers_of c
   pub own : OwnGoesOn c kept.who [] mine
   pub keeps : Keeps c kept mine mine none_back
+
+-- the queue of a TX ring of which nothing was peeked
+pub record IsFresh (c : Config) (who s : ℕ) (queue : Queue) : Type 0 where
+  pub descs : queue.descs ≡ []
+  pub begun : queue.begun ≡ 0
+  pub limit : HasRing c (Tx s) → who ≡ consumer c (Tx s) → queue.limit ≡ c.geometry.frames
 
 -- ---- calls that are noted in part
 

@@ -1,5 +1,6 @@
 //! Whether a call is legal after the caller's own earlier calls and replies.
 ghost use Rattle.std.specs.Prelude.{◌≡◌, ◌+◌, ◌^◌, ◌<◌, ◌≤◌, ◌↔◌, ℕ, List, [], ◌∷◌, ◌++◌, length, take, All, IfOk, IfSome, IsTrue, Some};
+ghost use Rattle.std.specs.List.{slice_index_or};
 ghost use Rattle.std.specs.Option.{option_map};
 ghost use Rattle.xsk_umem.specs.Frame.{Frame as Body};
 ghost use Rattle.xsk_umem.specs.Limits.{most_items};
@@ -13,7 +14,7 @@ ghost use Rattle.xsk_model.specs.History.{MayGive};
 ghost use Rattle.xsk_model.specs.declared.call.Ring.TheVariants.{Comp, Tx};
 ghost use Rattle.xsk_model.specs.declared.call.Call.TheVariants.{Reserve, Submit, Peek, Release};
 ghost use Rattle.xsk_model.specs.declared.call.Reply.TheVariants.{Granted, Submitted, Items, Released};
-ghost use Rattle.xsk_desc.specs.Standing.{StandsFor, IsPlacing, IsFetching};
+ghost use Rattle.xsk_desc.specs.Standing.{StandsFor, IsPlacing, IsFetching, IsFresh, places_at, no_queue, with_places};
 ghost use Rattle.xsk_desc.specs.Pieces.{MaySubmit, has, item_source, IsFill, IsPiece, ArePieces, GivesBack};
 
 use crate::descriptor::CONTINUED;
@@ -101,7 +102,10 @@ impl Standing {
         ensures { (mine : List Told) → StandsFor config.now self.old mine → MayGive config.now mine self.old.who (Reserve ring n) Granted
             → StandsFor config.now self.new (with_told mine (Reserve ring n) Granted) }
     {
-        self.places[ring_place(config, ring)].room += n;
+        let place = ring_place(config, ring);
+        let Places { room, held } = self.places_at(place);
+        let room = room + n;
+        self.put_places(place, Places { room, held });
     }
 
     /// Notes an item of a Submit.
@@ -147,7 +151,26 @@ impl Standing {
         ensures { (mine : List Told) → StandsFor config.now self.old mine → IsLegal config.now mine self.old.who (Release ring n)
             → StandsFor config.now self.new (with_told mine (Release ring n) Released) }
     {
-        self.places[ring_place(config, ring)].held -= n;
+        let place = ring_place(config, ring);
+        let Places { room, held } = self.places_at(place);
+        let held = held - n;
+        self.put_places(place, Places { room, held });
+    }
+
+    /// What is kept of the ring of a place.
+    fn places_at(&self, place: usize) -> Places
+        requires { place < length self.now.places }
+        ensures { result ≡ places_at self.now place }
+    {
+        self.places[place]
+    }
+
+    /// Keeps something else of the ring of a place.
+    fn put_places(&mut self, place: usize, places: Places)
+        requires { place < length self.old.places }
+        ensures { self.new ≡ with_places self.old place places }
+    {
+        self.places[place] = places;
     }
 
     /// Whether the items may be submitted on the ring, which exists and is the caller's.
@@ -242,19 +265,28 @@ impl Standing {
 }
 
 /// The empty queues of all TX rings.
-fn queues_of(alloc: Global, config: &Config, who: u32) -> Result<Vec<Queue>, OutOfMemory> {
-    let frames = config.geometry().frames();
+fn queues_of(alloc: Global, config: &Config, who: u32) -> Result<Vec<Queue>, OutOfMemory>
+    ensures length { IfOk result (λ queues. length queues.items ≡ length config.now.sockets) }
+    ensures each { IfOk result (λ queues. (s : ℕ) → IsFresh config.now who s (slice_index_or queues.items s no_queue)) }
+{
     let sockets = config.sockets().len();
     let mut queues = Vec::with_capacity(alloc, sockets)?;
     for socket in 0..sockets as u32 {
-        let limit = if consumes(config, who, Ring::Tx(socket)) {
-            frames
-        } else {
-            0
-        };
-        queues.push(Queue::new(alloc, limit)?)?;
+        queues.push(queue_of(alloc, config, who, socket)?)?;
     }
     Ok(queues)
+}
+
+/// The empty queue of a TX ring, with room for all frames where the caller consumes it.
+fn queue_of(alloc: Global, config: &Config, who: u32, socket: u32) -> Result<Queue, OutOfMemory>
+    ensures { IfOk result (λ queue. IsFresh config.now who socket queue) }
+{
+    let limit = if consumes(config, who, Ring::Tx(socket)) {
+        config.geometry().frames()
+    } else {
+        0
+    };
+    Queue::new(alloc, limit)
 }
 
 /// Whether so many may be moved at once.

@@ -1,0 +1,43 @@
+use Rattle.std.proofs.Common.{rules, ◌≡◌, ◌+◌, ◌^◌, ◌<◌, ◌≤◌, ◌↔◌, ℕ, List, [], ◌∷◌, ◌++◌, length, take, All, IfOk, IfSome, IsTrue, Some, ◌-◌, ◌*◌, ◌/◌, ◌%◌, Bool, true, false, nat_eq, nat_lt, slice_index_or, slice_set, bit_and, bit_or, Fits, w8, w32, w64, Bor, MutBor}
+use Rattle.std.specs.Option.{option_map}
+use Rattle.xsk_umem.specs.Frame.{Frame as Body}
+use Rattle.xsk_umem.specs.Limits.{most_items}
+use Rattle.xsk_umem.specs.declared.batch.Item.{Item as AnItem}
+use Rattle.xsk_model.specs.Config.{HasRing, callers_of}
+use Rattle.xsk_model.specs.Numbers.{times, numbers}
+use Rattle.xsk_model.specs.Rings.{place, places_of, port_of, queue_of, producer}
+use Rattle.xsk_model.specs.Entry.{Told, with_told}
+use Rattle.xsk_model.specs.Legal.{IsLegal, IsItemOn, IsPlainOn}
+use Rattle.xsk_model.specs.History.{MayGive}
+use Rattle.xsk_model.specs.declared.call.Ring.TheVariants.{Comp, Tx}
+use Rattle.xsk_model.specs.declared.call.Call.TheVariants.{Reserve, Submit, Peek, Release}
+use Rattle.xsk_model.specs.declared.call.Reply.TheVariants.{Granted, Submitted, Items, Released}
+use Rattle.xsk_desc.specs.Standing.{StandsFor, IsPlacing, IsFetching}
+use Rattle.xsk_desc.specs.Pieces.{MaySubmit, has, item_source, IsFill, IsPiece, ArePieces, GivesBack}
+use Rattle.std.proofs.Common.{sym, ap, subst, ◌∙◌, arith}
+use Rattle.xsk_desc.specs.declared.standing.Places.{Places}
+use Rattle.xsk_desc.specs.Noted.{Noted}
+use Rattle.xsk_desc.specs.Standing.{places_at, with_places}
+use Rattle.xsk_desc.proofs.Rooms.{granted_stands, granted_ring, granted_few, released_stands, released_held}
+use Rattle.xsk_desc.proofs.standing.Standing.granted.Goals as goal
+
+pub ring_place-place-requires : goal.ring_place-place-requires
+ring_place-place-requires c = granted_ring c.args.config.now c.args.self.now c.requires.0 c.args.ring c.args.n c.requires.2
+
+pub overflow_add-room : goal.overflow_add-room
+overflow_add-room c =
+    let few = granted_few c.args.config.now c.args.self.now c.requires.0 c.args.ring c.args.n c.requires.1 c.requires.2 in
+    let at : c.places_at-room.result ≡ places_at c.args.self.now (place c.args.config.now c.args.ring) = c.places_at-room.ensures ∙ ap (places_at c.args.self.now) c.ring_place-place.ensures.value in
+    let small : c.places_at-room.result.room + c.args.n < 2 ^ 32 = omega (arith, few, ap (λ (p : Places). p.room) at) in
+    search rules
+
+pub returns : goal.returns
+returns c = λ mine h gift.
+    let config = c.args.config.now in
+    let kept = c.args.self.now in
+    let at : c.places_at-room.result ≡ places_at kept (place config c.args.ring) = c.places_at-room.ensures ∙ ap (places_at kept) c.ring_place-place.ensures.value in
+    let p : Places = record { room = c.places_at-room.result.room + c.args.n; held = c.places_at-room.result.held } in
+    let now : c.put_places.new.self ≡ with_places kept (place config c.args.ring) p =
+    c.put_places.ensures ∙ ap (λ (i : ℕ). with_places kept i p) c.ring_place-place.ensures.value in
+    subst (λ (k : Noted). StandsFor config k (with_told mine (Reserve c.args.ring c.args.n) Granted)) (sym now)
+    (granted_stands config kept mine c.args.ring c.args.n p h gift (ap (λ (q : Places). q.room + c.args.n) at) (ap (λ (q : Places). q.held) at))
