@@ -1,8 +1,13 @@
+pub mod Allowed
+pub mod Completed
 pub mod Drivers
+pub mod Frames
 pub mod Going
 pub mod Opening
+pub mod OwnPushes
 pub mod Received
 pub mod Rooms
 pub mod Sources
 pub mod Steps
 pub mod Submits
+pub mod Waiting

@@ -3,6 +3,7 @@ ghost use Rattle.std.specs.Prelude.{◌≡◌, ◌+◌, ◌^◌, ◌<◌, ◌≤
 ghost use Rattle.std.specs.List.{slice_index_or};
 ghost use Rattle.std.specs.Option.{option_map};
 ghost use Rattle.xsk_umem.specs.Frame.{Frame as Body};
+ghost use Rattle.xsk_umem.specs.Geometry.{IsGeometry};
 ghost use Rattle.xsk_umem.specs.Limits.{most_items};
 ghost use Rattle.xsk_umem.specs.declared.batch.Item.{Item as AnItem};
 ghost use Rattle.xsk_model.specs.Config.{HasRing, callers_of};
@@ -178,13 +179,15 @@ impl Standing {
         requires ring { HasRing config.now ring }
         requires rings { length self.now.places ≡ places_of config.now }
         requires queues { length self.now.queues ≡ length config.now.sockets }
-        ensures { IsTrue result ↔ MaySubmit config.now self.now ring items.now }
+        ensures value { IsTrue result ↔ MaySubmit config.now self.now ring items.now }
+        ensures lawful { IsGeometry config.now.geometry }
     {
+        let geometry = config.geometry();
         let count = items.len();
         if count == 0 || count > self.places[ring_place(config, ring)].room {
             return false;
         }
-        if !are_items(config, ring, items) || !self.has_frames(items) {
+        if !are_items(geometry, ring, items) || !self.has_frames(items) {
             return false;
         }
         match ring {
@@ -328,11 +331,11 @@ fn number_of(item: &Item) -> Option<u32>
 }
 
 /// Whether each item may stand in the ring.
-fn are_items(config: &Config, ring: Ring, items: &Batch) -> bool
-    ensures { IsTrue result ↔ All (IsItemOn config.now.geometry ring) items.now }
+fn are_items(geometry: &Geometry, ring: Ring, items: &Batch) -> bool
+    ensures { IsTrue result ↔ All (IsItemOn geometry.now ring) items.now }
 {
     for i in 0..items.len() {
-        if !is_item(config, ring, items.item(i)) {
+        if !is_item(geometry, ring, items.item(i)) {
             return false;
         }
     }
@@ -341,11 +344,10 @@ fn are_items(config: &Config, ring: Ring, items: &Batch) -> bool
 
 /// Whether the item has a frame exactly where its address has one, and then that one, whole; and on FILL and
 /// COMPLETION an address alone.
-fn is_item(config: &Config, ring: Ring, item: &Item) -> bool
-    ensures { IsTrue result ↔ IsItemOn config.now.geometry ring item.now }
+fn is_item(geometry: &Geometry, ring: Ring, item: &Item) -> bool
+    ensures { IsTrue result ↔ IsItemOn geometry.now ring item.now }
 {
     let desc = item.desc;
-    let geometry = config.geometry();
     number_of(item) == geometry.frame_of(desc.addr)
         && is_whole(geometry, item)
         && is_plain(ring, desc)
