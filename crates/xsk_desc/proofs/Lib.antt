@@ -1,8 +1,12 @@
 pub mod Drivers
+pub mod Fetched
+pub mod Fetching
 pub mod Going
 pub mod Opening
+pub mod Pushing
 pub mod Received
 pub mod Rooms
 pub mod Sources
 pub mod Steps
 pub mod Submits
+pub mod Waiting

@@ -106,7 +106,7 @@ module _ (c : Config) (who n : ℕ) where
         fill = λ k. from ∙ h.fill (subst (λ m. 1 ≤ m) same k) ∙ ap is_fill_ring (sym source);
       }
 
-  source_step_holds : (mine : List Told) (t : Told) → IsLegal c mine who t.call → Fits c mine t.call t.reply → IsSource n mine → IsSource n (mine ++ t ∷ [])
+  pub source_step_holds : (mine : List Told) (t : Told) → IsLegal c mine who t.call → Fits c mine t.call t.reply → IsSource n mine → IsSource n (mine ++ t ∷ [])
   source_step_holds mine t legal fits h = ⊎_elim
       (λ (some : 0 < times n (numbers (taken t.reply))). comes mine t fits some)
       (λ (none : times n (numbers (taken t.reply)) ≤ 0). ⊎_elim
