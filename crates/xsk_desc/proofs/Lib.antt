@@ -1,10 +1,12 @@
 pub mod Allowed
 pub mod Completed
 pub mod Drivers
+pub mod Fetched
+pub mod Fetching
 pub mod Frames
 pub mod Going
 pub mod Opening
-pub mod OwnPushes
+pub mod Pushing
 pub mod Received
 pub mod Rooms
 pub mod Sources

@@ -3,6 +3,7 @@ pub mod Gather
 pub mod Kept
 pub mod Laws
 pub mod Noted
+pub mod Noting
 pub mod Standing
 pub mod Queue
 pub mod Roles

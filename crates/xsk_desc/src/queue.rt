@@ -1,5 +1,5 @@
 //! The packets of a TX ring that aren't completed yet.
-ghost use Rattle.std.specs.Prelude.{◌≡◌, ◌<◌, ◌↔◌, IfOk, IsTrue, [], length, slice_get};
+ghost use Rattle.std.specs.Prelude.{◌≡◌, ◌<◌, ◌≤◌, ◌↔◌, IfOk, IsTrue, [], length, slice_get};
 ghost use Rattle.std.specs.VecDeque.{deque_capacity};
 ghost use Rattle.xsk_desc.specs.Noted.{Queue as Descs};
 ghost use Rattle.xsk_desc.specs.Queue.{pushed, first_off, IsNext, IsPacket};
@@ -47,7 +47,7 @@ impl Queue {
 
     /// Takes the next descriptor of the TX ring. A packet that it makes bad is forgotten.
     pub(crate) fn push(&mut self, geometry: &Geometry, sg: bool, desc: XdpDesc)
-        requires { length self.old.descs < self.old.limit }
+        requires { length (pushed geometry.now sg self.old desc).descs ≤ self.old.limit }
         ensures { self.new ≡ pushed geometry.now sg self.old desc }
     {
         let valid = validate(desc, geometry, sg).is_ok();

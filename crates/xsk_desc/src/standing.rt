@@ -16,6 +16,7 @@ ghost use Rattle.xsk_model.specs.declared.call.Ring.TheVariants.{Comp, Tx};
 ghost use Rattle.xsk_model.specs.declared.call.Call.TheVariants.{Reserve, Submit, Peek, Release};
 ghost use Rattle.xsk_model.specs.declared.call.Reply.TheVariants.{Granted, Submitted, Items, Released};
 ghost use Rattle.xsk_desc.specs.Standing.{StandsFor, IsPlacing, IsFetching, IsFresh, places_at, no_queue, with_places};
+ghost use Rattle.xsk_desc.specs.Noting.{one_filled, one_held, sources_with, queues_with, queues_without, HasRoom, HasGiven};
 ghost use Rattle.xsk_desc.specs.Pieces.{MaySubmit, has, item_source, IsFill, IsPiece, ArePieces, GivesBack};
 
 use crate::descriptor::CONTINUED;
@@ -118,13 +119,10 @@ impl Standing {
         ensures ends { (mine : List Told) (done : List AnItem) → IsPlacing config.now self.old mine ring done
             → IsLegal config.now mine self.old.who (Submit ring (done ++ item.now ∷ [])) → StandsFor config.now self.new (with_told mine (Submit ring (done ++ item.now ∷ [])) Submitted) }
     {
-        self.places[ring_place(config, ring)].room -= 1;
-        if let Some(frame) = &item.frame {
-            let source = self.sources[frame.number() as usize].take();
-            if let (Ring::Comp(_), Some(Ring::Tx(socket))) = (ring, source) {
-                self.queues[socket as usize].pop_front();
-            }
-        }
+        self.fill(config, ring);
+        let source = self.source(item);
+        self.note_source(item, None);
+        self.give_back(ring, source);
     }
 
     /// Notes an item of a Peek's reply.
@@ -137,13 +135,9 @@ impl Standing {
             → MayGive config.now mine self.old.who (Peek ring n) (Items (done ++ item.now ∷ []))
             → StandsFor config.now self.new (with_told mine (Peek ring n) (Items (done ++ item.now ∷ []))) }
     {
-        self.places[ring_place(config, ring)].held += 1;
-        if let Some(frame) = &item.frame {
-            self.sources[frame.number() as usize] = Some(ring);
-        }
-        if let Ring::Tx(socket) = ring {
-            self.queues[socket as usize].push(config.geometry(), config.sg(), item.desc);
-        }
+        self.hold(config, ring);
+        self.note_source(item, Some(ring));
+        self.keep_desc(config, ring, item.desc);
     }
 
     /// Notes a Release.
@@ -172,6 +166,56 @@ impl Standing {
         ensures { self.new ≡ with_places self.old place places }
     {
         self.places[place] = places;
+    }
+
+    /// Notes that a reserved place of the ring is filled.
+    fn fill(&mut self, config: &Config, ring: Ring)
+        requires ring { HasRing config.now ring }
+        requires rings { length self.old.places ≡ places_of config.now }
+        requires some { 1 ≤ (places_at self.old (place config.now ring)).room }
+        ensures { self.new ≡ record self.old { places = one_filled self.old (place config.now ring) } }
+    {
+        self.places[ring_place(config, ring)].room -= 1;
+    }
+
+    /// Notes that one more item of the ring is held.
+    fn hold(&mut self, config: &Config, ring: Ring)
+        requires ring { HasRing config.now ring }
+        requires rings { length self.old.places ≡ places_of config.now }
+        requires few { (places_at self.old (place config.now ring)).held < 2048 }
+        ensures { self.new ≡ record self.old { places = one_held self.old (place config.now ring) } }
+    {
+        self.places[ring_place(config, ring)].held += 1;
+    }
+
+    /// Notes from which ring the caller has the item's frame now, if it has it.
+    fn note_source(&mut self, item: &Item, source: Option<Ring>)
+        requires { IfSome item.now.frame (λ (frame : Body). frame.number < length self.old.sources) }
+        ensures { self.new ≡ record self.old { sources = sources_with self.old.sources item.now.frame source } }
+    {
+        if let Some(frame) = &item.frame {
+            self.sources[frame.number() as usize] = source;
+        }
+    }
+
+    /// Keeps a descriptor that was fetched, if it came from TX.
+    fn keep_desc(&mut self, config: &Config, ring: Ring, desc: XdpDesc)
+        requires { HasRoom config.now.geometry config.now.sg self.old ring desc }
+        ensures { self.new ≡ record self.old { queues = queues_with config.now.geometry config.now.sg self.old ring desc } }
+    {
+        if let Ring::Tx(socket) = ring {
+            self.queues[socket as usize].push(config.geometry(), config.sg(), desc);
+        }
+    }
+
+    /// Forgets the first descriptor of the TX ring from which a completed frame came.
+    fn give_back(&mut self, ring: Ring, source: Option<Ring>)
+        requires { HasGiven self.old ring source }
+        ensures { self.new ≡ record self.old { queues = queues_without self.old ring source } }
+    {
+        if let (Ring::Comp(_), Some(Ring::Tx(socket))) = (ring, source) {
+            self.queues[socket as usize].pop_front();
+        }
     }
 
     /// Whether the items may be submitted on the ring, which exists and is the caller's.

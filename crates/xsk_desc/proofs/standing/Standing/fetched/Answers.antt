@@ -1,0 +1,43 @@
+use Rattle.std.proofs.Common.{◌≡◌, ◌<◌, ◌++◌, ◌∷◌, [], length, Some, sym, subst, ap, ◌∙◌, refl}
+use Rattle.std.specs.Prelude.{IfSome}
+use Rattle.xsk_umem.specs.Frame.{Frame}
+use Rattle.xsk_model.specs.Rings.{place}
+use Rattle.xsk_model.specs.Entry.{with_told}
+use Rattle.xsk_model.specs.declared.call.Call.TheVariants.{Peek}
+use Rattle.xsk_model.specs.declared.call.Reply.TheVariants.{Items}
+use Rattle.xsk_desc.specs.Noted.{Noted}
+use Rattle.xsk_desc.specs.Standing.{StandsFor, IsFetching}
+use Rattle.xsk_desc.specs.Noting.{fetched_item}
+use Rattle.xsk_desc.proofs.Fetched.{fetched_goes, fetched_ends, fetched_ring, fetched_held, fetched_frame, fetched_room, room_same, fetched_steps}
+use Rattle.xsk_desc.proofs.standing.Standing.fetched.Goals as goal
+
+pub hold-requires-clause-ring : goal.hold-requires-clause-ring
+hold-requires-clause-ring c =
+    fetched_ring c.args.config.now c.args.self.now c.requires.0 c.args.ring c.requires.1 c.requires.2 c.args.item.now c.requires.3 c.requires.4 c.requires.5
+
+pub hold-requires-clause-few : goal.hold-requires-clause-few
+hold-requires-clause-few c =
+    fetched_held c.args.config.now c.args.self.now c.requires.0 c.args.ring c.requires.1 c.requires.2 c.args.item.now c.requires.3 c.requires.4 c.requires.5
+
+pub note_source-requires : goal.note_source-requires
+note_source-requires c =
+    subst (λ (kept : Noted). IfSome c.args.item.now.frame (λ (f : Frame). f.number < length kept.sources)) (sym c.hold.ensures)
+    (fetched_frame c.args.config.now c.args.self.now c.requires.0 c.args.ring c.requires.1 c.requires.2 c.args.item.now c.requires.3 c.requires.4 c.requires.5)
+
+pub keep_desc-requires : goal.keep_desc-requires
+keep_desc-requires c =
+    room_same c.args.config.now.geometry c.args.config.now.sg c.note_source.new.self c.args.self.now c.args.ring c.args.item.now.desc
+    (ap (λ (kept : Noted). kept.queues) c.note_source.ensures ∙ ap (λ (kept : Noted). kept.queues) c.hold.ensures)
+    (fetched_room c.args.config.now c.args.self.now c.requires.0 c.args.ring c.requires.1 c.requires.2 c.args.item.now c.requires.3 c.requires.4 c.requires.5 c.args.ring refl)
+
+pub returns-clause-goes_on : goal.returns-clause-goes_on
+returns-clause-goes_on c = λ mine n done later h gift.
+    subst (λ (kept : Noted). IsFetching c.args.config.now kept mine c.args.ring (done ++ c.args.item.now ∷ []))
+    (sym (fetched_steps c.args.config.now c.args.ring c.args.item.now c.args.self.now c.hold.new.self c.note_source.new.self c.keep_desc.new.self c.hold.ensures c.note_source.ensures c.keep_desc.ensures))
+    (fetched_goes c.args.config.now c.args.self.now mine c.args.ring n done c.args.item.now later h gift)
+
+pub returns-clause-ends : goal.returns-clause-ends
+returns-clause-ends c = λ mine n done h gift.
+    subst (λ (kept : Noted). StandsFor c.args.config.now kept (with_told mine (Peek c.args.ring n) (Items (done ++ c.args.item.now ∷ []))))
+    (sym (fetched_steps c.args.config.now c.args.ring c.args.item.now c.args.self.now c.hold.new.self c.note_source.new.self c.keep_desc.new.self c.hold.ensures c.note_source.ensures c.keep_desc.ensures))
+    (fetched_ends c.args.config.now c.args.self.now mine c.args.ring n done c.args.item.now h gift)
