@@ -1,3 +1,4 @@
+pub mod Able
 pub mod Allowed
 pub mod Completed
 pub mod Drivers

@@ -16,7 +16,7 @@ ghost use Rattle.xsk_model.specs.declared.call.Ring.TheVariants.{Comp, Tx};
 ghost use Rattle.xsk_model.specs.declared.call.Call.TheVariants.{Reserve, Submit, Peek, Release};
 ghost use Rattle.xsk_model.specs.declared.call.Reply.TheVariants.{Granted, Submitted, Items, Released};
 ghost use Rattle.xsk_desc.specs.Standing.{StandsFor, IsPlacing, IsFetching, IsFresh, places_at, no_queue, with_places};
-ghost use Rattle.xsk_desc.specs.Noting.{one_filled, one_held, sources_with, queues_with, queues_without, HasRoom, HasGiven};
+ghost use Rattle.xsk_desc.specs.Noting.{one_filled, one_held, sources_with, queues_with, queues_without, HasRoom, HasGiven, IsFor, CanGrant, CanRelease, CanFetch, CanPlace};
 ghost use Rattle.xsk_desc.specs.Pieces.{MaySubmit, has, item_source, IsFill, IsPiece, ArePieces, GivesBack};
 
 use crate::descriptor::CONTINUED;
@@ -79,7 +79,7 @@ impl Standing {
 
     /// Whether the call is legal after the calls and replies that were noted.
     pub fn allows(&self, config: &Config, call: &Call) -> bool
-        requires { (mine : List Told) × StandsFor config.now self.now mine }
+        requires { IsFor config.now self.now }
         ensures { (mine : List Told) → StandsFor config.now self.now mine → (IsTrue result ↔ IsLegal config.now mine self.now.who call.now) }
     {
         match call {
@@ -100,8 +100,9 @@ impl Standing {
 
     /// Notes a Reserve that was granted.
     pub fn granted(&mut self, config: &Config, ring: Ring, n: u32)
-        requires { (mine : List Told) × StandsFor config.now self.old mine × MayGive config.now mine self.old.who (Reserve ring n) Granted }
-        ensures { (mine : List Told) → StandsFor config.now self.old mine → MayGive config.now mine self.old.who (Reserve ring n) Granted
+        requires { CanGrant config.now self.old ring n }
+        ensures kind { IsFor config.now self.new }
+        ensures stands { (mine : List Told) → StandsFor config.now self.old mine → MayGive config.now mine self.old.who (Reserve ring n) Granted
             → StandsFor config.now self.new (with_told mine (Reserve ring n) Granted) }
     {
         let place = ring_place(config, ring);
@@ -127,8 +128,8 @@ impl Standing {
 
     /// Notes an item of a Peek's reply.
     pub fn fetched(&mut self, config: &Config, ring: Ring, item: &Item)
-        requires { (mine : List Told) × (n : ℕ) × (done : List AnItem) × (later : List AnItem) × IsFetching config.now self.old mine ring done
-            × MayGive config.now mine self.old.who (Peek ring n) (Items (done ++ item.now ∷ later)) }
+        requires { CanFetch config.now self.old ring item.now }
+        ensures kind { IsFor config.now self.new }
         ensures goes_on { (mine : List Told) (n : ℕ) (done later : List AnItem) → IsFetching config.now self.old mine ring done
             → MayGive config.now mine self.old.who (Peek ring n) (Items (done ++ item.now ∷ later)) → IsFetching config.now self.new mine ring (done ++ item.now ∷ []) }
         ensures ends { (mine : List Told) (n : ℕ) (done : List AnItem) → IsFetching config.now self.old mine ring done
@@ -142,8 +143,9 @@ impl Standing {
 
     /// Notes a Release.
     pub fn released(&mut self, config: &Config, ring: Ring, n: u32)
-        requires { (mine : List Told) × StandsFor config.now self.old mine × IsLegal config.now mine self.old.who (Release ring n) }
-        ensures { (mine : List Told) → StandsFor config.now self.old mine → IsLegal config.now mine self.old.who (Release ring n)
+        requires { CanRelease config.now self.old ring n }
+        ensures kind { IsFor config.now self.new }
+        ensures stands { (mine : List Told) → StandsFor config.now self.old mine → IsLegal config.now mine self.old.who (Release ring n)
             → StandsFor config.now self.new (with_told mine (Release ring n) Released) }
     {
         let place = ring_place(config, ring);
