@@ -113,8 +113,8 @@ impl Standing {
 
     /// Notes an item of a Submit.
     pub fn placed(&mut self, config: &Config, ring: Ring, item: &Item)
-        requires { (mine : List Told) × (done : List AnItem) × (later : List AnItem) × IsPlacing config.now self.old mine ring done
-            × IsLegal config.now mine self.old.who (Submit ring (done ++ item.now ∷ later)) }
+        requires { CanPlace config.now self.old ring item.now }
+        ensures kind { IsFor config.now self.new }
         ensures goes_on { (mine : List Told) (done later : List AnItem) → IsPlacing config.now self.old mine ring done
             → IsLegal config.now mine self.old.who (Submit ring (done ++ item.now ∷ later)) → IsPlacing config.now self.new mine ring (done ++ item.now ∷ []) }
         ensures ends { (mine : List Told) (done : List AnItem) → IsPlacing config.now self.old mine ring done
