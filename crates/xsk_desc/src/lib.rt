@@ -16,6 +16,4 @@ pub use payload::payload_of;
 pub use standing::Standing;
 
 #[cfg(test)]
-mod standing_tests;
-#[cfg(test)]
 mod tests;
