@@ -44,7 +44,7 @@ pub record HasPeeked (c : Config) (r : Ring) (items : List Item) (mine after : L
   pub sources : (n : ℕ) → source_of n after ≡ cond (nat_lt 0 (times n (numbers items))) (Some r) (source_of n mine)
   pub sendings : (s : ℕ) → sending_of c s after ≡ cond (is_ring (Tx s) r) (with_peeked (sending_of c s mine) items) (sending_of c s mine)
 
-same_either : (b : Bool) (x y : ℕ) → y ≡ x → cond b y x ≡ x
+pub same_either : (b : Bool) (x y : ℕ) → y ≡ x → cond b y x ≡ x
 same_either true x y h = h
 same_either false x y h = refl
 

@@ -1,8 +1,11 @@
+pub mod Completing
 pub mod Drivers
 pub mod Fetched
 pub mod Fetching
 pub mod Going
 pub mod Opening
+pub mod Placed
+pub mod Placing
 pub mod Pushing
 pub mod Received
 pub mod Rooms

@@ -399,7 +399,7 @@ no_number : (g : Geometry) (r : Ring) (item : Item) (n : ℕ) (frame : Option Fr
 no_number g r item n None geometry lawful e past = refl
 no_number g r item n (Some f) geometry lawful e past = omega (arith, not_yet f.number n (omega (arith, past, number_below g r item f geometry lawful e)))
 
-none_past : (g : Geometry) (r : Ring) (items : List Item) (n : ℕ) → IsGeometry g → All (IsItemOn g r) items → g.frames ≤ n → times n (numbers items) ≡ 0
+pub none_past : (g : Geometry) (r : Ring) (items : List Item) (n : ℕ) → IsGeometry g → All (IsItemOn g r) items → g.frames ≤ n → times n (numbers items) ≡ 0
 none_past g r [] n geometry h past = refl
 none_past g r (item ∷ items) n geometry h past =
     omega (

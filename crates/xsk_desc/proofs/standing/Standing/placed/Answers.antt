@@ -1,0 +1,44 @@
+use Rattle.std.proofs.Common.{◌≡◌, ◌<◌, ◌++◌, ◌∷◌, [], length, sym, subst, ap, ◌∙◌}
+use Rattle.std.specs.Prelude.{IfSome}
+use Rattle.xsk_umem.specs.Frame.{Frame}
+use Rattle.xsk_model.specs.Entry.{with_told}
+use Rattle.xsk_model.specs.declared.call.Call.TheVariants.{Submit}
+use Rattle.xsk_model.specs.declared.call.Reply.TheVariants.{Submitted}
+use Rattle.xsk_desc.specs.Noted.{Noted}
+use Rattle.xsk_desc.specs.Standing.{StandsFor, IsPlacing}
+use Rattle.xsk_desc.specs.Pieces.{item_source}
+use Rattle.xsk_desc.specs.Noting.{HasGiven}
+use Rattle.xsk_desc.proofs.Placed.{placed_goes, placed_ends, placed_ring, placed_room, placed_frame, placed_given, given_same, placed_steps}
+use Rattle.xsk_desc.proofs.standing.Standing.placed.Goals as goal
+
+pub fill-requires-clause-ring : goal.fill-requires-clause-ring
+fill-requires-clause-ring c =
+    placed_ring c.args.config.now c.args.self.now c.requires.0 c.args.ring c.requires.1 c.args.item.now c.requires.2 c.requires.3 c.requires.4
+
+pub fill-requires-clause-some : goal.fill-requires-clause-some
+fill-requires-clause-some c =
+    placed_room c.args.config.now c.args.self.now c.requires.0 c.args.ring c.requires.1 c.args.item.now c.requires.2 c.requires.3 c.requires.4
+
+pub note_source-requires : goal.note_source-requires
+note_source-requires c =
+    subst (λ (kept : Noted). IfSome c.args.item.now.frame (λ (f : Frame). f.number < length kept.sources)) (sym c.fill.ensures)
+    (placed_frame c.args.config.now c.args.self.now c.requires.0 c.args.ring c.requires.1 c.args.item.now c.requires.2 c.requires.3 c.requires.4)
+
+pub give_back-requires : goal.give_back-requires
+give_back-requires c =
+    given_same c.note_source.new.self c.args.self.now c.args.ring c.source-source.result
+    (ap (λ (kept : Noted). kept.queues) c.note_source.ensures ∙ ap (λ (kept : Noted). kept.queues) c.fill.ensures)
+    (subst (HasGiven c.args.self.now c.args.ring) (sym (c.source-source.ensures ∙ ap (λ (kept : Noted). item_source kept.sources c.args.item.now) c.fill.ensures))
+    (placed_given c.args.config.now c.args.self.now c.requires.0 c.args.ring c.requires.1 c.args.item.now c.requires.2 c.requires.3 c.requires.4))
+
+pub returns-clause-goes_on : goal.returns-clause-goes_on
+returns-clause-goes_on c = λ mine done later h legal.
+    subst (λ (kept : Noted). IsPlacing c.args.config.now kept mine c.args.ring (done ++ c.args.item.now ∷ []))
+    (sym (placed_steps c.args.config.now c.args.ring c.args.item.now c.args.self.now c.fill.new.self c.note_source.new.self c.give_back.new.self c.source-source.result c.fill.ensures c.source-source.ensures c.note_source.ensures c.give_back.ensures))
+    (placed_goes c.args.config.now c.args.self.now mine c.args.ring done c.args.item.now later h legal)
+
+pub returns-clause-ends : goal.returns-clause-ends
+returns-clause-ends c = λ mine done h legal.
+    subst (λ (kept : Noted). StandsFor c.args.config.now kept (with_told mine (Submit c.args.ring (done ++ c.args.item.now ∷ [])) Submitted))
+    (sym (placed_steps c.args.config.now c.args.ring c.args.item.now c.args.self.now c.fill.new.self c.note_source.new.self c.give_back.new.self c.source-source.result c.fill.ensures c.source-source.ensures c.note_source.ensures c.give_back.ensures))
+    (placed_ends c.args.config.now c.args.self.now mine c.args.ring done c.args.item.now h legal)
