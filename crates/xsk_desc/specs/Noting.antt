@@ -1,12 +1,12 @@
 -- What one item that is noted changes of what a standing keeps.
-use Rattle.std.specs.Prelude.{◌≡◌, ℕ, ◌+◌, ◌-◌, ◌<◌, ◌≤◌, Bool, Option, Some, None, List, [], length}
+use Rattle.std.specs.Prelude.{◌≡◌, ℕ, ◌+◌, ◌-◌, ◌^◌, ◌<◌, ◌≤◌, Bool, IfSome, Option, Some, None, List, [], length}
 use Rattle.std.specs.List.{slice_index_or, slice_set}
 use Rattle.xsk_umem.specs.Frame.{Frame}
 use Rattle.xsk_umem.specs.Geometry.{Geometry}
 use Rattle.xsk_umem.specs.declared.batch.Item.{Item}
 use Rattle.xsk_umem.specs.declared.batch.XdpDesc.{XdpDesc}
-use Rattle.xsk_model.specs.Config.{Config}
-use Rattle.xsk_model.specs.Rings.{place}
+use Rattle.xsk_model.specs.Config.{Config, HasRing}
+use Rattle.xsk_model.specs.Rings.{place, places_of}
 use Rattle.xsk_model.specs.declared.call.Ring.{Ring}
 use Rattle.xsk_model.specs.declared.call.Ring.TheVariants.{Fill, Comp, Rx, Tx}
 use Rattle.xsk_desc.specs.declared.standing.Places.{Places}
@@ -95,3 +95,39 @@ HasGiven kept (Fill d) source = Unit {0}
 HasGiven kept (Comp d) source = HasFirst kept source
 HasGiven kept (Rx s) source = Unit {0}
 HasGiven kept (Tx s) source = Unit {0}
+
+-- ---- when a call can be noted
+
+-- the standing is one for the configuration: it keeps something of each ring, each frame and each socket
+pub record IsFor (c : Config) (kept : Noted) : Type 0 where
+  pub rings : length kept.places ≡ places_of c
+  pub frames : length kept.sources ≡ c.geometry.frames
+  pub sockets : length kept.queues ≡ length c.sockets
+
+-- a Reserve that was granted
+pub record CanGrant (c : Config) (kept : Noted) (r : Ring) (n : ℕ) : Type 0 where
+  pub kind : IsFor c kept
+  pub ring : HasRing c r
+  pub few : (places_at kept (place c r)).room + n < 2 ^ 32
+
+-- a Release
+pub record CanRelease (c : Config) (kept : Noted) (r : Ring) (n : ℕ) : Type 0 where
+  pub kind : IsFor c kept
+  pub ring : HasRing c r
+  pub held : n ≤ (places_at kept (place c r)).held
+
+-- an item of a Peek's reply
+pub record CanFetch (c : Config) (kept : Noted) (r : Ring) (item : Item) : Type 0 where
+  pub kind : IsFor c kept
+  pub ring : HasRing c r
+  pub few : (places_at kept (place c r)).held < 2048
+  pub frame : IfSome item.frame (λ (f : Frame). f.number < length kept.sources)
+  pub room : HasRoom c.geometry c.sg kept r item.desc
+
+-- an item of a Submit
+pub record CanPlace (c : Config) (kept : Noted) (r : Ring) (item : Item) : Type 0 where
+  pub kind : IsFor c kept
+  pub ring : HasRing c r
+  pub some : 1 ≤ (places_at kept (place c r)).room
+  pub frame : IfSome item.frame (λ (f : Frame). f.number < length kept.sources)
+  pub given : HasGiven kept r (item_source kept.sources item)

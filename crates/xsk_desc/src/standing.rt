@@ -3,6 +3,7 @@ ghost use Rattle.std.specs.Prelude.{◌≡◌, ◌+◌, ◌^◌, ◌<◌, ◌≤
 ghost use Rattle.std.specs.List.{slice_index_or};
 ghost use Rattle.std.specs.Option.{option_map};
 ghost use Rattle.xsk_umem.specs.Frame.{Frame as Body};
+ghost use Rattle.xsk_umem.specs.Geometry.{IsGeometry};
 ghost use Rattle.xsk_umem.specs.Limits.{most_items};
 ghost use Rattle.xsk_umem.specs.declared.batch.Item.{Item as AnItem};
 ghost use Rattle.xsk_model.specs.Config.{HasRing, callers_of};
@@ -15,7 +16,7 @@ ghost use Rattle.xsk_model.specs.declared.call.Ring.TheVariants.{Comp, Tx};
 ghost use Rattle.xsk_model.specs.declared.call.Call.TheVariants.{Reserve, Submit, Peek, Release};
 ghost use Rattle.xsk_model.specs.declared.call.Reply.TheVariants.{Granted, Submitted, Items, Released};
 ghost use Rattle.xsk_desc.specs.Standing.{StandsFor, IsPlacing, IsFetching, IsFresh, places_at, no_queue, with_places};
-ghost use Rattle.xsk_desc.specs.Noting.{one_filled, one_held, sources_with, queues_with, queues_without, HasRoom, HasGiven};
+ghost use Rattle.xsk_desc.specs.Noting.{one_filled, one_held, sources_with, queues_with, queues_without, HasRoom, HasGiven, IsFor, CanGrant, CanRelease, CanFetch, CanPlace};
 ghost use Rattle.xsk_desc.specs.Pieces.{MaySubmit, has, item_source, IsFill, IsPiece, ArePieces, GivesBack};
 
 use crate::descriptor::CONTINUED;
@@ -78,7 +79,7 @@ impl Standing {
 
     /// Whether the call is legal after the calls and replies that were noted.
     pub fn allows(&self, config: &Config, call: &Call) -> bool
-        requires { (mine : List Told) × StandsFor config.now self.now mine }
+        requires { IsFor config.now self.now }
         ensures { (mine : List Told) → StandsFor config.now self.now mine → (IsTrue result ↔ IsLegal config.now mine self.now.who call.now) }
     {
         match call {
@@ -99,8 +100,9 @@ impl Standing {
 
     /// Notes a Reserve that was granted.
     pub fn granted(&mut self, config: &Config, ring: Ring, n: u32)
-        requires { (mine : List Told) × StandsFor config.now self.old mine × MayGive config.now mine self.old.who (Reserve ring n) Granted }
-        ensures { (mine : List Told) → StandsFor config.now self.old mine → MayGive config.now mine self.old.who (Reserve ring n) Granted
+        requires { CanGrant config.now self.old ring n }
+        ensures kind { IsFor config.now self.new }
+        ensures stands { (mine : List Told) → StandsFor config.now self.old mine → MayGive config.now mine self.old.who (Reserve ring n) Granted
             → StandsFor config.now self.new (with_told mine (Reserve ring n) Granted) }
     {
         let place = ring_place(config, ring);
@@ -111,8 +113,8 @@ impl Standing {
 
     /// Notes an item of a Submit.
     pub fn placed(&mut self, config: &Config, ring: Ring, item: &Item)
-        requires { (mine : List Told) × (done : List AnItem) × (later : List AnItem) × IsPlacing config.now self.old mine ring done
-            × IsLegal config.now mine self.old.who (Submit ring (done ++ item.now ∷ later)) }
+        requires { CanPlace config.now self.old ring item.now }
+        ensures kind { IsFor config.now self.new }
         ensures goes_on { (mine : List Told) (done later : List AnItem) → IsPlacing config.now self.old mine ring done
             → IsLegal config.now mine self.old.who (Submit ring (done ++ item.now ∷ later)) → IsPlacing config.now self.new mine ring (done ++ item.now ∷ []) }
         ensures ends { (mine : List Told) (done : List AnItem) → IsPlacing config.now self.old mine ring done
@@ -126,8 +128,8 @@ impl Standing {
 
     /// Notes an item of a Peek's reply.
     pub fn fetched(&mut self, config: &Config, ring: Ring, item: &Item)
-        requires { (mine : List Told) × (n : ℕ) × (done : List AnItem) × (later : List AnItem) × IsFetching config.now self.old mine ring done
-            × MayGive config.now mine self.old.who (Peek ring n) (Items (done ++ item.now ∷ later)) }
+        requires { CanFetch config.now self.old ring item.now }
+        ensures kind { IsFor config.now self.new }
         ensures goes_on { (mine : List Told) (n : ℕ) (done later : List AnItem) → IsFetching config.now self.old mine ring done
             → MayGive config.now mine self.old.who (Peek ring n) (Items (done ++ item.now ∷ later)) → IsFetching config.now self.new mine ring (done ++ item.now ∷ []) }
         ensures ends { (mine : List Told) (n : ℕ) (done : List AnItem) → IsFetching config.now self.old mine ring done
@@ -141,8 +143,9 @@ impl Standing {
 
     /// Notes a Release.
     pub fn released(&mut self, config: &Config, ring: Ring, n: u32)
-        requires { (mine : List Told) × StandsFor config.now self.old mine × IsLegal config.now mine self.old.who (Release ring n) }
-        ensures { (mine : List Told) → StandsFor config.now self.old mine → IsLegal config.now mine self.old.who (Release ring n)
+        requires { CanRelease config.now self.old ring n }
+        ensures kind { IsFor config.now self.new }
+        ensures stands { (mine : List Told) → StandsFor config.now self.old mine → IsLegal config.now mine self.old.who (Release ring n)
             → StandsFor config.now self.new (with_told mine (Release ring n) Released) }
     {
         let place = ring_place(config, ring);
@@ -222,13 +225,15 @@ impl Standing {
         requires ring { HasRing config.now ring }
         requires rings { length self.now.places ≡ places_of config.now }
         requires queues { length self.now.queues ≡ length config.now.sockets }
-        ensures { IsTrue result ↔ MaySubmit config.now self.now ring items.now }
+        ensures value { IsTrue result ↔ MaySubmit config.now self.now ring items.now }
+        ensures lawful { IsGeometry config.now.geometry }
     {
+        let geometry = config.geometry();
         let count = items.len();
         if count == 0 || count > self.places[ring_place(config, ring)].room {
             return false;
         }
-        if !are_items(config, ring, items) || !self.has_frames(items) {
+        if !are_items(geometry, ring, items) || !self.has_frames(items) {
             return false;
         }
         match ring {
@@ -372,11 +377,11 @@ fn number_of(item: &Item) -> Option<u32>
 }
 
 /// Whether each item may stand in the ring.
-fn are_items(config: &Config, ring: Ring, items: &Batch) -> bool
-    ensures { IsTrue result ↔ All (IsItemOn config.now.geometry ring) items.now }
+fn are_items(geometry: &Geometry, ring: Ring, items: &Batch) -> bool
+    ensures { IsTrue result ↔ All (IsItemOn geometry.now ring) items.now }
 {
     for i in 0..items.len() {
-        if !is_item(config, ring, items.item(i)) {
+        if !is_item(geometry, ring, items.item(i)) {
             return false;
         }
     }
@@ -385,11 +390,10 @@ fn are_items(config: &Config, ring: Ring, items: &Batch) -> bool
 
 /// Whether the item has a frame exactly where its address has one, and then that one, whole; and on FILL and
 /// COMPLETION an address alone.
-fn is_item(config: &Config, ring: Ring, item: &Item) -> bool
-    ensures { IsTrue result ↔ IsItemOn config.now.geometry ring item.now }
+fn is_item(geometry: &Geometry, ring: Ring, item: &Item) -> bool
+    ensures { IsTrue result ↔ IsItemOn geometry.now ring item.now }
 {
     let desc = item.desc;
-    let geometry = config.geometry();
     number_of(item) == geometry.frame_of(desc.addr)
         && is_whole(geometry, item)
         && is_plain(ring, desc)

@@ -5,4 +5,4 @@ use Rattle.xsk_desc.proofs.standing.are_items.Goals as goal
 
 pub loop-i-preserved : goal.loop-i-preserved
 loop-i-preserved c =
-    one_holds (IsItemOn c.args.config.now.geometry c.args.ring) c.args.items.now c.loop-i.i c.item.result.now c.item.ensures (search rules) c.loop-i.invariant
+    one_holds (IsItemOn c.args.geometry.now c.args.ring) c.args.items.now c.loop-i.i c.item.result.now c.item.ensures (search rules) c.loop-i.invariant

@@ -4,4 +4,4 @@ use Rattle.xsk_model.specs.Legal.{IsItemOn}
 use Rattle.xsk_desc.proofs.standing.are_items.Given as goal
 
 abbrev pub invariant-loop-i : goal.invariant-loop-i
-invariant-loop-i l = (k : ℕ) (d : Item) → k < l.i → IsItemOn l.config.geometry l.ring (get_or l.items k d)
+invariant-loop-i l = (k : ℕ) (d : Item) → k < l.i → IsItemOn l.geometry l.ring (get_or l.items k d)

@@ -8,27 +8,8 @@ use Rattle.xsk_model.specs.declared.call.Reply.TheVariants.{Items}
 use Rattle.xsk_desc.specs.Noted.{Noted}
 use Rattle.xsk_desc.specs.Standing.{StandsFor, IsFetching}
 use Rattle.xsk_desc.specs.Noting.{fetched_item}
-use Rattle.xsk_desc.proofs.Fetched.{fetched_goes, fetched_ends, fetched_ring, fetched_held, fetched_frame, fetched_room, room_same, fetched_steps}
+use Rattle.xsk_desc.proofs.Fetched.{fetched_goes, fetched_ends, fetched_steps}
 use Rattle.xsk_desc.proofs.standing.Standing.fetched.Goals as goal
-
-pub hold-requires-clause-ring : goal.hold-requires-clause-ring
-hold-requires-clause-ring c =
-    fetched_ring c.args.config.now c.args.self.now c.requires.0 c.args.ring c.requires.1 c.requires.2 c.args.item.now c.requires.3 c.requires.4 c.requires.5
-
-pub hold-requires-clause-few : goal.hold-requires-clause-few
-hold-requires-clause-few c =
-    fetched_held c.args.config.now c.args.self.now c.requires.0 c.args.ring c.requires.1 c.requires.2 c.args.item.now c.requires.3 c.requires.4 c.requires.5
-
-pub note_source-requires : goal.note_source-requires
-note_source-requires c =
-    subst (λ (kept : Noted). IfSome c.args.item.now.frame (λ (f : Frame). f.number < length kept.sources)) (sym c.hold.ensures)
-    (fetched_frame c.args.config.now c.args.self.now c.requires.0 c.args.ring c.requires.1 c.requires.2 c.args.item.now c.requires.3 c.requires.4 c.requires.5)
-
-pub keep_desc-requires : goal.keep_desc-requires
-keep_desc-requires c =
-    room_same c.args.config.now.geometry c.args.config.now.sg c.note_source.new.self c.args.self.now c.args.ring c.args.item.now.desc
-    (ap (λ (kept : Noted). kept.queues) c.note_source.ensures ∙ ap (λ (kept : Noted). kept.queues) c.hold.ensures)
-    (fetched_room c.args.config.now c.args.self.now c.requires.0 c.args.ring c.requires.1 c.requires.2 c.args.item.now c.requires.3 c.requires.4 c.requires.5 c.args.ring refl)
 
 pub returns-clause-goes_on : goal.returns-clause-goes_on
 returns-clause-goes_on c = λ mine n done later h gift.

@@ -18,21 +18,17 @@ use Rattle.std.proofs.Common.{sym, ap, subst, ◌∙◌, arith}
 use Rattle.xsk_desc.specs.declared.standing.Places.{Places}
 use Rattle.xsk_desc.specs.Noted.{Noted}
 use Rattle.xsk_desc.specs.Standing.{places_at, with_places}
-use Rattle.xsk_desc.proofs.Rooms.{granted_stands, granted_ring, granted_few, released_stands, released_held}
+use Rattle.xsk_desc.proofs.Rooms.{granted_stands}
 use Rattle.xsk_desc.proofs.standing.Standing.granted.Goals as goal
-
-pub ring_place-place-requires : goal.ring_place-place-requires
-ring_place-place-requires c = granted_ring c.args.config.now c.args.self.now c.requires.0 c.args.ring c.args.n c.requires.2
 
 pub overflow_add-room : goal.overflow_add-room
 overflow_add-room c =
-    let few = granted_few c.args.config.now c.args.self.now c.requires.0 c.args.ring c.args.n c.requires.1 c.requires.2 in
     let at : c.places_at-room.result ≡ places_at c.args.self.now (place c.args.config.now c.args.ring) = c.places_at-room.ensures ∙ ap (places_at c.args.self.now) c.ring_place-place.ensures.value in
-    let small : c.places_at-room.result.room + c.args.n < 2 ^ 32 = omega (arith, few, ap (λ (p : Places). p.room) at) in
+    let few : c.places_at-room.result.room + c.args.n < 2 ^ 32 = omega (arith, c.requires.few, ap (λ (p : Places). p.room) at) in
     search rules
 
-pub returns : goal.returns
-returns c = λ mine h gift.
+pub returns-clause-stands : goal.returns-clause-stands
+returns-clause-stands c = λ mine h gift.
     let config = c.args.config.now in
     let kept = c.args.self.now in
     let at : c.places_at-room.result ≡ places_at kept (place config c.args.ring) = c.places_at-room.ensures ∙ ap (places_at kept) c.ring_place-place.ensures.value in

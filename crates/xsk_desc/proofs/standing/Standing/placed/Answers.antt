@@ -8,28 +8,14 @@ use Rattle.xsk_desc.specs.Noted.{Noted}
 use Rattle.xsk_desc.specs.Standing.{StandsFor, IsPlacing}
 use Rattle.xsk_desc.specs.Pieces.{item_source}
 use Rattle.xsk_desc.specs.Noting.{HasGiven}
-use Rattle.xsk_desc.proofs.Placed.{placed_goes, placed_ends, placed_ring, placed_room, placed_frame, placed_given, given_same, placed_steps}
+use Rattle.xsk_desc.proofs.Placed.{placed_goes, placed_ends, given_same, placed_steps}
 use Rattle.xsk_desc.proofs.standing.Standing.placed.Goals as goal
-
-pub fill-requires-clause-ring : goal.fill-requires-clause-ring
-fill-requires-clause-ring c =
-    placed_ring c.args.config.now c.args.self.now c.requires.0 c.args.ring c.requires.1 c.args.item.now c.requires.2 c.requires.3 c.requires.4
-
-pub fill-requires-clause-some : goal.fill-requires-clause-some
-fill-requires-clause-some c =
-    placed_room c.args.config.now c.args.self.now c.requires.0 c.args.ring c.requires.1 c.args.item.now c.requires.2 c.requires.3 c.requires.4
-
-pub note_source-requires : goal.note_source-requires
-note_source-requires c =
-    subst (λ (kept : Noted). IfSome c.args.item.now.frame (λ (f : Frame). f.number < length kept.sources)) (sym c.fill.ensures)
-    (placed_frame c.args.config.now c.args.self.now c.requires.0 c.args.ring c.requires.1 c.args.item.now c.requires.2 c.requires.3 c.requires.4)
 
 pub give_back-requires : goal.give_back-requires
 give_back-requires c =
     given_same c.note_source.new.self c.args.self.now c.args.ring c.source-source.result
     (ap (λ (kept : Noted). kept.queues) c.note_source.ensures ∙ ap (λ (kept : Noted). kept.queues) c.fill.ensures)
-    (subst (HasGiven c.args.self.now c.args.ring) (sym (c.source-source.ensures ∙ ap (λ (kept : Noted). item_source kept.sources c.args.item.now) c.fill.ensures))
-    (placed_given c.args.config.now c.args.self.now c.requires.0 c.args.ring c.requires.1 c.args.item.now c.requires.2 c.requires.3 c.requires.4))
+    (subst (HasGiven c.args.self.now c.args.ring) (sym (c.source-source.ensures ∙ ap (λ (kept : Noted). item_source kept.sources c.args.item.now) c.fill.ensures)) c.requires.given)
 
 pub returns-clause-goes_on : goal.returns-clause-goes_on
 returns-clause-goes_on c = λ mine done later h legal.

@@ -18,11 +18,11 @@ use Rattle.std.proofs.Common.{sym, ap, subst, ◌∙◌, arith}
 use Rattle.xsk_desc.specs.declared.standing.Places.{Places}
 use Rattle.xsk_desc.specs.Noted.{Noted}
 use Rattle.xsk_desc.specs.Standing.{places_at, with_places}
-use Rattle.xsk_desc.proofs.Rooms.{granted_stands, granted_ring, granted_few, released_stands, released_held}
+use Rattle.xsk_desc.proofs.Rooms.{released_stands}
 use Rattle.xsk_desc.proofs.standing.Standing.released.Goals as goal
 
-pub returns : goal.returns
-returns c = λ mine h legal.
+pub returns-clause-stands : goal.returns-clause-stands
+returns-clause-stands c = λ mine h legal.
     let config = c.args.config.now in
     let kept = c.args.self.now in
     let at : c.places_at-room.result ≡ places_at kept (place config c.args.ring) = c.places_at-room.ensures ∙ ap (places_at kept) c.ring_place-place.ensures.value in
