@@ -42,7 +42,7 @@ module _ (c : Config) (kept : Noted) (mine : List Told) (items : List Item) (geo
 
   legal_packets : (r : Ring) → HasRing c r → kept.who ≡ producer c r → IsLegal c mine kept.who (Submit r items) → MayPlace c kept r items
   legal_packets (Fill d) has is legal = tt
-  legal_packets (Comp d) has is legal = completed_back c kept mine d items h (waits d has is) geometry legal.counted.0 legal.items legal.packets
+  legal_packets (Comp d) has is legal = completed_back c kept mine d items h (waits d has is) legal.counted.0 legal.items legal.packets
   legal_packets (Rx s) has is legal =
       let pieces = received_pieces c mine items legal.packets in
       (from_filled c kept mine h items (all_named c.geometry c.sg items pieces) legal.frames legal.packets.from_fill, pieces)
@@ -54,6 +54,6 @@ module _ (c : Config) (kept : Noted) (mine : List Told) (items : List Item) (geo
     few = legal.counted.1;
     room = omega (arith, legal.counted.2, h.keeps.room r has);
     lawful = legal.items;
-    frames = had_to_has c kept mine h r items geometry legal.items legal.frames;
+    frames = had_to_has c kept mine h r items legal.items legal.frames;
     packets = legal_packets r has is legal;
   }

@@ -28,38 +28,12 @@ use Rattle.xsk_model.proofs.Sendings.{wholes, sending_of-push}
 use Rattle.xsk_model.proofs.Completions.{kept, is_same-self, times-numbers-append}
 use Rattle.xsk_desc.specs.Standing.{source_of, begins, given_back, desc_of, uncompleted}
 use Rattle.xsk_desc.proofs.Sources.{once, IsSource}
-use Rattle.xsk_desc.proofs.Waiting.{IsWaiting, IsInside, all_first, all_later, uncompleted_inside, framed, as_many}
+use Rattle.xsk_desc.proofs.Steps.{all_later}
+use Rattle.xsk_desc.proofs.Completed.{all_next}
+use Rattle.xsk_desc.proofs.Waiting.{IsWaiting, IsInside, uncompleted_inside, framed}
 
 abbrev joined : List (List Item) → List Item
 joined groups = flat_map (λ (group : List Item). group) groups
-
--- ---- frames
-
-numbered_from : (g : Geometry) (frame : Option Frame) (address n : ℕ) → option_map (λ (f : Frame). f.number) frame ≡ frame_of g address
-    → option_map (λ (f : Frame). f.number) frame ≡ Some n → n < g.frames
-numbered_from g frame address n is this = inside_or (nat_lt address (area_of g)) refl
-  where
-    some_chunk : address < g.frames * g.chunk → 0 < g.chunk
-    some_chunk within = ⊎_elim
-        (λ (some : 0 < g.chunk). some)
-        (λ (none : g.chunk ≤ 0).
-        let zero_chunk : g.chunk ≡ 0 = omega (arith, none) in
-        absurd (omega (arith, within, ap (λ k. g.frames * k) zero_chunk)))
-        (cases_lt 0 g.chunk)
-
-    inside_or : (b : Bool) → nat_lt address (area_of g) ≡ b → n < g.frames
-    inside_or true e =
-        let same : Some (address / g.chunk) ≡ Some n = ap (λ b. cond b (Some (address / g.chunk)) None) (sym e) ∙ sym is ∙ this in
-        let number : address / g.chunk ≡ n = cc in
-        let within : address < g.frames * g.chunk = ltb-true address (area_of g) e in
-        subst (λ k. k < g.frames) number ((div-lt_iff_lt-mul {k = g.chunk} {x = address} {y = g.frames} (some_chunk within)).1 within)
-    inside_or false e =
-        let none : None ≡ Some n = ap (λ b. cond b (Some (address / g.chunk)) None) (sym e) ∙ sym is ∙ this in
-        absurd (cc)
-
--- the number of an item's frame is below that of the frames
-pub number_within : (g : Geometry) (r : Ring) (item : Item) (f : Frame) → IsItemOn g r item → item.frame ≡ Some f → f.number < g.frames
-number_within g r item f lawful e = numbered_from g item.frame item.desc.addr f.number lawful.frame (ap (option_map (λ (o : Frame). o.number)) e)
 
 -- items with the addresses of others lie in the UMEM as they do
 inside_by : (g : Geometry) (xs ys : List Item) → map (λ (i : Item). i.desc.addr) xs ≡ map (λ (i : Item). i.desc.addr) ys → All (IsInside g) ys → All (IsInside g) xs
@@ -122,10 +96,7 @@ same_zero false n h = refl
 module _ (c : Config) (mine : List Told) (d : ℕ) (items : List Item) (waits : IsWaiting c mine) (lawful : All (IsItemOn c.geometry (Comp d)) items)
     (had : (n : ℕ) → times n (numbers items) ≤ times n (had_of mine)) (done : AreCompleted c mine (Comp d) items) where
   packet_inside : All (IsInside c.geometry) done.packet
-  packet_inside =
-      all_first (IsInside c.geometry) done.packet (joined done.later)
-      (all_first (IsInside c.geometry) (done.packet ++ joined done.later) (rest c.geometry c.sg (sending_of c done.socket mine).peeked)
-      (subst (λ ws. All (IsInside c.geometry) (joined ws ++ rest c.geometry c.sg (sending_of c done.socket mine).peeked)) done.next (uncompleted_inside c (sending_of c done.socket mine))))
+  packet_inside = all_next (IsInside c.geometry) c (sending_of c done.socket mine) done.packet done.later done.next (uncompleted_inside c (sending_of c done.socket mine))
 
   inside : All (IsInside c.geometry) items
   inside = inside_by c.geometry items done.packet done.addresses packet_inside

@@ -29,7 +29,8 @@ use Rattle.xsk_desc.specs.Standing.{StandsFor, IsFetching, Keeps, fetching, plac
 use Rattle.xsk_desc.specs.Noting.{one_held, sources_with, queues_with, fetched_item, HasRoom}
 use Rattle.xsk_desc.proofs.Drivers.{driver_at}
 use Rattle.xsk_desc.proofs.Going.{own_push, gift_goes, gift_legal, gift_fits, gift_config, held_few}
-use Rattle.xsk_desc.proofs.Waiting.{IsWaiting, own_waiting, uncompleted_few, number_below, all_first, all_later}
+use Rattle.xsk_desc.proofs.Steps.{all_first, all_later}
+use Rattle.xsk_desc.proofs.Waiting.{IsWaiting, own_waiting, uncompleted_few, number_below}
 use Rattle.xsk_desc.proofs.Pushing.{pushed_is}
 use Rattle.xsk_desc.proofs.Fetching.{HasPeeked, told_peeked, fetching_peeked, IsFetched, one_fetched, fetched_keeps}
 
@@ -117,7 +118,7 @@ module _ (c : Config) (kept : Noted) (mine : List Told) (r : Ring) (n : ℕ) (do
     where
       some_frame : (frame : Option Frame) → item.frame ≡ frame → IfSome frame (λ (f : Frame). f.number < length kept.sources)
       some_frame None e = tt
-      some_frame (Some f) e = omega (arith, h.keeps.frames, number_below c.geometry r item f gift.legal.opened.geometry lawful e)
+      some_frame (Some f) e = omega (arith, h.keeps.frames, number_below c.geometry r item f lawful e)
 
   -- the descriptor finds room
   pub fetched_room : (q : Ring) → q ≡ r → HasRoom c.geometry c.sg kept q item.desc
@@ -135,7 +136,7 @@ module _ (c : Config) (kept : Noted) (mine : List Told) (r : Ring) (n : ℕ) (do
       step.sendings s ∙ ap (λ b. cond b (record (sending_of c s (mine ++ fetching r done)) { peeked = (sending_of c s (mine ++ fetching r done)).peeked ++ item ∷ [] }) (sending_of c s (mine ++ fetching r done))) on in
       let descs = (pushed_is c (sending_of c s (mine ++ fetching r done)) item (queue_at kept s) (within s on) (h.keeps.descs s has, h.keeps.begun s has)).0
       ∙ ap (λ u. map desc_of (uncompleted c u)) (sym now) in
-      let few = uncompleted_few c s (mine ++ fetching r (done ++ item ∷ [])) gift.legal.opened.geometry (own_waiting c kept.who (is_driver s on) (mine ++ fetching r (done ++ item ∷ [])) after_own) in (
+      let few = uncompleted_few c s (mine ++ fetching r (done ++ item ∷ [])) (own_waiting c kept.who (is_driver s on) (mine ++ fetching r (done ++ item ∷ [])) after_own) in (
         omega (arith, has.0, h.keeps.sockets),
         omega (
           arith,

@@ -28,7 +28,7 @@ use Rattle.xsk_model.proofs.Sendings.{wholes, sending_of-push, IsWithin}
 use Rattle.xsk_desc.specs.declared.standing.Places.{Places}
 use Rattle.xsk_desc.specs.Noted.{Queue, Noted}
 use Rattle.xsk_desc.specs.Queue.{pushed}
-use Rattle.xsk_desc.specs.Standing.{source_of, desc_of, uncompleted, places_at, source_at, queue_at, none_back, Keeps, fetching}
+use Rattle.xsk_desc.specs.Standing.{source_of, desc_of, uncompleted, places_at, source_at, no_queue, queue_at, none_back, Keeps, fetching}
 use Rattle.xsk_desc.specs.Noting.{one_held, sources_with, queues_with, fetched_item}
 use Rattle.xsk_desc.proofs.Sources.{source_of-push}
 use Rattle.xsk_desc.proofs.Pushing.{pushed_is}
@@ -147,11 +147,8 @@ length-queues g sg kept (Comp d) desc = refl
 length-queues g sg kept (Rx s) desc = refl
 length-queues g sg kept (Tx s) desc = length-set kept.queues s (pushed g sg (queue_at kept s) desc)
 
-abbrev no_queue : Queue
-no_queue = record { descs = []; begun = 0; limit = 0 }
-
 queue-with : (g : Geometry) (sg : Bool) (kept : Noted) (r : Ring) (desc : XdpDesc) (s : ℕ) → s < length kept.queues
-    → slice_index_or (queues_with g sg kept r desc) s (record { descs = []; begun = 0; limit = 0 }) ≡ cond (is_ring (Tx s) r) (pushed g sg (queue_at kept s) desc) (queue_at kept s)
+    → slice_index_or (queues_with g sg kept r desc) s no_queue ≡ cond (is_ring (Tx s) r) (pushed g sg (queue_at kept s) desc) (queue_at kept s)
 queue-with g sg kept (Fill d) desc s h = refl
 queue-with g sg kept (Comp d) desc s h = refl
 queue-with g sg kept (Rx t) desc s h = refl

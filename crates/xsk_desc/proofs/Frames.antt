@@ -7,7 +7,7 @@ use Rattle.std.proofs.lemmas.Bool.{cases_lt, cases_eq}
 use Rattle.std.proofs.lemmas.List.{get_or_past}
 use Rattle.std.proofs.lemmas.List.Elements.{All-nil, All-cons, All-head, All-tail}
 use Rattle.xsk_umem.specs.Frame.{Frame}
-use Rattle.xsk_umem.specs.Geometry.{Geometry, IsGeometry}
+use Rattle.xsk_umem.specs.Geometry.{Geometry}
 use Rattle.xsk_umem.specs.declared.batch.Item.{Item}
 use Rattle.xsk_model.specs.Config.{Config}
 use Rattle.xsk_model.specs.Numbers.{times, number_of, numbers}
@@ -109,11 +109,11 @@ module _ (c : Config) (kept : Noted) (mine : List Told) (h : StandsFor c kept mi
       (λ (past : c.geometry.frames ≤ n). omega (arith, few n, has_none n past))
       (cases_lt n c.geometry.frames)
 
-  pub had_to_has : (r : Ring) (items : List Item) → IsGeometry c.geometry → All (IsItemOn c.geometry r) items → ((n : ℕ) → times n (numbers items) ≤ times n (had_of mine))
+  pub had_to_has : (r : Ring) (items : List Item) → All (IsItemOn c.geometry r) items → ((n : ℕ) → times n (numbers items) ≤ times n (had_of mine))
       → (n : ℕ) → times n (numbers items) ≤ has kept.sources n
-  had_to_has r items geometry lawful few n = ⊎_elim
+  had_to_has r items lawful few n = ⊎_elim
       (λ (below : n < c.geometry.frames). omega (arith, few n, has_is n below))
-      (λ (past : c.geometry.frames ≤ n). omega (arith, none_past c.geometry r items n geometry lawful past))
+      (λ (past : c.geometry.frames ≤ n). omega (arith, none_past c.geometry r items n lawful past))
       (cases_lt n c.geometry.frames)
 
   pub filled_from : (items : List Item) → All (IsFilled kept.sources) items → (n : ℕ) → 1 ≤ times n (numbers items) → IsTrue (is_from_fill n mine)

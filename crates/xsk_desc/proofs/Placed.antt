@@ -27,9 +27,10 @@ use Rattle.xsk_desc.specs.Standing.{StandsFor, IsPlacing, Keeps, placing, source
 use Rattle.xsk_desc.specs.Pieces.{frame_source, item_source}
 use Rattle.xsk_desc.specs.Noting.{one_filled, sources_with, queues_of_source, queues_without, placed_item, HasFirst, HasGiven}
 use Rattle.xsk_desc.proofs.Going.{own_push}
-use Rattle.xsk_desc.proofs.Waiting.{IsWaiting, own_waiting, all_later}
+use Rattle.xsk_desc.proofs.Steps.{all_later}
+use Rattle.xsk_desc.proofs.Waiting.{IsWaiting, own_waiting, number_below}
 use Rattle.xsk_desc.proofs.Placing.{HasPlaced, told_placed, placing_placed, one_placed, queue-first, IsLeft, placed_keeps}
-use Rattle.xsk_desc.proofs.Completing.{number_within, item_framed, item_from, not_earlier, given_is, some_left, told_sending, left_is}
+use Rattle.xsk_desc.proofs.Completing.{item_framed, item_from, not_earlier, given_is, some_left, told_sending, left_is}
 
 -- ---- on COMPLETION
 
@@ -56,7 +57,7 @@ module _ (c : Config) (kept : Noted) (mine : List Told) (d : ℕ) (done : List I
       let frame : (f : Frame) × (item.frame ≡ Some f) = item_framed c mine d (done ++ item ∷ later) waits legal.items legal.frames legal.packets done item later refl in
       let n : ℕ = frame.0.number in
       let below : n < c.geometry.frames =
-      number_within c.geometry (Comp d) item frame.0 (All-head (IsItemOn c.geometry (Comp d)) item later (all_later (IsItemOn c.geometry (Comp d)) done (item ∷ later) legal.items)) frame.1 in
+      number_below c.geometry (Comp d) item frame.0 (All-head (IsItemOn c.geometry (Comp d)) item later (all_later (IsItemOn c.geometry (Comp d)) done (item ∷ later) legal.items)) frame.1 in
       ap (frame_source kept.sources) frame.1
       ∙ h.keeps.sources n below
       ∙ (placing_placed (Comp d) done mine).sources n
@@ -194,7 +195,7 @@ module _ (c : Config) (kept : Noted) (mine : List Told) (r : Ring) (done : List 
           omega (
             arith,
             h.keeps.frames,
-            number_within c.geometry r item f (All-head (IsItemOn c.geometry r) item later (all_later (IsItemOn c.geometry r) done (item ∷ later) legal.items)) e,
+            number_below c.geometry r item f (All-head (IsItemOn c.geometry r) item later (all_later (IsItemOn c.geometry r) done (item ∷ later) legal.items)) e,
           )
 
 -- the last item
