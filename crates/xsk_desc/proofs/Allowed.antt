@@ -1,17 +1,17 @@
 -- What is asked of a Submit is what makes it legal after the calls for which the standing stands.
-use Rattle.std.proofs.Common.{◌≡◌, ℕ, ◌<◌, ◌≤◌, ◌↔◌, List, [], length, All, sym, subst, arith}
+use Rattle.std.proofs.Common.{◌≡◌, ℕ, List, [], subst, arith}
 use Rattle.xsk_umem.specs.Geometry.{IsGeometry}
 use Rattle.xsk_umem.specs.declared.batch.Item.{Item}
 use Rattle.xsk_model.specs.Config.{Config, HasRing}
-use Rattle.xsk_model.specs.Rings.{producer, place}
+use Rattle.xsk_model.specs.Rings.{producer}
 use Rattle.xsk_model.specs.Entry.{Told}
-use Rattle.xsk_model.specs.Legal.{IsLegal, IsItemOn, HasFrames, ArePackets, AreReceived}
+use Rattle.xsk_model.specs.Legal.{IsLegal, ArePackets}
 use Rattle.xsk_model.specs.History.{OwnGoesOn}
 use Rattle.xsk_model.specs.declared.call.Ring.{Ring}
 use Rattle.xsk_model.specs.declared.call.Ring.TheVariants.{Fill, Comp, Rx, Tx}
 use Rattle.xsk_model.specs.declared.call.Call.TheVariants.{Submit}
 use Rattle.xsk_desc.specs.Noted.{Noted}
-use Rattle.xsk_desc.specs.Standing.{StandsFor, places_at}
+use Rattle.xsk_desc.specs.Standing.{StandsFor}
 use Rattle.xsk_desc.specs.Pieces.{MaySubmit, MayPlace}
 use Rattle.xsk_desc.proofs.Submits.{pieces_received, received_pieces}
 use Rattle.xsk_desc.proofs.Waiting.{IsWaiting, own_waiting}

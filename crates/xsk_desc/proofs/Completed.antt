@@ -1,8 +1,8 @@
 -- Items give back the first packet of a TX ring's descriptors exactly where they complete its next packet that waits.
-use Rattle.std.proofs.Common.{◌≡◌, ◌≢◌, ℕ, zero, suc, ◌+◌, ◌<◌, ◌≤◌, Bool, true, false, cond, List, [], ◌∷◌, ◌++◌, length, get_or, map, drop, flat_map, All, Option, Some, None, refl, sym, ap, subst, ◌∙◌, arith, append_assoc, length-append}
+use Rattle.std.proofs.Common.{◌≡◌, ℕ, ◌<◌, ◌≤◌, Bool, List, [], ◌∷◌, ◌++◌, length, get_or, map, flat_map, All, Option, Some, None, refl, sym, ap, subst, ◌∙◌, arith, append_assoc, length-append}
 use Rattle.std.specs.Option.{option_map}
 use Rattle.std.proofs.lemmas.List.{length-map, map-append}
-use Rattle.std.proofs.lemmas.List.Elements.{All-nil, All-cons, All-head, All-tail, All-drop}
+use Rattle.std.proofs.lemmas.List.Elements.{All-head, All-tail, All-drop}
 use Rattle.xsk_umem.specs.Frame.{Frame}
 use Rattle.xsk_umem.specs.Geometry.{Geometry, frame_of}
 use Rattle.xsk_umem.specs.declared.batch.Item.{Item}
@@ -10,7 +10,6 @@ use Rattle.xsk_umem.specs.declared.batch.XdpDesc.{XdpDesc}
 use Rattle.xsk_model.specs.Config.{Config, HasRing}
 use Rattle.xsk_model.specs.Packets.{packets, rest, Continues, IsUnfinished, IsWhole}
 use Rattle.xsk_model.specs.Numbers.{times, number_of, numbers}
-use Rattle.xsk_model.specs.Rings.{port_of, queue_of}
 use Rattle.xsk_model.specs.Entry.{Told}
 use Rattle.xsk_model.specs.Own.{Sending, waiting, sending_of}
 use Rattle.xsk_model.specs.Legal.{IsItemOn, AreCompleted}
@@ -21,9 +20,9 @@ use Rattle.xsk_model.proofs.Counting.{times-append, its_own}
 use Rattle.xsk_model.proofs.Sendings.{wholes}
 use Rattle.xsk_model.proofs.Completions.{kept as kept_frames, whole_of_packets}
 use Rattle.xsk_desc.specs.Noted.{Noted}
-use Rattle.xsk_desc.specs.Standing.{StandsFor, queue_at, source_at, source_of, desc_of, uncompleted}
+use Rattle.xsk_desc.specs.Standing.{StandsFor, queue_at, desc_of, uncompleted}
 use Rattle.xsk_desc.specs.Queue.{IsPacket}
-use Rattle.xsk_desc.specs.Pieces.{frame_source, item_source, first_source, GivesBack}
+use Rattle.xsk_desc.specs.Pieces.{frame_source, first_source, GivesBack}
 use Rattle.xsk_desc.proofs.Steps.{all_first}
 use Rattle.xsk_desc.proofs.Waiting.{IsWaiting, all_uncompleted, uncompleted_inside, IsInside, framed, number_below}
 

@@ -1,33 +1,27 @@
 -- The items of a legal Submit on COMPLETION: each has a frame that came from one TX ring, and the first of them begin
 -- the next packet that waits there, and no other.
-use Rattle.std.proofs.Common.{◌≡◌, ℕ, zero, suc, ◌+◌, ◌-◌, ◌*◌, ◌/◌, ◌<◌, ◌≤◌, Bool, true, false, cond, eqb, ◌&&◌, nat_lt, List, [], ◌∷◌, ◌++◌, length, take, drop, map, get_or, flat_map, All, Option, Some, None, refl, sym, ap, subst, ◌∙◌, ⊎_elim, arith, append_assoc, append-nil, length-append, take-append-drop, drop-drop, eq-eqb, ne_eqb, eqb-true, ltb-true, lt-ltb, le-ltb}
-use Rattle.std.specs.Prelude.{IfSome, is_some}
-use Rattle.std.specs.List.{slice_index_or}
-use Rattle.std.specs.Option.{option_map}
-use Rattle.std.proofs.lemmas.Bool.{cases_eq, cases_lt, cases_Bool, and_parts}
+use Rattle.std.proofs.Common.{◌≡◌, ℕ, ◌+◌, ◌<◌, ◌≤◌, Bool, true, false, cond, eqb, nat_lt, List, [], ◌∷◌, ◌++◌, length, take, drop, map, flat_map, All, Some, refl, sym, ap, subst, ◌∙◌, ⊎_elim, arith, append_assoc, append-nil, length-append, take-append-drop, drop-drop, eq-eqb, ne_eqb, eqb-true}
+use Rattle.std.specs.Prelude.{is_some}
+use Rattle.std.proofs.lemmas.Bool.{cases_eq, cases_lt, and_parts}
 use Rattle.std.proofs.lemmas.List.{length-map, map-append}
 use Rattle.std.proofs.lemmas.List.Elements.{All-nil, All-cons, All-head, All-tail}
-use Rattle.std.proofs.Math.Nat.{div-lt_iff_lt-mul}
 use Rattle.std.proofs.Math.Seq.{take-append_seam, drop-append_seam}
 use Rattle.xsk_umem.specs.Frame.{Frame}
-use Rattle.xsk_umem.specs.Geometry.{Geometry, area_of, frame_of}
+use Rattle.xsk_umem.specs.Geometry.{Geometry, area_of}
 use Rattle.xsk_umem.specs.declared.batch.Item.{Item}
-use Rattle.xsk_umem.specs.declared.batch.XdpDesc.{XdpDesc}
-use Rattle.xsk_model.specs.Config.{Config, HasRing}
+use Rattle.xsk_model.specs.Config.{Config}
 use Rattle.xsk_model.specs.Packets.{rest}
 use Rattle.xsk_model.specs.Numbers.{times, number_of, numbers}
 use Rattle.xsk_model.specs.Entry.{Told, with_told}
 use Rattle.xsk_model.specs.Own.{Sending, had_of, is_same, waiting, completed_by, sending_of}
-use Rattle.xsk_model.specs.Legal.{IsLegal, IsItemOn, AreCompleted}
-use Rattle.xsk_model.specs.declared.call.Ring.{Ring}
-use Rattle.xsk_model.specs.declared.call.Ring.TheVariants.{Fill, Comp, Rx, Tx}
+use Rattle.xsk_model.specs.Legal.{IsItemOn, AreCompleted}
+use Rattle.xsk_model.specs.declared.call.Ring.TheVariants.{Comp, Tx}
 use Rattle.xsk_model.specs.declared.call.Call.TheVariants.{Submit}
 use Rattle.xsk_model.specs.declared.call.Reply.TheVariants.{Submitted}
 use Rattle.xsk_model.proofs.Counting.{times-append, its_own, numbers-append}
 use Rattle.xsk_model.proofs.Sendings.{wholes, sending_of-push}
 use Rattle.xsk_model.proofs.Completions.{kept, is_same-self, times-numbers-append}
 use Rattle.xsk_desc.specs.Standing.{source_of, begins, given_back, desc_of, uncompleted}
-use Rattle.xsk_desc.proofs.Sources.{once, IsSource}
 use Rattle.xsk_desc.proofs.Steps.{all_later}
 use Rattle.xsk_desc.proofs.Completed.{all_next}
 use Rattle.xsk_desc.proofs.Waiting.{IsWaiting, IsInside, uncompleted_inside, framed}

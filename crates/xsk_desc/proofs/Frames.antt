@@ -1,8 +1,7 @@
 -- The frames of items that are to be submitted: the caller has them exactly where a standing keeps sources of them, and
 -- they came from FILL exactly where their sources are FILL rings.
-use Rattle.std.proofs.Common.{◌≡◌, ℕ, zero, suc, ◌+◌, ◌<◌, ◌≤◌, Bool, true, false, cond, List, [], ◌∷◌, ◌++◌, length, get_or, All, Option, Some, None, refl, sym, ap, subst, ◌∙◌, ⊎_elim, ne_eqb, arith}
-use Rattle.std.specs.Prelude.{IsTrue, is_some}
-use Rattle.std.specs.List.{slice_index_or}
+use Rattle.std.proofs.Common.{◌≡◌, ℕ, ◌+◌, ◌<◌, ◌≤◌, Bool, true, cond, List, [], ◌∷◌, length, get_or, All, Option, Some, None, refl, sym, ap, subst, ◌∙◌, ⊎_elim, ne_eqb, arith}
+use Rattle.std.specs.Prelude.{IsTrue}
 use Rattle.std.proofs.lemmas.Bool.{cases_lt, cases_eq}
 use Rattle.std.proofs.lemmas.List.{get_or_past}
 use Rattle.std.proofs.lemmas.List.Elements.{All-nil, All-cons, All-head, All-tail}
@@ -19,9 +18,9 @@ use Rattle.xsk_model.specs.declared.call.Ring.{Ring}
 use Rattle.xsk_model.specs.declared.call.Ring.TheVariants.{Fill, Comp, Rx, Tx}
 use Rattle.xsk_model.proofs.Counting.{times-append, its_own}
 use Rattle.xsk_desc.specs.Noted.{Noted}
-use Rattle.xsk_desc.specs.Standing.{StandsFor, source_at, source_of}
-use Rattle.xsk_desc.specs.Pieces.{has, IsFill, IsPiece, ArePieces, frame_source, item_source}
-use Rattle.xsk_desc.proofs.Sources.{once, is_fill_ring, IsSource, own_source}
+use Rattle.xsk_desc.specs.Standing.{StandsFor, source_of}
+use Rattle.xsk_desc.specs.Pieces.{has, IsFill, ArePieces, frame_source, item_source}
+use Rattle.xsk_desc.proofs.Sources.{once, is_fill_ring, own_source}
 use Rattle.xsk_desc.proofs.Waiting.{none_past}
 
 -- ---- sources

@@ -1,6 +1,6 @@
 -- A standing after one more item of a Submit.
 use Rattle.std.proofs.Common.{◌≡◌, ℕ, ◌+◌, ◌-◌, ◌<◌, ◌≤◌, Bool, true, false, cond, eqb, nat_lt, List, [], ◌∷◌, ◌++◌, length, map, drop, Option, Some, None, refl, sym, ap, subst, ◌∙◌, arith, append_assoc, length-append, length-drop, drop-drop, eq-eqb}
-use Rattle.std.specs.Prelude.{All, IfSome}
+use Rattle.std.specs.Prelude.{IfSome}
 use Rattle.std.specs.List.{slice_index_or}
 use Rattle.std.proofs.lemmas.List.{length-map}
 use Rattle.std.proofs.lemmas.List.Elements.{All-head}
@@ -9,8 +9,7 @@ use Rattle.xsk_umem.specs.declared.batch.Item.{Item}
 use Rattle.xsk_umem.specs.declared.batch.XdpDesc.{XdpDesc}
 use Rattle.xsk_model.specs.Config.{Config, HasRing}
 use Rattle.xsk_model.specs.Packets.{rest}
-use Rattle.xsk_model.specs.Numbers.{times, numbers}
-use Rattle.xsk_model.specs.Rings.{is_ring, place}
+use Rattle.xsk_model.specs.Rings.{place}
 use Rattle.xsk_model.specs.Entry.{Told, with_told}
 use Rattle.xsk_model.specs.Own.{Sending, room_of, sending_of}
 use Rattle.xsk_model.specs.Legal.{IsLegal, IsItemOn}
@@ -23,13 +22,13 @@ use Rattle.xsk_model.proofs.Sendings.{sending_of-push}
 use Rattle.xsk_desc.specs.declared.standing.Places.{Places}
 use Rattle.xsk_desc.specs.Noted.{Queue, Noted}
 use Rattle.xsk_desc.specs.Queue.{first_off}
-use Rattle.xsk_desc.specs.Standing.{StandsFor, IsPlacing, Keeps, placing, source_of, given_back, places_at, no_queue, queue_at, none_back, desc_of, uncompleted}
+use Rattle.xsk_desc.specs.Standing.{StandsFor, IsPlacing, placing, source_of, given_back, places_at, no_queue, queue_at, none_back, desc_of, uncompleted}
 use Rattle.xsk_desc.specs.Pieces.{frame_source, item_source}
 use Rattle.xsk_desc.specs.Noting.{one_filled, sources_with, queues_of_source, queues_without, placed_item, HasFirst, HasGiven}
 use Rattle.xsk_desc.proofs.Going.{own_push}
 use Rattle.xsk_desc.proofs.Steps.{all_later}
 use Rattle.xsk_desc.proofs.Waiting.{IsWaiting, own_waiting, number_below}
-use Rattle.xsk_desc.proofs.Placing.{HasPlaced, told_placed, placing_placed, one_placed, queue-first, IsLeft, placed_keeps}
+use Rattle.xsk_desc.proofs.Placing.{told_placed, placing_placed, one_placed, queue-first, IsLeft, placed_keeps}
 use Rattle.xsk_desc.proofs.Completing.{item_framed, item_from, not_earlier, given_is, some_left, told_sending, left_is}
 
 -- ---- on COMPLETION
@@ -75,7 +74,7 @@ module _ (c : Config) (kept : Noted) (mine : List Told) (d : ℕ) (done : List I
       let size : length done + 1 ≡ length (done ++ item ∷ []) = omega (arith, length-append done (item ∷ [])) in
       let before = h.keeps.descs s has
       ∙ ap (λ k. drop k (map desc_of (uncompleted c (sending_of c s mine))))
-          (given_is c mine d (done ++ item ∷ later) waits legal.items legal.frames legal.packets done (item ∷ later) refl s) in
+      (given_is c mine d (done ++ item ∷ later) waits legal.items legal.frames legal.packets done (item ∷ later) refl s) in
       ap (λ (q : Queue). q.descs) (queue_now s has)
       ∙ first_descs (eqb s legal.packets.socket) (queue_at kept s) (length done) (map desc_of (uncompleted c (sending_of c s mine))) before
       ∙ ap (λ k. drop (cond (eqb s legal.packets.socket) k 0) (map desc_of (uncompleted c (sending_of c s mine)))) size
@@ -88,7 +87,7 @@ module _ (c : Config) (kept : Noted) (mine : List Told) (d : ℕ) (done : List I
   comp_left s has = record {
     descs = descs_now s has
         ∙ ap (λ k. drop k (map desc_of (uncompleted c (sending_of c s mine))))
-            (sym (given_is c mine d (done ++ item ∷ later) waits legal.items legal.frames legal.packets (done ++ item ∷ []) later (sym (append_assoc done (item ∷ []) later)) s));
+        (sym (given_is c mine d (done ++ item ∷ later) waits legal.items legal.frames legal.packets (done ++ item ∷ []) later (sym (append_assoc done (item ∷ []) later)) s));
     begun = begun_now s has;
   }
 
@@ -97,8 +96,8 @@ module _ (c : Config) (kept : Noted) (mine : List Told) (d : ℕ) (done : List I
       let s : ℕ = legal.packets.socket in
       let size = ap length (h.keeps.descs legal.packets.socket legal.packets.tx
       ∙ ap (λ k. drop k (map desc_of (uncompleted c (sending_of c legal.packets.socket mine))))
-          (given_is c mine d (done ++ item ∷ later) waits legal.items legal.frames legal.packets done (item ∷ later) refl legal.packets.socket
-          ∙ ap (λ b. cond b (length done) 0) (eq-eqb s s refl))) in
+      (given_is c mine d (done ++ item ∷ later) waits legal.items legal.frames legal.packets done (item ∷ later) refl legal.packets.socket
+      ∙ ap (λ b. cond b (length done) 0) (eq-eqb s s refl))) in
       subst (HasFirst kept) (sym source_is) (
         omega (arith, legal.packets.tx.0, h.keeps.sockets),
         omega (
@@ -122,7 +121,7 @@ comp_ends c kept mine d done item h legal s has =
           ∙ sym (left_is c mine d (done ++ item ∷ []) (waits c kept mine d done item [] h legal) legal.items legal.frames legal.packets first.0 first.1 first.2 s);
       begun = begun_now c kept mine d done item [] h legal s has
           ∙ ap (λ (u : Sending). length (rest c.geometry c.sg u.peeked))
-              (sym (told_sending c mine d (done ++ item ∷ []) (waits c kept mine d done item [] h legal) legal.items legal.frames legal.packets s));
+          (sym (told_sending c mine d (done ++ item ∷ []) (waits c kept mine d done item [] h legal) legal.items legal.frames legal.packets s));
     }
 
 -- ---- on each ring
@@ -250,4 +249,4 @@ placed_steps c r item kept filled sourced now source e is f g =
     g
     ∙ ap (λ (k : Noted). record k { queues = queues_without k r source }) two
     ∙ ap (λ qs. record kept { places = one_filled kept (place c r); sources = sources_with kept.sources item.frame None; queues = qs })
-        (without_same kept (one_filled kept (place c r)) (sources_with kept.sources item.frame None) r source ∙ ap (queues_without kept r) from)
+    (without_same kept (one_filled kept (place c r)) (sources_with kept.sources item.frame None) r source ∙ ap (queues_without kept r) from)

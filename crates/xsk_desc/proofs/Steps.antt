@@ -1,5 +1,5 @@
 -- Loops over the items of a batch: what one more item adds to the front, and what it takes from the rest.
-use Rattle.std.proofs.Common.{◌≡◌, ◌≢◌, ℕ, zero, suc, ◌+◌, ◌≤◌, ◌<◌, ◌⊎◌, ◌↔◌, inl, inr, Bool, true, false, List, [], ◌∷◌, ◌++◌, length, take, drop, get_or, slice_get, Option, Some, None, cond, eqb, refl, sym, ap, subst, ◌∙◌, ⊎_elim, ne_eqb, eq-eqb, eqb-true, length-drop, arith}
+use Rattle.std.proofs.Common.{◌≡◌, ℕ, zero, suc, ◌+◌, ◌≤◌, ◌<◌, ◌↔◌, Bool, true, false, List, [], ◌∷◌, ◌++◌, length, take, drop, get_or, slice_get, Option, Some, None, cond, eqb, refl, sym, ap, subst, ◌∙◌, ⊎_elim, ne_eqb, eq-eqb, eqb-true, length-drop, arith}
 use Rattle.std.specs.Prelude.{All, is_some}
 use Rattle.std.specs.List.{slice_index_or}
 use Rattle.xsk_model.specs.declared.call.Ring.{Ring}

@@ -1,9 +1,9 @@
 -- The frames of the packets of a TX ring that are not completed, and of the packet that is not at its end: the driver
 -- has each of them, it stands there once, and the driver last got it from that ring.
-use Rattle.std.proofs.Common.{◌≡◌, ℕ, zero, suc, ◌+◌, ◌-◌, ◌*◌, ◌/◌, ◌<◌, ◌≤◌, ◌⊎◌, inl, inr, Bool, true, false, cond, eqb, ◌&&◌, nat_lt, List, [], ◌∷◌, ◌++◌, length, drop, map, flat_map, All, Option, Some, None, refl, sym, ap, subst, ◌∙◌, ⊎_elim, arith, append-nil, length-append, take-append-drop, drop-drop, eq-eqb, ne_eqb, lt-ltb, le-ltb, ltb-true}
-use Rattle.std.specs.Prelude.{IsTrue, is_some}
+use Rattle.std.proofs.Common.{◌≡◌, ℕ, zero, suc, ◌+◌, ◌*◌, ◌/◌, ◌<◌, ◌≤◌, inl, inr, Bool, true, false, cond, ◌&&◌, nat_lt, List, [], ◌∷◌, ◌++◌, length, drop, flat_map, All, Option, Some, None, refl, sym, ap, subst, ◌∙◌, ⊎_elim, arith, length-append, take-append-drop, drop-drop, lt-ltb, le-ltb, ltb-true}
+use Rattle.std.specs.Prelude.{IsTrue}
 use Rattle.std.specs.Option.{option_map}
-use Rattle.std.proofs.lemmas.Bool.{cases_eq, cases_lt, and_parts}
+use Rattle.std.proofs.lemmas.Bool.{cases_lt, and_parts}
 use Rattle.std.proofs.lemmas.List.{drop-append-le}
 use Rattle.std.proofs.lemmas.List.Concat.{flat_map-append}
 use Rattle.std.proofs.lemmas.List.Elements.{All-nil, All-cons, All-head, All-tail, All-drop, All-append}
@@ -11,14 +11,14 @@ use Rattle.std.proofs.Math.Nat.{div-lt_iff_lt-mul}
 use Rattle.xsk_umem.specs.Frame.{Frame}
 use Rattle.xsk_umem.specs.Geometry.{Geometry, area_of, frame_of}
 use Rattle.xsk_umem.specs.declared.batch.Item.{Item}
-use Rattle.xsk_model.specs.Config.{Config, HasRing}
+use Rattle.xsk_model.specs.Config.{Config}
 use Rattle.xsk_model.specs.Descriptor.{is_valid, is_inside, has_bytes, fits_chunk, has_known_options}
-use Rattle.xsk_model.specs.Packets.{Packet, whole, bad, packets, packets_from, rest, whole_packets, items_of, Continues, IsWhole, IsPacket}
+use Rattle.xsk_model.specs.Packets.{Packet, whole, bad, packets, packets_from, rest, whole_packets, items_of, Continues, IsWhole}
 use Rattle.xsk_model.specs.Numbers.{times, number_of, numbers}
 use Rattle.xsk_model.specs.Rings.{is_ring}
 use Rattle.xsk_model.specs.Object.{call_ring, submitted, taken}
 use Rattle.xsk_model.specs.Entry.{Told}
-use Rattle.xsk_model.specs.Own.{Sending, had_of, is_from_fill, is_same, waiting, completed_by, sending_after, sending_of}
+use Rattle.xsk_model.specs.Own.{Sending, is_from_fill, is_same, waiting, completed_by, sending_after, sending_of}
 use Rattle.xsk_model.specs.Legal.{IsLegal, IsItemOn, AreCompleted}
 use Rattle.xsk_model.specs.History.{Fits, OwnGoesOn}
 use Rattle.xsk_model.specs.declared.call.Ring.{Ring}
@@ -27,12 +27,12 @@ use Rattle.xsk_model.specs.declared.call.Call.{Call}
 use Rattle.xsk_model.specs.declared.call.Call.TheVariants.{Reserve, Submit, Peek, Release, Swap, Look}
 use Rattle.xsk_model.specs.declared.call.Reply.{Reply}
 use Rattle.xsk_model.proofs.PacketsLaws.{packets_from-append, packets-items, packets-made}
-use Rattle.xsk_model.proofs.Counting.{times-append, numbers-append, length-by_times, not_yet, its_own}
+use Rattle.xsk_model.proofs.Counting.{times-append, numbers-append, length-by_times, not_yet}
 use Rattle.xsk_model.proofs.Places.{is_ring-true}
 use Rattle.xsk_model.proofs.OwnRuns.{own_all, fits_taken}
 use Rattle.xsk_model.proofs.Sendings.{wholes, wholes-append, sending_of-push, completed_by-front, IsWithin, within-push}
 use Rattle.xsk_model.proofs.Completions.{kept, times-numbers-append, is_same-self, whole_of_packets}
-use Rattle.xsk_desc.specs.Standing.{source_step, source_of, uncompleted}
+use Rattle.xsk_desc.specs.Standing.{source_of, uncompleted}
 use Rattle.xsk_desc.proofs.Sources.{once, is_fill_ring, IsSource, source_of-push, source_step_holds}
 use Rattle.xsk_desc.proofs.Steps.{all_first, all_later}
 
@@ -143,7 +143,7 @@ stays c mine t s n before now fits from h fewer kept_here = record {
       let was : source_of n mine ≡ Some (Tx s) = h.source (omega (arith, some, fewer)) in
       source_of-push n mine t
       ∙ ap (λ b. cond b (call_ring t.call) (cond (nat_lt 0 (times n (numbers (submitted t.call)))) None (source_of n mine)))
-          (le-ltb 0 (times n (numbers (taken t.reply))) (not_brought c mine t n (Tx s) fits from was))
+      (le-ltb 0 (times n (numbers (taken t.reply))) (not_brought c mine t n (Tx s) fits from was))
       ∙ ap (λ b. cond b None (source_of n mine)) (le-ltb 0 (times n (numbers (submitted t.call))) (kept_here some))
       ∙ was;
 }
@@ -167,7 +167,7 @@ comes c mine s k n before now reply fits from h most =
             source = λ now_some.
                 source_of-push n mine t
                 ∙ ap (λ b. cond b (Some (Tx s)) (cond (nat_lt 0 (times n (numbers (submitted t.call)))) None (source_of n mine)))
-                    (lt-ltb 0 (times n (numbers (taken reply))) some);
+                (lt-ltb 0 (times n (numbers (taken reply))) some);
           }
     ])
     (λ (none : times n (numbers (taken reply)) ≤ 0).
@@ -224,7 +224,7 @@ module _ (c : Config) (d : ℕ) (below : d < length c.pairs) where
 
   sent_peek : (mine : List Told) (r : Ring) (k : ℕ) (reply : Reply) (s n : ℕ) (b : Bool) → is_ring (Tx s) r ≡ b → Fits c mine (Peek r k) reply → IsWaiting c mine
       → IsSent n s (times n (kept c (cond b (record (sending_of c s mine) { peeked = (sending_of c s mine).peeked ++ taken reply }) (sending_of c s mine))))
-          (mine ++ (record { call = Peek r k; reply = reply }) ∷ [])
+      (mine ++ (record { call = Peek r k; reply = reply }) ∷ [])
   sent_peek mine r k reply s n true e fits h =
       let one : Tx s ≡ r = is_ring-true (Tx s) r e in
       subst (λ q. IsSent n s (times n (kept c (record (sending_of c s mine) { peeked = (sending_of c s mine).peeked ++ taken reply }))) (mine ++ (record { call = Peek q k; reply = reply }) ∷ [])) one

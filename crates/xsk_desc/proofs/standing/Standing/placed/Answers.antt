@@ -1,6 +1,4 @@
-use Rattle.std.proofs.Common.{◌≡◌, ◌<◌, ◌++◌, ◌∷◌, [], length, sym, subst, ap, ◌∙◌}
-use Rattle.std.specs.Prelude.{IfSome}
-use Rattle.xsk_umem.specs.Frame.{Frame}
+use Rattle.std.proofs.Common.{◌++◌, ◌∷◌, [], sym, subst, ap, ◌∙◌}
 use Rattle.xsk_model.specs.Entry.{with_told}
 use Rattle.xsk_model.specs.declared.call.Call.TheVariants.{Submit}
 use Rattle.xsk_model.specs.declared.call.Reply.TheVariants.{Submitted}
