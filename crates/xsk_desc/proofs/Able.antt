@@ -1,5 +1,5 @@
 -- What was called and replied can be noted.
-use Rattle.std.proofs.Common.{◌≡◌, ℕ, ◌+◌, ◌^◌, ◌<◌, ◌≤◌, List, [], ◌∷◌, ◌++◌, refl, arith}
+use Rattle.std.proofs.Common.{ℕ, ◌+◌, ◌^◌, ◌<◌, ◌≤◌, List, ◌∷◌, ◌++◌, refl, arith}
 use Rattle.xsk_umem.specs.declared.batch.Item.{Item}
 use Rattle.xsk_model.specs.Config.{Config}
 use Rattle.xsk_model.specs.Rings.{place}
@@ -11,8 +11,9 @@ use Rattle.xsk_model.specs.declared.call.Call.TheVariants.{Reserve, Submit, Peek
 use Rattle.xsk_model.specs.declared.call.Reply.TheVariants.{Granted, Items}
 use Rattle.xsk_desc.specs.Noted.{Noted}
 use Rattle.xsk_desc.specs.Standing.{Keeps, StandsFor, IsPlacing, IsFetching, places_at}
-use Rattle.xsk_desc.specs.Noting.{IsFor, CanGrant, CanRelease, CanFetch}
+use Rattle.xsk_desc.specs.Noting.{IsFor, CanGrant, CanRelease, CanFetch, CanPlace}
 use Rattle.xsk_desc.proofs.Rooms.{granted_ring, granted_few, released_held}
+use Rattle.xsk_desc.proofs.Placed.{placed_ring, placed_room, placed_frame, placed_given}
 use Rattle.xsk_desc.proofs.Fetched.{fetched_ring, fetched_held, fetched_frame, fetched_room}
 
 pub kept_for : (c : Config) (kept : Noted) (mine queued : List Told) (back : ℕ → ℕ) → Keeps c kept mine queued back → IsFor c kept
@@ -46,4 +47,14 @@ can_fetch c kept mine r n done item later h gift = record {
   few = fetched_held c kept mine r n done item later h gift;
   frame = fetched_frame c kept mine r n done item later h gift;
   room = fetched_room c kept mine r n done item later h gift r refl;
+}
+
+pub can_place : (c : Config) (kept : Noted) (mine : List Told) (r : Ring) (done : List Item) (item : Item) (later : List Item)
+    → IsPlacing c kept mine r done → IsLegal c mine kept.who (Submit r (done ++ item ∷ later)) → CanPlace c kept r item
+can_place c kept mine r done item later h legal = record {
+  kind = record { rings = h.keeps.rings; frames = h.keeps.frames; sockets = h.keeps.sockets };
+  ring = placed_ring c kept mine r done item later h legal;
+  some = placed_room c kept mine r done item later h legal;
+  frame = placed_frame c kept mine r done item later h legal;
+  given = placed_given c kept mine r done item later h legal;
 }

@@ -1,17 +1,17 @@
 -- What is asked of a Submit is what makes it legal after the calls for which the standing stands.
-use Rattle.std.proofs.Common.{◌≡◌, ℕ, ◌<◌, ◌≤◌, ◌↔◌, List, [], length, All, sym, subst, arith}
+use Rattle.std.proofs.Common.{◌≡◌, ℕ, List, [], subst, arith}
 use Rattle.xsk_umem.specs.Geometry.{IsGeometry}
 use Rattle.xsk_umem.specs.declared.batch.Item.{Item}
 use Rattle.xsk_model.specs.Config.{Config, HasRing}
-use Rattle.xsk_model.specs.Rings.{producer, place}
+use Rattle.xsk_model.specs.Rings.{producer}
 use Rattle.xsk_model.specs.Entry.{Told}
-use Rattle.xsk_model.specs.Legal.{IsLegal, IsItemOn, HasFrames, ArePackets, AreReceived}
+use Rattle.xsk_model.specs.Legal.{IsLegal, ArePackets}
 use Rattle.xsk_model.specs.History.{OwnGoesOn}
 use Rattle.xsk_model.specs.declared.call.Ring.{Ring}
 use Rattle.xsk_model.specs.declared.call.Ring.TheVariants.{Fill, Comp, Rx, Tx}
 use Rattle.xsk_model.specs.declared.call.Call.TheVariants.{Submit}
 use Rattle.xsk_desc.specs.Noted.{Noted}
-use Rattle.xsk_desc.specs.Standing.{StandsFor, places_at}
+use Rattle.xsk_desc.specs.Standing.{StandsFor}
 use Rattle.xsk_desc.specs.Pieces.{MaySubmit, MayPlace}
 use Rattle.xsk_desc.proofs.Submits.{pieces_received, received_pieces}
 use Rattle.xsk_desc.proofs.Waiting.{IsWaiting, own_waiting}
@@ -42,7 +42,7 @@ module _ (c : Config) (kept : Noted) (mine : List Told) (items : List Item) (geo
 
   legal_packets : (r : Ring) → HasRing c r → kept.who ≡ producer c r → IsLegal c mine kept.who (Submit r items) → MayPlace c kept r items
   legal_packets (Fill d) has is legal = tt
-  legal_packets (Comp d) has is legal = completed_back c kept mine d items h (waits d has is) geometry legal.counted.0 legal.items legal.packets
+  legal_packets (Comp d) has is legal = completed_back c kept mine d items h (waits d has is) legal.counted.0 legal.items legal.packets
   legal_packets (Rx s) has is legal =
       let pieces = received_pieces c mine items legal.packets in
       (from_filled c kept mine h items (all_named c.geometry c.sg items pieces) legal.frames legal.packets.from_fill, pieces)
@@ -54,6 +54,6 @@ module _ (c : Config) (kept : Noted) (mine : List Told) (items : List Item) (geo
     few = legal.counted.1;
     room = omega (arith, legal.counted.2, h.keeps.room r has);
     lawful = legal.items;
-    frames = had_to_has c kept mine h r items geometry legal.items legal.frames;
+    frames = had_to_has c kept mine h r items legal.items legal.frames;
     packets = legal_packets r has is legal;
   }

@@ -1,16 +1,15 @@
 -- Items give back the first packet of a TX ring's descriptors exactly where they complete its next packet that waits.
-use Rattle.std.proofs.Common.{◌≡◌, ◌≢◌, ℕ, zero, suc, ◌+◌, ◌<◌, ◌≤◌, Bool, true, false, cond, List, [], ◌∷◌, ◌++◌, length, get_or, map, drop, flat_map, All, Option, Some, None, refl, sym, ap, subst, ◌∙◌, arith, append_assoc, length-append}
+use Rattle.std.proofs.Common.{◌≡◌, ℕ, ◌<◌, ◌≤◌, Bool, List, [], ◌∷◌, ◌++◌, length, get_or, map, flat_map, All, Option, Some, None, refl, sym, ap, subst, ◌∙◌, arith, append_assoc, length-append}
 use Rattle.std.specs.Option.{option_map}
 use Rattle.std.proofs.lemmas.List.{length-map, map-append}
-use Rattle.std.proofs.lemmas.List.Elements.{All-nil, All-cons, All-head, All-tail, All-drop}
+use Rattle.std.proofs.lemmas.List.Elements.{All-head, All-tail, All-drop}
 use Rattle.xsk_umem.specs.Frame.{Frame}
-use Rattle.xsk_umem.specs.Geometry.{Geometry, IsGeometry, frame_of}
+use Rattle.xsk_umem.specs.Geometry.{Geometry, frame_of}
 use Rattle.xsk_umem.specs.declared.batch.Item.{Item}
 use Rattle.xsk_umem.specs.declared.batch.XdpDesc.{XdpDesc}
 use Rattle.xsk_model.specs.Config.{Config, HasRing}
 use Rattle.xsk_model.specs.Packets.{packets, rest, Continues, IsUnfinished, IsWhole}
 use Rattle.xsk_model.specs.Numbers.{times, number_of, numbers}
-use Rattle.xsk_model.specs.Rings.{port_of, queue_of}
 use Rattle.xsk_model.specs.Entry.{Told}
 use Rattle.xsk_model.specs.Own.{Sending, waiting, sending_of}
 use Rattle.xsk_model.specs.Legal.{IsItemOn, AreCompleted}
@@ -21,10 +20,11 @@ use Rattle.xsk_model.proofs.Counting.{times-append, its_own}
 use Rattle.xsk_model.proofs.Sendings.{wholes}
 use Rattle.xsk_model.proofs.Completions.{kept as kept_frames, whole_of_packets}
 use Rattle.xsk_desc.specs.Noted.{Noted}
-use Rattle.xsk_desc.specs.Standing.{StandsFor, queue_at, source_at, source_of, desc_of, uncompleted}
+use Rattle.xsk_desc.specs.Standing.{StandsFor, queue_at, desc_of, uncompleted}
 use Rattle.xsk_desc.specs.Queue.{IsPacket}
-use Rattle.xsk_desc.specs.Pieces.{frame_source, item_source, first_source, GivesBack}
-use Rattle.xsk_desc.proofs.Waiting.{IsWaiting, own_waiting, all_first, all_uncompleted, uncompleted_inside, IsInside, framed, number_below}
+use Rattle.xsk_desc.specs.Pieces.{frame_source, first_source, GivesBack}
+use Rattle.xsk_desc.proofs.Steps.{all_first}
+use Rattle.xsk_desc.proofs.Waiting.{IsWaiting, all_uncompleted, uncompleted_inside, IsInside, framed, number_below}
 
 abbrev addr_of : Item → ℕ
 addr_of item = item.desc.addr
@@ -102,7 +102,7 @@ descs_next c u packet later e =
 descs_none : (c : Config) (u : Sending) → waiting c u ≡ [] → map desc_of (uncompleted c u) ≡ map desc_of (rest c.geometry c.sg u.peeked)
 descs_none c u e = ap (λ ws. map desc_of (joined ws ++ rest c.geometry c.sg u.peeked)) e
 
-all_next : (P : Item → Type 0) (c : Config) (u : Sending) (packet : List Item) (later : List (List Item)) → waiting c u ≡ packet ∷ later → All P (uncompleted c u) → All P packet
+pub all_next : (P : Item → Type 0) (c : Config) (u : Sending) (packet : List Item) (later : List (List Item)) → waiting c u ≡ packet ∷ later → All P (uncompleted c u) → All P packet
 all_next P c u packet later e h =
     all_first P packet (joined later) (all_first P (packet ++ joined later) (rest c.geometry c.sg u.peeked) (subst (λ ws. All P (joined ws ++ rest c.geometry c.sg u.peeked)) e h))
 
@@ -159,9 +159,9 @@ module _ (c : Config) (kept : Noted) (mine : List Told) (d : ℕ) (items : List 
   -- ---- what is completed is given back
 
   -- the frames of the next packet came from its ring
-  next_source : IsGeometry c.geometry → (s : ℕ) (p : Item) (ps : List Item) (later : List (List Item)) → waiting c (sending_of c s mine) ≡ (p ∷ ps) ∷ later
+  next_source : (s : ℕ) (p : Item) (ps : List Item) (later : List (List Item)) → waiting c (sending_of c s mine) ≡ (p ∷ ps) ∷ later
       → (f : Frame) → p.frame ≡ Some f → get_or kept.sources f.number None ≡ Some (Tx s)
-  next_source geometry s p ps later next f e =
+  next_source s p ps later next f e =
       let u : Sending = sending_of c s mine in
       let n : ℕ = f.number in
       let some : 1 ≤ times n (kept_frames c u) =
@@ -175,14 +175,14 @@ module _ (c : Config) (kept : Noted) (mine : List Told) (d : ℕ) (items : List 
         its_own n n refl,
       ) in
       let below : n < c.geometry.frames =
-      number_below c.geometry (Tx s) p f geometry (All-head (IsItemOn c.geometry (Tx s)) p ps (lawful_next s (p ∷ ps) later next)) e in
+      number_below c.geometry (Tx s) p f (All-head (IsItemOn c.geometry (Tx s)) p ps (lawful_next s (p ∷ ps) later next)) e in
       h.keeps.sources n below ∙ (waits.sent s n).source some
 
-  first_from : IsGeometry c.geometry → (s : ℕ) (xs packet : List Item) (later : List (List Item)) → waiting c (sending_of c s mine) ≡ packet ∷ later → 1 ≤ length xs
+  first_from : (s : ℕ) (xs packet : List Item) (later : List (List Item)) → waiting c (sending_of c s mine) ≡ packet ∷ later → 1 ≤ length xs
       → All (IsItemOn c.geometry (Comp d)) xs → map addr_of xs ≡ map addr_of packet → first_source kept.sources xs ≡ Some (Tx s)
-  first_from geometry s [] packet later next some lawful same = absurd (omega (arith, some))
-  first_from geometry s (x ∷ xs) [] later next some lawful same = absurd (cc)
-  first_from geometry s (x ∷ xs) (p ∷ ps) later next some lawful same =
+  first_from s [] packet later next some lawful same = absurd (omega (arith, some))
+  first_from s (x ∷ xs) [] later next some lawful same = absurd (cc)
+  first_from s (x ∷ xs) (p ∷ ps) later next some lawful same =
       let address : x.desc.addr ≡ p.desc.addr = cc in
       let on : IsItemOn c.geometry (Tx s) p = All-head (IsItemOn c.geometry (Tx s)) p ps (lawful_next s (p ∷ ps) later next) in
       let inside : IsInside c.geometry p =
@@ -190,10 +190,10 @@ module _ (c : Config) (kept : Noted) (mine : List Told) (d : ℕ) (items : List 
       let frame = framed c.geometry (Tx s) p on inside in
       let number : option_map (λ (f : Frame). f.number) x.frame ≡ Some frame.0.number =
       (All-head (IsItemOn c.geometry (Comp d)) x xs lawful).frame ∙ ap (frame_of c.geometry) address ∙ sym on.frame ∙ ap (option_map (λ (f : Frame). f.number)) frame.1 in
-      source_by kept.sources x.frame frame.0.number number ∙ next_source geometry s p ps later next frame.0 frame.1
+      source_by kept.sources x.frame frame.0.number number ∙ next_source s p ps later next frame.0 frame.1
 
-  pub completed_back : IsGeometry c.geometry → 1 ≤ length items → All (IsItemOn c.geometry (Comp d)) items → AreCompleted c mine (Comp d) items → GivesBack c kept d items
-  completed_back geometry some lawful done =
+  pub completed_back : 1 ≤ length items → All (IsItemOn c.geometry (Comp d)) items → AreCompleted c mine (Comp d) items → GivesBack c kept d items
+  completed_back some lawful done =
       let s : ℕ = done.socket in
       let u : Sending = sending_of c s mine in
       let w : IsWhole c.geometry c.sg done.packet = next_whole c u done.packet done.later done.next in
@@ -203,7 +203,7 @@ module _ (c : Config) (kept : Noted) (mine : List Told) (d : ℕ) (items : List 
       (addresses_packet c.geometry c.sg w.front w.last more items w.continued w.bit (done.addresses ∙ ap (map addr_of) w.is)) in
       record {
         socket = s;
-        source = first_from geometry s items done.packet done.later done.next some lawful done.addresses;
+        source = first_from s items done.packet done.later done.next some lawful done.addresses;
         tx = done.tx;
         port = done.port;
         queue = done.queue;

@@ -1,15 +1,14 @@
 -- A standing after one more item of a Peek's reply.
 use Rattle.std.proofs.Common.{◌≡◌, ℕ, ◌+◌, ◌<◌, ◌≤◌, Bool, true, cond, List, [], ◌∷◌, ◌++◌, length, map, Option, Some, None, refl, sym, ap, subst, ◌∙◌, arith, append_assoc, append-nil, length-append}
-use Rattle.std.specs.Prelude.{All, IfSome}
+use Rattle.std.specs.Prelude.{IfSome}
 use Rattle.std.specs.List.{slice_index_or}
 use Rattle.std.proofs.lemmas.List.{length-map}
 use Rattle.std.proofs.lemmas.List.Elements.{All-head}
 use Rattle.xsk_umem.specs.Frame.{Frame}
-use Rattle.xsk_umem.specs.Geometry.{Geometry, IsGeometry}
+use Rattle.xsk_umem.specs.Geometry.{Geometry}
 use Rattle.xsk_umem.specs.declared.batch.Item.{Item}
 use Rattle.xsk_umem.specs.declared.batch.XdpDesc.{XdpDesc}
-use Rattle.xsk_model.specs.Config.{Config, IsConfig, HasRing}
-use Rattle.xsk_model.specs.Numbers.{times, numbers}
+use Rattle.xsk_model.specs.Config.{Config, HasRing}
 use Rattle.xsk_model.specs.Rings.{is_ring, place, consumer}
 use Rattle.xsk_model.specs.Entry.{Told, with_told}
 use Rattle.xsk_model.specs.Own.{held_of, sending_of}
@@ -25,13 +24,14 @@ use Rattle.xsk_model.proofs.Sendings.{IsWithin}
 use Rattle.xsk_desc.specs.declared.standing.Places.{Places}
 use Rattle.xsk_desc.specs.Noted.{Noted}
 use Rattle.xsk_desc.specs.Queue.{pushed}
-use Rattle.xsk_desc.specs.Standing.{StandsFor, IsFetching, Keeps, fetching, places_at, no_queue, queue_at, none_back, desc_of, uncompleted}
+use Rattle.xsk_desc.specs.Standing.{StandsFor, IsFetching, fetching, places_at, no_queue, queue_at, desc_of, uncompleted}
 use Rattle.xsk_desc.specs.Noting.{one_held, sources_with, queues_with, fetched_item, HasRoom}
 use Rattle.xsk_desc.proofs.Drivers.{driver_at}
-use Rattle.xsk_desc.proofs.Going.{own_push, gift_goes, gift_legal, gift_fits, gift_config, held_few}
-use Rattle.xsk_desc.proofs.Waiting.{IsWaiting, own_waiting, uncompleted_few, number_below, all_first, all_later}
+use Rattle.xsk_desc.proofs.Going.{own_push, gift_goes, gift_legal, gift_fits, held_few}
+use Rattle.xsk_desc.proofs.Steps.{all_first, all_later}
+use Rattle.xsk_desc.proofs.Waiting.{own_waiting, uncompleted_few, number_below}
 use Rattle.xsk_desc.proofs.Pushing.{pushed_is}
-use Rattle.xsk_desc.proofs.Fetching.{HasPeeked, told_peeked, fetching_peeked, IsFetched, one_fetched, fetched_keeps}
+use Rattle.xsk_desc.proofs.Fetching.{told_peeked, fetching_peeked, one_fetched, fetched_keeps}
 
 -- the first items of a reply would be a reply too
 fetching_own : (c : Config) (who : ℕ) (mine : List Told) (r : Ring) (n : ℕ) (items more : List Item) → OwnGoesOn c who [] mine → IsLegal c mine who (Peek r n)
@@ -117,7 +117,7 @@ module _ (c : Config) (kept : Noted) (mine : List Told) (r : Ring) (n : ℕ) (do
     where
       some_frame : (frame : Option Frame) → item.frame ≡ frame → IfSome frame (λ (f : Frame). f.number < length kept.sources)
       some_frame None e = tt
-      some_frame (Some f) e = omega (arith, h.keeps.frames, number_below c.geometry r item f gift.legal.opened.geometry lawful e)
+      some_frame (Some f) e = omega (arith, h.keeps.frames, number_below c.geometry r item f lawful e)
 
   -- the descriptor finds room
   pub fetched_room : (q : Ring) → q ≡ r → HasRoom c.geometry c.sg kept q item.desc
@@ -135,7 +135,7 @@ module _ (c : Config) (kept : Noted) (mine : List Told) (r : Ring) (n : ℕ) (do
       step.sendings s ∙ ap (λ b. cond b (record (sending_of c s (mine ++ fetching r done)) { peeked = (sending_of c s (mine ++ fetching r done)).peeked ++ item ∷ [] }) (sending_of c s (mine ++ fetching r done))) on in
       let descs = (pushed_is c (sending_of c s (mine ++ fetching r done)) item (queue_at kept s) (within s on) (h.keeps.descs s has, h.keeps.begun s has)).0
       ∙ ap (λ u. map desc_of (uncompleted c u)) (sym now) in
-      let few = uncompleted_few c s (mine ++ fetching r (done ++ item ∷ [])) gift.legal.opened.geometry (own_waiting c kept.who (is_driver s on) (mine ++ fetching r (done ++ item ∷ [])) after_own) in (
+      let few = uncompleted_few c s (mine ++ fetching r (done ++ item ∷ [])) (own_waiting c kept.who (is_driver s on) (mine ++ fetching r (done ++ item ∷ [])) after_own) in (
         omega (arith, has.0, h.keeps.sockets),
         omega (
           arith,
@@ -183,4 +183,4 @@ fetched_steps c r item kept held sourced now e f g =
     g
     ∙ ap (λ (k : Noted). record k { queues = queues_with c.geometry c.sg k r item.desc }) two
     ∙ ap (λ qs. record kept { places = one_held kept (place c r); sources = sources_with kept.sources item.frame (Some r); queues = qs })
-        (queues_same c.geometry c.sg kept (one_held kept (place c r)) (sources_with kept.sources item.frame (Some r)) r item.desc)
+    (queues_same c.geometry c.sg kept (one_held kept (place c r)) (sources_with kept.sources item.frame (Some r)) r item.desc)

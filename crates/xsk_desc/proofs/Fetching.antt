@@ -1,8 +1,8 @@
 -- One more item of a Peek's reply.
-use Rattle.std.proofs.Common.{◌≡◌, ℕ, zero, suc, ◌+◌, ◌-◌, ◌<◌, ◌≤◌, ◌⊎◌, inl, inr, Bool, true, false, cond, eqb, not, ◌||◌, nat_lt, List, [], ◌∷◌, ◌++◌, length, map, get_or, set, take, drop, Option, Some, None, refl, sym, ap, subst, ◌∙◌, ⊎_elim, arith, append_assoc, append-nil, length-append, eq-eqb, ne_eqb, lt-ltb, le-ltb, get_or-set_same, get_or-set_other}
+use Rattle.std.proofs.Common.{◌≡◌, ℕ, ◌+◌, ◌-◌, ◌<◌, ◌≤◌, Bool, true, false, cond, eqb, not, ◌||◌, nat_lt, List, [], ◌∷◌, ◌++◌, length, map, get_or, set, take, Option, Some, None, refl, sym, ap, subst, ◌∙◌, ⊎_elim, arith, append_assoc, append-nil, length-append, eq-eqb, ne_eqb, lt-ltb, le-ltb, get_or-set_same, get_or-set_other}
 use Rattle.std.specs.List.{slice_index_or}
 use Rattle.std.specs.Prelude.{nat_le}
-use Rattle.std.proofs.lemmas.Bool.{cases_eq, cases_lt, cases_Bool}
+use Rattle.std.proofs.lemmas.Bool.{cases_eq, cases_lt}
 use Rattle.std.proofs.lemmas.List.{length-set}
 use Rattle.xsk_umem.specs.Frame.{Frame}
 use Rattle.xsk_umem.specs.Geometry.{Geometry}
@@ -15,7 +15,6 @@ use Rattle.xsk_model.specs.Numbers.{times, number_of, numbers}
 use Rattle.xsk_model.specs.Rings.{is_ring, place, places_of}
 use Rattle.xsk_model.specs.Entry.{Told}
 use Rattle.xsk_model.specs.Own.{Sending, room_of, held_of, room_step, held_step, sending_of}
-use Rattle.xsk_model.specs.History.{OwnGoesOn}
 use Rattle.xsk_model.specs.declared.call.Ring.{Ring}
 use Rattle.xsk_model.specs.declared.call.Ring.TheVariants.{Fill, Comp, Rx, Tx}
 use Rattle.xsk_model.specs.declared.call.Call.TheVariants.{Peek}
@@ -28,7 +27,7 @@ use Rattle.xsk_model.proofs.Sendings.{wholes, sending_of-push, IsWithin}
 use Rattle.xsk_desc.specs.declared.standing.Places.{Places}
 use Rattle.xsk_desc.specs.Noted.{Queue, Noted}
 use Rattle.xsk_desc.specs.Queue.{pushed}
-use Rattle.xsk_desc.specs.Standing.{source_of, desc_of, uncompleted, places_at, source_at, queue_at, none_back, Keeps, fetching}
+use Rattle.xsk_desc.specs.Standing.{source_of, desc_of, uncompleted, places_at, no_queue, queue_at, none_back, Keeps, fetching}
 use Rattle.xsk_desc.specs.Noting.{one_held, sources_with, queues_with, fetched_item}
 use Rattle.xsk_desc.proofs.Sources.{source_of-push}
 use Rattle.xsk_desc.proofs.Pushing.{pushed_is}
@@ -44,7 +43,7 @@ pub record HasPeeked (c : Config) (r : Ring) (items : List Item) (mine after : L
   pub sources : (n : ℕ) → source_of n after ≡ cond (nat_lt 0 (times n (numbers items))) (Some r) (source_of n mine)
   pub sendings : (s : ℕ) → sending_of c s after ≡ cond (is_ring (Tx s) r) (with_peeked (sending_of c s mine) items) (sending_of c s mine)
 
-same_either : (b : Bool) (x y : ℕ) → y ≡ x → cond b y x ≡ x
+pub same_either : (b : Bool) (x y : ℕ) → y ≡ x → cond b y x ≡ x
 same_either true x y h = h
 same_either false x y h = refl
 
@@ -147,11 +146,8 @@ length-queues g sg kept (Comp d) desc = refl
 length-queues g sg kept (Rx s) desc = refl
 length-queues g sg kept (Tx s) desc = length-set kept.queues s (pushed g sg (queue_at kept s) desc)
 
-abbrev no_queue : Queue
-no_queue = record { descs = []; begun = 0; limit = 0 }
-
 queue-with : (g : Geometry) (sg : Bool) (kept : Noted) (r : Ring) (desc : XdpDesc) (s : ℕ) → s < length kept.queues
-    → slice_index_or (queues_with g sg kept r desc) s (record { descs = []; begun = 0; limit = 0 }) ≡ cond (is_ring (Tx s) r) (pushed g sg (queue_at kept s) desc) (queue_at kept s)
+    → slice_index_or (queues_with g sg kept r desc) s no_queue ≡ cond (is_ring (Tx s) r) (pushed g sg (queue_at kept s) desc) (queue_at kept s)
 queue-with g sg kept (Fill d) desc s h = refl
 queue-with g sg kept (Comp d) desc s h = refl
 queue-with g sg kept (Rx t) desc s h = refl

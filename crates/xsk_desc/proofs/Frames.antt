@@ -1,13 +1,12 @@
 -- The frames of items that are to be submitted: the caller has them exactly where a standing keeps sources of them, and
 -- they came from FILL exactly where their sources are FILL rings.
-use Rattle.std.proofs.Common.{◌≡◌, ℕ, zero, suc, ◌+◌, ◌<◌, ◌≤◌, Bool, true, false, cond, List, [], ◌∷◌, ◌++◌, length, get_or, All, Option, Some, None, refl, sym, ap, subst, ◌∙◌, ⊎_elim, ne_eqb, arith}
-use Rattle.std.specs.Prelude.{IsTrue, is_some}
-use Rattle.std.specs.List.{slice_index_or}
+use Rattle.std.proofs.Common.{◌≡◌, ℕ, ◌+◌, ◌<◌, ◌≤◌, Bool, true, cond, List, [], ◌∷◌, length, get_or, All, Option, Some, None, refl, sym, ap, subst, ◌∙◌, ⊎_elim, ne_eqb, arith}
+use Rattle.std.specs.Prelude.{IsTrue}
 use Rattle.std.proofs.lemmas.Bool.{cases_lt, cases_eq}
 use Rattle.std.proofs.lemmas.List.{get_or_past}
 use Rattle.std.proofs.lemmas.List.Elements.{All-nil, All-cons, All-head, All-tail}
 use Rattle.xsk_umem.specs.Frame.{Frame}
-use Rattle.xsk_umem.specs.Geometry.{Geometry, IsGeometry}
+use Rattle.xsk_umem.specs.Geometry.{Geometry}
 use Rattle.xsk_umem.specs.declared.batch.Item.{Item}
 use Rattle.xsk_model.specs.Config.{Config}
 use Rattle.xsk_model.specs.Numbers.{times, number_of, numbers}
@@ -19,9 +18,9 @@ use Rattle.xsk_model.specs.declared.call.Ring.{Ring}
 use Rattle.xsk_model.specs.declared.call.Ring.TheVariants.{Fill, Comp, Rx, Tx}
 use Rattle.xsk_model.proofs.Counting.{times-append, its_own}
 use Rattle.xsk_desc.specs.Noted.{Noted}
-use Rattle.xsk_desc.specs.Standing.{StandsFor, source_at, source_of}
-use Rattle.xsk_desc.specs.Pieces.{has, IsFill, IsPiece, ArePieces, frame_source, item_source}
-use Rattle.xsk_desc.proofs.Sources.{once, is_fill_ring, IsSource, own_source}
+use Rattle.xsk_desc.specs.Standing.{StandsFor, source_of}
+use Rattle.xsk_desc.specs.Pieces.{has, IsFill, ArePieces, frame_source, item_source}
+use Rattle.xsk_desc.proofs.Sources.{once, is_fill_ring, own_source}
 use Rattle.xsk_desc.proofs.Waiting.{none_past}
 
 -- ---- sources
@@ -109,11 +108,11 @@ module _ (c : Config) (kept : Noted) (mine : List Told) (h : StandsFor c kept mi
       (λ (past : c.geometry.frames ≤ n). omega (arith, few n, has_none n past))
       (cases_lt n c.geometry.frames)
 
-  pub had_to_has : (r : Ring) (items : List Item) → IsGeometry c.geometry → All (IsItemOn c.geometry r) items → ((n : ℕ) → times n (numbers items) ≤ times n (had_of mine))
+  pub had_to_has : (r : Ring) (items : List Item) → All (IsItemOn c.geometry r) items → ((n : ℕ) → times n (numbers items) ≤ times n (had_of mine))
       → (n : ℕ) → times n (numbers items) ≤ has kept.sources n
-  had_to_has r items geometry lawful few n = ⊎_elim
+  had_to_has r items lawful few n = ⊎_elim
       (λ (below : n < c.geometry.frames). omega (arith, few n, has_is n below))
-      (λ (past : c.geometry.frames ≤ n). omega (arith, none_past c.geometry r items n geometry lawful past))
+      (λ (past : c.geometry.frames ≤ n). omega (arith, none_past c.geometry r items n lawful past))
       (cases_lt n c.geometry.frames)
 
   pub filled_from : (items : List Item) → All (IsFilled kept.sources) items → (n : ℕ) → 1 ≤ times n (numbers items) → IsTrue (is_from_fill n mine)

@@ -1,14 +1,12 @@
 -- One call more of a caller's own: what is known of it, and that the own calls and replies go on with it.
-use Rattle.std.proofs.Common.{◌≡◌, ℕ, ◌+◌, ◌≤◌, List, [], ◌∷◌, ◌++◌, length, get_or, Option, Some, None, refl, sym, ap, subst, ◌∙◌, append_assoc, append-nil, arith}
-use Rattle.std.specs.Prelude.{IsSome, IfSome, unwrap_or}
+use Rattle.std.proofs.Common.{◌≡◌, ℕ, ◌≤◌, List, [], ◌∷◌, ◌++◌, Option, Some, None, sym, ap, subst, ◌∙◌, append_assoc, append-nil, arith}
+use Rattle.std.specs.Prelude.{IfSome, unwrap_or}
 use Rattle.xsk_model.specs.Config.{Config, IsConfig, IsBound, IsServed, IsRingSize, HasRing, size_of, pair_at, socket_at}
 use Rattle.xsk_model.specs.Rings.{producer, consumer}
 use Rattle.xsk_model.specs.Entry.{Told, with_told, own}
 use Rattle.xsk_model.specs.Own.{room_of, held_of}
 use Rattle.xsk_model.specs.Legal.{IsLegal}
 use Rattle.xsk_model.specs.History.{MayGive, Fits, OwnGoesOn}
-use Rattle.xsk_model.specs.declared.config.PairInfo.{PairInfo}
-use Rattle.xsk_model.specs.declared.config.SocketInfo.{SocketInfo}
 use Rattle.xsk_model.specs.declared.call.Ring.{Ring}
 use Rattle.xsk_model.specs.declared.call.Ring.TheVariants.{Fill, Comp, Rx, Tx}
 use Rattle.xsk_model.specs.declared.call.Call.{Call}

@@ -1,12 +1,15 @@
 pub mod Able
 pub mod Allowed
 pub mod Completed
+pub mod Completing
 pub mod Drivers
 pub mod Fetched
 pub mod Fetching
 pub mod Frames
 pub mod Going
 pub mod Opening
+pub mod Placed
+pub mod Placing
 pub mod Pushing
 pub mod Received
 pub mod Rooms

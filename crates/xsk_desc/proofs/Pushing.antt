@@ -1,5 +1,5 @@
 -- What a TX ring's queue keeps when one more item was peeked.
-use Rattle.std.proofs.Common.{◌≡◌, ℕ, ◌+◌, ◌-◌, ◌≤◌, Bool, true, false, cond, eqb, not, ◌||◌, List, [], ◌∷◌, ◌++◌, length, take, drop, map, flat_map, Option, Some, None, refl, sym, ap, subst, ◌∙◌, arith, append_assoc, append-nil, length-append}
+use Rattle.std.proofs.Common.{◌≡◌, ◌+◌, ◌-◌, ◌≤◌, Bool, true, false, cond, eqb, not, ◌||◌, List, [], ◌∷◌, ◌++◌, length, take, drop, map, flat_map, Option, Some, None, refl, sym, ap, ◌∙◌, arith, append_assoc, append-nil, length-append}
 use Rattle.std.specs.Prelude.{nat_le, is_some, option_to_list}
 use Rattle.std.proofs.lemmas.List.{drop-append-le, length-map, map-append}
 use Rattle.std.proofs.lemmas.List.Concat.{flat_map-append}
@@ -56,8 +56,8 @@ forgotten waits group q h =
 
 outcome : (full valid bit : Bool) (waits : List (List Item)) (group : List Item) (item : Item) (q : Queue) → Matches q (joined waits ++ group) group
     → Matches (queue_after full valid bit q item.desc)
-        (joined (waits ++ whole_packets (option_to_list (ended full valid bit group item))) ++ after_end (ended full valid bit group item) group item)
-        (after_end (ended full valid bit group item) group item)
+    (joined (waits ++ whole_packets (option_to_list (ended full valid bit group item))) ++ after_end (ended full valid bit group item) group item)
+    (after_end (ended full valid bit group item) group item)
 outcome true valid bit waits group item q h = (forgotten waits group q h, refl)
 outcome false false bit waits group item q h = (forgotten waits group q h, refl)
 outcome false true true waits group item q h = (
@@ -95,7 +95,7 @@ pushed_is c u item q within h =
     let left : rest c.geometry c.sg (u.peeked ++ item ∷ []) ≡ group_after c.geometry c.sg (rest c.geometry c.sg u.peeked) item = rest-push c.geometry c.sg u.peeked group item refl in
     let made = outcome (nat_le 18 q.begun) valid bit (waiting c u) group item q h in
     let all : joined (waiting c u ++ whole_packets (option_to_list (ended (nat_le 18 q.begun) valid bit group item))) ++ after_end (ended (nat_le 18 q.begun) valid bit group item) group item
-        ≡ uncompleted c (record u { peeked = u.peeked ++ item ∷ [] }) =
+    ≡ uncompleted c (record u { peeked = u.peeked ++ item ∷ [] }) =
     ap (λ o. joined (waiting c u ++ whole_packets (option_to_list o)) ++ after_end o group item) same
     ∙ ap (λ xs. joined (waiting c u ++ whole_packets (option_to_list (ended_by c.geometry c.sg group item))) ++ xs) (sym left)
     ∙ ap (λ ws. joined ws ++ rest c.geometry c.sg (u.peeked ++ item ∷ [])) (sym waits) in (

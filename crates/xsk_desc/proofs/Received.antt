@@ -1,12 +1,11 @@
 -- Pieces one after the other, the last of them an end, are whole layouts, and the other way round.
-use Rattle.std.proofs.Common.{◌≡◌, ℕ, zero, suc, ◌+◌, ◌≤◌, ◌<◌, ◌⊎◌, inl, inr, Bool, true, false, List, [], ◌∷◌, ◌++◌, length, flat_map, Option, Some, None, refl, sym, ap, subst, ◌∙◌, arith}
-use Rattle.std.specs.Prelude.{All, IsTrue, IfSome}
+use Rattle.std.proofs.Common.{◌≡◌, ◌⊎◌, inl, inr, Bool, true, false, List, [], ◌∷◌, ◌++◌, length, flat_map, refl, ap, ◌∙◌, arith}
+use Rattle.std.specs.Prelude.{All, IsTrue}
 use Rattle.std.proofs.lemmas.List.Elements.{All-nil, All-cons, All-head, All-tail}
-use Rattle.xsk_umem.specs.Frame.{Frame}
-use Rattle.xsk_umem.specs.Geometry.{Geometry, IsGeometry}
+use Rattle.xsk_umem.specs.Geometry.{Geometry}
 use Rattle.xsk_umem.specs.declared.batch.Item.{Item}
 use Rattle.xsk_model.specs.OtherWords.{NamesItsData, HaveLayoutLengths, IsShaped}
-use Rattle.xsk_desc.specs.Pieces.{IsFull, IsEnd, IsPiece, ArePieces}
+use Rattle.xsk_desc.specs.Pieces.{IsFull, IsEnd, ArePieces}
 
 -- ---- layouts that follow each other
 

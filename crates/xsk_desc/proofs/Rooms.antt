@@ -1,26 +1,23 @@
 -- What a standing keeps after a Reserve that was granted, and after a Release.
-use Rattle.std.proofs.Common.{◌≡◌, ℕ, ◌+◌, ◌-◌, ◌<◌, ◌≤◌, Bool, true, false, cond, List, [], ◌∷◌, ◌++◌, length, get_or, set, nat_lt, Option, Some, None, map, refl, sym, ap, subst, ◌∙◌, ⊎_elim, arith, length-set}
-use Rattle.std.proofs.lemmas.Bool.{cases_Bool}
+use Rattle.std.proofs.Common.{◌≡◌, ℕ, ◌+◌, ◌-◌, ◌<◌, ◌≤◌, Bool, true, false, cond, List, [], ◌∷◌, ◌++◌, length, get_or, set, nat_lt, None, map, refl, sym, ap, ◌∙◌, arith, length-set}
 use Rattle.xsk_model.specs.Config.{Config, HasRing}
 use Rattle.xsk_model.specs.Packets.{rest}
 use Rattle.xsk_model.specs.Numbers.{times, numbers}
-use Rattle.xsk_model.specs.Rings.{is_ring, place, places_of}
+use Rattle.xsk_model.specs.Rings.{is_ring, place}
 use Rattle.xsk_model.specs.Object.{call_ring, submitted, taken}
 use Rattle.xsk_model.specs.Entry.{Told, with_told}
 use Rattle.xsk_model.specs.Own.{is_on, room_of, held_of, room_step, held_step, sending_of, sending_after}
 use Rattle.xsk_model.specs.Legal.{IsLegal}
-use Rattle.xsk_model.specs.History.{MayGive, Fits, OwnGoesOn}
+use Rattle.xsk_model.specs.History.{MayGive}
 use Rattle.xsk_model.specs.declared.call.Ring.{Ring}
-use Rattle.xsk_model.specs.declared.call.Call.{Call}
 use Rattle.xsk_model.specs.declared.call.Call.TheVariants.{Reserve, Release}
-use Rattle.xsk_model.specs.declared.call.Reply.{Reply}
 use Rattle.xsk_model.specs.declared.call.Reply.TheVariants.{Granted, Released}
 use Rattle.xsk_model.proofs.Places.{get_or-set-place, place_below, is_ring-true, is_ring-self}
 use Rattle.xsk_model.proofs.Folds.{part_of-push, part_of-push_same}
 use Rattle.xsk_model.proofs.Sendings.{sending_of-push}
 use Rattle.xsk_desc.specs.declared.standing.Places.{Places}
 use Rattle.xsk_desc.specs.Noted.{Noted}
-use Rattle.xsk_desc.specs.Standing.{with_places, StandsFor, Keeps, places_at, source_at, source_of, source_step, queue_at, uncompleted, desc_of, none_back}
+use Rattle.xsk_desc.specs.Standing.{with_places, StandsFor, Keeps, places_at, source_of, uncompleted, desc_of, none_back}
 use Rattle.xsk_desc.proofs.Sources.{source_of-push}
 use Rattle.xsk_desc.proofs.Going.{own_push, gift_goes, gift_legal, room_few}
 

@@ -1,10 +1,11 @@
 -- Loops over the items of a batch: what one more item adds to the front, and what it takes from the rest.
-use Rattle.std.proofs.Common.{◌≡◌, ◌≢◌, ℕ, zero, suc, ◌+◌, ◌≤◌, ◌<◌, ◌⊎◌, ◌↔◌, inl, inr, Bool, true, false, List, [], ◌∷◌, ◌++◌, length, take, drop, get_or, slice_get, Option, Some, None, cond, eqb, refl, sym, ap, subst, ◌∙◌, ⊎_elim, ne_eqb, eq-eqb, eqb-true, length-drop, arith}
+use Rattle.std.proofs.Common.{◌≡◌, ℕ, zero, suc, ◌+◌, ◌≤◌, ◌<◌, ◌↔◌, Bool, true, false, List, [], ◌∷◌, ◌++◌, length, take, drop, get_or, slice_get, Option, Some, None, cond, eqb, refl, sym, ap, subst, ◌∙◌, ⊎_elim, ne_eqb, eq-eqb, eqb-true, length-drop, arith}
 use Rattle.std.specs.Prelude.{All, is_some}
 use Rattle.std.specs.List.{slice_index_or}
 use Rattle.xsk_model.specs.declared.call.Ring.{Ring}
 use Rattle.std.specs.Option.{option_map}
 use Rattle.std.proofs.lemmas.Bool.{cases_eq}
+use Rattle.std.proofs.lemmas.List.Elements.{All-nil, All-cons, All-head, All-tail}
 use Rattle.xsk_umem.specs.Frame.{Frame}
 use Rattle.xsk_umem.specs.Geometry.{Geometry}
 use Rattle.xsk_umem.specs.declared.batch.Item.{Item}
@@ -46,6 +47,14 @@ pub all_at : (P : Item → Type 0) (items : List Item) (i : ℕ) (item : Item) �
 all_at P [] i item h e = absurd (cc)
 all_at P (y ∷ ys) zero item h e = let same : y ≡ item = cc in subst P same (h 0 y (omega arith))
 all_at P (y ∷ ys) (suc i) item h e = all_at P ys i item (λ k d within. h (suc k) d (omega arith)) e
+
+pub all_first : (P : Item → Type 0) (xs ys : List Item) → All P (xs ++ ys) → All P xs
+all_first P [] ys h = All-nil P
+all_first P (x ∷ xs) ys h = All-cons P x xs (All-head P x (xs ++ ys) h) (all_first P xs ys (All-tail P x (xs ++ ys) h))
+
+pub all_later : (P : Item → Type 0) (xs ys : List Item) → All P (xs ++ ys) → All P ys
+all_later P [] ys h = h
+all_later P (x ∷ xs) ys h = all_later P xs ys (All-tail P x (xs ++ ys) h)
 
 -- ---- pieces
 

@@ -1,5 +1,5 @@
 -- What is asked of the items of a Submit is what makes it legal.
-use Rattle.std.proofs.Common.{◌≡◌, ◌≢◌, ℕ, zero, suc, ◌+◌, ◌≤◌, ◌<◌, ◌⊎◌, ◌↔◌, inl, inr, Bool, true, false, cond, List, [], ◌∷◌, ◌++◌, length, flat_map, Option, Some, None, refl, sym, ap, subst, ◌∙◌, arith}
+use Rattle.std.proofs.Common.{◌≡◌, ℕ, ◌≤◌, Bool, List, [], ◌∷◌, length, flat_map, sym, subst, arith}
 use Rattle.std.specs.Prelude.{All, IsTrue, IfSome}
 use Rattle.std.proofs.lemmas.List.Elements.{All-nil, All-cons, All-head, All-tail}
 use Rattle.xsk_umem.specs.Frame.{Frame}
@@ -14,6 +14,7 @@ use Rattle.xsk_model.specs.Legal.{AreReceived}
 use Rattle.xsk_model.specs.OtherWords.{IsShaped}
 use Rattle.xsk_model.proofs.Shapes.{layout_shape, shape_layout}
 use Rattle.xsk_desc.specs.Pieces.{ArePieces}
+use Rattle.xsk_desc.proofs.Steps.{all_first, all_later}
 use Rattle.xsk_desc.proofs.Received.{pieces_layouts, layouts_pieces}
 
 abbrev IsWholeFrame : Geometry → Item → Type 0
@@ -24,14 +25,6 @@ joined layouts = flat_map (λ (layout : List Item). layout) layouts
 
 abbrev IsLaidOut : Geometry → Bool → List Item → Type 0
 IsLaidOut g sg layout = (packet : List ℕ) × IsLayout g sg packet layout
-
-all_first : (P : Item → Type 0) (xs ys : List Item) → All P (xs ++ ys) → All P xs
-all_first P [] ys h = All-nil P
-all_first P (x ∷ xs) ys h = All-cons P x xs (All-head P x (xs ++ ys) h) (all_first P xs ys (All-tail P x (xs ++ ys) h))
-
-all_later : (P : Item → Type 0) (xs ys : List Item) → All P (xs ++ ys) → All P ys
-all_later P [] ys h = h
-all_later P (x ∷ xs) ys h = all_later P xs ys (All-tail P x (xs ++ ys) h)
 
 all_laid_out : (g : Geometry) (sg : Bool) (layouts : List (List Item)) → IsGeometry g → All (IsWholeFrame g) (joined layouts)
     → All (IsShaped g sg) layouts → All (IsLaidOut g sg) layouts

@@ -1,24 +1,24 @@
 -- The frames of the packets of a TX ring that are not completed, and of the packet that is not at its end: the driver
 -- has each of them, it stands there once, and the driver last got it from that ring.
-use Rattle.std.proofs.Common.{◌≡◌, ℕ, zero, suc, ◌+◌, ◌-◌, ◌*◌, ◌/◌, ◌<◌, ◌≤◌, ◌⊎◌, inl, inr, Bool, true, false, cond, eqb, ◌&&◌, nat_lt, List, [], ◌∷◌, ◌++◌, length, drop, map, flat_map, All, Option, Some, None, refl, sym, ap, subst, ◌∙◌, ⊎_elim, arith, append-nil, length-append, take-append-drop, drop-drop, eq-eqb, ne_eqb, lt-ltb, le-ltb, ltb-true}
-use Rattle.std.specs.Prelude.{IsTrue, is_some}
+use Rattle.std.proofs.Common.{◌≡◌, ℕ, zero, suc, ◌+◌, ◌*◌, ◌/◌, ◌<◌, ◌≤◌, inl, inr, Bool, true, false, cond, ◌&&◌, nat_lt, List, [], ◌∷◌, ◌++◌, length, drop, flat_map, All, Option, Some, None, refl, sym, ap, subst, ◌∙◌, ⊎_elim, arith, length-append, take-append-drop, drop-drop, lt-ltb, le-ltb, ltb-true}
+use Rattle.std.specs.Prelude.{IsTrue}
 use Rattle.std.specs.Option.{option_map}
-use Rattle.std.proofs.lemmas.Bool.{cases_eq, cases_lt, and_parts}
+use Rattle.std.proofs.lemmas.Bool.{cases_lt, and_parts}
 use Rattle.std.proofs.lemmas.List.{drop-append-le}
 use Rattle.std.proofs.lemmas.List.Concat.{flat_map-append}
 use Rattle.std.proofs.lemmas.List.Elements.{All-nil, All-cons, All-head, All-tail, All-drop, All-append}
 use Rattle.std.proofs.Math.Nat.{div-lt_iff_lt-mul}
 use Rattle.xsk_umem.specs.Frame.{Frame}
-use Rattle.xsk_umem.specs.Geometry.{Geometry, IsGeometry, area_of, frame_of}
+use Rattle.xsk_umem.specs.Geometry.{Geometry, area_of, frame_of}
 use Rattle.xsk_umem.specs.declared.batch.Item.{Item}
-use Rattle.xsk_model.specs.Config.{Config, HasRing}
+use Rattle.xsk_model.specs.Config.{Config}
 use Rattle.xsk_model.specs.Descriptor.{is_valid, is_inside, has_bytes, fits_chunk, has_known_options}
-use Rattle.xsk_model.specs.Packets.{Packet, whole, bad, packets, packets_from, rest, whole_packets, items_of, Continues, IsWhole, IsPacket}
+use Rattle.xsk_model.specs.Packets.{Packet, whole, bad, packets, packets_from, rest, whole_packets, items_of, Continues, IsWhole}
 use Rattle.xsk_model.specs.Numbers.{times, number_of, numbers}
 use Rattle.xsk_model.specs.Rings.{is_ring}
 use Rattle.xsk_model.specs.Object.{call_ring, submitted, taken}
 use Rattle.xsk_model.specs.Entry.{Told}
-use Rattle.xsk_model.specs.Own.{Sending, had_of, is_from_fill, is_same, waiting, completed_by, sending_after, sending_of}
+use Rattle.xsk_model.specs.Own.{Sending, is_from_fill, is_same, waiting, completed_by, sending_after, sending_of}
 use Rattle.xsk_model.specs.Legal.{IsLegal, IsItemOn, AreCompleted}
 use Rattle.xsk_model.specs.History.{Fits, OwnGoesOn}
 use Rattle.xsk_model.specs.declared.call.Ring.{Ring}
@@ -27,13 +27,14 @@ use Rattle.xsk_model.specs.declared.call.Call.{Call}
 use Rattle.xsk_model.specs.declared.call.Call.TheVariants.{Reserve, Submit, Peek, Release, Swap, Look}
 use Rattle.xsk_model.specs.declared.call.Reply.{Reply}
 use Rattle.xsk_model.proofs.PacketsLaws.{packets_from-append, packets-items, packets-made}
-use Rattle.xsk_model.proofs.Counting.{times-append, numbers-append, length-by_times, not_yet, its_own}
+use Rattle.xsk_model.proofs.Counting.{times-append, numbers-append, length-by_times, not_yet}
 use Rattle.xsk_model.proofs.Places.{is_ring-true}
 use Rattle.xsk_model.proofs.OwnRuns.{own_all, fits_taken}
 use Rattle.xsk_model.proofs.Sendings.{wholes, wholes-append, sending_of-push, completed_by-front, IsWithin, within-push}
 use Rattle.xsk_model.proofs.Completions.{kept, times-numbers-append, is_same-self, whole_of_packets}
-use Rattle.xsk_desc.specs.Standing.{source_step, source_of, uncompleted}
+use Rattle.xsk_desc.specs.Standing.{source_of, uncompleted}
 use Rattle.xsk_desc.proofs.Sources.{once, is_fill_ring, IsSource, source_of-push, source_step_holds}
+use Rattle.xsk_desc.proofs.Steps.{all_first, all_later}
 
 -- ---- what one call leaves of these frames
 
@@ -142,7 +143,7 @@ stays c mine t s n before now fits from h fewer kept_here = record {
       let was : source_of n mine ≡ Some (Tx s) = h.source (omega (arith, some, fewer)) in
       source_of-push n mine t
       ∙ ap (λ b. cond b (call_ring t.call) (cond (nat_lt 0 (times n (numbers (submitted t.call)))) None (source_of n mine)))
-          (le-ltb 0 (times n (numbers (taken t.reply))) (not_brought c mine t n (Tx s) fits from was))
+      (le-ltb 0 (times n (numbers (taken t.reply))) (not_brought c mine t n (Tx s) fits from was))
       ∙ ap (λ b. cond b None (source_of n mine)) (le-ltb 0 (times n (numbers (submitted t.call))) (kept_here some))
       ∙ was;
 }
@@ -166,7 +167,7 @@ comes c mine s k n before now reply fits from h most =
             source = λ now_some.
                 source_of-push n mine t
                 ∙ ap (λ b. cond b (Some (Tx s)) (cond (nat_lt 0 (times n (numbers (submitted t.call)))) None (source_of n mine)))
-                    (lt-ltb 0 (times n (numbers (taken reply))) some);
+                (lt-ltb 0 (times n (numbers (taken reply))) some);
           }
     ])
     (λ (none : times n (numbers (taken reply)) ≤ 0).
@@ -223,7 +224,7 @@ module _ (c : Config) (d : ℕ) (below : d < length c.pairs) where
 
   sent_peek : (mine : List Told) (r : Ring) (k : ℕ) (reply : Reply) (s n : ℕ) (b : Bool) → is_ring (Tx s) r ≡ b → Fits c mine (Peek r k) reply → IsWaiting c mine
       → IsSent n s (times n (kept c (cond b (record (sending_of c s mine) { peeked = (sending_of c s mine).peeked ++ taken reply }) (sending_of c s mine))))
-          (mine ++ (record { call = Peek r k; reply = reply }) ∷ [])
+      (mine ++ (record { call = Peek r k; reply = reply }) ∷ [])
   sent_peek mine r k reply s n true e fits h =
       let one : Tx s ≡ r = is_ring-true (Tx s) r e in
       subst (λ q. IsSent n s (times n (kept c (record (sending_of c s mine) { peeked = (sending_of c s mine).peeked ++ taken reply }))) (mine ++ (record { call = Peek q k; reply = reply }) ∷ [])) one
@@ -302,14 +303,6 @@ module _ (c : Config) (d : ℕ) (below : d < length c.pairs) where
 abbrev joined : List (List Item) → List Item
 joined packets = flat_map (λ (packet : List Item). packet) packets
 
-pub all_first : (P : Item → Type 0) (xs ys : List Item) → All P (xs ++ ys) → All P xs
-all_first P [] ys h = All-nil P
-all_first P (x ∷ xs) ys h = All-cons P x xs (All-head P x (xs ++ ys) h) (all_first P xs ys (All-tail P x (xs ++ ys) h))
-
-pub all_later : (P : Item → Type 0) (xs ys : List Item) → All P (xs ++ ys) → All P ys
-all_later P [] ys h = h
-all_later P (x ∷ xs) ys h = all_later P xs ys (All-tail P x (xs ++ ys) h)
-
 all_wholes : (P : Item → Type 0) (ps : List Packet) → All P (flat_map items_of ps) → All P (joined (whole_packets ps))
 all_wholes P [] h = h
 all_wholes P (whole items ∷ ps) h =
@@ -373,40 +366,44 @@ framed_at g (Some f) address is inside = (f, refl)
 pub framed : (g : Geometry) (r : Ring) (item : Item) → IsItemOn g r item → IsInside g item → (f : Frame) × (item.frame ≡ Some f)
 framed g r item lawful inside = framed_at g item.frame item.desc.addr lawful.frame inside
 
-numbered_from : (g : Geometry) (frame : Option Frame) (address n : ℕ) → 1 ≤ g.chunk → option_map (λ (f : Frame). f.number) frame ≡ frame_of g address
+numbered_from : (g : Geometry) (frame : Option Frame) (address n : ℕ) → option_map (λ (f : Frame). f.number) frame ≡ frame_of g address
     → option_map (λ (f : Frame). f.number) frame ≡ Some n → n < g.frames
-numbered_from g frame address n chunk is this = inside_or (nat_lt address (area_of g)) refl
+numbered_from g frame address n is this = inside_or (nat_lt address (area_of g)) refl
   where
+    some_chunk : address < g.frames * g.chunk → 0 < g.chunk
+    some_chunk within = ⊎_elim
+        (λ (some : 0 < g.chunk). some)
+        (λ (none : g.chunk ≤ 0).
+        let zero_chunk : g.chunk ≡ 0 = omega (arith, none) in
+        absurd (omega (arith, within, ap (λ k. g.frames * k) zero_chunk)))
+        (cases_lt 0 g.chunk)
+
     inside_or : (b : Bool) → nat_lt address (area_of g) ≡ b → n < g.frames
     inside_or true e =
         let same : Some (address / g.chunk) ≡ Some n = ap (λ b. cond b (Some (address / g.chunk)) None) (sym e) ∙ sym is ∙ this in
         let number : address / g.chunk ≡ n = cc in
         let within : address < g.frames * g.chunk = ltb-true address (area_of g) e in
-        subst (λ k. k < g.frames) number ((div-lt_iff_lt-mul {k = g.chunk} {x = address} {y = g.frames} (omega (arith, chunk))).1 within)
+        subst (λ k. k < g.frames) number ((div-lt_iff_lt-mul {k = g.chunk} {x = address} {y = g.frames} (some_chunk within)).1 within)
     inside_or false e =
         let none : None ≡ Some n = ap (λ b. cond b (Some (address / g.chunk)) None) (sym e) ∙ sym is ∙ this in
         absurd (cc)
 
-pub chunk_some : (g : Geometry) → IsGeometry g → 1 ≤ g.chunk
-chunk_some g h = elim h.chunk [ inl e ↦ omega (arith, e) | inr e ↦ omega (arith, e) ]
-
 -- the number of an item's frame is below that of the frames
-pub number_below : (g : Geometry) (r : Ring) (item : Item) (f : Frame) → IsGeometry g → IsItemOn g r item → item.frame ≡ Some f → f.number < g.frames
-number_below g r item f geometry lawful e =
-    numbered_from g item.frame item.desc.addr f.number (chunk_some g geometry) lawful.frame (ap (option_map (λ (o : Frame). o.number)) e)
+pub number_below : (g : Geometry) (r : Ring) (item : Item) (f : Frame) → IsItemOn g r item → item.frame ≡ Some f → f.number < g.frames
+number_below g r item f lawful e = numbered_from g item.frame item.desc.addr f.number lawful.frame (ap (option_map (λ (o : Frame). o.number)) e)
 
-no_number : (g : Geometry) (r : Ring) (item : Item) (n : ℕ) (frame : Option Frame) → IsGeometry g → IsItemOn g r item → item.frame ≡ frame → g.frames ≤ n → times n (number_of frame) ≡ 0
-no_number g r item n None geometry lawful e past = refl
-no_number g r item n (Some f) geometry lawful e past = omega (arith, not_yet f.number n (omega (arith, past, number_below g r item f geometry lawful e)))
+no_number : (g : Geometry) (r : Ring) (item : Item) (n : ℕ) (frame : Option Frame) → IsItemOn g r item → item.frame ≡ frame → g.frames ≤ n → times n (number_of frame) ≡ 0
+no_number g r item n None lawful e past = refl
+no_number g r item n (Some f) lawful e past = omega (arith, not_yet f.number n (omega (arith, past, number_below g r item f lawful e)))
 
-pub none_past : (g : Geometry) (r : Ring) (items : List Item) (n : ℕ) → IsGeometry g → All (IsItemOn g r) items → g.frames ≤ n → times n (numbers items) ≡ 0
-none_past g r [] n geometry h past = refl
-none_past g r (item ∷ items) n geometry h past =
+pub none_past : (g : Geometry) (r : Ring) (items : List Item) (n : ℕ) → All (IsItemOn g r) items → g.frames ≤ n → times n (numbers items) ≡ 0
+none_past g r [] n h past = refl
+none_past g r (item ∷ items) n h past =
     omega (
       arith,
       times-append n (number_of item.frame) (numbers items),
-      no_number g r item n item.frame geometry (All-head (IsItemOn g r) item items h) refl past,
-      none_past g r items n geometry (All-tail (IsItemOn g r) item items h) past,
+      no_number g r item n item.frame (All-head (IsItemOn g r) item items h) refl past,
+      none_past g r items n (All-tail (IsItemOn g r) item items h) past,
     )
 
 -- each item has a frame
@@ -432,8 +429,8 @@ pub kept_numbers : (c : Config) (u : Sending) → numbers (uncompleted c u) ≡ 
 kept_numbers c u = numbers-append (joined (waiting c u)) (rest c.geometry c.sg u.peeked) ∙ ap (λ ns. ns ++ numbers (rest c.geometry c.sg u.peeked)) (numbers_joined (waiting c u))
 
 -- the items that are not completed are no more than the frames
-pub uncompleted_few : (c : Config) (s : ℕ) (mine : List Told) → IsGeometry c.geometry → IsWaiting c mine → length (uncompleted c (sending_of c s mine)) ≤ c.geometry.frames
-uncompleted_few c s mine geometry h =
+pub uncompleted_few : (c : Config) (s : ℕ) (mine : List Told) → IsWaiting c mine → length (uncompleted c (sending_of c s mine)) ≤ c.geometry.frames
+uncompleted_few c s mine h =
     let u : Sending = sending_of c s mine in
     let lawful = all_uncompleted (IsItemOn c.geometry (Tx s)) c u (h.lawful s) in
     omega (
@@ -441,5 +438,5 @@ uncompleted_few c s mine geometry h =
       as_many c.geometry (Tx s) (uncompleted c u) lawful (uncompleted_inside c u),
       length-by_times c.geometry.frames (numbers (uncompleted c u))
           (λ n. omega (arith, ap (times n) (kept_numbers c u), (h.sent s n).few))
-          (λ n past. none_past c.geometry (Tx s) (uncompleted c u) n geometry lawful past),
+          (λ n past. none_past c.geometry (Tx s) (uncompleted c u) n lawful past),
     )

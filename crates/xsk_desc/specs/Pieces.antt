@@ -1,5 +1,5 @@
 -- What is asked of the items of a Submit, one by one, in the words of what a standing keeps.
-use Rattle.std.specs.Prelude.{◌≡◌, ◌≢◌, ℕ, ◌+◌, ◌<◌, ◌≤◌, ◌⊎◌, Bool, true, false, IsTrue, IsFalse, is_some, if◌then◌else◌, ◌==◌, Option, Some, None, List, [], ◌∷◌, length, All}
+use Rattle.std.specs.Prelude.{◌≡◌, ℕ, ◌≤◌, ◌⊎◌, Bool, true, false, IsTrue, IsFalse, is_some, if◌then◌else◌, Option, Some, None, List, [], ◌∷◌, length, All}
 use Rattle.std.specs.List.{slice_index_or}
 use Rattle.xsk_umem.specs.Frame.{Frame}
 use Rattle.xsk_umem.specs.Geometry.{Geometry, payload_of}

@@ -1,7 +1,7 @@
 -- The lists of a caller's own calls and replies for which a standing stands: what it keeps is what they leave.
 -- A Submit and a Peek are noted item by item, so a standing may also stand for a list and the first items of one more
 -- call.
-use Rattle.std.specs.Prelude.{◌≡◌, ℕ, ◌+◌, ◌<◌, nat_lt, Bool, false, if◌then◌else◌, Option, None, List, [], ◌∷◌, ◌++◌, length, map, take, drop, flat_map}
+use Rattle.std.specs.Prelude.{◌≡◌, ℕ, ◌<◌, nat_lt, Bool, false, if◌then◌else◌, Option, None, List, [], ◌∷◌, ◌++◌, length, map, take, drop, flat_map}
 use Rattle.std.specs.List.{fold, slice_index_or, slice_set}
 use Rattle.xsk_umem.specs.declared.batch.Item.{Item}
 use Rattle.xsk_umem.specs.declared.batch.XdpDesc.{XdpDesc}

@@ -105,6 +105,7 @@ impl Standing {
     pub fn granted(&mut self, config: &Config, ring: Ring, n: u32)
         requires { CanGrant config.now self.old ring n }
         ensures kind { IsFor config.now self.new }
+        ensures caller { self.new.who ≡ self.old.who }
         ensures stands { (mine : List Told) → StandsFor config.now self.old mine → MayGive config.now mine self.old.who (Reserve ring n) Granted
             → StandsFor config.now self.new (with_told mine (Reserve ring n) Granted) }
     {
@@ -118,6 +119,7 @@ impl Standing {
     pub fn placed(&mut self, config: &Config, ring: Ring, item: &Item)
         requires { CanPlace config.now self.old ring item.now }
         ensures kind { IsFor config.now self.new }
+        ensures caller { self.new.who ≡ self.old.who }
         ensures goes_on { (mine : List Told) (done later : List AnItem) → IsPlacing config.now self.old mine ring done
             → IsLegal config.now mine self.old.who (Submit ring (done ++ item.now ∷ later)) → IsPlacing config.now self.new mine ring (done ++ item.now ∷ []) }
         ensures ends { (mine : List Told) (done : List AnItem) → IsPlacing config.now self.old mine ring done
@@ -133,6 +135,7 @@ impl Standing {
     pub fn fetched(&mut self, config: &Config, ring: Ring, item: &Item)
         requires { CanFetch config.now self.old ring item.now }
         ensures kind { IsFor config.now self.new }
+        ensures caller { self.new.who ≡ self.old.who }
         ensures goes_on { (mine : List Told) (n : ℕ) (done later : List AnItem) → IsFetching config.now self.old mine ring done
             → MayGive config.now mine self.old.who (Peek ring n) (Items (done ++ item.now ∷ later)) → IsFetching config.now self.new mine ring (done ++ item.now ∷ []) }
         ensures ends { (mine : List Told) (n : ℕ) (done : List AnItem) → IsFetching config.now self.old mine ring done
@@ -148,6 +151,7 @@ impl Standing {
     pub fn released(&mut self, config: &Config, ring: Ring, n: u32)
         requires { CanRelease config.now self.old ring n }
         ensures kind { IsFor config.now self.new }
+        ensures caller { self.new.who ≡ self.old.who }
         ensures stands { (mine : List Told) → StandsFor config.now self.old mine → IsLegal config.now mine self.old.who (Release ring n)
             → StandsFor config.now self.new (with_told mine (Release ring n) Released) }
     {

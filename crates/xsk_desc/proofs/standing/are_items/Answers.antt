@@ -1,4 +1,4 @@
-use Rattle.std.proofs.Common.{rules, refl}
+use Rattle.std.proofs.Common.{rules}
 use Rattle.xsk_model.specs.Legal.{IsItemOn}
 use Rattle.xsk_desc.proofs.Steps.{one_holds}
 use Rattle.xsk_desc.proofs.standing.are_items.Goals as goal

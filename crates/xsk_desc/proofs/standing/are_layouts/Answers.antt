@@ -1,7 +1,6 @@
-use Rattle.std.proofs.Common.{rules, ◌≡◌, ◌+◌, ◌↔◌, eqb, drop, arith}
-use Rattle.xsk_desc.specs.Pieces.{IsPiece, ArePieces}
+use Rattle.std.proofs.Common.{rules, ◌+◌, eqb, arith}
+use Rattle.xsk_desc.specs.Pieces.{IsPiece}
 use Rattle.xsk_desc.proofs.Steps.{pieces_at}
-use Rattle.xsk_desc.proofs.Submits.{pieces_received, received_pieces}
 use Rattle.xsk_desc.proofs.standing.are_layouts.Goals as goal
 
 pub returns-then-not-is_piece : goal.returns-then-not-is_piece

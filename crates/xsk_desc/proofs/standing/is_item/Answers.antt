@@ -3,7 +3,6 @@ use Rattle.std.specs.Prelude.{IfSome, length}
 use Rattle.std.specs.Option.{option_map}
 use Rattle.xsk_umem.specs.Frame.{Frame}
 use Rattle.xsk_umem.specs.Geometry.{frame_of}
-use Rattle.xsk_model.specs.Legal.{IsItemOn, IsPlainOn}
 use Rattle.xsk_desc.proofs.standing.is_item.Goals as goal
 
 pub returns-then-is_whole : goal.returns-then-is_whole

@@ -1,4 +1,4 @@
-use Rattle.std.proofs.Common.{rules, ◌≡◌, length, arith}
+use Rattle.std.proofs.Common.{rules, ◌≡◌, length}
 use Rattle.xsk_desc.proofs.Opening.{fresh_all}
 use Rattle.xsk_desc.proofs.standing.queues_of.Goals as goal
 

@@ -1,4 +1,4 @@
-use Rattle.std.proofs.Common.{rules, ◌≡◌, ◌≤◌, ◌+◌, refl, Some, arith}
+use Rattle.std.proofs.Common.{rules, ◌≡◌, ◌+◌, refl, Some, arith}
 use Rattle.std.specs.Option.{option_map}
 use Rattle.xsk_umem.specs.Frame.{Frame}
 use Rattle.xsk_desc.proofs.Steps.{stands_here, not_here, times-take_at, times-take_less}

@@ -1,4 +1,4 @@
-use Rattle.std.proofs.Common.{rules, ◌≡◌, ◌↔◌, sym, subst, arith}
+use Rattle.std.proofs.Common.{rules, ◌≡◌, ◌↔◌, sym, subst}
 use Rattle.std.specs.Prelude.{IsTrue}
 use Rattle.xsk_model.specs.Config.{HasRing}
 use Rattle.xsk_model.specs.Rings.{producer}

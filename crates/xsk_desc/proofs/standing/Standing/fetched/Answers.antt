@@ -1,13 +1,9 @@
-use Rattle.std.proofs.Common.{◌≡◌, ◌<◌, ◌++◌, ◌∷◌, [], length, Some, sym, subst, ap, ◌∙◌, refl}
-use Rattle.std.specs.Prelude.{IfSome}
-use Rattle.xsk_umem.specs.Frame.{Frame}
-use Rattle.xsk_model.specs.Rings.{place}
+use Rattle.std.proofs.Common.{◌++◌, ◌∷◌, [], sym, subst}
 use Rattle.xsk_model.specs.Entry.{with_told}
 use Rattle.xsk_model.specs.declared.call.Call.TheVariants.{Peek}
 use Rattle.xsk_model.specs.declared.call.Reply.TheVariants.{Items}
 use Rattle.xsk_desc.specs.Noted.{Noted}
 use Rattle.xsk_desc.specs.Standing.{StandsFor, IsFetching}
-use Rattle.xsk_desc.specs.Noting.{fetched_item}
 use Rattle.xsk_desc.proofs.Fetched.{fetched_goes, fetched_ends, fetched_steps}
 use Rattle.xsk_desc.proofs.standing.Standing.fetched.Goals as goal
 

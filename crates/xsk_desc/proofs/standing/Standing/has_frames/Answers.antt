@@ -1,11 +1,9 @@
-use Rattle.std.proofs.Common.{rules, ◌≡◌, ◌≤◌, ◌+◌, ℕ, Some, None, sym, subst, take, ◌∙◌, arith}
+use Rattle.std.proofs.Common.{rules, ◌≡◌, ◌≤◌, ◌+◌, ℕ, Some, None, sym, subst, take, arith}
 use Rattle.std.specs.Option.{option_map}
 use Rattle.xsk_umem.specs.Frame.{Frame}
 use Rattle.xsk_model.specs.Numbers.{times, numbers}
 use Rattle.xsk_desc.specs.Pieces.{has}
 use Rattle.xsk_desc.proofs.Steps.{stands_here, times-take_at, times-take_few, few_here, none_here, has_few}
-use Rattle.xsk_desc.proofs.Sources.{own_source}
-use Rattle.xsk_desc.proofs.Submits.{pieces_received, received_pieces}
 use Rattle.xsk_desc.proofs.standing.Standing.has_frames.Goals.{then-not-has-via-then-not-has, then-not-has-via-else-not-has+then-stands_before, in-Some+else-not-has+else-stands_before, in_default}
 use Rattle.xsk_desc.proofs.standing.Standing.has_frames.Goals as goal
 

@@ -1,7 +1,4 @@
-use Rattle.std.proofs.Common.{rules, ◌≡◌, List, ap, ◌∙◌, replicate, None, sym, arith}
-use Rattle.xsk_model.specs.Config.{Config, callers_of}
-use Rattle.xsk_model.specs.Rings.{places_of}
-use Rattle.xsk_desc.specs.declared.standing.Places.{Places}
+use Rattle.std.proofs.Common.{rules, ◌≡◌, ap, ◌∙◌, replicate, None}
 use Rattle.xsk_desc.specs.Noted.{Noted}
 use Rattle.xsk_desc.proofs.Opening.{opened}
 use Rattle.xsk_desc.proofs.standing.Standing.new.Goals as goal

@@ -1,20 +1,10 @@
-use Rattle.std.proofs.Common.{rules, ◌≡◌, ◌+◌, ◌^◌, ◌<◌, ◌≤◌, ◌↔◌, ℕ, List, [], ◌∷◌, ◌++◌, length, take, All, IfOk, IfSome, IsTrue, Some, ◌-◌, ◌*◌, ◌/◌, ◌%◌, Bool, true, false, nat_eq, nat_lt, slice_index_or, slice_set, bit_and, bit_or, Fits, w8, w32, w64, Bor, MutBor}
-use Rattle.std.specs.Option.{option_map}
-use Rattle.xsk_umem.specs.Frame.{Frame as Body}
-use Rattle.xsk_umem.specs.Limits.{most_items}
-use Rattle.xsk_umem.specs.declared.batch.Item.{Item as AnItem}
-use Rattle.xsk_model.specs.Config.{HasRing, callers_of}
-use Rattle.xsk_model.specs.Numbers.{times, numbers}
-use Rattle.xsk_model.specs.Rings.{place, places_of, port_of, queue_of, producer}
-use Rattle.xsk_model.specs.Entry.{Told, with_told}
-use Rattle.xsk_model.specs.Legal.{IsLegal, IsItemOn, IsPlainOn}
-use Rattle.xsk_model.specs.History.{MayGive}
-use Rattle.xsk_model.specs.declared.call.Ring.TheVariants.{Comp, Tx}
-use Rattle.xsk_model.specs.declared.call.Call.TheVariants.{Reserve, Submit, Peek, Release}
-use Rattle.xsk_model.specs.declared.call.Reply.TheVariants.{Granted, Submitted, Items, Released}
-use Rattle.xsk_desc.specs.Standing.{StandsFor, IsPlacing, IsFetching}
-use Rattle.xsk_desc.specs.Pieces.{MaySubmit, has, item_source, IsFill, IsPiece, ArePieces, GivesBack}
-use Rattle.std.proofs.Common.{sym, ap, subst, ◌∙◌, arith}
+use Rattle.std.proofs.Common.{◌≡◌, ℕ, ◌-◌}
+use Rattle.xsk_model.specs.Rings.{place}
+use Rattle.xsk_model.specs.Entry.{with_told}
+use Rattle.xsk_model.specs.declared.call.Call.TheVariants.{Release}
+use Rattle.xsk_model.specs.declared.call.Reply.TheVariants.{Released}
+use Rattle.xsk_desc.specs.Standing.{StandsFor}
+use Rattle.std.proofs.Common.{sym, ap, subst, ◌∙◌}
 use Rattle.xsk_desc.specs.declared.standing.Places.{Places}
 use Rattle.xsk_desc.specs.Noted.{Noted}
 use Rattle.xsk_desc.specs.Standing.{places_at, with_places}
