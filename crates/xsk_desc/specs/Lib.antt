@@ -2,3 +2,9 @@ pub mod Fault
 pub mod Gather
 pub mod Kept
 pub mod Laws
+pub mod Noted
+pub mod Noting
+pub mod Standing
+pub mod Queue
+pub mod Roles
+pub mod Pieces

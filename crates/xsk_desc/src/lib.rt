@@ -6,10 +6,14 @@ mod descriptor;
 mod gather;
 pub mod laws;
 mod payload;
+mod queue;
+mod roles;
+mod standing;
 
 pub use descriptor::{DescError, fragments, validate};
 pub use gather::{Ending, Gather, Gathered, judge};
 pub use payload::payload_of;
+pub use standing::Standing;
 
 #[cfg(test)]
 mod tests;
