@@ -16,6 +16,8 @@ mod four_ports;
 #[cfg(test)]
 mod many_packets;
 #[cfg(test)]
+mod options;
+#[cfg(test)]
 mod refusals;
 #[cfg(test)]
 mod small_rings;
