@@ -13,7 +13,7 @@ use Rattle.clap.specs.declared.parser.matches.MatchedArg.{MatchedArg}
 use Rattle.clap.proofs.WalkLemmas.{both, first_value-rows, raw_values-rows}
 use Rattle.xsk_args.specs.Words.{Text, said_of, spoken}
 use Rattle.xsk_args.specs.Number.{number_in}
-use Rattle.xsk_args.specs.Meaning.{Meaning, fits, fitting, is_taken, meant, one_value, stated, under}
+use Rattle.xsk_args.specs.Meaning.{Meaning, fits, fits_by, fitting, is_taken, key_of, meant, one_value, stated, stated_by, under}
 use Rattle.xsk_args.specs.Rules.{IsToldBy, said_by}
 use Rattle.xsk_args.specs.declared.table.OptionRow.{OptionRow}
 use Rattle.xsk_args.specs.declared.table.Takes.TheVariants as takes
@@ -70,25 +70,40 @@ under_rows name (row ∷ rows) = go (bytes_eq row.id name) (under_rows name rows
 
 -- ---- what it means
 
+-- a table by its keys
+keyed : (table : List OptionRow) → map stated_by (map key_of table) ≡ map stated table
+keyed [] = refl
+keyed (row ∷ table) = ap (λ ss. stated row ∷ ss) (keyed table)
+
+fits_keyed : (said : Meaning) (table : List OptionRow) → list_all (fits_by said) (map key_of table) ≡ list_all (fits said) table
+fits_keyed said [] = refl
+fits_keyed said (row ∷ table) = ap (λ b. fits said row && b) (fits_keyed said table)
+
 told_to : (m : ArgMatches) (table : List OptionRow) (words : List Text) → IsToldBy m (spoken (map stated table) words)
-    → meant table words ≡ fitting table (λ name. all_of name (rows_of (found_of m)))
+    → meant (map key_of table) words ≡ fitting (map key_of table) (λ name. all_of name (rows_of (found_of m)))
 told_to m table words (said, is, tells) =
     let back : (name : Text) → said_of name said ≡ all_of name (rows_of (found_of m)) = λ name. sym (tells name) in
-    ap (option_and_then (λ said. fitting table (λ name. said_of name said))) is ∙ (λ i. fitting table (λ name. back name i))
+    ap (λ t. option_and_then (λ said. fitting (map key_of table) (λ name. said_of name said)) (spoken t words)) (keyed table)
+    ∙ ap (option_and_then (λ said. fitting (map key_of table) (λ name. said_of name said))) is ∙ (λ i. fitting (map key_of table) (λ name. back name i))
 
 pub meant_some : (m : ArgMatches) (table : List OptionRow) (words : List Text) → IsToldBy m (spoken (map stated table) words)
     → list_all (fits (λ name. all_of name (rows_of (found_of m)))) table ≡ true
-    → meant table words ≡ Some (under (said_by (rows_of (found_of m))))
+    → meant (map key_of table) words ≡ Some (under (said_by (rows_of (found_of m))))
 meant_some m table words told fit =
     let shown : (name : Text) → all_of name (rows_of (found_of m)) ≡ under (said_by (rows_of (found_of m))) name = λ name. sym (under_rows name (rows_of (found_of m))) in
     told_to m table words told
-    ∙ ap (λ (b : Bool). cond b (Some (λ (name : Text). all_of name (rows_of (found_of m)))) None) fit
+    ∙ ap (λ (b : Bool). cond b (Some (λ (name : Text). all_of name (rows_of (found_of m)))) None) (fits_keyed (λ name. all_of name (rows_of (found_of m))) table ∙ fit)
     ∙ (λ i. Some (λ name. shown name i))
 
 pub meant_none : (m : ArgMatches) (table : List OptionRow) (words : List Text) → IsToldBy m (spoken (map stated table) words)
-    → list_all (fits (λ name. all_of name (rows_of (found_of m)))) table ≡ false → meant table words ≡ None
+    → list_all (fits (λ name. all_of name (rows_of (found_of m)))) table ≡ false → meant (map key_of table) words ≡ None
 meant_none m table words told fit = told_to m table words told
-    ∙ ap (λ (b : Bool). cond b (Some (λ (name : Text). all_of name (rows_of (found_of m)))) None) fit
+    ∙ ap (λ (b : Bool). cond b (Some (λ (name : Text). all_of name (rows_of (found_of m)))) None) (fits_keyed (λ name. all_of name (rows_of (found_of m))) table ∙ fit)
+
+pub meant_unspoken : (table : List OptionRow) (words : List Text) → spoken (map stated table) words ≡ None → meant (map key_of table) words ≡ None
+meant_unspoken table words none =
+    ap (λ t. option_and_then (λ said. fitting (map key_of table) (λ name. said_of name said)) (spoken t words)) (keyed table)
+    ∙ ap (option_and_then (λ said. fitting (map key_of table) (λ name. said_of name said))) none
 
 pub fits_number : (said : Meaning) (row : OptionRow) (value : Option Text) → row.takes ≡ takes.Number → value ≡ one_value (said row.name.now)
     → option_map_or (λ text. is_some (number_in text)) value true ≡ fits said row

@@ -14,8 +14,19 @@ has_value Nothing = false
 has_value Number = true
 has_value AnyText = true
 
+-- an option by its name and by what it takes
+abbrev pub Key : Type 0
+Key = Text × Takes
+
+abbrev pub stated_by : Key → Stated
+stated_by key = record { name = key.0; has_value = has_value key.1 }
+
+-- the key of a row
+abbrev pub key_of : OptionRow → Key
+key_of row = (row.name.now, row.takes)
+
 abbrev pub stated : OptionRow → Stated
-stated row = record { name = row.name.now; has_value = has_value row.takes }
+stated row = stated_by (key_of row)
 
 -- what was said under each name: the values of an option, none for a flag, and the files under `FILE`
 abbrev pub Meaning : Type 0
@@ -31,19 +42,22 @@ is_taken Nothing value = true
 is_taken Number value = is_some (number_in value)
 is_taken AnyText value = true
 
--- what was said under the row's name is what it takes
-abbrev pub fits : Meaning → OptionRow → Bool
-fits said row = option_map_or (is_taken row.takes) (one_value (said row.name.now)) true
+-- what was said under the option's name is what it takes
+abbrev pub fits_by : Meaning → Key → Bool
+fits_by said key = option_map_or (is_taken key.1) (one_value (said key.0)) true
 
-abbrev pub fitting : List OptionRow → Meaning → Option Meaning
-fitting table said = if list_all (fits said) table then Some said else None
+abbrev pub fits : Meaning → OptionRow → Bool
+fits said row = fits_by said (key_of row)
+
+abbrev pub fitting : List Key → Meaning → Option Meaning
+fitting table said = if list_all (fits_by said) table then Some said else None
 
 -- the meaning of the words behind the command's name
-abbrev pub meant : List OptionRow → List Text → Option Meaning
-meant table words = option_and_then (λ said. fitting table (λ option. said_of option said)) (spoken (map stated table) words)
+abbrev pub meant : List Key → List Text → Option Meaning
+meant table words = option_and_then (λ said. fitting table (λ option. said_of option said)) (spoken (map stated_by table) words)
 
 -- the meaning of words, where they are the command with this name and these options
-abbrev pub meaning : Text → List OptionRow → List Text → Option Meaning
+abbrev pub meaning : Text → List Key → List Text → Option Meaning
 meaning name table [] = None
 meaning name table (first ∷ rest) =
     if bytes_eq first name then meant table rest else None

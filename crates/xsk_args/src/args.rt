@@ -3,10 +3,10 @@ ghost use Rattle.std.specs.Prelude.{◌≡◌, None, Some, IfOk, IsErrOf, codes,
 ghost use Rattle.std.specs.List.{list_all};
 ghost use Rattle.clap.specs.Words.{all_of, found_of, rows_of};
 ghost use Rattle.xsk_args.specs.Number.{number_in};
-ghost use Rattle.xsk_args.specs.Meaning.{HasNoFileRow, fits, meaning, meant, one_value, under};
+ghost use Rattle.xsk_args.specs.Meaning.{HasNoFileRow, fits, key_of, meaning, meant, one_value, under};
 
 use crate::command::{FILES, matches};
-use crate::number::number;
+use crate::number::parse_number;
 use crate::{ArgsError, OptionRow, Takes};
 use clap::ArgMatches;
 use std::alloc::Global;
@@ -43,8 +43,8 @@ pub fn parse<'a>(
     words: &'a [String],
 ) -> Result<Args<'a>, ArgsError>
     requires { HasNoFileRow table.now }
-    ensures told { IfOk result (λ args. meaning name.now table.now (map string_bytes words.now) ≡ Some (under args)) }
-    ensures usage { IsErrOf result ArgsError.Usage → meaning name.now table.now (map string_bytes words.now) ≡ None }
+    ensures told { IfOk result (λ args. meaning name.now (map key_of table.now) (map string_bytes words.now) ≡ Some (under args)) }
+    ensures usage { IsErrOf result ArgsError.Usage → meaning name.now (map key_of table.now) (map string_bytes words.now) ≡ None }
 {
     let Some((first, rest)) = words.split_first() else {
         return Err(ArgsError::Usage);
@@ -62,8 +62,8 @@ fn parse_behind<'a>(
     words: &'a [String],
 ) -> Result<Args<'a>, ArgsError>
     requires { HasNoFileRow table.now }
-    ensures told { IfOk result (λ args. meant table.now (map string_bytes words.now) ≡ Some (under args)) }
-    ensures usage { IsErrOf result ArgsError.Usage → meant table.now (map string_bytes words.now) ≡ None }
+    ensures told { IfOk result (λ args. meant (map key_of table.now) (map string_bytes words.now) ≡ Some (under args)) }
+    ensures usage { IsErrOf result ArgsError.Usage → meant (map key_of table.now) (map string_bytes words.now) ≡ None }
 {
     let matches = matches(alloc, table, words)?;
     if !all_fit(&matches, table) {
@@ -89,7 +89,7 @@ fn fits_row(matches: &ArgMatches<'_>, row: OptionRow) -> bool
 {
     match row.takes {
         Takes::Number => match matches.get_str(row.name) {
-            Some(text) => number(text).is_some(),
+            Some(text) => parse_number(text).is_some(),
             None => true,
         },
         Takes::Nothing | Takes::AnyText => true,
@@ -101,7 +101,7 @@ impl<'a> Args<'a> {
     pub fn number(&self, name: &str) -> Option<u32>
         ensures { result ≡ option_and_then number_in (one_value (under self.now name.now)) }
     {
-        number(self.text(name)?)
+        parse_number(self.text(name)?)
     }
 
     /// The value that was said under the name, where one was.

@@ -9,6 +9,7 @@ mod table;
 
 pub use args::{Args, parse};
 pub use error::ArgsError;
+pub use number::parse_number;
 pub use table::{OptionRow, Takes};
 
 #[cfg(test)]

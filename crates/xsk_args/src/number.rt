@@ -7,7 +7,7 @@ ghost use Rattle.xsk_args.specs.Number.{number_in};
 const MOST_DIGITS: usize = 10;
 
 /// The number that a text is: one to ten decimal digits, at most 4,294,967,295.
-pub(crate) fn number(text: &str) -> Option<u32>
+pub fn parse_number(text: &str) -> Option<u32>
     ensures { result ≡ number_in text.now }
 {
     if !has_digits_only(text) {

@@ -7,14 +7,17 @@ use Rattle.xsk_pcap.specs.declared.reading.BadCapture.{BadCapture as Cause}
 use Rattle.xsk_cli.specs.Cause.{IsCaused}
 use Rattle.xsk_cli.specs.Ends.{Ends, AreTold, Answers, AreTaken, NoneRose, IsComplete}
 use Rattle.xsk_cli.specs.Judged.{bytes_of, excess_of}
-use Rattle.xsk_cli.specs.Outcome.{Outcome, long, bad, passed, stalled, made, IsOutcome, IsOutcomeIn}
+use Rattle.xsk_cli.specs.Outcome.{Outcome, long, bad, passed, stalled, made, made_lists, IsOutcome, IsOutcomeIn}
 use Rattle.xsk_cli.specs.Streams.{Moment, Reach, IsTold}
-use Rattle.xsk_cli.specs.Words.{Plan}
+use Rattle.xsk_cli.specs.Words.{Plan, fault_in}
+use Rattle.xsk_cli.specs.declared.words.Work.{Work}
+use Rattle.xsk_cli.specs.declared.words.Work.TheVariants.{Simulate, Generate}
 use Rattle.xsk_cli.specs.declared.status.Excess.{Excess}
 use Rattle.xsk_cli.specs.declared.status.Excess.TheVariants.{Input as TooLong, Packets, Bytes}
 use Rattle.xsk_cli.specs.declared.status.Status.{Status}
-use Rattle.xsk_cli.specs.declared.status.Status.TheVariants.{Done, Usage, BadCapture, ReadFault, WriteFault, OpenFault, Stalled, TooMuch, OutOfMemory}
+use Rattle.xsk_cli.specs.declared.status.Status.TheVariants.{Done, Usage, BadCapture, ReadFault, WriteFault, OpenFault, Refused, Stalled, TooMuch, OutOfMemory}
 use Rattle.xsk_cli.proofs.Ports.{same_lists}
+use Rattle.xsk_cli.proofs.Making.{few_ports, made_within}
 use Rattle.xsk_cli.proofs.Unique.{one_outcome, same_captures, bad_not_captures}
 
 told_is : (left : Option (List ℕ)) (bytes text : List ℕ) → left ≡ Some bytes → IsTold left text → bytes ≡ text
@@ -30,9 +33,9 @@ module _ (plan : Plan) (old new : Moment) (inputs : List (List ℕ)) (told : Are
       let known : i < length inputs = omega (arith, below, all, told.count) in
       sym (told_is (old.left (Input i)) (bytes_of inputs i) (get_or ends.inputs i []) (told.each i known) (ends.reads.all i below)))
 
-  same_outcome : (status : Status) (mine outcome : Outcome) → (ends : Ends plan old new status) → ends.reach.ends ≡ length plan.inputs → IsOutcome ends.inputs mine → IsOutcome inputs outcome → outcome ≡ mine
+  same_outcome : (status : Status) (mine outcome : Outcome) → (ends : Ends plan old new status) → ends.reach.ends ≡ length plan.inputs → IsOutcome plan.work ends.inputs mine → IsOutcome plan.work inputs outcome → outcome ≡ mine
   same_outcome status mine outcome ends all is other =
-      one_outcome inputs outcome mine other (subst (λ i. IsOutcome i mine) (same_inputs status ends all) is)
+      one_outcome plan.work inputs outcome mine other (subst (λ i. IsOutcome plan.work i mine) (same_inputs status ends all) is)
 
   -- an input before the one that is too long
   read_short : (port : ℕ) → (ends : Ends plan old new (TooMuch (TooLong port))) → (i : ℕ) → i < port → length (bytes_of inputs i) ≤ 34603032
@@ -45,7 +48,7 @@ module _ (plan : Plan) (old new : Moment) (inputs : List (List ℕ)) (told : Are
         ends.short i below,
       )
 
-  too_long : (port : ℕ) → (ends : Ends plan old new (TooMuch (TooLong port))) → IsOutcome inputs (long port)
+  too_long : (port : ℕ) → (ends : Ends plan old new (TooMuch (TooLong port))) → IsOutcome plan.work inputs (long port)
   too_long port ends =
       let known : port < length inputs = omega (arith, ends.reaches.0, told.count) in
       record {
@@ -57,7 +60,7 @@ module _ (plan : Plan) (old new : Moment) (inputs : List (List ℕ)) (told : Are
   reached : (status : Status) (r : Reach) → (ends : Ends plan old new status) → ends.reach ≡ r → ends.reach.ends ≡ r.ends
   reached status r ends is = ap (λ (x : Reach). x.ends) is
 
-  pub answered : (status : Status) (outcome : Outcome) → Ends plan old new status → (status ≡ Usage → ⊥) → IsOutcome inputs outcome → Answers outcome status
+  pub answered : (status : Status) (outcome : Outcome) → Ends plan old new status → (status ≡ Usage → ⊥) → IsOutcome plan.work inputs outcome → Answers plan.work outcome status
   answered Done outcome ends words h = (ends.texts, same_outcome Done (made ends.texts) outcome ends (reached Done _ ends ends.reaches) ends.comes h)
   answered Usage outcome ends words h = absurd (words refl)
   answered (BadCapture port cause) outcome ends words h =
@@ -72,8 +75,9 @@ module _ (plan : Plan) (old new : Moment) (inputs : List (List ℕ)) (told : Are
   answered (OpenFault (Output port)) outcome ends words h =
       (ends.texts, same_outcome (OpenFault (Output port)) (made ends.texts) outcome ends (reached (OpenFault (Output port)) _ ends ends.reaches.1) ends.comes h)
   answered (OpenFault Report) outcome ends words h = absurd ends.reaches
+  answered (Refused unlawful) outcome ends words h = ends.comes
   answered (Stalled round) outcome ends words h = same_outcome (Stalled round) (stalled round) outcome ends (reached (Stalled round) _ ends ends.reaches) ends.comes h
-  answered (TooMuch (TooLong port)) outcome ends words h = one_outcome inputs outcome (long port) h (too_long port ends)
+  answered (TooMuch (TooLong port)) outcome ends words h = one_outcome plan.work inputs outcome (long port) h (too_long port ends)
   answered (TooMuch (Packets n)) outcome ends words h =
       same_outcome (TooMuch (Packets n)) (passed (Packets n)) outcome ends (reached (TooMuch (Packets n)) _ ends ends.reaches) ends.comes h
   answered (TooMuch (Bytes n)) outcome ends words h =
@@ -82,33 +86,46 @@ module _ (plan : Plan) (old new : Moment) (inputs : List (List ℕ)) (told : Are
 
   -- ---- completeness
 
-  not_bad : AreTaken inputs → (port : ℕ) (cause : Cause) → IsOutcome inputs (bad port cause) → ⊥
-  not_bad taken port cause h = bad_not_captures inputs port cause taken.1.0 h.1 taken.1.1
+  not_bad : (work : Work) → AreTaken work inputs → (port : ℕ) (cause : Cause) → IsOutcome work inputs (bad port cause) → ⊥
+  not_bad (Simulate layout order None) taken port cause h = bad_not_captures inputs port cause taken.1.0 h.1 taken.1.1
+  not_bad (Simulate layout order (Some number)) taken port cause h = omega (arith, h.1.known, ap length taken)
+  not_bad (Generate number) taken port cause h = omega (arith, h.1.known, ap length taken)
 
-  not_passed : AreTaken inputs → (excess : Excess) → IsOutcomeIn inputs (passed excess) → ⊥
-  not_passed taken excess h =
-      let same = same_captures inputs h.0 taken.1.0 h.1 taken.1.1 in
-      let none : excess_of h.0 ≡ None = ap excess_of same ∙ taken.1.2 in
-      let no = sym h.2 ∙ none in
-      absurd cc
+  none_passed : (lists : List (List (List ℕ))) (excess : Excess) → excess_of lists ≡ Some excess → excess_of lists ≡ None → ⊥
+  none_passed lists excess is none = let no = sym is ∙ none in absurd cc
 
-  mine : (status : Status) (outcome : Outcome) → (ends : Ends plan old new status) → ends.reach.ends ≡ length plan.inputs → IsOutcome ends.inputs outcome → IsOutcome inputs outcome
-  mine status outcome ends all is = subst (λ i. IsOutcome i outcome) (same_inputs status ends all) is
+  made_not_passed : (lists : List (List (List ℕ))) (number ports : ℕ) (excess : Excess) → ports ≤ 4 → lists ≡ made_lists number ports → excess_of lists ≡ Some excess → ⊥
+  made_not_passed lists number ports excess few are is = none_passed lists excess is (ap excess_of are ∙ made_within number ports few)
 
-  pub completes : (status : Status) → Ends plan old new status → (status ≡ Usage → ⊥) → AreTaken inputs → NoneRose old.faults new.faults → IsCaused old.faults new.faults status → IsComplete status
-  completes Done ends words taken none caused = tt
-  completes Usage ends words taken none caused = absurd (words refl)
-  completes (BadCapture port cause) ends words taken none caused =
-      not_bad taken port cause (mine (BadCapture port cause) (bad port cause) ends (reached (BadCapture port cause) _ ends ends.reaches) ends.comes)
-  completes (ReadFault port) ends words taken none caused = none Read (Input port) caused
-  completes (WriteFault stream) ends words taken none caused = none Write stream caused
-  completes (OpenFault stream) ends words taken none caused = none Open stream caused
-  completes (Stalled round) ends words taken none caused = tt
-  completes (TooMuch (TooLong port)) ends words taken none caused =
+  not_passed : (work : Work) → fault_in work ≡ None → AreTaken work inputs → (excess : Excess) → IsOutcomeIn work inputs (passed excess) → ⊥
+  not_passed (Simulate layout order None) accepted taken excess h =
+      none_passed h.0 excess h.2 (ap excess_of (same_captures inputs h.0 taken.1.0 h.1 taken.1.1) ∙ taken.1.2)
+  not_passed (Simulate layout order (Some number)) accepted taken excess h = made_not_passed h.0 number layout.ports excess (few_ports layout accepted) h.1.1 h.2
+  not_passed (Generate number) accepted taken excess h = made_not_passed h.0 number 1 excess (omega arith) h.1.1 h.2
+
+  all_short : (work : Work) → AreTaken work inputs → (port : ℕ) → port < length inputs → length (bytes_of inputs port) ≤ 34603032
+  all_short (Simulate layout order None) taken port known = taken.0 port known
+  all_short (Simulate layout order (Some number)) taken port known = absurd (omega (arith, known, ap length taken))
+  all_short (Generate number) taken port known = absurd (omega (arith, known, ap length taken))
+
+  mine : (status : Status) (outcome : Outcome) → (ends : Ends plan old new status) → ends.reach.ends ≡ length plan.inputs → IsOutcome plan.work ends.inputs outcome → IsOutcome plan.work inputs outcome
+  mine status outcome ends all is = subst (λ i. IsOutcome plan.work i outcome) (same_inputs status ends all) is
+
+  pub completes : (status : Status) → Ends plan old new status → (status ≡ Usage → ⊥) → fault_in plan.work ≡ None → AreTaken plan.work inputs → NoneRose old.faults new.faults → IsCaused old.faults new.faults status → IsComplete status
+  completes Done ends words accepted taken none caused = tt
+  completes Usage ends words accepted taken none caused = absurd (words refl)
+  completes (BadCapture port cause) ends words accepted taken none caused =
+      not_bad plan.work taken port cause (mine (BadCapture port cause) (bad port cause) ends (reached (BadCapture port cause) _ ends ends.reaches) ends.comes)
+  completes (ReadFault port) ends words accepted taken none caused = none Read (Input port) caused
+  completes (WriteFault stream) ends words accepted taken none caused = none Write stream caused
+  completes (OpenFault stream) ends words accepted taken none caused = none Open stream caused
+  completes (Refused unlawful) ends words accepted taken none caused = let no = sym ends.comes ∙ accepted in absurd cc
+  completes (Stalled round) ends words accepted taken none caused = tt
+  completes (TooMuch (TooLong port)) ends words accepted taken none caused =
       let long = too_long port ends in
-      omega (arith, long.long, taken.0 port long.known)
-  completes (TooMuch (Packets n)) ends words taken none caused =
-      not_passed taken (Packets n) (mine (TooMuch (Packets n)) (passed (Packets n)) ends (reached (TooMuch (Packets n)) _ ends ends.reaches) ends.comes).1
-  completes (TooMuch (Bytes n)) ends words taken none caused =
-      not_passed taken (Bytes n) (mine (TooMuch (Bytes n)) (passed (Bytes n)) ends (reached (TooMuch (Bytes n)) _ ends ends.reaches) ends.comes).1
-  completes OutOfMemory ends words taken none caused = tt
+      omega (arith, long.long, all_short plan.work taken port long.known)
+  completes (TooMuch (Packets n)) ends words accepted taken none caused =
+      not_passed plan.work accepted taken (Packets n) (mine (TooMuch (Packets n)) (passed (Packets n)) ends (reached (TooMuch (Packets n)) _ ends ends.reaches) ends.comes).1
+  completes (TooMuch (Bytes n)) ends words accepted taken none caused =
+      not_passed plan.work accepted taken (Bytes n) (mine (TooMuch (Bytes n)) (passed (Bytes n)) ends (reached (TooMuch (Bytes n)) _ ends ends.reaches) ends.comes).1
+  completes OutOfMemory ends words accepted taken none caused = tt

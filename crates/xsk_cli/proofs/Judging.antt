@@ -11,7 +11,7 @@ use Rattle.xsk_pcap.specs.declared.endianness.Endianness.{Endianness}
 use Rattle.xsk_pcap.proofs.Unique.{length-record}
 use Rattle.xsk_cli.specs.Judged.{bytes_of, AreShort, AreCaptures, packets_in, bytes_in, excess_of}
 use Rattle.xsk_cli.specs.Outcome.{listed}
-use Rattle.xsk_cli.specs.Steps.{FailsRunning, IsRefusal, MakesNone, lists_in}
+use Rattle.xsk_cli.specs.Steps.{AreUntaken, IsRefusal, lists_in}
 use Rattle.xsk_cli.specs.declared.failure.RunFailure.{RunFailure}
 use Rattle.xsk_cli.specs.declared.failure.RunFailure.TheVariants.{BadCapture as Bad, TooMuch as Excessive, Stalled as Stalls, OutOfMemory as NoMemory}
 use Rattle.xsk_cli.proofs.Ports.{push_each, small_sum}
@@ -37,9 +37,9 @@ taken_more inputs lists list n have is bare =
     }
 
 pub refusal_makes : (inputs : List (List ℕ)) (lists : List PacketList) (n : ℕ) (failure : RunFailure) → HaveTaken inputs lists n → n < length inputs → AreShort inputs (length inputs)
-    → IsRefusal n (bytes_of inputs n) failure → MakesNone inputs failure
+    → IsRefusal n (bytes_of inputs n) failure → AreUntaken inputs failure
 refusal_makes inputs lists n (Bad at cause) have known short h =
-    subst (λ k. MakesNone inputs (Bad k cause)) (sym h.0)
+    subst (λ k. AreUntaken inputs (Bad k cause)) (sym h.0)
     (short, record { known = known; before = λ lower l. (get_or (lists_in lists) lower [], have.each lower l); refused = h.1; check = h.2 })
 refusal_makes inputs lists n (Excessive excess) have known short h = absurd h
 refusal_makes inputs lists n (Stalls round) have known short h = absurd h
@@ -105,13 +105,5 @@ pub short_all : {X : Type 0} (text : X → List ℕ) (xs : List X) → AreShort 
 short_all text xs short = subst (AreShort (map text xs)) (sym (length-map xs text)) short
 
 -- an answer with such a failure
-pub answer_makes : {A : Type 0} (answer : Result A RunFailure) (failure : RunFailure) (inputs : List (List ℕ)) → answer ≡ Err failure → MakesNone inputs failure → IfErr answer (MakesNone inputs)
-answer_makes answer failure inputs is makes = subst (λ r. IfErr r (MakesNone inputs)) (sym is) makes
-
--- a run that gives nothing
-pub running_makes : (inputs : List (List ℕ)) (lists : List (List (List ℕ))) (failure : RunFailure) → AreShort inputs (length inputs) → AreCaptures inputs lists → excess_of lists ≡ None → FailsRunning lists failure
-    → MakesNone inputs failure
-running_makes inputs lists (Bad at cause) short captures within h = absurd h
-running_makes inputs lists (Excessive excess) short captures within h = absurd h
-running_makes inputs lists (Stalls round) short captures within h = (short, (lists, captures, (within, h)))
-running_makes inputs lists NoMemory short captures within h = tt
+pub answer_untaken : {A : Type 0} (answer : Result A RunFailure) (failure : RunFailure) (inputs : List (List ℕ)) → answer ≡ Err failure → AreUntaken inputs failure → IfErr answer (AreUntaken inputs)
+answer_untaken answer failure inputs is untaken = subst (λ r. IfErr r (AreUntaken inputs)) (sym is) untaken

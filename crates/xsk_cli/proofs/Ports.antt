@@ -6,6 +6,7 @@ use Rattle.std.proofs.Math.Nat.{eq-or-lt_of_le}
 use Rattle.std.proofs.Math.ListN.{get_or-append}
 use Rattle.std.proofs.Math.Seq.{get_or-append_seam}
 use Rattle.std.proofs.lemmas.List.Sums.{sum_by-append}
+use Rattle.std.proofs.lemmas.List.FromFn.{map-range_with_len_more}
 use Rattle.std.proofs.lemmas.Bool.Decides.{nat_tests}
 
 pub step : (P : ℕ → Type 0) (n : ℕ) → ((i : ℕ) → i < n → P i) → P n → (i : ℕ) → i < n + 1 → P i
@@ -52,6 +53,10 @@ pub same_map : {X : Type 0} (f g : ℕ → X) (a n : ℕ) → ((i : ℕ) → i <
 same_map f g a zero each = refl
 same_map f g a (suc n) each =
     ap (λ x. x ∷ map f (range_with_len (a + 1) n)) (each a (omega arith)) ∙ ap (λ xs. g a ∷ xs) (same_map f g (a + 1) n (λ i h. each i (omega (arith, h))))
+
+-- of one port more
+pub more_ports : {X : Type 0} (f : ℕ → X) (n : ℕ) → map f (range_with_len 0 (n + 1)) ≡ map f (range_with_len 0 n) ++ f n ∷ []
+more_ports f n = map-range_with_len_more f 0 n n (omega arith)
 
 -- a sum of few numbers
 pub small_sum : {X : Type 0} (f : X → ℕ) (d : X) (xs : List X) → ((i : ℕ) → i < length xs → f (get_or xs i d) ≤ 34603032) → sum_by f xs ≤ length xs * 34603032

@@ -1,5 +1,5 @@
 -- The inputs, read one after another.
-use Rattle.std.proofs.Common.{◌≡◌, ℕ, ◌+◌, ◌<◌, ◌≤◌, ltb, true, false, List, [], ◌∷◌, ◌++◌, length, get_or, map, refl, sym, ap, ◌∙◌, subst, ⊎_elim, arith, length-append, Option}
+use Rattle.std.proofs.Common.{◌≡◌, ℕ, ◌+◌, ◌<◌, ◌≤◌, ltb, true, false, List, [], ◌∷◌, ◌++◌, length, get_or, map, refl, sym, ap, ◌∙◌, subst, ⊎_elim, arith, length-append, Option, Some}
 use Rattle.std.specs.Prelude.{◌≢◌, IfSome, IfErr, Result, Err}
 use Rattle.std.specs.Io.KnownBytes.{IsAtEnd}
 use Rattle.std.proofs.lemmas.Bool.{cases_eq}
@@ -16,12 +16,13 @@ use Rattle.xsk_cli.specs.Streams.{Moment, IsTold, at_input, Reaches, AreRead, Ar
 use Rattle.xsk_cli.specs.Steps.{FailsReading, HaveRead, args_status, read_status}
 use Rattle.xsk_args.specs.declared.error.ArgsError.{ArgsError}
 use Rattle.xsk_args.specs.declared.error.ArgsError.TheVariants.{Usage as IsUsage, OutOfMemory as ArgsMemory}
-use Rattle.xsk_cli.specs.Words.{Plan}
+use Rattle.xsk_cli.specs.Words.{Plan, fault_in}
+use Rattle.xsk_socket.specs.declared.layout.Unlawful.{Unlawful}
 use Rattle.xsk_cli.specs.declared.failure.ReadFailure.{ReadFailure}
 use Rattle.xsk_cli.specs.declared.failure.ReadFailure.TheVariants.{Unopened, Unread, TooLong, OutOfMemory as NoRoom}
 use Rattle.xsk_cli.specs.declared.status.Excess.TheVariants.{Input as LongInput}
 use Rattle.xsk_cli.specs.declared.status.Status.{Status}
-use Rattle.xsk_cli.specs.declared.status.Status.TheVariants.{Usage, ReadFault, OpenFault, TooMuch, OutOfMemory}
+use Rattle.xsk_cli.specs.declared.status.Status.TheVariants.{Usage, ReadFault, OpenFault, Refused, TooMuch, OutOfMemory}
 use Rattle.xsk_cli.proofs.Ports.{step, push_each, none_below, not_below_itself, below_next, below_as_before}
 
 pub record Touched (one : Stream) (old new : Moment) : Type 0 where
@@ -145,7 +146,7 @@ module _ (plan : Plan) (bytes : List (List ℕ)) (n : ℕ) (old mid new : Moment
   }
 
   ends_unread : (status : Status) → new.is_open (Input n) ≡ true → Reaches (length plan.inputs) (length plan.outputs) status (at_input (n + 1) n)
-      → ((stream : Stream) → status ≡ OpenFault stream → ⊥) → ComesOf bytes no_texts old status → IsReported [] status old new → Ends plan old new status
+      → ((stream : Stream) → status ≡ OpenFault stream → ⊥) → ComesOf plan.work bytes no_texts old status → IsReported [] status old new → Ends plan old new status
   ends_unread status is_open reaches other comes reported = record {
     inputs = bytes;
     texts = no_texts;
@@ -193,7 +194,7 @@ nothing_read names old closed = record {
 }
 
 nothing_ends : (plan : Plan) (old : Moment) (status : Status) → ((stream : Stream) → old.is_open stream ≡ false) → Reaches (length plan.inputs) (length plan.outputs) status (at_input 0 0)
-    → ((stream : Stream) → status ≡ OpenFault stream → ⊥) → ComesOf [] no_texts old status → IsReported [] status old old → Ends plan old old status
+    → ((stream : Stream) → status ≡ OpenFault stream → ⊥) → ComesOf plan.work [] no_texts old status → IsReported [] status old old → Ends plan old old status
 nothing_ends plan old status closed reaches other comes reported =
     let none = nothing_read plan.inputs old closed in
     record {
@@ -216,6 +217,9 @@ ends_at_once plan old closed =
 
 pub usage_ends : (plan : Plan) (old : Moment) → ((stream : Stream) → old.is_open stream ≡ false) → Ends plan old old Usage
 usage_ends plan old closed = nothing_ends plan old Usage closed refl (λ stream e. cc) tt tt
+
+pub refused_ends : (plan : Plan) (old : Moment) (unlawful : Unlawful) → ((stream : Stream) → old.is_open stream ≡ false) → fault_in plan.work ≡ Some unlawful → Ends plan old old (Refused unlawful)
+refused_ends plan old unlawful closed fault = nothing_ends plan old (Refused unlawful) closed refl (λ stream e. cc) fault tt
 
 -- an answer with such a failure
 pub answer_ends : {A : Type 0} (answer : Result A ReadFailure) (failure : ReadFailure) (plan : Plan) (old new : Moment) → answer ≡ Err failure → Ends plan old new (read_status failure)

@@ -22,56 +22,90 @@ use Rattle.xsk_umem.specs.Frame.{Frame}
 use Rattle.xsk_sim.specs.Runs.{HasEnded, HasStalled}
 use Rattle.xsk_laws.specs.Laws.{AreWholeRuns, HasOwnSockets}
 use Rattle.xsk_laws.proofs.Theorems.{all_is_expected}
+use Rattle.xsk_laws.specs.Expected.{has_length}
+use Rattle.xsk_laws.proofs.Places.{are_paired}
+use Rattle.xsk_model.specs.Marks.{apps_of}
+use Rattle.xsk_socket.specs.declared.layout.Layout.{Layout}
+use Rattle.xsk_socket.specs.Layout.{fault_of}
+use Rattle.xsk_socket.specs.Regular.{regular_of}
+use Rattle.xsk_socket.proofs.Accepted.{fits}
+use Rattle.xsk_socket.proofs.Regularity.{regular-config, regular-regular}
 use Rattle.xsk_laws.proofs.OneQueue.{expected_is_other}
 use Rattle.xsk_cli.specs.Judged.{excess_of}
-use Rattle.xsk_cli.specs.Outcome.{Written, listed, config, setting_of, frames, capture_of, is_sent_on, sent_on_by, report_of, AreTextsOf}
-use Rattle.xsk_cli.specs.TwoPorts.{command_geometry}
+use Rattle.xsk_cli.specs.Outcome.{Written, listed, setting_of, frames_of, capture_of, sent_on_by, report_of, AreTextsOf}
+use Rattle.xsk_cli.specs.Steps.{with_one_socket}
 use Rattle.xsk_cli.proofs.Judging.{limits_of}
 use Rattle.xsk_cli.proofs.Ports.{same_map}
-use Rattle.xsk_cli.proofs.TwoPortsLaws.{two_ports-config, two_ports-regular}
 
--- all workers of an ended run have whole runs
-whole_runs : (lists : List (List (List ℕ))) (run : Shown) → (ended : HasEnded (setting_of lists) frames 0 run) → AreWholeRuns config (map listed lists) frames ended.history
-whole_runs lists run ended = record {
-  regular = two_ports-regular command_geometry refl;
-  history = ended.is.legal;
-  drivers = λ d below. (ended.whole d (omega arith)).driver below;
-  apps = λ a below. (ended.whole (caller_of config a) (omega arith)).app a refl;
-}
+-- ---- one queue and one socket
 
-own_cells : (port : ℕ) → port < 2 → map_of config port ≡ (port + 1) ∷ []
-own_cells zero h = refl
-own_cells (suc zero) h = refl
-own_cells (suc (suc port)) h = absurd (omega arith)
+own_cells : (layout : Layout) (port : ℕ) → port < 2 → map_of (regular_of (with_one_socket layout)) port ≡ (port + 1) ∷ []
+own_cells layout zero h = refl
+own_cells layout (suc zero) h = refl
+own_cells layout (suc (suc port)) h = absurd (omega arith)
 
-own_sockets : HasOwnSockets config
-own_sockets = record { queues = refl; classes = refl; cells = own_cells }
+module _ (layout : Layout) (one : with_one_socket layout ≡ layout) where
+  own_sockets : HasOwnSockets (regular_of layout)
+  own_sockets = subst (λ l. HasOwnSockets (regular_of l)) one (record { queues = refl; classes = refl; cells = own_cells layout })
 
-packets_there : (lists : List (List (List ℕ))) (port : ℕ) → packets_of_port (map listed lists) port ≡ get_or lists port []
-packets_there lists port = ap (λ (l : PacketList). l.packets) (get_or-map listed lists port [])
+  pub pairs_are : length (regular_of layout).pairs ≡ layout.ports
+  pairs_are = subst (λ (l : Layout). length (regular_of l).pairs ≡ l.ports) one refl
 
--- each driver sent what the other port received, as far as it is sent on
-pub sent_on : (lists : List (List (List ℕ))) (run : Shown) (port : ℕ) → (ended : HasEnded (setting_of lists) frames 0 run) → port < 2 → sent config ended.history port ≡ sent_on_by lists port
-sent_on lists run port ended below =
-    ap (sent config ended.history) (let e : port ≡ port * 1 + 0 = omega arith in e)
-    ∙ all_is_expected config (map listed lists) frames ended.history port 0 (whole_runs lists run ended) below (lit< tt) refl
-    ∙ expected_is_other config (map listed lists) port (two_ports-config command_geometry) own_sockets below
-    ∙ ap (filter is_sent_on) (packets_there lists (paired_port port))
+  pub one_app : apps_of (regular_of layout) ≡ 1
+  one_app = subst (λ l. apps_of (regular_of l) ≡ 1) one refl
 
-pub shown_sent : (lists : List (List (List ℕ))) (run : Shown) (port : ℕ) → (ended : HasEnded (setting_of lists) frames 0 run) → port < 2 → get_or run.sent port [] ≡ sent config ended.history port
-shown_sent lists run port ended below = ended.sent port below
+  pub no_wakeup : (regular_of layout).wakeup ≡ false
+  no_wakeup = subst (λ l. (regular_of l).wakeup ≡ false) one refl
 
--- ---- the texts
+  own_driver : (port : ℕ) → port ≡ port * layout.queues + 0
+  own_driver port = subst (λ (l : Layout). port ≡ port * l.queues + 0) one (omega arith)
 
-pub texts_of : (lists : List (List (List ℕ))) (run : Shown) (calls : ℕ) (texts : Written) → HasEnded (setting_of lists) frames 0 run
-    → texts.outputs ≡ map (λ port. capture_of (get_or run.sent port [])) (range_with_len 0 2) → calls ≡ length run.log → texts.report ≡ report_of calls → AreTextsOf lists texts
-texts_of lists run calls texts ended outputs count report = record {
-  run = run;
-  ended = ended;
-  sent = outputs ∙ same_map _ _ 0 2 (λ port h. ap capture_of (shown_sent lists run port ended h));
-  redirected = outputs ∙ same_map _ _ 0 2 (λ port h. ap capture_of (shown_sent lists run port ended h ∙ sent_on lists run port ended h));
-  report = report ∙ ap report_of (count ∙ ap length ended.log ∙ length-map ended.history (stored_entry config.geometry config.sg));
-}
+  some_queues : 0 < layout.queues
+  some_queues = omega (arith, ap (λ (l : Layout). l.queues) one)
+
+-- ---- what is sent
+
+module _ (layout : Layout) (order : ℕ) (lists : List (List (List ℕ))) (accepted : fault_of layout ≡ None) (one : with_one_socket layout ≡ layout) where
+  abbrev config : Config
+  config = regular_of layout
+
+  abbrev Ended : Shown → Type 0
+  Ended = HasEnded (setting_of layout lists) (frames_of layout) order
+
+  -- all workers of an ended run have whole runs
+  whole_runs : (run : Shown) → (ended : Ended run) → AreWholeRuns config (map listed lists) (frames_of layout) ended.history
+  whole_runs run ended = record {
+    regular = regular-regular layout (fits layout accepted);
+    history = ended.is.legal;
+    drivers = λ d below. (ended.whole d (omega (arith, below))).driver below;
+    apps = λ a below. (ended.whole (caller_of config a) (omega (arith, below))).app a refl;
+  }
+
+  packets_there : (port : ℕ) → packets_of_port (map listed lists) port ≡ get_or lists port []
+  packets_there port = ap (λ (l : PacketList). l.packets) (get_or-map listed lists port [])
+
+  -- each driver sent what the other port received, as far as it is sent on
+  sent_on : (run : Shown) (port : ℕ) → (ended : Ended run) → port < layout.ports → sent config ended.history port ≡ sent_on_by layout lists port
+  sent_on run port ended below =
+      ap (sent config ended.history) (own_driver layout one port)
+      ∙ all_is_expected config (map listed lists) (frames_of layout) ended.history port 0 (whole_runs run ended) below (some_queues layout one) (own_sockets layout one).classes
+      ∙ expected_is_other config (map listed lists) port (regular-config layout (fits layout accepted)) (own_sockets layout one) below
+      ∙ ap (filter (has_length config)) (packets_there (paired_port port))
+
+  shown_sent : (run : Shown) (port : ℕ) → (ended : Ended run) → port < layout.ports → get_or run.sent port [] ≡ sent config ended.history port
+  shown_sent run port ended below = ended.sent port (omega (arith, below, pairs_are layout one))
+
+  -- ---- the texts
+
+  pub texts_of : (run : Shown) (calls : ℕ) (texts : Written) → Ended run
+      → texts.outputs ≡ map (λ port. capture_of (get_or run.sent port [])) (range_with_len 0 layout.ports) → calls ≡ length run.log → texts.report ≡ report_of calls → AreTextsOf layout order lists texts
+  texts_of run calls texts ended outputs count report = record {
+    run = run;
+    ended = ended;
+    sent = outputs ∙ same_map _ _ 0 layout.ports (λ port h. ap capture_of (shown_sent run port ended (omega (arith, h))));
+    redirected = outputs ∙ same_map _ _ 0 layout.ports (λ port h. ap capture_of (shown_sent run port ended (omega (arith, h)) ∙ sent_on run port ended (omega (arith, h))));
+    report = report ∙ ap report_of (count ∙ ap length ended.log ∙ length-map ended.history (stored_entry config.geometry config.sg));
+  }
 
 -- each entry of a log is a call
 pub log_count : (log : Log) → calls_of log ≡ length (entries_of log)
@@ -92,31 +126,31 @@ filter-small : (p : List ℕ → Bool) (packets : List (List ℕ)) → length (c
 filter-small p [] = omega arith
 filter-small p (packet ∷ packets) = kept_small (p packet) packet packets (filter p packets) (filter-small p packets)
 
-other_known : (lists : List (List (List ℕ))) (port : ℕ) → length lists ≡ 2 → port < 2 → paired_port port < length lists
-other_known lists zero count h = omega (arith, count)
-other_known lists (suc zero) count h = omega (arith, count)
-other_known lists (suc (suc port)) count h = absurd (omega (arith, h))
+module _ (layout : Layout) (order : ℕ) (lists : List (List (List ℕ))) (accepted : fault_of layout ≡ None) (one : with_one_socket layout ≡ layout) (run : Shown) (port : ℕ)
+    (ended : HasEnded (setting_of layout lists) (frames_of layout) order run) (count : length lists ≡ layout.ports) (within : excess_of lists ≡ None) (below : port < layout.ports) where
+  other_known : paired_port port < length lists
+  other_known = omega (arith, count, (are_paired layout.ports port (fits layout accepted).ports below).in_ports)
 
-module _ (lists : List (List (List ℕ))) (run : Shown) (port : ℕ) (ended : HasEnded (setting_of lists) frames 0 run) (count : length lists ≡ 2) (within : excess_of lists ≡ None) (below : port < 2) where
+  sent_is : get_or run.sent port [] ≡ filter (has_length (regular_of layout)) (get_or lists (paired_port port) [])
+  sent_is = shown_sent layout order lists accepted one run port ended below ∙ sent_on layout order lists accepted one run port ended below
+
   pub sent_few : length (get_or run.sent port []) ≤ 65536
   sent_few =
-      let other = get_or lists (paired_port port) [] in
       omega (
         arith,
-        ap (length {A = List ℕ}) (shown_sent lists run port ended below ∙ sent_on lists run port ended below),
-        filter-few is_sent_on other,
-        get_or-le-sum_by (λ (packets : List (List ℕ)). length packets) lists (paired_port port) [] (other_known lists port count below),
+        ap (length {A = List ℕ}) sent_is,
+        filter-few (has_length (regular_of layout)) (get_or lists (paired_port port) []),
+        get_or-le-sum_by (λ (packets : List (List ℕ)). length packets) lists (paired_port port) [] other_known,
         (limits_of lists within).0,
       )
 
   pub sent_small : length (concat (get_or run.sent port [])) ≤ 33554432
   sent_small =
-      let other = get_or lists (paired_port port) [] in
       omega (
         arith,
-        ap (λ (ps : List (List ℕ)). length (concat ps)) (shown_sent lists run port ended below ∙ sent_on lists run port ended below),
-        filter-small is_sent_on other,
-        get_or-le-sum_by (λ (packets : List (List ℕ)). length (concat packets)) lists (paired_port port) [] (other_known lists port count below),
+        ap (λ (ps : List (List ℕ)). length (concat ps)) sent_is,
+        filter-small (has_length (regular_of layout)) (get_or lists (paired_port port) []),
+        get_or-le-sum_by (λ (packets : List (List ℕ)). length (concat packets)) lists (paired_port port) [] other_known,
         (limits_of lists within).1,
       )
 
@@ -129,9 +163,9 @@ one_list-writable packets short few small = record {
 }
 
 -- a run of the code's configuration, lists and frames
-pub stalled_as : (c : Config) (own : List PacketList) (fs : List Frame) (lists : List (List (List ℕ))) (round : ℕ) → c ≡ config → own ≡ map listed lists → fs ≡ frames
-    → HasStalled (record { config = c; packets = own }) fs 0 round → HasStalled (setting_of lists) frames 0 round
-stalled_as c own fs lists round is_config is_own is_frames h =
-    subst (λ f. HasStalled (setting_of lists) f 0 round) is_frames
-    (subst (λ (l : List PacketList). HasStalled (record { config = config; packets = l }) fs 0 round) is_own
-    (subst (λ (k : Config). HasStalled (record { config = k; packets = own }) fs 0 round) is_config h))
+pub stalled_as : (layout : Layout) (order : ℕ) (c : Config) (own : List PacketList) (fs : List Frame) (lists : List (List (List ℕ))) (round : ℕ) → c ≡ regular_of layout → own ≡ map listed lists
+    → fs ≡ frames_of layout → HasStalled (record { config = c; packets = own }) fs order round → HasStalled (setting_of layout lists) (frames_of layout) order round
+stalled_as layout order c own fs lists round is_config is_own is_frames h =
+    subst (λ f. HasStalled (setting_of layout lists) f order round) is_frames
+    (subst (λ (l : List PacketList). HasStalled (record { config = regular_of layout; packets = l }) fs order round) is_own
+    (subst (λ (k : Config). HasStalled (record { config = k; packets = own }) fs order round) is_config h))

@@ -10,7 +10,11 @@ use Rattle.xsk_sim.specs.Shown.{Shown}
 use Rattle.xsk_sim.specs.Runs.{HasEnded}
 use Rattle.xsk_sim.proofs.Unique.{one_log, ends_or_stalls}
 use Rattle.xsk_cli.specs.Judged.{bytes_of, AreShort, IsTooLong, AreCaptures, IsBadCapture, excess_of}
-use Rattle.xsk_cli.specs.Outcome.{Written, Outcome, long, bad, passed, stalled, made, AreTextsOf, IsOutcomeOf, IsOutcomeIn, IsOutcome, OneOutcome, config, setting_of, frames, report_of}
+use Rattle.xsk_cli.specs.Outcome.{Written, Outcome, long, bad, passed, stalled, made, AreListsOf, AreTextsBy, AreTextsOf, IsOutcomeOf, IsOutcomeIn, IsOutcome, IsStalledBy, OneOutcome, setting_of, frames_of, report_of}
+use Rattle.xsk_cli.specs.declared.words.Work.{Work}
+use Rattle.xsk_cli.specs.declared.words.Work.TheVariants.{Simulate, Generate}
+use Rattle.xsk_socket.specs.declared.layout.Layout.{Layout}
+use Rattle.xsk_socket.specs.Regular.{regular_of}
 use Rattle.xsk_cli.specs.declared.status.Excess.{Excess}
 use Rattle.xsk_cli.proofs.Ports.{same_lists}
 
@@ -51,75 +55,104 @@ one_bad inputs p q c d a b = ⊎_elim
 pub bad_not_captures : (inputs : List (List ℕ)) (p : ℕ) (c : Cause) (lists : List (List (List ℕ))) → IsBadCapture inputs p c → AreCaptures inputs lists → ⊥
 bad_not_captures inputs p c lists a b = refused_is_no_capture (bytes_of inputs p) c (get_or lists p []) a.refused (b.each p a.known)
 
+-- ---- the packets
+
+pub same_packets : (work : Work) (inputs : List (List ℕ)) (some others : List (List (List ℕ))) → AreListsOf work inputs some → AreListsOf work inputs others → some ≡ others
+same_packets (Simulate layout order None) inputs some others a b = same_captures inputs some others a b
+same_packets (Simulate layout order (Some number)) inputs some others a b = a.1 ∙ sym b.1
+same_packets (Generate number) inputs some others a b = a.1 ∙ sym b.1
+
+none_bad : (inputs : List (List ℕ)) (p : ℕ) → inputs ≡ [] → p < length inputs → ⊥
+none_bad inputs p none known = omega (arith, known, ap length none)
+
+pub bad_not_packets : (work : Work) (inputs : List (List ℕ)) (p : ℕ) (c : Cause) (lists : List (List (List ℕ))) → IsBadCapture inputs p c → AreListsOf work inputs lists → ⊥
+bad_not_packets (Simulate layout order None) inputs p c lists a b = bad_not_captures inputs p c lists a b
+bad_not_packets (Simulate layout order (Some number)) inputs p c lists a b = none_bad inputs p b.0 a.known
+bad_not_packets (Generate number) inputs p c lists a b = none_bad inputs p b.0 a.known
+
 -- ---- runs
 
-count_of_log : (lists : List (List (List ℕ))) (run : Shown) → (ended : HasEnded (setting_of lists) frames 0 run) → length run.log ≡ length ended.history
-count_of_log lists run ended = ap length ended.log ∙ length-map ended.history (stored_entry config.geometry config.sg)
+module _ (layout : Layout) (order : ℕ) (lists : List (List (List ℕ))) where
+  count_of_log : (run : Shown) → (ended : HasEnded (setting_of layout lists) (frames_of layout) order run) → length run.log ≡ length ended.history
+  count_of_log run ended = ap length ended.log ∙ length-map ended.history (stored_entry (regular_of layout).geometry (regular_of layout).sg)
 
-one_report : (lists : List (List (List ℕ))) (a b : Written) → AreTextsOf lists a → AreTextsOf lists b → a.report ≡ b.report
-one_report lists a b s t =
-    s.report
-    ∙ ap report_of (sym (count_of_log lists s.run s.ended) ∙ ap length (one_log (setting_of lists) frames 0 s.run t.run s.ended t.ended) ∙ count_of_log lists t.run t.ended)
-    ∙ sym t.report
+  one_report : (a b : Written) → AreTextsOf layout order lists a → AreTextsOf layout order lists b → a.report ≡ b.report
+  one_report a b s t =
+      s.report
+      ∙ ap report_of (sym (count_of_log s.run s.ended) ∙ ap length (one_log (setting_of layout lists) (frames_of layout) order s.run t.run s.ended t.ended) ∙ count_of_log t.run t.ended)
+      ∙ sym t.report
 
-one_made : (lists : List (List (List ℕ))) (a b : Written) → AreTextsOf lists a → AreTextsOf lists b → made a ≡ made b
-one_made lists a b s t =
-    ap (λ outputs. made (record { outputs = outputs; report = a.report })) (s.redirected ∙ sym t.redirected)
-    ∙ ap (λ report. made (record { outputs = b.outputs; report = report })) (one_report lists a b s t)
+same_written : (a b : Written) → a.outputs ≡ b.outputs → a.report ≡ b.report → made a ≡ made b
+same_written a b outputs report =
+    ap (λ outputs. made (record { outputs = outputs; report = a.report })) outputs
+    ∙ ap (λ report. made (record { outputs = b.outputs; report = report })) report
+
+one_made : (work : Work) (lists : List (List (List ℕ))) (a b : Written) → AreTextsBy work lists a → AreTextsBy work lists b → made a ≡ made b
+one_made (Simulate layout order number) lists a b s t = same_written a b (s.redirected ∙ sym t.redirected) (one_report layout order lists a b s t)
+one_made (Generate number) lists a b s t = same_written a b (s.0 ∙ sym t.0) (s.1 ∙ sym t.1)
+
+one_stall : (work : Work) (lists : List (List (List ℕ))) (r s : ℕ) → IsStalledBy work lists r → IsStalledBy work lists s → r ≡ s
+one_stall (Simulate layout order number) lists r s x y = x.last ∙ sym y.last
+one_stall (Generate number) lists r s x y = absurd x
+
+no_texts_and_stall : (work : Work) (lists : List (List (List ℕ))) (texts : Written) (r : ℕ) → AreTextsBy work lists texts → IsStalledBy work lists r → ⊥
+no_texts_and_stall (Simulate layout order number) lists texts r t x = ends_or_stalls (setting_of layout lists) (frames_of layout) order r t.run t.ended x
+no_texts_and_stall (Generate number) lists texts r t x = x
 
 none_some : {A : Type 0} (excess : Option Excess) (e : Excess) → excess ≡ Some e → excess ≡ None → A
 none_some excess e is none = let no = sym is ∙ none in absurd cc
 
-one_of : (lists : List (List (List ℕ))) (a b : Outcome) → IsOutcomeOf lists a → IsOutcomeOf lists b → a ≡ b
-one_of lists (long p) b x y = absurd x
-one_of lists (bad p c) b x y = absurd x
-one_of lists (passed e) (long p) x y = absurd y
-one_of lists (passed e) (bad p c) x y = absurd y
-one_of lists (passed e) (passed f) x y = ap passed (same_Some e f (sym x ∙ y))
-one_of lists (passed e) (stalled r) x y = none_some (excess_of lists) e x y.0
-one_of lists (passed e) (made t) x y = none_some (excess_of lists) e x y.0
-one_of lists (stalled r) (long p) x y = absurd y
-one_of lists (stalled r) (bad p c) x y = absurd y
-one_of lists (stalled r) (passed e) x y = none_some (excess_of lists) e y x.0
-one_of lists (stalled r) (stalled s) x y = ap stalled (x.1.last ∙ sym y.1.last)
-one_of lists (stalled r) (made t) x y = absurd (ends_or_stalls (setting_of lists) frames 0 r y.1.run y.1.ended x.1)
-one_of lists (made t) (long p) x y = absurd y
-one_of lists (made t) (bad p c) x y = absurd y
-one_of lists (made t) (passed e) x y = none_some (excess_of lists) e y x.0
-one_of lists (made t) (stalled r) x y = absurd (ends_or_stalls (setting_of lists) frames 0 r x.1.run x.1.ended y.1)
-one_of lists (made t) (made u) x y = one_made lists t u x.1 y.1
+module _ (work : Work) where
+  one_of : (lists : List (List (List ℕ))) (a b : Outcome) → IsOutcomeOf work lists a → IsOutcomeOf work lists b → a ≡ b
+  one_of lists (long p) b x y = absurd x
+  one_of lists (bad p c) b x y = absurd x
+  one_of lists (passed e) (long p) x y = absurd y
+  one_of lists (passed e) (bad p c) x y = absurd y
+  one_of lists (passed e) (passed f) x y = ap passed (same_Some e f (sym x ∙ y))
+  one_of lists (passed e) (stalled r) x y = none_some (excess_of lists) e x y.0
+  one_of lists (passed e) (made t) x y = none_some (excess_of lists) e x y.0
+  one_of lists (stalled r) (long p) x y = absurd y
+  one_of lists (stalled r) (bad p c) x y = absurd y
+  one_of lists (stalled r) (passed e) x y = none_some (excess_of lists) e y x.0
+  one_of lists (stalled r) (stalled s) x y = ap stalled (one_stall work lists r s x.1 y.1)
+  one_of lists (stalled r) (made t) x y = absurd (no_texts_and_stall work lists t r y.1 x.1)
+  one_of lists (made t) (long p) x y = absurd y
+  one_of lists (made t) (bad p c) x y = absurd y
+  one_of lists (made t) (passed e) x y = none_some (excess_of lists) e y x.0
+  one_of lists (made t) (stalled r) x y = absurd (no_texts_and_stall work lists t r x.1 y.1)
+  one_of lists (made t) (made u) x y = one_made work lists t u x.1 y.1
 
-one_in : (inputs : List (List ℕ)) (a b : Outcome) → IsOutcomeIn inputs a → IsOutcomeIn inputs b → a ≡ b
-one_in inputs a b x y = one_of y.0 a b (subst (λ lists. IsOutcomeOf lists a) (same_captures inputs x.0 y.0 x.1 y.1) x.2) y.2
+  one_in : (inputs : List (List ℕ)) (a b : Outcome) → IsOutcomeIn work inputs a → IsOutcomeIn work inputs b → a ≡ b
+  one_in inputs a b x y = one_of y.0 a b (subst (λ lists. IsOutcomeOf work lists a) (same_packets work inputs x.0 y.0 x.1 y.1) x.2) y.2
 
 -- ---- the outcome
 
 -- short inputs come to something
-data Later (inputs : List (List ℕ)) (outcome : Outcome) : Type 0 where
-  is_bad : (port : ℕ) (cause : Cause) → outcome ≡ bad port cause → IsBadCapture inputs port cause → Later inputs outcome
-  is_in : IsOutcomeIn inputs outcome → Later inputs outcome
+data Later (work : Work) (inputs : List (List ℕ)) (outcome : Outcome) : Type 0 where
+  is_bad : (port : ℕ) (cause : Cause) → outcome ≡ bad port cause → IsBadCapture inputs port cause → Later work inputs outcome
+  is_in : IsOutcomeIn work inputs outcome → Later work inputs outcome
 
-later : (inputs : List (List ℕ)) (outcome : Outcome) → IsOutcome inputs outcome → ((p : ℕ) × (outcome ≡ long p) × IsTooLong inputs p) ⊎ (AreShort inputs (length inputs) × Later inputs outcome)
-later inputs (long p) h = inl (p, refl, h)
-later inputs (bad p c) h = inr (h.0, is_bad p c refl h.1)
-later inputs (passed e) h = inr (h.0, is_in h.1)
-later inputs (stalled r) h = inr (h.0, is_in h.1)
-later inputs (made t) h = inr (h.0, is_in h.1)
+later : (work : Work) (inputs : List (List ℕ)) (outcome : Outcome) → IsOutcome work inputs outcome → ((p : ℕ) × (outcome ≡ long p) × IsTooLong inputs p) ⊎ (AreShort inputs (length inputs) × Later work inputs outcome)
+later work inputs (long p) h = inl (p, refl, h)
+later work inputs (bad p c) h = inr (h.0, is_bad p c refl h.1)
+later work inputs (passed e) h = inr (h.0, is_in h.1)
+later work inputs (stalled r) h = inr (h.0, is_in h.1)
+later work inputs (made t) h = inr (h.0, is_in h.1)
 
-one_later : (inputs : List (List ℕ)) (a b : Outcome) → Later inputs a → Later inputs b → a ≡ b
-one_later inputs a b (is_bad p c e x) (is_bad q d f y) = e ∙ one_bad inputs p q c d x y ∙ sym f
-one_later inputs a b (is_bad p c e x) (is_in y) = absurd (bad_not_captures inputs p c y.0 x y.1)
-one_later inputs a b (is_in x) (is_bad q d f y) = absurd (bad_not_captures inputs q d x.0 y x.1)
-one_later inputs a b (is_in x) (is_in y) = one_in inputs a b x y
+one_later : (work : Work) (inputs : List (List ℕ)) (a b : Outcome) → Later work inputs a → Later work inputs b → a ≡ b
+one_later work inputs a b (is_bad p c e x) (is_bad q d f y) = e ∙ one_bad inputs p q c d x y ∙ sym f
+one_later work inputs a b (is_bad p c e x) (is_in y) = absurd (bad_not_packets work inputs p c y.0 x y.1)
+one_later work inputs a b (is_in x) (is_bad q d f y) = absurd (bad_not_packets work inputs q d x.0 y x.1)
+one_later work inputs a b (is_in x) (is_in y) = one_in work inputs a b x y
 
 pub one_outcome : OneOutcome
-one_outcome inputs a b x y = ⊎_elim
+one_outcome work inputs a b x y = ⊎_elim
     (λ xl. ⊎_elim
     (λ yl. xl.1 ∙ ap long (one_long inputs xl.0 yl.0 xl.2 yl.2) ∙ sym yl.1)
     (λ ys. absurd (long_not_short inputs xl.0 xl.2 ys.0))
-    (later inputs b y))
+    (later work inputs b y))
     (λ xs. ⊎_elim
     (λ yl. absurd (long_not_short inputs yl.0 yl.2 xs.0))
-    (λ ys. one_later inputs a b xs.1 ys.1)
-    (later inputs b y))
-    (later inputs a x)
+    (λ ys. one_later work inputs a b xs.1 ys.1)
+    (later work inputs b y))
+    (later work inputs a x)

@@ -9,9 +9,12 @@ use Rattle.xsk_cli.specs.Ends.{ComesOf, Ends}
 use Rattle.xsk_cli.specs.Judged.{packets_in, bytes_in, excess_of}
 use Rattle.xsk_cli.specs.declared.status.Excess.{Excess}
 use Rattle.std.proofs.lemmas.List.FromFn.{length-map-range_with_len}
-use Rattle.xsk_cli.specs.Outcome.{Written, made, IsOutcome, AreTextsOf, capture_of, sent_on_by}
+use Rattle.xsk_cli.specs.Outcome.{Written, made, IsOutcome, AreTextsBy, capture_of, sent_on_by}
 use Rattle.xsk_cli.specs.Streams.{Moment, IsTold, IsFront, at_output, at_input, Reaches, AreRead, AreWritten, IsReported, name_of, status_in}
-use Rattle.xsk_cli.specs.Steps.{FailsWriting, HaveRead, MakesNone, run_status, write_status}
+use Rattle.xsk_cli.specs.Steps.{FailsWriting, HaveRead, MakesNone, run_status, write_status, written_by}
+use Rattle.xsk_cli.specs.declared.words.Work.{Work}
+use Rattle.xsk_cli.specs.declared.words.Work.TheVariants.{Simulate, Generate}
+use Rattle.std.proofs.lemmas.List.{length-map}
 use Rattle.xsk_cli.specs.Words.{Plan}
 use Rattle.xsk_cli.specs.declared.failure.RunFailure.{RunFailure}
 use Rattle.xsk_cli.specs.declared.failure.RunFailure.TheVariants.{BadCapture as Bad, TooMuch as Excessive, Stalled as Stalls, OutOfMemory as NoMemory}
@@ -74,7 +77,7 @@ module _ (plan : Plan) (bytes : List (List ℕ)) (old mid new : Moment) (have : 
   no_texts = record { outputs = []; report = [] }
 
   refused : (status : Status) → Reaches (length plan.inputs) (length plan.outputs) status (at_input (length plan.inputs) (length plan.inputs)) → IsReported [] status old mid
-      → ((stream : Stream) → status ≡ OpenFault stream → ⊥) → ComesOf bytes no_texts old status → Ends plan old mid status
+      → ((stream : Stream) → status ≡ OpenFault stream → ⊥) → ComesOf plan.work bytes no_texts old status → Ends plan old mid status
   refused status reaches reported other comes = record {
     inputs = bytes;
     texts = no_texts;
@@ -89,7 +92,7 @@ module _ (plan : Plan) (bytes : List (List ℕ)) (old mid new : Moment) (have : 
     comes = comes;
   }
 
-  pub run_fails : (failure : RunFailure) → MakesNone bytes failure → Ends plan old mid (run_status failure)
+  pub run_fails : (failure : RunFailure) → MakesNone plan.work bytes failure → Ends plan old mid (run_status failure)
   run_fails (Bad port cause) h = refused (BadCapture port cause) refl tt (λ stream e. cc) h
   run_fails (Excessive (LongInput port)) h = absurd (no_long h.1.0 port h.1.2)
   run_fails (Excessive (Packets n)) h = refused (TooMuch (Packets n)) refl tt (λ stream e. cc) h
@@ -97,10 +100,10 @@ module _ (plan : Plan) (bytes : List (List ℕ)) (old mid new : Moment) (have : 
   run_fails (Stalls round) h = refused (Stalled round) refl tt (λ stream e. cc) h
   run_fails NoMemory h = refused OutOfMemory (record { known = omega arith; ends = omega arith; last = omega arith; outputs = refl; wholes = refl }) tt (λ stream e. cc) tt
 
-  module _ (texts : Written) (is : IsOutcome bytes (made texts)) (same : SameInputs mid new) where
+  module _ (texts : Written) (is : IsOutcome plan.work bytes (made texts)) (same : SameInputs mid new) where
     wrote : (status : Status) (opened whole : ℕ) → Reaches (length plan.inputs) (length plan.outputs) status (at_output (length plan.inputs) opened whole)
         → AreWritten plan.outputs texts.outputs opened whole mid new → IsReported texts.report status old new
-        → ((stream : Stream) → status ≡ OpenFault stream → IsTold (new.asked stream) (name_of plan stream)) → ComesOf bytes texts old status → Ends plan old new status
+        → ((stream : Stream) → status ≡ OpenFault stream → IsTold (new.asked stream) (name_of plan stream)) → ComesOf plan.work bytes texts old status → Ends plan old new status
     wrote status opened whole reaches writes reported asked comes = record {
       inputs = bytes;
       texts = texts;
@@ -134,5 +137,7 @@ pub status_ends : (answer : Result Unit Status) (status : Status) (plan : Plan) 
 status_ends answer status plan old new is ends = subst (λ r. Ends plan old new (status_in r)) (sym is) ends
 
 -- there is a text for each port
-pub texts_count : (lists : List (List (List ℕ))) (texts : Written) → AreTextsOf lists texts → length texts.outputs ≡ 2
-texts_count lists texts are = ap length are.redirected ∙ length-map-range_with_len (λ port. capture_of (sent_on_by lists port)) 0 2
+pub texts_count : (work : Work) (lists : List (List (List ℕ))) (texts : Written) → AreTextsBy work lists texts → length lists ≡ written_by work → length texts.outputs ≡ written_by work
+texts_count (Simulate layout order number) lists texts are count =
+    ap length are.redirected ∙ length-map-range_with_len (λ port. capture_of (sent_on_by layout lists port)) 0 layout.ports
+texts_count (Generate number) lists texts are count = ap length are.0 ∙ length-map lists capture_of ∙ count

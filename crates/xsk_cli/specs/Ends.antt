@@ -1,27 +1,31 @@
 -- How a command ends: what it did to its streams, and why. What it makes of its inputs is a function of their bytes.
-use Rattle.std.specs.Prelude.{◌≡◌, ℕ, ◌<◌, length, List, Some, None, IfSome}
+use Rattle.std.specs.Prelude.{◌≡◌, ℕ, ◌<◌, length, List, [], Some, None, IfSome}
 use Rattle.xsk_io.specs.Bay.{Rose}
 use Rattle.xsk_io.specs.declared.bay.Kind.{Kind}
 use Rattle.xsk_io.specs.declared.bay.Stream.{Stream}
 use Rattle.xsk_io.specs.declared.bay.Stream.TheVariants.{Input, Output}
-use Rattle.xsk_cli.specs.Words.{Plan}
+use Rattle.xsk_cli.specs.Words.{Plan, fault_in}
+use Rattle.xsk_cli.specs.declared.words.Work.{Work}
+use Rattle.xsk_cli.specs.declared.words.Work.TheVariants.{Simulate}
 use Rattle.xsk_cli.specs.Judged.{bytes_of, AreShort, AreCaptures, excess_of}
 use Rattle.xsk_cli.specs.Outcome.{Written, Outcome, long, bad, passed, stalled, made, IsOutcome}
 use Rattle.xsk_cli.specs.Streams.{Moment, IsTold, Reach, Reaches, AreRead, AreWritten, IsReported, name_of}
 use Rattle.xsk_cli.specs.declared.status.Excess.TheVariants.{Input as TooLong}
 use Rattle.xsk_cli.specs.declared.status.Status.{Status}
-use Rattle.xsk_cli.specs.declared.status.Status.TheVariants.{Done, Usage, BadCapture, WriteFault, OpenFault, Stalled, TooMuch, OutOfMemory}
+use Rattle.xsk_cli.specs.declared.status.Status.TheVariants.{Done, Usage, BadCapture, WriteFault, OpenFault, Refused, Stalled, TooMuch, OutOfMemory}
 
--- the status comes of these inputs: they were too long or refused, their run stalled, or these are its texts
-abbrev pub ComesOf : List (List ℕ) → Written → Moment → Status → Type 0
-ComesOf inputs texts old Done = IsOutcome inputs (made texts)
-ComesOf inputs texts old (BadCapture port cause) = IsOutcome inputs (bad port cause)
-ComesOf inputs texts old (WriteFault stream) = IsOutcome inputs (made texts)
-ComesOf inputs texts old (OpenFault (Output port)) = IsOutcome inputs (made texts)
-ComesOf inputs texts old (Stalled round) = IsOutcome inputs (stalled round)
-ComesOf inputs texts old (TooMuch (TooLong port)) = IfSome (old.left (Input port)) (λ bytes. 34603032 < length bytes)
-ComesOf inputs texts old (TooMuch excess) = IsOutcome inputs (passed excess)
-ComesOf inputs texts old status = Unit {0}
+-- the status comes of this work and these inputs: its layout is refused, they were too long or refused, their run stalled, or
+-- these are its texts
+abbrev pub ComesOf : Work → List (List ℕ) → Written → Moment → Status → Type 0
+ComesOf work inputs texts old Done = IsOutcome work inputs (made texts)
+ComesOf work inputs texts old (BadCapture port cause) = IsOutcome work inputs (bad port cause)
+ComesOf work inputs texts old (WriteFault stream) = IsOutcome work inputs (made texts)
+ComesOf work inputs texts old (OpenFault (Output port)) = IsOutcome work inputs (made texts)
+ComesOf work inputs texts old (Stalled round) = IsOutcome work inputs (stalled round)
+ComesOf work inputs texts old (TooMuch (TooLong port)) = IfSome (old.left (Input port)) (λ bytes. 34603032 < length bytes)
+ComesOf work inputs texts old (TooMuch excess) = IsOutcome work inputs (passed excess)
+ComesOf work inputs texts old (Refused unlawful) = fault_in work ≡ Some unlawful
+ComesOf work inputs texts old status = Unit {0}
 
 -- how a command with this plan ends
 pub record Ends (plan : Plan) (old new : Moment) (status : Status) : Type 0 where
@@ -36,7 +40,7 @@ pub record Ends (plan : Plan) (old new : Moment) (status : Status) : Type 0 wher
   pub writes : AreWritten plan.outputs texts.outputs reach.outputs reach.wholes old new
   pub reported : IsReported texts.report status old new
   pub asked : (stream : Stream) → status ≡ OpenFault stream → IsTold (new.asked stream) (name_of plan stream)
-  pub comes : ComesOf inputs texts old status
+  pub comes : ComesOf plan.work inputs texts old status
 
 -- ---- inputs whose bytes the bay tells
 
@@ -45,22 +49,24 @@ pub record AreTold (plan : Plan) (inputs : List (List ℕ)) (old : Moment) : Typ
   pub each : (port : ℕ) → port < length inputs → old.left (Input port) ≡ Some (bytes_of inputs port)
 
 -- the status is that of the outcome, unless a fault or want of memory came before
-abbrev pub Answers : Outcome → Status → Type 0
-Answers outcome Done = (texts : Written) × (outcome ≡ made texts)
-Answers outcome Usage = ⊥
-Answers outcome (BadCapture port cause) = outcome ≡ bad port cause
-Answers outcome (WriteFault stream) = (texts : Written) × (outcome ≡ made texts)
-Answers outcome (OpenFault (Output port)) = (texts : Written) × (outcome ≡ made texts)
-Answers outcome (Stalled round) = outcome ≡ stalled round
-Answers outcome (TooMuch (TooLong port)) = outcome ≡ long port
-Answers outcome (TooMuch excess) = outcome ≡ passed excess
-Answers outcome status = Unit {0}
+abbrev pub Answers : Work → Outcome → Status → Type 0
+Answers work outcome Done = (texts : Written) × (outcome ≡ made texts)
+Answers work outcome Usage = ⊥
+Answers work outcome (BadCapture port cause) = outcome ≡ bad port cause
+Answers work outcome (WriteFault stream) = (texts : Written) × (outcome ≡ made texts)
+Answers work outcome (OpenFault (Output port)) = (texts : Written) × (outcome ≡ made texts)
+Answers work outcome (Stalled round) = outcome ≡ stalled round
+Answers work outcome (TooMuch (TooLong port)) = outcome ≡ long port
+Answers work outcome (TooMuch excess) = outcome ≡ passed excess
+Answers work outcome (Refused unlawful) = fault_in work ≡ Some unlawful
+Answers work outcome status = Unit {0}
 
 -- ---- completeness
 
--- captures within the limits
-abbrev pub AreTaken : List (List ℕ) → Type 0
-AreTaken inputs = AreShort inputs (length inputs) × ((lists : List (List (List ℕ))) × AreCaptures inputs lists × (excess_of lists ≡ None))
+-- captures within the limits, where captures are read
+abbrev pub AreTaken : Work → List (List ℕ) → Type 0
+AreTaken (Simulate layout order None) inputs = AreShort inputs (length inputs) × ((lists : List (List (List ℕ))) × AreCaptures inputs lists × (excess_of lists ≡ None))
+AreTaken work inputs = inputs ≡ []
 
 abbrev pub NoneRose : (Kind → Stream → ℕ) → (Kind → Stream → ℕ) → Type 0
 NoneRose old new = (kind : Kind) (stream : Stream) → Rose (old kind stream) (new kind stream) → ⊥

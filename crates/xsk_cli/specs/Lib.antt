@@ -1,6 +1,5 @@
 pub mod Cause
 pub mod ExitStatus
-pub mod TwoPorts
 pub mod Words
 pub mod Judged
 pub mod Outcome

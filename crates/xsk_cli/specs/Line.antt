@@ -5,10 +5,12 @@ use Rattle.xsk_io.specs.declared.bay.Stream.{Stream}
 use Rattle.xsk_io.specs.declared.bay.Stream.TheVariants.{Input, Output, Report}
 use Rattle.xsk_pcap.specs.declared.reading.BadCapture.{BadCapture as Cause}
 use Rattle.xsk_pcap.specs.declared.reading.BadCapture.TheVariants.{ShortHeader, BadMagic, BadVersion, BadLink, Truncated, RecordTooLong, OutOfMemory as NoMemory}
+use Rattle.xsk_socket.specs.declared.layout.Unlawful.{Unlawful}
+use Rattle.xsk_socket.specs.declared.layout.Unlawful.TheVariants.{Ports, Queues, Sockets, Files, Chunk, Headroom, Frames, Rx, Tx, Fill, Comp, Pool, Empty}
 use Rattle.xsk_cli.specs.declared.status.Excess.{Excess}
 use Rattle.xsk_cli.specs.declared.status.Excess.TheVariants.{Input as TooLong, Packets, Bytes}
 use Rattle.xsk_cli.specs.declared.status.Status.{Status}
-use Rattle.xsk_cli.specs.declared.status.Status.TheVariants.{Done, Usage, BadCapture, ReadFault, WriteFault, OpenFault, Stalled, TooMuch, OutOfMemory}
+use Rattle.xsk_cli.specs.declared.status.Status.TheVariants.{Done, Usage, BadCapture, ReadFault, WriteFault, OpenFault, Refused, Stalled, TooMuch, OutOfMemory}
 
 abbrev pub cause_text : Cause → List ℕ
 cause_text ShortHeader = codes "short header"
@@ -29,6 +31,21 @@ excess_text (TooLong port) = codes "input " ++ decimal port
 excess_text (Packets n) = codes "packets " ++ decimal n
 excess_text (Bytes n) = codes "bytes " ++ decimal n
 
+abbrev pub unlawful_text : Unlawful → List ℕ
+unlawful_text (Ports n) = codes "ports " ++ decimal n
+unlawful_text (Queues n) = codes "queues " ++ decimal n
+unlawful_text (Sockets n) = codes "sockets " ++ decimal n
+unlawful_text (Files n) = codes "files " ++ decimal n
+unlawful_text (Chunk n) = codes "chunk " ++ decimal n
+unlawful_text (Headroom n) = codes "headroom " ++ decimal n
+unlawful_text (Frames n) = codes "frames " ++ decimal n
+unlawful_text (Rx n) = codes "rx " ++ decimal n
+unlawful_text (Tx n) = codes "tx " ++ decimal n
+unlawful_text (Fill n) = codes "fill " ++ decimal n
+unlawful_text (Comp n) = codes "comp " ++ decimal n
+unlawful_text (Pool n) = codes "pool " ++ decimal n
+unlawful_text (Empty n) = codes "empty " ++ decimal n
+
 abbrev pub status_text : Status → List ℕ
 status_text Done = codes "done"
 status_text Usage = codes "usage"
@@ -36,6 +53,7 @@ status_text (BadCapture port cause) = codes "bad capture " ++ decimal port ++ co
 status_text (ReadFault port) = codes "read fault " ++ decimal port
 status_text (WriteFault stream) = codes "write fault " ++ stream_text stream
 status_text (OpenFault stream) = codes "open fault " ++ stream_text stream
+status_text (Refused unlawful) = codes "refused " ++ unlawful_text unlawful
 status_text (Stalled round) = codes "stalled " ++ decimal round
 status_text (TooMuch excess) = codes "too much " ++ excess_text excess
 status_text OutOfMemory = codes "out of memory"

@@ -1,20 +1,24 @@
--- What the bytes of a command's inputs come to. There is one outcome of them.
-use Rattle.std.specs.Prelude.{◌≡◌, ℕ, Bool, ◌&&◌, nat_le, List, [], ◌∷◌, ◌++◌, length, map, filter, codes, None, Some}
+-- What a command's work makes of the bytes of its inputs. There is one outcome of them.
+use Rattle.std.specs.Prelude.{◌≡◌, ℕ, List, [], ◌∷◌, ◌++◌, length, map, filter, codes, None, Some}
 use Rattle.std.specs.Fmt.{decimal}
-use Rattle.std.specs.List.{range_with_len, slice_index_or}
+use Rattle.std.specs.List.{concat, range_with_len, slice_index_or}
 use Rattle.xsk_umem.specs.PacketList.{PacketList}
 use Rattle.xsk_umem.specs.Registration.{fresh}
 use Rattle.xsk_umem.specs.Frame.{Frame}
-use Rattle.xsk_model.specs.Config.{Config}
 use Rattle.xsk_model.specs.Sent.{sent}
 use Rattle.xsk_model.specs.Steering.{paired_port}
+use Rattle.xsk_gen.specs.Generator.{first, packet}
+use Rattle.xsk_laws.specs.Expected.{has_length}
+use Rattle.xsk_socket.specs.declared.layout.Layout.{Layout}
+use Rattle.xsk_socket.specs.Regular.{regular_of}
 use Rattle.xsk_sim.specs.Shown.{Shown}
 use Rattle.xsk_turns.specs.Workers.{Setting}
 use Rattle.xsk_sim.specs.Runs.{HasEnded, HasStalled}
 use Rattle.xsk_pcap.specs.Written.{written}
 use Rattle.xsk_pcap.specs.declared.reading.BadCapture.{BadCapture as Cause}
 use Rattle.xsk_cli.specs.Judged.{AreShort, IsTooLong, AreCaptures, IsBadCapture, excess_of}
-use Rattle.xsk_cli.specs.TwoPorts.{two_ports, command_geometry}
+use Rattle.xsk_cli.specs.declared.words.Work.{Work}
+use Rattle.xsk_cli.specs.declared.words.Work.TheVariants.{Simulate, Generate}
 use Rattle.xsk_cli.specs.declared.status.Excess.{Excess}
 
 -- what is written: a text for each output, and one for the report
@@ -30,73 +34,93 @@ pub data Outcome : Type 0 where
   stalled : ℕ → Outcome
   made : Written → Outcome
 
+-- ---- the packets
+
+-- the packets that are made of a number, for the first ports
+abbrev pub made_lists : ℕ → ℕ → List (List (List ℕ))
+made_lists number ports = map (λ port. first 2000 (packet number port)) (range_with_len 0 ports)
+
+-- the packets of all ports: those of the captures, or those that are made, where nothing is read
+abbrev pub AreListsOf : Work → List (List ℕ) → List (List (List ℕ)) → Type 0
+AreListsOf (Simulate layout order None) inputs lists = AreCaptures inputs lists
+AreListsOf (Simulate layout order (Some number)) inputs lists = (inputs ≡ []) × (lists ≡ made_lists number layout.ports)
+AreListsOf (Generate number) inputs lists = (inputs ≡ []) × (lists ≡ made_lists number 1)
+
 -- ---- the run
 
 -- the list of a port's packets, with no room for others
 abbrev pub listed : List (List ℕ) → PacketList
 listed packets = record { packets = packets; spare_packets = 0; spare_bytes = 0 }
 
--- what is run: the command's configuration over the packets of all ports, with frames of zero bytes, in order
-abbrev pub config : Config
-config = two_ports command_geometry
+-- what is run: the layout's configuration over the packets of all ports, with frames of zero bytes, in order
+abbrev pub setting_of : Layout → List (List (List ℕ)) → Setting
+setting_of layout lists = record { config = regular_of layout; packets = map listed lists }
 
-abbrev pub setting_of : List (List (List ℕ)) → Setting
-setting_of lists = record { config = config; packets = map listed lists }
-
-abbrev pub frames : List Frame
-frames = fresh config.geometry.chunk config.geometry.frames
+abbrev pub frames_of : Layout → List Frame
+frames_of layout = fresh layout.chunk layout.frames
 
 -- ---- the texts
 
--- the report's one line
+-- the report's one line: of a run, and of packets that were made
 abbrev pub report_of : ℕ → List ℕ
 report_of calls = codes "calls " ++ decimal calls ++ codes "\n"
+
+abbrev pub report_on : List (List ℕ) → List ℕ
+report_on packets = codes "packets " ++ decimal (length packets) ++ codes " bytes " ++ decimal (length (concat packets)) ++ codes "\n"
 
 abbrev pub capture_of : List (List ℕ) → List ℕ
 capture_of packets = written (packets ∷ [])
 
--- whether a packet is sent on by the other port: it has 14 bytes up to the 3,840 that a frame holds
-abbrev pub is_sent_on : List ℕ → Bool
-is_sent_on packet = nat_le 14 (length packet) && nat_le (length packet) 3840
+-- what a port's output tells: exactly what the other port received and sends on, in order and whole, which are the packets
+-- of 14 bytes up to the number that a frame holds
+abbrev pub sent_on_by : Layout → List (List (List ℕ)) → ℕ → List (List ℕ)
+sent_on_by layout lists port = filter (has_length (regular_of layout)) (slice_index_or lists (paired_port port) [])
 
--- what a port's output tells: exactly what the other port received and sends on, in order and whole
-abbrev pub sent_on_by : List (List (List ℕ)) → ℕ → List (List ℕ)
-sent_on_by lists port = filter is_sent_on (slice_index_or lists (paired_port port) [])
-
-abbrev pub ports : List ℕ
-ports = range_with_len 0 config.ports
+abbrev pub ports_of : Layout → List ℕ
+ports_of layout = range_with_len 0 layout.ports
 
 -- The texts of a run of these packets that has ended: what each driver sent, and the number of calls. What is sent by each
 -- port is what the other port received and sends on.
-pub record AreTextsOf (lists : List (List (List ℕ))) (texts : Written) : Type 0 where
+pub record AreTextsOf (layout : Layout) (order : ℕ) (lists : List (List (List ℕ))) (texts : Written) : Type 0 where
   pub run : Shown
-  pub ended : HasEnded (setting_of lists) frames 0 run
-  pub sent : texts.outputs ≡ map (λ port. capture_of (sent config ended.history port)) ports
-  pub redirected : texts.outputs ≡ map (λ port. capture_of (sent_on_by lists port)) ports
+  pub ended : HasEnded (setting_of layout lists) (frames_of layout) order run
+  pub sent : texts.outputs ≡ map (λ port. capture_of (sent (regular_of layout) ended.history port)) (ports_of layout)
+  pub redirected : texts.outputs ≡ map (λ port. capture_of (sent_on_by layout lists port)) (ports_of layout)
   pub report : texts.report ≡ report_of (length ended.history)
+
+-- the texts that the work makes of packets: of a run, or of the packets themselves
+abbrev pub AreTextsBy : Work → List (List (List ℕ)) → Written → Type 0
+AreTextsBy (Simulate layout order number) lists texts = AreTextsOf layout order lists texts
+AreTextsBy (Generate number) lists texts =
+    (texts.outputs ≡ map capture_of lists) × (texts.report ≡ report_on (slice_index_or lists 0 []))
+
+-- the work's run of packets stalls in a round
+abbrev pub IsStalledBy : Work → List (List (List ℕ)) → ℕ → Type 0
+IsStalledBy (Simulate layout order number) lists round = HasStalled (setting_of layout lists) (frames_of layout) order round
+IsStalledBy (Generate number) lists round = ⊥
 
 -- ---- the outcome
 
 -- what packets come to
-abbrev pub IsOutcomeOf : List (List (List ℕ)) → Outcome → Type 0
-IsOutcomeOf lists (long port) = ⊥
-IsOutcomeOf lists (bad port cause) = ⊥
-IsOutcomeOf lists (passed excess) = excess_of lists ≡ Some excess
-IsOutcomeOf lists (stalled round) = (excess_of lists ≡ None) × HasStalled (setting_of lists) frames 0 round
-IsOutcomeOf lists (made texts) = (excess_of lists ≡ None) × AreTextsOf lists texts
+abbrev pub IsOutcomeOf : Work → List (List (List ℕ)) → Outcome → Type 0
+IsOutcomeOf work lists (long port) = ⊥
+IsOutcomeOf work lists (bad port cause) = ⊥
+IsOutcomeOf work lists (passed excess) = excess_of lists ≡ Some excess
+IsOutcomeOf work lists (stalled round) = (excess_of lists ≡ None) × IsStalledBy work lists round
+IsOutcomeOf work lists (made texts) = (excess_of lists ≡ None) × AreTextsBy work lists texts
 
--- what captures come to
-abbrev pub IsOutcomeIn : List (List ℕ) → Outcome → Type 0
-IsOutcomeIn inputs outcome = (lists : List (List (List ℕ))) × AreCaptures inputs lists × IsOutcomeOf lists outcome
+-- what inputs that have packets come to
+abbrev pub IsOutcomeIn : Work → List (List ℕ) → Outcome → Type 0
+IsOutcomeIn work inputs outcome = (lists : List (List (List ℕ))) × AreListsOf work inputs lists × IsOutcomeOf work lists outcome
 
 -- what inputs come to
-abbrev pub IsOutcome : List (List ℕ) → Outcome → Type 0
-IsOutcome inputs (long port) = IsTooLong inputs port
-IsOutcome inputs (bad port cause) = AreShort inputs (length inputs) × IsBadCapture inputs port cause
-IsOutcome inputs (passed excess) = AreShort inputs (length inputs) × IsOutcomeIn inputs (passed excess)
-IsOutcome inputs (stalled round) = AreShort inputs (length inputs) × IsOutcomeIn inputs (stalled round)
-IsOutcome inputs (made texts) = AreShort inputs (length inputs) × IsOutcomeIn inputs (made texts)
+abbrev pub IsOutcome : Work → List (List ℕ) → Outcome → Type 0
+IsOutcome work inputs (long port) = IsTooLong inputs port
+IsOutcome work inputs (bad port cause) = AreShort inputs (length inputs) × IsBadCapture inputs port cause
+IsOutcome work inputs (passed excess) = AreShort inputs (length inputs) × IsOutcomeIn work inputs (passed excess)
+IsOutcome work inputs (stalled round) = AreShort inputs (length inputs) × IsOutcomeIn work inputs (stalled round)
+IsOutcome work inputs (made texts) = AreShort inputs (length inputs) × IsOutcomeIn work inputs (made texts)
 
--- it is a function of their bytes
+-- it is a function of the work and of their bytes
 abbrev pub OneOutcome : Type 0
-OneOutcome = (inputs : List (List ℕ)) (some other : Outcome) → IsOutcome inputs some → IsOutcome inputs other → some ≡ other
+OneOutcome = (work : Work) (inputs : List (List ℕ)) (some other : Outcome) → IsOutcome work inputs some → IsOutcome work inputs other → some ≡ other

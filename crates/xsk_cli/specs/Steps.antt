@@ -1,21 +1,28 @@
 -- What the steps of a command answer, and what they leave.
-use Rattle.std.specs.Prelude.{◌≡◌, ◌≢◌, ℕ, ◌+◌, ◌<◌, true, false, length, List, [], map, IfSome}
+use Rattle.std.specs.Prelude.{◌≡◌, ◌≢◌, ℕ, ◌+◌, ◌<◌, ◌⊎◌, true, false, length, List, [], map, IfSome, Option, Some, None, unwrap_or}
 use Rattle.std.specs.List.{slice_index_or}
 use Rattle.xsk_umem.specs.PacketList.{PacketList}
-use Rattle.xsk_io.specs.Bay.{GrowsByPart, Rose}
+use Rattle.xsk_io.specs.Bay.{GrowsByPart, Rose, Same}
+use Rattle.xsk_io.specs.declared.bay.Kind.{Kind}
 use Rattle.xsk_io.specs.declared.bay.Kind.TheVariants.{Open, Read, Write}
 use Rattle.xsk_io.specs.declared.bay.Stream.TheVariants.{Input, Output, Report}
 use Rattle.xsk_pcap.specs.Capture.{IsRefused}
 use Rattle.xsk_pcap.specs.declared.reading.BadCapture.TheVariants.{OutOfMemory as NoCause}
 use Rattle.xsk_sim.specs.Runs.{HasStalled}
-use Rattle.xsk_cli.specs.Judged.{AreShort}
-use Rattle.xsk_cli.specs.Outcome.{Written, bad, passed, stalled, IsOutcome, setting_of, frames}
+use Rattle.xsk_cli.specs.Judged.{AreShort, AreCaptures, IsBadCapture, excess_of}
+use Rattle.xsk_cli.specs.Outcome.{Written, bad, passed, stalled, IsOutcome, IsStalledBy, setting_of, frames_of}
 use Rattle.xsk_args.specs.declared.error.ArgsError.{ArgsError}
 use Rattle.xsk_args.specs.declared.error.ArgsError.TheVariants.{Usage as IsUsage, OutOfMemory as ArgsMemory}
 use Rattle.xsk_cli.specs.declared.run.Texts.{Texts}
 use Rattle.xsk_cli.specs.declared.words.Plan.{Plan as CodePlan}
-use Rattle.xsk_cli.specs.Words.{Plan}
-use Rattle.xsk_cli.specs.Streams.{Moment, IsTold, IsFront, AreRead, AreWritten}
+use Rattle.xsk_cli.specs.Words.{Plan, fault_in, no_plan}
+use Rattle.xsk_cli.specs.Cause.{IsCaused, NeverFalls}
+use Rattle.xsk_cli.specs.Ends.{Ends}
+use Rattle.xsk_cli.specs.declared.words.Work.{Work}
+use Rattle.xsk_cli.specs.declared.words.Work.TheVariants.{Simulate, Generate}
+use Rattle.xsk_socket.specs.declared.layout.Layout.{Layout}
+use Rattle.xsk_socket.specs.declared.layout.Unlawful.{Unlawful}
+use Rattle.xsk_cli.specs.Streams.{Moment, HasLine, IsAtOnce, IsTold, IsFront, AreRead, AreWritten}
 use Rattle.xsk_cli.specs.declared.failure.ReadFailure.{ReadFailure}
 use Rattle.xsk_cli.specs.declared.failure.ReadFailure.TheVariants.{Unopened as NoInput, Unread, TooLong, OutOfMemory as NoRoom}
 use Rattle.xsk_cli.specs.declared.failure.RunFailure.{RunFailure}
@@ -24,11 +31,36 @@ use Rattle.xsk_cli.specs.declared.failure.WriteFailure.{WriteFailure}
 use Rattle.xsk_cli.specs.declared.failure.WriteFailure.TheVariants.{Unopened, Unwritten}
 use Rattle.xsk_cli.specs.declared.status.Excess.TheVariants.{Input as LongInput}
 use Rattle.xsk_cli.specs.declared.status.Status.{Status}
-use Rattle.xsk_cli.specs.declared.status.Status.TheVariants.{Usage, BadCapture, ReadFault, WriteFault, OpenFault, Stalled, TooMuch, OutOfMemory}
+use Rattle.xsk_cli.specs.declared.status.Status.TheVariants.{Usage, BadCapture, ReadFault, WriteFault, OpenFault, Refused, Stalled, TooMuch, OutOfMemory}
 
 -- the plan that the code has
 abbrev pub plan_in : CodePlan → Plan
-plan_in plan = record { inputs = map (λ name. name.now) plan.inputs.now; outputs = map (λ name. name.now) plan.outputs.now }
+plan_in plan = record { inputs = map (λ name. name.now) plan.inputs.now; outputs = map (λ name. name.now) plan.outputs.now; work = plan.work }
+
+-- the layout with two ports, one queue on each and one socket on each queue, without the need-wakeup flags
+abbrev pub with_one_socket : Layout → Layout
+with_one_socket layout = record layout { ports = 2; queues = 1; sockets = 1; wakeup = false; empty = None }
+
+abbrev pub HasOneSocket : Work → Type 0
+HasOneSocket (Simulate layout order number) = with_one_socket layout ≡ layout
+HasOneSocket (Generate number) = Unit {0}
+
+-- for how many ports captures are read, and for how many they are written
+abbrev pub read_by : Work → ℕ
+read_by (Simulate layout order None) = layout.ports
+read_by (Simulate layout order (Some number)) = 0
+read_by (Generate number) = 0
+
+abbrev pub written_by : Work → ℕ
+written_by (Simulate layout order number) = layout.ports
+written_by (Generate number) = 1
+
+-- a plan whose work is accepted, with as many files as it wants
+pub record IsReady (plan : Plan) : Type 0 where
+  pub accepted : fault_in plan.work ≡ None
+  pub one : HasOneSocket plan.work
+  pub inputs : length plan.inputs ≡ read_by plan.work
+  pub outputs : length plan.outputs ≡ written_by plan.work
 
 -- ---- the statuses of failures
 
@@ -52,6 +84,17 @@ abbrev pub write_status : WriteFailure → Status
 write_status (Unopened port) = OpenFault (Output port)
 write_status (Unwritten stream) = WriteFault stream
 
+-- what words come to before a refusal is told, where this is their plan
+pub record Comes (planned : Option Plan) (old new : Moment) (status : Status) : Type 0 where
+  pub usage : status ≡ Usage → planned ≡ None
+  pub unplanned : planned ≡ None → (status ≡ Usage) ⊎ (status ≡ OutOfMemory)
+  pub refused : (plan : Plan) (unlawful : Unlawful) → planned ≡ Some plan → fault_in plan.work ≡ Some unlawful → (status ≡ Refused unlawful) ⊎ (status ≡ OutOfMemory)
+  pub ends : Ends (unwrap_or planned no_plan) old new status
+  pub silent : HasLine status → new.held Report ≡ old.held Report
+  pub cause : IsCaused old.faults new.faults status
+  pub falls : NeverFalls old.faults new.faults
+  pub uncounted : IsAtOnce status → (kind : Kind) → Same (old.faults kind) (new.faults kind)
+
 -- ---- reading
 
 -- how reading the input of a port fails
@@ -73,16 +116,17 @@ pub record HaveRead (names bytes : List (List ℕ)) (count : ℕ) (old new : Mom
 
 -- ---- the run
 
--- why there are no texts of inputs
-abbrev pub MakesNone : List (List ℕ) → RunFailure → Type 0
-MakesNone inputs (Bad port cause) = IsOutcome inputs (bad port cause)
-MakesNone inputs (Excessive excess) = IsOutcome inputs (passed excess)
-MakesNone inputs (Stalls round) = IsOutcome inputs (stalled round)
-MakesNone inputs NoMemory = Unit {0}
-
 -- the packets of lists
 abbrev pub lists_in : List PacketList → List (List (List ℕ))
 lists_in = map (λ (list : PacketList). list.packets)
+
+-- why the captures of inputs aren't taken
+abbrev pub AreUntaken : List (List ℕ) → RunFailure → Type 0
+AreUntaken inputs (Bad port cause) = AreShort inputs (length inputs) × IsBadCapture inputs port cause
+AreUntaken inputs (Excessive excess) =
+    AreShort inputs (length inputs) × ((lists : List (List (List ℕ))) × AreCaptures inputs lists × (excess_of lists ≡ Some excess))
+AreUntaken inputs (Stalls round) = ⊥
+AreUntaken inputs NoMemory = Unit {0}
 
 -- why the bytes of a port's input give no packets
 abbrev pub IsRefusal : ℕ → List ℕ → RunFailure → Type 0
@@ -91,10 +135,23 @@ IsRefusal port bytes NoMemory = Unit {0}
 IsRefusal port bytes failure = ⊥
 
 -- why a run of packets gives nothing
-abbrev pub FailsRunning : List (List (List ℕ)) → RunFailure → Type 0
-FailsRunning lists (Stalls round) = HasStalled (setting_of lists) frames 0 round
-FailsRunning lists NoMemory = Unit {0}
-FailsRunning lists failure = ⊥
+abbrev pub FailsRunning : Layout → ℕ → List (List (List ℕ)) → RunFailure → Type 0
+FailsRunning layout order lists (Stalls round) = HasStalled (setting_of layout lists) (frames_of layout) order round
+FailsRunning layout order lists NoMemory = Unit {0}
+FailsRunning layout order lists failure = ⊥
+
+-- why work makes nothing of packets
+abbrev pub FailsMaking : Work → List (List (List ℕ)) → RunFailure → Type 0
+FailsMaking work lists (Stalls round) = IsStalledBy work lists round
+FailsMaking work lists NoMemory = Unit {0}
+FailsMaking work lists failure = ⊥
+
+-- why there are no texts of inputs
+abbrev pub MakesNone : Work → List (List ℕ) → RunFailure → Type 0
+MakesNone work inputs (Bad port cause) = IsOutcome work inputs (bad port cause)
+MakesNone work inputs (Excessive excess) = IsOutcome work inputs (passed excess)
+MakesNone work inputs (Stalls round) = IsOutcome work inputs (stalled round)
+MakesNone work inputs NoMemory = Unit {0}
 
 abbrev pub written_in : Texts → Written
 written_in texts = record { outputs = map (λ text. text.items) texts.outputs.items; report = texts.report.bytes.items }

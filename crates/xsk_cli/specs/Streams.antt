@@ -11,7 +11,7 @@ use Rattle.xsk_io.specs.declared.bay.Stream.{Stream}
 use Rattle.xsk_io.specs.declared.bay.Stream.TheVariants.{Input, Output, Report}
 use Rattle.xsk_cli.specs.declared.status.Excess.TheVariants.{Input as TooLong}
 use Rattle.xsk_cli.specs.declared.status.Status.{Status}
-use Rattle.xsk_cli.specs.declared.status.Status.TheVariants.{Done, Usage, BadCapture, ReadFault, WriteFault, OpenFault, Stalled, TooMuch, OutOfMemory}
+use Rattle.xsk_cli.specs.declared.status.Status.TheVariants.{Done, Usage, BadCapture, ReadFault, WriteFault, OpenFault, Refused, Stalled, TooMuch, OutOfMemory}
 use Rattle.xsk_cli.specs.Words.{Plan}
 
 -- what a bay tells of its streams at a moment
@@ -66,6 +66,7 @@ Reaches inputs outputs (WriteFault Report) reach = reach ≡ at_output inputs ou
 Reaches inputs outputs (OpenFault (Input port)) reach = (port < inputs) × (reach ≡ at_input port port)
 Reaches inputs outputs (OpenFault (Output port)) reach = (port < outputs) × (reach ≡ at_output inputs port port)
 Reaches inputs outputs (OpenFault Report) reach = ⊥
+Reaches inputs outputs (Refused unlawful) reach = reach ≡ at_input 0 0
 Reaches inputs outputs (Stalled round) reach = reach ≡ at_input inputs inputs
 Reaches inputs outputs (TooMuch (TooLong port)) reach = (port < inputs) × (reach ≡ at_input (port + 1) port)
 Reaches inputs outputs (TooMuch excess) reach = reach ≡ at_input inputs inputs
@@ -97,6 +98,14 @@ IsReported text Done old new = Grows (old.held Report) (new.held Report) text
 IsReported text (WriteFault Report) old new = GrowsByPart (old.held Report) (new.held Report) text
 IsReported text (WriteFault stream) old new = new.held Report ≡ old.held Report
 IsReported text status old new = Unit {0}
+
+-- ---- nothing was opened
+
+-- the words were refused, or the layout
+abbrev pub IsAtOnce : Status → Type 0
+IsAtOnce Usage = Unit {0}
+IsAtOnce (Refused unlawful) = Unit {0}
+IsAtOnce status = ⊥
 
 -- ---- the line of a refusal
 

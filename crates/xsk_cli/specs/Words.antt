@@ -1,22 +1,109 @@
--- Which words are a command, and what it does with its streams. This project's own.
-use Rattle.std.specs.Prelude.{ℕ, ◌==◌, codes, List, [], length, take, drop, Option, Some, None, option_and_then, if◌then◌else◌, unwrap_or}
-use Rattle.xsk_args.specs.Meaning.{Meaning, meaning}
+-- Which words are a command, and what it does. This project's own.
+use Rattle.std.specs.Prelude.{ℕ, codes, Bool, false, List, [], ◌∷◌, length, take, drop, Option, Some, None, is_some, option_and_then, option_map, if◌then◌else◌, unwrap_or, nat_lt}
+use Rattle.std.specs.Str.{bytes_eq}
+use Rattle.xsk_args.specs.Words.{Text, is_dashed}
+use Rattle.xsk_args.specs.Number.{number_in}
+use Rattle.xsk_args.specs.Meaning.{Key, Meaning, meaning, one_value}
+use Rattle.xsk_args.specs.declared.table.Takes.TheVariants.{Number}
+use Rattle.xsk_socket.specs.declared.layout.Layout.{Layout}
+use Rattle.xsk_socket.specs.declared.layout.Unlawful.{Unlawful}
+use Rattle.xsk_socket.specs.Layout.{fault_of}
+use Rattle.xsk_cli.specs.declared.words.Work.{Work}
+use Rattle.xsk_cli.specs.declared.words.Work.TheVariants.{Simulate, Generate}
 
--- the files that a command reads and those that it writes: one of each for each port
+-- the files that a command reads and those that it writes, and what it does between
 pub record Plan : Type 0 where
-  pub inputs : List (List ℕ)
-  pub outputs : List (List ℕ)
+  pub inputs : List Text
+  pub outputs : List Text
+  pub work : Work
 
 abbrev pub no_plan : Plan
-no_plan = record { inputs = []; outputs = [] }
+no_plan = record { inputs = []; outputs = []; work = Generate 0 }
 
--- the inputs come first, and then as many outputs
-abbrev pub plan_over : List (List ℕ) → Option Plan
-plan_over files = if length files == 4 then Some (record { inputs = take 2 files; outputs = drop 2 files }) else None
+-- ---- `simulate`
 
-abbrev pub plan_by : Meaning → Option Plan
-plan_by said = plan_over (unwrap_or (said (codes "FILE")) [])
+-- the options of `simulate`, each with a number
+abbrev pub options : List Key
+options =
+    (codes "frames", Number)
+    ∷ (codes "chunk", Number)
+    ∷ (codes "headroom", Number)
+    ∷ (codes "rx", Number)
+    ∷ (codes "tx", Number)
+    ∷ (codes "fill", Number)
+    ∷ (codes "comp", Number)
+    ∷ (codes "order", Number)
+    ∷ (codes "gen", Number)
+    ∷ []
 
--- `simulate IN0 IN1 OUT0 OUT1`, of which `--` ends the options, and there are none
-abbrev pub plan_of : List (List ℕ) → Option Plan
-plan_of words = option_and_then plan_by (meaning (codes "simulate") [] words)
+-- the number that was said under a name, or the one that stands where none was said
+abbrev pub number_of : Meaning → Text → Option ℕ
+number_of said name = option_and_then number_in (one_value (said name))
+
+abbrev pub number_or : Meaning → Text → ℕ → ℕ
+number_or said name standing = unwrap_or (number_of said name) standing
+
+abbrev pub files_in : Meaning → List Text
+files_in said = unwrap_or (said (codes "FILE")) []
+
+-- whether the packets are made, so that no inputs are named
+abbrev pub are_made : Meaning → Bool
+are_made said = is_some (number_of said (codes "gen"))
+
+-- a number of files, where it has 32 bits
+abbrev pub counted : ℕ → ℕ
+counted n = if nat_lt n 4294967296 then n else 4294967295
+
+-- what is asked for: two ports with one queue each, and one socket on each queue
+abbrev pub layout_by : Meaning → Layout
+layout_by said = record {
+  ports = 2;
+  queues = 1;
+  sockets = 1;
+  files = counted (length (files_in said));
+  files_wanted_per_port = if are_made said then 1 else 2;
+  chunk = number_or said (codes "chunk") 4096;
+  headroom = number_or said (codes "headroom") 0;
+  frames = number_or said (codes "frames") 256;
+  rx = number_or said (codes "rx") 2048;
+  tx = number_or said (codes "tx") 2048;
+  fill = number_or said (codes "fill") 2048;
+  comp = number_or said (codes "comp") 2048;
+  sg = false;
+  wakeup = false;
+  empty = None;
+}
+
+-- the files are an input for each port, but where the packets are made, and then an output for each port
+abbrev pub inputs_named : Meaning → ℕ
+inputs_named said = if are_made said then 0 else 2
+
+abbrev pub plan_by : Meaning → Plan
+plan_by said = record {
+  inputs = take (inputs_named said) (files_in said);
+  outputs = drop (inputs_named said) (files_in said);
+  work = Simulate (layout_by said) (number_or said (codes "order") 0) (number_of said (codes "gen"));
+}
+
+abbrev pub simulate_plan : List Text → Option Plan
+simulate_plan words = option_map plan_by (meaning (codes "simulate") options words)
+
+-- ---- `gen`
+
+-- the words behind `gen` are a number and a file
+abbrev pub gen_plan : List Text → Option Plan
+gen_plan (number ∷ file ∷ []) =
+    if is_dashed file then None
+    else option_map (λ n. record { inputs = []; outputs = file ∷ []; work = Generate n }) (number_in number)
+gen_plan _ = None
+
+-- ---- both
+
+abbrev pub plan_of : List Text → Option Plan
+plan_of [] = None
+plan_of (first ∷ rest) = if bytes_eq first (codes "gen") then gen_plan rest else simulate_plan (first ∷ rest)
+
+-- why the work is refused, where it is
+abbrev pub fault_in : Work → Option Unlawful
+fault_in (Simulate layout order number) = fault_of layout
+fault_in (Generate number) = None

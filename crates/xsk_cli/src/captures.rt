@@ -5,7 +5,7 @@ ghost use Rattle.xsk_pcap.specs.Capture.{IsCapture, IsRefused};
 ghost use Rattle.xsk_umem.specs.PacketList.{PacketList as Packets};
 ghost use Rattle.xsk_cli.specs.Judged.{AreCaptures, AreShort, bytes_in, excess_of, packets_in};
 ghost use Rattle.xsk_cli.specs.Outcome.{listed};
-ghost use Rattle.xsk_cli.specs.Steps.{IsRefusal, MakesNone, lists_in};
+ghost use Rattle.xsk_cli.specs.Steps.{AreUntaken, IsRefusal, lists_in};
 
 use crate::Excess;
 use crate::failure::RunFailure;
@@ -28,7 +28,7 @@ pub(crate) fn take_captures(
     ensures taken { IfOk result (λ lists. AreCaptures (map (λ bytes. bytes.items) inputs.now) (lists_in lists.items)) }
     ensures within { IfOk result (λ lists. excess_of (lists_in lists.items) ≡ None) }
     ensures listed { IfOk result (λ lists. lists.items ≡ map listed (lists_in lists.items)) }
-    ensures failed { IfErr result (MakesNone (map (λ bytes. bytes.items) inputs.now)) }
+    ensures failed { IfErr result (AreUntaken (map (λ bytes. bytes.items) inputs.now)) }
 {
     let lists = read_captures(alloc, inputs)?;
     match check_limits(lists.as_slice()) {
@@ -43,7 +43,7 @@ fn read_captures(alloc: Global, inputs: &[Vec<u8>]) -> Result<Vec<PacketList>, R
     requires short { AreShort (map (λ bytes. bytes.items) inputs.now) (length inputs.now) }
     ensures read { IfOk result (λ lists. AreCaptures (map (λ bytes. bytes.items) inputs.now) (lists_in lists.items)) }
     ensures listed { IfOk result (λ lists. lists.items ≡ map listed (lists_in lists.items)) }
-    ensures failed { IfErr result (MakesNone (map (λ bytes. bytes.items) inputs.now)) }
+    ensures failed { IfErr result (AreUntaken (map (λ bytes. bytes.items) inputs.now)) }
 {
     let mut lists = Vec::with_capacity(alloc, inputs.len())?;
     for port in 0..inputs.len() as u32 {
@@ -67,7 +67,7 @@ fn read_capture(alloc: Global, port: u32, bytes: &[u8]) -> Result<PacketList, Ru
 }
 
 /// The list without the room for further packets.
-fn without_room(list: PacketList) -> PacketList
+pub(crate) fn without_room(list: PacketList) -> PacketList
     ensures { result ≡ listed list.packets }
 {
     let _count = list.len();

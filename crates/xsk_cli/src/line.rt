@@ -1,14 +1,15 @@
 //! The line that tells a refusal, in a buffer of its own.
-ghost use Rattle.std.specs.Prelude.{◌≡◌, ◌+◌, ◌≤◌, ◌++◌};
+ghost use Rattle.std.specs.Prelude.{◌≡◌, ◌+◌, ◌≤◌, ◌++◌, length};
 ghost use Rattle.std.specs.Fmt.{decimal};
 ghost use Rattle.arrayvec.specs.ArrayString.{array_string_len};
-ghost use Rattle.xsk_cli.specs.Line.{cause_text, excess_text, line_of, status_text, stream_text};
+ghost use Rattle.xsk_cli.specs.Line.{cause_text, excess_text, line_of, status_text, stream_text, unlawful_text};
 
 use crate::{Excess, Status};
 use arrayvec::ArrayString;
 use itoa::Buffer;
 use xsk_io::Stream;
 use xsk_pcap::BadCapture;
+use xsk_socket::Unlawful;
 
 /// The room of a line.
 const ROOM: usize = 96;
@@ -48,6 +49,10 @@ fn push_status(line: &mut ArrayString<96>, status: &Status)
         Status::OpenFault { stream } => {
             line.push_str("open fault ");
             push_stream(line, *stream);
+        }
+        Status::Refused(unlawful) => {
+            line.push_str("refused ");
+            push_unlawful(line, *unlawful);
         }
         Status::Stalled { round } => {
             line.push_str("stalled ");
@@ -120,6 +125,38 @@ fn push_excess(line: &mut ArrayString<96>, excess: Excess)
             push_u64(line, bytes);
         }
     }
+}
+
+fn push_unlawful(line: &mut ArrayString<96>, unlawful: Unlawful)
+    requires { array_string_len line.old ≤ 50 }
+    ensures text { line.new.bytes ≡ line.old.bytes ++ unlawful_text unlawful }
+    ensures room { array_string_len line.new ≤ array_string_len line.old + 40 }
+{
+    match unlawful {
+        Unlawful::Ports(value) => push_named(line, "ports ", value),
+        Unlawful::Queues(value) => push_named(line, "queues ", value),
+        Unlawful::Sockets(value) => push_named(line, "sockets ", value),
+        Unlawful::Files(value) => push_named(line, "files ", value),
+        Unlawful::Chunk(value) => push_named(line, "chunk ", value),
+        Unlawful::Headroom(value) => push_named(line, "headroom ", value),
+        Unlawful::Frames(value) => push_named(line, "frames ", value),
+        Unlawful::Rx(value) => push_named(line, "rx ", value),
+        Unlawful::Tx(value) => push_named(line, "tx ", value),
+        Unlawful::Fill(value) => push_named(line, "fill ", value),
+        Unlawful::Comp(value) => push_named(line, "comp ", value),
+        Unlawful::Pool(value) => push_named(line, "pool ", value),
+        Unlawful::Empty(value) => push_named(line, "empty ", value),
+    }
+}
+
+fn push_named(line: &mut ArrayString<96>, name: &str, value: u32)
+    requires room { array_string_len line.old ≤ 50 }
+    requires name { length name.now ≤ 20 }
+    ensures text { line.new.bytes ≡ line.old.bytes ++ (name.now ++ decimal value) }
+    ensures room { array_string_len line.new ≤ array_string_len line.old + (length name.now + 10) }
+{
+    line.push_str(name);
+    push_u32(line, value);
 }
 
 fn push_u32(line: &mut ArrayString<96>, number: u32)

@@ -4,40 +4,44 @@ ghost use Rattle.xsk_io.specs.Bay.{CountsOnly, Same, SameBut};
 ghost use Rattle.xsk_io.specs.declared.bay.Kind.{Kind};
 ghost use Rattle.xsk_io.specs.declared.bay.Stream.{Stream as AStream};
 ghost use Rattle.xsk_pcap.specs.declared.reading.BadCapture.TheVariants.{OutOfMemory as NoMemory};
-ghost use Rattle.xsk_args.specs.Meaning.{under};
+ghost use Rattle.xsk_socket.specs.declared.layout.Unlawful.{Unlawful as AnUnlawful};
 ghost use Rattle.xsk_cli.specs.Cause.{IsCaused, NeverFalls};
 ghost use Rattle.xsk_cli.specs.Ends.{Answers, AreTaken, AreTold, Ends, IsComplete, NoneRose};
 ghost use Rattle.xsk_cli.specs.Line.{line_of};
 ghost use Rattle.xsk_cli.specs.Outcome.{IsOutcome, Outcome};
-ghost use Rattle.xsk_cli.specs.Steps.{plan_in};
-ghost use Rattle.xsk_cli.specs.Streams.{GotLine, HasLine, status_in};
-ghost use Rattle.xsk_cli.specs.Words.{Plan as APlan, no_plan, plan_by, plan_of};
+ghost use Rattle.xsk_cli.specs.Steps.{Comes, IsReady, plan_in};
+ghost use Rattle.xsk_cli.specs.Streams.{GotLine, HasLine, IsAtOnce, status_in};
+ghost use Rattle.xsk_cli.specs.Words.{Plan as APlan, fault_in, gen_plan, no_plan, plan_of, simulate_plan};
 
 use crate::Status;
-use crate::captures::take_captures;
 use crate::input::read_inputs;
 use crate::line::line;
+use crate::lists::take_lists;
+use crate::options::OPTIONS;
 use crate::output::write_texts;
 use crate::run::make_texts;
-use crate::words::Plan;
+use crate::words::{Plan, Work, read_gen};
 use std::alloc::Global;
-use xsk_args::{Args, OptionRow, parse};
+use xsk_args::parse;
 use xsk_io::{Bay, Stream, write_whole};
-
-/// The options of `simulate`.
-const OPTIONS: [OptionRow; 0] = [];
 
 /// Does what the words of a command line say, over a bay of which no stream is open.
 ///
-/// `simulate IN0 IN1 OUT0 OUT1` reads a capture for each of two ports, forwards the packets of each port to the other,
-/// and writes a capture for each port, and then the line `calls N` with the number of calls to the report. A refusal is
-/// told in one line to the report.
+/// `simulate [OPTION ..] IN0 IN1 OUT0 OUT1` reads a capture for each of two ports, forwards the packets of each port to the
+/// other, and writes a capture for each port, and then the line `calls N` with the number of calls to the report.
+/// `simulate --gen N [OPTION ..] OUT0 OUT1` makes the packets of a number instead. `gen N FILE` writes a capture of the
+/// packets that are made of a number, and then the line `packets P bytes B`. A refusal is told in one line to the report.
 pub fn run_plain<B: Bay>(alloc: Global, words: &[String], bay: &mut B) -> Status
     requires { (stream : AStream) → B.is_open bay.old stream ≡ false }
     ensures usage { result ≡ Status.Usage → plan_of (map string_bytes words.now) ≡ None }
     ensures no_plan { plan_of (map string_bytes words.now) ≡ None → (result ≡ Status.Usage) ⊎ (result ≡ Status.OutOfMemory) }
+
+    // The layout is refused for its fault alone, and exactly where it has one.
+    ensures refusal { (unlawful : AnUnlawful) → result ≡ Status.Refused unlawful → fault_in (unwrap_or (plan_of (map string_bytes words.now)) no_plan).work ≡ Some unlawful }
+    ensures refused { (plan : APlan) (unlawful : AnUnlawful) → plan_of (map string_bytes words.now) ≡ Some plan → fault_in plan.work ≡ Some unlawful
+        → (result ≡ Status.Refused unlawful) ⊎ (result ≡ Status.OutOfMemory) }
     ensures cause { IsCaused (B.faults bay.old) (B.faults bay.new) result }
-    ensures uncounted { result ≡ Status.Usage → CountsOnly Kind.Write Stream.Report (B.faults bay.old) (B.faults bay.new) }
+    ensures uncounted { IsAtOnce result → CountsOnly Kind.Write Stream.Report (B.faults bay.old) (B.faults bay.new) }
 
     // What the streams are, and why. Where the words are no command it has no streams.
     ensures ends { Ends (unwrap_or (plan_of (map string_bytes words.now)) no_plan)
@@ -52,12 +56,13 @@ pub fn run_plain<B: Bay>(alloc: Global, words: &[String], bay: &mut B) -> Status
     // Inputs whose bytes the bay tells are answered with their outcome, of which there is one.
     ensures answers { (plan : APlan) (inputs : List (List ℕ)) (outcome : Outcome) → plan_of (map string_bytes words.now) ≡ Some plan
         → AreTold plan inputs (record { is_open = B.is_open bay.old; asked = B.asked bay.old; left = B.left bay.old; held = B.held bay.old; faults = B.faults bay.old })
-        → IsOutcome inputs outcome → Answers outcome result }
+        → IsOutcome plan.work inputs outcome → Answers plan.work outcome result }
 
-    // Captures within the limits come to texts or stall, where no count of faults has risen and memory can be had.
-    ensures complete { (plan : APlan) (inputs : List (List ℕ)) → plan_of (map string_bytes words.now) ≡ Some plan
+    // Captures within the limits, and packets that are made, come to texts or stall, where the layout is accepted, no count
+    // of faults has risen and memory can be had.
+    ensures complete { (plan : APlan) (inputs : List (List ℕ)) → plan_of (map string_bytes words.now) ≡ Some plan → fault_in plan.work ≡ None
         → AreTold plan inputs (record { is_open = B.is_open bay.old; asked = B.asked bay.old; left = B.left bay.old; held = B.held bay.old; faults = B.faults bay.old })
-        → AreTaken inputs → NoneRose (B.faults bay.old) (B.faults bay.new) → IsComplete result }
+        → AreTaken plan.work inputs → NoneRose (B.faults bay.old) (B.faults bay.new) → IsComplete result }
 {
     let status = status_of(run_words(alloc, words, bay));
     tell(bay, &status);
@@ -76,47 +81,59 @@ fn status_of(answer: Result<(), Status>) -> Status
 /// Does what the words say, and tells nothing of a refusal.
 fn run_words<B: Bay>(alloc: Global, words: &[String], bay: &mut B) -> Result<(), Status>
     requires { (stream : AStream) → B.is_open bay.old stream ≡ false }
-    ensures usage { status_in result ≡ Status.Usage → plan_of (map string_bytes words.now) ≡ None }
-    ensures no_plan { plan_of (map string_bytes words.now) ≡ None → (status_in result ≡ Status.Usage) ⊎ (status_in result ≡ Status.OutOfMemory) }
-    ensures ends { Ends (unwrap_or (plan_of (map string_bytes words.now)) no_plan)
+    ensures { Comes (plan_of (map string_bytes words.now))
         (record { is_open = B.is_open bay.old; asked = B.asked bay.old; left = B.left bay.old; held = B.held bay.old; faults = B.faults bay.old })
         (record { is_open = B.is_open bay.new; asked = B.asked bay.new; left = B.left bay.new; held = B.held bay.new; faults = B.faults bay.new })
         (status_in result) }
-    ensures silent { HasLine (status_in result) → B.held bay.new Stream.Report ≡ B.held bay.old Stream.Report }
-    ensures cause { IsCaused (B.faults bay.old) (B.faults bay.new) (status_in result) }
-    ensures falls { NeverFalls (B.faults bay.old) (B.faults bay.new) }
-    ensures uncounted { status_in result ≡ Status.Usage → (kind : Kind) → Same (B.faults bay.old kind) (B.faults bay.new kind) }
 {
-    let args = parse(alloc, "simulate", &OPTIONS, words)?;
-    run_args(alloc, &args, bay)
-}
-
-/// Does what parsed words say.
-fn run_args<B: Bay>(alloc: Global, args: &Args<'_>, bay: &mut B) -> Result<(), Status>
-    requires { (stream : AStream) → B.is_open bay.old stream ≡ false }
-    ensures usage { status_in result ≡ Status.Usage → plan_by (under args.now) ≡ None }
-    ensures no_plan { plan_by (under args.now) ≡ None → status_in result ≡ Status.Usage }
-    ensures ends { Ends (unwrap_or (plan_by (under args.now)) no_plan)
-        (record { is_open = B.is_open bay.old; asked = B.asked bay.old; left = B.left bay.old; held = B.held bay.old; faults = B.faults bay.old })
-        (record { is_open = B.is_open bay.new; asked = B.asked bay.new; left = B.left bay.new; held = B.held bay.new; faults = B.faults bay.new })
-        (status_in result) }
-    ensures silent { HasLine (status_in result) → B.held bay.new Stream.Report ≡ B.held bay.old Stream.Report }
-    ensures cause { IsCaused (B.faults bay.old) (B.faults bay.new) (status_in result) }
-    ensures falls { NeverFalls (B.faults bay.old) (B.faults bay.new) }
-    ensures uncounted { status_in result ≡ Status.Usage → (kind : Kind) → Same (B.faults bay.old kind) (B.faults bay.new kind) }
-{
-    match Plan::of(args) {
-        Some(plan) => run_plan(alloc, &plan, bay),
-        None => Err(Status::Usage),
+    let Some((first, rest)) = words.split_first() else {
+        return Err(Status::Usage);
+    };
+    if first.as_str() == "gen" {
+        run_gen(alloc, rest, bay)
+    } else {
+        run_simulate(alloc, words, bay)
     }
 }
 
-/// Reads the inputs, runs them, and writes the outputs and the report.
+/// Does what the words behind `gen` say.
+fn run_gen<B: Bay>(alloc: Global, words: &[String], bay: &mut B) -> Result<(), Status>
+    requires { (stream : AStream) → B.is_open bay.old stream ≡ false }
+    ensures { Comes (gen_plan (map string_bytes words.now))
+        (record { is_open = B.is_open bay.old; asked = B.asked bay.old; left = B.left bay.old; held = B.held bay.old; faults = B.faults bay.old })
+        (record { is_open = B.is_open bay.new; asked = B.asked bay.new; left = B.left bay.new; held = B.held bay.new; faults = B.faults bay.new })
+        (status_in result) }
+{
+    let Some((number, file)) = read_gen(words) else {
+        return Err(Status::Usage);
+    };
+    let outputs = [file];
+    let plan = Plan {
+        inputs: &[],
+        outputs: &outputs,
+        work: Work::Generate { number },
+    };
+    run_plan(alloc, &plan, bay)
+}
+
+/// Does what words say that begin with `simulate`.
+fn run_simulate<B: Bay>(alloc: Global, words: &[String], bay: &mut B) -> Result<(), Status>
+    requires { (stream : AStream) → B.is_open bay.old stream ≡ false }
+    ensures { Comes (simulate_plan (map string_bytes words.now))
+        (record { is_open = B.is_open bay.old; asked = B.asked bay.old; left = B.left bay.old; held = B.held bay.old; faults = B.faults bay.old })
+        (record { is_open = B.is_open bay.new; asked = B.asked bay.new; left = B.left bay.new; held = B.held bay.new; faults = B.faults bay.new })
+        (status_in result) }
+{
+    let args = parse(alloc, "simulate", &OPTIONS, words)?;
+    let plan = Plan::of(&args)?;
+    run_plan(alloc, &plan, bay)
+}
+
+/// Reads the inputs, makes texts of them, and writes the outputs and the report.
 fn run_plan<B: Bay>(alloc: Global, plan: &Plan<'_, '_>, bay: &mut B) -> Result<(), Status>
-    requires inputs { length plan.now.inputs.now ≡ 2 }
-    requires outputs { length plan.now.outputs.now ≡ 2 }
+    requires ready { IsReady (plan_in plan.now) }
     requires closed { (stream : AStream) → B.is_open bay.old stream ≡ false }
-    ensures usage { status_in result ≡ Status.Usage → ⊥ }
+    ensures begun { IsAtOnce (status_in result) → ⊥ }
     ensures ends { Ends (plan_in plan.now)
         (record { is_open = B.is_open bay.old; asked = B.asked bay.old; left = B.left bay.old; held = B.held bay.old; faults = B.faults bay.old })
         (record { is_open = B.is_open bay.new; asked = B.asked bay.new; left = B.left bay.new; held = B.held bay.new; faults = B.faults bay.new })
@@ -126,9 +143,9 @@ fn run_plan<B: Bay>(alloc: Global, plan: &Plan<'_, '_>, bay: &mut B) -> Result<(
     ensures falls { NeverFalls (B.faults bay.old) (B.faults bay.new) }
 {
     let inputs = read_inputs(alloc, bay, plan.inputs)?;
-    let lists = take_captures(alloc, inputs.as_slice())?;
+    let lists = take_lists(alloc, &plan.work, inputs.as_slice())?;
     drop(inputs);
-    let texts = make_texts(alloc, lists.as_slice())?;
+    let texts = make_texts(alloc, &plan.work, lists.as_slice())?;
     write_texts(bay, plan.outputs, &texts)?;
     Ok(())
 }

@@ -4,22 +4,22 @@ ghost use Rattle.std.specs.List.{concat, range_with_len, slice_index_or};
 ghost use Rattle.xsk_driver.specs.Sent.{IsShort};
 ghost use Rattle.xsk_sim.specs.Runs.{HasEnded};
 ghost use Rattle.xsk_cli.specs.Judged.{excess_of};
-ghost use Rattle.xsk_cli.specs.Outcome.{AreTextsOf, capture_of, frames, listed, report_of, setting_of};
-ghost use Rattle.xsk_cli.specs.Steps.{FailsRunning, lists_in, written_in};
+ghost use Rattle.xsk_cli.specs.Outcome.{AreTextsBy, AreTextsOf, capture_of, frames_of, listed, made_lists, report_of, setting_of};
+ghost use Rattle.xsk_cli.specs.Steps.{FailsMaking, FailsRunning, HasOneSocket, lists_in, with_one_socket, written_by, written_in};
+ghost use Rattle.xsk_cli.specs.Words.{fault_in};
+ghost use Rattle.xsk_cli.specs.declared.words.Work.TheVariants.{Generate};
+ghost use Rattle.xsk_socket.specs.Layout.{fault_of};
 
 use crate::failure::RunFailure;
+use crate::made::made_texts;
 use crate::setup::set_up;
+use crate::words::Work;
 use std::alloc::Global;
 use std::fmt::Write;
 use xsk_pcap::Capture;
 use xsk_sim::{Run, SimError, simulate};
+use xsk_socket::Layout;
 use xsk_umem::{OutOfMemory, PacketList};
-
-/// The number of ports.
-const PORTS: u32 = 2;
-
-/// The number of the rounds' order.
-const ORDER: u32 = 0;
 
 /// What is written: a capture for each port, and the report.
 #[derive(Drop)]
@@ -28,30 +28,65 @@ pub(crate) struct Texts {
     pub(crate) report: String,
 }
 
+/// Makes what is written of the packets of all ports.
+pub(crate) fn make_texts(
+    alloc: Global,
+    work: &Work,
+    lists: &[PacketList],
+) -> Result<Texts, RunFailure>
+    requires accepted { fault_in work.now ≡ None }
+    requires one { HasOneSocket work.now }
+    requires ports { length lists.now ≡ written_by work.now }
+    requires within { excess_of (lists_in lists.now) ≡ None }
+    requires made { (number : ℕ) → work.now ≡ Generate number → lists_in lists.now ≡ made_lists number 1 }
+    requires listed { lists.now ≡ map listed (lists_in lists.now) }
+    ensures made { IfOk result (λ texts. AreTextsBy work.now (lists_in lists.now) (written_in texts)) }
+    ensures failed { IfErr result (FailsMaking work.now (lists_in lists.now)) }
+{
+    match work {
+        Work::Simulate { layout, order, .. } => run_texts(alloc, layout, *order, lists),
+        Work::Generate { .. } => Ok(made_texts(alloc, &lists[0])?),
+    }
+}
+
 /// Runs the packets of all ports, and makes what is written.
-pub(crate) fn make_texts(alloc: Global, lists: &[PacketList]) -> Result<Texts, RunFailure>
-    requires ports { length lists.now ≡ 2 }
+fn run_texts(
+    alloc: Global,
+    layout: &Layout,
+    order: u32,
+    lists: &[PacketList],
+) -> Result<Texts, RunFailure>
+    requires accepted { fault_of layout.now ≡ None }
+    requires one { with_one_socket layout.now ≡ layout.now }
+    requires ports { length lists.now ≡ layout.now.ports }
     requires within { excess_of (lists_in lists.now) ≡ None }
     requires listed { lists.now ≡ map listed (lists_in lists.now) }
-    ensures made { IfOk result (λ texts. AreTextsOf (lists_in lists.now) (written_in texts)) }
-    ensures failed { IfErr result (FailsRunning (lists_in lists.now)) }
+    ensures made { IfOk result (λ texts. AreTextsOf layout.now order (lists_in lists.now) (written_in texts)) }
+    ensures failed { IfErr result (FailsRunning layout.now order (lists_in lists.now)) }
 {
-    let run = run_lists(alloc, lists)?;
-    let outputs = output_texts(alloc, &run)?;
+    let run = run_lists(alloc, layout, order, lists)?;
+    let outputs = output_texts(alloc, layout.ports, &run)?;
     let report = report_text(alloc, run.log().len())?;
     Ok(Texts { outputs, report })
 }
 
 /// Runs the lists of all ports.
-fn run_lists(alloc: Global, lists: &[PacketList]) -> Result<Run, RunFailure>
-    requires ports { length lists.now ≡ 2 }
+fn run_lists(
+    alloc: Global,
+    layout: &Layout,
+    order: u32,
+    lists: &[PacketList],
+) -> Result<Run, RunFailure>
+    requires accepted { fault_of layout.now ≡ None }
+    requires one { with_one_socket layout.now ≡ layout.now }
+    requires ports { length lists.now ≡ layout.now.ports }
     requires listed { lists.now ≡ map listed (lists_in lists.now) }
-    ensures pairs { IfOk result (λ run. run.pairs ≡ 2) }
-    ensures ended { IfOk result (HasEnded (setting_of (lists_in lists.now)) frames 0) }
-    ensures failed { IfErr result (FailsRunning (lists_in lists.now)) }
+    ensures pairs { IfOk result (λ run. run.pairs ≡ layout.now.ports) }
+    ensures ended { IfOk result (HasEnded (setting_of layout.now (lists_in lists.now)) (frames_of layout.now) order) }
+    ensures failed { IfErr result (FailsRunning layout.now order (lists_in lists.now)) }
 {
-    let (config, frames) = set_up(alloc)?;
-    match simulate(alloc, config, frames, lists, ORDER) {
+    let (config, frames) = set_up(alloc, layout)?;
+    match simulate(alloc, config, frames, lists, order) {
         Ok(run) => Ok(run),
         Err(SimError::Stalled { round }) => Err(RunFailure::Stalled { round }),
         Err(SimError::OutOfMemory) => Err(RunFailure::OutOfMemory),
@@ -59,22 +94,24 @@ fn run_lists(alloc: Global, lists: &[PacketList]) -> Result<Run, RunFailure>
 }
 
 /// The capture of what each port's driver sent.
-fn output_texts(alloc: Global, run: &Run) -> Result<Vec<Vec<u8>>, OutOfMemory>
-    requires pairs { run.now.pairs ≡ 2 }
-    requires few { (port : ℕ) → port < 2 → length (slice_index_or run.now.sent port []) ≤ 65536 }
-    requires small { (port : ℕ) → port < 2 → length (concat (slice_index_or run.now.sent port [])) ≤ 33554432 }
-    ensures { IfOk result (λ texts. map (λ text. text.items) texts.items ≡ map (λ port. capture_of (slice_index_or run.now.sent port [])) (range_with_len 0 2)) }
+#[tactic(auto, using(crate::proofs::Ports::more_ports))]
+fn output_texts(alloc: Global, ports: u32, run: &Run) -> Result<Vec<Vec<u8>>, OutOfMemory>
+    requires ports { ports ≤ 4 }
+    requires pairs { run.now.pairs ≡ ports }
+    requires few { (port : ℕ) → port < ports → length (slice_index_or run.now.sent port []) ≤ 65536 }
+    requires small { (port : ℕ) → port < ports → length (concat (slice_index_or run.now.sent port [])) ≤ 33554432 }
+    ensures { IfOk result (λ texts. map (λ text. text.items) texts.items ≡ map (λ port. capture_of (slice_index_or run.now.sent port [])) (range_with_len 0 ports)) }
 {
-    let mut texts = Vec::with_capacity(alloc, PORTS as usize)?;
-    for port in 0..PORTS {
+    let mut texts = Vec::with_capacity(alloc, ports as usize)?;
+    for port in 0..ports {
         let text = capture_text(alloc, run.sent(port))?;
         texts.push_reserved(text);
     }
     Ok(texts)
 }
 
-/// The capture of what was sent.
-fn capture_text(alloc: Global, list: &PacketList) -> Result<Vec<u8>, OutOfMemory>
+/// The capture of packets.
+pub(crate) fn capture_text(alloc: Global, list: &PacketList) -> Result<Vec<u8>, OutOfMemory>
     requires short { All IsShort list.now.packets }
     requires few { length list.now.packets ≤ 65536 }
     requires small { length (concat list.now.packets) ≤ 33554432 }

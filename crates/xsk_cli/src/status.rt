@@ -5,6 +5,8 @@ ghost use Rattle.xsk_cli.specs.ExitStatus.{exit_status_of};
 use xsk_args::ArgsError;
 use xsk_io::Stream;
 use xsk_pcap::BadCapture;
+use xsk_socket::Unlawful;
+use xsk_umem::OutOfMemory;
 
 /// Which limit was passed, and by how much came.
 #[derive(Clone, Copy, Debug, PartialEq, Eq)]
@@ -32,6 +34,8 @@ pub enum Status {
     WriteFault { stream: Stream },
     /// A stream couldn't be opened.
     OpenFault { stream: Stream },
+    /// The layout was refused.
+    Refused(Unlawful),
     /// Some worker hadn't ended after this round.
     Stalled { round: u64 },
     /// The inputs are larger than what is taken.
@@ -52,6 +56,7 @@ impl Status {
             Status::ReadFault { .. } => 4,
             Status::WriteFault { .. } => 5,
             Status::OpenFault { .. } => 6,
+            Status::Refused(_) => 7,
             Status::Stalled { .. } => 8,
             Status::TooMuch(_) => 9,
             Status::OutOfMemory => 10,
@@ -70,5 +75,27 @@ impl From<ArgsError> for Status {
             ArgsError::Usage => Status::Usage,
             ArgsError::OutOfMemory => Status::OutOfMemory,
         }
+    }
+}
+
+impl From<Unlawful> for Status {
+    ghost use Rattle.std.specs.Prelude.{◌≡◌};
+    ghost use Rattle.xsk_cli.specs.declared.status.Status.TheVariants.{Refused as IsRefused};
+
+    ghost from_gives = { λ unlawful status. status ≡ IsRefused unlawful };
+
+    fn from(unlawful: Unlawful) -> Status {
+        Status::Refused(unlawful)
+    }
+}
+
+impl From<OutOfMemory> for Status {
+    ghost use Rattle.std.specs.Prelude.{◌≡◌};
+    ghost use Rattle.xsk_cli.specs.declared.status.Status.TheVariants.{OutOfMemory as NoMemory};
+
+    ghost from_gives = { λ _ status. status ≡ NoMemory };
+
+    fn from(_error: OutOfMemory) -> Status {
+        Status::OutOfMemory
     }
 }

@@ -1,2 +1,3 @@
 pub mod Firsts
 pub mod States
+pub mod Sizes

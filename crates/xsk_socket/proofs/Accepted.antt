@@ -1,5 +1,5 @@
 -- What holds of an accepted layout.
-use Rattle.std.proofs.Common.{◌≡◌, ℕ, zero, suc, ◌+◌, ◌%◌, ◌^◌, ◌<◌, ◌≤◌, ◌⊎◌, ◌&&◌, true, eqb, ltb, leb, List, [], ◌∷◌, ◌++◌, refl, arith, Option, None, Some, subst, inl, inr}
+use Rattle.std.proofs.Common.{◌≡◌, ℕ, zero, suc, ◌+◌, ◌%◌, ◌^◌, ◌<◌, ◌≤◌, ◌⊎◌, ◌*◌, ◌&&◌, ◌||◌, true, eqb, ltb, leb, List, [], ◌∷◌, ◌++◌, refl, arith, Option, None, Some, subst, inl, inr}
 use Rattle.std.specs.Prelude.{IsSome}
 use Rattle.std.specs.List.{list_any, range_with_len}
 use Rattle.std.proofs.lemmas.Bool.{cases_Bool, eqb-true}
@@ -95,3 +95,15 @@ fits l none =
       comp = ring_size l.comp rest.1.1.1.1.0;
       pool = pool_fits (pool_in l) l.fill rest.1.1.1.1.1.0;
     }
+
+chunk_size : (n : ℕ) → (eqb n 2048 || eqb n 4096) ≡ true → (n ≡ 2048) ⊎ (n ≡ 4096)
+chunk_size n is = grind (arith, nat_tests)
+
+pub chunk_is : (l : Layout) → fault_of l ≡ None → (l.chunk ≡ 2048) ⊎ (l.chunk ≡ 4096)
+unfolding AreMet
+chunk_is l none = chunk_size l.chunk (met (demands l) none).1.1.1.1.0
+
+-- as many files as all ports together want
+pub files_are : (l : Layout) → fault_of l ≡ None → l.files ≡ l.files_wanted_per_port * l.ports
+unfolding AreMet
+files_are l none = eqb-true l.files (l.files_wanted_per_port * l.ports) (met (demands l) none).1.1.1.0

@@ -1,9 +1,15 @@
-use Rattle.std.proofs.Common.{rules, ◌≡◌, true, false, map, string_bytes}
+use Rattle.std.proofs.Common.{rules, ◌≡◌, true, false, map, string_bytes, None}
 use Rattle.std.specs.List.{list_all}
 use Rattle.clap.specs.Words.{all_of, found_of, rows_of}
-use Rattle.xsk_args.specs.Meaning.{fits}
-use Rattle.xsk_args.proofs.Reading.{meant_none, meant_some}
+use Rattle.xsk_args.specs.Meaning.{fits, stated}
+use Rattle.xsk_args.specs.Words.{spoken}
+use Rattle.xsk_args.proofs.Reading.{meant_none, meant_some, meant_unspoken}
 use Rattle.xsk_args.proofs.args.parse_behind.Goals as goal
+
+pub returns-in_err-matches-clause-usage : goal.returns-in_err-matches-clause-usage
+returns-in_err-matches-clause-usage c is =
+    let none : spoken (map stated c.args.table.now) (map string_bytes c.args.words.now) ≡ None = search (rules, is) in
+    meant_unspoken c.args.table.now (map string_bytes c.args.words.now) none
 
 pub returns-then-not-all_fit-clause-usage : goal.returns-then-not-all_fit-clause-usage
 returns-then-not-all_fit-clause-usage c =

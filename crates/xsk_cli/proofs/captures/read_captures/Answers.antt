@@ -2,7 +2,7 @@ use Rattle.std.proofs.Common.{rules, ◌≡◌, ◌<◌, ◌+◌, length, map, g
 use Rattle.xsk_pcap.specs.Capture.{IsCapture}
 use Rattle.xsk_cli.specs.Judged.{bytes_of}
 use Rattle.xsk_cli.specs.Steps.{IsRefusal}
-use Rattle.xsk_cli.proofs.Judging.{HaveTaken, taken_more, refusal_makes, text_at, short_all, answer_makes}
+use Rattle.xsk_cli.proofs.Judging.{HaveTaken, taken_more, refusal_makes, text_at, short_all, answer_untaken}
 use Rattle.xsk_cli.proofs.Reading.{known_name}
 use Rattle.xsk_cli.proofs.captures.read_captures.Goals as goal
 
@@ -16,7 +16,7 @@ returns-in_err-list-clause-failed c =
     let at : c.as_slice.result.now ≡ bytes_of inputs port =
     text_at (λ bytes. bytes.items) c.args.inputs.now port c.index-inputs-port.result c.as_slice.result.now below (c.as_slice.ensures.value ∙ ap (λ bytes. bytes.items) item) in
     let refused : IsRefusal port c.as_slice.result.now failure = search rules in
-    answer_makes c.from_residual-in_err-list.result failure inputs (search rules)
+    answer_untaken c.from_residual-in_err-list.result failure inputs (search rules)
     (refusal_makes inputs c.loop-port.lists.items port failure c.loop-port.invariant.have (known_name (λ bytes. bytes.items) c.args.inputs.now port below)
     (short_all (λ bytes. bytes.items) c.args.inputs.now c.requires.short) (subst (λ b. IsRefusal port b failure) at refused))
 

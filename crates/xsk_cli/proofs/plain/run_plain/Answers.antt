@@ -1,5 +1,6 @@
 use Rattle.std.proofs.Common.{◌≡◌, map, string_bytes, sym, ap, ◌∙◌, subst}
-use Rattle.std.specs.Prelude.{unwrap_or}
+use Rattle.std.specs.Prelude.{◌⊎◌, unwrap_or}
+use Rattle.xsk_cli.specs.declared.status.Status.TheVariants.{Refused, OutOfMemory}
 use Rattle.xsk_io.proofs.Steps.{Rose-later}
 use Rattle.xsk_cli.specs.Cause.{IsCaused}
 use Rattle.xsk_cli.specs.Ends.{Ends, NoneRose}
@@ -7,6 +8,10 @@ use Rattle.xsk_cli.specs.Streams.{Moment}
 use Rattle.xsk_cli.specs.Words.{no_plan, plan_of}
 use Rattle.xsk_cli.proofs.Answering.{answered, completes}
 use Rattle.xsk_cli.proofs.plain.run_plain.Goals as goal
+
+pub returns-clause-refused : goal.returns-clause-refused
+returns-clause-refused g c plan unlawful is fault =
+    subst (λ s. (s ≡ Refused unlawful) ⊎ (s ≡ OutOfMemory)) (sym c.status_of-status.ensures) (c.run_words.ensures.refused plan unlawful is fault)
 
 pub returns-clause-answers : goal.returns-clause-answers
 returns-clause-answers g c plan inputs outcome is told h =
@@ -18,7 +23,7 @@ returns-clause-answers g c plan inputs outcome is told h =
     answered plan old mid inputs told c.status_of-status.result outcome ends (λ u. let none = sym is ∙ c.run_words.ensures.usage (sym c.status_of-status.ensures ∙ u) in cc) h
 
 pub returns-clause-complete : goal.returns-clause-complete
-returns-clause-complete g c plan inputs is told taken none =
+returns-clause-complete g c plan inputs is accepted told taken none =
     let old : Moment = record { is_open = g.B.Bay.is_open c.args.bay.now; asked = g.B.Bay.asked c.args.bay.now; left = g.B.Bay.left c.args.bay.now; held = g.B.Bay.held c.args.bay.now; faults = g.B.Bay.faults c.args.bay.now } in
     let mid : Moment = record { is_open = g.B.Bay.is_open c.run_words.new.bay; asked = g.B.Bay.asked c.run_words.new.bay; left = g.B.Bay.left c.run_words.new.bay; held = g.B.Bay.held c.run_words.new.bay; faults = g.B.Bay.faults c.run_words.new.bay } in
     let planned : unwrap_or (plan_of (map string_bytes c.args.words.now)) no_plan ≡ plan = ap (λ o. unwrap_or o no_plan) is in
@@ -26,4 +31,4 @@ returns-clause-complete g c plan inputs is told taken none =
     subst (λ p. Ends p old mid c.status_of-status.result) planned (subst (λ s. Ends (unwrap_or (plan_of (map string_bytes c.args.words.now)) no_plan) old mid s) (sym c.status_of-status.ensures) c.run_words.ensures.ends) in
     let caused : IsCaused old.faults mid.faults c.status_of-status.result = subst (IsCaused old.faults mid.faults) (sym c.status_of-status.ensures) c.run_words.ensures.cause in
     let quiet : NoneRose old.faults mid.faults = λ kind stream rose. none kind stream (Rose-later _ _ _ (c.run_words.ensures.falls kind stream) rose (c.tell.ensures.falls kind stream)) in
-    completes plan old mid inputs told c.status_of-status.result ends (λ u. let no_words = sym is ∙ c.run_words.ensures.usage (sym c.status_of-status.ensures ∙ u) in cc) taken quiet caused
+    completes plan old mid inputs told c.status_of-status.result ends (λ u. let no_words = sym is ∙ c.run_words.ensures.usage (sym c.status_of-status.ensures ∙ u) in cc) accepted taken quiet caused

@@ -1,20 +1,10 @@
-use Rattle.std.proofs.Common.{◌≡◌, ◌∙◌, ap, length}
-use Rattle.std.proofs.lemmas.List.{length-map}
-use Rattle.xsk_cli.specs.Steps.{lists_in, written_in}
-use Rattle.xsk_cli.proofs.Running.{sent_few, sent_small, texts_of, log_count}
+use Rattle.std.proofs.Common.{rules, ◌≡◌, [], ◌∷◌, get_or}
+use Rattle.xsk_cli.specs.Outcome.{made_lists}
+use Rattle.xsk_cli.specs.Steps.{lists_in}
+use Rattle.xsk_cli.proofs.Making.{IsMade, made_at}
 use Rattle.xsk_cli.proofs.run.make_texts.Goals as goal
 
-pub output_texts-requires-clause-few : goal.output_texts-requires-clause-few
-output_texts-requires-clause-few c port below =
-    let count : length (lists_in c.args.lists.now) ≡ 2 = length-map c.args.lists.now (λ list. list.packets) ∙ c.requires.ports in
-    sent_few (lists_in c.args.lists.now) c.in_ok-run.run' port c.in_ok-run.ensures.ended count c.requires.within below
-
-pub output_texts-requires-clause-small : goal.output_texts-requires-clause-small
-output_texts-requires-clause-small c port below =
-    let count : length (lists_in c.args.lists.now) ≡ 2 = length-map c.args.lists.now (λ list. list.packets) ∙ c.requires.ports in
-    sent_small (lists_in c.args.lists.now) c.in_ok-run.run' port c.in_ok-run.ensures.ended count c.requires.within below
-
-pub returns-clause-made : goal.returns-clause-made
-returns-clause-made c =
-    texts_of (lists_in c.args.lists.now) c.in_ok-run.run' c.len.result (written_in (record { outputs = c.in_ok-outputs.outputs; report = c.in_ok-report.report })) c.in_ok-run.ensures.ended
-    c.in_ok-outputs.ensures (c.len.ensures ∙ log_count c.log.result.now ∙ ap length c.log.ensures.entries) c.in_ok-report.ensures
+pub made_texts-requires-clause-short : goal.made_texts-requires-clause-short
+made_texts-requires-clause-short c =
+    let at : c.index-lists-0.result ≡ get_or c.args.lists.now 0 c.index-lists-0.result = search rules in
+    (made_at c.in-Generate.number c.args.lists.now c.index-lists-0.result at (c.requires.made c.in-Generate.number c.in-Generate.is)).short

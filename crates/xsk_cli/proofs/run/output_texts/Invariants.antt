@@ -7,5 +7,5 @@ abbrev pub invariant-loop-port : goal.invariant-loop-port
 invariant-loop-port l = record {
   texts : map (λ text. text.items) l.texts.items ≡ map (λ port. capture_of (slice_index_or l.run.sent port [])) (range_with_len 0 l.port);
   count : vec_len l.texts ≡ l.port;
-  room : 2 ≤ vec_capacity l.texts;
+  room : l.ports ≤ vec_capacity l.texts;
 }

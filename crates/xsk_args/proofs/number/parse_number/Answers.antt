@@ -1,7 +1,7 @@
 use Rattle.std.proofs.Common.{rules, ◌≡◌, ◌∙◌, ◌<◌, length, true, arith}
 use Rattle.std.specs.Str.{all_ascii_digits}
 use Rattle.xsk_args.proofs.Reading.{number_read}
-use Rattle.xsk_args.proofs.number.number.Goals as goal
+use Rattle.xsk_args.proofs.number.parse_number.Goals as goal
 
 pub returns : goal.returns
 returns c =

@@ -1,0 +1,81 @@
+-- What words come to.
+use Rattle.std.proofs.Common.{◌≡◌, ℕ, ◌≤◌, false, Option, Some, None, inl, inr, refl, sym, ◌∙◌, subst, arith}
+use Rattle.std.specs.Prelude.{◌⊎◌, Result, Err, unwrap_or}
+use Rattle.std.proofs.lemmas.Option.{same_Some}
+use Rattle.xsk_io.specs.declared.bay.Stream.{Stream}
+use Rattle.xsk_io.specs.declared.bay.Stream.TheVariants.{Report}
+use Rattle.xsk_socket.specs.declared.layout.Unlawful.{Unlawful}
+use Rattle.xsk_cli.specs.Cause.{IsCaused, NeverFalls}
+use Rattle.xsk_cli.specs.Ends.{Ends}
+use Rattle.xsk_cli.specs.Steps.{Comes, args_status}
+use Rattle.xsk_args.specs.declared.error.ArgsError.{ArgsError}
+use Rattle.xsk_args.specs.declared.error.ArgsError.TheVariants.{Usage as IsUsage, OutOfMemory as ArgsMemory}
+use Rattle.xsk_cli.specs.Streams.{Moment, HasLine, IsAtOnce, status_in}
+use Rattle.xsk_cli.specs.Words.{Plan, fault_in, no_plan}
+use Rattle.xsk_cli.specs.declared.status.Status.{Status}
+use Rattle.xsk_cli.specs.declared.status.Status.TheVariants.{Usage, Refused, OutOfMemory}
+use Rattle.xsk_cli.proofs.Reading.{ends_at_once, refused_ends, usage_ends}
+
+module _ (planned : Option Plan) (old : Moment) (closed : (stream : Stream) → old.is_open stream ≡ false) where
+  pub usage_comes : planned ≡ None → Comes planned old old Usage
+  usage_comes none = record {
+    usage = λ _. none;
+    unplanned = λ _. inl refl;
+    refused = λ plan unlawful is fault. let no = sym is ∙ none in absurd cc;
+    ends = usage_ends (unwrap_or planned no_plan) old closed;
+    silent = λ _. refl;
+    cause = tt;
+    falls = λ kind stream. omega arith;
+    uncounted = λ _ kind stream. refl;
+  }
+
+  pub memory_comes : Comes planned old old OutOfMemory
+  memory_comes = record {
+    usage = λ e. absurd cc;
+    unplanned = λ _. inr refl;
+    refused = λ plan unlawful is fault. inr refl;
+    ends = ends_at_once (unwrap_or planned no_plan) old closed;
+    silent = λ _. refl;
+    cause = tt;
+    falls = λ kind stream. omega arith;
+    uncounted = λ no. absurd no;
+  }
+
+  pub args_comes : (error : ArgsError) → (error ≡ IsUsage → planned ≡ None) → Comes planned old old (args_status error)
+  args_comes IsUsage none = usage_comes (none refl)
+  args_comes ArgsMemory none = memory_comes
+
+  pub refused_comes : (plan : Plan) (unlawful : Unlawful) → planned ≡ Some plan → fault_in plan.work ≡ Some unlawful → Comes planned old old (Refused unlawful)
+  refused_comes plan unlawful is fault = record {
+    usage = λ e. absurd cc;
+    unplanned = λ none. let no = sym is ∙ none in absurd cc;
+    refused = λ other reason same faulty.
+        let plans : plan ≡ other = same_Some plan other (sym is ∙ same) in
+        let reasons : unlawful ≡ reason = same_Some unlawful reason (sym fault ∙ subst (λ (p : Plan). fault_in p.work ≡ Some reason) (sym plans) faulty) in
+        inl (subst (λ u. Refused unlawful ≡ Refused u) reasons refl);
+    ends = subst (λ o. Ends (unwrap_or o no_plan) old old (Refused unlawful)) (sym is) (refused_ends plan old unlawful closed fault);
+    silent = λ _. refl;
+    cause = tt;
+    falls = λ kind stream. omega arith;
+    uncounted = λ _ kind stream. refl;
+  }
+
+pub plan_comes : (planned : Option Plan) (plan : Plan) (old new : Moment) (status : Status) → planned ≡ Some plan → fault_in plan.work ≡ None → (IsAtOnce status → ⊥) → Ends plan old new status
+    → (HasLine status → new.held Report ≡ old.held Report) → IsCaused old.faults new.faults status → NeverFalls old.faults new.faults → Comes planned old new status
+plan_comes planned plan old new status is accepted begun ends silent cause falls = record {
+  usage = λ e. absurd (begun (subst IsAtOnce (sym e) tt));
+  unplanned = λ none. let no = sym is ∙ none in absurd cc;
+  refused = λ other reason same faulty.
+      let plans : plan ≡ other = same_Some plan other (sym is ∙ same) in
+      let no = sym accepted ∙ subst (λ (p : Plan). fault_in p.work ≡ Some reason) (sym plans) faulty in
+      absurd cc;
+  ends = subst (λ o. Ends (unwrap_or o no_plan) old new status) (sym is) ends;
+  silent = silent;
+  cause = cause;
+  falls = falls;
+  uncounted = λ at_once. absurd (begun at_once);
+}
+
+-- an answer with such a status
+pub comes_as : (answer : Result Unit Status) (status : Status) (planned : Option Plan) (old new : Moment) → answer ≡ Err status → Comes planned old new status → Comes planned old new (status_in answer)
+comes_as answer status planned old new is comes = subst (λ r. Comes planned old new (status_in r)) (sym is) comes

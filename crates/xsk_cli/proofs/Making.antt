@@ -1,0 +1,104 @@
+-- Packets that are made are within the limits, and may be written.
+use Rattle.std.proofs.Common.{◌≡◌, ℕ, zero, suc, ◌+◌, ◌*◌, ◌<◌, ◌≤◌, ltb, Bool, cond, false, List, [], ◌∷◌, ◌++◌, get_or, length, map, refl, ap, ◌∙◌, subst, sym, arith, le-ltb, ⊎_elim, None, Some, Option}
+use Rattle.std.specs.Prelude.{All, sum_by}
+use Rattle.std.specs.List.{concat, range_with_len}
+use Rattle.std.proofs.lemmas.List.{map-append}
+use Rattle.std.proofs.lemmas.List.FromFn.{sum_by-map-range_with_len_more}
+use Rattle.xsk_umem.specs.PacketList.{PacketList}
+use Rattle.xsk_driver.specs.Sent.{IsShort}
+use Rattle.xsk_gen.specs.Generator.{first, packet}
+use Rattle.xsk_gen.proofs.Sizes.{all_first, bytes_first, length-first, length-packet}
+use Rattle.xsk_socket.specs.declared.layout.Layout.{Layout}
+use Rattle.xsk_socket.specs.Layout.{fault_of}
+use Rattle.xsk_socket.proofs.Accepted.{fits}
+use Rattle.xsk_cli.specs.Judged.{AreShort, packets_in, bytes_in, excess_of}
+use Rattle.xsk_cli.specs.Outcome.{listed, made_lists, AreListsOf}
+use Rattle.xsk_cli.specs.Steps.{AreUntaken, FailsMaking, MakesNone, lists_in}
+use Rattle.xsk_cli.specs.declared.failure.RunFailure.{RunFailure}
+use Rattle.xsk_cli.specs.declared.failure.RunFailure.TheVariants.{BadCapture as Bad, TooMuch as Excessive, Stalled as Stalls, OutOfMemory as NoMemory}
+use Rattle.xsk_cli.proofs.Ports.{more_ports}
+use Rattle.xsk_cli.specs.declared.words.Work.{Work}
+use Rattle.xsk_cli.specs.declared.words.Work.TheVariants.{Simulate, Generate}
+
+pub few_ports : (layout : Layout) → fault_of layout ≡ None → layout.ports ≤ 4
+few_ports layout accepted = omega (arith, (fits layout accepted).ports)
+
+-- ---- limits
+
+sum_few : {X : Type 0} (g : X → ℕ) (f : ℕ → X) (n : ℕ) → ((i : ℕ) → g (f i) ≤ 2000) → sum_by g (map f (range_with_len 0 n)) ≤ n * 2000
+sum_few g f zero each = omega arith
+sum_few g f (suc n) each =
+    let next : n + 1 ≡ suc n = omega arith in
+    subst (λ k. sum_by g (map f (range_with_len 0 k)) ≤ k * 2000) next (omega (arith, sum_by-map-range_with_len_more g f 0 n n (omega arith), sum_few g f n each, each n))
+
+sum_small : {X : Type 0} (g : X → ℕ) (f : ℕ → X) (n : ℕ) → ((i : ℕ) → g (f i) ≤ 3028000) → sum_by g (map f (range_with_len 0 n)) ≤ n * 3028000
+sum_small g f zero each = omega arith
+sum_small g f (suc n) each =
+    let next : n + 1 ≡ suc n = omega arith in
+    subst (λ k. sum_by g (map f (range_with_len 0 k)) ≤ k * 3028000) next (omega (arith, sum_by-map-range_with_len_more g f 0 n n (omega arith), sum_small g f n each, each n))
+
+made_few : (number port : ℕ) → length (first 2000 (packet number port)) ≤ 2000
+made_few number port = omega (arith, length-first 2000 (packet number port))
+
+made_small : (number port : ℕ) → length (concat (first 2000 (packet number port))) ≤ 3028000
+made_small number port = bytes_first 2000 (packet number port) (length-packet number port)
+
+none_passed : (lists : List (List (List ℕ))) → packets_in lists ≤ 65536 → bytes_in lists ≤ 33554432 → excess_of lists ≡ None
+none_passed lists few small = rw (le-ltb 65536 (packets_in lists) few, le-ltb 33554432 (bytes_in lists) small) refl
+
+pub made_within : (number ports : ℕ) → ports ≤ 4 → excess_of (made_lists number ports) ≡ None
+made_within number ports few =
+    none_passed (made_lists number ports)
+    (omega (arith, few, sum_few (λ (packets : List (List ℕ)). length packets) (λ port. first 2000 (packet number port)) ports (made_few number)))
+    (omega (arith, few, sum_small (λ (packets : List (List ℕ)). length (concat packets)) (λ port. first 2000 (packet number port)) ports (made_small number)))
+
+-- ---- one list
+
+pub record IsMade (packets : List (List ℕ)) : Type 0 where
+  pub short : All IsShort packets
+  pub few : length packets ≤ 65536
+  pub small : length (concat packets) ≤ 33554432
+
+pub made_at : (number : ℕ) (lists : List PacketList) (list : PacketList) → list ≡ get_or lists 0 list → lists_in lists ≡ made_lists number 1 → IsMade list.packets
+made_at number [] list at is = absurd cc
+made_at number (made ∷ others) list at is =
+    let first_is : made.packets ≡ first 2000 (packet number 0) = cc in
+    let here : list.packets ≡ first 2000 (packet number 0) = ap (λ (l : PacketList). l.packets) at ∙ first_is in
+    subst IsMade (sym here) (record {
+      short = all_first IsShort 2000 (packet number 0) (λ i. omega (arith, length-packet number 0 i));
+      few = omega (arith, made_few number 0);
+      small = omega (arith, made_small number 0);
+    })
+
+-- ---- the work's packets
+
+pub untaken_makes : (layout : Layout) (order : ℕ) (inputs : List (List ℕ)) (failure : RunFailure) → AreUntaken inputs failure → MakesNone (Simulate layout order None) inputs failure
+untaken_makes layout order inputs (Bad port cause) h = h
+untaken_makes layout order inputs (Excessive excess) h = h
+untaken_makes layout order inputs (Stalls round) h = absurd h
+untaken_makes layout order inputs NoMemory h = h
+
+pub none_of : {X : Type 0} (xs : List X) → length xs ≡ 0 → xs ≡ []
+none_of [] none = refl
+none_of (x ∷ xs) none = absurd (omega (arith, none))
+
+pub made_of : (work : Work) (number : ℕ) (inputs : List (List ℕ)) (lists : List (List (List ℕ))) → work ≡ Generate number → AreListsOf work inputs lists → lists ≡ made_lists number 1
+made_of work number inputs lists is are = (subst (λ k. AreListsOf k inputs lists) is are).1
+
+pub making_fails : (work : Work) (inputs : List (List ℕ)) (lists : List (List (List ℕ))) (failure : RunFailure) → AreShort inputs (length inputs) → AreListsOf work inputs lists → excess_of lists ≡ None
+    → FailsMaking work lists failure → MakesNone work inputs failure
+making_fails work inputs lists (Bad at cause) short are within h = absurd h
+making_fails work inputs lists (Excessive excess) short are within h = absurd h
+making_fails work inputs lists (Stalls round) short are within h = (short, (lists, are, (within, h)))
+making_fails work inputs lists NoMemory short are within h = tt
+
+-- one list more
+pub made_more : (number port : ℕ) (lists : List PacketList) (list : PacketList) (all : List PacketList) → lists_in lists ≡ made_lists number port → lists ≡ map listed (lists_in lists)
+    → list ≡ listed (first 2000 (packet number port)) → all ≡ lists ++ list ∷ [] → (lists_in all ≡ made_lists number (port + 1)) × (all ≡ map listed (lists_in all))
+made_more number port lists list all are bare is pushed =
+    let packets : PacketList → List (List ℕ) = λ (l : PacketList). l.packets in
+    let parts : lists_in all ≡ lists_in lists ++ list.packets ∷ [] = ap lists_in pushed ∙ map-append packets lists (list ∷ []) in
+    let one : list ≡ listed list.packets = subst (λ (l : PacketList). l ≡ listed l.packets) (sym is) refl in (
+      parts ∙ ap (λ ls. ls ++ list.packets ∷ []) are ∙ ap (λ (l : PacketList). made_lists number port ++ l.packets ∷ []) is ∙ sym (more_ports (λ port. first 2000 (packet number port)) port),
+      pushed ∙ ap (λ ls. ls ++ list ∷ []) bare ∙ ap (λ l. map listed (lists_in lists) ++ l ∷ []) one ∙ sym (map-append listed (lists_in lists) (list.packets ∷ [])) ∙ ap (map listed) (sym parts),
+    )

@@ -1,0 +1,40 @@
+//! The packets of all ports, from captures or made.
+ghost use Rattle.std.specs.Prelude.{◌≡◌, ◌≤◌, None, IfErr, IfOk, length, map};
+ghost use Rattle.xsk_cli.specs.Judged.{AreShort, excess_of};
+ghost use Rattle.xsk_cli.specs.Outcome.{AreListsOf, listed};
+ghost use Rattle.xsk_cli.specs.Steps.{HasOneSocket, MakesNone, lists_in, read_by, written_by};
+ghost use Rattle.xsk_cli.specs.Words.{fault_in};
+
+use crate::captures::take_captures;
+use crate::failure::RunFailure;
+use crate::made::make_lists;
+use crate::words::Work;
+use std::alloc::Global;
+use xsk_umem::PacketList;
+
+/// The packets of all ports: those of the captures, or those that are made.
+pub(crate) fn take_lists(
+    alloc: Global,
+    work: &Work,
+    inputs: &[Vec<u8>],
+) -> Result<Vec<PacketList>, RunFailure>
+    requires accepted { fault_in work.now ≡ None }
+    requires one { HasOneSocket work.now }
+    requires count { length inputs.now ≡ read_by work.now }
+    requires short { AreShort (map (λ bytes. bytes.items) inputs.now) (length inputs.now) }
+    ensures taken { IfOk result (λ lists. AreListsOf work.now (map (λ bytes. bytes.items) inputs.now) (lists_in lists.items)) }
+    ensures within { IfOk result (λ lists. excess_of (lists_in lists.items) ≡ None) }
+    ensures count { IfOk result (λ lists. length lists.items ≡ written_by work.now) }
+    ensures listed { IfOk result (λ lists. lists.items ≡ map listed (lists_in lists.items)) }
+    ensures failed { IfErr result (MakesNone work.now (map (λ bytes. bytes.items) inputs.now)) }
+{
+    match work {
+        Work::Simulate { number: None, .. } => take_captures(alloc, inputs),
+        Work::Simulate {
+            layout,
+            number: Some(number),
+            ..
+        } => Ok(make_lists(alloc, *number, layout.ports)?),
+        Work::Generate { number } => Ok(make_lists(alloc, *number, 1)?),
+    }
+}

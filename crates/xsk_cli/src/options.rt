@@ -1,0 +1,43 @@
+//! The options of `simulate`.
+
+use xsk_args::{OptionRow, Takes};
+
+/// Each has a number. The number that stands where none was said is [`Plan`](crate::words::Plan)'s.
+pub(crate) const OPTIONS: [OptionRow; 9] = [
+    OptionRow {
+        name: "frames",
+        takes: Takes::Number,
+    },
+    OptionRow {
+        name: "chunk",
+        takes: Takes::Number,
+    },
+    OptionRow {
+        name: "headroom",
+        takes: Takes::Number,
+    },
+    OptionRow {
+        name: "rx",
+        takes: Takes::Number,
+    },
+    OptionRow {
+        name: "tx",
+        takes: Takes::Number,
+    },
+    OptionRow {
+        name: "fill",
+        takes: Takes::Number,
+    },
+    OptionRow {
+        name: "comp",
+        takes: Takes::Number,
+    },
+    OptionRow {
+        name: "order",
+        takes: Takes::Number,
+    },
+    OptionRow {
+        name: "gen",
+        takes: Takes::Number,
+    },
+];
