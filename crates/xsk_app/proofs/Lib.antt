@@ -1,5 +1,4 @@
 pub mod Fresh
-pub mod Standing
 pub mod Steps
-pub mod Telling
 pub mod TurnLemmas
+pub mod Runs

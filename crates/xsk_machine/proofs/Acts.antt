@@ -23,7 +23,7 @@ use Rattle.xsk_turns.proofs.ScriptLemmas.{whole_run}
 use Rattle.xsk_app.specs.Runs.{StandsWith as AppStandsWith}
 use Rattle.xsk_app.proofs.Telling.{tells_with as app_tells_with}
 use Rattle.xsk_turns.specs.Workers.{Setting, input_of, IsWorkerRun}
-use Rattle.xsk_machine.specs.Standing.{other_of, HasRoomToSend, DriverStands, IsApp, AppStands, IsActAfter}
+use Rattle.xsk_machine.specs.Acts.{other_of, HasRoomToSend, DriverStands, IsApp, AppStands, IsActAfter}
 
 -- ---- drivers
 

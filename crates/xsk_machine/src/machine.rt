@@ -9,7 +9,7 @@ ghost use Rattle.xsk_model.specs.declared.call.Call.{Call};
 ghost use Rattle.xsk_model.specs.declared.call.Reply.{Reply};
 ghost use Rattle.xsk_turns.specs.Stepping.{joined_answer, joined_ask, IsLent, IsGivenBack};
 ghost use Rattle.xsk_turns.specs.Workers.{Setting};
-ghost use Rattle.xsk_machine.specs.Standing.{IsDriver, DriverStands, IsApp, AppStands, IsActAfter};
+ghost use Rattle.xsk_machine.specs.Acts.{IsDriver, DriverStands, IsApp, AppStands, IsActAfter};
 
 use xsk_app::App;
 use xsk_driver::Driver;

@@ -21,8 +21,8 @@ use Rattle.xsk_driver.specs.Runs.{IsNew as IsNewDriver}
 use Rattle.xsk_app.specs.Shown.{Shown as AppShown}
 use Rattle.xsk_app.specs.Runs.{IsNew as IsNewApp}
 use Rattle.xsk_turns.specs.Workers.{Setting}
-use Rattle.xsk_machine.specs.Standing.{HasRoomToSend, IsDriver, IsApp}
-use Rattle.xsk_sim.specs.Standing.{HasRun}
+use Rattle.xsk_machine.specs.Acts.{HasRoomToSend, IsDriver, IsApp}
+use Rattle.xsk_sim.specs.Turning.{HasRun}
 use Rattle.xsk_sim.specs.Seats.{EachFrom, DriverSits, AppSits, new_own, AreSeated}
 use Rattle.xsk_sim.specs.declared.rounds.Workers.{Workers}
 

@@ -13,7 +13,7 @@ use Rattle.xsk_plain.specs.Engine.{Engine}
 use Rattle.xsk_sim.specs.Shown.{Shown}
 use Rattle.xsk_turns.specs.Workers.{Setting, IsWorkerRun, IsWholeRun}
 use Rattle.xsk_sim.specs.Runs.{HasEnded, HasStalled, last_round_of}
-use Rattle.xsk_machine.specs.Standing.{IsActAfter}
+use Rattle.xsk_machine.specs.Acts.{IsActAfter}
 use Rattle.xsk_sim.specs.Seats.{EachFrom, own_in, AreSeated, HadRounds, HaveEnded, kept_lists}
 use Rattle.xsk_sim.specs.declared.rounds.Workers.{Workers}
 use Rattle.xsk_machine.proofs.Acts.{worker_run, sent_at}

@@ -19,8 +19,8 @@ use Rattle.xsk_model.proofs.Histories.{goes_push, after_all-append}
 use Rattle.xsk_plain.specs.Engine.{Engine, Shows, CanPerform}
 use Rattle.xsk_plain.proofs.Legality.{legal_can_perform}
 use Rattle.xsk_turns.specs.Workers.{Setting}
-use Rattle.xsk_machine.specs.Standing.{IsActAfter}
-use Rattle.xsk_sim.specs.Standing.{HasRun, TakesTurn}
+use Rattle.xsk_machine.specs.Acts.{IsActAfter}
+use Rattle.xsk_sim.specs.Turning.{HasRun, TakesTurn}
 
 -- the engine made a call and entered it
 pub record Performs (old new : Engine) (who : ℕ) (call : Call) (answer : Reply) : Type 0 where

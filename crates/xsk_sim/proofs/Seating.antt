@@ -6,7 +6,7 @@ use Rattle.xsk_model.specs.declared.call.Call.{Call}
 use Rattle.xsk_model.specs.declared.call.Act.{Act}
 use Rattle.xsk_model.specs.declared.call.Act.TheVariants.{Call as Calls, Ended as IsEnd}
 use Rattle.xsk_turns.specs.Workers.{Setting, IsWholeRun}
-use Rattle.xsk_machine.specs.Standing.{IsActAfter}
+use Rattle.xsk_machine.specs.Acts.{IsActAfter}
 use Rattle.xsk_sim.specs.Seats.{EachFrom}
 
 -- the element of a place

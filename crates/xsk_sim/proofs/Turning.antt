@@ -15,7 +15,7 @@ use Rattle.xsk_app.specs.Shown.{Shown as AppShown}
 use Rattle.xsk_sim.specs.Order.{next_number, number_at, start_of, rotated}
 use Rattle.xsk_sim.specs.Rounds.{IsTurn, AreTurns, AreRounds}
 use Rattle.xsk_turns.specs.Workers.{Setting, IsWholeRun}
-use Rattle.xsk_machine.specs.Standing.{DriverStands, AppStands, IsActAfter}
+use Rattle.xsk_machine.specs.Acts.{DriverStands, AppStands, IsActAfter}
 use Rattle.xsk_sim.specs.Seats.{AreGoing, DriverSits, AppSits, own_in, AreSeated, HadTurns, HadRound, HadRounds}
 use Rattle.xsk_sim.specs.declared.rounds.Workers.{Workers}
 

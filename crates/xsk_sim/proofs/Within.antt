@@ -14,7 +14,7 @@ use Rattle.xsk_turns.specs.Inputs.{packets_of_queue}
 use Rattle.xsk_laws.specs.Laws.{AreWholeRuns}
 use Rattle.xsk_laws.proofs.Theorems.{sent_is_within}
 use Rattle.xsk_turns.specs.Workers.{Setting, IsWholeRun}
-use Rattle.xsk_machine.specs.Standing.{other_of}
+use Rattle.xsk_machine.specs.Acts.{other_of}
 use Rattle.xsk_machine.proofs.Acts.{IsWithin}
 
 -- ---- packets of a queue

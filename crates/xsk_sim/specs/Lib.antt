@@ -3,5 +3,5 @@ pub mod Rounds
 pub mod Runs
 pub mod Seats
 pub mod Shown
-pub mod Standing
+pub mod Turning
 pub mod Given

@@ -13,8 +13,8 @@ use Rattle.xsk_app.specs.Shown.{Shown as AppShown}
 use Rattle.xsk_sim.specs.Order.{start_of, rotated, next_number}
 use Rattle.xsk_sim.specs.Rounds.{AreTurns, AreRounds}
 use Rattle.xsk_turns.specs.Workers.{Setting, IsWholeRun}
-use Rattle.xsk_machine.specs.Standing.{DriverStands, AppStands, IsActAfter}
-use Rattle.xsk_sim.specs.Standing.{HasRun}
+use Rattle.xsk_machine.specs.Acts.{DriverStands, AppStands, IsActAfter}
+use Rattle.xsk_sim.specs.Turning.{HasRun}
 use Rattle.xsk_sim.specs.declared.rounds.Workers.{Workers}
 
 -- each element of a list holds with its number, of which the first is given

@@ -10,9 +10,9 @@ ghost use Rattle.xsk_model.specs.declared.call.Call.{Call};
 ghost use Rattle.xsk_plain.specs.Engine.{CanPerform};
 ghost use Rattle.xsk_turns.specs.Stepping.{joined_ask, IsGivenBack};
 ghost use Rattle.xsk_turns.specs.Workers.{Setting};
-ghost use Rattle.xsk_machine.specs.Standing.{IsActAfter};
+ghost use Rattle.xsk_machine.specs.Acts.{IsActAfter};
 ghost use Rattle.xsk_sim.specs.Given.{IsGivenBack-prop};
-ghost use Rattle.xsk_sim.specs.Standing.{HasRun, TakesTurn};
+ghost use Rattle.xsk_sim.specs.Turning.{HasRun, TakesTurn};
 
 use std::alloc::Global;
 use xsk_machine::Machine;

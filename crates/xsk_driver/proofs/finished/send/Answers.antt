@@ -1,5 +1,5 @@
 use Rattle.std.proofs.Common.{◌≡◌, ◌≤◌, ◌∷◌, length, arith, ◌∙◌, rules}
-use Rattle.xsk_driver.proofs.SentItems.{sent_one, payload_short}
+use Rattle.xsk_driver.proofs.Sent.{sent_one, payload_short}
 use Rattle.xsk_driver.proofs.finished.send.Goals as goal
 
 pub loop-preserved : goal.loop-preserved

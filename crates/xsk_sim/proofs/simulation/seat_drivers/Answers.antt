@@ -6,7 +6,7 @@ use Rattle.xsk_model.specs.Steering.{paired_port}
 use Rattle.xsk_model.specs.declared.config.PairInfo.{PairInfo}
 use Rattle.xsk_turns.specs.Inputs.{packets_of_port}
 use Rattle.xsk_turns.specs.Workers.{Setting}
-use Rattle.xsk_machine.specs.Standing.{other_of, HasRoomToSend}
+use Rattle.xsk_machine.specs.Acts.{other_of, HasRoomToSend}
 use Rattle.xsk_sim.proofs.Seating.{each_none, each_push}
 use Rattle.xsk_sim.proofs.Beginning.{input_numbers, list_at, new_driver, ports_known}
 use Rattle.xsk_sim.proofs.simulation.seat_drivers.Goals as goal

@@ -2,8 +2,7 @@ use Rattle.std.proofs.Common.{[], refl, sym, ap, subst}
 use Rattle.xsk_turns.specs.Stepping.{joined_ask}
 use Rattle.xsk_app.specs.Shown.{Shown}
 use Rattle.xsk_app.specs.Stands.{left, GoesOn, to_do}
-use Rattle.xsk_app.proofs.Standing.{stands_new, stands_next}
-use Rattle.xsk_app.proofs.Telling.{tells_with}
+use Rattle.xsk_app.proofs.Runs.{stands_new, stands_next, tells_with}
 use Rattle.xsk_app.proofs.app.App.step.Goals as goal
 
 pub returns-clause-begins : goal.returns-clause-begins

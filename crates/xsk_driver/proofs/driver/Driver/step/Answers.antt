@@ -2,8 +2,7 @@ use Rattle.std.proofs.Common.{◌≡◌, Option, None, Some, List, [], refl, sym
 use Rattle.xsk_turns.proofs.Calls.{Item, Answer}
 use Rattle.xsk_turns.specs.Stepping.{joined_answer, joined_ask}
 use Rattle.xsk_driver.specs.Shown.{Shown}
-use Rattle.xsk_driver.proofs.Standing.{stands_new, stands_next}
-use Rattle.xsk_driver.proofs.Telling.{tells_with}
+use Rattle.xsk_driver.proofs.Runs.{stands_new, stands_next, tells_with}
 use Rattle.xsk_driver.proofs.driver.Driver.step.Goals as goal
 
 none_joined : (answer : Option Answer) (items : List Item) → joined_answer answer items ≡ None → answer ≡ None

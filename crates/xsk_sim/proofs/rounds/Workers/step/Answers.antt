@@ -2,8 +2,8 @@ use Rattle.std.proofs.Common.{◌≡◌, ℕ, ◌+◌, ◌-◌, ◌<◌, [], ◌
 use Rattle.std.specs.Vec.{with_item}
 use Rattle.xsk_turns.specs.Stepping.{joined_ask}
 use Rattle.xsk_turns.specs.Workers.{IsWholeRun}
-use Rattle.xsk_machine.specs.Standing.{DriverStands, AppStands}
-use Rattle.xsk_sim.specs.Standing.{TakesTurn}
+use Rattle.xsk_machine.specs.Acts.{DriverStands, AppStands}
+use Rattle.xsk_sim.specs.Turning.{TakesTurn}
 use Rattle.xsk_sim.specs.Seats.{DriverSits, AppSits, own_in, HadTurns}
 use Rattle.xsk_sim.proofs.Seating.{each_at, each_set, each_change}
 use Rattle.xsk_sim.proofs.RunSteps.{can_make}

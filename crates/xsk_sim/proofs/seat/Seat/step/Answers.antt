@@ -6,8 +6,8 @@ use Rattle.xsk_model.specs.declared.ask.Ask.{Ask}
 use Rattle.xsk_model.specs.declared.call.Act.{Act}
 use Rattle.xsk_model.specs.declared.call.Act.TheVariants.{Call as Calls}
 use Rattle.xsk_plain.specs.Engine.{Engine, CanPerform}
-use Rattle.xsk_machine.specs.Standing.{IsActAfter}
-use Rattle.xsk_sim.specs.Standing.{HasRun}
+use Rattle.xsk_machine.specs.Acts.{IsActAfter}
+use Rattle.xsk_sim.specs.Turning.{HasRun}
 use Rattle.xsk_sim.proofs.RunSteps.{Performs, turn_made, run_same}
 use Rattle.xsk_sim.proofs.seat.Seat.step.Goals as goal
 

@@ -7,7 +7,7 @@ use Rattle.xsk_model.specs.Stored.{stored}
 use Rattle.xsk_model.specs.declared.call.Act.{Act}
 use Rattle.xsk_plain.specs.Engine.{Engine, Shows}
 use Rattle.xsk_turns.specs.Workers.{Setting, IsWholeRun}
-use Rattle.xsk_machine.specs.Standing.{IsActAfter}
+use Rattle.xsk_machine.specs.Acts.{IsActAfter}
 use Rattle.xsk_sim.specs.Rounds.{IsTurn}
 
 -- the engine's log is a legal history from the opening, as it is stored, and it shows the state that the history leaves

@@ -1,4 +1,4 @@
--- From a step of the machine to the list for which the application stands.
+-- From a step of the machine to the list for which the application stands, and all that is promised of it there.
 use Rattle.std.proofs.Common.{◌≡◌, ℕ, List, [], refl, sym, ap, ◌∙◌, subst}
 use Rattle.xsk_turns.proofs.Object.{Config, Fits}
 use Rattle.xsk_turns.proofs.Calls.{Told, with_told, Call, Reply, Act}
@@ -7,12 +7,14 @@ use Rattle.xsk_turns.specs.Script.{Script, ask, again, ended, begun, Leaves}
 use Rattle.xsk_turns.specs.Owned.{AllFit}
 use Rattle.xsk_turns.specs.AppTurns.{AppKept, app_turn, app_start}
 use Rattle.xsk_turns.specs.AppOwned.{IsApp}
-use Rattle.xsk_turns.proofs.ScriptLemmas.{leaves_told}
+use Rattle.xsk_turns.proofs.ScriptLemmas.{leaves_told, run_asks, asks_more}
 use Rattle.xsk_turns.proofs.Owning.{fit_push}
 use Rattle.xsk_app.specs.Shown.{Shown}
 use Rattle.xsk_app.specs.Stands.{noted_by, kept_by, left, GoesOn, IsSame}
-use Rattle.xsk_app.specs.Runs.{IsNew, Stands, StandsWith}
+use Rattle.xsk_app.specs.Runs.{IsNew, Stands, StandsWith, HasEnded, Tells, TellsAll, TellsWith}
 use Rattle.xsk_app.specs.declared.machine.Machine.{Machine}
+use Rattle.xsk_model.specs.Config.{Config}
+use Rattle.xsk_turns.proofs.AppOwning.{app_keeps_frames, app_calls_legal, app_keeps_frames_at_end}
 
 -- what is shown of a machine
 pub record Shows (s : Shown) (m : Machine) : Type 0 where
@@ -55,3 +57,20 @@ module _ (c : Config) (app : ℕ) where
         stands_with now s act (rest reply) (with_told l call reply) shown (ap (λ r. r.now) same.config ∙ sym shows.config ∙ stands.config) (same.app ∙ sym shows.app ∙ stands.app) stands.one
         (fit_push c [] l call reply stands.fit fits) (leaves_told (app_turn c app) (app_start c) before.kept call rest reply l stands.asks)
         (subst (λ f. GoesOn c app now act (f reply)) there (moved stands.config stands.app (left old.config.now old.app old.wait (noted_by old.turn) (kept_by old) reply) goes))
+
+pub tells : (c : Config) (a : ℕ) (s : Shown) (call : Call) (l : List Told) → Stands c a s call l → Tells c a s call l
+tells c a s call l stands =
+    let rest = left c a s.wait s.noted s.kept in
+    record {
+      run = run_asks (app_turn c a) (app_start c) s.kept call rest l stands.asks;
+      more = asks_more (app_turn c a) (app_start c) s.kept call rest l stands.asks;
+      owned = app_keeps_frames c a l s.kept call rest stands.one stands.fit stands.asks;
+      legal = λ alone. app_calls_legal c a l s.kept call rest stands.one alone stands.fit stands.asks;
+    }
+
+pub tells_all : (c : Config) (a : ℕ) (s : Shown) (l : List Told) → HasEnded c a s l → TellsAll c a s l
+tells_all c a s l e = record { whole = (s.kept, e.ends); frames = app_keeps_frames_at_end c a l s.kept e.one e.fit e.ends }
+
+pub tells_with : (c : Config) (a : ℕ) (s : Shown) (act : Act) (l : List Told) → StandsWith c a s act l → TellsWith c a s act l
+tells_with c a s (Calls call) l stands = tells c a s call l stands
+tells_with c a s IsEnded l stands = tells_all c a s l stands
