@@ -1,4 +1,5 @@
-//! Tests of the workers and the object together: each worker by hand, runs over small rings, the largest UMEM.
+//! Tests of the workers and the object together: each worker by hand, runs over small rings, redirects,
+//! the largest UMEM.
 #![tactic(auto)]
 
 #[cfg(test)]
@@ -7,5 +8,7 @@ mod by_hand;
 mod configuration;
 #[cfg(test)]
 mod four_ports;
+#[cfg(test)]
+mod redirects;
 #[cfg(test)]
 mod small_rings;
