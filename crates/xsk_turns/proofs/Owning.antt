@@ -1,10 +1,10 @@
 -- At each of its calls a driver has the frames that it peeked and didn't submit, and the call is legal.
-use Rattle.std.proofs.Common.{◌≡◌, ℕ, zero, suc, ◌+◌, ◌-◌, ◌*◌, ◌%◌, ◌<◌, ◌≤◌, Bool, true, false, cond, ◌||◌, eqb, nat_lt, nat_le, Option, Some, None, List, [], ◌∷◌, ◌++◌, length, map, take, drop, get_or, flat_map, replicate, refl, sym, ap, ◌∙◌, subst, arith, append-nil, append_assoc, ◌&&◌, if◌then◌else◌, ◌==◌, leb-true, leb-false, ltb-false}
+use Rattle.std.proofs.Common.{◌≡◌, ℕ, zero, suc, ◌-◌, ◌*◌, ◌<◌, ◌≤◌, Bool, true, false, cond, nat_lt, Some, None, List, [], ◌∷◌, ◌++◌, length, map, drop, get_or, flat_map, replicate, refl, sym, ap, ◌∙◌, subst, arith, append-nil, append_assoc, ◌&&◌, if◌then◌else◌, ◌==◌, leb-true, leb-false, ltb-false}
 use Rattle.std.proofs.lemmas.Bool.Decides.{nat_tests}
 use Rattle.std.proofs.lemmas.List.{length-replicate}
 use Rattle.std.proofs.lemmas.List.Elements.{All-nil}
-use Rattle.xsk_turns.proofs.Object.{payload_of, Config, classes_of, map_of, socket_at, times, numbers, IsWhole, taken, room_of, IsLegal, Fits, OwnGoesOn}
-use Rattle.xsk_turns.proofs.Calls.{Item, Told, with_told, Fill, Comp, Rx, Tx, RxDone, Gone, TxDone, Cell, Call, Reserve, Submit, Peek, Release, Swap, Look, Reply, Granted, Full, Submitted, Items, Empty, Released, Old}
+use Rattle.xsk_turns.proofs.Object.{payload_of, Config, classes_of, socket_at, times, numbers, IsWhole, taken, room_of, IsLegal, Fits, OwnGoesOn}
+use Rattle.xsk_turns.proofs.Calls.{Item, Told, with_told, Fill, Comp, Rx, Tx, RxDone, Gone, TxDone, Cell, Call, Submit, Swap, Reply, Granted, Full, Old}
 use Rattle.xsk_turns.proofs.LegalCalls.{legal_reserve, legal_peek, legal_release, legal_look, legal_swap, room_told, held_told, IsDue}
 use Rattle.xsk_turns.specs.Script.{Script, Leaves, Ends}
 use Rattle.xsk_turns.specs.Turns.{Seat, Kept, Noted, seat_of, start, turn, application_of, cell_of, redirect_to, limit_of, pieces_of, returned}
