@@ -16,7 +16,7 @@ use Rattle.xsk_turns.proofs.Owned.{HasKept, IsQuiet, owned_quiet, times-kept, ha
 use Rattle.xsk_turns.proofs.Places.{batch_some, batch_few, class_here, rx_ring, tx_ring, caller_known, port_known, app_known}
 use Rattle.xsk_turns.proofs.Rooms.{fill_frames}
 use Rattle.xsk_turns.proofs.Walks.{Premise, MeetAlong, meet_fitting}
-use Rattle.xsk_turns.proofs.DriverWalk.{Place, Receiving, Trying, Sending, Idling, Family, TellRxDone, LookCell, PeekFill, ReleaseFill, ReserveRx, SubmitRx, ReserveComp, SubmitComp, PeekTx, ReleaseTx, LookTxDone, TellGone, call_at, kept_at, IsTried, fill_items, tx_items, rx_granted, comp_granted, comp_full, point_of, reply_of, visited, idles, Said, AtCalls, AtEntries, AtPasses, IsLaw, at_call, at_end, meets_said}
+use Rattle.xsk_turns.proofs.DriverWalk.{Place, Trying, Sending, Idling, Family, TellRxDone, LookCell, PeekFill, ReleaseFill, ReserveRx, SubmitRx, ReserveComp, SubmitComp, PeekTx, ReleaseTx, LookTxDone, TellGone, call_at, kept_at, IsTried, fill_items, tx_items, rx_granted, comp_granted, comp_full, point_of, reply_of, visited, idles, Said, AtCalls, AtEntries, AtPasses, IsLaw, at_call, at_end, meets_said}
 
 -- ---- a packet that goes to a socket
 
@@ -53,10 +53,10 @@ module _ (c : Config) (pair : ℕ) (is : IsSeat c pair) where
 
   -- what is due, and that a driver is idle with finished packets only where COMPLETION was full
   abbrev Beside : Place → Noted → Kept → List Told → Type 0
-  Beside Receiving noted kept l = Unit {0}
   Beside (Trying packet s due) noted kept l = IsDue due l
   Beside (Sending k due) noted kept l = IsDue due l
   Beside Idling noted kept l = noted.full ≡ false → kept.finished ≡ []
+  Beside place noted kept l = Unit {0}
 
   abbrev At : Family
   At place noted kept l = Has kept l × Beside place noted kept l
