@@ -36,19 +36,8 @@ ways_from c app first second classes ways e f same few count rx tx =
 
 -- ---- the pairs
 
-first_sum : (x q r : ℕ) → 2 * x * q + r ≡ (2 * x + 0) * q + r
-first_sum x q r = omega arith
-
-second_sum : (x q r : ℕ) → 2 * x * q + r + q ≡ (2 * x + 1) * q + r
-second_sum x q r = omega arith
-
-pub first_pair : (c : Config) (app q : ℕ) → q ≡ c.queues → 2 * (app / q) * q + app % q ≡ pair_of c app 0
-first_pair c app q e =
-    first_sum (app / q) q (app % q) ∙ ap (λ (n : ℕ). (2 * (app / n) + 0) * n + app % n) e
-
-pub second_pair : (c : Config) (app q : ℕ) → q ≡ c.queues → 2 * (app / q) * q + app % q + q ≡ pair_of c app 1
-second_pair c app q e =
-    second_sum (app / q) q (app % q) ∙ ap (λ (n : ℕ). (2 * (app / n) + 1) * n + app % n) e
+pub pair_is : (c : Config) (app side port queue pair : ℕ) → port ≡ 2 * (app / c.queues) + side → queue ≡ app % c.queues → pair ≡ port * c.queues + queue → pair ≡ pair_of c app side
+pair_is c app side port queue pair e f g = g ∙ ap (λ (p : ℕ). p * c.queues + queue) e ∙ ap (λ (q : ℕ). (2 * (app / c.queues) + side) * c.queues + q) f
 
 pub both_pairs : (a b x y : ℕ) → a ≡ x → b ≡ y → a ∷ b ∷ [] ≡ x ∷ y ∷ []
 both_pairs a b x y e f = ap (λ (n : ℕ). n ∷ b ∷ []) e ∙ ap (λ (n : ℕ). x ∷ n ∷ []) f

@@ -13,7 +13,6 @@ use Rattle.xsk_app.specs.Shown.{Shown}
 use Rattle.xsk_app.specs.Stands.{noted_by, kept_by, left, GoesOn, IsSame}
 use Rattle.xsk_app.specs.Runs.{IsNew, Stands, StandsWith, HasEnded, Tells, TellsAll, TellsWith}
 use Rattle.xsk_app.specs.declared.machine.Machine.{Machine}
-use Rattle.xsk_model.specs.Config.{Config}
 use Rattle.xsk_turns.proofs.AppOwning.{app_keeps_frames, app_calls_legal, app_keeps_frames_at_end}
 
 -- what is shown of a machine

@@ -16,6 +16,7 @@ use crate::back::Back;
 use crate::machine::{Machine, Turn, Wait, Way};
 use std::alloc::Global;
 use std::marker::Model;
+use xsk_model::steering::{driver_on, port_on, queue_on};
 use xsk_model::{Act, Answer, Ask, Config, Reply};
 use xsk_turns::stepping::{join_ask, split_reply};
 use xsk_umem::{Batch, OutOfMemory};
@@ -49,10 +50,11 @@ impl<'a> App<'a> {
         ensures expected { IfOk result (λ a. a.expected ≡ nothing) }
         ensures new { IfOk result (λ a. IsNew config.now app a) }
     {
-        let queues = config.queues();
-        let queue = app % queues;
-        let first = 2 * (app / queues) * queues + queue;
-        let pairs = [first, first + queues];
+        let _queues = config.queues();
+        let queue = queue_on(config, app);
+        let first = driver_on(config, port_on(config, app, 0), queue);
+        let second = driver_on(config, port_on(config, app, 1), queue);
+        let pairs = [first, second];
         let classes = config.classes();
         let machine = Machine {
             config,

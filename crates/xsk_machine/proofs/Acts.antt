@@ -14,14 +14,14 @@ use Rattle.xsk_model.specs.declared.call.Act.{Act}
 use Rattle.xsk_model.specs.declared.call.Act.TheVariants.{Call as Calls, Ended as IsEnd}
 use Rattle.xsk_driver.specs.Shown.{Shown as DriverShown}
 use Rattle.xsk_driver.specs.Runs.{StandsWith}
-use Rattle.xsk_driver.proofs.Telling.{tells_with}
+use Rattle.xsk_driver.proofs.Runs.{tells_with}
 use Rattle.xsk_app.specs.Shown.{Shown as AppShown}
 use Rattle.xsk_turns.specs.Turns.{seat_of, start, turn as driver_turn}
 use Rattle.xsk_turns.specs.AppTurns.{app_start, app_turn, IsAppRun, IsWholeAppRun}
 use Rattle.xsk_model.specs.Config.{classes_of}
 use Rattle.xsk_turns.proofs.ScriptLemmas.{whole_run}
 use Rattle.xsk_app.specs.Runs.{StandsWith as AppStandsWith}
-use Rattle.xsk_app.proofs.Telling.{tells_with as app_tells_with}
+use Rattle.xsk_app.proofs.Runs.{tells_with as app_tells_with}
 use Rattle.xsk_turns.specs.Workers.{Setting, input_of, IsWorkerRun}
 use Rattle.xsk_machine.specs.Acts.{other_of, HasRoomToSend, DriverStands, IsApp, AppStands, IsActAfter}
 

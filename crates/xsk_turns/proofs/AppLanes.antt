@@ -1,12 +1,12 @@
 -- On each lane the items submitted are the first of those peeked, and at the end all of them; and there its RX ring was
 -- found empty, after both drivers had told that they have no further packet.
-use Rattle.std.proofs.Common.{◌≡◌, ℕ, zero, suc, ◌+◌, ◌-◌, ◌<◌, Bool, true, false, cond, ◌&&◌, eqb, List, [], ◌∷◌, ◌++◌, length, map, drop, set, refl, sym, ap, ◌∙◌, subst, ⊎_elim, arith, append-nil, eq-eqb, ne_eqb, get_or-set_same, get_or-set_other, length-set}
+use Rattle.std.proofs.Common.{◌≡◌, ℕ, ◌+◌, ◌<◌, Bool, true, false, cond, ◌&&◌, eqb, List, [], ◌∷◌, ◌++◌, length, map, drop, set, refl, sym, ap, ◌∙◌, subst, ⊎_elim, arith, append-nil, eq-eqb, ne_eqb, get_or-set_same, get_or-set_other, length-set}
 use Rattle.std.proofs.Math.Bool.{and-false}
 use Rattle.std.proofs.lemmas.Bool.{cases_eq, and_parts}
 use Rattle.std.proofs.lemmas.List.{length-replicate}
 use Rattle.xsk_turns.proofs.Object.{Frame, Config, pool_of, batch_of, submitted, taken, is_on, submitted_of, peeked_of, submitted_step, peeked_step, home_item, Telling, telling_after, telling_of, Draining, are_none, unseen_after, draining_after}
-use Rattle.xsk_turns.proofs.Calls.{Item, Told, with_told, Ring, Fill, Comp, Rx, Tx, Mark, RxDone, Gone, TxDone, Call, Reserve, Submit, Peek, Release, Swap, Look, Reply, Granted, Full, Submitted, Items, Empty, Released, Old}
-use Rattle.xsk_model.proofs.Folds.{part_of-push, part_of-push_same, part_of-push_other}
+use Rattle.xsk_turns.proofs.Calls.{Item, Told, with_told, Ring, Fill, Comp, Rx, Tx, Mark, RxDone, Gone, TxDone, Call, Submit, Peek, Swap, Look, Reply, Granted, Full, Submitted, Items, Empty, Released, Old}
+use Rattle.xsk_model.proofs.Folds.{part_of-push_same, part_of-push_other}
 use Rattle.xsk_turns.specs.Turns.{frames_in}
 use Rattle.xsk_turns.specs.AppLaw.{IsFront, LanesInOrder, LanesPassedOn, NothingSentLate, DrainsRx}
 use Rattle.xsk_turns.specs.AppOwned.{IsApp}
@@ -15,7 +15,7 @@ use Rattle.xsk_turns.proofs.AppMarks.{side_marks, draining, unseen_sides, none_u
 use Rattle.xsk_turns.proofs.AppOwned.{none_pending}
 use Rattle.xsk_turns.proofs.AppPlaces.{rx_lane, tx_lane}
 use Rattle.xsk_turns.proofs.Draining.{draining_told, same_unseen, when_found, found_here}
-use Rattle.xsk_turns.proofs.Owned.{cond_same, peeked_none, none_submitted, other_submitted}
+use Rattle.xsk_turns.proofs.Owned.{peeked_none, none_submitted, other_submitted}
 use Rattle.xsk_turns.proofs.ReceivingLaws.{telling_told, and_off, now_told}
 use Rattle.xsk_turns.proofs.Walks.{Anything, meet_anything}
 use Rattle.xsk_turns.proofs.AppWalk.{Lanes, Lane, Looking, Family, busy_lane, busy_side, PeekRx, ReleaseRx, ReserveTx, SubmitTx, LookRxDone, LookGone, group, call_at, kept_before, rx_empty, rx_items, rx_released, tx_granted, tx_full, tx_submitted, comp_items, fill_submitted, looked_rx_done, told_tx_done, looked_gone, point_of, reply_of, no_lanes, has_items, has_frames, looks, begins, Said, AtCalls, AtEntries, AtPasses, IsLaw, at_end, of_run}

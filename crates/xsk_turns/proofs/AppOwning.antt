@@ -1,15 +1,15 @@
 -- At each of its calls an application has the frames that it peeked and didn't submit, and the call is legal where it is
 -- the only one.
-use Rattle.std.proofs.Common.{◌≡◌, ℕ, zero, suc, ◌+◌, ◌-◌, ◌<◌, ◌≤◌, true, false, ◌&&◌, eqb, List, [], ◌∷◌, length, set, take, drop, map, All, refl, sym, ap, ◌∙◌, subst, arith, get_or-set_same, length-set, take_while}
+use Rattle.std.proofs.Common.{◌≡◌, ℕ, ◌<◌, ◌≤◌, true, eqb, List, [], ◌∷◌, length, set, take, drop, map, All, refl, sym, ap, ◌∙◌, subst, arith, get_or-set_same, length-set, take_while}
 use Rattle.std.proofs.lemmas.List.{length-map}
 use Rattle.std.proofs.lemmas.List.Elements.{All-nil, All-map, All-take, All-drop, All-weaker}
 use Rattle.xsk_turns.proofs.Object.{Frame, Config, pool_of, batch_of, caller_of, apps_of, times, numbers, submitted, taken, home_item, IsLegal, IsItemOn}
-use Rattle.xsk_turns.proofs.Calls.{Item, Told, with_told, Fill, Comp, Rx, Tx, RxDone, Gone, TxDone, Call, Reserve, Submit, Peek, Release, Swap, Look, Reply, Granted, Full, Submitted, Items, Empty, Released, Old}
+use Rattle.xsk_turns.proofs.Calls.{Item, Told, with_told, Fill, Comp, Rx, Tx, RxDone, Gone, TxDone, Call, Peek, Reply, Granted, Submitted, Items, Released, Old}
 use Rattle.xsk_turns.proofs.LegalCalls.{legal_reserve, legal_peek, legal_release, legal_look, legal_swap, had_told, room_told, held_told, IsDue}
 use Rattle.xsk_turns.specs.Script.{Script, Asks}
 use Rattle.xsk_turns.specs.Turns.{frames_in}
 use Rattle.xsk_turns.specs.Owned.{AllFit, frame_numbers}
-use Rattle.xsk_turns.specs.AppTurns.{AppKept, AppNoted, pair_of, rx_of, tx_of, lanes_of, home_of, pending_at, with_pending, back_at, with_back, app_turn, app_start}
+use Rattle.xsk_turns.specs.AppTurns.{AppKept, pair_of, rx_of, tx_of, lanes_of, home_of, pending_at, with_pending, back_at, with_back, app_turn, app_start}
 use Rattle.xsk_turns.specs.AppOwned.{IsApp, AppOwned, AppKeepsFrames, AppCallsLegal, AppKeepsFramesAtEnd}
 use Rattle.xsk_turns.proofs.AppGroups.{with_back-again, group_some, group_front, group_few}
 use Rattle.xsk_turns.proofs.AppOwned.{AppHas, IsBackFrame, rx_to_tx, tx_to_tx, back_frames, fill_item, numbers-home, times-app_numbers, app_owned, app_told, has_pending, has_back, has_flags, has_none}

@@ -1,18 +1,17 @@
 -- In a whole run what was submitted on an RX ring are the layouts of the packets that are delivered there, in order.
-use Rattle.std.proofs.Common.{◌≡◌, ℕ, ◌*◌, ◌≤◌, ◌⊎◌, inl, inr, Bool, true, false, cond, eqb, nat_lt, nat_le, Option, Some, None, List, [], ◌∷◌, ◌++◌, length, map, flat_map, take, drop, All, refl, sym, ap, ◌∙◌, subst, append-nil, append_assoc, length-take-le, arith, slice_index, IsTrue, if◌then◌else◌, leb-true}
+use Rattle.std.proofs.Common.{◌≡◌, ℕ, ◌*◌, ◌≤◌, ◌⊎◌, inl, inr, Bool, true, false, cond, eqb, nat_lt, nat_le, List, [], ◌∷◌, ◌++◌, length, map, flat_map, take, drop, All, refl, sym, ap, ◌∙◌, subst, append-nil, append_assoc, length-take-le, arith, IsTrue, if◌then◌else◌, leb-true}
 use Rattle.xsk_turns.proofs.Owned.{none_submitted, other_submitted}
 use Rattle.std.proofs.lemmas.Bool.{ltb-false}
 use Rattle.std.proofs.lemmas.Bool.Decides.{nat_tests}
 use Rattle.std.proofs.lemmas.List.Concat.{flat_map-append}
 use Rattle.std.proofs.lemmas.List.Elements.{All-nil, All-append, All-take, All-drop, filter-append}
-use Rattle.xsk_turns.proofs.Object.{Geometry, payload_of, Config, classes_of, map_of, IsLayout, submitted, is_on, submitted_step, submitted_of, Fits}
-use Rattle.xsk_turns.proofs.Calls.{Item, Told, with_told, Ring, Fill, Comp, Rx, Tx, RxDone, Gone, TxDone, Cell, Call, Reserve, Submit, Peek, Release, Swap, Look, Reply, Granted, Full, Submitted, Items, Empty, Released, Old}
+use Rattle.xsk_turns.proofs.Object.{Geometry, payload_of, Config, classes_of, IsLayout, submitted, submitted_step, submitted_of}
+use Rattle.xsk_turns.proofs.Calls.{Item, Told, with_told, Fill, Comp, Rx, RxDone, Gone, TxDone, Call, Submit, Swap, Look, Reply, Submitted, Items, Old}
 use Rattle.xsk_model.proofs.Folds.{part_of-push}
-use Rattle.xsk_turns.specs.Turns.{Seat, Kept, Noted, seat_of, start, turn, settled, application_of, limit_of, pieces_of, laid_out, frames_in, returned}
-use Rattle.xsk_turns.specs.Disposals.{disposal_to, disposal_in, is_to, delivered_to}
+use Rattle.xsk_turns.specs.Turns.{Seat, Kept, seat_of, start, turn, settled, application_of, limit_of, pieces_of, laid_out, frames_in, returned}
+use Rattle.xsk_turns.specs.Disposals.{disposal_in, is_to, delivered_to}
 use Rattle.xsk_turns.specs.Owned.{IsSeat}
 use Rattle.xsk_turns.specs.Law.{AreLayouts, IsLaidOut, DeliversInOrder}
-use Rattle.xsk_turns.specs.declared.disposal.DriverCounters.{DriverCounters}
 use Rattle.xsk_turns.specs.declared.disposal.Disposal.{Disposal}
 use Rattle.xsk_turns.specs.declared.disposal.Disposal.TheVariants.{Delivered, TooLong, Runt, Missed}
 use Rattle.xsk_turns.proofs.Rooms.{IsOwnFrame, own_frames}

@@ -1,8 +1,8 @@
 -- In a whole run each TX ring was found empty after the application had told that it sends no more.
-use Rattle.std.proofs.Common.{◌≡◌, ℕ, ◌+◌, ◌<◌, Bool, true, false, cond, ◌||◌, ◌&&◌, eqb, List, [], ◌∷◌, map, take, refl, ap, ◌∙◌, ⊎_elim, eq-eqb, arith}
+use Rattle.std.proofs.Common.{◌≡◌, ℕ, ◌+◌, ◌<◌, Bool, true, false, cond, ◌||◌, ◌&&◌, eqb, List, [], ◌∷◌, refl, ap, ◌∙◌, ⊎_elim, eq-eqb, arith}
 use Rattle.std.proofs.lemmas.Bool.{cases_eq}
 use Rattle.std.proofs.lemmas.List.Sums.{fold_push}
-use Rattle.xsk_turns.proofs.Calls.{Item, Told, with_told, Ring, Fill, Comp, Rx, Tx, Mark, RxDone, Gone, TxDone, Cell, Call, Reserve, Submit, Peek, Release, Swap, Look, Reply, Granted, Full, Submitted, Items, Empty, Released, Old}
+use Rattle.xsk_turns.proofs.Calls.{Item, Told, with_told, Ring, Tx, Mark, Gone, TxDone, Cell, Call, Peek, Swap, Look, Reply, Full, Submitted, Items, Empty, Old}
 use Rattle.xsk_turns.proofs.Object.{classes_of, Draining, are_none, unseen_after, draining_after, draining_step, draining_of}
 use Rattle.xsk_turns.specs.Turns.{Seat, Kept, Noted, seat_of, start, turn, socket_of, application_of, cell_of}
 use Rattle.xsk_turns.specs.Law.{DrainsTx}

@@ -1,13 +1,13 @@
 -- The one walk along a driver's turns. A law of its runs says what holds at each place of a turn, and what each entry of the
 -- list, a call with its reply, makes of it; then it holds along every run.
-use Rattle.std.proofs.Common.{◌≡◌, ℕ, zero, suc, ◌+◌, ◌-◌, ◌%◌, ◌<◌, Bool, true, false, ◌||◌, nat_lt, nat_le, eqb, Option, Some, None, List, [], ◌∷◌, ◌++◌, length, map, take, drop, refl, ap, subst, arith}
+use Rattle.std.proofs.Common.{◌≡◌, ℕ, zero, suc, ◌+◌, ◌-◌, ◌%◌, ◌<◌, true, false, ◌||◌, nat_lt, nat_le, eqb, Some, None, List, [], ◌∷◌, length, map, take, drop, refl, ap, subst, arith}
 use Rattle.std.proofs.lemmas.Bool.{or_parts}
-use Rattle.xsk_turns.proofs.Calls.{Item, Told, with_told, Ring, Fill, Comp, Rx, Tx, RxDone, Gone, TxDone, Cell, Call, Reserve, Submit, Peek, Release, Swap, Look, Reply, Granted, Full, Submitted, Items, Empty, Released, Old}
+use Rattle.xsk_turns.proofs.Calls.{Item, Told, with_told, Fill, Comp, Rx, Tx, RxDone, Gone, TxDone, Cell, Call, Reserve, Submit, Peek, Release, Swap, Look, Reply, Granted, Full, Submitted, Items, Empty, Released, Old}
 use Rattle.xsk_model.specs.Config.{map_of}
 use Rattle.xsk_turns.specs.Script.{Script, ask, again, ended, on_submitted, on_released, Asks, Ends, IsRun, Leaves}
 use Rattle.xsk_turns.specs.Turns.{Seat, Kept, Noted, moved, stopped, settled, dropped, supplied, with_rx_full, with_fill_empty, with_tx_empty, visit_from, socket_of, application_of, cell_of, redirect_to, limit_of, pieces_of, laid_out, returned, gathered, idle, complete, visit, transmit, deliver, reserve, go_on, take_spare, find_spare, direct, receive, turn}
 use Rattle.xsk_turns.specs.declared.disposal.Disposal.TheVariants.{Delivered, TooLong, Runt, Missed}
-use Rattle.xsk_turns.proofs.Walks.{Premise, Law, Due, nothing_due, submit_due, release_due, Holds, Says, MeetAlong, at_reserve, at_submit, at_peek, at_release, at_old, by_case, by_option, says_left, says_run, meets_law}
+use Rattle.xsk_turns.proofs.Walks.{Premise, Law, Due, nothing_due, submit_due, release_due, Holds, MeetAlong, at_reserve, at_submit, at_peek, at_release, at_old, by_case, by_option, says_left, says_run, meets_law}
 
 -- ---- the places of a turn, and its calls
 

@@ -6,7 +6,7 @@ use Rattle.std.proofs.lemmas.List.Concat.{flat_map-append}
 use Rattle.std.proofs.lemmas.List.Elements.{All-nil, All-cons, All-append, All-weaker}
 use Rattle.std.proofs.lemmas.List.Sums.{fold_push}
 use Rattle.xsk_turns.proofs.Object.{Geometry, Frame, Config, classes_of, is_ring, times, number_of, numbers, Packet, whole, bad, items_of, packets, packets_from, rest, rest_from, whole_packets, submitted, taken, Sending, had_of, is_on, is_fill_peek, fill_step, is_from_fill, peeked_step, peeked_of, completed_by, waiting, sending_after, sending_of, IsLegal, Fits, AreFresh, OwnGoesOn, completed_in, submitted_of, submitted_step}
-use Rattle.xsk_turns.proofs.Calls.{Item, Told, with_told, Ring, Fill, Comp, Rx, Tx, Call, Reserve, Submit, Peek, Release, Swap, Look, Reply, Items}
+use Rattle.xsk_turns.proofs.Calls.{Item, Told, with_told, Ring, Fill, Comp, Tx, Call, Submit, Peek, Reply, Items}
 use Rattle.xsk_model.proofs.Counting.{times-append, times-flat_map-set}
 use Rattle.xsk_model.proofs.Completions.{own_kept, times-numbers-append}
 use Rattle.xsk_model.proofs.Folds.{part_of-push, part_of-push_same, part_of-push_other}

@@ -1,10 +1,10 @@
 -- At each of its calls a driver has the frames that it peeked and didn't submit, and the call is legal.
-use Rattle.std.proofs.Common.{◌≡◌, ℕ, zero, suc, ◌+◌, ◌-◌, ◌*◌, ◌%◌, ◌<◌, ◌≤◌, Bool, true, false, cond, ◌||◌, eqb, nat_lt, nat_le, Option, Some, None, List, [], ◌∷◌, ◌++◌, length, map, take, drop, get_or, flat_map, replicate, refl, sym, ap, ◌∙◌, subst, arith, append-nil, append_assoc, ◌&&◌, if◌then◌else◌, ◌==◌, leb-true, leb-false, ltb-false}
+use Rattle.std.proofs.Common.{◌≡◌, ℕ, zero, suc, ◌-◌, ◌*◌, ◌<◌, ◌≤◌, Bool, true, false, cond, nat_lt, Some, None, List, [], ◌∷◌, ◌++◌, length, map, drop, get_or, flat_map, replicate, refl, sym, ap, ◌∙◌, subst, arith, append-nil, append_assoc, ◌&&◌, if◌then◌else◌, ◌==◌, leb-true, leb-false, ltb-false}
 use Rattle.std.proofs.lemmas.Bool.Decides.{nat_tests}
 use Rattle.std.proofs.lemmas.List.{length-replicate}
 use Rattle.std.proofs.lemmas.List.Elements.{All-nil}
-use Rattle.xsk_turns.proofs.Object.{payload_of, Config, classes_of, map_of, socket_at, times, numbers, IsWhole, taken, room_of, IsLegal, Fits, OwnGoesOn}
-use Rattle.xsk_turns.proofs.Calls.{Item, Told, with_told, Fill, Comp, Rx, Tx, RxDone, Gone, TxDone, Cell, Call, Reserve, Submit, Peek, Release, Swap, Look, Reply, Granted, Full, Submitted, Items, Empty, Released, Old}
+use Rattle.xsk_turns.proofs.Object.{payload_of, Config, classes_of, socket_at, times, numbers, IsWhole, taken, room_of, IsLegal, Fits, OwnGoesOn}
+use Rattle.xsk_turns.proofs.Calls.{Item, Told, with_told, Fill, Comp, Rx, Tx, RxDone, Gone, TxDone, Cell, Call, Submit, Swap, Reply, Granted, Full, Old}
 use Rattle.xsk_turns.proofs.LegalCalls.{legal_reserve, legal_peek, legal_release, legal_look, legal_swap, room_told, held_told, IsDue}
 use Rattle.xsk_turns.specs.Script.{Script, Leaves, Ends}
 use Rattle.xsk_turns.specs.Turns.{Seat, Kept, Noted, seat_of, start, turn, application_of, cell_of, redirect_to, limit_of, pieces_of, returned}
@@ -16,7 +16,7 @@ use Rattle.xsk_turns.proofs.Owned.{HasKept, IsQuiet, owned_quiet, times-kept, ha
 use Rattle.xsk_turns.proofs.Places.{batch_some, batch_few, class_here, rx_ring, tx_ring, caller_known, port_known, app_known}
 use Rattle.xsk_turns.proofs.Rooms.{fill_frames}
 use Rattle.xsk_turns.proofs.Walks.{Premise, MeetAlong, meet_fitting}
-use Rattle.xsk_turns.proofs.DriverWalk.{Place, Receiving, Trying, Sending, Idling, Family, TellRxDone, LookCell, PeekFill, ReleaseFill, ReserveRx, SubmitRx, ReserveComp, SubmitComp, PeekTx, ReleaseTx, LookTxDone, TellGone, call_at, kept_at, IsTried, fill_items, tx_items, rx_granted, comp_granted, comp_full, point_of, reply_of, visited, idles, Said, AtCalls, AtEntries, AtPasses, IsLaw, at_call, at_end, meets_said}
+use Rattle.xsk_turns.proofs.DriverWalk.{Place, Trying, Sending, Idling, Family, TellRxDone, LookCell, PeekFill, ReleaseFill, ReserveRx, SubmitRx, ReserveComp, SubmitComp, PeekTx, ReleaseTx, LookTxDone, TellGone, call_at, kept_at, IsTried, fill_items, tx_items, rx_granted, comp_granted, comp_full, point_of, reply_of, visited, idles, Said, AtCalls, AtEntries, AtPasses, IsLaw, at_call, at_end, meets_said}
 
 -- ---- a packet that goes to a socket
 
@@ -53,10 +53,10 @@ module _ (c : Config) (pair : ℕ) (is : IsSeat c pair) where
 
   -- what is due, and that a driver is idle with finished packets only where COMPLETION was full
   abbrev Beside : Place → Noted → Kept → List Told → Type 0
-  Beside Receiving noted kept l = Unit {0}
   Beside (Trying packet s due) noted kept l = IsDue due l
   Beside (Sending k due) noted kept l = IsDue due l
   Beside Idling noted kept l = noted.full ≡ false → kept.finished ≡ []
+  Beside place noted kept l = Unit {0}
 
   abbrev At : Family
   At place noted kept l = Has kept l × Beside place noted kept l

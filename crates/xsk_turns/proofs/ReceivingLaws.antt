@@ -1,11 +1,11 @@
 -- Nothing is submitted on RX once the driver told that no further packet comes, and in a whole run it told so.
-use Rattle.std.proofs.Common.{◌≡◌, ℕ, Bool, true, false, ◌||◌, ◌&&◌, eqb, List, [], ◌∷◌, map, take, drop, refl, sym, ap, ◌∙◌, subst, eq-eqb}
+use Rattle.std.proofs.Common.{◌≡◌, ℕ, Bool, true, false, ◌||◌, ◌&&◌, eqb, List, [], ◌∷◌, map, drop, refl, sym, ap, ◌∙◌, subst, eq-eqb}
 use Rattle.std.proofs.lemmas.Bool.{or_from}
 use Rattle.std.proofs.Math.Bool.{or-false, and-false}
 use Rattle.std.proofs.lemmas.List.Sums.{fold_push}
-use Rattle.xsk_turns.proofs.Calls.{Item, Told, with_told, Ring, Fill, Comp, Rx, Tx, Mark, RxDone, Gone, TxDone, Cell, Call, Reserve, Submit, Peek, Release, Swap, Look, Reply, Granted, Full, Submitted, Items, Empty, Released, Old}
+use Rattle.xsk_turns.proofs.Calls.{Item, Told, with_told, Ring, Comp, Rx, Mark, RxDone, Gone, Call, Submit, Swap, Reply, Submitted, Old}
 use Rattle.xsk_turns.proofs.Object.{Config, classes_of, Telling, telling_after, telling_step, telling_of}
-use Rattle.xsk_turns.specs.Turns.{Seat, Kept, Noted, seat_of, start, turn, returned}
+use Rattle.xsk_turns.specs.Turns.{Seat, Kept, seat_of, start, turn, returned}
 use Rattle.xsk_turns.specs.Law.{NothingReceivedLate, TellsRxDone}
 use Rattle.xsk_turns.proofs.Walks.{Anything, meet_anything}
 use Rattle.xsk_turns.proofs.DriverWalk.{Family, Receiving, fresh, TellRxDone, SubmitRx, call_at, told_rx_done, looked_none, looked_long, rx_submitted, comp_submitted, looked_tx_done, point_of, reply_of, runt, missed, Said, AtCalls, AtEntries, AtPasses, IsLaw, at_end, of_run}

@@ -2,7 +2,7 @@
 use Rattle.std.proofs.Common.{◌≡◌, ℕ, ◌≤◌, Bool, true, false, cond, List, [], ◌∷◌, ◌++◌, length, get_or, map, flat_map, refl, sym, ap, subst, ◌∙◌, ⊎_elim, arith, append_assoc, append-nil, length-append, ne_eqb}
 use Rattle.std.proofs.lemmas.Bool.{cases_eq}
 use Rattle.xsk_turns.proofs.Object.{Config, times, bytes_of, taken, completed_by, waiting, sending_of, IsLegal, Fits, sockets_of, completed_in, sent_from}
-use Rattle.xsk_turns.proofs.Calls.{Told, with_told, Fill, Comp, Rx, Tx, Call, Reserve, Submit, Peek, Release, Swap, Look, Reply}
+use Rattle.xsk_turns.proofs.Calls.{Told, with_told, Comp, Call, Submit, Reply}
 use Rattle.xsk_model.specs.declared.call.Act.TheVariants.{Call as Gave, Ended as IsEnded}
 use Rattle.xsk_model.proofs.Completions.{one_completion}
 use Rattle.xsk_turns.specs.Turns.{Kept, seat_of, returned}

@@ -2,18 +2,16 @@ use Rattle.std.proofs.Common.{rules, arith, ◌≡◌, ◌+◌, ◌*◌, ◌/◌
 use Rattle.xsk_turns.specs.AppTurns.{pair_of, lanes_of}
 use Rattle.xsk_app.specs.Ways.{AreWays}
 use Rattle.xsk_turns.proofs.Places.{batch_few, batch_some}
-use Rattle.xsk_app.proofs.Fresh.{ways_from, first_pair, second_pair, both_pairs}
+use Rattle.xsk_app.proofs.Fresh.{ways_from, pair_is, both_pairs}
 use Rattle.xsk_app.proofs.app.App.new.Goals as goal
 
 pub invariant_of-machine : goal.invariant_of-machine
 invariant_of-machine c =
     let k = c.args.config.now in
-    let q = c.queues-queues.result in
-    let e = c.queues-queues.ensures.value in
-    let first = first_pair k c.args.app q e in
-    let second = second_pair k c.args.app q e in
-    let d0 = 2 * (c.args.app / q) * q + c.args.app % q in
-    let d1 = 2 * (c.args.app / q) * q + c.args.app % q + q in
+    let d0 = c.driver_on-first.result in
+    let d1 = c.driver_on-second.result in
+    let first = pair_is k c.args.app 0 c.port_on.result c.queue_on-queue.result d0 c.port_on.ensures.value c.queue_on-queue.ensures.value c.driver_on-first.ensures.value in
+    let second = pair_is k c.args.app 1 c.port_on-2.result c.queue_on-queue.result d1 c.port_on-2.ensures.value c.queue_on-queue.ensures.value c.driver_on-second.ensures.value in
     let some : 1 ≤ c.batch.result = omega (arith, c.batch.ensures, batch_some k c.queues-queues.ensures.lawful) in
     let few : c.batch.result ≤ 32 = omega (arith, c.batch.ensures, batch_few k) in
     let ways : AreWays k c.args.app c.in_ok-new_ways.field-0.items =
