@@ -4,6 +4,7 @@
 
 mod counting;
 mod end;
+mod marks;
 mod moves;
 mod opening;
 mod pass;
