@@ -15,6 +15,8 @@ pub mod Fetching
 pub mod Moving
 pub mod Holding
 pub mod Marking
+pub mod Meeting
+pub mod Ending
 pub mod Readying
 pub mod Laying
 pub mod NewTable
