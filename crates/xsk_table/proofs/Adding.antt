@@ -59,7 +59,7 @@ module _ (k : Setup) (s : State (Option Frame) View) (rule : Rule k s) (e : Entr
       ap (λ t. ring_at k.config t r) later_is
       ∙ ring_at-after_same k.config (now k s rule) e.who e.call r has legal.known (omega (arith, sound.rings, place_below k.config r has)) on
 
-  ring_else : (r : Ring) → HasRing k.config r → is_on r e.call ≡ false → ring_at k.config later r ≡ ring_now k s rule r
+  pub ring_else : (r : Ring) → HasRing k.config r → is_on r e.call ≡ false → ring_at k.config later r ≡ ring_now k s rule r
   ring_else r has off = ap (λ t. ring_at k.config t r) later_is ∙ ring_at-after_other k.config (now k s rule) e.who e.call r has legal.known off
 
   given_there : (r : Ring) → is_on r e.call ≡ true → given k r (rule.log ++ e ∷ []) ≡ given k r rule.log + length (submitted e.call)

@@ -37,7 +37,7 @@ module _ (k : Setup) (who : ℕ) (mine : List Told) (r : Ring) (call : Call) (re
   then_told = with_told mine call reply
 
   -- the counts on another ring
-  end_else : (e : End) → is_on r call ≡ false → EndHolds k who mine r e → EndHolds k who then_told r e
+  pub end_else : (e : End) → is_on r call ≡ false → EndHolds k who mine r e → EndHolds k who then_told r e
   end_else e off ok =
       let t : Told = record { call = call; reply = reply } in
       let a = part_of-push_other given_step r 0 mine t off in
@@ -114,7 +114,7 @@ any_default [] i a b lt = absurd (omega arith)
 any_default (x ∷ xs) zero a b lt = refl
 any_default (x ∷ xs) (suc i) a b lt = any_default xs i a b (omega arith)
 
-idle_taking : (r : Ring) (items : List Item) → idle ≡ taking r items → ⊥
+pub idle_taking : (r : Ring) (items : List Item) → idle ≡ taking r items → ⊥
 idle_taking r items e = cc
 
 pub still_taking : (r r' : Ring) (items others : List Item) → still r items ≡ taking r' others → (r ≡ r') × (items ≡ others)

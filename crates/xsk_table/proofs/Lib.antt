@@ -14,6 +14,9 @@ pub mod Placing
 pub mod Fetching
 pub mod Moving
 pub mod Holding
+pub mod Marking
+pub mod Meeting
+pub mod Ending
 pub mod Readying
 pub mod Laying
 pub mod NewTable

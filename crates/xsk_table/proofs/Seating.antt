@@ -47,7 +47,7 @@ times_at (y ∷ views) zero w v x e =
 times_at (y ∷ views) (suc id) w v x e =
     omega (arith, times_at views id w v x e, times-append w (callers_in y) (seated views), times-append w (callers_in y) (seated (set views id x)))
 
-times_more : (views : List View) (w : ℕ) (x : View) → times w (seated (views ++ x ∷ [])) ≡ times w (seated views) + times w (callers_in x)
+pub times_more : (views : List View) (w : ℕ) (x : View) → times w (seated (views ++ x ∷ [])) ≡ times w (seated views) + times w (callers_in x)
 times_more [] w x = omega (arith, times-append w (callers_in x) [])
 times_more (y ∷ views) w x = omega (arith, times_more views w x, times-append w (callers_in y) (seated views), times-append w (callers_in y) (seated (views ++ x ∷ [])))
 
@@ -91,7 +91,7 @@ apart_after views id v w at callers others apart n =
 -- ---- a seat cut in two
 
 -- the rule speaks of the views by the seats alone
-reseated : (k : Setup) (s : State (Option Frame) View) (rule : Rule k s) (views : List View) → ((j : ℕ) (u : View) → get_elem? views j ≡ some u → Knows rule.log rule.flights u)
+pub reseated : (k : Setup) (s : State (Option Frame) View) (rule : Rule k s) (views : List View) → ((j : ℕ) (u : View) → get_elem? views j ≡ some u → Knows rule.log rule.flights u)
     → ((w : ℕ) → times w (seated views) ≤ 1) → Rule k (record { words = s.words; homes = s.homes; views = views })
 reseated k s rule views seats apart = record {
   log = rule.log;

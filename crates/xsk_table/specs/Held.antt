@@ -2,6 +2,7 @@
 use Rattle.std.specs.Prelude.{◌≡◌, ℕ, ◌+◌, ◌≤◌, List, [], ◌∷◌, length, get_or, Option}
 use Rattle.atomic_table.specs.Seated.{TableId}
 use Rattle.xsk_umem.specs.Frame.{Frame}
+use Rattle.xsk_umem.specs.Frames.{Frames}
 use Rattle.xsk_umem.specs.declared.batch.Item.{Item}
 use Rattle.xsk_model.specs.Config.{Config, HasRing, size_of}
 use Rattle.xsk_model.specs.Rings.{place, places_of, producer, consumer}
@@ -67,7 +68,10 @@ pub record PassHolds (v : View) (slots : List (ℕ × Option Frame)) (who : ℕ)
   pub left : (r : Ring) (items : List Item) → v.flight ≡ taking r items → AreLeft v.setup.config who (own who v.seen) r items
   pub history : IsHistory v.setup.config v.setup.frames v.seen
 
--- what holds of a table: it has a word for each of the layout
-pub record TableHolds (c : Config) (k : Setup) (table : TableId) : Type 0 where
+-- what holds of a table: it has a word for each of the layout, and an empty queue with room for all frames
+pub record TableHolds (c : Config) (k : Setup) (table : TableId) (home : Frames) : Type 0 where
   pub config_is : c ≡ k.config
   pub words : table.words ≡ words_of k.config
+  pub some : 1 ≤ table.words
+  pub home_is : home.items ≡ []
+  pub room : k.config.geometry.frames ≤ home.limit

@@ -13,9 +13,12 @@ use Rattle.xsk_model.specs.History.{IsHistory, state_after}
 use Rattle.xsk_model.specs.Legal.{IsItemOn, IsLegal}
 use Rattle.xsk_model.specs.declared.call.Ring.{Ring}
 use Rattle.xsk_model.specs.declared.call.Call.{Call}
-use Rattle.xsk_model.specs.declared.call.Call.TheVariants.{Reserve, Submit, Peek, Release}
+use Rattle.xsk_model.specs.declared.call.Ring.TheVariants.{Fill}
+use Rattle.xsk_model.specs.declared.call.Mark.{Mark}
+use Rattle.xsk_model.specs.declared.call.Mark.TheVariants.{Kick}
+use Rattle.xsk_model.specs.declared.call.Call.TheVariants.{Reserve, Submit, Peek, Release, Swap, Look}
 use Rattle.xsk_model.specs.declared.call.Reply.{Reply}
-use Rattle.xsk_model.specs.declared.call.Reply.TheVariants.{Submitted, Items, Empty, Released}
+use Rattle.xsk_model.specs.declared.call.Reply.TheVariants.{Submitted, Items, Empty, Released, Old}
 use Rattle.xsk_words.specs.Words.{used_of, second_word}
 use Rattle.xsk_table.specs.View.{Setup, Flight, idle, placing, writing, taking, fetching, View}
 use Rattle.xsk_table.specs.Rule.{wrapped, opened, lying, HasAll}
@@ -24,19 +27,23 @@ use Rattle.xsk_table.specs.Rule.{wrapped, opened, lying, HasAll}
 abbrev pub Seated : Type 0
 Seated = Me (Option Frame) View
 
--- what a step is for: the table's setup, the caller, its ring, a number and an item
+-- what a step is for: the table's setup, the caller, its ring or its mark, a number and an item
 pub record Ask : Type 0 where
   pub setup : Setup
   pub who : ℕ
   pub ring : Ring
+  pub mark : Mark
   pub count : ℕ
   pub item : Item
 
 abbrev pub ask_for : Setup → ℕ → Ring → ℕ → Ask
-ask_for k who r n = record { setup = k; who = who; ring = r; count = n; item = blank }
+ask_for k who r n = record { setup = k; who = who; ring = r; mark = Kick 0; count = n; item = blank }
 
 abbrev pub ask_item : Setup → ℕ → Ring → Item → Ask
-ask_item k who r x = record { setup = k; who = who; ring = r; count = 0; item = x }
+ask_item k who r x = record { setup = k; who = who; ring = r; mark = Kick 0; count = 0; item = x }
+
+abbrev pub ask_mark : Setup → ℕ → Mark → ℕ → Ask
+ask_mark k who m value = record { setup = k; who = who; ring = Fill 0; mark = m; count = value; item = blank }
 
 abbrev pub entry : ℕ → Call → Reply → Entry
 entry who call reply = record { who = who; call = call; reply = reply }
@@ -112,6 +119,20 @@ pub record Peeked (a : Ask) (m : Seated) (found : ℕ) (m' : Seated) : Type 0 wh
 
 abbrev pub peeks : Ask → Step (Option Frame) → Seated → ℕ → Seated → Type 0
 peeks a st m found m' = Peeked a m found m'
+
+-- ---- marks
+
+-- a step that ends a call on a mark, which replies with the number found
+pub record Answered (a : Ask) (call : Call) (m : Seated) (found : ℕ) (m' : Seated) : Type 0 where
+  pub extends : Extends a.setup a.who call (Old found) m.0 m'.0
+  pub slots : m'.1 ≡ m.1
+  pub flight : m'.0.flight ≡ idle
+
+abbrev pub swaps : Ask → Step (Option Frame) → Seated → ℕ → Seated → Type 0
+swaps a st m found m' = Answered a (Swap a.mark a.count) m found m'
+
+abbrev pub looks : Ask → Step (Option Frame) → Seated → ℕ → Seated → Type 0
+looks a st m found m' = Answered a (Look a.mark) m found m'
 
 -- ---- how frames move
 

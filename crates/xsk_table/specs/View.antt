@@ -43,6 +43,14 @@ first_caller v = record v { callers = take 1 v.callers; others = [] }
 abbrev pub other_callers : View → View
 other_callers v = record v { callers = drop 1 v.callers }
 
+-- a seat of no caller that has seen as much
+abbrev pub note_of : View → View
+note_of v = record (newcomer v.setup []) { seen = v.seen }
+
+-- a seat that another is put into: it is told what the other has seen, and of whose entries all stand there
+abbrev pub told_of : View → View → View
+told_of v u = record v { told = u.seen; others = u.callers }
+
 -- a setup of nothing
 abbrev pub no_setup : Setup
 no_setup = record {
@@ -50,3 +58,7 @@ no_setup = record {
   first = 0;
   frames = [];
 }
+
+-- a seat that was put into another
+abbrev pub spent : View
+spent = newcomer no_setup []

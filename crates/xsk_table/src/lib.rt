@@ -2,9 +2,12 @@
 //! ties them to one legal history.
 #![tactic(auto)]
 
+mod closing;
 mod counting;
 mod end;
+mod marks;
 mod moves;
+mod note;
 mod opening;
 mod pass;
 mod passes;
@@ -14,6 +17,7 @@ mod view;
 
 pub use counting::Steps;
 pub use end::End;
+pub use note::Note;
 pub use pass::Pass;
 pub use passes::Passes;
 pub use shared::{Shared, SharedRefused};

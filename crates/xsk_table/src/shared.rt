@@ -47,7 +47,7 @@ impl Model for Shared {
 
     ghost view = { λ s. record { table = s.table.shared.table_id; setup = s.table.shared.key } };
 
-    ghost invariant = { λ s. TableHolds s.config s.table.shared.key s.table.shared.table_id };
+    ghost invariant = { λ s. TableHolds s.config s.table.shared.key s.table.shared.table_id s.home };
 }
 
 /// All memory of a table but its own words and slots.
@@ -104,7 +104,7 @@ fn move_back(slots: Vec<Option<Frame>>, home: &mut Frames)
     }
 }
 
-fn put_back(slot: Option<Frame>, home: &mut Frames)
+pub(crate) fn put_back(slot: Option<Frame>, home: &mut Frames)
     requires { length home.old.items < home.old.limit }
     ensures { home.new ≡ record home.old { items = home.old.items ++ list_of slot } }
 {

@@ -1,7 +1,10 @@
-use Rattle.std.proofs.Common.{◌≡◌, sym, subst, List, Option}
+use Rattle.std.proofs.Common.{rules, ◌≡◌, [], length, sym, ap, subst, ◌∙◌, arith, List, Option}
 use Rattle.atomic_table.specs.Table.{opening}
 use Rattle.xsk_umem.specs.Frame.{Frame}
+use Rattle.xsk_umem.specs.Frames.{Frames}
+use Rattle.xsk_model.specs.Config.{Config}
 use Rattle.xsk_model.specs.Opening.{IsOpened}
+use Rattle.xsk_model.proofs.Opened.{length-frames}
 use Rattle.xsk_table.specs.View.{Setup, newcomer}
 use Rattle.xsk_table.specs.Rule.{Rule, all_callers}
 use Rattle.xsk_table.specs.Opening.{WordsOpen}
@@ -20,3 +23,17 @@ new-requires c =
 
 pub invariant_of-result : goal.invariant_of-result
 invariant_of-result c = new_rest _ c.deal-passes.result.items c.deal-passes.ensures
+
+pub invariant_of-shared : goal.invariant_of-shared
+invariant_of-shared c =
+    let k = c.in-Ok-new.table.shared.key in
+    let frames : k.config.geometry.frames ≡ length c.args.frames.items =
+    ap (λ (t : Setup). t.config.geometry.frames) c.in-Ok-new.ensures.ok.5 ∙ ap (λ (t : Config). t.geometry.frames) c.of.ensures ∙ sym (length-frames c.args.config.geometry c.args.frames.items c.requires.frames) in
+    let home : c.move_out.new.home ≡ record { items = []; limit = c.args.frames.limit } = c.move_out.ensures.home in
+    record {
+      config_is = search rules;
+      words = search rules;
+      some = search rules;
+      home_is = ap (λ (q : Frames). q.items) home;
+      room = let limit = ap (λ (q : Frames). q.limit) home in let few = c.len.ensures.room in omega (arith, frames);
+    }
