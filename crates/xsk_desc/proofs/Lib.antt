@@ -11,6 +11,7 @@ pub mod Opening
 pub mod Placed
 pub mod Placing
 pub mod Pushing
+pub mod Quiet
 pub mod Received
 pub mod Rooms
 pub mod Sources

@@ -5,6 +5,7 @@ pub mod Laws
 pub mod Noted
 pub mod Noting
 pub mod Standing
+pub mod StandingLaws
 pub mod Queue
 pub mod Roles
 pub mod Pieces

@@ -12,12 +12,18 @@ use xsk_model::placement::{has_ring, ring_place};
 use xsk_model::{Call, Config, Mark, PairInfo, Ring, SocketInfo};
 use xsk_umem::{Batch, Frame, Geometry, Item, OutOfMemory, Umem, XdpDesc};
 
+mod items;
+
 /// Two ports with one queue each, with two sockets on the first, of which one has no RX. The drivers are the callers 0
 /// and 1, the application is 2. Packets may have several frames.
 fn small(alloc: Global, geometry: Geometry) -> Result<Config, OutOfMemory>
     ensures { IfOk result (λ config. callers_of config ≡ 3) }
 {
-    let sockets = vec![in alloc; socket_on(0, Some(4)), socket_on(0, None), socket_on(1, Some(4))]?;
+    let sockets = vec![in alloc;
+        socket_on(0, Some(4)),
+        socket_on(0, None),
+        socket_on(1, Some(4)),
+    ]?;
     let pairs = vec![in alloc; pair_on(0), pair_on(1)]?;
     let cells = vec![in alloc; vec![in alloc; 1u64]?, vec![in alloc; 3u64, 0u64]?]?;
     Ok(Config::of_parts(geometry, 2, 1, sockets, pairs, cells, true, false))
@@ -81,16 +87,39 @@ fn check(alloc: Global, who: u32, rows: &[(&str, Step, bool)]) -> Result<(), Fai
     let (geometry, mut free) = Umem::register(alloc, 16384, 4096, 0)?;
     let config = small(alloc, geometry)?;
     let mut standing = fresh(alloc, &config, who)?;
-    let mut frames = vec![in alloc; free.pop_front(), free.pop_front(), free.pop_front(), free.pop_front()]?;
+    let mut frames = vec![in alloc;
+        free.pop_front(),
+        free.pop_front(),
+        free.pop_front(),
+        free.pop_front(),
+    ]?;
+    follow(alloc, &mut standing, &config, &mut frames, rows)
+}
+
+fn follow(
+    alloc: Global,
+    standing: &mut Standing,
+    config: &Config,
+    frames: &mut Vec<Option<Frame>>,
+    rows: &[(&str, Step, bool)],
+) -> Result<(), Fail>
+    requires { IsFor config.now standing.old }
+{
     for (name, step, expected) in rows {
-        if act(alloc, &mut standing, &config, &mut frames, *step) != *expected {
+        if act(alloc, standing, config, frames, *step) != *expected {
             return Err((*name).into());
         }
     }
     Ok(())
 }
 
-fn act(alloc: Global, standing: &mut Standing, config: &Config, frames: &mut Vec<Option<Frame>>, step: Step) -> bool
+fn act(
+    alloc: Global,
+    standing: &mut Standing,
+    config: &Config,
+    frames: &mut Vec<Option<Frame>>,
+    step: Step,
+) -> bool
     requires { IsFor config.now standing.old }
     ensures { IsFor config.now standing.new }
 {
@@ -120,7 +149,15 @@ fn act(alloc: Global, standing: &mut Standing, config: &Config, frames: &mut Vec
 }
 
 /// Whether an item, or two, may be submitted.
-fn submit(alloc: Global, standing: &Standing, config: &Config, frames: &mut Vec<Option<Frame>>, ring: Ring, one: One, two: Option<One>) -> bool
+fn submit(
+    alloc: Global,
+    standing: &Standing,
+    config: &Config,
+    frames: &mut Vec<Option<Frame>>,
+    ring: Ring,
+    one: One,
+    two: Option<One>,
+) -> bool
     requires { IsFor config.now standing.now }
 {
     let mut items = Batch::new(alloc);
@@ -191,7 +228,10 @@ fn fetch(standing: &mut Standing, config: &Config, ring: Ring, item: &Item) -> b
     requires { IsFor config.now standing.old }
     ensures { IsFor config.now standing.new }
 {
-    if !has_ring(config, ring) || !is_known(standing, item) || !keeps_one(standing, config, ring, item.desc) {
+    if !has_ring(config, ring)
+        || !is_known(standing, item)
+        || !keeps_one(standing, config, ring, item.desc)
+    {
         return false;
     }
     if standing.places_at(ring_place(config, ring)).held > 32 {
@@ -254,23 +294,51 @@ fn a_driver_moves_what_its_rings_allow(rt: HostRuntime) -> Result<(), Fail> {
         ("33 of its FILL", Step::Peek(Ring::Fill(0), 33), false),
         ("none of its FILL", Step::Peek(Ring::Fill(0), 0), false),
         ("the other FILL", Step::Peek(Ring::Fill(1), 1), false),
-        ("a FILL that isn't there", Step::Peek(Ring::Fill(2), 1), false),
+        (
+            "a FILL that isn't there",
+            Step::Peek(Ring::Fill(2), 1),
+            false,
+        ),
         ("its first TX", Step::Peek(Ring::Tx(0), 1), true),
         ("its second TX", Step::Peek(Ring::Tx(1), 32), true),
         ("the other driver's TX", Step::Peek(Ring::Tx(2), 1), false),
         ("a TX that isn't there", Step::Peek(Ring::Tx(3), 1), false),
         ("to peek on its RX", Step::Peek(Ring::Rx(0), 1), false),
-        ("to peek on its COMPLETION", Step::Peek(Ring::Comp(0), 1), false),
+        (
+            "to peek on its COMPLETION",
+            Step::Peek(Ring::Comp(0), 1),
+            false,
+        ),
         ("places on its RX", Step::Reserve(Ring::Rx(0), 32), true),
         ("33 places on its RX", Step::Reserve(Ring::Rx(0), 33), false),
         ("no place on its RX", Step::Reserve(Ring::Rx(0), 0), false),
-        ("an RX that the socket hasn't got", Step::Reserve(Ring::Rx(1), 1), false),
-        ("the other driver's RX", Step::Reserve(Ring::Rx(2), 1), false),
-        ("a place on its COMPLETION", Step::Reserve(Ring::Comp(0), 1), true),
-        ("the other COMPLETION", Step::Reserve(Ring::Comp(1), 1), false),
+        (
+            "an RX that the socket hasn't got",
+            Step::Reserve(Ring::Rx(1), 1),
+            false,
+        ),
+        (
+            "the other driver's RX",
+            Step::Reserve(Ring::Rx(2), 1),
+            false,
+        ),
+        (
+            "a place on its COMPLETION",
+            Step::Reserve(Ring::Comp(0), 1),
+            true,
+        ),
+        (
+            "the other COMPLETION",
+            Step::Reserve(Ring::Comp(1), 1),
+            false,
+        ),
         ("places on its FILL", Step::Reserve(Ring::Fill(0), 1), false),
         ("places on its TX", Step::Reserve(Ring::Tx(0), 1), false),
-        ("to release what isn't held", Step::Release(Ring::Fill(0), 1), false),
+        (
+            "to release what isn't held",
+            Step::Release(Ring::Fill(0), 1),
+            false,
+        ),
         ("to release none", Step::Release(Ring::Tx(0), 0), false),
     ];
     check(rt.alloc(), 0, &rows)
@@ -280,26 +348,66 @@ fn a_driver_moves_what_its_rings_allow(rt: HostRuntime) -> Result<(), Fail> {
 fn a_driver_swaps_its_own_marks(rt: HostRuntime) -> Result<(), Fail> {
     let rows = [
         ("its FILL's flag", Step::Swap(Mark::NeedFill(0), 1), true),
-        ("its FILL's flag back", Step::Swap(Mark::NeedFill(0), 0), true),
-        ("its FILL's flag to 2", Step::Swap(Mark::NeedFill(0), 2), false),
-        ("the other FILL's flag", Step::Swap(Mark::NeedFill(1), 1), false),
+        (
+            "its FILL's flag back",
+            Step::Swap(Mark::NeedFill(0), 0),
+            true,
+        ),
+        (
+            "its FILL's flag to 2",
+            Step::Swap(Mark::NeedFill(0), 2),
+            false,
+        ),
+        (
+            "the other FILL's flag",
+            Step::Swap(Mark::NeedFill(1), 1),
+            false,
+        ),
         ("its first TX's flag", Step::Swap(Mark::NeedTx(0), 1), true),
         ("its second TX's flag", Step::Swap(Mark::NeedTx(1), 1), true),
-        ("the other driver's TX's flag", Step::Swap(Mark::NeedTx(2), 1), false),
-        ("a TX that isn't there", Step::Swap(Mark::NeedTx(3), 1), false),
+        (
+            "the other driver's TX's flag",
+            Step::Swap(Mark::NeedTx(2), 1),
+            false,
+        ),
+        (
+            "a TX that isn't there",
+            Step::Swap(Mark::NeedTx(3), 1),
+            false,
+        ),
         ("its kick", Step::Swap(Mark::Kick(0), 0), true),
         ("the other's kick", Step::Swap(Mark::Kick(1), 0), false),
         ("the end of its RX", Step::Swap(Mark::RxDone(0), 1), true),
-        ("the end of the other's RX", Step::Swap(Mark::RxDone(1), 1), false),
+        (
+            "the end of the other's RX",
+            Step::Swap(Mark::RxDone(1), 1),
+            false,
+        ),
         ("that it is gone", Step::Swap(Mark::Gone(0), 1), true),
-        ("that the other is gone", Step::Swap(Mark::Gone(1), 1), false),
-        ("the end of the application's TX", Step::Swap(Mark::TxDone(0), 1), false),
+        (
+            "that the other is gone",
+            Step::Swap(Mark::Gone(1), 1),
+            false,
+        ),
+        (
+            "the end of the application's TX",
+            Step::Swap(Mark::TxDone(0), 1),
+            false,
+        ),
         ("a cell", Step::Swap(Mark::Cell(0, 0), 1), false),
         ("a look at its flag", Step::Look(Mark::NeedFill(0)), true),
         ("a look at the other's", Step::Look(Mark::Gone(1)), true),
         ("a look at a cell", Step::Look(Mark::Cell(1, 1)), true),
-        ("a look at a cell that isn't there", Step::Look(Mark::Cell(0, 1)), false),
-        ("a look at no driver's mark", Step::Look(Mark::Gone(2)), false),
+        (
+            "a look at a cell that isn't there",
+            Step::Look(Mark::Cell(0, 1)),
+            false,
+        ),
+        (
+            "a look at no driver's mark",
+            Step::Look(Mark::Gone(2)),
+            false,
+        ),
     ];
     check(rt.alloc(), 0, &rows)
 }
@@ -308,27 +416,71 @@ fn a_driver_swaps_its_own_marks(rt: HostRuntime) -> Result<(), Fail> {
 fn an_application_does_what_its_side_does(rt: HostRuntime) -> Result<(), Fail> {
     let rows = [
         ("places on a FILL", Step::Reserve(Ring::Fill(0), 4), true),
-        ("places on the other port's FILL", Step::Reserve(Ring::Fill(1), 4), true),
-        ("33 places on a FILL", Step::Reserve(Ring::Fill(0), 33), false),
-        ("a FILL that isn't there", Step::Reserve(Ring::Fill(2), 1), false),
+        (
+            "places on the other port's FILL",
+            Step::Reserve(Ring::Fill(1), 4),
+            true,
+        ),
+        (
+            "33 places on a FILL",
+            Step::Reserve(Ring::Fill(0), 33),
+            false,
+        ),
+        (
+            "a FILL that isn't there",
+            Step::Reserve(Ring::Fill(2), 1),
+            false,
+        ),
         ("places on a TX", Step::Reserve(Ring::Tx(0), 1), true),
-        ("places on a TX of a socket with no RX", Step::Reserve(Ring::Tx(1), 1), true),
-        ("places on the other port's TX", Step::Reserve(Ring::Tx(2), 1), true),
-        ("a TX that isn't there", Step::Reserve(Ring::Tx(3), 1), false),
+        (
+            "places on a TX of a socket with no RX",
+            Step::Reserve(Ring::Tx(1), 1),
+            true,
+        ),
+        (
+            "places on the other port's TX",
+            Step::Reserve(Ring::Tx(2), 1),
+            true,
+        ),
+        (
+            "a TX that isn't there",
+            Step::Reserve(Ring::Tx(3), 1),
+            false,
+        ),
         ("places on an RX", Step::Reserve(Ring::Rx(0), 1), false),
-        ("places on a COMPLETION", Step::Reserve(Ring::Comp(0), 1), false),
+        (
+            "places on a COMPLETION",
+            Step::Reserve(Ring::Comp(0), 1),
+            false,
+        ),
         ("an RX", Step::Peek(Ring::Rx(0), 32), true),
         ("the other port's RX", Step::Peek(Ring::Rx(2), 1), true),
-        ("an RX that the socket hasn't got", Step::Peek(Ring::Rx(1), 1), false),
+        (
+            "an RX that the socket hasn't got",
+            Step::Peek(Ring::Rx(1), 1),
+            false,
+        ),
         ("33 of an RX", Step::Peek(Ring::Rx(0), 33), false),
         ("a COMPLETION", Step::Peek(Ring::Comp(1), 1), true),
         ("to peek on a FILL", Step::Peek(Ring::Fill(0), 1), false),
         ("to peek on a TX", Step::Peek(Ring::Tx(0), 1), false),
-        ("to release what isn't held", Step::Release(Ring::Comp(0), 1), false),
+        (
+            "to release what isn't held",
+            Step::Release(Ring::Comp(0), 1),
+            false,
+        ),
         ("the end of its TX", Step::Swap(Mark::TxDone(0), 1), true),
-        ("the end of no application's TX", Step::Swap(Mark::TxDone(1), 1), false),
+        (
+            "the end of no application's TX",
+            Step::Swap(Mark::TxDone(1), 1),
+            false,
+        ),
         ("a driver's kick", Step::Swap(Mark::Kick(0), 1), true),
-        ("the other driver's kick", Step::Swap(Mark::Kick(1), 1), true),
+        (
+            "the other driver's kick",
+            Step::Swap(Mark::Kick(1), 1),
+            true,
+        ),
         ("a FILL's flag", Step::Swap(Mark::NeedFill(0), 1), false),
         ("a TX's flag", Step::Swap(Mark::NeedTx(0), 1), false),
         ("the end of an RX", Step::Swap(Mark::RxDone(0), 1), false),
@@ -341,8 +493,16 @@ fn an_application_does_what_its_side_does(rt: HostRuntime) -> Result<(), Fail> {
 #[test]
 fn what_is_held_is_released_once(rt: HostRuntime) -> Result<(), Fail> {
     let rows = [
-        ("an item of FILL", Step::Fetched(Ring::Fill(0), One(0, 0, 0, 0)), true),
-        ("one more", Step::Fetched(Ring::Fill(0), One(1, 4096, 0, 0)), true),
+        (
+            "an item of FILL",
+            Step::Fetched(Ring::Fill(0), One(0, 0, 0, 0)),
+            true,
+        ),
+        (
+            "one more",
+            Step::Fetched(Ring::Fill(0), One(1, 4096, 0, 0)),
+            true,
+        ),
         ("both", Step::Release(Ring::Fill(0), 2), true),
         ("three", Step::Release(Ring::Fill(0), 3), false),
         ("one of another ring", Step::Release(Ring::Tx(0), 1), false),
@@ -351,123 +511,4 @@ fn what_is_held_is_released_once(rt: HostRuntime) -> Result<(), Fail> {
         ("both again", Step::Release(Ring::Fill(0), 2), false),
     ];
     check(rt.alloc(), 0, &rows)
-}
-
-#[test]
-fn rx_takes_packets_in_frames_of_fill(rt: HostRuntime) -> Result<(), Fail> {
-    let rows = [
-        ("a frame of FILL", Step::Fetched(Ring::Fill(0), One(0, 0, 0, 0)), true),
-        ("one more", Step::Fetched(Ring::Fill(0), One(1, 4096, 0, 0)), true),
-        ("a packet with no place", Step::Submit(Ring::Rx(0), One(0, 256, 64, 0)), false),
-        ("two places", Step::Granted(Ring::Rx(0), 2), true),
-        ("a packet", Step::Submit(Ring::Rx(0), One(0, 256, 64, 0)), true),
-        ("a full packet", Step::Submit(Ring::Rx(0), One(0, 256, 3840, 0)), true),
-        ("too long", Step::Submit(Ring::Rx(0), One(0, 256, 3841, 0)), false),
-        ("no byte", Step::Submit(Ring::Rx(0), One(0, 256, 0, 0)), false),
-        ("before the data", Step::Submit(Ring::Rx(0), One(0, 255, 64, 0)), false),
-        ("behind the data's first byte", Step::Submit(Ring::Rx(0), One(0, 257, 64, 0)), false),
-        ("a descriptor of another frame", Step::Submit(Ring::Rx(0), One(0, 4352, 64, 0)), false),
-        ("outside of the UMEM", Step::Submit(Ring::Rx(0), One(0, 16640, 64, 0)), false),
-        ("no end", Step::Submit(Ring::Rx(0), One(0, 256, 3840, 1)), false),
-        ("an unknown option", Step::Submit(Ring::Rx(0), One(0, 256, 64, 2)), false),
-        ("a frame that it hasn't", Step::Submit(Ring::Rx(0), One(2, 8448, 64, 0)), false),
-        ("no frame", Step::Submit(Ring::Rx(0), One(4, 256, 64, 0)), false),
-        ("the other driver's RX", Step::Submit(Ring::Rx(2), One(0, 256, 64, 0)), false),
-        ("a FILL", Step::Submit(Ring::Fill(0), One(0, 0, 0, 0)), false),
-    ];
-    check(rt.alloc(), 0, &rows)
-}
-
-#[test]
-fn rx_takes_whole_packets_of_several_frames(rt: HostRuntime) -> Result<(), Fail> {
-    let rows = [
-        ("a frame of FILL", Step::Fetched(Ring::Fill(0), One(0, 0, 0, 0)), true),
-        ("one more", Step::Fetched(Ring::Fill(0), One(1, 4096, 0, 0)), true),
-        ("two places", Step::Granted(Ring::Rx(0), 2), true),
-        ("a packet of two frames", Step::Both(Ring::Rx(0), One(0, 256, 3840, 1), One(1, 4352, 1, 0)), true),
-        ("two packets", Step::Both(Ring::Rx(0), One(0, 256, 60, 0), One(1, 4352, 1, 0)), true),
-        ("a piece that isn't full goes on", Step::Both(Ring::Rx(0), One(0, 256, 3839, 1), One(1, 4352, 1, 0)), false),
-        ("no end", Step::Both(Ring::Rx(0), One(0, 256, 3840, 1), One(1, 4352, 3840, 1)), false),
-        ("a frame that it hasn't", Step::Both(Ring::Rx(0), One(0, 256, 3840, 1), One(2, 8448, 1, 0)), false),
-        ("the first is given", Step::Placed(Ring::Rx(0), One(0, 256, 60, 0)), true),
-        ("the same frame again", Step::Submit(Ring::Rx(0), One(0, 256, 60, 0)), false),
-        ("the other", Step::Submit(Ring::Rx(0), One(1, 4352, 60, 0)), true),
-        ("it is given", Step::Placed(Ring::Rx(0), One(1, 4352, 60, 0)), true),
-        ("a frame of FILL again", Step::Fetched(Ring::Fill(0), One(0, 0, 0, 0)), true),
-        ("no place is left", Step::Submit(Ring::Rx(0), One(0, 256, 60, 0)), false),
-    ];
-    check(rt.alloc(), 0, &rows)
-}
-
-#[test]
-fn completions_follow_the_packets_of_tx(rt: HostRuntime) -> Result<(), Fail> {
-    let rows = [
-        ("places on COMPLETION", Step::Granted(Ring::Comp(0), 4), true),
-        ("places on RX", Step::Granted(Ring::Rx(0), 4), true),
-        ("the first piece of a packet", Step::Fetched(Ring::Tx(0), One(0, 300, 100, 1)), true),
-        ("a packet that isn't at its end", Step::Submit(Ring::Comp(0), One(0, 300, 0, 0)), false),
-        ("its last piece", Step::Fetched(Ring::Tx(0), One(1, 4352, 64, 0)), true),
-        ("a second packet", Step::Fetched(Ring::Tx(0), One(2, 8448, 64, 0)), true),
-        ("a part of the first", Step::Submit(Ring::Comp(0), One(0, 300, 0, 0)), false),
-        ("the second that waits", Step::Submit(Ring::Comp(0), One(2, 8448, 0, 0)), false),
-        ("a frame that last came from TX, on RX", Step::Submit(Ring::Rx(0), One(2, 8448, 64, 0)), false),
-        ("the first packet turned round", Step::Both(Ring::Comp(0), One(1, 4352, 0, 0), One(0, 300, 0, 0)), false),
-        ("a length on COMPLETION", Step::Both(Ring::Comp(0), One(0, 300, 0, 0), One(1, 4352, 64, 0)), false),
-        ("the other queue's COMPLETION", Step::Both(Ring::Comp(1), One(0, 300, 0, 0), One(1, 4352, 0, 0)), false),
-        ("the first packet", Step::Both(Ring::Comp(0), One(0, 300, 0, 0), One(1, 4352, 0, 0)), true),
-        ("its first frame is given", Step::Placed(Ring::Comp(0), One(0, 300, 0, 0)), true),
-        ("its second", Step::Placed(Ring::Comp(0), One(1, 4352, 0, 0)), true),
-        ("another address of the frame", Step::Submit(Ring::Comp(0), One(2, 8449, 0, 0)), false),
-        ("another frame's address", Step::Submit(Ring::Comp(0), One(2, 300, 0, 0)), false),
-        ("the second packet", Step::Submit(Ring::Comp(0), One(2, 8448, 0, 0)), true),
-    ];
-    check(rt.alloc(), 0, &rows)
-}
-
-#[test]
-fn each_tx_has_packets_of_its_own(rt: HostRuntime) -> Result<(), Fail> {
-    let rows = [
-        ("places on COMPLETION", Step::Granted(Ring::Comp(0), 4), true),
-        ("the first piece of a packet of one TX", Step::Fetched(Ring::Tx(0), One(0, 300, 100, 1)), true),
-        ("a packet of the other", Step::Fetched(Ring::Tx(1), One(1, 4352, 64, 0)), true),
-        ("one more of the other", Step::Fetched(Ring::Tx(1), One(2, 8448, 64, 0)), true),
-        ("the half peeked", Step::Submit(Ring::Comp(0), One(0, 300, 0, 0)), false),
-        ("the other's first", Step::Submit(Ring::Comp(0), One(1, 4352, 0, 0)), true),
-        ("the other's second", Step::Submit(Ring::Comp(0), One(2, 8448, 0, 0)), false),
-        ("both of the other", Step::Both(Ring::Comp(0), One(1, 4352, 0, 0), One(2, 8448, 0, 0)), false),
-        ("an invalid piece makes the half peeked bad", Step::Fetched(Ring::Tx(0), One(3, 12544, 0, 0)), true),
-        ("a bad packet isn't given back", Step::Both(Ring::Comp(0), One(0, 300, 0, 0), One(3, 12544, 0, 0)), false),
-        ("the other's first is given", Step::Placed(Ring::Comp(0), One(1, 4352, 0, 0)), true),
-        ("the other's second waits", Step::Submit(Ring::Comp(0), One(2, 8448, 0, 0)), true),
-    ];
-    check(rt.alloc(), 0, &rows)
-}
-
-#[test]
-fn an_application_gives_the_frames_that_it_has(rt: HostRuntime) -> Result<(), Fail> {
-    let rows = [
-        ("a place on FILL", Step::Granted(Ring::Fill(0), 1), true),
-        ("places on TX", Step::Granted(Ring::Tx(2), 4), true),
-        ("a frame that it hasn't", Step::Submit(Ring::Tx(2), One(0, 256, 64, 0)), false),
-        ("a packet of RX", Step::Fetched(Ring::Rx(0), One(0, 256, 64, 0)), true),
-        ("on TX as it came", Step::Submit(Ring::Tx(2), One(0, 256, 64, 0)), true),
-        ("on TX with an invalid descriptor", Step::Submit(Ring::Tx(2), One(0, 256, 0, 7)), true),
-        ("on TX under another frame's address", Step::Submit(Ring::Tx(2), One(0, 4352, 64, 0)), false),
-        ("on TX under an address outside", Step::Submit(Ring::Tx(2), One(0, 16640, 64, 0)), false),
-        ("no frame under an address outside", Step::Submit(Ring::Tx(2), One(4, 16640, 64, 0)), true),
-        ("on a TX with no place", Step::Submit(Ring::Tx(0), One(0, 256, 64, 0)), false),
-        ("on FILL", Step::Submit(Ring::Fill(0), One(0, 0, 0, 0)), true),
-        ("on FILL under an address in the frame", Step::Submit(Ring::Fill(0), One(0, 256, 0, 0)), true),
-        ("on FILL with a length", Step::Submit(Ring::Fill(0), One(0, 0, 64, 0)), false),
-        ("on FILL with an option", Step::Submit(Ring::Fill(0), One(0, 0, 0, 1)), false),
-        ("on a FILL with no place", Step::Submit(Ring::Fill(1), One(0, 0, 0, 0)), false),
-        ("on RX", Step::Submit(Ring::Rx(0), One(0, 256, 64, 0)), false),
-        ("on COMPLETION", Step::Submit(Ring::Comp(0), One(0, 256, 0, 0)), false),
-        ("a completed frame", Step::Fetched(Ring::Comp(1), One(1, 4096, 0, 0)), true),
-        ("two on FILL with one place", Step::Both(Ring::Fill(0), One(0, 0, 0, 0), One(1, 4096, 0, 0)), false),
-        ("the first is given", Step::Placed(Ring::Fill(0), One(0, 0, 0, 0)), true),
-        ("a frame that was given to FILL", Step::Submit(Ring::Tx(2), One(0, 256, 64, 0)), false),
-        ("the other", Step::Submit(Ring::Tx(2), One(1, 4352, 64, 0)), true),
-    ];
-    check(rt.alloc(), 2, &rows)
 }
