@@ -6,3 +6,7 @@ pub mod Moves
 pub mod Follows
 pub mod Closing
 pub mod Legality
+pub mod Bare
+pub mod Quiet
+pub mod Running
+pub mod Noted

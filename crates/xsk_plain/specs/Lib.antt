@@ -1,4 +1,6 @@
+pub mod Checked
 pub mod Engine
+pub mod Histories
 pub mod Kept
 pub mod Laws
 pub mod Log

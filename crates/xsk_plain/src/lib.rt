@@ -1,9 +1,11 @@
 //! The AF_XDP object on one thread, with the log of all calls on it.
 #![tactic(auto)]
 
+mod checked;
 pub mod laws;
 mod log;
 mod moving;
+mod noting;
 mod object;
 mod opening;
 mod plain;
@@ -11,5 +13,6 @@ mod ring_store;
 #[cfg(test)]
 mod tests;
 
+pub use checked::Checked;
 pub use log::Log;
 pub use plain::{OpenRefused, Plain, items_room, payload_room};

@@ -89,6 +89,13 @@ impl Plain {
         self.log.reserve(entries, bytes)
     }
 
+    /// The configuration.
+    pub fn config(&self) -> &Config
+        ensures { result.now ≡ self.now.config }
+    {
+        &self.object.config
+    }
+
     /// The log of all calls so far.
     pub fn log(&self) -> &Log
         ensures entries { entries_of result.now ≡ self.now.log }
