@@ -1,5 +1,5 @@
 -- What each call of an application's machine and its wait come to, in the machine's own terms.
-use Rattle.std.proofs.Common.{◌≡◌, ℕ, zero, ◌++◌, ◌-◌, ◌<◌, ◌≤◌, Some, List, [], length, map, take, drop, sym, ap, ◌∙◌, get_or-set_same}
+use Rattle.std.proofs.Common.{◌≡◌, ℕ, zero, ◌++◌, ◌<◌, ◌≤◌, List, [], length, map, take, drop, sym, ap, ◌∙◌, get_or-set_same}
 use Rattle.xsk_turns.proofs.Object.{Frame, Config, pool_of, batch_of, home_item}
 use Rattle.xsk_turns.proofs.Calls.{Item, Fill, Comp, Rx, Reserve, Submit, Peek, Release, Granted}
 use Rattle.xsk_turns.specs.Script.{ask, on_submitted}

@@ -1,4 +1,4 @@
-use Rattle.std.proofs.Common.{rules, arith, ◌≡◌, ◌+◌, ◌*◌, ◌/◌, ◌%◌, ◌≤◌, length}
+use Rattle.std.proofs.Common.{rules, arith, ◌≡◌, ◌≤◌, length}
 use Rattle.xsk_turns.specs.AppTurns.{pair_of, lanes_of}
 use Rattle.xsk_app.specs.Ways.{AreWays}
 use Rattle.xsk_turns.proofs.Places.{batch_few, batch_some}

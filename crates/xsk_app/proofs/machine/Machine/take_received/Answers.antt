@@ -1,6 +1,6 @@
-use Rattle.std.proofs.Common.{rules, arith, ◌≡◌, ◌<◌, ◌++◌, [], ap, ◌∙◌}
+use Rattle.std.proofs.Common.{rules, arith, ◌≡◌, ◌++◌, [], ap, ◌∙◌}
 use Rattle.std.proofs.lemmas.List.{get_or_default}
-use Rattle.xsk_turns.specs.AppTurns.{lanes_of, rx_of, pending_at}
+use Rattle.xsk_turns.specs.AppTurns.{rx_of, pending_at}
 use Rattle.xsk_app.specs.Stands.{noted_by, kept_by}
 use Rattle.xsk_app.proofs.Steps.{release_lane}
 use Rattle.xsk_app.proofs.machine.Machine.take_received.Goals as goal
