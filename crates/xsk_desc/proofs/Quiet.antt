@@ -1,12 +1,12 @@
 -- Calls that are not noted leave what a standing stands for, and a Submit or a Peek begins with no item.
-use Rattle.std.proofs.Common.{◌≡◌, ℕ, ◌+◌, ◌-◌, Bool, true, false, cond, nat_lt, List, [], ◌∷◌, ◌++◌, length, map, drop, None, refl, sym, ap, subst, ◌∙◌, arith, append-nil}
+use Rattle.std.proofs.Common.{◌≡◌, ℕ, Bool, true, false, cond, nat_lt, List, [], ◌∷◌, ◌++◌, length, map, drop, None, refl, sym, ap, subst, ◌∙◌, arith, append-nil}
 use Rattle.xsk_umem.specs.declared.batch.Item.{Item}
 use Rattle.xsk_model.specs.Config.{Config}
 use Rattle.xsk_model.specs.Packets.{rest}
 use Rattle.xsk_model.specs.Numbers.{times, numbers}
 use Rattle.xsk_model.specs.Rings.{is_ring}
 use Rattle.xsk_model.specs.Object.{call_ring, submitted, taken}
-use Rattle.xsk_model.specs.Entry.{Told, with_told}
+use Rattle.xsk_model.specs.Entry.{Told}
 use Rattle.xsk_model.specs.Own.{Sending, is_on, granted, released, room_of, held_of, room_step, held_step, waiting, sending_of, sending_after}
 use Rattle.xsk_model.specs.Legal.{IsLegal}
 use Rattle.xsk_model.specs.History.{Fits}
@@ -19,7 +19,7 @@ use Rattle.xsk_model.specs.declared.call.Reply.TheVariants.{Granted, Full, Submi
 use Rattle.xsk_model.proofs.Folds.{part_of-push}
 use Rattle.xsk_model.proofs.Sendings.{sending_of-push}
 use Rattle.xsk_desc.specs.Noted.{Noted}
-use Rattle.xsk_desc.specs.Standing.{StandsFor, IsPlacing, IsFetching, Keeps, source_of, uncompleted, desc_of, begins, given_back, none_back}
+use Rattle.xsk_desc.specs.Standing.{StandsFor, Keeps, source_of, uncompleted, desc_of, begins, given_back, none_back}
 use Rattle.xsk_desc.specs.StandingLaws.{is_noted, NeedsNoNote, BeginsWithNone, CanBeNoted}
 use Rattle.xsk_desc.proofs.Sources.{source_of-push}
 use Rattle.xsk_desc.proofs.Going.{own_push}

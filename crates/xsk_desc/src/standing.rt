@@ -62,7 +62,7 @@ impl Model for Standing {
 }
 
 impl Standing {
-    /// A standing of a caller that has made no call.
+    /// A standing of a caller that has made no call. It takes all the memory that it will need; want of it is the one error.
     pub fn new(alloc: Global, config: &Config, who: u32) -> Result<Standing, OutOfMemory>
         requires { who < callers_of config.now }
         ensures stands { IfOk result (λ standing. StandsFor config.now standing []) }
@@ -80,7 +80,7 @@ impl Standing {
         })
     }
 
-    /// Whether the call is legal after the calls and replies that were noted.
+    /// Whether the call is legal after the calls and replies that were noted. It is exact where each of them was legal.
     pub fn allows(&self, config: &Config, call: &Call) -> bool
         requires { IsFor config.now self.now }
         ensures { (mine : List Told) → StandsFor config.now self.now mine → (IsTrue result ↔ IsLegal config.now mine self.now.who call.now) }
@@ -101,7 +101,7 @@ impl Standing {
         }
     }
 
-    /// Notes a Reserve that was granted.
+    /// Notes a Reserve of `n` places that was granted.
     pub fn granted(&mut self, config: &Config, ring: Ring, n: u32)
         requires { CanGrant config.now self.old ring n }
         ensures kind { IsFor config.now self.new }
@@ -115,7 +115,7 @@ impl Standing {
         self.put_places(place, Places { room, held });
     }
 
-    /// Notes an item of a Submit.
+    /// Notes an item of a Submit. Its items are noted one by one, in their order.
     pub fn placed(&mut self, config: &Config, ring: Ring, item: &Item)
         requires { CanPlace config.now self.old ring item.now }
         ensures kind { IsFor config.now self.new }
@@ -131,7 +131,7 @@ impl Standing {
         self.give_back(ring, source);
     }
 
-    /// Notes an item of a Peek's reply.
+    /// Notes an item of a Peek's reply. Its items are noted one by one, in their order.
     pub fn fetched(&mut self, config: &Config, ring: Ring, item: &Item)
         requires { CanFetch config.now self.old ring item.now }
         ensures kind { IsFor config.now self.new }
@@ -147,7 +147,7 @@ impl Standing {
         self.keep_desc(config, ring, item.desc);
     }
 
-    /// Notes a Release.
+    /// Notes a Release of `n` items.
     pub fn released(&mut self, config: &Config, ring: Ring, n: u32)
         requires { CanRelease config.now self.old ring n }
         ensures kind { IsFor config.now self.new }

@@ -1,10 +1,8 @@
-use Rattle.std.proofs.Common.{◌≡◌, ℕ, ◌≤◌, inl, inr, true, false, [], ◌∷◌, refl, lit<, lit≤, Some, None}
+use Rattle.std.proofs.Common.{ℕ, ◌≤◌, inl, inr, true, false, [], ◌∷◌, refl, lit<, lit≤, Some, None}
 use Rattle.std.specs.Prelude.{All, IsSome}
 use Rattle.std.proofs.lemmas.List.Elements.{All-cons, All-nil}
 use Rattle.xsk_umem.specs.Geometry.{Geometry}
 use Rattle.xsk_model.specs.Config.{Config, IsConfig, IsRingSize, IsBound, IsServed, IsMap}
-use Rattle.xsk_model.specs.declared.config.PairInfo.{PairInfo}
-use Rattle.xsk_model.specs.declared.config.SocketInfo.{SocketInfo}
 use Rattle.xsk_desc.proofs.standing.tests.small.Goals as goal
 
 abbrev the_small : Geometry → Config
