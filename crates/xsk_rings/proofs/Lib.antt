@@ -1,2 +1,3 @@
 pub mod Looping
 pub mod Telling
+mod Rounds

@@ -1,2 +1,3 @@
 pub mod Serving
 pub mod TwoPairs
+pub mod Rounds

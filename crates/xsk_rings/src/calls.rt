@@ -60,7 +60,7 @@ impl RingCalls for Pass {
 
     #[inline(always)]
     fn perform(&mut self, shared: &Shared, call: Call) -> Reply {
-        let mut items = Batch::new(self.alloc());
+        let mut items = self.empty_batch();
         let ask = call.split(&mut items);
         let answer = self.serve(shared, ask, &mut items);
         answer.joined(items)

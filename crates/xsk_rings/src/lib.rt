@@ -8,4 +8,6 @@ mod serving;
 pub use calls::RingCalls;
 
 #[cfg(test)]
+mod round_tests;
+#[cfg(test)]
 mod tests;

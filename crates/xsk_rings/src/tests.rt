@@ -45,7 +45,7 @@ fn pair_on(port: u32) -> PairInfo
 }
 
 /// A table whose counts start at `first`.
-fn opened(alloc: Global, first: u32) -> Result<(Shared, Passes), Fail>
+pub(crate) fn opened(alloc: Global, first: u32) -> Result<(Shared, Passes), Fail>
     ensures setup { IfOk result (λ made. made.0.setup ≡ setup_from first) }
     ensures passes { IfOk result (λ made. made.1 ≡ new_passes made.0) }
 {

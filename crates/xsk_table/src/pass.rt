@@ -67,9 +67,11 @@ impl Pass {
         self.who
     }
 
-    /// The allocator by which an empty batch is made. It is asked for no memory.
-    pub fn alloc(&self) -> Global {
-        self.alloc
+    /// An empty batch, for the items of a call. It takes no memory.
+    pub fn empty_batch(&self) -> Batch
+        ensures { result ≡ [] }
+    {
+        Batch::new(self.alloc)
     }
 
     /// The look of a Reserve. It adds the Reserve with its reply to the history, and counts one look.
