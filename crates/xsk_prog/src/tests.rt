@@ -21,7 +21,10 @@ fn each_rule_gives_its_verdict(rt: HostRuntime) -> Result<(), Fail> {
     let ip = packet(3, 0x0800);
     let other = packet(3, 0x86dd);
     // The sum of the first 14 bytes is 3 + 8, and the queue's cells begin at twice the sockets.
-    assert_eq!(rt; Rule::Redirect { sockets: 4 }.verdict(&ip, 2), Verdict::Redirect(2 * 4 + 3));
+    assert_eq!(rt;
+        Rule::Redirect { sockets: 4 }.verdict(&ip, 2),
+        Verdict::Redirect(2 * 4 + 3)
+    );
     assert_eq!(rt; Rule::Drop.verdict(&ip, 0), Verdict::Drop);
     assert_eq!(rt; Rule::Pass.verdict(&ip, 0), Verdict::Pass);
     let rule = Rule::EtherType {
@@ -44,9 +47,15 @@ fn a_closure_of_ones_own_is_attached(rt: HostRuntime) -> Result<(), Fail> {
             Verdict::Drop
         }
     });
-    assert_eq!(rt; program.verdict(&packet(4, 0x0800), 0), Verdict::Redirect(0));
+    assert_eq!(rt;
+        program.verdict(&packet(4, 0x0800), 0),
+        Verdict::Redirect(0)
+    );
     assert_eq!(rt; program.verdict(&packet(5, 0x0800), 0), Verdict::Drop);
-    assert_eq!(rt; program.verdict(&packet(6, 0x0800), 0), Verdict::Redirect(0));
+    assert_eq!(rt;
+        program.verdict(&packet(6, 0x0800), 0),
+        Verdict::Redirect(0)
+    );
     Ok(())
 }
 
@@ -57,7 +66,10 @@ fn a_rule_is_attached_as_its_own_program(rt: HostRuntime) -> Result<(), Fail> {
         sockets: 2,
     };
     let program = XdpProgram::attach(rule, |bytes: &[u8], queue: u32| rule.verdict(bytes, queue));
-    assert_eq!(rt; program.verdict(&packet(1, 0x0800), 1), Verdict::Redirect(2 + 1));
+    assert_eq!(rt;
+        program.verdict(&packet(1, 0x0800), 1),
+        Verdict::Redirect(2 + 1)
+    );
     assert_eq!(rt; program.verdict(&packet(1, 0x0806), 1), Verdict::Pass);
     Ok(())
 }
