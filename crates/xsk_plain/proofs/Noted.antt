@@ -5,7 +5,6 @@ use Rattle.std.proofs.Math.ListN.{drop_of_length-le}
 use Rattle.std.proofs.lemmas.List.{take-append-drop}
 use Rattle.xsk_umem.specs.declared.batch.Item.{Item}
 use Rattle.xsk_model.specs.Config.{Config}
-use Rattle.xsk_model.specs.Numbers.{numbers}
 use Rattle.xsk_model.specs.Entry.{Told, with_told}
 use Rattle.xsk_model.specs.Own.{waiting, sending_of}
 use Rattle.xsk_model.specs.Legal.{IsLegal}
@@ -15,7 +14,7 @@ use Rattle.xsk_model.specs.declared.call.Ring.TheVariants.{Fill, Comp, Rx, Tx}
 use Rattle.xsk_model.specs.declared.call.Call.TheVariants.{Submit, Peek}
 use Rattle.xsk_model.specs.declared.call.Reply.TheVariants.{Submitted, Items}
 use Rattle.xsk_desc.specs.Noted.{Noted}
-use Rattle.xsk_desc.specs.Standing.{StandsFor, Keeps, IsPlacing, IsFetching, placing, fetching, given_back, begins, none_back, desc_of, uncompleted}
+use Rattle.xsk_desc.specs.Standing.{StandsFor, Keeps, IsPlacing, IsFetching, given_back, begins, none_back, desc_of, uncompleted}
 use Rattle.xsk_desc.specs.Noting.{CanPlace, CanFetch}
 use Rattle.xsk_desc.proofs.Able.{can_place, can_fetch}
 use Rattle.xsk_desc.proofs.Going.{gift_fits}

@@ -1,5 +1,5 @@
 -- A call that moves nothing leaves what is noted.
-use Rattle.std.proofs.Common.{◌≡◌, ℕ, zero, ◌+◌, ◌-◌, Bool, true, false, cond, nat_lt, None, List, [], ◌∷◌, ◌++◌, length, map, refl, sym, ap, subst, ◌∙◌, append-nil, arith}
+use Rattle.std.proofs.Common.{◌≡◌, ℕ, Bool, true, false, cond, nat_lt, None, List, [], ◌∷◌, ◌++◌, length, map, refl, sym, ap, subst, ◌∙◌, append-nil, arith}
 use Rattle.xsk_umem.specs.declared.batch.Item.{Item}
 use Rattle.xsk_model.specs.Config.{Config}
 use Rattle.xsk_model.specs.Packets.{rest}
@@ -8,7 +8,7 @@ use Rattle.xsk_model.specs.Rings.{is_ring}
 use Rattle.xsk_model.specs.Object.{call_ring, submitted, taken}
 use Rattle.xsk_model.specs.Entry.{Told, with_told}
 use Rattle.xsk_model.specs.Own.{Sending, is_on, granted, released, room_of, held_of, room_step, held_step, sending_of, sending_after}
-use Rattle.xsk_model.specs.History.{MayGive, Fits}
+use Rattle.xsk_model.specs.History.{MayGive}
 use Rattle.xsk_model.specs.Asks.{joined_call, joined_reply}
 use Rattle.xsk_model.specs.declared.ask.Ask.{Ask}
 use Rattle.xsk_model.specs.declared.ask.Ask.TheVariants as ask

@@ -1,6 +1,6 @@
 -- That the log of an engine is one legal history from the opening, and that what is noted of each caller stands for its
 -- own calls and replies in it.
-use Rattle.std.specs.Prelude.{◌≡◌, ℕ, ◌<◌, Some, List, length, slice_get}
+use Rattle.std.specs.Prelude.{◌≡◌, ℕ, Some, List, length, slice_get}
 use Rattle.xsk_umem.specs.Frame.{Frame}
 use Rattle.xsk_model.specs.Config.{Config, callers_of}
 use Rattle.xsk_model.specs.Entry.{Told, Entry, own, with_told}

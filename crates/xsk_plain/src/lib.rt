@@ -2,6 +2,8 @@
 #![tactic(auto)]
 
 mod checked;
+#[cfg(test)]
+mod checked_tests;
 pub mod laws;
 mod log;
 mod moving;

@@ -68,7 +68,7 @@ fn item_words(alloc: Global, item: &Item) -> Result<String, AllocError> {
 }
 
 /// A reply in words, and its items.
-fn reply_words(alloc: Global, reply: Reply) -> Result<(String, Vec<Item>), AllocError> {
+pub(crate) fn reply_words(alloc: Global, reply: Reply) -> Result<(String, Vec<Item>), AllocError> {
     let mut taken = Vec::new(alloc);
     let words = match reply {
         Reply::Granted => format!(in alloc; "granted")?,
@@ -209,7 +209,7 @@ fn open_small(alloc: Global) -> Result<Plain, Fail>
     }
 }
 
-fn numbers_of(alloc: Global, frames: Frames) -> Result<Vec<u32>, AllocError> {
+pub(crate) fn numbers_of(alloc: Global, frames: Frames) -> Result<Vec<u32>, AllocError> {
     let mut frames = frames;
     let mut numbers = Vec::new(alloc);
     for _ in 0..frames.len() {

@@ -1,4 +1,4 @@
-use Rattle.std.proofs.Common.{arith, ◌∙◌}
+use Rattle.std.proofs.Common.{arith}
 use Rattle.xsk_plain.proofs.Running.{none_new, one_new, all_new}
 use Rattle.xsk_plain.proofs.noting.new_standings.Goals as goal
 

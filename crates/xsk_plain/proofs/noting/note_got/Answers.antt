@@ -1,10 +1,8 @@
-use Rattle.std.proofs.Common.{◌≡◌, List, sym, subst, refl}
-use Rattle.xsk_umem.specs.declared.batch.Item.{Item}
+use Rattle.std.proofs.Common.{◌≡◌, subst}
 use Rattle.xsk_model.specs.Asks.{joined_call, joined_reply}
-use Rattle.xsk_model.specs.Entry.{Told}
 use Rattle.xsk_model.specs.History.{MayGive}
 use Rattle.xsk_model.specs.declared.ask.Ask.{Ask}
-use Rattle.xsk_model.specs.declared.ask.Ask.TheVariants.{Reserve, Submit, Peek, Release, Swap, Look}
+use Rattle.xsk_model.specs.declared.ask.Ask.TheVariants.{Reserve}
 use Rattle.xsk_model.specs.declared.ask.Answer.{Answer}
 use Rattle.xsk_model.specs.declared.ask.Answer.TheVariants.{Granted, Items}
 use Rattle.xsk_desc.specs.Standing.{StandsFor}

@@ -1,4 +1,4 @@
-use Rattle.std.proofs.Common.{◌≡◌, ◌++◌, ◌∷◌, [], sym, subst, ◌∙◌}
+use Rattle.std.proofs.Common.{subst, ◌∙◌}
 use Rattle.xsk_model.specs.Asks.{joined_call, joined_reply}
 use Rattle.xsk_model.specs.Config.{Config}
 use Rattle.xsk_model.specs.Entry.{own, with_told}
@@ -7,7 +7,7 @@ use Rattle.xsk_plain.specs.Histories.{StandsGiven}
 use Rattle.xsk_plain.specs.Rooms.{Enters, payload_bytes}
 use Rattle.xsk_plain.specs.Steps.{FollowsObject}
 use Rattle.xsk_plain.proofs.Legality.{legal_can_perform}
-use Rattle.xsk_plain.proofs.Running.{entry, run_next, may_give, given_on, gift_on, notes_next}
+use Rattle.xsk_plain.proofs.Running.{run_next, may_give, given_on, gift_on, notes_next}
 use Rattle.xsk_plain.proofs.noting.serve_noted.Goals as goal
 
 pub serve-answer-requires-clause-can : goal.serve-answer-requires-clause-can

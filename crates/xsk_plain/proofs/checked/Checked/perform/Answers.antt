@@ -1,11 +1,11 @@
-use Rattle.std.proofs.Common.{◌≡◌, ◌<◌, ◌++◌, ◌∷◌, [], length, sym, ap, subst, arith}
+use Rattle.std.proofs.Common.{◌<◌, ◌++◌, ◌∷◌, [], length, sym, ap, subst, arith}
 use Rattle.xsk_model.specs.Asks.{joined_call, joined_reply}
 use Rattle.xsk_model.specs.Config.{Config, callers_of}
 use Rattle.xsk_model.specs.Entry.{own}
 use Rattle.xsk_model.specs.Legal.{IsLegal}
 use Rattle.xsk_model.specs.declared.call.Call.{Call}
 use Rattle.xsk_plain.specs.Engine.{Engine}
-use Rattle.xsk_plain.specs.Histories.{NotesOwn, EachNotesOwn}
+use Rattle.xsk_plain.specs.Histories.{EachNotesOwn}
 use Rattle.xsk_plain.proofs.Running.{entry, legal_in, noted_at, each_next}
 use Rattle.xsk_plain.proofs.checked.Checked.perform.Goals as goal
 
