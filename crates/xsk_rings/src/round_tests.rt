@@ -1,4 +1,4 @@
-//! A test of two threads that pass frames round over FILL and RX.
+//! Tests that pass frames round over FILL and RX: on two threads, and over counts that wrap.
 ghost use Rattle.std.specs.Prelude.{◌≡◌, ◌≤◌, ◌<◌, ◌^◌, false, [], ◌∷◌};
 ghost use Rattle.xsk_model.specs.Rings.{is_ring};
 ghost use Rattle.xsk_model.specs.Own.{room_of, held_of};
@@ -139,33 +139,59 @@ fn returned<R: Abort>(rt: &R, item: Item, round: u32) -> Item
     }
 }
 
-/// A driver takes frames from FILL, and puts a packet of each on RX.
+/// A driver takes a frame from FILL, and puts a packet of the round on RX.
+fn driver_passes_one<R: Abort>(rt: &R, alloc: Global, shared: &Shared, pass: &mut Pass, round: u32)
+    requires setup { (first : _) × (shared.now.setup ≡ setup_from first) }
+    requires caller { pass.old.who ≡ 0 }
+    requires rests { Rests shared.now pass.old }
+    ensures caller { pass.new.who ≡ 0 }
+    ensures rests { Rests shared.now pass.new }
+{
+    gets_place(rt, shared, pass, Ring::Rx(0));
+    let item = gets_item(rt, shared, pass, Ring::Fill(0), Ring::Rx(0));
+    let packet = received(rt, item, round);
+    submits(alloc, shared, pass, Ring::Fill(0), Ring::Rx(0), packet);
+    frees(shared, pass, Ring::Fill(0));
+}
+
+/// An application takes the packet of the round from RX, and gives its frame to FILL.
+fn application_passes_one<R: Abort>(
+    rt: &R,
+    alloc: Global,
+    shared: &Shared,
+    pass: &mut Pass,
+    round: u32,
+)
+    requires setup { (first : _) × (shared.now.setup ≡ setup_from first) }
+    requires caller { pass.old.who ≡ 2 }
+    requires rests { Rests shared.now pass.old }
+    ensures caller { pass.new.who ≡ 2 }
+    ensures rests { Rests shared.now pass.new }
+{
+    gets_place(rt, shared, pass, Ring::Fill(0));
+    let item = gets_item(rt, shared, pass, Ring::Rx(0), Ring::Fill(0));
+    let back = returned(rt, item, round);
+    submits(alloc, shared, pass, Ring::Rx(0), Ring::Fill(0), back);
+    frees(shared, pass, Ring::Rx(0));
+}
+
 fn driver_goes_round<R: Abort>(rt: &R, alloc: Global, shared: &Shared, pass: Pass)
     requires setup { (first : _) × (shared.now.setup ≡ setup_from first) }
     requires new { pass ≡ new_pass shared.now 0 }
 {
     let mut pass = pass;
     'rounds: for round in 0..ROUNDS {
-        gets_place(rt, shared, &mut pass, Ring::Rx(0));
-        let item = gets_item(rt, shared, &mut pass, Ring::Fill(0), Ring::Rx(0));
-        let packet = received(rt, item, round);
-        submits(alloc, shared, &mut pass, Ring::Fill(0), Ring::Rx(0), packet);
-        frees(shared, &mut pass, Ring::Fill(0));
+        driver_passes_one(rt, alloc, shared, &mut pass, round);
     }
 }
 
-/// An application takes the packets from RX, and gives their frames to FILL.
 fn application_goes_round<R: Abort>(rt: &R, alloc: Global, shared: &Shared, pass: Pass)
     requires setup { (first : _) × (shared.now.setup ≡ setup_from first) }
     requires new { pass ≡ new_pass shared.now 2 }
 {
     let mut pass = pass;
     'rounds: for round in 0..ROUNDS {
-        gets_place(rt, shared, &mut pass, Ring::Fill(0));
-        let item = gets_item(rt, shared, &mut pass, Ring::Rx(0), Ring::Fill(0));
-        let back = returned(rt, item, round);
-        submits(alloc, shared, &mut pass, Ring::Rx(0), Ring::Fill(0), back);
-        frees(shared, &mut pass, Ring::Rx(0));
+        application_passes_one(rt, alloc, shared, &mut pass, round);
     }
 }
 
@@ -204,4 +230,66 @@ fn frames_go_round_on_two_threads(rt: HostRuntime) -> Result<(), Fail> {
 #[test]
 fn frames_go_round_where_counts_wrap(rt: HostRuntime) -> Result<(), Fail> {
     frames_go_round(&rt, rt.alloc(), 4_294_967_293)
+}
+
+/// What an RX ring of 4 entries, from which all was taken, answers.
+fn all_is_free<R: Abort>(rt: &R, shared: &Shared, driver: &mut Pass)
+    requires setup { (first : _) × (shared.now.setup ≡ setup_from first) }
+    requires caller { driver.old.who ≡ 0 }
+    requires rests { Rests shared.now driver.old }
+{
+    let Reply::Full(free) = driver.perform(shared, Call::Reserve(Ring::Rx(0), 5)) else {
+        panic!(rt; "the places are granted")
+    };
+    assert!(rt; free == 4);
+    let Reply::Granted = driver.perform(shared, Call::Reserve(Ring::Rx(0), 4)) else {
+        panic!(rt; "the ring is full")
+    };
+    let Reply::Full(free) = driver.perform(shared, Call::Reserve(Ring::Rx(0), 1)) else {
+        panic!(rt; "a place is granted")
+    };
+    assert!(rt; free == 0);
+}
+
+/// Six packets go over RX, one at a time.
+fn six_go<R: Abort>(rt: &R, alloc: Global, shared: &Shared, driver: &mut Pass, app: &mut Pass)
+    requires setup { (first : _) × (shared.now.setup ≡ setup_from first) }
+    requires driver { driver.old ≡ new_pass shared.now 0 }
+    requires app { app.old ≡ new_pass shared.now 2 }
+{
+    'rounds: for round in 0..6 {
+        driver_passes_one(rt, alloc, shared, driver, round);
+        application_passes_one(rt, alloc, shared, app, round);
+    }
+    all_is_free(rt, shared, driver);
+}
+
+fn six_go_through_rx<R: Abort>(rt: &R, alloc: Global, first: u32) -> Result<(), Fail> {
+    let (shared, mut passes) = opened(alloc, first)?;
+    let Some(mut driver) = passes.take(0) else {
+        panic!(rt; "no driver")
+    };
+    let Some(mut app) = passes.take(2) else {
+        panic!(rt; "no application")
+    };
+    six_go(rt, alloc, &shared, &mut driver, &mut app);
+    Ok(())
+}
+
+#[test]
+fn six_go_through_rx_from_low_counts(rt: HostRuntime) -> Result<(), Fail> {
+    six_go_through_rx(&rt, rt.alloc(), 0)?;
+    six_go_through_rx(&rt, rt.alloc(), 1)
+}
+
+#[test]
+fn six_go_through_rx_over_half_of_the_counts(rt: HostRuntime) -> Result<(), Fail> {
+    six_go_through_rx(&rt, rt.alloc(), 2_147_483_647)
+}
+
+#[test]
+fn six_go_through_rx_where_counts_wrap(rt: HostRuntime) -> Result<(), Fail> {
+    six_go_through_rx(&rt, rt.alloc(), 4_294_967_292)?;
+    six_go_through_rx(&rt, rt.alloc(), 4_294_967_293)?;
+    six_go_through_rx(&rt, rt.alloc(), 4_294_967_295)
 }
