@@ -17,6 +17,7 @@ pub mod Holding
 pub mod Marking
 pub mod Meeting
 pub mod Ending
+pub mod Finding
 pub mod Readying
 pub mod Laying
 pub mod NewTable
@@ -24,3 +25,4 @@ pub mod FirstEnds
 pub mod Deals
 pub mod FreshFrames
 mod TestParts
+mod MeetingTestParts

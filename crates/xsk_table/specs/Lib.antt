@@ -5,4 +5,5 @@ pub mod Held
 pub mod Opening
 pub mod Meeting
 pub mod Closing
+pub mod Laws
 pub mod TwoPorts

@@ -5,6 +5,7 @@
 mod closing;
 mod counting;
 mod end;
+pub mod laws;
 mod marks;
 mod moves;
 mod note;
@@ -23,5 +24,7 @@ pub use passes::Passes;
 pub use shared::{Shared, SharedRefused};
 pub use view::{Asking, Key, Law, View};
 
+#[cfg(test)]
+mod meeting_tests;
 #[cfg(test)]
 mod tests;

@@ -54,7 +54,7 @@ fn pair_on(size: u32, port: u32) -> PairInfo
 }
 
 /// A table whose counts start at `first`, over `size` frames for each FILL ring.
-fn opened(alloc: Global, size: u32, first: u32) -> Result<(Shared, Passes), Fail>
+pub(crate) fn opened(alloc: Global, size: u32, first: u32) -> Result<(Shared, Passes), Fail>
     requires { IsRingSize size }
     ensures setup { IfOk result (λ made. made.0.setup ≡ setup_of size first) }
     ensures passes { IfOk result (λ made. made.1 ≡ new_passes made.0) }
@@ -98,7 +98,7 @@ fn passes_go_and_come<R: Abort>(rt: &R, alloc: Global, size: u32, first: u32) ->
 }
 
 /// Fetches the next of `left` items, which must be a frame of the pool, all zeros, by its base address.
-fn fetches<R: Abort>(rt: &R, shared: &Shared, driver: &mut Pass, number: u32, left: u32)
+pub(crate) fn fetches<R: Abort>(rt: &R, shared: &Shared, driver: &mut Pass, number: u32, left: u32)
     requires belongs { Belongs shared.now driver.old }
     requires flight { (items : List Thing) × (driver.old.view.flight ≡ still (Fill 0) items) × (length items ≡ left) }
     requires some { 1 ≤ left }
@@ -227,7 +227,7 @@ fn fill_goes_round<L: Ledger, R: Abort>(
 }
 
 /// The application reserves a place of TX.
-fn application_reserves_one<R: Abort, L: Ledger>(
+pub(crate) fn application_reserves_one<R: Abort, L: Ledger>(
     rt: &R,
     shared: &Shared,
     app: &mut Pass,
@@ -249,7 +249,7 @@ fn application_reserves_one<R: Abort, L: Ledger>(
 }
 
 /// It puts the round's item there.
-fn application_sends(alloc: Global, shared: &Shared, app: &mut Pass, round: u32)
+pub(crate) fn application_sends(alloc: Global, shared: &Shared, app: &mut Pass, round: u32)
     requires belongs { Belongs shared.now app.old }
     requires setup { (first : _) × (shared.now.setup ≡ setup_of 4 first) }
     requires caller { app.old.who ≡ 2 }
@@ -280,7 +280,7 @@ fn sent_in(round: u32) -> XdpDesc
 }
 
 /// The driver finds one item on TX.
-fn driver_peeks_one<R: Abort, L: Ledger>(
+pub(crate) fn driver_peeks_one<R: Abort, L: Ledger>(
     rt: &R,
     shared: &Shared,
     driver: &mut Pass,
@@ -300,7 +300,7 @@ fn driver_peeks_one<R: Abort, L: Ledger>(
 }
 
 /// It takes the item, which must be that of the round.
-fn driver_takes<R: Abort>(rt: &R, shared: &Shared, driver: &mut Pass, round: u32)
+pub(crate) fn driver_takes<R: Abort>(rt: &R, shared: &Shared, driver: &mut Pass, round: u32)
     requires belongs { Belongs shared.now driver.old }
     requires caller { driver.old.who ≡ 0 }
     requires flight { (x : Thing) × (driver.old.view.flight ≡ still (Tx 0) (x ∷ [])) }
