@@ -21,7 +21,7 @@ use Rattle.xsk_model.proofs.Theorems.{in_order, items_by_own}
 use Rattle.xsk_table.specs.View.{Setup, View}
 use Rattle.xsk_table.specs.Plays.{entry}
 use Rattle.xsk_table.specs.Held.{Holder}
-use Rattle.xsk_rings.specs.Serving.{Served, before_last, point_of, TellsFree, TellsEmpty, GivesSubmitted, MayGiveServed}
+use Rattle.xsk_rings.specs.Serving.{Served, before_last, point_of, TellsFree, TellsEmpty, TellsMark, GivesSubmitted, MayGiveServed}
 
 before_push : (l : List Entry) (e : Entry) → before_last (l ++ e ∷ []) ≡ l
 before_push [] e = refl
@@ -82,6 +82,14 @@ tells_empty v (Release r n) reply is = tt
 tells_empty v (Swap m value) reply is = tt
 tells_empty v (Look m) reply is = tt
 
+pub tells_mark : (v : View) (call : Call) (reply : Reply) → reply ≡ reply_at v.setup.config (point_of v) call → TellsMark v call reply
+tells_mark v (Reserve r n) reply is = tt
+tells_mark v (Submit r items) reply is = tt
+tells_mark v (Peek r n) reply is = tt
+tells_mark v (Release r n) reply is = tt
+tells_mark v (Swap m value) reply is = is
+tells_mark v (Look m) reply is = is
+
 -- ---- items
 
 peek_gives : (p q : Holder) (r : Ring) (n : ℕ) (reply : Reply) → IsLegal p.view.setup.config (own p.who p.view.seen) p.who (Peek r n) → Served p q (Peek r n) reply → GivesSubmitted p q.view (Peek r n) reply
@@ -114,6 +122,9 @@ served_free p q call reply s = tells_free q.view call reply (replied p q call re
 
 pub served_empty : (p q : Holder) (call : Call) (reply : Reply) → Served p q call reply → TellsEmpty q.view call reply
 served_empty p q call reply s = tells_empty q.view call reply (replied p q call reply s)
+
+pub served_mark : (p q : Holder) (call : Call) (reply : Reply) → Served p q call reply → TellsMark q.view call reply
+served_mark p q call reply s = tells_mark q.view call reply (replied p q call reply s)
 
 -- ---- machines
 

@@ -1,10 +1,10 @@
--- What a ring call on the table tells its caller: the call and its reply at the end of a legal history, and of that what
--- stands in the ring at this point.
+-- What a call on the table tells its caller: the call and its reply at the end of a legal history, and of that what stands
+-- in the ring, and at the mark, at this point.
 use Rattle.std.specs.Prelude.{◌≡◌, ◌↔◌, ℕ, ◌<◌, List, [], ◌∷◌, ◌++◌}
 use Rattle.xsk_umem.specs.declared.batch.Item.{Item}
 use Rattle.xsk_model.specs.Config.{size_of}
 use Rattle.xsk_model.specs.Rings.{producer}
-use Rattle.xsk_model.specs.Object.{State, ring_at, free, taken}
+use Rattle.xsk_model.specs.Object.{State, ring_at, mark_at, free, taken}
 use Rattle.xsk_model.specs.Entry.{Entry, own, with_told}
 use Rattle.xsk_model.specs.Own.{peeked_of, submitted_of}
 use Rattle.xsk_model.specs.Opening.{opening}
@@ -14,21 +14,12 @@ use Rattle.xsk_model.specs.declared.call.Ring.{Ring}
 use Rattle.xsk_model.specs.declared.call.Call.{Call}
 use Rattle.xsk_model.specs.declared.call.Call.TheVariants.{Reserve, Submit, Peek, Release, Swap, Look}
 use Rattle.xsk_model.specs.declared.call.Reply.{Reply}
-use Rattle.xsk_model.specs.declared.call.Reply.TheVariants.{Full, Empty}
+use Rattle.xsk_model.specs.declared.call.Reply.TheVariants.{Full, Empty, Old}
 use Rattle.xsk_table.specs.View.{idle, View}
 use Rattle.xsk_table.specs.Plays.{Extends}
 use Rattle.xsk_table.specs.Held.{Board, Holder, Belongs}
 
 -- ---- before a call
-
--- a call on a ring, and no call on a mark
-abbrev pub IsOnRing : Call → Type 0
-IsOnRing (Reserve r n) = Unit {0}
-IsOnRing (Submit r items) = Unit {0}
-IsOnRing (Peek r n) = Unit {0}
-IsOnRing (Release r n) = Unit {0}
-IsOnRing (Swap m value) = ⊥
-IsOnRing (Look m) = ⊥
 
 -- a pass of this table that has no call in flight, whose caller may make the call after its own earlier ones
 pub record MayAsk (b : Board) (p : Holder) (call : Call) : Type 0 where
@@ -72,6 +63,15 @@ TellsEmpty v (Peek r n) reply = (reply ≡ Empty) ↔ ((ring_at v.setup.config (
 TellsEmpty v (Release r n) reply = Unit {0}
 TellsEmpty v (Swap m value) reply = Unit {0}
 TellsEmpty v (Look m) reply = Unit {0}
+
+-- a Swap and a Look tell what the mark is at their point
+abbrev pub TellsMark : View → Call → Reply → Type 0
+TellsMark v (Reserve r n) reply = Unit {0}
+TellsMark v (Submit r items) reply = Unit {0}
+TellsMark v (Peek r n) reply = Unit {0}
+TellsMark v (Release r n) reply = Unit {0}
+TellsMark v (Swap m value) reply = reply ≡ Old (mark_at v.setup.config (point_of v) m)
+TellsMark v (Look m) reply = reply ≡ Old (mark_at v.setup.config (point_of v) m)
 
 -- all items that came into a ring, whole: those of the opening, and those that its producer submitted
 abbrev pub brought : View → Ring → List Item

@@ -1,4 +1,4 @@
-//! The ring calls of the AF_XDP object, for many threads.
+//! The calls of the AF_XDP object, on rings and on marks, for many threads.
 #![tactic(auto)]
 
 mod calls;

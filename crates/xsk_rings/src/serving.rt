@@ -1,11 +1,11 @@
-//! The four ring calls, each by the steps of the table.
+//! The four ring calls and the two on marks, each by the steps of the table.
 ghost use Rattle.std.specs.Prelude.{◌≡◌, ◌≤◌, []};
 ghost use Rattle.xsk_model.specs.Asks.{joined_reply, HasAnswered};
-ghost use Rattle.xsk_model.specs.declared.call.Call.TheVariants.{Reserve, Submit, Peek, Release};
+ghost use Rattle.xsk_model.specs.declared.call.Call.TheVariants.{Reserve, Submit, Peek, Release, Swap, Look};
 ghost use Rattle.xsk_rings.specs.Serving.{MayAsk, Served};
 
 use std::sync::ledger::{Blank, Ledger};
-use xsk_model::{Answer, Reply, Ring};
+use xsk_model::{Answer, Mark, Reply, Ring};
 use xsk_table::{Pass, Shared, Steps};
 use xsk_umem::Batch;
 
@@ -81,4 +81,22 @@ pub(crate) fn release(pass: &mut Pass, shared: &Shared, ring: Ring, count: u32) 
 {
     pass.raise_consumer(shared, ring, count);
     Answer::Released
+}
+
+/// Sets a mark, by one swap of its word.
+pub(crate) fn swap(pass: &mut Pass, shared: &Shared, mark: Mark, value: u64) -> Answer
+    requires may { MayAsk shared.now pass.old (Swap mark value) }
+    ensures served { Served pass.old pass.new (Swap mark value) (joined_reply result []) }
+    ensures answered { HasAnswered result [] }
+{
+    Answer::Old(pass.swap_step(shared, mark, value))
+}
+
+/// Looks at a mark, by one load of its word.
+pub(crate) fn look(pass: &mut Pass, shared: &Shared, mark: Mark) -> Answer
+    requires may { MayAsk shared.now pass.old (Look mark) }
+    ensures served { Served pass.old pass.new (Look mark) (joined_reply result []) }
+    ensures answered { HasAnswered result [] }
+{
+    Answer::Old(pass.look_step(shared, mark))
 }
