@@ -9,6 +9,8 @@ mod configuration;
 #[cfg(test)]
 mod four_ports;
 #[cfg(test)]
+mod from_socket;
+#[cfg(test)]
 mod redirects;
 #[cfg(test)]
 mod small_rings;
