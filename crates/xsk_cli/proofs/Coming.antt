@@ -1,6 +1,6 @@
 -- What words come to.
-use Rattle.std.proofs.Common.{◌≡◌, ℕ, ◌≤◌, false, Option, Some, None, inl, inr, refl, sym, ◌∙◌, subst, arith}
-use Rattle.std.specs.Prelude.{◌⊎◌, Result, Err, unwrap_or}
+use Rattle.std.proofs.Common.{◌≡◌, false, Option, Some, None, inl, inr, refl, sym, ◌∙◌, subst, arith}
+use Rattle.std.specs.Prelude.{Result, Err, unwrap_or}
 use Rattle.std.proofs.lemmas.Option.{same_Some}
 use Rattle.xsk_io.specs.declared.bay.Stream.{Stream}
 use Rattle.xsk_io.specs.declared.bay.Stream.TheVariants.{Report}

@@ -1,12 +1,11 @@
 -- What words ask for.
 use Rattle.std.proofs.Common.{◌≡◌, ℕ, ◌+◌, ◌*◌, ◌<◌, ◌≤◌, Bool, cond, eqb, true, false, refl, ap, ◌∙◌, arith, List, [], ◌∷◌, length, map, codes, Option, None, Some, is_some, take, drop, subst, sym}
-use Rattle.std.specs.Prelude.{unwrap_or, nat_lt}
-use Rattle.std.proofs.lemmas.Bool.{cases_Bool, ne_eqb}
+use Rattle.std.specs.Prelude.{unwrap_or}
+use Rattle.std.proofs.lemmas.Bool.{ne_eqb}
 use Rattle.std.proofs.lemmas.Bool.Decides.{nat_tests}
 use Rattle.xsk_args.specs.Meaning.{Meaning}
 use Rattle.xsk_args.specs.Words.{Text}
 use Rattle.xsk_socket.specs.declared.layout.Layout.{Layout}
-use Rattle.xsk_socket.specs.declared.layout.Unlawful.{Unlawful}
 use Rattle.xsk_socket.specs.declared.layout.Unlawful.TheVariants.{Files}
 use Rattle.xsk_socket.specs.Layout.{fault_of, is_count, is_port_count}
 use Rattle.xsk_socket.proofs.Accepted.{files_are}

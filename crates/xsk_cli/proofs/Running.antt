@@ -1,5 +1,5 @@
 -- What a run of the command sent is what the other port received.
-use Rattle.std.proofs.Common.{◌≡◌, ℕ, zero, suc, ◌+◌, ◌*◌, ◌<◌, ◌≤◌, Bool, cond, true, false, List, [], ◌∷◌, length, map, get_or, refl, ap, ◌∙◌, subst, lit<, arith, None, length-append, append-nil}
+use Rattle.std.proofs.Common.{◌≡◌, ℕ, zero, suc, ◌+◌, ◌*◌, ◌<◌, ◌≤◌, Bool, cond, true, false, List, [], ◌∷◌, length, map, get_or, refl, ap, ◌∙◌, subst, arith, None, length-append, append-nil}
 use Rattle.std.proofs.lemmas.List.Elements.{recursion_from_All}
 use Rattle.xsk_pcap.specs.Capture.{IsShort}
 use Rattle.xsk_pcap.specs.Written.{IsWritable}

@@ -1,10 +1,10 @@
 -- How many packets and bytes are made.
-use Rattle.std.proofs.Common.{◌≡◌, ◌∙◌, ◌+◌, ◌*◌, ◌%◌, ◌<◌, ◌≤◌, ℕ, zero, suc, refl, ap, arith, List, [], ◌∷◌, ◌++◌, length, length-append, append-nil}
+use Rattle.std.proofs.Common.{◌≡◌, ◌*◌, ◌≤◌, ℕ, zero, suc, refl, ap, arith, List, [], ◌∷◌, ◌++◌, length, length-append}
 use Rattle.std.specs.Prelude.{All}
 use Rattle.std.specs.List.{concat}
 use Rattle.std.proofs.lemmas.List.Folds.{concat-append}
 use Rattle.std.proofs.lemmas.List.Elements.{All-nil, All-push}
-use Rattle.xsk_gen.specs.Generator.{byte_at, draw, first, first_state, length_at, packet, packet_at, state_after}
+use Rattle.xsk_gen.specs.Generator.{byte_at, first, first_state, length_at, packet, state_after}
 
 pub length-first : {A : Type 0} (n : ℕ) (f : ℕ → A) → length (first n f) ≡ n
 unfolding first

@@ -1,7 +1,6 @@
-use Rattle.std.proofs.Common.{rules, ◌≡◌, ◌∙◌, ◌≤◌, ap, arith, None}
-use Rattle.xsk_socket.specs.Layout.{fault_of}
+use Rattle.std.proofs.Common.{rules, ◌∙◌, ◌≤◌, ap, arith}
 use Rattle.xsk_cli.specs.Judged.{excess_of}
-use Rattle.xsk_cli.proofs.Making.{few_ports, made_within}
+use Rattle.xsk_cli.proofs.Making.{made_within}
 use Rattle.xsk_cli.proofs.lists.take_lists.Goals as goal
 
 pub returns-in_ok-make_lists-in-Simulate-default-default-Some-clause-within : goal.returns-in_ok-make_lists-in-Simulate-default-default-Some-clause-within

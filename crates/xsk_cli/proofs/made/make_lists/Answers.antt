@@ -1,12 +1,5 @@
-use Rattle.std.proofs.Common.{rules, ◌≡◌, ◌∙◌, ◌++◌, [], ◌∷◌, ap, sym, map, List}
-use Rattle.std.proofs.lemmas.List.{map-append}
-use Rattle.std.specs.List.{range_with_len}
-use Rattle.xsk_umem.specs.PacketList.{PacketList}
-use Rattle.xsk_gen.specs.Generator.{first, packet}
-use Rattle.xsk_cli.specs.Outcome.{listed}
-use Rattle.xsk_cli.specs.Steps.{lists_in}
+use Rattle.std.proofs.Common.{rules}
 use Rattle.xsk_cli.proofs.Making.{made_more}
-use Rattle.xsk_cli.proofs.Ports.{more_ports}
 use Rattle.xsk_cli.proofs.made.make_lists.Goals as goal
 
 pub loop-port-preserved : goal.loop-port-preserved

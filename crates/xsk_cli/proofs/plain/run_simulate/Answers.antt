@@ -2,7 +2,6 @@ use Rattle.std.proofs.Common.{rules, ◌≡◌, map, string_bytes, ap, codes, No
 use Rattle.std.specs.Prelude.{option_map}
 use Rattle.xsk_args.specs.Words.{Text}
 use Rattle.xsk_args.specs.Meaning.{meaning, under}
-use Rattle.xsk_args.specs.declared.error.ArgsError.TheVariants.{Usage as IsUsage}
 use Rattle.xsk_socket.specs.Layout.{fault_of}
 use Rattle.xsk_cli.specs.Steps.{args_status, plan_in}
 use Rattle.xsk_cli.specs.Streams.{Moment}

@@ -1,7 +1,5 @@
-use Rattle.std.proofs.Common.{rules, ◌≡◌, [], ◌∷◌, get_or}
-use Rattle.xsk_cli.specs.Outcome.{made_lists}
-use Rattle.xsk_cli.specs.Steps.{lists_in}
-use Rattle.xsk_cli.proofs.Making.{IsMade, made_at}
+use Rattle.std.proofs.Common.{rules, ◌≡◌, get_or}
+use Rattle.xsk_cli.proofs.Making.{made_at}
 use Rattle.xsk_cli.proofs.run.make_texts.Goals as goal
 
 pub made_texts-requires-clause-short : goal.made_texts-requires-clause-short

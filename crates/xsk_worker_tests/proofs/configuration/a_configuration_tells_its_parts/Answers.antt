@@ -1,4 +1,4 @@
-use Rattle.xsk_cli.proofs.TwoPortsLaws.{two_ports-config}
+use Rattle.xsk_worker_tests.proofs.TwoPorts.{two_ports-config}
 use Rattle.xsk_worker_tests.proofs.configuration.a_configuration_tells_its_parts.Goals as goal
 
 pub of_parts-config-requires : goal.of_parts-config-requires
