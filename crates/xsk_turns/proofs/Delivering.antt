@@ -5,7 +5,7 @@ use Rattle.std.proofs.lemmas.Bool.{ltb-false}
 use Rattle.std.proofs.lemmas.Bool.Decides.{nat_tests}
 use Rattle.std.proofs.lemmas.List.Concat.{flat_map-append}
 use Rattle.std.proofs.lemmas.List.Elements.{All-nil, All-append, All-take, All-drop, filter-append}
-use Rattle.xsk_turns.proofs.Object.{Geometry, payload_of, Config, classes_of, IsLayout, submitted, submitted_step, submitted_of}
+use Rattle.xsk_turns.proofs.Object.{Geometry, Frame, payload_of, Config, classes_of, IsLayout, submitted, submitted_step, submitted_of}
 use Rattle.xsk_turns.proofs.Calls.{Item, Told, with_told, Fill, Comp, Rx, RxDone, Gone, TxDone, Call, Submit, Swap, Look, Reply, Submitted, Items, Old}
 use Rattle.xsk_model.proofs.Folds.{part_of-push}
 use Rattle.xsk_turns.specs.Turns.{Seat, Kept, seat_of, start, turn, settled, application_of, limit_of, pieces_of, laid_out, frames_in, returned}
@@ -14,7 +14,7 @@ use Rattle.xsk_turns.specs.Owned.{IsSeat}
 use Rattle.xsk_turns.specs.Law.{AreLayouts, IsLaidOut, DeliversInOrder}
 use Rattle.xsk_turns.specs.declared.disposal.Disposal.{Disposal}
 use Rattle.xsk_turns.specs.declared.disposal.Disposal.TheVariants.{Delivered, TooLong, Runt, Missed}
-use Rattle.xsk_turns.proofs.Rooms.{IsOwnFrame, own_frames}
+use Rattle.xsk_turns.proofs.Rooms.{IsOwnFrame, own_frames, all_whole}
 use Rattle.xsk_turns.proofs.Layouts.{layout, one_piece, length-laid_out}
 use Rattle.xsk_turns.proofs.Disposing.{IsOver, over_later}
 use Rattle.xsk_turns.proofs.Saying.{in-short, in-missed, to_none, to_some, to_tried}
@@ -177,7 +177,12 @@ module _ (c : Config) (d s : ℕ) (is : IsSeat c d) (input : List (List ℕ)) wh
       record { given = now.given; spare = now.spare; over = now.over }
   entries (fill_items packet t items) noted kept l known found h a q =
       let now = still kept l _ (Items items) refl h in
-      record { given = now.given; spare = All-append (IsOwnFrame c.geometry) kept.spare (frames_in items) now.spare (own_frames c.geometry (Fill d) items q.lawful); over = now.over }
+      record {
+        given = now.given;
+        spare = subst (λ (fs : List Frame). All (IsOwnFrame c.geometry) (kept.spare ++ fs)) (sym (all_whole c.geometry (Fill d) items q.lawful))
+            (All-append (IsOwnFrame c.geometry) kept.spare (frames_in items) now.spare (own_frames c.geometry (Fill d) items q.lawful));
+        over = now.over;
+      }
   entries (rx_submitted packet t) noted kept l known found h a q = record {
     given = is_delivered kept l packet t known.0 known.1 h;
     spare = All-drop (IsOwnFrame c.geometry) (pieces_of seat packet) kept.spare h.spare;

@@ -144,7 +144,7 @@ leads seat (looked_none packet n) noted kept = (Sending 0 nothing_due, moved not
 leads seat (looked_long packet n s) noted kept = (Sending 0 nothing_due, moved noted, dropped kept TooLong)
 leads seat (looked_some packet n s) noted kept = (Trying packet s nothing_due, noted, kept)
 leads seat (fill_empty packet s) noted kept = (Sending 0 nothing_due, noted, with_fill_empty kept)
-leads seat (fill_items packet s items) noted kept = (Trying packet s (release_due (Fill seat.pair) (length items)), noted, supplied kept items)
+leads seat (fill_items packet s items) noted kept = (Trying packet s (release_due (Fill seat.pair) (length items)), noted, supplied seat kept items)
 leads seat (fill_released packet s n) noted kept = (Trying packet s nothing_due, moved noted, kept)
 leads seat (rx_granted packet s) noted kept = (Trying packet s (submit_due (Rx s) (pieces_of seat packet)), moved noted, kept)
 leads seat (rx_full packet s free) noted kept = (Sending 0 nothing_due, stopped noted, with_rx_full (s % seat.classes) kept)
@@ -336,7 +336,7 @@ module _ (seat : Seat) (Q : Premise Kept) (At : Family) (A : Said) (E : Kept →
               (λ items q.
               let peeked = with_told l call (Items items) in
               let give = Release (Fill seat.pair) (length items) in
-              let more : Kept = supplied kept items in
+              let more : Kept = supplied seat kept items in
               let now = is.entries (fill_items packet s items) noted kept l (tried, e) tt h asked q in
               let gives = is.calls (ReleaseFill packet s (length items)) noted more peeked tried now in (
                 gives,

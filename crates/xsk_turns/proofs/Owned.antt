@@ -328,7 +328,8 @@ group_set groups class i new group within same other = ⊎_elim
 pub has_tx : (c : Config) (pair class k : ℕ) (kept : Kept) (items : List Item) (l : List Told) → IsSeat c pair → class < classes_of c
     → Owned c pair kept (Peek (Tx (socket_at_class c pair class)) k) l → IsLegal c l pair (Peek (Tx (socket_at_class c pair class)) k)
     → AreFresh c l (Tx (socket_at_class c pair class)) k items
-    → HasKept c pair (gathered (seat_of c pair) class kept items) (with_told l (Peek (Tx (socket_at_class c pair class)) k) (Items items))
+    → Has c pair kept.spare (gathered (seat_of c pair) class kept items).groups (gathered (seat_of c pair) class kept items).finished
+    (kept.lost ++ frames_in (bad_ones (packets_from c.geometry c.sg (group_at kept class) items))) (with_told l (Peek (Tx (socket_at_class c pair class)) k) (Items items))
 has_tx c pair class k kept items l seat within h legal fresh =
     let g = c.geometry in
     let sg = c.sg in

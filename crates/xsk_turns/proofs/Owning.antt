@@ -1,20 +1,20 @@
 -- At each of its calls a driver has the frames that it peeked and didn't submit, and the call is legal.
 use Rattle.std.proofs.Common.{◌≡◌, ℕ, zero, suc, ◌-◌, ◌*◌, ◌<◌, ◌≤◌, Bool, true, false, cond, nat_lt, Some, None, List, [], ◌∷◌, ◌++◌, length, map, drop, get_or, flat_map, replicate, refl, sym, ap, ◌∙◌, subst, arith, append-nil, append_assoc, ◌&&◌, if◌then◌else◌, ◌==◌, leb-true, leb-false, ltb-false}
 use Rattle.std.proofs.lemmas.Bool.Decides.{nat_tests}
-use Rattle.std.proofs.lemmas.List.{length-replicate}
+use Rattle.std.proofs.lemmas.List.{length-replicate, take_all}
 use Rattle.std.proofs.lemmas.List.Elements.{All-nil}
-use Rattle.xsk_turns.proofs.Object.{payload_of, Config, classes_of, socket_at, times, numbers, IsWhole, taken, room_of, IsLegal, Fits, OwnGoesOn}
-use Rattle.xsk_turns.proofs.Calls.{Item, Told, with_told, Fill, Comp, Rx, Tx, RxDone, Gone, TxDone, Cell, Call, Submit, Swap, Reply, Granted, Full, Old}
-use Rattle.xsk_turns.proofs.LegalCalls.{legal_reserve, legal_peek, legal_release, legal_look, legal_swap, room_told, held_told, IsDue}
+use Rattle.xsk_turns.proofs.Object.{payload_of, Frame, packets_from, Config, classes_of, socket_at, times, numbers, IsWhole, taken, room_of, IsLegal, Fits, OwnGoesOn}
+use Rattle.xsk_turns.proofs.Calls.{Item, Told, with_told, Fill, Comp, Rx, Tx, RxDone, Gone, TxDone, Cell, Call, Submit, Peek, Swap, Reply, Granted, Full, Items, Old}
+use Rattle.xsk_turns.proofs.LegalCalls.{had_told, legal_reserve, legal_peek, legal_release, legal_look, legal_swap, room_told, held_told, IsDue}
 use Rattle.xsk_turns.specs.Script.{Script, Leaves, Ends}
-use Rattle.xsk_turns.specs.Turns.{Seat, Kept, Noted, seat_of, start, turn, application_of, cell_of, redirect_to, limit_of, pieces_of, returned}
+use Rattle.xsk_turns.specs.Turns.{Seat, Kept, Noted, seat_of, start, turn, application_of, cell_of, redirect_to, limit_of, pieces_of, returned, frames_in, bad_ones, group_at, gathered}
 use Rattle.xsk_turns.specs.Owned.{IsSeat, IsHere, socket_at_class, IsSpare, Owned, AllFit, KeepsFrames, KeepsFramesAtEnd}
 use Rattle.xsk_turns.proofs.Completing.{whole_some}
 use Rattle.xsk_turns.proofs.Layouts.{pieces_some, few_pieces}
 use Rattle.xsk_turns.proofs.Legality.{first_whole, legal_rx, owned_rx, legal_comp, owned_comp}
-use Rattle.xsk_turns.proofs.Owned.{HasKept, IsQuiet, owned_quiet, times-kept, has_told, has_fill, has_tx}
+use Rattle.xsk_turns.proofs.Owned.{Has as HasLists, HasKept, IsQuiet, owned_quiet, times-kept, has_told, has_fill, has_tx}
 use Rattle.xsk_turns.proofs.Places.{batch_some, batch_few, class_here, rx_ring, tx_ring, caller_known, port_known, app_known}
-use Rattle.xsk_turns.proofs.Rooms.{fill_frames}
+use Rattle.xsk_turns.proofs.Rooms.{fill_frames, all_whole, lost_few}
 use Rattle.xsk_turns.proofs.Walks.{Premise, MeetAlong, meet_fitting}
 use Rattle.xsk_turns.proofs.DriverWalk.{Place, Trying, Sending, Idling, Family, TellRxDone, LookCell, PeekFill, ReleaseFill, ReserveRx, SubmitRx, ReserveComp, SubmitComp, PeekTx, ReleaseTx, LookTxDone, TellGone, call_at, kept_at, IsTried, fill_items, tx_items, rx_granted, comp_granted, comp_full, point_of, reply_of, visited, idles, Said, AtCalls, AtEntries, AtPasses, IsLaw, at_call, at_end, meets_said}
 
@@ -133,13 +133,19 @@ module _ (c : Config) (pair : ℕ) (is : IsSeat c pair) where
       let n = pieces_of seat packet - length kept.spare in
       let below = leb-false (pieces_of seat packet) (length kept.spare) known.1 in
       let few = few packet s kept.coming known.0 in (
-        has_fill c pair n kept items l a.0 a.1 q (omega (arith, below, few)) (fill_frames c pair n l items q.lawful),
+        subst (λ (fs : List Frame). HasLists c pair (kept.spare ++ fs) kept.groups kept.finished kept.lost (with_told l (Peek (Fill pair) n) (Items items))) (sym (all_whole c.geometry (Fill pair) items q.lawful))
+            (has_fill c pair n kept items l a.0 a.1 q (omega (arith, below, few)) (fill_frames c pair n l items q.lawful)),
         (q.some, omega (arith, q.few, few), held_told l (Fill pair) n items),
       )
-  entries (tx_items k items) noted kept l known found h a q = (
-    has_tx c pair k seat.batch kept items l is known.0 a.0 a.1 q,
-    (q.some, omega (arith, q.few, batch_few c), held_told l (Tx (socket_at_class c pair k)) seat.batch items),
-  )
+  entries (tx_items k items) noted kept l known found h a q =
+      let call = Peek (Tx (socket_at_class c pair k)) seat.batch in
+      let got = gathered seat k kept items in
+      let lost = kept.lost ++ frames_in (bad_ones (packets_from c.geometry c.sg (group_at kept k) items)) in
+      let has = has_tx c pair k seat.batch kept items l is known.0 a.0 a.1 q in
+      let few = lost_few c pair kept.spare got.groups got.finished lost (with_told l call (Items items)) has (λ n. omega (arith, had_told l call (Items items) n, q.fresh n)) in (
+        subst (λ (fs : List Frame). HasLists c pair kept.spare got.groups got.finished fs (with_told l call (Items items))) (sym (take_all c.geometry.frames lost few)) has,
+        (q.some, omega (arith, q.few, batch_few c), held_told l (Tx (socket_at_class c pair k)) seat.batch items),
+      )
   entries (rx_granted packet s) noted kept l known found h a q = (told kept _ Granted l refl a q, room_told l (Rx s) (pieces_of seat packet))
   entries (comp_granted k packet later) noted kept l known found h a q = (told kept _ Granted l refl a q, room_told l (Comp pair) (length packet))
   entries (comp_full k packet later free) noted kept l known found h a q = (told kept _ (Full free) l refl a q, λ f. absurd (cc))

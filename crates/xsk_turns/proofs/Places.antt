@@ -22,11 +22,13 @@ port_within c d is regular within =
     let below : d < c.ports * c.queues = omega (arith, regular.pairs) in
     rw (regular.seats d within).0 ((div-lt_iff_lt-mul {k = c.queues} {x = d} {y = c.ports} some).1 below)
 
+pub queue_known : (c : Config) (d : ℕ) → IsConfig c → IsRegular c → d < length c.pairs → (pair_at c.pairs d).queue < c.queues
+queue_known c d is regular within = let some : 0 < c.queues = queues_some c.queues is.queues in rw (regular.seats d within).1 (omega (arith, some))
+
 pub queue_within : (c : Config) (d : ℕ) → IsConfig c → IsRegular c → d < length c.pairs → (pair_at c.pairs d).queue < 4
 queue_within c d is regular within =
-    let some : 0 < c.queues = queues_some c.queues is.queues in
     let few : c.queues ≤ 4 = elim is.queues [ inl e ↦ omega arith | inr f ↦ elim f [ inl e ↦ omega arith | inr e ↦ omega arith ] ] in
-    rw (regular.seats d within).1 (omega (arith, some, few))
+    omega (arith, few, queue_known c d is regular within)
 
 -- ---- the batch
 
