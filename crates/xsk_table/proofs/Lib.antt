@@ -22,5 +22,7 @@ pub mod Laying
 pub mod NewTable
 pub mod FirstEnds
 pub mod Deals
+pub mod Noting
+pub mod NewNotes
 pub mod FreshFrames
 mod TestParts

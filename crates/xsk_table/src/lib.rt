@@ -8,6 +8,7 @@ mod end;
 mod marks;
 mod moves;
 mod note;
+mod noted;
 mod opening;
 mod pass;
 mod passes;
