@@ -83,14 +83,17 @@ fn driver_takes_its_pool<R: Abort>(rt: &R, shared: &Shared, driver: &mut Pass)
     ensures caller { driver.new.who ≡ 0 }
     ensures rests { driver.new.view.flight ≡ idle }
 {
+    assert!(rt; driver.allows(shared, &Call::Peek(Ring::Fill(0), 32)));
     let Reply::Items(items) = driver.perform(shared, Call::Peek(Ring::Fill(0), 32)) else {
         panic!(rt; "no frames")
     };
     assert!(rt; is_pool(&items));
     assert!(rt; items.len() == 4);
+    assert!(rt; driver.allows(shared, &Call::Release(Ring::Fill(0), 4)));
     let Reply::Released = driver.perform(shared, Call::Release(Ring::Fill(0), 4)) else {
         panic!(rt; "the places aren't free")
     };
+    assert!(rt; driver.allows(shared, &Call::Peek(Ring::Fill(0), 1)));
     let Reply::Empty = driver.perform(shared, Call::Peek(Ring::Fill(0), 1)) else {
         panic!(rt; "a frame too many")
     };
@@ -102,10 +105,14 @@ fn driver_reserves<R: Abort>(rt: &R, shared: &Shared, driver: &mut Pass)
     requires setup { (first : _) × (shared.now.setup ≡ setup_from first) }
     requires caller { driver.old.who ≡ 0 }
     requires rests { driver.old.view.flight ≡ idle }
+    ensures belongs { Belongs shared.now driver.new }
+    ensures rests { driver.new.view.flight ≡ idle }
 {
+    assert!(rt; driver.allows(shared, &Call::Reserve(Ring::Rx(0), 2)));
     let Reply::Granted = driver.perform(shared, Call::Reserve(Ring::Rx(0), 2)) else {
         panic!(rt; "the ring is full")
     };
+    assert!(rt; driver.allows(shared, &Call::Reserve(Ring::Rx(0), 3)));
     let Reply::Full(free) = driver.perform(shared, Call::Reserve(Ring::Rx(0), 3)) else {
         panic!(rt; "the places are granted")
     };
@@ -118,13 +125,26 @@ fn application_calls<R: Abort>(rt: &R, shared: &Shared, app: &mut Pass)
     requires setup { (first : _) × (shared.now.setup ≡ setup_from first) }
     requires caller { app.old.who ≡ 2 }
     requires rests { app.old.view.flight ≡ idle }
+    ensures belongs { Belongs shared.now app.new }
+    ensures rests { app.new.view.flight ≡ idle }
 {
+    assert!(rt; app.allows(shared, &Call::Peek(Ring::Rx(0), 1)));
     let Reply::Empty = app.perform(shared, Call::Peek(Ring::Rx(0), 1)) else {
         panic!(rt; "an item from nowhere")
     };
+    assert!(rt; app.allows(shared, &Call::Reserve(Ring::Tx(1), 4)));
     let Reply::Granted = app.perform(shared, Call::Reserve(Ring::Tx(1), 4)) else {
         panic!(rt; "the ring is full")
     };
+}
+
+/// The application may not take frames from FILL, and the driver holds no item there that it could release.
+fn others_are_refused<R: Abort>(rt: &R, shared: &Shared, driver: &Pass, app: &Pass)
+    requires belongs { Belongs shared.now driver.now × Belongs shared.now app.now }
+    requires rests { (driver.now.view.flight ≡ idle) × (app.now.view.flight ≡ idle) }
+{
+    assert!(rt; !app.allows(shared, &Call::Peek(Ring::Fill(0), 1)));
+    assert!(rt; !driver.allows(shared, &Call::Release(Ring::Fill(0), 1)));
 }
 
 fn rings_answer<R: Abort>(rt: &R, alloc: Global, first: u32) -> Result<(), Fail> {
@@ -138,6 +158,7 @@ fn rings_answer<R: Abort>(rt: &R, alloc: Global, first: u32) -> Result<(), Fail>
     driver_takes_its_pool(rt, &shared, &mut driver);
     driver_reserves(rt, &shared, &mut driver);
     application_calls(rt, &shared, &mut app);
+    others_are_refused(rt, &shared, &driver, &app);
     Ok(())
 }
 

@@ -23,6 +23,8 @@ pub mod Laying
 pub mod NewTable
 pub mod FirstEnds
 pub mod Deals
+pub mod Noting
+pub mod NewNotes
 pub mod FreshFrames
 mod TestParts
 mod MeetingTestParts

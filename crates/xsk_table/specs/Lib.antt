@@ -2,6 +2,7 @@ pub mod View
 pub mod Rule
 pub mod Plays
 pub mod Held
+pub mod Notes
 pub mod Opening
 pub mod Meeting
 pub mod Closing

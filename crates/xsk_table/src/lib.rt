@@ -9,6 +9,7 @@ pub mod laws;
 mod marks;
 mod moves;
 mod note;
+mod noted;
 mod opening;
 mod pass;
 mod passes;

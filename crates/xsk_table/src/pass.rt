@@ -1,5 +1,5 @@
 //! A caller's way to the rings: the step calls.
-ghost use Rattle.std.specs.Prelude.{List, [], ◌∷◌, ◌++◌, ℕ, length, ◌≡◌, ◌+◌, ◌<◌, ◌≤◌};
+ghost use Rattle.std.specs.Prelude.{List, [], ◌∷◌, ◌++◌, ℕ, length, ◌≡◌, ◌+◌, ◌<◌, ◌≤◌, ◌↔◌, IsTrue};
 ghost use Rattle.xsk_umem.specs.declared.batch.Item.{Item as Thing};
 ghost use Rattle.xsk_model.specs.Config.{HasRing};
 ghost use Rattle.xsk_model.specs.Rings.{consumer};
@@ -16,14 +16,16 @@ ghost use Rattle.xsk_table.specs.Held.{Belongs};
 
 use crate::counting::Steps;
 use crate::end::End;
+use crate::noted::note_reserved;
 use crate::shared::Shared;
 use crate::steps::Chair;
 use crate::{moves, steps};
 use std::alloc::Global;
 use std::marker::Model;
 use std::sync::ledger::Ledger;
+use xsk_desc::Standing;
 use xsk_model::placement::ring_place;
-use xsk_model::{Reply, Ring};
+use xsk_model::{Call, Reply, Ring};
 use xsk_umem::{Batch, Item};
 use xsk_words::{CONSUMER, PRODUCER};
 
@@ -36,17 +38,20 @@ pub struct Pass {
     pub(crate) ends: Vec<End>,
     /// The items of the call in flight: those that are placed, or those that are left.
     pub(crate) flying: u32,
+    /// What is noted of the caller's own calls and replies.
+    pub(crate) standing: Standing,
     pub(crate) alloc: Global,
 }
 
 impl Model for Pass {
     ghost use Rattle.xsk_table.specs.Held.{Holder, PassHolds};
+    ghost use Rattle.xsk_table.specs.Notes.{Notes};
 
     ghost Value = { Holder };
 
     ghost view = { λ p. record { table = p.seat.table_id; who = p.who; view = p.seat.me.0 } };
 
-    ghost invariant = { λ p. PassHolds p.seat.me.0 p.seat.me.1 p.who p.ends.items p.flying };
+    ghost invariant = { λ p. PassHolds p.seat.me.0 p.seat.me.1 p.who p.ends.items p.flying × Notes p.seat.me.0 p.who p.standing };
 }
 
 /// The places that a Reserve of `n` got.
@@ -72,6 +77,16 @@ impl Pass {
         ensures { result ≡ [] }
     {
         Batch::new(self.alloc)
+    }
+
+    /// Whether the call is legal after all calls that the caller has made, and their replies. No call of the pass may be
+    /// in flight. It searches nothing of what was seen.
+    pub fn allows(&self, shared: &Shared, call: &Call) -> bool
+        requires belongs { Belongs shared.now self.now }
+        requires rests { self.now.view.flight ≡ idle }
+        ensures { IsTrue result ↔ IsLegal self.now.view.setup.config (own self.now.who self.now.view.seen) self.now.who call.now }
+    {
+        self.standing.allows(&shared.config, call)
     }
 
     /// The look of a Reserve. It adds the Reserve with its reply to the history, and counts one look.
@@ -105,6 +120,7 @@ impl Pass {
         steps.tick();
         let far = end.far.wrapping_add(granted_by(&reply, n));
         self.ends[place] = End { far, ..end };
+        note_reserved(&mut self.standing, &shared.config, ring, n, &reply);
         reply
     }
 
@@ -123,6 +139,7 @@ impl Pass {
         };
         let place = ring_place(&shared.config, ring);
         let end = self.ends[place];
+        self.standing.placed(&shared.config, ring, &item);
         moves::place(
             &shared.table.shared,
             &mut self.seat,
@@ -218,6 +235,7 @@ impl Pass {
             end.mask,
         );
         self.flying = left - 1;
+        self.standing.fetched(&shared.config, ring, &item);
         item
     }
 
@@ -243,5 +261,6 @@ impl Pass {
         );
         let near = end.near.wrapping_add(n);
         self.ends[place] = End { near, ..end };
+        self.standing.released(&shared.config, ring, n);
     }
 }

@@ -7,9 +7,11 @@ ghost use Rattle.xsk_model.specs.Opening.{AreFrames, IsOpened};
 ghost use Rattle.xsk_table.specs.View.{newcomer};
 ghost use Rattle.xsk_table.specs.Rule.{all_callers};
 ghost use Rattle.xsk_table.specs.Held.{Board as Face};
+ghost use Rattle.xsk_table.specs.Notes.{AreNewFrom};
 ghost use Rattle.xsk_table.specs.Opening.{WordsOpen, AllFirst, list_of, new_passes};
 
 use crate::end::End;
+use crate::noted::new_standings;
 use crate::opening::{lay_ends, lay_words};
 use crate::pass::Pass;
 use crate::passes::Passes;
@@ -20,6 +22,7 @@ use std::alloc::Global;
 use std::marker::Model;
 use std::mem;
 use std::snapshot::Snapshot;
+use xsk_desc::Standing;
 use xsk_model::Config;
 use xsk_umem::{Frame, Frames, OutOfMemory};
 
@@ -56,6 +59,7 @@ struct Room {
     words: Vec<u64>,
     slots: Vec<Option<Frame>>,
     ends: Vec<Vec<End>>,
+    standings: Vec<Option<Standing>>,
     passes: Vec<Option<Pass>>,
 }
 
@@ -64,6 +68,7 @@ fn take_room(alloc: Global, config: &Config, first: u32, frames: u32) -> Result<
     ensures words { IfOk result (λ room. WordsOpen config.now first room.words.items) }
     ensures slots { IfOk result (λ room. (room.slots.items ≡ []) × (frames ≤ vec_capacity room.slots)) }
     ensures ends { IfOk result (λ room. AllFirst config.now first (callers_of config.now) (map vec_items room.ends.items)) }
+    ensures standings { IfOk result (λ room. AreNewFrom config.now 0 (callers_of config.now) room.standings.items) }
     ensures passes { IfOk result (λ room. (room.passes.items ≡ []) × (callers_of config.now ≤ vec_capacity room.passes)) }
 {
     let words = lay_words(alloc, config, first)?;
@@ -73,11 +78,13 @@ fn take_room(alloc: Global, config: &Config, first: u32, frames: u32) -> Result<
     for who in 0..callers {
         ends.push(lay_ends(alloc, config, first, who)?)?;
     }
+    let standings = new_standings(alloc, config)?;
     let passes = Vec::with_capacity(alloc, callers as usize)?;
     Ok(Room {
         words,
         slots,
         ends,
+        standings,
         passes,
     })
 }
@@ -119,6 +126,7 @@ fn deal(
     board: &Board,
     seat: Chair,
     ends: Vec<Vec<End>>,
+    standings: Vec<Option<Standing>>,
     passes: Vec<Option<Pass>>,
     callers: u32,
 ) -> Vec<Option<Pass>>
@@ -127,20 +135,26 @@ fn deal(
     requires seat { seat.me ≡ (newcomer board.now.key (all_callers board.now.key), []) }
     requires callers { callers ≡ callers_of board.now.key.config }
     requires ends { AllFirst board.now.key.config board.now.key.first callers (map vec_items ends.items) }
+    requires standings { AreNewFrom board.now.key.config 0 callers standings.items }
     requires passes { (passes.items ≡ []) × (callers ≤ vec_capacity passes) }
     ensures { result.items ≡ new_passes (record { table = board.now.table_id; setup = board.now.key }) }
 {
     let mut seat = seat;
     let mut ends = ends;
+    let mut standings = standings;
     let mut passes = passes;
     for who in 0..callers {
         let own = board.split_seat::<Dealing>(&mut seat);
         let list = mem::replace(&mut ends[who as usize], Vec::new(alloc));
+        let Some(standing) = standings[who as usize].take() else {
+            unreachable!()
+        };
         passes.push_reserved(Some(Pass {
             seat: own,
             who,
             ends: list,
             flying: 0,
+            standing,
             alloc,
         }));
     }
@@ -170,6 +184,7 @@ impl Shared {
             words,
             mut slots,
             ends,
+            standings,
             passes,
         } = room;
         let key = Key {
@@ -184,7 +199,7 @@ impl Shared {
         move_out(&mut home, &mut slots);
         match Table::new(alloc, words.as_slice(), slots, &key) {
             Ok((table, seat)) => {
-                let passes = deal(alloc, &table.shared, seat, ends, passes, callers);
+                let passes = deal(alloc, &table.shared, seat, ends, standings, passes, callers);
                 let shared = Shared {
                     table,
                     config,

@@ -5,6 +5,7 @@ use Rattle.std.proofs.lemmas.List.{map-set, length-set}
 use Rattle.xsk_table.specs.View.{newcomer, first_caller, other_callers}
 use Rattle.xsk_table.specs.Plays.{Seated}
 use Rattle.xsk_table.specs.Held.{Board, Holder, new_pass}
+use Rattle.xsk_table.proofs.NewNotes.{first_new, first_there, next_new, new_notes}
 use Rattle.xsk_table.proofs.Seating.{deals}
 use Rattle.xsk_table.proofs.Deals.{FirstFrom, from_set, seat_first, seat_others, new_holds, passes_more, read_at}
 use Rattle.xsk_table.proofs.shared.deal.Goals as goal
@@ -20,7 +21,15 @@ invariant_of-push_reserved c =
     let left : c.loop-who.who < c.args.callers = c.loop-who-test.true in
     let is = ap (λ (m : Seated). m.0) own ∙ ap (λ (m : Seated). first_caller m.0) inv.seat ∙ seat_first k c.loop-who.who (c.args.callers - c.loop-who.who) (omega arith) in
     let there = read_at vec_items c.loop-who.ends.items c.loop-who.who c.replace-list.result _ (omega (arith, left, inv.ends_len)) c.replace-list.ensures.value c.index_mut.ensures.value in
-    new_holds k c.loop-who.who _ _ _ c.requires.opened (inv.ends c.loop-who.who _ (omega arith) there) is (ap (λ (m : Seated). m.1) own)
+    let new = first_new k.config c.loop-who.who c.args.callers c.loop-who.standings.items c.in-Some.standing _ inv.standings left (sym c.in-Some.is ∙ c.take.ensures.value ∙ c.index_mut-in-loop-who.ensures.value) in (
+      new_holds k c.loop-who.who _ _ _ c.requires.opened (inv.ends c.loop-who.who _ (omega arith) there) is (ap (λ (m : Seated). m.1) own),
+      new_notes k c.loop-who.who _ c.in-Some.standing is new,
+    )
+
+pub unreachable-requires : goal.unreachable-requires
+unreachable-requires c =
+    first_there c.args.board.now.key.config c.loop-who.who c.args.callers c.loop-who.standings.items _ c.loop-who.invariant.standings c.loop-who-test.true
+    (sym c.index_mut-in-loop-who.ensures.value ∙ sym c.take.ensures.value ∙ c.in_default.is)
 
 pub loop-who-preserved : goal.loop-who-preserved
 loop-who-preserved c =
@@ -42,6 +51,7 @@ loop-who-preserved c =
       passes = c.push_reserved.ensures.items ∙ passes_more b c.loop-who.who c.loop-who.passes.items holder inv.passes same;
       room = search rules;
       len = search rules;
+      standings = next_new k.config c.loop-who.who c.args.callers c.loop-who.standings.items _ inv.standings;
       ends_len = length-set c.loop-who.ends.items c.loop-who.who _ ∙ inv.ends_len;
       ends = subst (FirstFrom k.config k.first (c.loop-who.who + 1)) (sym (map-set vec_items c.loop-who.ends.items c.loop-who.who _)) (from_set k.config k.first c.loop-who.who (map vec_items c.loop-who.ends.items) _ inv.ends);
     }

@@ -3,6 +3,7 @@ use Rattle.std.specs.List.{range_with_len}
 use Rattle.std.specs.Vec.{vec_items}
 use Rattle.xsk_table.specs.View.{newcomer}
 use Rattle.xsk_table.specs.Held.{new_pass}
+use Rattle.xsk_table.specs.Notes.{AreNewFrom}
 use Rattle.xsk_table.proofs.Deals.{FirstFrom}
 use Rattle.xsk_table.proofs.shared.deal.Given as goal
 
@@ -14,5 +15,6 @@ invariant-loop-who l = record {
   room : l.callers ≤ vec_capacity l.passes;
   len : length l.passes.items ≡ l.who;
   ends_len : length l.ends.items ≡ l.callers;
+  standings : AreNewFrom l.board.key.config l.who l.callers l.standings.items;
   ends : FirstFrom l.board.key.config l.board.key.first l.who (map vec_items l.ends.items);
 }

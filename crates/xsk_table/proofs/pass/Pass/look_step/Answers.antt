@@ -5,6 +5,7 @@ use Rattle.xsk_table.specs.View.{Setup}
 use Rattle.xsk_table.specs.Plays.{Extends}
 use Rattle.xsk_table.specs.Held.{Board, Holder}
 use Rattle.xsk_table.proofs.Marking.{pass_marked}
+use Rattle.xsk_table.proofs.Noting.{notes_quiet}
 use Rattle.xsk_table.proofs.pass.Pass.look_step.Goals as goal
 
 pub invariant_of-self : goal.invariant_of-self
@@ -13,4 +14,8 @@ invariant_of-self c =
     let v = c.self.inside.seat.me.0 in
     let setup : v.setup ≡ c.shared.inside.table.shared.key = ap (λ (h : Holder). h.view.setup) (sym is) ∙ c.requires.belongs.setup ∙ ap (λ (b : Board). b.setup) (sym c.shared.view_is) in
     let E : Setup → Type 0 = λ k. Extends k c.self.inside.who (Look c.args.mark) (Old c.look_at_mark.result) v c.look_at_mark.new.seat.me.0 in
-    pass_marked v _ _ _ _ _ _ (Look c.args.mark) (Old c.look_at_mark.result) c.self.invariant (λ r. refl) (subst E (sym setup) c.look_at_mark.ensures.history) c.look_at_mark.ensures.slots (ap (λ (h : Holder). h.view.flight) (sym is) ∙ c.requires.rests) c.look_at_mark.ensures.flight
+    let rests = ap (λ (h : Holder). h.view.flight) (sym is) ∙ c.requires.rests in
+    let ex = subst E (sym setup) c.look_at_mark.ensures.history in (
+      pass_marked v _ _ _ _ _ _ (Look c.args.mark) (Old c.look_at_mark.result) c.self.invariant.0 (λ r. refl) (subst E (sym setup) c.look_at_mark.ensures.history) c.look_at_mark.ensures.slots (ap (λ (h : Holder). h.view.flight) (sym is) ∙ c.requires.rests) c.look_at_mark.ensures.flight,
+      notes_quiet v _ c.self.inside.who c.self.inside.standing (Look c.args.mark) (Old c.look_at_mark.result) c.self.invariant.1 rests ex c.look_at_mark.ensures.flight refl,
+    )

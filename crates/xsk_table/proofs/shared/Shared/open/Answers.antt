@@ -1,4 +1,4 @@
-use Rattle.std.proofs.Common.{rules, ◌≡◌, [], length, sym, ap, subst, ◌∙◌, arith, List, Option}
+use Rattle.std.proofs.Common.{rules, ◌≡◌, ℕ, [], length, sym, ap, subst, ◌∙◌, arith, List, Option}
 use Rattle.atomic_table.specs.Table.{opening}
 use Rattle.xsk_umem.specs.Frame.{Frame}
 use Rattle.xsk_umem.specs.Frames.{Frames}
@@ -7,6 +7,7 @@ use Rattle.xsk_model.specs.Opening.{IsOpened}
 use Rattle.xsk_model.proofs.Opened.{length-frames}
 use Rattle.xsk_table.specs.View.{Setup, newcomer}
 use Rattle.xsk_table.specs.Rule.{Rule, all_callers}
+use Rattle.xsk_table.specs.Notes.{AreNewFrom}
 use Rattle.xsk_table.specs.Opening.{WordsOpen}
 use Rattle.xsk_table.proofs.Deals.{new_rest}
 use Rattle.xsk_table.proofs.NewTable.{opens}
@@ -20,6 +21,12 @@ new-requires c =
     let words : WordsOpen c.args.config c.args.first c.as_slice.result.now = subst (WordsOpen c.args.config c.args.first) (sym c.as_slice.ensures.value) c.in-Ok.ensures.words in
     let P : Setup × List (Option Frame) → Type 0 = λ t. Rule t.0 (opening c.as_slice.result.now t.1 (newcomer t.0 (all_callers t.0))) in
     subst P (λ i. (key i, sym c.move_out.ensures.slots i)) (opens k c.as_slice.result.now opened c.ranges.first.fits words)
+
+pub deal-passes-requires-clause-standings : goal.deal-passes-requires-clause-standings
+deal-passes-requires-clause-standings c =
+    let config : c.in-Ok-new.table.shared.key.config ≡ c.args.config = ap (λ (t : Setup). t.config) c.in-Ok-new.ensures.ok.5 ∙ c.of.ensures in
+    let P : Config × ℕ → Type 0 = λ t. AreNewFrom t.0 0 t.1 c.in-Ok.room.standings.items in
+    subst P (λ i. (sym config i, sym c.callers-callers.ensures i)) c.in-Ok.ensures.standings
 
 pub invariant_of-result : goal.invariant_of-result
 invariant_of-result c = new_rest _ c.deal-passes.result.items c.deal-passes.ensures
