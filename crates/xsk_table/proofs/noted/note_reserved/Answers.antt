@@ -1,8 +1,5 @@
-use Rattle.std.proofs.Common.{◌≡◌, ap, sym, subst}
-use Rattle.xsk_model.specs.History.{MayGive}
-use Rattle.xsk_model.specs.declared.call.Reply.{Reply}
+use Rattle.std.proofs.Common.{◌≡◌}
 use Rattle.xsk_model.specs.declared.call.Reply.TheVariants.{Granted}
-use Rattle.xsk_model.specs.declared.call.Call.TheVariants.{Reserve}
 use Rattle.xsk_table.proofs.Noting.{can_note_granted, notes_reserved}
 use Rattle.xsk_table.proofs.noted.note_reserved.Goals as goal
 
