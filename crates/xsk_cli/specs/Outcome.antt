@@ -72,7 +72,7 @@ abbrev pub capture_of : List (List ℕ) → List ℕ
 capture_of packets = written (packets ∷ [])
 
 -- what a port's output tells: exactly what the other port received and sends on, in order and whole, which are the packets
--- of 14 bytes up to the number that a frame holds
+-- of 14 bytes up to the number that a frame holds or, with `sg`, that 18 frames hold
 abbrev pub sent_on_by : Layout → List (List (List ℕ)) → ℕ → List (List ℕ)
 sent_on_by layout lists port = filter (has_length (regular_of layout)) (slice_index_or lists (paired_port port) [])
 

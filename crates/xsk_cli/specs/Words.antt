@@ -4,7 +4,7 @@ use Rattle.std.specs.Str.{bytes_eq}
 use Rattle.xsk_args.specs.Words.{Text, is_dashed}
 use Rattle.xsk_args.specs.Number.{number_in}
 use Rattle.xsk_args.specs.Meaning.{Key, Meaning, meaning, one_value}
-use Rattle.xsk_args.specs.declared.table.Takes.TheVariants.{Number}
+use Rattle.xsk_args.specs.declared.table.Takes.TheVariants.{Nothing, Number}
 use Rattle.xsk_socket.specs.declared.layout.Layout.{Layout}
 use Rattle.xsk_socket.specs.declared.layout.Unlawful.{Unlawful}
 use Rattle.xsk_socket.specs.Layout.{fault_of}
@@ -22,7 +22,7 @@ no_plan = record { inputs = []; outputs = []; work = Generate 0 }
 
 -- ---- `simulate`
 
--- the options of `simulate`, each with a number
+-- the options of `simulate`, each with a number but the flag
 abbrev pub options : List Key
 options =
     (codes "frames", Number)
@@ -34,6 +34,7 @@ options =
     ∷ (codes "comp", Number)
     ∷ (codes "order", Number)
     ∷ (codes "gen", Number)
+    ∷ (codes "sg", Nothing)
     ∷ []
 
 -- the number that was said under a name, or the one that stands where none was said
@@ -54,7 +55,8 @@ are_made said = is_some (number_of said (codes "gen"))
 abbrev pub counted : ℕ → ℕ
 counted n = if nat_lt n 4294967296 then n else 4294967295
 
--- what is asked for: two ports with one queue each, and one socket on each queue
+-- what is asked for: two ports with one queue each, and one socket on each queue; with `sg` packets may have several frames
+-- (af_xdp.rst, "XDP_USE_SG bind flag")
 abbrev pub layout_by : Meaning → Layout
 layout_by said = record {
   ports = 2;
@@ -69,7 +71,7 @@ layout_by said = record {
   tx = number_or said (codes "tx") 2048;
   fill = number_or said (codes "fill") 2048;
   comp = number_or said (codes "comp") 2048;
-  sg = false;
+  sg = is_some (said (codes "sg"));
   wakeup = false;
   empty = None;
 }

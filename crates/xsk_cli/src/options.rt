@@ -2,8 +2,8 @@
 
 use xsk_args::{OptionRow, Takes};
 
-/// Each has a number. The number that stands where none was said is [`Plan`](crate::words::Plan)'s.
-pub(crate) const OPTIONS: [OptionRow; 9] = [
+/// Each has a number, but `--sg`. The number that stands where none was said is [`Plan`](crate::words::Plan)'s.
+pub(crate) const OPTIONS: [OptionRow; 10] = [
     OptionRow {
         name: "frames",
         takes: Takes::Number,
@@ -39,5 +39,9 @@ pub(crate) const OPTIONS: [OptionRow; 9] = [
     OptionRow {
         name: "gen",
         takes: Takes::Number,
+    },
+    OptionRow {
+        name: "sg",
+        takes: Takes::Nothing,
     },
 ];

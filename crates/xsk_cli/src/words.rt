@@ -81,7 +81,7 @@ fn layout_of(args: &Args<'_>) -> Layout
         tx: args.number("tx").unwrap_or(2048),
         fill: args.number("fill").unwrap_or(2048),
         comp: args.number("comp").unwrap_or(2048),
-        sg: false,
+        sg: args.is_said("sg"),
         wakeup: false,
         empty: None,
     }
