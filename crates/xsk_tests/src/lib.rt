@@ -13,3 +13,5 @@ mod many_packets;
 mod options;
 #[cfg(test)]
 mod refusals;
+#[cfg(test)]
+mod several_frames;

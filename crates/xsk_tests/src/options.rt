@@ -72,6 +72,8 @@ fn options_are_read_by_their_rules(rt: HostRuntime) -> Result<(), Fail> {
         "simulate --rx +2 a b c d",
         "simulate --rx 00000000002 a b c d",
         "simulate --queues 1 a b c d",
+        "simulate --sg=1 a b c d",
+        "simulate --sg --sg a b c d",
         "simulate --frames -- a b c d",
         "sim a b c d",
         "gen 0",
@@ -97,7 +99,7 @@ fn accepted_layouts_carry_the_packet(rt: HostRuntime) -> Result<(), Fail> {
     for line in [
         "simulate --frames=000000080 --headroom 256 --rx=32 a b c d",
         "simulate a --chunk 2048 b --order 65536 c --fill 128 --tx 2 d --comp=2",
-        "simulate --frames 2 --fill 2 --order=4294967295 a b c d",
+        "simulate --frames 2 --fill 2 --sg --order=4294967295 a b c d",
     ] {
         let (status, bay) = answered(rt.alloc(), line)?;
         assert_eq!(rt; status, Status::Done, "{line}");
