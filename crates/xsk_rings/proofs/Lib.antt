@@ -1,3 +1,4 @@
 pub mod Looping
 pub mod Telling
 mod Rounds
+mod Keeping

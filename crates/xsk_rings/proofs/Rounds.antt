@@ -41,7 +41,7 @@ none_left : (xs : List Item) → length xs ≤ 0 → xs ≡ []
 none_left [] h = refl
 none_left (x ∷ xs) h = absurd (omega arith)
 
-may_ask : (b : Board) (p : Holder) (call : Call) → Rests b p → IsLegal b.setup.config (mine_of p) p.who call → MayAsk b p call
+pub may_ask : (b : Board) (p : Holder) (call : Call) → Rests b p → IsLegal b.setup.config (mine_of p) p.who call → MayAsk b p call
 may_ask b p call rests legal = record {
   belongs = rests.0;
   rests = rests.1;
@@ -62,7 +62,7 @@ may_release b p r rests h held = may_ask b p (Release r 1) rests record { caller
 pub served_rests : (b : Board) (p q : Holder) (call : Call) (reply : Reply) → Rests b p → Served p q call reply → Rests b q
 served_rests b p q call reply rests s = (record { table = s.table ∙ rests.0.table; setup = s.history.setup ∙ rests.0.setup }, s.rests)
 
-mine_after : (p q : Holder) (call : Call) (reply : Reply) → Served p q call reply → mine_of q ≡ with_told (mine_of p) call reply
+pub mine_after : (p q : Holder) (call : Call) (reply : Reply) → Served p q call reply → mine_of q ≡ with_told (mine_of p) call reply
 mine_after p q call reply s = ap (λ w. own w q.view.seen) s.who ∙ s.history.mine
 
 pub room_reserved : (p q : Holder) (r : Ring) → Served p q (Reserve r 1) Granted → 1 ≤ room_of r (mine_of q)
@@ -143,7 +143,7 @@ frame_at n off address is lt small =
 is_geometry : IsGeometry geometry
 is_geometry = record { some = lit≤ tt; few = lit≤ tt; chunk = inl refl; headroom = lit< tt }
 
-received_lawful : (x y : Item) → IsReceived x y → IsItemOn geometry (Rx 0) y
+pub received_lawful : (x y : Item) → IsReceived x y → IsItemOn geometry (Rx 0) y
 received_lawful x y h =
     let f : Frame = h.frame in
     let n : ℕ = f.number in
@@ -188,15 +188,15 @@ received_shaped x y h = record {
   single = inr refl;
 }
 
-from_fill : (n : ℕ) (before : List Told) (x y : Item) → number_of x.frame ≡ number_of y.frame → 1 ≤ times n (numbers (y ∷ [])) → is_from_fill n (with_told before (Peek (Fill 0) 1) (Items (x ∷ []))) ≡ true
+pub from_fill : (n : ℕ) (before : List Told) (x y : Item) → number_of x.frame ≡ number_of y.frame → 1 ≤ times n (numbers (y ∷ [])) → is_from_fill n (with_told before (Peek (Fill 0) 1) (Items (x ∷ []))) ≡ true
 from_fill n before x y same some =
     let t : Told = record { call = Peek (Fill 0) 1; reply = Items (x ∷ []) } in
     let number = ap (times n) same in
     let there : 0 < times n (numbers (x ∷ [])) = omega (arith, numbers-cons n y [], numbers-cons n x []) in
     fold_push (fill_step n) false before t ∙ ap (λ b. cond b true (is_from_fill n before)) (lt-ltb 0 (times n (numbers (x ∷ []))) there)
 
-received_packets : (mine before : List Told) (x y : Item) → mine ≡ with_told before (Peek (Fill 0) 1) (Items (x ∷ [])) → IsReceived x y → AreReceived (two_pairs geometry) mine (y ∷ [])
-received_packets mine before x y is h =
+pub packets_from_fill : (mine : List Told) (x y : Item) → ((n : ℕ) → 1 ≤ times n (numbers (y ∷ [])) → is_from_fill n mine ≡ true) → IsReceived x y → AreReceived (two_pairs geometry) mine (y ∷ [])
+packets_from_fill mine x y from h =
     let Whole : Item → Type 0 = λ i. IfSome i.frame (λ (f : Frame). length f.bytes ≡ geometry.chunk) in
     let whole : Whole y = subst (λ (f : Option Frame). IfSome f (λ (g : Frame). length g.bytes ≡ geometry.chunk)) (sym h.is) h.body in
     let Laid : List Item → Type 0 = λ l. (packet : List ℕ) × IsLayout geometry false packet l in
@@ -205,8 +205,11 @@ received_packets mine before x y is h =
       layouts = (y ∷ []) ∷ [];
       joined = refl;
       laid_out = All-cons Laid (y ∷ []) [] laid (All-nil Laid);
-      from_fill = λ n some. ap (is_from_fill n) is ∙ from_fill n before x y h.same some;
+      from_fill = from;
     }
+
+received_packets : (mine before : List Told) (x y : Item) → mine ≡ with_told before (Peek (Fill 0) 1) (Items (x ∷ [])) → IsReceived x y → AreReceived (two_pairs geometry) mine (y ∷ [])
+received_packets mine before x y is h = packets_from_fill mine x y (λ n some. ap (is_from_fill n) is ∙ from_fill n before x y h.same some) h
 
 -- ---- the two callers
 

@@ -1,12 +1,13 @@
 -- What the tests of rounds say of a pass that takes items from one ring and puts their frames into another.
-use Rattle.std.specs.Prelude.{◌≡◌, ℕ, ◌<◌, List, [], ◌∷◌, length, Some}
+use Rattle.std.specs.Prelude.{◌≡◌, ℕ, ◌<◌, ◌≤◌, true, List, [], ◌∷◌, length, Some}
 use Rattle.xsk_umem.specs.Geometry.{data_of, base_of}
 use Rattle.xsk_umem.specs.Frame.{Frame}
 use Rattle.xsk_umem.specs.declared.batch.Item.{Item}
 use Rattle.xsk_model.specs.Config.{Config, HasRing, callers_of}
-use Rattle.xsk_model.specs.Numbers.{number_of}
+use Rattle.xsk_model.specs.Numbers.{times, numbers, number_of}
 use Rattle.xsk_model.specs.Rings.{producer, consumer}
 use Rattle.xsk_model.specs.Entry.{Told, own, with_told}
+use Rattle.xsk_model.specs.Own.{had_of, is_from_fill}
 use Rattle.xsk_model.specs.Legal.{IsItemOn}
 use Rattle.xsk_model.specs.declared.call.Ring.{Ring}
 use Rattle.xsk_model.specs.declared.call.Call.TheVariants.{Peek}
@@ -34,6 +35,11 @@ pub record LastTook (p : Holder) (r : Ring) (x : Item) : Type 0 where
   pub before : List Told
   pub mine : mine_of p ≡ with_told before (Peek r 1) (Items (x ∷ []))
   pub lawful : IsItemOn p.view.setup.config.geometry r x
+
+-- its caller has the frames of these items, and got each from FILL
+pub record HasFromFill (p : Holder) (items : List Item) : Type 0 where
+  pub had : (n : ℕ) → times n (numbers items) ≤ times n (had_of (mine_of p))
+  pub from_fill : (n : ℕ) → 1 ≤ times n (numbers items) → is_from_fill n (mine_of p) ≡ true
 
 -- a received packet of 60 bytes in the frame of an item
 pub record IsReceived (x y : Item) : Type 0 where

@@ -8,6 +8,8 @@ mod serving;
 pub use calls::RingCalls;
 
 #[cfg(test)]
+mod note_tests;
+#[cfg(test)]
 mod round_tests;
 #[cfg(test)]
 mod tests;

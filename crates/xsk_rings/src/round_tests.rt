@@ -90,7 +90,7 @@ fn frees(shared: &Shared, pass: &mut Pass, source: Ring)
 }
 
 /// A packet of 60 bytes, received into the frame of an item: the frame's number, the round, and zeros.
-fn received<R: Abort>(rt: &R, item: Item, round: u32) -> Item
+pub(crate) fn received<R: Abort>(rt: &R, item: Item, round: u32) -> Item
     requires lawful { IsItemOn geometry (Fill 0) item }
     ensures { IsReceived item result }
 {
