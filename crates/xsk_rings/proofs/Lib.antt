@@ -1,4 +1,4 @@
 pub mod Looping
 pub mod Telling
-mod Rounds
+pub mod Rounds
 mod Keeping

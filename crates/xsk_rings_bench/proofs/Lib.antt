@@ -1,0 +1,2 @@
+mod Legality
+mod Loops
