@@ -64,7 +64,7 @@ tells c a s call l stands =
       run = run_asks (app_turn c a) (app_start c) s.kept call rest l stands.asks;
       more = asks_more (app_turn c a) (app_start c) s.kept call rest l stands.asks;
       owned = app_keeps_frames c a l s.kept call rest stands.one stands.fit stands.asks;
-      legal = λ alone. app_calls_legal c a l s.kept call rest stands.one alone stands.fit stands.asks;
+      legal = λ own. app_calls_legal c a l s.kept call rest stands.one own stands.fit stands.asks;
     }
 
 pub tells_all : (c : Config) (a : ℕ) (s : Shown) (l : List Told) → HasEnded c a s l → TellsAll c a s l

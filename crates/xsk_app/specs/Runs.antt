@@ -1,7 +1,6 @@
 -- The list of calls and replies for which an application stands.
 use Rattle.std.specs.Prelude.{◌≡◌, ℕ, List, []}
 use Rattle.xsk_model.specs.Config.{Config}
-use Rattle.xsk_model.specs.Marks.{apps_of}
 use Rattle.xsk_model.specs.Rings.{caller_of}
 use Rattle.xsk_model.specs.Numbers.{times}
 use Rattle.xsk_model.specs.Entry.{Told}
@@ -13,7 +12,7 @@ use Rattle.xsk_model.specs.declared.call.Act.TheVariants.{Call as Calls, Ended}
 use Rattle.xsk_turns.specs.Script.{Asks, Ends}
 use Rattle.xsk_turns.specs.Owned.{AllFit}
 use Rattle.xsk_turns.specs.AppTurns.{app_turn, app_start, IsAppRun, IsWholeAppRun}
-use Rattle.xsk_turns.specs.AppOwned.{IsApp, app_numbers, AppOwned}
+use Rattle.xsk_turns.specs.AppOwned.{IsApp, HasOwnFrames, app_numbers, AppOwned}
 use Rattle.xsk_app.specs.Shown.{Shown}
 use Rattle.xsk_app.specs.Stands.{left}
 use Rattle.xsk_app.specs.declared.machine.Wait.TheVariants.{Start}
@@ -50,13 +49,12 @@ StandsWith c a s Ended l = HasEnded c a s l
 -- ---- what follows of it, by the laws of the turns
 
 -- Where it gives a call, the list is a run, and no whole one. Its frames, with those of the call, are those that it peeked
--- and didn't submit. The call is legal where the application is the configuration's only one: that frames of other
--- applications' homes don't come to it is no matter then.
+-- and didn't submit. The call is legal where all of them are at home with it, as they are in every history of the object.
 pub record Tells (c : Config) (a : ℕ) (s : Shown) (call : Call) (l : List Told) : Type 0 where
   pub run : IsAppRun c a l
   pub more : IsWholeAppRun c a l → ⊥
   pub owned : AppOwned s.kept call l
-  pub legal : apps_of c ≡ 1 → IsLegal c l (caller_of c a) call
+  pub legal : HasOwnFrames c a l → IsLegal c l (caller_of c a) call
 
 -- Where it has ended, the list is a whole run, and its frames are those that it keeps.
 pub record TellsAll (c : Config) (a : ℕ) (s : Shown) (l : List Told) : Type 0 where

@@ -24,7 +24,6 @@ use Rattle.xsk_laws.specs.Laws.{AreWholeRuns, HasOwnSockets}
 use Rattle.xsk_laws.proofs.Theorems.{all_is_expected}
 use Rattle.xsk_laws.specs.Expected.{has_length}
 use Rattle.xsk_laws.proofs.Places.{are_paired}
-use Rattle.xsk_model.specs.Marks.{apps_of}
 use Rattle.xsk_socket.specs.declared.layout.Layout.{Layout}
 use Rattle.xsk_socket.specs.Layout.{fault_of}
 use Rattle.xsk_socket.specs.Regular.{regular_of}
@@ -50,9 +49,6 @@ module _ (layout : Layout) (one : with_one_socket layout ≡ layout) where
 
   pub pairs_are : length (regular_of layout).pairs ≡ layout.ports
   pairs_are = subst (λ (l : Layout). length (regular_of l).pairs ≡ l.ports) one refl
-
-  pub one_app : apps_of (regular_of layout) ≡ 1
-  one_app = subst (λ l. apps_of (regular_of l) ≡ 1) one refl
 
   pub no_wakeup : (regular_of layout).wakeup ≡ false
   no_wakeup = subst (λ l. (regular_of l).wakeup ≡ false) one refl

@@ -1,11 +1,9 @@
 -- The frames of the packets of a TX ring that are not completed, and of the packet that is not at its end: the driver
 -- has each of them, it stands there once, and the driver last got it from that ring.
-use Rattle.std.proofs.Common.{◌≡◌, ℕ, zero, suc, ◌+◌, ◌*◌, ◌/◌, ◌<◌, ◌≤◌, inl, inr, Bool, true, false, cond, ◌&&◌, nat_lt, List, [], ◌∷◌, ◌++◌, length, drop, flat_map, All, Option, Some, None, refl, sym, ap, subst, ◌∙◌, ⊎_elim, arith, length-append, take-append-drop, drop-drop, lt-ltb, le-ltb, ltb-true}
+use Rattle.std.proofs.Common.{◌≡◌, ℕ, zero, suc, ◌+◌, ◌*◌, ◌/◌, ◌<◌, ◌≤◌, inl, inr, Bool, true, false, cond, ◌&&◌, nat_lt, List, [], ◌∷◌, ◌++◌, length, drop, flat_map, All, Option, Some, None, refl, sym, ap, subst, ◌∙◌, ⊎_elim, arith, length-append, lt-ltb, le-ltb, ltb-true}
 use Rattle.std.specs.Prelude.{IsTrue}
 use Rattle.std.specs.Option.{option_map}
 use Rattle.std.proofs.lemmas.Bool.{cases_lt, and_parts}
-use Rattle.std.proofs.lemmas.List.{drop-append-le}
-use Rattle.std.proofs.lemmas.List.Concat.{flat_map-append}
 use Rattle.std.proofs.lemmas.List.Elements.{All-nil, All-cons, All-head, All-tail, All-drop, All-append}
 use Rattle.std.proofs.Math.Nat.{div-lt_iff_lt-mul}
 use Rattle.xsk_umem.specs.Frame.{Frame}
@@ -13,7 +11,7 @@ use Rattle.xsk_umem.specs.Geometry.{Geometry, area_of, frame_of}
 use Rattle.xsk_umem.specs.declared.batch.Item.{Item}
 use Rattle.xsk_model.specs.Config.{Config}
 use Rattle.xsk_model.specs.Descriptor.{is_valid, is_inside, has_bytes, fits_chunk, has_known_options}
-use Rattle.xsk_model.specs.Packets.{Packet, whole, bad, packets, packets_from, rest, whole_packets, items_of, Continues, IsWhole}
+use Rattle.xsk_model.specs.Packets.{Packet, whole, bad, packets, rest, whole_packets, items_of, Continues, IsWhole}
 use Rattle.xsk_model.specs.Numbers.{times, number_of, numbers}
 use Rattle.xsk_model.specs.Rings.{is_ring}
 use Rattle.xsk_model.specs.Object.{call_ring, submitted, taken}
@@ -26,81 +24,17 @@ use Rattle.xsk_model.specs.declared.call.Ring.TheVariants.{Fill, Comp, Rx, Tx}
 use Rattle.xsk_model.specs.declared.call.Call.{Call}
 use Rattle.xsk_model.specs.declared.call.Call.TheVariants.{Reserve, Submit, Peek, Release, Swap, Look}
 use Rattle.xsk_model.specs.declared.call.Reply.{Reply}
-use Rattle.xsk_model.proofs.PacketsLaws.{packets_from-append, packets-items, packets-made}
+use Rattle.xsk_model.proofs.PacketsLaws.{packets-items, packets-made}
 use Rattle.xsk_model.proofs.Counting.{times-append, numbers-append, length-by_times, not_yet}
 use Rattle.xsk_model.proofs.Places.{is_ring-true}
 use Rattle.xsk_model.proofs.OwnRuns.{own_all, fits_taken}
-use Rattle.xsk_model.proofs.Sendings.{wholes, wholes-append, sending_of-push, completed_by-front, IsWithin, within-push}
-use Rattle.xsk_model.proofs.Completions.{kept, times-numbers-append, is_same-self, whole_of_packets}
+use Rattle.xsk_model.proofs.Sendings.{wholes, sending_of-push, IsWithin, within-push}
+use Rattle.xsk_model.proofs.Completions.{kept, kept-peek, kept-comp, is_same-self, whole_of_packets}
 use Rattle.xsk_desc.specs.Standing.{source_of, uncompleted}
 use Rattle.xsk_desc.proofs.Sources.{once, is_fill_ring, IsSource, source_of-push, source_step_holds}
 use Rattle.xsk_desc.proofs.Steps.{all_first, all_later}
 
 -- ---- what one call leaves of these frames
-
-whole_part : (n : ℕ) (ps : List Packet) → times n (flat_map numbers (whole_packets ps)) ≤ times n (numbers (flat_map items_of ps))
-whole_part n [] = omega arith
-whole_part n (whole items ∷ ps) =
-    omega (
-      arith,
-      whole_part n ps,
-      times-append n (numbers items) (flat_map numbers (whole_packets ps)),
-      times-numbers-append n items (flat_map items_of ps),
-    )
-whole_part n (bad items ∷ ps) = omega (arith, whole_part n ps, times-numbers-append n items (flat_map items_of ps))
-
-times-packets : (n : ℕ) (c : Config) (xs : List Item)
-    → times n (numbers (flat_map items_of (packets c.geometry c.sg xs))) + times n (numbers (rest c.geometry c.sg xs)) ≡ times n (numbers xs)
-times-packets n c xs =
-    sym (times-numbers-append n (flat_map items_of (packets c.geometry c.sg xs)) (rest c.geometry c.sg xs))
-    ∙ ap (λ items. times n (numbers items)) (packets-items c.geometry c.sg xs)
-
--- items that are peeked bring no frames but their own
-kept-peek : (n : ℕ) (c : Config) (u : Sending) (items : List Item) → u.completed ≤ length (wholes c u)
-    → times n (kept c (record u { peeked = u.peeked ++ items })) ≤ times n (kept c u) + times n (numbers items)
-kept-peek n c u items h =
-    let before : List Packet = packets c.geometry c.sg u.peeked in
-    let later : List Packet = packets_from c.geometry c.sg (rest c.geometry c.sg u.peeked) items in
-    let now : List Item = rest c.geometry c.sg (u.peeked ++ items) in
-    let split : packets c.geometry c.sg (u.peeked ++ items) ≡ before ++ later = packets_from-append c.geometry c.sg [] u.peeked items in
-    let waits : drop u.completed (whole_packets (packets c.geometry c.sg (u.peeked ++ items))) ≡ waiting c u ++ whole_packets later =
-    ap (drop u.completed) (wholes-append c u.peeked items) ∙ drop-append-le u.completed (wholes c u) (whole_packets later) h in
-    let new = ap (λ ws. times n (flat_map numbers ws)) waits
-    ∙ ap (times n) (flat_map-append numbers (waiting c u) (whole_packets later))
-    ∙ times-append n (flat_map numbers (waiting c u)) (flat_map numbers (whole_packets later)) in
-    let all = ap (λ ps. times n (numbers (flat_map items_of ps))) split
-    ∙ ap (λ xs. times n (numbers xs)) (flat_map-append items_of before later)
-    ∙ times-numbers-append n (flat_map items_of before) (flat_map items_of later) in
-    omega (
-      arith,
-      new,
-      all,
-      whole_part n later,
-      times-packets n c (u.peeked ++ items),
-      times-packets n c u.peeked,
-      times-numbers-append n u.peeked items,
-      times-append n (flat_map numbers (drop u.completed (whole_packets (packets c.geometry c.sg (u.peeked ++ items))))) (numbers now),
-      times-append n (flat_map numbers (waiting c u)) (numbers (rest c.geometry c.sg u.peeked)),
-    )
-
--- what is completed takes its frames away
-kept-comp : (n : ℕ) (c : Config) (u : Sending) (items : List Item)
-    → times n (kept c (record u { completed = u.completed + length (completed_by items (waiting c u)) })) + times n (flat_map numbers (completed_by items (waiting c u))) ≡ times n (kept c u)
-kept-comp n c u items =
-    let done : List (List Item) = completed_by items (waiting c u) in
-    let left : drop (u.completed + length done) (wholes c u) ≡ drop (length done) (waiting c u) = sym (drop-drop (length done) u.completed (wholes c u)) in
-    let parts : done ++ drop (length done) (waiting c u) ≡ waiting c u =
-    ap (λ ws. ws ++ drop (length done) (waiting c u)) (completed_by-front items (waiting c u)) ∙ take-append-drop (length done) (waiting c u) in
-    let count = sym (ap (λ ws. times n (flat_map numbers ws)) parts)
-    ∙ ap (times n) (flat_map-append numbers done (drop (length done) (waiting c u)))
-    ∙ times-append n (flat_map numbers done) (flat_map numbers (drop (length done) (waiting c u))) in
-    omega (
-      arith,
-      count,
-      ap (λ ws. times n (flat_map numbers ws)) left,
-      times-append n (flat_map numbers (drop (u.completed + length done) (wholes c u))) (numbers (rest c.geometry c.sg u.peeked)),
-      times-append n (flat_map numbers (waiting c u)) (numbers (rest c.geometry c.sg u.peeked)),
-    )
 
 -- a number of the next packet that waits
 kept-first : (n : ℕ) (c : Config) (u : Sending) (packet : List Item) (later : List (List Item)) → waiting c u ≡ packet ∷ later

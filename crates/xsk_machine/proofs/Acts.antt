@@ -1,10 +1,15 @@
 -- What a driver and an application give after a list of their calls and replies.
-use Rattle.std.proofs.Common.{◌≡◌, ℕ, ◌<◌, ◌≤◌, Bool, true, false, Option, Some, None, List, [], length, refl, sym, subst, ap, ◌∙◌, ⊎_elim, arith}
+use Rattle.std.proofs.Common.{◌≡◌, ℕ, ◌<◌, ◌≤◌, Bool, true, false, List, [], length, refl, sym, subst, ap, ◌∙◌, ⊎_elim, arith}
 use Rattle.std.specs.Prelude.{IsTrue}
 use Rattle.std.specs.List.{concat}
-use Rattle.xsk_umem.specs.PacketList.{PacketList}
 use Rattle.xsk_model.specs.Config.{Config}
 use Rattle.xsk_model.specs.Rings.{caller_of}
+use Rattle.xsk_model.specs.Homes.{home_app, serves}
+use Rattle.xsk_model.specs.Numbers.{times}
+use Rattle.xsk_model.specs.Own.{had_of}
+use Rattle.xsk_model.proofs.FrameTheorems.{frames_stay}
+use Rattle.xsk_model.proofs.Stays.{serves_itself}
+use Rattle.xsk_turns.specs.AppOwned.{HasOwnFrames}
 use Rattle.xsk_model.specs.Entry.{Told, with_told}
 use Rattle.xsk_model.specs.History.{MayGive}
 use Rattle.xsk_model.specs.Sent.{sockets_of, sent_from}
@@ -23,7 +28,7 @@ use Rattle.xsk_turns.proofs.ScriptLemmas.{whole_run}
 use Rattle.xsk_app.specs.Runs.{StandsWith as AppStandsWith}
 use Rattle.xsk_app.proofs.Runs.{tells_with as app_tells_with}
 use Rattle.xsk_turns.specs.Workers.{Setting, input_of, IsWorkerRun}
-use Rattle.xsk_machine.specs.Acts.{other_of, HasRoomToSend, DriverStands, IsApp, AppStands, IsActAfter}
+use Rattle.xsk_machine.specs.Acts.{other_of, HasRoomToSend, DriverStands, AppStands, IsActAfter}
 
 -- ---- drivers
 
@@ -32,7 +37,7 @@ pub driver_after : (s : Setting) (who : ℕ) (d : DriverShown) (act : Act) (l : 
 driver_after s who d (Calls call) l known room stands =
     let tells = tells_with s.config who (input_of s who) d (Calls call) l stands in (
       record { known = known; room = room; stands = stands },
-      (λ one. tells.legal, λ whole. tells.more (whole.driver known), record { driver = λ below. tells.run; app = λ a is. absurd (omega arith) }),
+      (tells.legal, λ whole. tells.more (whole.driver known), record { driver = λ below. tells.run; app = λ a is. absurd (omega arith) }),
     )
 driver_after s who d IsEnd l known room stands =
     let tells = tells_with s.config who (input_of s who) d IsEnd l stands in
@@ -66,17 +71,32 @@ sent_at s who d act l is stands within =
 
 -- ---- applications
 
-app_acts : (s : Setting) (a : AppShown) (act : Act) (l : List Told) → AppStandsWith s.config a.app a act l → IsActAfter s (caller_of s.config a.app) act l
-app_acts s a (Calls call) l stands =
+-- in a history the frames of an application are at home with it
+own_frames : (c : Config) (a who : ℕ) (l : List Told) (call : Call) (r : Reply) → who ≡ caller_of c a → MayGive c l who call r → HasOwnFrames c a (with_told l call r)
+own_frames c a who l call r is may = λ n had.
+    let stay = frames_stay c may.frames may.history n may.legal in
+    let mine : serves c who ≡ home_app c n = stay.0 who (subst (λ m. 1 ≤ times n (had_of m)) (sym may.entries) had) in
+    sym mine ∙ ap (serves c) is ∙ serves_itself c a
+
+pub app_own : (s : Setting) (who : ℕ) (a : AppShown) (l : List Told) (call : Call) (r : Reply) → who ≡ caller_of s.config a.app → MayGive s.config l who call r
+    → HasOwnFrames s.config a.app (with_told l call r)
+app_own s who a l call r is may = own_frames s.config a.app who l call r is may
+
+-- one that has none has no other's
+pub app_has_none : (s : Setting) (a : AppShown) → HasOwnFrames s.config a.app []
+app_has_none s a = λ n had. absurd (omega arith)
+
+app_acts : (s : Setting) (a : AppShown) (act : Act) (l : List Told) → HasOwnFrames s.config a.app l → AppStandsWith s.config a.app a act l → IsActAfter s (caller_of s.config a.app) act l
+app_acts s a (Calls call) l own stands =
     let tells = app_tells_with s.config a.app a (Calls call) l stands in (
-      tells.legal,
+      tells.legal own,
       λ whole. tells.more (whole.app a.app refl),
       record {
         driver = λ below. absurd (omega arith);
         app = λ b is. subst (λ k. IsAppRun s.config k l) (let e : a.app ≡ b = omega arith in e) tells.run;
       },
     )
-app_acts s a IsEnd l stands =
+app_acts s a IsEnd l own stands =
     let tells = app_tells_with s.config a.app a IsEnd l stands in
     record {
       driver = λ below. absurd (omega arith);
@@ -84,11 +104,11 @@ app_acts s a IsEnd l stands =
     }
 
 pub app_after : (s : Setting) (who : ℕ) (old new : AppShown) (act : Act) (l : List Told) → old.config ≡ s.config → who ≡ caller_of s.config old.app
-    → (new.config ≡ old.config) × (new.app ≡ old.app) → AppStandsWith s.config old.app new act l → AppStands s who new act l × IsActAfter s who act l
-app_after s who old new act l config caller same stands =
+    → HasOwnFrames s.config old.app l → (new.config ≡ old.config) × (new.app ≡ old.app) → AppStandsWith s.config old.app new act l → AppStands s who new act l × IsActAfter s who act l
+app_after s who old new act l config caller own same stands =
     let mine : who ≡ caller_of s.config new.app = caller ∙ ap (caller_of s.config) (sym same.1) in
     let now : AppStandsWith s.config new.app new act l = subst (λ (n : ℕ). AppStandsWith s.config n new act l) (sym same.1) stands in
-    (record { config = same.0 ∙ config; caller = mine; stands = now }, subst (λ w. IsActAfter s w act l) (sym mine) (app_acts s new act l now))
+    (record { config = same.0 ∙ config; caller = mine; stands = now }, subst (λ w. IsActAfter s w act l) (sym mine) (app_acts s new act l (subst (λ (n : ℕ). HasOwnFrames s.config n l) (sym same.1) own) now))
 
 -- a whole run is a run
 pub worker_run : (s : Setting) (who : ℕ) (act : Act) (l : List Told) → IsActAfter s who act l → IsWorkerRun s who l

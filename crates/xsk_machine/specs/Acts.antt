@@ -3,7 +3,6 @@ use Rattle.std.specs.Prelude.{◌≡◌, ℕ, ◌<◌, List, length}
 use Rattle.std.specs.List.{concat}
 use Rattle.xsk_model.specs.Config.{pair_at}
 use Rattle.xsk_model.specs.Rings.{caller_of}
-use Rattle.xsk_model.specs.Marks.{apps_of}
 use Rattle.xsk_model.specs.Entry.{Told}
 use Rattle.xsk_model.specs.Legal.{IsLegal}
 use Rattle.xsk_model.specs.Steering.{paired_port}
@@ -49,8 +48,7 @@ pub record AppStands (s : Setting) (who : ℕ) (a : AppShown) (act : Act) (l : L
   pub caller : who ≡ caller_of s.config a.app
   pub stands : AppStandsWith s.config a.app a act l
 
--- What a worker gave after a list: a call, where the list is a run and no whole one, or its end, where it is a whole one.
--- The call is legal where there is one application.
+-- what a worker gave after a list: a legal call, where the list is a run and no whole one, or its end, where it is a whole one
 abbrev pub IsActAfter : Setting → ℕ → Act → List Told → Type 0
-IsActAfter s who (Calls call) l = (apps_of s.config ≡ 1 → IsLegal s.config l who call) × (IsWholeRun s who l → ⊥) × IsWorkerRun s who l
+IsActAfter s who (Calls call) l = IsLegal s.config l who call × (IsWholeRun s who l → ⊥) × IsWorkerRun s who l
 IsActAfter s who IsEnd l = IsWholeRun s who l

@@ -65,7 +65,8 @@ times-packets n c xs =
     sym (times-numbers-append n (flat_map items_of (packets c.geometry c.sg xs)) (rest c.geometry c.sg xs))
     ∙ ap (λ items. times n (numbers items)) (packets-items c.geometry c.sg xs)
 
-kept-peek : (n : ℕ) (c : Config) (u : Sending) (items : List Item) → u.completed ≤ length (wholes c u)
+-- items that are peeked bring no frames but their own
+pub kept-peek : (n : ℕ) (c : Config) (u : Sending) (items : List Item) → u.completed ≤ length (wholes c u)
     → times n (kept c (record u { peeked = u.peeked ++ items })) ≤ times n (kept c u) + times n (numbers items)
 kept-peek n c u items h =
     let before : List Packet = packets c.geometry c.sg u.peeked in
@@ -92,7 +93,8 @@ kept-peek n c u items h =
       times-append n (flat_map numbers (waiting c u)) (numbers (rest c.geometry c.sg u.peeked)),
     )
 
-kept-comp : (n : ℕ) (c : Config) (u : Sending) (items : List Item)
+-- what is completed takes its frames away
+pub kept-comp : (n : ℕ) (c : Config) (u : Sending) (items : List Item)
     → times n (kept c (record u { completed = u.completed + length (completed_by items (waiting c u)) })) + times n (flat_map numbers (completed_by items (waiting c u))) ≡ times n (kept c u)
 kept-comp n c u items =
     let done : List (List Item) = completed_by items (waiting c u) in

@@ -15,6 +15,7 @@ pub mod Histories
 pub mod Replies
 pub mod Distinct
 pub mod Roles
+pub mod Few
 pub mod MarkPlaces
 pub mod MarkNumbers
 pub mod Theorems

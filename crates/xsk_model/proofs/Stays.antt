@@ -34,7 +34,7 @@ use Rattle.xsk_model.proofs.Along.{Keeps, along}
 serves_driver : (c : Config) (d : ℕ) → d < length c.pairs → serves c d ≡ app_of c (Fill d)
 serves_driver c d h = ap (λ b. cond b (app_of c (Fill d)) d) (lt-ltb d (length c.pairs) h)
 
-serves_itself : (c : Config) (app : ℕ) → serves c (caller_of c app) ≡ caller_of c app
+pub serves_itself : (c : Config) (app : ℕ) → serves c (caller_of c app) ≡ caller_of c app
 serves_itself c app =
     let past : length c.pairs ≤ caller_of c app = omega arith in
     ap (λ b. cond b (app_of c (Fill (caller_of c app))) (caller_of c app)) (le-ltb (caller_of c app) (length c.pairs) past)

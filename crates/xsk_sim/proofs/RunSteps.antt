@@ -3,7 +3,6 @@ use Rattle.std.proofs.Common.{◌≡◌, ℕ, List, [], ◌∷◌, ◌++◌, ref
 use Rattle.std.proofs.lemmas.List.{map-append}
 use Rattle.xsk_umem.specs.Frame.{Frame}
 use Rattle.xsk_model.specs.Config.{Config}
-use Rattle.xsk_model.specs.Marks.{apps_of}
 use Rattle.xsk_model.specs.Object.{State, reply_at, after}
 use Rattle.xsk_model.specs.Entry.{Told, Entry, own, with_told}
 use Rattle.xsk_model.specs.Legal.{IsLegal}
@@ -58,13 +57,13 @@ run_step s frames h old new who call reply run legal performs =
     }
 
 -- a worker's act after its own calls and replies can be performed
-pub can_make : (s : Setting) (frames : List Frame) (h : List Entry) (engine : Engine) (who : ℕ) (act : Act) (call : Call) → apps_of s.config ≡ 1 → HasRun s frames h engine
+pub can_make : (s : Setting) (frames : List Frame) (h : List Entry) (engine : Engine) (who : ℕ) (act : Act) (call : Call) → HasRun s frames h engine
     → IsActAfter s who act (own who h) → act ≡ Calls call → CanPerform engine.config engine.rings call
-can_make s frames h engine who act call one run after is =
+can_make s frames h engine who act call run after is =
     let given : IsActAfter s who (Calls call) (own who h) = subst (λ (a : Act). IsActAfter s who a (own who h)) is after in
     let history : IsHistory engine.config frames h = subst (λ (c : Config). IsHistory c frames h) (sym run.config) run.legal in
     let shows : Shows engine (state_after engine.config frames h) = subst (λ (c : Config). Shows engine (state_after c frames h)) (sym run.config) run.shows in
-    let mine : IsLegal engine.config (own who h) who call = subst (λ (c : Config). IsLegal c (own who h) who call) (sym run.config) (given.0 one) in
+    let mine : IsLegal engine.config (own who h) who call = subst (λ (c : Config). IsLegal c (own who h) who call) (sym run.config) given.0 in
     legal_can_perform frames h engine who call history shows mine
 
 pub may_give : (c : Config) (frames : List Frame) (h : List Entry) (who : ℕ) (call : Call) (reply : Reply) → IsHistory c frames (h ++ entry who call reply ∷ [])
@@ -74,12 +73,12 @@ may_give c frames h who call reply history =
 
 -- a worker that makes its call takes its turn
 pub turn_made : (s : Setting) (frames : List Frame) (h : List Entry) (old new : Engine) (who : ℕ) (call : Call) (reply : Reply) (act : Act) (Stands : List Told → Type 0)
-    → apps_of s.config ≡ 1 → HasRun s frames h old → IsActAfter s who (Calls call) (own who h) → Performs old new who call reply
+    → HasRun s frames h old → IsActAfter s who (Calls call) (own who h) → Performs old new who call reply
     → (MayGive s.config (own who h) who call reply → Stands (with_told (own who h) call reply) × IsActAfter s who act (with_told (own who h) call reply))
     → TakesTurn s frames who h Stands act new
-turn_made s frames h old new who call reply act Stands one run given performs goes =
+turn_made s frames h old new who call reply act Stands run given performs goes =
     let e = entry who call reply in
-    let made : HasRun s frames (h ++ e ∷ []) new = run_step s frames h old new who call reply run (given.0 one) performs in
+    let made : HasRun s frames (h ++ e ∷ []) new = run_step s frames h old new who call reply run given.0 performs in
     let stands = goes (may_give s.config frames h who call reply made.legal) in
     let mine : own who (h ++ e ∷ []) ≡ with_told (own who h) call reply = own-push_same who h e refl in
     record {

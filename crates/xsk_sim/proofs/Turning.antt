@@ -1,11 +1,11 @@
 -- Turns of callers, one after the other.
-use Rattle.std.proofs.Common.{◌≡◌, ℕ, zero, suc, ◌+◌, ◌-◌, ◌^◌, ◌<◌, ◌≤◌, List, [], ◌∷◌, ◌++◌, length, refl, sym, subst, ap, ◌∙◌, arith, append_assoc, append-nil, vec_len, ⊎_elim}
+use Rattle.std.proofs.Common.{◌≡◌, ℕ, zero, suc, ◌+◌, ◌-◌, ◌^◌, ◌<◌, ◌≤◌, List, [], ◌∷◌, ◌++◌, refl, sym, subst, ap, ◌∙◌, arith, append_assoc, append-nil, vec_len, ⊎_elim}
 use Rattle.std.specs.Prelude.{OnOk}
 use Rattle.std.proofs.Common.{Result, Ok, Err}
 use Rattle.std.specs.List.{range_with_len}
 use Rattle.xsk_umem.specs.Frame.{Frame}
-use Rattle.xsk_model.specs.Config.{Config, IsConfig, callers_of}
-use Rattle.xsk_model.specs.Marks.{apps_of}
+use Rattle.xsk_model.specs.Config.{callers_of}
+use Rattle.xsk_model.proofs.Few.{apps_few}
 use Rattle.xsk_model.specs.Entry.{Told, Entry, own}
 use Rattle.xsk_model.proofs.Folds.{own-push_other}
 use Rattle.xsk_model.specs.declared.call.Act.{Act}
@@ -113,10 +113,11 @@ rounds_none s frames order w engine seated = record { history = []; rounds = ref
 
 -- workers that had turns go on
 pub going_on : {w v : Workers} {before after : Engine} {callers : List ℕ} → (g : AreGoing w before) → HadTurns g.setting g.frames g.history callers v after → AreGoing v after
-going_on g had = record { setting = g.setting; frames = g.frames; history = g.history ++ had.entries; one = g.one; seated = had.seated }
+going_on g had = record { setting = g.setting; frames = g.frames; history = g.history ++ had.entries; seated = had.seated }
 
 -- and are 1 at least, and few
 pub going_few : {w : Workers} {engine : Engine} → AreGoing w engine → (vec_len w.drivers + vec_len w.apps < 2 ^ 32) × (0 < vec_len w.drivers + vec_len w.apps)
 going_few g =
-    let few = g.seated.run.legal.opened.config.pairs_few in
-    (omega (arith, few, g.one, g.seated.driver_count, g.seated.app_count), omega (arith, g.one, g.seated.app_count))
+    let config = g.seated.run.legal.opened.config in
+    let apps = apps_few g.setting.config config in
+    (omega (arith, config.pairs_few, apps, g.seated.driver_count, g.seated.app_count), omega (arith, config.pairs_some, g.seated.driver_count))

@@ -45,19 +45,17 @@ pub record AreSeated (s : Setting) (frames : List Frame) (h : List Entry) (w : W
   pub driver_count : vec_len w.drivers ≡ length s.config.pairs
   pub app_count : vec_len w.apps ≡ apps_of s.config
 
--- they are so after some history, where there is one application
+-- they are so after some history
 pub record AreGoing (w : Workers) (engine : Engine) : Type 0 where
   pub setting : Setting
   pub frames : List Frame
   pub history : List Entry
-  pub one : apps_of setting.config ≡ 1
   pub seated : AreSeated setting frames history w engine
 
 -- they are so before any call
 pub record AreReady (w : Workers) (engine : Engine) : Type 0 where
   pub setting : Setting
   pub frames : List Frame
-  pub one : apps_of setting.config ≡ 1
   pub seated : AreSeated setting frames [] w engine
 
 -- after a history, the callers had their turns

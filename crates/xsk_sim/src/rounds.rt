@@ -2,7 +2,6 @@
 ghost use Rattle.std.specs.Prelude.{◌≡◌, ◌<◌, ◌+◌, ◌^◌, ◌↔◌, ℕ, List, IsTrue, [], ◌∷◌, vec_len, OnOk};
 ghost use Rattle.xsk_umem.specs.Geometry.{IsGeometry};
 ghost use Rattle.xsk_umem.specs.Frame.{Frame};
-ghost use Rattle.xsk_model.specs.Marks.{apps_of};
 ghost use Rattle.xsk_model.specs.Entry.{Entry};
 ghost use Rattle.xsk_turns.specs.Workers.{Setting};
 ghost use Rattle.xsk_sim.specs.Seats.{AreSeated, AreGoing, HadTurns, HadRound, HaveEnded};
@@ -52,7 +51,7 @@ impl Workers<'_> {
         requires going { AreGoing self.old plain.old }
         ensures config { plain.new.config ≡ plain.old.config }
         ensures drivers { vec_len self.new.drivers ≡ vec_len self.old.drivers }
-        ensures round { (s : Setting) (frames : List Frame) (h : List Entry) → apps_of s.config ≡ 1 → AreSeated s frames h self.old plain.old
+        ensures round { (s : Setting) (frames : List Frame) (h : List Entry) → AreSeated s frames h self.old plain.old
             → OnOk result (HadRound s frames h order.old.number order.new.number self.new plain.new) }
     {
         let callers = self.count();
@@ -74,7 +73,7 @@ impl Workers<'_> {
         ensures config { plain.new.config ≡ plain.old.config }
         ensures drivers { vec_len self.new.drivers ≡ vec_len self.old.drivers }
         ensures apps { vec_len self.new.apps ≡ vec_len self.old.apps }
-        ensures turn { (s : Setting) (frames : List Frame) (h : List Entry) → apps_of s.config ≡ 1 → AreSeated s frames h self.old plain.old
+        ensures turn { (s : Setting) (frames : List Frame) (h : List Entry) → AreSeated s frames h self.old plain.old
             → OnOk result (HadTurns s frames h (who ∷ []) self.new plain.new) }
     {
         let place = who as usize;

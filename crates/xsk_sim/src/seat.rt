@@ -3,7 +3,6 @@ ghost use Rattle.std.specs.Prelude.{◌≡◌, ℕ, List, [], IsTrue, ◌↔◌,
 ghost use Rattle.xsk_umem.specs.Geometry.{IsGeometry};
 ghost use Rattle.xsk_umem.specs.Frame.{Frame};
 ghost use Rattle.xsk_model.specs.Entry.{Entry, own};
-ghost use Rattle.xsk_model.specs.Marks.{apps_of};
 ghost use Rattle.xsk_model.specs.Expected.{expected_of, nothing};
 ghost use Rattle.xsk_model.specs.declared.call.Act.TheVariants.{Call as Calls, Ended as IsEnd};
 ghost use Rattle.xsk_model.specs.declared.call.Call.{Call};
@@ -66,7 +65,7 @@ impl<M: Machine> Seat<M> {
         requires geometry { IsGeometry plain.old.config.geometry }
         requires can { (call : Call) → joined_ask self.old.ask self.old.items ≡ Calls call → CanPerform plain.old.config plain.old.rings call }
         ensures config { plain.new.config ≡ plain.old.config }
-        ensures turn { (s : Setting) (frames : List Frame) (h : List Entry) → apps_of s.config ≡ 1 → HasRun s frames h plain.old
+        ensures turn { (s : Setting) (frames : List Frame) (h : List Entry) → HasRun s frames h plain.old
             → M.stands s who self.old.machine (joined_ask self.old.ask self.old.items) (own who h)
             → IsActAfter s who (joined_ask self.old.ask self.old.items) (own who h)
             → OnOk result (TakesTurn s frames who h (M.stands s who self.new.machine (joined_ask self.new.ask self.new.items)) (joined_ask self.new.ask self.new.items) plain.new) }

@@ -94,7 +94,7 @@ const PACKET_ROUNDS: u64 = 256;
 
 /// Runs the drivers and applications of a regular configuration in rounds until all have ended, over one list of
 /// packets for each port. The frames are all frames of its UMEM, and `order` is the number of the rounds' order. The
-/// configuration has one application, and is without need-wakeup, which the workers don't know yet.
+/// configuration is without need-wakeup, which the workers don't know yet.
 ///
 /// It stalls exactly where some worker hasn't ended after round 1,023 + 256 x packets, which is then its round. A run
 /// that has ended is a legal history in rounds in which each worker's own calls and
@@ -108,7 +108,6 @@ pub fn simulate(
     order: u32,
 ) -> Result<Run, SimError>
     requires regular { IsRegular config }
-    requires one { apps_of config ≡ 1 }
     requires wakeup { config.wakeup ≡ false }
     requires frames { AreFrames config.geometry frames.items }
     requires lists { length packets.now ≡ config.ports }
@@ -147,9 +146,9 @@ fn run_workers(
     requires geometry { IsGeometry plain.config.geometry }
     requires ready { AreReady workers plain }
     ensures pairs { IfOk result (λ run. run.pairs ≡ vec_len workers.entry.drivers) }
-    ensures ended { (s : Setting) (frames : List Frame) → IsRegular s.config → apps_of s.config ≡ 1 → AreSeated s frames [] workers.entry plain → last ≡ last_round_of s.packets
+    ensures ended { (s : Setting) (frames : List Frame) → IsRegular s.config → AreSeated s frames [] workers.entry plain → last ≡ last_round_of s.packets
         → IfOk result (HasEnded s frames order.number) }
-    ensures stalled { (s : Setting) (frames : List Frame) (round : ℕ) → apps_of s.config ≡ 1 → AreSeated s frames [] workers.entry plain → last ≡ last_round_of s.packets
+    ensures stalled { (s : Setting) (frames : List Frame) (round : ℕ) → AreSeated s frames [] workers.entry plain → last ≡ last_round_of s.packets
         → result ≡ Err (SimError.Stalled round) → HasStalled s frames order.number round }
 {
     let mut workers = workers;
@@ -180,9 +179,9 @@ fn make_rounds(
     requires geometry { IsGeometry plain.old.config.geometry }
     requires ready { AreReady workers.old plain.old }
     ensures drivers { vec_len workers.new.drivers ≡ vec_len workers.old.drivers }
-    ensures ended { (s : Setting) (frames : List Frame) → apps_of s.config ≡ 1 → AreSeated s frames [] workers.old plain.old
+    ensures ended { (s : Setting) (frames : List Frame) → AreSeated s frames [] workers.old plain.old
         → OnOk result ((count : ℕ) × (count ≤ last + 1) × HadRounds s frames order.number count workers.new plain.new × HaveEnded workers.new) }
-    ensures stalled { (s : Setting) (frames : List Frame) (round : ℕ) → apps_of s.config ≡ 1 → AreSeated s frames [] workers.old plain.old
+    ensures stalled { (s : Setting) (frames : List Frame) (round : ℕ) → AreSeated s frames [] workers.old plain.old
         → result ≡ Err (SimError.Stalled round)
         → (round ≡ last) × HadRounds s frames order.number (round + 1) workers.new plain.new × (HaveEnded workers.new → ⊥) }
 {

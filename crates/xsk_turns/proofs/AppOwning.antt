@@ -1,16 +1,18 @@
--- At each of its calls an application has the frames that it peeked and didn't submit, and the call is legal where it is
--- the only one.
+-- At each of its calls an application has the frames that it peeked and didn't submit, and the call is legal where they are
+-- at home with it.
 use Rattle.std.proofs.Common.{◌≡◌, ℕ, ◌<◌, ◌≤◌, true, eqb, List, [], ◌∷◌, length, set, take, drop, map, All, refl, sym, ap, ◌∙◌, subst, arith, get_or-set_same, length-set, take_while}
+use Rattle.std.proofs.lemmas.Bool.Decides.{nat_tests}
 use Rattle.std.proofs.lemmas.List.{length-map}
 use Rattle.std.proofs.lemmas.List.Elements.{All-nil, All-map, All-take, All-drop, All-weaker}
-use Rattle.xsk_turns.proofs.Object.{Frame, Config, pool_of, batch_of, caller_of, apps_of, times, numbers, submitted, taken, home_item, IsLegal, IsItemOn}
+use Rattle.xsk_model.proofs.Counting.{times-flat_map-set}
+use Rattle.xsk_turns.proofs.Object.{Frame, Config, pool_of, batch_of, caller_of, producer, times, numbers, submitted, taken, had_of, home_item, IsLegal, IsItemOn}
 use Rattle.xsk_turns.proofs.Calls.{Item, Told, with_told, Fill, Comp, Rx, Tx, RxDone, Gone, TxDone, Call, Peek, Reply, Granted, Submitted, Items, Released, Old}
 use Rattle.xsk_turns.proofs.LegalCalls.{legal_reserve, legal_peek, legal_release, legal_look, legal_swap, had_told, room_told, held_told, IsDue}
 use Rattle.xsk_turns.specs.Script.{Script, Asks}
 use Rattle.xsk_turns.specs.Turns.{frames_in}
 use Rattle.xsk_turns.specs.Owned.{AllFit, frame_numbers}
 use Rattle.xsk_turns.specs.AppTurns.{AppKept, pair_of, rx_of, tx_of, lanes_of, home_of, pending_at, with_pending, back_at, with_back, app_turn, app_start}
-use Rattle.xsk_turns.specs.AppOwned.{IsApp, AppOwned, AppKeepsFrames, AppCallsLegal, AppKeepsFramesAtEnd}
+use Rattle.xsk_turns.specs.AppOwned.{IsApp, HasOwnFrames, AppOwned, AppKeepsFrames, AppCallsLegal, AppKeepsFramesAtEnd}
 use Rattle.xsk_turns.proofs.AppGroups.{with_back-again, group_some, group_front, group_few}
 use Rattle.xsk_turns.proofs.AppOwned.{AppHas, IsBackFrame, rx_to_tx, tx_to_tx, back_frames, fill_item, numbers-home, times-app_numbers, app_owned, app_told, has_pending, has_back, has_flags, has_none}
 use Rattle.xsk_turns.proofs.AppPlaces.{AppSeats, app_seats}
@@ -18,6 +20,9 @@ use Rattle.xsk_turns.proofs.Legality.{times-front}
 use Rattle.xsk_turns.proofs.Owned.{frame_numbers-in}
 use Rattle.xsk_turns.proofs.Walks.{Premise, MeetAlong, Fitting, meet_fitting}
 use Rattle.xsk_turns.proofs.AppWalk.{Place, Lane, Side, Family, PeekRx, ReleaseRx, ReserveTx, SubmitTx, PeekComp, ReleaseComp, ReserveFill, SubmitFill, LookRxDone, TellTxDone, LookGone, group, call_at, kept_before, rx_items, rx_released, tx_granted, tx_submitted, comp_items, fill_granted, fill_submitted, looked_rx_done, told_tx_done, looked_gone, point_of, reply_of, has_items, AtCalls, AtEntries, AtPasses, IsLaw, at_call, at_end}
+
+times-here : (n : ℕ) (xs : List ℕ) → 1 ≤ times n (n ∷ xs)
+times-here n xs = grind (arith, nat_tests)
 
 -- ---- the law
 
@@ -35,7 +40,7 @@ module _ (c : Config) (a : ℕ) (one : IsApp c a) where
   Answers kept l call reply = Fitting c kept l call reply
 
   abbrev Asked : AppKept → Call → List Told → Type 0
-  Asked kept call l = AppOwned kept call l × (apps_of c ≡ 1 → IsLegal c l who call)
+  Asked kept call l = AppOwned kept call l × (HasOwnFrames c a l → IsLegal c l who call)
 
   -- what is due, and that a lane has items to pass on
   abbrev Beside : Place → AppKept → List Told → Type 0
@@ -47,7 +52,7 @@ module _ (c : Config) (a : ℕ) (one : IsApp c a) where
   At place noted kept l = Has kept l × Beside place kept l
 
   quiet : (kept : AppKept) (call : Call) (l : List Told) → submitted call ≡ [] → Has kept l → IsLegal c l who call → Asked kept call l
-  quiet kept call l none has legal = (app_owned c kept call l (subst (λ xs. AppHas c kept (numbers xs) l) (sym none) has), λ alone. legal)
+  quiet kept call l none has legal = (app_owned c kept call l (subst (λ xs. AppHas c kept (numbers xs) l) (sym none) has), λ own. legal)
 
   told : (kept : AppKept) (call : Call) (reply : Reply) (l : List Told) → submitted call ≡ [] → taken reply ≡ [] → Has kept l → Has kept (with_told l call reply)
   told kept call reply l none nothing has = app_told c kept call reply l nothing (subst (λ xs. AppHas c kept (numbers xs) l) (sym none) has)
@@ -75,6 +80,18 @@ module _ (c : Config) (a : ℕ) (one : IsApp c a) where
 
     home_below : home_of (pool_of c) frame < length c.pairs
     home_below = let first : IsBackFrame c.geometry frame = own 0 frame (omega arith) in seats.home frame.number first.own.number
+
+    -- the first frame is had, so it is at home with the application where all that are had are
+    had : 1 ≤ times frame.number (had_of l)
+    had =
+        let back = now.back in
+        let swapped = times-flat_map-set frame.number frame_numbers back side [] [] (omega (arith, has.sides, below)) in
+        let first : 1 ≤ times frame.number (frame_numbers (frame ∷ frames)) = times-here frame.number (frame_numbers frames) in
+        let mine : times frame.number (frame_numbers (back_at now side)) ≡ times frame.number (frame_numbers (frame ∷ frames)) = ap (λ fs. times frame.number (frame_numbers fs)) here in
+        omega (arith, has.counts frame.number, swapped, first, mine)
+
+    home_seat : HasOwnFrames c a l → who ≡ producer c (Fill (home_of (pool_of c) frame))
+    home_seat own = sym (own frame.number had)
 
     some : 1 ≤ n
     some = group_some (pool_of c) (batch_of c) frame frames seats.batch_some
@@ -113,24 +130,24 @@ module _ (c : Config) (a : ℕ) (one : IsApp c a) where
       let out = sends lane kept l known.0 h.0 in
       let lawful = All-weaker (IsItemOn c.geometry (Tx 0)) (IsItemOn c.geometry (Tx t)) (tx_to_tx c.geometry 0 t) (pending_at kept lane) (h.0.items lane) in (
         app_owned c (with_pending kept lane []) (call_at c a (SubmitTx lane) kept) l out,
-        λ alone. record { caller = seats.caller; known = seat.0; role = seat.1; counted = (h.1.0, h.0.few lane, h.1.1); frames = λ m. omega (arith, out.counts m); items = lawful; packets = tt },
+        λ own. record { caller = seats.caller; known = seat.0; role = seat.1; counted = (h.1.0, h.0.few lane, h.1.1); frames = λ m. omega (arith, out.counts m); items = lawful; packets = tt },
       )
   calls (PeekComp side) noted kept l known h = let seat = seats.comp side known.0 in quiet kept _ l refl h.0 (legal_peek c who l seats.caller (Comp (pair_of c a side)) (batch_of c) seat.0 seat.1 seats.batch_some seats.batch_few)
   calls (ReleaseComp side n) noted kept l known h = let seat = seats.comp side known in quiet kept _ l refl h.0 (legal_release c who l seats.caller (Comp (pair_of c a side)) n seat.0 seat.1 h.1.0 h.1.1 h.1.2)
   calls (ReserveFill side frame frames) noted kept l known h =
       let below = home_below side frame frames kept l known h.0 in (
         app_owned c (with_back kept side (frame ∷ frames)) (call_at c a (ReserveFill side frame frames) kept) l h.0,
-        λ alone. legal_reserve c who l seats.caller _ _ below (seats.fill alone _ below) (some side frame frames kept l known h.0) (few side frame frames kept l known h.0),
+        λ own. legal_reserve c who l seats.caller _ _ below (home_seat side frame frames kept l known h.0 own) (some side frame frames kept l known h.0) (few side frame frames kept l known h.0),
       )
   calls (SubmitFill side frame frames) noted kept l known h =
       let below = home_below side frame frames kept l known h.0 in
       let out = gives side frame frames kept l known h.0 in
       let counted = counted side frame frames kept l known h.0 in (
         app_owned c (with_back kept side (drop (length (group c frame frames)) (frame ∷ frames))) (call_at c a (SubmitFill side frame frames) kept) l out,
-        λ alone. record {
+        λ own. record {
           caller = seats.caller;
           known = below;
-          role = seats.fill alone _ below;
+          role = home_seat side frame frames kept l known h.0 own;
           counted = (omega (arith, counted, some side frame frames kept l known h.0), omega (arith, counted, few side frame frames kept l known h.0), omega (arith, counted, h.1));
           frames = λ m. omega (arith, out.counts m);
           items = lawful side frame frames kept l known h.0;
@@ -190,7 +207,7 @@ pub app_keeps_frames : AppKeepsFrames
 app_keeps_frames c a l kept call rest one fit asks = (asked_at c a one l fit kept call rest asks).0
 
 pub app_calls_legal : AppCallsLegal
-app_calls_legal c a l kept call rest one alone fit asks = (asked_at c a one l fit kept call rest asks).1 alone
+app_calls_legal c a l kept call rest one own fit asks = (asked_at c a one l fit kept call rest asks).1 own
 
 pub app_keeps_frames_at_end : AppKeepsFramesAtEnd
 app_keeps_frames_at_end c a l kept one fit ends =

@@ -1,10 +1,9 @@
--- Which rings and marks an application has: those of its lanes and sides, and the FILL ring of each home where it is alone.
+-- Which rings and marks an application has: those of its lanes and sides.
 use Rattle.std.proofs.Common.{◌≡◌, ℕ, suc, ◌+◌, ◌-◌, ◌*◌, ◌/◌, ◌%◌, ◌<◌, ◌≤◌, ◌⊎◌, ⊎_elim, length, sym, ap, ◌∙◌, subst, arith, mul-le-mul_right}
 use Rattle.std.proofs.Math.Nat.{mod-eq-sub-div-mul}
 use Rattle.std.proofs.lemmas.Nat.{div-mul-add, div_below, div-add-mod'}
-use Rattle.xsk_turns.proofs.Object.{Config, HasRing, pool_of, batch_of, classes_of, callers_of, caller_of, application_on, app_of, producer, consumer, apps_of}
-use Rattle.xsk_model.specs.declared.call.Ring.TheVariants.{Fill, Comp, Rx, Tx}
-use Rattle.xsk_model.proofs.Roles.{app_of_below}
+use Rattle.xsk_turns.proofs.Object.{Config, HasRing, pool_of, batch_of, classes_of, callers_of, caller_of, application_on, producer, consumer, apps_of}
+use Rattle.xsk_model.specs.declared.call.Ring.TheVariants.{Comp, Rx, Tx}
 use Rattle.xsk_turns.specs.AppTurns.{pair_of, side_socket, rx_of, tx_of, lanes_of}
 use Rattle.xsk_turns.specs.AppOwned.{IsApp}
 use Rattle.xsk_turns.proofs.Places.{queues_some, batch_some, batch_few}
@@ -15,7 +14,6 @@ pub record AppSeats (c : Config) (a : ℕ) : Type 0 where
   pub rx : (lane : ℕ) → lane < lanes_of c → HasRing c (Rx (rx_of c a lane)) × (caller_of c a ≡ consumer c (Rx (rx_of c a lane)))
   pub tx : (lane : ℕ) → lane < lanes_of c → HasRing c (Tx (tx_of c a lane)) × (caller_of c a ≡ producer c (Tx (tx_of c a lane)))
   pub comp : (side : ℕ) → side < 2 → (pair_of c a side < length c.pairs) × (caller_of c a ≡ consumer c (Comp (pair_of c a side)))
-  pub fill : apps_of c ≡ 1 → (home : ℕ) → home < length c.pairs → caller_of c a ≡ producer c (Fill home)
   pub home : (number : ℕ) → number < c.geometry.frames → number / pool_of c < length c.pairs
   pub batch_some : 1 ≤ batch_of c
   pub batch_few : batch_of c ≤ 32
@@ -121,12 +119,6 @@ module _ (c : Config) (a : ℕ) (one : IsApp c a) where
 
   -- ---- the homes
 
-  fill_seat : apps_of c ≡ 1 → (home : ℕ) → home < length c.pairs → caller_of c a ≡ producer c (Fill home)
-  fill_seat alone home h =
-      let below : app_of c (Fill home) < callers_of c = app_of_below c (Fill home) one.config h in
-      let known = one.known in
-      omega (arith, below, known, alone)
-
   home_seat : (number : ℕ) → number < c.geometry.frames → number / pool_of c < length c.pairs
   home_seat number h =
       let whole = div-add-mod' c.geometry.frames (length c.pairs) in
@@ -140,7 +132,6 @@ module _ (c : Config) (a : ℕ) (one : IsApp c a) where
     rx = λ lane h. rx_seat (lane / classes_of c) (lane % classes_of c) (side_below (classes_of c) lane one.regular.classes h) (class_below lane);
     tx = λ lane h. tx_seat (1 - lane / classes_of c) (lane % classes_of c) (omega arith) (class_below lane);
     comp = comp_seat;
-    fill = fill_seat;
     home = home_seat;
     batch_some = batch_some c one.config;
     batch_few = batch_few c;

@@ -4,6 +4,7 @@ use Rattle.std.proofs.lemmas.Bool.{and_from}
 use Rattle.std.proofs.Math.Nat.{div-lt_iff_lt-mul}
 use Rattle.std.proofs.lemmas.Nat.{div-mul-add}
 use Rattle.std.proofs.lemmas.List.Elements.{All-head, All-tail}
+use Rattle.xsk_model.proofs.Few.{queues_few}
 use Rattle.xsk_turns.proofs.Object.{Config, pair_at, IsConfig, IsBound, IsServed, IsRingSize, HasRing, socket_at, callers_of, classes_of, batch_of, least, pair_sizes, size_or_none, socket_sizes, PairInfo, SocketInfo, port_of, queue_of, producer, consumer, apps_of, times, sockets_from, sockets_of, IsRegular}
 use Rattle.xsk_model.specs.declared.call.Ring.TheVariants.{Fill, Rx, Tx}
 use Rattle.xsk_model.proofs.Least.{least-append}
@@ -27,7 +28,7 @@ queue_known c d is regular within = let some : 0 < c.queues = queues_some c.queu
 
 pub queue_within : (c : Config) (d : ℕ) → IsConfig c → IsRegular c → d < length c.pairs → (pair_at c.pairs d).queue < 4
 queue_within c d is regular within =
-    let few : c.queues ≤ 4 = elim is.queues [ inl e ↦ omega arith | inr f ↦ elim f [ inl e ↦ omega arith | inr e ↦ omega arith ] ] in
+    let few = queues_few c is in
     omega (arith, few, queue_known c d is regular within)
 
 -- ---- the batch

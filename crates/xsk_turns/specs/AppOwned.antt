@@ -1,12 +1,13 @@
 -- What an application has: at each call the frames that it keeps, with those of the call, are those that it peeked and
--- didn't submit. Where it is the configuration's only application each call is legal: that frames of other applications'
--- homes don't come to it is no matter then.
-use Rattle.std.specs.Prelude.{◌≡◌, ℕ, ◌+◌, ◌<◌, List, [], ◌++◌, flat_map}
+-- didn't submit, and the call is legal where these are at home with it. That they are is a law of the object: in every
+-- history frames stay with one application.
+use Rattle.std.specs.Prelude.{◌≡◌, ℕ, ◌+◌, ◌<◌, ◌≤◌, List, [], ◌++◌, flat_map}
 use Rattle.xsk_model.specs.Config.{Config, IsConfig, IsRegular}
 use Rattle.xsk_model.specs.Marks.{apps_of}
 use Rattle.xsk_model.specs.Rings.{caller_of}
 use Rattle.xsk_model.specs.Numbers.{times, numbers}
 use Rattle.xsk_model.specs.Object.{submitted}
+use Rattle.xsk_model.specs.Homes.{home_app}
 use Rattle.xsk_model.specs.Entry.{Told}
 use Rattle.xsk_model.specs.Own.{had_of}
 use Rattle.xsk_model.specs.Legal.{IsLegal}
@@ -26,19 +27,23 @@ pub record IsApp (c : Config) (app : ℕ) : Type 0 where
 abbrev pub app_numbers : AppKept → List ℕ
 app_numbers kept = flat_map numbers kept.pending ++ flat_map frame_numbers kept.back
 
+-- each frame that is left by a list of an application's calls and replies is at home with it
+abbrev pub HasOwnFrames : Config → ℕ → List Told → Type 0
+HasOwnFrames c app l = (n : ℕ) → 1 ≤ times n (had_of l) → home_app c n ≡ caller_of c app
+
 -- an application that keeps this, and gave the call after a list of its calls and replies
 abbrev pub AppOwned : AppKept → Call → List Told → Type 0
 AppOwned kept call l = (n : ℕ) → times n (app_numbers kept) + times n (numbers (submitted call)) ≡ times n (had_of l)
 
 -- ---- the laws
 
--- so it is at each call that an application makes, and there the call is legal where it is the only one
+-- so it is at each call that an application makes, and there the call is legal where its frames are its own
 abbrev pub AppKeepsFrames : Type 0
 AppKeepsFrames = (c : Config) (app : ℕ) (l : List Told) (kept : AppKept) (call : Call) (rest : Reply → Script AppKept) → IsApp c app → AllFit c [] l
     → Asks (app_turn c app) (app_start c) l kept call rest → AppOwned kept call l
 
 abbrev pub AppCallsLegal : Type 0
-AppCallsLegal = (c : Config) (app : ℕ) (l : List Told) (kept : AppKept) (call : Call) (rest : Reply → Script AppKept) → IsApp c app → apps_of c ≡ 1 → AllFit c [] l
+AppCallsLegal = (c : Config) (app : ℕ) (l : List Told) (kept : AppKept) (call : Call) (rest : Reply → Script AppKept) → IsApp c app → HasOwnFrames c app l → AllFit c [] l
     → Asks (app_turn c app) (app_start c) l kept call rest → IsLegal c l (caller_of c app) call
 
 -- at its end its frames are those that it keeps

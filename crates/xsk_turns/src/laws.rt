@@ -94,7 +94,8 @@ pub fn app_keeps_frames_at_end()
     ensures { AppKeepsFramesAtEnd }
 {}
 
-/// Each call that the configuration's only application makes is legal.
+/// Each call that an application makes is legal where all frames that it has are at home with it, as they are in every history
+/// of the object.
 #[tactic(auto, using(crate::proofs::AppOwning::app_calls_legal))]
 pub fn app_calls_legal()
     ensures { AppCallsLegal }

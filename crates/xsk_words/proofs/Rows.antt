@@ -1,20 +1,20 @@
 -- The words of rings and marks don't meet.
-use Rattle.std.proofs.Common.{◌≡◌, ◌≢◌, ℕ, ◌+◌, ◌-◌, ◌*◌, ◌<◌, ◌≤◌, suc, zero, List, [], ◌∷◌, ◌++◌, length, map, take, get_or, refl, sym, ap, ap₂, ◌∙◌, arith, subst, Option, Some, None, ⊎_elim, ◌⊎◌, true, false, length-append, length-take, ◌/◌}
+use Rattle.std.proofs.Common.{◌≡◌, ◌≢◌, ℕ, ◌+◌, ◌-◌, ◌*◌, ◌<◌, ◌≤◌, suc, zero, List, [], ◌∷◌, ◌++◌, length, map, take, get_or, refl, sym, ap, ap₂, ◌∙◌, arith, subst, Option, Some, None, ⊎_elim, ◌⊎◌, true, false, length-append, length-take}
 use Rattle.std.specs.Prelude.{IsSome, unwrap_or}
 use Rattle.std.specs.List.{sum}
 use Rattle.std.proofs.lemmas.Bool.{cases_Bool}
 use Rattle.std.proofs.lemmas.List.{length-map, get_or-map, get_or_append_left, get_or-append_right}
 use Rattle.std.proofs.lemmas.List.Sums.{sum_by_more_le}
-use Rattle.std.proofs.Math.Nat.{mul-le-mul}
 use Rattle.std.proofs.Math.Seq.{get_or-take, take-take}
 use Rattle.xsk_model.specs.Config.{Config, IsConfig, HasRing, size_of, socket_at}
 use Rattle.xsk_model.specs.Rings.{is_ring, place, places_of}
-use Rattle.xsk_model.specs.Marks.{apps_of, mark_place, mark_places_of}
+use Rattle.xsk_model.specs.Marks.{mark_place, mark_places_of}
 use Rattle.xsk_model.specs.declared.config.PairInfo.{PairInfo}
 use Rattle.xsk_model.specs.declared.config.SocketInfo.{SocketInfo}
 use Rattle.xsk_model.specs.declared.call.Ring.{Ring}
 use Rattle.xsk_model.specs.declared.call.Ring.TheVariants.{Fill, Comp, Rx, Tx}
 use Rattle.xsk_model.proofs.Places.{is_ring-true, place_below, places_apart}
+use Rattle.xsk_model.proofs.Few.{ports_few, apps_few}
 use Rattle.xsk_model.proofs.MarkPlaces.{mark_place_below, mark_place_injective}
 use Rattle.xsk_words.specs.Layout.{OwnWords, entry_words, width_of, width_or_none, fill_width, comp_width, rx_width, tx_width, widths_of, ring_base, marks_base, words_of, Word, producer, consumer, entry, second, mark, HasWord, word_at}
 
@@ -239,15 +239,6 @@ same_word c (mark m) (consumer s) config h k e = absurd (below_marks c s 24 k (o
 same_word c (mark m) (entry s j) config h k e = absurd (below_marks c s _ k.0 (within c s j k) (offset c (mark m)) (sym e))
 same_word c (mark m) (second s j) config h k e = absurd (below_marks c s _ k.0 (within_second c s j k) (offset c (mark m)) (sym e))
 same_word c (mark m) (mark n) config h k e = ap mark (mark_place_injective c m n config h k (omega arith))
-
-ports_few : (c : Config) → IsConfig c → c.ports ≤ 4
-ports_few c h = ⊎_elim (λ (e : c.ports ≡ 2). omega arith) (λ (e : c.ports ≡ 4). omega arith) h.ports
-
-queues_few : (c : Config) → IsConfig c → c.queues ≤ 4
-queues_few c h = ⊎_elim (λ (e : c.queues ≡ 1). omega arith) (λ (e : (c.queues ≡ 2) ⊎ (c.queues ≡ 4)). ⊎_elim (λ (f : c.queues ≡ 2). omega arith) (λ (f : c.queues ≡ 4). omega arith) e) h.queues
-
-apps_few : (c : Config) → IsConfig c → apps_of c ≤ 8
-apps_few c h = mul-le-mul {n₁ = c.ports / 2} {m₁ = c.queues} {n₂ = 2} {m₂ = 4} (omega (arith, ports_few c h)) (queues_few c h)
 
 pub few_words : (c : Config) → IsConfig c → (places_of c ≤ 256) × (mark_places_of c ≤ 584)
 few_words c h = (omega (arith, h.few, h.pairs_few), omega (arith, h.few, h.pairs_few, apps_few c h, ports_few c h))

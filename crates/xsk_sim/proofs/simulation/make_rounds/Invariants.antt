@@ -1,6 +1,5 @@
 use Rattle.std.proofs.Common.{◌≡◌, ◌<◌, List, [], vec_len}
 use Rattle.xsk_umem.specs.Frame.{Frame}
-use Rattle.xsk_model.specs.Marks.{apps_of}
 use Rattle.xsk_sim.specs.Order.{number_at}
 use Rattle.xsk_turns.specs.Workers.{Setting}
 use Rattle.xsk_sim.specs.Seats.{AreSeated, HadRounds, HaveEnded}
@@ -10,7 +9,7 @@ abbrev pub invariant-loop-round : goal.invariant-loop-round
 invariant-loop-round l = record {
   config : l.plain.config ≡ l.initial.plain.config;
   drivers : vec_len l.workers.drivers ≡ vec_len l.initial.workers.drivers;
-  rounds : (s : Setting) (frames : List Frame) → apps_of s.config ≡ 1 → AreSeated s frames [] l.initial.workers l.initial.plain
+  rounds : (s : Setting) (frames : List Frame) → AreSeated s frames [] l.initial.workers l.initial.plain
       → HadRounds s frames l.initial.order.number l.round l.workers l.plain × (l.order.number ≡ number_at l.initial.order.number l.round);
   going : 0 < l.round → HaveEnded l.workers → ⊥;
 }

@@ -28,14 +28,14 @@ pub returns-clause-ended : goal.returns-clause-ended
 returns-clause-ended c =
     let s : Setting = record { config = c.args.config; packets = c.args.packets.now } in
     subst (λ (number : ℕ). IfOk c.run_workers.result (HasEnded s c.args.frames.items number)) c.new.ensures
-    (c.run_workers.ensures.ended s c.args.frames.items c.requires.regular c.requires.one (seated c) c.last_round.ensures)
+    (c.run_workers.ensures.ended s c.args.frames.items c.requires.regular (seated c) c.last_round.ensures)
 
 pub returns-clause-stalled : goal.returns-clause-stalled
 returns-clause-stalled c round is =
     let s : Setting = record { config = c.args.config; packets = c.args.packets.now } in
     subst (λ (number : ℕ). HasStalled s c.args.frames.items number round) c.new.ensures
-    (c.run_workers.ensures.stalled s c.args.frames.items round c.requires.one (seated c) c.last_round.ensures is)
+    (c.run_workers.ensures.stalled s c.args.frames.items round (seated c) c.last_round.ensures is)
 
 pub run_workers-requires-clause-ready : goal.run_workers-requires-clause-ready
 run_workers-requires-clause-ready c =
-    record { setting = record { config = c.args.config; packets = c.args.packets.now }; frames = c.args.frames.items; one = c.requires.one; seated = begins c }
+    record { setting = record { config = c.args.config; packets = c.args.packets.now }; frames = c.args.frames.items; seated = begins c }

@@ -1,4 +1,4 @@
-use Rattle.std.proofs.Common.{◌≡◌, ℕ, ◌+◌, ◌-◌, ◌<◌, [], ◌∷◌, ◌++◌, length, arith, refl}
+use Rattle.std.proofs.Common.{◌≡◌, ℕ, ◌+◌, ◌-◌, ◌<◌, [], ◌∷◌, ◌++◌, length, arith}
 use Rattle.std.specs.Vec.{with_item}
 use Rattle.xsk_turns.specs.Stepping.{joined_ask}
 use Rattle.xsk_turns.specs.Workers.{IsWholeRun}
@@ -11,7 +11,7 @@ use Rattle.xsk_sim.proofs.Turning.{on_ok, own_turn, one_turn, driver_on, app_on}
 use Rattle.xsk_sim.proofs.rounds.Workers.step.Goals as goal
 
 pub returns-then-place-drivers-clause-turn : goal.returns-then-place-drivers-clause-turn
-returns-then-place-drivers-clause-turn c s frames h one seated =
+returns-then-place-drivers-clause-turn c s frames h seated =
     let who = c.args.who in
     let w = c.args.self.now in
     let v = c.step.new.self in
@@ -31,10 +31,10 @@ returns-then-place-drivers-clause-turn c s frames h one seated =
         driver_count = seated.driver_count;
         app_count = seated.app_count;
       };
-    }) (c.step.ensures.turn s frames h one seated.run here.0 here.1)
+    }) (c.step.ensures.turn s frames h seated.run here.0 here.1)
 
 pub returns-else-place-drivers-clause-turn : goal.returns-else-place-drivers-clause-turn
-returns-else-place-drivers-clause-turn c s frames h one seated =
+returns-else-place-drivers-clause-turn c s frames h seated =
     let who = c.args.who in
     let w = c.args.self.now in
     let v = c.step-else-place-drivers.new.self in
@@ -58,7 +58,7 @@ returns-else-place-drivers-clause-turn c s frames h one seated =
         driver_count = seated.driver_count;
         app_count = seated.app_count;
       };
-    }) (c.step-else-place-drivers.ensures.turn s frames h one seated.run here.0 here.1)
+    }) (c.step-else-place-drivers.ensures.turn s frames h seated.run here.0 here.1)
 
 pub step-requires-clause-can : goal.step-requires-clause-can
 step-requires-clause-can c call is =
@@ -67,7 +67,7 @@ step-requires-clause-can c call is =
     let seat = c.index_mut.result.now in
     let here : DriverSits g.setting (own_in g.history) who seat.machine (joined_ask seat.ask seat.items) =
     each_at c.args.self.now.drivers.items 0 who who _ seat g.seated.drivers (omega arith) (omega arith) c.index_mut.ensures.value in
-    can_make g.setting g.frames g.history c.args.plain.now who (joined_ask seat.ask seat.items) call g.one g.seated.run here.1 is
+    can_make g.setting g.frames g.history c.args.plain.now who (joined_ask seat.ask seat.items) call g.seated.run here.1 is
 
 pub step-requires-else-place-drivers-clause-can : goal.step-requires-else-place-drivers-clause-can
 step-requires-else-place-drivers-clause-can c call is =
@@ -80,4 +80,4 @@ step-requires-else-place-drivers-clause-can c call is =
     let below : i < length w.apps.items = omega (arith, w.apps.ok.0, g.seated.driver_count, place, c.requires.who) in
     let here : AppSits g.setting (own_in g.history) who seat.machine (joined_ask seat.ask seat.items) =
     each_at w.apps.items (length g.setting.config.pairs) i who _ seat g.seated.apps below place c.index_mut-else-place-drivers.ensures.value in
-    can_make g.setting g.frames g.history c.args.plain.now who (joined_ask seat.ask seat.items) call g.one g.seated.run here.1 is
+    can_make g.setting g.frames g.history c.args.plain.now who (joined_ask seat.ask seat.items) call g.seated.run here.1 is

@@ -12,7 +12,7 @@ use Rattle.xsk_sim.proofs.RunSteps.{Performs, turn_made, run_same}
 use Rattle.xsk_sim.proofs.seat.Seat.step.Goals as goal
 
 pub returns-clause-turn : goal.returns-clause-turn
-returns-clause-turn g c s frames h one run stands after =
+returns-clause-turn g c s frames h run stands after =
     let call = joined_call c.in-Some.ask c.args.self.now.items in
     let reply = joined_reply c.serve-answer.result c.serve-answer.new.items in
     let act = joined_ask c.step-self.result c.step-self.new.items in
@@ -26,7 +26,7 @@ returns-clause-turn g c s frames h one run stands after =
       config = c.serve-answer.ensures.config;
     } in
     turn_made s frames h engine c.serve-answer.new.self c.args.who call reply act
-    (g.M.Machine.stands s c.args.who c.step-self.new.self act) one room
+    (g.M.Machine.stands s c.args.who c.step-self.new.self act) room
     (subst (λ (a : Act). IsActAfter s c.args.who a (own c.args.who h)) is after) performs
     (λ may. c.step-self.ensures.goes_on s c.args.who (own c.args.who h) call reply
     (subst (λ (a : Act). g.M.Machine.stands s c.args.who c.args.self.now.machine a (own c.args.who h)) is stands) refl may)
