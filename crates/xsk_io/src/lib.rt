@@ -9,6 +9,7 @@ mod bay;
 mod counts;
 mod failing;
 mod file;
+mod gate;
 mod memory;
 mod steady;
 mod whole;
@@ -16,6 +17,7 @@ mod whole;
 pub use bay::{Bay, BayFailed, Kind, Stream};
 pub use failing::{Fail, MemoryBay};
 pub use file::FileBay;
+pub use gate::{Gate, HoldGate, Open, PairGate};
 pub use steady::SteadyBay;
 pub use whole::{ReadError, read_whole, write_whole};
 

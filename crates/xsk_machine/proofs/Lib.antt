@@ -1,1 +1,3 @@
 pub mod Acts
+pub mod Beginning
+pub mod Within

@@ -1,0 +1,130 @@
+//! Gates: what each worker on a thread of its own passes before each of its turns. They are for tests, which see by them that
+//! workers run at once.
+
+use std::sync::atomic::{AtomicU64, Ordering};
+use std::thread;
+
+/// The most looks, with a yield after each, for which a gate holds a worker.
+const MOST_LOOKS: u32 = 1_000_000;
+
+/// The turn of another worker that ends the wait of a worker that is held.
+const LATE_TURN: u64 = 1_000;
+
+/// What each worker passes before each of its turns, which are counted from 0.
+pub trait Gate {
+    /// Lets the worker through, after a while at most.
+    fn enter(&self, worker: u32, turn: u64);
+}
+
+/// The gate that holds no one.
+#[derive(Drop)]
+pub struct Open;
+
+impl Gate for Open {
+    fn enter(&self, _worker: u32, _turn: u64) {}
+}
+
+/// It holds worker 0 in its first turn until worker 1 has entered, and worker 1 until worker 0 has, each for at most 1,000,000
+/// looks.
+#[derive(Drop)]
+pub struct PairGate {
+    /// A bit for each of the first 64 workers that entered.
+    entered: AtomicU64,
+    limit: AtomicU64,
+}
+
+impl PairGate {
+    /// A gate through which no one has come.
+    pub fn new() -> PairGate {
+        PairGate {
+            entered: AtomicU64::new(0),
+            limit: AtomicU64::new(0),
+        }
+    }
+
+    /// Whether a worker below 64 has entered.
+    pub fn entered(&self, worker: u32) -> bool {
+        self.entered.load(Ordering::SeqCst) & bit(worker) != 0
+    }
+
+    /// Whether a worker was let through since it had been held for all looks.
+    pub fn limit_met(&self) -> bool {
+        self.limit.load(Ordering::SeqCst) != 0
+    }
+
+    /// Waits until the other worker has entered.
+    fn wait_for(&self, other: u32) {
+        for _ in 0..MOST_LOOKS {
+            if self.entered(other) {
+                return;
+            }
+            thread::yield_now();
+        }
+        self.limit.store(1, Ordering::SeqCst);
+    }
+}
+
+impl Gate for PairGate {
+    fn enter(&self, worker: u32, turn: u64) {
+        if turn != 0 {
+            return;
+        }
+        self.entered.fetch_or(bit(worker), Ordering::SeqCst);
+        match worker {
+            0 => self.wait_for(1),
+            1 => self.wait_for(0),
+            _ => {}
+        }
+    }
+}
+
+/// The worker's bit, and none from 64 on.
+fn bit(worker: u32) -> u64 {
+    1u64.checked_shl(worker).unwrap_or(0)
+}
+
+/// It holds one worker in its first turn for 1,000,000 looks, or until another worker has entered its turn 1,000.
+#[derive(Drop)]
+pub struct HoldGate {
+    worker: u32,
+    passed: AtomicU64,
+    pushed: AtomicU64,
+}
+
+impl HoldGate {
+    /// A gate that holds this worker.
+    pub fn new(worker: u32) -> HoldGate {
+        HoldGate {
+            worker,
+            passed: AtomicU64::new(0),
+            pushed: AtomicU64::new(0),
+        }
+    }
+
+    /// Whether another worker entered its turn 1,000 before this one was let through its first.
+    pub fn pushed(&self) -> bool {
+        self.pushed.load(Ordering::SeqCst) != 0
+    }
+
+    fn hold(&self) {
+        for _ in 0..MOST_LOOKS {
+            if self.pushed() {
+                break;
+            }
+            thread::yield_now();
+        }
+        self.passed.store(1, Ordering::SeqCst);
+    }
+}
+
+impl Gate for HoldGate {
+    fn enter(&self, worker: u32, turn: u64) {
+        if worker == self.worker {
+            if turn == 0 {
+                self.hold();
+            }
+        } else if turn == LATE_TURN && self.passed.load(Ordering::SeqCst) == 0 {
+            self.pushed.store(1, Ordering::SeqCst);
+        }
+    }
+}

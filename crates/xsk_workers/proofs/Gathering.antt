@@ -1,0 +1,221 @@
+-- Passes are taken, and given back once their workers have ended.
+use Rattle.std.proofs.Common.{◌≡◌, ℕ, ◌+◌, ◌<◌, ◌≤◌, Option, Some, None, List, [], ◌∷◌, ◌++◌, length, get_or, set, map, All, refl, sym, ap, subst, ◌∙◌, arith, ⊎_elim, get_or-set_same, get_or-set_other, length-set, length-append, append-nil, drop}
+use Rattle.std.specs.List.{range_with_len}
+use Rattle.std.proofs.lemmas.Bool.{cases_eq}
+use Rattle.std.proofs.lemmas.List.{get_or-map, length-map, get_or_append_left, get_or_push}
+use Rattle.std.proofs.lemmas.List.Elements.{All-head, All-tail}
+use Rattle.std.proofs.lemmas.List.FromFn.{length-range_with_len, get_or-range_with_len}
+use Rattle.xsk_model.specs.Config.{callers_of}
+use Rattle.xsk_model.specs.Entry.{own}
+use Rattle.xsk_model.specs.declared.call.Act.TheVariants.{Ended}
+use Rattle.xsk_turns.specs.Workers.{Setting, IsWholeRun}
+use Rattle.xsk_machine.proofs.Acts.{sent_at}
+use Rattle.xsk_table.specs.Held.{Board, Holder, new_pass}
+use Rattle.xsk_table.specs.Opening.{new_passes}
+use Rattle.xsk_workers.specs.Shown.{WorkerShown, Seat, seat_of, seat_at, HasRun}
+use Rattle.xsk_workers.specs.Eithers.{Stands, kept_of}
+use Rattle.xsk_umem.specs.Frame.{Frame}
+use Rattle.xsk_model.specs.Config.{Config, IsRegular}
+use Rattle.xsk_model.specs.Entry.{Entry}
+use Rattle.xsk_model.specs.History.{IsHistory}
+use Rattle.xsk_model.specs.Sent.{sent as sent_in}
+use Rattle.xsk_model.proofs.Theorems.{one_holder}
+use Rattle.xsk_machine.proofs.Within.{are_within}
+use Rattle.xsk_table.specs.Closing.{AreThere, EndsIn}
+use Rattle.xsk_workers.specs.Shown.{AreOf}
+use Rattle.xsk_workers.specs.Forwarded.{HasForwarded}
+use Rattle.xsk_workers.specs.Gathering.{HaveRun, HaveRunFrom, AreTaken, AreGiven, AreSent, IsSentOf}
+use Rattle.xsk_workers.specs.declared.either.Either.{Either}
+use Rattle.xsk_workers.specs.declared.either.Either.TheVariants.{Driver, App}
+
+-- ---- taken
+
+pub taken_none : (b : Board) → AreTaken b 0 (new_passes b)
+taken_none b =
+    let callers = callers_of b.setup.config in
+    let count : length (new_passes b) ≡ callers = length-map (range_with_len 0 callers) (λ who. Some (new_pass b who)) ∙ length-range_with_len 0 callers in
+    record {
+      length_is = count;
+      there = λ w low below.
+          get_or-map (λ who. Some (new_pass b who)) (range_with_len 0 callers) w 0 None (omega (arith, below, length-range_with_len 0 callers))
+          ∙ ap (λ n. Some (new_pass b n)) (let at : get_or (range_with_len 0 callers) w 0 ≡ w = get_or-range_with_len 0 callers w 0 below ∙ omega arith in at);
+      gone = λ w none. absurd (omega arith);
+    }
+
+pub taken_more : (b : Board) (n : ℕ) (passes : List (Option Holder)) → n < callers_of b.setup.config → AreTaken b n passes → AreTaken b (n + 1) (set passes n None)
+taken_more b n passes known h = record {
+  length_is = length-set passes n None ∙ h.length_is;
+  there = λ w low below. get_or-set_other passes n w None None (λ e. omega (arith, e)) ∙ h.there w (omega arith) below;
+  gone = λ w below. ⊎_elim
+      (λ (e : w ≡ n). subst (λ k. get_or (set passes n None) k None ≡ None) (sym e) (get_or-set_same passes n None None (omega (arith, h.length_is, known))))
+      (λ (e : w ≡ n → ⊥). get_or-set_other passes n w None None e ∙ h.gone w (omega (arith, e)))
+      (cases_eq w n);
+}
+
+some_of : {X : Type 0} → X → Option X → X
+some_of d None = d
+some_of d (Some x) = x
+
+-- the pass that is taken is the caller's new one
+pub is_new_pass : (b : Board) (n : ℕ) (passes : List (Option Holder)) (p : Holder) → n < callers_of b.setup.config → AreTaken b n passes → Some p ≡ get_or passes n None → p ≡ new_pass b n
+unfolding some_of
+is_new_pass b n passes p below taken is = ap (some_of p) (is ∙ taken.there n (omega arith) below)
+
+-- ---- given back
+
+pub given_none : (b : Board) (s : Setting) (passes : List (Option Holder)) → AreTaken b (callers_of b.setup.config) passes → AreGiven b s 0 passes
+given_none b s passes h = record { length_is = h.length_is; there = λ w none. absurd (omega arith); gone = λ w low below. h.gone w below }
+
+module _ (b : Board) (s : Setting) (n : ℕ) (passes : List (Option Holder)) (p : Holder) (known : n < callers_of b.setup.config) (h : AreGiven b s n passes) where
+  abbrev more : List (Option Holder)
+  more = set passes n (Some p)
+
+  here : get_or more n None ≡ Some p
+  here = get_or-set_same passes n (Some p) None (omega (arith, h.length_is, known))
+
+  before : (w : ℕ) → w < n → get_or more w None ≡ get_or passes w None
+  before w below = get_or-set_other passes n w (Some p) None (λ e. omega (arith, e, below))
+
+  pub given_more : p.table ≡ b.table → p.view.setup ≡ b.setup → IsWholeRun s n (own n p.view.seen) → AreGiven b s (n + 1) more
+  given_more table setup whole = record {
+    length_is = length-set passes n (Some p) ∙ h.length_is;
+    there = λ w below. ⊎_elim
+        (λ (e : w ≡ n). (p, ap (λ k. get_or more k None) e ∙ here, table, setup, subst (λ k. IsWholeRun s k (own k p.view.seen)) (sym e) whole))
+        (λ (e : w ≡ n → ⊥). let old = h.there w (omega (arith, e)) in (old.0, before w (omega (arith, e)) ∙ old.1, old.2, old.3, old.4))
+        (cases_eq w n);
+    gone = λ w low below. get_or-set_other passes n w (Some p) None (λ e. omega (arith, e)) ∙ h.gone w (omega arith) below;
+  }
+
+  -- what its driver sent is kept behind the others
+  pub sent_more : (lists : List (List (List ℕ))) (m : Either) → Stands s n m Ended (own n p.view.seen) → AreSent s n passes lists → AreSent s (n + 1) more (lists ++ kept_of m)
+  sent_more lists (Driver d) stands sent =
+      let is : length lists ≡ n = sent.first (omega (arith, stands.known)) in
+      let count : length (lists ++ d.sent.packets ∷ []) ≡ n + 1 = omega (arith, is, length-append lists (d.sent.packets ∷ [])) in
+      record {
+        first = λ few. count;
+        all = λ full. omega (arith, count, stands.known, full);
+        each = λ w below. ⊎_elim
+            (λ (e : w ≡ n).
+            let at : get_or (lists ++ d.sent.packets ∷ []) w [] ≡ d.sent.packets = get_or_push lists d.sent.packets [] w (is ∙ sym e) in (
+              p,
+              ap (λ k. get_or more k None) e ∙ here,
+              subst (λ k. IsSentOf s k (own k p.view.seen) (get_or (lists ++ d.sent.packets ∷ []) w [])) (sym e)
+                  (subst (IsSentOf s n (own n p.view.seen)) (sym at) (λ within. sent_at s n d Ended (own n p.view.seen) refl stands within)),
+            ))
+            (λ (e : w ≡ n → ⊥).
+            let low : w < n = omega (arith, e, below, count) in
+            let old = sent.each w (omega (arith, low, is)) in
+            (old.0, before w low ∙ old.1, subst (IsSentOf s w (own w old.0.view.seen)) (sym (get_or_append_left lists (d.sent.packets ∷ []) [] w (omega (arith, low, is)))) old.2))
+            (cases_eq w n);
+      }
+  sent_more lists (App a) stands sent =
+      let past : length s.config.pairs ≤ n = omega (arith, stands.caller) in
+      let is : length lists ≡ length s.config.pairs = sent.all past in
+      subst (AreSent s (n + 1) more) (sym (append-nil lists)) (record {
+        first = λ few. absurd (omega (arith, past, few));
+        all = λ full. is;
+        each = λ w below. let old = sent.each w below in (old.0, before w (omega (arith, below, is, past)) ∙ old.1, old.2);
+      })
+
+pub sent_none : (s : Setting) (passes : List (Option Holder)) → AreSent s 0 passes []
+sent_none s passes = record { first = λ few. refl; all = λ full. omega (arith, full); each = λ w none. absurd (omega arith) }
+
+-- ---- workers that came back
+
+pub seats_count : (b : Board) (s : Setting) (ws : List WorkerShown) → map (λ (w : WorkerShown). seat_of w) ws ≡ map (seat_at s b) (range_with_len 0 (callers_of b.setup.config))
+    → length ws ≡ callers_of b.setup.config
+seats_count b s ws seats =
+    sym (length-map ws (λ (w : WorkerShown). seat_of w)) ∙ ap (length {A = Seat}) seats ∙ length-map (range_with_len 0 (callers_of b.setup.config)) (seat_at s b)
+    ∙ length-range_with_len 0 (callers_of b.setup.config)
+
+pub have_run : (b : Board) (s : Setting) (n : ℕ) (ws : List WorkerShown) → map (λ (w : WorkerShown). seat_of w) ws ≡ map (seat_at s b) (range_with_len n (length ws))
+    → All (λ (w : WorkerShown). HasRun w) ws → HaveRunFrom b s n ws
+have_run b s n [] seats whole = tt
+have_run b s n (w ∷ ws) seats whole =
+    (ap (λ (xs : List Seat). get_or xs 0 (seat_of w)) seats, All-head (λ (x : WorkerShown). HasRun x) w ws whole, have_run b s (n + 1) ws (ap (drop 1) seats) (All-tail (λ (x : WorkerShown). HasRun x) w ws whole))
+
+pub have_run_all : (b : Board) (s : Setting) (ws : List WorkerShown) → s.config ≡ b.setup.config → map (λ (w : WorkerShown). seat_of w) ws ≡ map (seat_at s b) (range_with_len 0 (callers_of b.setup.config))
+    → All (λ (w : WorkerShown). HasRun w) ws → HaveRun b s ws
+have_run_all b s ws config seats whole =
+    let count : length ws ≡ callers_of b.setup.config = seats_count b s ws seats in
+    record { config = config; run = have_run b s 0 ws (seats ∙ ap (λ n. map (seat_at s b) (range_with_len 0 n)) (sym count)) whole }
+
+-- the first of them, in the setting and as the caller of its seat
+module _ (b : Board) (s : Setting) (n : ℕ) (w : WorkerShown) (rest : List WorkerShown) (run : HaveRunFrom b s n (w ∷ rest)) where
+  pub who_is : w.pass.who ≡ n
+  who_is = ap (λ (x : Seat). x.who) run.0
+
+  setting_is : w.setting ≡ s
+  setting_is = ap (λ (x : Seat). x.setting) run.0
+
+  pub table_is : w.pass.table ≡ b.table
+  table_is = ap (λ (x : Seat). x.table) run.0
+
+  pub setup_is : w.pass.view.setup ≡ b.setup
+  setup_is = ap (λ (x : Seat). x.setup) run.0
+
+  at_seat : (P : Setting → ℕ → Type 0) → P w.setting w.pass.who → P s n
+  at_seat P h = subst (λ k. P s k) who_is (subst (λ k. P k w.pass.who) setting_is h)
+
+  pub whole_here : IsWholeRun s n (own n w.pass.view.seen)
+  whole_here = at_seat (λ t k. IsWholeRun t k (own k w.pass.view.seen)) run.1
+
+  pub stands_here : (m : Either) → Stands w.setting w.pass.who m Ended (own w.pass.who w.pass.view.seen) → Stands s n m Ended (own n w.pass.view.seen)
+  stands_here m h = at_seat (λ t k. Stands t k m Ended (own k w.pass.view.seen)) h
+
+-- there is room for what a driver sent
+pub kept_few : (s : Setting) (n : ℕ) (passes : List (Option Holder)) (lists : List (List (List ℕ))) (m : Either) (p : Holder) → Stands s n m Ended (own n p.view.seen) → AreSent s n passes lists
+    → length lists + length (kept_of m) ≤ length s.config.pairs
+kept_few s n passes lists (Driver d) p stands sent = omega (arith, stands.known, sent.first (omega (arith, stands.known)))
+kept_few s n passes lists (App a) p stands sent = omega (arith, sent.all (omega (arith, stands.caller)))
+
+-- workers in these seats are workers of the setting, on the table
+pub are_of : (b : Board) (s : Setting) (n k : ℕ) (ws : List WorkerShown) → map (λ (w : WorkerShown). seat_of w) ws ≡ map (seat_at s b) (range_with_len n k) → AreOf b s ws
+are_of b s n k ws seats =
+    let count : length ws ≡ k = sym (length-map ws (λ (w : WorkerShown). seat_of w)) ∙ ap (length {A = Seat}) seats ∙ length-map (range_with_len n k) (seat_at s b) ∙ length-range_with_len n k in
+    let each : (i : ℕ) (d : WorkerShown) → i < length ws → seat_of (get_or ws i d) ≡ seat_at s b (get_or (range_with_len n k) i 0) =
+    λ i d below.
+    sym (get_or-map (λ (w : WorkerShown). seat_of w) ws i d (seat_of d) below) ∙ ap (λ (xs : List Seat). get_or xs i (seat_of d)) seats
+    ∙ get_or-map (seat_at s b) (range_with_len n k) i 0 (seat_of d) (omega (arith, below, count, length-range_with_len n k)) in
+    record {
+      belong = λ i d below. record { table = ap (λ (x : Seat). x.table) (each i d below); setup = ap (λ (x : Seat). x.setup) (each i d below) };
+      judged = λ i d below. ap (λ (x : Seat). x.setting) (each i d below);
+    }
+
+-- the passes that were given back are there
+pub are_there : (b : Board) (s : Setting) (passes : List (Option Holder)) → AreGiven b s (callers_of b.setup.config) passes → AreThere b passes
+are_there b s passes h = λ w below. let at = h.there w below in (at.0, at.1, record { table = at.2; setup = at.3 })
+
+-- ---- the history of them all
+
+-- in the history in which all passes end each caller's own calls and replies are a whole run, and what was kept as sent is what
+-- was sent there
+module _ (b : Board) (s : Setting) (frames : List Frame) (passes : List (Option Holder)) (lists : List (List (List ℕ))) (h : List Entry) (regular : IsRegular s.config)
+    (config : s.config ≡ b.setup.config) (opened : b.setup.frames ≡ frames) (given : AreGiven b s (callers_of b.setup.config) passes) (sent : AreSent s (callers_of b.setup.config) passes lists)
+    (ends : EndsIn b passes h) where
+  legal : IsHistory s.config frames h
+  legal = subst (λ f. IsHistory s.config f h) opened (subst (λ c. IsHistory c b.setup.frames h) (sym config) ends.legal)
+
+  known : (who : ℕ) → who < callers_of s.config → who < callers_of b.setup.config
+  known who below = subst (λ (c : Config). who < callers_of c) config below
+
+  whole : (who : ℕ) → who < callers_of s.config → IsWholeRun s who (own who h)
+  whole who below =
+      let at = given.there who (known who below) in
+      subst (IsWholeRun s who) (sym (ends.of_each who at.0 (known who below) at.1)) at.4
+
+  lists_are : length lists ≡ length s.config.pairs
+  lists_are = sent.all (omega (arith, ap (λ (c : Config). callers_of c) config))
+
+  sent_is : (pair : ℕ) → pair < length s.config.pairs → get_or lists pair [] ≡ sent_in s.config h pair
+  sent_is pair below =
+      let at = sent.each pair (omega (arith, lists_are, below)) in
+      let who : pair < callers_of s.config = omega (arith, below) in
+      let mine : own pair h ≡ own pair at.0.view.seen = ends.of_each pair at.0 (known pair who) at.1 in
+      subst (λ l. IsSentOf s pair l (get_or lists pair [])) (sym mine) at.2 (are_within s frames h regular legal whole pair below)
+
+  pub has_forwarded : HasForwarded s frames (record { history = h; sent = lists })
+  has_forwarded = record { legal = legal; whole = whole; holders = λ past later split. one_holder s.config frames past later (subst (IsHistory s.config frames) split legal); sent = sent_is }
+
+  pub pairs_are : length lists ≡ length s.config.pairs
+  pairs_are = lists_are

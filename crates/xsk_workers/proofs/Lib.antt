@@ -1,0 +1,4 @@
+pub mod Going
+pub mod Seats
+pub mod Lists
+pub mod Gathering

@@ -1,0 +1,16 @@
+use Rattle.std.proofs.Common.{◌≡◌, ℕ, ◌+◌, ◌≤◌, length, map, vec_items, vec_capacity}
+use Rattle.std.specs.Vec.Iter.{into_iter_items}
+use Rattle.xsk_turns.specs.Workers.{Setting}
+use Rattle.xsk_model.specs.Config.{callers_of}
+use Rattle.xsk_workers.specs.Gathering.{HaveRun, HaveRunFrom, AreGiven, AreSent}
+use Rattle.xsk_workers.specs.Forwarded.{packets_in}
+use Rattle.xsk_workers.proofs.workers.give_back.Given as goal
+
+-- in a setting of the workers those that are left have run, the others' passes are given back, and what drivers sent is kept
+abbrev pub invariant-loop-worker : goal.invariant-loop-worker
+invariant-loop-worker l =
+    let n : ℕ = length l.yielded in
+    ((s : Setting) → HaveRun l.shared s (vec_items l.fn.workers)
+    → HaveRunFrom l.shared s n (into_iter_items l.worker-iterator) × AreGiven l.shared s n l.passes × AreSent s n l.passes (map packets_in (vec_items l.sent)))
+    × (n + length (into_iter_items l.worker-iterator) ≡ callers_of l.shared.setup.config)
+    × (length l.shared.setup.config.pairs ≤ vec_capacity l.sent)

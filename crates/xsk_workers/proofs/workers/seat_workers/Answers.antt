@@ -1,0 +1,52 @@
+use Rattle.std.proofs.Common.{rules, ◌≡◌, ℕ, ◌+◌, ◌<◌, List, [], ◌∷◌, ◌++◌, map, sym, ap, subst, ◌∙◌, suc, arith}
+use Rattle.std.specs.List.{range_with_len}
+use Rattle.std.proofs.lemmas.List.{map-append}
+use Rattle.xsk_model.specs.Config.{callers_of}
+use Rattle.xsk_model.proofs.Counting.{range-push}
+use Rattle.xsk_turns.specs.Workers.{Setting}
+use Rattle.xsk_table.specs.Held.{Holder, new_pass}
+use Rattle.xsk_workers.specs.Shown.{WorkerShown, Seat, seat_of, seat_at}
+use Rattle.xsk_workers.specs.Eithers.{IsNew}
+use Rattle.xsk_workers.specs.Gathering.{AreTaken}
+use Rattle.xsk_workers.proofs.Gathering.{taken_none, taken_more, is_new_pass}
+use Rattle.xsk_workers.proofs.workers.seat_workers.Goals as goal
+
+pub loop-who-init : goal.loop-who-init
+loop-who-init c = (subst (AreTaken c.args.shared.now 0) (sym c.requires.passes) (taken_none c.args.shared.now), search rules)
+
+pub new-requires-clause-pass : goal.new-requires-clause-pass
+new-requires-clause-pass c =
+    let b = c.args.shared.now in
+    let below : c.loop-who.who < callers_of b.setup.config = search rules in
+    let is : c.in-Some.pass ≡ new_pass b c.loop-who.who = is_new_pass b c.loop-who.who c.loop-who.passes c.in-Some.pass below c.loop-who.invariant.0 (search rules) in
+    (ap (λ (p : Holder). p.view.flight) is, ap (λ (p : Holder). p.view.seen) is, ap (λ (p : Holder). p.view.setup.config) is ∙ c.requires.table)
+
+pub new-requires-clause-machine : goal.new-requires-clause-machine
+new-requires-clause-machine c =
+    let b = c.args.shared.now in
+    let s : Setting = record { config = c.args.place.config.now; packets = c.args.place.packets.now } in
+    let below : c.loop-who.who < callers_of b.setup.config = search rules in
+    let is : c.in-Some.pass ≡ new_pass b c.loop-who.who = is_new_pass b c.loop-who.who c.loop-who.passes c.in-Some.pass below c.loop-who.invariant.0 (search rules) in
+    subst (λ (k : ℕ). IsNew s k c.in_ok-machine.machine) (sym (ap (λ (p : Holder). p.who) is)) c.in_ok-machine.ensures.new
+
+pub loop-who-preserved : goal.loop-who-preserved
+loop-who-preserved c =
+    let b = c.args.shared.now in
+    let s : Setting = record { config = c.args.place.config.now; packets = c.args.place.packets.now } in
+    let who = c.loop-who.who in
+    let below : who < callers_of b.setup.config = search rules in
+    let is : c.in-Some.pass ≡ new_pass b who = is_new_pass b who c.loop-who.passes c.in-Some.pass below c.loop-who.invariant.0 (search rules) in
+    let worker : WorkerShown = c.new.result in
+    let seat : seat_of worker ≡ seat_at s b who = ap (λ (w : WorkerShown). seat_of w) c.new.ensures ∙ ap (λ (p : Holder). seat_of (record { setting = s; pass = p })) is in
+    let range : range_with_len 0 (who + 1) ≡ range_with_len 0 who ++ who ∷ [] =
+    let next : who + 1 ≡ suc who = omega arith in
+    let here : 0 + who ≡ who = omega arith in
+    ap (range_with_len 0) next ∙ range-push 0 who ∙ ap (λ (n : ℕ). range_with_len 0 who ++ n ∷ []) here in (
+      subst (AreTaken b (who + 1)) (sym c.take.ensures.left) (taken_more b who c.loop-who.passes below c.loop-who.invariant.0),
+      ap (λ (l : List WorkerShown). map (λ (w : WorkerShown). seat_of w) l) c.in_ok-push.ensures.items
+          ∙ map-append (λ (w : WorkerShown). seat_of w) c.loop-who.workers.items (worker ∷ [])
+          ∙ ap (λ (x : Seat). map (λ (w : WorkerShown). seat_of w) c.loop-who.workers.items ++ x ∷ []) seat
+          ∙ ap (λ (l : List Seat). l ++ seat_at s b who ∷ []) c.loop-who.invariant.1
+          ∙ sym (map-append (seat_at s b) (range_with_len 0 who) (who ∷ []))
+          ∙ ap (map (seat_at s b)) (sym range),
+    )

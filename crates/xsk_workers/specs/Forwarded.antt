@@ -1,0 +1,28 @@
+-- What a run on threads shows. All workers' calls stand in one legal history, whatever threads did when.
+use Rattle.std.specs.Prelude.{◌≡◌, ℕ, ◌<◌, List, [], ◌++◌, length}
+use Rattle.std.specs.List.{slice_index_or}
+use Rattle.xsk_umem.specs.Frame.{Frame}
+use Rattle.xsk_umem.specs.PacketList.{PacketList}
+use Rattle.xsk_model.specs.Config.{callers_of}
+use Rattle.xsk_model.specs.Entry.{Entry, own}
+use Rattle.xsk_model.specs.History.{IsHistory, state_after}
+use Rattle.xsk_model.specs.Holders.{HasOneHolder}
+use Rattle.xsk_model.specs.Sent.{sent}
+use Rattle.xsk_turns.specs.Workers.{Setting, IsWholeRun}
+
+-- the history that the table's note shows, and for each pair the packets that its driver kept as sent
+pub record OutcomeShown : Type 0 where
+  pub history : List Entry
+  pub sent : List (List (List ℕ))
+
+abbrev pub packets_in : PacketList → List (List ℕ)
+packets_in list = list.packets
+
+-- The history is legal from the opening with these frames. Of each worker it has a whole run of its turns over the packets
+-- that came, and of no one else anything. After each of its prefixes each frame has one holder, and what each driver sent
+-- are the packets that its calls on COMPLETION completed there.
+pub record HasForwarded (s : Setting) (frames : List Frame) (o : OutcomeShown) : Type 0 where
+  pub legal : IsHistory s.config frames o.history
+  pub whole : (who : ℕ) → who < callers_of s.config → IsWholeRun s who (own who o.history)
+  pub holders : (past later : List Entry) → o.history ≡ past ++ later → HasOneHolder s.config.geometry.frames (state_after s.config frames past)
+  pub sent : (pair : ℕ) → pair < length s.config.pairs → slice_index_or o.sent pair [] ≡ sent s.config o.history pair

@@ -1,0 +1,4 @@
+pub mod Shown
+pub mod Eithers
+pub mod Forwarded
+pub mod Gathering

@@ -1,0 +1,11 @@
+//! Drivers and applications in threads of their own, over one table of words and slots.
+#![tactic(auto)]
+
+mod crew;
+mod either;
+mod place;
+mod running;
+mod worker;
+mod workers;
+
+pub use workers::{Outcome, forward};

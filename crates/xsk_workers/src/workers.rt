@@ -1,0 +1,185 @@
+//! A run on threads: drivers and applications over one table, from its opening to its end.
+ghost use Rattle.std.specs.Prelude.{◌≡◌, ℕ, ◌+◌, ◌≤◌, ◌<◌, List, [], ◌++◌, map, false, true, All, length, vec_len, vec_capacity, IfOk};
+ghost use Rattle.std.specs.List.{range_with_len};
+ghost use Rattle.xsk_umem.specs.Frame.{Frame as Body};
+ghost use Rattle.xsk_model.specs.Config.{IsRegular, callers_of};
+ghost use Rattle.xsk_model.specs.Expected.{nothing};
+ghost use Rattle.xsk_model.specs.Opening.{AreFrames};
+ghost use Rattle.xsk_turns.specs.Inputs.{inputs_of};
+ghost use Rattle.xsk_turns.specs.Workers.{Setting};
+ghost use Rattle.xsk_table.specs.Held.{Board};
+ghost use Rattle.xsk_table.specs.Opening.{new_passes};
+ghost use Rattle.xsk_workers.specs.Shown.{WorkerShown, seat_of, seat_at, HasRun, AreOf};
+ghost use Rattle.xsk_workers.specs.Gathering.{HaveRun, AreTaken, AreGiven, AreSent};
+ghost use Rattle.xsk_workers.specs.Eithers.{IsNew, awaits, kept_of};
+ghost use Rattle.xsk_workers.specs.Forwarded.{HasForwarded, packets_in};
+
+use crate::crew::{Crew, run_crew};
+use crate::either::Either;
+use crate::place::Source;
+use crate::worker::Worker;
+use std::alloc::Global;
+use std::marker::Model;
+use std::sync::Wait;
+use std::thread::Threads;
+use xsk_app::App;
+use xsk_driver::Inputs;
+use xsk_io::Gate;
+use xsk_machine::driver_for;
+use xsk_model::Config;
+use xsk_table::{Note, Passes, Shared};
+use xsk_umem::{Frames, OutOfMemory, PacketList};
+
+/// What a run on threads shows. Contracts see the history of its table, and the packets that each driver sent.
+#[derive(Drop)]
+pub struct Outcome {
+    note: Note,
+    sent: Vec<PacketList>,
+}
+
+impl Model for Outcome {
+    ghost use Rattle.std.specs.Prelude.{map};
+    ghost use Rattle.xsk_workers.specs.Forwarded.{OutcomeShown, packets_in};
+
+    ghost Value = { OutcomeShown };
+
+    ghost view = { λ o. record { history = o.note.seen; sent = map packets_in o.sent.items } };
+}
+
+impl Outcome {
+    ghost use Rattle.std.specs.List.{slice_index_or};
+
+    /// The packets that the driver of a pair sent, in order.
+    pub fn sent(&self, pair: u32) -> &PacketList
+        requires { pair < length self.now.sent }
+        ensures { result.now.packets ≡ slice_index_or self.now.sent pair [] }
+    {
+        &self.sent[pair as usize]
+    }
+}
+
+/// Runs the drivers and applications of a regular configuration, each in a thread of its own where one can be had, until
+/// all have ended, over one list of packets for each port. The frames are all frames of its UMEM, and the configuration is
+/// without need-wakeup, which the workers don't know yet. Each worker passes the gate before each of its turns.
+///
+/// All memory is taken before a worker starts. A worker whose thread can't be had makes its calls on the caller's thread,
+/// in turn with other such workers. Nothing is promised of an end.
+pub fn forward<R: Threads + Wait + Sync, G: Gate + Sync>(
+    rt: &R,
+    alloc: Global,
+    config: Config,
+    frames: Frames,
+    packets: &[PacketList],
+    gate: &G,
+) -> Result<Outcome, OutOfMemory>
+    requires regular { IsRegular config }
+    requires wakeup { config.wakeup ≡ false }
+    requires frames { AreFrames config.geometry frames.items }
+    requires lists { length packets.now ≡ config.ports }
+    ensures pairs { IfOk result (λ outcome. length outcome.sent ≡ length config.pairs) }
+    ensures forwarded { IfOk result (HasForwarded (record { config = config; packets = packets.now }) frames.items) }
+{
+    let own = config.copy(alloc)?;
+    let inputs = Inputs::split(alloc, &own, packets)?;
+    let mut sent = Vec::with_capacity(alloc, own.pairs().len())?;
+    let Ok((shared, mut passes)) = Shared::open(alloc, config, frames, 0) else {
+        return Err(OutOfMemory);
+    };
+    let place = Source {
+        config: &own,
+        packets,
+    };
+    let workers = seat_workers(alloc, &shared, place, &inputs, &mut passes)?;
+    let crew = Crew::new(alloc, &shared, place, workers)?;
+    let workers = run_crew(rt, &shared, gate, crew);
+    give_back(&shared, workers, &mut passes, &mut sent);
+    let (_frames, note) = shared.close(passes);
+    Ok(Outcome { note, sent })
+}
+
+/// A worker for each caller, with its pass: the drivers of all pairs, and then the applications.
+fn seat_workers<'a>(
+    alloc: Global,
+    shared: &Shared,
+    place: Source<'a>,
+    inputs: &'a Inputs,
+    passes: &mut Passes,
+) -> Result<Vec<Worker<Either<'a>, Source<'a>>>, OutOfMemory>
+    requires regular { IsRegular place.config.now }
+    requires wakeup { place.config.now.wakeup ≡ false }
+    requires lists { length place.packets.now ≡ place.config.now.ports }
+    requires inputs { inputs.now ≡ inputs_of place.config.now place.packets.now }
+    requires table { shared.now.setup.config ≡ place.config.now }
+    requires passes { passes.old ≡ new_passes shared.now }
+    ensures taken { IfOk result (λ workers. AreTaken shared.now (callers_of shared.now.setup.config) passes.new) }
+    ensures seats { IfOk result (λ workers. map (λ (w : WorkerShown). seat_of w) workers.items
+        ≡ map (seat_at (record { config = place.entry.config.now; packets = place.entry.packets.now }) shared.now) (range_with_len 0 (callers_of shared.now.setup.config))) }
+{
+    let callers = place.config.callers();
+    let mut workers = Vec::with_capacity(alloc, callers as usize)?;
+    for who in 0..callers {
+        let machine = machine_for(alloc, place, inputs, who)?;
+        let Some(pass) = passes.take(who) else {
+            unreachable!()
+        };
+        workers.push(Worker::new(alloc, place, machine, pass))?;
+    }
+    Ok(workers)
+}
+
+/// The machine of a caller: the driver of its pair, or its application.
+fn machine_for<'a>(
+    alloc: Global,
+    place: Source<'a>,
+    inputs: &'a Inputs,
+    who: u32,
+) -> Result<Either<'a>, OutOfMemory>
+    requires regular { IsRegular place.config.now }
+    requires wakeup { place.config.now.wakeup ≡ false }
+    requires lists { length place.packets.now ≡ place.config.now.ports }
+    requires inputs { inputs.now ≡ inputs_of place.config.now place.packets.now }
+    requires caller { who < callers_of place.config.now }
+    ensures new { IfOk result (IsNew (record { config = place.entry.config.now; packets = place.entry.packets.now }) who) }
+    ensures awaits { IfOk result (λ m. awaits m ≡ nothing) }
+{
+    let config = place.config;
+    let pairs = config.pairs().len() as u32;
+    if who < pairs {
+        let driver = driver_for(alloc, config, place.packets, inputs, who)?;
+        return Ok(Either::Driver(driver));
+    }
+    let app = App::new(alloc, config, who - pairs)?;
+    Ok(Either::App(app))
+}
+
+/// Gives the passes of workers that have ended back, and keeps what each driver sent.
+fn give_back<'a>(
+    shared: &Shared,
+    workers: Vec<Worker<Either<'a>, Source<'a>>>,
+    passes: &mut Passes,
+    sent: &mut Vec<PacketList>,
+)
+    requires run { (s : Setting) × HaveRun shared.now s workers.items }
+    requires count { length workers.items ≡ callers_of shared.now.setup.config }
+    requires taken { AreTaken shared.now (callers_of shared.now.setup.config) passes.old }
+    requires room { (sent.old.items ≡ []) × (length shared.now.setup.config.pairs ≤ vec_capacity sent.old) }
+    ensures given { (s : Setting) → HaveRun shared.now s workers.entry.items → AreGiven shared.now s (callers_of shared.now.setup.config) passes.new }
+    ensures sent { (s : Setting) → HaveRun shared.now s workers.entry.items → AreSent s (callers_of shared.now.setup.config) passes.new (map packets_in sent.new.items) }
+{
+    for worker in workers {
+        let (machine, pass) = worker.into_parts();
+        passes.give(pass);
+        keep_sent(machine, sent);
+    }
+}
+
+/// Keeps what a driver sent.
+fn keep_sent(machine: Either<'_>, sent: &mut Vec<PacketList>)
+    requires room { vec_len sent.old + length (kept_of machine) ≤ vec_capacity sent.old }
+    ensures capacity { vec_capacity sent.new ≡ vec_capacity sent.old }
+    ensures lists { map packets_in sent.new.items ≡ map packets_in sent.old.items ++ kept_of machine.entry }
+{
+    if let Either::Driver(driver) = machine {
+        sent.push_reserved(driver.into_sent());
+    }
+}
