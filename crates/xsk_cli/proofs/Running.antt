@@ -1,5 +1,5 @@
 -- What a run of the command sent is what the other port received.
-use Rattle.std.proofs.Common.{◌≡◌, ℕ, zero, suc, ◌+◌, ◌*◌, ◌<◌, ◌≤◌, Bool, cond, true, false, List, [], ◌∷◌, length, map, get_or, refl, ap, ◌∙◌, subst, arith, None, length-append, append-nil}
+use Rattle.std.proofs.Common.{◌≡◌, ℕ, zero, suc, ◌+◌, ◌*◌, ◌<◌, ◌≤◌, Bool, cond, true, false, List, [], ◌∷◌, length, map, get_or, refl, sym, ap, ◌∙◌, subst, arith, None, length-append, append-nil}
 use Rattle.std.proofs.lemmas.List.Elements.{recursion_from_All}
 use Rattle.xsk_pcap.specs.Capture.{IsShort}
 use Rattle.xsk_pcap.specs.Written.{IsWritable}
@@ -16,7 +16,8 @@ use Rattle.xsk_model.specs.Stored.{stored_entry}
 use Rattle.xsk_model.specs.Steering.{paired_port}
 use Rattle.xsk_turns.specs.Inputs.{packets_of_port}
 use Rattle.xsk_sim.specs.Shown.{Shown}
-use Rattle.xsk_plain.specs.Log.{calls_of, entries_of, entry_of}
+use Rattle.xsk_plain.specs.Log.{calls_of, entries_of, item_of}
+use Rattle.xsk_plain.proofs.Parts.{length-entries}
 use Rattle.xsk_plain.specs.declared.log.Log.{Log}
 use Rattle.xsk_umem.specs.Frame.{Frame}
 use Rattle.xsk_sim.specs.Runs.{HasEnded, HasStalled}
@@ -105,7 +106,7 @@ module _ (layout : Layout) (order : ℕ) (lists : List (List (List ℕ))) (accep
 
 -- each entry of a log is a call
 pub log_count : (log : Log) → calls_of log ≡ length (entries_of log)
-log_count log = omega (arith, log.rows.ok.0, length-map log.rows.items (entry_of log.pieces.items log.bytes.items))
+log_count log = sym (length-entries log.rows.items (map (item_of log.bytes.items) log.pieces.items))
 
 -- ---- what is sent fits one capture
 

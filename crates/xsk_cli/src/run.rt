@@ -3,6 +3,7 @@ ghost use Rattle.std.specs.Prelude.{◌≡◌, ℕ, ◌<◌, ◌≤◌, None, []
 ghost use Rattle.std.specs.List.{concat, range_with_len, slice_index_or};
 ghost use Rattle.xsk_driver.specs.Sent.{IsShort};
 ghost use Rattle.xsk_sim.specs.Runs.{HasEnded};
+ghost use Rattle.xsk_sim.specs.Shown.{HasShortPackets};
 ghost use Rattle.xsk_cli.specs.Judged.{excess_of};
 ghost use Rattle.xsk_cli.specs.Outcome.{AreTextsBy, AreTextsOf, capture_of, frames_of, listed, made_lists, report_of, setting_of};
 ghost use Rattle.xsk_cli.specs.Steps.{FailsMaking, FailsRunning, HasOneSocket, lists_in, with_one_socket, written_by, written_in};
@@ -65,8 +66,9 @@ fn run_texts(
     ensures failed { IfErr result (FailsRunning layout.now order (lists_in lists.now)) }
 {
     let run = run_lists(alloc, layout, order, lists)?;
-    let outputs = output_texts(alloc, layout.ports, &run)?;
     let report = report_text(alloc, run.log().len())?;
+    let sent = run.into_sent();
+    let outputs = output_texts(alloc, layout.ports, sent.as_slice())?;
     Ok(Texts { outputs, report })
 }
 
@@ -93,21 +95,32 @@ fn run_lists(
     }
 }
 
-/// The capture of what each port's driver sent.
+/// The captures of what the ports' drivers sent.
 #[tactic(auto, using(crate::proofs::Ports::more_ports))]
-fn output_texts(alloc: Global, ports: u32, run: &Run) -> Result<Vec<Vec<u8>>, OutOfMemory>
+fn output_texts(alloc: Global, ports: u32, sent: &[PacketList]) -> Result<Vec<Vec<u8>>, OutOfMemory>
     requires ports { ports ≤ 4 }
-    requires pairs { run.now.pairs ≡ ports }
-    requires few { (port : ℕ) → port < ports → length (slice_index_or run.now.sent port []) ≤ 65536 }
-    requires small { (port : ℕ) → port < ports → length (concat (slice_index_or run.now.sent port [])) ≤ 33554432 }
-    ensures { IfOk result (λ texts. map (λ text. text.items) texts.items ≡ map (λ port. capture_of (slice_index_or run.now.sent port [])) (range_with_len 0 ports)) }
+    requires pairs { length sent.now ≡ ports }
+    requires short { All HasShortPackets sent.now }
+    requires few { (port : ℕ) → port < ports → length (slice_index_or (lists_in sent.now) port []) ≤ 65536 }
+    requires small { (port : ℕ) → port < ports → length (concat (slice_index_or (lists_in sent.now) port [])) ≤ 33554432 }
+    ensures { IfOk result (λ texts. map (λ text. text.items) texts.items ≡ map (λ port. capture_of (slice_index_or (lists_in sent.now) port [])) (range_with_len 0 ports)) }
 {
     let mut texts = Vec::with_capacity(alloc, ports as usize)?;
     for port in 0..ports {
-        let text = capture_text(alloc, run.sent(port))?;
+        let text = capture_text(alloc, sent_by(sent, port))?;
         texts.push_reserved(text);
     }
     Ok(texts)
+}
+
+/// What the driver of a port sent.
+fn sent_by(sent: &[PacketList], port: u32) -> &PacketList
+    requires port { port < length sent.now }
+    requires short { All HasShortPackets sent.now }
+    ensures short { All IsShort result.now.packets }
+    ensures sent { result.now.packets ≡ slice_index_or (lists_in sent.now) port [] }
+{
+    &sent[port as usize]
 }
 
 /// The capture of packets.

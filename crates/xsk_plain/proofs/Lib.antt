@@ -1,5 +1,6 @@
 pub mod Payloads
 pub mod Parts
+pub mod Places
 pub mod StoreSteps
 pub mod Openings
 pub mod Moves

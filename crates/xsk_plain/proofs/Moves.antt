@@ -13,9 +13,9 @@ use Rattle.xsk_plain.specs.declared.log.Piece.{Piece}
 use Rattle.xsk_plain.specs.declared.log.Span.{Span}
 use Rattle.xsk_plain.specs.declared.ring_store.RingStore.{RingStore}
 use Rattle.xsk_plain.specs.declared.ring_store.Stored.{Stored}
-use Rattle.xsk_plain.specs.Kept.{IsKept, AreKept, AllKept, Grows}
+use Rattle.xsk_plain.specs.Kept.{IsKept, AreKept, AllKept}
 use Rattle.xsk_plain.specs.Log.{frame_at, item_of}
-use Rattle.xsk_plain.specs.Spans.{at_span}
+use Rattle.xsk_plain.specs.Spans.{at_span, IsWithin, Grows}
 use Rattle.xsk_plain.specs.Stores.{stored_item_of, piece_of}
 use Rattle.xsk_plain.proofs.Parts.{at_span-append, at_span-end}
 
@@ -39,16 +39,13 @@ are_kept_grown c bytes new store grows h = All-weaker (IsKept c bytes) (IsKept c
 pub all_kept_grown : (c : Config) (bytes new : List ℕ) (stores : List RingStore) → Grows bytes new → AllKept c bytes stores → AllKept c new stores
 all_kept_grown c bytes new stores grows h = All-weaker (AreKept c bytes) (AreKept c new) (λ store k. are_kept_grown c bytes new store grows k) stores h
 
--- a payload that was appended to the bytes
-pub kept_new : (c : Config) (old new piece : List ℕ) (item : Item) (span : Span) → new ≡ old ++ piece → span ≡ record { start = length old; len = length piece }
-    → piece ≡ payload c.geometry c.sg item → IsKept c new (record { item = item; payload = span })
-kept_new c old new piece item span is at shows =
-    let start : span.start ≡ length old = ap (λ (s : Span). s.start) at in
-    let len : span.len ≡ length piece = ap (λ (s : Span). s.len) at in
-    record {
-      within = omega (arith, ap length is, length-append old piece);
-      shows = ap (λ (xs : List ℕ). at_span xs span) is ∙ at_span-end old piece span start len ∙ shows;
-    }
+pub grows_on : (old bytes new : List ℕ) → Grows old bytes → Grows bytes new → Grows old new
+grows_on old bytes new h k = grows_more old bytes new k.more h k.is
+
+-- a payload that is kept
+pub kept_new : (c : Config) (new piece : List ℕ) (item : Item) (span : Span) → IsWithin new span → at_span new span ≡ piece → piece ≡ payload c.geometry c.sg item
+    → IsKept c new (record { item = item; payload = span })
+kept_new c new piece item span within shown shows = record { within = within; shows = shown ∙ shows }
 
 frame_kept : (bytes shown : List ℕ) (span : Span) (frame : Option Frame) → at_span bytes span ≡ shown
     → option_map (frame_at bytes span) (option_map (λ (f : Frame). f.number) frame) ≡ option_map (λ (f : Frame). record f { bytes = shown }) frame

@@ -20,8 +20,3 @@ AllKept c bytes stores = All (AreKept c bytes) stores
 -- the spans of a ring's items lie within the bytes
 abbrev pub AreWithin : List ℕ → RingStore → Type 0
 AreWithin bytes store = All (λ (stored : Stored). IsWithin bytes stored.payload) store.out.items
-
--- bytes were appended
-pub record Grows (old new : List ℕ) : Type 0 where
-  pub more : List ℕ
-  pub is : new ≡ old ++ more

@@ -6,6 +6,7 @@ pub mod Laws
 pub mod Log
 pub mod Object
 pub mod Pieces
+pub mod Repeats
 pub mod Rooms
 pub mod Sound
 pub mod Spans

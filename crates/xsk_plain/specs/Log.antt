@@ -1,6 +1,6 @@
--- The entries that the log shows, and what its steps change. Its rows name their items as spans of its pieces, and a
--- piece its payload as a span of its bytes.
-use Rattle.std.specs.Prelude.{◌≡◌, ℕ, ◌+◌, ◌≤◌, List, ◌∷◌, [], ◌++◌, length, drop, map, vec_len}
+-- The entries that the log shows, and what its steps change. Its rows have the next of its pieces as their items, and a
+-- piece names its payload as a span of its bytes.
+use Rattle.std.specs.Prelude.{◌≡◌, ℕ, ◌+◌, ◌≤◌, List, ◌∷◌, [], ◌++◌, length, take, drop, map}
 use Rattle.std.specs.Option.{option_map}
 use Rattle.xsk_umem.specs.Frame.{Frame}
 use Rattle.xsk_umem.specs.Limits.{most_items}
@@ -16,7 +16,7 @@ use Rattle.xsk_plain.specs.declared.log.Row.{Row}
 use Rattle.xsk_plain.specs.declared.log.Span.{Span}
 use Rattle.xsk_plain.specs.declared.log.Event.{Event}
 use Rattle.xsk_plain.specs.declared.log.Event.TheVariants.{Granted as WasGranted, Full as WasFull, Submitted as WasSubmitted, Items as HadItems, Empty as WasEmpty, Released as WasReleased, Swapped, Looked}
-use Rattle.xsk_plain.specs.Spans.{at_span}
+use Rattle.xsk_plain.specs.Spans.{at_span, IsWithin, Grows}
 
 -- the frame of a piece, with the payload in place of its bytes
 abbrev pub frame_at : List ℕ → Span → ℕ → Frame
@@ -48,29 +48,32 @@ reply_of (Looked m old) items = Old old
 abbrev pub entry_with : ℕ → Event → List Item → Entry
 entry_with who event items = record { who = who; call = call_of event items; reply = reply_of event items }
 
-abbrev pub entry_of : List Piece → List ℕ → Row → Entry
-entry_of pieces bytes row = entry_with row.who row.event (map (item_of bytes) (at_span pieces row.items))
+-- the entries of rows, each with the next of the items
+abbrev pub entries_from : List Row → List Item → List Entry
+entries_from [] items = []
+entries_from (row ∷ rows) items = entry_with row.who row.event (take row.items items) ∷ entries_from rows (drop row.items items)
 
 -- the log as the list of its calls with their callers and replies, in order
 abbrev pub entries_of : Log → List Entry
-entries_of log = map (entry_of log.pieces.items log.bytes.items) log.rows.items
+entries_of log = entries_from log.rows.items (map (item_of log.bytes.items) log.pieces.items)
 
 -- the number of entries
 abbrev pub calls_of : Log → ℕ
-calls_of log = vec_len log.rows
+calls_of log = length log.rows.items
 
 -- the items of the entry that is being made
 abbrev pub noted_in : Log → List Item
 noted_in log = map (item_of log.bytes.items) (drop log.begun log.pieces.items)
 
--- the entries and the noted items stay, and the payload stands at the end of the bytes
+-- the entries and the noted items stay, and so do the bytes, behind which others may come; the payload stands among them
 pub record KeepsPayload (old new : Log) (payload : List ℕ) (place : Span) : Type 0 where
   pub entries : entries_of new ≡ entries_of old
   pub noted : noted_in new ≡ noted_in old
-  pub len : vec_len new.rows ≡ vec_len old.rows
-  pub pieces_len : vec_len new.pieces ≡ vec_len old.pieces
-  pub bytes : new.bytes.items ≡ old.bytes.items ++ payload
-  pub span : place ≡ record { start = length old.bytes.items; len = length payload }
+  pub len : length new.rows.items ≡ length old.rows.items
+  pub pieces_len : length new.pieces.items ≡ length old.pieces.items
+  pub bytes : Grows old.bytes.items new.bytes.items
+  pub within : IsWithin new.bytes.items place
+  pub shows : at_span new.bytes.items place ≡ payload
   pub begun : new.begun ≡ old.begun
   pub spare_entries : new.spare_entries ≡ old.spare_entries
   pub spare_bytes : new.spare_bytes + length payload ≡ old.spare_bytes
@@ -79,8 +82,8 @@ pub record KeepsPayload (old new : Log) (payload : List ℕ) (place : Span) : Ty
 pub record NotesPiece (old new : Log) (piece : Piece) : Type 0 where
   pub entries : entries_of new ≡ entries_of old
   pub noted : noted_in new ≡ noted_in old ++ item_of old.bytes.items piece ∷ []
-  pub len : vec_len new.rows ≡ vec_len old.rows
-  pub pieces_len : vec_len new.pieces ≡ vec_len old.pieces + 1
+  pub len : length new.rows.items ≡ length old.rows.items
+  pub pieces_len : length new.pieces.items ≡ length old.pieces.items + 1
   pub bytes : new.bytes.items ≡ old.bytes.items
   pub begun : new.begun ≡ old.begun
   pub spare_entries : new.spare_entries ≡ old.spare_entries
@@ -89,17 +92,17 @@ pub record NotesPiece (old new : Log) (piece : Piece) : Type 0 where
 -- one more entry, with the items that were noted, and no item of a further one
 pub record EndsEntry (old new : Log) (who : ℕ) (event : Event) : Type 0 where
   pub entries : entries_of new ≡ entries_of old ++ entry_with who event (noted_in old) ∷ []
-  pub len : vec_len new.rows ≡ vec_len old.rows + 1
+  pub len : length new.rows.items ≡ length old.rows.items + 1
   pub bytes : new.bytes.items ≡ old.bytes.items
-  pub begun : new.begun ≡ vec_len new.pieces
+  pub begun : new.begun ≡ length new.pieces.items
   pub spare_entries : new.spare_entries + 1 ≡ old.spare_entries
   pub spare_bytes : new.spare_bytes ≡ old.spare_bytes
 
 -- more items are noted, so many payload bytes were kept, and all else stays
 pub record NotesItems (old new : Log) (bytes : ℕ) : Type 0 where
   pub entries : entries_of new ≡ entries_of old
-  pub len : vec_len new.rows ≡ vec_len old.rows
+  pub len : length new.rows.items ≡ length old.rows.items
   pub begun : new.begun ≡ old.begun
-  pub few : vec_len new.pieces ≤ new.begun + most_items
+  pub few : length new.pieces.items ≤ new.begun + most_items
   pub spare_entries : new.spare_entries ≡ old.spare_entries
   pub spare_bytes : new.spare_bytes + bytes ≡ old.spare_bytes

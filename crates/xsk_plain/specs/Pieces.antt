@@ -1,5 +1,5 @@
--- That the log's pieces lie within its bytes, and its rows within the pieces of whole entries.
-use Rattle.std.specs.Prelude.{ℕ, ◌+◌, ◌≤◌, List}
+-- That the log's pieces lie within its bytes, and how many of them a row has.
+use Rattle.std.specs.Prelude.{ℕ, List}
 use Rattle.xsk_plain.specs.Spans.{IsWithin}
 use Rattle.xsk_plain.specs.declared.log.Piece.{Piece}
 use Rattle.xsk_plain.specs.declared.log.Row.{Row}
@@ -7,5 +7,5 @@ use Rattle.xsk_plain.specs.declared.log.Row.{Row}
 abbrev pub IsPieceIn : List ℕ → Piece → Type 0
 IsPieceIn bytes piece = IsWithin bytes piece.payload
 
-abbrev pub IsRowIn : ℕ → Row → Type 0
-IsRowIn end row = row.items.start + row.items.len ≤ end
+abbrev pub count_of : Row → ℕ
+count_of row = row.items

@@ -1,5 +1,5 @@
 -- What holds of the parts of the object on one thread between its calls.
-use Rattle.std.specs.Prelude.{◌≡◌, ◌≤◌, [], vec_len}
+use Rattle.std.specs.Prelude.{◌≡◌, ◌≤◌, [], length}
 use Rattle.xsk_plain.specs.Engine.{Engine}
 use Rattle.xsk_plain.specs.Kept.{AllKept}
 use Rattle.xsk_plain.specs.Log.{entries_of, calls_of}
@@ -20,7 +20,7 @@ engine_of p = record {
 -- no entry is being made, the items in rings have their payloads in the log, and the queue in which the frames came
 -- stands empty, with room for all of them
 pub record IsSound (p : Inside) : Type 0 where
-  pub noted : vec_len p.log.pieces ≡ p.log.begun
+  pub noted : length p.log.pieces.items ≡ p.log.begun
   pub kept : AllKept p.object.config p.log.bytes.items p.object.rings.items
   pub home : p.home.items ≡ []
   pub limit : p.object.config.geometry.frames ≤ p.home.limit

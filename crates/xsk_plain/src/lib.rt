@@ -11,6 +11,7 @@ mod noting;
 mod object;
 mod opening;
 mod plain;
+mod repeats;
 mod ring_store;
 #[cfg(test)]
 mod tests;

@@ -1,8 +1,10 @@
 //! The log of all calls and replies, with payloads in place of frames.
-ghost use Rattle.std.specs.Prelude.{◌≡◌, ◌+◌, ◌*◌, ◌<◌, ◌≤◌, ◌^◌, [], length, vec_len, vec_capacity, All, OnOk};
+ghost use Rattle.std.specs.Prelude.{◌≡◌, ◌+◌, ◌*◌, ◌<◌, ◌≤◌, ◌^◌, ◌↔◌, [], length, sum_by, vec_len, vec_capacity, All, IsTrue, OnOk};
 ghost use Rattle.xsk_umem.specs.Limits.{most_items};
-ghost use Rattle.xsk_plain.specs.Pieces.{IsPieceIn, IsRowIn};
+ghost use Rattle.xsk_plain.specs.Pieces.{IsPieceIn, count_of};
+ghost use Rattle.xsk_plain.specs.Spans.{at_span, IsWithin};
 
+use crate::repeats::{Repeated, Repeats};
 use std::alloc::Global;
 use xsk_model::{Mark, Ring};
 use xsk_umem::{OutOfMemory, XdpDesc};
@@ -10,15 +12,23 @@ use xsk_umem::{OutOfMemory, XdpDesc};
 /// The most items of one call.
 pub(crate) const MOST_ITEMS: u32 = 32;
 
-/// A part of a list: the payload of an item among the log's bytes, or the items of an entry among its pieces.
-#[derive(Clone, Copy, Debug, Default)]
+/// The entries and the payload bytes for which room is made at once.
+const ROOM_ENTRIES: u32 = 1_024;
+
+const ROOM_BYTES: u64 = 1_048_576;
+
+/// How many frames have the place of their last payload known.
+const KEPT: usize = 1_024;
+
+/// The payload of an item among the log's bytes.
+#[derive(Clone, Copy, Debug, Default, PartialEq, Eq)]
 pub(crate) struct Span {
     pub(crate) start: usize,
     pub(crate) len: usize,
 }
 
 /// An item of a call or a reply: the number of its frame, its descriptor and its payload.
-#[derive(Clone, Copy, Debug)]
+#[derive(Clone, Copy, Debug, PartialEq, Eq)]
 pub(crate) struct Piece {
     pub(crate) frame: Option<u32>,
     pub(crate) desc: XdpDesc,
@@ -38,30 +48,155 @@ pub(crate) enum Event {
     Looked(Mark, u64),
 }
 
+/// A call with its caller and reply, and the number of its items, which are the next pieces.
 #[derive(Clone, Copy, Debug)]
 pub(crate) struct Row {
     pub(crate) who: u32,
     pub(crate) event: Event,
-    pub(crate) items: Span,
+    pub(crate) items: u32,
+}
+
+impl Repeated for Row {
+    fn is(&self, other: &Row) -> bool
+        ensures { IsTrue result ↔ (self.now ≡ other.now) }
+    {
+        self.who == other.who && self.items == other.items && self.event.is(&other.event)
+    }
+
+    fn key(&self) -> u64 {
+        let [kind, place, number] = self.event.numbers();
+        kind.wrapping_add(place.wrapping_mul(8))
+            .wrapping_add(number.wrapping_mul(64))
+            .wrapping_add(u64::from(self.items).wrapping_mul(64))
+            .wrapping_add(u64::from(self.who).wrapping_mul(509))
+    }
+}
+
+impl Event {
+    /// Whether both are equal.
+    fn is(&self, other: &Event) -> bool
+        ensures { IsTrue result ↔ (self.now ≡ other.now) }
+    {
+        match (*self, *other) {
+            (Event::Granted(ring, count), Event::Granted(place, places)) => {
+                is_ring(ring, place) && count == places
+            }
+            (Event::Full(ring, count, free), Event::Full(place, places, others)) => {
+                is_ring(ring, place) && count == places && free == others
+            }
+            (Event::Submitted(ring), Event::Submitted(place)) => is_ring(ring, place),
+            (Event::Items(ring, count), Event::Items(place, places)) => {
+                is_ring(ring, place) && count == places
+            }
+            (Event::Empty(ring, count), Event::Empty(place, places)) => {
+                is_ring(ring, place) && count == places
+            }
+            (Event::Released(ring, count), Event::Released(place, places)) => {
+                is_ring(ring, place) && count == places
+            }
+            (Event::Swapped(mark, value, old), Event::Swapped(cell, values, olds)) => {
+                is_mark(mark, cell) && value == values && old == olds
+            }
+            (Event::Looked(mark, old), Event::Looked(cell, olds)) => {
+                is_mark(mark, cell) && old == olds
+            }
+            _ => false,
+        }
+    }
+
+    /// Its kind, its ring or mark, and what else it tells, as numbers.
+    fn numbers(&self) -> [u64; 3] {
+        match *self {
+            Event::Granted(ring, count) => [0, ring_number(ring), u64::from(count)],
+            Event::Full(ring, count, free) => [
+                1,
+                ring_number(ring),
+                u64::from(free)
+                    .wrapping_mul(33)
+                    .wrapping_add(u64::from(count)),
+            ],
+            Event::Submitted(ring) => [2, ring_number(ring), 0],
+            Event::Items(ring, count) => [3, ring_number(ring), u64::from(count)],
+            Event::Empty(ring, count) => [4, ring_number(ring), u64::from(count)],
+            Event::Released(ring, count) => [5, ring_number(ring), u64::from(count)],
+            Event::Swapped(mark, value, old) => [6, mark_number(mark), value.wrapping_add(old)],
+            Event::Looked(mark, old) => [7, mark_number(mark), old],
+        }
+    }
+}
+
+fn is_ring(ring: Ring, other: Ring) -> bool
+    ensures { IsTrue result ↔ (ring ≡ other) }
+{
+    ring == other
+}
+
+fn is_mark(mark: Mark, other: Mark) -> bool
+    ensures { IsTrue result ↔ (mark ≡ other) }
+{
+    mark == other
+}
+
+fn ring_number(ring: Ring) -> u64 {
+    match ring {
+        Ring::Fill(pair) => 4 * u64::from(pair),
+        Ring::Comp(pair) => 4 * u64::from(pair) + 1,
+        Ring::Rx(socket) => 4 * u64::from(socket) + 2,
+        Ring::Tx(socket) => 4 * u64::from(socket) + 3,
+    }
+}
+
+fn mark_number(mark: Mark) -> u64 {
+    match mark {
+        Mark::NeedFill(pair) => 8 * u64::from(pair),
+        Mark::NeedTx(socket) => 8 * u64::from(socket) + 1,
+        Mark::Kick(pair) => 8 * u64::from(pair) + 2,
+        Mark::RxDone(pair) => 8 * u64::from(pair) + 3,
+        Mark::Gone(pair) => 8 * u64::from(pair) + 4,
+        Mark::TxDone(app) => 8 * u64::from(app) + 5,
+        Mark::Cell(port, index) => 8 * (u64::from(port) + 4 * u64::from(index)) + 6,
+    }
+}
+
+impl Repeated for Piece {
+    fn is(&self, other: &Piece) -> bool
+        ensures { IsTrue result ↔ (self.now ≡ other.now) }
+    {
+        *self == *other
+    }
+
+    /// A frame's pieces with a payload, without one, and at the frame's begin are told apart.
+    fn key(&self) -> u64 {
+        let frame = match self.frame {
+            Some(frame) => 4 * u64::from(frame),
+            None => 0,
+        };
+        let shown = if self.payload.len == 0 { 0 } else { 2 };
+        frame + shown + self.desc.addr / 256 % 2
+    }
 }
 
 /// All calls on an object with their callers and replies, in order: frames by their numbers, with descriptors and
-/// payloads.
+/// payloads. Rows and pieces that come again are kept once, and a payload once while a frame's stays the same.
 #[derive(Debug, Drop)]
 pub struct Log {
-    rows: Vec<Row>,
-    pieces: Vec<Piece>,
+    rows: Repeats<Row>,
+    /// The items of all rows, in order.
+    pieces: Repeats<Piece>,
     bytes: Vec<u8>,
-    begun: usize,
+    /// Where the payload stands that was kept last for a frame, by its number modulo 1,024.
+    kept: [Span; KEPT],
+    /// The number of pieces of all rows.
+    begun: u32,
     spare_entries: u32,
     spare_bytes: u64,
-    ghost rows_room: { vec_len rows + spare_entries ≤ vec_capacity rows },
-    ghost rows_few: { vec_len rows + spare_entries < 2 ^ 32 },
-    ghost pieces_room: { begun + 32 * spare_entries ≤ vec_capacity pieces },
-    ghost begun_within: { begun ≤ vec_len pieces },
+    ghost rows_room: { spare_entries ≤ rows.spare },
+    ghost rows_few: { length rows.items + spare_entries < 2 ^ 32 },
+    ghost pieces_room: { begun + 32 * spare_entries ≤ length pieces.items + pieces.spare },
+    ghost begun_within: { begun ≤ length pieces.items },
+    ghost begun_is: { sum_by count_of rows.items ≡ begun },
     ghost bytes_room: { vec_len bytes + spare_bytes ≤ vec_capacity bytes },
     ghost pieces_in: { All (IsPieceIn bytes.items) pieces.items },
-    ghost rows_in: { All (IsRowIn begun) rows.items },
 }
 
 impl Log {
@@ -72,12 +207,13 @@ impl Log {
         ensures calls { calls_of result ≡ 0 }
         ensures spare_entries { result.spare_entries ≡ 0 }
         ensures spare_bytes { result.spare_bytes ≡ 0 }
-        ensures noted { vec_len result.pieces ≡ result.begun }
+        ensures noted { length result.pieces.items ≡ result.begun }
     {
         Log {
-            rows: Vec::new(alloc),
-            pieces: Vec::new(alloc),
+            rows: Repeats::new(alloc),
+            pieces: Repeats::new(alloc),
             bytes: Vec::new(alloc),
+            kept: [Span::default(); KEPT],
             begun: 0,
             spare_entries: 0,
             spare_bytes: 0,
@@ -88,11 +224,12 @@ impl Log {
     pub fn len(&self) -> u32
         ensures { result ≡ calls_of self.now }
     {
-        let _spare = self.spare_entries;
-        self.rows.len() as u32
+        self.rows.len()
     }
 
-    /// Makes room for at least so many further entries and bytes of payloads. The entries stay as they are.
+    /// Makes room for at least so many further entries and bytes of payloads, if there isn't. The entries stay as they
+    /// are.
+    #[inline(always)]
     pub(crate) fn reserve(&mut self, entries: u32, bytes: u32) -> Result<(), OutOfMemory>
         ensures log { entries_of self.new ≡ entries_of self.old }
         ensures calls { calls_of self.new ≡ calls_of self.old }
@@ -101,39 +238,68 @@ impl Log {
         ensures bytes { OnOk result (bytes ≤ self.new.spare_bytes) }
         ensures kept { (self.old.spare_entries ≤ self.new.spare_entries) × (self.old.spare_bytes ≤ self.new.spare_bytes) }
         ensures begun { self.new.begun ≡ self.old.begun }
-        ensures pieces { vec_len self.new.pieces ≡ vec_len self.old.pieces }
+        ensures pieces { length self.new.pieces.items ≡ length self.old.pieces.items }
     {
-        let entries = entries.max(self.spare_entries);
-        let bytes = u64::from(bytes).max(self.spare_bytes);
-        if self.rows.len() as u64 + u64::from(entries) > u64::from(u32::MAX) {
-            return Err(OutOfMemory);
+        let bytes = u64::from(bytes);
+        if entries <= self.spare_entries && bytes <= self.spare_bytes {
+            return Ok(());
         }
-        self.rows.reserve(entries as usize)?;
-        self.pieces.reserve(MOST_ITEMS as usize * entries as usize)?;
+        self.make_room(
+            entries.max(self.spare_entries).max(ROOM_ENTRIES),
+            bytes.max(self.spare_bytes).max(ROOM_BYTES),
+        )
+    }
+
+    /// Makes room for exactly so many further entries and bytes of payloads, which are no fewer than those there are.
+    fn make_room(&mut self, entries: u32, bytes: u64) -> Result<(), OutOfMemory>
+        requires entries { self.old.spare_entries ≤ entries }
+        requires bytes { self.old.spare_bytes ≤ bytes }
+        ensures log { entries_of self.new ≡ entries_of self.old }
+        ensures calls { calls_of self.new ≡ calls_of self.old }
+        ensures payloads { self.new.bytes.items ≡ self.old.bytes.items }
+        ensures entries { OnOk result (self.new.spare_entries ≡ entries) }
+        ensures bytes { OnOk result (self.new.spare_bytes ≡ bytes) }
+        ensures kept { (self.old.spare_entries ≤ self.new.spare_entries) × (self.old.spare_bytes ≤ self.new.spare_bytes) }
+        ensures begun { self.new.begun ≡ self.old.begun }
+        ensures pieces { length self.new.pieces.items ≡ length self.old.pieces.items }
+    {
+        self.rows.reserve(u64::from(entries))?;
+        self.pieces
+            .reserve(u64::from(MOST_ITEMS) * u64::from(entries))?;
         self.bytes.reserve(bytes as usize)?;
         self.spare_entries = entries;
         self.spare_bytes = bytes;
         Ok(())
     }
 
-    /// Keeps the payload of an item that is submitted, and tells where it stands.
-    pub(crate) fn keep(&mut self, payload: &[u8]) -> Span
+    /// Keeps the payload of an item of a frame that is submitted, and tells where it stands: where it stood, if it is
+    /// the payload that was kept last for the frame.
+    pub(crate) fn keep(&mut self, frame: u32, payload: &[u8]) -> Span
         requires { length payload.now ≤ self.old.spare_bytes }
         ensures { KeepsPayload self.old self.new payload.now result }
     {
-        let start = self.bytes.len();
-        self.bytes.extend_from_slice(payload).unwrap();
         self.spare_bytes -= payload.len() as u64;
-        Span {
-            start,
-            len: payload.len(),
+        if payload.is_empty() {
+            return Span::default();
         }
+        let slot = frame as usize % KEPT;
+        let last = self.kept[slot];
+        if shows(self.bytes.as_slice(), last, payload) {
+            return last;
+        }
+        let span = Span {
+            start: self.bytes.len(),
+            len: payload.len(),
+        };
+        self.bytes.extend_from_slice(payload).unwrap();
+        self.kept[slot] = span;
+        span
     }
 
     /// Adds an item to the entry that is being made.
     pub(crate) fn note(&mut self, piece: Piece)
         requires spare { 1 ≤ self.old.spare_entries }
-        requires few { vec_len self.old.pieces < self.old.begun + most_items }
+        requires few { length self.old.pieces.items < self.old.begun + most_items }
         requires payload { IsPieceIn self.old.bytes.items piece }
         ensures { NotesPiece self.old self.new piece }
     {
@@ -143,16 +309,23 @@ impl Log {
     /// Ends the entry that is being made, with the items that were noted for it.
     pub(crate) fn enter(&mut self, who: u32, event: Event)
         requires spare { 1 ≤ self.old.spare_entries }
-        requires few { vec_len self.old.pieces ≤ self.old.begun + most_items }
+        requires few { length self.old.pieces.items ≤ self.old.begun + most_items }
         ensures { EndsEntry self.old self.new who event }
     {
         let end = self.pieces.len();
-        let items = Span {
-            start: self.begun,
-            len: end - self.begun,
-        };
+        let items = end - self.begun;
         self.rows.push_reserved(Row { who, event, items });
         self.begun = end;
         self.spare_entries -= 1;
     }
+}
+
+/// Whether a span lies within the bytes and shows the payload.
+fn shows(bytes: &[u8], span: Span, payload: &[u8]) -> bool
+    ensures { IsTrue result → IsWithin bytes.now span × (at_span bytes.now span ≡ payload.now) }
+{
+    if span.start > bytes.len() || span.len > bytes.len() - span.start {
+        return false;
+    }
+    &bytes[span.start..span.start + span.len] == payload
 }

@@ -4,21 +4,22 @@ ghost use Rattle.xsk_umem.specs.Limits.{most_items};
 ghost use Rattle.xsk_model.specs.Config.{Config as Parts};
 ghost use Rattle.xsk_model.specs.Stored.{stored_item};
 ghost use Rattle.xsk_plain.specs.Engine.{frames_in, frames_of};
-ghost use Rattle.xsk_plain.specs.Kept.{AreKept, AreWithin, Grows};
+ghost use Rattle.xsk_plain.specs.Kept.{AreKept, AreWithin};
 ghost use Rattle.xsk_plain.specs.Log.{NotesItems, noted_in};
 ghost use Rattle.xsk_plain.specs.Rooms.{items_bytes};
+ghost use Rattle.xsk_plain.specs.Spans.{Grows};
 ghost use Rattle.xsk_plain.specs.Stores.{part_of, stored_item_of};
 
 use crate::log::Log;
 use crate::ring_store::{RingStore, Stored};
 use xsk_desc::payload_of;
 use xsk_model::Config;
-use xsk_umem::{Batch, Frame, Frames};
+use xsk_umem::{Batch, Frame, Frames, Item};
 
 /// Moves the items into reserved places of the ring, and notes each with its payload.
 pub(crate) fn put_items(store: &mut RingStore, log: &mut Log, config: &Config, items: &mut Batch)
     requires spare { 1 ≤ log.old.spare_entries }
-    requires start { vec_len log.old.pieces ≡ log.old.begun }
+    requires start { length log.old.pieces.items ≡ log.old.begun }
     requires bytes { items_bytes config.now items.old ≤ log.old.spare_bytes }
     requires room { length items.old ≤ store.old.room }
     ensures log { NotesItems log.old log.new (items_bytes config.now items.old) }
@@ -31,10 +32,21 @@ pub(crate) fn put_items(store: &mut RingStore, log: &mut Log, config: &Config, i
 {
     for _ in 0..items.len() {
         let item = items.pop_front().unwrap();
-        let payload = log.keep(payload_of(&item, config.geometry(), config.sg()));
+        let payload = log.keep(
+            number_of(&item),
+            payload_of(&item, config.geometry(), config.sg()),
+        );
         let stored = Stored { item, payload };
         log.note(stored.piece());
         store.put(stored);
+    }
+}
+
+/// The number of the item's frame, or 0.
+fn number_of(item: &Item) -> u32 {
+    match &item.frame {
+        Some(frame) => frame.number(),
+        None => 0,
     }
 }
 
@@ -42,7 +54,7 @@ pub(crate) fn put_items(store: &mut RingStore, log: &mut Log, config: &Config, i
 pub(crate) fn take_items(store: &mut RingStore, log: &mut Log, count: u32, items: &mut Batch)
     requires empty { items.old ≡ [] }
     requires spare { 1 ≤ log.old.spare_entries }
-    requires start { vec_len log.old.pieces ≡ log.old.begun }
+    requires start { length log.old.pieces.items ≡ log.old.begun }
     requires few { count ≤ most_items }
     requires within { AreWithin log.old.bytes.items store.old }
     ensures log { NotesItems log.old log.new 0 }

@@ -35,7 +35,7 @@ impl Object {
     ghost use Rattle.xsk_model.specs.Stored.{stored_item};
     ghost use Rattle.xsk_model.specs.declared.call.Call.TheVariants.{Reserve, Submit, Peek, Release, Swap};
     ghost use Rattle.xsk_plain.specs.Engine.{seen, part_in, CanPerform, frames_out};
-    ghost use Rattle.xsk_plain.specs.Kept.{AllKept, Grows};
+    ghost use Rattle.xsk_plain.specs.Kept.{AllKept};
     ghost use Rattle.xsk_plain.specs.Log.{NotesItems, noted_in};
     ghost use Rattle.xsk_plain.specs.Object.{ChangesRing, KeepsRings};
     ghost use Rattle.xsk_plain.specs.Rooms.{items_bytes};
@@ -91,7 +91,7 @@ impl Object {
     pub(crate) fn submit(&mut self, ring: Ring, items: &mut Batch, log: &mut Log)
         requires can { CanPerform self.old.config (parts_of self.old.rings.items) (Submit ring items.old) }
         requires spare { 1 ≤ log.old.spare_entries }
-        requires start { vec_len log.old.pieces ≡ log.old.begun }
+        requires start { length log.old.pieces.items ≡ log.old.begun }
         requires bytes { items_bytes self.old.config items.old ≤ log.old.spare_bytes }
         requires kept { AllKept self.old.config log.old.bytes.items self.old.rings.items }
         ensures changes { ChangesRing self.old self.new ring (Submit ring items.old) }
@@ -109,7 +109,7 @@ impl Object {
         requires empty { items.old ≡ [] }
         requires can { CanPerform self.old.config (parts_of self.old.rings.items) (Peek ring count) }
         requires spare { 1 ≤ log.old.spare_entries }
-        requires start { vec_len log.old.pieces ≡ log.old.begun }
+        requires start { length log.old.pieces.items ≡ log.old.begun }
         requires kept { AllKept self.old.config log.old.bytes.items self.old.rings.items }
         ensures changes { ChangesRing self.old self.new ring (Peek ring count) }
         ensures kept { AllKept self.old.config log.new.bytes.items self.new.rings.items }

@@ -77,6 +77,16 @@ impl Run {
         self.plain.log()
     }
 
+    /// What the drivers sent, by their pairs. The log is given up.
+    pub fn into_sent(self) -> Vec<PacketList>
+        ensures pairs { length result.items ≡ self.pairs }
+        ensures short { All HasShortPackets result.items }
+        ensures sent { map packets_in result.items ≡ self.sent }
+    {
+        let Run { sent, .. } = self;
+        sent
+    }
+
     /// What the driver of a pair sent. The pair must exist.
     pub fn sent(&self, pair: u32) -> &PacketList
         requires { pair < self.now.pairs }

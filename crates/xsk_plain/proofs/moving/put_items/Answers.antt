@@ -3,10 +3,11 @@ use Rattle.std.proofs.lemmas.List.Sums.{sum_by-cons}
 use Rattle.xsk_umem.specs.declared.batch.Item.{Item}
 use Rattle.xsk_model.specs.Descriptor.{payload}
 use Rattle.xsk_model.specs.Stored.{stored_item}
-use Rattle.xsk_plain.specs.Kept.{IsKept, AreKept, Grows}
+use Rattle.xsk_plain.specs.Kept.{IsKept, AreKept}
 use Rattle.xsk_plain.specs.Log.{item_of, noted_in}
 use Rattle.xsk_plain.specs.Rooms.{items_bytes}
-use Rattle.xsk_plain.proofs.Moves.{grows_more, are_kept_grown, kept_new, item_kept, noted_step, out_step, put_kept}
+use Rattle.xsk_plain.specs.Spans.{Grows}
+use Rattle.xsk_plain.proofs.Moves.{grows_on, are_kept_grown, kept_new, item_kept, noted_step, out_step, put_kept}
 use Rattle.xsk_plain.proofs.moving.put_items.Goals as goal
 
 pub loop-preserved : goal.loop-preserved
@@ -15,8 +16,8 @@ loop-preserved c =
     let shown : c.payload_of.result.now ≡ payload c.args.config.now.geometry c.args.config.now.sg c.unwrap-item.result =
     c.payload_of.ensures ∙ ap (λ g. payload g c.sg.result c.unwrap-item.result) c.geometry.ensures.value ∙ ap (λ b. payload c.args.config.now.geometry b c.unwrap-item.result) c.sg.ensures in
     let kept : IsKept c.args.config.now c.keep-payload.new.self.bytes.items (record { item = c.unwrap-item.result; payload = c.keep-payload.result }) =
-    kept_new c.args.config.now c.loop.log.bytes.items c.keep-payload.new.self.bytes.items c.payload_of.result.now c.unwrap-item.result c.keep-payload.result
-    c.keep-payload.ensures.bytes c.keep-payload.ensures.span shown in
+    kept_new c.args.config.now c.keep-payload.new.self.bytes.items c.payload_of.result.now c.unwrap-item.result c.keep-payload.result
+    c.keep-payload.ensures.within c.keep-payload.ensures.shows shown in
     let item : item_of c.keep-payload.new.self.bytes.items c.piece.result ≡ stored_item c.args.config.now.geometry c.args.config.now.sg c.unwrap-item.result =
     item_kept c.args.config.now c.keep-payload.new.self.bytes.items (record { item = c.unwrap-item.result; payload = c.keep-payload.result }) c.piece.result c.piece.ensures kept in
     let noted = c.note.ensures.noted ∙ ap (λ xs. xs ++ item_of c.keep-payload.new.self.bytes.items c.piece.result ∷ []) c.keep-payload.ensures.noted in
@@ -25,7 +26,8 @@ loop-preserved c =
     ap (items_bytes c.args.config.now) first ∙ sum_by-cons (λ (item : Item). length (payload c.args.config.now.geometry c.args.config.now.sg item)) c.unwrap-item.result c.pop_front.new.self in
     let long : length c.payload_of.result.now ≡ length (payload c.args.config.now.geometry c.args.config.now.sg c.unwrap-item.result) = ap length shown in
     let grown : Grows c.args.log.now.bytes.items c.note.new.self.bytes.items =
-    grows_more c.args.log.now.bytes.items c.loop.log.bytes.items c.note.new.self.bytes.items c.payload_of.result.now c.loop.invariant.bytes (c.note.ensures.bytes ∙ c.keep-payload.ensures.bytes) in
+    subst (Grows c.args.log.now.bytes.items) (sym c.note.ensures.bytes)
+    (grows_on c.args.log.now.bytes.items c.loop.log.bytes.items c.keep-payload.new.self.bytes.items c.loop.invariant.bytes c.keep-payload.ensures.bytes) in
     record {
       entries = c.note.ensures.entries ∙ c.keep-payload.ensures.entries ∙ c.loop.invariant.entries;
       noted = noted_step (stored_item c.args.config.now.geometry c.args.config.now.sg) (noted_in c.loop.log) (noted_in c.note.new.self) c.pop_front.new.self c.loop.items c.args.items.now
@@ -45,7 +47,7 @@ loop-preserved c =
       size = c.put.ensures.size ∙ c.loop.invariant.size;
       kept = λ h.
           let before : AreKept c.args.config.now c.keep-payload.new.self.bytes.items c.loop.store =
-          are_kept_grown c.args.config.now c.loop.log.bytes.items c.keep-payload.new.self.bytes.items c.loop.store (record { more = c.payload_of.result.now; is = c.keep-payload.ensures.bytes }) (c.loop.invariant.kept h) in
+          are_kept_grown c.args.config.now c.loop.log.bytes.items c.keep-payload.new.self.bytes.items c.loop.store c.keep-payload.ensures.bytes (c.loop.invariant.kept h) in
           subst (λ bs. AreKept c.args.config.now bs c.put.new.self) (sym c.note.ensures.bytes)
           (put_kept c.args.config.now c.keep-payload.new.self.bytes.items c.loop.store c.put.new.self _ c.put.ensures.out before kept);
     }

@@ -1,8 +1,9 @@
-use Rattle.std.proofs.Common.{◌≡◌, ◌+◌, ◌≤◌, ◌++◌, length, map, vec_len}
+use Rattle.std.proofs.Common.{◌≡◌, ◌+◌, ◌≤◌, ◌++◌, length, map}
 use Rattle.xsk_model.specs.Stored.{stored_item}
-use Rattle.xsk_plain.specs.Kept.{AreKept, Grows}
+use Rattle.xsk_plain.specs.Kept.{AreKept}
 use Rattle.xsk_plain.specs.Log.{entries_of, noted_in}
 use Rattle.xsk_plain.specs.Rooms.{items_bytes}
+use Rattle.xsk_plain.specs.Spans.{Grows}
 use Rattle.xsk_plain.specs.Stores.{stored_item_of}
 use Rattle.xsk_plain.proofs.moving.put_items.Given as goal
 
@@ -11,9 +12,9 @@ abbrev pub invariant-loop : goal.invariant-loop
 invariant-loop l = record {
   entries : entries_of l.log ≡ entries_of l.initial.log;
   noted : noted_in l.log ++ map (stored_item l.config.geometry l.config.sg) l.items ≡ map (stored_item l.config.geometry l.config.sg) l.initial.items;
-  len : vec_len l.log.rows ≡ vec_len l.initial.log.rows;
+  len : length l.log.rows.items ≡ length l.initial.log.rows.items;
   begun : l.log.begun ≡ l.initial.log.begun;
-  pieces : vec_len l.log.pieces ≡ l.log.begun + l.counter;
+  pieces : length l.log.pieces.items ≡ l.log.begun + l.counter;
   spare_entries : l.log.spare_entries ≡ l.initial.log.spare_entries;
   spare_bytes : l.log.spare_bytes + items_bytes l.config l.initial.items ≡ l.initial.log.spare_bytes + items_bytes l.config l.items;
   bytes : Grows l.initial.log.bytes.items l.log.bytes.items;

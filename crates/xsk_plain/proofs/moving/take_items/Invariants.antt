@@ -1,4 +1,4 @@
-use Rattle.std.proofs.Common.{◌≡◌, ◌+◌, ◌++◌, length, map, vec_len}
+use Rattle.std.proofs.Common.{◌≡◌, ◌+◌, ◌++◌, length, map}
 use Rattle.xsk_model.specs.Config.{Config}
 use Rattle.xsk_model.specs.Stored.{stored_item}
 use Rattle.xsk_plain.specs.Kept.{AreKept, AreWithin}
@@ -11,9 +11,9 @@ abbrev pub invariant-loop : goal.invariant-loop
 invariant-loop l = record {
   entries : entries_of l.log ≡ entries_of l.initial.log;
   noted : (config : Config) → AreKept config l.initial.log.bytes.items l.initial.store → noted_in l.log ≡ map (stored_item config.geometry config.sg) l.items;
-  len : vec_len l.log.rows ≡ vec_len l.initial.log.rows;
+  len : length l.log.rows.items ≡ length l.initial.log.rows.items;
   begun : l.log.begun ≡ l.initial.log.begun;
-  pieces : vec_len l.log.pieces ≡ l.log.begun + l.counter;
+  pieces : length l.log.pieces.items ≡ l.log.begun + l.counter;
   spare_entries : l.log.spare_entries ≡ l.initial.log.spare_entries;
   spare_bytes : l.log.spare_bytes ≡ l.initial.log.spare_bytes;
   bytes : l.log.bytes.items ≡ l.initial.log.bytes.items;

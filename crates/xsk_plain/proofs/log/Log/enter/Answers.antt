@@ -1,0 +1,19 @@
+use Rattle.std.proofs.Common.{◌≡◌, ◌+◌, ◌-◌, length, rules, refl, arith, ◌∙◌}
+use Rattle.xsk_plain.specs.declared.log.Row.{Row}
+use Rattle.xsk_plain.proofs.Parts.{entries-enter}
+use Rattle.xsk_plain.proofs.Places.{one_more}
+use Rattle.xsk_plain.proofs.log.Log.enter.Goals as goal
+
+pub returns : goal.returns
+returns c =
+    let row : Row = record { who = c.args.who; event = c.args.event; items = c.len-end.result - c.args.self.now.begun } in
+    record {
+      entries = entries-enter c.args.self.now.bytes.items c.args.self.now.pieces.items c.args.self.now.rows.items c.push_reserved.new.self.items
+          row c.args.self.now.begun
+          c.push_reserved.ensures.items c.args.self.now.begun_is (search rules);
+      len = one_more c.args.self.now.rows.items c.push_reserved.new.self.items row c.push_reserved.ensures.items;
+      bytes = refl;
+      begun = search rules;
+      spare_entries = search rules;
+      spare_bytes = refl;
+    }

@@ -1,0 +1,126 @@
+//! Lists in which many values are equal, so that each value is kept once and the list has its place.
+ghost use Rattle.std.specs.Prelude.{◌≡◌, ◌+◌, ◌≤◌, ◌↔◌, ◌^◌, ◌<◌, [], ◌∷◌, ◌++◌, Some, length, slice_get, vec_len, vec_capacity, IsTrue, OnOk};
+ghost use Rattle.xsk_plain.specs.Repeats.{KeepsValues};
+
+use std::alloc::Global;
+use std::marker::Model;
+use xsk_umem::OutOfMemory;
+
+/// How many values are looked for when one comes again.
+const RECENT: usize = 2_048;
+
+/// A value that may come again.
+pub(crate) trait Repeated: Copy + Drop {
+    /// Whether both are equal.
+    fn is(&self, other: &Self) -> bool
+        ensures { IsTrue result ↔ (self.now ≡ other.now) };
+
+    /// A number of the value. One is found again as long as no other came whose number is the same modulo 2,048.
+    fn key(&self) -> u64;
+}
+
+/// A list of values. The values for which room is reserved are a number of its own.
+#[derive(Debug, Drop)]
+pub(crate) struct Repeats<T> {
+    values: Vec<T>,
+    /// For each value of the list its place among the values that are kept.
+    places: Vec<u32>,
+    /// The place of the value that came last, by its number modulo 2,048.
+    recent: [u32; RECENT],
+    spare: u64,
+}
+
+impl<T> Model for Repeats<T> {
+    ghost use Rattle.std.specs.Prelude.{◌+◌, ◌<◌, ◌≤◌, ◌^◌, length, vec_len, vec_capacity};
+    ghost use Rattle.xsk_plain.specs.Repeats.{Repeats as List, values_at, AreBelow};
+
+    ghost Value = { List T };
+
+    ghost view = { λ r. record { items = values_at r.values.items r.places.items; spare = r.spare } };
+
+    ghost invariant = { λ r. AreBelow (length r.values.items) r.places.items
+        × (vec_len r.values ≤ vec_len r.places)
+        × (vec_len r.values + r.spare ≤ vec_capacity r.values)
+        × (vec_len r.places + r.spare ≤ vec_capacity r.places)
+        × (vec_len r.places + r.spare < 2 ^ 32) };
+}
+
+impl<T: Repeated> Repeats<T> {
+    /// An empty list. It takes no memory.
+    pub(crate) fn new(alloc: Global) -> Repeats<T>
+        ensures { result ≡ record { items = []; spare = 0 } }
+    {
+        Repeats {
+            values: Vec::new(alloc),
+            places: Vec::new(alloc),
+            recent: [0; RECENT],
+            spare: 0,
+        }
+    }
+
+    /// The number of values.
+    pub(crate) fn len(&self) -> u32
+        ensures { result ≡ length self.now.items }
+    {
+        let _spare = self.spare;
+        self.places.len() as u32
+    }
+
+    /// Makes room for at least so many further values. The room never gets smaller by it.
+    pub(crate) fn reserve(&mut self, extra: u64) -> Result<(), OutOfMemory>
+        ensures items { self.new.items ≡ self.old.items }
+        ensures room { OnOk result (extra ≤ self.new.spare) }
+        ensures kept { self.old.spare ≤ self.new.spare }
+        ensures few { OnOk result (length self.new.items + self.new.spare < 2 ^ 32) }
+    {
+        let extra = extra.max(self.spare);
+        if extra > u64::from(u32::MAX) - self.places.len() as u64 {
+            return Err(OutOfMemory);
+        }
+        self.values.reserve(extra as usize)?;
+        self.places.reserve(extra as usize)?;
+        self.spare = extra;
+        Ok(())
+    }
+
+    /// Appends a value in the room that is reserved.
+    pub(crate) fn push_reserved(&mut self, value: T)
+        requires { 1 ≤ self.old.spare }
+        ensures items { self.new.items ≡ self.old.items ++ value ∷ [] }
+        ensures spare { self.new.spare + 1 ≡ self.old.spare }
+    {
+        let place = place_of(&mut self.values, &mut self.recent, value);
+        self.places.push_reserved(place);
+        self.spare -= 1;
+    }
+}
+
+/// The place of a value: where an equal one came of late, or that of a new one, for which there must be room.
+fn place_of<T: Repeated>(values: &mut Vec<T>, recent: &mut [u32; RECENT], value: T) -> u32
+    requires room { vec_len values.old + 1 ≤ vec_capacity values.old }
+    requires few { vec_len values.old < 2 ^ 32 }
+    ensures shown { slice_get values.new.items result ≡ Some value }
+    ensures kept { KeepsValues values.old.items values.new.items }
+    ensures len { vec_len values.new ≤ vec_len values.old + 1 }
+    ensures capacity { vec_capacity values.new ≡ vec_capacity values.old }
+{
+    let slot = (value.key() % RECENT as u64) as usize;
+    let found = recent[slot];
+    if holds(values.as_slice(), found, &value) {
+        return found;
+    }
+    let place = values.len() as u32;
+    values.push_reserved(value);
+    recent[slot] = place;
+    place
+}
+
+/// Whether a value stands at a place, which needn't exist.
+fn holds<T: Repeated>(values: &[T], place: u32, value: &T) -> bool
+    ensures { IsTrue result → slice_get values.now place ≡ Some value.now }
+{
+    match values.get(place as usize) {
+        Some(other) => other.is(value),
+        None => false,
+    }
+}
