@@ -12,10 +12,16 @@ use xsk_umem::{OutOfMemory, XdpDesc};
 /// The most items of one call.
 pub(crate) const MOST_ITEMS: u32 = 32;
 
-/// The entries and the payload bytes for which room is made at once.
-const ROOM_ENTRIES: u32 = 1_024;
+/// The entries and the payload bytes for which room is made at first. What isn't used takes addresses alone, and a list
+/// that needn't grow leaves no holes behind.
+const FIRST_ENTRIES: u32 = 32_768;
 
-const ROOM_BYTES: u64 = 1_048_576;
+const FIRST_BYTES: u64 = 33_554_432;
+
+/// Those for which it is made at once later.
+const NEXT_ENTRIES: u32 = 1_024;
+
+const NEXT_BYTES: u64 = 1_048_576;
 
 /// How many frames have the place of their last payload known.
 const KEPT: usize = 1_024;
@@ -64,11 +70,8 @@ impl Repeated for Row {
     }
 
     fn key(&self) -> u64 {
-        let [kind, place, number] = self.event.numbers();
-        kind.wrapping_add(place.wrapping_mul(8))
-            .wrapping_add(number.wrapping_mul(64))
-            .wrapping_add(u64::from(self.items).wrapping_mul(64))
-            .wrapping_add(u64::from(self.who).wrapping_mul(509))
+        let items = u64::from(self.items) * 64 + u64::from(self.who) * 509;
+        self.event.key().wrapping_add(items)
     }
 }
 
@@ -77,52 +80,74 @@ impl Event {
     fn is(&self, other: &Event) -> bool
         ensures { IsTrue result ↔ (self.now ≡ other.now) }
     {
-        match (*self, *other) {
-            (Event::Granted(ring, count), Event::Granted(place, places)) => {
-                is_ring(ring, place) && count == places
-            }
-            (Event::Full(ring, count, free), Event::Full(place, places, others)) => {
-                is_ring(ring, place) && count == places && free == others
-            }
-            (Event::Submitted(ring), Event::Submitted(place)) => is_ring(ring, place),
-            (Event::Items(ring, count), Event::Items(place, places)) => {
-                is_ring(ring, place) && count == places
-            }
-            (Event::Empty(ring, count), Event::Empty(place, places)) => {
-                is_ring(ring, place) && count == places
-            }
-            (Event::Released(ring, count), Event::Released(place, places)) => {
-                is_ring(ring, place) && count == places
-            }
-            (Event::Swapped(mark, value, old), Event::Swapped(cell, values, olds)) => {
-                is_mark(mark, cell) && value == values && old == olds
-            }
-            (Event::Looked(mark, old), Event::Looked(cell, olds)) => {
-                is_mark(mark, cell) && old == olds
-            }
-            _ => false,
+        match self {
+            Event::Granted(ring, count) => match other {
+                Event::Granted(place, places) => is_ring(*ring, *place) && count == places,
+                _ => false,
+            },
+            Event::Full(ring, count, free) => match other {
+                Event::Full(place, places, others) => {
+                    is_ring(*ring, *place) && count == places && free == others
+                }
+                _ => false,
+            },
+            Event::Submitted(ring) => match other {
+                Event::Submitted(place) => is_ring(*ring, *place),
+                _ => false,
+            },
+            Event::Items(ring, count) => match other {
+                Event::Items(place, places) => is_ring(*ring, *place) && count == places,
+                _ => false,
+            },
+            Event::Empty(ring, count) => match other {
+                Event::Empty(place, places) => is_ring(*ring, *place) && count == places,
+                _ => false,
+            },
+            Event::Released(ring, count) => match other {
+                Event::Released(place, places) => is_ring(*ring, *place) && count == places,
+                _ => false,
+            },
+            Event::Swapped(mark, value, old) => match other {
+                Event::Swapped(cell, values, olds) => {
+                    is_mark(*mark, *cell) && value == values && old == olds
+                }
+                _ => false,
+            },
+            Event::Looked(mark, old) => match other {
+                Event::Looked(cell, olds) => is_mark(*mark, *cell) && old == olds,
+                _ => false,
+            },
         }
     }
 
-    /// Its kind, its ring or mark, and what else it tells, as numbers.
-    fn numbers(&self) -> [u64; 3] {
-        match *self {
-            Event::Granted(ring, count) => [0, ring_number(ring), u64::from(count)],
-            Event::Full(ring, count, free) => [
-                1,
-                ring_number(ring),
-                u64::from(free)
-                    .wrapping_mul(33)
-                    .wrapping_add(u64::from(count)),
-            ],
-            Event::Submitted(ring) => [2, ring_number(ring), 0],
-            Event::Items(ring, count) => [3, ring_number(ring), u64::from(count)],
-            Event::Empty(ring, count) => [4, ring_number(ring), u64::from(count)],
-            Event::Released(ring, count) => [5, ring_number(ring), u64::from(count)],
-            Event::Swapped(mark, value, old) => [6, mark_number(mark), value.wrapping_add(old)],
-            Event::Looked(mark, old) => [7, mark_number(mark), old],
+    /// A number of its kind, its ring or mark, and what else it tells.
+    fn key(&self) -> u64 {
+        match self {
+            Event::Granted(ring, count) => key(0, ring_number(*ring), u64::from(*count)),
+            Event::Full(ring, count, free) => {
+                key(
+                    u64::from(*free) * 8 + 1,
+                    ring_number(*ring),
+                    u64::from(*count),
+                )
+            }
+            Event::Submitted(ring) => key(2, ring_number(*ring), 0),
+            Event::Items(ring, count) => key(3, ring_number(*ring), u64::from(*count)),
+            Event::Empty(ring, count) => key(4, ring_number(*ring), u64::from(*count)),
+            Event::Released(ring, count) => key(5, ring_number(*ring), u64::from(*count)),
+            Event::Swapped(mark, value, old) => key(
+                6,
+                mark_number(*mark),
+                value.wrapping_add(*old),
+            ),
+            Event::Looked(mark, old) => key(7, mark_number(*mark), *old),
         }
     }
+}
+
+fn key(kind: u64, place: u64, number: u64) -> u64 {
+    kind.wrapping_add(place.wrapping_mul(8))
+        .wrapping_add(number.wrapping_mul(64))
 }
 
 fn is_ring(ring: Ring, other: Ring) -> bool
@@ -244,10 +269,14 @@ impl Log {
         if entries <= self.spare_entries && bytes <= self.spare_bytes {
             return Ok(());
         }
-        self.make_room(
-            entries.max(self.spare_entries).max(ROOM_ENTRIES),
-            bytes.max(self.spare_bytes).max(ROOM_BYTES),
-        )
+        let (most_entries, most_bytes) = if self.rows.len() == 0 {
+            (FIRST_ENTRIES, FIRST_BYTES)
+        } else {
+            (NEXT_ENTRIES, NEXT_BYTES)
+        };
+        let entries = entries.max(self.spare_entries).max(most_entries);
+        let bytes = bytes.max(self.spare_bytes).max(most_bytes);
+        self.make_room(entries, bytes)
     }
 
     /// Makes room for exactly so many further entries and bytes of payloads, which are no fewer than those there are.
@@ -303,7 +332,7 @@ impl Log {
         requires payload { IsPieceIn self.old.bytes.items piece }
         ensures { NotesPiece self.old self.new piece }
     {
-        self.pieces.push_reserved(piece);
+        self.pieces.push_reserved(&piece);
     }
 
     /// Ends the entry that is being made, with the items that were noted for it.
@@ -314,7 +343,7 @@ impl Log {
     {
         let end = self.pieces.len();
         let items = end - self.begun;
-        self.rows.push_reserved(Row { who, event, items });
+        self.rows.push_reserved(&Row { who, event, items });
         self.begun = end;
         self.spare_entries -= 1;
     }

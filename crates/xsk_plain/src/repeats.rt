@@ -84,9 +84,10 @@ impl<T: Repeated> Repeats<T> {
     }
 
     /// Appends a value in the room that is reserved.
-    pub(crate) fn push_reserved(&mut self, value: T)
+    #[inline(always)]
+    pub(crate) fn push_reserved(&mut self, value: &T)
         requires { 1 ≤ self.old.spare }
-        ensures items { self.new.items ≡ self.old.items ++ value ∷ [] }
+        ensures items { self.new.items ≡ self.old.items ++ value.now ∷ [] }
         ensures spare { self.new.spare + 1 ≡ self.old.spare }
     {
         let place = place_of(&mut self.values, &mut self.recent, value);
@@ -96,26 +97,28 @@ impl<T: Repeated> Repeats<T> {
 }
 
 /// The place of a value: where an equal one came of late, or that of a new one, for which there must be room.
-fn place_of<T: Repeated>(values: &mut Vec<T>, recent: &mut [u32; RECENT], value: T) -> u32
+#[inline(always)]
+fn place_of<T: Repeated>(values: &mut Vec<T>, recent: &mut [u32; RECENT], value: &T) -> u32
     requires room { vec_len values.old + 1 ≤ vec_capacity values.old }
     requires few { vec_len values.old < 2 ^ 32 }
-    ensures shown { slice_get values.new.items result ≡ Some value }
+    ensures shown { slice_get values.new.items result ≡ Some value.now }
     ensures kept { KeepsValues values.old.items values.new.items }
     ensures len { vec_len values.new ≤ vec_len values.old + 1 }
     ensures capacity { vec_capacity values.new ≡ vec_capacity values.old }
 {
     let slot = (value.key() % RECENT as u64) as usize;
     let found = recent[slot];
-    if holds(values.as_slice(), found, &value) {
+    if holds(values.as_slice(), found, value) {
         return found;
     }
     let place = values.len() as u32;
-    values.push_reserved(value);
+    values.push_reserved(*value);
     recent[slot] = place;
     place
 }
 
 /// Whether a value stands at a place, which needn't exist.
+#[inline(always)]
 fn holds<T: Repeated>(values: &[T], place: u32, value: &T) -> bool
     ensures { IsTrue result → slice_get values.now place ≡ Some value.now }
 {

@@ -197,6 +197,21 @@ fn a_packet_of_two_frames_goes_through_all_rings(rt: HostRuntime) -> Result<(), 
     Ok(())
 }
 
+/// Room is made for 32,768 calls at first and then for 1,024 at once, so that 35,000 calls cross its border three times.
+#[test]
+fn a_log_grows_across_the_borders_of_its_rooms(rt: HostRuntime) -> Result<(), Fail> {
+    let alloc = rt.alloc();
+    let mut plain = open_small(alloc)?;
+    for value in 1..=35_000u64 {
+        let reply = reply_to(&mut plain, 2, Call::Swap(Mark::Kick(0), value))?;
+        let (words, _items) = reply_words(alloc, reply)?;
+        let want = format!(in alloc; "old {}", value - 1)?;
+        assert_eq!(rt; words.as_str(), want.as_str());
+    }
+    assert_eq!(rt; plain.log().len(), 35_000);
+    Ok(())
+}
+
 fn open_small(alloc: Global) -> Result<Plain, Fail>
     ensures { IfOk result (λ plain. IsGeometry plain.config.geometry) }
 {
