@@ -17,7 +17,7 @@ use Rattle.xsk_plain.specs.Kept.{IsKept, AreKept, AllKept}
 use Rattle.xsk_plain.specs.Log.{frame_at, item_of}
 use Rattle.xsk_plain.specs.Spans.{at_span, IsWithin, Grows}
 use Rattle.xsk_plain.specs.Stores.{stored_item_of, piece_of}
-use Rattle.xsk_plain.proofs.Parts.{at_span-append, at_span-end}
+use Rattle.xsk_plain.proofs.Parts.{at_span-append}
 
 -- ---- payloads
 

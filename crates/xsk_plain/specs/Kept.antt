@@ -1,5 +1,5 @@
 -- That a ring's items have their payloads among the log's bytes, so that a Peek copies none.
-use Rattle.std.specs.Prelude.{◌≡◌, ℕ, List, ◌++◌, All}
+use Rattle.std.specs.Prelude.{◌≡◌, ℕ, List, All}
 use Rattle.xsk_model.specs.Config.{Config}
 use Rattle.xsk_model.specs.Descriptor.{payload}
 use Rattle.xsk_plain.specs.Spans.{at_span, IsWithin}

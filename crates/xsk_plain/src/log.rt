@@ -63,12 +63,14 @@ pub(crate) struct Row {
 }
 
 impl Repeated for Row {
+    #[inline(always)]
     fn is(&self, other: &Row) -> bool
         ensures { IsTrue result ↔ (self.now ≡ other.now) }
     {
         self.who == other.who && self.items == other.items && self.event.is(&other.event)
     }
 
+    #[inline(always)]
     fn key(&self) -> u64 {
         let items = u64::from(self.items) * 64 + u64::from(self.who) * 509;
         self.event.key().wrapping_add(items)
@@ -77,6 +79,7 @@ impl Repeated for Row {
 
 impl Event {
     /// Whether both are equal.
+    #[inline(always)]
     fn is(&self, other: &Event) -> bool
         ensures { IsTrue result ↔ (self.now ≡ other.now) }
     {
@@ -121,6 +124,7 @@ impl Event {
     }
 
     /// A number of its kind, its ring or mark, and what else it tells.
+    #[inline(always)]
     fn key(&self) -> u64 {
         match self {
             Event::Granted(ring, count) => key(0, ring_number(*ring), u64::from(*count)),
@@ -163,12 +167,19 @@ fn is_mark(mark: Mark, other: Mark) -> bool
 }
 
 fn ring_number(ring: Ring) -> u64 {
-    match ring {
-        Ring::Fill(pair) => 4 * u64::from(pair),
-        Ring::Comp(pair) => 4 * u64::from(pair) + 1,
-        Ring::Rx(socket) => 4 * u64::from(socket) + 2,
-        Ring::Tx(socket) => 4 * u64::from(socket) + 3,
-    }
+    let kind = match ring {
+        Ring::Fill(_) => 0,
+        Ring::Comp(_) => 1,
+        Ring::Rx(_) => 2,
+        Ring::Tx(_) => 3,
+    };
+    let number = match ring {
+        Ring::Fill(pair) => pair,
+        Ring::Comp(pair) => pair,
+        Ring::Rx(socket) => socket,
+        Ring::Tx(socket) => socket,
+    };
+    4 * u64::from(number) + kind
 }
 
 fn mark_number(mark: Mark) -> u64 {
@@ -336,6 +347,7 @@ impl Log {
     }
 
     /// Ends the entry that is being made, with the items that were noted for it.
+    #[inline(always)]
     pub(crate) fn enter(&mut self, who: u32, event: Event)
         requires spare { 1 ≤ self.old.spare_entries }
         requires few { length self.old.pieces.items ≤ self.old.begun + most_items }

@@ -1,4 +1,4 @@
-use Rattle.std.proofs.Common.{◌≡◌, ◌+◌, ◌-◌, length, rules, refl, arith, ◌∙◌}
+use Rattle.std.proofs.Common.{◌-◌, rules, refl}
 use Rattle.xsk_plain.specs.declared.log.Row.{Row}
 use Rattle.xsk_plain.proofs.Parts.{entries-enter}
 use Rattle.xsk_plain.proofs.Places.{one_more}

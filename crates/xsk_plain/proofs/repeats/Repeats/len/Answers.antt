@@ -1,5 +1,4 @@
 use Rattle.std.proofs.Common.{length, sym, ap, rules, ◌≡◌, ◌∙◌}
-use Rattle.xsk_plain.specs.Repeats.{Repeats}
 use Rattle.xsk_plain.proofs.Places.{length-values}
 use Rattle.xsk_plain.proofs.repeats.Repeats.len.Goals as goal
 

@@ -1,6 +1,5 @@
-use Rattle.std.proofs.Common.{◌∷◌, [], ◌++◌, ap, rules, ◌∙◌}
-use Rattle.xsk_plain.specs.Repeats.{Repeats}
-use Rattle.xsk_plain.proofs.Places.{values-push, below-push}
+use Rattle.std.proofs.Common.{◌∷◌, [], ◌++◌, ap, ◌∙◌}
+use Rattle.xsk_plain.proofs.Places.{values-push}
 use Rattle.xsk_plain.proofs.repeats.Repeats.push_reserved.Goals as goal
 
 pub returns-clause-items : goal.returns-clause-items

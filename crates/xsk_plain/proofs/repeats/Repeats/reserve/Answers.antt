@@ -1,4 +1,4 @@
-use Rattle.std.proofs.Common.{◌≡◌, ◌+◌, ◌<◌, ◌≤◌, length, arith, rules, ◌∙◌}
+use Rattle.std.proofs.Common.{◌≡◌, length, rules}
 use Rattle.xsk_plain.specs.Repeats.{values_at}
 use Rattle.xsk_plain.proofs.Places.{length-values}
 use Rattle.xsk_plain.proofs.repeats.Repeats.reserve.Goals as goal
