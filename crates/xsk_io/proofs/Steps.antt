@@ -1,10 +1,13 @@
 -- One call of a bay after another.
-use Rattle.std.proofs.Common.{◌≡◌, ℕ, ◌+◌, ◌≤◌, inl, inr, List, ◌++◌, Option, Some, None, take, drop, sym, ◌∙◌, ap, append_assoc, arith}
+use Rattle.std.proofs.Common.{◌≡◌, ℕ, ◌+◌, ◌-◌, ◌<◌, ◌≤◌, cond, inl, inr, refl, List, [], ◌∷◌, ◌++◌, Option, Some, None, take, drop, sym, ◌∙◌, ap, append_assoc, append-nil, Result, Ok, Err, arith}
 use Rattle.std.proofs.Math.Seq.{take-add}
+use Rattle.std.proofs.lemmas.Bool.{ne_eqb}
 use Rattle.std.specs.Io.KnownBytes.{prepend_known}
 use Rattle.xsk_io.specs.declared.bay.Stream.{Stream}
 use Rattle.xsk_io.specs.declared.bay.Kind.{Kind}
-use Rattle.xsk_io.specs.Bay.{Same, SameBut, Grows, Rose, CountsOnly}
+use Rattle.xsk_io.specs.declared.bay.BayFailed.{BayFailed}
+use Rattle.xsk_io.specs.declared.bay.Offer.{Offer}
+use Rattle.xsk_io.specs.Bay.{Same, SameBut, Adds, AddsNoneBut, AreRests, IsOffered, left_by, offer_of, Grows, Rose, CountsOnly}
 
 pub Same-then : {A : Type 0} (f g h : Stream → A) → Same f g → Same g h → Same f h
 Same-then f g h first second stream = second stream ∙ first stream
@@ -41,3 +44,62 @@ pub prepend_known-then : (first second third : Option (List ℕ)) (xs ys : List 
     → first ≡ prepend_known xs second → second ≡ prepend_known ys third → first ≡ prepend_known (xs ++ ys) third
 prepend_known-then first second None xs ys e d = e ∙ ap (prepend_known xs) d
 prepend_known-then first second (Some bytes) xs ys e d = e ∙ ap (prepend_known xs) d ∙ ap Some (sym (append_assoc xs ys bytes))
+
+-- ---- writes
+
+-- what is still to be offered after all of them
+abbrev pub left_by_all : ℕ → List Offer → ℕ
+left_by_all n [] = n
+left_by_all n (offer ∷ offers) = left_by_all (left_by n offer) offers
+
+pub left_by_all-push : (n : ℕ) (offers : List Offer) (offer : Offer) → left_by_all n (offers ++ offer ∷ []) ≡ left_by (left_by_all n offers) offer
+left_by_all-push n [] offer = refl
+left_by_all-push n (first ∷ offers) offer = left_by_all-push (left_by n first) offers offer
+
+pub AreRests-push : (n : ℕ) (offers : List Offer) (offer : Offer) → AreRests n offers → 0 < left_by_all n offers → offer.len ≡ left_by_all n offers → AreRests n (offers ++ offer ∷ [])
+AreRests-push n [] offer are some is = (some, is, tt)
+AreRests-push n (first ∷ offers) offer are some is = (are.0, are.1, AreRests-push (left_by n first) offers offer are.2 some is)
+
+pub Adds-then : (first second third : Option (List Offer)) (xs ys : List Offer) → Adds first second xs → Adds second third ys → Adds first third (xs ++ ys)
+Adds-then first second third xs ys g (inl lost) = inl lost
+Adds-then first second third xs ys (inl lost) (inr more) = inl (rw (more, lost))
+Adds-then None second third xs ys (inr grown) (inr more) = inl (rw (more, grown))
+Adds-then (Some before) second third xs ys (inr grown) (inr more) = inr (rw (more, grown, append_assoc))
+
+-- no writes
+pub Adds-none : (old : Option (List Offer)) → Adds old old []
+Adds-none None = inl refl
+Adds-none (Some before) = inr (ap Some (sym (append-nil before)))
+
+pub AddsNoneBut-then : (one : Stream) (f g h : Stream → Option (List Offer)) → AddsNoneBut one f g → AddsNoneBut one g h → AddsNoneBut one f h
+AddsNoneBut-then one f g h first second stream other = Adds-then (f stream) (g stream) (h stream) [] [] (first stream other) (second stream other)
+
+-- the writes of a text so far, of which so many bytes were taken
+abbrev pub AreOffered : Option (List Offer) → Option (List Offer) → ℕ → ℕ → Type 0
+AreOffered old new n at = (offers : List Offer) × Adds old new offers × AreRests n offers × (left_by_all n offers ≡ n - at)
+
+pub offered_none : (old : Option (List Offer)) (n : ℕ) → AreOffered old old n 0
+offered_none old n = ([], Adds-none old, tt, omega arith)
+
+-- and one more, of the rest, that failed or took a part
+module _ (first second third : Option (List Offer)) (stream : Stream) (n at len : ℕ) (result : Result ℕ BayFailed) (are : AreOffered first second n at) (more : at < n) (is : len ≡ n - at)
+    (adds : Adds second third (offer_of stream len result ∷ [])) where
+  offer_len : (outcome : Result ℕ BayFailed) → (offer_of stream len outcome).len ≡ len
+  offer_len (Ok count) = refl
+  offer_len (Err failed) = refl
+
+  pub offered_next : IsOffered first third n
+  offered_next = (
+    are.0 ++ offer_of stream len result ∷ [],
+    Adds-then first second third are.0 (offer_of stream len result ∷ []) are.1 adds,
+    AreRests-push n are.0 (offer_of stream len result) are.2 (omega (arith, more, are.3)) (offer_len result ∙ is ∙ sym are.3),
+  )
+
+  pub offered_part : (count : ℕ) → result ≡ Ok count → 0 < count → AreOffered first third n (at + count)
+  unfolding offered_next
+  offered_part count outcome some =
+      let taken : (offer_of stream len result).taken ≡ count = ap (λ r. (offer_of stream len r).taken) outcome in
+      let left = left_by_all n are.0 in
+      let rest : left_by left (offer_of stream len result) ≡ left - (offer_of stream len result).taken = ap (λ b. cond b 0 (left - (offer_of stream len result).taken)) (ne_eqb (offer_of stream len result).taken 0 (λ e. omega (arith, e, taken, some))) in
+      let all : left_by_all n offered_next.0 ≡ left_by left (offer_of stream len result) = left_by_all-push n are.0 (offer_of stream len result) in
+      (offered_next.0, offered_next.1, offered_next.2, omega (arith, all ∙ rest, taken, are.3))

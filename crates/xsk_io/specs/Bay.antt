@@ -1,9 +1,11 @@
 -- What a call of a bay does to its streams. This project's own.
-use Rattle.std.specs.Prelude.{◌≡◌, ◌≢◌, ℕ, ◌-◌, ◌^◌, ◌<◌, ◌⊎◌, Bool, true, List, Option, None, length, take}
+use Rattle.std.specs.Prelude.{◌≡◌, ◌≢◌, ℕ, ◌-◌, ◌^◌, ◌<◌, ◌⊎◌, ◌==◌, Bool, true, List, [], ◌∷◌, ◌++◌, Option, None, Result, Ok, Err, length, take, option_map, if◌then◌else◌}
 use Rattle.std.specs.Io.KnownBytes.{append_known, prepend_known}
 use Rattle.xsk_io.specs.declared.bay.Stream.{Stream}
 use Rattle.xsk_io.specs.declared.bay.Stream.TheVariants.{Input, Output, Report}
 use Rattle.xsk_io.specs.declared.bay.Kind.{Kind}
+use Rattle.xsk_io.specs.declared.bay.Offer.{Offer}
+use Rattle.xsk_io.specs.declared.bay.BayFailed.{BayFailed}
 
 -- inputs and outputs are numbered below four
 abbrev pub HasNumber : Stream → Type 0
@@ -50,3 +52,31 @@ GrowsByPart old new bytes = (count : ℕ) × (count < length bytes) × Grows old
 -- what is left of an input has lost some bytes from its front, or none
 abbrev pub LosesFront : Option (List ℕ) → Option (List ℕ) → Type 0
 LosesFront old new = (bytes : List ℕ) × (old ≡ prepend_known bytes new)
+
+-- ---- writes
+
+-- a write of so many bytes to a stream, and how many of them were taken
+abbrev pub offer_of : Stream → ℕ → Result ℕ BayFailed → Offer
+offer_of stream len (Ok count) = record { stream = stream; len = len; taken = count }
+offer_of stream len (Err failed) = record { stream = stream; len = len; taken = 0 }
+
+-- after the writes of a stream come these, or they are told no longer
+abbrev pub Adds : Option (List Offer) → Option (List Offer) → List Offer → Type 0
+Adds old new offers = (new ≡ None) ⊎ (new ≡ option_map (λ before. before ++ offers) old)
+
+-- after the writes of each stream but this one come none
+abbrev pub AddsNoneBut : Stream → (Stream → Option (List Offer)) → (Stream → Option (List Offer)) → Type 0
+AddsNoneBut one old new = (stream : Stream) → stream ≢ one → Adds (old stream) (new stream) []
+
+-- what is still to be offered of so many bytes after a write of them all: what it didn't take, and nothing where it failed
+abbrev pub left_by : ℕ → Offer → ℕ
+left_by n offer = if offer.taken == 0 then 0 else n - offer.taken
+
+-- so many bytes are offered as one piece, and after each write that took a part of them the rest
+abbrev pub AreRests : ℕ → List Offer → Type 0
+AreRests n [] = Unit {0}
+AreRests n (offer ∷ offers) = (0 < n) × (offer.len ≡ n) × AreRests (left_by n offer) offers
+
+-- and so it was with the writes of a stream between two moments
+abbrev pub IsOffered : Option (List Offer) → Option (List Offer) → ℕ → Type 0
+IsOffered old new n = (offers : List Offer) × Adds old new offers × AreRests n offers

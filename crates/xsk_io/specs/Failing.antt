@@ -1,8 +1,9 @@
 -- Streams in memory of which stated calls fail. This project's own.
-use Rattle.std.specs.Prelude.{ℕ, ◌+◌, ◌-◌, ◌^◌, ◌==◌, Bool, false, List, Option, None, Some, min, slice_index_or, slice_set, if◌then◌else◌}
+use Rattle.std.specs.Prelude.{ℕ, ◌+◌, ◌-◌, ◌^◌, ◌==◌, Bool, true, false, nat_lt, List, [], ◌∷◌, ◌++◌, Option, None, Some, length, min, option_and_then, slice_index_or, slice_set, if◌then◌else◌}
 use Rattle.std.specs.List.{list_any}
 use Rattle.xsk_io.specs.declared.bay.Stream.{Stream}
 use Rattle.xsk_io.specs.declared.bay.Stream.TheVariants.{Input, Output, Report}
+use Rattle.xsk_io.specs.declared.bay.Offer.{Offer}
 use Rattle.xsk_io.specs.declared.bay.Kind.{Kind}
 use Rattle.xsk_io.specs.declared.bay.Kind.TheVariants.{Open, Read, Write}
 use Rattle.xsk_io.specs.declared.failing.Fail.{Fail}
@@ -18,7 +19,8 @@ pub record Calls : Type 0 where
 abbrev pub no_calls : Calls
 no_calls = record { made = 0; faults = no_counts }
 
--- which calls are to fail, and how many bytes a write takes at most, where that is limited
+-- which calls are to fail, how many bytes a write takes at most, where that is limited, and the writes so far, where they are
+-- told
 pub record FailingState : Type 0 where
   pub memory : MemoryState
   pub fails : List Fail
@@ -26,6 +28,7 @@ pub record FailingState : Type 0 where
   pub reads : Calls
   pub writes : Calls
   pub most : Option ℕ
+  pub offers : Option (List Offer)
 
 abbrev pub new_failing : List (List ℕ) → ℕ → List Fail → FailingState
 new_failing inputs room fails = record {
@@ -35,6 +38,7 @@ new_failing inputs room fails = record {
   reads = no_calls;
   writes = no_calls;
   most = None;
+  offers = Some [];
 }
 
 abbrev pub calls_of : FailingState → Kind → Calls
@@ -98,3 +102,17 @@ opened bay stream name = record (begun bay Open stream) {
 abbrev pub taken_of : Option ℕ → ℕ → ℕ
 taken_of None len = len
 taken_of (Some most) len = min most len
+
+-- at most 1,024 writes are told
+abbrev pub noted : Option (List Offer) → Offer → Option (List Offer)
+noted offers offer = option_and_then (λ before. if nat_lt (length before) 1024 then Some (before ++ offer ∷ []) else None) offers
+
+abbrev pub is_stream : Stream → Stream → Bool
+is_stream (Input n) (Input m) = n == m
+is_stream (Output n) (Output m) = n == m
+is_stream Report Report = true
+is_stream _ _ = false
+
+-- the write was to this stream
+abbrev pub is_to : Stream → Offer → Bool
+is_to stream offer = is_stream stream offer.stream

@@ -1,9 +1,10 @@
 //! What a bay promises of its streams.
-ghost use Rattle.std.specs.Prelude.{◌≡◌, ◌≢◌, ℕ, ◌<◌, ◌≤◌, Bool, false, true, List, [], Option, is_ok, length, take, IfOk, IfSome, OnErr, OnOk};
+ghost use Rattle.std.specs.Prelude.{◌≡◌, ◌≢◌, ℕ, ◌<◌, ◌≤◌, Bool, false, true, List, [], ◌∷◌, Option, is_ok, length, take, IfOk, IfSome, OnErr, OnOk};
 ghost use Rattle.std.specs.Io.KnownBytes.{prepend_known, IsAtEnd};
 ghost use Rattle.xsk_io.specs.declared.bay.Stream.{Stream};
 ghost use Rattle.xsk_io.specs.declared.bay.Kind.{Kind};
-ghost use Rattle.xsk_io.specs.Bay.{HasNumber, IsInput, TakesWrites, Same, SameBut, Grows, Rose, CountsOnly};
+ghost use Rattle.xsk_io.specs.declared.bay.Offer.{Offer as AnOffer};
+ghost use Rattle.xsk_io.specs.Bay.{HasNumber, IsInput, TakesWrites, Same, SameBut, Grows, Adds, AddsNoneBut, offer_of, Rose, CountsOnly};
 
 use std::error::Error;
 use std::fmt;
@@ -24,6 +25,15 @@ pub enum Kind {
     Write,
 }
 
+/// A write that was made: how many bytes it offered to a stream, and how many of them were taken, which are none where it
+/// failed.
+#[derive(Clone, Copy, Debug, PartialEq, Eq)]
+pub struct Offer {
+    pub stream: Stream,
+    pub len: usize,
+    pub taken: usize,
+}
+
 /// A call failed, and a count of faults rose.
 #[derive(Clone, Copy, Debug, PartialEq, Eq)]
 pub struct BayFailed;
@@ -38,7 +48,7 @@ impl Error for BayFailed {}
 
 /// Streams that are opened once and never closed.
 ///
-/// A bay tells what it knows of its streams' names and bytes: files tell nothing, memory tells what it
+/// A bay tells what it knows of its streams' names, bytes and writes: files tell nothing, memory tells what it
 /// keeps. What a bay tells is true.
 pub trait Bay {
     // Whether a stream is open. The report needs no opening.
@@ -52,6 +62,9 @@ pub trait Bay {
 
     // The bytes that an output or the report holds, where the bay tells that.
     ghost held: { Self → Stream → Option (List ℕ) };
+
+    // The writes that were made to a stream, in order, where the bay tells that.
+    ghost offers: { Self → Stream → Option (List AnOffer) };
 
     // How many calls of a kind have failed on a stream. A count that stands at 2^64 - 1 stays there.
     ghost faults: { Self → Kind → Stream → ℕ };
@@ -72,6 +85,7 @@ pub trait Bay {
         ensures failed { OnErr result (held self.new stream ≡ held self.old stream) }
         ensures held_others { SameBut stream (held self.old) (held self.new) }
         ensures left { Same (left self.old) (left self.new) }
+        ensures offers { Same (offers self.old) (offers self.new) }
 
         ensures cause { OnErr result
             (Rose (faults self.old Kind.Open stream) (faults self.new Kind.Open stream)) }
@@ -98,6 +112,7 @@ pub trait Bay {
         ensures opened { Same (is_open self.old) (is_open self.new) }
         ensures names { Same (asked self.old) (asked self.new) }
         ensures held { Same (held self.old) (held self.new) }
+        ensures offers { Same (offers self.old) (offers self.new) }
 
         ensures cause { OnErr result
             (Rose (faults self.old Kind.Read stream) (faults self.new Kind.Read stream)) }
@@ -117,6 +132,10 @@ pub trait Bay {
             (λ count. Grows (held self.old stream) (held self.new stream) (take count piece.now)) }
         ensures failed { OnErr result (held self.new stream ≡ held self.old stream) }
         ensures held_others { SameBut stream (held self.old) (held self.new) }
+
+        // The call is noted, whether or not it succeeded.
+        ensures offered { Adds (offers self.old stream) (offers self.new stream) (offer_of stream (length piece.now) result ∷ []) }
+        ensures other_offers { AddsNoneBut stream (offers self.old) (offers self.new) }
 
         ensures opened { Same (is_open self.old) (is_open self.new) }
         ensures names { Same (asked self.old) (asked self.new) }

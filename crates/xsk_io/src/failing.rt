@@ -1,18 +1,18 @@
 //! The bay in memory of which stated calls fail.
-ghost use Rattle.std.specs.Prelude.{◌≡◌, ◌≢◌, ℕ, ◌<◌, ◌≤◌, Some, map, min, not, is_ok, length, take, IfOk, IfErr, IfSome, OnErr, OnOk};
+ghost use Rattle.std.specs.Prelude.{◌≡◌, ◌≢◌, ℕ, ◌<◌, ◌≤◌, Some, [], map, min, not, is_ok, filter, length, take, IfOk, IfErr, IfSome, OnErr, OnOk};
 ghost use Rattle.std.specs.Option.{option_map};
 ghost use Rattle.std.specs.List.{list_any};
 ghost use Rattle.xsk_io.specs.declared.bay.Stream.{Stream};
 ghost use Rattle.xsk_io.specs.declared.bay.Kind.{Kind};
-ghost use Rattle.xsk_io.specs.Bay.{HasNumber, IsInput, TakesWrites, SameBut, Rose, CountsOnly};
+ghost use Rattle.xsk_io.specs.Bay.{HasNumber, IsInput, TakesWrites, SameBut, Rose, CountsOnly, offer_of};
 ghost use Rattle.xsk_io.specs.Memory.{HasStreams, is_open_of, asked_of, left_of, held_of, after_read, after_write};
 ghost use Rattle.xsk_io.specs.Files.{count_of};
-ghost use Rattle.xsk_io.specs.Failing.{FailingState, Calls as CallsSo, no_calls, new_failing, faults_of, is_fail, is_next_failing, one_more, counted, begun, opened, taken_of};
+ghost use Rattle.xsk_io.specs.Failing.{FailingState, Calls as CallsSo, no_calls, new_failing, faults_of, is_fail, is_next_failing, one_more, counted, begun, opened, taken_of, noted, is_to};
 
 use crate::counts::Counts;
 use crate::memory::Memory;
-use crate::{Bay, BayFailed, Kind, Stream};
-use std::alloc::Global;
+use crate::{Bay, BayFailed, Kind, Offer, Stream};
+use std::alloc::{AllocError, Global};
 use std::marker::Model;
 
 /// A call that is to fail: the kind, and the number among the calls of that kind on all streams, counted from 1.
@@ -86,10 +86,62 @@ impl Calls {
     }
 }
 
+/// How many writes are told.
+const MOST_OFFERS: usize = 1_024;
+
+/// The writes to all streams, told until there are too many.
+#[derive(Drop)]
+struct Offers {
+    offers: Vec<Offer>,
+    is_told: bool,
+}
+
+impl Model for Offers {
+    ghost use Rattle.std.specs.Prelude.{◌≤◌, List, Option, Some, None, if◌then◌else◌, vec_len, vec_capacity};
+    ghost use Rattle.xsk_io.specs.declared.bay.Offer.{Offer as AnOffer};
+
+    ghost Value = { Option (List AnOffer) };
+
+    ghost view = { λ o. if o.is_told then Some o.offers.items else None };
+
+    ghost invariant = { λ o. (vec_len o.offers ≤ 1024) × (1024 ≤ vec_capacity o.offers) };
+}
+
+impl Offers {
+    fn new(alloc: Global) -> Result<Offers, AllocError>
+        ensures { IfOk result (λ offers. offers ≡ Some []) }
+    {
+        Ok(Offers {
+            offers: Vec::with_capacity(alloc, MOST_OFFERS)?,
+            is_told: true,
+        })
+    }
+
+    fn note(&mut self, offer: Offer)
+        ensures { self.new ≡ noted self.old offer }
+    {
+        if self.is_told && self.offers.len() < MOST_OFFERS {
+            self.offers.push_reserved(offer);
+        } else {
+            self.is_told = false;
+        }
+    }
+
+    fn told(&self) -> Option<&[Offer]>
+        ensures { option_map (λ offers. offers.now) result ≡ self.now }
+    {
+        if self.is_told {
+            Some(self.offers.as_slice())
+        } else {
+            None
+        }
+    }
+}
+
 /// A bay in memory of which stated calls fail: given inputs, and outputs and a report with a room of their own.
 ///
-/// It tells everything but a name of more than 256 bytes, and an output or a report to which a write
-/// beyond its room came.
+/// It tells everything but a name of more than 256 bytes, an output or a report to which a write
+/// beyond its room came, and its writes where there were more than 1,024.
 #[derive(Drop)]
 pub struct MemoryBay {
     memory: Memory,
@@ -98,6 +150,7 @@ pub struct MemoryBay {
     reads: Calls,
     writes: Calls,
     most: Option<u32>,
+    offers: Offers,
 }
 
 impl Model for MemoryBay {
@@ -113,6 +166,7 @@ impl Model for MemoryBay {
       reads = bay.reads;
       writes = bay.writes;
       most = bay.most;
+      offers = bay.offers;
     } };
 
     ghost invariant = { λ bay. IfSome bay.most (λ n. 1 ≤ n) };
@@ -131,6 +185,9 @@ impl MemoryBay {
             bay ≡ new_failing (map (λ bytes. bytes.items) inputs.items) room fails.items) }
         ensures back { IfErr result (λ back. back.items ≡ inputs.items) }
     {
+        let Ok(offers) = Offers::new(alloc) else {
+            return Err(inputs);
+        };
         Ok(MemoryBay {
             memory: Memory::new(alloc, inputs, room as usize)?,
             fails,
@@ -138,6 +195,7 @@ impl MemoryBay {
             reads: Calls::new(),
             writes: Calls::new(),
             most: None,
+            offers,
         })
     }
 
@@ -154,6 +212,13 @@ impl MemoryBay {
         ensures { option_map (λ bytes. bytes.now) result ≡ held_of self.now.memory stream }
     {
         self.memory.told(stream)
+    }
+
+    /// The writes that were made to all streams, in order. None where there were more than 1,024.
+    pub fn offers(&self) -> Option<&[Offer]>
+        ensures { option_map (λ offers. offers.now) result ≡ self.now.offers }
+    {
+        self.offers.told()
     }
 
     /// Whether the call of a kind with this number is to fail.
@@ -198,6 +263,8 @@ impl Bay for MemoryBay {
     ghost left = { λ bay. left_of bay.memory };
 
     ghost held = { λ bay. held_of bay.memory };
+
+    ghost offers = { λ bay stream. option_map (filter (is_to stream)) bay.offers };
 
     ghost faults = { faults_of };
 
@@ -244,20 +311,38 @@ impl Bay for MemoryBay {
         ensures outcome { is_ok result ≡ not (is_next_failing self.old Kind.Write) }
         ensures taken { IfOk result (λ count. count ≡ taken_of self.old.most (length piece.now)) }
         ensures streams { OnOk result (HasStreams self.old.memory) }
-        ensures after { IfOk result (λ count. self.new ≡ record (begun self.old Kind.Write stream) { memory = after_write self.old.memory stream (take count piece.now) }) }
-        ensures failed { IfErr result (λ error. self.new ≡ begun self.old Kind.Write stream) }
+        ensures offers { self.new.offers ≡ noted self.old.offers (offer_of stream (length piece.now) result) }
+        ensures after { IfOk result (λ count. self.new ≡ record (begun self.old Kind.Write stream) {
+          memory = after_write self.old.memory stream (take count piece.now);
+          offers = noted self.old.offers (offer_of stream (length piece.now) result);
+        }) }
+        ensures failed { IfErr result (λ error. self.new ≡ record (begun self.old Kind.Write stream) {
+          offers = noted self.old.offers (offer_of stream (length piece.now) result);
+        }) }
         ensures bound { IfOk result (λ count. count ≤ length piece.now) }
         ensures some { IfOk result (λ count. 0 < length piece.now → 0 < count) }
         ensures rose { OnErr result (Rose (faults_of self.old Kind.Write stream) (faults_of self.new Kind.Write stream)) }
         ensures never_falls { faults_of self.old Kind.Write stream ≤ faults_of self.new Kind.Write stream }
         ensures counts { CountsOnly Kind.Write stream (faults_of self.old) (faults_of self.new) }
     {
-        self.begin(Kind::Write, stream)?;
+        if let Err(failed) = self.begin(Kind::Write, stream) {
+            self.offers.note(Offer {
+                stream,
+                len: piece.len(),
+                taken: 0,
+            });
+            return Err(failed);
+        }
         let count = match self.most {
             Some(most) => piece.len().min(most as usize),
             None => piece.len(),
         };
         self.memory.write(stream, &piece[..count]);
+        self.offers.note(Offer {
+            stream,
+            len: piece.len(),
+            taken: count,
+        });
         Ok(count)
     }
 }

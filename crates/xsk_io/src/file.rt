@@ -207,6 +207,8 @@ impl<R: Files + Print + Drop> Bay for FileBay<R> {
 
     ghost held = { λ bay stream. None };
 
+    ghost offers = { λ bay stream. None };
+
     ghost faults = { file_faults };
 
     fn open(&mut self, stream: Stream, name: &str) -> Result<(), BayFailed> {

@@ -14,7 +14,7 @@ mod memory;
 mod steady;
 mod whole;
 
-pub use bay::{Bay, BayFailed, Kind, Stream};
+pub use bay::{Bay, BayFailed, Kind, Offer, Stream};
 pub use failing::{Fail, MemoryBay};
 pub use file::FileBay;
 pub use gate::{Gate, HoldGate, Open, PairGate};

@@ -1,5 +1,5 @@
 //! The bay in memory that never fails.
-ghost use Rattle.std.specs.Prelude.{◌≡◌, ◌≢◌, ℕ, ◌<◌, ◌⊎◌, false, true, map, min, length, take, IfOk, IfErr, IfSome};
+ghost use Rattle.std.specs.Prelude.{◌≡◌, ◌≢◌, ℕ, ◌<◌, ◌⊎◌, false, true, None, map, min, length, take, IfOk, IfErr, IfSome};
 ghost use Rattle.std.specs.Option.{option_map};
 ghost use Rattle.xsk_io.specs.declared.bay.Stream.{Stream};
 ghost use Rattle.xsk_io.specs.Bay.{HasNumber, IsInput, TakesWrites};
@@ -12,7 +12,7 @@ use std::marker::Model;
 
 /// A bay in memory that never fails: given inputs, and outputs and a report with a room of their own.
 ///
-/// It tells everything but a name of more than 256 bytes, and an output or a report to which a write
+/// It tells everything but its writes, a name of more than 256 bytes, and an output or a report to which a write
 /// beyond its room came.
 #[derive(Drop)]
 pub struct SteadyBay {
@@ -57,6 +57,8 @@ impl Bay for SteadyBay {
     ghost left = { left_of };
 
     ghost held = { held_of };
+
+    ghost offers = { λ bay stream. None };
 
     ghost faults = { λ bay kind stream. 0 };
 

@@ -150,3 +150,38 @@ fn calls_fail_by_their_numbers(rt: HostRuntime) -> Result<(), TestFail> {
     }
     Ok(())
 }
+
+#[test]
+fn a_text_is_offered_as_one_piece_and_then_its_rest(rt: HostRuntime) -> Result<(), TestFail> {
+    let alloc = rt.alloc();
+    let mut bay = MemoryBay::new(alloc, Vec::new(alloc), 100, [Fail::Write(4)].to_vec(alloc)?)?;
+    bay.take_at_most(3);
+    write_whole(&mut bay, Stream::Report, b"abcdefg".as_slice())?;
+    assert!(rt; write_whole(&mut bay, Stream::Report, b"hi".as_slice()).is_err());
+    let stream = Stream::Report;
+    let made = bay.offers().ok_or("the writes aren't told")?;
+    let expected = [
+        Offer {
+            stream,
+            len: 7,
+            taken: 3,
+        },
+        Offer {
+            stream,
+            len: 4,
+            taken: 3,
+        },
+        Offer {
+            stream,
+            len: 1,
+            taken: 1,
+        },
+        Offer {
+            stream,
+            len: 2,
+            taken: 0,
+        },
+    ];
+    assert_eq!(rt; made, expected.as_slice());
+    Ok(())
+}

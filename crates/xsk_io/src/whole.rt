@@ -3,7 +3,7 @@ ghost use Rattle.std.specs.Prelude.{◌≡◌, ◌<◌, ◌≤◌, ◌⊎◌, tr
 ghost use Rattle.std.specs.Io.KnownBytes.{IsAtEnd};
 ghost use Rattle.xsk_io.specs.declared.bay.Kind.{Kind};
 ghost use Rattle.xsk_io.specs.declared.whole.ReadError.TheVariants.{Fault, OutOfMemory};
-ghost use Rattle.xsk_io.specs.Bay.{HasNumber, IsInput, LosesFront, TakesWrites, Same, SameBut, Grows, GrowsByPart, Rose, CountsOnly};
+ghost use Rattle.xsk_io.specs.Bay.{HasNumber, IsInput, LosesFront, TakesWrites, Same, SameBut, Grows, GrowsByPart, AddsNoneBut, IsOffered, Rose, CountsOnly};
 
 use crate::{Bay, BayFailed, Stream};
 use std::alloc::{AllocError, Global};
@@ -71,6 +71,7 @@ pub fn read_whole<B: Bay>(
     ensures opened { Same (B.is_open bay.old) (B.is_open bay.new) }
     ensures names { Same (B.asked bay.old) (B.asked bay.new) }
     ensures held { Same (B.held bay.old) (B.held bay.new) }
+    ensures offers { Same (B.offers bay.old) (B.offers bay.new) }
 
     ensures cause { IsErrOf result ReadError.Fault →
         Rose (B.faults bay.old Kind.Read stream) (B.faults bay.new Kind.Read stream) }
@@ -107,6 +108,8 @@ pub fn write_whole<B: Bay>(bay: &mut B, stream: Stream, text: &[u8]) -> Result<(
     ensures part { OnErr result
         (GrowsByPart (B.held bay.old stream) (B.held bay.new stream) text.now) }
     ensures held_others { SameBut stream (B.held bay.old) (B.held bay.new) }
+    ensures offered { IsOffered (B.offers bay.old stream) (B.offers bay.new stream) (length text.now) }
+    ensures other_offers { AddsNoneBut stream (B.offers bay.old) (B.offers bay.new) }
 
     ensures opened { Same (B.is_open bay.old) (B.is_open bay.new) }
     ensures names { Same (B.asked bay.old) (B.asked bay.new) }

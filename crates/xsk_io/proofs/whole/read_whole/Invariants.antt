@@ -12,6 +12,7 @@ invariant-loop-stream g l =
     × Same (g.B.Bay.is_open l.initial.bay) (g.B.Bay.is_open l.bay)
     × Same (g.B.Bay.asked l.initial.bay) (g.B.Bay.asked l.bay)
     × Same (g.B.Bay.held l.initial.bay) (g.B.Bay.held l.bay)
+    × Same (g.B.Bay.offers l.initial.bay) (g.B.Bay.offers l.bay)
     × (g.B.Bay.faults l.bay Read l.stream ≡ g.B.Bay.faults l.initial.bay Read l.stream)
     × CountsOnly Read l.stream (g.B.Bay.faults l.initial.bay) (g.B.Bay.faults l.bay)
 

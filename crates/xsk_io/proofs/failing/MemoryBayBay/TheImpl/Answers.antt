@@ -1,4 +1,5 @@
 use Rattle.std.proofs.Common.{length, rules}
+use Rattle.xsk_io.proofs.Writes.{seen_there, unseen_elsewhere, offer_stream}
 use Rattle.xsk_io.proofs.MemoryReads.{bytes_come, none_at_end_of}
 use Rattle.xsk_io.proofs.failing.MemoryBayBay.TheImpl.Goals as goal
 
@@ -12,6 +13,25 @@ read-tells c = record {
   opened = search rules;
   names = search rules;
   held = search rules;
+  offers = search rules;
+  cause = search rules;
+  no_fault = search rules;
+  never_falls = search rules;
+  counts = search rules;
+}
+
+pub write-tells : goal.write-tells
+write-tells c = record {
+  bound = search rules;
+  some = search rules;
+  bytes = search rules;
+  failed = search rules;
+  held_others = search rules;
+  offered = seen_there c.args.self.now.offers c.new.self.now.offers _ c.args.stream c.ensures.offers (offer_stream c.args.stream (length c.args.piece.now) c.result);
+  other_offers = unseen_elsewhere c.args.self.now.offers c.new.self.now.offers _ c.args.stream c.ensures.offers (offer_stream c.args.stream (length c.args.piece.now) c.result);
+  opened = search rules;
+  names = search rules;
+  left = search rules;
   cause = search rules;
   no_fault = search rules;
   never_falls = search rules;

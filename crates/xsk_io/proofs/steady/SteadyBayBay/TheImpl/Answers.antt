@@ -12,6 +12,7 @@ read-tells c = record {
   opened = search rules;
   names = search rules;
   held = search rules;
+  offers = search rules;
   cause = search rules;
   no_fault = search rules;
   never_falls = search rules;
