@@ -4,13 +4,14 @@ use Rattle.std.specs.Prelude.{Result, Err, unwrap_or}
 use Rattle.std.proofs.lemmas.Option.{same_Some}
 use Rattle.xsk_io.specs.declared.bay.Stream.{Stream}
 use Rattle.xsk_io.specs.declared.bay.Stream.TheVariants.{Report}
+use Rattle.xsk_io.proofs.Steps.{Adds-none}
 use Rattle.xsk_socket.specs.declared.layout.Unlawful.{Unlawful}
 use Rattle.xsk_cli.specs.Cause.{IsCaused, NeverFalls}
 use Rattle.xsk_cli.specs.Ends.{Ends}
 use Rattle.xsk_cli.specs.Steps.{Comes, args_status}
 use Rattle.xsk_args.specs.declared.error.ArgsError.{ArgsError}
 use Rattle.xsk_args.specs.declared.error.ArgsError.TheVariants.{Usage as IsUsage, OutOfMemory as ArgsMemory}
-use Rattle.xsk_cli.specs.Streams.{Moment, HasLine, IsAtOnce, status_in}
+use Rattle.xsk_cli.specs.Streams.{Moment, HasLine, IsAtOnce, IsSilent, status_in}
 use Rattle.xsk_cli.specs.Words.{Plan, fault_in, no_plan}
 use Rattle.xsk_cli.specs.declared.status.Status.{Status}
 use Rattle.xsk_cli.specs.declared.status.Status.TheVariants.{Usage, Refused, OutOfMemory}
@@ -23,7 +24,7 @@ module _ (planned : Option Plan) (old : Moment) (closed : (stream : Stream) → 
     unplanned = λ _. inl refl;
     refused = λ plan unlawful is fault. let no = sym is ∙ none in absurd cc;
     ends = usage_ends (unwrap_or planned no_plan) old closed;
-    silent = λ _. refl;
+    silent = λ _. (refl, Adds-none (old.offers Report));
     cause = tt;
     falls = λ kind stream. omega arith;
     uncounted = λ _ kind stream. refl;
@@ -35,7 +36,7 @@ module _ (planned : Option Plan) (old : Moment) (closed : (stream : Stream) → 
     unplanned = λ _. inr refl;
     refused = λ plan unlawful is fault. inr refl;
     ends = ends_at_once (unwrap_or planned no_plan) old closed;
-    silent = λ _. refl;
+    silent = λ _. (refl, Adds-none (old.offers Report));
     cause = tt;
     falls = λ kind stream. omega arith;
     uncounted = λ no. absurd no;
@@ -54,14 +55,14 @@ module _ (planned : Option Plan) (old : Moment) (closed : (stream : Stream) → 
         let reasons : unlawful ≡ reason = same_Some unlawful reason (sym fault ∙ subst (λ (p : Plan). fault_in p.work ≡ Some reason) (sym plans) faulty) in
         inl (subst (λ u. Refused unlawful ≡ Refused u) reasons refl);
     ends = subst (λ o. Ends (unwrap_or o no_plan) old old (Refused unlawful)) (sym is) (refused_ends plan old unlawful closed fault);
-    silent = λ _. refl;
+    silent = λ _. (refl, Adds-none (old.offers Report));
     cause = tt;
     falls = λ kind stream. omega arith;
     uncounted = λ _ kind stream. refl;
   }
 
 pub plan_comes : (planned : Option Plan) (plan : Plan) (old new : Moment) (status : Status) → planned ≡ Some plan → fault_in plan.work ≡ None → (IsAtOnce status → ⊥) → Ends plan old new status
-    → (HasLine status → new.held Report ≡ old.held Report) → IsCaused old.faults new.faults status → NeverFalls old.faults new.faults → Comes planned old new status
+    → (HasLine status → IsSilent old new) → IsCaused old.faults new.faults status → NeverFalls old.faults new.faults → Comes planned old new status
 plan_comes planned plan old new status is accepted begun ends silent cause falls = record {
   usage = λ e. absurd (begun (subst IsAtOnce (sym e) tt));
   unplanned = λ none. let no = sym is ∙ none in absurd cc;

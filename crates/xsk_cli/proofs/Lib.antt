@@ -7,4 +7,5 @@ pub mod Unique
 pub mod Answering
 pub mod Coming
 pub mod Making
+pub mod Outputs
 pub mod Planning

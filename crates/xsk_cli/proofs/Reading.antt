@@ -4,8 +4,8 @@ use Rattle.std.specs.Prelude.{◌≢◌, IfSome, IfErr, Result, Err}
 use Rattle.std.specs.Io.KnownBytes.{IsAtEnd}
 use Rattle.std.proofs.lemmas.Bool.{cases_eq}
 use Rattle.std.proofs.lemmas.List.{get_or-map, length-map}
-use Rattle.xsk_io.specs.Bay.{Rose, SameBut}
-use Rattle.xsk_io.proofs.Steps.{Rose-earlier}
+use Rattle.xsk_io.specs.Bay.{Adds, Rose, Same, SameBut}
+use Rattle.xsk_io.proofs.Steps.{Adds-none, Rose-earlier}
 use Rattle.xsk_io.specs.declared.bay.Kind.TheVariants.{Open, Read}
 use Rattle.xsk_io.specs.declared.bay.Stream.{Stream}
 use Rattle.xsk_io.specs.declared.bay.Stream.TheVariants.{Input, Output, Report}
@@ -30,6 +30,7 @@ pub record Touched (one : Stream) (old new : Moment) : Type 0 where
   pub asked : SameBut one old.asked new.asked
   pub left : SameBut one old.left new.left
   pub held : SameBut one old.held new.held
+  pub offers : Same old.offers new.offers
 
 pub other_input : (port n : ℕ) → (port ≡ n → ⊥) → Input port ≢ Input n
 other_input port n h e = h (let i : port ≡ n = cc in i)
@@ -79,6 +80,9 @@ module _ (names bytes : List (List ℕ)) (n : ℕ) (old mid new : Moment) (have 
   outputs_held : (port : ℕ) → new.held (Output port) ≡ old.held (Output port)
   outputs_held port = touched.held (Output port) (output_is_no_input port n) ∙ have.held port
 
+  outputs_offers : Same old.offers new.offers
+  outputs_offers stream = touched.offers stream ∙ have.offers stream
+
   pub read_more : (text : List ℕ) → new.is_open (Input n) ≡ true → IsTold (mid.left (Input n)) text → length text ≤ 34603032 → IsAtEnd (new.left (Input n))
       → HaveRead names (bytes ++ text ∷ []) (n + 1) old new
   read_more text is_open is short at_end = record {
@@ -94,6 +98,7 @@ module _ (names bytes : List (List ℕ)) (n : ℕ) (old mid new : Moment) (have 
     outputs = outputs_closed;
     held = outputs_held;
     report = touched.held Report (report_is_no_input n) ∙ have.report;
+    offers = outputs_offers;
   }
 
   -- it is open, and wasn't read to its end
@@ -114,13 +119,15 @@ abbrev no_texts : Written
 no_texts = record { outputs = []; report = [] }
 
 pub none_written : (names texts : List (List ℕ)) (old new : Moment) → ((port : ℕ) → new.is_open (Output port) ≡ false) → ((port : ℕ) → new.held (Output port) ≡ old.held (Output port))
-    → AreWritten names texts 0 0 old new
-none_written names texts old new closed held = record {
+    → Same old.offers new.offers → AreWritten names texts 0 0 old new
+none_written names texts old new closed held offers = record {
   open_now = λ port. closed port ∙ none_below port;
   asked = λ port h. absurd (omega (arith, h));
   wholes = λ port h. absurd (omega (arith, h));
   fronts = λ port h l. absurd (omega (arith, l));
   later = λ port h. held port;
+  offered = λ port h. absurd (omega (arith, h));
+  unoffered = λ port h. subst (λ o. Adds (old.offers (Output port)) o []) (sym (offers (Output port))) (Adds-none (old.offers (Output port)));
 }
 
 -- ---- how it ends
@@ -129,6 +136,7 @@ module _ (plan : Plan) (bytes : List (List ℕ)) (n : ℕ) (old mid new : Moment
     (told : IsTold (new.asked (Input n)) (get_or plan.inputs n [])) where
   writes : AreWritten plan.outputs [] 0 0 old new
   writes = none_written plan.outputs [] old new (outputs_closed plan.inputs bytes n old mid new have touched told) (outputs_held plan.inputs bytes n old mid new have touched told)
+      (outputs_offers plan.inputs bytes n old mid new have touched told)
 
   ends_unopened : new.is_open (Input n) ≡ false → new.left (Input n) ≡ mid.left (Input n) → Ends plan old new (OpenFault (Input n))
   ends_unopened closed left = record {
@@ -191,6 +199,7 @@ nothing_read names old closed = record {
   outputs = λ port. closed (Output port);
   held = λ port. refl;
   report = refl;
+  offers = λ stream. refl;
 }
 
 nothing_ends : (plan : Plan) (old : Moment) (status : Status) → ((stream : Stream) → old.is_open stream ≡ false) → Reaches (length plan.inputs) (length plan.outputs) status (at_input 0 0)
@@ -205,7 +214,7 @@ nothing_ends plan old status closed reaches other comes reported =
       count = refl;
       short = none.short;
       reads = none.reads;
-      writes = none_written plan.outputs [] old old none.outputs (λ port. refl);
+      writes = none_written plan.outputs [] old old none.outputs (λ port. refl) (λ stream. refl);
       reported = reported;
       asked = λ stream e. absurd (other stream e);
       comes = comes;

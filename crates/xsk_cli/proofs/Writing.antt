@@ -1,16 +1,17 @@
 -- How a command ends once its inputs were read.
 use Rattle.std.proofs.Common.{◌≡◌, ℕ, ◌+◌, Bool, cond, ltb, true, false, Option, Some, None, List, [], length, get_or, refl, sym, ap, ◌∙◌, subst, arith}
-use Rattle.std.specs.Prelude.{Result, Err}
+use Rattle.std.specs.Prelude.{◌≢◌, Result, Err}
 use Rattle.std.specs.Io.KnownBytes.{IsAtEnd}
-use Rattle.xsk_io.specs.Bay.{Grows, GrowsByPart, Same}
+use Rattle.xsk_io.specs.Bay.{Adds, AddsNoneBut, Grows, GrowsByPart, IsOffered, Same, SameBut}
 use Rattle.xsk_io.specs.declared.bay.Stream.{Stream}
 use Rattle.xsk_io.specs.declared.bay.Stream.TheVariants.{Input, Output, Report}
+use Rattle.xsk_io.proofs.Steps.{Adds-then, IsOffered-later}
 use Rattle.xsk_cli.specs.Ends.{ComesOf, Ends}
 use Rattle.xsk_cli.specs.Judged.{packets_in, bytes_in, excess_of}
 use Rattle.xsk_cli.specs.declared.status.Excess.{Excess}
 use Rattle.std.proofs.lemmas.List.FromFn.{length-map-range_with_len}
 use Rattle.xsk_cli.specs.Outcome.{Written, made, IsOutcome, AreTextsBy, capture_of, sent_on_by}
-use Rattle.xsk_cli.specs.Streams.{Moment, IsTold, IsFront, at_output, at_input, Reaches, AreRead, AreWritten, IsReported, name_of, status_in}
+use Rattle.xsk_cli.specs.Streams.{Moment, IsTold, IsFront, at_output, at_input, Reaches, AreRead, AreWritten, HasLine, IsReported, IsSilent, name_of, status_in}
 use Rattle.xsk_cli.specs.Steps.{FailsWriting, HaveRead, MakesNone, run_status, write_status, written_by}
 use Rattle.xsk_cli.specs.declared.words.Work.{Work}
 use Rattle.xsk_cli.specs.declared.words.Work.TheVariants.{Simulate, Generate}
@@ -22,18 +23,20 @@ use Rattle.xsk_cli.specs.declared.failure.WriteFailure.{WriteFailure}
 use Rattle.xsk_cli.specs.declared.failure.WriteFailure.TheVariants.{Unopened, Unwritten}
 use Rattle.xsk_cli.specs.declared.status.Excess.TheVariants.{Input as LongInput, Packets, Bytes}
 use Rattle.xsk_cli.specs.declared.status.Status.{Status}
-use Rattle.xsk_cli.specs.declared.status.Status.TheVariants.{Done, BadCapture, WriteFault, OpenFault, Stalled, TooMuch, OutOfMemory}
+use Rattle.xsk_cli.specs.declared.status.Status.TheVariants.{Done, Usage, BadCapture, ReadFault, WriteFault, OpenFault, Refused, Stalled, TooMuch, OutOfMemory}
 use Rattle.xsk_cli.proofs.Reading.{none_written}
 
 -- the outputs are as they were
 pub still_written : (names texts : List (List ℕ)) (opened whole : ℕ) (old mid new : Moment) → AreWritten names texts opened whole old mid → Same mid.is_open new.is_open → Same mid.asked new.asked
-    → ((port : ℕ) → new.held (Output port) ≡ mid.held (Output port)) → AreWritten names texts opened whole old new
-still_written names texts opened whole old mid new are opened_same asked held = record {
+    → ((port : ℕ) → new.held (Output port) ≡ mid.held (Output port)) → ((port : ℕ) → Adds (mid.offers (Output port)) (new.offers (Output port)) []) → AreWritten names texts opened whole old new
+still_written names texts opened whole old mid new are opened_same asked held none = record {
   open_now = λ port. opened_same (Output port) ∙ are.open_now port;
   asked = λ port h. subst (λ a. IsTold a (get_or names port [])) (sym (asked (Output port))) (are.asked port h);
   wholes = λ port h. subst (λ a. IsTold a (get_or texts port [])) (sym (held port)) (are.wholes port h);
   fronts = λ port h l. subst (λ a. IsFront a (get_or texts port [])) (sym (held port)) (are.fronts port h l);
   later = λ port h. held port ∙ are.later port h;
+  offered = λ port h. IsOffered-later _ _ _ _ (are.offered port h) (none port);
+  unoffered = λ port h. Adds-then _ _ _ [] [] (are.unoffered port h) (none port);
 }
 
 -- ---- the whole command
@@ -54,13 +57,15 @@ read_still names bytes opened ended old mid new are same = record {
 }
 
 written_since : (names texts : List (List ℕ)) (opened whole : ℕ) (old mid new : Moment) → AreWritten names texts opened whole mid new → ((port : ℕ) → mid.held (Output port) ≡ old.held (Output port))
-    → AreWritten names texts opened whole old new
-written_since names texts opened whole old mid new are same = record {
+    → Same old.offers mid.offers → AreWritten names texts opened whole old new
+written_since names texts opened whole old mid new are same none = record {
   open_now = are.open_now;
   asked = are.asked;
   wholes = are.wholes;
   fronts = are.fronts;
   later = λ port h. are.later port h ∙ same port;
+  offered = λ port h. subst (λ o. IsOffered o (new.offers (Output port)) (length (get_or texts port []))) (none (Output port)) (are.offered port h);
+  unoffered = λ port h. subst (λ o. Adds o (new.offers (Output port)) []) (none (Output port)) (are.unoffered port h);
 }
 
 -- no limit of all inputs is that of one input
@@ -86,7 +91,7 @@ module _ (plan : Plan) (bytes : List (List ℕ)) (old mid new : Moment) (have : 
     count = have.count_is;
     short = have.short;
     reads = have.reads;
-    writes = none_written plan.outputs [] old mid have.outputs have.held;
+    writes = none_written plan.outputs [] old mid have.outputs have.held have.offers;
     reported = reported;
     asked = λ stream e. absurd (other stream e);
     comes = comes;
@@ -112,15 +117,18 @@ module _ (plan : Plan) (bytes : List (List ℕ)) (old mid new : Moment) (have : 
       count = have.count_is;
       short = have.short;
       reads = read_still plan.inputs bytes (length plan.inputs) (length plan.inputs) old mid new have.reads same;
-      writes = written_since plan.outputs texts.outputs opened whole old mid new writes have.held;
+      writes = written_since plan.outputs texts.outputs opened whole old mid new writes have.held have.offers;
       reported = reported;
       asked = asked;
       comes = comes;
     }
 
-    pub done_ends : AreWritten plan.outputs texts.outputs (length plan.outputs) (length plan.outputs) mid new → Grows (mid.held Report) (new.held Report) texts.report → Ends plan old new Done
-    done_ends writes grown =
-        wrote Done (length plan.outputs) (length plan.outputs) refl writes (subst (λ m. Grows m (new.held Report) texts.report) have.report grown) (λ stream e. absurd (cc)) is
+    since_offered : IsOffered (mid.offers Report) (new.offers Report) (length texts.report) → IsOffered (old.offers Report) (new.offers Report) (length texts.report)
+    since_offered offered = subst (λ o. IsOffered o (new.offers Report) (length texts.report)) (have.offers Report) offered
+
+    pub done_ends : AreWritten plan.outputs texts.outputs (length plan.outputs) (length plan.outputs) mid new → Grows (mid.held Report) (new.held Report) texts.report → IsOffered (mid.offers Report) (new.offers Report) (length texts.report) → Ends plan old new Done
+    done_ends writes grown offered =
+        wrote Done (length plan.outputs) (length plan.outputs) refl writes (subst (λ m. Grows m (new.held Report) texts.report) have.report grown, since_offered offered) (λ stream e. absurd (cc)) is
 
     pub unwritten_ends : (failure : WriteFailure) → FailsWriting plan.outputs texts mid new failure → Ends plan old new (write_status failure)
     unwritten_ends (Unopened port) h =
@@ -128,9 +136,51 @@ module _ (plan : Plan) (bytes : List (List ℕ)) (old mid new : Moment) (have : 
         (λ stream e. subst (λ s. IsTold (new.asked s) (name_of plan s)) (let i : Output port ≡ stream = cc in i) h.0.2) is
     unwritten_ends (Unwritten (Input port)) h = absurd h.0
     unwritten_ends (Unwritten (Output port)) h =
-        wrote (WriteFault (Output port)) (port + 1) port (h.0.0, refl) h.0.1 (h.1 ∙ have.report) (λ stream e. absurd (cc)) is
+        wrote (WriteFault (Output port)) (port + 1) port (h.0.0, refl) h.0.1 (h.1.0 ∙ have.report, subst (λ o. Adds o (new.offers Report) []) (have.offers Report) h.1.1) (λ stream e. absurd (cc)) is
     unwritten_ends (Unwritten Report) h =
-        wrote (WriteFault Report) (length plan.outputs) (length plan.outputs) refl h.0 (subst (λ m. GrowsByPart m (new.held Report) texts.report) have.report h.1) (λ stream e. absurd (cc)) is
+        wrote (WriteFault Report) (length plan.outputs) (length plan.outputs) refl h.0 (subst (λ m. GrowsByPart m (new.held Report) texts.report) have.report h.1, since_offered h.2) (λ stream e. absurd (cc)) is
+
+-- ---- and then the line of a refusal, which changes the report alone
+
+silent_then : (old mid new : Moment) → IsSilent old mid → IsSilent mid new → IsSilent old new
+silent_then old mid new first second = (second.0 ∙ first.0, Adds-then _ _ _ [] [] first.1 second.1)
+
+reported_still : (text : List ℕ) (old mid new : Moment) (status : Status) → IsReported text status old mid → ((HasLine status → ⊥) → IsSilent mid new) → IsReported text status old new
+reported_still text old mid new Done is silent =
+    (subst (λ h. Grows (old.held Report) h text) (sym (silent (λ no. no)).0) is.0, IsOffered-later _ _ _ _ is.1 (silent (λ no. no)).1)
+reported_still text old mid new (WriteFault Report) is silent =
+    (subst (λ h. GrowsByPart (old.held Report) h text) (sym (silent (λ no. no)).0) is.0, IsOffered-later _ _ _ _ is.1 (silent (λ no. no)).1)
+reported_still text old mid new (WriteFault (Input port)) is silent = silent_then old mid new is (silent (λ no. no))
+reported_still text old mid new (WriteFault (Output port)) is silent = silent_then old mid new is (silent (λ no. no))
+reported_still text old mid new Usage is silent = tt
+reported_still text old mid new (BadCapture port cause) is silent = tt
+reported_still text old mid new (ReadFault port) is silent = tt
+reported_still text old mid new (OpenFault stream) is silent = tt
+reported_still text old mid new (Refused unlawful) is silent = tt
+reported_still text old mid new (Stalled round) is silent = tt
+reported_still text old mid new (TooMuch excess) is silent = tt
+reported_still text old mid new OutOfMemory is silent = tt
+
+output_is_no_report : (port : ℕ) → Output port ≢ Report
+output_is_no_report port e = cc
+
+pub told_ends : (plan : Plan) (old mid new : Moment) (status : Status) → Ends plan old mid status → Same mid.is_open new.is_open → Same mid.asked new.asked → Same mid.left new.left → SameBut Report mid.held new.held
+    → AddsNoneBut Report mid.offers new.offers → ((HasLine status → ⊥) → IsSilent mid new) → Ends plan old new status
+told_ends plan old mid new status ends opened asked left held offers silent = record {
+  inputs = ends.inputs;
+  texts = ends.texts;
+  reach = ends.reach;
+  reaches = ends.reaches;
+  count = ends.count;
+  short = ends.short;
+  reads = read_still plan.inputs ends.inputs ends.reach.inputs ends.reach.ends old mid new ends.reads
+      (record { opened = λ port. opened (Input port); asked = λ port. asked (Input port); left = λ port. left (Input port) });
+  writes = still_written plan.outputs ends.texts.outputs ends.reach.outputs ends.reach.wholes old mid new ends.writes opened asked
+      (λ port. held (Output port) (output_is_no_report port)) (λ port. offers (Output port) (output_is_no_report port));
+  reported = reported_still ends.texts.report old mid new status ends.reported silent;
+  asked = λ stream e. subst (λ a. IsTold a (name_of plan stream)) (sym (asked stream)) (ends.asked stream e);
+  comes = ends.comes;
+}
 
 -- an answer with such a status
 pub status_ends : (answer : Result Unit Status) (status : Status) (plan : Plan) (old new : Moment) → answer ≡ Err status → Ends plan old new status → Ends plan old new (status_in answer)

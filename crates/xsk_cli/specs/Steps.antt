@@ -2,7 +2,7 @@
 use Rattle.std.specs.Prelude.{◌≡◌, ◌≢◌, ℕ, ◌+◌, ◌<◌, ◌⊎◌, true, false, length, List, [], map, IfSome, Option, Some, None, unwrap_or}
 use Rattle.std.specs.List.{slice_index_or}
 use Rattle.xsk_umem.specs.PacketList.{PacketList}
-use Rattle.xsk_io.specs.Bay.{GrowsByPart, Rose, Same}
+use Rattle.xsk_io.specs.Bay.{Adds, GrowsByPart, IsOffered, Rose, Same}
 use Rattle.xsk_io.specs.declared.bay.Kind.{Kind}
 use Rattle.xsk_io.specs.declared.bay.Kind.TheVariants.{Open, Read, Write}
 use Rattle.xsk_io.specs.declared.bay.Stream.TheVariants.{Input, Output, Report}
@@ -22,7 +22,7 @@ use Rattle.xsk_cli.specs.declared.words.Work.{Work}
 use Rattle.xsk_cli.specs.declared.words.Work.TheVariants.{Simulate, Generate}
 use Rattle.xsk_socket.specs.declared.layout.Layout.{Layout}
 use Rattle.xsk_socket.specs.declared.layout.Unlawful.{Unlawful}
-use Rattle.xsk_cli.specs.Streams.{Moment, HasLine, IsAtOnce, IsTold, IsFront, AreRead, AreWritten}
+use Rattle.xsk_cli.specs.Streams.{Moment, HasLine, IsAtOnce, IsTold, IsFront, IsSilent, AreRead, AreWritten}
 use Rattle.xsk_cli.specs.declared.failure.ReadFailure.{ReadFailure}
 use Rattle.xsk_cli.specs.declared.failure.ReadFailure.TheVariants.{Unopened as NoInput, Unread, TooLong, OutOfMemory as NoRoom}
 use Rattle.xsk_cli.specs.declared.failure.RunFailure.{RunFailure}
@@ -90,7 +90,7 @@ pub record Comes (planned : Option Plan) (old new : Moment) (status : Status) : 
   pub unplanned : planned ≡ None → (status ≡ Usage) ⊎ (status ≡ OutOfMemory)
   pub refused : (plan : Plan) (unlawful : Unlawful) → planned ≡ Some plan → fault_in plan.work ≡ Some unlawful → (status ≡ Refused unlawful) ⊎ (status ≡ OutOfMemory)
   pub ends : Ends (unwrap_or planned no_plan) old new status
-  pub silent : HasLine status → new.held Report ≡ old.held Report
+  pub silent : HasLine status → IsSilent old new
   pub cause : IsCaused old.faults new.faults status
   pub falls : NeverFalls old.faults new.faults
   pub uncounted : IsAtOnce status → (kind : Kind) → Same (old.faults kind) (new.faults kind)
@@ -113,6 +113,7 @@ pub record HaveRead (names bytes : List (List ℕ)) (count : ℕ) (old new : Mom
   pub outputs : (port : ℕ) → new.is_open (Output port) ≡ false
   pub held : (port : ℕ) → new.held (Output port) ≡ old.held (Output port)
   pub report : new.held Report ≡ old.held Report
+  pub offers : Same old.offers new.offers
 
 -- ---- the run
 
@@ -169,11 +170,12 @@ FailsOutputs names texts old new (Unwritten stream) = ⊥
 abbrev pub FailsWriting : List (List ℕ) → Written → Moment → Moment → WriteFailure → Type 0
 FailsWriting names texts old new (Unwritten Report) =
     AreWritten names texts.outputs (length names) (length names) old new × GrowsByPart (old.held Report) (new.held Report) texts.report
-FailsWriting names texts old new failure = FailsOutputs names texts.outputs old new failure × (new.held Report ≡ old.held Report)
+    × IsOffered (old.offers Report) (new.offers Report) (length texts.report)
+FailsWriting names texts old new failure = FailsOutputs names texts.outputs old new failure × IsSilent old new
 
 -- how writing the output of a port fails
 abbrev pub FailsOutput : ℕ → List ℕ → Moment → Moment → WriteFailure → Type 0
 FailsOutput port text old new (Unopened at) = (at ≡ port) × (new.is_open (Output port) ≡ false) × (new.held (Output port) ≡ old.held (Output port))
-    × Rose (old.faults Open (Output port)) (new.faults Open (Output port))
+    × Rose (old.faults Open (Output port)) (new.faults Open (Output port)) × Adds (old.offers (Output port)) (new.offers (Output port)) []
 FailsOutput port text old new (Unwritten stream) = (stream ≡ Output port) × (new.is_open (Output port) ≡ true) × IsFront (new.held (Output port)) text
-    × Rose (old.faults Write (Output port)) (new.faults Write (Output port))
+    × Rose (old.faults Write (Output port)) (new.faults Write (Output port)) × IsOffered (old.offers (Output port)) (new.offers (Output port)) (length text)

@@ -1,12 +1,13 @@
 -- What a command did to its streams, once it has ended. It opens its files one after another: the inputs, of which each is
 -- read to its end before the next, and then the outputs, of which each is written before the next. After them comes the
 -- report.
-use Rattle.std.specs.Prelude.{◌≡◌, ℕ, ◌+◌, ◌<◌, ◌≤◌, ◌⊎◌, nat_lt, Bool, List, [], take, Option, IfSome, Result, Ok, Err}
+use Rattle.std.specs.Prelude.{◌≡◌, ℕ, ◌+◌, ◌<◌, ◌≤◌, ◌⊎◌, nat_lt, Bool, List, [], length, take, Option, IfSome, Result, Ok, Err}
 use Rattle.std.specs.Io.KnownBytes.{IsAtEnd}
 use Rattle.std.specs.List.{slice_index_or}
-use Rattle.xsk_io.specs.Bay.{Grows, GrowsByPart, Rose}
+use Rattle.xsk_io.specs.Bay.{Adds, Grows, GrowsByPart, IsOffered, Rose}
 use Rattle.xsk_io.specs.declared.bay.Kind.{Kind}
 use Rattle.xsk_io.specs.declared.bay.Kind.TheVariants.{Write}
+use Rattle.xsk_io.specs.declared.bay.Offer.{Offer}
 use Rattle.xsk_io.specs.declared.bay.Stream.{Stream}
 use Rattle.xsk_io.specs.declared.bay.Stream.TheVariants.{Input, Output, Report}
 use Rattle.xsk_cli.specs.declared.status.Excess.TheVariants.{Input as TooLong}
@@ -20,6 +21,7 @@ pub record Moment : Type 0 where
   pub asked : Stream → Option (List ℕ)
   pub left : Stream → Option (List ℕ)
   pub held : Stream → Option (List ℕ)
+  pub offers : Stream → Option (List Offer)
   pub faults : Kind → Stream → ℕ
 
 -- the name is the text, where the bay tells it; and so of what a stream holds
@@ -84,19 +86,27 @@ pub record AreRead (names bytes : List (List ℕ)) (opened ended : ℕ) (old new
   pub later : (port : ℕ) → opened ≤ port → new.left (Input port) ≡ old.left (Input port)
 
 -- of the outputs with these names, so many are open, each by its own name, and so many of them hold their whole texts; one
--- that is open and doesn't holds a front of its own; the others are as they were
+-- that is open and doesn't holds a front of its own; the others are as they were. To each that is open its text was offered
+-- as one piece and then its rest, and nothing else; to the others nothing
 pub record AreWritten (names texts : List (List ℕ)) (opened whole : ℕ) (old new : Moment) : Type 0 where
   pub open_now : (port : ℕ) → new.is_open (Output port) ≡ nat_lt port opened
   pub asked : (port : ℕ) → port < opened → IsTold (new.asked (Output port)) (slice_index_or names port [])
   pub wholes : (port : ℕ) → port < whole → IsTold (new.held (Output port)) (slice_index_or texts port [])
   pub fronts : (port : ℕ) → whole ≤ port → port < opened → IsFront (new.held (Output port)) (slice_index_or texts port [])
   pub later : (port : ℕ) → opened ≤ port → new.held (Output port) ≡ old.held (Output port)
+  pub offered : (port : ℕ) → port < opened → IsOffered (old.offers (Output port)) (new.offers (Output port)) (length (slice_index_or texts port []))
+  pub unoffered : (port : ℕ) → opened ≤ port → Adds (old.offers (Output port)) (new.offers (Output port)) []
 
--- the report got its text, or a front of it
+-- nothing was written to the report
+abbrev pub IsSilent : Moment → Moment → Type 0
+IsSilent old new = (new.held Report ≡ old.held Report) × Adds (old.offers Report) (new.offers Report) []
+
+-- the report was offered its text as one piece, and then its rest, and got it or a front of it
 abbrev pub IsReported : List ℕ → Status → Moment → Moment → Type 0
-IsReported text Done old new = Grows (old.held Report) (new.held Report) text
-IsReported text (WriteFault Report) old new = GrowsByPart (old.held Report) (new.held Report) text
-IsReported text (WriteFault stream) old new = new.held Report ≡ old.held Report
+IsReported text Done old new = Grows (old.held Report) (new.held Report) text × IsOffered (old.offers Report) (new.offers Report) (length text)
+IsReported text (WriteFault Report) old new =
+    GrowsByPart (old.held Report) (new.held Report) text × IsOffered (old.offers Report) (new.offers Report) (length text)
+IsReported text (WriteFault stream) old new = IsSilent old new
 IsReported text status old new = Unit {0}
 
 -- ---- nothing was opened
@@ -115,11 +125,13 @@ HasLine Done = ⊥
 HasLine (WriteFault stream) = ⊥
 HasLine status = Unit {0}
 
--- the report got the line or, where a write failed, a front of it
+-- the report was offered the line as one piece, and then its rest, and nothing else, and got it or, where a write failed, a
+-- front of it
 abbrev pub GotLine : List ℕ → Moment → Moment → Type 0
 GotLine line old new =
-    Grows (old.held Report) (new.held Report) line
-    ⊎ (GrowsByPart (old.held Report) (new.held Report) line × Rose (old.faults Write Report) (new.faults Write Report))
+    (Grows (old.held Report) (new.held Report) line
+    ⊎ (GrowsByPart (old.held Report) (new.held Report) line × Rose (old.faults Write Report) (new.faults Write Report)))
+    × IsOffered (old.offers Report) (new.offers Report) (length line)
 
 -- ---- names
 

@@ -1,7 +1,7 @@
 //! The inputs of a command, read to their ends.
 ghost use Rattle.std.specs.Prelude.{◌≡◌, ℕ, ◌<◌, ◌≤◌, false, true, length, map, vec_len, IfErr, IfOk, OnOk};
 ghost use Rattle.std.specs.Io.KnownBytes.{IsAtEnd};
-ghost use Rattle.xsk_io.specs.Bay.{SameBut};
+ghost use Rattle.xsk_io.specs.Bay.{Same, SameBut};
 ghost use Rattle.xsk_io.specs.declared.bay.Stream.{Stream as AStream};
 ghost use Rattle.xsk_cli.specs.Cause.{IsCaused, NeverFalls};
 ghost use Rattle.xsk_cli.specs.Ends.{Ends};
@@ -25,13 +25,14 @@ pub(crate) fn read_inputs<B: Bay>(
     requires few { length names.now ≤ 4 }
     requires closed { (stream : AStream) → B.is_open bay.old stream ≡ false }
     ensures read { IfOk result (λ inputs. HaveRead (map (λ name. name.now) names.now) (map (λ bytes. bytes.items) inputs.items) (length names.now)
-        (record { is_open = B.is_open bay.old; asked = B.asked bay.old; left = B.left bay.old; held = B.held bay.old; faults = B.faults bay.old })
-        (record { is_open = B.is_open bay.new; asked = B.asked bay.new; left = B.left bay.new; held = B.held bay.new; faults = B.faults bay.new })) }
+        (record { is_open = B.is_open bay.old; asked = B.asked bay.old; left = B.left bay.old; held = B.held bay.old; offers = B.offers bay.old; faults = B.faults bay.old })
+        (record { is_open = B.is_open bay.new; asked = B.asked bay.new; left = B.left bay.new; held = B.held bay.new; offers = B.offers bay.new; faults = B.faults bay.new })) }
     ensures failed { (plan : Plan) → plan.inputs ≡ map (λ name. name.now) names.now → IfErr result (λ failure. Ends plan
-        (record { is_open = B.is_open bay.old; asked = B.asked bay.old; left = B.left bay.old; held = B.held bay.old; faults = B.faults bay.old })
-        (record { is_open = B.is_open bay.new; asked = B.asked bay.new; left = B.left bay.new; held = B.held bay.new; faults = B.faults bay.new })
+        (record { is_open = B.is_open bay.old; asked = B.asked bay.old; left = B.left bay.old; held = B.held bay.old; offers = B.offers bay.old; faults = B.faults bay.old })
+        (record { is_open = B.is_open bay.new; asked = B.asked bay.new; left = B.left bay.new; held = B.held bay.new; offers = B.offers bay.new; faults = B.faults bay.new })
         (read_status failure)) }
     ensures report { B.held bay.new Stream.Report ≡ B.held bay.old Stream.Report }
+    ensures offers { Same (B.offers bay.old) (B.offers bay.new) }
     ensures falls { NeverFalls (B.faults bay.old) (B.faults bay.new) }
     ensures cause { IfErr result (λ failure. IsCaused (B.faults bay.old) (B.faults bay.new) (read_status failure)) }
 {
@@ -55,8 +56,8 @@ fn read_input<B: Bay>(
     ensures bytes { IfOk result (λ bytes. IsTold (B.left bay.old (Stream.Input port)) bytes.items) }
     ensures short { IfOk result (λ bytes. length bytes.items ≤ 34603032) }
     ensures failed { IfErr result (FailsReading port
-        (record { is_open = B.is_open bay.old; asked = B.asked bay.old; left = B.left bay.old; held = B.held bay.old; faults = B.faults bay.old })
-        (record { is_open = B.is_open bay.new; asked = B.asked bay.new; left = B.left bay.new; held = B.held bay.new; faults = B.faults bay.new })) }
+        (record { is_open = B.is_open bay.old; asked = B.asked bay.old; left = B.left bay.old; held = B.held bay.old; offers = B.offers bay.old; faults = B.faults bay.old })
+        (record { is_open = B.is_open bay.new; asked = B.asked bay.new; left = B.left bay.new; held = B.held bay.new; offers = B.offers bay.new; faults = B.faults bay.new })) }
     ensures end { OnOk result (IsAtEnd (B.left bay.new (Stream.Input port))) }
     ensures open { OnOk result (B.is_open bay.new (Stream.Input port) ≡ true) }
     ensures asked { IsTold (B.asked bay.new (Stream.Input port)) name.now }
@@ -64,6 +65,7 @@ fn read_input<B: Bay>(
     ensures opened { SameBut (Stream.Input port) (B.is_open bay.old) (B.is_open bay.new) }
     ensures asked_others { SameBut (Stream.Input port) (B.asked bay.old) (B.asked bay.new) }
     ensures held { SameBut (Stream.Input port) (B.held bay.old) (B.held bay.new) }
+    ensures offers { Same (B.offers bay.old) (B.offers bay.new) }
     ensures falls { NeverFalls (B.faults bay.old) (B.faults bay.new) }
 {
     let stream = Stream::Input(port);

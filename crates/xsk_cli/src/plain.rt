@@ -1,6 +1,6 @@
 //! The command on one thread, from its words to its status.
 ghost use Rattle.std.specs.Prelude.{◌≡◌, ℕ, ◌⊎◌, false, None, Some, List, length, map, string_bytes, unwrap_or};
-ghost use Rattle.xsk_io.specs.Bay.{CountsOnly, Same, SameBut};
+ghost use Rattle.xsk_io.specs.Bay.{AddsNoneBut, CountsOnly, Same, SameBut};
 ghost use Rattle.xsk_io.specs.declared.bay.Kind.{Kind};
 ghost use Rattle.xsk_io.specs.declared.bay.Stream.{Stream as AStream};
 ghost use Rattle.xsk_pcap.specs.declared.reading.BadCapture.TheVariants.{OutOfMemory as NoMemory};
@@ -10,7 +10,7 @@ ghost use Rattle.xsk_cli.specs.Ends.{Answers, AreTaken, AreTold, Ends, IsComplet
 ghost use Rattle.xsk_cli.specs.Line.{line_of};
 ghost use Rattle.xsk_cli.specs.Outcome.{IsOutcome, Outcome};
 ghost use Rattle.xsk_cli.specs.Steps.{Comes, IsReady, plan_in};
-ghost use Rattle.xsk_cli.specs.Streams.{GotLine, HasLine, IsAtOnce, status_in};
+ghost use Rattle.xsk_cli.specs.Streams.{GotLine, HasLine, IsAtOnce, IsSilent, status_in};
 ghost use Rattle.xsk_cli.specs.Words.{Plan as APlan, fault_in, gen_plan, no_plan, plan_of, simulate_plan};
 
 use crate::Status;
@@ -45,23 +45,23 @@ pub fn run_plain<B: Bay>(alloc: Global, words: &[String], bay: &mut B) -> Status
 
     // What the streams are, and why. Where the words are no command it has no streams.
     ensures ends { Ends (unwrap_or (plan_of (map string_bytes words.now)) no_plan)
-        (record { is_open = B.is_open bay.old; asked = B.asked bay.old; left = B.left bay.old; held = B.held bay.old; faults = B.faults bay.old })
-        (record { is_open = B.is_open bay.new; asked = B.asked bay.new; left = B.left bay.new; held = B.held bay.new; faults = B.faults bay.new })
+        (record { is_open = B.is_open bay.old; asked = B.asked bay.old; left = B.left bay.old; held = B.held bay.old; offers = B.offers bay.old; faults = B.faults bay.old })
+        (record { is_open = B.is_open bay.new; asked = B.asked bay.new; left = B.left bay.new; held = B.held bay.new; offers = B.offers bay.new; faults = B.faults bay.new })
         result }
     ensures line { HasLine result → GotLine (line_of result)
-        (record { is_open = B.is_open bay.old; asked = B.asked bay.old; left = B.left bay.old; held = B.held bay.old; faults = B.faults bay.old })
-        (record { is_open = B.is_open bay.new; asked = B.asked bay.new; left = B.left bay.new; held = B.held bay.new; faults = B.faults bay.new }) }
+        (record { is_open = B.is_open bay.old; asked = B.asked bay.old; left = B.left bay.old; held = B.held bay.old; offers = B.offers bay.old; faults = B.faults bay.old })
+        (record { is_open = B.is_open bay.new; asked = B.asked bay.new; left = B.left bay.new; held = B.held bay.new; offers = B.offers bay.new; faults = B.faults bay.new }) }
     ensures check { (port : ℕ) → result ≡ Status.BadCapture port NoMemory → ⊥ }
 
     // Inputs whose bytes the bay tells are answered with their outcome, of which there is one.
     ensures answers { (plan : APlan) (inputs : List (List ℕ)) (outcome : Outcome) → plan_of (map string_bytes words.now) ≡ Some plan
-        → AreTold plan inputs (record { is_open = B.is_open bay.old; asked = B.asked bay.old; left = B.left bay.old; held = B.held bay.old; faults = B.faults bay.old })
+        → AreTold plan inputs (record { is_open = B.is_open bay.old; asked = B.asked bay.old; left = B.left bay.old; held = B.held bay.old; offers = B.offers bay.old; faults = B.faults bay.old })
         → IsOutcome plan.work inputs outcome → Answers plan.work outcome result }
 
     // Captures within the limits, and packets that are made, come to texts or stall, where the layout is accepted, no count
     // of faults has risen and memory can be had.
     ensures complete { (plan : APlan) (inputs : List (List ℕ)) → plan_of (map string_bytes words.now) ≡ Some plan → fault_in plan.work ≡ None
-        → AreTold plan inputs (record { is_open = B.is_open bay.old; asked = B.asked bay.old; left = B.left bay.old; held = B.held bay.old; faults = B.faults bay.old })
+        → AreTold plan inputs (record { is_open = B.is_open bay.old; asked = B.asked bay.old; left = B.left bay.old; held = B.held bay.old; offers = B.offers bay.old; faults = B.faults bay.old })
         → AreTaken plan.work inputs → NoneRose (B.faults bay.old) (B.faults bay.new) → IsComplete result }
 {
     let status = status_of(run_words(alloc, words, bay));
@@ -82,8 +82,8 @@ fn status_of(answer: Result<(), Status>) -> Status
 fn run_words<B: Bay>(alloc: Global, words: &[String], bay: &mut B) -> Result<(), Status>
     requires { (stream : AStream) → B.is_open bay.old stream ≡ false }
     ensures { Comes (plan_of (map string_bytes words.now))
-        (record { is_open = B.is_open bay.old; asked = B.asked bay.old; left = B.left bay.old; held = B.held bay.old; faults = B.faults bay.old })
-        (record { is_open = B.is_open bay.new; asked = B.asked bay.new; left = B.left bay.new; held = B.held bay.new; faults = B.faults bay.new })
+        (record { is_open = B.is_open bay.old; asked = B.asked bay.old; left = B.left bay.old; held = B.held bay.old; offers = B.offers bay.old; faults = B.faults bay.old })
+        (record { is_open = B.is_open bay.new; asked = B.asked bay.new; left = B.left bay.new; held = B.held bay.new; offers = B.offers bay.new; faults = B.faults bay.new })
         (status_in result) }
 {
     let Some((first, rest)) = words.split_first() else {
@@ -100,8 +100,8 @@ fn run_words<B: Bay>(alloc: Global, words: &[String], bay: &mut B) -> Result<(),
 fn run_gen<B: Bay>(alloc: Global, words: &[String], bay: &mut B) -> Result<(), Status>
     requires { (stream : AStream) → B.is_open bay.old stream ≡ false }
     ensures { Comes (gen_plan (map string_bytes words.now))
-        (record { is_open = B.is_open bay.old; asked = B.asked bay.old; left = B.left bay.old; held = B.held bay.old; faults = B.faults bay.old })
-        (record { is_open = B.is_open bay.new; asked = B.asked bay.new; left = B.left bay.new; held = B.held bay.new; faults = B.faults bay.new })
+        (record { is_open = B.is_open bay.old; asked = B.asked bay.old; left = B.left bay.old; held = B.held bay.old; offers = B.offers bay.old; faults = B.faults bay.old })
+        (record { is_open = B.is_open bay.new; asked = B.asked bay.new; left = B.left bay.new; held = B.held bay.new; offers = B.offers bay.new; faults = B.faults bay.new })
         (status_in result) }
 {
     let Some((number, file)) = read_gen(words) else {
@@ -120,8 +120,8 @@ fn run_gen<B: Bay>(alloc: Global, words: &[String], bay: &mut B) -> Result<(), S
 fn run_simulate<B: Bay>(alloc: Global, words: &[String], bay: &mut B) -> Result<(), Status>
     requires { (stream : AStream) → B.is_open bay.old stream ≡ false }
     ensures { Comes (simulate_plan (map string_bytes words.now))
-        (record { is_open = B.is_open bay.old; asked = B.asked bay.old; left = B.left bay.old; held = B.held bay.old; faults = B.faults bay.old })
-        (record { is_open = B.is_open bay.new; asked = B.asked bay.new; left = B.left bay.new; held = B.held bay.new; faults = B.faults bay.new })
+        (record { is_open = B.is_open bay.old; asked = B.asked bay.old; left = B.left bay.old; held = B.held bay.old; offers = B.offers bay.old; faults = B.faults bay.old })
+        (record { is_open = B.is_open bay.new; asked = B.asked bay.new; left = B.left bay.new; held = B.held bay.new; offers = B.offers bay.new; faults = B.faults bay.new })
         (status_in result) }
 {
     let args = parse(alloc, "simulate", &OPTIONS, words)?;
@@ -135,10 +135,12 @@ fn run_plan<B: Bay>(alloc: Global, plan: &Plan<'_, '_>, bay: &mut B) -> Result<(
     requires closed { (stream : AStream) → B.is_open bay.old stream ≡ false }
     ensures begun { IsAtOnce (status_in result) → ⊥ }
     ensures ends { Ends (plan_in plan.now)
-        (record { is_open = B.is_open bay.old; asked = B.asked bay.old; left = B.left bay.old; held = B.held bay.old; faults = B.faults bay.old })
-        (record { is_open = B.is_open bay.new; asked = B.asked bay.new; left = B.left bay.new; held = B.held bay.new; faults = B.faults bay.new })
+        (record { is_open = B.is_open bay.old; asked = B.asked bay.old; left = B.left bay.old; held = B.held bay.old; offers = B.offers bay.old; faults = B.faults bay.old })
+        (record { is_open = B.is_open bay.new; asked = B.asked bay.new; left = B.left bay.new; held = B.held bay.new; offers = B.offers bay.new; faults = B.faults bay.new })
         (status_in result) }
-    ensures silent { HasLine (status_in result) → B.held bay.new Stream.Report ≡ B.held bay.old Stream.Report }
+    ensures silent { HasLine (status_in result) → IsSilent
+        (record { is_open = B.is_open bay.old; asked = B.asked bay.old; left = B.left bay.old; held = B.held bay.old; offers = B.offers bay.old; faults = B.faults bay.old })
+        (record { is_open = B.is_open bay.new; asked = B.asked bay.new; left = B.left bay.new; held = B.held bay.new; offers = B.offers bay.new; faults = B.faults bay.new }) }
     ensures cause { IsCaused (B.faults bay.old) (B.faults bay.new) (status_in result) }
     ensures falls { NeverFalls (B.faults bay.old) (B.faults bay.new) }
 {
@@ -153,9 +155,12 @@ fn run_plan<B: Bay>(alloc: Global, plan: &Plan<'_, '_>, bay: &mut B) -> Result<(
 /// Writes the line of a refusal to the report. A fault there changes nothing.
 fn tell<B: Bay>(bay: &mut B, status: &Status)
     ensures line { HasLine status.now → GotLine (line_of status.now)
-        (record { is_open = B.is_open bay.old; asked = B.asked bay.old; left = B.left bay.old; held = B.held bay.old; faults = B.faults bay.old })
-        (record { is_open = B.is_open bay.new; asked = B.asked bay.new; left = B.left bay.new; held = B.held bay.new; faults = B.faults bay.new }) }
-    ensures silent { (HasLine status.now → ⊥) → B.held bay.new Stream.Report ≡ B.held bay.old Stream.Report }
+        (record { is_open = B.is_open bay.old; asked = B.asked bay.old; left = B.left bay.old; held = B.held bay.old; offers = B.offers bay.old; faults = B.faults bay.old })
+        (record { is_open = B.is_open bay.new; asked = B.asked bay.new; left = B.left bay.new; held = B.held bay.new; offers = B.offers bay.new; faults = B.faults bay.new }) }
+    ensures silent { (HasLine status.now → ⊥) → IsSilent
+        (record { is_open = B.is_open bay.old; asked = B.asked bay.old; left = B.left bay.old; held = B.held bay.old; offers = B.offers bay.old; faults = B.faults bay.old })
+        (record { is_open = B.is_open bay.new; asked = B.asked bay.new; left = B.left bay.new; held = B.held bay.new; offers = B.offers bay.new; faults = B.faults bay.new }) }
+    ensures offers { AddsNoneBut Stream.Report (B.offers bay.old) (B.offers bay.new) }
     ensures held { SameBut Stream.Report (B.held bay.old) (B.held bay.new) }
     ensures opened { Same (B.is_open bay.old) (B.is_open bay.new) }
     ensures asked { Same (B.asked bay.old) (B.asked bay.new) }

@@ -1,5 +1,5 @@
 -- One call of a bay after another.
-use Rattle.std.proofs.Common.{◌≡◌, ℕ, ◌+◌, ◌-◌, ◌<◌, ◌≤◌, cond, inl, inr, refl, List, [], ◌∷◌, ◌++◌, Option, Some, None, take, drop, sym, ◌∙◌, ap, append_assoc, append-nil, Result, Ok, Err, arith}
+use Rattle.std.proofs.Common.{◌≡◌, ℕ, ◌+◌, ◌-◌, ◌<◌, ◌≤◌, subst, cond, inl, inr, refl, List, [], ◌∷◌, ◌++◌, Option, Some, None, take, drop, sym, ◌∙◌, ap, append_assoc, append-nil, Result, Ok, Err, arith}
 use Rattle.std.proofs.Math.Seq.{take-add}
 use Rattle.std.proofs.lemmas.Bool.{ne_eqb}
 use Rattle.std.specs.Io.KnownBytes.{prepend_known}
@@ -73,6 +73,13 @@ Adds-none (Some before) = inr (ap Some (sym (append-nil before)))
 
 pub AddsNoneBut-then : (one : Stream) (f g h : Stream → Option (List Offer)) → AddsNoneBut one f g → AddsNoneBut one g h → AddsNoneBut one f h
 AddsNoneBut-then one f g h first second stream other = Adds-then (f stream) (g stream) (h stream) [] [] (first stream other) (second stream other)
+
+pub IsOffered-later : (first second third : Option (List Offer)) (n : ℕ) → IsOffered first second n → Adds second third [] → IsOffered first third n
+IsOffered-later first second third n are none =
+    (are.0, subst (Adds first third) (append-nil are.0) (Adds-then first second third are.0 [] are.1 none), are.2)
+
+pub IsOffered-earlier : (first second third : Option (List Offer)) (n : ℕ) → Adds first second [] → IsOffered second third n → IsOffered first third n
+IsOffered-earlier first second third n none are = (are.0, Adds-then first second third [] are.0 none are.1, are.2)
 
 -- the writes of a text so far, of which so many bytes were taken
 abbrev pub AreOffered : Option (List Offer) → Option (List Offer) → ℕ → ℕ → Type 0

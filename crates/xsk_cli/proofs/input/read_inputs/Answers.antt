@@ -9,18 +9,18 @@ use Rattle.xsk_cli.proofs.input.read_inputs.Goals as goal
 
 pub returns-in_err-inputs-clause-failed : goal.returns-in_err-inputs-clause-failed
 returns-in_err-inputs-clause-failed g c plan e =
-    let now : Moment = record { is_open = g.B.Bay.is_open c.args.bay.now; asked = g.B.Bay.asked c.args.bay.now; left = g.B.Bay.left c.args.bay.now; held = g.B.Bay.held c.args.bay.now; faults = g.B.Bay.faults c.args.bay.now } in
+    let now : Moment = record { is_open = g.B.Bay.is_open c.args.bay.now; asked = g.B.Bay.asked c.args.bay.now; left = g.B.Bay.left c.args.bay.now; held = g.B.Bay.held c.args.bay.now; offers = g.B.Bay.offers c.args.bay.now; faults = g.B.Bay.faults c.args.bay.now } in
     answer_ends c.from_residual.result OutOfMemory plan now now (search rules) (ends_at_once plan now c.requires.closed)
 
 pub returns-in_err-bytes-clause-failed : goal.returns-in_err-bytes-clause-failed
 returns-in_err-bytes-clause-failed g c plan e =
-    let old : Moment = record { is_open = g.B.Bay.is_open c.args.bay.now; asked = g.B.Bay.asked c.args.bay.now; left = g.B.Bay.left c.args.bay.now; held = g.B.Bay.held c.args.bay.now; faults = g.B.Bay.faults c.args.bay.now } in
-    let mid : Moment = record { is_open = g.B.Bay.is_open c.loop-port.bay; asked = g.B.Bay.asked c.loop-port.bay; left = g.B.Bay.left c.loop-port.bay; held = g.B.Bay.held c.loop-port.bay; faults = g.B.Bay.faults c.loop-port.bay } in
-    let new : Moment = record { is_open = g.B.Bay.is_open c.read_input.new.bay; asked = g.B.Bay.asked c.read_input.new.bay; left = g.B.Bay.left c.read_input.new.bay; held = g.B.Bay.held c.read_input.new.bay; faults = g.B.Bay.faults c.read_input.new.bay } in
+    let old : Moment = record { is_open = g.B.Bay.is_open c.args.bay.now; asked = g.B.Bay.asked c.args.bay.now; left = g.B.Bay.left c.args.bay.now; held = g.B.Bay.held c.args.bay.now; offers = g.B.Bay.offers c.args.bay.now; faults = g.B.Bay.faults c.args.bay.now } in
+    let mid : Moment = record { is_open = g.B.Bay.is_open c.loop-port.bay; asked = g.B.Bay.asked c.loop-port.bay; left = g.B.Bay.left c.loop-port.bay; held = g.B.Bay.held c.loop-port.bay; offers = g.B.Bay.offers c.loop-port.bay; faults = g.B.Bay.faults c.loop-port.bay } in
+    let new : Moment = record { is_open = g.B.Bay.is_open c.read_input.new.bay; asked = g.B.Bay.asked c.read_input.new.bay; left = g.B.Bay.left c.read_input.new.bay; held = g.B.Bay.held c.read_input.new.bay; offers = g.B.Bay.offers c.read_input.new.bay; faults = g.B.Bay.faults c.read_input.new.bay } in
     let port = c.loop-port.port in
     let names = map (λ name. name.now) c.args.names.now in
     let bytes = map (λ bytes. bytes.items) c.loop-port.inputs.items in
-    let touched : Touched (Input port) mid new = record { opened = c.read_input.ensures.opened; asked = c.read_input.ensures.asked_others; left = c.read_input.ensures.left; held = c.read_input.ensures.held } in
+    let touched : Touched (Input port) mid new = record { opened = c.read_input.ensures.opened; asked = c.read_input.ensures.asked_others; left = c.read_input.ensures.left; held = c.read_input.ensures.held; offers = c.read_input.ensures.offers } in
     let below : port < length c.args.names.now = search rules in
     let told : IsTold (new.asked (Input port)) (get_or names port []) = told_name (λ name. name.now) c.args.names.now port _ (new.asked (Input port)) below c.read_input.ensures.asked in
     let known : port < length names = known_name (λ name. name.now) c.args.names.now port below in
@@ -30,13 +30,13 @@ returns-in_err-bytes-clause-failed g c plan e =
 
 pub loop-port-preserved : goal.loop-port-preserved
 loop-port-preserved g c =
-    let old : Moment = record { is_open = g.B.Bay.is_open c.args.bay.now; asked = g.B.Bay.asked c.args.bay.now; left = g.B.Bay.left c.args.bay.now; held = g.B.Bay.held c.args.bay.now; faults = g.B.Bay.faults c.args.bay.now } in
-    let mid : Moment = record { is_open = g.B.Bay.is_open c.loop-port.bay; asked = g.B.Bay.asked c.loop-port.bay; left = g.B.Bay.left c.loop-port.bay; held = g.B.Bay.held c.loop-port.bay; faults = g.B.Bay.faults c.loop-port.bay } in
-    let new : Moment = record { is_open = g.B.Bay.is_open c.read_input.new.bay; asked = g.B.Bay.asked c.read_input.new.bay; left = g.B.Bay.left c.read_input.new.bay; held = g.B.Bay.held c.read_input.new.bay; faults = g.B.Bay.faults c.read_input.new.bay } in
+    let old : Moment = record { is_open = g.B.Bay.is_open c.args.bay.now; asked = g.B.Bay.asked c.args.bay.now; left = g.B.Bay.left c.args.bay.now; held = g.B.Bay.held c.args.bay.now; offers = g.B.Bay.offers c.args.bay.now; faults = g.B.Bay.faults c.args.bay.now } in
+    let mid : Moment = record { is_open = g.B.Bay.is_open c.loop-port.bay; asked = g.B.Bay.asked c.loop-port.bay; left = g.B.Bay.left c.loop-port.bay; held = g.B.Bay.held c.loop-port.bay; offers = g.B.Bay.offers c.loop-port.bay; faults = g.B.Bay.faults c.loop-port.bay } in
+    let new : Moment = record { is_open = g.B.Bay.is_open c.read_input.new.bay; asked = g.B.Bay.asked c.read_input.new.bay; left = g.B.Bay.left c.read_input.new.bay; held = g.B.Bay.held c.read_input.new.bay; offers = g.B.Bay.offers c.read_input.new.bay; faults = g.B.Bay.faults c.read_input.new.bay } in
     let port = c.loop-port.port in
     let names = map (λ name. name.now) c.args.names.now in
     let bytes = map (λ bytes. bytes.items) c.loop-port.inputs.items in
-    let touched : Touched (Input port) mid new = record { opened = c.read_input.ensures.opened; asked = c.read_input.ensures.asked_others; left = c.read_input.ensures.left; held = c.read_input.ensures.held } in
+    let touched : Touched (Input port) mid new = record { opened = c.read_input.ensures.opened; asked = c.read_input.ensures.asked_others; left = c.read_input.ensures.left; held = c.read_input.ensures.held; offers = c.read_input.ensures.offers } in
     let below : port < length c.args.names.now = search rules in
     let told : IsTold (new.asked (Input port)) (get_or names port []) = told_name (λ name. name.now) c.args.names.now port _ (new.asked (Input port)) below c.read_input.ensures.asked in
     record {

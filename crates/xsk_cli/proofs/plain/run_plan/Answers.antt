@@ -10,8 +10,8 @@ use Rattle.xsk_cli.proofs.plain.run_plan.Goals as goal
 
 pub returns-in_err-lists-clause-ends : goal.returns-in_err-lists-clause-ends
 returns-in_err-lists-clause-ends g c =
-    let old : Moment = record { is_open = g.B.Bay.is_open c.args.bay.now; asked = g.B.Bay.asked c.args.bay.now; left = g.B.Bay.left c.args.bay.now; held = g.B.Bay.held c.args.bay.now; faults = g.B.Bay.faults c.args.bay.now } in
-    let mid : Moment = record { is_open = g.B.Bay.is_open c.read_inputs.new.bay; asked = g.B.Bay.asked c.read_inputs.new.bay; left = g.B.Bay.left c.read_inputs.new.bay; held = g.B.Bay.held c.read_inputs.new.bay; faults = g.B.Bay.faults c.read_inputs.new.bay } in
+    let old : Moment = record { is_open = g.B.Bay.is_open c.args.bay.now; asked = g.B.Bay.asked c.args.bay.now; left = g.B.Bay.left c.args.bay.now; held = g.B.Bay.held c.args.bay.now; offers = g.B.Bay.offers c.args.bay.now; faults = g.B.Bay.faults c.args.bay.now } in
+    let mid : Moment = record { is_open = g.B.Bay.is_open c.read_inputs.new.bay; asked = g.B.Bay.asked c.read_inputs.new.bay; left = g.B.Bay.left c.read_inputs.new.bay; held = g.B.Bay.held c.read_inputs.new.bay; offers = g.B.Bay.offers c.read_inputs.new.bay; faults = g.B.Bay.faults c.read_inputs.new.bay } in
     let plan = plan_in c.args.plan.now in
     let bytes = map (λ bytes. bytes.items) c.in_ok-inputs.inputs.items in
     let failure = c.in_err-lists.field-0.0 in
@@ -21,8 +21,8 @@ returns-in_err-lists-clause-ends g c =
 
 pub returns-in_err-texts-clause-ends : goal.returns-in_err-texts-clause-ends
 returns-in_err-texts-clause-ends g c =
-    let old : Moment = record { is_open = g.B.Bay.is_open c.args.bay.now; asked = g.B.Bay.asked c.args.bay.now; left = g.B.Bay.left c.args.bay.now; held = g.B.Bay.held c.args.bay.now; faults = g.B.Bay.faults c.args.bay.now } in
-    let mid : Moment = record { is_open = g.B.Bay.is_open c.read_inputs.new.bay; asked = g.B.Bay.asked c.read_inputs.new.bay; left = g.B.Bay.left c.read_inputs.new.bay; held = g.B.Bay.held c.read_inputs.new.bay; faults = g.B.Bay.faults c.read_inputs.new.bay } in
+    let old : Moment = record { is_open = g.B.Bay.is_open c.args.bay.now; asked = g.B.Bay.asked c.args.bay.now; left = g.B.Bay.left c.args.bay.now; held = g.B.Bay.held c.args.bay.now; offers = g.B.Bay.offers c.args.bay.now; faults = g.B.Bay.faults c.args.bay.now } in
+    let mid : Moment = record { is_open = g.B.Bay.is_open c.read_inputs.new.bay; asked = g.B.Bay.asked c.read_inputs.new.bay; left = g.B.Bay.left c.read_inputs.new.bay; held = g.B.Bay.held c.read_inputs.new.bay; offers = g.B.Bay.offers c.read_inputs.new.bay; faults = g.B.Bay.faults c.read_inputs.new.bay } in
     let plan = plan_in c.args.plan.now in
     let bytes = map (λ bytes. bytes.items) c.in_ok-inputs.inputs.items in
     let lists = lists_in c.in_ok-lists.lists.items in
@@ -49,9 +49,9 @@ write_texts-requires-clause-texts g c =
 
 pub returns-in_err-write_texts-clause-ends : goal.returns-in_err-write_texts-clause-ends
 returns-in_err-write_texts-clause-ends g c =
-    let old : Moment = record { is_open = g.B.Bay.is_open c.args.bay.now; asked = g.B.Bay.asked c.args.bay.now; left = g.B.Bay.left c.args.bay.now; held = g.B.Bay.held c.args.bay.now; faults = g.B.Bay.faults c.args.bay.now } in
-    let mid : Moment = record { is_open = g.B.Bay.is_open c.read_inputs.new.bay; asked = g.B.Bay.asked c.read_inputs.new.bay; left = g.B.Bay.left c.read_inputs.new.bay; held = g.B.Bay.held c.read_inputs.new.bay; faults = g.B.Bay.faults c.read_inputs.new.bay } in
-    let new : Moment = record { is_open = g.B.Bay.is_open c.write_texts.new.bay; asked = g.B.Bay.asked c.write_texts.new.bay; left = g.B.Bay.left c.write_texts.new.bay; held = g.B.Bay.held c.write_texts.new.bay; faults = g.B.Bay.faults c.write_texts.new.bay } in
+    let old : Moment = record { is_open = g.B.Bay.is_open c.args.bay.now; asked = g.B.Bay.asked c.args.bay.now; left = g.B.Bay.left c.args.bay.now; held = g.B.Bay.held c.args.bay.now; offers = g.B.Bay.offers c.args.bay.now; faults = g.B.Bay.faults c.args.bay.now } in
+    let mid : Moment = record { is_open = g.B.Bay.is_open c.read_inputs.new.bay; asked = g.B.Bay.asked c.read_inputs.new.bay; left = g.B.Bay.left c.read_inputs.new.bay; held = g.B.Bay.held c.read_inputs.new.bay; offers = g.B.Bay.offers c.read_inputs.new.bay; faults = g.B.Bay.faults c.read_inputs.new.bay } in
+    let new : Moment = record { is_open = g.B.Bay.is_open c.write_texts.new.bay; asked = g.B.Bay.asked c.write_texts.new.bay; left = g.B.Bay.left c.write_texts.new.bay; held = g.B.Bay.held c.write_texts.new.bay; offers = g.B.Bay.offers c.write_texts.new.bay; faults = g.B.Bay.faults c.write_texts.new.bay } in
     let plan = plan_in c.args.plan.now in
     let bytes = map (λ bytes. bytes.items) c.in_ok-inputs.inputs.items in
     let lists = lists_in c.in_ok-lists.lists.items in
@@ -68,9 +68,9 @@ returns-in_err-write_texts-clause-ends g c =
 
 pub returns-clause-ends : goal.returns-clause-ends
 returns-clause-ends g c =
-    let old : Moment = record { is_open = g.B.Bay.is_open c.args.bay.now; asked = g.B.Bay.asked c.args.bay.now; left = g.B.Bay.left c.args.bay.now; held = g.B.Bay.held c.args.bay.now; faults = g.B.Bay.faults c.args.bay.now } in
-    let mid : Moment = record { is_open = g.B.Bay.is_open c.read_inputs.new.bay; asked = g.B.Bay.asked c.read_inputs.new.bay; left = g.B.Bay.left c.read_inputs.new.bay; held = g.B.Bay.held c.read_inputs.new.bay; faults = g.B.Bay.faults c.read_inputs.new.bay } in
-    let new : Moment = record { is_open = g.B.Bay.is_open c.write_texts.new.bay; asked = g.B.Bay.asked c.write_texts.new.bay; left = g.B.Bay.left c.write_texts.new.bay; held = g.B.Bay.held c.write_texts.new.bay; faults = g.B.Bay.faults c.write_texts.new.bay } in
+    let old : Moment = record { is_open = g.B.Bay.is_open c.args.bay.now; asked = g.B.Bay.asked c.args.bay.now; left = g.B.Bay.left c.args.bay.now; held = g.B.Bay.held c.args.bay.now; offers = g.B.Bay.offers c.args.bay.now; faults = g.B.Bay.faults c.args.bay.now } in
+    let mid : Moment = record { is_open = g.B.Bay.is_open c.read_inputs.new.bay; asked = g.B.Bay.asked c.read_inputs.new.bay; left = g.B.Bay.left c.read_inputs.new.bay; held = g.B.Bay.held c.read_inputs.new.bay; offers = g.B.Bay.offers c.read_inputs.new.bay; faults = g.B.Bay.faults c.read_inputs.new.bay } in
+    let new : Moment = record { is_open = g.B.Bay.is_open c.write_texts.new.bay; asked = g.B.Bay.asked c.write_texts.new.bay; left = g.B.Bay.left c.write_texts.new.bay; held = g.B.Bay.held c.write_texts.new.bay; offers = g.B.Bay.offers c.write_texts.new.bay; faults = g.B.Bay.faults c.write_texts.new.bay } in
     let plan = plan_in c.args.plan.now in
     let bytes = map (λ bytes. bytes.items) c.in_ok-inputs.inputs.items in
     let lists = lists_in c.in_ok-lists.lists.items in
@@ -84,4 +84,4 @@ returns-clause-ends g c =
     let count : length plan.outputs ≡ length c.args.plan.now.outputs.now = length-map c.args.plan.now.outputs.now (λ name. name.now) in
     let writes : AreWritten plan.outputs texts.outputs (length plan.outputs) (length plan.outputs) mid new =
     subst (λ n. AreWritten plan.outputs texts.outputs n n mid new) (sym count) c.in_ok-write_texts.ensures.written in
-    done_ends plan bytes old mid new have texts outcome same writes c.in_ok-write_texts.ensures.report
+    done_ends plan bytes old mid new have texts outcome same writes c.in_ok-write_texts.ensures.report c.in_ok-write_texts.ensures.offered

@@ -13,7 +13,7 @@ use Rattle.xsk_cli.proofs.plain.run_simulate.Goals as goal
 
 pub returns-in_err-args : goal.returns-in_err-args
 returns-in_err-args g c =
-    let now : Moment = record { is_open = g.B.Bay.is_open c.args.bay.now; asked = g.B.Bay.asked c.args.bay.now; left = g.B.Bay.left c.args.bay.now; held = g.B.Bay.held c.args.bay.now; faults = g.B.Bay.faults c.args.bay.now } in
+    let now : Moment = record { is_open = g.B.Bay.is_open c.args.bay.now; asked = g.B.Bay.asked c.args.bay.now; left = g.B.Bay.left c.args.bay.now; held = g.B.Bay.held c.args.bay.now; offers = g.B.Bay.offers c.args.bay.now; faults = g.B.Bay.faults c.args.bay.now } in
     let words : List Text = map string_bytes c.args.words.now in
     let planned : Option Plan = simulate_plan words in
     let error = c.in_err-args.field-0.0 in
@@ -26,7 +26,7 @@ run_plan-requires-clause-ready g c = plan_ready (under c.in_ok-args.args) (plan_
 
 pub returns-in_err-plan : goal.returns-in_err-plan
 returns-in_err-plan g c =
-    let now : Moment = record { is_open = g.B.Bay.is_open c.args.bay.now; asked = g.B.Bay.asked c.args.bay.now; left = g.B.Bay.left c.args.bay.now; held = g.B.Bay.held c.args.bay.now; faults = g.B.Bay.faults c.args.bay.now } in
+    let now : Moment = record { is_open = g.B.Bay.is_open c.args.bay.now; asked = g.B.Bay.asked c.args.bay.now; left = g.B.Bay.left c.args.bay.now; held = g.B.Bay.held c.args.bay.now; offers = g.B.Bay.offers c.args.bay.now; faults = g.B.Bay.faults c.args.bay.now } in
     let words : List Text = map string_bytes c.args.words.now in
     let planned : Option Plan = simulate_plan words in
     let unlawful = c.in_err-plan.field-0.0 in
