@@ -9,8 +9,9 @@ use Rattle.xsk_socket.specs.declared.layout.Layout.{Layout}
 use Rattle.xsk_socket.specs.declared.layout.Unlawful.TheVariants.{Files}
 use Rattle.xsk_socket.specs.Layout.{fault_of, is_count, is_port_count}
 use Rattle.xsk_socket.proofs.Accepted.{files_are}
-use Rattle.xsk_cli.specs.Words.{Plan, are_made, counted, fault_in, files_in, layout_by, inputs_named, number_of, number_or, plan_by, plan_of}
+use Rattle.xsk_cli.specs.Words.{Plan, are_made, counted, fault_in, files_in, layout_by, inputs_named, number_of, number_or, plan_by, plan_of, ports_of}
 use Rattle.xsk_cli.specs.Steps.{IsReady, with_one_socket}
+use Rattle.xsk_cli.proofs.Making.{few_ports}
 use Rattle.xsk_cli.specs.declared.words.Work.TheVariants.{Simulate}
 use Rattle.std.proofs.lemmas.List.{length-drop, length-take-le}
 
@@ -24,34 +25,34 @@ some_wanted false = omega arith
 pub no_files : (said : Meaning) → said (codes "FILE") ≡ None → fault_of (layout_by said) ≡ Some (Files 0)
 no_files said none =
     let files : counted (length (files_in said)) ≡ 0 = ap (λ o. counted (length (unwrap_or o []))) none in
-    fault_files (layout_by said) refl refl refl (ne_eqb (counted (length (files_in said))) (cond (are_made said) 1 2 * 2) (λ e. omega (arith, e, files, some_wanted (are_made said))))
+    fault_files (layout_by said) refl refl refl (ne_eqb (counted (length (files_in said))) (cond (are_made said) 1 2 * ports_of said) (λ e. omega (arith, e, files, some_wanted (are_made said))))
     ∙ ap (λ n. Some (Files n)) files
 
 counted_few : (n m : ℕ) → counted n ≡ m → m < 4294967295 → n ≡ m
 counted_few n m is few = grind (arith, nat_tests)
 
 -- as many files as the plan wants
-pub files_named : (said : Meaning) → fault_of (layout_by said) ≡ None → length (files_in said) ≡ inputs_named said + 2
-files_named said none = go (are_made said) (files_are (layout_by said) none)
+pub files_named : (said : Meaning) → fault_of (layout_by said) ≡ None → length (files_in said) ≡ inputs_named said + ports_of said
+files_named said none = go (are_made said) (ports_of said) (few_ports (layout_by said) none) (files_are (layout_by said) none)
   where
-    go : (made : Bool) → counted (length (files_in said)) ≡ cond made 1 2 * 2 → length (files_in said) ≡ cond made 0 2 + 2
-    go true is = counted_few (length (files_in said)) 2 is (omega arith)
-    go false is = counted_few (length (files_in said)) 4 is (omega arith)
+    go : (made : Bool) (ports : ℕ) → ports ≤ 4 → counted (length (files_in said)) ≡ cond made 1 2 * ports → length (files_in said) ≡ cond made 0 ports + ports
+    go true ports few is = omega (arith, counted_few (length (files_in said)) (1 * ports) is (omega (arith, few)))
+    go false ports few is = omega (arith, counted_few (length (files_in said)) (2 * ports) is (omega (arith, few)))
 
 -- the plan that words ask for wants the files that they name
-ready_by : (layout : Layout) (order : ℕ) (number : Option ℕ) (files : List Text) → fault_of layout ≡ None → with_one_socket layout ≡ layout → length files ≡ cond (is_some number) 0 2 + 2
-    → IsReady (record { inputs = take (cond (is_some number) 0 2) files; outputs = drop (cond (is_some number) 0 2) files; work = Simulate layout order number })
+ready_by : (layout : Layout) (order : ℕ) (number : Option ℕ) (files : List Text) → fault_of layout ≡ None → with_one_socket layout ≡ layout → length files ≡ cond (is_some number) 0 layout.ports + layout.ports
+    → IsReady (record { inputs = take (cond (is_some number) 0 layout.ports) files; outputs = drop (cond (is_some number) 0 layout.ports) files; work = Simulate layout order number })
 ready_by layout order None files accepted one count = record {
   accepted = accepted;
   one = one;
-  inputs = omega (arith, length-take-le 2 files (omega (arith, count)), ap (λ (l : Layout). l.ports) one);
-  outputs = omega (arith, length-drop 2 files, count, ap (λ (l : Layout). l.ports) one);
+  inputs = length-take-le layout.ports files (omega (arith, count));
+  outputs = omega (arith, length-drop layout.ports files, count);
 }
 ready_by layout order (Some n) files accepted one count = record {
   accepted = accepted;
   one = one;
   inputs = refl;
-  outputs = omega (arith, count, ap (λ (l : Layout). l.ports) one);
+  outputs = omega (arith, count);
 }
 
 pub plan_ready : (said : Meaning) (plan : Plan) → plan ≡ plan_by said → fault_in plan.work ≡ None → IsReady plan

@@ -55,11 +55,15 @@ are_made said = is_some (number_of said (codes "gen"))
 abbrev pub counted : ℕ → ℕ
 counted n = if nat_lt n 4294967296 then n else 4294967295
 
--- what is asked for: two ports with one queue each, and one socket on each queue; with `sg` packets may have several frames
+-- the ports of a command
+abbrev pub ports_of : Meaning → ℕ
+ports_of said = 2
+
+-- what is asked for: its ports with one queue each, and one socket on each queue; with `sg` packets may have several frames
 -- (af_xdp.rst, "XDP_USE_SG bind flag")
 abbrev pub layout_by : Meaning → Layout
 layout_by said = record {
-  ports = 2;
+  ports = ports_of said;
   queues = 1;
   sockets = 1;
   files = counted (length (files_in said));
@@ -78,7 +82,7 @@ layout_by said = record {
 
 -- the files are an input for each port, but where the packets are made, and then an output for each port
 abbrev pub inputs_named : Meaning → ℕ
-inputs_named said = if are_made said then 0 else 2
+inputs_named said = if are_made said then 0 else ports_of said
 
 abbrev pub plan_by : Meaning → Plan
 plan_by said = record {

@@ -9,7 +9,7 @@ ghost use Rattle.xsk_cli.specs.Words.{counted, fault_in, files_in, gen_plan, lay
 use xsk_args::{Args, parse_number};
 use xsk_socket::{Layout, Unlawful, check_layout};
 
-/// The ports of a simulation.
+/// The ports of a command. No option tells others yet.
 const PORTS: u32 = 2;
 
 /// What is made of the files that a command reads.
@@ -50,7 +50,11 @@ impl<'p, 'w> Plan<'p, 'w> {
         check_layout(&layout)?;
         let order = args.number("order").unwrap_or(0);
         let number = args.number("gen");
-        let named = if number.is_some() { 0 } else { PORTS as usize };
+        let named = if number.is_some() {
+            0
+        } else {
+            layout.ports as usize
+        };
         let (inputs, outputs) = files.split_at(named);
         Ok(Plan {
             inputs,
@@ -64,7 +68,7 @@ impl<'p, 'w> Plan<'p, 'w> {
     }
 }
 
-/// The layout that was asked for: two ports with one queue each, and one socket on each queue.
+/// The layout that was asked for: its ports with one queue each, and one socket on each queue.
 fn layout_of(args: &Args<'_>) -> Layout
     ensures { result ≡ layout_by (under args.now) }
 {

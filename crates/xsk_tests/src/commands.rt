@@ -3,9 +3,10 @@ ghost use Rattle.std.specs.Prelude.{◌≡◌, false, IfOk};
 ghost use Rattle.xsk_io.specs.declared.bay.Stream.{Stream as AStream};
 ghost use Rattle.xsk_io.specs.Memory.{is_open_of};
 
+use crate::run::run;
 use std::alloc::Global;
 use std::test::Fail;
-use xsk_cli::{Excess, Status, run_plain};
+use xsk_cli::{Excess, Status};
 use xsk_io::{SteadyBay, Stream};
 use xsk_pcap::BadCapture;
 
@@ -67,7 +68,7 @@ pub(crate) fn simulate_words(alloc: Global) -> Result<Vec<String>, Fail> {
 fn simulated(alloc: Global, in0: &[u8], in1: &[u8]) -> Result<(Status, SteadyBay), Fail> {
     let words = simulate_words(alloc)?;
     let mut bay = bay_over(alloc, in0, in1)?;
-    let status = run_plain(alloc, words.as_slice(), &mut bay);
+    let status = run(alloc, words.as_slice(), &mut bay);
     Ok((status, bay))
 }
 
@@ -170,7 +171,7 @@ fn words_that_are_no_command_are_refused(rt: HostRuntime) -> Result<(), Fail> {
             words.push(String::from_str(rt.alloc(), word)?)?;
         }
         let mut bay = bay_over(rt.alloc(), &HEADER, &HEADER)?;
-        let status = run_plain(rt.alloc(), words.as_slice(), &mut bay);
+        let status = run(rt.alloc(), words.as_slice(), &mut bay);
         assert_eq!(rt; status, Status::Usage);
         assert_eq!(rt; status.exit_status(), 2);
         assert!(rt; holds(&bay, Stream::Report, b"usage\n".as_slice()));
@@ -185,7 +186,7 @@ fn files_behind_two_hyphens_may_begin_with_one(rt: HostRuntime) -> Result<(), Fa
         words.push(String::from_str(rt.alloc(), word)?)?;
     }
     let mut bay = bay_over(rt.alloc(), &HEADER, &HEADER)?;
-    let status = run_plain(rt.alloc(), words.as_slice(), &mut bay);
+    let status = run(rt.alloc(), words.as_slice(), &mut bay);
     assert_eq!(rt; status, Status::Done);
     Ok(())
 }

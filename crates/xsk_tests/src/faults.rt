@@ -4,9 +4,10 @@ ghost use Rattle.xsk_io.specs.declared.bay.Stream.{Stream as AStream};
 ghost use Rattle.xsk_io.specs.Memory.{is_open_of};
 
 use crate::commands::{HEADER, capture_of, simulate_words};
+use crate::run::run;
 use std::alloc::Global;
 use std::test::Fail;
-use xsk_cli::{Status, run_plain};
+use xsk_cli::Status;
 use xsk_io::{Fail as FailingCall, MemoryBay, Stream};
 
 /// The room of each output.
@@ -30,7 +31,7 @@ fn ended(alloc: Global, fails: &[FailingCall], most: u32) -> Result<(Status, Mem
     let words = simulate_words(alloc)?;
     let mut bay = bay_with(alloc, fails)?;
     bay.take_at_most(most);
-    let status = run_plain(alloc, words.as_slice(), &mut bay);
+    let status = run(alloc, words.as_slice(), &mut bay);
     Ok((status, bay))
 }
 

@@ -1,9 +1,10 @@
 //! Commands over files that can't be read or written.
 
 use crate::commands::HEADER;
+use crate::run::run;
 use std::alloc::Global;
 use std::test::Fail;
-use xsk_cli::{Status, run_plain};
+use xsk_cli::Status;
 use xsk_io::{Bay, FileBay, Stream, write_whole};
 
 fn words_of(alloc: Global, files: [&str; 4]) -> Result<Vec<String>, Fail> {
@@ -54,7 +55,7 @@ fn faults_of_files_are_told_by_their_streams(rt: HostRuntime) -> Result<(), Fail
     for (files, status, exit) in cases {
         let words = words_of(rt.alloc(), files)?;
         let mut bay = FileBay::new(&rt);
-        let answer = run_plain(rt.alloc(), words.as_slice(), &mut bay);
+        let answer = run(rt.alloc(), words.as_slice(), &mut bay);
         assert_eq!(rt; answer, status);
         assert_eq!(rt; answer.exit_status(), exit);
     }

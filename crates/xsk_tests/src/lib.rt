@@ -14,4 +14,6 @@ mod options;
 #[cfg(test)]
 mod refusals;
 #[cfg(test)]
+mod run;
+#[cfg(test)]
 mod several_frames;

@@ -1,9 +1,10 @@
 //! Two hundred packets of each port cross in one run: the longest that fit, some a byte too long, and short ones.
 
 use crate::commands::{HEADER, holds, simulate_words};
+use crate::run::run;
 use std::alloc::Global;
 use std::test::Fail;
-use xsk_cli::{Status, run_plain};
+use xsk_cli::Status;
 use xsk_io::{SteadyBay, Stream};
 
 /// The packets' lengths by turns.
@@ -45,7 +46,7 @@ fn two_hundred_packets_of_each_port_cross_in_order(rt: HostRuntime) -> Result<()
     let Ok(mut bay) = SteadyBay::new(rt.alloc(), inputs, ROOM) else {
         return Err("out of memory")?;
     };
-    let status = run_plain(rt.alloc(), words.as_slice(), &mut bay);
+    let status = run(rt.alloc(), words.as_slice(), &mut bay);
     assert_eq!(rt; status, Status::Done);
     assert!(rt; holds(&bay, Stream::Output(0), expected.as_slice()));
     assert!(rt; holds(&bay, Stream::Output(1), expected.as_slice()));

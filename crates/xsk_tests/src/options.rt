@@ -4,9 +4,10 @@ ghost use Rattle.xsk_io.specs.declared.bay.Stream.{Stream as AStream};
 ghost use Rattle.xsk_io.specs.Memory.{is_open_of};
 
 use crate::commands::{HEADER, capture_of, holds};
+use crate::run::run;
 use std::alloc::Global;
 use std::test::Fail;
-use xsk_cli::{Status, run_plain};
+use xsk_cli::Status;
 use xsk_io::{SteadyBay, Stream};
 
 /// The room of each output.
@@ -31,7 +32,7 @@ fn answered(alloc: Global, line: &str) -> Result<(Status, SteadyBay), Fail> {
         words.push(String::from_str(alloc, word)?)?;
     }
     let mut bay = bay_with_one(alloc)?;
-    let status = run_plain(alloc, words.as_slice(), &mut bay);
+    let status = run(alloc, words.as_slice(), &mut bay);
     Ok((status, bay))
 }
 

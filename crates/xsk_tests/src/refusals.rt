@@ -1,9 +1,10 @@
 //! Refusals of large inputs, with their lines.
 
 use crate::commands::{HEADER, bay_over, capture_of, holds, simulate_words};
+use crate::run::run;
 use std::alloc::Global;
 use std::test::Fail;
-use xsk_cli::{Excess, Status, run_plain};
+use xsk_cli::{Excess, Status};
 use xsk_io::{SteadyBay, Stream};
 
 /// The most captured bytes of one packet.
@@ -30,7 +31,7 @@ fn long_capture(alloc: Global, packets: u32, last: u32) -> Result<Vec<u8>, Fail>
 fn answered(alloc: Global, in0: &[u8], in1: &[u8]) -> Result<(Status, SteadyBay), Fail> {
     let words = simulate_words(alloc)?;
     let mut bay = bay_over(alloc, in0, in1)?;
-    let status = run_plain(alloc, words.as_slice(), &mut bay);
+    let status = run(alloc, words.as_slice(), &mut bay);
     Ok((status, bay))
 }
 

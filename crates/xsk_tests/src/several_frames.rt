@@ -1,9 +1,10 @@
 //! Packets of one frame and of several, up to 18 with `--sg`, and those that are too long.
 
 use crate::commands::{HEADER, holds, simulate_words};
+use crate::run::run;
 use std::alloc::Global;
 use std::test::Fail;
-use xsk_cli::{Status, run_plain};
+use xsk_cli::Status;
 use xsk_io::{SteadyBay, Stream};
 
 /// The packets' lengths: a frame's payload and a byte more, three frames, 18 frames' payload and a byte more.
@@ -37,7 +38,7 @@ fn simulated_with(alloc: Global, option: &str) -> Result<(Status, SteadyBay), Fa
     let Ok(mut bay) = SteadyBay::new(alloc, inputs, ROOM) else {
         return Err("out of memory")?;
     };
-    let status = run_plain(alloc, words.as_slice(), &mut bay);
+    let status = run(alloc, words.as_slice(), &mut bay);
     Ok((status, bay))
 }
 
