@@ -6,7 +6,7 @@ use Rattle.xsk_io.specs.declared.bay.Stream.{Stream}
 use Rattle.xsk_io.specs.declared.bay.Stream.TheVariants.{Report}
 use Rattle.xsk_io.proofs.Steps.{Adds-none}
 use Rattle.xsk_socket.specs.declared.layout.Unlawful.{Unlawful}
-use Rattle.xsk_cli.specs.Cause.{IsCaused, NeverFalls}
+use Rattle.xsk_cli.specs.Cause.{IsCaused, NeverFalls, NoOthers}
 use Rattle.xsk_cli.specs.Ends.{Ends}
 use Rattle.xsk_cli.specs.Steps.{Comes, args_status}
 use Rattle.xsk_args.specs.declared.error.ArgsError.{ArgsError}
@@ -27,6 +27,7 @@ module _ (planned : Option Plan) (old : Moment) (closed : (stream : Stream) → 
     silent = λ _. (refl, Adds-none (old.offers Report));
     cause = tt;
     falls = λ kind stream. omega arith;
+    others = λ kind stream other. refl;
     uncounted = λ _ kind stream. refl;
   }
 
@@ -39,6 +40,7 @@ module _ (planned : Option Plan) (old : Moment) (closed : (stream : Stream) → 
     silent = λ _. (refl, Adds-none (old.offers Report));
     cause = tt;
     falls = λ kind stream. omega arith;
+    others = λ kind stream other. refl;
     uncounted = λ no. absurd no;
   }
 
@@ -58,12 +60,13 @@ module _ (planned : Option Plan) (old : Moment) (closed : (stream : Stream) → 
     silent = λ _. (refl, Adds-none (old.offers Report));
     cause = tt;
     falls = λ kind stream. omega arith;
+    others = λ kind stream other. refl;
     uncounted = λ _ kind stream. refl;
   }
 
 pub plan_comes : (planned : Option Plan) (plan : Plan) (old new : Moment) (status : Status) → planned ≡ Some plan → fault_in plan.work ≡ None → (IsAtOnce status → ⊥) → Ends plan old new status
-    → (HasLine status → IsSilent old new) → IsCaused old.faults new.faults status → NeverFalls old.faults new.faults → Comes planned old new status
-plan_comes planned plan old new status is accepted begun ends silent cause falls = record {
+    → (HasLine status → IsSilent old new) → IsCaused old.faults new.faults status → NeverFalls old.faults new.faults → NoOthers old.faults new.faults status → Comes planned old new status
+plan_comes planned plan old new status is accepted begun ends silent cause falls others = record {
   usage = λ e. absurd (begun (subst IsAtOnce (sym e) tt));
   unplanned = λ none. let no = sym is ∙ none in absurd cc;
   refused = λ other reason same faulty.
@@ -74,6 +77,7 @@ plan_comes planned plan old new status is accepted begun ends silent cause falls
   silent = silent;
   cause = cause;
   falls = falls;
+  others = others;
   uncounted = λ at_once. absurd (begun at_once);
 }
 

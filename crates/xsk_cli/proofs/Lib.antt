@@ -8,4 +8,5 @@ pub mod Answering
 pub mod Coming
 pub mod Making
 pub mod Outputs
+pub mod Counting
 pub mod Planning

@@ -16,7 +16,7 @@ use Rattle.xsk_args.specs.declared.error.ArgsError.TheVariants.{Usage as IsUsage
 use Rattle.xsk_cli.specs.declared.run.Texts.{Texts}
 use Rattle.xsk_cli.specs.declared.words.Plan.{Plan as CodePlan}
 use Rattle.xsk_cli.specs.Words.{Plan, fault_in, no_plan}
-use Rattle.xsk_cli.specs.Cause.{IsCaused, NeverFalls}
+use Rattle.xsk_cli.specs.Cause.{IsCaused, NeverFalls, NoOthers}
 use Rattle.xsk_cli.specs.Ends.{Ends}
 use Rattle.xsk_cli.specs.declared.words.Work.{Work}
 use Rattle.xsk_cli.specs.declared.words.Work.TheVariants.{Simulate, Generate}
@@ -93,6 +93,7 @@ pub record Comes (planned : Option Plan) (old new : Moment) (status : Status) : 
   pub silent : HasLine status → IsSilent old new
   pub cause : IsCaused old.faults new.faults status
   pub falls : NeverFalls old.faults new.faults
+  pub others : NoOthers old.faults new.faults status
   pub uncounted : IsAtOnce status → (kind : Kind) → Same (old.faults kind) (new.faults kind)
 
 -- ---- reading

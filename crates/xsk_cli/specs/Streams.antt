@@ -125,6 +125,10 @@ HasLine Done = ⊥
 HasLine (WriteFault stream) = ⊥
 HasLine status = Unit {0}
 
+-- a write of the line
+abbrev pub IsOfLine : Status → Kind → Stream → Type 0
+IsOfLine status kind stream = HasLine status × (kind ≡ Write) × (stream ≡ Report)
+
 -- the report was offered the line as one piece, and then its rest, and nothing else, and got it or, where a write failed, a
 -- front of it
 abbrev pub GotLine : List ℕ → Moment → Moment → Type 0

@@ -3,7 +3,7 @@ ghost use Rattle.std.specs.Prelude.{◌≡◌, ℕ, ◌<◌, ◌≤◌, false, t
 ghost use Rattle.std.specs.Io.KnownBytes.{IsAtEnd};
 ghost use Rattle.xsk_io.specs.Bay.{Same, SameBut};
 ghost use Rattle.xsk_io.specs.declared.bay.Stream.{Stream as AStream};
-ghost use Rattle.xsk_cli.specs.Cause.{IsCaused, NeverFalls};
+ghost use Rattle.xsk_cli.specs.Cause.{IsCaused, NeverFalls, NoOthers, Unchanged};
 ghost use Rattle.xsk_cli.specs.Ends.{Ends};
 ghost use Rattle.xsk_cli.specs.Steps.{FailsReading, HaveRead, read_status};
 ghost use Rattle.xsk_cli.specs.Streams.{IsTold};
@@ -34,6 +34,8 @@ pub(crate) fn read_inputs<B: Bay>(
     ensures report { B.held bay.new Stream.Report ≡ B.held bay.old Stream.Report }
     ensures offers { Same (B.offers bay.old) (B.offers bay.new) }
     ensures falls { NeverFalls (B.faults bay.old) (B.faults bay.new) }
+    ensures unchanged { OnOk result (Unchanged (B.faults bay.old) (B.faults bay.new)) }
+    ensures others { IfErr result (λ failure. NoOthers (B.faults bay.old) (B.faults bay.new) (read_status failure)) }
     ensures cause { IfErr result (λ failure. IsCaused (B.faults bay.old) (B.faults bay.new) (read_status failure)) }
 {
     let mut inputs = Vec::with_capacity(alloc, names.len())?;
@@ -63,6 +65,8 @@ fn read_input<B: Bay>(
     ensures asked { IsTold (B.asked bay.new (Stream.Input port)) name.now }
     ensures left { SameBut (Stream.Input port) (B.left bay.old) (B.left bay.new) }
     ensures opened { SameBut (Stream.Input port) (B.is_open bay.old) (B.is_open bay.new) }
+    ensures unchanged { OnOk result (Unchanged (B.faults bay.old) (B.faults bay.new)) }
+    ensures others { IfErr result (λ failure. NoOthers (B.faults bay.old) (B.faults bay.new) (read_status failure)) }
     ensures asked_others { SameBut (Stream.Input port) (B.asked bay.old) (B.asked bay.new) }
     ensures held { SameBut (Stream.Input port) (B.held bay.old) (B.held bay.new) }
     ensures offers { Same (B.offers bay.old) (B.offers bay.new) }

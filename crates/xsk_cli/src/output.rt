@@ -1,7 +1,7 @@
 //! The outputs of a command, and its report.
 ghost use Rattle.std.specs.Prelude.{◌≡◌, ℕ, ◌<◌, ◌≤◌, [], false, true, length, map, IfErr, OnOk};
 ghost use Rattle.xsk_io.specs.Bay.{Adds, AddsNoneBut, Same, SameBut, Grows, IsOffered};
-ghost use Rattle.xsk_cli.specs.Cause.{IsCaused, NeverFalls};
+ghost use Rattle.xsk_cli.specs.Cause.{IsCaused, NeverFalls, NoOthers, Unchanged};
 ghost use Rattle.xsk_cli.specs.Steps.{FailsOutput, FailsOutputs, FailsWriting, write_status, written_in};
 ghost use Rattle.xsk_cli.specs.Streams.{AreWritten, IsTold};
 
@@ -30,6 +30,8 @@ pub(crate) fn write_texts<B: Bay>(
     ensures asked { (port : ℕ) → B.asked bay.new (Stream.Input port) ≡ B.asked bay.old (Stream.Input port) }
     ensures left { Same (B.left bay.old) (B.left bay.new) }
     ensures falls { NeverFalls (B.faults bay.old) (B.faults bay.new) }
+    ensures unchanged { OnOk result (Unchanged (B.faults bay.old) (B.faults bay.new)) }
+    ensures others { IfErr result (λ failure. NoOthers (B.faults bay.old) (B.faults bay.new) (write_status failure)) }
     ensures cause { IfErr result (λ failure. IsCaused (B.faults bay.old) (B.faults bay.new) (write_status failure)) }
 {
     write_outputs(bay, names, texts.outputs.as_slice())?;
@@ -56,6 +58,8 @@ fn write_outputs<B: Bay>(bay: &mut B, names: &[&str], texts: &[Vec<u8>]) -> Resu
     ensures asked { (port : ℕ) → B.asked bay.new (Stream.Input port) ≡ B.asked bay.old (Stream.Input port) }
     ensures left { Same (B.left bay.old) (B.left bay.new) }
     ensures falls { NeverFalls (B.faults bay.old) (B.faults bay.new) }
+    ensures unchanged { OnOk result (Unchanged (B.faults bay.old) (B.faults bay.new)) }
+    ensures others { IfErr result (λ failure. NoOthers (B.faults bay.old) (B.faults bay.new) (write_status failure)) }
     ensures cause { IfErr result (λ failure. IsCaused (B.faults bay.old) (B.faults bay.new) (write_status failure)) }
 {
     for port in 0..names.len() as u32 {
@@ -86,6 +90,8 @@ fn write_output<B: Bay>(bay: &mut B, port: u32, name: &str, text: &[u8]) -> Resu
     ensures asked_others { SameBut (Stream.Output port) (B.asked bay.old) (B.asked bay.new) }
     ensures left { Same (B.left bay.old) (B.left bay.new) }
     ensures falls { NeverFalls (B.faults bay.old) (B.faults bay.new) }
+    ensures unchanged { OnOk result (Unchanged (B.faults bay.old) (B.faults bay.new)) }
+    ensures others { IfErr result (λ failure. NoOthers (B.faults bay.old) (B.faults bay.new) (write_status failure)) }
 {
     let stream = Stream::Output(port);
     if bay.open(stream, name).is_err() {

@@ -5,12 +5,12 @@ ghost use Rattle.xsk_io.specs.declared.bay.Kind.{Kind};
 ghost use Rattle.xsk_io.specs.declared.bay.Stream.{Stream as AStream};
 ghost use Rattle.xsk_pcap.specs.declared.reading.BadCapture.TheVariants.{OutOfMemory as NoMemory};
 ghost use Rattle.xsk_socket.specs.declared.layout.Unlawful.{Unlawful as AnUnlawful};
-ghost use Rattle.xsk_cli.specs.Cause.{IsCaused, NeverFalls};
+ghost use Rattle.xsk_cli.specs.Cause.{IsCaused, IsFault, NeverFalls, NoOthers, Unchanged};
 ghost use Rattle.xsk_cli.specs.Ends.{Answers, AreTaken, AreTold, Ends, IsComplete, NoneRose};
 ghost use Rattle.xsk_cli.specs.Line.{line_of};
 ghost use Rattle.xsk_cli.specs.Outcome.{IsOutcome, Outcome};
 ghost use Rattle.xsk_cli.specs.Steps.{Comes, IsReady, plan_in};
-ghost use Rattle.xsk_cli.specs.Streams.{GotLine, HasLine, IsAtOnce, IsSilent, status_in};
+ghost use Rattle.xsk_cli.specs.Streams.{GotLine, HasLine, IsAtOnce, IsOfLine, IsSilent, status_in};
 ghost use Rattle.xsk_cli.specs.Words.{Plan as APlan, fault_in, gen_plan, no_plan, plan_of, simulate_plan};
 
 use crate::Status;
@@ -41,6 +41,9 @@ pub fn run_plain<B: Bay>(alloc: Global, words: &[String], bay: &mut B) -> Status
     ensures refused { (plan : APlan) (unlawful : AnUnlawful) → plan_of (map string_bytes words.now) ≡ Some plan → fault_in plan.work ≡ Some unlawful
         → (result ≡ Status.Refused unlawful) ⊎ (result ≡ Status.OutOfMemory) }
     ensures cause { IsCaused (B.faults bay.old) (B.faults bay.new) result }
+
+    // No call failed but the one that is told, and a write of the line.
+    ensures others { (kind : Kind) (stream : AStream) → (IsFault result kind stream → ⊥) → (IsOfLine result kind stream → ⊥) → B.faults bay.new kind stream ≡ B.faults bay.old kind stream }
     ensures uncounted { IsAtOnce result → CountsOnly Kind.Write Stream.Report (B.faults bay.old) (B.faults bay.new) }
 
     // What the streams are, and why. Where the words are no command it has no streams.
@@ -142,6 +145,7 @@ fn run_plan<B: Bay>(alloc: Global, plan: &Plan<'_, '_>, bay: &mut B) -> Result<(
         (record { is_open = B.is_open bay.old; asked = B.asked bay.old; left = B.left bay.old; held = B.held bay.old; offers = B.offers bay.old; faults = B.faults bay.old })
         (record { is_open = B.is_open bay.new; asked = B.asked bay.new; left = B.left bay.new; held = B.held bay.new; offers = B.offers bay.new; faults = B.faults bay.new }) }
     ensures cause { IsCaused (B.faults bay.old) (B.faults bay.new) (status_in result) }
+    ensures others { NoOthers (B.faults bay.old) (B.faults bay.new) (status_in result) }
     ensures falls { NeverFalls (B.faults bay.old) (B.faults bay.new) }
 {
     let inputs = read_inputs(alloc, bay, plan.inputs)?;
@@ -167,6 +171,7 @@ fn tell<B: Bay>(bay: &mut B, status: &Status)
     ensures left { Same (B.left bay.old) (B.left bay.new) }
     ensures falls { NeverFalls (B.faults bay.old) (B.faults bay.new) }
     ensures counts { CountsOnly Kind.Write Stream.Report (B.faults bay.old) (B.faults bay.new) }
+    ensures unchanged { (HasLine status.now → ⊥) → Unchanged (B.faults bay.old) (B.faults bay.new) }
 {
     match status {
         Status::Done | Status::WriteFault { .. } => {}

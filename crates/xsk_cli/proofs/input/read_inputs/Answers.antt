@@ -4,6 +4,7 @@ use Rattle.xsk_io.specs.declared.bay.Stream.TheVariants.{Input}
 use Rattle.xsk_cli.specs.Steps.{HaveRead}
 use Rattle.xsk_cli.specs.Streams.{Moment, IsTold}
 use Rattle.xsk_cli.specs.declared.failure.ReadFailure.TheVariants.{OutOfMemory}
+use Rattle.xsk_cli.proofs.Counting.{unchanged_then}
 use Rattle.xsk_cli.proofs.Reading.{Touched, read_more, reading_fails, ends_at_once, answer_ends, told_name, known_name}
 use Rattle.xsk_cli.proofs.input.read_inputs.Goals as goal
 
@@ -44,6 +45,7 @@ loop-port-preserved g c =
           (sym (ap (map (λ bytes. bytes.items)) c.push_reserved.ensures.items ∙ map-append (λ bytes. bytes.items) c.loop-port.inputs.items (c.in_ok-bytes.bytes ∷ [])))
           (read_more names bytes port old mid new c.loop-port.invariant.have touched told c.in_ok-bytes.bytes.items
           c.in_ok-bytes.ensures.open c.in_ok-bytes.ensures.bytes c.in_ok-bytes.ensures.short c.in_ok-bytes.ensures.end);
+      unchanged = unchanged_then _ _ _ c.loop-port.invariant.unchanged c.in_ok-bytes.ensures.unchanged;
       falls = search rules;
       count = search rules;
       room = search rules;

@@ -4,6 +4,7 @@ use Rattle.xsk_io.proofs.Steps.{Adds-then}
 use Rattle.xsk_io.specs.declared.bay.Stream.TheVariants.{Output, Report}
 use Rattle.xsk_cli.specs.Steps.{FailsOutput}
 use Rattle.xsk_cli.specs.Streams.{Moment, IsTold}
+use Rattle.xsk_cli.proofs.Counting.{unchanged_then}
 use Rattle.xsk_cli.proofs.Judging.{text_at}
 use Rattle.xsk_cli.proofs.Outputs.{Rewritten, write_more, writing_fails}
 use Rattle.xsk_cli.proofs.Reading.{told_name, known_name}
@@ -50,5 +51,6 @@ loop-port-preserved g c =
       opened = search rules;
       asked = search rules;
       left = search rules;
+      unchanged = unchanged_then _ _ _ c.loop-port.invariant.unchanged c.in_ok-write_output.ensures.unchanged;
       falls = search rules;
     }

@@ -1,7 +1,7 @@
 use Rattle.std.proofs.Common.{◌≡◌, map, ℕ, []}
 use Rattle.xsk_io.specs.Bay.{Adds, Same}
 use Rattle.xsk_io.specs.declared.bay.Stream.TheVariants.{Input, Report}
-use Rattle.xsk_cli.specs.Cause.{NeverFalls}
+use Rattle.xsk_cli.specs.Cause.{NeverFalls, Unchanged}
 use Rattle.xsk_cli.specs.Streams.{AreWritten}
 use Rattle.xsk_cli.proofs.output.write_outputs.Given as goal
 
@@ -15,5 +15,6 @@ invariant-loop-port g l = record {
   opened : (port : ℕ) → g.B.Bay.is_open l.bay (Input port) ≡ g.B.Bay.is_open l.initial.bay (Input port);
   asked : (port : ℕ) → g.B.Bay.asked l.bay (Input port) ≡ g.B.Bay.asked l.initial.bay (Input port);
   left : Same (g.B.Bay.left l.initial.bay) (g.B.Bay.left l.bay);
+  unchanged : Unchanged (g.B.Bay.faults l.initial.bay) (g.B.Bay.faults l.bay);
   falls : NeverFalls (g.B.Bay.faults l.initial.bay) (g.B.Bay.faults l.bay);
 }

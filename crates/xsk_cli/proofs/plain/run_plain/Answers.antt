@@ -2,11 +2,12 @@ use Rattle.std.proofs.Common.{◌≡◌, map, string_bytes, sym, ap, ◌∙◌, 
 use Rattle.std.specs.Prelude.{◌⊎◌, unwrap_or}
 use Rattle.xsk_cli.specs.declared.status.Status.TheVariants.{Refused, OutOfMemory}
 use Rattle.xsk_io.proofs.Steps.{Rose-later}
-use Rattle.xsk_cli.specs.Cause.{IsCaused}
+use Rattle.xsk_cli.specs.Cause.{IsCaused, NoOthers}
 use Rattle.xsk_cli.specs.Ends.{Ends, NoneRose}
 use Rattle.xsk_cli.specs.Streams.{Moment}
 use Rattle.xsk_cli.specs.Words.{no_plan, plan_of}
 use Rattle.xsk_cli.proofs.Answering.{answered, completes}
+use Rattle.xsk_cli.proofs.Counting.{told_others}
 use Rattle.xsk_cli.proofs.Writing.{told_ends}
 use Rattle.xsk_cli.proofs.plain.run_plain.Goals as goal
 
@@ -22,6 +23,11 @@ returns-clause-ends g c =
     let plan = unwrap_or (plan_of (map string_bytes c.args.words.now)) no_plan in
     let ends : Ends plan old mid c.status_of-status.result = subst (λ s. Ends plan old mid s) (sym c.status_of-status.ensures) c.run_words.ensures.ends in
     told_ends plan old mid new c.status_of-status.result ends c.tell.ensures.opened c.tell.ensures.asked c.tell.ensures.left c.tell.ensures.held c.tell.ensures.offers c.tell.ensures.silent
+
+pub returns-clause-others : goal.returns-clause-others
+returns-clause-others g c =
+    told_others _ _ _ c.status_of-status.result (subst (NoOthers (g.B.Bay.faults c.args.bay.now) (g.B.Bay.faults c.run_words.new.bay)) (sym c.status_of-status.ensures) c.run_words.ensures.others)
+    c.tell.ensures.counts c.tell.ensures.unchanged
 
 pub returns-clause-answers : goal.returns-clause-answers
 returns-clause-answers g c plan inputs outcome is told h =
