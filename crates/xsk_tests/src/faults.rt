@@ -8,7 +8,7 @@ use crate::run::run;
 use std::alloc::Global;
 use std::test::Fail;
 use xsk_cli::Status;
-use xsk_io::{Fail as FailingCall, MemoryBay, Stream};
+use xsk_io::{Fail as FailingCall, MemoryBay, Offer, Stream};
 
 /// The room of each output.
 const ROOM: u32 = 65_536;
@@ -40,16 +40,23 @@ fn held(bay: &MemoryBay, stream: Stream) -> Option<usize> {
     Some(bay.output(stream)?.len())
 }
 
+/// What the report holds.
+fn told(bay: &MemoryBay) -> Result<&[u8], Fail> {
+    Ok(bay.output(Stream::Report).ok_or("it isn't told")?)
+}
+
 #[test]
 fn each_open_that_fails_is_told(rt: HostRuntime) -> Result<(), Fail> {
-    for (number, stream, first) in [
-        (1, Stream::Input(0), 0),
-        (2, Stream::Input(1), 0),
-        (3, Stream::Output(0), 0),
-        (4, Stream::Output(1), 24),
+    for (number, stream, first, line) in [
+        (1, Stream::Input(0), 0, "open fault input 0\n"),
+        (2, Stream::Input(1), 0, "open fault input 1\n"),
+        (3, Stream::Output(0), 0, "open fault output 0\n"),
+        (4, Stream::Output(1), 24, "open fault output 1\n"),
     ] {
         let (status, bay) = ended(rt.alloc(), &[FailingCall::Open(number)], ROOM)?;
         assert_eq!(rt; status, Status::OpenFault { stream });
+        assert_eq!(rt; status.exit_status(), 6);
+        assert_eq!(rt; told(&bay)?, line.as_bytes());
         assert_eq!(rt; held(&bay, Stream::Output(0)), Some(first));
         assert_eq!(rt; held(&bay, Stream::Output(1)), Some(0));
     }
@@ -60,9 +67,16 @@ fn each_open_that_fails_is_told(rt: HostRuntime) -> Result<(), Fail> {
 
 #[test]
 fn each_read_that_fails_is_told(rt: HostRuntime) -> Result<(), Fail> {
-    for (number, port) in [(1, 0), (2, 0), (3, 1), (4, 1)] {
+    for (number, port, line) in [
+        (1, 0, "read fault 0\n"),
+        (2, 0, "read fault 0\n"),
+        (3, 1, "read fault 1\n"),
+        (4, 1, "read fault 1\n"),
+    ] {
         let (status, bay) = ended(rt.alloc(), &[FailingCall::Read(number)], ROOM)?;
         assert_eq!(rt; status, Status::ReadFault { port });
+        assert_eq!(rt; status.exit_status(), 4);
+        assert_eq!(rt; told(&bay)?, line.as_bytes());
         assert_eq!(rt; held(&bay, Stream::Output(0)), Some(0));
         assert_eq!(rt; held(&bay, Stream::Output(1)), Some(0));
     }
@@ -84,6 +98,7 @@ fn each_write_that_fails_is_told(rt: HostRuntime) -> Result<(), Fail> {
     ] {
         let (status, bay) = ended(rt.alloc(), &[FailingCall::Write(number)], most)?;
         assert_eq!(rt; status, Status::WriteFault { stream });
+        assert_eq!(rt; status.exit_status(), 5);
         assert_eq!(rt; held(&bay, Stream::Output(0)), Some(first));
         assert_eq!(rt; held(&bay, Stream::Output(1)), Some(second));
         assert_eq!(rt; held(&bay, Stream::Report), Some(report));
@@ -106,5 +121,39 @@ fn texts_are_written_whole_by_short_writes(rt: HostRuntime) -> Result<(), Fail> 
             assert_eq!(rt; held, text);
         }
     }
+    Ok(())
+}
+
+#[test]
+fn a_fault_of_a_refusals_line_changes_nothing(rt: HostRuntime) -> Result<(), Fail> {
+    let fails = [FailingCall::Open(2), FailingCall::Write(2)];
+    let (status, bay) = ended(rt.alloc(), &fails, 7)?;
+    assert_eq!(rt;
+        status,
+        Status::OpenFault {
+            stream: Stream::Input(1)
+        }
+    );
+    assert_eq!(rt; told(&bay)?, b"open fa".as_slice());
+    Ok(())
+}
+
+/// A write of so many bytes, and how many were taken.
+fn offer(stream: Stream, len: usize, taken: usize) -> Offer {
+    Offer { stream, len, taken }
+}
+
+#[test]
+fn each_text_is_offered_as_one_piece_and_then_its_rest(rt: HostRuntime) -> Result<(), Fail> {
+    let (status, bay) = ended(rt.alloc(), &[], 60)?;
+    assert_eq!(rt; status, Status::Done);
+    let offers = bay.offers().ok_or("the writes aren't told")?;
+    let expected = [
+        offer(Stream::Output(0), 24, 24),
+        offer(Stream::Output(1), 100, 60),
+        offer(Stream::Output(1), 40, 40),
+        offer(Stream::Report, 9, 9),
+    ];
+    assert_eq!(rt; offers, expected.as_slice());
     Ok(())
 }

@@ -3,6 +3,7 @@
 use crate::commands::HEADER;
 use crate::run::run;
 use std::alloc::Global;
+use std::fs;
 use std::test::Fail;
 use xsk_cli::Status;
 use xsk_io::{Bay, FileBay, Stream, write_whole};
@@ -58,6 +59,9 @@ fn faults_of_files_are_told_by_their_streams(rt: HostRuntime) -> Result<(), Fail
         let answer = run(rt.alloc(), words.as_slice(), &mut bay);
         assert_eq!(rt; answer, status);
         assert_eq!(rt; answer.exit_status(), exit);
+    }
+    for name in ["in", "out0", "out1"] {
+        fs::remove_file(&rt, name)?;
     }
     Ok(())
 }

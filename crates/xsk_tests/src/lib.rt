@@ -10,8 +10,6 @@ mod files;
 #[cfg(test)]
 mod many_packets;
 #[cfg(test)]
-mod options;
-#[cfg(test)]
 mod refusals;
 #[cfg(test)]
 mod run;

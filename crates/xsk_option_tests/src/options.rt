@@ -1,40 +1,12 @@
 //! Commands with options: layouts that are accepted and refused, orders, and packets that are made.
-ghost use Rattle.std.specs.Prelude.{◌≡◌, false, IfOk};
-ghost use Rattle.xsk_io.specs.declared.bay.Stream.{Stream as AStream};
-ghost use Rattle.xsk_io.specs.Memory.{is_open_of};
 
-use crate::commands::{HEADER, capture_of, holds};
-use crate::run::run;
-use std::alloc::Global;
+use crate::run::{HEADER, answered, capture_of_one, holds};
 use std::test::Fail;
 use xsk_cli::Status;
-use xsk_io::{SteadyBay, Stream};
+use xsk_io::Stream;
 
 /// The room of each output.
 const ROOM: u32 = 4_194_304;
-
-/// A bay with one packet of 60 bytes for port 0 and none for port 1.
-fn bay_with_one(alloc: Global) -> Result<SteadyBay, Fail>
-    ensures { IfOk result (λ bay. (stream : AStream) → is_open_of bay stream ≡ false) }
-{
-    let first = capture_of(alloc, &[60])?;
-    let inputs = vec![in alloc; first, Vec::from_slice(alloc, &HEADER)?]?;
-    match SteadyBay::new(alloc, inputs, ROOM) {
-        Ok(bay) => Ok(bay),
-        Err(_) => Err("out of memory")?,
-    }
-}
-
-/// What the words of a line, parted by spaces, are answered.
-fn answered(alloc: Global, line: &str) -> Result<(Status, SteadyBay), Fail> {
-    let mut words = Vec::new(alloc);
-    for word in line.split(' ') {
-        words.push(String::from_str(alloc, word)?)?;
-    }
-    let mut bay = bay_with_one(alloc)?;
-    let status = run(alloc, words.as_slice(), &mut bay);
-    Ok((status, bay))
-}
 
 #[test]
 fn layouts_are_refused_with_their_values(rt: HostRuntime) -> Result<(), Fail> {
@@ -56,7 +28,7 @@ fn layouts_are_refused_with_their_values(rt: HostRuntime) -> Result<(), Fail> {
         ("simulate a b -- c d --rx 3", "refused files 6\n"),
     ];
     for (line, told) in cases {
-        let (status, bay) = answered(rt.alloc(), line)?;
+        let (status, bay) = answered(rt.alloc(), line, ROOM)?;
         assert_eq!(rt; status.exit_status(), 7, "{line}");
         assert!(rt; holds(&bay, Stream::Report, told.as_bytes()), "{line}");
         assert!(rt; holds(&bay, Stream::Output(0), b"".as_slice()), "{line}");
@@ -84,7 +56,7 @@ fn options_are_read_by_their_rules(rt: HostRuntime) -> Result<(), Fail> {
         "gen 4294967296 x",
         "gen --order 1 x",
     ] {
-        let (status, bay) = answered(rt.alloc(), line)?;
+        let (status, bay) = answered(rt.alloc(), line, ROOM)?;
         assert_eq!(rt; status, Status::Usage, "{line}");
         assert!(rt;
             holds(&bay, Stream::Report, b"usage\n".as_slice()),
@@ -96,13 +68,13 @@ fn options_are_read_by_their_rules(rt: HostRuntime) -> Result<(), Fail> {
 
 #[test]
 fn accepted_layouts_carry_the_packet(rt: HostRuntime) -> Result<(), Fail> {
-    let expected = capture_of(rt.alloc(), &[60])?;
+    let expected = capture_of_one(rt.alloc())?;
     for line in [
         "simulate --frames=000000080 --headroom 256 --rx=32 a b c d",
         "simulate a --chunk 2048 b --order 65536 c --fill 128 --tx 2 d --comp=2",
         "simulate --frames 2 --fill 2 --sg --order=4294967295 a b c d",
     ] {
-        let (status, bay) = answered(rt.alloc(), line)?;
+        let (status, bay) = answered(rt.alloc(), line, ROOM)?;
         assert_eq!(rt; status, Status::Done, "{line}");
         assert!(rt; holds(&bay, Stream::Output(0), HEADER.as_slice()), "{line}");
         assert!(rt;
@@ -115,7 +87,7 @@ fn accepted_layouts_carry_the_packet(rt: HostRuntime) -> Result<(), Fail> {
 
 #[test]
 fn packets_are_made_and_cross(rt: HostRuntime) -> Result<(), Fail> {
-    let (status, bay) = answered(rt.alloc(), "gen 0 x")?;
+    let (status, bay) = answered(rt.alloc(), "gen 0 x", ROOM)?;
     assert_eq!(rt; status, Status::Done);
     let made = bay.output(Stream::Output(0)).ok_or("nothing was written")?;
     let first = made.get(40..55).ok_or("no packet was written")?;
@@ -124,7 +96,7 @@ fn packets_are_made_and_cross(rt: HostRuntime) -> Result<(), Fail> {
     assert!(rt; matches!(first.get(12..15), Some([8, 0, 14])));
     let told = bay.output(Stream::Report).ok_or("nothing was told")?;
     assert!(rt; told.starts_with(b"packets 2000 bytes ".as_slice()));
-    let (status, crossed) = answered(rt.alloc(), "simulate --gen 0 x y")?;
+    let (status, crossed) = answered(rt.alloc(), "simulate --gen 0 x y", ROOM)?;
     assert_eq!(rt; status, Status::Done);
     assert!(rt; holds(&crossed, Stream::Output(1), made));
     Ok(())
