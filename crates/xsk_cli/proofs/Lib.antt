@@ -3,6 +3,7 @@ pub mod Reading
 pub mod Writing
 pub mod Judging
 pub mod Running
+pub mod Short
 pub mod Unique
 pub mod Answering
 pub mod Coming

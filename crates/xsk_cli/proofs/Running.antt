@@ -9,21 +9,28 @@ use Rattle.std.proofs.lemmas.List.{length-map}
 use Rattle.std.proofs.lemmas.List.Sums.{get_or-le-sum_by}
 use Rattle.std.proofs.Math.ListN.{get_or-map}
 use Rattle.xsk_umem.specs.PacketList.{PacketList}
-use Rattle.xsk_model.specs.Config.{Config, map_of}
+use Rattle.xsk_model.specs.Config.{Config, pair_at, classes_of, map_of}
 use Rattle.xsk_model.specs.Rings.{caller_of}
 use Rattle.xsk_model.specs.Sent.{sent}
 use Rattle.xsk_model.specs.Stored.{stored_entry}
-use Rattle.xsk_model.specs.Steering.{paired_port}
+use Rattle.xsk_model.specs.Steering.{paired_port, driver_on}
 use Rattle.xsk_turns.specs.Inputs.{packets_of_port}
 use Rattle.xsk_sim.specs.Shown.{Shown}
 use Rattle.xsk_plain.specs.Log.{calls_of, entries_of, item_of}
 use Rattle.xsk_plain.proofs.Parts.{length-entries}
 use Rattle.xsk_plain.specs.declared.log.Log.{Log}
 use Rattle.xsk_umem.specs.Frame.{Frame}
-use Rattle.xsk_sim.specs.Runs.{HasEnded, HasStalled}
+use Rattle.xsk_sim.specs.Runs.{HasEnded, HasStalled, HasEndedUnder, HasStalledUnder}
+use Rattle.xsk_sim.proofs.Verdicts.{ends_as_ruled, stalls_as_ruled}
+use Rattle.xsk_prog.specs.declared.rule.Rule.TheVariants.{Redirect as ByClass}
+use Rattle.xsk_prog.specs.declared.rule.Verdict.{Verdict}
+use Rattle.xsk_turns.specs.Verdicts.{MeetRule}
+use Rattle.xsk_turns.specs.Workers.{ruled}
+use Rattle.xsk_turns.proofs.Verdicts.{own_setting}
+use Rattle.xsk_model.proofs.Seats.{is_at}
 use Rattle.xsk_laws.specs.Laws.{AreWholeRuns, HasOwnSockets}
 use Rattle.xsk_laws.proofs.Theorems.{all_is_expected}
-use Rattle.xsk_laws.specs.Expected.{has_length}
+use Rattle.xsk_laws.specs.Expected.{received, has_length}
 use Rattle.xsk_laws.proofs.Places.{are_paired}
 use Rattle.xsk_socket.specs.declared.layout.Layout.{Layout}
 use Rattle.xsk_socket.specs.Layout.{fault_of}
@@ -69,8 +76,11 @@ module _ (layout : Layout) (order : ℕ) (lists : List (List (List ℕ))) (accep
   abbrev Ended : Shown → Type 0
   Ended = HasEnded (setting_of layout lists) (frames_of layout) order
 
+  abbrev verdicts : List (List Verdict)
+  verdicts = (setting_of layout lists).verdicts
+
   -- all workers of an ended run have whole runs
-  whole_runs : (run : Shown) → (ended : Ended run) → AreWholeRuns config (map listed lists) (frames_of layout) ended.history
+  whole_runs : (run : Shown) → (ended : Ended run) → AreWholeRuns config (map listed lists) verdicts (frames_of layout) ended.history
   whole_runs run ended = record {
     regular = regular-regular layout (fits layout accepted);
     history = ended.is.legal;
@@ -81,12 +91,26 @@ module _ (layout : Layout) (order : ℕ) (lists : List (List (List ℕ))) (accep
   packets_there : (port : ℕ) → packets_of_port (map listed lists) port ≡ get_or lists port []
   packets_there port = ap (λ (l : PacketList). l.packets) (get_or-map listed lists port [])
 
+  -- each packet of the other port is redirected by its class
+  by_class : (port : ℕ) → port < layout.ports → MeetRule (ByClass 1) 0 (received config (map listed lists) (paired_port port) 0) (get_or verdicts (driver_on config (paired_port port) 0) [])
+  by_class port below =
+      let o = paired_port port in
+      let d = driver_on config o 0 in
+      let other = (are_paired layout.ports port (fits layout accepted).ports below).in_ports in
+      let classes : classes_of config ≡ 1 = (own_sockets layout one).classes in
+      let at = is_at config o 0 0 (regular-config layout (fits layout accepted)) (regular-regular layout (fits layout accepted)) other (some_queues layout one) (omega (arith, classes)) in
+      let sockets : layout.sockets ≡ 1 = sym (ap (λ (l : Layout). l.sockets) one) in
+      subst (λ n. MeetRule (ByClass n) 0 (received config (map listed lists) o 0) (get_or verdicts d [])) sockets
+      (subst (λ q. MeetRule (ByClass layout.sockets) q (received config (map listed lists) o q) (get_or verdicts d [])) at.pair_queue
+      (subst (λ p. MeetRule (ByClass layout.sockets) (pair_at config.pairs d).queue (received config (map listed lists) p (pair_at config.pairs d).queue) (get_or verdicts d [])) at.pair_port
+      ((own_setting (ByClass layout.sockets) config (map listed lists)).each d at.pair_known)))
+
   -- each driver sent what the other port received, as far as it is sent on
   sent_on : (run : Shown) (port : ℕ) → (ended : Ended run) → port < layout.ports → sent config ended.history port ≡ sent_on_by layout lists port
   sent_on run port ended below =
       ap (sent config ended.history) (own_driver layout one port)
-      ∙ all_is_expected config (map listed lists) (frames_of layout) ended.history port 0 (whole_runs run ended) below (some_queues layout one) (own_sockets layout one).classes
-      ∙ expected_is_other config (map listed lists) port (regular-config layout (fits layout accepted)) (own_sockets layout one) below
+      ∙ all_is_expected config (map listed lists) verdicts (frames_of layout) ended.history port 0 (whole_runs run ended) below (some_queues layout one) (own_sockets layout one).classes
+      ∙ expected_is_other config (map listed lists) verdicts port (regular-config layout (fits layout accepted)) (own_sockets layout one) below (by_class port below)
       ∙ ap (filter (has_length config)) (packets_there (paired_port port))
 
   shown_sent : (run : Shown) (port : ℕ) → (ended : Ended run) → port < layout.ports → get_or run.sent port [] ≡ sent config ended.history port
@@ -161,8 +185,15 @@ one_list-writable packets short few small = record {
 
 -- a run of the code's configuration, lists and frames
 pub stalled_as : (layout : Layout) (order : ℕ) (c : Config) (own : List PacketList) (fs : List Frame) (lists : List (List (List ℕ))) (round : ℕ) → c ≡ regular_of layout → own ≡ map listed lists
-    → fs ≡ frames_of layout → HasStalled (record { config = c; packets = own }) fs order round → HasStalled (setting_of layout lists) (frames_of layout) order round
+    → fs ≡ frames_of layout → HasStalledUnder (ByClass layout.sockets) c own fs order round → HasStalled (setting_of layout lists) (frames_of layout) order round
 stalled_as layout order c own fs lists round is_config is_own is_frames h =
     subst (λ f. HasStalled (setting_of layout lists) f order round) is_frames
-    (subst (λ (l : List PacketList). HasStalled (record { config = regular_of layout; packets = l }) fs order round) is_own
-    (subst (λ (k : Config). HasStalled (record { config = k; packets = own }) fs order round) is_config h))
+    (subst (λ (l : List PacketList). HasStalled (ruled (ByClass layout.sockets) (regular_of layout) l) fs order round) is_own
+    (subst (λ (k : Config). HasStalled (ruled (ByClass layout.sockets) k own) fs order round) is_config (stalls_as_ruled (ByClass layout.sockets) c own fs order round refl h)))
+
+pub ended_as : (layout : Layout) (order : ℕ) (c : Config) (own : List PacketList) (fs : List Frame) (lists : List (List (List ℕ))) (run : Shown) → c ≡ regular_of layout → own ≡ map listed lists
+    → fs ≡ frames_of layout → HasEndedUnder (ByClass layout.sockets) c own fs order run → HasEnded (setting_of layout lists) (frames_of layout) order run
+ended_as layout order c own fs lists run is_config is_own is_frames h =
+    subst (λ f. HasEnded (setting_of layout lists) f order run) is_frames
+    (subst (λ (l : List PacketList). HasEnded (ruled (ByClass layout.sockets) (regular_of layout) l) fs order run) is_own
+    (subst (λ (k : Config). HasEnded (ruled (ByClass layout.sockets) k own) fs order run) is_config (ends_as_ruled (ByClass layout.sockets) c own fs order run refl h)))

@@ -12,7 +12,8 @@ use Rattle.xsk_laws.specs.Expected.{has_length}
 use Rattle.xsk_socket.specs.declared.layout.Layout.{Layout}
 use Rattle.xsk_socket.specs.Regular.{regular_of}
 use Rattle.xsk_sim.specs.Shown.{Shown}
-use Rattle.xsk_turns.specs.Workers.{Setting}
+use Rattle.xsk_prog.specs.declared.rule.Rule.TheVariants.{Redirect as ByClass}
+use Rattle.xsk_turns.specs.Workers.{Setting, ruled}
 use Rattle.xsk_sim.specs.Runs.{HasEnded, HasStalled}
 use Rattle.xsk_pcap.specs.Written.{written}
 use Rattle.xsk_pcap.specs.declared.reading.BadCapture.{BadCapture as Cause}
@@ -52,9 +53,10 @@ AreListsOf (Generate number) inputs lists = (inputs ≡ []) × (lists ≡ made_l
 abbrev pub listed : List (List ℕ) → PacketList
 listed packets = record { packets = packets; spare_packets = 0; spare_bytes = 0 }
 
--- what is run: the layout's configuration over the packets of all ports, with frames of zero bytes, in order
+-- what is run: the layout's configuration over the packets of all ports, each redirected by its class, with frames of zero
+-- bytes, in order
 abbrev pub setting_of : Layout → List (List (List ℕ)) → Setting
-setting_of layout lists = record { config = regular_of layout; packets = map listed lists }
+setting_of layout lists = ruled (ByClass layout.sockets) (regular_of layout) (map listed lists)
 
 abbrev pub frames_of : Layout → List Frame
 frames_of layout = fresh layout.chunk layout.frames

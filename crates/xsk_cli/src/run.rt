@@ -18,6 +18,7 @@ use crate::words::Work;
 use std::alloc::Global;
 use std::fmt::Write;
 use xsk_pcap::Capture;
+use xsk_prog::{Rule, XdpProgram};
 use xsk_sim::{Run, SimError, simulate};
 use xsk_socket::Layout;
 use xsk_umem::{OutOfMemory, PacketList};
@@ -41,6 +42,7 @@ pub(crate) fn make_texts(
     requires within { excess_of (lists_in lists.now) ≡ None }
     requires made { (number : ℕ) → work.now ≡ Generate number → lists_in lists.now ≡ made_lists number 1 }
     requires listed { lists.now ≡ map listed (lists_in lists.now) }
+    requires short { All HasShortPackets lists.now }
     ensures made { IfOk result (λ texts. AreTextsBy work.now (lists_in lists.now) (written_in texts)) }
     ensures failed { IfErr result (FailsMaking work.now (lists_in lists.now)) }
 {
@@ -62,6 +64,7 @@ fn run_texts(
     requires ports { length lists.now ≡ layout.now.ports }
     requires within { excess_of (lists_in lists.now) ≡ None }
     requires listed { lists.now ≡ map listed (lists_in lists.now) }
+    requires short { All HasShortPackets lists.now }
     ensures made { IfOk result (λ texts. AreTextsOf layout.now order (lists_in lists.now) (written_in texts)) }
     ensures failed { IfErr result (FailsRunning layout.now order (lists_in lists.now)) }
 {
@@ -72,7 +75,7 @@ fn run_texts(
     Ok(Texts { outputs, report })
 }
 
-/// Runs the lists of all ports.
+/// Runs the lists of all ports, where each packet is redirected by its class.
 fn run_lists(
     alloc: Global,
     layout: &Layout,
@@ -83,12 +86,19 @@ fn run_lists(
     requires one { with_one_socket layout.now ≡ layout.now }
     requires ports { length lists.now ≡ layout.now.ports }
     requires listed { lists.now ≡ map listed (lists_in lists.now) }
+    requires short { All HasShortPackets lists.now }
     ensures pairs { IfOk result (λ run. run.pairs ≡ layout.now.ports) }
     ensures ended { IfOk result (HasEnded (setting_of layout.now (lists_in lists.now)) (frames_of layout.now) order) }
     ensures failed { IfErr result (FailsRunning layout.now order (lists_in lists.now)) }
 {
     let (config, frames) = set_up(alloc, layout)?;
-    match simulate(alloc, config, frames, lists, order) {
+    let rule = Rule::Redirect {
+        sockets: layout.sockets,
+    };
+    let program = XdpProgram::attach(rule, |packet: &[u8], queue: u32| {
+        rule.verdict(packet, queue)
+    });
+    match simulate(alloc, config, frames, lists, &program, order) {
         Ok(run) => Ok(run),
         Err(SimError::Stalled { round }) => Err(RunFailure::Stalled { round }),
         Err(SimError::OutOfMemory) => Err(RunFailure::OutOfMemory),

@@ -5,13 +5,14 @@ use Rattle.std.specs.List.{filter}
 use Rattle.std.proofs.lemmas.Bool.{cases_Bool, cases_eq, cases_lt, and_parts, eq-eqb, ne_eqb, lt-ltb, le-ltb, le-leb, lt-leb, leb-true, ltb-true}
 use Rattle.std.proofs.lemmas.List.Elements.{All-nil, All-cons}
 use Rattle.xsk_model.specs.Config.{Config, socket_at, classes_of, batch_of, map_of}
-use Rattle.xsk_model.specs.Steering.{packet_queue, packet_cell, packet_limit, socket_on}
-use Rattle.xsk_turns.specs.Inputs.{packets_of_queue}
-use Rattle.xsk_turns.specs.Turns.{Seat, redirect_to, limit_of}
-use Rattle.xsk_turns.specs.Disposals.{disposal_to, disposal_in, is_to, delivered_to}
+use Rattle.xsk_model.specs.Steering.{packet_limit, socket_on}
+use Rattle.xsk_prog.specs.declared.rule.Verdict.{Verdict}
+use Rattle.xsk_prog.specs.declared.rule.Verdict.TheVariants.{Drop, Pass, Redirect}
+use Rattle.xsk_turns.specs.Turns.{Seat, Judged, settled_or, redirect_to, limit_of}
+use Rattle.xsk_turns.specs.Disposals.{disposal_to, disposal_in, is_to, delivered_to, bytes_in}
 use Rattle.xsk_turns.specs.declared.disposal.Disposal.{Disposal}
-use Rattle.xsk_turns.specs.declared.disposal.Disposal.TheVariants.{Delivered, TooLong, Runt, Missed}
-use Rattle.xsk_laws.specs.Expected.{is_redirected}
+use Rattle.xsk_turns.specs.declared.disposal.Disposal.TheVariants.{Delivered, TooLong, Runt, Missed, Passed, Dropped}
+use Rattle.xsk_laws.specs.Expected.{has_length, leads_to, is_redirected}
 use Rattle.xsk_laws.specs.Forwarded.{with_disposal}
 
 -- ---- one packet, by plain tests
@@ -104,71 +105,88 @@ named c o q s number bound = ⊎_elim
 abbrev pub seat_at : Config → ℕ → ℕ → ℕ → Seat
 seat_at c d o q = record { config = c; pair = d; port = o; queue = q; classes = classes_of c; batch = batch_of c }
 
--- whether a packet of a port and queue goes to a socket there
-abbrev is_fit : Config → ℕ → ℕ → ℕ → List ℕ → Bool
-is_fit c o q s packet =
-    leb 14 (length packet) && (leb (length packet) (packet_limit c) && (ltb (packet_cell (classes_of c) q packet) (length (map_of c o)) && eqb (slice_index (map_of c o) (packet_cell (classes_of c) q packet)) (s + 1)))
-
 same_and : (x x' y y' z z' w w' : Bool) → x ≡ x' → y ≡ y' → z ≡ z' → w ≡ w' → (x && (y && (z && w))) ≡ (x' && (y' && (z' && w')))
 same_and x x' y y' z z' w w' e f g h = cc
 
-to_fit : (c : Config) (d o q s : ℕ) (packet : List ℕ) → IsBoundTo c o q s → is_to s (disposal_in (seat_at c d o q) packet) ≡ is_fit c o q s packet
-to_fit c d o q s packet bound =
-    let cell = packet_cell (classes_of c) q packet in
-    let number = slice_index (map_of c o) cell in
-    let r = redirect_to c o q number in
-    ap (λ (x : Disposal). is_to s (cond (ltb (length packet) 14) Runt (cond (leb (length (map_of c o)) cell) Missed x))) (disposal_goes (seat_at c d o q) packet r)
-    ∙ goes s (ltb (length packet) 14) (leb (length (map_of c o)) cell) (ltb (packet_limit c) (length packet)) r
-    ∙ same_and _ _ _ _ _ _ _ _ (sym (leb_not 14 (length packet))) (sym (leb_not (length packet) (packet_limit c))) (sym (ltb_not cell (length (map_of c o)))) (named c o q s number bound)
+and_four : (x y z w : Bool) → (x && (y && (z && w))) ≡ ((x && y) && (z && w))
+and_four true y z w = refl
+and_four false y z w = refl
 
-and_four : (q x y z w : Bool) → (q && (x && y) && (z && w)) ≡ (q && (x && (y && (z && w))))
-and_four true true true z w = refl
-and_four true true false z w = refl
-and_four true false y z w = refl
-and_four false x y z w = refl
+and_none : (x : Bool) → false ≡ (x && false)
+and_none true = refl
+and_none false = refl
 
-redirected : (c : Config) (d o q k : ℕ) (packet : List ℕ) → IsBoundTo c o q (socket_on c o q k)
-    → is_redirected c o q k packet ≡ (eqb (packet_queue c.queues packet) q && is_to (socket_on c o q k) (disposal_in (seat_at c d o q) packet))
-redirected c d o q k packet bound =
-    and_four (eqb (packet_queue c.queues packet) q) (leb 14 (length packet)) (leb (length packet) (packet_limit c)) (ltb (packet_cell (classes_of c) q packet) (length (map_of c o)))
-    (eqb (slice_index (map_of c o) (packet_cell (classes_of c) q packet)) (socket_on c o q k + 1))
-    ∙ ap (λ x. eqb (packet_queue c.queues packet) q && x) (sym (to_fit c d o q (socket_on c o q k) packet bound))
+-- a packet for which no cell is looked at goes to no socket
+stays : (s : ℕ) (short : Bool) (d to : Disposal) → is_to s d ≡ false → is_to s (settled_or (cond short (Some Runt) (Some d)) (λ d. d) to) ≡ false
+stays s true d to e = refl
+stays s false d to e = e
+
+looks : (short missing : Bool) (to : Disposal) → settled_or (cond short (Some Runt) (cond missing (Some Missed) None)) (λ d. d) to ≡ cond short Runt (cond missing Missed to)
+looks true missing to = refl
+looks false true to = refl
+looks false false to = refl
+
+-- a packet of a port and queue goes to a socket there by its length and its verdict
+abbrev is_fit : Config → ℕ → ℕ → Judged → Bool
+is_fit c o s packet = has_length c packet.bytes && leads_to (map_of c o) s packet.verdict
+
+to_fit : (c : Config) (d o q s : ℕ) (packet : Judged) → IsBoundTo c o q s → is_to s (disposal_in (seat_at c d o q) packet) ≡ is_fit c o s packet
+to_fit c d o q s packet bound = by packet.verdict
+  where
+    by : (verdict : Verdict) → (let p : Judged = record { bytes = packet.bytes; verdict = verdict } in is_to s (disposal_in (seat_at c d o q) p) ≡ is_fit c o s p)
+    by Drop = stays s (ltb (length packet.bytes) 14) Dropped _ refl ∙ and_none (has_length c packet.bytes)
+    by Pass = stays s (ltb (length packet.bytes) 14) Passed _ refl ∙ and_none (has_length c packet.bytes)
+    by (Redirect cell) =
+        let number = slice_index (map_of c o) cell in
+        let r = redirect_to c o q number in
+        let short = ltb (length packet.bytes) 14 in
+        let missing = leb (length (map_of c o)) cell in
+        ap (is_to s) (looks short missing (disposal_to (seat_at c d o q) packet.bytes r))
+        ∙ ap (λ (x : Disposal). is_to s (cond short Runt (cond missing Missed x))) (disposal_goes (seat_at c d o q) packet.bytes r)
+        ∙ goes s short missing (ltb (packet_limit c) (length packet.bytes)) r
+        ∙ same_and _ _ _ _ _ _ _ _ (sym (leb_not 14 (length packet.bytes))) (sym (leb_not (length packet.bytes) (packet_limit c))) (sym (ltb_not cell (length (map_of c o)))) (named c o q s number bound)
+        ∙ and_four (leb 14 (length packet.bytes)) (leb (length packet.bytes) (packet_limit c)) (ltb cell (length (map_of c o))) (eqb number (s + 1))
 
 -- ---- all packets
 
-filter_two : (Q T : Bool) (packet : List ℕ) (test : List ℕ → Bool) (kept rest : List (List ℕ)) → T ≡ test packet → kept ≡ filter test rest
-    → cond (Q && T) (packet ∷ kept) kept ≡ filter test (cond Q (packet ∷ rest) rest)
-filter_two true T packet test kept rest e f = cc
-filter_two false T packet test kept rest e f = f
+pub same_filter : {X : Type 0} (f g : X → Bool) (xs : List X) → ((x : X) → f x ≡ g x) → filter f xs ≡ filter g xs
+same_filter f g [] h = refl
+same_filter f g (x ∷ xs) h =
+    ap (λ b. cond b (x ∷ filter f xs) (filter f xs)) (h x) ∙ ap (λ l. cond (g x) (x ∷ l) l) (same_filter f g xs h)
 
-pub delivered_is : (c : Config) (d o q k : ℕ) (ps : List (List ℕ)) → IsBoundTo c o q (socket_on c o q k)
-    → delivered_to (seat_at c d o q) (socket_on c o q k) (packets_of_queue c.queues q ps) ≡ filter (is_redirected c o q k) ps
-delivered_is c d o q k [] bound = refl
-delivered_is c d o q k (packet ∷ ps) bound =
-    let s = socket_on c o q k in
-    let test : List ℕ → Bool = λ (x : List ℕ). is_to s (disposal_in (seat_at c d o q) x) in
-    sym (filter_two (eqb (packet_queue c.queues packet) q) (test packet) packet test (filter (is_redirected c o q k) ps) (packets_of_queue c.queues q ps) refl (sym (delivered_is c d o q k ps bound)))
-    ∙ ap (λ b. cond b (packet ∷ filter (is_redirected c o q k) ps) (filter (is_redirected c o q k) ps)) (sym (redirected c d o q k packet bound))
+pub delivered_is : (c : Config) (d o q k : ℕ) (ps : List Judged) → IsBoundTo c o q (socket_on c o q k)
+    → delivered_to (seat_at c d o q) (socket_on c o q k) ps ≡ filter (is_redirected c o q k) ps
+delivered_is c d o q k ps bound =
+    same_filter (λ packet. is_to (socket_on c o q k) (disposal_in (seat_at c d o q) packet)) (is_redirected c o q k) ps (λ packet. to_fit c d o q (socket_on c o q k) packet bound)
 
 -- each packet that is delivered has at most the limit's bytes
-pub delivered_few : (c : Config) (d o q s : ℕ) (ps : List (List ℕ)) → IsBoundTo c o q s
-    → All (λ (p : List ℕ). length p ≤ packet_limit c) (delivered_to (seat_at c d o q) s ps)
-delivered_few c d o q s [] bound = All-nil (λ (p : List ℕ). length p ≤ packet_limit c)
+abbrev IsFew : Config → List ℕ → Type 0
+IsFew c p = length p ≤ packet_limit c
+
+pub delivered_few : (c : Config) (d o q s : ℕ) (ps : List Judged) → IsBoundTo c o q s
+    → All (λ (p : List ℕ). length p ≤ packet_limit c) (bytes_in (delivered_to (seat_at c d o q) s ps))
+delivered_few c d o q s [] bound = All-nil (IsFew c)
 delivered_few c d o q s (packet ∷ ps) bound =
     let later = delivered_few c d o q s ps bound in
+    let front = delivered_to (seat_at c d o q) s ps in
     ⊎_elim
     (λ (e : is_to s (disposal_in (seat_at c d o q) packet) ≡ true).
-    let fit : is_fit c o q s packet ≡ true = sym (to_fit c d o q s packet bound) ∙ e in
-    let more = (and_parts (leb 14 (length packet)) _ fit).1 in
-    let few : length packet ≤ packet_limit c = leb-true (length packet) (packet_limit c) (and_parts (leb (length packet) (packet_limit c)) _ more).0 in
-    subst (λ b. All (λ (p : List ℕ). length p ≤ packet_limit c) (cond b (packet ∷ delivered_to (seat_at c d o q) s ps) (delivered_to (seat_at c d o q) s ps))) (sym e)
-    (All-cons (λ (p : List ℕ). length p ≤ packet_limit c) packet (delivered_to (seat_at c d o q) s ps) few later))
+    let fit : is_fit c o s packet ≡ true = sym (to_fit c d o q s packet bound) ∙ e in
+    let long : has_length c packet.bytes ≡ true = (and_parts (has_length c packet.bytes) _ fit).0 in
+    let few : length packet.bytes ≤ packet_limit c = leb-true (length packet.bytes) (packet_limit c) (and_parts (leb 14 (length packet.bytes)) _ long).1 in
+    subst (λ b. All (IsFew c) (bytes_in (cond b (packet ∷ front) front))) (sym e)
+    (All-cons (IsFew c) packet.bytes (bytes_in front) few later))
     (λ (e : is_to s (disposal_in (seat_at c d o q) packet) ≡ false).
-    subst (λ b. All (λ (p : List ℕ). length p ≤ packet_limit c) (cond b (packet ∷ delivered_to (seat_at c d o q) s ps) (delivered_to (seat_at c d o q) s ps))) (sym e) later)
+    subst (λ b. All (IsFew c) (bytes_in (cond b (packet ∷ front) front))) (sym e) later)
     (cases_Bool (is_to s (disposal_in (seat_at c d o q) packet)))
 
 -- the packets by their disposals
-pub with_disposal_is : (seat : Seat) (s : ℕ) (ps : List (List ℕ)) → with_disposal s ps (map (disposal_in seat) ps) ≡ delivered_to seat s ps
+pub with_disposal_is : (seat : Seat) (s : ℕ) (ps : List Judged) → with_disposal s ps (map (disposal_in seat) ps) ≡ bytes_in (delivered_to seat s ps)
 with_disposal_is seat s [] = refl
 with_disposal_is seat s (packet ∷ ps) =
-    ap (λ l. cond (is_to s (disposal_in seat packet)) (packet ∷ l) l) (with_disposal_is seat s ps)
+    ap (λ l. cond (is_to s (disposal_in seat packet)) (packet.bytes ∷ l) l) (with_disposal_is seat s ps)
+    ∙ bytes_if (is_to s (disposal_in seat packet)) packet (delivered_to seat s ps)
+  where
+    bytes_if : (b : Bool) (p : Judged) (ps : List Judged) → cond b (p.bytes ∷ bytes_in ps) (bytes_in ps) ≡ bytes_in (cond b (p ∷ ps) ps)
+    bytes_if true p ps = refl
+    bytes_if false p ps = refl

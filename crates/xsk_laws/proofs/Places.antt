@@ -1,13 +1,10 @@
 -- Where the drivers, the sockets and the application of a port's queue stand in a regular configuration.
-use Rattle.std.proofs.Common.{◌≡◌, ℕ, suc, ◌+◌, ◌-◌, ◌*◌, ◌/◌, ◌%◌, ◌<◌, ◌≤◌, ◌⊎◌, cond, length, sym, ap, subst, ◌∙◌, ⊎_elim, arith, mul-le-mul_right}
-use Rattle.std.specs.Prelude.{IsSome, None}
+use Rattle.std.proofs.Common.{◌≡◌, ℕ, suc, ◌+◌, ◌-◌, ◌*◌, ◌/◌, ◌%◌, ◌<◌, ◌≤◌, ◌⊎◌, cond, sym, ap, subst, ◌∙◌, ⊎_elim, arith, mul-le-mul_right}
 use Rattle.std.proofs.lemmas.Nat.{div-mul-add, mod-mul-add}
 use Rattle.std.proofs.lemmas.Bool.{cases_eq, eq-eqb, ne_eqb}
-use Rattle.xsk_model.specs.Config.{Config, IsConfig, IsRegular, IsBound, pair_at, socket_at, classes_of}
+use Rattle.xsk_model.specs.Config.{Config, IsConfig, classes_of}
 use Rattle.xsk_model.specs.Marks.{apps_of}
-use Rattle.xsk_model.specs.Rings.{pair_on, application_on, port_of, queue_of}
 use Rattle.xsk_model.specs.Steering.{paired_port, driver_on, socket_on}
-use Rattle.xsk_model.specs.declared.call.Ring.TheVariants.{Rx}
 use Rattle.xsk_model.proofs.Roles.{app_below as apps_below}
 use Rattle.xsk_model.proofs.Seats.{below}
 use Rattle.xsk_turns.specs.AppTurns.{pair_of, side_socket, rx_of, tx_of, lanes_of}

@@ -12,18 +12,20 @@ use Rattle.xsk_model.specs.Sent.{completed_in, sent_from}
 use Rattle.xsk_model.specs.declared.call.Ring.TheVariants.{Fill, Comp, Rx, Tx}
 use Rattle.xsk_model.specs.declared.call.Call.{Call}
 use Rattle.xsk_model.specs.declared.call.Call.TheVariants.{Reserve, Submit, Peek, Release, Swap, Look}
-use Rattle.xsk_turns.specs.Turns.{Seat}
-use Rattle.xsk_turns.specs.Disposals.{disposal_in, is_to, delivered_to}
+use Rattle.xsk_prog.specs.declared.rule.Verdict.{Verdict}
+use Rattle.xsk_turns.specs.Turns.{Seat, Judged}
+use Rattle.xsk_turns.specs.Verdicts.{judged}
+use Rattle.xsk_turns.specs.Disposals.{disposal_in, is_to, delivered_to, bytes_in}
 use Rattle.xsk_turns.specs.declared.disposal.Disposal.{Disposal}
 use Rattle.xsk_turns.specs.declared.disposal.Disposal.TheVariants.{Delivered, NoFrames, RxFull, TooLong, Runt, Missed, Passed, Dropped}
 
 -- ---- a measure of packets, summed up
 
-abbrev pub total : (List ℕ → ℕ) → List (List ℕ) → ℕ
+abbrev pub total : {X : Type 0} → (X → ℕ) → List X → ℕ
 total f [] = 0
 total f (x ∷ xs) = f x + total f xs
 
-total-append : (f : List ℕ → ℕ) (xs ys : List (List ℕ)) → total f (xs ++ ys) ≡ total f xs + total f ys
+total-append : {X : Type 0} (f : X → ℕ) (xs ys : List X) → total f (xs ++ ys) ≡ total f xs + total f ys
 total-append f [] ys = omega arith
 total-append f (x ∷ xs) ys = omega (arith, total-append f xs ys)
 
@@ -100,7 +102,7 @@ is_from n Missed = false
 is_from n Passed = false
 is_from n Dropped = false
 
-abbrev pub delivered_from : Seat → ℕ → List (List ℕ) → List (List ℕ)
+abbrev pub delivered_from : Seat → ℕ → List Judged → List Judged
 delivered_from seat n input = filter (λ packet. is_from n (disposal_in seat packet)) input
 
 -- one packet is delivered to this socket or to a later one
@@ -126,11 +128,11 @@ one_socket n bytes Missed = omega arith
 one_socket n bytes Passed = omega arith
 one_socket n bytes Dropped = omega arith
 
-total-cond : (f : List ℕ → ℕ) (b : Bool) (x : List ℕ) (xs : List (List ℕ)) → total f (cond b (x ∷ xs) xs) ≡ cond b (f x) 0 + total f xs
+total-cond : {X : Type 0} (f : X → ℕ) (b : Bool) (x : X) (xs : List X) → total f (cond b (x ∷ xs) xs) ≡ cond b (f x) 0 + total f xs
 total-cond f true x xs = refl
 total-cond f false x xs = omega arith
 
-pub delivered_parts : (f : List ℕ → ℕ) (seat : Seat) (n : ℕ) (input : List (List ℕ))
+pub delivered_parts : (f : Judged → ℕ) (seat : Seat) (n : ℕ) (input : List Judged)
     → total f (delivered_to seat n input) + total f (delivered_from seat (n + 1) input) ≤ total f (delivered_from seat n input)
 delivered_parts f seat n [] = omega arith
 delivered_parts f seat n (x ∷ input) =
@@ -147,7 +149,7 @@ cond_few : (b : Bool) (n : ℕ) → cond b n 0 ≤ n
 cond_few true n = omega arith
 cond_few false n = omega arith
 
-pub delivered_within : (f : List ℕ → ℕ) (seat : Seat) (n : ℕ) (input : List (List ℕ)) → total f (delivered_from seat n input) ≤ total f input
+pub delivered_within : (f : Judged → ℕ) (seat : Seat) (n : ℕ) (input : List Judged) → total f (delivered_from seat n input) ≤ total f input
 delivered_within f seat n [] = omega arith
 delivered_within f seat n (x ∷ input) =
     omega (
@@ -157,18 +159,29 @@ delivered_within f seat n (x ∷ input) =
       total-cond f (is_from n (disposal_in seat x)) x (delivered_from seat n input),
     )
 
+-- packets with their verdicts are no more than the packets
+pub judged_within : (f : List ℕ → ℕ) (packets : List (List ℕ)) (verdicts : List Verdict) → total (λ (x : Judged). f x.bytes) (judged packets verdicts) ≤ total f packets
+judged_within f [] verdicts = omega arith
+judged_within f (packet ∷ packets) [] = omega arith
+judged_within f (packet ∷ packets) (verdict ∷ verdicts) = omega (arith, judged_within f packets verdicts)
+
+total-bytes_in : (f : List ℕ → ℕ) (xs : List Judged) → total f (bytes_in xs) ≡ total (λ (x : Judged). f x.bytes) xs
+total-bytes_in f [] = refl
+total-bytes_in f (x ∷ xs) = omega (arith, total-bytes_in f xs)
+
 -- where each of so many sockets sent what is delivered to its own, all sent no more than what is delivered
-pub sent_few : (f : List ℕ → ℕ) (c : Config) (mine : List Told) (seat : Seat) (input : List (List ℕ)) (t s classes i m : ℕ) → i + m ≡ classes
-    → ((k : ℕ) → k < classes → sent_from c ((t + k) ∷ []) [] mine ≡ delivered_to seat (s + k) input)
-    → total f (sent_from c (run_of (t + i) m) [] mine) ≤ total f (delivered_from seat (s + i) input)
+pub sent_few : (f : List ℕ → ℕ) (c : Config) (mine : List Told) (seat : Seat) (input : List Judged) (t s classes i m : ℕ) → i + m ≡ classes
+    → ((k : ℕ) → k < classes → sent_from c ((t + k) ∷ []) [] mine ≡ bytes_in (delivered_to seat (s + k) input))
+    → total f (sent_from c (run_of (t + i) m) [] mine) ≤ total (λ (x : Judged). f x.bytes) (delivered_from seat (s + i) input)
 sent_few f c mine seat input t s classes i zero e h = omega (arith, sent_none f c [] mine)
 sent_few f c mine seat input t s classes i (suc m) e h =
-    let here : total f (sent_from c ((t + i) ∷ []) [] mine) ≡ total f (delivered_to seat (s + i) input) = ap (total f) (h i (omega (arith, e))) in
+    let here : total f (sent_from c ((t + i) ∷ []) [] mine) ≡ total (λ (x : Judged). f x.bytes) (delivered_to seat (s + i) input) =
+    ap (total f) (h i (omega (arith, e))) ∙ total-bytes_in f (delivered_to seat (s + i) input) in
     let next : t + (i + 1) ≡ t + i + 1 = omega arith in
     let after : s + (i + 1) ≡ s + i + 1 = omega arith in
-    let later : total f (sent_from c (run_of (t + (i + 1)) m) [] mine) ≤ total f (delivered_from seat (s + (i + 1)) input) =
+    let later : total f (sent_from c (run_of (t + (i + 1)) m) [] mine) ≤ total (λ (x : Judged). f x.bytes) (delivered_from seat (s + (i + 1)) input) =
     sent_few f c mine seat input t s classes (i + 1) m (omega (arith, e)) h in
-    let moved : total f (sent_from c (run_of (t + i + 1) m) [] mine) ≤ total f (delivered_from seat (s + i + 1) input) =
-    subst (λ n. total f (sent_from c (run_of n m) [] mine) ≤ total f (delivered_from seat (s + i + 1) input)) next
-    (subst (λ n. total f (sent_from c (run_of (t + (i + 1)) m) [] mine) ≤ total f (delivered_from seat n input)) after later) in
-    omega (arith, here, moved, sent_parts f c (t + i) (run_of (t + i + 1) m) [] mine, delivered_parts f seat (s + i) input)
+    let moved : total f (sent_from c (run_of (t + i + 1) m) [] mine) ≤ total (λ (x : Judged). f x.bytes) (delivered_from seat (s + i + 1) input) =
+    subst (λ n. total f (sent_from c (run_of n m) [] mine) ≤ total (λ (x : Judged). f x.bytes) (delivered_from seat (s + i + 1) input)) next
+    (subst (λ n. total f (sent_from c (run_of (t + (i + 1)) m) [] mine) ≤ total (λ (x : Judged). f x.bytes) (delivered_from seat n input)) after later) in
+    omega (arith, here, moved, sent_parts f c (t + i) (run_of (t + i + 1) m) [] mine, delivered_parts (λ (x : Judged). f x.bytes) seat (s + i) input)

@@ -1,7 +1,7 @@
 -- What is sent is exactly the redirected input: laws of every history in which each worker's own entries are a whole run,
--- whatever object and whatever order of the workers made it.
+-- whatever object and whatever order of the workers made it, and whatever the programs' verdicts are.
 use Rattle.std.specs.Prelude.{◌≡◌, ℕ, ◌+◌, ◌<◌, ◌≤◌, ◌==◌, List, [], ◌∷◌, length, map, All}
-use Rattle.std.specs.List.{concat, filter}
+use Rattle.std.specs.List.{concat, filter, slice_index_or}
 use Rattle.xsk_umem.specs.Frame.{Frame}
 use Rattle.xsk_umem.specs.PacketList.{PacketList}
 use Rattle.xsk_model.specs.Config.{Config, IsConfig, IsRegular, pair_at, map_of, classes_of}
@@ -12,21 +12,24 @@ use Rattle.xsk_model.specs.History.{IsHistory}
 use Rattle.xsk_model.specs.Sent.{sent, sent_by}
 use Rattle.xsk_model.specs.Steering.{paired_port, driver_on, socket_on}
 use Rattle.xsk_turns.specs.Inputs.{packets_of_port}
-use Rattle.xsk_turns.specs.Turns.{IsWholeDriverRun}
+use Rattle.xsk_prog.specs.declared.rule.Rule.TheVariants.{Redirect as ByClass}
+use Rattle.xsk_prog.specs.declared.rule.Verdict.{Verdict}
+use Rattle.xsk_turns.specs.Turns.{Judged, IsWholeDriverRun}
+use Rattle.xsk_turns.specs.Verdicts.{judged, MeetRule}
 use Rattle.xsk_turns.specs.AppTurns.{IsWholeAppRun}
 use Rattle.xsk_laws.specs.Expected.{received, expected, has_length}
 use Rattle.xsk_laws.specs.Forwarded.{forwarded}
 
--- what the driver of a pair receives
-abbrev pub received_by : Config → List PacketList → ℕ → List (List ℕ)
-received_by c lists d = received c lists (pair_at c.pairs d).port (pair_at c.pairs d).queue
+-- what the driver of a pair receives, each packet with its verdict
+abbrev pub received_by : Config → List PacketList → List (List Verdict) → ℕ → List Judged
+received_by c lists verdicts d = judged (received c lists (pair_at c.pairs d).port (pair_at c.pairs d).queue) (slice_index_or verdicts d [])
 
 -- a history of a regular configuration that all workers have run to their ends: the own entries of each driver are a whole
 -- run over what it receives, and so are those of each application
-pub record AreWholeRuns (c : Config) (lists : List PacketList) (frames : List Frame) (h : List Entry) : Type 0 where
+pub record AreWholeRuns (c : Config) (lists : List PacketList) (verdicts : List (List Verdict)) (frames : List Frame) (h : List Entry) : Type 0 where
   pub regular : IsRegular c
   pub history : IsHistory c frames h
-  pub drivers : (d : ℕ) → d < length c.pairs → IsWholeDriverRun c d (received_by c lists d) (own d h)
+  pub drivers : (d : ℕ) → d < length c.pairs → IsWholeDriverRun c d (received_by c lists verdicts d) (own d h)
   pub apps : (a : ℕ) → a < apps_of c → IsWholeAppRun c a (own (caller_of c a) h)
 
 -- a port, a queue and a class of the configuration
@@ -38,15 +41,15 @@ pub record IsPlace (c : Config) (port queue class : ℕ) : Type 0 where
 -- what a driver sent by the socket of a class is what is expected there: the packets of the paired port that go to the
 -- paired socket, each whole and in order, and no others
 abbrev pub SentIsExpected : Type 0
-SentIsExpected = (c : Config) (lists : List PacketList) (frames : List Frame) (h : List Entry) (port queue class : ℕ)
-    → AreWholeRuns c lists frames h → IsPlace c port queue class
-    → sent_by c h (driver_on c port queue) (socket_on c port queue class) ≡ expected c lists port queue class
+SentIsExpected = (c : Config) (lists : List PacketList) (verdicts : List (List Verdict)) (frames : List Frame) (h : List Entry) (port queue class : ℕ)
+    → AreWholeRuns c lists verdicts frames h → IsPlace c port queue class
+    → sent_by c h (driver_on c port queue) (socket_on c port queue class) ≡ expected c lists verdicts port queue class
 
 -- it is what the driver of the paired port delivered to the paired socket
 abbrev pub SentIsForwarded : Type 0
-SentIsForwarded = (c : Config) (lists : List PacketList) (frames : List Frame) (h : List Entry) (port queue class : ℕ)
-    → AreWholeRuns c lists frames h → IsPlace c port queue class
-    → sent_by c h (driver_on c port queue) (socket_on c port queue class) ≡ forwarded c h lists port queue class
+SentIsForwarded = (c : Config) (lists : List PacketList) (verdicts : List (List Verdict)) (frames : List Frame) (h : List Entry) (port queue class : ℕ)
+    → AreWholeRuns c lists verdicts frames h → IsPlace c port queue class
+    → sent_by c h (driver_on c port queue) (socket_on c port queue class) ≡ forwarded c h lists verdicts port queue class
 
 -- a packet that is sent, and the class by whose socket
 pub record Departure : Type 0 where
@@ -58,28 +61,28 @@ packets_in departures = map (λ (x : Departure). x.packet) departures
 
 -- packets are what is expected by all classes together: each goes by the socket of a class, and those that go by one are,
 -- in order, what is expected by it
-pub record AreExpected (c : Config) (lists : List PacketList) (port queue : ℕ) (packets : List (List ℕ)) : Type 0 where
+pub record AreExpected (c : Config) (lists : List PacketList) (verdicts : List (List Verdict)) (port queue : ℕ) (packets : List (List ℕ)) : Type 0 where
   pub departures : List Departure
   pub all : packets ≡ packets_in departures
   pub known : All (λ (x : Departure). x.class < classes_of c) departures
-  pub each : (class : ℕ) → class < classes_of c → packets_in (filter (λ (x : Departure). x.class == class) departures) ≡ expected c lists port queue class
+  pub each : (class : ℕ) → class < classes_of c → packets_in (filter (λ (x : Departure). x.class == class) departures) ≡ expected c lists verdicts port queue class
 
 -- so all that a driver sent is what is expected by all classes, and nothing else
 abbrev pub NothingElseIsSent : Type 0
-NothingElseIsSent = (c : Config) (lists : List PacketList) (frames : List Frame) (h : List Entry) (port queue : ℕ)
-    → AreWholeRuns c lists frames h → port < c.ports → queue < c.queues
-    → AreExpected c lists port queue (sent c h (driver_on c port queue))
+NothingElseIsSent = (c : Config) (lists : List PacketList) (verdicts : List (List Verdict)) (frames : List Frame) (h : List Entry) (port queue : ℕ)
+    → AreWholeRuns c lists verdicts frames h → port < c.ports → queue < c.queues
+    → AreExpected c lists verdicts port queue (sent c h (driver_on c port queue))
 
 -- where each queue has one socket, all that a driver sent is what is expected by this one
 abbrev pub AllIsExpected : Type 0
-AllIsExpected = (c : Config) (lists : List PacketList) (frames : List Frame) (h : List Entry) (port queue : ℕ)
-    → AreWholeRuns c lists frames h → port < c.ports → queue < c.queues → classes_of c ≡ 1
-    → sent c h (driver_on c port queue) ≡ expected c lists port queue 0
+AllIsExpected = (c : Config) (lists : List PacketList) (verdicts : List (List Verdict)) (frames : List Frame) (h : List Entry) (port queue : ℕ)
+    → AreWholeRuns c lists verdicts frames h → port < c.ports → queue < c.queues → classes_of c ≡ 1
+    → sent c h (driver_on c port queue) ≡ expected c lists verdicts port queue 0
 
 -- all that a driver sent is no more than what the paired port received on the queue, in packets and in bytes
 abbrev pub SentIsWithin : Type 0
-SentIsWithin = (c : Config) (lists : List PacketList) (frames : List Frame) (h : List Entry) (port queue : ℕ)
-    → AreWholeRuns c lists frames h → port < c.ports → queue < c.queues
+SentIsWithin = (c : Config) (lists : List PacketList) (verdicts : List (List Verdict)) (frames : List Frame) (h : List Entry) (port queue : ℕ)
+    → AreWholeRuns c lists verdicts frames h → port < c.ports → queue < c.queues
     → (length (sent c h (driver_on c port queue)) ≤ length (received c lists (paired_port port) queue))
     × (length (concat (sent c h (driver_on c port queue))) ≤ length (concat (received c lists (paired_port port) queue)))
 
@@ -89,7 +92,9 @@ pub record HasOwnSockets (c : Config) : Type 0 where
   pub classes : classes_of c ≡ 1
   pub cells : (port : ℕ) → port < c.ports → map_of c port ≡ (port + 1) ∷ []
 
--- then what is expected of a port are all packets of the paired port that have 14 bytes up to the limit
+-- then, where each packet is redirected by its class, what is expected of a port are all packets of the paired port that
+-- have 14 bytes up to the limit
 abbrev pub ExpectedIsOther : Type 0
-ExpectedIsOther = (c : Config) (lists : List PacketList) (port : ℕ) → IsConfig c → HasOwnSockets c → port < c.ports
-    → expected c lists port 0 0 ≡ filter (has_length c) (packets_of_port lists (paired_port port))
+ExpectedIsOther = (c : Config) (lists : List PacketList) (verdicts : List (List Verdict)) (port : ℕ) → IsConfig c → HasOwnSockets c → port < c.ports
+    → MeetRule (ByClass 1) 0 (received c lists (paired_port port) 0) (slice_index_or verdicts (driver_on c (paired_port port) 0) [])
+    → expected c lists verdicts port 0 0 ≡ filter (has_length c) (packets_of_port lists (paired_port port))

@@ -20,6 +20,8 @@ use Rattle.xsk_driver.specs.Shown.{Shown as DriverShown}
 use Rattle.xsk_driver.specs.Runs.{IsNew as IsNewDriver}
 use Rattle.xsk_app.specs.Shown.{Shown as AppShown}
 use Rattle.xsk_app.specs.Runs.{IsNew as IsNewApp}
+use Rattle.xsk_prog.specs.declared.rule.Verdict.{Verdict}
+use Rattle.xsk_turns.specs.Verdicts.{judged}
 use Rattle.xsk_turns.specs.Workers.{Setting}
 use Rattle.xsk_machine.specs.Acts.{HasRoomToSend, IsDriver, IsApp}
 use Rattle.xsk_sim.specs.Turning.{HasRun}
@@ -52,13 +54,14 @@ pub list_at : (lists : List PacketList) (port : ℕ) (list : PacketList) → lis
 list_at lists port list is below =
     ap (λ (l : PacketList). l.packets) (is ∙ get_or_default lists port list (record { packets = []; spare_packets = 0; spare_bytes = 0 }) below)
 
-pub new_driver : (s : Setting) (pair : ℕ) (list : List (List ℕ)) (d : DriverShown) → pair < length s.config.pairs → HasRoomToSend s pair d
+pub new_driver : (s : Setting) (pair : ℕ) (list : List (List ℕ)) (verdicts : List Verdict) (d : DriverShown) → pair < length s.config.pairs → HasRoomToSend s pair d
     → list ≡ packets_of_port s.packets (pair_at s.config.pairs pair).port
-    → IsNewDriver s.config pair (packets_of_queue s.config.queues (pair_at s.config.pairs pair).queue list) d → IsDriver s pair d
-new_driver s pair list d known room at new = record {
+    → verdicts ≡ slice_index_or s.verdicts pair [] → IsNewDriver s.config pair (judged (packets_of_queue s.config.queues (pair_at s.config.pairs pair).queue list) verdicts) d → IsDriver s pair d
+new_driver s pair list verdicts d known room at given new = record {
   known = known;
   room = room;
-  is = subst (λ (l : List (List ℕ)). IsNewDriver s.config pair (packets_of_queue s.config.queues (pair_at s.config.pairs pair).queue l) d) at new;
+  is = subst (λ (v : List Verdict). IsNewDriver s.config pair (judged (packets_of_queue s.config.queues (pair_at s.config.pairs pair).queue (packets_of_port s.packets (pair_at s.config.pairs pair).port)) v) d) given
+      (subst (λ (l : List (List ℕ)). IsNewDriver s.config pair (judged (packets_of_queue s.config.queues (pair_at s.config.pairs pair).queue l) verdicts) d) at new);
 }
 
 pub new_app : (s : Setting) (who : ℕ) (c : Config) (app : ℕ) (a : AppShown) → s.config ≡ c → who ≡ caller_of c app → IsNewApp c app a → IsApp s who a
@@ -78,15 +81,15 @@ run_begins s frames engine opened config shows log =
     record { config = config; legal = record { opened = opened; legal = tt }; shows = shows; log = log }
 
 -- the workers of a copy of the configuration are seated in an object that was opened with it
-pub seated_first : (c copy : Config) (packets : List PacketList) (frames : List Frame) (w : Workers) (engine : Engine) → copy ≡ c → IsOpened c frames → engine.config ≡ c
+pub seated_first : (c copy : Config) (packets : List PacketList) (verdicts : List (List Verdict)) (frames : List Frame) (w : Workers) (engine : Engine) → copy ≡ c → IsOpened c frames → engine.config ≡ c
     → Shows engine (opening c frames) → engine.log ≡ []
-    → EachFrom w.drivers.items 0 (λ who seat. DriverSits (record { config = copy; packets = packets }) new_own who seat.machine (joined_ask seat.ask seat.items))
-    → EachFrom w.apps.items (length copy.pairs) (λ who seat. AppSits (record { config = copy; packets = packets }) new_own who seat.machine (joined_ask seat.ask seat.items))
-    → vec_len w.drivers ≡ length copy.pairs → vec_len w.apps ≡ apps_of copy → AreSeated (record { config = c; packets = packets }) frames [] w engine
-seated_first c copy packets frames w engine is opened config shows log drivers apps driver_count app_count =
-    subst (λ (k : Config). AreSeated (record { config = k; packets = packets }) frames [] w engine) is
+    → EachFrom w.drivers.items 0 (λ who seat. DriverSits (record { config = copy; packets = packets; verdicts = verdicts }) new_own who seat.machine (joined_ask seat.ask seat.items))
+    → EachFrom w.apps.items (length copy.pairs) (λ who seat. AppSits (record { config = copy; packets = packets; verdicts = verdicts }) new_own who seat.machine (joined_ask seat.ask seat.items))
+    → vec_len w.drivers ≡ length copy.pairs → vec_len w.apps ≡ apps_of copy → AreSeated (record { config = c; packets = packets; verdicts = verdicts }) frames [] w engine
+seated_first c copy packets verdicts frames w engine is opened config shows log drivers apps driver_count app_count =
+    subst (λ (k : Config). AreSeated (record { config = k; packets = packets; verdicts = verdicts }) frames [] w engine) is
     (record {
-      run = run_begins (record { config = copy; packets = packets }) frames engine (subst (λ (k : Config). IsOpened k frames) (sym is) opened) (config ∙ sym is)
+      run = run_begins (record { config = copy; packets = packets; verdicts = verdicts }) frames engine (subst (λ (k : Config). IsOpened k frames) (sym is) opened) (config ∙ sym is)
           (subst (λ (k : Config). Shows engine (opening k frames)) (sym is) shows) log;
       drivers = drivers;
       apps = apps;
@@ -95,11 +98,11 @@ seated_first c copy packets frames w engine is opened config shows log drivers a
     })
 
 -- so they are with a lawful configuration and all frames of its UMEM
-pub seated_opened : (c copy : Config) (packets : List PacketList) (frames : List Frame) (w : Workers) (engine : Engine) → copy ≡ c → IsGeometry copy.geometry → IsConfig c
+pub seated_opened : (c copy : Config) (packets : List PacketList) (verdicts : List (List Verdict)) (frames : List Frame) (w : Workers) (engine : Engine) → copy ≡ c → IsGeometry copy.geometry → IsConfig c
     → IsLawful c → AreFrames c.geometry frames → engine.config ≡ c → Shows engine (opening c frames) → engine.log ≡ []
-    → EachFrom w.drivers.items 0 (λ who seat. DriverSits (record { config = copy; packets = packets }) new_own who seat.machine (joined_ask seat.ask seat.items))
-    → EachFrom w.apps.items (length copy.pairs) (λ who seat. AppSits (record { config = copy; packets = packets }) new_own who seat.machine (joined_ask seat.ask seat.items))
-    → vec_len w.drivers ≡ length copy.pairs → vec_len w.apps ≡ apps_of copy → AreSeated (record { config = c; packets = packets }) frames [] w engine
-seated_opened c copy packets frames w engine is geometry known lawful umem config shows log drivers apps driver_count app_count =
+    → EachFrom w.drivers.items 0 (λ who seat. DriverSits (record { config = copy; packets = packets; verdicts = verdicts }) new_own who seat.machine (joined_ask seat.ask seat.items))
+    → EachFrom w.apps.items (length copy.pairs) (λ who seat. AppSits (record { config = copy; packets = packets; verdicts = verdicts }) new_own who seat.machine (joined_ask seat.ask seat.items))
+    → vec_len w.drivers ≡ length copy.pairs → vec_len w.apps ≡ apps_of copy → AreSeated (record { config = c; packets = packets; verdicts = verdicts }) frames [] w engine
+seated_opened c copy packets verdicts frames w engine is geometry known lawful umem config shows log drivers apps driver_count app_count =
     let opened : IsOpened c frames = record { geometry = subst (λ (k : Config). IsGeometry k.geometry) is geometry; config = known; lawful = lawful; umem = umem } in
-    seated_first c copy packets frames w engine is opened config shows log drivers apps driver_count app_count
+    seated_first c copy packets verdicts frames w engine is opened config shows log drivers apps driver_count app_count

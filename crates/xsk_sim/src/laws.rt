@@ -1,8 +1,8 @@
 //! The laws of runs, each the contract of a function that does nothing. They are stated in `specs/Runs.antt`.
 
-ghost use Rattle.xsk_sim.specs.Runs.{OneHistory, OneLog, EndsOrStalls};
+ghost use Rattle.xsk_sim.specs.Runs.{OneHistory, OneLog, EndsOrStalls, EndsAsRuled, StallsAsRuled};
 
-/// For each number of rounds there is one history in rounds of the workers of a configuration.
+/// For each number of rounds there is one history in rounds of the workers of a configuration over packets with verdicts.
 pub fn one_history()
     ensures { OneHistory }
 {}
@@ -15,4 +15,16 @@ pub fn one_log()
 /// No run both ends and stalls.
 pub fn ends_or_stalls()
     ensures { EndsOrStalls }
+{}
+
+/// Under a rule that leaves one verdict for each packet, a run has ended with the verdicts that the rule gives itself.
+#[tactic(auto, using(crate::proofs::Verdicts::ends_as_ruled))]
+pub fn ends_as_ruled()
+    ensures { EndsAsRuled }
+{}
+
+/// And so has one that has stalled.
+#[tactic(auto, using(crate::proofs::Verdicts::stalls_as_ruled))]
+pub fn stalls_as_ruled()
+    ensures { StallsAsRuled }
 {}

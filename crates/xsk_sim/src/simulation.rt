@@ -11,8 +11,10 @@ ghost use Rattle.xsk_turns.specs.Inputs.{inputs_of};
 ghost use Rattle.xsk_driver.specs.Sent.{IsShort};
 ghost use Rattle.xsk_sim.specs.Shown.{HasShortPackets, packets_in};
 ghost use Rattle.xsk_turns.specs.Stepping.{joined_ask};
-ghost use Rattle.xsk_turns.specs.Workers.{Setting};
-ghost use Rattle.xsk_sim.specs.Runs.{HasEnded, HasStalled, last_round_of};
+ghost use Rattle.xsk_prog.specs.Program.{Obeys};
+ghost use Rattle.xsk_prog.specs.declared.rule.Verdict.{Verdict as AVerdict};
+ghost use Rattle.xsk_turns.specs.Workers.{Setting, IsRuled};
+ghost use Rattle.xsk_sim.specs.Runs.{HasEnded, HasStalled, HasEndedUnder, HasStalledUnder, last_round_of};
 ghost use Rattle.xsk_sim.specs.Seats.{EachFrom, AreSeated, AreReady, HadRounds, HaveEnded, DriverSits, AppSits, kept_lists, new_own};
 
 use crate::order::Order;
@@ -26,6 +28,7 @@ use xsk_driver::{Driver, Inputs};
 use xsk_model::Config;
 use xsk_model::steering::paired_port;
 use xsk_plain::{Log, Plain};
+use xsk_prog::{Verdict, XdpProgram};
 use xsk_umem::{Frames, OutOfMemory, PacketList};
 
 /// Why a simulation gave no run.
@@ -103,33 +106,41 @@ const FIRST_ROUNDS: u64 = 1_023;
 const PACKET_ROUNDS: u64 = 256;
 
 /// Runs the drivers and applications of a regular configuration in rounds until all have ended, over one list of
-/// packets for each port. The frames are all frames of its UMEM, and `order` is the number of the rounds' order. The
-/// configuration is without need-wakeup, which the workers don't know yet.
+/// packets for each port, none of which has more than 262,144 bytes. The frames are all frames of its UMEM, the program is
+/// attached to every port, and `order` is the number of the rounds' order. The configuration is without need-wakeup, which the
+/// workers don't know yet.
+///
+/// Each driver asks the program once for each of its packets, so there is one list of verdicts for each driver, and all that
+/// is said of the run is said of these. Where the program's rule leaves one verdict for each packet, they are the rule's own
+/// (`laws::ends_as_ruled`).
 ///
 /// It stalls exactly where some worker hasn't ended after round 1,023 + 256 x packets, which is then its round. A run
 /// that has ended is a legal history in rounds in which each worker's own calls and
 /// replies are a whole run of its turns, and one that has stalled is such a history of all these rounds, in which those
 /// of some worker aren't.
-pub fn simulate(
+pub fn simulate<F: Fn(&[u8], u32) -> Verdict>(
     alloc: Global,
     config: Config,
     frames: Frames,
     packets: &[PacketList],
+    program: &XdpProgram<F>,
     order: u32,
 ) -> Result<Run, SimError>
     requires regular { IsRegular config }
     requires wakeup { config.wakeup ≡ false }
     requires frames { AreFrames config.geometry frames.items }
     requires lists { length packets.now ≡ config.ports }
+    requires short { All HasShortPackets packets.now }
+    requires obeys { Obeys F.Fn program.now.rule program.now.decide }
     ensures pairs { IfOk result (λ run. run.pairs ≡ length config.pairs) }
-    ensures ended { IfOk result (HasEnded (record { config = config; packets = packets.now }) frames.items order) }
+    ensures ended { IfOk result (HasEndedUnder program.now.rule config packets.now frames.items order) }
     ensures stalled { (round : ℕ) → result ≡ Err (SimError.Stalled round)
-        → HasStalled (record { config = config; packets = packets.now }) frames.items order round }
+        → HasStalledUnder program.now.rule config packets.now frames.items order round }
 {
     let shared = config.copy(alloc)?;
     let inputs = Inputs::split(alloc, &shared, packets)?;
     let workers = Workers {
-        drivers: seat_drivers(alloc, &shared, packets, &inputs)?,
+        drivers: seat_drivers(alloc, &shared, packets, &inputs, program)?,
         apps: seat_apps(alloc, &shared)?,
     };
     let _geometry = shared.geometry();
@@ -206,18 +217,22 @@ fn make_rounds(
 }
 
 /// A driver for each pair, with room for the packets of the paired port.
-fn seat_drivers<'a>(
+fn seat_drivers<'a, F: Fn(&[u8], u32) -> Verdict>(
     alloc: Global,
     config: &'a Config,
     packets: &'a [PacketList],
     inputs: &'a Inputs,
+    program: &XdpProgram<F>,
 ) -> Result<Vec<Seat<Driver<'a>>>, OutOfMemory>
     requires regular { IsRegular config.now }
     requires wakeup { config.now.wakeup ≡ false }
     requires lists { length packets.now ≡ config.now.ports }
     requires inputs { inputs.now ≡ inputs_of config.now packets.now }
+    requires short { All HasShortPackets packets.now }
+    requires obeys { Obeys F.Fn program.now.rule program.now.decide }
     ensures count { IfOk result (λ seats. vec_len seats ≡ length config.now.pairs) }
-    ensures seated { IfOk result (λ seats. EachFrom seats.items 0 (λ who seat. DriverSits (record { config = config.now; packets = packets.now }) new_own who seat.machine (joined_ask seat.ask seat.items))) }
+    ensures seated { IfOk result (λ seats. (verdicts : List (List AVerdict)) × IsRuled program.now.rule (record { config = config.now; packets = packets.now; verdicts = verdicts })
+        × EachFrom seats.items 0 (λ who seat. DriverSits (record { config = config.now; packets = packets.now; verdicts = verdicts }) new_own who seat.machine (joined_ask seat.ask seat.items))) }
 {
     let mut seats = Vec::with_capacity(alloc, config.pairs().len())?;
     for pair in 0..config.pairs().len() as u32 {
@@ -227,7 +242,8 @@ fn seat_drivers<'a>(
         let Some(bytes) = bytes_of(other) else {
             return Err(OutOfMemory);
         };
-        let driver = Driver::new(alloc, config, pair, list, inputs, other.len(), bytes)?;
+        let room = other.len();
+        let driver = Driver::new(alloc, config, pair, list, inputs, program, room, bytes)?;
         seats.push(Seat::new(alloc, driver))?;
     }
     Ok(seats)

@@ -3,23 +3,24 @@ use Rattle.std.proofs.Common.{◌≡◌, ℕ, ◌*◌, ◌≤◌, ◌⊎◌, inl
 use Rattle.xsk_turns.proofs.Owned.{none_submitted, other_submitted}
 use Rattle.std.proofs.lemmas.Bool.{ltb-false}
 use Rattle.std.proofs.lemmas.Bool.Decides.{nat_tests}
+use Rattle.std.proofs.lemmas.List.{map-append}
 use Rattle.std.proofs.lemmas.List.Concat.{flat_map-append}
 use Rattle.std.proofs.lemmas.List.Elements.{All-nil, All-append, All-take, All-drop, filter-append}
 use Rattle.xsk_turns.proofs.Object.{Geometry, Frame, payload_of, Config, classes_of, IsLayout, submitted, submitted_step, submitted_of}
 use Rattle.xsk_turns.proofs.Calls.{Item, Told, with_told, Fill, Comp, Rx, RxDone, Gone, TxDone, Call, Submit, Swap, Look, Reply, Submitted, Items, Old}
 use Rattle.xsk_model.proofs.Folds.{part_of-push}
-use Rattle.xsk_turns.specs.Turns.{Seat, Kept, seat_of, start, turn, settled, application_of, limit_of, pieces_of, laid_out, frames_in, returned}
-use Rattle.xsk_turns.specs.Disposals.{disposal_in, is_to, delivered_to}
+use Rattle.xsk_turns.specs.Turns.{Seat, Judged, Kept, seat_of, start, turn, settled, application_of, limit_of, pieces_of, laid_out, frames_in, returned}
+use Rattle.xsk_turns.specs.Disposals.{disposal_in, is_to, delivered_to, bytes_in}
 use Rattle.xsk_turns.specs.Owned.{IsSeat}
 use Rattle.xsk_turns.specs.Law.{AreLayouts, IsLaidOut, DeliversInOrder}
 use Rattle.xsk_turns.specs.declared.disposal.Disposal.{Disposal}
-use Rattle.xsk_turns.specs.declared.disposal.Disposal.TheVariants.{Delivered, TooLong, Runt, Missed}
+use Rattle.xsk_turns.specs.declared.disposal.Disposal.TheVariants.{Delivered, TooLong, Missed}
 use Rattle.xsk_turns.proofs.Rooms.{IsOwnFrame, own_frames, all_whole}
 use Rattle.xsk_turns.proofs.Layouts.{layout, one_piece, length-laid_out}
 use Rattle.xsk_turns.proofs.Disposing.{IsOver, over_later}
-use Rattle.xsk_turns.proofs.Saying.{in-short, in-missed, to_none, to_some, to_tried}
+use Rattle.xsk_turns.proofs.Saying.{in-untried, to_none, to_some, to_tried}
 use Rattle.xsk_turns.proofs.Walks.{Fitting, meet_fitting}
-use Rattle.xsk_turns.proofs.DriverWalk.{Family, Receiving, fresh, IsTried, call_at, told_rx_done, looked_none, looked_long, fill_items, rx_submitted, comp_submitted, looked_tx_done, point_of, reply_of, runt, missed, AtEntries, AtPasses, IsLaw, at_end}
+use Rattle.xsk_turns.proofs.DriverWalk.{Family, Receiving, fresh, IsTried, call_at, told_rx_done, looked_none, looked_long, fill_items, rx_submitted, comp_submitted, looked_tx_done, point_of, reply_of, untried, untried_has, AtEntries, AtPasses, IsLaw, at_end}
 
 -- ---- lists of layouts
 
@@ -43,27 +44,28 @@ laid_out-more g sg packets all packet items h k =
 -- ---- what holds
 
 -- packets that have their disposal, and what was submitted of them
-record IsGiven (seat : Seat) (s : ℕ) (input coming : List (List ℕ)) (items : List Item) : Type 0 where
-  pub done : List (List ℕ)
+record IsGiven (seat : Seat) (s : ℕ) (input coming : List Judged) (items : List Item) : Type 0 where
+  pub done : List Judged
   pub parts : done ++ coming ≡ input
-  pub laid : IsLaidOut seat.config.geometry seat.config.sg (delivered_to seat s done) items
+  pub laid : IsLaidOut seat.config.geometry seat.config.sg (bytes_in (delivered_to seat s done)) items
 
-delivered-push : (seat : Seat) (s : ℕ) (done : List (List ℕ)) (packet : List ℕ) (d : Disposal) → disposal_in seat packet ≡ d
-    → delivered_to seat s (done ++ packet ∷ []) ≡ delivered_to seat s done ++ cond (is_to s d) (packet ∷ []) []
+delivered-push : (seat : Seat) (s : ℕ) (done : List Judged) (packet : Judged) (d : Disposal) → disposal_in seat packet ≡ d
+    → bytes_in (delivered_to seat s (done ++ packet ∷ [])) ≡ bytes_in (delivered_to seat s done) ++ bytes_in (cond (is_to s d) (packet ∷ []) [])
 delivered-push seat s done packet d e =
-    filter-append (λ (p : List ℕ). is_to s (disposal_in seat p)) done (packet ∷ []) ∙ ap (λ x. delivered_to seat s done ++ cond (is_to s x) (packet ∷ []) []) e
+    ap bytes_in (filter-append (λ (p : Judged). is_to s (disposal_in seat p)) done (packet ∷ []) ∙ ap (λ x. delivered_to seat s done ++ cond (is_to s x) (packet ∷ []) []) e)
+    ∙ map-append (λ (p : Judged). p.bytes) (delivered_to seat s done) (cond (is_to s d) (packet ∷ []) [])
 
-parts_more : (done coming input : List (List ℕ)) (packet : List ℕ) (later : List (List ℕ)) → coming ≡ packet ∷ later → done ++ coming ≡ input
+parts_more : (done coming input : List Judged) (packet : Judged) (later : List Judged) → coming ≡ packet ∷ later → done ++ coming ≡ input
     → (done ++ packet ∷ []) ++ drop 1 coming ≡ input
 parts_more done coming input packet later e h =
     ap (λ xs. (done ++ packet ∷ []) ++ drop 1 xs) e ∙ append_assoc done (packet ∷ []) later ∙ ap (λ xs. done ++ xs) (sym e) ∙ h
 
 -- a packet that isn't delivered to the socket
-passes_by : (seat : Seat) (s : ℕ) (input coming : List (List ℕ)) (items : List Item) (packet : List ℕ) (later : List (List ℕ)) (d : Disposal) → coming ≡ packet ∷ later
+passes_by : (seat : Seat) (s : ℕ) (input coming : List Judged) (items : List Item) (packet : Judged) (later : List Judged) (d : Disposal) → coming ≡ packet ∷ later
     → disposal_in seat packet ≡ d → is_to s d ≡ false → IsGiven seat s input coming items → IsGiven seat s input (drop 1 coming) items
 passes_by seat s input coming items packet later d e f g h =
-    let same : delivered_to seat s (h.done ++ packet ∷ []) ≡ delivered_to seat s h.done =
-    delivered-push seat s h.done packet d f ∙ ap (λ b. delivered_to seat s h.done ++ cond b (packet ∷ []) []) g ∙ append-nil (delivered_to seat s h.done) in
+    let same : bytes_in (delivered_to seat s (h.done ++ packet ∷ [])) ≡ bytes_in (delivered_to seat s h.done) =
+    delivered-push seat s h.done packet d f ∙ ap (λ b. bytes_in (delivered_to seat s h.done) ++ bytes_in (cond b (packet ∷ []) [])) g ∙ append-nil (bytes_in (delivered_to seat s h.done)) in
     record {
       done = h.done ++ packet ∷ [];
       parts = parts_more h.done coming input packet later e h.parts;
@@ -71,21 +73,21 @@ passes_by seat s input coming items packet later d e f g h =
     }
 
 -- one that is
-comes : (seat : Seat) (s : ℕ) (input coming : List (List ℕ)) (items more : List Item) (packet : List ℕ) (later : List (List ℕ)) (d : Disposal) → coming ≡ packet ∷ later
-    → disposal_in seat packet ≡ d → is_to s d ≡ true → IsLayout seat.config.geometry seat.config.sg packet more → IsGiven seat s input coming items
+comes : (seat : Seat) (s : ℕ) (input coming : List Judged) (items more : List Item) (packet : Judged) (later : List Judged) (d : Disposal) → coming ≡ packet ∷ later
+    → disposal_in seat packet ≡ d → is_to s d ≡ true → IsLayout seat.config.geometry seat.config.sg packet.bytes more → IsGiven seat s input coming items
     → IsGiven seat s input (drop 1 coming) (items ++ more)
 comes seat s input coming items more packet later d e f g is h =
-    let one : delivered_to seat s (h.done ++ packet ∷ []) ≡ delivered_to seat s h.done ++ packet ∷ [] =
-    delivered-push seat s h.done packet d f ∙ ap (λ b. delivered_to seat s h.done ++ cond b (packet ∷ []) []) g in
+    let one : bytes_in (delivered_to seat s (h.done ++ packet ∷ [])) ≡ bytes_in (delivered_to seat s h.done) ++ packet.bytes ∷ [] =
+    delivered-push seat s h.done packet d f ∙ ap (λ b. bytes_in (delivered_to seat s h.done) ++ bytes_in (cond b (packet ∷ []) [])) g in
     record {
       done = h.done ++ packet ∷ [];
       parts = parts_more h.done coming input packet later e h.parts;
       laid = subst (λ ps. IsLaidOut seat.config.geometry seat.config.sg ps (items ++ more)) (sym one)
-          (laid_out-more seat.config.geometry seat.config.sg (delivered_to seat s h.done) items packet more h.laid is);
+          (laid_out-more seat.config.geometry seat.config.sg (bytes_in (delivered_to seat s h.done)) items packet.bytes more h.laid is);
     }
 
-either : (seat : Seat) (s t : ℕ) (input coming : List (List ℕ)) (items more : List Item) (packet : List ℕ) (later : List (List ℕ)) (same : Bool) → coming ≡ packet ∷ later
-    → disposal_in seat packet ≡ Delivered t → is_to s (Delivered t) ≡ same → IsLayout seat.config.geometry seat.config.sg packet more → IsGiven seat s input coming items
+either : (seat : Seat) (s t : ℕ) (input coming : List Judged) (items more : List Item) (packet : Judged) (later : List Judged) (same : Bool) → coming ≡ packet ∷ later
+    → disposal_in seat packet ≡ Delivered t → is_to s (Delivered t) ≡ same → IsLayout seat.config.geometry seat.config.sg packet.bytes more → IsGiven seat s input coming items
     → IsGiven seat s input (drop 1 coming) (cond same (items ++ more) items)
 either seat s t input coming items more packet later true e f g is h = comes seat s input coming items more packet later (Delivered t) e f g is h
 either seat s t input coming items more packet later false e f g is h = passes_by seat s input coming items packet later (Delivered t) e f g h
@@ -103,7 +105,7 @@ short_enough false len payload e = inr (ltb-false (1 * payload) len e)
 long_some : (n : ℕ) → nat_lt n 14 ≡ false → 1 ≤ n
 long_some n e = omega (arith, ltb-false n 14 e)
 
-module _ (c : Config) (d s : ℕ) (is : IsSeat c d) (input : List (List ℕ)) where
+module _ (c : Config) (d s : ℕ) (is : IsSeat c d) (input : List Judged) where
   abbrev seat : Seat
   seat = seat_of c d
 
@@ -119,7 +121,7 @@ module _ (c : Config) (d s : ℕ) (is : IsSeat c d) (input : List (List ℕ)) wh
   Asked kept call l = Unit {0}
 
   abbrev Ended : Kept → List Told → Type 0
-  Ended kept l = IsLaidOut c.geometry c.sg (delivered_to seat s input) (submitted_of (Rx s) l)
+  Ended kept l = IsLaidOut c.geometry c.sg (bytes_in (delivered_to seat s input)) (submitted_of (Rx s) l)
 
   still : (kept : Kept) (l : List Told) (call : Call) (reply : Reply) → submitted call ≡ [] → IsSettled kept l → IsSettled kept (with_told l call reply)
   still kept l call reply e h = record {
@@ -143,24 +145,24 @@ module _ (c : Config) (d s : ℕ) (is : IsSeat c d) (input : List (List ℕ)) wh
       ] in
       layout c.geometry is.geometry c.sg packet frames some count (All-take (IsOwnFrame c.geometry) (pieces_of seat packet) kept.spare own) single
 
-  is_delivered : (kept : Kept) (l : List Told) (packet : List ℕ) (t : ℕ) → IsTried seat (Fitting c) kept.coming packet t → nat_le (pieces_of seat packet) (length kept.spare) ≡ true → IsSettled kept l
-      → IsGiven seat s input (drop 1 kept.coming) (submitted_of (Rx s) (with_told l (Submit (Rx t) (laid_out c.geometry packet (take (pieces_of seat packet) kept.spare))) Submitted))
+  is_delivered : (kept : Kept) (l : List Told) (packet : Judged) (t : ℕ) → IsTried seat (Fitting c) kept.coming packet t → nat_le (pieces_of seat packet.bytes) (length kept.spare) ≡ true → IsSettled kept l
+      → IsGiven seat s input (drop 1 kept.coming) (submitted_of (Rx s) (with_told l (Submit (Rx t) (laid_out c.geometry packet.bytes (take (pieces_of seat packet.bytes) kept.spare))) Submitted))
   is_delivered kept l packet t tried enough h =
-      let items = laid_out c.geometry packet (take (pieces_of seat packet) kept.spare) in
+      let items = laid_out c.geometry packet.bytes (take (pieces_of seat packet.bytes) kept.spare) in
       let told : Told = record { call = Submit (Rx t) items; reply = Submitted } in
       let same : is_to s (Delivered t) ≡ eqb s t = same_number s t (eqb t s) (eqb s t) refl refl in
       subst (IsGiven seat s input (drop 1 kept.coming)) (sym (part_of-push submitted_step (Rx s) [] l told))
       (either seat s t input kept.coming (submitted_of (Rx s) l) items packet tried.next.later (eqb s t) tried.next.is (to_tried c d kept.coming packet t tried) same
-      (is_layout kept packet tried.next.long tried.fits enough h.spare) h.given)
+      (is_layout kept packet.bytes tried.next.long tried.fits enough h.spare) h.given)
 
   all_given : (kept : Kept) (l : List Told) → kept.tx_done ≡ true → IsSettled kept l → Ended kept l
   all_given kept l done h =
       let none : kept.coming ≡ [] = h.over.none (h.over.first done) in
       let all : h.given.done ≡ input = sym (append-nil h.given.done) ∙ ap (λ xs. h.given.done ++ xs) (sym none) ∙ h.given.parts in
-      subst (λ ps. IsLaidOut c.geometry c.sg (delivered_to seat s ps) (submitted_of (Rx s) l)) all h.given.laid
+      subst (λ ps. IsLaidOut c.geometry c.sg (bytes_in (delivered_to seat s ps)) (submitted_of (Rx s) l)) all h.given.laid
 
   -- a packet that isn't delivered
-  skips : (kept : Kept) (packet : List ℕ) (later : List (List ℕ)) (x : Disposal) (l : List Told) → kept.coming ≡ packet ∷ later → disposal_in seat packet ≡ x → is_to s x ≡ false → IsSettled kept l
+  skips : (kept : Kept) (packet : Judged) (later : List Judged) (x : Disposal) (l : List Told) → kept.coming ≡ packet ∷ later → disposal_in seat packet ≡ x → is_to s x ≡ false → IsSettled kept l
       → IsSettled (settled kept x) l
   skips kept packet later x l e f off h = record {
     given = passes_by seat s input kept.coming (submitted_of (Rx s) l) packet later x e f off h.given;
@@ -185,7 +187,7 @@ module _ (c : Config) (d s : ℕ) (is : IsSeat c d) (input : List (List ℕ)) wh
       }
   entries (rx_submitted packet t) noted kept l known found h a q = record {
     given = is_delivered kept l packet t known.0 known.1 h;
-    spare = All-drop (IsOwnFrame c.geometry) (pieces_of seat packet) kept.spare h.spare;
+    spare = All-drop (IsOwnFrame c.geometry) (pieces_of seat packet.bytes) kept.spare h.spare;
     over = over_later kept.rx_done kept.tx_done kept.coming h.over;
   }
   entries (comp_submitted k packet later) noted kept l known found h a q = record {
@@ -199,8 +201,7 @@ module _ (c : Config) (d s : ℕ) (is : IsSeat c d) (input : List (List ℕ)) wh
       let now = still kept l (call_at seat (point_of e) kept) (reply_of e) refl h in record { given = now.given; spare = now.spare; over = now.over }
 
   passes : AtPasses seat (Fitting c) At
-  passes (runt packet later) noted kept l = λ h e. skips kept packet later Runt l e.0 (in-short seat packet e.1) refl h
-  passes (missed packet later) noted kept l = λ h e. skips kept packet later Missed l e.0 (in-missed seat packet e.1 e.2) refl h
+  passes (untried packet later x) noted kept l = λ h e. skips kept packet later x l e.0 (in-untried seat packet x e.1) (untried_has (λ x. is_to s x ≡ false) refl refl refl refl seat packet x e.1) h
   passes p noted kept l = λ h e. h
 
   law : IsLaw seat (Fitting c) At Asked Ended

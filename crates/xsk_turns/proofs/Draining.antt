@@ -130,9 +130,9 @@ module _ (seat : Seat) (class : ℕ) (below : class < seat.classes) where
   t = socket_of seat class
 
   entries : AtEntries seat Anything At Asked
-  entries (looked_none packet n) noted kept l known found h x q = looked_cell a t kept.tx_done ⊥ _ l seat.port (cell_of seat packet) n (λ x. absurd (omega (arith, x.0))) h
-  entries (looked_long packet n s) noted kept l known found h x q = looked_cell a t kept.tx_done ⊥ _ l seat.port (cell_of seat packet) n (λ x. absurd (omega (arith, x.0))) h
-  entries (looked_some packet n s) noted kept l known found h x q = looked_cell a t kept.tx_done ⊥ ⊥ l seat.port (cell_of seat packet) n (λ x. x) h
+  entries (looked_none packet n) noted kept l known found h x q = looked_cell a t kept.tx_done ⊥ _ l seat.port (cell_of packet.verdict) n (λ x. absurd (omega (arith, x.0))) h
+  entries (looked_long packet n s) noted kept l known found h x q = looked_cell a t kept.tx_done ⊥ _ l seat.port (cell_of packet.verdict) n (λ x. absurd (omega (arith, x.0))) h
+  entries (looked_some packet n s) noted kept l known found h x q = looked_cell a t kept.tx_done ⊥ ⊥ l seat.port (cell_of packet.verdict) n (λ x. x) h
   entries (told_rx_done n) noted kept l known found h x q = still a t kept.tx_done ⊥ _ l _ (Old n) (λ s. refl) (λ x. absurd (omega (arith, x.0))) h
   entries (fill_empty packet s) noted kept l known found h x q = still a t kept.tx_done ⊥ _ l _ Empty (λ s. refl) (λ x. absurd (omega (arith, x.0))) h
   entries (rx_full packet s free) noted kept l known found h x q = still a t kept.tx_done ⊥ _ l _ (Full free) (λ s. refl) (λ x. absurd (omega (arith, x.0))) h

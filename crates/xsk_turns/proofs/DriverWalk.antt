@@ -1,20 +1,63 @@
 -- The one walk along a driver's turns. A law of its runs says what holds at each place of a turn, and what each entry of the
 -- list, a call with its reply, makes of it; then it holds along every run.
-use Rattle.std.proofs.Common.{◌≡◌, ℕ, zero, suc, ◌+◌, ◌-◌, ◌%◌, ◌<◌, true, false, ◌||◌, nat_lt, nat_le, eqb, Some, None, List, [], ◌∷◌, length, map, take, drop, refl, ap, subst, arith}
+use Rattle.std.proofs.Common.{◌≡◌, ℕ, zero, suc, ◌+◌, ◌-◌, ◌%◌, ◌<◌, Bool, true, false, cond, ◌||◌, nat_lt, nat_le, eqb, Option, Some, None, List, [], ◌∷◌, length, map, take, drop, refl, ap, subst, arith}
 use Rattle.std.proofs.lemmas.Bool.{or_parts}
 use Rattle.xsk_turns.proofs.Calls.{Item, Told, with_told, Fill, Comp, Rx, Tx, RxDone, Gone, TxDone, Cell, Call, Reserve, Submit, Peek, Release, Swap, Look, Reply, Granted, Full, Submitted, Items, Empty, Released, Old}
 use Rattle.xsk_model.specs.Config.{map_of}
-use Rattle.xsk_turns.specs.Script.{Script, ask, again, ended, on_submitted, on_released, Asks, Ends, IsRun, Leaves}
-use Rattle.xsk_turns.specs.Turns.{Seat, Kept, Noted, moved, stopped, settled, dropped, supplied, with_rx_full, with_fill_empty, with_tx_empty, visit_from, socket_of, application_of, cell_of, redirect_to, limit_of, pieces_of, laid_out, returned, gathered, idle, complete, visit, transmit, deliver, reserve, go_on, take_spare, find_spare, direct, receive, turn}
-use Rattle.xsk_turns.specs.declared.disposal.Disposal.TheVariants.{Delivered, TooLong, Runt, Missed}
+use Rattle.xsk_turns.specs.Script.{Script, ask, again, ended, on_submitted, on_released, on_old, Asks, Ends, IsRun, Leaves}
+use Rattle.xsk_turns.specs.Turns.{Seat, Judged, Kept, Noted, moved, stopped, settled, settled_or, dropped, disposal_by, disposal_untried, supplied, with_rx_full, with_fill_empty, with_tx_empty, visit_from, socket_of, application_of, cell_of, redirect_to, limit_of, pieces_of, laid_out, returned, gathered, idle, complete, visit, transmit, deliver, reserve, go_on, take_spare, find_spare, direct, receive, turn}
+use Rattle.xsk_turns.specs.declared.disposal.Disposal.{Disposal}
+use Rattle.xsk_turns.specs.declared.disposal.Disposal.TheVariants.{Delivered, TooLong, Runt, Missed, Passed, Dropped}
+use Rattle.xsk_prog.specs.declared.rule.Verdict.{Verdict}
+use Rattle.xsk_prog.specs.declared.rule.Verdict.TheVariants.{Drop, Pass as PassOn, Redirect}
 use Rattle.xsk_turns.proofs.Walks.{Premise, Law, Due, nothing_due, submit_due, release_due, Holds, MeetAlong, at_reserve, at_submit, at_peek, at_release, at_old, by_case, by_option, says_left, says_run, meets_law}
+
+-- ---- packets that are tried, and those that aren't
+
+-- a packet that is tried is long enough, and there is a cell of its verdict
+long_if : (short : Bool) (rest : Option Disposal) → cond short (Some Runt) rest ≡ None → (short ≡ false) × (rest ≡ None)
+long_if true rest e = absurd (cc)
+long_if false rest e = (refl, e)
+
+known_if : (beyond : Bool) → cond beyond (Some Missed) None ≡ None → beyond ≡ false
+known_if true e = absurd (cc)
+known_if false e = refl
+
+cell_by : (seat : Seat) (verdict : Verdict) → disposal_by seat verdict ≡ None → nat_le (length (map_of seat.config seat.port)) (cell_of verdict) ≡ false
+cell_by seat Drop e = absurd (cc)
+cell_by seat PassOn e = absurd (cc)
+cell_by seat (Redirect cell) e = known_if (nat_le (length (map_of seat.config seat.port)) cell) e
+
+pub tried_long : (seat : Seat) (packet : Judged) → disposal_untried seat packet ≡ None → nat_lt (length packet.bytes) 14 ≡ false
+tried_long seat packet e = (long_if (nat_lt (length packet.bytes) 14) (disposal_by seat packet.verdict) e).0
+
+pub tried_cell : (seat : Seat) (packet : Judged) → disposal_untried seat packet ≡ None → nat_le (length (map_of seat.config seat.port)) (cell_of packet.verdict) ≡ false
+tried_cell seat packet e = cell_by seat packet.verdict (long_if (nat_lt (length packet.bytes) 14) (disposal_by seat packet.verdict) e).1
+
+-- what holds of the four disposals of packets that aren't
+module _ (P : Disposal → Type 0) (runt : P Runt) (missed : P Missed) (passed : P Passed) (dropped : P Dropped) where
+  beyond_has : (beyond : Bool) (d : Disposal) → cond beyond (Some Missed) None ≡ Some d → P d
+  beyond_has true d e = subst P (let same : Missed ≡ d = cc in same) missed
+  beyond_has false d e = absurd (cc)
+
+  verdict_has : (seat : Seat) (verdict : Verdict) (d : Disposal) → disposal_by seat verdict ≡ Some d → P d
+  verdict_has seat Drop d e = subst P (let same : Dropped ≡ d = cc in same) dropped
+  verdict_has seat PassOn d e = subst P (let same : Passed ≡ d = cc in same) passed
+  verdict_has seat (Redirect cell) d e = beyond_has (nat_le (length (map_of seat.config seat.port)) cell) d e
+
+  short_has : (short : Bool) (seat : Seat) (verdict : Verdict) (d : Disposal) → cond short (Some Runt) (disposal_by seat verdict) ≡ Some d → P d
+  short_has true seat verdict d e = subst P (let same : Runt ≡ d = cc in same) runt
+  short_has false seat verdict d e = verdict_has seat verdict d e
+
+  pub untried_has : (seat : Seat) (packet : Judged) (d : Disposal) → disposal_untried seat packet ≡ Some d → P d
+  untried_has seat packet d e = short_has (nat_lt (length packet.bytes) 14) seat packet.verdict d e
 
 -- ---- the places of a turn, and its calls
 
 -- a driver receives, tries a packet that goes to a socket, sends once so many classes are visited, or is idle
 pub data Place : Type 0 where
   Receiving : Place
-  Trying : List ℕ → ℕ → Due → Place
+  Trying : Judged → ℕ → Due → Place
   Sending : ℕ → Due → Place
   Idling : Place
 
@@ -28,11 +71,11 @@ fresh = record { progress = false; full = false }
 -- a call, by the packet and its socket, by the class and the finished packets, or by the class
 pub data Point : Type 0 where
   TellRxDone : Point
-  LookCell : List ℕ → Point
-  PeekFill : List ℕ → ℕ → Point
-  ReleaseFill : List ℕ → ℕ → ℕ → Point
-  ReserveRx : List ℕ → ℕ → Point
-  SubmitRx : List ℕ → ℕ → Point
+  LookCell : Judged → Point
+  PeekFill : Judged → ℕ → Point
+  ReleaseFill : Judged → ℕ → ℕ → Point
+  ReserveRx : Judged → ℕ → Point
+  SubmitRx : Judged → ℕ → Point
   ReserveComp : ℕ → List Item → List (List Item) → Point
   SubmitComp : ℕ → List Item → List (List Item) → Point
   PeekTx : ℕ → Point
@@ -43,11 +86,11 @@ pub data Point : Type 0 where
 -- where each call is given, the call, and what is kept once it is given: a Submit takes its frames along
 abbrev pub asked : Seat → Point → Kept → Place × Call × Kept
 asked seat TellRxDone kept = (Receiving, Swap (RxDone seat.pair) 1, kept)
-asked seat (LookCell packet) kept = (Receiving, Look (Cell seat.port (cell_of seat packet)), kept)
-asked seat (PeekFill packet s) kept = (Trying packet s nothing_due, Peek (Fill seat.pair) (pieces_of seat packet - length kept.spare), kept)
+asked seat (LookCell packet) kept = (Receiving, Look (Cell seat.port (cell_of packet.verdict)), kept)
+asked seat (PeekFill packet s) kept = (Trying packet s nothing_due, Peek (Fill seat.pair) (pieces_of seat packet.bytes - length kept.spare), kept)
 asked seat (ReleaseFill packet s n) kept = (Trying packet s (release_due (Fill seat.pair) n), Release (Fill seat.pair) n, kept)
-asked seat (ReserveRx packet s) kept = (Trying packet s nothing_due, Reserve (Rx s) (pieces_of seat packet), kept)
-asked seat (SubmitRx packet s) kept = (Trying packet s (submit_due (Rx s) (pieces_of seat packet)), Submit (Rx s) (laid_out seat.config.geometry packet (take (pieces_of seat packet) kept.spare)), record kept { spare = drop (pieces_of seat packet) kept.spare })
+asked seat (ReserveRx packet s) kept = (Trying packet s nothing_due, Reserve (Rx s) (pieces_of seat packet.bytes), kept)
+asked seat (SubmitRx packet s) kept = (Trying packet s (submit_due (Rx s) (pieces_of seat packet.bytes)), Submit (Rx s) (laid_out seat.config.geometry packet.bytes (take (pieces_of seat packet.bytes) kept.spare)), record kept { spare = drop (pieces_of seat packet.bytes) kept.spare })
 asked seat (ReserveComp k packet later) kept = (Sending k nothing_due, Reserve (Comp seat.pair) (length packet), kept)
 asked seat (SubmitComp k packet later) kept = (Sending k (submit_due (Comp seat.pair) (length packet)), Submit (Comp seat.pair) (map returned packet), record kept { finished = later })
 asked seat (PeekTx k) kept = (Sending k nothing_due, Peek (Tx (socket_of seat k)) seat.batch, kept)
@@ -61,28 +104,29 @@ call_at seat p kept = (asked seat p kept).1
 abbrev pub kept_at : Seat → Point → Kept → Kept
 kept_at seat p kept = (asked seat p kept).2
 
--- the next packet is long enough and goes to a cell, which redirected it to the socket, and fits it
-pub record IsNext (seat : Seat) (coming : List (List ℕ)) (packet : List ℕ) : Type 0 where
-  pub later : List (List ℕ)
+-- the next packet is tried: it is long enough and goes to a cell, which redirected it to the socket, and fits it
+pub record IsNext (seat : Seat) (coming : List Judged) (packet : Judged) : Type 0 where
+  pub later : List Judged
   pub is : coming ≡ packet ∷ later
-  pub long : nat_lt (length packet) 14 ≡ false
-  pub cell : nat_le (length (map_of seat.config seat.port)) (cell_of seat packet) ≡ false
+  pub none : disposal_untried seat packet ≡ None
+  pub long : nat_lt (length packet.bytes) 14 ≡ false
+  pub cell : nat_le (length (map_of seat.config seat.port)) (cell_of packet.verdict) ≡ false
 
-pub record IsTried (seat : Seat) (Q : Premise Kept) (coming : List (List ℕ)) (packet : List ℕ) (s : ℕ) : Type 0 where
+pub record IsTried (seat : Seat) (Q : Premise Kept) (coming : List Judged) (packet : Judged) (s : ℕ) : Type 0 where
   pub next : IsNext seat coming packet
   pub number : ℕ
-  pub looked : (kept : Kept) × (l : List Told) × Q kept l (Look (Cell seat.port (cell_of seat packet))) (Old number)
+  pub looked : (kept : Kept) × (l : List Told) × Q kept l (Look (Cell seat.port (cell_of packet.verdict))) (Old number)
   pub target : redirect_to seat.config seat.port seat.queue number ≡ Some s
-  pub fits : nat_lt (limit_of seat) (length packet) ≡ false
+  pub fits : nat_lt (limit_of seat) (length packet.bytes) ≡ false
 
 -- what is known where a call is given
 abbrev pub Known : Seat → Premise Kept → Point → Noted → Kept → Type 0
 Known seat Q TellRxDone noted kept = (kept.coming ≡ []) × (kept.rx_done ≡ false)
 Known seat Q (LookCell packet) noted kept = IsNext seat kept.coming packet
-Known seat Q (PeekFill packet s) noted kept = IsTried seat Q kept.coming packet s × (nat_le (pieces_of seat packet) (length kept.spare) ≡ false)
+Known seat Q (PeekFill packet s) noted kept = IsTried seat Q kept.coming packet s × (nat_le (pieces_of seat packet.bytes) (length kept.spare) ≡ false)
 Known seat Q (ReleaseFill packet s n) noted kept = IsTried seat Q kept.coming packet s
-Known seat Q (ReserveRx packet s) noted kept = IsTried seat Q kept.coming packet s × (nat_le (pieces_of seat packet) (length kept.spare) ≡ true)
-Known seat Q (SubmitRx packet s) noted kept = IsTried seat Q kept.coming packet s × (nat_le (pieces_of seat packet) (length kept.spare) ≡ true)
+Known seat Q (ReserveRx packet s) noted kept = IsTried seat Q kept.coming packet s × (nat_le (pieces_of seat packet.bytes) (length kept.spare) ≡ true)
+Known seat Q (SubmitRx packet s) noted kept = IsTried seat Q kept.coming packet s × (nat_le (pieces_of seat packet.bytes) (length kept.spare) ≡ true)
 Known seat Q (ReserveComp k packet later) noted kept = kept.finished ≡ packet ∷ later
 Known seat Q (SubmitComp k packet later) noted kept = kept.finished ≡ packet ∷ later
 Known seat Q (PeekTx k) noted kept = (k < seat.classes) × (kept.finished ≡ [])
@@ -95,15 +139,15 @@ Known seat Q TellGone noted kept = (noted.progress ≡ false) × (noted.full ≡
 -- the entries, each a call and its reply
 pub data Entry : Type 0 where
   told_rx_done : ℕ → Entry
-  looked_none : List ℕ → ℕ → Entry
-  looked_long : List ℕ → ℕ → ℕ → Entry
-  looked_some : List ℕ → ℕ → ℕ → Entry
-  fill_empty : List ℕ → ℕ → Entry
-  fill_items : List ℕ → ℕ → List Item → Entry
-  fill_released : List ℕ → ℕ → ℕ → Entry
-  rx_granted : List ℕ → ℕ → Entry
-  rx_full : List ℕ → ℕ → ℕ → Entry
-  rx_submitted : List ℕ → ℕ → Entry
+  looked_none : Judged → ℕ → Entry
+  looked_long : Judged → ℕ → ℕ → Entry
+  looked_some : Judged → ℕ → ℕ → Entry
+  fill_empty : Judged → ℕ → Entry
+  fill_items : Judged → ℕ → List Item → Entry
+  fill_released : Judged → ℕ → ℕ → Entry
+  rx_granted : Judged → ℕ → Entry
+  rx_full : Judged → ℕ → ℕ → Entry
+  rx_submitted : Judged → ℕ → Entry
   comp_granted : ℕ → List Item → List (List Item) → Entry
   comp_full : ℕ → List Item → List (List Item) → ℕ → Entry
   comp_submitted : ℕ → List Item → List (List Item) → Entry
@@ -146,9 +190,9 @@ leads seat (looked_some packet n s) noted kept = (Trying packet s nothing_due, n
 leads seat (fill_empty packet s) noted kept = (Sending 0 nothing_due, noted, with_fill_empty kept)
 leads seat (fill_items packet s items) noted kept = (Trying packet s (release_due (Fill seat.pair) (length items)), noted, supplied seat kept items)
 leads seat (fill_released packet s n) noted kept = (Trying packet s nothing_due, moved noted, kept)
-leads seat (rx_granted packet s) noted kept = (Trying packet s (submit_due (Rx s) (pieces_of seat packet)), moved noted, kept)
+leads seat (rx_granted packet s) noted kept = (Trying packet s (submit_due (Rx s) (pieces_of seat packet.bytes)), moved noted, kept)
 leads seat (rx_full packet s free) noted kept = (Sending 0 nothing_due, stopped noted, with_rx_full (s % seat.classes) kept)
-leads seat (rx_submitted packet s) noted kept = (Sending 0 nothing_due, moved noted, settled (record kept { spare = drop (pieces_of seat packet) kept.spare }) (Delivered s))
+leads seat (rx_submitted packet s) noted kept = (Sending 0 nothing_due, moved noted, settled (record kept { spare = drop (pieces_of seat packet.bytes) kept.spare }) (Delivered s))
 leads seat (comp_granted k packet later) noted kept = (Sending k (submit_due (Comp seat.pair) (length packet)), noted, kept)
 leads seat (comp_full k packet later free) noted kept = (Idling, stopped noted, kept)
 leads seat (comp_submitted k packet later) noted kept = (Sending k nothing_due, moved noted, record kept { finished = later })
@@ -160,26 +204,22 @@ leads seat (looked_tx_done n) noted kept = (Receiving, fresh, record kept { tx_d
 -- what it finds of a cell's number
 abbrev pub Finds : Seat → Entry → Type 0
 Finds seat (looked_none packet n) = redirect_to seat.config seat.port seat.queue n ≡ None
-Finds seat (looked_long packet n s) = (redirect_to seat.config seat.port seat.queue n ≡ Some s) × (nat_lt (limit_of seat) (length packet) ≡ true)
-Finds seat (looked_some packet n s) = (redirect_to seat.config seat.port seat.queue n ≡ Some s) × (nat_lt (limit_of seat) (length packet) ≡ false)
+Finds seat (looked_long packet n s) = (redirect_to seat.config seat.port seat.queue n ≡ Some s) × (nat_lt (limit_of seat) (length packet.bytes) ≡ true)
+Finds seat (looked_some packet n s) = (redirect_to seat.config seat.port seat.queue n ≡ Some s) × (nat_lt (limit_of seat) (length packet.bytes) ≡ false)
 Finds seat entry = Unit {0}
 
 -- ---- what goes on without a call
 
 pub data Pass : Type 0 where
-  runt : List ℕ → List (List ℕ) → Pass
-  missed : List ℕ → List (List ℕ) → Pass
+  untried : Judged → List Judged → Disposal → Pass
   none_comes : Pass
-  waits : List ℕ → ℕ → Pass
+  waits : Judged → ℕ → Pass
   visited : Pass
   idles : Pass
 
 abbrev pub Passing : Seat → Premise Kept → Family → Pass → Noted → Kept → List Told → Type 0
-Passing seat Q At (runt packet later) noted kept l =
-    At Receiving noted kept l → (kept.coming ≡ packet ∷ later) × (nat_lt (length packet) 14 ≡ true) → At Receiving (moved noted) (settled kept Runt) l
-Passing seat Q At (missed packet later) noted kept l =
-    At Receiving noted kept l → (kept.coming ≡ packet ∷ later) × (nat_lt (length packet) 14 ≡ false) × (nat_le (length (map_of seat.config seat.port)) (cell_of seat packet) ≡ true)
-    → At Receiving (moved noted) (settled kept Missed) l
+Passing seat Q At (untried packet later disposal) noted kept l =
+    At Receiving noted kept l → (kept.coming ≡ packet ∷ later) × (disposal_untried seat packet ≡ Some disposal) → At Receiving (moved noted) (settled kept disposal) l
 Passing seat Q At none_comes noted kept l = At Receiving noted kept l → (kept.coming ≡ []) × (kept.rx_done ≡ true) → At (Sending 0 nothing_due) noted kept l
 Passing seat Q At (waits packet s) noted kept l = At (Trying packet s nothing_due) noted kept l → IsTried seat Q kept.coming packet s → At (Sending 0 nothing_due) noted kept l
 Passing seat Q At visited noted kept l = At (Sending seat.classes nothing_due) noted kept l → kept.finished ≡ [] → At Idling noted kept l
@@ -297,20 +337,20 @@ module _ (seat : Seat) (Q : Premise Kept) (At : Family) (A : Said) (E : Kept →
 
   -- ---- a packet that is tried
 
-  module _ (packet : List ℕ) (s : ℕ) where
+  module _ (packet : Judged) (s : ℕ) where
     go_reserve : (noted : Noted) (kept : Kept) (l : List Told) → At (Trying packet s nothing_due) noted kept l → IsTried seat Q kept.coming packet s
-        → nat_le (pieces_of seat packet) (length kept.spare) ≡ true → Along (reserve seat packet s noted kept) l
+        → nat_le (pieces_of seat packet.bytes) (length kept.spare) ≡ true → Along (reserve seat packet.bytes s noted kept) l
     go_reserve noted kept l h tried enough =
-        let n = pieces_of seat packet in
+        let n = pieces_of seat packet.bytes in
         let call = Reserve (Rx s) n in
-        let give = Submit (Rx s) (laid_out seat.config.geometry packet (take n kept.spare)) in
+        let give = Submit (Rx s) (laid_out seat.config.geometry packet.bytes (take n kept.spare)) in
         let granted = with_told l call Granted in
         let fewer : Kept = record kept { spare = drop n kept.spare } in
         let left : Kept = settled fewer (Delivered s) in
         let full : Kept = with_rx_full (s % seat.classes) kept in
         let asked = is.calls (ReserveRx packet s) noted kept l (tried, enough) h in (
           asked,
-          at_reserve Q law kept call l (deliver seat packet s (moved noted) kept) (transmit seat (stopped noted) full)
+          at_reserve Q law kept call l (deliver seat packet.bytes s (moved noted) kept) (transmit seat (stopped noted) full)
               (λ q.
               let now = is.entries (rx_granted packet s) noted kept l (tried, enough) tt h asked q in
               let gives = is.calls (SubmitRx packet s) (moved noted) kept granted (tried, enough) now in (
@@ -321,18 +361,18 @@ module _ (seat : Seat) (Q : Premise Kept) (At : Family) (A : Said) (E : Kept →
               (λ free q. go_transmit (stopped noted) full (with_told l call (Full free)) (is.entries (rx_full packet s free) noted kept l (tried, enough) tt h asked q)),
         )
 
-    go_more : (noted : Noted) (kept : Kept) (l : List Told) → At (Trying packet s nothing_due) noted kept l → IsTried seat Q kept.coming packet s → Along (go_on seat packet s noted kept) l
+    go_more : (noted : Noted) (kept : Kept) (l : List Told) → At (Trying packet s nothing_due) noted kept l → IsTried seat Q kept.coming packet s → Along (go_on seat packet.bytes s noted kept) l
     go_more noted kept l h tried =
-        by_case Q law (nat_le (pieces_of seat packet) (length kept.spare)) _ _ l (go_reserve noted kept l h tried) (λ e. go_transmit noted kept l (is.passes (waits packet s) noted kept l h tried))
+        by_case Q law (nat_le (pieces_of seat packet.bytes) (length kept.spare)) _ _ l (go_reserve noted kept l h tried) (λ e. go_transmit noted kept l (is.passes (waits packet s) noted kept l h tried))
 
-    go_find : (noted : Noted) (kept : Kept) (l : List Told) → At (Trying packet s nothing_due) noted kept l → IsTried seat Q kept.coming packet s → Along (find_spare seat packet s noted kept) l
+    go_find : (noted : Noted) (kept : Kept) (l : List Told) → At (Trying packet s nothing_due) noted kept l → IsTried seat Q kept.coming packet s → Along (find_spare seat packet.bytes s noted kept) l
     go_find noted kept l h tried =
-        let call = Peek (Fill seat.pair) (pieces_of seat packet - length kept.spare) in
-        by_case Q law (nat_le (pieces_of seat packet) (length kept.spare)) _ _ l (go_reserve noted kept l h tried)
+        let call = Peek (Fill seat.pair) (pieces_of seat packet.bytes - length kept.spare) in
+        by_case Q law (nat_le (pieces_of seat packet.bytes) (length kept.spare)) _ _ l (go_reserve noted kept l h tried)
         (λ e.
         let asked = is.calls (PeekFill packet s) noted kept l (tried, e) h in (
           asked,
-          at_peek Q law kept call l (take_spare seat packet s noted kept) (transmit seat noted (with_fill_empty kept))
+          at_peek Q law kept call l (take_spare seat packet.bytes s noted kept) (transmit seat noted (with_fill_empty kept))
               (λ items q.
               let peeked = with_told l call (Items items) in
               let give = Release (Fill seat.pair) (length items) in
@@ -340,7 +380,7 @@ module _ (seat : Seat) (Q : Premise Kept) (At : Family) (A : Said) (E : Kept →
               let now = is.entries (fill_items packet s items) noted kept l (tried, e) tt h asked q in
               let gives = is.calls (ReleaseFill packet s (length items)) noted more peeked tried now in (
                 gives,
-                at_release Q law more give peeked (go_on seat packet s (moved noted) more)
+                at_release Q law more give peeked (go_on seat packet.bytes s (moved noted) more)
                     (λ r. go_more (moved noted) more (with_told peeked give Released) (is.entries (fill_released packet s (length items)) noted more peeked tried tt now gives r) tried),
               ))
               (λ q. go_transmit noted (with_fill_empty kept) (with_told l call Empty) (is.entries (fill_empty packet s) noted kept l (tried, e) tt h asked q)),
@@ -348,7 +388,7 @@ module _ (seat : Seat) (Q : Premise Kept) (At : Family) (A : Said) (E : Kept →
 
   -- ---- receiving
 
-  go_receive : (coming : List (List ℕ)) (noted : Noted) (kept : Kept) (l : List Told) → At Receiving noted kept l → kept.coming ≡ coming → Along (receive seat coming noted kept) l
+  go_receive : (coming : List Judged) (noted : Noted) (kept : Kept) (l : List Told) → At Receiving noted kept l → kept.coming ≡ coming → Along (receive seat coming noted kept) l
   go_receive [] noted kept l h e =
       let call = Swap (RxDone seat.pair) 1 in
       let left : Kept = record kept { rx_done = true } in
@@ -360,25 +400,25 @@ module _ (seat : Seat) (Q : Premise Kept) (At : Family) (A : Said) (E : Kept →
             (λ n q. go_transmit (moved noted) left (with_told l call (Old n)) (is.entries (told_rx_done n) noted kept l (e, f) tt h gives q)),
       ))
   go_receive (packet ∷ later) noted kept l h e =
-      let call = Look (Cell seat.port (cell_of seat packet)) in
+      let call = Look (Cell seat.port (cell_of packet.verdict)) in
       let to = λ (n : ℕ). redirect_to seat.config seat.port seat.queue n in
       let rest : drop 1 kept.coming ≡ later = ap (drop 1) e in
-      by_case Q law (nat_lt (length packet) 14) _ _ l (λ f. go_receive later (moved noted) (settled kept Runt) l (is.passes (runt packet later) noted kept l h (e, f)) rest)
-      (λ f. by_case Q law (nat_le (length (map_of seat.config seat.port)) (cell_of seat packet)) _ _ l
-      (λ g. go_receive later (moved noted) (settled kept Missed) l (is.passes (missed packet later) noted kept l h (e, f, g)) rest)
-      (λ g.
-      let next : IsNext seat kept.coming packet = record { later = later; is = e; long = f; cell = g } in
+      let look : Script Kept = ask kept call (on_old (λ n. direct seat packet.bytes noted kept (to n))) in
+      by_option (disposal_untried seat packet) (λ o. Along (settled_or o (λ d. receive seat later (moved noted) (settled kept d)) look) l)
+      (λ none.
+      let next : IsNext seat kept.coming packet = record { later = later; is = e; none = none; long = tried_long seat packet none; cell = tried_cell seat packet none } in
       let gives = is.calls (LookCell packet) noted kept l next h in (
         gives,
-        at_old Q law kept call l (λ n. direct seat packet noted kept (to n))
+        at_old Q law kept call l (λ n. direct seat packet.bytes noted kept (to n))
             (λ n q.
             let told = with_told l call (Old n) in
-            by_option (to n) (λ o. Along (direct seat packet noted kept o) told)
+            by_option (to n) (λ o. Along (direct seat packet.bytes noted kept o) told)
             (λ none. go_transmit (moved noted) (settled kept Missed) told (is.entries (looked_none packet n) noted kept l next none h gives q))
-            (λ s some. by_case Q law (nat_lt (limit_of seat) (length packet)) _ _ told
+            (λ s some. by_case Q law (nat_lt (limit_of seat) (length packet.bytes)) _ _ told
             (λ long. go_transmit (moved noted) (dropped kept TooLong) told (is.entries (looked_long packet n s) noted kept l next (some, long) h gives q))
             (λ fits. go_find packet s noted kept told (is.entries (looked_some packet n s) noted kept l next (some, fits) h gives q) (record { next = next; number = n; looked = (kept, l, q); target = some; fits = fits })))),
-      )))
+      ))
+      (λ d some. go_receive later (moved noted) (settled kept d) l (is.passes (untried packet later d) noted kept l h (e, some)) rest)
 
   go_turn : (kept : Kept) (l : List Told) → At Receiving fresh kept l → Along (turn seat kept) l
   go_turn kept l h = go_receive kept.coming fresh kept l h refl

@@ -20,6 +20,7 @@ pub mod Owning
 pub mod Places
 pub mod Rooms
 pub mod ScriptLemmas
+pub mod Verdicts
 pub mod Walks
 pub mod Saying
 pub mod Sending

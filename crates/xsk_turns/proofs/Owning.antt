@@ -7,7 +7,7 @@ use Rattle.xsk_turns.proofs.Object.{payload_of, Frame, packets_from, Config, cla
 use Rattle.xsk_turns.proofs.Calls.{Item, Told, with_told, Fill, Comp, Rx, Tx, RxDone, Gone, TxDone, Cell, Call, Submit, Peek, Swap, Reply, Granted, Full, Items, Old}
 use Rattle.xsk_turns.proofs.LegalCalls.{had_told, legal_reserve, legal_peek, legal_release, legal_look, legal_swap, room_told, held_told, IsDue}
 use Rattle.xsk_turns.specs.Script.{Script, Leaves, Ends}
-use Rattle.xsk_turns.specs.Turns.{Seat, Kept, Noted, seat_of, start, turn, application_of, cell_of, redirect_to, limit_of, pieces_of, returned, frames_in, bad_ones, group_at, gathered}
+use Rattle.xsk_turns.specs.Turns.{Seat, Judged, Kept, Noted, seat_of, start, turn, application_of, cell_of, redirect_to, limit_of, pieces_of, returned, frames_in, bad_ones, group_at, gathered}
 use Rattle.xsk_turns.specs.Owned.{IsSeat, IsHere, socket_at_class, IsSpare, Owned, AllFit, KeepsFrames, KeepsFramesAtEnd}
 use Rattle.xsk_turns.proofs.Completing.{whole_some}
 use Rattle.xsk_turns.proofs.Layouts.{pieces_some, few_pieces}
@@ -76,38 +76,38 @@ module _ (c : Config) (pair : ℕ) (is : IsSeat c pair) where
       by_sg false e = let one = few_pieces c.geometry is.geometry 1 packet (subst (λ (b : Bool). length packet ≤ cond b 18 1 * payload_of c.geometry) e short) in omega (arith, one)
 
   -- a packet that is tried is neither too short nor too long, and its socket is here
-  module _ (packet : List ℕ) (s : ℕ) (coming : List (List ℕ)) (tried : IsTried seat Answers coming packet s) where
-    long : 14 ≤ length packet
-    long = ltb-false (length packet) 14 tried.next.long
+  module _ (packet : Judged) (s : ℕ) (coming : List Judged) (tried : IsTried seat Answers coming packet s) where
+    long : 14 ≤ length packet.bytes
+    long = ltb-false (length packet.bytes) 14 tried.next.long
 
-    short : length packet ≤ limit_of seat
-    short = ltb-false (limit_of seat) (length packet) tried.fits
+    short : length packet.bytes ≤ limit_of seat
+    short = ltb-false (limit_of seat) (length packet.bytes) tried.fits
 
-    few : pieces_of seat packet ≤ 18
-    few = pieces_few packet short
+    few : pieces_of seat packet.bytes ≤ 18
+    few = pieces_few packet.bytes short
 
     here : IsHere seat s
     here = redirect_here seat tried.number s tried.target
 
   calls : AtCalls seat Answers At Asked
   calls TellRxDone noted kept l known h = quiet kept _ l tt h.0 (legal_swap c pair l (caller_known c pair is) (RxDone pair) 1 is.known refl (omega arith))
-  calls (LookCell packet) noted kept l known h = quiet kept _ l tt h.0 (legal_look c pair l (caller_known c pair is) (Cell seat.port (cell_of seat packet)) (port_known c pair is, leb-false _ _ known.cell))
+  calls (LookCell packet) noted kept l known h = quiet kept _ l tt h.0 (legal_look c pair l (caller_known c pair is) (Cell seat.port (cell_of packet.verdict)) (port_known c pair is, leb-false _ _ known.cell))
   calls (PeekFill packet s) noted kept l known h =
-      let below = leb-false (pieces_of seat packet) (length kept.spare) known.1 in
+      let below = leb-false (pieces_of seat packet.bytes) (length kept.spare) known.1 in
       let few = few packet s kept.coming known.0 in
-      quiet kept _ l tt h.0 (legal_peek c pair l (caller_known c pair is) (Fill pair) (pieces_of seat packet - length kept.spare) is.known refl (omega (arith, below)) (omega (arith, few)))
+      quiet kept _ l tt h.0 (legal_peek c pair l (caller_known c pair is) (Fill pair) (pieces_of seat packet.bytes - length kept.spare) is.known refl (omega (arith, below)) (omega (arith, few)))
   calls (ReleaseFill packet s n) noted kept l known h = quiet kept _ l tt h.0 (legal_release c pair l (caller_known c pair is) (Fill pair) n is.known refl h.1.0 h.1.1 h.1.2)
   calls (ReserveRx packet s) noted kept l known h =
       let ring = rx_ring c pair is s (here packet s kept.coming known.0) in
-      let some = pieces_some c.geometry is.geometry packet (omega (arith, long packet s kept.coming known.0)) in
-      quiet kept _ l tt h.0 (legal_reserve c pair l (caller_known c pair is) (Rx s) (pieces_of seat packet) ring.0 ring.1 some (omega (arith, few packet s kept.coming known.0)))
+      let some = pieces_some c.geometry is.geometry packet.bytes (omega (arith, long packet s kept.coming known.0)) in
+      quiet kept _ l tt h.0 (legal_reserve c pair l (caller_known c pair is) (Rx s) (pieces_of seat packet.bytes) ring.0 ring.1 some (omega (arith, few packet s kept.coming known.0)))
   calls (SubmitRx packet s) noted kept l known h =
       let long = long packet s kept.coming known.0 in
       let short = short packet s kept.coming known.0 in
       let few = few packet s kept.coming known.0 in
       let here = here packet s kept.coming known.0 in
       let enough = leb-true _ _ known.1 in
-      (owned_rx c pair s is kept l h.0 packet long short few enough here, legal_rx c pair s is kept l h.0 packet long short few enough here h.1)
+      (owned_rx c pair s is kept l h.0 packet.bytes long short few enough here, legal_rx c pair s is kept l h.0 packet.bytes long short few enough here h.1)
   calls (ReserveComp k packet later) noted kept l known h =
       let some : 1 ≤ length kept.finished = omega (arith, ap length known) in
       let whole = subst (λ (ps : List (List Item)). IsWhole c.geometry c.sg (get_or ps 0 [])) known (first_whole c pair kept l h.0 some) in
@@ -130,8 +130,8 @@ module _ (c : Config) (pair : ℕ) (is : IsSeat c pair) where
 
   entries : AtEntries seat Answers At Asked
   entries (fill_items packet s items) noted kept l known found h a q =
-      let n = pieces_of seat packet - length kept.spare in
-      let below = leb-false (pieces_of seat packet) (length kept.spare) known.1 in
+      let n = pieces_of seat packet.bytes - length kept.spare in
+      let below = leb-false (pieces_of seat packet.bytes) (length kept.spare) known.1 in
       let few = few packet s kept.coming known.0 in (
         subst (λ (fs : List Frame). HasLists c pair (kept.spare ++ fs) kept.groups kept.finished kept.lost (with_told l (Peek (Fill pair) n) (Items items))) (sym (all_whole c.geometry (Fill pair) items q.lawful))
             (has_fill c pair n kept items l a.0 a.1 q (omega (arith, below, few)) (fill_frames c pair n l items q.lawful)),
@@ -146,7 +146,7 @@ module _ (c : Config) (pair : ℕ) (is : IsSeat c pair) where
         subst (λ (fs : List Frame). HasLists c pair kept.spare got.groups got.finished fs (with_told l call (Items items))) (sym (take_all c.geometry.frames lost few)) has,
         (q.some, omega (arith, q.few, batch_few c), held_told l (Tx (socket_at_class c pair k)) seat.batch items),
       )
-  entries (rx_granted packet s) noted kept l known found h a q = (told kept _ Granted l refl a q, room_told l (Rx s) (pieces_of seat packet))
+  entries (rx_granted packet s) noted kept l known found h a q = (told kept _ Granted l refl a q, room_told l (Rx s) (pieces_of seat packet.bytes))
   entries (comp_granted k packet later) noted kept l known found h a q = (told kept _ Granted l refl a q, room_told l (Comp pair) (length packet))
   entries (comp_full k packet later free) noted kept l known found h a q = (told kept _ (Full free) l refl a q, λ f. absurd (cc))
   entries e noted kept l known found h a q = (told (kept_at seat (point_of e) kept) (call_at seat (point_of e) kept) (reply_of e) l refl a q, tt)
@@ -170,7 +170,7 @@ no_group zero class = refl
 no_group (suc k) zero = refl
 no_group (suc k) (suc class) = no_group k class
 
-has_new : (c : Config) (pair : ℕ) (input : List (List ℕ)) → IsSeat c pair → HasKept c pair (start (classes_of c) input) []
+has_new : (c : Config) (pair : ℕ) (input : List Judged) → IsSeat c pair → HasKept c pair (start (classes_of c) input) []
 has_new c pair input seat = record {
   own = tt;
   frames = λ n. omega (arith, no_items (classes_of c) n);
@@ -193,7 +193,7 @@ pub all_fit : (c : Config) (who : ℕ) (past l : List Told) → OwnGoesOn c who 
 all_fit c who past [] goes = tt
 all_fit c who past (t ∷ l) goes = (goes.1, all_fit c who (past ++ t ∷ []) l goes.2)
 
-module _ (c : Config) (pair : ℕ) (input : List (List ℕ)) (l : List Told) (is : IsSeat c pair) (fit : AllFit c [] l) where
+module _ (c : Config) (pair : ℕ) (input : List Judged) (l : List Told) (is : IsSeat c pair) (fit : AllFit c [] l) where
   abbrev begins : Kept
   begins = start (classes_of c) input
 

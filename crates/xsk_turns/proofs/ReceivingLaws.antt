@@ -5,16 +5,16 @@ use Rattle.std.proofs.Math.Bool.{or-false, and-false}
 use Rattle.std.proofs.lemmas.List.Sums.{fold_push}
 use Rattle.xsk_turns.proofs.Calls.{Item, Told, with_told, Ring, Comp, Rx, Mark, RxDone, Gone, Call, Submit, Swap, Reply, Submitted, Old}
 use Rattle.xsk_turns.proofs.Object.{Config, classes_of, Telling, telling_after, telling_step, telling_of}
-use Rattle.xsk_turns.specs.Turns.{Seat, Kept, seat_of, start, turn, returned}
+use Rattle.xsk_turns.specs.Turns.{Seat, Judged, Kept, seat_of, start, turn, returned}
 use Rattle.xsk_turns.specs.Law.{NothingReceivedLate, TellsRxDone}
 use Rattle.xsk_turns.proofs.Walks.{Anything, meet_anything}
-use Rattle.xsk_turns.proofs.DriverWalk.{Family, Receiving, fresh, TellRxDone, SubmitRx, call_at, told_rx_done, looked_none, looked_long, rx_submitted, comp_submitted, looked_tx_done, point_of, reply_of, runt, missed, Said, AtCalls, AtEntries, AtPasses, IsLaw, at_end, of_run}
+use Rattle.xsk_turns.proofs.DriverWalk.{Family, Receiving, fresh, TellRxDone, SubmitRx, call_at, told_rx_done, looked_none, looked_long, rx_submitted, comp_submitted, looked_tx_done, point_of, reply_of, untried, Said, AtCalls, AtEntries, AtPasses, IsLaw, at_end, of_run}
 
 pub telling_told : (m : Mark) (r : Ring) (l : List Told) (call : Call) (reply : Reply) → telling_of m r (with_told l call reply) ≡ telling_after m r (telling_of m r l) call
 telling_told m r l call reply = fold_push (telling_step m r) (record { told = false; late = false }) l (record { call = call; reply = reply })
 
 -- what was told is what is kept, nothing was late, and no packet comes once it was told
-pub record IsTold (d s : ℕ) (rx_done tx_done : Bool) (coming : List (List ℕ)) (l : List Told) : Type 0 where
+pub record IsTold (d s : ℕ) (rx_done tx_done : Bool) (coming : List Judged) (l : List Told) : Type 0 where
   pub told : (telling_of (RxDone d) (Rx s) l).told ≡ rx_done
   pub late : (telling_of (RxDone d) (Rx s) l).late ≡ false
   pub none : rx_done ≡ true → coming ≡ []
@@ -30,21 +30,21 @@ now_told false true e = refl
 now_told false false e = e
 
 module _ (d s : ℕ) where
-  still : (rx_done tx_done : Bool) (coming : List (List ℕ)) (l : List Told) (call : Call) (reply : Reply)
+  still : (rx_done tx_done : Bool) (coming : List Judged) (l : List Told) (call : Call) (reply : Reply)
       → ((u : Telling) → telling_after (RxDone d) (Rx s) u call ≡ u) → IsTold d s rx_done tx_done coming l → IsTold d s rx_done tx_done coming (with_told l call reply)
   still rx_done tx_done coming l call reply e h =
       let same = telling_told (RxDone d) (Rx s) l call reply ∙ e (telling_of (RxDone d) (Rx s) l) in
       record { told = ap (λ u. u.told) same ∙ h.told; late = ap (λ u. u.late) same ∙ h.late; none = h.none; first = h.first }
 
-  dropped : (rx_done tx_done : Bool) (coming : List (List ℕ)) (l : List Told) → IsTold d s rx_done tx_done coming l → IsTold d s rx_done tx_done (drop 1 coming) l
+  dropped : (rx_done tx_done : Bool) (coming : List Judged) (l : List Told) → IsTold d s rx_done tx_done coming l → IsTold d s rx_done tx_done (drop 1 coming) l
   dropped rx_done tx_done coming l h = record { told = h.told; late = h.late; none = λ e. ap (drop 1) (h.none e); first = h.first }
 
-  not_told : (rx_done tx_done : Bool) (coming : List (List ℕ)) (l : List Told) (packet : List ℕ) (later : List (List ℕ)) → IsTold d s rx_done tx_done coming l
+  not_told : (rx_done tx_done : Bool) (coming : List Judged) (l : List Told) (packet : Judged) (later : List Judged) → IsTold d s rx_done tx_done coming l
       → coming ≡ packet ∷ later → rx_done ≡ false
   not_told true tx_done coming l packet later h e = absurd (let no : [] ≡ packet ∷ later = sym (h.none refl) ∙ e in cc)
   not_told false tx_done coming l packet later h e = refl
 
-  submits : (t : ℕ) (items : List Item) (tx_done : Bool) (coming : List (List ℕ)) (l : List Told) → IsTold d s false tx_done coming l
+  submits : (t : ℕ) (items : List Item) (tx_done : Bool) (coming : List Judged) (l : List Told) → IsTold d s false tx_done coming l
       → IsTold d s false tx_done coming (with_told l (Submit (Rx t) items) Submitted)
   submits t items tx_done coming l h =
       let u = telling_of (RxDone d) (Rx s) l in
@@ -56,7 +56,7 @@ module _ (d s : ℕ) where
         first = h.first;
       }
 
-  comp : (rx_done tx_done : Bool) (coming : List (List ℕ)) (l : List Told) (pair : ℕ) (items : List Item) → IsTold d s rx_done tx_done coming l
+  comp : (rx_done tx_done : Bool) (coming : List Judged) (l : List Told) (pair : ℕ) (items : List Item) → IsTold d s rx_done tx_done coming l
       → IsTold d s rx_done tx_done coming (with_told l (Submit (Comp pair) items) Submitted)
   comp rx_done tx_done coming l pair items h =
       let u = telling_of (RxDone d) (Rx s) l in
@@ -68,7 +68,7 @@ module _ (d s : ℕ) where
         first = h.first;
       }
 
-  tells : (rx_done tx_done : Bool) (coming : List (List ℕ)) (l : List Told) (n : ℕ) → coming ≡ [] → IsTold d s rx_done tx_done coming l
+  tells : (rx_done tx_done : Bool) (coming : List Judged) (l : List Told) (n : ℕ) → coming ≡ [] → IsTold d s rx_done tx_done coming l
       → IsTold d s true tx_done coming (with_told l (Swap (RxDone d) 1) (Old n))
   tells rx_done tx_done coming l n e h =
       let u = telling_of (RxDone d) (Rx s) l in
@@ -80,7 +80,7 @@ module _ (d s : ℕ) where
         first = λ f. refl;
       }
 
-  left : (rx_done tx_done : Bool) (coming : List (List ℕ)) (l : List Told) (n : ℕ) → IsTold d s rx_done tx_done coming l
+  left : (rx_done tx_done : Bool) (coming : List Judged) (l : List Told) (n : ℕ) → IsTold d s rx_done tx_done coming l
       → IsTold d s rx_done tx_done coming (with_told l (Swap (Gone d) 1) (Old n))
   left rx_done tx_done coming l n h =
       let u = telling_of (RxDone d) (Rx s) l in
@@ -120,8 +120,7 @@ module _ (c : Config) (d s : ℕ) where
   entries e noted kept l known found h a q = still d s kept.rx_done kept.tx_done kept.coming l (call_at seat (point_of e) kept) (reply_of e) (λ u. refl) h
 
   passes : AtPasses seat Anything (At d s)
-  passes (runt packet later) noted kept l = λ h e. dropped d s kept.rx_done kept.tx_done kept.coming l h
-  passes (missed packet later) noted kept l = λ h e. dropped d s kept.rx_done kept.tx_done kept.coming l h
+  passes (untried packet later x) noted kept l = λ h e. dropped d s kept.rx_done kept.tx_done kept.coming l h
   passes p noted kept l = λ h e. h
 
   law : IsLaw seat Anything (At d s) (OnTime d s) (Over d s)
@@ -132,7 +131,7 @@ module _ (c : Config) (d s : ℕ) where
     ends = λ noted kept l n known h a q. let now = left d s kept.rx_done kept.tx_done kept.coming l n h in (now.late, now.told ∙ now.first known.2);
   }
 
-  first : (input : List (List ℕ)) → At d s Receiving fresh (start (classes_of c) input) []
+  first : (input : List Judged) → At d s Receiving fresh (start (classes_of c) input) []
   first input = record { told = refl; late = refl; none = λ e. absurd (cc); first = λ e. absurd (cc) }
 
 pub nothing_received_late : NothingReceivedLate

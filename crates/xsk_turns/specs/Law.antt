@@ -11,15 +11,15 @@ use Rattle.xsk_model.specs.Ends.{draining_of, telling_of}
 use Rattle.xsk_model.specs.declared.call.Ring.TheVariants.{Rx, Tx}
 use Rattle.xsk_model.specs.declared.call.Mark.TheVariants.{RxDone, TxDone}
 use Rattle.xsk_turns.specs.Owned.{IsSeat, AllFit}
-use Rattle.xsk_turns.specs.Turns.{seat_of, socket_of, application_of, IsDriverRun, IsWholeDriverRun}
-use Rattle.xsk_turns.specs.Disposals.{attempts_of, disposals_of, disposal_in, delivered_to}
+use Rattle.xsk_turns.specs.Turns.{Judged, seat_of, socket_of, application_of, IsDriverRun, IsWholeDriverRun}
+use Rattle.xsk_turns.specs.Disposals.{attempts_of, disposals_of, disposal_in, delivered_to, bytes_in}
 
 -- ---- what is received
 
--- in a whole run the disposals of the input's packets, by the attempts, are those that the configuration says: one for
+-- in a whole run the disposals of the input's packets, by the attempts, are those that the configuration and the verdicts say: one for
 -- each, in order
 abbrev pub EachDisposedOnce : Type 0
-EachDisposedOnce = (c : Config) (d : ℕ) (input : List (List ℕ)) (l : List Told) → AllFit c [] l → IsWholeDriverRun c d input l
+EachDisposedOnce = (c : Config) (d : ℕ) (input : List Judged) (l : List Told) → AllFit c [] l → IsWholeDriverRun c d input l
     → disposals_of (seat_of c d) input (attempts_of l) ≡ map (disposal_in (seat_of c d)) input
 
 -- items are layouts of packets, one after the other
@@ -35,27 +35,27 @@ IsLaidOut g sg packets items = (layouts : List (List Item)) × (items ≡ flat_m
 -- in a whole run the items that were submitted on a socket's RX ring are the layouts of the packets that are delivered to
 -- it, in order
 abbrev pub DeliversInOrder : Type 0
-DeliversInOrder = (c : Config) (d s : ℕ) (input : List (List ℕ)) (l : List Told) → IsSeat c d → AllFit c [] l → IsWholeDriverRun c d input l
-    → IsLaidOut c.geometry c.sg (delivered_to (seat_of c d) s input) (submitted_of (Rx s) l)
+DeliversInOrder = (c : Config) (d s : ℕ) (input : List Judged) (l : List Told) → IsSeat c d → AllFit c [] l → IsWholeDriverRun c d input l
+    → IsLaidOut c.geometry c.sg (bytes_in (delivered_to (seat_of c d) s input)) (submitted_of (Rx s) l)
 
 -- nothing is submitted on RX behind the Swap that tells that no further packet comes
 abbrev pub NothingReceivedLate : Type 0
-NothingReceivedLate = (c : Config) (d s : ℕ) (input : List (List ℕ)) (l : List Told) → IsDriverRun c d input l → (telling_of (RxDone d) (Rx s) l).late ≡ false
+NothingReceivedLate = (c : Config) (d s : ℕ) (input : List Judged) (l : List Told) → IsDriverRun c d input l → (telling_of (RxDone d) (Rx s) l).late ≡ false
 
 -- in a whole run the driver told so
 abbrev pub TellsRxDone : Type 0
-TellsRxDone = (c : Config) (d s : ℕ) (input : List (List ℕ)) (l : List Told) → IsWholeDriverRun c d input l → (telling_of (RxDone d) (Rx s) l).told ≡ true
+TellsRxDone = (c : Config) (d s : ℕ) (input : List Judged) (l : List Told) → IsWholeDriverRun c d input l → (telling_of (RxDone d) (Rx s) l).told ≡ true
 
 -- ---- what is sent
 
 -- in a whole run each TX ring was found empty at the end, after the application had told that it sends no more
 abbrev pub DrainsTx : Type 0
-DrainsTx = (c : Config) (d class : ℕ) (input : List (List ℕ)) (l : List Told) → IsWholeDriverRun c d input l → class < classes_of c
+DrainsTx = (c : Config) (d class : ℕ) (input : List Judged) (l : List Told) → IsWholeDriverRun c d input l → class < classes_of c
     → (draining_of (TxDone (application_of (seat_of c d)) ∷ []) (Tx (socket_of (seat_of c d) class)) l).empty ≡ true
 
 -- in a whole run all packets that were peeked on a TX ring whole are completed
 abbrev pub CompletesAll : Type 0
-CompletesAll = (c : Config) (d class : ℕ) (input : List (List ℕ)) (l : List Told) → IsSeat c d → AllFit c [] l → IsWholeDriverRun c d input l
+CompletesAll = (c : Config) (d class : ℕ) (input : List Judged) (l : List Told) → IsSeat c d → AllFit c [] l → IsWholeDriverRun c d input l
     → class < classes_of c
     → (sending_of c (socket_of (seat_of c d) class) l).completed
     ≡ length (whole_packets (packets c.geometry c.sg (peeked_of (Tx (socket_of (seat_of c d) class)) l)))

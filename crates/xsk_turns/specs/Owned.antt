@@ -17,7 +17,7 @@ use Rattle.xsk_model.specs.declared.call.Ring.TheVariants.{Tx}
 use Rattle.xsk_model.specs.declared.call.Call.{Call}
 use Rattle.xsk_model.specs.declared.call.Reply.{Reply}
 use Rattle.xsk_model.specs.declared.call.Reply.TheVariants.{Items}
-use Rattle.xsk_turns.specs.Turns.{Seat, Kept, seat_of, start, turn, socket_of, group_at, frames_in}
+use Rattle.xsk_turns.specs.Turns.{Seat, Judged, Kept, seat_of, start, turn, socket_of, group_at, frames_in}
 use Rattle.xsk_turns.specs.Script.{Script, Asks, Ends}
 
 -- a pair of a regular configuration
@@ -104,12 +104,12 @@ AllFit c past (t ∷ l) = Fits c past t.call t.reply × AllFit c (past ++ t ∷ 
 -- At each call that a driver makes, the frames that it keeps, with those of the call, are those that it peeked and didn't
 -- submit; and the call is legal.
 abbrev pub KeepsFrames : Type 0
-KeepsFrames = (c : Config) (pair : ℕ) (input : List (List ℕ)) (l : List Told) (kept : Kept) (call : Call) (rest : Reply → Script Kept) → IsSeat c pair → AllFit c [] l
+KeepsFrames = (c : Config) (pair : ℕ) (input : List Judged) (l : List Told) (kept : Kept) (call : Call) (rest : Reply → Script Kept) → IsSeat c pair → AllFit c [] l
     → Asks (turn (seat_of c pair)) (start (classes_of c) input) l kept call rest → Owned c pair kept call l × IsLegal c l pair call
 
 -- at its end they are those that it keeps
 abbrev pub KeepsFramesAtEnd : Type 0
-KeepsFramesAtEnd = (c : Config) (pair : ℕ) (input : List (List ℕ)) (l : List Told) (kept : Kept) → IsSeat c pair → AllFit c [] l
+KeepsFramesAtEnd = (c : Config) (pair : ℕ) (input : List Judged) (l : List Told) (kept : Kept) → IsSeat c pair → AllFit c [] l
     → Ends (turn (seat_of c pair)) (start (classes_of c) input) l kept → OwnGoesOn c pair [] l × ((n : ℕ) → times n (numbers_kept kept) ≡ times n (had_of l))
 
 -- so there is room for each reply that fits

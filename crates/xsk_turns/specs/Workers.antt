@@ -1,22 +1,53 @@
 -- The workers of a setting, by their numbers among the callers: a driver for each pair, over the pair's packets, and then the
--- applications. What is said of their runs holds whatever engine they run on.
-use Rattle.std.specs.Prelude.{◌≡◌, ℕ, ◌<◌, List, length}
+-- applications. The verdicts of a driver's packets belong to its setting. What is said of their runs holds whatever engine they run on.
+use Rattle.std.specs.Prelude.{◌≡◌, ℕ, ◌<◌, true, List, [], length, map}
+use Rattle.std.specs.List.{slice_index_or}
 use Rattle.xsk_umem.specs.PacketList.{PacketList}
 use Rattle.xsk_model.specs.Config.{Config, pair_at}
+use Rattle.xsk_model.specs.declared.config.PairInfo.{PairInfo}
 use Rattle.xsk_model.specs.Rings.{caller_of}
 use Rattle.xsk_model.specs.Entry.{Told}
 use Rattle.xsk_turns.specs.Inputs.{packets_of_queue, packets_of_port}
-use Rattle.xsk_turns.specs.Turns.{IsDriverRun, IsWholeDriverRun}
+use Rattle.xsk_turns.specs.Turns.{Judged, IsDriverRun, IsWholeDriverRun}
+use Rattle.xsk_turns.specs.Verdicts.{judged, MeetRule, own_verdicts}
+use Rattle.xsk_prog.specs.Rules.{is_exact}
+use Rattle.xsk_prog.specs.declared.rule.Rule.{Rule}
+use Rattle.xsk_prog.specs.declared.rule.Verdict.{Verdict}
 use Rattle.xsk_turns.specs.AppTurns.{IsAppRun, IsWholeAppRun}
 
--- what is run: a configuration over the packets of each port
+-- what is run: a configuration over the packets of each port, and the verdicts of each pair's packets
 pub record Setting : Type 0 where
   pub config : Config
   pub packets : List PacketList
+  pub verdicts : List (List Verdict)
 
--- the packets that come to a pair's driver: those of its port that go to its queue
-abbrev pub input_of : Setting → ℕ → List (List ℕ)
-input_of s pair = packets_of_queue s.config.queues (pair_at s.config.pairs pair).queue (packets_of_port s.packets (pair_at s.config.pairs pair).port)
+-- the packets of a pair: those of its port that go to its queue
+abbrev pub packets_to : Config → List PacketList → PairInfo → List (List ℕ)
+packets_to c lists pair = packets_of_queue c.queues pair.queue (packets_of_port lists pair.port)
+
+-- they come to its driver with their verdicts
+abbrev pub input_of : Setting → ℕ → List Judged
+input_of s pair = judged (packets_to s.config s.packets (pair_at s.config.pairs pair)) (slice_index_or s.verdicts pair [])
+
+-- each pair has its verdicts, which meet the rule
+pub record IsRuled (rule : Rule) (s : Setting) : Type 0 where
+  pub count : length s.verdicts ≡ length s.config.pairs
+  pub each : (pair : ℕ) → pair < length s.config.pairs
+      → MeetRule rule (pair_at s.config.pairs pair).queue (packets_to s.config s.packets (pair_at s.config.pairs pair)) (slice_index_or s.verdicts pair [])
+
+-- the setting whose verdicts are those that a rule gives itself: they meet it, and there is no other setting whose verdicts
+-- do where the rule leaves one verdict
+abbrev pub verdicts_to : Rule → Config → List PacketList → PairInfo → List Verdict
+verdicts_to rule c lists pair = own_verdicts rule pair.queue (packets_to c lists pair)
+
+abbrev pub ruled : Rule → Config → List PacketList → Setting
+ruled rule c lists = record { config = c; packets = lists; verdicts = map (verdicts_to rule c lists) c.pairs }
+
+abbrev pub OwnSetting : Type 0
+OwnSetting = (rule : Rule) (c : Config) (lists : List PacketList) → IsRuled rule (ruled rule c lists)
+
+abbrev pub OneSetting : Type 0
+OneSetting = (rule : Rule) (s : Setting) → is_exact rule ≡ true → IsRuled rule s → s ≡ ruled rule s.config s.packets
 
 -- a caller's own calls and replies are a run: of the driver of its pair over the pair's packets, or of its application
 pub record IsWorkerRun (s : Setting) (who : ℕ) (l : List Told) : Type 0 where

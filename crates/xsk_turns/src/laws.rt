@@ -8,6 +8,8 @@ ghost use Rattle.xsk_turns.specs.Counted.{KeepsCounters, KeepsCountersAtEnd};
 ghost use Rattle.xsk_turns.specs.Disposes.{KeepsDisposals, DisposesAll};
 ghost use Rattle.xsk_turns.specs.Law.{EachDisposedOnce, DeliversInOrder, NothingReceivedLate, TellsRxDone, DrainsTx, CompletesAll};
 ghost use Rattle.xsk_turns.specs.Owned.{KeepsFrames, KeepsFramesAtEnd, LeavesRoom};
+ghost use Rattle.xsk_turns.specs.Verdicts.{OneVerdicts};
+ghost use Rattle.xsk_turns.specs.Workers.{OwnSetting, OneSetting};
 
 /// At each call that a driver makes, its frames are those that it peeked and didn't submit, and the call is legal.
 #[tactic(auto, using(crate::proofs::Owning::keeps_frames))]
@@ -50,7 +52,8 @@ pub fn disposes_all()
     ensures { DisposesAll }
 {}
 
-/// In a whole run each packet of the input has one disposal, in order: the one that the configuration says.
+/// In a whole run each packet of the input has one disposal, in order: the one that the configuration and its
+/// verdict say.
 #[tactic(auto, using(crate::proofs::Saying::each_disposed_once))]
 pub fn each_disposed_once()
     ensures { EachDisposedOnce }
@@ -80,6 +83,23 @@ pub fn drains_tx()
 /// In a whole run all packets that were peeked on a TX ring whole are completed.
 pub fn completes_all()
     ensures { CompletesAll }
+{}
+
+/// A rule with one verdict for each packet leaves one list of verdicts.
+#[tactic(auto, using(crate::proofs::Verdicts::one_verdicts))]
+pub fn one_verdicts()
+    ensures { OneVerdicts }
+{}
+
+/// The verdicts that a rule gives itself meet it.
+pub fn own_setting()
+    ensures { OwnSetting }
+{}
+
+/// A rule with one verdict for each packet leaves one setting for a configuration and packets.
+#[tactic(auto, using(crate::proofs::Verdicts::one_setting))]
+pub fn one_setting()
+    ensures { OneSetting }
 {}
 
 /// At each call that an application makes, its frames are those that it peeked and didn't submit.

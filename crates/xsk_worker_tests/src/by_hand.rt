@@ -1,7 +1,8 @@
 //! Each worker by hand, over its calls in the exchange of one packet of 60 bytes from port 0 to port 1.
-ghost use Rattle.std.specs.Prelude.{◌≡◌, ◌<◌, IfOk, IfSome, Some, false, length};
+ghost use Rattle.std.specs.Prelude.{◌≡◌, ◌<◌, All, IfOk, IfSome, Some, false, length};
 ghost use Rattle.xsk_model.specs.Config.{IsRegular};
 ghost use Rattle.xsk_model.specs.Marks.{apps_of};
+ghost use Rattle.xsk_sim.specs.Shown.{HasShortPackets};
 ghost use Rattle.xsk_model.specs.Expected.{Expected, CanCome, expected_by, expected_of, nothing};
 
 use crate::configuration::{pair_on, socket_on};
@@ -10,13 +11,14 @@ use std::test::Fail;
 use xsk_app::App;
 use xsk_driver::{Disposal, Driver, Inputs};
 use xsk_model::{Act, Call, Config, Mark, Reply, Ring};
+use xsk_prog::{Rule, Verdict, XdpProgram};
 use xsk_umem::{Batch, Frame, Frames, Item, PacketList, Umem, XdpDesc};
 
 /// The packet's bytes.
 const PACKET: [u8; 60] = [7; 60];
 
 /// Where the packet stands in frame 0, and the frame's item without it.
-const RECEIVED: XdpDesc = XdpDesc {
+pub(crate) const RECEIVED: XdpDesc = XdpDesc {
     addr: 256,
     len: 60,
     options: 0,
@@ -28,14 +30,14 @@ const SENT: XdpDesc = XdpDesc {
     options: 0,
 };
 
-const FREE: XdpDesc = XdpDesc {
+pub(crate) const FREE: XdpDesc = XdpDesc {
     addr: 0,
     len: 0,
     options: 0,
 };
 
 /// A worker that makes one call at a time and goes on with its reply.
-trait Worker {
+pub(crate) trait Worker {
     // What it waits for.
     ghost expected: { Self → Expected };
 
@@ -63,7 +65,7 @@ impl Worker for App<'_> {
 
 /// What a worker did: the call without its frames, with the first of its descriptors where it has items.
 #[derive(Clone, Copy, Debug, PartialEq, Eq)]
-enum Seen {
+pub(crate) enum Seen {
     Reserve(Ring, u32),
     Submit(Ring, u32, XdpDesc),
     Peek(Ring, u32),
@@ -110,14 +112,14 @@ fn fitting(call: &Call, reply: Reply) -> Option<Reply>
 
 /// A worker, with the call that it makes next.
 #[derive(Drop)]
-struct Hand<M: Worker> {
-    worker: M,
+pub(crate) struct Hand<M: Worker> {
+    pub(crate) worker: M,
     act: Act,
     ghost awaits: { M.expected worker ≡ expected_of act },
 }
 
 impl<M: Worker> Hand<M> {
-    fn new(worker: M) -> Hand<M>
+    pub(crate) fn new(worker: M) -> Hand<M>
         requires { M.expected worker ≡ nothing }
     {
         let mut worker = worker;
@@ -126,7 +128,7 @@ impl<M: Worker> Hand<M> {
     }
 
     /// Whether the worker's next call is this one. If so it goes on with the reply.
-    fn goes(&mut self, expected: Seen, reply: Reply) -> bool {
+    pub(crate) fn goes(&mut self, expected: Seen, reply: Reply) -> bool {
         if seen_in(&self.act) != expected {
             return false;
         }
@@ -140,15 +142,15 @@ impl<M: Worker> Hand<M> {
         true
     }
 
-    fn finds_empty(&mut self, ring: Ring) -> bool {
+    pub(crate) fn finds_empty(&mut self, ring: Ring) -> bool {
         self.goes(Seen::Peek(ring, 32), Reply::Empty)
     }
 
-    fn looks(&mut self, mark: Mark, number: u64) -> bool {
+    pub(crate) fn looks(&mut self, mark: Mark, number: u64) -> bool {
         self.goes(Seen::Look(mark), Reply::Old(number))
     }
 
-    fn swaps(&mut self, mark: Mark) -> bool {
+    pub(crate) fn swaps(&mut self, mark: Mark) -> bool {
         self.goes(Seen::Swap(mark, 1), Reply::Old(0))
     }
 
@@ -171,6 +173,11 @@ impl<M: Worker> Hand<M> {
             && self.has_ended()
     }
 
+    /// Whether a driver finds no frame on FILL and nothing to send.
+    pub(crate) fn finds_no_frame(&mut self) -> bool {
+        self.goes(Seen::Peek(Ring::Fill(0), 1), Reply::Empty) && self.finds_empty(Ring::Tx(0))
+    }
+
     /// Whether an application finds both COMPLETION rings empty.
     fn finds_no_frames(&mut self) -> bool {
         self.finds_empty(Ring::Comp(0)) && self.finds_empty(Ring::Comp(1))
@@ -182,7 +189,7 @@ impl<M: Worker> Hand<M> {
 }
 
 /// Two ports with one queue and one socket each, and the frames of the UMEM.
-fn two_ports(alloc: Global) -> Result<(Config, Frames), Fail>
+pub(crate) fn two_ports(alloc: Global) -> Result<(Config, Frames), Fail>
     ensures regular { IfOk result (λ made. IsRegular made.0) }
     ensures pairs { IfOk result (λ made. length made.0.pairs ≡ 2) }
     ensures ports { IfOk result (λ made. made.0.ports ≡ 2) }
@@ -202,7 +209,8 @@ fn two_ports(alloc: Global) -> Result<(Config, Frames), Fail>
 
 /// The packet on port 0, and none on port 1.
 fn inputs_of_ports(alloc: Global) -> Result<Vec<PacketList>, Fail>
-    ensures { IfOk result (λ lists. length lists.items ≡ 2) }
+    ensures count { IfOk result (λ lists. length lists.items ≡ 2) }
+    ensures short { IfOk result (λ lists. All HasShortPackets lists.items) }
 {
     let mut first = PacketList::new(alloc);
     first.push(&PACKET)?;
@@ -210,7 +218,7 @@ fn inputs_of_ports(alloc: Global) -> Result<Vec<PacketList>, Fail>
 }
 
 /// The frame's item with this descriptor, alone.
-fn one(alloc: Global, frame: Frame, desc: XdpDesc) -> Reply {
+pub(crate) fn one(alloc: Global, frame: Frame, desc: XdpDesc) -> Reply {
     let mut items = Batch::new(alloc);
     items.push(Item {
         frame: Some(frame),
@@ -220,7 +228,7 @@ fn one(alloc: Global, frame: Frame, desc: XdpDesc) -> Reply {
 }
 
 /// The next frame, with the packet in it.
-fn packet_frame(frames: &mut Frames) -> Result<Frame, Fail> {
+pub(crate) fn packet_frame(frames: &mut Frames) -> Result<Frame, Fail> {
     let mut frame = frames.pop_front().ok_or("no frame")?;
     if frame.bytes().len() != 4096 {
         Err("a short frame")?;
@@ -235,7 +243,11 @@ fn a_driver_receives_the_packet(rt: HostRuntime) -> Result<(), Fail> {
     let (config, mut frames) = two_ports(alloc)?;
     let lists = inputs_of_ports(alloc)?;
     let inputs = Inputs::split(alloc, &config, lists.as_slice())?;
-    let driver = Driver::new(alloc, &config, 0, &lists[0], &inputs, 4, 4096)?;
+    let rule = Rule::Redirect { sockets: 1 };
+    let program = XdpProgram::attach(rule, |packet: &[u8], queue: u32| {
+        rule.verdict(packet, queue)
+    });
+    let driver = Driver::new(alloc, &config, 0, &lists[0], &inputs, &program, 4, 4096)?;
     let frame = packet_frame(&mut frames)?;
     let mut hand = Hand::new(driver);
     assert!(rt; hand.looks(Mark::Cell(0, 0), 1));
@@ -259,7 +271,8 @@ fn a_driver_sends_the_packet(rt: HostRuntime) -> Result<(), Fail> {
     let (config, mut frames) = two_ports(alloc)?;
     let lists = inputs_of_ports(alloc)?;
     let inputs = Inputs::split(alloc, &config, lists.as_slice())?;
-    let driver = Driver::new(alloc, &config, 1, &lists[1], &inputs, 4, 4096)?;
+    let program = XdpProgram::attach(Rule::Drop, |_packet: &[u8], _queue: u32| Verdict::Drop);
+    let driver = Driver::new(alloc, &config, 1, &lists[1], &inputs, &program, 4, 4096)?;
     let frame = packet_frame(&mut frames)?;
     let mut hand = Hand::new(driver);
     assert!(rt; hand.swaps(Mark::RxDone(1)));

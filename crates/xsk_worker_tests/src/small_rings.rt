@@ -1,10 +1,12 @@
 //! Two hundred packets of each port over small rings and few frames: some find a ring full, some no frame, and all cross in
 //! order.
 ghost use Rattle.std.specs.Prelude.{◌≡◌, IfOk, Some, length};
+ghost use Rattle.xsk_sim.specs.Shown.{HasShortPackets};
 
 use std::alloc::Global;
 use std::test::Fail;
 use xsk_model::{Config, PairInfo, SocketInfo};
+use xsk_prog::{Rule, XdpProgram};
 use xsk_sim::simulate;
 use xsk_umem::{PacketList, Umem};
 
@@ -25,7 +27,11 @@ fn packets_find_a_ring_full_and_no_frame(rt: HostRuntime) -> Result<(), Fail> {
         return Err("the configuration isn't regular")?;
     }
     let lists = vec![in alloc; packets(alloc)?, packets(alloc)?]?;
-    let Ok(run) = simulate(alloc, config, frames, lists.as_slice(), 1) else {
+    let rule = Rule::Redirect { sockets: 1 };
+    let program = XdpProgram::attach(rule, |packet: &[u8], queue: u32| {
+        rule.verdict(packet, queue)
+    });
+    let Ok(run) = simulate(alloc, config, frames, lists.as_slice(), &program, 1) else {
         return Err("the run didn't end")?;
     };
     let log = format!(in alloc; "{:?}", run.log())?;
@@ -36,7 +42,9 @@ fn packets_find_a_ring_full_and_no_frame(rt: HostRuntime) -> Result<(), Fail> {
 }
 
 /// A port's packets: each byte tells the packet.
-fn packets(alloc: Global) -> Result<PacketList, Fail> {
+fn packets(alloc: Global) -> Result<PacketList, Fail>
+    ensures { IfOk result HasShortPackets }
+{
     let mut list = PacketList::new(alloc);
     for number in 0..PACKETS {
         list.push(&[number as u8; LEN])?;

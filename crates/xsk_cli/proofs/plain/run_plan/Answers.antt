@@ -6,6 +6,9 @@ use Rattle.xsk_cli.specs.Steps.{FailsMaking, HaveRead, MakesNone, lists_in, plan
 use Rattle.xsk_cli.specs.Streams.{Moment, AreWritten}
 use Rattle.xsk_cli.proofs.Making.{making_fails}
 use Rattle.xsk_cli.proofs.Writing.{SameInputs, run_fails, unwritten_ends, done_ends, status_ends, texts_count}
+use Rattle.std.specs.Prelude.{All}
+use Rattle.xsk_sim.specs.Shown.{HasShortPackets}
+use Rattle.xsk_cli.proofs.Short.{short_lists}
 use Rattle.xsk_cli.proofs.plain.run_plan.Goals as goal
 
 pub returns-in_err-lists-clause-ends : goal.returns-in_err-lists-clause-ends
@@ -85,3 +88,8 @@ returns-clause-ends g c =
     let writes : AreWritten plan.outputs texts.outputs (length plan.outputs) (length plan.outputs) mid new =
     subst (λ n. AreWritten plan.outputs texts.outputs n n mid new) (sym count) c.in_ok-write_texts.ensures.written in
     done_ends plan bytes old mid new have texts outcome same writes c.in_ok-write_texts.ensures.report c.in_ok-write_texts.ensures.offered
+
+pub make_texts-requires-clause-short : goal.make_texts-requires-clause-short
+make_texts-requires-clause-short g c =
+    subst (All HasShortPackets) (sym c.as_slice-2.ensures.value)
+    (short_lists (plan_in c.args.plan.now).work (map (λ bytes. bytes.items) c.as_slice.result.now) c.in_ok-lists.lists.items c.in_ok-lists.ensures.taken)

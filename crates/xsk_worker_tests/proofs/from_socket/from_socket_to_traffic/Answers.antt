@@ -1,5 +1,4 @@
-use Rattle.std.proofs.Common.{◌≡◌, List, sym, subst}
-use Rattle.xsk_umem.specs.Frame.{Frame}
+use Rattle.std.proofs.Common.{◌≡◌, sym, subst}
 use Rattle.xsk_umem.specs.Frames.{Frames}
 use Rattle.xsk_umem.specs.Geometry.{Geometry}
 use Rattle.xsk_model.specs.Opening.{AreFrames}

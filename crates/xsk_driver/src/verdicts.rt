@@ -1,0 +1,49 @@
+//! The verdicts of a driver's packets, for which the program is asked once.
+ghost use Rattle.std.specs.Prelude.{◌<◌, ◌≤◌, All, IfOk, length};
+ghost use Rattle.xsk_prog.specs.Program.{Obeys};
+ghost use Rattle.xsk_turns.specs.Verdicts.{EachHas, IsGiven};
+ghost use Rattle.xsk_driver.specs.Asking.{IsAnswer, packets_by};
+ghost use Rattle.xsk_driver.specs.Sent.{IsShort};
+
+use crate::machine::LEAST_BYTES;
+use std::alloc::Global;
+use xsk_prog::{Verdict, XdpProgram};
+use xsk_umem::{OutOfMemory, PacketList};
+
+/// The verdicts of the packets of these numbers, in order, each asked for once.
+pub(crate) fn ask_all<F: Fn(&[u8], u32) -> Verdict>(
+    alloc: Global,
+    packets: &PacketList,
+    numbers: &[u32],
+    queue: u32,
+    program: &XdpProgram<F>,
+) -> Result<Vec<Verdict>, OutOfMemory>
+    requires known { All (λ n. n < length packets.now.packets) numbers.now }
+    requires short { All IsShort packets.now.packets }
+    requires queue { queue < 4 }
+    requires obeys { Obeys F.Fn program.now.rule program.now.decide }
+    ensures { IfOk result (λ verdicts. EachHas (IsGiven (IsAnswer F.Fn program.now.rule program.now.decide queue)) (packets_by packets.now numbers.now) verdicts.items) }
+{
+    let mut verdicts = Vec::with_capacity(alloc, numbers.len())?;
+    for number in numbers {
+        verdicts.push_reserved(ask_once(packets.get(*number), queue, program));
+    }
+    Ok(verdicts)
+}
+
+/// The verdict of a packet. One without an Ethernet header isn't asked about.
+fn ask_once<F: Fn(&[u8], u32) -> Verdict>(
+    packet: &[u8],
+    queue: u32,
+    program: &XdpProgram<F>,
+) -> Verdict
+    requires short { length packet.now ≤ 262144 }
+    requires queue { queue < 4 }
+    requires obeys { Obeys F.Fn program.now.rule program.now.decide }
+    ensures { IsGiven (IsAnswer F.Fn program.now.rule program.now.decide queue) packet.now result }
+{
+    if packet.len() < LEAST_BYTES {
+        return Verdict::Drop;
+    }
+    program.verdict(packet, queue)
+}
