@@ -1,4 +1,4 @@
-//! Tests of the workers and the object together: each worker by hand, runs over small rings, redirects,
+//! Tests of the workers and the object together: each worker by hand, runs over small rings, redirects, programs,
 //! the largest UMEM.
 #![tactic(auto)]
 
@@ -10,6 +10,8 @@ mod configuration;
 mod four_ports;
 #[cfg(test)]
 mod from_socket;
+#[cfg(test)]
+mod programs;
 #[cfg(test)]
 mod redirects;
 #[cfg(test)]
