@@ -20,12 +20,12 @@ use Rattle.xsk_plain.specs.Log.{calls_of, entries_of, item_of}
 use Rattle.xsk_plain.proofs.Parts.{length-entries}
 use Rattle.xsk_plain.specs.declared.log.Log.{Log}
 use Rattle.xsk_umem.specs.Frame.{Frame}
-use Rattle.xsk_sim.specs.Runs.{HasEnded, HasStalled, HasEndedUnder, HasStalledUnder}
+use Rattle.xsk_sim.specs.Runs.{HasEnded, HasStalled}
 use Rattle.xsk_sim.proofs.Verdicts.{ends_as_ruled, stalls_as_ruled}
 use Rattle.xsk_prog.specs.declared.rule.Rule.TheVariants.{Redirect as ByClass}
 use Rattle.xsk_prog.specs.declared.rule.Verdict.{Verdict}
 use Rattle.xsk_turns.specs.Verdicts.{MeetRule}
-use Rattle.xsk_turns.specs.Workers.{ruled}
+use Rattle.xsk_turns.specs.Workers.{IsRuled, ruled}
 use Rattle.xsk_turns.proofs.Verdicts.{own_setting}
 use Rattle.xsk_model.proofs.Seats.{is_at}
 use Rattle.xsk_laws.specs.Laws.{AreWholeRuns, HasOwnSockets}
@@ -185,15 +185,17 @@ one_list-writable packets short few small = record {
 
 -- a run of the code's configuration, lists and frames
 pub stalled_as : (layout : Layout) (order : ℕ) (c : Config) (own : List PacketList) (fs : List Frame) (lists : List (List (List ℕ))) (round : ℕ) → c ≡ regular_of layout → own ≡ map listed lists
-    → fs ≡ frames_of layout → HasStalledUnder (ByClass layout.sockets) c own fs order round → HasStalled (setting_of layout lists) (frames_of layout) order round
-stalled_as layout order c own fs lists round is_config is_own is_frames h =
+    → fs ≡ frames_of layout → (verdicts : List (List Verdict)) → IsRuled (ByClass layout.sockets) (record { config = c; packets = own; verdicts = verdicts })
+    → HasStalled (record { config = c; packets = own; verdicts = verdicts }) fs order round → HasStalled (setting_of layout lists) (frames_of layout) order round
+stalled_as layout order c own fs lists round is_config is_own is_frames verdicts is h =
     subst (λ f. HasStalled (setting_of layout lists) f order round) is_frames
     (subst (λ (l : List PacketList). HasStalled (ruled (ByClass layout.sockets) (regular_of layout) l) fs order round) is_own
-    (subst (λ (k : Config). HasStalled (ruled (ByClass layout.sockets) k own) fs order round) is_config (stalls_as_ruled (ByClass layout.sockets) c own fs order round refl h)))
+    (subst (λ (k : Config). HasStalled (ruled (ByClass layout.sockets) k own) fs order round) is_config (stalls_as_ruled (ByClass layout.sockets) (record { config = c; packets = own; verdicts = verdicts }) fs order round refl is h)))
 
 pub ended_as : (layout : Layout) (order : ℕ) (c : Config) (own : List PacketList) (fs : List Frame) (lists : List (List (List ℕ))) (run : Shown) → c ≡ regular_of layout → own ≡ map listed lists
-    → fs ≡ frames_of layout → HasEndedUnder (ByClass layout.sockets) c own fs order run → HasEnded (setting_of layout lists) (frames_of layout) order run
-ended_as layout order c own fs lists run is_config is_own is_frames h =
+    → fs ≡ frames_of layout → (verdicts : List (List Verdict)) → IsRuled (ByClass layout.sockets) (record { config = c; packets = own; verdicts = verdicts })
+    → HasEnded (record { config = c; packets = own; verdicts = verdicts }) fs order run → HasEnded (setting_of layout lists) (frames_of layout) order run
+ended_as layout order c own fs lists run is_config is_own is_frames verdicts is h =
     subst (λ f. HasEnded (setting_of layout lists) f order run) is_frames
     (subst (λ (l : List PacketList). HasEnded (ruled (ByClass layout.sockets) (regular_of layout) l) fs order run) is_own
-    (subst (λ (k : Config). HasEnded (ruled (ByClass layout.sockets) k own) fs order run) is_config (ends_as_ruled (ByClass layout.sockets) c own fs order run refl h)))
+    (subst (λ (k : Config). HasEnded (ruled (ByClass layout.sockets) k own) fs order run) is_config (ends_as_ruled (ByClass layout.sockets) (record { config = c; packets = own; verdicts = verdicts }) fs order run refl is h)))

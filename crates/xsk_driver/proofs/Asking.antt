@@ -5,7 +5,6 @@ use Rattle.std.proofs.lemmas.Option.{get_or_from_slice_get}
 use Rattle.std.specs.Fn.{Shared}
 use denote.Ref.{Bor}
 use Rattle.xsk_umem.specs.PacketList.{PacketList}
-use Rattle.xsk_prog.specs.Program.{Answers}
 use Rattle.xsk_prog.specs.Rules.{Meets}
 use Rattle.xsk_prog.specs.declared.rule.Rule.{Rule}
 use Rattle.xsk_prog.specs.declared.rule.Verdict.{Verdict}
@@ -40,14 +39,12 @@ each-weaker P Q w [] (v ∷ verdicts) h = absurd h
 each-weaker P Q w (p ∷ packets) [] h = absurd h
 each-weaker P Q w (p ∷ packets) (v ∷ verdicts) h = (w p v h.0, each-weaker P Q w packets verdicts h.1)
 
--- answers that meet the rule are answers, and meet it
-module _ {F : Type 0} (g : Shared F (Bor (List ℕ) × (ℕ × Unit {0})) Verdict) (rule : Rule) (f : F) (queue : ℕ) (packets : List (List ℕ)) (verdicts : List Verdict)
-    (h : EachHas (IsGiven (IsAnswer g rule f queue)) packets verdicts) where
-  pub all_answer : EachHas (IsGiven (λ packet verdict. Answers g f packet queue verdict)) packets verdicts
-  all_answer = each-weaker (IsGiven (IsAnswer g rule f queue)) (IsGiven (λ packet verdict. Answers g f packet queue verdict)) (λ packet verdict k. record { asked = λ long. (k.asked long).answers; runt = k.runt }) packets verdicts h
-
-  pub all_meet : EachHas (IsGiven (λ packet verdict. Meets rule packet queue verdict)) packets verdicts
-  all_meet = each-weaker (IsGiven (IsAnswer g rule f queue)) (IsGiven (λ packet verdict. Meets rule packet queue verdict)) (λ packet verdict k. record { asked = λ long. (k.asked long).meets; runt = k.runt }) packets verdicts h
+-- answers that meet the rule meet it
+pub all_meet : {F : Type 0} (g : Shared F (Bor (List ℕ) × (ℕ × Unit {0})) Verdict) (rule : Rule) (f : F) (queue : ℕ) (packets : List (List ℕ)) (verdicts : List Verdict)
+    → EachHas (IsGiven (IsAnswer g rule f queue)) packets verdicts → EachHas (IsGiven (λ packet verdict. Meets rule packet queue verdict)) packets verdicts
+all_meet g rule f queue packets verdicts h =
+    each-weaker (IsGiven (IsAnswer g rule f queue)) (IsGiven (λ packet verdict. Meets rule packet queue verdict))
+    (λ packet verdict k. record { asked = λ long. (k.asked long).meets; runt = k.runt }) packets verdicts h
 
 pub verdicts-judged : (P : List ℕ → Verdict → Type 0) (packets : List (List ℕ)) (verdicts : List Verdict) → EachHas P packets verdicts
     → map (λ (p : Judged). p.verdict) (judged packets verdicts) ≡ verdicts

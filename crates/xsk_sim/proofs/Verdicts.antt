@@ -1,6 +1,8 @@
 -- The drivers of a setting whose verdicts come one after the other, and rules that leave one setting.
 use Rattle.std.proofs.Common.{◌≡◌, ℕ, zero, suc, ◌<◌, List, [], ◌∷◌, ◌++◌, length, get_or, refl, sym, ap, subst, ◌∙◌, arith, length-append, ⊎_elim}
 use Rattle.std.proofs.Math.Seq.{get_or-append_seam}
+use Rattle.std.specs.Fn.{Shared}
+use denote.Ref.{Bor}
 use Rattle.std.proofs.lemmas.Bool.{cases_eq}
 use Rattle.std.specs.Prelude.{IfOk, Result, Ok, Err}
 use Rattle.xsk_umem.specs.PacketList.{PacketList}
@@ -11,8 +13,10 @@ use Rattle.xsk_model.specs.declared.call.Act.TheVariants.{Call as Calls, Ended a
 use Rattle.xsk_prog.specs.declared.rule.Rule.{Rule}
 use Rattle.xsk_prog.specs.declared.rule.Verdict.{Verdict}
 use Rattle.xsk_turns.specs.Turns.{IsDriverRun, IsWholeDriverRun}
-use Rattle.xsk_turns.specs.Verdicts.{judged, MeetRule}
-use Rattle.xsk_turns.specs.Workers.{Setting, packets_to, IsWorkerRun, IsWholeRun}
+use Rattle.xsk_turns.specs.Verdicts.{judged, EachHas, IsGiven}
+use Rattle.xsk_turns.specs.Workers.{Setting, packets_to, IsWorkerRun, IsWholeRun, AreGiven, IsRuled}
+use Rattle.xsk_driver.specs.Asking.{IsAnswer}
+use Rattle.xsk_driver.proofs.Asking.{all_meet}
 use Rattle.xsk_turns.proofs.Verdicts.{one_setting}
 use Rattle.xsk_driver.specs.Shown.{Shown as DriverShown}
 use Rattle.xsk_driver.specs.Runs.{StandsWith}
@@ -61,36 +65,41 @@ get_or-before [] ys i d within = absurd (omega arith)
 get_or-before (x ∷ xs) ys zero d within = refl
 get_or-before (x ∷ xs) ys (suc i) d within = get_or-before xs ys i d (omega (arith, within))
 
--- the verdicts of the first pairs meet the rule
-pub record AreRuledUpTo (rule : Rule) (c : Config) (packets : List PacketList) (verdicts : List (List Verdict)) : Type 0 where
-  pub each : (pair : ℕ) → pair < length verdicts → MeetRule rule (pair_at c.pairs pair).queue (packets_to c packets (pair_at c.pairs pair)) (get_or verdicts pair [])
+-- the verdicts of the first pairs are given so
+pub record AreGivenUpTo (By : ℕ → List ℕ → Verdict → Type 0) (c : Config) (packets : List PacketList) (verdicts : List (List Verdict)) : Type 0 where
+  pub each : (pair : ℕ) → pair < length verdicts → EachHas (IsGiven (By (pair_at c.pairs pair).queue)) (packets_to c packets (pair_at c.pairs pair)) (get_or verdicts pair [])
 
-pub ruled_none : (rule : Rule) (c : Config) (packets : List PacketList) → AreRuledUpTo rule c packets []
-ruled_none rule c packets = record { each = λ pair below. absurd (omega arith) }
+pub given_none : (By : ℕ → List ℕ → Verdict → Type 0) (c : Config) (packets : List PacketList) → AreGivenUpTo By c packets []
+given_none By c packets = record { each = λ pair below. absurd (omega arith) }
 
-pub ruled_more : (rule : Rule) (c : Config) (packets : List PacketList) (verdicts : List (List Verdict)) (next : List Verdict) (pair : ℕ) → AreRuledUpTo rule c packets verdicts → pair ≡ length verdicts
-    → MeetRule rule (pair_at c.pairs pair).queue (packets_to c packets (pair_at c.pairs pair)) next → AreRuledUpTo rule c packets (verdicts ++ next ∷ [])
-ruled_more rule c packets verdicts next pair before is meets = record {
+pub given_more : (By : ℕ → List ℕ → Verdict → Type 0) (c : Config) (packets : List PacketList) (verdicts : List (List Verdict)) (next : List Verdict) (pair : ℕ) → AreGivenUpTo By c packets verdicts
+    → pair ≡ length verdicts → EachHas (IsGiven (By (pair_at c.pairs pair).queue)) (packets_to c packets (pair_at c.pairs pair)) next → AreGivenUpTo By c packets (verdicts ++ next ∷ [])
+given_more By c packets verdicts next pair before is given = record {
   each = λ k below. ⊎_elim
       (λ (last : k ≡ length verdicts).
-      subst (λ n. MeetRule rule (pair_at c.pairs n).queue (packets_to c packets (pair_at c.pairs n)) (get_or (verdicts ++ next ∷ []) n [])) (is ∙ sym last)
-      (subst (MeetRule rule (pair_at c.pairs pair).queue (packets_to c packets (pair_at c.pairs pair)))
-      (sym (ap (λ n. get_or (verdicts ++ next ∷ []) n []) is ∙ get_or-append_seam verdicts next [] [])) meets))
+      subst (λ n. EachHas (IsGiven (By (pair_at c.pairs n).queue)) (packets_to c packets (pair_at c.pairs n)) (get_or (verdicts ++ next ∷ []) n [])) (is ∙ sym last)
+      (subst (EachHas (IsGiven (By (pair_at c.pairs pair).queue)) (packets_to c packets (pair_at c.pairs pair)))
+      (sym (ap (λ n. get_or (verdicts ++ next ∷ []) n []) is ∙ get_or-append_seam verdicts next [] [])) given))
       (λ (other : k ≡ length verdicts → ⊥).
       let within : k < length verdicts = omega (arith, below, length-append verdicts (next ∷ []), other) in
-      subst (MeetRule rule (pair_at c.pairs k).queue (packets_to c packets (pair_at c.pairs k))) (get_or-before verdicts (next ∷ []) k [] within) (before.each k within))
+      subst (EachHas (IsGiven (By (pair_at c.pairs k).queue)) (packets_to c packets (pair_at c.pairs k))) (get_or-before verdicts (next ∷ []) k [] within) (before.each k within))
       (cases_eq k (length verdicts));
+}
+
+-- answers that meet the rule meet it
+pub asked_ruled : {F : Type 0} (g : Shared F (Bor (List ℕ) × (ℕ × Unit {0})) Verdict) (rule : Rule) (f : F) (s : Setting) → AreGiven (IsAnswer g rule f) s → IsRuled rule s
+asked_ruled g rule f s asked = record {
+  count = asked.count;
+  each = λ pair known. all_meet g rule f (pair_at s.config.pairs pair).queue (packets_to s.config s.packets (pair_at s.config.pairs pair)) (get_or s.verdicts pair []) (asked.each pair known);
 }
 
 -- ---- rules that leave one setting
 
 pub ends_as_ruled : EndsAsRuled
-ends_as_ruled rule c packets frames order run exact under =
-    subst (λ s. HasEnded s frames order run) (one_setting rule (record { config = c; packets = packets; verdicts = under.verdicts }) exact under.ruled) under.ended
+ends_as_ruled rule s frames order run exact is ended = subst (λ t. HasEnded t frames order run) (one_setting rule s exact is) ended
 
 pub stalls_as_ruled : StallsAsRuled
-stalls_as_ruled rule c packets frames order round exact under =
-    subst (λ s. HasStalled s frames order round) (one_setting rule (record { config = c; packets = packets; verdicts = under.verdicts }) exact under.ruled) under.stalled
+stalls_as_ruled rule s frames order round exact is stalled = subst (λ t. HasStalled t frames order round) (one_setting rule s exact is) stalled
 
 pub if_ok : {A E : Type 0} (r : Result A E) (P Q : A → Type 0) → ((a : A) → P a → Q a) → IfOk r P → IfOk r Q
 if_ok (Ok a) P Q f h = f a h

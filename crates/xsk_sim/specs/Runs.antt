@@ -2,6 +2,8 @@
 -- and replies are a run of its turns. A run has ended where all of these are whole, and it has stalled where one isn't.
 use Rattle.std.specs.Prelude.{◌≡◌, true, ℕ, ◌+◌, ◌*◌, ◌<◌, ◌≤◌, List, [], ◌++◌, length, sum_by}
 use Rattle.std.specs.List.{slice_index_or}
+use Rattle.std.specs.Fn.{Shared}
+use denote.Ref.{Bor}
 use Rattle.xsk_umem.specs.Frame.{Frame}
 use Rattle.xsk_umem.specs.PacketList.{PacketList}
 use Rattle.xsk_model.specs.Config.{Config, callers_of}
@@ -13,7 +15,8 @@ use Rattle.xsk_model.specs.Sent.{sent}
 use Rattle.xsk_prog.specs.Rules.{is_exact}
 use Rattle.xsk_prog.specs.declared.rule.Rule.{Rule}
 use Rattle.xsk_prog.specs.declared.rule.Verdict.{Verdict}
-use Rattle.xsk_turns.specs.Workers.{Setting, IsWorkerRun, IsWholeRun, IsRuled, ruled}
+use Rattle.xsk_turns.specs.Workers.{Setting, IsWorkerRun, IsWholeRun, AreGiven, IsRuled, ruled}
+use Rattle.xsk_driver.specs.Asking.{IsAnswer}
 use Rattle.xsk_sim.specs.Rounds.{AreRounds}
 use Rattle.xsk_sim.specs.Shown.{Shown}
 
@@ -54,26 +57,26 @@ pub record HasStalled (s : Setting) (frames : List Frame) (order round : ℕ) : 
   pub known : who < callers_of s.config
   pub open_run : IsWholeRun s who (own who history) → ⊥
 
--- the same of a program that keeps a rule: there are verdicts of each driver's packets that meet it, with which the run has
--- ended, or stalled
-pub record HasEndedUnder (rule : Rule) (c : Config) (packets : List PacketList) (frames : List Frame) (order : ℕ) (run : Shown) : Type 0 where
+-- The same under a program: there are verdicts of each driver's packets, each an answer of the program's closure that meets
+-- its rule, with which the run has ended, or stalled.
+pub record HasEndedUnder {F : Type 0} (g : Shared F (Bor (List ℕ) × (ℕ × Unit {0})) Verdict) (rule : Rule) (f : F) (c : Config) (packets : List PacketList) (frames : List Frame) (order : ℕ) (run : Shown) : Type 0 where
   pub verdicts : List (List Verdict)
-  pub ruled : IsRuled rule (record { config = c; packets = packets; verdicts = verdicts })
+  pub asked : AreGiven (IsAnswer g rule f) (record { config = c; packets = packets; verdicts = verdicts })
   pub ended : HasEnded (record { config = c; packets = packets; verdicts = verdicts }) frames order run
 
-pub record HasStalledUnder (rule : Rule) (c : Config) (packets : List PacketList) (frames : List Frame) (order round : ℕ) : Type 0 where
+pub record HasStalledUnder {F : Type 0} (g : Shared F (Bor (List ℕ) × (ℕ × Unit {0})) Verdict) (rule : Rule) (f : F) (c : Config) (packets : List PacketList) (frames : List Frame) (order round : ℕ) : Type 0 where
   pub verdicts : List (List Verdict)
-  pub ruled : IsRuled rule (record { config = c; packets = packets; verdicts = verdicts })
+  pub asked : AreGiven (IsAnswer g rule f) (record { config = c; packets = packets; verdicts = verdicts })
   pub stalled : HasStalled (record { config = c; packets = packets; verdicts = verdicts }) frames order round
 
 -- where the rule leaves one verdict for each packet, they are those that the rule gives itself
 abbrev pub EndsAsRuled : Type 0
-EndsAsRuled = (rule : Rule) (c : Config) (packets : List PacketList) (frames : List Frame) (order : ℕ) (run : Shown) → is_exact rule ≡ true
-    → HasEndedUnder rule c packets frames order run → HasEnded (ruled rule c packets) frames order run
+EndsAsRuled = (rule : Rule) (s : Setting) (frames : List Frame) (order : ℕ) (run : Shown) → is_exact rule ≡ true → IsRuled rule s
+    → HasEnded s frames order run → HasEnded (ruled rule s.config s.packets) frames order run
 
 abbrev pub StallsAsRuled : Type 0
-StallsAsRuled = (rule : Rule) (c : Config) (packets : List PacketList) (frames : List Frame) (order round : ℕ) → is_exact rule ≡ true
-    → HasStalledUnder rule c packets frames order round → HasStalled (ruled rule c packets) frames order round
+StallsAsRuled = (rule : Rule) (s : Setting) (frames : List Frame) (order round : ℕ) → is_exact rule ≡ true → IsRuled rule s
+    → HasStalled s frames order round → HasStalled (ruled rule s.config s.packets) frames order round
 
 -- there is one such history for each number of rounds
 abbrev pub OneHistory : Type 0

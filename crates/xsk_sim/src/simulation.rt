@@ -13,7 +13,8 @@ ghost use Rattle.xsk_sim.specs.Shown.{HasShortPackets, packets_in};
 ghost use Rattle.xsk_turns.specs.Stepping.{joined_ask};
 ghost use Rattle.xsk_prog.specs.Program.{Obeys};
 ghost use Rattle.xsk_prog.specs.declared.rule.Verdict.{Verdict as AVerdict};
-ghost use Rattle.xsk_turns.specs.Workers.{Setting, IsRuled};
+ghost use Rattle.xsk_turns.specs.Workers.{Setting, AreGiven};
+ghost use Rattle.xsk_driver.specs.Asking.{IsAnswer};
 ghost use Rattle.xsk_sim.specs.Runs.{HasEnded, HasStalled, HasEndedUnder, HasStalledUnder, last_round_of};
 ghost use Rattle.xsk_sim.specs.Seats.{EachFrom, AreSeated, AreReady, HadRounds, HaveEnded, DriverSits, AppSits, kept_lists, new_own};
 
@@ -133,9 +134,9 @@ pub fn simulate<F: Fn(&[u8], u32) -> Verdict>(
     requires short { All HasShortPackets packets.now }
     requires obeys { Obeys F.Fn program.now.rule program.now.decide }
     ensures pairs { IfOk result (λ run. run.pairs ≡ length config.pairs) }
-    ensures ended { IfOk result (HasEndedUnder program.now.rule config packets.now frames.items order) }
+    ensures ended { IfOk result (HasEndedUnder F.Fn program.now.rule program.now.decide config packets.now frames.items order) }
     ensures stalled { (round : ℕ) → result ≡ Err (SimError.Stalled round)
-        → HasStalledUnder program.now.rule config packets.now frames.items order round }
+        → HasStalledUnder F.Fn program.now.rule program.now.decide config packets.now frames.items order round }
 {
     let shared = config.copy(alloc)?;
     let inputs = Inputs::split(alloc, &shared, packets)?;
@@ -231,7 +232,7 @@ fn seat_drivers<'a, F: Fn(&[u8], u32) -> Verdict>(
     requires short { All HasShortPackets packets.now }
     requires obeys { Obeys F.Fn program.now.rule program.now.decide }
     ensures count { IfOk result (λ seats. vec_len seats ≡ length config.now.pairs) }
-    ensures seated { IfOk result (λ seats. (verdicts : List (List AVerdict)) × IsRuled program.now.rule (record { config = config.now; packets = packets.now; verdicts = verdicts })
+    ensures seated { IfOk result (λ seats. (verdicts : List (List AVerdict)) × AreGiven (IsAnswer F.Fn program.now.rule program.now.decide) (record { config = config.now; packets = packets.now; verdicts = verdicts })
         × EachFrom seats.items 0 (λ who seat. DriverSits (record { config = config.now; packets = packets.now; verdicts = verdicts }) new_own who seat.machine (joined_ask seat.ask seat.items))) }
 {
     let mut seats = Vec::with_capacity(alloc, config.pairs().len())?;

@@ -9,8 +9,8 @@ use Rattle.xsk_model.specs.Rings.{caller_of}
 use Rattle.xsk_model.specs.Entry.{Told}
 use Rattle.xsk_turns.specs.Inputs.{packets_of_queue, packets_of_port}
 use Rattle.xsk_turns.specs.Turns.{Judged, IsDriverRun, IsWholeDriverRun}
-use Rattle.xsk_turns.specs.Verdicts.{judged, MeetRule, own_verdicts}
-use Rattle.xsk_prog.specs.Rules.{is_exact}
+use Rattle.xsk_turns.specs.Verdicts.{judged, EachHas, IsGiven, own_verdicts}
+use Rattle.xsk_prog.specs.Rules.{Meets, is_exact}
 use Rattle.xsk_prog.specs.declared.rule.Rule.{Rule}
 use Rattle.xsk_prog.specs.declared.rule.Verdict.{Verdict}
 use Rattle.xsk_turns.specs.AppTurns.{IsAppRun, IsWholeAppRun}
@@ -29,11 +29,15 @@ packets_to c lists pair = packets_of_queue c.queues pair.queue (packets_of_port 
 abbrev pub input_of : Setting → ℕ → List Judged
 input_of s pair = judged (packets_to s.config s.packets (pair_at s.config.pairs pair)) (slice_index_or s.verdicts pair [])
 
--- each pair has its verdicts, which meet the rule
-pub record IsRuled (rule : Rule) (s : Setting) : Type 0 where
+-- each pair has its verdicts, one for each of its packets, given so by queue and packet
+pub record AreGiven (By : ℕ → List ℕ → Verdict → Type 0) (s : Setting) : Type 0 where
   pub count : length s.verdicts ≡ length s.config.pairs
   pub each : (pair : ℕ) → pair < length s.config.pairs
-      → MeetRule rule (pair_at s.config.pairs pair).queue (packets_to s.config s.packets (pair_at s.config.pairs pair)) (slice_index_or s.verdicts pair [])
+      → EachHas (IsGiven (By (pair_at s.config.pairs pair).queue)) (packets_to s.config s.packets (pair_at s.config.pairs pair)) (slice_index_or s.verdicts pair [])
+
+-- they meet the rule
+abbrev pub IsRuled : Rule → Setting → Type 0
+IsRuled rule s = AreGiven (λ queue packet verdict. Meets rule packet queue verdict) s
 
 -- the setting whose verdicts are those that a rule gives itself: they meet it, and there is no other setting whose verdicts
 -- do where the rule leaves one verdict

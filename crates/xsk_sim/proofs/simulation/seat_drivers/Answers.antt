@@ -2,17 +2,17 @@ use Rattle.std.proofs.Common.{◌≡◌, ℕ, ◌<◌, List, [], ◌∷◌, ◌+
 use Rattle.std.proofs.Math.Seq.{get_or-append_seam}
 use Rattle.std.specs.List.{concat, slice_index_or}
 use Rattle.xsk_prog.specs.declared.rule.Verdict.{Verdict}
-use Rattle.xsk_driver.specs.Asking.{verdicts_in}
+use Rattle.xsk_driver.specs.Asking.{IsAnswer, verdicts_in}
 use Rattle.xsk_umem.specs.PacketList.{PacketList}
 use Rattle.xsk_model.specs.Config.{pair_at}
 use Rattle.xsk_model.specs.Steering.{paired_port}
 use Rattle.xsk_model.specs.declared.config.PairInfo.{PairInfo}
 use Rattle.xsk_turns.specs.Inputs.{packets_of_port, packets_of_queue}
-use Rattle.xsk_turns.specs.Verdicts.{MeetRule}
+use Rattle.xsk_turns.specs.Verdicts.{EachHas, IsGiven}
 use Rattle.xsk_turns.specs.Workers.{Setting}
 use Rattle.xsk_machine.specs.Acts.{other_of, HasRoomToSend}
 use Rattle.xsk_sim.proofs.Seating.{each_none, each_push, each_change}
-use Rattle.xsk_sim.proofs.Verdicts.{sits_as, get_or-before, ruled_none, ruled_more}
+use Rattle.xsk_sim.proofs.Verdicts.{sits_as, get_or-before, given_none, given_more}
 use Rattle.xsk_sim.proofs.Beginning.{input_numbers, list_at, new_driver, ports_known}
 use Rattle.xsk_sim.proofs.simulation.seat_drivers.Goals as goal
 
@@ -21,7 +21,7 @@ loop-pair-init g c = record {
   count = c.in_ok-seats.ensures.len;
   verdicts = [];
   given = refl;
-  ruled = ruled_none c.args.program.now.rule c.args.config.now c.args.packets.now;
+  asked = given_none (IsAnswer g.F.Fn c.args.program.now.rule c.args.program.now.decide) c.args.config.now c.args.packets.now;
   seated = rw c.in_ok-seats.ensures.items (each_none 0 _);
 }
 
@@ -52,8 +52,9 @@ loop-pair-preserved g c =
     let own : mine ≡ slice_index_or (before ++ mine ∷ []) pair [] =
     sym (ap (λ (n : ℕ). slice_index_or (before ++ mine ∷ []) n []) (sym c.loop-pair.invariant.given) ∙ get_or-append_seam before mine [] []) in
     let new = new_driver s pair list.packets mine c.in_ok-driver.driver known room at own (c.in_ok-driver.ensures.is_new numbers) in
-    let meets = subst (λ (l : List (List ℕ)). MeetRule c.args.program.now.rule (pair_at s.config.pairs pair).queue (packets_of_queue s.config.queues (pair_at s.config.pairs pair).queue l) mine) at
-    (c.in_ok-driver.ensures.meets numbers) in
+    let By : ℕ → List ℕ → Verdict → Type 0 = IsAnswer g.F.Fn c.args.program.now.rule c.args.program.now.decide in
+    let answers = subst (λ (l : List (List ℕ)). EachHas (IsGiven (By (pair_at s.config.pairs pair).queue)) (packets_of_queue s.config.queues (pair_at s.config.pairs pair).queue l) mine) at
+    (c.in_ok-driver.ensures.asked numbers) in
     let count = c.loop-pair.invariant.count in
     let given = c.loop-pair.invariant.given in
     let items = c.loop-pair.seats.ok.0 in
@@ -61,7 +62,7 @@ loop-pair-preserved g c =
       count = omega (arith, c.in_ok-push.ensures.len, count);
       verdicts = before ++ mine ∷ [];
       given = omega (arith, given, length-append before (mine ∷ []));
-      ruled = ruled_more c.args.program.now.rule s.config s.packets before mine pair c.loop-pair.invariant.ruled (sym given) meets;
+      asked = given_more By s.config s.packets before mine pair c.loop-pair.invariant.asked (sym given) answers;
       seated = rw c.in_ok-push.ensures.items
           (each_push c.loop-pair.seats.items 0 pair _ c.new-in-loop-pair.result
           (each_change c.loop-pair.seats.items 0 _ _ c.loop-pair.invariant.seated
@@ -73,7 +74,7 @@ pub returns-clause-seated : goal.returns-clause-seated
 returns-clause-seated g c =
     let all : length c.loop-pair.invariant.verdicts ≡ length c.args.config.now.pairs = omega (arith, c.loop-pair.invariant.given, ap (length {A = PairInfo}) c.pairs-2.ensures.value) in (
       c.loop-pair.invariant.verdicts,
-      record { count = all; each = λ pair below. c.loop-pair.invariant.ruled.each pair (omega (arith, all, below)) },
+      record { count = all; each = λ pair below. c.loop-pair.invariant.asked.each pair (omega (arith, all, below)) },
       c.loop-pair.invariant.seated,
     )
 

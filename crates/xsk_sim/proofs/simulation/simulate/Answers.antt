@@ -1,7 +1,8 @@
 use Rattle.std.proofs.Common.{ℕ, [], subst, refl}
 use Rattle.std.specs.Prelude.{IfOk}
 use Rattle.xsk_model.specs.Config.{Config, IsConfig}
-use Rattle.xsk_turns.specs.Workers.{Setting, IsRuled}
+use Rattle.xsk_turns.specs.Workers.{Setting, AreGiven}
+use Rattle.xsk_driver.specs.Asking.{IsAnswer}
 use Rattle.xsk_sim.proofs.Verdicts.{if_ok}
 use Rattle.xsk_sim.specs.Runs.{HasEnded, HasStalled}
 use Rattle.xsk_sim.specs.Seats.{AreSeated}
@@ -26,16 +27,16 @@ seated g c =
     c.in-Ok.ensures.config c.in-Ok.ensures.state c.in-Ok.ensures.log.0 c.in_ok-seat_drivers.ensures.seated.2
     (c.in_ok-seat_apps.ensures.seated (record { config = c.in_ok-shared.shared; packets = c.args.packets.now; verdicts = c.in_ok-seat_drivers.ensures.seated.0 }) refl) c.in_ok-seat_drivers.ensures.count c.in_ok-seat_apps.ensures.count
 
-ruled : (g : given.Over) (c : goal.After-drop-shared-inside-4 g)
-    → IsRuled c.args.program.now.rule (record { config = c.args.config; packets = c.args.packets.now; verdicts = c.in_ok-seat_drivers.ensures.seated.0 })
-ruled g c =
-    subst (λ (k : Config). IsRuled c.args.program.now.rule (record { config = k; packets = c.args.packets.now; verdicts = c.in_ok-seat_drivers.ensures.seated.0 }))
+asked : (g : given.Over) (c : goal.After-drop-shared-inside-4 g)
+    → AreGiven (IsAnswer g.F.Fn c.args.program.now.rule c.args.program.now.decide) (record { config = c.args.config; packets = c.args.packets.now; verdicts = c.in_ok-seat_drivers.ensures.seated.0 })
+asked g c =
+    subst (λ (k : Config). AreGiven (IsAnswer g.F.Fn c.args.program.now.rule c.args.program.now.decide) (record { config = k; packets = c.args.packets.now; verdicts = c.in_ok-seat_drivers.ensures.seated.0 }))
     c.in_ok-shared.ensures c.in_ok-seat_drivers.ensures.seated.1
 
 pub returns-clause-ended : goal.returns-clause-ended
 returns-clause-ended g c =
     let s : Setting = record { config = c.args.config; packets = c.args.packets.now; verdicts = c.in_ok-seat_drivers.ensures.seated.0 } in
-    if_ok c.run_workers.result (HasEnded s c.args.frames.items c.args.order) _ (λ run ended. record { verdicts = s.verdicts; ruled = ruled g c; ended = ended })
+    if_ok c.run_workers.result (HasEnded s c.args.frames.items c.args.order) _ (λ run ended. record { verdicts = s.verdicts; asked = asked g c; ended = ended })
     (subst (λ (number : ℕ). IfOk c.run_workers.result (HasEnded s c.args.frames.items number)) c.new.ensures
     (c.run_workers.ensures.ended s c.args.frames.items c.requires.regular (seated g c) c.last_round.ensures))
 
@@ -44,7 +45,7 @@ returns-clause-stalled g c round is =
     let s : Setting = record { config = c.args.config; packets = c.args.packets.now; verdicts = c.in_ok-seat_drivers.ensures.seated.0 } in
     record {
       verdicts = s.verdicts;
-      ruled = ruled g c;
+      asked = asked g c;
       stalled = subst (λ (number : ℕ). HasStalled s c.args.frames.items number round) c.new.ensures
           (c.run_workers.ensures.stalled s c.args.frames.items round (seated g c) c.last_round.ensures is);
     }
