@@ -14,7 +14,7 @@ use Rattle.xsk_table.specs.View.{Setup, Flight, idle, placing, writing, taking, 
 use Rattle.xsk_table.specs.Rule.{lying}
 use Rattle.xsk_table.specs.Plays.{Extends, IsPlacing, entry, still, items_reply}
 use Rattle.xsk_table.specs.Held.{Board, Holder, Belongs}
-use Rattle.xsk_rings.specs.Serving.{Served}
+use Rattle.xsk_rings.specs.Serving.{Served, known_after}
 
 -- ---- Submit
 
@@ -28,6 +28,7 @@ pub record Submits (p q : Holder) (r : Ring) (all rest : List Item) : Type 0 whe
   pub seen : q.view.seen ≡ p.view.seen
   pub flight : IsPlacing r q.view.flight
   pub items : lying q.view.flight ++ rest ≡ all
+  pub known : q.known ≡ p.known
 
 pub submits_begin : (p : Holder) (r : Ring) (all : List Item) → p.view.flight ≡ idle → Submits p p r all all
 submits_begin p r all rests = record {
@@ -39,11 +40,12 @@ submits_begin p r all rests = record {
   seen = refl;
   flight = subst (IsPlacing r) (sym rests) tt;
   items = ap (λ (f : Flight). lying f ++ all) rests;
+  known = refl;
 }
 
 pub submits_more : (p q q' : Holder) (r : Ring) (all rest rest' : List Item) (x : Item) → Submits p q r all rest → rest ≡ x ∷ rest' → q'.table ≡ q.table → q'.who ≡ q.who
-    → q'.view ≡ record q.view { flight = placing r (lying q.view.flight ++ x ∷ []) } → Submits p q' r all rest'
-submits_more p q q' r all rest rest' x s is table who view = record {
+    → q'.view ≡ record q.view { flight = placing r (lying q.view.flight ++ x ∷ []) } → q'.known ≡ q.known → Submits p q' r all rest'
+submits_more p q q' r all rest rest' x s is table who view known = record {
   table = table ∙ s.table;
   who = who ∙ s.who;
   setup = ap (λ (v : View). v.setup) view ∙ s.setup;
@@ -52,6 +54,7 @@ submits_more p q q' r all rest rest' x s is table who view = record {
   seen = ap (λ (v : View). v.seen) view ∙ s.seen;
   flight = let P : View → Type 0 = λ v. IsPlacing r v.flight in subst P (sym view) refl;
   items = ap (λ (v : View). lying v.flight ++ rest') view ∙ append_assoc (lying q.view.flight) (x ∷ []) rest' ∙ ap (λ l. lying q.view.flight ++ l) (sym is) ∙ s.items;
+  known = known ∙ s.known;
 }
 
 pub submits_belongs : (b : Board) (p q : Holder) (r : Ring) (all rest : List Item) → Belongs b p → Submits p q r all rest → Belongs b q
@@ -114,23 +117,26 @@ pub record Peeks (p q : Holder) (r : Ring) (n count : ℕ) (got : List Item) : T
   pub setup : q.view.setup ≡ p.view.setup
   pub flight : q.view.flight ≡ still r left
   pub count_is : length got + length left ≡ count
+  pub known : q.known ≡ known_after p q.view (Peek r n)
   pub extends : Extends p.view.setup p.who (Peek r n) (items_reply (got ++ left)) p.view q.view
 
 pub peeks_begin : (p q : Holder) (r : Ring) (n count : ℕ) (got : List Item) → got ≡ [] → q.table ≡ p.table → q.who ≡ p.who
-    → (items : List Item) → length items ≡ count → q.view.flight ≡ still r items → Extends p.view.setup p.who (Peek r n) (items_reply items) p.view q.view → Peeks p q r n count got
-peeks_begin p q r n count got none table who items len flight ex =
-    subst (Peeks p q r n count) (sym none) (record { left = items; table = table; who = who; setup = ex.setup; flight = flight; count_is = omega arith; extends = ex })
+    → (items : List Item) → length items ≡ count → q.view.flight ≡ still r items → Extends p.view.setup p.who (Peek r n) (items_reply items) p.view q.view
+    → q.known ≡ known_after p q.view (Peek r n) → Peeks p q r n count got
+peeks_begin p q r n count got none table who items len flight ex known =
+    subst (Peeks p q r n count) (sym none) (record { left = items; table = table; who = who; setup = ex.setup; flight = flight; count_is = omega arith; known = known; extends = ex })
 
 peeks_one : (p q q' : Holder) (r : Ring) (n count : ℕ) (got : List Item) (x : Item) (left : List Item) → Extends p.view.setup p.who (Peek r n) (items_reply (got ++ x ∷ left)) p.view q.view → q.table ≡ p.table → q.who ≡ p.who → q.view.setup ≡ p.view.setup
-    → length got + length (x ∷ left) ≡ count → q'.table ≡ q.table → q'.who ≡ q.who → q'.view ≡ record q.view { flight = still r left }
+    → length got + length (x ∷ left) ≡ count → q.known ≡ known_after p q.view (Peek r n) → q'.table ≡ q.table → q'.who ≡ q.who → q'.view ≡ record q.view { flight = still r left } → q'.known ≡ q.known
     → Peeks p q' r n count (got ++ x ∷ [])
-peeks_one p q q' r n count got x left ex table who setup count_is table' who' view = record {
+peeks_one p q q' r n count got x left ex table who setup count_is known table' who' view known' = record {
   left = left;
   table = table' ∙ table;
   who = who' ∙ who;
   setup = ap (λ (v : View). v.setup) view ∙ setup;
   flight = ap (λ (v : View). v.flight) view;
   count_is = omega (arith, length-append got (x ∷ []));
+  known = known' ∙ known ∙ ap (λ (v : View). known_after p v (Peek r n)) (sym view);
   extends =
       let same : got ++ x ∷ left ≡ (got ++ x ∷ []) ++ left = sym (append_assoc got (x ∷ []) left) in
       let P : List Item → Type 0 = λ l. Extends p.view.setup p.who (Peek r n) (items_reply l) p.view q'.view in
@@ -155,19 +161,19 @@ pub peeks_left : (p q : Holder) (r : Ring) (n count : ℕ) (got : List Item) →
 peeks_left p q r n count got s lt = taking_still r q.view.flight got s.left count s.count_is lt s.flight
 
 peeks_at : (p q q' : Holder) (r : Ring) (n count : ℕ) (got got' : List Item) (result : Item) (left : List Item) → Extends p.view.setup p.who (Peek r n) (items_reply (got ++ left)) p.view q.view → q.table ≡ p.table → q.who ≡ p.who → q.view.setup ≡ p.view.setup
-    → q.view.flight ≡ still r left → length got + length left ≡ count → length got < count → q'.table ≡ q.table → q'.who ≡ q.who
+    → q.view.flight ≡ still r left → length got + length left ≡ count → length got < count → q.known ≡ known_after p q.view (Peek r n) → q'.table ≡ q.table → q'.who ≡ q.who → q'.known ≡ q.known
     → ((x : Item) (more : List Item) → q.view.flight ≡ taking r (x ∷ more) → (result ≡ x) × (q'.view ≡ record q.view { flight = still r more }))
     → got' ≡ got ++ result ∷ [] → Peeks p q' r n count got'
-peeks_at p q q' r n count got got' result [] ex table who setup flight count_is lt table' who' taken pushed = absurd (omega arith)
-peeks_at p q q' r n count got got' result (x ∷ left) ex table who setup flight count_is lt table' who' taken pushed =
+peeks_at p q q' r n count got got' result [] ex table who setup flight count_is lt known table' who' known' taken pushed = absurd (omega arith)
+peeks_at p q q' r n count got got' result (x ∷ left) ex table who setup flight count_is lt known table' who' known' taken pushed =
     let t = taken x left flight in
-    subst (Peeks p q' r n count) (sym (pushed ∙ ap (λ y. got ++ y ∷ []) t.0)) (peeks_one p q q' r n count got x left ex table who setup count_is table' who' t.1)
+    subst (Peeks p q' r n count) (sym (pushed ∙ ap (λ y. got ++ y ∷ []) t.0)) (peeks_one p q q' r n count got x left ex table who setup count_is known table' who' t.1 known')
 
-pub peeks_more : (p q q' : Holder) (r : Ring) (n count : ℕ) (got got' : List Item) (result : Item) → Peeks p q r n count got → length got < count → q'.table ≡ q.table → q'.who ≡ q.who
+pub peeks_more : (p q q' : Holder) (r : Ring) (n count : ℕ) (got got' : List Item) (result : Item) → Peeks p q r n count got → length got < count → q'.table ≡ q.table → q'.who ≡ q.who → q'.known ≡ q.known
     → ((x : Item) (more : List Item) → q.view.flight ≡ taking r (x ∷ more) → (result ≡ x) × (q'.view ≡ record q.view { flight = still r more }))
     → got' ≡ got ++ result ∷ [] → Peeks p q' r n count got'
-peeks_more p q q' r n count got got' result s lt table' who' taken pushed =
-    peeks_at p q q' r n count got got' result s.left s.extends s.table s.who s.setup s.flight s.count_is lt table' who' taken pushed
+peeks_more p q q' r n count got got' result s lt table' who' known' taken pushed =
+    peeks_at p q q' r n count got got' result s.left s.extends s.table s.who s.setup s.flight s.count_is lt s.known table' who' known' taken pushed
 
 pub peeks_belongs : (b : Board) (p q : Holder) (r : Ring) (n count : ℕ) (got : List Item) → Belongs b p → Peeks p q r n count got → Belongs b q
 peeks_belongs b p q r n count got of s = record { table = s.table ∙ of.table; setup = s.setup ∙ of.setup }

@@ -1,5 +1,5 @@
 -- What a call's history says of its point.
-use Rattle.std.proofs.Common.{◌≡◌, ℕ, ◌<◌, ◌≤◌, Bool, true, false, cond, nat_le, List, [], ◌∷◌, ◌++◌, refl, ap, sym, ◌∙◌, arith, subst, leb-false, leb-true}
+use Rattle.std.proofs.Common.{◌≡◌, ℕ, ◌-◌, ◌<◌, ◌≤◌, Bool, true, false, cond, nat_le, List, [], ◌∷◌, ◌++◌, refl, ap, sym, ◌∙◌, arith, subst, leb-false, leb-true}
 use Rattle.std.specs.Prelude.{◌↔◌}
 use Rattle.xsk_umem.specs.declared.batch.Item.{Item}
 use Rattle.xsk_model.specs.Config.{size_of}
@@ -20,8 +20,9 @@ use Rattle.xsk_model.proofs.Folds.{part_of-push_same}
 use Rattle.xsk_model.proofs.Theorems.{in_order, items_by_own}
 use Rattle.xsk_table.specs.View.{Setup, View}
 use Rattle.xsk_table.specs.Plays.{entry}
-use Rattle.xsk_table.specs.Held.{Holder}
-use Rattle.xsk_rings.specs.Serving.{Served, before_last, point_of, TellsFree, TellsEmpty, TellsMark, GivesSubmitted, MayGiveServed}
+use Rattle.xsk_table.specs.Known.{free_after, out_after}
+use Rattle.xsk_table.specs.Held.{Holder, known_on, with_known, is_covered}
+use Rattle.xsk_rings.specs.Serving.{Served, before_last, point_of, TellsFree, TellsEmpty, TellsMark, GivesSubmitted, GetsCovered, Tells, known_after, MayGiveServed}
 
 before_push : (l : List Entry) (e : Entry) → before_last (l ++ e ∷ []) ≡ l
 before_push [] e = refl
@@ -133,3 +134,33 @@ may_give_served p q call reply s =
     let h = s.history in
     let k : Setup = p.view.setup in
     (record { frames = k.frames; history = q.view.seen; legal = h.legal; entries = h.mine }, ap (λ w. own w q.view.seen) s.who ∙ h.mine)
+
+-- ---- all that a call tells
+
+pub tells : (p q : Holder) (call : Call) (reply : Reply) → IsLegal p.view.setup.config (own p.who p.view.seen) p.who call → Served p q call reply → GetsCovered p call reply → q.known ≡ known_after p q.view call
+    → Tells p q call reply
+tells p q call reply legal s covered known = record {
+  served = s;
+  free = served_free p q call reply s;
+  empty = served_empty p q call reply s;
+  mark = served_mark p q call reply s;
+  submitted = gives_submitted p q call reply legal s;
+  covered = covered;
+  known = known;
+}
+
+-- what is known after a Reserve that is covered, and after one that isn't; and the same of a Peek
+pub known_reserved : (p : Holder) (v : View) (r : Ring) (n : ℕ) (known : List ℕ) → is_covered p (Reserve r n) ≡ true → known ≡ with_known p r (known_on p r - n) → known ≡ known_after p v (Reserve r n)
+known_reserved p v r n known covers is = is ∙ ap (λ b. with_known p r (cond b (known_on p r - n) (free_after p.view.setup v.seen r))) (sym covers)
+
+pub known_looked : (p : Holder) (v : View) (r : Ring) (n : ℕ) (known : List ℕ) → is_covered p (Reserve r n) ≡ false → known ≡ with_known p r (free_after p.view.setup v.seen r) → known ≡ known_after p v (Reserve r n)
+known_looked p v r n known uncovered is = is ∙ ap (λ b. with_known p r (cond b (known_on p r - n) (free_after p.view.setup v.seen r))) (sym uncovered)
+
+pub known_peeked : (p : Holder) (v : View) (r : Ring) (n : ℕ) (known : List ℕ) → is_covered p (Peek r n) ≡ true → known ≡ with_known p r (known_on p r - n) → known ≡ known_after p v (Peek r n)
+known_peeked p v r n known covers is = is ∙ ap (λ b. with_known p r (cond b (known_on p r - n) (out_after p.view.setup v.seen r))) (sym covers)
+
+pub known_found : (p : Holder) (v : View) (r : Ring) (n : ℕ) (known : List ℕ) → is_covered p (Peek r n) ≡ false → known ≡ with_known p r (out_after p.view.setup v.seen r) → known ≡ known_after p v (Peek r n)
+known_found p v r n known uncovered is = is ∙ ap (λ b. with_known p r (cond b (known_on p r - n) (out_after p.view.setup v.seen r))) (sym uncovered)
+
+pub not_both : (b : Bool) → b ≡ false → b ≡ true → ⊥
+not_both b is_false is_true = cc

@@ -1,6 +1,6 @@
 -- What a call on the table tells its caller: the call and its reply at the end of a legal history, and of that what stands
 -- in the ring, and at the mark, at this point.
-use Rattle.std.specs.Prelude.{◌≡◌, ◌↔◌, ℕ, ◌<◌, List, [], ◌∷◌, ◌++◌}
+use Rattle.std.specs.Prelude.{◌≡◌, ◌↔◌, ℕ, ◌-◌, ◌<◌, true, if◌then◌else◌, List, [], ◌∷◌, ◌++◌, length}
 use Rattle.xsk_umem.specs.declared.batch.Item.{Item}
 use Rattle.xsk_model.specs.Config.{size_of}
 use Rattle.xsk_model.specs.Rings.{producer}
@@ -14,10 +14,11 @@ use Rattle.xsk_model.specs.declared.call.Ring.{Ring}
 use Rattle.xsk_model.specs.declared.call.Call.{Call}
 use Rattle.xsk_model.specs.declared.call.Call.TheVariants.{Reserve, Submit, Peek, Release, Swap, Look}
 use Rattle.xsk_model.specs.declared.call.Reply.{Reply}
-use Rattle.xsk_model.specs.declared.call.Reply.TheVariants.{Full, Empty, Old}
+use Rattle.xsk_model.specs.declared.call.Reply.TheVariants.{Granted, Full, Empty, Old}
 use Rattle.xsk_table.specs.View.{idle, View}
 use Rattle.xsk_table.specs.Plays.{Extends}
-use Rattle.xsk_table.specs.Held.{Board, Holder, Belongs}
+use Rattle.xsk_table.specs.Known.{free_after, out_after}
+use Rattle.xsk_table.specs.Held.{Board, Holder, Belongs, known_on, with_known, is_covered}
 
 -- ---- before a call
 
@@ -87,6 +88,47 @@ GivesSubmitted p v (Peek r n) reply =
 GivesSubmitted p v (Release r n) reply = Unit {0}
 GivesSubmitted p v (Swap m value) reply = Unit {0}
 GivesSubmitted p v (Look m) reply = Unit {0}
+
+-- ---- what is known, and looks at the other side
+
+-- What is known of the rings after a call: where it is covered, a Reserve lowers it by its places and a Peek by its items;
+-- else their look finds out what is left free, or out. No other call changes it.
+abbrev pub known_after : Holder → View → Call → List ℕ
+known_after p v (Reserve r n) = with_known p r (if is_covered p (Reserve r n) then known_on p r - n else free_after p.view.setup v.seen r)
+known_after p v (Submit r items) = p.known
+known_after p v (Peek r n) = with_known p r (if is_covered p (Peek r n) then known_on p r - n else out_after p.view.setup v.seen r)
+known_after p v (Release r n) = p.known
+known_after p v (Swap m value) = p.known
+known_after p v (Look m) = p.known
+
+-- a call that is covered gets all that it asks for, so Full and Empty come from a look of the call alone
+abbrev pub GetsCovered : Holder → Call → Reply → Type 0
+GetsCovered p (Reserve r n) reply = is_covered p (Reserve r n) ≡ true → reply ≡ Granted
+GetsCovered p (Submit r items) reply = Unit {0}
+GetsCovered p (Peek r n) reply = is_covered p (Peek r n) ≡ true → length (taken reply) ≡ n
+GetsCovered p (Release r n) reply = Unit {0}
+GetsCovered p (Swap m value) reply = Unit {0}
+GetsCovered p (Look m) reply = Unit {0}
+
+-- the looks at the other side's count that a call takes
+abbrev pub looks_of : Holder → Call → ℕ
+looks_of p (Reserve r n) = if is_covered p (Reserve r n) then 0 else 1
+looks_of p (Submit r items) = 0
+looks_of p (Peek r n) = if is_covered p (Peek r n) then 0 else 1
+looks_of p (Release r n) = 0
+looks_of p (Swap m value) = 0
+looks_of p (Look m) = 0
+
+-- ---- all that a call tells
+
+pub record Tells (p q : Holder) (call : Call) (reply : Reply) : Type 0 where
+  pub served : Served p q call reply
+  pub free : TellsFree q.view call reply
+  pub empty : TellsEmpty q.view call reply
+  pub mark : TellsMark q.view call reply
+  pub submitted : GivesSubmitted p q.view call reply
+  pub covered : GetsCovered p call reply
+  pub known : q.known ≡ known_after p q.view call
 
 -- ---- a law
 

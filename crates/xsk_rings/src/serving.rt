@@ -1,30 +1,35 @@
 //! The four ring calls and the two on marks, each by the steps of the table.
-ghost use Rattle.std.specs.Prelude.{◌≡◌, ◌≤◌, []};
+ghost use Rattle.std.specs.Prelude.{◌≡◌, ◌+◌, List, [], length, true};
+ghost use Rattle.xsk_umem.specs.declared.batch.Item.{Item as Thing};
 ghost use Rattle.xsk_model.specs.Asks.{joined_reply, HasAnswered};
 ghost use Rattle.xsk_model.specs.declared.call.Call.TheVariants.{Reserve, Submit, Peek, Release, Swap, Look};
-ghost use Rattle.xsk_rings.specs.Serving.{MayAsk, Served};
+ghost use Rattle.xsk_table.specs.Plays.{Extends, still, items_reply};
+ghost use Rattle.xsk_table.specs.Held.{is_covered};
+ghost use Rattle.xsk_rings.specs.Serving.{MayAsk, Tells, known_after, looks_of};
 
-use std::sync::ledger::{Blank, Ledger};
-use xsk_model::{Answer, Mark, Reply, Ring};
+use std::sync::ledger::Ledger;
+use xsk_model::{Answer, Call, Mark, Reply, Ring};
 use xsk_table::{Pass, Shared, Steps};
 use xsk_umem::Batch;
 
-/// Reserves so many places of a ring, by one look at the consumer's count.
+/// Reserves so many places of a ring, by a look at the consumer's count, or, where the last one covers it, at its own.
 pub(crate) fn reserve<L: Ledger>(
     pass: &mut Pass,
     shared: &Shared,
     ring: Ring,
     count: u32,
-    blank: Blank,
+    steps: &mut Steps<L>,
 ) -> Answer
-    requires name { blank.name ≡ L.name }
-    requires parts { (blank.parts ≡ L.parts) × (1 ≤ blank.parts) }
     requires may { MayAsk shared.now pass.old (Reserve ring count) }
-    ensures served { Served pass.old pass.new (Reserve ring count) (joined_reply result []) }
+    ensures told { Tells pass.old pass.new (Reserve ring count) (joined_reply result []) }
     ensures answered { HasAnswered result [] }
+    ensures counted { steps.new ≡ steps.old + looks_of pass.old (Reserve ring count) }
 {
-    let mut steps = Steps::<L>::new(blank);
-    match pass.reserve_step(shared, ring, count, &mut steps) {
+    if pass.covers(shared, &Call::Reserve(ring, count)) {
+        pass.reserve_covered(shared, ring, count);
+        return Answer::Granted;
+    }
+    match pass.reserve_step(shared, ring, count, steps) {
         Reply::Granted => Answer::Granted,
         Reply::Full(free) => Answer::Full(free),
         Reply::Submitted | Reply::Items(_) | Reply::Empty | Reply::Released | Reply::Old(_) => {
@@ -36,7 +41,7 @@ pub(crate) fn reserve<L: Ledger>(
 /// Puts all items of the batch into reserved places of a ring, and raises the producer over them.
 pub(crate) fn submit(pass: &mut Pass, shared: &Shared, ring: Ring, items: &mut Batch) -> Answer
     requires may { MayAsk shared.now pass.old (Submit ring items.old) }
-    ensures served { Served pass.old pass.new (Submit ring items.old) (joined_reply result items.new) }
+    ensures told { Tells pass.old pass.new (Submit ring items.old) (joined_reply result items.new) }
     ensures answered { HasAnswered result items.new }
 {
     'items: while !items.is_empty() {
@@ -46,24 +51,45 @@ pub(crate) fn submit(pass: &mut Pass, shared: &Shared, ring: Ring, items: &mut B
     Answer::Submitted
 }
 
-/// Takes at most so many items from a ring into an empty batch, by one look at the producer's count.
+/// The look of a Peek, at the producer's count or, where the last one covers it, at its own. It tells how many items there
+/// are.
+fn look_for_items<L: Ledger>(
+    pass: &mut Pass,
+    shared: &Shared,
+    ring: Ring,
+    count: u32,
+    steps: &mut Steps<L>,
+) -> u32
+    requires may { MayAsk shared.now pass.old (Peek ring count) }
+    ensures same { (pass.new.table ≡ pass.old.table) × (pass.new.who ≡ pass.old.who) }
+    ensures history { (items : List Thing) × (length items ≡ result) × (pass.new.view.flight ≡ still ring items) × Extends pass.old.view.setup pass.old.who (Peek ring count) (items_reply items) pass.old.view pass.new.view }
+    ensures covered { is_covered pass.old (Peek ring count) ≡ true → result ≡ count }
+    ensures known { pass.new.known ≡ known_after pass.old pass.new.view (Peek ring count) }
+    ensures counted { steps.new ≡ steps.old + looks_of pass.old (Peek ring count) }
+{
+    if pass.covers(shared, &Call::Peek(ring, count)) {
+        pass.peek_covered(shared, ring, count);
+        return count;
+    }
+    pass.peek_step(shared, ring, count, steps)
+}
+
+/// Takes at most so many items from a ring into an empty batch, by one look.
 pub(crate) fn peek<L: Ledger>(
     pass: &mut Pass,
     shared: &Shared,
     ring: Ring,
     count: u32,
     items: &mut Batch,
-    blank: Blank,
+    steps: &mut Steps<L>,
 ) -> Answer
-    requires name { blank.name ≡ L.name }
-    requires parts { (blank.parts ≡ L.parts) × (1 ≤ blank.parts) }
     requires may { MayAsk shared.now pass.old (Peek ring count) }
     requires empty { items.old ≡ [] }
-    ensures served { Served pass.old pass.new (Peek ring count) (joined_reply result items.new) }
+    ensures told { Tells pass.old pass.new (Peek ring count) (joined_reply result items.new) }
     ensures answered { HasAnswered result items.new }
+    ensures counted { steps.new ≡ steps.old + looks_of pass.old (Peek ring count) }
 {
-    let mut steps = Steps::<L>::new(blank);
-    let found = pass.peek_step(shared, ring, count, &mut steps);
+    let found = look_for_items(pass, shared, ring, count, steps);
     if found == 0 {
         return Answer::Empty;
     }
@@ -76,7 +102,7 @@ pub(crate) fn peek<L: Ledger>(
 /// Gives the places of so many held items of a ring back, by the raise of the consumer.
 pub(crate) fn release(pass: &mut Pass, shared: &Shared, ring: Ring, count: u32) -> Answer
     requires may { MayAsk shared.now pass.old (Release ring count) }
-    ensures served { Served pass.old pass.new (Release ring count) (joined_reply result []) }
+    ensures told { Tells pass.old pass.new (Release ring count) (joined_reply result []) }
     ensures answered { HasAnswered result [] }
 {
     pass.raise_consumer(shared, ring, count);
@@ -86,7 +112,7 @@ pub(crate) fn release(pass: &mut Pass, shared: &Shared, ring: Ring, count: u32) 
 /// Sets a mark, by one swap of its word.
 pub(crate) fn swap(pass: &mut Pass, shared: &Shared, mark: Mark, value: u64) -> Answer
     requires may { MayAsk shared.now pass.old (Swap mark value) }
-    ensures served { Served pass.old pass.new (Swap mark value) (joined_reply result []) }
+    ensures told { Tells pass.old pass.new (Swap mark value) (joined_reply result []) }
     ensures answered { HasAnswered result [] }
 {
     Answer::Old(pass.swap_step(shared, mark, value))
@@ -95,7 +121,7 @@ pub(crate) fn swap(pass: &mut Pass, shared: &Shared, mark: Mark, value: u64) -> 
 /// Looks at a mark, by one load of its word.
 pub(crate) fn look(pass: &mut Pass, shared: &Shared, mark: Mark) -> Answer
     requires may { MayAsk shared.now pass.old (Look mark) }
-    ensures served { Served pass.old pass.new (Look mark) (joined_reply result []) }
+    ensures told { Tells pass.old pass.new (Look mark) (joined_reply result []) }
     ensures answered { HasAnswered result [] }
 {
     Answer::Old(pass.look_step(shared, mark))

@@ -1,5 +1,5 @@
 -- Frames that move into slots, and passes that are dealt out.
-use Rattle.std.proofs.Common.{◌≡◌, ◌≢◌, ℕ, ◌+◌, ◌-◌, ◌<◌, ◌≤◌, suc, zero, List, [], ◌∷◌, ◌++◌, map, length, get_or, set, take, refl, ap, sym, ◌∙◌, arith, subst, ◌⊎◌, inl, inr, ⊎_elim, Option, Some, None, length-append}
+use Rattle.std.proofs.Common.{◌≡◌, ◌≢◌, ℕ, ◌+◌, ◌-◌, ◌<◌, ◌≤◌, suc, zero, List, [], ◌∷◌, ◌++◌, map, length, get_or, set, take, replicate, refl, ap, sym, ◌∙◌, arith, subst, ◌⊎◌, inl, inr, ⊎_elim, Option, Some, None, length-append}
 use Rattle.std.specs.List.{range_with_len}
 use mathlib.Core.Option.{some, some-injective, some-ne-none}
 use lib.ListN.{get_elem?}
@@ -11,10 +11,13 @@ use Rattle.xsk_model.specs.Config.{Config, callers_of}
 use Rattle.xsk_model.specs.declared.call.Ring.{Ring}
 use Rattle.xsk_model.specs.Opening.{IsOpened}
 use Rattle.xsk_table.specs.View.{Setup, idle, taking, View, newcomer, first_caller, other_callers}
-use Rattle.xsk_table.specs.Held.{Board, Holder, PassHolds, new_pass}
+use Rattle.xsk_model.specs.Rings.{place, places_of}
+use Rattle.xsk_table.specs.Known.{AreSure}
+use Rattle.xsk_table.specs.Held.{Board, Holder, PassHolds, known_in, new_pass}
 use Rattle.xsk_table.specs.Opening.{AllFirst, AtRest, FirstEnds, list_of, new_passes}
 use Rattle.xsk_table.specs.declared.end.End.{End}
 use Rattle.xsk_umem.specs.declared.batch.Item.{Item}
+use Rattle.xsk_table.proofs.Knowledge.{sure_now}
 
 abbrev pub slotted : List Frame → List (Option Frame)
 slotted frames = map (λ (f : Frame). Some f) frames
@@ -69,12 +72,25 @@ new_holds k who v slots ends opened first is none =
     subst P (sym is) record {
       one = refl;
       alone = refl;
-      ends_hold = first k.frames opened;
+      ends_hold = (first k.frames opened).0;
       flying_is = refl;
       slots_are = none;
       left = λ r items e. absurd (idle_taking e);
       history = record { opened = opened; legal = tt };
     }
+
+all_same : (n i z : ℕ) → get_or (replicate n z) i z ≡ z
+all_same zero i z = refl
+all_same (suc n) zero z = refl
+all_same (suc n) (suc i) z = all_same n i z
+
+-- nothing is known of any ring
+pub new_sure : (k : Setup) (who : ℕ) (v : View) (ends : List End) → IsOpened k.config k.frames → FirstEnds k.config k.first who ends → v ≡ newcomer k (who ∷ []) → AreSure v.setup who v.seen (known_in ends)
+new_sure k who v ends opened first is =
+    let P : View → Type 0 = λ u. AreSure u.setup who u.seen (known_in ends) in
+    subst P (sym is) (λ r has.
+    let none : get_or (known_in ends) (place k.config r) 0 ≡ 0 = ap (λ l. get_or l (place k.config r) 0) (first k.frames opened).1 ∙ all_same (places_of k.config) (place k.config r) 0 in
+    sure_now k who [] r (get_or (known_in ends) (place k.config r) 0) (record { opened = opened; legal = tt }) has (λ is. omega arith) (λ is. omega arith))
 
 pub passes_more : (b : Board) (n : ℕ) (passes : List (Option Holder)) (h : Holder) → passes ≡ map (λ who. Some (new_pass b who)) (range_with_len 0 n) → h ≡ new_pass b n
     → passes ++ (Some h) ∷ [] ≡ map (λ who. Some (new_pass b who)) (range_with_len 0 (n + 1))

@@ -1,10 +1,10 @@
 -- What passes keep before their first call.
-use Rattle.std.proofs.Common.{◌≡◌, ◌≢◌, ℕ, ◌+◌, ◌-◌, ◌*◌, ◌%◌, ◌^◌, ◌<◌, ◌≤◌, List, [], ◌∷◌, ◌++◌, length, get_or, set, take, refl, ap, sym, ◌∙◌, arith, subst, ⊎_elim, Option, Some, None, length-append}
+use Rattle.std.proofs.Common.{◌≡◌, ◌≢◌, ℕ, ◌+◌, ◌-◌, ◌*◌, ◌%◌, ◌^◌, ◌<◌, ◌≤◌, List, [], ◌∷◌, ◌++◌, length, get_or, set, take, replicate, refl, ap, sym, ◌∙◌, arith, subst, ⊎_elim, Option, Some, None, length-append}
 use Rattle.std.specs.List.{sum}
 use mathlib.Core.Option.{some}
 use lib.ListN.{get_elem?}
 use Rattle.std.proofs.lemmas.Bool.{cases_eq}
-use Rattle.std.proofs.lemmas.List.{get_or_append_left}
+use Rattle.std.proofs.lemmas.List.{get_or_append_left, replicate_more, map-append}
 use Rattle.std.proofs.lemmas.List.Sums.{sum_by_more}
 use Rattle.std.proofs.Math.Seq.{get_or-append_seam}
 use Rattle.atomic_table.proofs.Lists.{at_set}
@@ -23,7 +23,7 @@ use Rattle.xsk_words.proofs.Rows.{length-widths_of, few_words}
 use Rattle.xsk_table.specs.View.{Setup, idle}
 use Rattle.xsk_table.specs.Rule.{wrapped, opened}
 use Rattle.xsk_table.specs.Opening.{first_count, Begins, AreFirst, FirstEnds, AtRest}
-use Rattle.xsk_table.specs.Held.{Holder, EndHolds, no_end}
+use Rattle.xsk_table.specs.Held.{Holder, EndHolds, known_in, no_end}
 use Rattle.xsk_table.specs.declared.end.End.{End}
 use Rattle.xsk_table.proofs.WordRows.{ring_size}
 use Rattle.xsk_table.proofs.NewTable.{opened_is_first}
@@ -87,7 +87,7 @@ begins_app k who (Tx s) n pool opened_is h lt app pool_is is = absurd (omega ari
 -- ---- all rings
 
 wide_at : (k : Setup) (who : ℕ) (r : Ring) (count base mask : ℕ) → base ≡ ring_base k.config r → base ≤ 1056768 → mask + 1 ≡ size_of k.config r → Begins k who r count
-    → EndHolds k who [] r (record { near = count; far = count; base = base; mask = mask })
+    → EndHolds k who [] r (record { near = count; far = count; base = base; mask = mask; known = 0 })
 wide_at k who r count base mask at few size begins = record {
   base_is = at;
   base_few = few;
@@ -97,13 +97,17 @@ wide_at k who r count base mask at few size begins = record {
 }
 
 pub first_none : (k : Setup) (who : ℕ) → AreFirst k who 0 []
-first_none k who = record { wide = refl; each = λ r h lt. absurd (omega arith) }
+first_none k who = record { wide = refl; each = λ r h lt. absurd (omega arith); known = refl }
+
+-- no look was made
+pub known_more : (ends : List End) (e : End) (p : ℕ) → e.known ≡ 0 → known_in ends ≡ replicate p 0 → known_in (ends ++ e ∷ []) ≡ replicate (p + 1) 0
+known_more ends e p none are = map-append (λ (x : End). x.known) ends (e ∷ []) ∙ (λ i. are i ++ none i ∷ []) ∙ replicate_more p 0
 
 pub first_more : (k : Setup) (who p base mask count : ℕ) (ends : List End) → base ≡ sum (take p (widths_of k.config)) → base ≤ 1056768
     → ((r : Ring) → HasRing k.config r → place k.config r ≡ p → mask + 1 ≡ size_of k.config r) → ((r : Ring) → HasRing k.config r → place k.config r ≡ p → Begins k who r count)
-    → AreFirst k who p ends → AreFirst k who (p + 1) (ends ++ (record { near = count; far = count; base = base; mask = mask }) ∷ [])
+    → AreFirst k who p ends → AreFirst k who (p + 1) (ends ++ (record { near = count; far = count; base = base; mask = mask; known = 0 }) ∷ [])
 first_more k who p base mask count ends at few masks begins ok =
-    let e : End = record { near = count; far = count; base = base; mask = mask } in
+    let e : End = record { near = count; far = count; base = base; mask = mask; known = 0 } in
     let wide = ok.wide in
     record {
       wide = omega (arith, length-append ends (e ∷ []));
@@ -115,6 +119,7 @@ first_more k who p base mask count ends at few masks begins ok =
           let lower : place k.config r < p = omega arith in
           subst (EndHolds k who [] r) (sym (get_or_append_left ends (e ∷ []) no_end (place k.config r) (omega arith))) (ok.each r h lower))
           (cases_eq (place k.config r) p);
+      known = known_more ends e p refl ok.known;
     }
 
 pub width_more : (c : Config) (p base width : ℕ) → p < places_of c → base ≡ sum (take p (widths_of c)) → width ≡ get_or (widths_of c) p 0 → base + width ≡ sum (take (p + 1) (widths_of c))
@@ -130,7 +135,7 @@ pub first_all : (c : Config) (first who p : ℕ) (ends : List End) → p ≡ pla
 first_all c first who p ends all each frames opened_is =
     let k : Setup = record { config = c; first = first; frames = frames } in
     let ok = each frames opened_is in
-    record { wide = ok.wide ∙ all; each = λ r h. ok.each r h (subst (λ n. place c r < n) (sym all) (place_below c r h)) }
+    (record { wide = ok.wide ∙ all; each = λ r h. ok.each r h (subst (λ n. place c r < n) (sym all) (place_below c r h)) }, ok.known ∙ ap (λ n. replicate n 0) all)
 
 pub base_small : (c : Config) (base p : ℕ) → IsConfig c → p < places_of c → base ≤ 4128 * p → base ≤ 1056768
 base_small c base p config lt le = let few = (few_words c config).0 in omega arith

@@ -153,13 +153,13 @@ module _ (v : View) (slots : List (ℕ × Option Frame)) (who : ℕ) (ends : Lis
   config : IsConfig v.setup.config
   config = ok.history.opened.config
 
-  pub pass_reserved : (w : View) (slots' : List (ℕ × Option Frame)) (n g : ℕ) (reply : Reply) → IsLegal v.setup.config (own who v.seen) who (Reserve r n) → Extends v.setup who (Reserve r n) reply v w
+  pub pass_reserved : (w : View) (slots' : List (ℕ × Option Frame)) (n g f : ℕ) (reply : Reply) → IsLegal v.setup.config (own who v.seen) who (Reserve r n) → Extends v.setup who (Reserve r n) reply v w
       → slots' ≡ slots → v.flight ≡ idle → w.flight ≡ idle → g ≡ granted (Reserve r n) reply
-      → PassHolds w slots' who (set ends p (record { near = e.near; far = (e.far + g) % 2 ^ 32; base = e.base; mask = e.mask })) flying
-  pass_reserved w slots' n g reply legal ex same rests now_idle got =
+      → PassHolds w slots' who (set ends p (record { near = e.near; far = (e.far + g) % 2 ^ 32; base = e.base; mask = e.mask; known = f })) flying
+  pass_reserved w slots' n g f reply legal ex same rests now_idle got =
       let k = v.setup in
       let mine = own who v.seen in
-      let new : End = record { near = e.near; far = (e.far + g) % 2 ^ 32; base = e.base; mask = e.mask } in
+      let new : End = record { near = e.near; far = (e.far + g) % 2 ^ 32; base = e.base; mask = e.mask; known = f } in
       pass_after w slots' flying (Reserve r n) reply new ex same (λ s. refl)
       (end_on k who mine r (Reserve r n) reply e new (is_ring-self r) end_holds refl refl
       (λ fills. (stays k (opened k r + given_of r mine) e.near (end_holds.fills fills).0, ap (λ x. (e.far + x) % 2 ^ 32) got, omega arith))
@@ -169,12 +169,12 @@ module _ (v : View) (slots : List (ℕ × Option Frame)) (who : ℕ) (ends : Lis
 
   pub pass_raised : (w : View) (slots' : List (ℕ × Option Frame)) → IsLegal v.setup.config (own who v.seen) who (Submit r (lying v.flight)) → Extends v.setup who (Submit r (lying v.flight)) Submitted v w
       → slots' ≡ slots → w.flight ≡ idle
-      → PassHolds w slots' who (set ends p (record { near = (e.near + flying) % 2 ^ 32; far = e.far; base = e.base; mask = e.mask })) 0
+      → PassHolds w slots' who (set ends p (record { near = (e.near + flying) % 2 ^ 32; far = e.far; base = e.base; mask = e.mask; known = e.known })) 0
   pass_raised w slots' legal ex same now_idle =
       let k = v.setup in
       let mine = own who v.seen in
       let items = lying v.flight in
-      let new : End = record { near = (e.near + flying) % 2 ^ 32; far = e.far; base = e.base; mask = e.mask } in
+      let new : End = record { near = (e.near + flying) % 2 ^ 32; far = e.far; base = e.base; mask = e.mask; known = e.known } in
       pass_after w slots' 0 (Submit r items) Submitted new ex same (λ s. refl)
       (end_on k who mine r (Submit r items) Submitted e new (is_ring-self r) end_holds refl refl
       (λ fills. (ap (λ x. (e.near + x) % 2 ^ 32) ok.flying_is, stays k (opened k r + given_of r mine + room_of r mine) e.far (end_holds.fills fills).1, legal.counted.2))
@@ -186,13 +186,13 @@ module _ (v : View) (slots : List (ℕ × Option Frame)) (who : ℕ) (ends : Lis
   reply_items [] = refl
   reply_items (x ∷ xs) = refl
 
-  pub pass_peeked : (w : View) (slots' : List (ℕ × Option Frame)) (n m : ℕ) (items : List Item) → IsLegal v.setup.config (own who v.seen) who (Peek r n) → Extends v.setup who (Peek r n) (items_reply items) v w
+  pub pass_peeked : (w : View) (slots' : List (ℕ × Option Frame)) (n m f : ℕ) (items : List Item) → IsLegal v.setup.config (own who v.seen) who (Peek r n) → Extends v.setup who (Peek r n) (items_reply items) v w
       → slots' ≡ slots → w.flight ≡ still r items → length items ≡ m
-      → PassHolds w slots' who (set ends p (record { near = e.near; far = (e.far + m) % 2 ^ 32; base = e.base; mask = e.mask })) m
-  pass_peeked w slots' n m items legal ex same flies len =
+      → PassHolds w slots' who (set ends p (record { near = e.near; far = (e.far + m) % 2 ^ 32; base = e.base; mask = e.mask; known = f })) m
+  pass_peeked w slots' n m f items legal ex same flies len =
       let k = v.setup in
       let mine = own who v.seen in
-      let new : End = record { near = e.near; far = (e.far + m) % 2 ^ 32; base = e.base; mask = e.mask } in
+      let new : End = record { near = e.near; far = (e.far + m) % 2 ^ 32; base = e.base; mask = e.mask; known = f } in
       let came : length (taken (items_reply items)) ≡ m = ap (length {A = Item}) (reply_items items) ∙ len in
       pass_after w slots' m (Peek r n) (items_reply items) new ex same (λ s. refl)
       (end_on k who mine r (Peek r n) (items_reply items) e new (is_ring-self r) end_holds refl refl
@@ -206,11 +206,11 @@ module _ (v : View) (slots : List (ℕ × Option Frame)) (who : ℕ) (ends : Lis
 
   pub pass_released : (w : View) (slots' : List (ℕ × Option Frame)) (n : ℕ) → IsLegal v.setup.config (own who v.seen) who (Release r n) → Extends v.setup who (Release r n) Released v w
       → slots' ≡ slots → v.flight ≡ idle → w.flight ≡ idle
-      → PassHolds w slots' who (set ends p (record { near = (e.near + n) % 2 ^ 32; far = e.far; base = e.base; mask = e.mask })) flying
+      → PassHolds w slots' who (set ends p (record { near = (e.near + n) % 2 ^ 32; far = e.far; base = e.base; mask = e.mask; known = e.known })) flying
   pass_released w slots' n legal ex same rests now_idle =
       let k = v.setup in
       let mine = own who v.seen in
-      let new : End = record { near = (e.near + n) % 2 ^ 32; far = e.far; base = e.base; mask = e.mask } in
+      let new : End = record { near = (e.near + n) % 2 ^ 32; far = e.far; base = e.base; mask = e.mask; known = e.known } in
       pass_after w slots' flying (Release r n) Released new ex same (λ s. refl)
       (end_on k who mine r (Release r n) Released e new (is_ring-self r) end_holds refl refl
       (λ fills. absurd ((two_owners k.config r config has).2 (sym fills ∙ legal.role)))

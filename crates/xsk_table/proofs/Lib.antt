@@ -6,6 +6,7 @@ pub mod Knowing
 pub mod Shifting
 pub mod Adding
 pub mod RingSteps
+pub mod Growing
 pub mod Reserving
 pub mod Releasing
 pub mod Submitting
@@ -14,6 +15,7 @@ pub mod Placing
 pub mod Fetching
 pub mod Moving
 pub mod Holding
+pub mod Knowledge
 pub mod Marking
 pub mod Meeting
 pub mod Ending

@@ -14,11 +14,13 @@ use Rattle.xsk_model.proofs.Counting.{times-append}
 use Rattle.xsk_table.specs.View.{Setup, Flight, idle, View, note_of, told_of, spent}
 use Rattle.xsk_table.specs.Rule.{Knows, Rule}
 use Rattle.xsk_table.specs.Plays.{Seated, Ask}
-use Rattle.xsk_table.specs.Held.{AreLeft, EndsHold, PassHolds}
+use Rattle.xsk_table.specs.Known.{AreSure}
+use Rattle.xsk_table.specs.Held.{AreLeft, EndsHold, PassHolds, known_in}
 use Rattle.xsk_table.specs.Meeting.{Met, Meets, meets}
 use Rattle.xsk_table.specs.declared.end.End.{End}
 use Rattle.xsk_table.proofs.Seating.{sole_counts, times_at, times_more, reseated}
 use Rattle.xsk_table.proofs.Knowing.{whole_log}
+use Rattle.xsk_table.proofs.Knowledge.{sure_met}
 
 -- a note is split off
 pub notes : (k : Setup) (id : ℕ) (v : View) → Splits (Rule k) id v v (note_of v)
@@ -119,3 +121,6 @@ module _ (k : Setup) (v w : View) (u : View) (slots slots' : List (ℕ × Option
         left = λ r items is. subst (λ (l : List Told). AreLeft v.setup.config who l r items) (sym no_more) (ok.left r items is);
         history = met_history.legal;
       }
+
+  pub known_met : AreSure v.setup who v.seen (known_in ends) → AreSure w.setup who w.seen (known_in ends)
+  known_met sure = subst (λ (t : Setup). AreSure t who w.seen (known_in ends)) (ap (λ (x : View). x.setup) (sym met_view)) (sure_met v.setup who v.seen w.seen (known_in ends) did.seen no_more sure)

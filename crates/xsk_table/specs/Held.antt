@@ -1,5 +1,5 @@
 -- A pass: what its caller knows, and what it keeps at run time.
-use Rattle.std.specs.Prelude.{◌≡◌, ℕ, ◌+◌, ◌≤◌, List, [], ◌∷◌, length, get_or, Option}
+use Rattle.std.specs.Prelude.{◌≡◌, ℕ, ◌+◌, ◌≤◌, nat_le, Bool, false, List, [], ◌∷◌, map, length, get_or, replicate, slice_set, Option}
 use Rattle.atomic_table.specs.Seated.{TableId}
 use Rattle.xsk_umem.specs.Frame.{Frame}
 use Rattle.xsk_umem.specs.Frames.{Frames}
@@ -10,6 +10,8 @@ use Rattle.xsk_model.specs.Entry.{Told, own}
 use Rattle.xsk_model.specs.Own.{given_of, released_of, room_of, held_of}
 use Rattle.xsk_model.specs.History.{IsHistory}
 use Rattle.xsk_model.specs.declared.call.Ring.{Ring}
+use Rattle.xsk_model.specs.declared.call.Call.{Call}
+use Rattle.xsk_model.specs.declared.call.Call.TheVariants.{Reserve, Submit, Peek, Release, Swap, Look}
 use Rattle.xsk_words.specs.Layout.{ring_base, words_of}
 use Rattle.xsk_table.specs.View.{Setup, taking, View, newcomer}
 use Rattle.xsk_table.specs.Rule.{wrapped, opened, lying}
@@ -20,15 +22,37 @@ pub record Board : Type 0 where
   pub table : TableId
   pub setup : Setup
 
--- a pass as its caller sees it: the table to which it belongs, the caller, and what the caller knows
+-- a pass as its caller sees it: the table to which it belongs, the caller, what the caller has seen, and what it knows of
+-- the other side of each ring, by the rings' places
 pub record Holder : Type 0 where
   pub table : TableId
   pub who : ℕ
   pub view : View
+  pub known : List ℕ
+
+-- nothing is known of any ring
+abbrev pub none_known : Config → List ℕ
+none_known c = replicate (places_of c) 0
 
 -- a pass that no call was made with
 abbrev pub new_pass : Board → ℕ → Holder
-new_pass b who = record { table = b.table; who = who; view = newcomer b.setup (who ∷ []) }
+new_pass b who = record { table = b.table; who = who; view = newcomer b.setup (who ∷ []); known = none_known b.setup.config }
+
+-- what a pass knows of a ring, and all that it knows with another number for that ring
+abbrev pub known_on : Holder → Ring → ℕ
+known_on p r = get_or p.known (place p.view.setup.config r) 0
+
+abbrev pub with_known : Holder → Ring → ℕ → List ℕ
+with_known p r n = slice_set p.known (place p.view.setup.config r) n
+
+-- a call is covered where all that it asks for is known to be there
+abbrev pub is_covered : Holder → Call → Bool
+is_covered p (Reserve r n) = nat_le n (known_on p r)
+is_covered p (Submit r items) = false
+is_covered p (Peek r n) = nat_le n (known_on p r)
+is_covered p (Release r n) = false
+is_covered p (Swap m value) = false
+is_covered p (Look m) = false
 
 -- a pass belongs to a table
 pub record Belongs (b : Board) (p : Holder) : Type 0 where
@@ -38,7 +62,10 @@ pub record Belongs (b : Board) (p : Holder) : Type 0 where
 -- ---- what a pass keeps
 
 abbrev pub no_end : End
-no_end = record { near = 0; far = 0; base = 0; mask = 0 }
+no_end = record { near = 0; far = 0; base = 0; mask = 0; known = 0 }
+
+abbrev pub known_in : List End → List ℕ
+known_in ends = map (λ (e : End). e.known) ends
 
 -- where a ring's words stand and its size; on a ring that the caller fills what it gave, and that with what it has
 -- reserved; on one that it empties what it released, and that with what it holds

@@ -1,5 +1,6 @@
 pub mod View
 pub mod Rule
+pub mod Known
 pub mod Plays
 pub mod Held
 pub mod Notes

@@ -1,5 +1,5 @@
 -- A new table: its words, its slots and its passes.
-use Rattle.std.specs.Prelude.{◌≡◌, ℕ, ◌+◌, ◌*◌, ◌%◌, ◌^◌, ◌<◌, Option, Some, None, List, [], ◌∷◌, map, length, get_or, slice_index}
+use Rattle.std.specs.Prelude.{◌≡◌, ℕ, ◌+◌, ◌*◌, ◌%◌, ◌^◌, ◌<◌, Option, Some, None, List, [], ◌∷◌, map, length, get_or, replicate, slice_index}
 use mathlib.Core.Option.{some}
 use lib.ListN.{get_elem?}
 use Rattle.xsk_umem.specs.Frame.{Frame}
@@ -18,7 +18,7 @@ use Rattle.xsk_table.specs.View.{Setup, idle}
 use Rattle.xsk_table.specs.Rule.{at, wrapped, opened, entry_of, all_callers}
 use Rattle.xsk_model.specs.Opening.{IsOpened}
 use Rattle.xsk_table.specs.declared.end.End.{End}
-use Rattle.xsk_table.specs.Held.{Board, Holder, new_pass, EndHolds, EndsHold, no_end}
+use Rattle.xsk_table.specs.Held.{Board, Holder, new_pass, none_known, known_in, EndHolds, EndsHold, no_end}
 
 -- a pass for each caller, none with a call made
 abbrev pub new_passes : Board → List (Option Holder)
@@ -91,9 +91,10 @@ Begins k who r n = (who ≡ rings.producer k.config r → n ≡ wrapped k (opene
 pub record AreFirst (k : Setup) (who : ℕ) (count : ℕ) (ends : List End) : Type 0 where
   pub wide : length ends ≡ count
   pub each : (r : Ring) → HasRing k.config r → place k.config r < count → EndHolds k who [] r (get_or ends (place k.config r) no_end)
+  pub known : known_in ends ≡ replicate count 0
 
 abbrev pub FirstEnds : Config → ℕ → ℕ → List End → Type 0
-FirstEnds c first who ends = (frames : List Frame) → IsOpened c frames → EndsHold (record { config = c; first = first; frames = frames }) who [] ends
+FirstEnds c first who ends = (frames : List Frame) → IsOpened c frames → EndsHold (record { config = c; first = first; frames = frames }) who [] ends × (known_in ends ≡ none_known c)
 
 -- the first counts of all callers
 abbrev pub AllFirst : Config → ℕ → ℕ → List (List End) → Type 0

@@ -8,7 +8,7 @@ use Rattle.xsk_model.specs.Config.{HasRing, size_of}
 use Rattle.xsk_model.specs.Rings as rings
 use Rattle.xsk_model.specs.Object.{reply_at, reserve_reply}
 use Rattle.xsk_model.specs.Entry.{Entry, own, with_told}
-use Rattle.xsk_model.specs.Own.{given_of, released_of, room_of, held_of}
+use Rattle.xsk_model.specs.Own.{granted, given_of, released_of, room_of, held_of}
 use Rattle.xsk_model.specs.History.{IsHistory, state_after}
 use Rattle.xsk_model.specs.Legal.{IsItemOn, IsLegal}
 use Rattle.xsk_model.specs.declared.call.Ring.{Ring}
@@ -18,10 +18,11 @@ use Rattle.xsk_model.specs.declared.call.Mark.{Mark}
 use Rattle.xsk_model.specs.declared.call.Mark.TheVariants.{Kick}
 use Rattle.xsk_model.specs.declared.call.Call.TheVariants.{Reserve, Submit, Peek, Release, Swap, Look}
 use Rattle.xsk_model.specs.declared.call.Reply.{Reply}
-use Rattle.xsk_model.specs.declared.call.Reply.TheVariants.{Submitted, Items, Empty, Released, Old}
+use Rattle.xsk_model.specs.declared.call.Reply.TheVariants.{Granted, Submitted, Items, Empty, Released, Old}
 use Rattle.xsk_words.specs.Words.{used_of, second_word}
 use Rattle.xsk_table.specs.View.{Setup, Flight, idle, placing, writing, taking, fetching, View}
-use Rattle.xsk_table.specs.Rule.{wrapped, opened, lying, HasAll}
+use Rattle.xsk_table.specs.Rule.{wrapped, opened, given, released, lying, HasAll}
+use Rattle.xsk_table.specs.Known.{free_after, out_after}
 
 -- a seat's view, and the slots that it has taken
 abbrev pub Seated : Type 0
@@ -79,6 +80,7 @@ emptied a v = released_of a.ring (own a.who v.seen) + held_of a.ring (own a.who 
 pub record Reserved (a : Ask) (m : Seated) (found : ℕ) (m' : Seated) : Type 0 where
   pub free : ℕ
   pub extends : Extends a.setup a.who (Reserve a.ring a.count) (reserve_reply a.count free) m.0 m'.0
+  pub left : free ≡ free_after a.setup m'.0.seen a.ring + granted (Reserve a.ring a.count) (reserve_reply a.count free)
   pub found_is : free + used_of (wrapped a.setup (filled a m.0)) found ≡ size_of a.setup.config a.ring
   pub small : found < 2 ^ 32
   pub slots : m'.1 ≡ m.1
@@ -113,12 +115,37 @@ pub record Peeked (a : Ask) (m : Seated) (found : ℕ) (m' : Seated) : Type 0 wh
   pub items : List Item
   pub extends : Extends a.setup a.who (Peek a.ring a.count) (items_reply items) m.0 m'.0
   pub count : length items ≡ min a.count (used_of found (wrapped a.setup (emptied a m.0)))
+  pub left : used_of found (wrapped a.setup (emptied a m.0)) ≡ length items + out_after a.setup m'.0.seen a.ring
   pub small : found < 2 ^ 32
   pub slots : m'.1 ≡ m.1
   pub flight : m'.0.flight ≡ still a.ring items
 
 abbrev pub peeks : Ask → Step (Option Frame) → Seated → ℕ → Seated → Type 0
 peeks a st m found m' = Peeked a m found m'
+
+-- ---- calls that what is known covers
+
+-- by what a producer has seen there is room for so many more
+abbrev pub HasRoom : Ask → View → Type 0
+HasRoom a v = filled a v + a.count ≤ released a.setup a.ring v.seen + size_of a.setup.config a.ring
+
+-- by what a consumer has seen so many items are out
+abbrev pub HasItems : Ask → View → Type 0
+HasItems a v = emptied a v + a.count ≤ given a.setup a.ring v.seen
+
+abbrev pub grants : Ask → Step (Option Frame) → Seated → ℕ → Seated → Type 0
+grants a st m found m' = Ended a (Reserve a.ring a.count) Granted m m'
+
+-- a Peek that gets all that it asks for
+pub record PeekedAll (a : Ask) (m m' : Seated) : Type 0 where
+  pub items : List Item
+  pub extends : Extends a.setup a.who (Peek a.ring a.count) (items_reply items) m.0 m'.0
+  pub count : length items ≡ a.count
+  pub slots : m'.1 ≡ m.1
+  pub flight : m'.0.flight ≡ still a.ring items
+
+abbrev pub gives : Ask → Step (Option Frame) → Seated → ℕ → Seated → Type 0
+gives a st m found m' = PeekedAll a m m'
 
 -- ---- marks
 

@@ -11,4 +11,6 @@ pub struct End {
     pub base: usize,
     /// The ring's size, less one.
     pub mask: u32,
+    /// What the last look at the other side's count found, less what was had of it since: free places, or items.
+    pub known: u32,
 }

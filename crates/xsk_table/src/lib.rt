@@ -4,6 +4,7 @@
 
 mod closing;
 mod counting;
+mod covering;
 mod end;
 pub mod laws;
 mod marks;

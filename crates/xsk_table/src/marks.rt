@@ -101,6 +101,7 @@ impl Pass {
         requires legal { IsLegal self.old.view.setup.config (own self.old.who self.old.view.seen) self.old.who (Swap mark value) }
         requires rests { self.old.view.flight ≡ idle }
         ensures same { (self.new.table ≡ self.old.table) × (self.new.who ≡ self.old.who) }
+        ensures known { self.new.known ≡ self.old.known }
         ensures flight { self.new.view.flight ≡ idle }
         ensures history { Extends self.old.view.setup self.old.who (Swap mark value) (Old result) self.old.view self.new.view }
     {
@@ -121,6 +122,7 @@ impl Pass {
         requires legal { IsLegal self.old.view.setup.config (own self.old.who self.old.view.seen) self.old.who (Look mark) }
         requires rests { self.old.view.flight ≡ idle }
         ensures same { (self.new.table ≡ self.old.table) × (self.new.who ≡ self.old.who) }
+        ensures known { self.new.known ≡ self.old.known }
         ensures flight { self.new.view.flight ≡ idle }
         ensures history { Extends self.old.view.setup self.old.who (Look mark) (Old result) self.old.view self.new.view }
     {

@@ -113,6 +113,7 @@ impl Pass {
         requires belongs { Belongs shared.now self.old }
         requires note { note.table ≡ shared.now.table }
         ensures same { (self.new.table ≡ self.old.table) × (self.new.who ≡ self.old.who) }
+        ensures known { self.new.known ≡ self.old.known }
         ensures view { self.new.view ≡ record self.old.view { seen = self.new.view.seen; told = [] } }
         ensures history { Meets self.old.view.setup self.old.who self.old.view.seen note.seen self.new.view.seen }
     {

@@ -138,6 +138,7 @@ pub(crate) fn lay_ends(
             far: count,
             base,
             mask: mask_at(config, place),
+            known: 0,
         });
         base += place_width(config, place);
     }

@@ -4,6 +4,7 @@ ghost use Rattle.xsk_umem.specs.declared.batch.Item.{Item as Thing};
 ghost use Rattle.xsk_model.specs.Config.{HasRing};
 ghost use Rattle.xsk_model.specs.Rings.{consumer};
 ghost use Rattle.xsk_model.specs.Entry.{own};
+ghost use Rattle.xsk_model.specs.Object.{reserve_reply};
 ghost use Rattle.xsk_model.specs.Own.{granted};
 ghost use Rattle.xsk_model.specs.Legal.{IsLegal};
 ghost use Rattle.xsk_model.specs.declared.call.Ring.{Ring as Line};
@@ -12,7 +13,8 @@ ghost use Rattle.xsk_model.specs.declared.call.Reply.TheVariants.{Submitted, Rel
 ghost use Rattle.xsk_table.specs.View.{idle, placing, taking};
 ghost use Rattle.xsk_table.specs.Rule.{lying};
 ghost use Rattle.xsk_table.specs.Plays.{Extends, IsPlacing, still, items_reply};
-ghost use Rattle.xsk_table.specs.Held.{Belongs};
+ghost use Rattle.xsk_table.specs.Known.{free_after, out_after};
+ghost use Rattle.xsk_table.specs.Held.{Belongs, with_known};
 
 use crate::counting::Steps;
 use crate::end::End;
@@ -44,14 +46,26 @@ pub struct Pass {
 }
 
 impl Model for Pass {
-    ghost use Rattle.xsk_table.specs.Held.{Holder, PassHolds};
+    ghost use Rattle.xsk_table.specs.Known.{AreSure};
+    ghost use Rattle.xsk_table.specs.Held.{Holder, PassHolds, known_in};
     ghost use Rattle.xsk_table.specs.Notes.{Notes};
 
     ghost Value = { Holder };
 
-    ghost view = { λ p. record { table = p.seat.table_id; who = p.who; view = p.seat.me.0 } };
+    ghost view = { λ p. record { table = p.seat.table_id; who = p.who; view = p.seat.me.0; known = known_in p.ends.items } };
 
-    ghost invariant = { λ p. PassHolds p.seat.me.0 p.seat.me.1 p.who p.ends.items p.flying × Notes p.seat.me.0 p.who p.standing };
+    ghost invariant = { λ p. PassHolds p.seat.me.0 p.seat.me.1 p.who p.ends.items p.flying × Notes p.seat.me.0 p.who p.standing × AreSure p.seat.me.0.setup p.who p.seat.me.0.seen (known_in p.ends.items) };
+}
+
+/// The reply to a Reserve of `n` where so many places are free.
+fn reply_by(n: u32, free: u32) -> Reply
+    ensures { result ≡ reserve_reply n free }
+{
+    if n <= free {
+        Reply::Granted
+    } else {
+        Reply::Full(free)
+    }
 }
 
 /// The places that a Reserve of `n` got.
@@ -89,7 +103,8 @@ impl Pass {
         self.standing.allows(&shared.config, call)
     }
 
-    /// The look of a Reserve. It adds the Reserve with its reply to the history, and counts one look.
+    /// The look of a Reserve. It adds the Reserve with its reply to the history, and counts one look. The pass then knows
+    /// how many places are left free.
     pub fn reserve_step<L: Ledger>(
         &mut self,
         shared: &Shared,
@@ -103,11 +118,12 @@ impl Pass {
         ensures same { (self.new.table ≡ self.old.table) × (self.new.who ≡ self.old.who) }
         ensures flight { self.new.view.flight ≡ idle }
         ensures history { Extends self.old.view.setup self.old.who (Reserve ring n) result self.old.view self.new.view }
+        ensures known { self.new.known ≡ with_known self.old ring (free_after self.old.view.setup self.new.view.seen ring) }
         ensures steps { steps.new ≡ steps.old + 1 }
     {
         let place = ring_place(&shared.config, ring);
         let end = self.ends[place];
-        let reply = steps::reserve_step(
+        let free = steps::reserve_step(
             &shared.table.shared,
             &mut self.seat,
             self.who,
@@ -118,8 +134,13 @@ impl Pass {
             end.base + CONSUMER,
         );
         steps.tick();
-        let far = end.far.wrapping_add(granted_by(&reply, n));
-        self.ends[place] = End { far, ..end };
+        let reply = reply_by(n, free);
+        let got = granted_by(&reply, n);
+        self.ends[place] = End {
+            far: end.far.wrapping_add(got),
+            known: free - got,
+            ..end
+        };
         note_reserved(&mut self.standing, &shared.config, ring, n, &reply);
         reply
     }
@@ -132,6 +153,7 @@ impl Pass {
         requires legal { IsLegal self.old.view.setup.config (own self.old.who self.old.view.seen) self.old.who (Submit ring (lying self.old.view.flight ++ rest.old)) }
         requires some { 1 ≤ length rest.old }
         ensures same { (self.new.table ≡ self.old.table) × (self.new.who ≡ self.old.who) }
+        ensures known { self.new.known ≡ self.old.known }
         ensures placed { (x : Thing) × (rest.old ≡ x ∷ rest.new) × (self.new.view ≡ record self.old.view { flight = placing ring (lying self.old.view.flight ++ x ∷ []) }) }
     {
         let Some(item) = rest.pop_front() else {
@@ -160,6 +182,7 @@ impl Pass {
         requires flight { self.old.view.flight ≡ placing ring (lying self.old.view.flight) }
         requires legal { IsLegal self.old.view.setup.config (own self.old.who self.old.view.seen) self.old.who (Submit ring (lying self.old.view.flight)) }
         ensures same { (self.new.table ≡ self.old.table) × (self.new.who ≡ self.old.who) }
+        ensures known { self.new.known ≡ self.old.known }
         ensures flight { self.new.view.flight ≡ idle }
         ensures history { Extends self.old.view.setup self.old.who (Submit ring (lying self.old.view.flight)) Submitted self.old.view self.new.view }
     {
@@ -180,7 +203,7 @@ impl Pass {
     }
 
     /// The look of a Peek. It adds the Peek with its reply to the history, counts one look, and tells how many items
-    /// there are, which `fetch` then gives.
+    /// there are, which `fetch` then gives. The pass then knows how many are left out.
     pub fn peek_step<L: Ledger>(
         &mut self,
         shared: &Shared,
@@ -193,11 +216,12 @@ impl Pass {
         requires rests { self.old.view.flight ≡ idle }
         ensures same { (self.new.table ≡ self.old.table) × (self.new.who ≡ self.old.who) }
         ensures history { (items : List Thing) × (length items ≡ result) × (self.new.view.flight ≡ still ring items) × Extends self.old.view.setup self.old.who (Peek ring n) (items_reply items) self.old.view self.new.view }
+        ensures known { self.new.known ≡ with_known self.old ring (out_after self.old.view.setup self.new.view.seen ring) }
         ensures steps { steps.new ≡ steps.old + 1 }
     {
         let place = ring_place(&shared.config, ring);
         let end = self.ends[place];
-        let count = steps::peek_step(
+        let out = steps::peek_step(
             &shared.table.shared,
             &mut self.seat,
             self.who,
@@ -207,8 +231,12 @@ impl Pass {
             end.base + PRODUCER,
         );
         steps.tick();
-        let far = end.far.wrapping_add(count);
-        self.ends[place] = End { far, ..end };
+        let count = n.min(out);
+        self.ends[place] = End {
+            far: end.far.wrapping_add(count),
+            known: out - count,
+            ..end
+        };
         self.flying = count;
         count
     }
@@ -218,6 +246,7 @@ impl Pass {
         requires belongs { Belongs shared.now self.old }
         requires flight { (x : Thing) × (left : List Thing) × (self.old.view.flight ≡ taking ring (x ∷ left)) }
         ensures same { (self.new.table ≡ self.old.table) × (self.new.who ≡ self.old.who) }
+        ensures known { self.new.known ≡ self.old.known }
         ensures taken { (x : Thing) (left : List Thing) → self.old.view.flight ≡ taking ring (x ∷ left) → (result ≡ x) × (self.new.view ≡ record self.old.view { flight = still ring left }) }
     {
         let left = self.flying;
@@ -245,6 +274,7 @@ impl Pass {
         requires legal { IsLegal self.old.view.setup.config (own self.old.who self.old.view.seen) self.old.who (Release ring n) }
         requires rests { self.old.view.flight ≡ idle }
         ensures same { (self.new.table ≡ self.old.table) × (self.new.who ≡ self.old.who) }
+        ensures known { self.new.known ≡ self.old.known }
         ensures flight { self.new.view.flight ≡ idle }
         ensures history { Extends self.old.view.setup self.old.who (Release ring n) Released self.old.view self.new.view }
     {

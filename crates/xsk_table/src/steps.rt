@@ -1,20 +1,22 @@
 //! The steps on words: each is one load or one store, with the arithmetic around it.
-ghost use Rattle.std.specs.Prelude.{List, [], ◌∷◌, length, ◌≡◌, ◌+◌, ◌%◌, ◌^◌, ◌<◌};
+ghost use Rattle.std.specs.Prelude.{List, [], ◌∷◌, length, ◌≡◌, ◌+◌, ◌%◌, ◌^◌, ◌<◌, min};
 ghost use Rattle.xsk_umem.specs.declared.batch.Item.{Item};
 ghost use Rattle.xsk_model.specs.Config.{size_of};
 ghost use Rattle.xsk_model.specs.Entry.{own};
-ghost use Rattle.xsk_model.specs.Own.{given_of, released_of};
+ghost use Rattle.xsk_model.specs.Object.{reserve_reply};
+ghost use Rattle.xsk_model.specs.Own.{granted, given_of, released_of};
 ghost use Rattle.xsk_model.specs.declared.call.Call.TheVariants.{Reserve, Submit, Peek, Release};
 ghost use Rattle.xsk_model.specs.declared.call.Reply.TheVariants.{Submitted, Released};
 ghost use Rattle.xsk_words.specs.Layout.{producer, consumer, word_at};
 ghost use Rattle.xsk_table.specs.View.{idle, placing};
 ghost use Rattle.xsk_table.specs.Rule.{wrapped, opened, lying};
+ghost use Rattle.xsk_table.specs.Known.{free_after, out_after};
 ghost use Rattle.xsk_table.specs.Plays.{IsReady, Reserved, Extends, Ended, Peeked, items_reply, still, ask_for, filled as filled_of, emptied};
 
 use crate::view::{Asking, Key, Law, Peeking, Raising, Releasing, Reserving, View};
 use atomic_table::{Seat, Shared};
 use std::marker::Brand;
-use xsk_model::{Reply, Ring};
+use xsk_model::Ring;
 use xsk_umem::Frame;
 use xsk_words::used;
 
@@ -42,7 +44,7 @@ fn look_room<J: Asking>(
     board.load::<Reserving<J>>(seat, word)
 }
 
-/// The look of a Reserve. `filled` counts what was submitted and reserved.
+/// The look of a Reserve, which tells how many places are free. `filled` counts what was submitted and reserved.
 #[allow(clippy::too_many_arguments)]
 pub(crate) fn reserve_step(
     board: &Board,
@@ -53,7 +55,7 @@ pub(crate) fn reserve_step(
     filled: u32,
     size: u32,
     word: usize,
-) -> Reply
+) -> u32
     requires table { seat.old.table_id ≡ board.now.table_id }
     requires size { size ≡ size_of board.now.key.config ring }
     requires word { (word ≡ word_at board.now.key.config (consumer ring)) × (word < board.now.table_id.words) }
@@ -62,15 +64,11 @@ pub(crate) fn reserve_step(
     ensures same { (seat.new.table_id ≡ seat.old.table_id) × (seat.new.id ≡ seat.old.id) }
     ensures slots { seat.new.me.1 ≡ seat.old.me.1 }
     ensures flight { seat.new.me.0.flight ≡ idle }
-    ensures history { Extends board.now.key who (Reserve ring n) result seat.old.me.0 seat.new.me.0 }
+    ensures history { Extends board.now.key who (Reserve ring n) (reserve_reply n result) seat.old.me.0 seat.new.me.0 }
+    ensures left { result ≡ free_after board.now.key seat.new.me.0.seen ring + granted (Reserve ring n) (reserve_reply n result) }
 {
     let found = look_room::<Brand>(board, seat, who, ring, n, word);
-    let free = size - used(filled, found as u32);
-    if n <= free {
-        Reply::Granted
-    } else {
-        Reply::Full(free)
-    }
+    size - used(filled, found as u32)
 }
 
 fn write_consumer<J: Asking>(
@@ -177,7 +175,7 @@ fn look_items<J: Asking>(
     board.load::<Peeking<J>>(seat, word)
 }
 
-/// The look of a Peek. `far` counts what was released and is held.
+/// The look of a Peek, which tells how many items are out. `far` counts what was released and is held.
 pub(crate) fn peek_step(
     board: &Board,
     seat: &mut Chair,
@@ -193,8 +191,9 @@ pub(crate) fn peek_step(
     requires ready { IsReady (ask_for board.now.key who ring n) (Peek ring n) seat.old.me.0 × (seat.old.me.0.flight ≡ idle) }
     ensures same { (seat.new.table_id ≡ seat.old.table_id) × (seat.new.id ≡ seat.old.id) }
     ensures slots { seat.new.me.1 ≡ seat.old.me.1 }
-    ensures history { (items : List Item) × (length items ≡ result) × (seat.new.me.0.flight ≡ still ring items) × Extends board.now.key who (Peek ring n) (items_reply items) seat.old.me.0 seat.new.me.0 }
+    ensures history { (items : List Item) × (length items ≡ min n result) × (seat.new.me.0.flight ≡ still ring items) × Extends board.now.key who (Peek ring n) (items_reply items) seat.old.me.0 seat.new.me.0 }
+    ensures left { result ≡ min n result + out_after board.now.key seat.new.me.0.seen ring }
 {
     let found = look_items::<Brand>(board, seat, who, ring, n, word);
-    used(found as u32, far).min(n)
+    used(found as u32, far)
 }

@@ -14,4 +14,4 @@ perform-requires g c =
 
 pub returns-clause-has : goal.returns-clause-has
 returns-clause-has g c = has_released c.args.driver.now c.perform.new.self (c.args.item.now ∷ [])
-    (subst (λ (t : Reply). Served c.args.driver.now c.perform.new.self (Release (Fill 0) 1) t) c.in-Released.is c.perform.ensures.served) (has_taken c.args.driver.now c.args.item.now c.requires.took)
+    (subst (λ (t : Reply). Served c.args.driver.now c.perform.new.self (Release (Fill 0) 1) t) c.in-Released.is c.perform.ensures.told.served) (has_taken c.args.driver.now c.args.item.now c.requires.took)

@@ -12,4 +12,4 @@ pub returns-clause-took : goal.returns-clause-took
 returns-clause-took g c =
     let is : c.in-Items.items ≡ c.unwrap.result ∷ c.pop_front.new.self = subst (λ (o : Option Item). IfSome o (λ (x : Item). c.in-Items.items ≡ x ∷ c.pop_front.new.self)) c.unwrap.ensures c.pop_front.ensures.some in
     one_taken c.args.driver.now c.perform.new.self (Fill 0) c.unwrap.result c.in-Items.items c.pop_front.new.self is
-    (subst (λ (t : Reply). Served c.args.driver.now c.perform.new.self (Peek (Fill 0) 1) t) c.in-Items.is c.perform.ensures.served)
+    (subst (λ (t : Reply). Served c.args.driver.now c.perform.new.self (Peek (Fill 0) 1) t) c.in-Items.is c.perform.ensures.told.served)

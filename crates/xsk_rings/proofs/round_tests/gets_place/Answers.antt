@@ -7,4 +7,4 @@ use Rattle.xsk_rings.proofs.round_tests.gets_place.Goals as goal
 
 pub returns-in-Granted-clause-room : goal.returns-in-Granted-clause-room
 returns-in-Granted-clause-room g c = room_reserved c.tries.pass c.perform.new.self c.args.ring
-    (subst (λ (t : Reply). Served c.tries.pass c.perform.new.self (Reserve c.args.ring 1) t) c.in-Granted.is c.perform.ensures.served)
+    (subst (λ (t : Reply). Served c.tries.pass c.perform.new.self (Reserve c.args.ring 1) t) c.in-Granted.is c.perform.ensures.told.served)

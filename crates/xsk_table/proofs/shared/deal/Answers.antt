@@ -4,10 +4,10 @@ use Rattle.std.specs.List.{range_with_len}
 use Rattle.std.proofs.lemmas.List.{map-set, length-set}
 use Rattle.xsk_table.specs.View.{newcomer, first_caller, other_callers}
 use Rattle.xsk_table.specs.Plays.{Seated}
-use Rattle.xsk_table.specs.Held.{Board, Holder, new_pass}
+use Rattle.xsk_table.specs.Held.{Board, Holder, known_in, new_pass}
 use Rattle.xsk_table.proofs.NewNotes.{first_new, first_there, next_new, new_notes}
 use Rattle.xsk_table.proofs.Seating.{deals}
-use Rattle.xsk_table.proofs.Deals.{FirstFrom, from_set, seat_first, seat_others, new_holds, passes_more, read_at}
+use Rattle.xsk_table.proofs.Deals.{FirstFrom, from_set, seat_first, seat_others, new_holds, new_sure, passes_more, read_at}
 use Rattle.xsk_table.proofs.shared.deal.Goals as goal
 
 pub split_seat-own-requires : goal.split_seat-own-requires
@@ -24,6 +24,7 @@ invariant_of-push_reserved c =
     let new = first_new k.config c.loop-who.who c.args.callers c.loop-who.standings.items c.in-Some.standing _ inv.standings left (sym c.in-Some.is ∙ c.take.ensures.value ∙ c.index_mut-in-loop-who.ensures.value) in (
       new_holds k c.loop-who.who _ _ _ c.requires.opened (inv.ends c.loop-who.who _ (omega arith) there) is (ap (λ (m : Seated). m.1) own),
       new_notes k c.loop-who.who _ c.in-Some.standing is new,
+      new_sure k c.loop-who.who _ _ c.requires.opened (inv.ends c.loop-who.who _ (omega arith) there) is,
     )
 
 pub unreachable-requires : goal.unreachable-requires
@@ -43,8 +44,10 @@ loop-who-preserved c =
     let fewer : c.args.callers - c.loop-who.who - 1 ≡ c.args.callers - (c.loop-who.who + 1) = omega arith in
     let seat : Seated = c.loop-who.seat.me in
     let first : other_callers seat.0 ≡ newcomer k (range_with_len (c.loop-who.who + 1) (c.args.callers - (c.loop-who.who + 1))) = others ∙ ap (λ n. newcomer k (range_with_len (c.loop-who.who + 1) n)) fewer in
-    let holder : Holder = record { table = c.split_seat-own.result.table_id; who = c.loop-who.who; view = c.split_seat-own.result.me.0 } in
-    let same : holder ≡ new_pass b c.loop-who.who = λ i. record { table = (split.3 ∙ inv.table) i; who = c.loop-who.who; view = is i } in
+    let there = read_at vec_items c.loop-who.ends.items c.loop-who.who c.replace-list.result _ (omega (arith, left, inv.ends_len)) c.replace-list.ensures.value c.index_mut.ensures.value in
+    let known = (inv.ends c.loop-who.who _ (omega arith) there k.frames c.requires.opened).1 in
+    let holder : Holder = record { table = c.split_seat-own.result.table_id; who = c.loop-who.who; view = c.split_seat-own.result.me.0; known = known_in c.replace-list.result.items } in
+    let same : holder ≡ new_pass b c.loop-who.who = λ i. record { table = (split.3 ∙ inv.table) i; who = c.loop-who.who; view = is i; known = known i } in
     record {
       table = split.0 ∙ inv.table;
       seat = split.2 ∙ (λ i. (first i, ap (λ (m : Seated). m.1) inv.seat i));

@@ -4,10 +4,11 @@ use Rattle.xsk_model.specs.Config.{Config, HasRing, size_of, callers_of}
 use Rattle.xsk_model.specs.Rings.{place, consumer}
 use Rattle.xsk_model.proofs.Roles.{two_owners}
 use Rattle.xsk_words.specs.Layout.{ring_base}
-use Rattle.xsk_table.specs.View.{Setup, taking}
+use Rattle.xsk_table.specs.View.{Setup, taking, View}
+use Rattle.xsk_table.specs.Known.{AreSure}
 use Rattle.xsk_table.specs.Rule.{wrapped, lying}
 use Rattle.xsk_table.specs.Plays.{still, emptied, ask_for}
-use Rattle.xsk_table.specs.Held.{Board, Holder}
+use Rattle.xsk_table.specs.Held.{Board, Holder, known_in}
 use Rattle.xsk_table.proofs.Holding.{end_holds}
 use Rattle.xsk_table.proofs.Readying.{next_position, pass_fetched, entries_within}
 use Rattle.xsk_table.proofs.Noting.{can_note_fetched, notes_fetched}
@@ -78,6 +79,7 @@ invariant_of-self c =
       pass_fetched c.self.inside.seat.me.0 _ _ _ _ _ _ c.args.ring f.0 f.1 c.self.invariant.0 f.2 t.view t.slots,
       notes_fetched v c.self.inside.who c.self.inside.standing c.args.ring c.fetch-item.result f.1 c.shared.inside.config config c.self.invariant.1 flies _ c.fetched.new.self
           c.fetched.ensures.caller c.fetched.ensures.goes_on c.fetched.ensures.ends t.view,
+      subst (λ (u : View). AreSure u.setup c.self.inside.who u.seen (known_in c.self.inside.ends.items)) (sym t.view) c.self.invariant.2,
     )
 
 pub fetched-requires : goal.fetched-requires

@@ -1,10 +1,13 @@
 use Rattle.std.proofs.Common.{◌≡◌, sym, ap, subst, refl, ◌∙◌}
 use Rattle.xsk_model.specs.declared.call.Call.TheVariants.{Look}
 use Rattle.xsk_model.specs.declared.call.Reply.TheVariants.{Old}
+use Rattle.xsk_model.specs.Entry.{own}
+use Rattle.xsk_model.specs.Legal.{IsLegal}
 use Rattle.xsk_table.specs.View.{Setup}
 use Rattle.xsk_table.specs.Plays.{Extends}
 use Rattle.xsk_table.specs.Held.{Board, Holder}
 use Rattle.xsk_table.proofs.Marking.{pass_marked}
+use Rattle.xsk_table.proofs.Knowledge.{pass_quiet}
 use Rattle.xsk_table.proofs.Noting.{notes_quiet}
 use Rattle.xsk_table.proofs.pass.Pass.look_step.Goals as goal
 
@@ -18,4 +21,5 @@ invariant_of-self c =
     let ex = subst E (sym setup) c.look_at_mark.ensures.history in (
       pass_marked v _ _ _ _ _ _ (Look c.args.mark) (Old c.look_at_mark.result) c.self.invariant.0 (λ r. refl) (subst E (sym setup) c.look_at_mark.ensures.history) c.look_at_mark.ensures.slots (ap (λ (h : Holder). h.view.flight) (sym is) ∙ c.requires.rests) c.look_at_mark.ensures.flight,
       notes_quiet v _ c.self.inside.who c.self.inside.standing (Look c.args.mark) (Old c.look_at_mark.result) c.self.invariant.1 rests ex c.look_at_mark.ensures.flight refl,
+      pass_quiet v c.look_at_mark.new.seat.me.0 c.self.inside.who c.self.inside.ends.items (Look c.args.mark) (Old c.look_at_mark.result) ex (subst (λ (h : Holder). IsLegal h.view.setup.config (own h.who h.view.seen) h.who (Look c.args.mark)) is c.requires.legal) c.self.invariant.2 refl refl,
     )

@@ -1,6 +1,6 @@
 use Rattle.std.proofs.Common.{◌≡◌, sym, ap, ◌∙◌}
 use Rattle.xsk_table.specs.Held.{Board, Holder}
-use Rattle.xsk_table.proofs.Meeting.{pass_met, met_view, met_history}
+use Rattle.xsk_table.proofs.Meeting.{pass_met, met_view, met_history, known_met}
 use Rattle.xsk_table.proofs.Noting.{notes_met}
 use Rattle.xsk_table.proofs.pass.Pass.meet.Goals as goal
 
@@ -12,4 +12,5 @@ invariant_of-self c =
       notes_met v c.take_in.new.seat.me.0 c.self.inside.who c.self.inside.standing c.self.invariant.1
           (met_view c.shared.inside.table.shared.key v c.take_in.new.seat.me.0 c.note.inside.seat.me.0 _ _ _ _ _ c.self.invariant.0 setup c.note.invariant.0 c.take_in.ensures.told)
           (met_history c.shared.inside.table.shared.key v c.take_in.new.seat.me.0 c.note.inside.seat.me.0 _ _ _ _ _ c.self.invariant.0 setup c.note.invariant.0 c.take_in.ensures.told).no_more,
+      known_met c.shared.inside.table.shared.key v c.take_in.new.seat.me.0 c.note.inside.seat.me.0 _ _ _ _ _ c.self.invariant.0 setup c.note.invariant.0 c.take_in.ensures.told c.self.invariant.2,
     )

@@ -5,10 +5,11 @@ use Rattle.xsk_model.specs.Entry.{own}
 use Rattle.xsk_model.specs.Legal.{IsLegal}
 use Rattle.xsk_model.specs.declared.call.Call.TheVariants.{Submit}
 use Rattle.xsk_words.specs.Layout.{ring_base}
-use Rattle.xsk_table.specs.View.{Setup}
+use Rattle.xsk_table.specs.View.{Setup, View}
+use Rattle.xsk_table.specs.Known.{AreSure}
 use Rattle.xsk_table.specs.Rule.{lying}
 use Rattle.xsk_table.specs.Plays.{CanPlace, IsPlacing, ask_item}
-use Rattle.xsk_table.specs.Held.{Board, Holder}
+use Rattle.xsk_table.specs.Held.{Board, Holder, known_in}
 use Rattle.xsk_table.proofs.Holding.{end_holds}
 use Rattle.xsk_table.proofs.Readying.{can_place, entries_within, pass_placed}
 use Rattle.xsk_table.proofs.WordRows.{ring_size}
@@ -63,6 +64,7 @@ invariant_of-self c =
       pass_placed v _ _ _ _ _ _ c.args.ring c.in-Some.item c.self.invariant.0 c.place.ensures.told,
       notes_placed v c.self.inside.who c.self.inside.standing c.args.ring c.in-Some.item _ _ c.shared.inside.config config c.self.invariant.1 flies c.in-Some.ensures.some legal _
           c.placed.new.self c.placed.ensures.caller c.placed.ensures.goes_on c.placed.ensures.ends c.place.ensures.told.view,
+      subst (λ (u : View). AreSure u.setup c.self.inside.who u.seen (known_in c.self.inside.ends.items)) (sym c.place.ensures.told.view) c.self.invariant.2,
     )
 
 pub place-requires-clause-size : goal.place-requires-clause-size

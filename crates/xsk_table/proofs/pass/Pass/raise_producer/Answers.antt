@@ -1,4 +1,4 @@
-use Rattle.std.proofs.Common.{◌≡◌, sym, ap, subst, ◌∙◌}
+use Rattle.std.proofs.Common.{◌≡◌, refl, sym, ap, subst, ◌∙◌}
 use Rattle.xsk_model.specs.Config.{Config}
 use Rattle.xsk_model.specs.Rings.{place}
 use Rattle.xsk_model.specs.Entry.{own}
@@ -10,6 +10,7 @@ use Rattle.xsk_table.specs.Rule.{lying}
 use Rattle.xsk_table.specs.Plays.{Extends}
 use Rattle.xsk_table.specs.Held.{Board, Holder}
 use Rattle.xsk_table.proofs.Holding.{pass_raised}
+use Rattle.xsk_table.proofs.Knowledge.{pass_kept, known_stays}
 use Rattle.xsk_table.proofs.Noting.{notes_raised}
 use Rattle.xsk_table.proofs.pass.Pass.raise_producer.Goals as goal
 
@@ -26,4 +27,8 @@ invariant_of-self c =
     let flies = subst F is c.requires.flight in (
       pass_raised v _ _ _ _ c.self.invariant.0 c.args.ring _ c.index-end.result.now legal.known at c.index-end.ensures _ _ legal (subst E (sym setup) c.raise_producer.ensures.history) c.raise_producer.ensures.slots c.raise_producer.ensures.flight,
       notes_raised v _ c.self.inside.who c.self.inside.standing c.args.ring c.self.invariant.1 flies legal (subst E (sym setup) c.raise_producer.ensures.history) c.raise_producer.ensures.flight,
+      pass_kept v c.raise_producer.new.seat.me.0 c.self.inside.who c.self.inside.ends.items (Submit c.args.ring (lying v.flight)) Submitted (subst E (sym setup) c.raise_producer.ensures.history) legal c.self.invariant.2 _ c.index-end.result.now _ refl refl c.index-end.ensures refl,
     )
+
+pub returns-clause-known : goal.returns-clause-known
+returns-clause-known c = known_stays c.self.inside.ends.items _ c.index-end.result.now _ c.index-end.ensures refl ∙ ap (λ (h : Holder). h.known) c.self.view_is

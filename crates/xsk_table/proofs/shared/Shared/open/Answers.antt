@@ -1,4 +1,5 @@
-use Rattle.std.proofs.Common.{rules, ◌≡◌, ℕ, [], length, sym, ap, subst, ◌∙◌, arith, List, Option}
+use Rattle.std.proofs.Common.{rules, ◌≡◌, ℕ, [], length, map, sym, ap, subst, ◌∙◌, arith, List, Option}
+use Rattle.std.specs.Vec.{vec_items}
 use Rattle.atomic_table.specs.Table.{opening}
 use Rattle.xsk_umem.specs.Frame.{Frame}
 use Rattle.xsk_umem.specs.Frames.{Frames}
@@ -8,7 +9,7 @@ use Rattle.xsk_model.proofs.Opened.{length-frames}
 use Rattle.xsk_table.specs.View.{Setup, newcomer}
 use Rattle.xsk_table.specs.Rule.{Rule, all_callers}
 use Rattle.xsk_table.specs.Notes.{AreNewFrom}
-use Rattle.xsk_table.specs.Opening.{WordsOpen}
+use Rattle.xsk_table.specs.Opening.{WordsOpen, AllFirst}
 use Rattle.xsk_table.proofs.Deals.{new_rest}
 use Rattle.xsk_table.proofs.NewTable.{opens}
 use Rattle.xsk_table.proofs.shared.Shared.open.Goals as goal
@@ -27,6 +28,13 @@ deal-passes-requires-clause-standings c =
     let config : c.in-Ok-new.table.shared.key.config ≡ c.args.config = ap (λ (t : Setup). t.config) c.in-Ok-new.ensures.ok.5 ∙ c.of.ensures in
     let P : Config × ℕ → Type 0 = λ t. AreNewFrom t.0 0 t.1 c.in-Ok.room.standings.items in
     subst P (λ i. (sym config i, sym c.callers-callers.ensures i)) c.in-Ok.ensures.standings
+
+pub deal-passes-requires-clause-ends : goal.deal-passes-requires-clause-ends
+deal-passes-requires-clause-ends c =
+    let config : c.in-Ok-new.table.shared.key.config ≡ c.args.config = ap (λ (t : Setup). t.config) c.in-Ok-new.ensures.ok.5 ∙ c.of.ensures in
+    let first : c.in-Ok-new.table.shared.key.first ≡ c.args.first = ap (λ (t : Setup). t.first) c.in-Ok-new.ensures.ok.5 in
+    let P : Config × ℕ × ℕ → Type 0 = λ t. AllFirst t.0 t.1 t.2 (map vec_items c.in-Ok.room.ends.items) in
+    subst P (λ i. (sym config i, sym first i, sym c.callers-callers.ensures i)) c.in-Ok.ensures.ends
 
 pub invariant_of-result : goal.invariant_of-result
 invariant_of-result c = new_rest _ c.deal-passes.result.items c.deal-passes.ensures
