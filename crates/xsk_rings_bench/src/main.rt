@@ -1,5 +1,6 @@
 //! `xsk_rings_bench PASSES BATCH`: two threads move descriptors from FILL over RX and back, for a script that takes the
-//! time. It ends with 0 where each thread has moved so many, at most BATCH (1 to 32) at once.
+//! time. It ends with 0 where each thread has moved so many, at most BATCH (1 to 32) at once. `xsk_rings_bench CALLS swap`
+//! and `xsk_rings_bench CALLS look` set a mark, or look at it, so often on one thread.
 #![tactic(auto)]
 
 ghost use Rattle.std.specs.Prelude.{◌≡◌, ◌≤◌};
@@ -7,6 +8,7 @@ ghost use Rattle.xsk_umem.specs.Limits.{most_items};
 ghost use Rattle.xsk_table.specs.Held.{new_pass};
 ghost use Rattle.xsk_rings_bench.specs.Moving.{moving};
 
+mod marking;
 mod moving;
 mod opening;
 mod rewriting;
@@ -19,31 +21,47 @@ use std::{env, thread};
 use xsk_args::parse_number;
 use xsk_table::{Pass, Shared};
 
+/// What is timed.
+#[derive(Clone, Copy)]
+enum Work {
+    /// Descriptors that move, so many at once.
+    Moves(u32),
+    Swaps,
+    Looks,
+}
+
 fn main(rt: HostRuntime) -> ExitCode {
-    let Some((passes, batch)) = numbers_of(&rt) else {
+    let Some((count, work)) = words_of(&rt) else {
         return ExitCode::from(2);
     };
-    if runs(&rt, rt.alloc(), passes, batch) {
+    if runs(&rt, rt.alloc(), count, work) {
         ExitCode::SUCCESS
     } else {
         ExitCode::FAILURE
     }
 }
 
-/// The two numbers behind the program's name.
-fn numbers_of<R: Env + AllocGlobal>(rt: &R) -> Option<(u32, u32)> {
+/// The number and the work behind the program's name.
+fn words_of<R: Env + AllocGlobal>(rt: &R) -> Option<(u32, Work)> {
     let words: Vec<String> = env::args(rt).ok()?.skip(1).collect(rt.alloc()).ok()?;
-    let [passes, batch] = words.as_slice() else {
+    let [count, work] = words.as_slice() else {
         return None;
     };
-    Some((parse_number(passes)?, parse_number(batch)?))
+    Some((parse_number(count)?, work_of(work)?))
 }
 
-/// Whether both threads have moved so many descriptors.
-fn runs<R: Threads + Sync>(rt: &R, alloc: Global, passes: u32, batch: u32) -> bool {
-    if batch == 0 || batch > 32 {
-        return false;
+fn work_of(word: &str) -> Option<Work> {
+    if word == "swap" {
+        return Some(Work::Swaps);
     }
+    if word == "look" {
+        return Some(Work::Looks);
+    }
+    Some(Work::Moves(parse_number(word)?))
+}
+
+/// Whether the work was done so often.
+fn runs<R: Threads + Sync>(rt: &R, alloc: Global, count: u32, work: Work) -> bool {
     let Some((shared, mut held)) = opening::opened(alloc) else {
         return false;
     };
@@ -53,7 +71,16 @@ fn runs<R: Threads + Sync>(rt: &R, alloc: Global, passes: u32, batch: u32) -> bo
     let Some(app) = held.take(2) else {
         return false;
     };
-    both_move(rt, &shared, driver, app, batch, passes)
+    match work {
+        Work::Moves(batch) => {
+            if batch == 0 || batch > 32 {
+                return false;
+            }
+            both_move(rt, &shared, driver, app, batch, count)
+        }
+        Work::Swaps => marking::swaps(&shared, driver, count),
+        Work::Looks => marking::looks(&shared, driver, count),
+    }
 }
 
 /// Has the driver and the application move so many descriptors, each on a thread of its own.
