@@ -13,6 +13,8 @@ use Rattle.xsk_turns.specs.AppOwned.{HasOwnFrames}
 use Rattle.xsk_model.specs.Entry.{Told, with_told}
 use Rattle.xsk_model.specs.History.{MayGive}
 use Rattle.xsk_model.specs.Sent.{sockets_of, sent_from}
+use Rattle.xsk_model.specs.declared.call.Call.{Call}
+use Rattle.xsk_model.specs.declared.call.Reply.{Reply}
 use Rattle.xsk_model.specs.declared.call.Act.{Act}
 use Rattle.xsk_model.specs.declared.call.Act.TheVariants.{Call as Calls, Ended as IsEnd}
 use Rattle.xsk_driver.specs.Shown.{Shown as DriverShown}

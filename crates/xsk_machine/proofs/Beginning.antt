@@ -14,6 +14,8 @@ use Rattle.xsk_driver.specs.Shown.{Shown as DriverShown}
 use Rattle.xsk_driver.specs.Runs.{IsNew as IsNewDriver}
 use Rattle.xsk_app.specs.Shown.{Shown as AppShown}
 use Rattle.xsk_app.specs.Runs.{IsNew as IsNewApp}
+use Rattle.xsk_prog.specs.declared.rule.Verdict.{Verdict}
+use Rattle.xsk_turns.specs.Verdicts.{judged}
 use Rattle.xsk_turns.specs.Workers.{Setting}
 use Rattle.xsk_machine.specs.Acts.{HasRoomToSend, IsDriver, IsApp}
 
@@ -43,13 +45,14 @@ pub list_at : (lists : List PacketList) (port : ℕ) (list : PacketList) → lis
 list_at lists port list is below =
     ap (λ (l : PacketList). l.packets) (is ∙ get_or_default lists port list (record { packets = []; spare_packets = 0; spare_bytes = 0 }) below)
 
-pub new_driver : (s : Setting) (pair : ℕ) (list : List (List ℕ)) (d : DriverShown) → pair < length s.config.pairs → HasRoomToSend s pair d
+pub new_driver : (s : Setting) (pair : ℕ) (list : List (List ℕ)) (verdicts : List Verdict) (d : DriverShown) → pair < length s.config.pairs → HasRoomToSend s pair d
     → list ≡ packets_of_port s.packets (pair_at s.config.pairs pair).port
-    → IsNewDriver s.config pair (packets_of_queue s.config.queues (pair_at s.config.pairs pair).queue list) d → IsDriver s pair d
-new_driver s pair list d known room at new = record {
+    → verdicts ≡ slice_index_or s.verdicts pair [] → IsNewDriver s.config pair (judged (packets_of_queue s.config.queues (pair_at s.config.pairs pair).queue list) verdicts) d → IsDriver s pair d
+new_driver s pair list verdicts d known room at given new = record {
   known = known;
   room = room;
-  is = subst (λ (l : List (List ℕ)). IsNewDriver s.config pair (packets_of_queue s.config.queues (pair_at s.config.pairs pair).queue l) d) at new;
+  is = subst (λ (v : List Verdict). IsNewDriver s.config pair (judged (packets_of_queue s.config.queues (pair_at s.config.pairs pair).queue (packets_of_port s.packets (pair_at s.config.pairs pair).port)) v) d) given
+      (subst (λ (l : List (List ℕ)). IsNewDriver s.config pair (judged (packets_of_queue s.config.queues (pair_at s.config.pairs pair).queue l) verdicts) d) at new);
 }
 
 pub new_app : (s : Setting) (who : ℕ) (c : Config) (app : ℕ) (a : AppShown) → s.config ≡ c → who ≡ caller_of c app → IsNewApp c app a → IsApp s who a

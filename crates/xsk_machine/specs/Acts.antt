@@ -1,5 +1,5 @@
 -- Where the workers of a setting stand, each for its own calls and replies, and what each gave after them.
-use Rattle.std.specs.Prelude.{◌≡◌, ℕ, ◌<◌, List, length}
+use Rattle.std.specs.Prelude.{◌≡◌, ℕ, ◌<◌, All, List, length}
 use Rattle.std.specs.List.{concat}
 use Rattle.xsk_model.specs.Config.{pair_at}
 use Rattle.xsk_model.specs.Rings.{caller_of}
@@ -10,10 +10,16 @@ use Rattle.xsk_model.specs.declared.call.Act.{Act}
 use Rattle.xsk_model.specs.declared.call.Act.TheVariants.{Call as Calls, Ended as IsEnd}
 use Rattle.xsk_turns.specs.Inputs.{packets_of_port}
 use Rattle.xsk_turns.specs.Workers.{Setting, input_of, IsWorkerRun, IsWholeRun}
+use Rattle.xsk_umem.specs.PacketList.{PacketList}
+use Rattle.xsk_driver.specs.Sent.{IsShort}
 use Rattle.xsk_driver.specs.Shown.{Shown as DriverShown}
 use Rattle.xsk_driver.specs.Runs.{IsNew as IsNewDriver, StandsWith}
 use Rattle.xsk_app.specs.Shown.{Shown as AppShown}
 use Rattle.xsk_app.specs.Runs.{IsNew as IsNewApp, StandsWith as AppStandsWith}
+
+-- no packet of a list is longer than a record of a capture
+abbrev pub HasShortPackets : PacketList → Type 0
+HasShortPackets list = All IsShort list.packets
 
 -- what the paired port of a pair's port received
 abbrev pub other_of : Setting → ℕ → List (List ℕ)

@@ -24,6 +24,13 @@ impl<F: Fn(&[u8], u32) -> Verdict> XdpProgram<F> {
         XdpProgram { rule, decide }
     }
 
+    /// The rule that its answers meet.
+    pub fn rule(&self) -> Rule
+        ensures { result ≡ self.now.rule }
+    {
+        self.rule
+    }
+
     /// What the program answers of a packet of 14 to 262,144 bytes on a queue below 4: what its closure does, which meets the
     /// rule. That the closure keeps the rule is known since `attach`.
     pub fn verdict(&self, packet: &[u8], queue: u32) -> Verdict

@@ -1,18 +1,21 @@
-use Rattle.std.proofs.Common.{◌≡◌, ℕ, ◌<◌, List, length, sym, ap, subst, ◌∙◌, arith}
+use Rattle.std.proofs.Common.{◌≡◌, ℕ, ◌<◌, List, [], length, sym, ap, subst, ◌∙◌, arith}
 use Rattle.std.specs.List.{concat}
+use Rattle.xsk_prog.specs.declared.rule.Verdict.{Verdict}
 use Rattle.xsk_umem.specs.PacketList.{PacketList}
 use Rattle.xsk_model.specs.Config.{pair_at}
 use Rattle.xsk_model.specs.Steering.{paired_port}
 use Rattle.xsk_model.specs.declared.config.PairInfo.{PairInfo}
-use Rattle.xsk_turns.specs.Inputs.{packets_of_port}
+use Rattle.xsk_turns.specs.Inputs.{packets_of_port, packets_of_queue}
+use Rattle.xsk_turns.specs.Verdicts.{EachHas, IsGiven}
 use Rattle.xsk_turns.specs.Workers.{Setting}
+use Rattle.xsk_driver.specs.Asking.{IsAnswer, verdicts_in}
 use Rattle.xsk_machine.specs.Acts.{other_of, HasRoomToSend}
 use Rattle.xsk_machine.proofs.Beginning.{input_numbers, list_at, new_driver, ports_known}
 use Rattle.xsk_machine.proofs.begin.driver_for.Goals as goal
 
 pub returns-clause-new : goal.returns-clause-new
-returns-clause-new c =
-    let s : Setting = record { config = c.args.config.now; packets = c.args.packets.now } in
+returns-clause-new g c verdicts given =
+    let s : Setting = record { config = c.args.config.now; packets = c.args.packets.now; verdicts = verdicts } in
     let pair = c.args.pair in
     let known : pair < length s.config.pairs = c.requires.pair in
     let below : pair < length c.pairs.result.now = omega (arith, known, ap (length {A = PairInfo}) c.pairs.ensures.value) in
@@ -27,8 +30,24 @@ returns-clause-new c =
     ∙ ap (λ (port : ℕ). packets_of_port s.packets port) c.paired_port.ensures
     ∙ ap (λ (ps : List PairInfo). packets_of_port s.packets (paired_port (pair_at ps pair).port)) c.pairs.ensures.value in
     let room : HasRoomToSend s pair c.in_ok-driver.driver = record {
-      packets = c.in_ok-driver.ensures.sent_room.0 ∙ c.len.ensures.value ∙ ap (length {A = List ℕ}) at_other;
+      packets = c.in_ok-driver.ensures.sent_room.0 ∙ c.len-room.ensures.value ∙ ap (length {A = List ℕ}) at_other;
       bytes = c.in_ok-driver.ensures.sent_room.1 ∙ c.in-Some.ensures ∙ ap (λ (ps : List (List ℕ)). length (concat ps)) at_other;
     } in
-    new_driver s pair list.packets c.in_ok-driver.driver known room at
+    new_driver s pair list.packets (verdicts_in c.in_ok-driver.driver.kept) c.in_ok-driver.driver known room at (sym given)
     (c.in_ok-driver.ensures.is_new (input_numbers s.config s.packets c.args.inputs.now pair list.packets c.requires.inputs known at))
+
+pub returns-clause-asked : goal.returns-clause-asked
+returns-clause-asked g c =
+    let config = c.args.config.now in
+    let lists = c.args.packets.now in
+    let pair = c.args.pair in
+    let known : pair < length config.pairs = c.requires.pair in
+    let below : pair < length c.pairs.result.now = omega (arith, known, ap (length {A = PairInfo}) c.pairs.ensures.value) in
+    let ports = ports_known config c.pairs.result.now (length lists) pair c.requires.regular c.pairs.ensures.lawful c.pairs.ensures.value c.requires.lists below in
+    let list = c.index-packets-port.result in
+    let at : list.packets ≡ packets_of_port lists (pair_at config.pairs pair).port =
+    list_at lists (pair_at c.pairs.result.now pair).port list c.index-packets-port.is ports.0
+    ∙ ap (λ (ps : List PairInfo). packets_of_port lists (pair_at ps pair).port) c.pairs.ensures.value in
+    subst (λ (l : List (List ℕ)). EachHas (IsGiven (IsAnswer g.F.Fn c.args.program.now.rule c.args.program.now.decide (pair_at config.pairs pair).queue)) (packets_of_queue config.queues (pair_at config.pairs pair).queue l)
+    (verdicts_in c.in_ok-driver.driver.kept)) at
+    (c.in_ok-driver.ensures.asked (input_numbers config lists c.args.inputs.now pair list.packets c.requires.inputs known at))
