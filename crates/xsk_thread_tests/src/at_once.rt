@@ -2,15 +2,26 @@
 use crate::packets::{are_same, packets, set_up};
 use std::test::Fail;
 use xsk_io::PairGate;
+use xsk_prog::{Rule, XdpProgram};
 use xsk_workers::forward;
 
 #[test]
 fn two_drivers_meet_at_the_gate(rt: HostRuntime) -> Result<(), Fail> {
     let alloc = rt.alloc();
+    let rule = Rule::Redirect { sockets: 1 };
+    let program = XdpProgram::attach(rule, |bytes: &[u8], queue: u32| rule.verdict(bytes, queue));
     let (config, frames) = set_up(alloc, 1)?;
     let lists = vec![in alloc; packets(alloc, 1)?, packets(alloc, 0)?]?;
     let gate = PairGate::new();
-    let Ok(outcome) = forward(&rt, alloc, config, frames, lists.as_slice(), &gate) else {
+    let Ok(outcome) = forward(
+        &rt,
+        alloc,
+        config,
+        frames,
+        lists.as_slice(),
+        &program,
+        &gate,
+    ) else {
         return Err("want of memory")?;
     };
     assert!(rt; gate.entered(0) && gate.entered(1));

@@ -2,6 +2,7 @@
 ghost use Rattle.std.specs.Prelude.{◌≡◌, ℕ, ◌*◌, IfOk, false, length};
 ghost use Rattle.xsk_model.specs.Config.{IsRegular};
 ghost use Rattle.xsk_model.specs.Opening.{AreFrames};
+ghost use Rattle.xsk_machine.specs.Acts.{HasShortPackets};
 
 use std::alloc::Global;
 use std::test::Fail;
@@ -13,7 +14,9 @@ use xsk_umem::{Frames, PacketList, Umem};
 const LEN: usize = 60;
 
 /// So many packets of a port: the first byte, which alone isn't 7, tells the packet, and so its queue.
-pub(crate) fn packets(alloc: Global, count: u8) -> Result<PacketList, Fail> {
+pub(crate) fn packets(alloc: Global, count: u8) -> Result<PacketList, Fail>
+    ensures { IfOk result HasShortPackets }
+{
     let mut list = PacketList::new(alloc);
     for number in 0..count {
         let mut bytes = [7; LEN];

@@ -1,8 +1,8 @@
 //! What a worker's run is judged by.
-ghost use Rattle.xsk_turns.specs.Workers.{Setting};
-ghost use Rattle.xsk_umem.specs.PacketList.{PacketList as List};
+ghost use Rattle.xsk_turns.specs.Workers.{Setting, ruled};
 
 use xsk_model::Config;
+use xsk_prog::Rule;
 use xsk_umem::PacketList;
 
 /// A value that shows the setting of a run: the references that the machines borrow.
@@ -13,13 +13,14 @@ pub(crate) trait Place: Copy {
     fn touch(&self) {}
 }
 
-/// The configuration, and the packets of each port.
+/// The configuration, the packets of each port, and the rule that leaves one verdict for each of them.
 #[derive(Clone, Copy)]
 pub(crate) struct Source<'a> {
     pub(crate) config: &'a Config,
     pub(crate) packets: &'a [PacketList],
+    pub(crate) rule: Rule,
 }
 
 impl Place for Source<'_> {
-    ghost setting = { λ s. record { config = s.config.now; packets = s.packets.now } };
+    ghost setting = { λ s. ruled s.rule s.config.now s.packets.now };
 }

@@ -6,7 +6,10 @@ ghost use Rattle.xsk_model.specs.Config.{IsRegular, callers_of};
 ghost use Rattle.xsk_model.specs.Expected.{nothing};
 ghost use Rattle.xsk_model.specs.Opening.{AreFrames};
 ghost use Rattle.xsk_turns.specs.Inputs.{inputs_of};
-ghost use Rattle.xsk_turns.specs.Workers.{Setting};
+ghost use Rattle.xsk_prog.specs.Program.{Obeys};
+ghost use Rattle.xsk_prog.specs.Rules.{is_exact};
+ghost use Rattle.xsk_turns.specs.Workers.{Setting, ruled};
+ghost use Rattle.xsk_machine.specs.Acts.{HasShortPackets};
 ghost use Rattle.xsk_table.specs.Held.{Board};
 ghost use Rattle.xsk_table.specs.Opening.{new_passes};
 ghost use Rattle.xsk_workers.specs.Shown.{WorkerShown, seat_of, seat_at, HasRun, AreOf};
@@ -27,6 +30,7 @@ use xsk_driver::Inputs;
 use xsk_io::Gate;
 use xsk_machine::driver_for;
 use xsk_model::Config;
+use xsk_prog::{Verdict, XdpProgram};
 use xsk_table::{Note, Passes, Shared};
 use xsk_umem::{Frames, OutOfMemory, PacketList};
 
@@ -59,25 +63,31 @@ impl Outcome {
 }
 
 /// Runs the drivers and applications of a regular configuration, each in a thread of its own where one can be had, until
-/// all have ended, over one list of packets for each port. The frames are all frames of its UMEM, and the configuration is
-/// without need-wakeup, which the workers don't know yet. Each worker passes the gate before each of its turns.
+/// all have ended, over one list of packets for each port, none of which has more than 262,144 bytes. The frames are all
+/// frames of its UMEM, and the configuration is without need-wakeup, which the workers don't know yet. The program is
+/// attached to every port, and asked once for each packet before a worker starts; its rule leaves one verdict for each. Each
+/// worker passes the gate before each of its turns.
 ///
 /// All memory is taken before a worker starts. A worker whose thread can't be had makes its calls on the caller's thread,
 /// in turn with other such workers. Nothing is promised of an end.
-pub fn forward<R: Threads + Wait + Sync, G: Gate + Sync>(
+pub fn forward<R: Threads + Wait + Sync, F: Fn(&[u8], u32) -> Verdict, G: Gate + Sync>(
     rt: &R,
     alloc: Global,
     config: Config,
     frames: Frames,
     packets: &[PacketList],
+    program: &XdpProgram<F>,
     gate: &G,
 ) -> Result<Outcome, OutOfMemory>
     requires regular { IsRegular config }
     requires wakeup { config.wakeup ≡ false }
     requires frames { AreFrames config.geometry frames.items }
     requires lists { length packets.now ≡ config.ports }
+    requires short { All HasShortPackets packets.now }
+    requires obeys { Obeys F.Fn program.now.rule program.now.decide }
+    requires exact { is_exact program.now.rule ≡ true }
     ensures pairs { IfOk result (λ outcome. length outcome.sent ≡ length config.pairs) }
-    ensures forwarded { IfOk result (HasForwarded (record { config = config; packets = packets.now }) frames.items) }
+    ensures forwarded { IfOk result (HasForwarded (ruled program.now.rule config packets.now) frames.items) }
 {
     let own = config.copy(alloc)?;
     let inputs = Inputs::split(alloc, &own, packets)?;
@@ -88,8 +98,9 @@ pub fn forward<R: Threads + Wait + Sync, G: Gate + Sync>(
     let place = Source {
         config: &own,
         packets,
+        rule: program.rule(),
     };
-    let workers = seat_workers(alloc, &shared, place, &inputs, &mut passes)?;
+    let workers = seat_workers(alloc, &shared, place, &inputs, program, &mut passes)?;
     let crew = Crew::new(alloc, &shared, place, workers)?;
     let workers = run_crew(rt, &shared, gate, crew);
     give_back(&shared, workers, &mut passes, &mut sent);
@@ -98,27 +109,31 @@ pub fn forward<R: Threads + Wait + Sync, G: Gate + Sync>(
 }
 
 /// A worker for each caller, with its pass: the drivers of all pairs, and then the applications.
-fn seat_workers<'a>(
+fn seat_workers<'a, F: Fn(&[u8], u32) -> Verdict>(
     alloc: Global,
     shared: &Shared,
     place: Source<'a>,
     inputs: &'a Inputs,
+    program: &XdpProgram<F>,
     passes: &mut Passes,
 ) -> Result<Vec<Worker<Either<'a>, Source<'a>>>, OutOfMemory>
     requires regular { IsRegular place.config.now }
     requires wakeup { place.config.now.wakeup ≡ false }
     requires lists { length place.packets.now ≡ place.config.now.ports }
     requires inputs { inputs.now ≡ inputs_of place.config.now place.packets.now }
+    requires short { All HasShortPackets place.packets.now }
+    requires obeys { Obeys F.Fn program.now.rule program.now.decide }
+    requires rule { (is_exact program.now.rule ≡ true) × (place.rule ≡ program.now.rule) }
     requires table { shared.now.setup.config ≡ place.config.now }
     requires passes { passes.old ≡ new_passes shared.now }
     ensures taken { IfOk result (λ workers. AreTaken shared.now (callers_of shared.now.setup.config) passes.new) }
     ensures seats { IfOk result (λ workers. map (λ (w : WorkerShown). seat_of w) workers.items
-        ≡ map (seat_at (record { config = place.entry.config.now; packets = place.entry.packets.now }) shared.now) (range_with_len 0 (callers_of shared.now.setup.config))) }
+        ≡ map (seat_at (ruled place.entry.rule place.entry.config.now place.entry.packets.now) shared.now) (range_with_len 0 (callers_of shared.now.setup.config))) }
 {
     let callers = place.config.callers();
     let mut workers = Vec::with_capacity(alloc, callers as usize)?;
     for who in 0..callers {
-        let machine = machine_for(alloc, place, inputs, who)?;
+        let machine = machine_for(alloc, place, inputs, program, who)?;
         let Some(pass) = passes.take(who) else {
             unreachable!()
         };
@@ -128,24 +143,28 @@ fn seat_workers<'a>(
 }
 
 /// The machine of a caller: the driver of its pair, or its application.
-fn machine_for<'a>(
+fn machine_for<'a, F: Fn(&[u8], u32) -> Verdict>(
     alloc: Global,
     place: Source<'a>,
     inputs: &'a Inputs,
+    program: &XdpProgram<F>,
     who: u32,
 ) -> Result<Either<'a>, OutOfMemory>
     requires regular { IsRegular place.config.now }
     requires wakeup { place.config.now.wakeup ≡ false }
     requires lists { length place.packets.now ≡ place.config.now.ports }
     requires inputs { inputs.now ≡ inputs_of place.config.now place.packets.now }
+    requires short { All HasShortPackets place.packets.now }
+    requires obeys { Obeys F.Fn program.now.rule program.now.decide }
+    requires rule { (is_exact program.now.rule ≡ true) × (place.rule ≡ program.now.rule) }
     requires caller { who < callers_of place.config.now }
-    ensures new { IfOk result (IsNew (record { config = place.entry.config.now; packets = place.entry.packets.now }) who) }
+    ensures new { IfOk result (IsNew (ruled place.entry.rule place.entry.config.now place.entry.packets.now) who) }
     ensures awaits { IfOk result (λ m. awaits m ≡ nothing) }
 {
     let config = place.config;
     let pairs = config.pairs().len() as u32;
     if who < pairs {
-        let driver = driver_for(alloc, config, place.packets, inputs, who)?;
+        let driver = driver_for(alloc, config, place.packets, inputs, program, who)?;
         return Ok(Either::Driver(driver));
     }
     let app = App::new(alloc, config, who - pairs)?;

@@ -3,7 +3,7 @@ use Rattle.std.specs.List.{range_with_len}
 use Rattle.std.proofs.lemmas.List.{map-append}
 use Rattle.xsk_model.specs.Config.{callers_of}
 use Rattle.xsk_model.proofs.Counting.{range-push}
-use Rattle.xsk_turns.specs.Workers.{Setting}
+use Rattle.xsk_turns.specs.Workers.{Setting, ruled}
 use Rattle.xsk_table.specs.Held.{Holder, new_pass}
 use Rattle.xsk_workers.specs.Shown.{WorkerShown, Seat, seat_of, seat_at}
 use Rattle.xsk_workers.specs.Eithers.{IsNew}
@@ -12,27 +12,27 @@ use Rattle.xsk_workers.proofs.Gathering.{taken_none, taken_more, is_new_pass}
 use Rattle.xsk_workers.proofs.workers.seat_workers.Goals as goal
 
 pub loop-who-init : goal.loop-who-init
-loop-who-init c = (subst (AreTaken c.args.shared.now 0) (sym c.requires.passes) (taken_none c.args.shared.now), search rules)
+loop-who-init g c = (subst (AreTaken c.args.shared.now 0) (sym c.requires.passes) (taken_none c.args.shared.now), search rules)
 
 pub new-requires-clause-pass : goal.new-requires-clause-pass
-new-requires-clause-pass c =
+new-requires-clause-pass g c =
     let b = c.args.shared.now in
     let below : c.loop-who.who < callers_of b.setup.config = search rules in
     let is : c.in-Some.pass ≡ new_pass b c.loop-who.who = is_new_pass b c.loop-who.who c.loop-who.passes c.in-Some.pass below c.loop-who.invariant.0 (search rules) in
     (ap (λ (p : Holder). p.view.flight) is, ap (λ (p : Holder). p.view.seen) is, ap (λ (p : Holder). p.view.setup.config) is ∙ c.requires.table)
 
 pub new-requires-clause-machine : goal.new-requires-clause-machine
-new-requires-clause-machine c =
+new-requires-clause-machine g c =
     let b = c.args.shared.now in
-    let s : Setting = record { config = c.args.place.config.now; packets = c.args.place.packets.now } in
+    let s : Setting = ruled c.args.place.rule c.args.place.config.now c.args.place.packets.now in
     let below : c.loop-who.who < callers_of b.setup.config = search rules in
     let is : c.in-Some.pass ≡ new_pass b c.loop-who.who = is_new_pass b c.loop-who.who c.loop-who.passes c.in-Some.pass below c.loop-who.invariant.0 (search rules) in
     subst (λ (k : ℕ). IsNew s k c.in_ok-machine.machine) (sym (ap (λ (p : Holder). p.who) is)) c.in_ok-machine.ensures.new
 
 pub loop-who-preserved : goal.loop-who-preserved
-loop-who-preserved c =
+loop-who-preserved g c =
     let b = c.args.shared.now in
-    let s : Setting = record { config = c.args.place.config.now; packets = c.args.place.packets.now } in
+    let s : Setting = ruled c.args.place.rule c.args.place.config.now c.args.place.packets.now in
     let who = c.loop-who.who in
     let below : who < callers_of b.setup.config = search rules in
     let is : c.in-Some.pass ≡ new_pass b who = is_new_pass b who c.loop-who.passes c.in-Some.pass below c.loop-who.invariant.0 (search rules) in

@@ -7,7 +7,7 @@ use Rattle.xsk_workers.proofs.worker.Worker.turn.Goals as goal
 pub step-self-inside-requires-clause-comes : goal.step-self-inside-requires-clause-comes
 step-self-inside-requires-clause-comes g c =
     comes g.M.Machine.stands _ _ c.self.inside.machine c.self.inside.ask c.self.inside.items c.self.inside.pass c.self.invariant c.in-Some.ask c.in-Some.is c.serve-answer.new.self
-    (joined_reply c.serve-answer.result c.serve-answer.new.items) c.serve-answer.ensures.served
+    (joined_reply c.serve-answer.result c.serve-answer.new.items) c.serve-answer.ensures.told.served
 
 pub invariant_of-self : goal.invariant_of-self
 invariant_of-self g c =
@@ -16,7 +16,7 @@ invariant_of-self g c =
     let ask = c.in-Some.ask in
     let call = joined_call ask c.self.inside.items in
     let reply = joined_reply c.serve-answer.result c.serve-answer.new.items in
-    let served = c.serve-answer.ensures.served in
+    let served = c.serve-answer.ensures.told.served in
     let going = c.self.invariant in
     goes_on g.M.Machine.stands (g.M.Machine.expected c.self.inside.machine) s c.self.inside.machine c.self.inside.ask c.self.inside.items p going ask c.in-Some.is c.serve-answer.new.self reply served
     g.M.Machine.stands (g.M.Machine.expected c.step-self-inside.new.self) c.step-self-inside.new.self c.step-self-inside.result c.step-self-inside.new.items
