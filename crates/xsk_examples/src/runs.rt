@@ -3,6 +3,7 @@ ghost use Rattle.std.specs.Prelude.{◌≡◌, Some};
 
 use std::test::Fail;
 use xsk_model::{Config, PairInfo, SocketInfo};
+use xsk_prog::{Rule, XdpProgram};
 use xsk_sim::simulate;
 use xsk_umem::{PacketList, Umem};
 
@@ -42,7 +43,9 @@ fn a_packet_crosses_to_the_other_port(rt: HostRuntime) -> Result<(), Fail> {
     let mut received = PacketList::new(alloc);
     received.push(&[7; 60])?;
     let lists = vec![in alloc; received, PacketList::new(alloc)]?;
-    let Ok(run) = simulate(alloc, config, frames, lists.as_slice(), 0) else {
+    let rule = Rule::Redirect { sockets: 1 };
+    let program = XdpProgram::attach(rule, |bytes: &[u8], queue: u32| rule.verdict(bytes, queue));
+    let Ok(run) = simulate(alloc, config, frames, lists.as_slice(), &program, 0) else {
         return Err("the run didn't end")?;
     };
     assert!(rt; run.sent(0).is_empty());
