@@ -1,78 +1,18 @@
 -- The workers at the beginning of a run.
-use Rattle.std.proofs.Common.{◌≡◌, ℕ, ◌<◌, List, [], length, vec_len, sym, subst, ap, ◌∙◌, arith}
-use Rattle.std.proofs.lemmas.List.{get_or-map, get_or_default}
-use Rattle.std.proofs.lemmas.Nat.{div_below}
-use Rattle.std.specs.List.{slice_index_or}
+use Rattle.std.proofs.Common.{◌≡◌, List, [], length, vec_len, sym, subst, ◌∙◌}
 use Rattle.xsk_turns.specs.Stepping.{joined_ask}
 use Rattle.xsk_umem.specs.PacketList.{PacketList}
 use Rattle.xsk_umem.specs.Geometry.{IsGeometry}
-use Rattle.xsk_model.specs.Config.{Config, IsConfig, IsLawful, IsRegular, pair_at}
-use Rattle.xsk_model.specs.declared.config.PairInfo.{PairInfo}
-use Rattle.xsk_model.specs.Rings.{caller_of}
+use Rattle.xsk_model.specs.Config.{Config, IsConfig, IsLawful}
 use Rattle.xsk_model.specs.Marks.{apps_of}
-use Rattle.xsk_model.specs.Steering.{paired_port}
-use Rattle.xsk_laws.proofs.Places.{are_paired}
 use Rattle.xsk_umem.specs.Frame.{Frame}
 use Rattle.xsk_model.specs.Opening.{AreFrames, IsOpened, opening}
 use Rattle.xsk_plain.specs.Engine.{Engine, Shows}
-use Rattle.xsk_turns.specs.Inputs.{numbers_from, numbers_of, inputs_of, packets_of_port, packets_of_queue}
-use Rattle.xsk_driver.specs.Shown.{Shown as DriverShown}
-use Rattle.xsk_driver.specs.Runs.{IsNew as IsNewDriver}
-use Rattle.xsk_app.specs.Shown.{Shown as AppShown}
-use Rattle.xsk_app.specs.Runs.{IsNew as IsNewApp}
 use Rattle.xsk_prog.specs.declared.rule.Verdict.{Verdict}
-use Rattle.xsk_turns.specs.Verdicts.{judged}
 use Rattle.xsk_turns.specs.Workers.{Setting}
-use Rattle.xsk_machine.specs.Acts.{HasRoomToSend, IsDriver, IsApp}
 use Rattle.xsk_sim.specs.Turning.{HasRun}
 use Rattle.xsk_sim.specs.Seats.{EachFrom, DriverSits, AppSits, new_own, AreSeated}
 use Rattle.xsk_sim.specs.declared.rounds.Workers.{Workers}
-
--- the inputs of a pair's driver are the numbers of its packets
-pub input_numbers : (c : Config) (packets : List PacketList) (inputs : List (List ℕ)) (pair : ℕ) (list : List (List ℕ)) → inputs ≡ inputs_of c packets → pair < length c.pairs
-    → list ≡ packets_of_port packets (pair_at c.pairs pair).port
-    → slice_index_or inputs pair [] ≡ numbers_from c.queues (pair_at c.pairs pair).queue 0 list
-input_numbers c packets inputs pair list is known at =
-    ap (λ (all : List (List ℕ)). slice_index_or all pair []) is
-    ∙ get_or-map (numbers_of c packets) c.pairs pair (record { port = 0; queue = 0; fill = 0; comp = 0 }) [] known
-    ∙ ap (numbers_from c.queues (pair_at c.pairs pair).queue 0) (sym at)
-
--- its port and the paired one are ports of the configuration
-pub ports_known : (c : Config) (pairs : List PairInfo) (count pair : ℕ) → IsRegular c → IsConfig c → pairs ≡ c.pairs → count ≡ c.ports → pair < length pairs
-    → ((pair_at pairs pair).port < count) × (paired_port (pair_at pairs pair).port < count)
-ports_known c pairs count pair regular is same counted below =
-    let known : pair < length c.pairs = subst (λ (ps : List PairInfo). pair < length ps) same below in
-    let some : 0 < c.queues = omega (arith, is.queues) in
-    let port : (pair_at c.pairs pair).port < c.ports =
-    subst (λ (n : ℕ). n < c.ports) (sym (regular.seats pair known).0) (div_below pair c.queues c.ports some (omega (arith, known, regular.pairs))) in
-    subst (λ (ps : List PairInfo). ((pair_at ps pair).port < count) × (paired_port (pair_at ps pair).port < count)) (sym same)
-    (subst (λ (n : ℕ). ((pair_at c.pairs pair).port < n) × (paired_port (pair_at c.pairs pair).port < n)) (sym counted)
-    (port, (are_paired c.ports (pair_at c.pairs pair).port is.ports port).in_ports))
-
--- the list of a port
-pub list_at : (lists : List PacketList) (port : ℕ) (list : PacketList) → list ≡ slice_index_or lists port list → port < length lists → list.packets ≡ packets_of_port lists port
-list_at lists port list is below =
-    ap (λ (l : PacketList). l.packets) (is ∙ get_or_default lists port list (record { packets = []; spare_packets = 0; spare_bytes = 0 }) below)
-
-pub new_driver : (s : Setting) (pair : ℕ) (list : List (List ℕ)) (verdicts : List Verdict) (d : DriverShown) → pair < length s.config.pairs → HasRoomToSend s pair d
-    → list ≡ packets_of_port s.packets (pair_at s.config.pairs pair).port
-    → verdicts ≡ slice_index_or s.verdicts pair [] → IsNewDriver s.config pair (judged (packets_of_queue s.config.queues (pair_at s.config.pairs pair).queue list) verdicts) d → IsDriver s pair d
-new_driver s pair list verdicts d known room at given new = record {
-  known = known;
-  room = room;
-  is = subst (λ (v : List Verdict). IsNewDriver s.config pair (judged (packets_of_queue s.config.queues (pair_at s.config.pairs pair).queue (packets_of_port s.packets (pair_at s.config.pairs pair).port)) v) d) given
-      (subst (λ (l : List (List ℕ)). IsNewDriver s.config pair (judged (packets_of_queue s.config.queues (pair_at s.config.pairs pair).queue l) verdicts) d) at new);
-}
-
-pub new_app : (s : Setting) (who : ℕ) (c : Config) (app : ℕ) (a : AppShown) → s.config ≡ c → who ≡ caller_of c app → IsNewApp c app a → IsApp s who a
-new_app s who c app a is caller new =
-    let number : app ≡ a.app = sym new.app in
-    let config : c ≡ s.config = sym is in
-    record {
-      config = new.config ∙ config;
-      caller = caller ∙ ap (λ (k : ℕ). caller_of c k) number ∙ ap (λ (k : Config). caller_of k a.app) config;
-      is = subst (λ (k : Config). IsNewApp k a.app a) config (subst (λ (n : ℕ). IsNewApp c n a) number new);
-    }
 
 -- a configuration that is opened over the frames, with an engine that shows its opening
 pub run_begins : (s : Setting) (frames : List Frame) (engine : Engine) → IsOpened s.config frames → engine.config ≡ s.config → Shows engine (opening s.config frames) → engine.log ≡ []

@@ -17,7 +17,7 @@ use Rattle.xsk_machine.specs.Acts.{IsActAfter}
 use Rattle.xsk_sim.specs.Seats.{EachFrom, own_in, AreSeated, HadRounds, HaveEnded, kept_lists}
 use Rattle.xsk_sim.specs.declared.rounds.Workers.{Workers}
 use Rattle.xsk_machine.proofs.Acts.{worker_run, sent_at}
-use Rattle.xsk_sim.proofs.Within.{AreWithin, are_within}
+use Rattle.xsk_machine.proofs.Within.{AreWithin, are_within}
 use Rattle.xsk_sim.proofs.Seating.{each_at, each_of, each_shows, each_tells, each_change, each_move, all_whole, some_open, IsOpen}
 
 module _ (s : Setting) (frames : List Frame) (h : List Entry) (w : Workers) (engine : Engine) (seated : AreSeated s frames h w engine) where

@@ -2,7 +2,6 @@ pub mod RunSteps
 pub mod Seating
 pub mod Turning
 pub mod Beginning
-pub mod Within
 pub mod Ending
 pub mod Unique
 pub mod Verdicts

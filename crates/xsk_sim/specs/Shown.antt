@@ -1,18 +1,15 @@
 -- What a contract sees of a run: its log and the number of its calls, for how many pairs there is a list of sent packets,
 -- and these lists.
-use Rattle.std.specs.Prelude.{ℕ, List, All}
+use Rattle.std.specs.Prelude.{ℕ, List}
 use Rattle.xsk_umem.specs.PacketList.{PacketList}
 use Rattle.xsk_model.specs.Entry.{Entry}
-use Rattle.xsk_driver.specs.Sent.{IsShort}
+pub use Rattle.xsk_machine.specs.Acts.{HasShortPackets}
 
 pub record Shown : Type 0 where
   pub calls : ℕ
   pub pairs : ℕ
   pub log : List Entry
   pub sent : List (List (List ℕ))
-
-abbrev pub HasShortPackets : PacketList → Type 0
-HasShortPackets list = All IsShort list.packets
 
 abbrev pub packets_in : PacketList → List (List ℕ)
 packets_in list = list.packets

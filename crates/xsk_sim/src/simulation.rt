@@ -26,8 +26,8 @@ use std::marker::Model;
 use thiserror::Error;
 use xsk_app::App;
 use xsk_driver::{Driver, Inputs};
+use xsk_machine::driver_for;
 use xsk_model::Config;
-use xsk_model::steering::paired_port;
 use xsk_plain::{Log, Plain};
 use xsk_prog::{Verdict, XdpProgram};
 use xsk_umem::{Frames, OutOfMemory, PacketList};
@@ -237,24 +237,10 @@ fn seat_drivers<'a, F: Fn(&[u8], u32) -> Verdict>(
 {
     let mut seats = Vec::with_capacity(alloc, config.pairs().len())?;
     for pair in 0..config.pairs().len() as u32 {
-        let port = config.pairs()[pair as usize].port;
-        let list = &packets[port as usize];
-        let other = &packets[paired_port(port) as usize];
-        let Some(bytes) = bytes_of(other) else {
-            return Err(OutOfMemory);
-        };
-        let room = other.len();
-        let driver = Driver::new(alloc, config, pair, list, inputs, program, room, bytes)?;
+        let driver = driver_for(alloc, config, packets, inputs, program, pair)?;
         seats.push(Seat::new(alloc, driver))?;
     }
     Ok(seats)
-}
-
-/// The bytes of all packets of a list, if they are fewer than 2^32.
-fn bytes_of(list: &PacketList) -> Option<u32>
-    ensures { IfSome result (λ bytes. bytes ≡ length (concat list.now.packets)) }
-{
-    u32::try_from(list.bytes()).ok()
 }
 
 /// An application for each queue of two paired ports.

@@ -1,7 +1,7 @@
 use Rattle.std.proofs.Common.{ℕ, ◌+◌, length, refl, arith}
 use Rattle.xsk_machine.specs.Acts.{IsApp}
 use Rattle.xsk_sim.proofs.Seating.{each_none, each_push}
-use Rattle.xsk_sim.proofs.Beginning.{new_app}
+use Rattle.xsk_machine.proofs.Beginning.{new_app}
 use Rattle.xsk_sim.proofs.simulation.seat_apps.Goals as goal
 
 pub loop-app-init : goal.loop-app-init
