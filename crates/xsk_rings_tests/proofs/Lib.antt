@@ -1,0 +1,2 @@
+mod Setup
+mod Resting
