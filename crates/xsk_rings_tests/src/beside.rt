@@ -126,21 +126,33 @@ impl Both {
     }
 }
 
-/// Makes calls one after another on both engines, each of which must reply so, with so many looks.
+/// Makes a call on both engines, which must reply so, with so many looks.
+pub(crate) fn plays_one(
+    alloc: Global,
+    both: &mut Both,
+    hand: &mut Hand,
+    line: &Line,
+) -> Result<(), Fail> {
+    let (who, made, want, looks) = line;
+    let (words, taken) = both.play(alloc, hand, *who, *made)?;
+    if words.as_str() != *want {
+        return Err(Fail::from(words));
+    }
+    if taken != *looks {
+        return Err("another number of looks")?;
+    }
+    Ok(())
+}
+
+/// Makes calls one after another.
 pub(crate) fn plays(
     alloc: Global,
     both: &mut Both,
     hand: &mut Hand,
     lines: &[Line],
 ) -> Result<(), Fail> {
-    for (who, made, want, looks) in lines {
-        let (words, taken) = both.play(alloc, hand, *who, *made)?;
-        if words.as_str() != *want {
-            return Err(Fail::from(words));
-        }
-        if taken != *looks {
-            return Err("another number of looks")?;
-        }
+    for line in lines {
+        plays_one(alloc, both, hand, line)?;
     }
     Ok(())
 }

@@ -6,6 +6,8 @@ mod beside;
 #[cfg(test)]
 mod cached;
 #[cfg(test)]
+mod marks;
+#[cfg(test)]
 mod moves;
 #[cfg(test)]
 mod setups;
