@@ -2,3 +2,4 @@ pub mod Cutting
 pub mod Spelling
 pub mod Building
 pub mod Reading
+pub mod Programs

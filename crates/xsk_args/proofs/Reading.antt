@@ -105,6 +105,6 @@ meant_unspoken table words none =
     ap (λ t. option_and_then (λ said. fitting (map key_of table) (λ name. said_of name said)) (spoken t words)) (keyed table)
     ∙ ap (option_and_then (λ said. fitting (map key_of table) (λ name. said_of name said))) none
 
-pub fits_number : (said : Meaning) (row : OptionRow) (value : Option Text) → row.takes ≡ takes.Number → value ≡ one_value (said row.name.now)
-    → option_map_or (λ text. is_some (number_in text)) value true ≡ fits said row
-fits_number said row value is told = ap₂ (λ t o. option_map_or (is_taken t) o true) (sym is) told
+pub fits_said : (said : Meaning) (row : OptionRow) (value : Option Text) → value ≡ one_value (said row.name.now)
+    → option_map_or (is_taken row.takes) value true ≡ fits said row
+fits_said said row value told = ap (λ o. option_map_or (is_taken row.takes) o true) told

@@ -5,13 +5,15 @@ use Rattle.std.specs.Option.{option_map_or}
 use Rattle.std.specs.Str.{bytes_eq}
 use Rattle.xsk_args.specs.Words.{Text, Stated, Said, said_of, spoken}
 use Rattle.xsk_args.specs.Number.{number_in}
+use Rattle.xsk_args.specs.Program.{program_in}
 use Rattle.xsk_args.specs.declared.table.OptionRow.{OptionRow}
 use Rattle.xsk_args.specs.declared.table.Takes.{Takes}
-use Rattle.xsk_args.specs.declared.table.Takes.TheVariants.{Nothing, Number, AnyText}
+use Rattle.xsk_args.specs.declared.table.Takes.TheVariants.{Nothing, Number, Program, AnyText}
 
 abbrev pub has_value : Takes → Bool
 has_value Nothing = false
 has_value Number = true
+has_value Program = true
 has_value AnyText = true
 
 -- an option by its name and by what it takes
@@ -40,6 +42,7 @@ one_value = option_and_then (λ values. slice_get values 0)
 abbrev pub is_taken : Takes → Text → Bool
 is_taken Nothing value = true
 is_taken Number value = is_some (number_in value)
+is_taken Program value = is_some (program_in value)
 is_taken AnyText value = true
 
 -- what was said under the option's name is what it takes

@@ -3,11 +3,13 @@ ghost use Rattle.std.specs.Prelude.{◌≡◌, None, Some, IfOk, IsErrOf, codes,
 ghost use Rattle.std.specs.List.{list_all};
 ghost use Rattle.clap.specs.Words.{all_of, found_of, rows_of};
 ghost use Rattle.xsk_args.specs.Number.{number_in};
-ghost use Rattle.xsk_args.specs.Meaning.{HasNoFileRow, fits, key_of, meaning, meant, one_value, under};
+ghost use Rattle.xsk_args.specs.Meaning.{HasNoFileRow, fits, is_taken, key_of, meaning, meant, one_value, under};
+ghost use Rattle.xsk_args.specs.Program.{program_in};
 
 use crate::command::{FILES, matches};
 use crate::number::parse_number;
-use crate::{ArgsError, OptionRow, Takes};
+use crate::program::parse_program;
+use crate::{ArgsError, OptionRow, Program, Takes};
 use clap::ArgMatches;
 use std::alloc::Global;
 use std::marker::Model;
@@ -87,11 +89,19 @@ fn all_fit(matches: &ArgMatches<'_>, table: &[OptionRow]) -> bool
 fn fits_row(matches: &ArgMatches<'_>, row: OptionRow) -> bool
     ensures { result ≡ fits (λ name. all_of name (rows_of (found_of matches.now))) row }
 {
-    match row.takes {
-        Takes::Number => match matches.get_str(row.name) {
-            Some(text) => parse_number(text).is_some(),
-            None => true,
-        },
+    match matches.get_str(row.name) {
+        Some(text) => takes_text(row.takes, text),
+        None => true,
+    }
+}
+
+/// Whether an option that takes such values takes this one.
+fn takes_text(takes: Takes, text: &str) -> bool
+    ensures { result ≡ is_taken takes text.now }
+{
+    match takes {
+        Takes::Number => parse_number(text).is_some(),
+        Takes::Program => parse_program(text).is_some(),
         Takes::Nothing | Takes::AnyText => true,
     }
 }
@@ -102,6 +112,13 @@ impl<'a> Args<'a> {
         ensures { result ≡ option_and_then number_in (one_value (under self.now name.now)) }
     {
         parse_number(self.text(name)?)
+    }
+
+    /// The program that was said under the name, where one was.
+    pub fn program(&self, name: &str) -> Option<Program>
+        ensures { result ≡ option_and_then program_in (one_value (under self.now name.now)) }
+    {
+        parse_program(self.text(name)?)
     }
 
     /// The value that was said under the name, where one was.

@@ -5,11 +5,13 @@ mod args;
 mod command;
 mod error;
 mod number;
+mod program;
 mod table;
 
 pub use args::{Args, parse};
 pub use error::ArgsError;
 pub use number::parse_number;
+pub use program::{Program, parse_program};
 pub use table::{OptionRow, Takes};
 
 #[cfg(test)]

@@ -6,6 +6,8 @@ pub enum Takes {
     Nothing,
     /// One to ten decimal digits, at most 4,294,967,295.
     Number,
+    /// `redirect`, `pass`, `drop`, `type:HHHH` or `fixed:N`.
+    Program,
     /// Any word.
     AnyText,
 }

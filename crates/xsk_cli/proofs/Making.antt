@@ -17,6 +17,7 @@ use Rattle.xsk_cli.specs.Steps.{AreUntaken, FailsMaking, MakesNone, lists_in}
 use Rattle.xsk_cli.specs.declared.failure.RunFailure.{RunFailure}
 use Rattle.xsk_cli.specs.declared.failure.RunFailure.TheVariants.{BadCapture as Bad, TooMuch as Excessive, Stalled as Stalls, OutOfMemory as NoMemory}
 use Rattle.xsk_cli.proofs.Ports.{more_ports}
+use Rattle.xsk_args.specs.declared.program.Program.{Program}
 use Rattle.xsk_cli.specs.declared.words.Work.{Work}
 use Rattle.xsk_cli.specs.declared.words.Work.TheVariants.{Simulate, Generate}
 
@@ -72,11 +73,11 @@ made_at number (made ∷ others) list at is =
 
 -- ---- the work's packets
 
-pub untaken_makes : (layout : Layout) (order : ℕ) (inputs : List (List ℕ)) (failure : RunFailure) → AreUntaken inputs failure → MakesNone (Simulate layout order None) inputs failure
-untaken_makes layout order inputs (Bad port cause) h = h
-untaken_makes layout order inputs (Excessive excess) h = h
-untaken_makes layout order inputs (Stalls round) h = absurd h
-untaken_makes layout order inputs NoMemory h = h
+pub untaken_makes : (layout : Layout) (program : Program) (order : ℕ) (inputs : List (List ℕ)) (failure : RunFailure) → AreUntaken inputs failure → MakesNone (Simulate layout program order None) inputs failure
+untaken_makes layout program order inputs (Bad port cause) h = h
+untaken_makes layout program order inputs (Excessive excess) h = h
+untaken_makes layout program order inputs (Stalls round) h = absurd h
+untaken_makes layout program order inputs NoMemory h = h
 
 pub none_of : {X : Type 0} (xs : List X) → length xs ≡ 0 → xs ≡ []
 none_of [] none = refl

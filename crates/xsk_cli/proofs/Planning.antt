@@ -5,11 +5,12 @@ use Rattle.std.proofs.lemmas.Bool.{ne_eqb}
 use Rattle.std.proofs.lemmas.Bool.Decides.{nat_tests}
 use Rattle.xsk_args.specs.Meaning.{Meaning}
 use Rattle.xsk_args.specs.Words.{Text}
+use Rattle.xsk_args.specs.declared.program.Program.{Program}
 use Rattle.xsk_socket.specs.declared.layout.Layout.{Layout}
 use Rattle.xsk_socket.specs.declared.layout.Unlawful.TheVariants.{Files}
 use Rattle.xsk_socket.specs.Layout.{fault_of, is_count, is_port_count}
 use Rattle.xsk_socket.proofs.Accepted.{files_are}
-use Rattle.xsk_cli.specs.Words.{Plan, are_made, counted, fault_in, files_in, layout_by, inputs_named, number_of, number_or, plan_by, plan_of, ports_of}
+use Rattle.xsk_cli.specs.Words.{Plan, are_made, counted, fault_in, files_in, layout_by, inputs_named, number_of, number_or, plan_by, plan_of, ports_of, program_of}
 use Rattle.xsk_cli.specs.Steps.{IsReady, with_one_socket}
 use Rattle.xsk_cli.proofs.Making.{few_ports}
 use Rattle.xsk_cli.specs.declared.words.Work.TheVariants.{Simulate}
@@ -40,15 +41,15 @@ files_named said none = go (are_made said) (ports_of said) (few_ports (layout_by
     go false ports few is = omega (arith, counted_few (length (files_in said)) (2 * ports) is (omega (arith, few)))
 
 -- the plan that words ask for wants the files that they name
-ready_by : (layout : Layout) (order : ℕ) (number : Option ℕ) (files : List Text) → fault_of layout ≡ None → with_one_socket layout ≡ layout → length files ≡ cond (is_some number) 0 layout.ports + layout.ports
-    → IsReady (record { inputs = take (cond (is_some number) 0 layout.ports) files; outputs = drop (cond (is_some number) 0 layout.ports) files; work = Simulate layout order number })
-ready_by layout order None files accepted one count = record {
+ready_by : (layout : Layout) (program : Program) (order : ℕ) (number : Option ℕ) (files : List Text) → fault_of layout ≡ None → with_one_socket layout ≡ layout → length files ≡ cond (is_some number) 0 layout.ports + layout.ports
+    → IsReady (record { inputs = take (cond (is_some number) 0 layout.ports) files; outputs = drop (cond (is_some number) 0 layout.ports) files; work = Simulate layout program order number })
+ready_by layout program order None files accepted one count = record {
   accepted = accepted;
   one = one;
   inputs = length-take-le layout.ports files (omega (arith, count));
   outputs = omega (arith, length-drop layout.ports files, count);
 }
-ready_by layout order (Some n) files accepted one count = record {
+ready_by layout program order (Some n) files accepted one count = record {
   accepted = accepted;
   one = one;
   inputs = refl;
@@ -59,7 +60,7 @@ pub plan_ready : (said : Meaning) (plan : Plan) → plan ≡ plan_by said → fa
 plan_ready said plan is accepted =
     let none : fault_of (layout_by said) ≡ None = subst (λ (p : Plan). fault_in p.work ≡ None) is accepted in
     subst IsReady (sym is)
-    (ready_by (layout_by said) (number_or said (codes "order") 0) (number_of said (codes "gen")) (files_in said) none refl (files_named said none))
+    (ready_by (layout_by said) (program_of said) (number_or said (codes "order") 0) (number_of said (codes "gen")) (files_in said) none refl (files_named said none))
 
 pub no_words : {X : Type 0} (text : X → Text) (words : List X) → length words ≡ 0 → plan_of (map text words) ≡ None
 no_words text [] none = refl

@@ -1,18 +1,23 @@
 -- What a command's work makes of the bytes of its inputs. There is one outcome of them.
-use Rattle.std.specs.Prelude.{◌≡◌, ℕ, List, [], ◌∷◌, ◌++◌, length, map, filter, codes, None, Some}
+use Rattle.std.specs.Prelude.{◌≡◌, ◌&&◌, ℕ, ◌<◌, Bool, List, [], ◌∷◌, ◌++◌, length, map, filter, codes, None, Some}
 use Rattle.std.specs.Fmt.{decimal}
 use Rattle.std.specs.List.{concat, range_with_len, slice_index_or}
 use Rattle.xsk_umem.specs.PacketList.{PacketList}
 use Rattle.xsk_umem.specs.Registration.{fresh}
 use Rattle.xsk_umem.specs.Frame.{Frame}
 use Rattle.xsk_model.specs.Sent.{sent}
-use Rattle.xsk_model.specs.Steering.{paired_port}
+use Rattle.xsk_model.specs.Config.{map_of}
+use Rattle.xsk_model.specs.Steering.{paired_port, socket_on}
 use Rattle.xsk_gen.specs.Generator.{first, packet}
-use Rattle.xsk_laws.specs.Expected.{has_length}
+use Rattle.xsk_laws.specs.Expected.{has_length, leads_to}
 use Rattle.xsk_socket.specs.declared.layout.Layout.{Layout}
 use Rattle.xsk_socket.specs.Regular.{regular_of}
 use Rattle.xsk_sim.specs.Shown.{Shown}
-use Rattle.xsk_prog.specs.declared.rule.Rule.TheVariants.{Redirect as ByClass}
+use Rattle.xsk_args.specs.declared.program.Program.{Program}
+use Rattle.xsk_args.specs.declared.program.Program.TheVariants.{Redirect, Pass, Drop, EtherType, Fixed}
+use Rattle.xsk_prog.specs.Rules.{verdict_of}
+use Rattle.xsk_prog.specs.declared.rule.Rule.{Rule}
+use Rattle.xsk_prog.specs.declared.rule.Rule.TheVariants.{Redirect as ByClass, Pass as PassAll, Drop as DropAll, EtherType as TypeByClass, Fixed as ByCell}
 use Rattle.xsk_turns.specs.Workers.{Setting, ruled}
 use Rattle.xsk_sim.specs.Runs.{HasEnded, HasStalled}
 use Rattle.xsk_pcap.specs.Written.{written}
@@ -43,8 +48,8 @@ made_lists number ports = map (λ port. first 2000 (packet number port)) (range_
 
 -- the packets of all ports: those of the captures, or those that are made, where nothing is read
 abbrev pub AreListsOf : Work → List (List ℕ) → List (List (List ℕ)) → Type 0
-AreListsOf (Simulate layout order None) inputs lists = AreCaptures inputs lists
-AreListsOf (Simulate layout order (Some number)) inputs lists = (inputs ≡ []) × (lists ≡ made_lists number layout.ports)
+AreListsOf (Simulate layout program order None) inputs lists = AreCaptures inputs lists
+AreListsOf (Simulate layout program order (Some number)) inputs lists = (inputs ≡ []) × (lists ≡ made_lists number layout.ports)
 AreListsOf (Generate number) inputs lists = (inputs ≡ []) × (lists ≡ made_lists number 1)
 
 -- ---- the run
@@ -53,10 +58,18 @@ AreListsOf (Generate number) inputs lists = (inputs ≡ []) × (lists ≡ made_l
 abbrev pub listed : List (List ℕ) → PacketList
 listed packets = record { packets = packets; spare_packets = 0; spare_bytes = 0 }
 
--- what is run: the layout's configuration over the packets of all ports, each redirected by its class, with frames of zero
--- bytes, in order
-abbrev pub setting_of : Layout → List (List (List ℕ)) → Setting
-setting_of layout lists = ruled (ByClass layout.sockets) (regular_of layout) (map listed lists)
+-- the rule of a program, where each queue has so many sockets (af_xdp.rst, "XSKMAP / BPF_MAP_TYPE_XSKMAP")
+abbrev pub rule_by : ℕ → Program → Rule
+rule_by sockets Redirect = ByClass sockets
+rule_by sockets Pass = PassAll
+rule_by sockets Drop = DropAll
+rule_by sockets (EtherType kind) = TypeByClass kind sockets
+rule_by sockets (Fixed cell) = ByCell cell
+
+-- what is run: the layout's configuration over the packets of all ports, each with the verdict that the program's rule gives
+-- it, with frames of zero bytes, in order
+abbrev pub setting_of : Layout → Program → List (List (List ℕ)) → Setting
+setting_of layout program lists = ruled (rule_by layout.sockets program) (regular_of layout) (map listed lists)
 
 abbrev pub frames_of : Layout → List Frame
 frames_of layout = fresh layout.chunk layout.frames
@@ -73,32 +86,42 @@ report_on packets = codes "packets " ++ decimal (length packets) ++ codes " byte
 abbrev pub capture_of : List (List ℕ) → List ℕ
 capture_of packets = written (packets ∷ [])
 
--- what a port's output tells: exactly what the other port received and sends on, in order and whole, which are the packets
--- of 14 bytes up to the number that a frame holds or, with `sg`, that 18 frames hold
-abbrev pub sent_on_by : Layout → List (List (List ℕ)) → ℕ → List (List ℕ)
-sent_on_by layout lists port = filter (has_length (regular_of layout)) (slice_index_or lists (paired_port port) [])
+-- whether a packet that a port received is sent on: it has 14 bytes up to the number that a frame holds or, with `sg`, that
+-- 18 frames hold, and the program redirects it to a cell that the port's map has and that holds the port's socket
+abbrev pub goes_on : Layout → Program → ℕ → List ℕ → Bool
+goes_on layout program port packet = has_length (regular_of layout) packet
+    && leads_to (map_of (regular_of layout) port) (socket_on (regular_of layout) port 0 0) (verdict_of (rule_by layout.sockets program) packet 0)
+
+-- what a port's output tells: exactly what the other port received and sends on, in order and whole
+abbrev pub sent_on_by : Layout → Program → List (List (List ℕ)) → ℕ → List (List ℕ)
+sent_on_by layout program lists port = filter (goes_on layout program (paired_port port)) (slice_index_or lists (paired_port port) [])
+
+-- where each packet is redirected and no cell is left empty, all that have such a length are sent on
+abbrev pub AllGoOn : Type 0
+AllGoOn = (layout : Layout) (lists : List (List (List ℕ))) (port : ℕ) → layout.ports ≡ 2 → layout.queues ≡ 1 → layout.sockets ≡ 1 → layout.empty ≡ None → port < 2
+    → sent_on_by layout Redirect lists port ≡ filter (has_length (regular_of layout)) (slice_index_or lists (paired_port port) [])
 
 abbrev pub ports_of : Layout → List ℕ
 ports_of layout = range_with_len 0 layout.ports
 
 -- The texts of a run of these packets that has ended: what each driver sent, and the number of calls. What is sent by each
 -- port is what the other port received and sends on.
-pub record AreTextsOf (layout : Layout) (order : ℕ) (lists : List (List (List ℕ))) (texts : Written) : Type 0 where
+pub record AreTextsOf (layout : Layout) (program : Program) (order : ℕ) (lists : List (List (List ℕ))) (texts : Written) : Type 0 where
   pub run : Shown
-  pub ended : HasEnded (setting_of layout lists) (frames_of layout) order run
+  pub ended : HasEnded (setting_of layout program lists) (frames_of layout) order run
   pub sent : texts.outputs ≡ map (λ port. capture_of (sent (regular_of layout) ended.history port)) (ports_of layout)
-  pub redirected : texts.outputs ≡ map (λ port. capture_of (sent_on_by layout lists port)) (ports_of layout)
+  pub redirected : texts.outputs ≡ map (λ port. capture_of (sent_on_by layout program lists port)) (ports_of layout)
   pub report : texts.report ≡ report_of (length ended.history)
 
 -- the texts that the work makes of packets: of a run, or of the packets themselves
 abbrev pub AreTextsBy : Work → List (List (List ℕ)) → Written → Type 0
-AreTextsBy (Simulate layout order number) lists texts = AreTextsOf layout order lists texts
+AreTextsBy (Simulate layout program order number) lists texts = AreTextsOf layout program order lists texts
 AreTextsBy (Generate number) lists texts =
     (texts.outputs ≡ map capture_of lists) × (texts.report ≡ report_on (slice_index_or lists 0 []))
 
 -- the work's run of packets stalls in a round
 abbrev pub IsStalledBy : Work → List (List (List ℕ)) → ℕ → Type 0
-IsStalledBy (Simulate layout order number) lists round = HasStalled (setting_of layout lists) (frames_of layout) order round
+IsStalledBy (Simulate layout program order number) lists round = HasStalled (setting_of layout program lists) (frames_of layout) order round
 IsStalledBy (Generate number) lists round = ⊥
 
 -- ---- the outcome

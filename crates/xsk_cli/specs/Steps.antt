@@ -11,6 +11,7 @@ use Rattle.xsk_pcap.specs.declared.reading.BadCapture.TheVariants.{OutOfMemory a
 use Rattle.xsk_sim.specs.Runs.{HasStalled}
 use Rattle.xsk_cli.specs.Judged.{AreShort, AreCaptures, IsBadCapture, excess_of}
 use Rattle.xsk_cli.specs.Outcome.{Written, bad, passed, stalled, IsOutcome, IsStalledBy, setting_of, frames_of}
+use Rattle.xsk_args.specs.declared.program.Program.{Program}
 use Rattle.xsk_args.specs.declared.error.ArgsError.{ArgsError}
 use Rattle.xsk_args.specs.declared.error.ArgsError.TheVariants.{Usage as IsUsage, OutOfMemory as ArgsMemory}
 use Rattle.xsk_cli.specs.declared.run.Texts.{Texts}
@@ -39,20 +40,20 @@ plan_in plan = record { inputs = map (λ name. name.now) plan.inputs.now; output
 
 -- the layout with two ports, one queue on each and one socket on each queue, without the need-wakeup flags
 abbrev pub with_one_socket : Layout → Layout
-with_one_socket layout = record layout { ports = 2; queues = 1; sockets = 1; wakeup = false; empty = None }
+with_one_socket layout = record layout { ports = 2; queues = 1; sockets = 1; wakeup = false }
 
 abbrev pub HasOneSocket : Work → Type 0
-HasOneSocket (Simulate layout order number) = with_one_socket layout ≡ layout
+HasOneSocket (Simulate layout program order number) = with_one_socket layout ≡ layout
 HasOneSocket (Generate number) = Unit {0}
 
 -- for how many ports captures are read, and for how many they are written
 abbrev pub read_by : Work → ℕ
-read_by (Simulate layout order None) = layout.ports
-read_by (Simulate layout order (Some number)) = 0
+read_by (Simulate layout program order None) = layout.ports
+read_by (Simulate layout program order (Some number)) = 0
 read_by (Generate number) = 0
 
 abbrev pub written_by : Work → ℕ
-written_by (Simulate layout order number) = layout.ports
+written_by (Simulate layout program order number) = layout.ports
 written_by (Generate number) = 1
 
 -- a plan whose work is accepted, with as many files as it wants
@@ -137,10 +138,10 @@ IsRefusal port bytes NoMemory = Unit {0}
 IsRefusal port bytes failure = ⊥
 
 -- why a run of packets gives nothing
-abbrev pub FailsRunning : Layout → ℕ → List (List (List ℕ)) → RunFailure → Type 0
-FailsRunning layout order lists (Stalls round) = HasStalled (setting_of layout lists) (frames_of layout) order round
-FailsRunning layout order lists NoMemory = Unit {0}
-FailsRunning layout order lists failure = ⊥
+abbrev pub FailsRunning : Layout → Program → ℕ → List (List (List ℕ)) → RunFailure → Type 0
+FailsRunning layout program order lists (Stalls round) = HasStalled (setting_of layout program lists) (frames_of layout) order round
+FailsRunning layout program order lists NoMemory = Unit {0}
+FailsRunning layout program order lists failure = ⊥
 
 -- why work makes nothing of packets
 abbrev pub FailsMaking : Work → List (List (List ℕ)) → RunFailure → Type 0

@@ -3,8 +3,11 @@ use Rattle.std.specs.Prelude.{ℕ, codes, Bool, false, List, [], ◌∷◌, leng
 use Rattle.std.specs.Str.{bytes_eq}
 use Rattle.xsk_args.specs.Words.{Text, is_dashed}
 use Rattle.xsk_args.specs.Number.{number_in}
+use Rattle.xsk_args.specs.Program.{program_in}
+use Rattle.xsk_args.specs.declared.program.Program.{Program}
+use Rattle.xsk_args.specs.declared.program.Program.TheVariants.{Redirect}
 use Rattle.xsk_args.specs.Meaning.{Key, Meaning, meaning, one_value}
-use Rattle.xsk_args.specs.declared.table.Takes.TheVariants.{Nothing, Number}
+use Rattle.xsk_args.specs.declared.table.Takes.TheVariants.{Nothing, Number, Program as TakesProgram}
 use Rattle.xsk_socket.specs.declared.layout.Layout.{Layout}
 use Rattle.xsk_socket.specs.declared.layout.Unlawful.{Unlawful}
 use Rattle.xsk_socket.specs.Layout.{fault_of}
@@ -22,7 +25,7 @@ no_plan = record { inputs = []; outputs = []; work = Generate 0 }
 
 -- ---- `simulate`
 
--- the options of `simulate`, each with a number but the flag
+-- the options of `simulate`, each with a number but the program and the flag
 abbrev pub options : List Key
 options =
     (codes "frames", Number)
@@ -34,6 +37,8 @@ options =
     ∷ (codes "comp", Number)
     ∷ (codes "order", Number)
     ∷ (codes "gen", Number)
+    ∷ (codes "prog", TakesProgram)
+    ∷ (codes "empty", Number)
     ∷ (codes "sg", Nothing)
     ∷ []
 
@@ -43,6 +48,10 @@ number_of said name = option_and_then number_in (one_value (said name))
 
 abbrev pub number_or : Meaning → Text → ℕ → ℕ
 number_or said name standing = unwrap_or (number_of said name) standing
+
+-- the program that was said, or the one that redirects each packet
+abbrev pub program_of : Meaning → Program
+program_of said = unwrap_or (option_and_then program_in (one_value (said (codes "prog")))) Redirect
 
 abbrev pub files_in : Meaning → List Text
 files_in said = unwrap_or (said (codes "FILE")) []
@@ -60,7 +69,7 @@ abbrev pub ports_of : Meaning → ℕ
 ports_of said = 2
 
 -- what is asked for: its ports with one queue each, and one socket on each queue; with `sg` packets may have several frames
--- (af_xdp.rst, "XDP_USE_SG bind flag")
+-- (af_xdp.rst, "XDP_USE_SG bind flag"); with `empty` one cell of each port's XSKMAP holds no socket
 abbrev pub layout_by : Meaning → Layout
 layout_by said = record {
   ports = ports_of said;
@@ -77,7 +86,7 @@ layout_by said = record {
   comp = number_or said (codes "comp") 2048;
   sg = is_some (said (codes "sg"));
   wakeup = false;
-  empty = None;
+  empty = number_of said (codes "empty");
 }
 
 -- the files are an input for each port, but where the packets are made, and then an output for each port
@@ -88,7 +97,7 @@ abbrev pub plan_by : Meaning → Plan
 plan_by said = record {
   inputs = take (inputs_named said) (files_in said);
   outputs = drop (inputs_named said) (files_in said);
-  work = Simulate (layout_by said) (number_or said (codes "order") 0) (number_of said (codes "gen"));
+  work = Simulate (layout_by said) (program_of said) (number_or said (codes "order") 0) (number_of said (codes "gen"));
 }
 
 abbrev pub simulate_plan : List Text → Option Plan
@@ -111,5 +120,5 @@ plan_of (first ∷ rest) = if bytes_eq first (codes "gen") then gen_plan rest el
 
 -- why the work is refused, where it is
 abbrev pub fault_in : Work → Option Unlawful
-fault_in (Simulate layout order number) = fault_of layout
+fault_in (Simulate layout program order number) = fault_of layout
 fault_in (Generate number) = None

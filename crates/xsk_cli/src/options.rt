@@ -2,8 +2,8 @@
 
 use xsk_args::{OptionRow, Takes};
 
-/// Each has a number, but `--sg`. The number that stands where none was said is [`Plan`](crate::words::Plan)'s.
-pub(crate) const OPTIONS: [OptionRow; 10] = [
+/// Each has a number, but `--prog` and `--sg`. The number that stands where none was said is [`Plan`](crate::words::Plan)'s.
+pub(crate) const OPTIONS: [OptionRow; 12] = [
     OptionRow {
         name: "frames",
         takes: Takes::Number,
@@ -38,6 +38,14 @@ pub(crate) const OPTIONS: [OptionRow; 10] = [
     },
     OptionRow {
         name: "gen",
+        takes: Takes::Number,
+    },
+    OptionRow {
+        name: "prog",
+        takes: Takes::Program,
+    },
+    OptionRow {
+        name: "empty",
         takes: Takes::Number,
     },
     OptionRow {

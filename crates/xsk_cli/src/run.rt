@@ -5,7 +5,7 @@ ghost use Rattle.xsk_driver.specs.Sent.{IsShort};
 ghost use Rattle.xsk_sim.specs.Runs.{HasEnded};
 ghost use Rattle.xsk_sim.specs.Shown.{HasShortPackets};
 ghost use Rattle.xsk_cli.specs.Judged.{excess_of};
-ghost use Rattle.xsk_cli.specs.Outcome.{AreTextsBy, AreTextsOf, capture_of, frames_of, listed, made_lists, report_of, setting_of};
+ghost use Rattle.xsk_cli.specs.Outcome.{AreTextsBy, AreTextsOf, capture_of, frames_of, listed, made_lists, report_of, rule_by, setting_of};
 ghost use Rattle.xsk_cli.specs.Steps.{FailsMaking, FailsRunning, HasOneSocket, lists_in, with_one_socket, written_by, written_in};
 ghost use Rattle.xsk_cli.specs.Words.{fault_in};
 ghost use Rattle.xsk_cli.specs.declared.words.Work.TheVariants.{Generate};
@@ -17,6 +17,7 @@ use crate::setup::set_up;
 use crate::words::Work;
 use std::alloc::Global;
 use std::fmt::Write;
+use xsk_args::Program;
 use xsk_pcap::Capture;
 use xsk_prog::{Rule, XdpProgram};
 use xsk_sim::{Run, SimError, simulate};
@@ -47,7 +48,12 @@ pub(crate) fn make_texts(
     ensures failed { IfErr result (FailsMaking work.now (lists_in lists.now)) }
 {
     match work {
-        Work::Simulate { layout, order, .. } => run_texts(alloc, layout, *order, lists),
+        Work::Simulate {
+            layout,
+            program,
+            order,
+            ..
+        } => run_texts(alloc, layout, *program, *order, lists),
         Work::Generate { .. } => Ok(made_texts(alloc, &lists[0])?),
     }
 }
@@ -56,6 +62,7 @@ pub(crate) fn make_texts(
 fn run_texts(
     alloc: Global,
     layout: &Layout,
+    program: Program,
     order: u32,
     lists: &[PacketList],
 ) -> Result<Texts, RunFailure>
@@ -65,20 +72,21 @@ fn run_texts(
     requires within { excess_of (lists_in lists.now) ≡ None }
     requires listed { lists.now ≡ map listed (lists_in lists.now) }
     requires short { All HasShortPackets lists.now }
-    ensures made { IfOk result (λ texts. AreTextsOf layout.now order (lists_in lists.now) (written_in texts)) }
-    ensures failed { IfErr result (FailsRunning layout.now order (lists_in lists.now)) }
+    ensures made { IfOk result (λ texts. AreTextsOf layout.now program order (lists_in lists.now) (written_in texts)) }
+    ensures failed { IfErr result (FailsRunning layout.now program order (lists_in lists.now)) }
 {
-    let run = run_lists(alloc, layout, order, lists)?;
+    let run = run_lists(alloc, layout, program, order, lists)?;
     let report = report_text(alloc, run.log().len())?;
     let sent = run.into_sent();
     let outputs = output_texts(alloc, layout.ports, sent.as_slice())?;
     Ok(Texts { outputs, report })
 }
 
-/// Runs the lists of all ports, where each packet is redirected by its class.
+/// Runs the lists of all ports under the program's rule.
 fn run_lists(
     alloc: Global,
     layout: &Layout,
+    program: Program,
     order: u32,
     lists: &[PacketList],
 ) -> Result<Run, RunFailure>
@@ -88,20 +96,31 @@ fn run_lists(
     requires listed { lists.now ≡ map listed (lists_in lists.now) }
     requires short { All HasShortPackets lists.now }
     ensures pairs { IfOk result (λ run. run.pairs ≡ layout.now.ports) }
-    ensures ended { IfOk result (HasEnded (setting_of layout.now (lists_in lists.now)) (frames_of layout.now) order) }
-    ensures failed { IfErr result (FailsRunning layout.now order (lists_in lists.now)) }
+    ensures ended { IfOk result (HasEnded (setting_of layout.now program (lists_in lists.now)) (frames_of layout.now) order) }
+    ensures failed { IfErr result (FailsRunning layout.now program order (lists_in lists.now)) }
 {
     let (config, frames) = set_up(alloc, layout)?;
-    let rule = Rule::Redirect {
-        sockets: layout.sockets,
-    };
-    let program = XdpProgram::attach(rule, |packet: &[u8], queue: u32| {
+    let rule = rule_of(program, layout.sockets);
+    let attached = XdpProgram::attach(rule, |packet: &[u8], queue: u32| {
         rule.verdict(packet, queue)
     });
-    match simulate(alloc, config, frames, lists, &program, order) {
+    match simulate(alloc, config, frames, lists, &attached, order) {
         Ok(run) => Ok(run),
         Err(SimError::Stalled { round }) => Err(RunFailure::Stalled { round }),
         Err(SimError::OutOfMemory) => Err(RunFailure::OutOfMemory),
+    }
+}
+
+/// The rule of a program, where each queue has so many sockets.
+fn rule_of(program: Program, sockets: u32) -> Rule
+    ensures { result ≡ rule_by sockets program }
+{
+    match program {
+        Program::Redirect => Rule::Redirect { sockets },
+        Program::Pass => Rule::Pass,
+        Program::Drop => Rule::Drop,
+        Program::EtherType(kind) => Rule::EtherType { kind, sockets },
+        Program::Fixed(cell) => Rule::Fixed(cell),
     }
 }
 

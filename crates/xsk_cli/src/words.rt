@@ -6,7 +6,7 @@ ghost use Rattle.xsk_socket.specs.Layout.{fault_of};
 ghost use Rattle.xsk_cli.specs.Steps.{plan_in};
 ghost use Rattle.xsk_cli.specs.Words.{counted, fault_in, files_in, gen_plan, layout_by, plan_by};
 
-use xsk_args::{Args, parse_number};
+use xsk_args::{Args, Program, parse_number};
 use xsk_socket::{Layout, Unlawful, check_layout};
 
 /// The ports of a command. No option tells others yet.
@@ -15,10 +15,11 @@ const PORTS: u32 = 2;
 /// What is made of the files that a command reads.
 #[derive(Clone, Copy, Debug, PartialEq, Eq)]
 pub enum Work {
-    /// A run of the layout's workers over the captures of its ports, in rounds with an order number. With a number of the
-    /// generator no captures are read, and the packets are made.
+    /// A run of the layout's workers over the captures of its ports, under a program, in rounds with an order number. With a
+    /// number of the generator no captures are read, and the packets are made.
     Simulate {
         layout: Layout,
+        program: Program,
         order: u32,
         number: Option<u32>,
     },
@@ -48,6 +49,7 @@ impl<'p, 'w> Plan<'p, 'w> {
         };
         let layout = layout_of(args);
         check_layout(&layout)?;
+        let program = args.program("prog").unwrap_or(Program::Redirect);
         let order = args.number("order").unwrap_or(0);
         let number = args.number("gen");
         let named = if number.is_some() {
@@ -61,6 +63,7 @@ impl<'p, 'w> Plan<'p, 'w> {
             outputs,
             work: Work::Simulate {
                 layout,
+                program,
                 order,
                 number,
             },
@@ -87,7 +90,7 @@ fn layout_of(args: &Args<'_>) -> Layout
         comp: args.number("comp").unwrap_or(2048),
         sg: args.is_said("sg"),
         wakeup: false,
-        empty: None,
+        empty: args.number("empty"),
     }
 }
 

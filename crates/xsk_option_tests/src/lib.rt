@@ -4,6 +4,8 @@
 #[cfg(test)]
 mod options;
 #[cfg(test)]
+mod programs;
+#[cfg(test)]
 mod run;
 #[cfg(test)]
 mod table;

@@ -10,7 +10,7 @@ const ROOM: u32 = 4_194_304;
 
 #[test]
 fn layouts_are_refused_with_their_values(rt: HostRuntime) -> Result<(), Fail> {
-    let cases: [(&str, &str); 12] = [
+    let cases: [(&str, &str); 15] = [
         ("simulate --frames 5 a b c d", "refused frames 5\n"),
         ("simulate a b c d --fill=64", "refused pool 128\n"),
         ("simulate a b --chunk 1024 c d", "refused chunk 1024\n"),
@@ -24,6 +24,12 @@ fn layouts_are_refused_with_their_values(rt: HostRuntime) -> Result<(), Fail> {
         ("simulate a b c d --fill 0", "refused fill 0\n"),
         ("simulate a b c d --comp=1 --rx 2", "refused comp 1\n"),
         ("simulate a b c", "refused files 3\n"),
+        ("simulate a b c d --empty 1", "refused empty 1\n"),
+        (
+            "simulate a b c d --empty=4294967295 --prog=pass",
+            "refused empty 4294967295\n",
+        ),
+        ("simulate a b c d --empty 1 --comp 3", "refused comp 3\n"),
         ("simulate --gen 7 a b c d --chunk 1", "refused files 4\n"),
         ("simulate a b -- c d --rx 3", "refused files 6\n"),
     ];

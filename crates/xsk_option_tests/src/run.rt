@@ -1,4 +1,4 @@
-//! A command over a bay with one packet. What its contract says is proved of the command; a test looks at its status and its
+//! A command over a bay. What its contract says is proved of the command; a test looks at its status and its
 //! streams alone.
 ghost use Rattle.std.specs.Prelude.{◌≡◌, false, IfOk};
 ghost use Rattle.xsk_io.specs.declared.bay.Stream.{Stream as AStream};
@@ -32,11 +32,10 @@ pub(crate) fn capture_of_one(alloc: Global) -> Result<Vec<u8>, Fail> {
     Ok(text)
 }
 
-/// A bay with one packet of 60 bytes for port 0 and none for port 1, and so many bytes of room for each output.
-fn bay_with_one(alloc: Global, room: u32) -> Result<SteadyBay, Fail>
+/// A bay with this capture for port 0 and no packet for port 1, and so many bytes of room for each output.
+fn bay_with(alloc: Global, first: Vec<u8>, room: u32) -> Result<SteadyBay, Fail>
     ensures { IfOk result (λ bay. (stream : AStream) → is_open_of bay stream ≡ false) }
 {
-    let first = capture_of_one(alloc)?;
     let inputs = vec![in alloc; first, Vec::from_slice(alloc, &HEADER)?]?;
     match SteadyBay::new(alloc, inputs, room) {
         Ok(bay) => Ok(bay),
@@ -53,10 +52,21 @@ pub(crate) fn words_of(alloc: Global, line: &str) -> Result<Vec<String>, Fail> {
     Ok(words)
 }
 
-/// What the words of a line are answered, and what they leave.
+/// What the words of a line are answered over one packet of 60 bytes for port 0, and what they leave.
 pub(crate) fn answered(alloc: Global, line: &str, room: u32) -> Result<(Status, SteadyBay), Fail> {
+    let first = capture_of_one(alloc)?;
+    answered_over(alloc, line, first, room)
+}
+
+/// The same over this capture for port 0.
+pub(crate) fn answered_over(
+    alloc: Global,
+    line: &str,
+    first: Vec<u8>,
+    room: u32,
+) -> Result<(Status, SteadyBay), Fail> {
     let words = words_of(alloc, line)?;
-    let mut bay = bay_with_one(alloc, room)?;
+    let mut bay = bay_with(alloc, first, room)?;
     let status = run(alloc, words.as_slice(), &mut bay);
     Ok((status, bay))
 }

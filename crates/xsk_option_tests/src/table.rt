@@ -181,8 +181,66 @@ simulate --queues=1 a => usage
 simulate --sockets 1 a => usage
 simulate --wire wait a => usage
 simulate --wire=drop a => usage
-simulate --prog redirect a => usage
-simulate --empty 1 a => usage
+simulate --prog redirect a => prog=redirect files=a
+simulate --prog=redirect a => prog=redirect files=a
+simulate a --prog pass => prog=pass files=a
+simulate --prog=drop a => prog=drop files=a
+simulate --prog type:0800 a => prog=type:0800 files=a
+simulate --prog=type:86dd a => prog=type:86dd files=a
+simulate --prog=type:86DD a => prog=type:86DD files=a
+simulate --prog=type:aBcF a => prog=type:aBcF files=a
+simulate --prog=type:0000 a => prog=type:0000 files=a
+simulate --prog=type:FFFF a => prog=type:FFFF files=a
+simulate --prog=type:800 a => usage
+simulate --prog=type:00800 a => usage
+simulate --prog=type: a => usage
+simulate --prog=type a => usage
+simulate --prog=type:08g0 a => usage
+simulate --prog=type:08G0 a => usage
+simulate --prog=type:+800 a => usage
+simulate --prog=type:-800 a => usage
+simulate --prog=type:0x80 a => usage
+simulate --prog=type:08:0 a => usage
+simulate --prog=type:٣٣ a => usage
+simulate --prog=Type:0800 a => usage
+simulate --prog=type=0800 a => usage
+simulate --prog=0800 a => usage
+simulate --prog=:0800 a => usage
+simulate --prog type: 0800 a => usage
+simulate --prog fixed:0 a => prog=fixed:0 files=a
+simulate --prog=fixed:9 a => prog=fixed:9 files=a
+simulate --prog=fixed:4294967295 a => prog=fixed:4294967295 files=a
+simulate --prog=fixed:0000000009 a => prog=fixed:0000000009 files=a
+simulate --prog=fixed:4294967296 a => usage
+simulate --prog=fixed:00000000009 a => usage
+simulate --prog=fixed: a => usage
+simulate --prog=fixed a => usage
+simulate --prog=fixed:-1 a => usage
+simulate --prog=fixed:+1 a => usage
+simulate --prog=fixed:1a a => usage
+simulate --prog=fixed:0x1 a => usage
+simulate --prog=FIXED:1 a => usage
+simulate --prog=Redirect a => usage
+simulate --prog=redirects a => usage
+simulate --prog=redirect: a => usage
+simulate --prog=drop:1 a => usage
+simulate --prog=pas a => usage
+simulate --prog= a => usage
+simulate --prog a => usage
+simulate --prog a b => usage
+simulate a --prog => usage
+simulate --prog -- pass a => usage
+simulate --prog=pass --prog=pass a => usage
+simulate --prog=pass --sg --empty=0 a => prog=pass empty=0 sg files=a
+simulate --empty 1 a => empty=1 files=a
+simulate --empty=0 a => empty=0 files=a
+simulate --empty=4294967295 a => empty=4294967295 files=a
+simulate --empty=4294967296 a => usage
+simulate --empty=1 --empty=1 a => usage
+simulate --empty=-1 a => usage
+simulate --empty=none a => usage
+simulate --empty= a => usage
+simulate --empty a => usage
 simulate --wakeup a => usage
 simulate --journal a => usage
 simulate --help a => usage

@@ -9,7 +9,7 @@ use xsk_args::{Args, ArgsError, OptionRow, Takes, parse};
 use xsk_cli::Status;
 
 /// The options of `simulate`.
-static OPTIONS: [OptionRow; 10] = [
+static OPTIONS: [OptionRow; 12] = [
     OptionRow {
         name: "frames",
         takes: Takes::Number,
@@ -47,6 +47,14 @@ static OPTIONS: [OptionRow; 10] = [
         takes: Takes::Number,
     },
     OptionRow {
+        name: "prog",
+        takes: Takes::Program,
+    },
+    OptionRow {
+        name: "empty",
+        takes: Takes::Number,
+    },
+    OptionRow {
         name: "sg",
         takes: Takes::Nothing,
     },
@@ -61,6 +69,8 @@ fn meaning_of(alloc: Global, args: &Args<'_>) -> Result<String, Fail> {
     for row in &OPTIONS {
         if let Some(number) = args.number(row.name) {
             write!(text, "{}={} ", row.name, number)?;
+        } else if let Some(value) = args.text(row.name) {
+            write!(text, "{}={} ", row.name, value)?;
         } else if args.is_said(row.name) {
             write!(text, "{} ", row.name)?;
         }
@@ -96,7 +106,7 @@ fn words_mean_what_the_rules_say(rt: HostRuntime) -> Result<(), Fail> {
         assert_eq!(rt; told.as_str(), meant, "{line}");
         rows = rows.saturating_add(1);
     }
-    assert_eq!(rt; rows, 235);
+    assert_eq!(rt; rows, 293);
     Ok(())
 }
 
