@@ -1,5 +1,5 @@
 -- What is read of a program's word.
-use Rattle.std.proofs.Common.{◌≡◌, ◌≢◌, ◌∙◌, ◌<◌, ◌++◌, ◌^◌, ◌&&◌, ℕ, Bool, cond, eqb, true, false, refl, sym, ap, arith, ltb-true, List, [], ◌∷◌, drop, length, take, Option, Some, None, Result, Ok, Err, Bor, subst}
+use Rattle.std.proofs.Common.{◌≡◌, ◌≢◌, ◌∙◌, ◌<◌, ◌++◌, ◌^◌, ℕ, Bool, cond, true, false, refl, sym, ap, arith, ltb-true, List, [], ◌∷◌, drop, length, take, Option, Some, None, Result, Ok, Err, Bor, subst}
 use Rattle.std.specs.Char.{digit_value, is_digit}
 use Rattle.std.specs.List.{list_all}
 use Rattle.std.specs.Result.{result_ok}

@@ -1,5 +1,5 @@
 -- What is read of a value.
-use Rattle.std.proofs.Common.{◌≡◌, ◌∙◌, ◌<◌, ◌^◌, ◌&&◌, ℕ, Bool, cond, true, false, refl, sym, ap, ap₂, lt-ltb, ltb-true, List, [], ◌∷◌, map, length, Option, Some, None, is_some, Result, Ok, Err}
+use Rattle.std.proofs.Common.{◌≡◌, ◌∙◌, ◌<◌, ◌^◌, ◌&&◌, ℕ, Bool, cond, true, false, refl, sym, ap, lt-ltb, ltb-true, List, [], ◌∷◌, map, length, Option, Some, None, is_some, Result, Ok, Err}
 use Rattle.std.specs.List.{find, list_all}
 use Rattle.std.specs.Option.{option_map, option_map_or}
 use Rattle.std.specs.Prelude.{nat_lt, option_and_then, slice_get}
@@ -16,7 +16,6 @@ use Rattle.xsk_args.specs.Number.{number_in}
 use Rattle.xsk_args.specs.Meaning.{Meaning, fits, fits_by, fitting, is_taken, key_of, meant, one_value, stated, stated_by, under}
 use Rattle.xsk_args.specs.Rules.{IsToldBy, said_by}
 use Rattle.xsk_args.specs.declared.table.OptionRow.{OptionRow}
-use Rattle.xsk_args.specs.declared.table.Takes.TheVariants as takes
 use Rattle.clap.specs.declared.parser.matches.ArgMatches.{ArgMatches}
 
 -- ---- numbers
