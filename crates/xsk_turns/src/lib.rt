@@ -4,5 +4,7 @@
 mod disposal;
 pub mod laws;
 pub mod stepping;
+mod wire;
 
 pub use disposal::{Disposal, DriverCounters};
+pub use wire::Wire;
