@@ -4,14 +4,15 @@ use Rattle.xsk_turns.proofs.Owned.{none_submitted, other_submitted}
 use Rattle.std.proofs.lemmas.Bool.{ltb-false}
 use Rattle.std.proofs.lemmas.Bool.Decides.{nat_tests}
 use Rattle.std.proofs.lemmas.List.Concat.{flat_map-append}
-use Rattle.std.proofs.lemmas.List.Elements.{All-nil, All-append, All-take, All-drop}
+use Rattle.std.proofs.lemmas.List.Elements.{All-nil, All-cons, All-append, All-take, All-drop}
 use Rattle.xsk_turns.proofs.Object.{Geometry, Frame, payload_of, Config, classes_of, IsLayout, submitted, submitted_step, submitted_of}
 use Rattle.xsk_turns.proofs.Calls.{Item, Told, with_told, Fill, Comp, Rx, RxDone, Gone, TxDone, Call, Submit, Swap, Look, Reply, Submitted, Items, Old}
 use Rattle.xsk_model.proofs.Folds.{part_of-push}
-use Rattle.xsk_turns.specs.Turns.{Seat, Judged, Kept, seat_of, start, turn, settled, application_of, limit_of, pieces_of, laid_out, frames_in, returned}
-use Rattle.xsk_turns.specs.Disposals.{disposal_in, is_to, with_disposal, delivered_to, bytes_in}
-use Rattle.xsk_turns.specs.Owned.{IsSeat}
-use Rattle.xsk_turns.specs.Law.{AreLayouts, IsLaidOut, DeliversInOrder, DeliversAsSaid}
+use Rattle.xsk_turns.specs.Turns.{Seat, Judged, Kept, IsWholeDriverRun, seat_of, start, turn, settled, application_of, limit_of, pieces_of, laid_out, frames_in, returned}
+use Rattle.xsk_turns.specs.Disposals.{attempts_of, disposals_of, disposal_in, is_to, with_disposal, delivered_to, bytes_in}
+use Rattle.xsk_turns.specs.Owned.{IsSeat, AllFit}
+use Rattle.xsk_turns.specs.Law.{AreLayouts, IsLaidOut, IsSized, DeliversInOrder, DeliversSized, DeliversAsSaid}
+use Rattle.xsk_model.specs.Steering.{packet_limit}
 use Rattle.xsk_turns.specs.declared.wire.Wire.{Wire}
 use Rattle.xsk_turns.specs.declared.disposal.Disposal.{Disposal}
 use Rattle.xsk_turns.specs.declared.disposal.Disposal.TheVariants.{Delivered, NoFrames, RxFull, TooLong, Missed}
@@ -44,11 +45,12 @@ laid_out-more g sg packets all packet items h k =
 -- ---- what holds
 
 -- packets that have their disposals, and what was submitted of them
-record IsGiven (g : Geometry) (sg : Bool) (s : ℕ) (input coming : List Judged) (ds : List Disposal) (items : List Item) : Type 0 where
+record IsGiven (c : Config) (s : ℕ) (input coming : List Judged) (ds : List Disposal) (items : List Item) : Type 0 where
   pub done : List Judged
   pub parts : done ++ coming ≡ input
   pub each : length done ≡ length ds
-  pub laid : IsLaidOut g sg (with_disposal s done ds) items
+  pub laid : IsLaidOut c.geometry c.sg (with_disposal s done ds) items
+  pub sized : All (IsSized c) (with_disposal s done ds)
 
 behind_if : (b : Bool) (packet : List ℕ) (front back : List (List ℕ)) → cond b (packet ∷ front ++ back) (front ++ back) ≡ cond b (packet ∷ front) front ++ back
 behind_if true packet front back = refl
@@ -68,12 +70,12 @@ parts_more : (done coming input : List Judged) (packet : Judged) (later : List J
 parts_more done coming input packet later e h =
     ap (λ xs. (done ++ packet ∷ []) ++ drop 1 xs) e ∙ append_assoc done (packet ∷ []) later ∙ ap (λ xs. done ++ xs) (sym e) ∙ h
 
-module _ (g : Geometry) (sg : Bool) (s : ℕ) (input coming : List Judged) (ds : List Disposal) (items : List Item) (packet : Judged) (later : List Judged) (is : coming ≡ packet ∷ later) (h : IsGiven g sg s input coming ds items) where
+module _ (c : Config) (s : ℕ) (input coming : List Judged) (ds : List Disposal) (items : List Item) (packet : Judged) (later : List Judged) (is : coming ≡ packet ∷ later) (h : IsGiven c s input coming ds items) where
   one_more : (d : Disposal) → length (h.done ++ packet ∷ []) ≡ length (ds ++ d ∷ [])
   one_more d = omega (arith, length-append h.done (packet ∷ []), length-append ds (d ∷ []), h.each)
 
   -- a packet that isn't delivered to the socket
-  passes_by : (d : Disposal) → is_to s d ≡ false → IsGiven g sg s input (drop 1 coming) (ds ++ d ∷ []) items
+  passes_by : (d : Disposal) → is_to s d ≡ false → IsGiven c s input (drop 1 coming) (ds ++ d ∷ []) items
   passes_by d off =
       let same : with_disposal s (h.done ++ packet ∷ []) (ds ++ d ∷ []) ≡ with_disposal s h.done ds =
       with_disposal-push s h.done ds packet d h.each ∙ ap (λ b. with_disposal s h.done ds ++ cond b (packet.bytes ∷ []) []) off ∙ append-nil (with_disposal s h.done ds) in
@@ -81,25 +83,28 @@ module _ (g : Geometry) (sg : Bool) (s : ℕ) (input coming : List Judged) (ds :
         done = h.done ++ packet ∷ [];
         parts = parts_more h.done coming input packet later is h.parts;
         each = one_more d;
-        laid = subst (λ ps. IsLaidOut g sg ps items) (sym same) h.laid;
+        laid = subst (λ ps. IsLaidOut c.geometry c.sg ps items) (sym same) h.laid;
+        sized = subst (All (IsSized c)) (sym same) h.sized;
       }
 
   -- one that is
-  comes : (d : Disposal) (more : List Item) → is_to s d ≡ true → IsLayout g sg packet.bytes more → IsGiven g sg s input (drop 1 coming) (ds ++ d ∷ []) (items ++ more)
-  comes d more on layout =
+  comes : (d : Disposal) (more : List Item) → is_to s d ≡ true → IsLayout c.geometry c.sg packet.bytes more → IsSized c packet.bytes → IsGiven c s input (drop 1 coming) (ds ++ d ∷ []) (items ++ more)
+  comes d more on layout sized =
       let one : with_disposal s (h.done ++ packet ∷ []) (ds ++ d ∷ []) ≡ with_disposal s h.done ds ++ packet.bytes ∷ [] =
       with_disposal-push s h.done ds packet d h.each ∙ ap (λ b. with_disposal s h.done ds ++ cond b (packet.bytes ∷ []) []) on in
       record {
         done = h.done ++ packet ∷ [];
         parts = parts_more h.done coming input packet later is h.parts;
         each = one_more d;
-        laid = subst (λ ps. IsLaidOut g sg ps (items ++ more)) (sym one) (laid_out-more g sg (with_disposal s h.done ds) items packet.bytes more h.laid layout);
+        laid = subst (λ ps. IsLaidOut c.geometry c.sg ps (items ++ more)) (sym one) (laid_out-more c.geometry c.sg (with_disposal s h.done ds) items packet.bytes more h.laid layout);
+        sized = subst (All (IsSized c)) (sym one)
+            (All-append (IsSized c) (with_disposal s h.done ds) (packet.bytes ∷ []) h.sized (All-cons (IsSized c) packet.bytes [] sized (All-nil (IsSized c))));
       }
 
-  either : (t : ℕ) (more : List Item) (same : Bool) → is_to s (Delivered t) ≡ same → IsLayout g sg packet.bytes more
-      → IsGiven g sg s input (drop 1 coming) (ds ++ Delivered t ∷ []) (cond same (items ++ more) items)
-  either t more true e layout = comes (Delivered t) more e layout
-  either t more false e layout = passes_by (Delivered t) e
+  either : (t : ℕ) (more : List Item) (same : Bool) → is_to s (Delivered t) ≡ same → IsLayout c.geometry c.sg packet.bytes more → IsSized c packet.bytes
+      → IsGiven c s input (drop 1 coming) (ds ++ Delivered t ∷ []) (cond same (items ++ more) items)
+  either t more true e layout sized = comes (Delivered t) more e layout sized
+  either t more false e layout sized = passes_by (Delivered t) e
 
 same_number : (s t : ℕ) (x y : Bool) → eqb t s ≡ x → eqb s t ≡ y → x ≡ y
 same_number s t true true e f = refl
@@ -119,7 +124,7 @@ module _ (wire : Wire) (c : Config) (d s : ℕ) (is : IsSeat c d) (input : List 
   seat = seat_of wire c d
 
   record IsSettled (kept : Kept) (l : List Told) : Type 0 where
-    pub given : IsGiven c.geometry c.sg s input kept.coming kept.disposals (submitted_of (Rx s) l)
+    pub given : IsGiven c s input kept.coming kept.disposals (submitted_of (Rx s) l)
     pub spare : All (IsOwnFrame c.geometry) kept.spare
     pub over : IsOver kept.rx_done kept.tx_done kept.coming
 
@@ -130,11 +135,11 @@ module _ (wire : Wire) (c : Config) (d s : ℕ) (is : IsSeat c d) (input : List 
   Asked kept call l = Unit {0}
 
   abbrev Ended : Kept → List Told → Type 0
-  Ended kept l = IsLaidOut c.geometry c.sg (with_disposal s input kept.disposals) (submitted_of (Rx s) l)
+  Ended kept l = IsLaidOut c.geometry c.sg (with_disposal s input kept.disposals) (submitted_of (Rx s) l) × All (IsSized c) (with_disposal s input kept.disposals)
 
   still : (kept : Kept) (l : List Told) (call : Call) (reply : Reply) → submitted call ≡ [] → IsSettled kept l → IsSettled kept (with_told l call reply)
   still kept l call reply e h = record {
-    given = subst (IsGiven c.geometry c.sg s input kept.coming kept.disposals) (sym (none_submitted (Rx s) l call reply e)) h.given;
+    given = subst (IsGiven c s input kept.coming kept.disposals) (sym (none_submitted (Rx s) l call reply e)) h.given;
     spare = h.spare;
     over = h.over;
   }
@@ -155,26 +160,26 @@ module _ (wire : Wire) (c : Config) (d s : ℕ) (is : IsSeat c d) (input : List 
       layout c.geometry is.geometry c.sg packet frames some count (All-take (IsOwnFrame c.geometry) (pieces_of seat packet) kept.spare own) single
 
   is_delivered : (kept : Kept) (l : List Told) (packet : Judged) (t : ℕ) → IsTried seat (Fitting c) kept.coming packet t → nat_le (pieces_of seat packet.bytes) (length kept.spare) ≡ true → IsSettled kept l
-      → IsGiven c.geometry c.sg s input (drop 1 kept.coming) (kept.disposals ++ Delivered t ∷ []) (submitted_of (Rx s) (with_told l (Submit (Rx t) (laid_out c.geometry packet.bytes (take (pieces_of seat packet.bytes) kept.spare))) Submitted))
+      → IsGiven c s input (drop 1 kept.coming) (kept.disposals ++ Delivered t ∷ []) (submitted_of (Rx s) (with_told l (Submit (Rx t) (laid_out c.geometry packet.bytes (take (pieces_of seat packet.bytes) kept.spare))) Submitted))
   is_delivered kept l packet t tried enough h =
       let items = laid_out c.geometry packet.bytes (take (pieces_of seat packet.bytes) kept.spare) in
       let told : Told = record { call = Submit (Rx t) items; reply = Submitted } in
       let same : is_to s (Delivered t) ≡ eqb s t = same_number s t (eqb t s) (eqb s t) refl refl in
-      subst (IsGiven c.geometry c.sg s input (drop 1 kept.coming) (kept.disposals ++ Delivered t ∷ [])) (sym (part_of-push submitted_step (Rx s) [] l told))
-      (either c.geometry c.sg s input kept.coming kept.disposals (submitted_of (Rx s) l) packet tried.next.later tried.next.is h.given t items (eqb s t) same
-      (is_layout kept packet.bytes tried.next.long tried.fits enough h.spare))
+      subst (IsGiven c s input (drop 1 kept.coming) (kept.disposals ++ Delivered t ∷ [])) (sym (part_of-push submitted_step (Rx s) [] l told))
+      (either c s input kept.coming kept.disposals (submitted_of (Rx s) l) packet tried.next.later tried.next.is h.given t items (eqb s t) same
+      (is_layout kept packet.bytes tried.next.long tried.fits enough h.spare) (record { long = ltb-false _ 14 tried.next.long; few = ltb-false (packet_limit c) _ tried.fits }))
 
   all_given : (kept : Kept) (l : List Told) → kept.tx_done ≡ true → IsSettled kept l → Ended kept l
   all_given kept l done h =
       let none : kept.coming ≡ [] = h.over.none (h.over.first done) in
       let all : h.given.done ≡ input = sym (append-nil h.given.done) ∙ ap (λ xs. h.given.done ++ xs) (sym none) ∙ h.given.parts in
-      subst (λ ps. IsLaidOut c.geometry c.sg (with_disposal s ps kept.disposals) (submitted_of (Rx s) l)) all h.given.laid
+      subst (λ ps. IsLaidOut c.geometry c.sg (with_disposal s ps kept.disposals) (submitted_of (Rx s) l) × All (IsSized c) (with_disposal s ps kept.disposals)) all (h.given.laid, h.given.sized)
 
   -- a packet that isn't delivered
   skips : (kept : Kept) (packet : Judged) (later : List Judged) (x : Disposal) (l : List Told) → kept.coming ≡ packet ∷ later → is_to s x ≡ false → IsSettled kept l
       → IsSettled (settled kept x) l
   skips kept packet later x l e off h = record {
-    given = passes_by c.geometry c.sg s input kept.coming kept.disposals (submitted_of (Rx s) l) packet later e h.given x off;
+    given = passes_by c s input kept.coming kept.disposals (submitted_of (Rx s) l) packet later e h.given x off;
     spare = h.spare;
     over = over_later kept.rx_done kept.tx_done kept.coming h.over;
   }
@@ -200,7 +205,7 @@ module _ (wire : Wire) (c : Config) (d s : ℕ) (is : IsSeat c d) (input : List 
     over = over_later kept.rx_done kept.tx_done kept.coming h.over;
   }
   entries (comp_submitted k packet later) noted kept l known found h a q = record {
-    given = subst (IsGiven c.geometry c.sg s input kept.coming kept.disposals) (sym (other_submitted (Rx s) l (Submit (Comp d) (map returned packet)) Submitted refl)) h.given;
+    given = subst (IsGiven c s input kept.coming kept.disposals) (sym (other_submitted (Rx s) l (Submit (Comp d) (map returned packet)) Submitted refl)) h.given;
     spare = h.spare;
     over = h.over;
   }
@@ -226,17 +231,27 @@ module _ (wire : Wire) (c : Config) (d s : ℕ) (is : IsSeat c d) (input : List 
 
   at_first : At Receiving fresh (start (classes_of c) input) []
   at_first = record {
-    given = record { done = []; parts = refl; each = refl; laid = ([], refl, tt) };
+    given = record { done = []; parts = refl; each = refl; laid = ([], refl, tt); sized = All-nil (IsSized c) };
     spare = All-nil (IsOwnFrame c.geometry);
     over = record { none = λ e. absurd (cc); first = λ e. absurd (cc) };
   }
 
+module _ (wire : Wire) (c : Config) (d s : ℕ) (input : List Judged) (l : List Told) (is : IsSeat c d) (fit : AllFit c [] l) (whole : IsWholeDriverRun wire c d input l) where
+  abbrev all_delivered : List (List ℕ)
+  all_delivered = with_disposal s input (disposals_of (seat_of wire c d) input (attempts_of l))
+
+  at_last : IsLaidOut c.geometry c.sg all_delivered (submitted_of (Rx s) l) × All (IsSized c) all_delivered
+  at_last =
+      let at = seat_of wire c d in
+      subst (λ ds. IsLaidOut c.geometry c.sg (with_disposal s input ds) (submitted_of (Rx s) l) × All (IsSized c) (with_disposal s input ds)) (disposes_all wire c d input l whole.0 whole.1).disposals
+      (at_end at (Fitting c) (At wire c d s is input) (Asked wire c d s is input) (Ended wire c d s is input) (law wire c d s is input) (start (classes_of c) input) (at_first wire c d s is input) l
+      (meet_fitting (turn at) c _ [] l fit) whole.0 whole.1)
+
 pub delivers_in_order : DeliversInOrder
-delivers_in_order wire c d s input l is fit whole =
-    let seat = seat_of wire c d in
-    subst (λ ds. IsLaidOut c.geometry c.sg (with_disposal s input ds) (submitted_of (Rx s) l)) (disposes_all wire c d input l whole.0 whole.1).disposals
-    (at_end seat (Fitting c) (At wire c d s is input) (Asked wire c d s is input) (Ended wire c d s is input) (law wire c d s is input) (start (classes_of c) input) (at_first wire c d s is input) l
-    (meet_fitting (turn seat) c _ [] l fit) whole.0 whole.1)
+delivers_in_order wire c d s input l is fit whole = (at_last wire c d s input l is fit whole).0
+
+pub delivers_sized : DeliversSized
+delivers_sized wire c d s input l is fit whole = (at_last wire c d s input l is fit whole).1
 
 -- ---- where the wire waits
 

@@ -1,6 +1,6 @@
 -- What holds of every run of a driver, and what of every whole one, by its turns and by what every history gives: that the
 -- replies fit.
-use Rattle.std.specs.Prelude.{◌≡◌, ℕ, ◌<◌, Bool, true, false, List, [], ◌∷◌, length, map, flat_map}
+use Rattle.std.specs.Prelude.{◌≡◌, ℕ, ◌<◌, ◌≤◌, All, Bool, true, false, List, [], ◌∷◌, length, map, flat_map}
 use Rattle.xsk_umem.specs.Geometry.{Geometry}
 use Rattle.xsk_umem.specs.declared.batch.Item.{Item}
 use Rattle.xsk_model.specs.Config.{Config, classes_of}
@@ -8,6 +8,7 @@ use Rattle.xsk_model.specs.Packets.{IsLayout, packets, whole_packets}
 use Rattle.xsk_model.specs.Entry.{Told}
 use Rattle.xsk_model.specs.Own.{submitted_of, peeked_of, sending_of}
 use Rattle.xsk_model.specs.Ends.{draining_of, telling_of}
+use Rattle.xsk_model.specs.Steering.{packet_limit}
 use Rattle.xsk_model.specs.declared.call.Ring.TheVariants.{Rx, Tx}
 use Rattle.xsk_model.specs.declared.call.Mark.TheVariants.{RxDone, TxDone}
 use Rattle.xsk_turns.specs.Owned.{IsSeat, AllFit, socket_at_class}
@@ -43,6 +44,16 @@ IsLaidOut g sg packets items = (layouts : List (List Item)) × (items ≡ flat_m
 abbrev pub DeliversInOrder : Type 0
 DeliversInOrder = (wire : Wire) (c : Config) (d s : ℕ) (input : List Judged) (l : List Told) → IsSeat c d → AllFit c [] l → IsWholeDriverRun wire c d input l
     → IsLaidOut c.geometry c.sg (with_disposal s input (disposals_of (seat_of wire c d) input (attempts_of l))) (submitted_of (Rx s) l)
+
+-- a packet of 14 bytes up to the limit
+pub record IsSized (c : Config) (packet : List ℕ) : Type 0 where
+  pub long : 14 ≤ length packet
+  pub few : length packet ≤ packet_limit c
+
+-- each packet that the attempts delivered has such a length
+abbrev pub DeliversSized : Type 0
+DeliversSized = (wire : Wire) (c : Config) (d s : ℕ) (input : List Judged) (l : List Told) → IsSeat c d → AllFit c [] l → IsWholeDriverRun wire c d input l
+    → All (IsSized c) (with_disposal s input (disposals_of (seat_of wire c d) input (attempts_of l)))
 
 -- where the wire waits these are the packets that are to be delivered to it by the configuration and the verdicts
 abbrev pub DeliversAsSaid : Type 0

@@ -6,7 +6,7 @@ ghost use Rattle.xsk_turns.specs.AppLaw.{LanesInOrder, LanesPassedOn, NothingSen
 ghost use Rattle.xsk_turns.specs.AppOwned.{AppKeepsFrames, AppCallsLegal, AppKeepsFramesAtEnd};
 ghost use Rattle.xsk_turns.specs.Counted.{KeepsCounters, KeepsCountersAtEnd};
 ghost use Rattle.xsk_turns.specs.Disposes.{KeepsDisposals, DisposesAll};
-ghost use Rattle.xsk_turns.specs.Law.{EachDisposedOnce, DisposedAsSaid, DeliversInOrder, DeliversAsSaid, NothingReceivedLate, TellsRxDone, DrainsTx, CompletesAll};
+ghost use Rattle.xsk_turns.specs.Law.{EachDisposedOnce, DisposedAsSaid, DeliversInOrder, DeliversSized, DeliversAsSaid, NothingReceivedLate, TellsRxDone, DrainsTx, CompletesAll};
 ghost use Rattle.xsk_turns.specs.Owned.{KeepsFrames, KeepsFramesAtEnd, LeavesRoom};
 ghost use Rattle.xsk_turns.specs.Verdicts.{OneVerdicts};
 ghost use Rattle.xsk_turns.specs.Workers.{OwnSetting, OneSetting};
@@ -69,6 +69,12 @@ pub fn disposed_as_said()
 #[tactic(auto, using(crate::proofs::Delivering::delivers_in_order))]
 pub fn delivers_in_order()
     ensures { DeliversInOrder }
+{}
+
+/// Each packet that they delivered has 14 bytes up to the limit.
+#[tactic(auto, using(crate::proofs::Delivering::delivers_sized))]
+pub fn delivers_sized()
+    ensures { DeliversSized }
 {}
 
 /// Where the wire waits these are the packets that the configuration and their verdicts deliver there.
