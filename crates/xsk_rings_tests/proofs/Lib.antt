@@ -1,2 +1,3 @@
 mod Setup
 mod Resting
+mod Noting

@@ -6,6 +6,7 @@ use Rattle.std.proofs.lemmas.List.FromFn.{get_or-map-range_with_len}
 use Rattle.xsk_model.specs.Config.{callers_of}
 use Rattle.xsk_table.specs.Held.{Board, Holder, new_pass}
 use Rattle.xsk_table.specs.Opening.{new_passes}
+use Rattle.xsk_table.specs.Closing.{AreThere}
 use Rattle.xsk_rings.specs.Rounds.{Rests}
 use Rattle.xsk_rings_tests.specs.Resting.{AllRest, IsLent}
 
@@ -43,3 +44,12 @@ lent b passes w all lt =
       empty = get_or-set_same passes w None None below;
       back = λ h who rests. rest_again b passes w h all below who rests;
     }
+
+-- so a table can be closed
+pub all_there : (b : Board) (passes : List (Option Holder)) → AllRest b passes → AreThere b passes
+all_there b passes all w lt = let t = all w lt in (t.0, t.1, t.2.0.0)
+
+-- the pass of another caller is there once one was taken
+pub other_rests : (b : Board) (passes : List (Option Holder)) (v w : ℕ) → AllRest b passes → w < callers_of b.setup.config → w ≢ v
+    → (h : Holder) × (get_or (set passes v None) w None ≡ Some h) × Rests b h
+other_rests b passes v w all lt off = let t = all w lt in (t.0, get_or-set_other passes v w None None off ∙ t.1, t.2.0)

@@ -1,12 +1,12 @@
 //! The table and the object on one thread side by side: each call is made on both, and has the same reply.
 use crate::moves::{Move, are_written, call_of};
-use crate::setups::setup;
+use crate::setups::{Layout, setup};
 use crate::table::Table;
 use crate::words::{is_same, reply_words};
 use std::alloc::Global;
 use std::string::String;
 use std::test::Fail;
-use xsk_model::{Call, Reply, Ring};
+use xsk_model::{Answer, Call, Reply, Ring};
 use xsk_plain::{Checked, payload_room};
 use xsk_umem::{Batch, OutOfMemory};
 
@@ -45,6 +45,17 @@ impl Hand {
         }
         Ok(())
     }
+
+    /// Takes the items of two calls in that weren't made.
+    fn takes_back(&mut self, mine: Call, theirs: Call) -> Result<(), Fail> {
+        if let Call::Submit(_, items) = mine {
+            put_behind(&mut self.mine, items)?;
+        }
+        if let Call::Submit(_, items) = theirs {
+            put_behind(&mut self.theirs, items)?;
+        }
+        Ok(())
+    }
 }
 
 fn put_behind(hand: &mut Batch, items: Batch) -> Result<(), Fail> {
@@ -56,17 +67,12 @@ fn put_behind(hand: &mut Batch, items: Batch) -> Result<(), Fail> {
     Ok(())
 }
 
-fn open_plain(alloc: Global) -> Result<Checked, Fail> {
-    let (config, frames) = setup(alloc)?;
+fn open_plain(alloc: Global, layout: Layout) -> Result<Checked, Fail> {
+    let (config, frames) = setup(alloc, layout)?;
     match Checked::open(alloc, config, frames) {
         Ok(checked) => Ok(checked),
         Err(_refused) => Err(Fail::from(OutOfMemory)),
     }
-}
-
-pub(crate) fn open_table(alloc: Global, first: u32) -> Result<Table, Fail> {
-    let (config, frames) = setup(alloc)?;
-    Table::open(alloc, config, frames, first)
 }
 
 /// The reply of the object on one thread to a call that must be legal.
@@ -79,6 +85,19 @@ fn reply_to(checked: &mut Checked, who: u32, call: Call) -> Result<Reply, Fail> 
     Ok(checked.perform(who, call))
 }
 
+/// A reply without its items.
+fn answer_of(reply: &Reply) -> Answer {
+    match reply {
+        Reply::Granted => Answer::Granted,
+        Reply::Full(free) => Answer::Full(*free),
+        Reply::Submitted => Answer::Submitted,
+        Reply::Items(_) => Answer::Items,
+        Reply::Empty => Answer::Empty,
+        Reply::Released => Answer::Released,
+        Reply::Old(old) => Answer::Old(*old),
+    }
+}
+
 /// Whether items that were received, or are sent or finished, have their bytes.
 fn has_bytes(made: Move, reply: &Reply) -> bool {
     match (made, reply) {
@@ -89,10 +108,10 @@ fn has_bytes(made: Move, reply: &Reply) -> bool {
 }
 
 impl Both {
-    pub(crate) fn open(alloc: Global, first: u32) -> Result<Both, Fail> {
+    pub(crate) fn open(alloc: Global, layout: Layout, first: u32) -> Result<Both, Fail> {
         Ok(Both {
-            plain: open_plain(alloc)?,
-            table: open_table(alloc, first)?,
+            plain: open_plain(alloc, layout)?,
+            table: Table::open_on(alloc, layout, first)?,
         })
     }
 
@@ -104,6 +123,33 @@ impl Both {
             return Err("replies that differ")?;
         }
         Ok((want, found, looks))
+    }
+
+    /// Makes a call with items of a hand where it is legal, which both must say alike, and tells the reply.
+    pub(crate) fn tries(
+        &mut self,
+        alloc: Global,
+        hand: &mut Hand,
+        who: u32,
+        made: Move,
+    ) -> Result<Option<Answer>, Fail> {
+        let mine = call_of(alloc, made, &mut hand.mine)?;
+        let theirs = call_of(alloc, made, &mut hand.theirs)?;
+        let legal = self.plain.allows(who, &mine);
+        if self.table.allows(who, &theirs) != legal {
+            return Err("a call that is legal on one alone")?;
+        }
+        if !legal {
+            hand.takes_back(mine, theirs)?;
+            return Ok(None);
+        }
+        let (want, found, _looks) = self.ask(who, mine, theirs)?;
+        if !has_bytes(made, &found) {
+            return Err("bytes that differ")?;
+        }
+        let answer = answer_of(&found);
+        hand.takes(want, found)?;
+        Ok(Some(answer))
     }
 
     /// Makes a call with items of a hand, and tells the reply in words, with the looks.

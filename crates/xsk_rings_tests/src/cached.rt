@@ -1,6 +1,7 @@
 //! How often a caller looks at the other side's count.
 use crate::beside::{Both, Hand, Line, plays};
 use crate::moves::Move;
+use crate::setups::Layout;
 use std::alloc::Global;
 use std::test::Fail;
 use xsk_model::Ring;
@@ -30,7 +31,7 @@ fn looks_are_few(alloc: Global, first: u32) -> Result<(), Fail> {
         ),
         (2, Move::Peek(rx, 1), "empty", 1),
     ];
-    let mut both = Both::open(alloc, first)?;
+    let mut both = Both::open(alloc, Layout::OneWay, first)?;
     let mut hand = Hand::new(alloc);
     plays(alloc, &mut both, &mut hand, lines.as_slice())
 }

@@ -6,6 +6,10 @@ mod beside;
 #[cfg(test)]
 mod cached;
 #[cfg(test)]
+mod drawn;
+#[cfg(test)]
+mod ending;
+#[cfg(test)]
 mod marks;
 #[cfg(test)]
 mod moves;
@@ -14,8 +18,12 @@ mod setups;
 #[cfg(test)]
 mod table;
 #[cfg(test)]
+mod threads;
+#[cfg(test)]
 mod two_frames;
 #[cfg(test)]
 mod words;
 #[cfg(test)]
 mod worked;
+#[cfg(test)]
+mod wrapped;

@@ -1,6 +1,7 @@
 //! Marks of all kinds beside full rings.
 use crate::beside::{Both, Hand, Line, plays, plays_one};
 use crate::moves::Move;
+use crate::setups::Layout;
 use std::alloc::Global;
 use std::test::Fail;
 use xsk_model::{Mark, Ring};
@@ -158,7 +159,7 @@ fn all_are_filled(alloc: Global, both: &mut Both) -> Result<(), Fail> {
 
 /// Beside each of these full rings the marks move, and no ring loses an item or a byte. FILL 1 stays full all the while.
 fn marks_move_beside_full_rings(alloc: Global, first: u32) -> Result<(), Fail> {
-    let mut both = Both::open(alloc, first)?;
+    let mut both = Both::open(alloc, Layout::OneWay, first)?;
     all_are_filled(alloc, &mut both)
 }
 

@@ -97,17 +97,22 @@ fn written(frame: Frame) -> Result<Frame, Fail> {
 /// Whether all items have frames, all of whose bytes are as they were received.
 pub(crate) fn are_written(items: &Batch) -> bool {
     for i in 0..items.len() {
-        if !is_written(items.item(i)) {
+        if !has_written(items.item(i)) {
             return false;
         }
     }
     true
 }
 
-fn is_written(item: &Item) -> bool {
+fn has_written(item: &Item) -> bool {
     let Some(frame) = &item.frame else {
         return false;
     };
+    is_written(frame)
+}
+
+/// Whether all bytes of a frame are as they were received.
+pub(crate) fn is_written(frame: &Frame) -> bool {
     let bytes = frame.bytes();
     if bytes.len() != 2048 {
         return false;

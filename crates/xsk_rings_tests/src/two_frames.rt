@@ -1,6 +1,7 @@
 //! A packet of two frames on its way over RX, TX and COMPLETION, with all bytes of both.
 use crate::beside::{Both, Hand, Line, plays};
 use crate::moves::Move;
+use crate::setups::Layout;
 use std::alloc::Global;
 use std::test::Fail;
 use xsk_model::Ring;
@@ -24,7 +25,7 @@ fn two_frames_go(alloc: Global, first: u32) -> Result<(), Fail> {
         (2, Move::Peek(comp, 2), "items 256:0:0 2304:0:0", 1),
         (2, Move::Release(comp, 2), "released", 0),
     ];
-    let mut both = Both::open(alloc, first)?;
+    let mut both = Both::open(alloc, Layout::OneWay, first)?;
     let mut hand = Hand::new(alloc);
     plays(alloc, &mut both, &mut hand, lines.as_slice())
 }

@@ -1,6 +1,7 @@
 //! Seven worked calls, and calls of each kind with the replies that they must have.
 use crate::beside::{Both, Hand, Line, plays};
 use crate::moves::Move;
+use crate::setups::Layout;
 use std::alloc::Global;
 use std::test::Fail;
 use xsk_model::Ring;
@@ -22,7 +23,7 @@ fn engines_agree(alloc: Global, first: u32) -> Result<(), Fail> {
         (2, Move::Peek(rx, 1), "empty", 1),
         (2, Move::Reserve(Ring::Tx(1), 4), "granted", 1),
     ];
-    let mut both = Both::open(alloc, first)?;
+    let mut both = Both::open(alloc, Layout::OneWay, first)?;
     let mut hand = Hand::new(alloc);
     plays(alloc, &mut both, &mut hand, lines.as_slice())
 }
