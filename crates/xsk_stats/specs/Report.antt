@@ -99,13 +99,13 @@ of_sockets classes counter = sum (take classes counter)
 
 abbrev pub totals_of : ℕ → List DriverFigures → Statistics
 totals_of classes drivers = record {
-    rx_dropped = total_of (λ driver. driver.counters.rx_dropped) drivers;
-    rx_invalid_descs = total_of (λ driver. driver.counters.rx_invalid_descs) drivers;
-    tx_invalid_descs = total_of (λ driver. of_sockets classes driver.counters.tx_invalid_descs) drivers;
-    rx_ring_full = total_of (λ driver. of_sockets classes driver.counters.rx_ring_full) drivers;
-    rx_fill_ring_empty_descs = total_of (λ driver. driver.counters.rx_fill_ring_empty_descs) drivers;
-    tx_ring_empty_descs = total_of (λ driver. of_sockets classes driver.counters.tx_ring_empty_descs) drivers;
-  }
+  rx_dropped = total_of (λ driver. driver.counters.rx_dropped) drivers;
+  rx_invalid_descs = total_of (λ driver. driver.counters.rx_invalid_descs) drivers;
+  tx_invalid_descs = total_of (λ driver. of_sockets classes driver.counters.tx_invalid_descs) drivers;
+  rx_ring_full = total_of (λ driver. of_sockets classes driver.counters.rx_ring_full) drivers;
+  rx_fill_ring_empty_descs = total_of (λ driver. driver.counters.rx_fill_ring_empty_descs) drivers;
+  tx_ring_empty_descs = total_of (λ driver. of_sockets classes driver.counters.tx_ring_empty_descs) drivers;
+}
 
 abbrev pub total_line : Statistics → List ℕ
 total_line total =

@@ -1,5 +1,5 @@
 //! Reports of figures that are made by hand.
-ghost use Rattle.std.specs.Prelude.{IfOk};
+ghost use Rattle.std.specs.Prelude.{◌≤◌, IfOk};
 ghost use Rattle.xsk_model.specs.Config.{IsRegular};
 
 use crate::report;
@@ -184,7 +184,16 @@ fn distinct(base: u64) -> DriverFigures
     };
     DriverFigures {
         packets_in: base + 1,
-        kinds: [base + 2, base + 3, base + 4, base + 5, base + 6, base + 7, base + 8, base + 9],
+        kinds: [
+            base + 2,
+            base + 3,
+            base + 4,
+            base + 5,
+            base + 6,
+            base + 7,
+            base + 8,
+            base + 9,
+        ],
         sent: base + 10,
         counters,
     }

@@ -75,10 +75,23 @@ fn push_drivers(text: &mut String, config: &Config, drivers: &FigureList) -> Res
     Ok(())
 }
 
-fn push_driver(text: &mut String, pair: &PairInfo, figures: &DriverFigures) -> Result<(), OutOfMemory>
+fn push_driver(
+    text: &mut String,
+    pair: &PairInfo,
+    figures: &DriverFigures,
+) -> Result<(), OutOfMemory>
     ensures { OnOk result (string_bytes text.new ≡ string_bytes text.old ++ driver_line pair.now figures.now) }
 {
-    let [delivered, no_frames, rx_full, too_long, runt, missed, passed, dropped] = figures.kinds;
+    let [
+        delivered,
+        no_frames,
+        rx_full,
+        too_long,
+        runt,
+        missed,
+        passed,
+        dropped,
+    ] = figures.kinds;
     push_queue(text, "driver ", pair)?;
     push_u64(text, " in ", figures.packets_in)?;
     push_u64(text, " delivered ", delivered)?;
@@ -105,18 +118,31 @@ fn push_pairs(text: &mut String, config: &Config, drivers: &FigureList) -> Resul
     Ok(())
 }
 
-fn push_pair(text: &mut String, pair: &PairInfo, counters: &DriverCounters) -> Result<(), OutOfMemory>
+fn push_pair(
+    text: &mut String,
+    pair: &PairInfo,
+    counters: &DriverCounters,
+) -> Result<(), OutOfMemory>
     ensures { OnOk result (string_bytes text.new ≡ string_bytes text.old ++ pair_line pair.now counters.now) }
 {
     push_queue(text, "pair ", pair)?;
     push_u64(text, " rx_dropped ", counters.rx_dropped)?;
     push_u64(text, " rx_invalid_descs ", counters.rx_invalid_descs)?;
-    push_u64(text, " rx_fill_ring_empty_descs ", counters.rx_fill_ring_empty_descs)?;
+    push_u64(
+        text,
+        " rx_fill_ring_empty_descs ",
+        counters.rx_fill_ring_empty_descs,
+    )?;
     text.push_str("\n")?;
     Ok(())
 }
 
-fn push_all_sockets(text: &mut String, config: &Config, drivers: &FigureList, classes: u32) -> Result<(), OutOfMemory>
+fn push_all_sockets(
+    text: &mut String,
+    config: &Config,
+    drivers: &FigureList,
+    classes: u32,
+) -> Result<(), OutOfMemory>
     requires classes { classes ≤ 4 }
     requires drivers { length drivers.now ≡ length config.now.pairs }
     ensures { OnOk result (string_bytes text.new ≡ string_bytes text.old ++ lines_of (λ pair driver. socket_lines classes pair driver.counters) config.now drivers.now) }
@@ -129,7 +155,12 @@ fn push_all_sockets(text: &mut String, config: &Config, drivers: &FigureList, cl
 }
 
 /// The lines of a pair's sockets.
-fn push_sockets(text: &mut String, classes: u32, pair: &PairInfo, counters: &DriverCounters) -> Result<(), OutOfMemory>
+fn push_sockets(
+    text: &mut String,
+    classes: u32,
+    pair: &PairInfo,
+    counters: &DriverCounters,
+) -> Result<(), OutOfMemory>
     requires { classes ≤ 4 }
     ensures { OnOk result (string_bytes text.new ≡ string_bytes text.old ++ socket_lines classes pair.now counters.now) }
 {
@@ -139,7 +170,12 @@ fn push_sockets(text: &mut String, classes: u32, pair: &PairInfo, counters: &Dri
     Ok(())
 }
 
-fn push_socket(text: &mut String, pair: &PairInfo, counters: &DriverCounters, class: u32) -> Result<(), OutOfMemory>
+fn push_socket(
+    text: &mut String,
+    pair: &PairInfo,
+    counters: &DriverCounters,
+    class: u32,
+) -> Result<(), OutOfMemory>
     requires { class < 4 }
     ensures { OnOk result (string_bytes text.new ≡ string_bytes text.old ++ socket_line pair.now counters.now class) }
 {
@@ -148,7 +184,11 @@ fn push_socket(text: &mut String, pair: &PairInfo, counters: &DriverCounters, cl
     push_u32(text, ".", class)?;
     push_u64(text, " rx_ring_full ", counters.rx_ring_full[place])?;
     push_u64(text, " tx_invalid_descs ", counters.tx_invalid_descs[place])?;
-    push_u64(text, " tx_ring_empty_descs ", counters.tx_ring_empty_descs[place])?;
+    push_u64(
+        text,
+        " tx_ring_empty_descs ",
+        counters.tx_ring_empty_descs[place],
+    )?;
     text.push_str("\n")?;
     Ok(())
 }
@@ -160,7 +200,11 @@ fn push_totals(text: &mut String, total: &Statistics) -> Result<(), OutOfMemory>
     push_u64(text, " rx_invalid_descs ", total.rx_invalid_descs)?;
     push_u64(text, " tx_invalid_descs ", total.tx_invalid_descs)?;
     push_u64(text, " rx_ring_full ", total.rx_ring_full)?;
-    push_u64(text, " rx_fill_ring_empty_descs ", total.rx_fill_ring_empty_descs)?;
+    push_u64(
+        text,
+        " rx_fill_ring_empty_descs ",
+        total.rx_fill_ring_empty_descs,
+    )?;
     push_u64(text, " tx_ring_empty_descs ", total.tx_ring_empty_descs)?;
     text.push_str("\n")?;
     Ok(())

@@ -37,10 +37,22 @@ fn add_driver(total: &mut Statistics, driver: &DriverFigures, classes: u32)
     let counters = &driver.counters;
     add(&mut total.rx_dropped, counters.rx_dropped);
     add(&mut total.rx_invalid_descs, counters.rx_invalid_descs);
-    add(&mut total.tx_invalid_descs, sum_of(&counters.tx_invalid_descs, classes));
-    add(&mut total.rx_ring_full, sum_of(&counters.rx_ring_full, classes));
-    add(&mut total.rx_fill_ring_empty_descs, counters.rx_fill_ring_empty_descs);
-    add(&mut total.tx_ring_empty_descs, sum_of(&counters.tx_ring_empty_descs, classes));
+    add(
+        &mut total.tx_invalid_descs,
+        sum_of(&counters.tx_invalid_descs, classes),
+    );
+    add(
+        &mut total.rx_ring_full,
+        sum_of(&counters.rx_ring_full, classes),
+    );
+    add(
+        &mut total.rx_fill_ring_empty_descs,
+        counters.rx_fill_ring_empty_descs,
+    );
+    add(
+        &mut total.tx_ring_empty_descs,
+        sum_of(&counters.tx_ring_empty_descs, classes),
+    );
 }
 
 /// Adds to a sum, which stays at its last value.

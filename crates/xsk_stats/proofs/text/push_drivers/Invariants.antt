@@ -1,6 +1,5 @@
 use Rattle.std.proofs.Common.{◌≡◌, ◌++◌, string_bytes}
-use Rattle.xsk_model.specs.Config.{classes_of}
-use Rattle.xsk_stats.specs.Report.{driver_line, pair_line, socket_lines}
+use Rattle.xsk_stats.specs.Report.{driver_line}
 use Rattle.xsk_stats.proofs.Lines.{lines_to}
 use Rattle.xsk_stats.proofs.text.push_drivers.Given as goal
 

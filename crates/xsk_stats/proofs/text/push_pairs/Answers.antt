@@ -1,5 +1,4 @@
-use Rattle.xsk_model.specs.Config.{classes_of}
-use Rattle.xsk_stats.specs.Report.{driver_line, pair_line, socket_lines}
+use Rattle.xsk_stats.specs.Report.{pair_line}
 use Rattle.xsk_stats.proofs.Lines.{pair_more}
 use Rattle.xsk_stats.proofs.text.push_pairs.Goals as goal
 
