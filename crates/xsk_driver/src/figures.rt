@@ -1,9 +1,10 @@
 //! The figures of a run: what became of each driver's packets, and its counters.
-ghost use Rattle.std.specs.Prelude.{◌≡◌, ◌<◌, List, [], ◌∷◌, ◌++◌, OnErr, OnOk, Some, length, slice_get, sum};
-ghost use Rattle.xsk_driver.specs.Figures.{KindsAddUp, figures_by, kind_of as kind_by, kinds_of};
+ghost use Rattle.std.specs.Prelude.{◌≡◌, ◌<◌, if◌then◌else◌, List, [], ◌∷◌, ◌++◌, OnErr, OnOk, Some, length, slice_get, sum};
+ghost use Rattle.xsk_driver.specs.Figures.{KindsAddUp, counter_to, counters_to, figures_by, figures_in, kind_of as kind_by, kinds_of};
+ghost use Rattle.xsk_driver.specs.Figured.{FiguresAtEnd};
 ghost use Rattle.xsk_turns.specs.declared.disposal.Disposal.{Disposal as ADisposal};
 
-use crate::{Disposal, DriverCounters, Wire};
+use crate::{Disposal, Driver, DriverCounters, Wire};
 use std::alloc::Global;
 use std::marker::Model;
 use xsk_umem::OutOfMemory;
@@ -47,6 +48,46 @@ impl DriverFigures {
             counters,
         }
     }
+
+    /// The figures of a driver that has ended, whose queue has so many sockets.
+    pub fn of_driver(driver: &Driver<'_>, classes: u32) -> DriverFigures
+        ensures { result ≡ figures_in classes driver.now }
+    {
+        let disposals = driver.disposals();
+        let counters = keep_classes(driver.counters(), classes);
+        let sent = u64::from(driver.sent().len());
+        DriverFigures::of(disposals.len() as u64, disposals, sent, counters)
+    }
+}
+
+/// The counters of the sockets that a queue has, and 0 for others.
+fn keep_classes(counters: DriverCounters, classes: u32) -> DriverCounters
+    ensures { result ≡ counters_to classes counters }
+{
+    DriverCounters {
+        rx_ring_full: keep(counters.rx_ring_full, classes),
+        tx_invalid_descs: keep(counters.tx_invalid_descs, classes),
+        tx_ring_empty_descs: keep(counters.tx_ring_empty_descs, classes),
+        ..counters
+    }
+}
+
+fn keep(counter: [u64; 4], classes: u32) -> [u64; 4]
+    ensures { result ≡ counter_to classes counter }
+{
+    let [first, second, third, fourth] = counter;
+    [
+        keep_if(first, 0 < classes),
+        keep_if(second, 1 < classes),
+        keep_if(third, 2 < classes),
+        keep_if(fourth, 3 < classes),
+    ]
+}
+
+fn keep_if(number: u64, kept: bool) -> u64
+    ensures { result ≡ (if kept then number else 0) }
+{
+    if kept { number } else { 0 }
 }
 
 /// Counts one more disposal.
@@ -144,4 +185,10 @@ pub struct Figures {
 #[tactic(auto, using(crate::proofs::KindCounts::kinds_add_up))]
 pub fn kinds_add_up()
     ensures { KindsAddUp }
+{}
+
+/// What a driver that has ended keeps are the figures of its own calls and replies.
+#[tactic(auto, using(crate::proofs::Figured::figures_at_end))]
+pub fn figures_at_end()
+    ensures { FiguresAtEnd }
 {}
