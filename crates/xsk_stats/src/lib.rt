@@ -1,0 +1,10 @@
+//! The report of a run: its figures as a text.
+#![tactic(auto)]
+
+mod text;
+mod totals;
+
+pub use text::report;
+
+#[cfg(test)]
+mod tests;

@@ -1,0 +1,250 @@
+//! The lines of a report, and the whole of it.
+ghost use Rattle.std.specs.Prelude.{◌≡◌, ◌++◌, ◌<◌, ◌≤◌, IfOk, OnOk, flat_map, length, string_bytes};
+ghost use Rattle.std.specs.List.{range_with_len};
+ghost use Rattle.xsk_model.specs.Config.{IsRegular, pair_at};
+ghost use Rattle.xsk_stats.specs.Report.{at_queue, calls_line, driver_line, figures_at, lines_of, numbered, pair_line, report_text, setting_line, socket_line, socket_lines, total_line, totals_of, wire_word};
+
+use crate::totals::{Statistics, add_up};
+use std::alloc::Global;
+use std::fmt::Write;
+use xsk_driver::{DriverCounters, DriverFigures, FigureList, Figures, Wire};
+use xsk_model::{Config, PairInfo};
+use xsk_umem::OutOfMemory;
+
+/// The report of a run of a regular configuration, whose figures are those of each of its drivers.
+///
+/// It has a line for the configuration and one for the calls, a line for each driver, each pair and each socket, and one for
+/// the sums. No number has a leading zero.
+pub fn report(alloc: Global, config: &Config, figures: &Figures) -> Result<Vec<u8>, OutOfMemory>
+    requires regular { IsRegular config.now }
+    requires drivers { length figures.now.drivers ≡ length config.now.pairs }
+    ensures { IfOk result (λ text. text.items ≡ report_text config.now figures.now) }
+{
+    let mut text = String::new(alloc);
+    push_setting(&mut text, config, figures.wire)?;
+    push_calls(&mut text, figures.calls)?;
+    push_drivers(&mut text, config, &figures.drivers)?;
+    push_pairs(&mut text, config, &figures.drivers)?;
+    let classes = config.classes();
+    push_all_sockets(&mut text, config, &figures.drivers, classes)?;
+    push_totals(&mut text, &add_up(&figures.drivers, classes))?;
+    Ok(text.into_bytes())
+}
+
+fn push_setting(text: &mut String, config: &Config, wire: Wire) -> Result<(), OutOfMemory>
+    requires regular { IsRegular config.now }
+    ensures { OnOk result (string_bytes text.new ≡ string_bytes text.old ++ setting_line config.now wire) }
+{
+    let geometry = config.geometry();
+    push_u32(text, "ports ", config.ports())?;
+    push_u32(text, " queues ", config.queues())?;
+    push_u32(text, " sockets ", config.classes())?;
+    push_u32(text, " chunk ", geometry.chunk())?;
+    push_u32(text, " headroom ", geometry.headroom())?;
+    push_u32(text, " frames ", geometry.frames())?;
+    text.push_str(" wire ")?;
+    text.push_str(word_of(wire))?;
+    text.push_str("\n")?;
+    Ok(())
+}
+
+fn word_of(wire: Wire) -> &'static str
+    ensures { result.now ≡ wire_word wire }
+{
+    match wire {
+        Wire::Wait => "wait",
+        Wire::Drop => "drop",
+    }
+}
+
+fn push_calls(text: &mut String, calls: u64) -> Result<(), OutOfMemory>
+    ensures { OnOk result (string_bytes text.new ≡ string_bytes text.old ++ calls_line calls) }
+{
+    push_u64(text, "calls ", calls)?;
+    text.push_str("\n")?;
+    Ok(())
+}
+
+fn push_drivers(text: &mut String, config: &Config, drivers: &FigureList) -> Result<(), OutOfMemory>
+    requires { length drivers.now ≡ length config.now.pairs }
+    ensures { OnOk result (string_bytes text.new ≡ string_bytes text.old ++ lines_of driver_line config.now drivers.now) }
+{
+    for pair in 0..drivers.len() {
+        push_driver(text, pair_of(config, pair), figures_of(drivers, pair))?;
+    }
+    Ok(())
+}
+
+fn push_driver(
+    text: &mut String,
+    pair: &PairInfo,
+    figures: &DriverFigures,
+) -> Result<(), OutOfMemory>
+    ensures { OnOk result (string_bytes text.new ≡ string_bytes text.old ++ driver_line pair.now figures.now) }
+{
+    let [
+        delivered,
+        no_frames,
+        rx_full,
+        too_long,
+        runt,
+        missed,
+        passed,
+        dropped,
+    ] = figures.kinds;
+    push_queue(text, "driver ", pair)?;
+    push_u64(text, " in ", figures.packets_in)?;
+    push_u64(text, " delivered ", delivered)?;
+    push_u64(text, " noframes ", no_frames)?;
+    push_u64(text, " rxfull ", rx_full)?;
+    push_u64(text, " toolong ", too_long)?;
+    push_u64(text, " runt ", runt)?;
+    push_u64(text, " missed ", missed)?;
+    push_u64(text, " passed ", passed)?;
+    push_u64(text, " dropped ", dropped)?;
+    push_u64(text, " sent ", figures.sent)?;
+    text.push_str("\n")?;
+    Ok(())
+}
+
+fn push_pairs(text: &mut String, config: &Config, drivers: &FigureList) -> Result<(), OutOfMemory>
+    requires { length drivers.now ≡ length config.now.pairs }
+    ensures { OnOk result (string_bytes text.new ≡ string_bytes text.old ++ lines_of (λ pair driver. pair_line pair driver.counters) config.now drivers.now) }
+{
+    for pair in 0..drivers.len() {
+        let counters = &figures_of(drivers, pair).counters;
+        push_pair(text, pair_of(config, pair), counters)?;
+    }
+    Ok(())
+}
+
+fn push_pair(
+    text: &mut String,
+    pair: &PairInfo,
+    counters: &DriverCounters,
+) -> Result<(), OutOfMemory>
+    ensures { OnOk result (string_bytes text.new ≡ string_bytes text.old ++ pair_line pair.now counters.now) }
+{
+    push_queue(text, "pair ", pair)?;
+    push_u64(text, " rx_dropped ", counters.rx_dropped)?;
+    push_u64(text, " rx_invalid_descs ", counters.rx_invalid_descs)?;
+    push_u64(
+        text,
+        " rx_fill_ring_empty_descs ",
+        counters.rx_fill_ring_empty_descs,
+    )?;
+    text.push_str("\n")?;
+    Ok(())
+}
+
+fn push_all_sockets(
+    text: &mut String,
+    config: &Config,
+    drivers: &FigureList,
+    classes: u32,
+) -> Result<(), OutOfMemory>
+    requires classes { classes ≤ 4 }
+    requires drivers { length drivers.now ≡ length config.now.pairs }
+    ensures { OnOk result (string_bytes text.new ≡ string_bytes text.old ++ lines_of (λ pair driver. socket_lines classes pair driver.counters) config.now drivers.now) }
+{
+    for pair in 0..drivers.len() {
+        let counters = &figures_of(drivers, pair).counters;
+        push_sockets(text, classes, pair_of(config, pair), counters)?;
+    }
+    Ok(())
+}
+
+/// The lines of a pair's sockets.
+fn push_sockets(
+    text: &mut String,
+    classes: u32,
+    pair: &PairInfo,
+    counters: &DriverCounters,
+) -> Result<(), OutOfMemory>
+    requires { classes ≤ 4 }
+    ensures { OnOk result (string_bytes text.new ≡ string_bytes text.old ++ socket_lines classes pair.now counters.now) }
+{
+    for class in 0..classes {
+        push_socket(text, pair, counters, class)?;
+    }
+    Ok(())
+}
+
+fn push_socket(
+    text: &mut String,
+    pair: &PairInfo,
+    counters: &DriverCounters,
+    class: u32,
+) -> Result<(), OutOfMemory>
+    requires { class < 4 }
+    ensures { OnOk result (string_bytes text.new ≡ string_bytes text.old ++ socket_line pair.now counters.now class) }
+{
+    let place = class as usize;
+    push_queue(text, "socket ", pair)?;
+    push_u32(text, ".", class)?;
+    push_u64(text, " rx_ring_full ", counters.rx_ring_full[place])?;
+    push_u64(text, " tx_invalid_descs ", counters.tx_invalid_descs[place])?;
+    push_u64(
+        text,
+        " tx_ring_empty_descs ",
+        counters.tx_ring_empty_descs[place],
+    )?;
+    text.push_str("\n")?;
+    Ok(())
+}
+
+fn push_totals(text: &mut String, total: &Statistics) -> Result<(), OutOfMemory>
+    ensures { OnOk result (string_bytes text.new ≡ string_bytes text.old ++ total_line total.now) }
+{
+    push_u64(text, "total rx_dropped ", total.rx_dropped)?;
+    push_u64(text, " rx_invalid_descs ", total.rx_invalid_descs)?;
+    push_u64(text, " tx_invalid_descs ", total.tx_invalid_descs)?;
+    push_u64(text, " rx_ring_full ", total.rx_ring_full)?;
+    push_u64(
+        text,
+        " rx_fill_ring_empty_descs ",
+        total.rx_fill_ring_empty_descs,
+    )?;
+    push_u64(text, " tx_ring_empty_descs ", total.tx_ring_empty_descs)?;
+    text.push_str("\n")?;
+    Ok(())
+}
+
+fn pair_of(config: &Config, pair: u32) -> &PairInfo
+    requires { pair < length config.now.pairs }
+    ensures { result.now ≡ pair_at config.now.pairs pair }
+{
+    &config.pairs()[pair as usize]
+}
+
+fn figures_of(drivers: &FigureList, pair: u32) -> &DriverFigures
+    requires { pair < length drivers.now }
+    ensures { result.now ≡ figures_at drivers.now pair }
+{
+    drivers.get(pair)
+}
+
+/// A word, and the port and the queue of a pair.
+#[tactic(auto, unfolding(crate::specs::Report::at_queue))]
+fn push_queue(text: &mut String, word: &str, pair: &PairInfo) -> Result<(), OutOfMemory>
+    ensures { OnOk result (string_bytes text.new ≡ string_bytes text.old ++ at_queue word.now pair.now) }
+{
+    push_u32(text, word, pair.port)?;
+    push_u32(text, ".", pair.queue)?;
+    Ok(())
+}
+
+/// A word, and the number behind it.
+#[tactic(auto, unfolding(crate::specs::Report::numbered))]
+fn push_u64(text: &mut String, word: &str, number: u64) -> Result<(), OutOfMemory>
+    ensures { OnOk result (string_bytes text.new ≡ string_bytes text.old ++ numbered word.now number) }
+{
+    write!(text, "{word}{number}")?;
+    Ok(())
+}
+
+fn push_u32(text: &mut String, word: &str, number: u32) -> Result<(), OutOfMemory>
+    ensures { OnOk result (string_bytes text.new ≡ string_bytes text.old ++ numbered word.now number) }
+{
+    push_u64(text, word, u64::from(number))
+}
