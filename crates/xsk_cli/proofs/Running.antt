@@ -34,6 +34,7 @@ use Rattle.xsk_turns.specs.Disposals.{bytes_in}
 use Rattle.xsk_turns.specs.Workers.{IsRuled, ruled}
 use Rattle.xsk_turns.proofs.Verdicts.{own_setting}
 use Rattle.xsk_model.proofs.Seats.{is_at}
+use Rattle.xsk_turns.specs.declared.wire.Wire.TheVariants.{Wait}
 use Rattle.xsk_laws.specs.Laws.{AreWholeRuns}
 use Rattle.xsk_laws.proofs.Theorems.{all_is_expected}
 use Rattle.xsk_laws.specs.Expected.{received, has_length, is_redirected, leads_to}
@@ -138,7 +139,7 @@ module _ (layout : Layout) (program : Program) (order : ℕ) (lists : List (List
   verdicts = (setting_of layout program lists).verdicts
 
   -- all workers of an ended run have whole runs
-  whole_runs : (run : Shown) → (ended : Ended run) → AreWholeRuns config (map listed lists) verdicts (frames_of layout) ended.history
+  whole_runs : (run : Shown) → (ended : Ended run) → AreWholeRuns Wait config (map listed lists) verdicts (frames_of layout) ended.history
   whole_runs run ended = record {
     regular = regular-regular layout (fits layout accepted);
     history = ended.is.legal;
@@ -159,13 +160,13 @@ module _ (layout : Layout) (program : Program) (order : ℕ) (lists : List (List
       let at = is_at config o 0 0 (regular-config layout (fits layout accepted)) (regular-regular layout (fits layout accepted)) other (some_queues layout one) (omega (arith, classes)) in
       subst (λ q. MeetRule (rule_by layout.sockets program) q (received config (map listed lists) o q) (get_or verdicts d [])) at.pair_queue
       (subst (λ p. MeetRule (rule_by layout.sockets program) (pair_at config.pairs d).queue (received config (map listed lists) p (pair_at config.pairs d).queue) (get_or verdicts d [])) at.pair_port
-      ((own_setting (rule_by layout.sockets program) config (map listed lists)).each d at.pair_known))
+      ((own_setting (rule_by layout.sockets program) Wait config (map listed lists)).each d at.pair_known))
 
   -- each driver sent what the other port received, as far as it is sent on
   sent_on : (run : Shown) (port : ℕ) → (ended : Ended run) → port < layout.ports → sent config ended.history port ≡ sent_on_by layout program lists port
   sent_on run port ended below =
       ap (sent config ended.history) (own_driver layout one port)
-      ∙ all_is_expected config (map listed lists) verdicts (frames_of layout) ended.history port 0 (whole_runs run ended) below (some_queues layout one) (one_class layout one)
+      ∙ all_is_expected Wait config (map listed lists) verdicts (frames_of layout) ended.history port 0 refl (whole_runs run ended) below (some_queues layout one) (one_class layout one)
       ∙ all_go layout program (paired_port port) (received config (map listed lists) (paired_port port) 0) (get_or verdicts (driver_on config (paired_port port) 0) []) (by_rule port below)
       ∙ ap (filter (goes_on layout program (paired_port port))) (all_of_queue config.queues (packets_of_port (map listed lists) (paired_port port)) (one_queue layout one) ∙ packets_there (paired_port port))
 
@@ -241,20 +242,20 @@ one_list-writable packets short few small = record {
 
 -- a run of the code's configuration, lists and frames
 pub stalled_as : (layout : Layout) (program : Program) (order : ℕ) (c : Config) (own : List PacketList) (fs : List Frame) (lists : List (List (List ℕ))) (round : ℕ) → c ≡ regular_of layout → own ≡ map listed lists
-    → fs ≡ frames_of layout → (verdicts : List (List Verdict)) → IsRuled (rule_by layout.sockets program) (record { config = c; packets = own; verdicts = verdicts })
-    → HasStalled (record { config = c; packets = own; verdicts = verdicts }) fs order round → HasStalled (setting_of layout program lists) (frames_of layout) order round
+    → fs ≡ frames_of layout → (verdicts : List (List Verdict)) → IsRuled (rule_by layout.sockets program) (record { config = c; wire = Wait; packets = own; verdicts = verdicts })
+    → HasStalled (record { config = c; wire = Wait; packets = own; verdicts = verdicts }) fs order round → HasStalled (setting_of layout program lists) (frames_of layout) order round
 stalled_as layout program order c own fs lists round is_config is_own is_frames verdicts is h =
     subst (λ f. HasStalled (setting_of layout program lists) f order round) is_frames
-    (subst (λ (l : List PacketList). HasStalled (ruled (rule_by layout.sockets program) (regular_of layout) l) fs order round) is_own
-    (subst (λ (k : Config). HasStalled (ruled (rule_by layout.sockets program) k own) fs order round) is_config (stalls_as_ruled (rule_by layout.sockets program) (record { config = c; packets = own; verdicts = verdicts }) fs order round (is_exact_by layout.sockets program) is h)))
+    (subst (λ (l : List PacketList). HasStalled (ruled (rule_by layout.sockets program) Wait (regular_of layout) l) fs order round) is_own
+    (subst (λ (k : Config). HasStalled (ruled (rule_by layout.sockets program) Wait k own) fs order round) is_config (stalls_as_ruled (rule_by layout.sockets program) (record { config = c; wire = Wait; packets = own; verdicts = verdicts }) fs order round (is_exact_by layout.sockets program) is h)))
 
 pub ended_as : (layout : Layout) (program : Program) (order : ℕ) (c : Config) (own : List PacketList) (fs : List Frame) (lists : List (List (List ℕ))) (run : Shown) → c ≡ regular_of layout → own ≡ map listed lists
-    → fs ≡ frames_of layout → (verdicts : List (List Verdict)) → IsRuled (rule_by layout.sockets program) (record { config = c; packets = own; verdicts = verdicts })
-    → HasEnded (record { config = c; packets = own; verdicts = verdicts }) fs order run → HasEnded (setting_of layout program lists) (frames_of layout) order run
+    → fs ≡ frames_of layout → (verdicts : List (List Verdict)) → IsRuled (rule_by layout.sockets program) (record { config = c; wire = Wait; packets = own; verdicts = verdicts })
+    → HasEnded (record { config = c; wire = Wait; packets = own; verdicts = verdicts }) fs order run → HasEnded (setting_of layout program lists) (frames_of layout) order run
 ended_as layout program order c own fs lists run is_config is_own is_frames verdicts is h =
     subst (λ f. HasEnded (setting_of layout program lists) f order run) is_frames
-    (subst (λ (l : List PacketList). HasEnded (ruled (rule_by layout.sockets program) (regular_of layout) l) fs order run) is_own
-    (subst (λ (k : Config). HasEnded (ruled (rule_by layout.sockets program) k own) fs order run) is_config (ends_as_ruled (rule_by layout.sockets program) (record { config = c; packets = own; verdicts = verdicts }) fs order run (is_exact_by layout.sockets program) is h)))
+    (subst (λ (l : List PacketList). HasEnded (ruled (rule_by layout.sockets program) Wait (regular_of layout) l) fs order run) is_own
+    (subst (λ (k : Config). HasEnded (ruled (rule_by layout.sockets program) Wait k own) fs order run) is_config (ends_as_ruled (rule_by layout.sockets program) (record { config = c; wire = Wait; packets = own; verdicts = verdicts }) fs order run (is_exact_by layout.sockets program) is h)))
 
 -- ---- the program that redirects each packet
 

@@ -19,6 +19,7 @@ use Rattle.xsk_prog.specs.Rules.{verdict_of}
 use Rattle.xsk_prog.specs.declared.rule.Rule.{Rule}
 use Rattle.xsk_prog.specs.declared.rule.Rule.TheVariants.{Redirect as ByClass, Pass as PassAll, Drop as DropAll, EtherType as TypeByClass, Fixed as ByCell}
 use Rattle.xsk_turns.specs.Workers.{Setting, ruled}
+use Rattle.xsk_turns.specs.declared.wire.Wire.TheVariants.{Wait}
 use Rattle.xsk_sim.specs.Runs.{HasEnded, HasStalled}
 use Rattle.xsk_pcap.specs.Written.{written}
 use Rattle.xsk_pcap.specs.declared.reading.BadCapture.{BadCapture as Cause}
@@ -69,7 +70,7 @@ rule_by sockets (Fixed cell) = ByCell cell
 -- what is run: the layout's configuration over the packets of all ports, each with the verdict that the program's rule gives
 -- it, with frames of zero bytes, in order
 abbrev pub setting_of : Layout → Program → List (List (List ℕ)) → Setting
-setting_of layout program lists = ruled (rule_by layout.sockets program) (regular_of layout) (map listed lists)
+setting_of layout program lists = ruled (rule_by layout.sockets program) Wait (regular_of layout) (map listed lists)
 
 abbrev pub frames_of : Layout → List Frame
 frames_of layout = fresh layout.chunk layout.frames

@@ -20,7 +20,7 @@ use std::fmt::Write;
 use xsk_args::Program;
 use xsk_pcap::Capture;
 use xsk_prog::{Rule, XdpProgram};
-use xsk_sim::{Run, SimError, simulate};
+use xsk_sim::{Run, SimError, Wire, simulate};
 use xsk_socket::Layout;
 use xsk_umem::{OutOfMemory, PacketList};
 
@@ -104,7 +104,7 @@ fn run_lists(
     let attached = XdpProgram::attach(rule, |packet: &[u8], queue: u32| {
         rule.verdict(packet, queue)
     });
-    match simulate(alloc, config, frames, lists, &attached, order) {
+    match simulate(alloc, config, frames, lists, &attached, Wire::Wait, order) {
         Ok(run) => Ok(run),
         Err(SimError::Stalled { round }) => Err(RunFailure::Stalled { round }),
         Err(SimError::OutOfMemory) => Err(RunFailure::OutOfMemory),

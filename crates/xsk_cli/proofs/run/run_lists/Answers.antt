@@ -1,5 +1,6 @@
 use Rattle.std.proofs.Common.{Err, ap, subst, ◌∙◌}
 use Rattle.xsk_turns.specs.Workers.{Setting, IsRuled}
+use Rattle.xsk_turns.specs.declared.wire.Wire.TheVariants.{Wait}
 use Rattle.xsk_sim.proofs.Verdicts.{asked_ruled}
 use Rattle.xsk_cli.specs.Steps.{lists_in}
 use Rattle.xsk_cli.proofs.Running.{stalled_as, ended_as}
@@ -8,7 +9,7 @@ use Rattle.xsk_cli.proofs.run.run_lists.Goals as goal
 pub returns-in-Err-Stalled-clause-failed : goal.returns-in-Err-Stalled-clause-failed
 returns-in-Err-Stalled-clause-failed c =
     let under = c.in-Err-Stalled.ensures.stalled c.in-Err-Stalled.round (ap Err c.in-Err-Stalled.field-0-is) in
-    let s : Setting = record { config = c.in_ok-config.config; packets = c.args.lists.now; verdicts = under.verdicts } in
+    let s : Setting = record { config = c.in_ok-config.config; wire = Wait; packets = c.args.lists.now; verdicts = under.verdicts } in
     stalled_as c.args.layout.now c.args.program c.args.order c.in_ok-config.config c.args.lists.now c.in_ok-config.frames.items (lists_in c.args.lists.now) c.in-Err-Stalled.round
     c.in_ok-config.ensures.config c.requires.listed c.in_ok-config.ensures.frames under.verdicts
     (subst (λ rule. IsRuled rule s) (ap (λ attached. attached.rule) c.attach-attached.ensures.parts ∙ c.rule_of-rule.ensures) (asked_ruled _ c.attach-attached.result.rule c.attach-attached.result.decide s under.asked)) under.stalled
@@ -16,7 +17,7 @@ returns-in-Err-Stalled-clause-failed c =
 pub returns-in-Ok-clause-ended : goal.returns-in-Ok-clause-ended
 returns-in-Ok-clause-ended c =
     let under = c.in-Ok.ensures.ended in
-    let s : Setting = record { config = c.in_ok-config.config; packets = c.args.lists.now; verdicts = under.verdicts } in
+    let s : Setting = record { config = c.in_ok-config.config; wire = Wait; packets = c.args.lists.now; verdicts = under.verdicts } in
     ended_as c.args.layout.now c.args.program c.args.order c.in_ok-config.config c.args.lists.now c.in_ok-config.frames.items (lists_in c.args.lists.now) c.in-Ok.run'
     c.in_ok-config.ensures.config c.requires.listed c.in_ok-config.ensures.frames under.verdicts
     (subst (λ rule. IsRuled rule s) (ap (λ attached. attached.rule) c.attach-attached.ensures.parts ∙ c.rule_of-rule.ensures) (asked_ruled _ c.attach-attached.result.rule c.attach-attached.result.decide s under.asked)) under.ended
