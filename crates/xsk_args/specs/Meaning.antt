@@ -6,14 +6,16 @@ use Rattle.std.specs.Str.{bytes_eq}
 use Rattle.xsk_args.specs.Words.{Text, Stated, Said, said_of, spoken}
 use Rattle.xsk_args.specs.Number.{number_in}
 use Rattle.xsk_args.specs.Program.{program_in}
+use Rattle.xsk_args.specs.Wire.{wire_in}
 use Rattle.xsk_args.specs.declared.table.OptionRow.{OptionRow}
 use Rattle.xsk_args.specs.declared.table.Takes.{Takes}
-use Rattle.xsk_args.specs.declared.table.Takes.TheVariants.{Nothing, Number, Program, AnyText}
+use Rattle.xsk_args.specs.declared.table.Takes.TheVariants.{Nothing, Number, Program, Wire, AnyText}
 
 abbrev pub has_value : Takes → Bool
 has_value Nothing = false
 has_value Number = true
 has_value Program = true
+has_value Wire = true
 has_value AnyText = true
 
 -- an option by its name and by what it takes
@@ -43,6 +45,7 @@ abbrev pub is_taken : Takes → Text → Bool
 is_taken Nothing value = true
 is_taken Number value = is_some (number_in value)
 is_taken Program value = is_some (program_in value)
+is_taken Wire value = is_some (wire_in value)
 is_taken AnyText value = true
 
 -- what was said under the option's name is what it takes

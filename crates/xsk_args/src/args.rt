@@ -5,11 +5,13 @@ ghost use Rattle.clap.specs.Words.{all_of, found_of, rows_of};
 ghost use Rattle.xsk_args.specs.Number.{number_in};
 ghost use Rattle.xsk_args.specs.Meaning.{HasNoFileRow, fits, is_taken, key_of, meaning, meant, one_value, under};
 ghost use Rattle.xsk_args.specs.Program.{program_in};
+ghost use Rattle.xsk_args.specs.Wire.{wire_in};
 
 use crate::command::{FILES, matches};
 use crate::number::parse_number;
 use crate::program::parse_program;
-use crate::{ArgsError, OptionRow, Program, Takes};
+use crate::wire::parse_wire;
+use crate::{ArgsError, OptionRow, Program, Takes, Wire};
 use clap::ArgMatches;
 use std::alloc::Global;
 use std::marker::Model;
@@ -102,6 +104,7 @@ fn takes_text(takes: Takes, text: &str) -> bool
     match takes {
         Takes::Number => parse_number(text).is_some(),
         Takes::Program => parse_program(text).is_some(),
+        Takes::Wire => parse_wire(text).is_some(),
         Takes::Nothing | Takes::AnyText => true,
     }
 }
@@ -119,6 +122,13 @@ impl<'a> Args<'a> {
         ensures { result ≡ option_and_then program_in (one_value (under self.now name.now)) }
     {
         parse_program(self.text(name)?)
+    }
+
+    /// The wire that was said under the name, where one was.
+    pub fn wire(&self, name: &str) -> Option<Wire>
+        ensures { result ≡ option_and_then wire_in (one_value (under self.now name.now)) }
+    {
+        parse_wire(self.text(name)?)
     }
 
     /// The value that was said under the name, where one was.

@@ -81,6 +81,6 @@ fn option<'a>(alloc: Global, row: OptionRow) -> Arg<'a>
         .action(ArgAction::Set);
     match row.takes {
         Takes::Nothing => option.num_args(0),
-        Takes::Number | Takes::Program | Takes::AnyText => option,
+        Takes::Number | Takes::Program | Takes::Wire | Takes::AnyText => option,
     }
 }

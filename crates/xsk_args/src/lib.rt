@@ -7,12 +7,14 @@ mod error;
 mod number;
 mod program;
 mod table;
+mod wire;
 
 pub use args::{Args, parse};
 pub use error::ArgsError;
 pub use number::parse_number;
 pub use program::{Program, parse_program};
 pub use table::{OptionRow, Takes};
+pub use wire::{Wire, parse_wire};
 
 #[cfg(test)]
 mod tests;

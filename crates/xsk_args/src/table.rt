@@ -8,6 +8,8 @@ pub enum Takes {
     Number,
     /// `redirect`, `pass`, `drop`, `type:HHHH` or `fixed:N`.
     Program,
+    /// `wait` or `drop`.
+    Wire,
     /// Any word.
     AnyText,
 }

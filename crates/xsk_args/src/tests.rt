@@ -3,7 +3,7 @@ use super::*;
 use std::alloc::{AllocError, Global};
 use std::test::Fail;
 
-static TABLE: [OptionRow; 4] = [
+static TABLE: [OptionRow; 5] = [
     OptionRow {
         name: "rx",
         takes: Takes::Number,
@@ -15,6 +15,10 @@ static TABLE: [OptionRow; 4] = [
     OptionRow {
         name: "prog",
         takes: Takes::AnyText,
+    },
+    OptionRow {
+        name: "wire",
+        takes: Takes::Wire,
     },
     OptionRow {
         name: "sg",
@@ -95,6 +99,28 @@ fn values(rt: HostRuntime) -> Result<(), Fail> {
     }
     assert!(rt; !is_usage(rt.alloc(), "simulate a --prog -")?);
     assert!(rt; !is_usage(rt.alloc(), "simulate a --prog=")?);
+    Ok(())
+}
+
+#[test]
+fn wires(rt: HostRuntime) -> Result<(), Fail> {
+    for line in [
+        "simulate --wire= a",
+        "simulate --wire Wait a",
+        "simulate --wire=dropped a",
+        "simulate --wire=wait --wire=wait a",
+    ] {
+        assert!(rt; is_usage(rt.alloc(), line)?, "{line}");
+    }
+    for (line, wire) in [
+        ("simulate --wire wait a", Some(Wire::Wait)),
+        ("simulate a --wire=drop", Some(Wire::Drop)),
+        ("simulate a", None),
+    ] {
+        let words = words_of(rt.alloc(), line)?;
+        let args = parse(rt.alloc(), "simulate", TABLE.as_slice(), words.as_slice())?;
+        assert_eq!(rt; args.wire("wire"), wire, "{line}");
+    }
     Ok(())
 }
 
