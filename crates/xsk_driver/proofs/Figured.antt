@@ -24,7 +24,7 @@ same_counter : (c : Config) (counter : List ℕ) (number : ℕ → ℕ) → ((cl
     → counter_to (classes_of c) counter ≡ by_class c number
 same_counter c counter number each =
     let at : (class : ℕ) → cond (nat_lt class (classes_of c)) (slice_index_or counter class 0) 0 ≡ cond (nat_lt class (classes_of c)) (capped (number class)) 0
-        = λ class. below class (classes_of c) (slice_index_or counter class 0) (capped (number class)) (each class) in
+    = λ class. below class (classes_of c) (slice_index_or counter class 0) (capped (number class)) (each class) in
     cc (at 0, at 1, at 2, at 3)
 
 same_counters : (c : Config) (pair : ℕ) (disposals : List Disposal) (counters : DriverCounters) (l : List Told) → IsCounted c pair disposals counters l

@@ -30,13 +30,13 @@ by_class c number = map (λ class. if nat_lt class (classes_of c) then capped (n
 -- the counters of the driver of a pair, whose packets have these disposals
 abbrev pub counters_of : Config → ℕ → List Disposal → List Told → DriverCounters
 counters_of c pair disposals l = record {
-    rx_dropped = capped (drops_of disposals);
-    rx_invalid_descs = capped (frameless (peeked_of (Fill pair) l));
-    rx_fill_ring_empty_descs = capped (empties_of (Fill pair) l);
-    rx_ring_full = by_class c (λ class. fulls_of (Rx (socket_at_class c pair class)) l);
-    tx_invalid_descs = by_class c (λ class. bad_items (packets c.geometry c.sg (peeked_of (Tx (socket_at_class c pair class)) l)));
-    tx_ring_empty_descs = by_class c (λ class. empties_of (Tx (socket_at_class c pair class)) l);
-  }
+  rx_dropped = capped (drops_of disposals);
+  rx_invalid_descs = capped (frameless (peeked_of (Fill pair) l));
+  rx_fill_ring_empty_descs = capped (empties_of (Fill pair) l);
+  rx_ring_full = by_class c (λ class. fulls_of (Rx (socket_at_class c pair class)) l);
+  tx_invalid_descs = by_class c (λ class. bad_items (packets c.geometry c.sg (peeked_of (Tx (socket_at_class c pair class)) l)));
+  tx_ring_empty_descs = by_class c (λ class. empties_of (Tx (socket_at_class c pair class)) l);
+}
 
 -- the figures of the driver of a pair, by its input, the number of packets that it sent, and its own calls and replies
 abbrev pub driver_figures_by : Wire → Config → ℕ → List Judged → ℕ → List Told → DriverFigures

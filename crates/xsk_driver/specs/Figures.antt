@@ -40,10 +40,10 @@ counter_to classes counter = map (λ class. if nat_lt class classes then slice_i
 
 abbrev pub counters_to : ℕ → DriverCounters → DriverCounters
 counters_to classes counters = record counters {
-    rx_ring_full = counter_to classes counters.rx_ring_full;
-    tx_invalid_descs = counter_to classes counters.tx_invalid_descs;
-    tx_ring_empty_descs = counter_to classes counters.tx_ring_empty_descs;
-  }
+  rx_ring_full = counter_to classes counters.rx_ring_full;
+  tx_invalid_descs = counter_to classes counters.tx_invalid_descs;
+  tx_ring_empty_descs = counter_to classes counters.tx_ring_empty_descs;
+}
 
 -- the figures of a driver that has ended, from what it keeps
 abbrev pub figures_in : ℕ → Shown → DriverFigures

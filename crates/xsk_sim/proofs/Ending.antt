@@ -1,24 +1,64 @@
 -- How a run ends.
-use Rattle.std.proofs.Common.{◌≡◌, ℕ, ◌+◌, ◌<◌, ◌≤◌, List, [], length, get_or, ap, subst, ◌∙◌, arith, ⊎_elim}
+use Rattle.std.proofs.Common.{◌≡◌, ℕ, map, ◌+◌, ◌<◌, ◌≤◌, List, [], ◌∷◌, ◌++◌, length, take, get_or, ap, sym, subst, ◌∙◌, arith, ⊎_elim}
 use Rattle.std.proofs.lemmas.Bool.{cases_lt}
 use Rattle.xsk_turns.specs.Stepping.{joined_ask}
 use Rattle.xsk_umem.specs.Frame.{Frame}
-use Rattle.xsk_model.specs.Config.{IsRegular, callers_of}
-use Rattle.xsk_model.specs.Entry.{Entry, own}
+use Rattle.std.specs.List.{range_with_len}
+use Rattle.std.proofs.lemmas.List.{length-map, map_push, take_more}
+use Rattle.std.proofs.lemmas.List.FromFn.{fill_by_all}
+use Rattle.xsk_model.specs.Config.{IsRegular, callers_of, classes_of}
+use Rattle.xsk_model.specs.Entry.{Entry, Told, own}
+use Rattle.xsk_model.specs.Stored.{stored_entry}
 use Rattle.xsk_model.specs.History.{IsHistory}
 use Rattle.xsk_model.specs.Sent.{sent}
 use Rattle.xsk_model.proofs.Theorems.{one_holder}
+use Rattle.xsk_turns.specs.Counted.{capped}
+use Rattle.xsk_turns.specs.declared.wire.Wire.{Wire}
+use Rattle.xsk_driver.specs.Figures.{figures_in}
+use Rattle.xsk_driver.specs.Figured.{driver_figures_by, driver_figures_of, figures_of}
+use Rattle.xsk_driver.specs.Runs.{StandsWith}
+use Rattle.xsk_driver.specs.Shown.{Shown as DriverShown}
+use Rattle.xsk_driver.specs.declared.figures.DriverFigures.{DriverFigures}
+use Rattle.xsk_driver.specs.declared.figures.Figures.{Figures}
+use Rattle.xsk_driver.proofs.Figured.{figures_at_end}
+use Rattle.xsk_model.specs.declared.call.Act.{Act}
 use Rattle.xsk_model.specs.declared.call.Act.TheVariants.{Ended as IsEnd}
+use Rattle.xsk_plain.proofs.Parts.{length-entries}
 use Rattle.xsk_plain.specs.Engine.{Engine}
+use Rattle.xsk_plain.specs.Log.{calls_of, entries_of, item_of}
+use Rattle.xsk_plain.specs.declared.log.Log.{Log}
 use Rattle.xsk_sim.specs.Shown.{Shown}
-use Rattle.xsk_turns.specs.Workers.{Setting, IsWorkerRun, IsWholeRun}
+use Rattle.xsk_turns.specs.Workers.{Setting, IsWorkerRun, IsWholeRun, input_of}
 use Rattle.xsk_sim.specs.Runs.{HasEnded, HasStalled, last_round_of}
-use Rattle.xsk_machine.specs.Acts.{IsActAfter}
-use Rattle.xsk_sim.specs.Seats.{EachFrom, own_in, AreSeated, HadRounds, HaveEnded, kept_lists}
+use Rattle.xsk_machine.specs.Acts.{IsActAfter, DriverStands}
+use Rattle.xsk_sim.specs.Seats.{EachFrom, own_in, AreSeated, HadRounds, HaveEnded, kept_lists, kept_figures}
 use Rattle.xsk_sim.specs.declared.rounds.Workers.{Workers}
 use Rattle.xsk_machine.proofs.Acts.{worker_run, sent_at}
 use Rattle.xsk_machine.proofs.Within.{AreWithin, are_within}
 use Rattle.xsk_sim.proofs.Seating.{each_at, each_of, each_shows, each_tells, each_change, each_move, all_whole, some_open, IsOpen}
+
+-- each entry of a log is a call
+pub log_count : (log : Log) → calls_of log ≡ length (entries_of log)
+log_count log = sym (length-entries log.rows.items (map (item_of log.bytes.items) log.pieces.items))
+
+abbrev pub whole_of : ℕ → Wire → List DriverFigures → Figures
+whole_of calls wire drivers = record { calls = calls; wire = wire; drivers = drivers }
+
+-- the figures of a driver that has ended
+figures_at : (s : Setting) (who : ℕ) (d : DriverShown) (act : Act) (l : List Told) (packets : List (List ℕ)) → act ≡ IsEnd → DriverStands s who d act l → d.sent.packets ≡ packets
+    → figures_in (classes_of s.config) d ≡ driver_figures_by s.wire s.config who (input_of s who) (length packets) l
+figures_at s who d act l packets is stands kept =
+    let ended : StandsWith s.wire s.config who (input_of s who) d IsEnd l = subst (λ a. StandsWith s.wire s.config who (input_of s who) d a l) is stands.stands in
+    figures_at_end s.wire s.config who (input_of s who) d l ended ∙ ap (λ (ps : List (List ℕ)). driver_figures_by s.wire s.config who (input_of s who) (length ps) l) kept
+
+-- the figures of all
+figures_whole : (s : Setting) (h : List Entry) (wire : Wire) (calls : ℕ) (drivers : List DriverFigures) → wire ≡ s.wire → calls ≡ length h → calls ≤ 18446744073709551615
+    → drivers ≡ map (driver_figures_of s h) (range_with_len 0 (length s.config.pairs)) → whole_of calls wire drivers ≡ figures_of s h
+figures_whole s h wire calls drivers same number fits each =
+    let capped_calls : calls ≡ capped calls = omega arith in
+    ap (λ (n : ℕ). whole_of n wire drivers) (capped_calls ∙ ap capped number)
+    ∙ ap (λ (x : Wire). whole_of (capped (length h)) x drivers) same
+    ∙ ap (whole_of (capped (length h)) s.wire) each
 
 module _ (s : Setting) (frames : List Frame) (h : List Entry) (w : Workers) (engine : Engine) (seated : AreSeated s frames h w engine) where
   drivers_after : EachFrom w.drivers.items 0 (λ who seat. IsActAfter s who (joined_ask seat.ask seat.items) (own_in h who))
@@ -74,11 +114,35 @@ module _ (s : Setting) (frames : List Frame) (h : List Entry) (w : Workers) (eng
       (each_shows w.drivers.items 0 (λ seat. seat.machine.sent.packets) (λ k. sent s.config h k) [] (driver_lists ended within) pair
       (omega (arith, below, seated.driver_count, w.drivers.ok.0)))
 
+  -- and figures
+  driver_figures : HaveEnded w → AreWithin s h → EachFrom w.drivers.items 0 (λ k seat. figures_in (classes_of s.config) seat.machine ≡ driver_figures_of s h k)
+  driver_figures ended within = each_of w.drivers.items 0 _
+      (λ i d below at.
+      let e : i ≡ 0 + i = omega arith in
+      let sits = each_at w.drivers.items 0 i i _ d seated.drivers below e at in
+      let act = each_at w.drivers.items 0 i i _ d ended.0 below e at in
+      let known : i < length s.config.pairs = omega (arith, below, seated.driver_count, w.drivers.ok.0) in
+      let kept : d.machine.sent.packets ≡ sent s.config h i = sent_at s i d.machine (joined_ask d.ask d.items) (own i h) act sits.0 (within i known) in
+      subst (λ k. figures_in (classes_of s.config) d.machine ≡ driver_figures_of s h k) e
+      (figures_at s i d.machine (joined_ask d.ask d.items) (own i h) (sent s.config h i) act sits.0 kept))
+
+  pub all_figures : HaveEnded w → AreWithin s h → kept_figures (classes_of s.config) w ≡ map (driver_figures_of s h) (range_with_len 0 (length s.config.pairs))
+  all_figures ended within =
+      let d : DriverFigures = driver_figures_of s h 0 in
+      let count : length w.drivers.items ≡ length s.config.pairs = omega (arith, seated.driver_count, w.drivers.ok.0) in
+      fill_by_all (driver_figures_of s h) (kept_figures (classes_of s.config) w) (length s.config.pairs) d
+      (length-map w.drivers.items (λ seat. figures_in (classes_of s.config) seat.machine) ∙ count)
+      (λ k below.
+      let e : 0 + k ≡ k = omega arith in
+      subst (λ j. get_or (kept_figures (classes_of s.config) w) k d ≡ driver_figures_of s h j) e
+      (each_shows w.drivers.items 0 (λ seat. figures_in (classes_of s.config) seat.machine) (driver_figures_of s h) d (driver_figures ended within) k (omega (arith, below, count))))
+
 -- a run that has ended
-pub ended_run : (s : Setting) (frames : List Frame) (order count : ℕ) (w : Workers) (engine : Engine) (run : Shown) → IsRegular s.config → (had : HadRounds s frames order count w engine)
+pub ended_run : (s : Setting) (frames : List Frame) (order count : ℕ) (w : Workers) (engine : Engine) (run : Shown) (classes calls : ℕ) (wire : Wire) → IsRegular s.config → (had : HadRounds s frames order count w engine)
     → count ≤ last_round_of s.packets + 1 → HaveEnded w → run.log ≡ engine.log → run.sent ≡ kept_lists w
+    → classes ≡ classes_of s.config → calls ≡ length engine.log → calls ≤ 18446744073709551615 → run.figures ≡ whole_of calls wire (kept_figures classes w) → wire ≡ s.wire
     → HasEnded s frames order run
-ended_run s frames order count w engine run regular had few ended log kept =
+ended_run s frames order count w engine run classes calls wire regular had few ended log kept sockets number fits figures same =
     let legal : IsHistory s.config frames had.history = had.seated.run.legal in
     let whole = whole_runs s frames had.history w engine had.seated ended in
     let within : AreWithin s had.history = are_within s frames had.history regular legal whole in
@@ -90,6 +154,8 @@ ended_run s frames order count w engine run regular had few ended log kept =
       whole = whole;
       log = log ∙ had.seated.run.log;
       holders = λ past later split. one_holder s.config frames past later (subst (IsHistory s.config frames) split legal);
+      figures = figures ∙ figures_whole s had.history wire calls (kept_figures classes w) same (number ∙ ap length had.seated.run.log ∙ length-map had.history (stored_entry s.config.geometry s.config.sg)) fits
+          (ap (λ (n : ℕ). kept_figures n w) sockets ∙ all_figures s frames had.history w engine had.seated ended within);
       sent = λ pair below. ap (λ lists. get_or lists pair []) kept ∙ all_sent s frames had.history w engine had.seated ended within pair below;
     }
 
@@ -106,3 +172,10 @@ stalled_run s frames order round w engine last had going =
       known = some.high;
       open_run = some.open_run;
     }
+
+-- one item more of what a function makes of a list
+pub made_more : {X Y : Type 0} (f : X → Y) (xs : List X) (i : ℕ) (x : X) (ys new : List Y) (y : Y) → i < length xs → x ≡ get_or xs i x → ys ≡ map f (take i xs) → y ≡ f x
+    → new ≡ ys ++ y ∷ [] → new ≡ map f (take (i + 1) xs)
+made_more f xs i x ys new y here at before is pushed =
+    pushed ∙ ap (λ zs. zs ++ y ∷ []) before ∙ ap (λ z. map f (take i xs) ++ z ∷ []) (is ∙ ap f at)
+    ∙ sym (map_push f (take i xs) (get_or xs i x)) ∙ ap (map f) (sym (take_more xs i x here))

@@ -21,6 +21,7 @@ use Rattle.xsk_turns.specs.declared.wire.Wire.{Wire}
 use Rattle.xsk_turns.specs.declared.wire.Wire.TheVariants.{Wait}
 use Rattle.xsk_laws.specs.Laws.{AreForwarded, AreExpected}
 use Rattle.xsk_driver.specs.Asking.{IsAnswer}
+use Rattle.xsk_driver.specs.Figured.{figures_of}
 use Rattle.xsk_sim.specs.Rounds.{AreRounds}
 use Rattle.xsk_sim.specs.Shown.{Shown}
 
@@ -40,7 +41,7 @@ pub record IsRoundHistory (s : Setting) (frames : List Frame) (order count : ℕ
 
 -- A run that has ended within the rounds that it may have: each worker's own calls and replies are a whole run. The log
 -- is the history as it is stored, after each of its prefixes each frame has one holder, and what is shown of each driver
--- are the packets that its calls on COMPLETION completed.
+-- are the packets that its calls on COMPLETION completed. The figures are counts over the history.
 pub record HasEnded (s : Setting) (frames : List Frame) (order : ℕ) (run : Shown) : Type 0 where
   pub history : List Entry
   pub count : ℕ
@@ -50,6 +51,7 @@ pub record HasEnded (s : Setting) (frames : List Frame) (order : ℕ) (run : Sho
   pub log : run.log ≡ stored s.config.geometry s.config.sg history
   pub holders : (past later : List Entry) → history ≡ past ++ later → HasOneHolder s.config.geometry.frames (state_after s.config frames past)
   pub sent : (pair : ℕ) → pair < length s.config.pairs → slice_index_or run.sent pair [] ≡ sent s.config history pair
+  pub figures : run.figures ≡ figures_of s history
 
 -- a run that has stalled: it had all rounds that it may have, of which this is the last, and some worker's own calls and
 -- replies aren't a whole run
@@ -103,6 +105,11 @@ OneHistory = (s : Setting) (frames : List Frame) (order count : ℕ) (h k : List
 abbrev pub OneLog : Type 0
 OneLog = (s : Setting) (frames : List Frame) (order : ℕ) (run other : Shown) → HasEnded s frames order run → HasEnded s frames order other
     → run.log ≡ other.log
+
+-- and one list of figures
+abbrev pub OneFigures : Type 0
+OneFigures = (s : Setting) (frames : List Frame) (order : ℕ) (run other : Shown) → HasEnded s frames order run → HasEnded s frames order other
+    → run.figures ≡ other.figures
 
 -- and no run both ends and stalls
 abbrev pub EndsOrStalls : Type 0

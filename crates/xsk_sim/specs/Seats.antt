@@ -9,6 +9,8 @@ use Rattle.xsk_model.specs.declared.call.Act.{Act}
 use Rattle.xsk_model.specs.declared.call.Act.TheVariants.{Ended as IsEnd}
 use Rattle.xsk_plain.specs.Engine.{Engine}
 use Rattle.xsk_driver.specs.Shown.{Shown as DriverShown}
+use Rattle.xsk_driver.specs.Figures.{figures_in}
+use Rattle.xsk_driver.specs.declared.figures.DriverFigures.{DriverFigures}
 use Rattle.xsk_app.specs.Shown.{Shown as AppShown}
 use Rattle.xsk_sim.specs.Order.{start_of, rotated, next_number}
 use Rattle.xsk_sim.specs.Rounds.{AreTurns, AreRounds}
@@ -82,3 +84,7 @@ HaveEnded w = EachFrom w.drivers.items 0 (λ who seat. joined_ask seat.ask seat.
 -- what the drivers keep of the packets that they sent
 abbrev pub kept_lists : Workers → List (List (List ℕ))
 kept_lists w = map (λ seat. seat.machine.sent.packets) w.drivers.items
+
+-- and their figures
+abbrev pub kept_figures : ℕ → Workers → List DriverFigures
+kept_figures classes w = map (λ seat. figures_in classes seat.machine) w.drivers.items

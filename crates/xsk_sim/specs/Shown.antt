@@ -1,8 +1,9 @@
 -- What a contract sees of a run: its log and the number of its calls, for how many pairs there is a list of sent packets,
--- and these lists.
+-- these lists, and its figures.
 use Rattle.std.specs.Prelude.{ℕ, List}
 use Rattle.xsk_umem.specs.PacketList.{PacketList}
 use Rattle.xsk_model.specs.Entry.{Entry}
+use Rattle.xsk_driver.specs.declared.figures.Figures.{Figures}
 pub use Rattle.xsk_machine.specs.Acts.{HasShortPackets}
 
 pub record Shown : Type 0 where
@@ -10,6 +11,7 @@ pub record Shown : Type 0 where
   pub pairs : ℕ
   pub log : List Entry
   pub sent : List (List (List ℕ))
+  pub figures : Figures
 
 abbrev pub packets_in : PacketList → List (List ℕ)
 packets_in list = list.packets

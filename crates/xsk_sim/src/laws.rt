@@ -1,6 +1,6 @@
 //! The laws of runs, each the contract of a function that does nothing. They are stated in `specs/Runs.antt`.
 
-ghost use Rattle.xsk_sim.specs.Runs.{OneHistory, OneLog, EndsOrStalls, EndsAsRuled, StallsAsRuled, EndedIsForwarded, EndedIsExpected};
+ghost use Rattle.xsk_sim.specs.Runs.{OneHistory, OneLog, OneFigures, EndsOrStalls, EndsAsRuled, StallsAsRuled, EndedIsForwarded, EndedIsExpected};
 
 /// For each number of rounds there is one history in rounds of the workers of a configuration over packets with verdicts.
 pub fn one_history()
@@ -10,6 +10,11 @@ pub fn one_history()
 /// So there is one log of a run that has ended.
 pub fn one_log()
     ensures { OneLog }
+{}
+
+/// So there is one list of figures.
+pub fn one_figures()
+    ensures { OneFigures }
 {}
 
 /// No run both ends and stalls.

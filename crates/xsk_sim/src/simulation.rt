@@ -2,12 +2,13 @@
 ghost use Rattle.std.specs.Prelude.{◌≡◌, ◌<◌, ◌≤◌, ◌+◌, ℕ, false, Err, List, [], All, IfSome, IfOk, OnOk, length, map, vec_len};
 ghost use Rattle.std.specs.List.{concat, slice_index_or};
 ghost use Rattle.xsk_umem.specs.Geometry.{IsGeometry};
-ghost use Rattle.xsk_model.specs.Config.{IsRegular};
+ghost use Rattle.xsk_model.specs.Config.{IsRegular, classes_of};
 ghost use Rattle.xsk_model.specs.Opening.{AreFrames};
 ghost use Rattle.xsk_model.specs.Marks.{apps_of};
 ghost use Rattle.xsk_umem.specs.Frame.{Frame};
 ghost use Rattle.xsk_plain.specs.Log.{calls_of, entries_of};
 ghost use Rattle.xsk_turns.specs.Inputs.{inputs_of};
+ghost use Rattle.xsk_driver.specs.Figures.{figures_in};
 ghost use Rattle.xsk_driver.specs.Sent.{IsShort};
 ghost use Rattle.xsk_sim.specs.Shown.{HasShortPackets, packets_in};
 ghost use Rattle.xsk_turns.specs.Stepping.{joined_ask};
@@ -25,7 +26,7 @@ use std::alloc::Global;
 use std::marker::Model;
 use thiserror::Error;
 use xsk_app::App;
-use xsk_driver::{Driver, Inputs, Wire};
+use xsk_driver::{Driver, DriverFigures, FigureList, Figures, Inputs, Wire};
 use xsk_machine::driver_for;
 use xsk_model::Config;
 use xsk_plain::{Log, Plain};
@@ -54,11 +55,12 @@ impl From<OutOfMemory> for SimError {
     }
 }
 
-/// A run that has ended: the log of all calls, and what each driver sent.
+/// A run that has ended: the log of all calls, what each driver sent, and the figures.
 #[derive(Drop)]
 pub struct Run {
     plain: Plain,
     sent: Vec<PacketList>,
+    figures: Figures,
 }
 
 impl Model for Run {
@@ -67,7 +69,7 @@ impl Model for Run {
 
     ghost Value = { Shown };
 
-    ghost view = { λ r. record { calls = r.plain.calls; pairs = vec_len r.sent; log = r.plain.log; sent = map packets_in r.sent.items } };
+    ghost view = { λ r. record { calls = r.plain.calls; pairs = vec_len r.sent; log = r.plain.log; sent = map packets_in r.sent.items; figures = r.figures } };
 
     ghost invariant = { λ r. All HasShortPackets r.sent.items };
 }
@@ -79,6 +81,13 @@ impl Run {
         ensures entries { entries_of result.now ≡ self.now.log }
     {
         self.plain.log()
+    }
+
+    /// What the run comes to in numbers, each a count over its calls and replies.
+    pub fn figures(&self) -> &Figures
+        ensures { result.now ≡ self.now.figures }
+    {
+        &self.figures
     }
 
     /// What the drivers sent, by their pairs. The log is given up.
@@ -142,6 +151,7 @@ pub fn simulate<F: Fn(&[u8], u32) -> Verdict>(
 {
     let shared = config.copy(alloc)?;
     let inputs = Inputs::split(alloc, &shared, packets)?;
+    let classes = shared.classes();
     let workers = Workers {
         drivers: seat_drivers(alloc, &shared, packets, &inputs, program, wire)?,
         apps: seat_apps(alloc, &shared)?,
@@ -154,16 +164,20 @@ pub fn simulate<F: Fn(&[u8], u32) -> Verdict>(
         alloc,
         workers,
         plain,
+        classes,
+        wire,
         Order::new(order),
         last_round(packets),
     )
 }
 
-/// Makes rounds until all workers have ended, and collects what the drivers sent.
+/// Makes rounds until all workers have ended, and collects what the drivers sent and their figures.
 fn run_workers(
     alloc: Global,
     workers: Workers<'_>,
     plain: Plain,
+    classes: u32,
+    wire: Wire,
     order: Order,
     last: u64,
 ) -> Result<Run, SimError>
@@ -171,6 +185,7 @@ fn run_workers(
     requires ready { AreReady workers plain }
     ensures pairs { IfOk result (λ run. run.pairs ≡ vec_len workers.entry.drivers) }
     ensures ended { (s : Setting) (frames : List Frame) → IsRegular s.config → AreSeated s frames [] workers.entry plain → last ≡ last_round_of s.packets
+        → classes ≡ classes_of s.config → wire ≡ s.wire
         → IfOk result (HasEnded s frames order.number) }
     ensures stalled { (s : Setting) (frames : List Frame) (round : ℕ) → AreSeated s frames [] workers.entry plain → last ≡ last_round_of s.packets
         → result ≡ Err (SimError.Stalled round) → HasStalled s frames order.number round }
@@ -178,8 +193,19 @@ fn run_workers(
     let mut workers = workers;
     let mut plain = plain;
     make_rounds(&mut workers, &mut plain, order, last)?;
+    let calls = u64::from(plain.log().len());
+    let drivers = collect_figures(alloc, workers.drivers.as_slice(), classes)?;
     let sent = collect_sent(alloc, workers)?;
-    Ok(Run { plain, sent })
+    let figures = Figures {
+        calls,
+        wire,
+        drivers,
+    };
+    Ok(Run {
+        plain,
+        sent,
+        figures,
+    })
 }
 
 /// The last round that may be made.
@@ -260,6 +286,21 @@ fn seat_apps<'a>(alloc: Global, config: &'a Config) -> Result<Vec<Seat<App<'a>>>
         seats.push(Seat::new(alloc, App::new(alloc, config, app)?))?;
     }
     Ok(seats)
+}
+
+/// The figures of drivers that have ended, each of whose queues has so many sockets.
+fn collect_figures(
+    alloc: Global,
+    drivers: &[Seat<Driver<'_>>],
+    classes: u32,
+) -> Result<FigureList, OutOfMemory>
+    ensures { IfOk result (λ figures. figures ≡ map (λ seat. figures_in classes seat.machine) drivers.now) }
+{
+    let mut figures = FigureList::new(alloc);
+    for seat in drivers {
+        figures.push(DriverFigures::of_driver(seat.machine(), classes))?;
+    }
+    Ok(figures)
 }
 
 /// What each driver keeps of the packets that it sent.

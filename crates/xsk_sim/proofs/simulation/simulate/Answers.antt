@@ -1,6 +1,6 @@
-use Rattle.std.proofs.Common.{ℕ, [], subst, refl}
+use Rattle.std.proofs.Common.{ℕ, [], subst, refl, ap, ◌∙◌}
 use Rattle.std.specs.Prelude.{IfOk}
-use Rattle.xsk_model.specs.Config.{Config, IsConfig}
+use Rattle.xsk_model.specs.Config.{Config, IsConfig, classes_of}
 use Rattle.xsk_turns.specs.Workers.{Setting, AreGiven}
 use Rattle.xsk_driver.specs.Asking.{IsAnswer}
 use Rattle.xsk_sim.proofs.Verdicts.{if_ok}
@@ -38,7 +38,7 @@ returns-clause-ended g c =
     let s : Setting = record { config = c.args.config; wire = c.args.wire; packets = c.args.packets.now; verdicts = c.in_ok-seat_drivers.ensures.seated.0 } in
     if_ok c.run_workers.result (HasEnded s c.args.frames.items c.args.order) _ (λ run ended. record { verdicts = s.verdicts; asked = asked g c; ended = ended })
     (subst (λ (number : ℕ). IfOk c.run_workers.result (HasEnded s c.args.frames.items number)) c.new.ensures
-    (c.run_workers.ensures.ended s c.args.frames.items c.requires.regular (seated g c) c.last_round.ensures))
+    (c.run_workers.ensures.ended s c.args.frames.items c.requires.regular (seated g c) c.last_round.ensures (c.classes-classes.ensures ∙ ap classes_of c.in_ok-shared.ensures) refl))
 
 pub returns-clause-stalled : goal.returns-clause-stalled
 returns-clause-stalled g c round is =
