@@ -1,21 +1,18 @@
 -- The bytes of the inputs have one outcome.
-use Rattle.std.proofs.Common.{◌≡◌, ℕ, ◌<◌, ◌⊎◌, List, [], length, get_or, refl, sym, ap, ◌∙◌, subst, inl, inr, ⊎_elim, arith, Some, None, Option}
+use Rattle.std.proofs.Common.{◌≡◌, ℕ, ◌<◌, ◌⊎◌, List, [], length, map, get_or, refl, sym, ap, ◌∙◌, subst, inl, inr, ⊎_elim, arith, Some, None, Option}
 use Rattle.std.proofs.lemmas.Bool.{cases_order}
-use Rattle.std.proofs.lemmas.List.{length-map}
 use Rattle.std.proofs.lemmas.Option.{same_Some}
-use Rattle.xsk_model.specs.Stored.{stored_entry}
+use Rattle.xsk_model.specs.Entry.{Entry}
 use Rattle.xsk_pcap.specs.declared.reading.BadCapture.{BadCapture as Cause}
+use Rattle.xsk_pcap.specs.Written.{written}
 use Rattle.xsk_pcap.proofs.CaptureLaws.{one_reading, one_refusal, refused_is_no_capture}
-use Rattle.xsk_sim.specs.Shown.{Shown}
-use Rattle.xsk_sim.specs.Runs.{HasEnded}
-use Rattle.xsk_sim.proofs.Unique.{one_log, ends_or_stalls}
+use Rattle.xsk_sim.proofs.Unique.{one_run, ends_or_stalls}
 use Rattle.xsk_cli.specs.Judged.{bytes_of, AreShort, IsTooLong, AreCaptures, IsBadCapture, excess_of}
-use Rattle.xsk_cli.specs.Outcome.{Written, Outcome, long, bad, passed, stalled, made, AreListsOf, AreTextsBy, AreTextsOf, IsOutcomeOf, IsOutcomeIn, IsOutcome, IsStalledBy, OneOutcome, setting_of, frames_of, report_of}
+use Rattle.xsk_cli.specs.Outcome.{Written, Outcome, long, bad, passed, stalled, made, AreListsOf, AreTextsBy, AreTextsOf, IsOutcomeOf, IsOutcomeIn, IsOutcome, IsStalledBy, OneOutcome, setting_of, frames_of, ports_of, report_of, sent_from}
 use Rattle.xsk_args.specs.declared.program.Program.{Program}
 use Rattle.xsk_cli.specs.declared.words.Work.{Work}
 use Rattle.xsk_cli.specs.declared.words.Work.TheVariants.{Simulate, Generate}
 use Rattle.xsk_socket.specs.declared.layout.Layout.{Layout}
-use Rattle.xsk_socket.specs.Regular.{regular_of}
 use Rattle.xsk_cli.specs.declared.status.Excess.{Excess}
 use Rattle.xsk_cli.proofs.Ports.{same_lists}
 
@@ -73,15 +70,15 @@ bad_not_packets (Generate number) inputs p c lists a b = none_bad inputs p b.0 a
 
 -- ---- runs
 
-module _ (layout : Layout) (program : Program) (order : ℕ) (lists : List (List (List ℕ))) where
-  count_of_log : (run : Shown) → (ended : HasEnded (setting_of layout program lists) (frames_of layout) order run) → length run.log ≡ length ended.history
-  count_of_log run ended = ap length ended.log ∙ length-map ended.history (stored_entry (regular_of layout).geometry (regular_of layout).sg)
+module _ (layout : Layout) (program : Program) (order : ℕ) (lists : List (List (List ℕ))) (a b : Written) (s : AreTextsOf layout program order lists a) (t : AreTextsOf layout program order lists b) where
+  same_history : s.ended.history ≡ t.ended.history
+  same_history = one_run (setting_of layout program lists) (frames_of layout) order s.run t.run s.ended t.ended
 
-  one_report : (a b : Written) → AreTextsOf layout program order lists a → AreTextsOf layout program order lists b → a.report ≡ b.report
-  one_report a b s t =
-      s.report
-      ∙ ap report_of (sym (count_of_log s.run s.ended) ∙ ap length (one_log (setting_of layout program lists) (frames_of layout) order s.run t.run s.ended t.ended) ∙ count_of_log t.run t.ended)
-      ∙ sym t.report
+  same_outputs : a.outputs ≡ b.outputs
+  same_outputs = s.sent ∙ ap (λ h. map (λ port. written (sent_from layout h port)) (ports_of layout)) same_history ∙ sym t.sent
+
+  same_report : a.report ≡ b.report
+  same_report = s.report ∙ ap (λ (h : List Entry). report_of (length h)) same_history ∙ sym t.report
 
 same_written : (a b : Written) → a.outputs ≡ b.outputs → a.report ≡ b.report → made a ≡ made b
 same_written a b outputs report =
@@ -89,7 +86,7 @@ same_written a b outputs report =
     ∙ ap (λ report. made (record { outputs = b.outputs; report = report })) report
 
 one_made : (work : Work) (lists : List (List (List ℕ))) (a b : Written) → AreTextsBy work lists a → AreTextsBy work lists b → made a ≡ made b
-one_made (Simulate layout program order number) lists a b s t = same_written a b (s.redirected ∙ sym t.redirected) (one_report layout program order lists a b s t)
+one_made (Simulate layout program order number) lists a b s t = same_written a b (same_outputs layout program order lists a b s t) (same_report layout program order lists a b s t)
 one_made (Generate number) lists a b s t = same_written a b (s.0 ∙ sym t.0) (s.1 ∙ sym t.1)
 
 one_stall : (work : Work) (lists : List (List (List ℕ))) (r s : ℕ) → IsStalledBy work lists r → IsStalledBy work lists s → r ≡ s

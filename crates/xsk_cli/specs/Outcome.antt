@@ -1,5 +1,5 @@
 -- What a command's work makes of the bytes of its inputs. There is one outcome of them.
-use Rattle.std.specs.Prelude.{◌≡◌, ◌&&◌, ℕ, ◌<◌, Bool, List, [], ◌∷◌, ◌++◌, length, map, filter, codes, None, Some}
+use Rattle.std.specs.Prelude.{◌≡◌, ◌&&◌, ◌==◌, ℕ, ◌<◌, Bool, List, [], ◌∷◌, ◌++◌, length, map, filter, codes, None, Some}
 use Rattle.std.specs.Fmt.{decimal}
 use Rattle.std.specs.List.{concat, range_with_len, slice_index_or}
 use Rattle.xsk_umem.specs.PacketList.{PacketList}
@@ -7,10 +7,13 @@ use Rattle.xsk_umem.specs.Registration.{fresh}
 use Rattle.xsk_umem.specs.Frame.{Frame}
 use Rattle.xsk_model.specs.Sent.{sent}
 use Rattle.xsk_model.specs.Config.{map_of}
-use Rattle.xsk_model.specs.Steering.{paired_port, socket_on}
+use Rattle.xsk_model.specs.Entry.{Entry}
+use Rattle.xsk_model.specs.Steering.{packet_class, paired_port, driver_on, socket_on}
 use Rattle.xsk_gen.specs.Generator.{first, packet}
-use Rattle.xsk_laws.specs.Expected.{has_length, leads_to}
+use Rattle.xsk_laws.specs.Expected.{expected, has_length, leads_to}
+use Rattle.xsk_laws.specs.Laws.{AreExpected, IsPlace}
 use Rattle.xsk_socket.specs.declared.layout.Layout.{Layout}
+use Rattle.xsk_socket.specs.Layout.{fault_of}
 use Rattle.xsk_socket.specs.Regular.{regular_of}
 use Rattle.xsk_sim.specs.Shown.{Shown}
 use Rattle.xsk_args.specs.declared.program.Program.{Program}
@@ -18,6 +21,7 @@ use Rattle.xsk_args.specs.declared.program.Program.TheVariants.{Redirect, Pass, 
 use Rattle.xsk_prog.specs.Rules.{verdict_of}
 use Rattle.xsk_prog.specs.declared.rule.Rule.{Rule}
 use Rattle.xsk_prog.specs.declared.rule.Rule.TheVariants.{Redirect as ByClass, Pass as PassAll, Drop as DropAll, EtherType as TypeByClass, Fixed as ByCell}
+use Rattle.xsk_turns.specs.Inputs.{packets_of_queue}
 use Rattle.xsk_turns.specs.Workers.{Setting, ruled}
 use Rattle.xsk_sim.specs.Runs.{HasEnded, HasStalled}
 use Rattle.xsk_pcap.specs.Written.{written}
@@ -86,31 +90,46 @@ report_on packets = codes "packets " ++ decimal (length packets) ++ codes " byte
 abbrev pub capture_of : List (List ℕ) → List ℕ
 capture_of packets = written (packets ∷ [])
 
--- whether a packet that a port received is sent on: it has 14 bytes up to the number that a frame holds or, with `sg`, that
--- 18 frames hold, and the program redirects it to a cell that the port's map has and that holds the port's socket
-abbrev pub goes_on : Layout → Program → ℕ → List ℕ → Bool
-goes_on layout program port packet = has_length (regular_of layout) packet
-    && leads_to (map_of (regular_of layout) port) (socket_on (regular_of layout) port 0 0) (verdict_of (rule_by layout.sockets program) packet 0)
-
--- what a port's output tells: exactly what the other port received and sends on, in order and whole
-abbrev pub sent_on_by : Layout → Program → List (List (List ℕ)) → ℕ → List (List ℕ)
-sent_on_by layout program lists port = filter (goes_on layout program (paired_port port)) (slice_index_or lists (paired_port port) [])
-
--- where each packet is redirected and no cell is left empty, all that have such a length are sent on
-abbrev pub AllGoOn : Type 0
-AllGoOn = (layout : Layout) (lists : List (List (List ℕ))) (port : ℕ) → layout.ports ≡ 2 → layout.queues ≡ 1 → layout.sockets ≡ 1 → layout.empty ≡ None → port < 2
-    → sent_on_by layout Redirect lists port ≡ filter (has_length (regular_of layout)) (slice_index_or lists (paired_port port) [])
-
 abbrev pub ports_of : Layout → List ℕ
 ports_of layout = range_with_len 0 layout.ports
 
--- The texts of a run of these packets that has ended: what each driver sent, and the number of calls. What is sent by each
--- port is what the other port received and sends on.
+abbrev pub queues_of : Layout → List ℕ
+queues_of layout = range_with_len 0 layout.queues
+
+-- what the drivers of a port sent by a history, that of queue 0 first
+abbrev pub sent_from : Layout → List Entry → ℕ → List (List (List ℕ))
+sent_from layout history port = map (λ queue. sent (regular_of layout) history (driver_on (regular_of layout) port queue)) (queues_of layout)
+
+-- what a port received on a queue, where there is one list of packets for each port
+abbrev pub received_on : Layout → List (List (List ℕ)) → ℕ → ℕ → List (List ℕ)
+received_on layout lists port queue = packets_of_queue layout.queues queue (slice_index_or lists port [])
+
+-- whether a packet that a port received on a queue goes on by the socket of a class: it has 14 bytes up to the number that a
+-- frame holds or, with `sg`, that 18 frames hold, and the program redirects it to a cell that the port's map has and that
+-- holds this socket
+abbrev pub goes_on : Layout → Program → ℕ → ℕ → ℕ → List ℕ → Bool
+goes_on layout program port queue class packet = has_length (regular_of layout) packet
+    && leads_to (map_of (regular_of layout) port) (socket_on (regular_of layout) port queue class) (verdict_of (rule_by layout.sockets program) packet queue)
+
+-- what goes on of what a port received on a queue, in order and whole
+abbrev pub going_on : Layout → Program → List (List (List ℕ)) → ℕ → ℕ → ℕ → List (List ℕ)
+going_on layout program lists port queue class = filter (goes_on layout program port queue class) (received_on layout lists port queue)
+
+-- where each queue has one socket: all that goes on to a port, that of queue 0 first
+abbrev pub sent_on_by : Layout → Program → List (List (List ℕ)) → ℕ → List (List (List ℕ))
+sent_on_by layout program lists port = map (λ queue. going_on layout program lists (paired_port port) queue 0) (queues_of layout)
+
+-- The texts of a run of these packets that has ended: what the drivers of each port sent, and the number of calls. What the
+-- driver of a queue sent is what is expected there of all classes, and nothing else; with one socket on each queue each text
+-- is that of all that goes on to its port.
 pub record AreTextsOf (layout : Layout) (program : Program) (order : ℕ) (lists : List (List (List ℕ))) (texts : Written) : Type 0 where
   pub run : Shown
   pub ended : HasEnded (setting_of layout program lists) (frames_of layout) order run
-  pub sent : texts.outputs ≡ map (λ port. capture_of (sent (regular_of layout) ended.history port)) (ports_of layout)
-  pub redirected : texts.outputs ≡ map (λ port. capture_of (sent_on_by layout program lists port)) (ports_of layout)
+  pub sent : texts.outputs ≡ map (λ port. written (sent_from layout ended.history port)) (ports_of layout)
+  pub redirected : (port queue : ℕ) → port < layout.ports → queue < layout.queues
+      → AreExpected (regular_of layout) (map listed lists) (setting_of layout program lists).verdicts port queue
+      (sent (regular_of layout) ended.history (driver_on (regular_of layout) port queue))
+  pub one_socket : layout.sockets ≡ 1 → texts.outputs ≡ map (λ port. written (sent_on_by layout program lists port)) (ports_of layout)
   pub report : texts.report ≡ report_of (length ended.history)
 
 -- the texts that the work makes of packets: of a run, or of the packets themselves
@@ -149,3 +168,23 @@ IsOutcome work inputs (made texts) = AreShort inputs (length inputs) × IsOutcom
 -- it is a function of the work and of their bytes
 abbrev pub OneOutcome : Type 0
 OneOutcome = (work : Work) (inputs : List (List ℕ)) (some other : Outcome) → IsOutcome work inputs some → IsOutcome work inputs other → some ≡ other
+
+-- ---- what is expected, off the inputs and the words alone
+
+-- what is expected of a class on a port's queue is what goes on by its socket at the paired port
+abbrev pub ExpectedGoesOn : Type 0
+ExpectedGoesOn = (layout : Layout) (program : Program) (lists : List (List (List ℕ))) (port queue class : ℕ) → fault_of layout ≡ None
+    → IsPlace (regular_of layout) port queue class
+    → expected (regular_of layout) (map listed lists) (setting_of layout program lists).verdicts port queue class ≡ going_on layout program lists (paired_port port) queue class
+
+-- where each packet is redirected and no cell is left empty, all packets of the class go on that have such a length
+abbrev pub ClassGoesOn : Type 0
+ClassGoesOn = (layout : Layout) (lists : List (List (List ℕ))) (port queue class : ℕ) → layout.empty ≡ None
+    → port < layout.ports → queue < layout.queues → class < layout.sockets
+    → going_on layout Redirect lists port queue class
+    ≡ filter (λ packet. has_length (regular_of layout) packet && (packet_class layout.sockets packet == class)) (received_on layout lists port queue)
+
+-- so with one queue and one socket on each port all that have such a length
+abbrev pub AllGoOn : Type 0
+AllGoOn = (layout : Layout) (lists : List (List (List ℕ))) (port : ℕ) → layout.queues ≡ 1 → layout.sockets ≡ 1 → layout.empty ≡ None → paired_port port < layout.ports
+    → sent_on_by layout Redirect lists port ≡ filter (has_length (regular_of layout)) (slice_index_or lists (paired_port port) []) ∷ []

@@ -38,13 +38,10 @@ use Rattle.xsk_cli.specs.declared.status.Status.TheVariants.{Usage, BadCapture, 
 abbrev pub plan_in : CodePlan → Plan
 plan_in plan = record { inputs = map (λ name. name.now) plan.inputs.now; outputs = map (λ name. name.now) plan.outputs.now; work = plan.work }
 
--- the layout with two ports, one queue on each and one socket on each queue, without the need-wakeup flags
-abbrev pub with_one_socket : Layout → Layout
-with_one_socket layout = record layout { ports = 2; queues = 1; sockets = 1; wakeup = false }
-
-abbrev pub HasOneSocket : Work → Type 0
-HasOneSocket (Simulate layout program order number) = with_one_socket layout ≡ layout
-HasOneSocket (Generate number) = Unit {0}
+-- its rings are without the need-wakeup flags
+abbrev pub IsAwake : Work → Type 0
+IsAwake (Simulate layout program order number) = layout.wakeup ≡ false
+IsAwake (Generate number) = Unit {0}
 
 -- for how many ports captures are read, and for how many they are written
 abbrev pub read_by : Work → ℕ
@@ -59,7 +56,7 @@ written_by (Generate number) = 1
 -- a plan whose work is accepted, with as many files as it wants
 pub record IsReady (plan : Plan) : Type 0 where
   pub accepted : fault_in plan.work ≡ None
-  pub one : HasOneSocket plan.work
+  pub awake : IsAwake plan.work
   pub inputs : length plan.inputs ≡ read_by plan.work
   pub outputs : length plan.outputs ≡ written_by plan.work
 

@@ -28,7 +28,10 @@ no_plan = record { inputs = []; outputs = []; work = Generate 0 }
 -- the options of `simulate`, each with a number but the program and the flag
 abbrev pub options : List Key
 options =
-    (codes "frames", Number)
+    (codes "ports", Number)
+    ∷ (codes "queues", Number)
+    ∷ (codes "sockets", Number)
+    ∷ (codes "frames", Number)
     ∷ (codes "chunk", Number)
     ∷ (codes "headroom", Number)
     ∷ (codes "rx", Number)
@@ -66,15 +69,16 @@ counted n = if nat_lt n 4294967296 then n else 4294967295
 
 -- the ports of a command
 abbrev pub ports_of : Meaning → ℕ
-ports_of said = 2
+ports_of said = number_or said (codes "ports") 2
 
--- what is asked for: its ports with one queue each, and one socket on each queue; with `sg` packets may have several frames
--- (af_xdp.rst, "XDP_USE_SG bind flag"); with `empty` one cell of each port's XSKMAP holds no socket
+-- what is asked for: its ports, the queues of each and the sockets of each queue, all over one UMEM (af_xdp.rst,
+-- "XDP_SHARED_UMEM bind flag"); with `sg` packets may have several frames ("XDP_USE_SG bind flag"); with `empty` one cell of
+-- each port's XSKMAP holds no socket
 abbrev pub layout_by : Meaning → Layout
 layout_by said = record {
   ports = ports_of said;
-  queues = 1;
-  sockets = 1;
+  queues = number_or said (codes "queues") 1;
+  sockets = number_or said (codes "sockets") 1;
   files = counted (length (files_in said));
   files_wanted_per_port = if are_made said then 1 else 2;
   chunk = number_or said (codes "chunk") 4096;

@@ -3,7 +3,19 @@
 use xsk_args::{OptionRow, Takes};
 
 /// Each has a number, but `--prog` and `--sg`. The number that stands where none was said is [`Plan`](crate::words::Plan)'s.
-pub(crate) const OPTIONS: [OptionRow; 12] = [
+pub(crate) const OPTIONS: [OptionRow; 15] = [
+    OptionRow {
+        name: "ports",
+        takes: Takes::Number,
+    },
+    OptionRow {
+        name: "queues",
+        takes: Takes::Number,
+    },
+    OptionRow {
+        name: "sockets",
+        takes: Takes::Number,
+    },
     OptionRow {
         name: "frames",
         takes: Takes::Number,

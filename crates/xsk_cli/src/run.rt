@@ -1,15 +1,17 @@
 //! The run of a simulation, and the texts that it leaves.
-ghost use Rattle.std.specs.Prelude.{◌≡◌, ℕ, ◌<◌, ◌≤◌, None, [], All, List, IfErr, IfOk, length, map, string_bytes};
-ghost use Rattle.std.specs.List.{concat, range_with_len, slice_index_or};
+ghost use Rattle.std.specs.Prelude.{◌≡◌, ℕ, ◌*◌, ◌<◌, ◌≤◌, ◌++◌, None, All, List, IfErr, IfOk, OnOk, drop, false, length, map, string_bytes, take};
+ghost use Rattle.std.specs.List.{concat, range_with_len};
+ghost use Rattle.std.specs.Vec.Iter.{into_iter_items};
 ghost use Rattle.xsk_driver.specs.Sent.{IsShort};
 ghost use Rattle.xsk_sim.specs.Runs.{HasEnded};
 ghost use Rattle.xsk_sim.specs.Shown.{HasShortPackets};
 ghost use Rattle.xsk_cli.specs.Judged.{excess_of};
 ghost use Rattle.xsk_cli.specs.Outcome.{AreTextsBy, AreTextsOf, capture_of, frames_of, listed, made_lists, report_of, rule_by, setting_of};
-ghost use Rattle.xsk_cli.specs.Steps.{FailsMaking, FailsRunning, HasOneSocket, lists_in, with_one_socket, written_by, written_in};
+ghost use Rattle.xsk_cli.specs.Steps.{FailsMaking, FailsRunning, IsAwake, lists_in, written_by, written_in};
 ghost use Rattle.xsk_cli.specs.Words.{fault_in};
 ghost use Rattle.xsk_cli.specs.declared.words.Work.TheVariants.{Generate};
-ghost use Rattle.xsk_socket.specs.Layout.{fault_of};
+ghost use Rattle.xsk_socket.specs.Layout.{fault_of, pairs_in};
+ghost use Rattle.xsk_pcap.specs.Written.{IsWritable, written};
 
 use crate::failure::RunFailure;
 use crate::made::made_texts;
@@ -17,6 +19,7 @@ use crate::setup::set_up;
 use crate::words::Work;
 use std::alloc::Global;
 use std::fmt::Write;
+use std::vec::IntoIter;
 use xsk_args::Program;
 use xsk_pcap::Capture;
 use xsk_prog::{Rule, XdpProgram};
@@ -38,7 +41,7 @@ pub(crate) fn make_texts(
     lists: &[PacketList],
 ) -> Result<Texts, RunFailure>
     requires accepted { fault_in work.now ≡ None }
-    requires one { HasOneSocket work.now }
+    requires awake { IsAwake work.now }
     requires ports { length lists.now ≡ written_by work.now }
     requires within { excess_of (lists_in lists.now) ≡ None }
     requires made { (number : ℕ) → work.now ≡ Generate number → lists_in lists.now ≡ made_lists number 1 }
@@ -67,7 +70,7 @@ fn run_texts(
     lists: &[PacketList],
 ) -> Result<Texts, RunFailure>
     requires accepted { fault_of layout.now ≡ None }
-    requires one { with_one_socket layout.now ≡ layout.now }
+    requires awake { layout.now.wakeup ≡ false }
     requires ports { length lists.now ≡ layout.now.ports }
     requires within { excess_of (lists_in lists.now) ≡ None }
     requires listed { lists.now ≡ map listed (lists_in lists.now) }
@@ -77,8 +80,7 @@ fn run_texts(
 {
     let run = run_lists(alloc, layout, program, order, lists)?;
     let report = report_text(alloc, run.log().len())?;
-    let sent = run.into_sent();
-    let outputs = output_texts(alloc, layout.ports, sent.as_slice())?;
+    let outputs = output_texts(alloc, layout.ports, layout.queues, run.into_sent())?;
     Ok(Texts { outputs, report })
 }
 
@@ -91,11 +93,11 @@ fn run_lists(
     lists: &[PacketList],
 ) -> Result<Run, RunFailure>
     requires accepted { fault_of layout.now ≡ None }
-    requires one { with_one_socket layout.now ≡ layout.now }
+    requires awake { layout.now.wakeup ≡ false }
     requires ports { length lists.now ≡ layout.now.ports }
     requires listed { lists.now ≡ map listed (lists_in lists.now) }
     requires short { All HasShortPackets lists.now }
-    ensures pairs { IfOk result (λ run. run.pairs ≡ layout.now.ports) }
+    ensures pairs { IfOk result (λ run. run.pairs ≡ pairs_in layout.now) }
     ensures ended { IfOk result (HasEnded (setting_of layout.now program (lists_in lists.now)) (frames_of layout.now) order) }
     ensures failed { IfErr result (FailsRunning layout.now program order (lists_in lists.now)) }
 {
@@ -124,32 +126,54 @@ fn rule_of(program: Program, sockets: u32) -> Rule
     }
 }
 
-/// The captures of what the ports' drivers sent.
+/// The captures of what the drivers sent, one for each port. Each list is given up once it is written.
 #[tactic(auto, using(crate::proofs::Ports::more_ports))]
-fn output_texts(alloc: Global, ports: u32, sent: &[PacketList]) -> Result<Vec<Vec<u8>>, OutOfMemory>
+fn output_texts(
+    alloc: Global,
+    ports: u32,
+    queues: u32,
+    sent: Vec<PacketList>,
+) -> Result<Vec<Vec<u8>>, OutOfMemory>
     requires ports { ports ≤ 4 }
-    requires pairs { length sent.now ≡ ports }
-    requires short { All HasShortPackets sent.now }
-    requires few { (port : ℕ) → port < ports → length (slice_index_or (lists_in sent.now) port []) ≤ 65536 }
-    requires small { (port : ℕ) → port < ports → length (concat (slice_index_or (lists_in sent.now) port [])) ≤ 33554432 }
-    ensures { IfOk result (λ texts. map (λ text. text.items) texts.items ≡ map (λ port. capture_of (slice_index_or (lists_in sent.now) port [])) (range_with_len 0 ports)) }
+    requires writable { (port count : ℕ) → port < ports → count ≤ queues → IsWritable (take count (drop (port * queues) (lists_in sent.items))) }
+    ensures { IfOk result (λ texts. map (λ text. text.items) texts.items ≡ map (λ port. written (take queues (drop (port * queues) (lists_in sent.items)))) (range_with_len 0 ports)) }
 {
     let mut texts = Vec::with_capacity(alloc, ports as usize)?;
-    for port in 0..ports {
-        let text = capture_text(alloc, sent_by(sent, port))?;
+    let mut lists = sent.into_iter();
+    for _port in 0..ports {
+        let text = port_text(alloc, queues, &mut lists)?;
         texts.push_reserved(text);
     }
     Ok(texts)
 }
 
-/// What the driver of a port sent.
-fn sent_by(sent: &[PacketList], port: u32) -> &PacketList
-    requires port { port < length sent.now }
-    requires short { All HasShortPackets sent.now }
-    ensures short { All IsShort result.now.packets }
-    ensures sent { result.now.packets ≡ slice_index_or (lists_in sent.now) port [] }
+/// The capture of the next lists, one for each queue of a port, the first queue's first.
+fn port_text(
+    alloc: Global,
+    queues: u32,
+    lists: &mut IntoIter<PacketList>,
+) -> Result<Vec<u8>, OutOfMemory>
+    requires { (count : ℕ) → count ≤ queues → IsWritable (take count (lists_in (into_iter_items lists.old))) }
+    ensures text { IfOk result (λ text. text.items ≡ written (take queues (lists_in (into_iter_items lists.old)))) }
+    ensures rest { OnOk result (into_iter_items lists.new ≡ drop queues (into_iter_items lists.old)) }
 {
-    &sent[port as usize]
+    let mut capture = Capture::start(alloc)?;
+    for _queue in 0..queues {
+        add_next(&mut capture, lists)?;
+    }
+    Ok(capture.into_bytes())
+}
+
+/// Adds the next list to a capture, where there is one, and gives it up.
+fn add_next(capture: &mut Capture, lists: &mut IntoIter<PacketList>) -> Result<(), OutOfMemory>
+    requires { IsWritable (capture.old ++ take 1 (lists_in (into_iter_items lists.old))) }
+    ensures added { OnOk result (capture.new ≡ capture.old ++ take 1 (lists_in (into_iter_items lists.old))) }
+    ensures rest { OnOk result (into_iter_items lists.new ≡ drop 1 (into_iter_items lists.old)) }
+{
+    match lists.next() {
+        Some(list) => capture.add(&list),
+        None => Ok(()),
+    }
 }
 
 /// The capture of packets.

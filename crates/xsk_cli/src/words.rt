@@ -9,9 +9,6 @@ ghost use Rattle.xsk_cli.specs.Words.{counted, fault_in, files_in, gen_plan, lay
 use xsk_args::{Args, Program, parse_number};
 use xsk_socket::{Layout, Unlawful, check_layout};
 
-/// The ports of a command. No option tells others yet.
-const PORTS: u32 = 2;
-
 /// What is made of the files that a command reads.
 #[derive(Clone, Copy, Debug, PartialEq, Eq)]
 pub enum Work {
@@ -44,11 +41,11 @@ impl<'p, 'w> Plan<'p, 'w> {
         ensures accepted { IfOk result (λ plan. fault_in plan.work ≡ None) }
         ensures refused { IfErr result (λ unlawful. fault_of (layout_by (under args.now)) ≡ Some unlawful) }
     {
+        let layout = layout_of(args);
+        check_layout(&layout)?;
         let Some(files) = args.files() else {
             return Err(Unlawful::Files(0));
         };
-        let layout = layout_of(args);
-        check_layout(&layout)?;
         let program = args.program("prog").unwrap_or(Program::Redirect);
         let order = args.number("order").unwrap_or(0);
         let number = args.number("gen");
@@ -71,14 +68,14 @@ impl<'p, 'w> Plan<'p, 'w> {
     }
 }
 
-/// The layout that was asked for: its ports with one queue each, and one socket on each queue.
+/// The layout that was asked for.
 fn layout_of(args: &Args<'_>) -> Layout
     ensures { result ≡ layout_by (under args.now) }
 {
     Layout {
-        ports: PORTS,
-        queues: 1,
-        sockets: 1,
+        ports: args.number("ports").unwrap_or(2),
+        queues: args.number("queues").unwrap_or(1),
+        sockets: args.number("sockets").unwrap_or(1),
         files: count_files(args),
         files_wanted_per_port: if args.number("gen").is_some() { 1 } else { 2 },
         chunk: args.number("chunk").unwrap_or(4096),

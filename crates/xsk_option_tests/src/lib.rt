@@ -6,6 +6,8 @@ mod options;
 #[cfg(test)]
 mod programs;
 #[cfg(test)]
+mod queues;
+#[cfg(test)]
 mod run;
 #[cfg(test)]
 mod table;

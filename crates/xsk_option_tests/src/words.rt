@@ -9,7 +9,19 @@ use xsk_args::{Args, ArgsError, OptionRow, Takes, parse};
 use xsk_cli::Status;
 
 /// The options of `simulate`.
-static OPTIONS: [OptionRow; 12] = [
+static OPTIONS: [OptionRow; 15] = [
+    OptionRow {
+        name: "ports",
+        takes: Takes::Number,
+    },
+    OptionRow {
+        name: "queues",
+        takes: Takes::Number,
+    },
+    OptionRow {
+        name: "sockets",
+        takes: Takes::Number,
+    },
     OptionRow {
         name: "frames",
         takes: Takes::Number,
@@ -106,7 +118,7 @@ fn words_mean_what_the_rules_say(rt: HostRuntime) -> Result<(), Fail> {
         assert_eq!(rt; told.as_str(), meant, "{line}");
         rows = rows.saturating_add(1);
     }
-    assert_eq!(rt; rows, 293);
+    assert_eq!(rt; rows, 297);
     Ok(())
 }
 
