@@ -1,6 +1,8 @@
 -- The verdicts of a driver's packets: one more, and what they are of a new driver's packets.
-use Rattle.std.proofs.Common.{◌≡◌, ℕ, ◌+◌, ◌<◌, List, [], ◌∷◌, ◌++◌, length, take, drop, map, get_or, slice_get, Some, refl, sym, ap, ◌∙◌, subst}
+use Rattle.std.proofs.Common.{◌≡◌, ℕ, ◌+◌, ◌<◌, List, [], ◌∷◌, ◌++◌, length, take, drop, map, get_or, slice_get, Some, refl, sym, ap, ◌∙◌, subst, append-nil, length-append}
 use Rattle.std.proofs.lemmas.List.{take_more, map-append}
+use Rattle.std.proofs.lemmas.List.Folds.{concat-append}
+use Rattle.std.specs.List.{concat}
 use Rattle.std.proofs.lemmas.Option.{get_or_from_slice_get}
 use Rattle.std.specs.Fn.{Shared}
 use denote.Ref.{Bor}
@@ -21,16 +23,28 @@ each-push P [] (v ∷ verdicts) packet verdict h k = absurd h
 each-push P (p ∷ packets) [] packet verdict h k = absurd h
 each-push P (p ∷ packets) (v ∷ verdicts) packet verdict h k = (h.0, each-push P packets verdicts packet verdict h.1 k)
 
--- one more number, with the verdict of its packet
+-- one more number
+pub packets-taken : (list : PacketList) (numbers : List ℕ) (i : ℕ) (packet : List ℕ) → i < length numbers → slice_get list.packets (get_or numbers i 0) ≡ Some packet
+    → packets_by list (take (i + 1) numbers) ≡ packets_by list (take i numbers) ++ packet ∷ []
+packets-taken list numbers i packet within got =
+    let here : packet_at list (get_or numbers i 0) ≡ packet = get_or_from_slice_get list.packets (get_or numbers i 0) packet [] got in
+    ap (packets_by list) (take_more numbers i 0 within) ∙ map-append (packet_at list) (take i numbers) (get_or numbers i 0 ∷ [])
+    ∙ ap (λ p. packets_by list (take i numbers) ++ p ∷ []) here
+
+-- the bytes of its packet, and its verdict
+pub bytes-taken : (list : PacketList) (numbers : List ℕ) (i : ℕ) (packet : List ℕ) → i < length numbers → slice_get list.packets (get_or numbers i 0) ≡ Some packet
+    → length (concat (packets_by list (take (i + 1) numbers))) ≡ length (concat (packets_by list (take i numbers))) + length packet
+bytes-taken list numbers i packet within got =
+    let before = packets_by list (take i numbers) in
+    let all : concat (packets_by list (take (i + 1) numbers)) ≡ concat before ++ packet =
+    ap concat (packets-taken list numbers i packet within got) ∙ concat-append before (packet ∷ []) ∙ ap (λ bytes. concat before ++ bytes) (append-nil packet) in
+    ap length all ∙ length-append (concat before) packet
+
 pub each-taken : (P : List ℕ → Verdict → Type 0) (list : PacketList) (numbers : List ℕ) (verdicts : List Verdict) (i : ℕ) (packet : List ℕ) (verdict : Verdict) → i < length numbers
     → slice_get list.packets (get_or numbers i 0) ≡ Some packet → EachHas P (packets_by list (take i numbers)) verdicts → P packet verdict
     → EachHas P (packets_by list (take (i + 1) numbers)) (verdicts ++ verdict ∷ [])
 each-taken P list numbers verdicts i packet verdict within got h k =
-    let here : packet_at list (get_or numbers i 0) ≡ packet = get_or_from_slice_get list.packets (get_or numbers i 0) packet [] got in
-    let longer : packets_by list (take i numbers) ++ packet ∷ [] ≡ packets_by list (take (i + 1) numbers) =
-    sym (ap (packets_by list) (take_more numbers i 0 within) ∙ map-append (packet_at list) (take i numbers) (get_or numbers i 0 ∷ [])
-    ∙ ap (λ p. packets_by list (take i numbers) ++ p ∷ []) here) in
-    subst (λ ps. EachHas P ps (verdicts ++ verdict ∷ [])) longer (each-push P (packets_by list (take i numbers)) verdicts packet verdict h k)
+    subst (λ ps. EachHas P ps (verdicts ++ verdict ∷ [])) (sym (packets-taken list numbers i packet within got)) (each-push P (packets_by list (take i numbers)) verdicts packet verdict h k)
 
 pub each-weaker : (P Q : List ℕ → Verdict → Type 0) → ((packet : List ℕ) (verdict : Verdict) → P packet verdict → Q packet verdict) → (packets : List (List ℕ)) (verdicts : List Verdict)
     → EachHas P packets verdicts → EachHas Q packets verdicts

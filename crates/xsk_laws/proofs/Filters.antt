@@ -1,19 +1,18 @@
 -- The packets that are delivered to a socket are those that are expected there: the two filters make the same tests.
-use Rattle.std.proofs.Common.{◌≡◌, ℕ, ◌+◌, ◌-◌, ◌<◌, ◌≤◌, Bool, true, false, cond, eqb, ltb, leb, not, ◌&&◌, Option, Some, None, List, [], ◌∷◌, length, map, All, refl, sym, ap, subst, ◌∙◌, ⊎_elim, arith}
+use Rattle.std.proofs.Common.{◌≡◌, ℕ, ◌+◌, ◌-◌, ◌<◌, ◌≤◌, Bool, true, false, cond, eqb, ltb, leb, not, ◌&&◌, Option, Some, None, List, [], ◌∷◌, length, refl, sym, ap, ◌∙◌, ⊎_elim, arith}
 use Rattle.std.specs.Prelude.{slice_index}
 use Rattle.std.specs.List.{filter}
-use Rattle.std.proofs.lemmas.Bool.{cases_Bool, cases_eq, cases_lt, and_parts, eq-eqb, ne_eqb, lt-ltb, le-ltb, le-leb, lt-leb, leb-true, ltb-true}
-use Rattle.std.proofs.lemmas.List.Elements.{All-nil, All-cons}
+use Rattle.std.proofs.lemmas.Bool.{cases_eq, cases_lt, eq-eqb, ne_eqb, lt-ltb, le-ltb, le-leb, lt-leb, ltb-true}
 use Rattle.xsk_model.specs.Config.{Config, socket_at, classes_of, batch_of, map_of}
 use Rattle.xsk_model.specs.Steering.{packet_limit, socket_on}
 use Rattle.xsk_prog.specs.declared.rule.Verdict.{Verdict}
 use Rattle.xsk_prog.specs.declared.rule.Verdict.TheVariants.{Drop, Pass, Redirect}
 use Rattle.xsk_turns.specs.Turns.{Seat, Judged, settled_or, redirect_to, limit_of}
-use Rattle.xsk_turns.specs.Disposals.{disposal_to, disposal_in, is_to, delivered_to, bytes_in}
+use Rattle.xsk_turns.specs.Disposals.{disposal_to, disposal_in, is_to, delivered_to}
+use Rattle.xsk_turns.specs.declared.wire.Wire.{Wire}
 use Rattle.xsk_turns.specs.declared.disposal.Disposal.{Disposal}
 use Rattle.xsk_turns.specs.declared.disposal.Disposal.TheVariants.{Delivered, TooLong, Runt, Missed, Passed, Dropped}
 use Rattle.xsk_laws.specs.Expected.{has_length, leads_to, is_redirected}
-use Rattle.xsk_laws.specs.Forwarded.{with_disposal}
 
 -- ---- one packet, by plain tests
 
@@ -102,8 +101,8 @@ named c o q s number bound = ⊎_elim
 
 -- ---- one packet
 
-abbrev pub seat_at : Config → ℕ → ℕ → ℕ → Seat
-seat_at c d o q = record { config = c; pair = d; port = o; queue = q; classes = classes_of c; batch = batch_of c }
+abbrev pub seat_at : Wire → Config → ℕ → ℕ → ℕ → Seat
+seat_at wire c d o q = record { config = c; pair = d; port = o; queue = q; classes = classes_of c; batch = batch_of c; wire = wire }
 
 same_and : (x x' y y' z z' w w' : Bool) → x ≡ x' → y ≡ y' → z ≡ z' → w ≡ w' → (x && (y && (z && w))) ≡ (x' && (y' && (z' && w')))
 same_and x x' y y' z z' w w' e f g h = cc
@@ -130,10 +129,10 @@ looks false false to = refl
 abbrev is_fit : Config → ℕ → ℕ → Judged → Bool
 is_fit c o s packet = has_length c packet.bytes && leads_to (map_of c o) s packet.verdict
 
-to_fit : (c : Config) (d o q s : ℕ) (packet : Judged) → IsBoundTo c o q s → is_to s (disposal_in (seat_at c d o q) packet) ≡ is_fit c o s packet
-to_fit c d o q s packet bound = by packet.verdict
+to_fit : (wire : Wire) (c : Config) (d o q s : ℕ) (packet : Judged) → IsBoundTo c o q s → is_to s (disposal_in (seat_at wire c d o q) packet) ≡ is_fit c o s packet
+to_fit wire c d o q s packet bound = by packet.verdict
   where
-    by : (verdict : Verdict) → (let p : Judged = record { bytes = packet.bytes; verdict = verdict } in is_to s (disposal_in (seat_at c d o q) p) ≡ is_fit c o s p)
+    by : (verdict : Verdict) → (let p : Judged = record { bytes = packet.bytes; verdict = verdict } in is_to s (disposal_in (seat_at wire c d o q) p) ≡ is_fit c o s p)
     by Drop = stays s (ltb (length packet.bytes) 14) Dropped _ refl ∙ and_none (has_length c packet.bytes)
     by Pass = stays s (ltb (length packet.bytes) 14) Passed _ refl ∙ and_none (has_length c packet.bytes)
     by (Redirect cell) =
@@ -141,8 +140,8 @@ to_fit c d o q s packet bound = by packet.verdict
         let r = redirect_to c o q number in
         let short = ltb (length packet.bytes) 14 in
         let missing = leb (length (map_of c o)) cell in
-        ap (is_to s) (looks short missing (disposal_to (seat_at c d o q) packet.bytes r))
-        ∙ ap (λ (x : Disposal). is_to s (cond short Runt (cond missing Missed x))) (disposal_goes (seat_at c d o q) packet.bytes r)
+        ap (is_to s) (looks short missing (disposal_to (seat_at wire c d o q) packet.bytes r))
+        ∙ ap (λ (x : Disposal). is_to s (cond short Runt (cond missing Missed x))) (disposal_goes (seat_at wire c d o q) packet.bytes r)
         ∙ goes s short missing (ltb (packet_limit c) (length packet.bytes)) r
         ∙ same_and _ _ _ _ _ _ _ _ (sym (leb_not 14 (length packet.bytes))) (sym (leb_not (length packet.bytes) (packet_limit c))) (sym (ltb_not cell (length (map_of c o)))) (named c o q s number bound)
         ∙ and_four (leb 14 (length packet.bytes)) (leb (length packet.bytes) (packet_limit c)) (ltb cell (length (map_of c o))) (eqb number (s + 1))
@@ -154,39 +153,7 @@ same_filter f g [] h = refl
 same_filter f g (x ∷ xs) h =
     ap (λ b. cond b (x ∷ filter f xs) (filter f xs)) (h x) ∙ ap (λ l. cond (g x) (x ∷ l) l) (same_filter f g xs h)
 
-pub delivered_is : (c : Config) (d o q k : ℕ) (ps : List Judged) → IsBoundTo c o q (socket_on c o q k)
-    → delivered_to (seat_at c d o q) (socket_on c o q k) ps ≡ filter (is_redirected c o q k) ps
-delivered_is c d o q k ps bound =
-    same_filter (λ packet. is_to (socket_on c o q k) (disposal_in (seat_at c d o q) packet)) (is_redirected c o q k) ps (λ packet. to_fit c d o q (socket_on c o q k) packet bound)
-
--- each packet that is delivered has at most the limit's bytes
-abbrev IsFew : Config → List ℕ → Type 0
-IsFew c p = length p ≤ packet_limit c
-
-pub delivered_few : (c : Config) (d o q s : ℕ) (ps : List Judged) → IsBoundTo c o q s
-    → All (λ (p : List ℕ). length p ≤ packet_limit c) (bytes_in (delivered_to (seat_at c d o q) s ps))
-delivered_few c d o q s [] bound = All-nil (IsFew c)
-delivered_few c d o q s (packet ∷ ps) bound =
-    let later = delivered_few c d o q s ps bound in
-    let front = delivered_to (seat_at c d o q) s ps in
-    ⊎_elim
-    (λ (e : is_to s (disposal_in (seat_at c d o q) packet) ≡ true).
-    let fit : is_fit c o s packet ≡ true = sym (to_fit c d o q s packet bound) ∙ e in
-    let long : has_length c packet.bytes ≡ true = (and_parts (has_length c packet.bytes) _ fit).0 in
-    let few : length packet.bytes ≤ packet_limit c = leb-true (length packet.bytes) (packet_limit c) (and_parts (leb 14 (length packet.bytes)) _ long).1 in
-    subst (λ b. All (IsFew c) (bytes_in (cond b (packet ∷ front) front))) (sym e)
-    (All-cons (IsFew c) packet.bytes (bytes_in front) few later))
-    (λ (e : is_to s (disposal_in (seat_at c d o q) packet) ≡ false).
-    subst (λ b. All (IsFew c) (bytes_in (cond b (packet ∷ front) front))) (sym e) later)
-    (cases_Bool (is_to s (disposal_in (seat_at c d o q) packet)))
-
--- the packets by their disposals
-pub with_disposal_is : (seat : Seat) (s : ℕ) (ps : List Judged) → with_disposal s ps (map (disposal_in seat) ps) ≡ bytes_in (delivered_to seat s ps)
-with_disposal_is seat s [] = refl
-with_disposal_is seat s (packet ∷ ps) =
-    ap (λ l. cond (is_to s (disposal_in seat packet)) (packet.bytes ∷ l) l) (with_disposal_is seat s ps)
-    ∙ bytes_if (is_to s (disposal_in seat packet)) packet (delivered_to seat s ps)
-  where
-    bytes_if : (b : Bool) (p : Judged) (ps : List Judged) → cond b (p.bytes ∷ bytes_in ps) (bytes_in ps) ≡ bytes_in (cond b (p ∷ ps) ps)
-    bytes_if true p ps = refl
-    bytes_if false p ps = refl
+pub delivered_is : (wire : Wire) (c : Config) (d o q k : ℕ) (ps : List Judged) → IsBoundTo c o q (socket_on c o q k)
+    → delivered_to (seat_at wire c d o q) (socket_on c o q k) ps ≡ filter (is_redirected c o q k) ps
+delivered_is wire c d o q k ps bound =
+    same_filter (λ packet. is_to (socket_on c o q k) (disposal_in (seat_at wire c d o q) packet)) (is_redirected c o q k) ps (λ packet. to_fit wire c d o q (socket_on c o q k) packet bound)

@@ -1,7 +1,9 @@
--- What a driver sent is what the paired port's driver delivered: along the TX ring, the lane and the RX ring.
-use Rattle.std.proofs.Common.{◌≡◌, ℕ, ◌+◌, ◌*◌, ◌%◌, ◌<◌, ◌⊎◌, inl, inr, true, false, List, [], ◌∷◌, length, take, map, get_or, sym, ap, subst, ◌∙◌, ⊎_elim, arith}
+-- What a driver sent is what the paired port's driver delivered: along the TX ring, the lane and the RX ring. Where the wire
+-- waits, this is what is expected.
+use Rattle.std.proofs.Common.{◌≡◌, ℕ, ◌+◌, ◌*◌, ◌%◌, ◌<◌, ◌≤◌, ◌⊎◌, inl, inr, true, false, All, List, [], ◌∷◌, length, take, map, get_or, sym, ap, subst, ◌∙◌, ⊎_elim, arith}
 use Rattle.std.proofs.lemmas.Bool.{cases_eq, or_left, or_right}
 use Rattle.std.proofs.lemmas.List.{take_all}
+use Rattle.std.proofs.lemmas.List.Elements.{All-weaker}
 use Rattle.xsk_umem.specs.Frame.{Frame}
 use Rattle.xsk_umem.specs.PacketList.{PacketList}
 use Rattle.xsk_umem.specs.declared.batch.Item.{Item}
@@ -13,7 +15,7 @@ use Rattle.xsk_model.specs.Entry.{Entry, own}
 use Rattle.xsk_model.specs.Own.{peeked_of, submitted_of, sending_of}
 use Rattle.xsk_model.specs.Ends.{draining_of, telling_of}
 use Rattle.xsk_model.specs.Sent.{sent_by}
-use Rattle.xsk_model.specs.Steering.{paired_port, driver_on, socket_on}
+use Rattle.xsk_model.specs.Steering.{packet_limit, paired_port, driver_on, socket_on}
 use Rattle.xsk_model.specs.declared.call.Ring.TheVariants.{Rx, Tx}
 use Rattle.xsk_model.specs.declared.call.Mark.{Mark}
 use Rattle.xsk_model.specs.declared.call.Mark.TheVariants.{RxDone, TxDone}
@@ -24,25 +26,30 @@ use Rattle.xsk_turns.specs.Owned.{IsSeat, AllFit}
 use Rattle.xsk_turns.specs.Turns.{Seat, Judged, seat_of, start, turn, application_of, IsWholeDriverRun}
 use Rattle.xsk_prog.specs.declared.rule.Verdict.{Verdict}
 use Rattle.xsk_turns.specs.Verdicts.{judged}
-use Rattle.xsk_turns.specs.Disposals.{disposal_in, disposals_of, attempts_of, delivered_to, bytes_in}
-use Rattle.xsk_turns.specs.Law.{IsLaidOut, EachDisposedOnce, DeliversInOrder, NothingReceivedLate, DrainsTx, CompletesAll}
+use Rattle.xsk_turns.specs.Disposals.{disposal_in, disposals_of, attempts_of, with_disposal, bytes_in}
+use Rattle.xsk_turns.specs.declared.disposal.Disposal.{Disposal}
+use Rattle.xsk_turns.specs.declared.wire.Wire.{Wire}
+use Rattle.xsk_turns.specs.declared.wire.Wire.TheVariants.{Wait}
+use Rattle.xsk_turns.proofs.Delivering.{with_disposal_is}
+use Rattle.xsk_turns.specs.Law.{IsLaidOut, IsSized, DisposedAsSaid, DeliversInOrder, DeliversSized, NothingReceivedLate, DrainsTx, CompletesAll}
 use Rattle.xsk_turns.specs.AppOwned.{IsApp}
 use Rattle.xsk_turns.specs.AppTurns.{pair_of, app_start, app_turn}
 use Rattle.xsk_turns.specs.AppLaw.{LanesPassedOn, NothingSentLate, DrainsRx}
 use Rattle.xsk_laws.specs.Expected.{received, received_judged, expected}
-use Rattle.xsk_laws.specs.Forwarded.{with_disposal, forwarded}
+use Rattle.xsk_laws.specs.Forwarded.{forwarded}
 use Rattle.xsk_laws.specs.Laws.{received_by, AreWholeRuns, IsPlace}
 use Rattle.xsk_laws.proofs.Emptied.{is_mark-self, has_mark}
 use Rattle.xsk_laws.proofs.Passed.{IsDrained, passed}
 use Rattle.xsk_laws.proofs.Wholes.{wholes}
-use Rattle.xsk_laws.proofs.Filters.{IsBoundTo, seat_at, delivered_is, delivered_few, with_disposal_is}
+use Rattle.xsk_laws.proofs.Filters.{IsBoundTo, seat_at, delivered_is}
 use Rattle.xsk_model.proofs.Seats.{IsAt, is_at}
 use Rattle.xsk_laws.proofs.Places.{ArePaired, are_paired, app_on, app_below, side_pair, lane_on, lane_below, lane_rx, lane_tx}
 
 -- what holds of the workers' whole runs
 pub record Workers : Type 0 where
-  pub disposed : EachDisposedOnce
+  pub disposed : DisposedAsSaid
   pub delivers : DeliversInOrder
+  pub sized : DeliversSized
   pub none_received_late : NothingReceivedLate
   pub drains_tx : DrainsTx
   pub completes : CompletesAll
@@ -50,16 +57,16 @@ pub record Workers : Type 0 where
   pub none_sent_late : NothingSentLate
   pub drains_rx : DrainsRx
 
-seat_is : (c : Config) (p q k d s : ℕ) → IsAt c p q k d s → seat_of c d ≡ seat_at c d p q
-seat_is c p q k d s at =
-    ap (λ n. record { config = c; pair = d; port = n; queue = (pair_at c.pairs d).queue; classes = classes_of c; batch = batch_of c }) at.pair_port
-    ∙ ap (λ n. seat_at c d p n) at.pair_queue
+seat_is : (wire : Wire) (c : Config) (p q k d s : ℕ) → IsAt c p q k d s → seat_of wire c d ≡ seat_at wire c d p q
+seat_is wire c p q k d s at =
+    ap (λ n. record { config = c; pair = d; port = n; queue = (pair_at c.pairs d).queue; classes = classes_of c; batch = batch_of c; wire = wire }) at.pair_port
+    ∙ ap (λ n. seat_at wire c d p n) at.pair_queue
 
 input_is : (c : Config) (lists : List PacketList) (verdicts : List (List Verdict)) (p q k d s : ℕ) → IsAt c p q k d s → received_by c lists verdicts d ≡ judged (received c lists p q) (get_or verdicts d [])
 input_is c lists verdicts p q k d s at =
     ap (λ n. judged (received c lists n (pair_at c.pairs d).queue) (get_or verdicts d [])) at.pair_port ∙ ap (λ n. judged (received c lists p n) (get_or verdicts d [])) at.pair_queue
 
-module _ (w : Workers) (c : Config) (lists : List PacketList) (verdicts : List (List Verdict)) (frames : List Frame) (h : List Entry) (p q k : ℕ) (run : AreWholeRuns c lists verdicts frames h) (place : IsPlace c p q k) where
+module _ (w : Workers) (wire : Wire) (c : Config) (lists : List PacketList) (verdicts : List (List Verdict)) (frames : List Frame) (h : List Entry) (p q k : ℕ) (run : AreWholeRuns wire c lists verdicts frames h) (place : IsPlace c p q k) where
   abbrev o : ℕ
   o = paired_port p
 
@@ -142,7 +149,7 @@ module _ (w : Workers) (c : Config) (lists : List PacketList) (verdicts : List (
         (subst (λ n. (draining_of told_rx (Rx n) (own (caller_of c a) h)).empty ≡ true) (lane_rx c p q k o place.in_queues place.in_classes pair.there)
         (w.drains_rx c a (own (caller_of c a) h) (lane_on c o k) one (run.apps a one.known) (lane_below c o k place.in_classes)));
     none_late = subst (λ n. (telling_of (RxDone e) (Rx s) (own n h)).late ≡ false) (sym at_o.driver)
-        (w.none_received_late c e s (received_by c lists verdicts e) (own e h) (whole_run (turn (seat_of c e)) (start (classes_of c) (received_by c lists verdicts e)) (own e h) (run.drivers e at_o.pair_known)));
+        (w.none_received_late wire c e s (received_by c lists verdicts e) (own e h) (whole_run (turn (seat_of wire c e)) (start (classes_of c) (received_by c lists verdicts e)) (own e h) (run.drivers e at_o.pair_known)));
   }
 
   received_all : peeked_of (Rx s) (own (caller_of c a) h) ≡ submitted_of (Rx s) (own e h)
@@ -161,8 +168,8 @@ module _ (w : Workers) (c : Config) (lists : List PacketList) (verdicts : List (
 
   -- ---- the TX ring
 
-  same_app : application_of (seat_of c d) ≡ a
-  same_app = ap application_of (seat_is c p q k d t at_p)
+  same_app : application_of (seat_of wire c d) ≡ a
+  same_app = ap application_of (seat_is wire c p q k d t at_p)
 
   drained_tx : IsDrained c h (TxDone a ∷ []) (TxDone a) (Tx t)
   drained_tx = record {
@@ -174,7 +181,7 @@ module _ (w : Workers) (c : Config) (lists : List PacketList) (verdicts : List (
     listed = or_left (is_mark (TxDone a) (TxDone a)) false (is_mark-self (TxDone a));
     found = subst (λ n. (draining_of (TxDone a ∷ []) (Tx t) (own n h)).empty ≡ true) (sym at_p.driver)
         (subst (λ n. (draining_of (TxDone n ∷ []) (Tx t) (own d h)).empty ≡ true) same_app
-        (w.drains_tx c d k (received_by c lists verdicts d) (own d h) (run.drivers d at_p.pair_known) place.in_classes));
+        (w.drains_tx wire c d k (received_by c lists verdicts d) (own d h) (run.drivers d at_p.pair_known) place.in_classes));
     none_late = subst (λ n. (telling_of (TxDone a) (Tx t) (own n h)).late ≡ false) (sym app_at_p)
         (w.none_sent_late c a t (own (caller_of c a) h) one (whole_run (app_turn c a) (app_start c) (own (caller_of c a) h) (run.apps a one.known)));
   }
@@ -189,38 +196,39 @@ module _ (w : Workers) (c : Config) (lists : List PacketList) (verdicts : List (
 
   -- ---- the packets
 
-  bound : IsBoundTo c o q s
-  bound = record { known = at_o.known; on_port = at_o.on_port; on_queue = at_o.on_queue }
+  abbrev input : List Judged
+  input = received_judged c lists verdicts o q
 
-  abbrev arrived : List (List ℕ)
-  arrived = bytes_in (delivered_to (seat_at c e o q) s (received_judged c lists verdicts o q))
+  -- the disposals of what the receiving driver received
+  abbrev ds : List Disposal
+  ds = disposals_of (seat_of wire c e) input (attempts_of (own e h))
 
-  laid : IsLaidOut c.geometry c.sg arrived (submitted_of (Rx s) (own e h))
-  laid =
-      subst (λ (l : List (List ℕ)). IsLaidOut c.geometry c.sg l (submitted_of (Rx s) (own e h)))
-      (ap (λ (x : Seat). bytes_in (delivered_to x s (received_by c lists verdicts e))) (seat_is c o q k e s at_o) ∙ ap (λ (l : List Judged). bytes_in (delivered_to (seat_at c e o q) s l)) (input_is c lists verdicts o q k e s at_o))
-      (w.delivers c e s (received_by c lists verdicts e) (own e h) seat_e (fit e) (run.drivers e at_o.pair_known))
+  whole_e : IsWholeDriverRun wire c e input (own e h)
+  whole_e = subst (λ (l : List Judged). IsWholeDriverRun wire c e l (own e h)) (input_is c lists verdicts o q k e s at_o) (run.drivers e at_o.pair_known)
 
-  pub sent_arrived : sent_by c h d t ≡ arrived
-  sent_arrived =
+  laid : IsLaidOut c.geometry c.sg (with_disposal s input ds) (submitted_of (Rx s) (own e h))
+  laid = w.delivers wire c e s input (own e h) seat_e (fit e) whole_e
+
+  few : All (λ (packet : List ℕ). length packet ≤ packet_limit c) (with_disposal s input ds)
+  few = All-weaker (IsSized c) (λ (packet : List ℕ). length packet ≤ packet_limit c) (λ packet sized. sized.few) (with_disposal s input ds) (w.sized wire c e s input (own e h) seat_e (fit e) whole_e)
+
+  pub sent_forwarded : sent_by c h d t ≡ forwarded wire c h lists verdicts p q k
+  sent_forwarded =
       let whole : List (List Item) = whole_packets (packets c.geometry c.sg (peeked_of (Tx t) (own d h))) in
       let done : (sending_of c t (own d h)).completed ≡ length whole =
-      w.completes c d k (received_by c lists verdicts d) (own d h) seat_d (fit d) (run.drivers d at_p.pair_known) place.in_classes in
+      w.completes wire c d k (received_by c lists verdicts d) (own d h) seat_d (fit d) (run.drivers d at_p.pair_known) place.in_classes in
       sent_in_order c frames h d t run.history
       ∙ ap (λ n. map (bytes_of c.geometry c.sg) (take n whole)) done
       ∙ ap (map (bytes_of c.geometry c.sg)) (take_all (length whole) whole (omega arith))
       ∙ ap (λ (l : List Item). map (bytes_of c.geometry c.sg) (whole_packets (packets c.geometry c.sg l))) peeked_all
-      ∙ wholes c.geometry c.sg arrived (submitted_of (Rx s) (own e h)) run.history.opened.geometry laid (delivered_few c e o q s (received_judged c lists verdicts o q) bound)
+      ∙ wholes c.geometry c.sg (with_disposal s input ds) (submitted_of (Rx s) (own e h)) run.history.opened.geometry laid few
 
-  pub sent_expected : sent_by c h d t ≡ expected c lists verdicts p q k
-  sent_expected = sent_arrived ∙ ap bytes_in (delivered_is c e o q k (received_judged c lists verdicts o q) bound)
-
-  pub sent_forwarded : sent_by c h d t ≡ forwarded c h lists verdicts p q k
-  sent_forwarded =
-      let input = received_judged c lists verdicts o q in
-      let said : disposals_of (seat_of c e) input (attempts_of (own e h)) ≡ map (disposal_in (seat_of c e)) input =
-      w.disposed c e input (own e h) (fit e) (subst (λ (l : List Judged). IsWholeDriverRun c e l (own e h)) (input_is c lists verdicts o q k e s at_o) (run.drivers e at_o.pair_known)) in
-      sent_arrived
-      ∙ sym (with_disposal_is (seat_at c e o q) s input)
-      ∙ ap (λ (x : Seat). with_disposal s input (map (disposal_in x) input)) (sym (seat_is c o q k e s at_o))
-      ∙ ap (with_disposal s input) (sym said)
+  -- where the wire waits, what was delivered is what is expected
+  pub sent_expected : wire ≡ Wait → sent_by c h d t ≡ expected c lists verdicts p q k
+  sent_expected waits =
+      let bound : IsBoundTo c o q s = record { known = at_o.known; on_port = at_o.on_port; on_queue = at_o.on_queue } in
+      sent_forwarded
+      ∙ ap (with_disposal s input) (w.disposed wire c e input (own e h) waits (fit e) whole_e)
+      ∙ ap (λ (x : Seat). with_disposal s input (map (disposal_in x) input)) (seat_is wire c o q k e s at_o)
+      ∙ with_disposal_is (seat_at wire c e o q) s input
+      ∙ ap bytes_in (delivered_is wire c e o q k input bound)

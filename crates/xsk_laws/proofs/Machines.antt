@@ -1,6 +1,6 @@
 -- The laws of the two machines' whole runs, all that is used of them here.
-use Rattle.xsk_turns.proofs.Saying.{each_disposed_once}
-use Rattle.xsk_turns.proofs.Delivering.{delivers_in_order}
+use Rattle.xsk_turns.proofs.Saying.{disposed_as_said}
+use Rattle.xsk_turns.proofs.Delivering.{delivers_in_order, delivers_sized}
 use Rattle.xsk_turns.proofs.ReceivingLaws.{nothing_received_late}
 use Rattle.xsk_turns.proofs.Draining.{drains_tx}
 use Rattle.xsk_turns.proofs.CompletingAll.{completes_all}
@@ -9,8 +9,9 @@ use Rattle.xsk_laws.proofs.Joined.{Workers}
 
 pub workers : Workers
 workers = record {
-  disposed = each_disposed_once;
+  disposed = disposed_as_said;
   delivers = delivers_in_order;
+  sized = delivers_sized;
   none_received_late = nothing_received_late;
   drains_tx = drains_tx;
   completes = completes_all;

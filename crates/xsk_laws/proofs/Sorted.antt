@@ -4,16 +4,13 @@ use Rattle.std.specs.List.{filter}
 use Rattle.std.proofs.lemmas.Bool.{eq-eqb, ne_eqb}
 use Rattle.std.proofs.lemmas.List.{map-append}
 use Rattle.std.proofs.lemmas.List.Elements.{All-nil, All-cons, All-append}
-use Rattle.xsk_prog.specs.declared.rule.Verdict.{Verdict}
-use Rattle.xsk_umem.specs.PacketList.{PacketList}
 use Rattle.xsk_umem.specs.declared.batch.Item.{Item}
 use Rattle.xsk_model.specs.Config.{Config, classes_of}
 use Rattle.xsk_model.specs.Packets.{bytes_of}
 use Rattle.xsk_model.specs.Entry.{Told}
 use Rattle.xsk_model.specs.Sent.{completed_in, sent_from}
 use Rattle.xsk_model.specs.declared.call.Call.{Call}
-use Rattle.xsk_laws.specs.Expected.{expected}
-use Rattle.xsk_laws.specs.Laws.{Departure, packets_in, AreExpected}
+use Rattle.xsk_laws.specs.Laws.{Departure, packets_in, AreOfClasses}
 use Rattle.xsk_laws.proofs.Totals.{run_of, none_completed, completed_parts}
 
 abbrev tagged : ℕ → List (List ℕ) → List Departure
@@ -142,11 +139,11 @@ all_at c j n m past (t ∷ mine) h =
     ∙ ap (λ l. l ++ pick j (all_departures c (run_of n m) (past ++ t ∷ []) mine)) (ap (λ x. pick x (call_departures c past t.call 0 (run_of n m))) none ∙ call_at c past t.call j 0 n m h)
     ∙ ap (λ l. bytes c (completed_in c ((n + j) ∷ []) past t.call) ++ l) (all_at c j n m (past ++ t ∷ []) mine h)
 
-pub sorted : (c : Config) (lists : List PacketList) (verdicts : List (List Verdict)) (port queue n : ℕ) (mine : List Told) (packets : List (List ℕ))
+pub sorted : (c : Config) (of_class : ℕ → List (List ℕ)) (n : ℕ) (mine : List Told) (packets : List (List ℕ))
     → packets ≡ sent_from c (run_of n (classes_of c)) [] mine
-    → ((class : ℕ) → class < classes_of c → sent_from c ((n + class) ∷ []) [] mine ≡ expected c lists verdicts port queue class)
-    → AreExpected c lists verdicts port queue packets
-sorted c lists verdicts port queue n mine packets is each = record {
+    → ((class : ℕ) → class < classes_of c → sent_from c ((n + class) ∷ []) [] mine ≡ of_class class)
+    → AreOfClasses c of_class packets
+sorted c of_class n mine packets is each = record {
   departures = all_departures c (run_of n (classes_of c)) [] mine;
   all = is ∙ sym (all_packets c (run_of n (classes_of c)) [] mine);
   known = all_known c n (classes_of c) [] mine;

@@ -7,27 +7,29 @@ use Rattle.xsk_model.specs.Entry.{Entry, own}
 use Rattle.xsk_model.specs.Sent.{sockets_from, sent_from, sent, sent_by}
 use Rattle.xsk_model.specs.Steering.{paired_port, driver_on, socket_on}
 use Rattle.xsk_prog.specs.declared.rule.Verdict.{Verdict}
-use Rattle.xsk_turns.specs.Turns.{Judged}
-use Rattle.xsk_turns.specs.Disposals.{delivered_to, bytes_in}
-use Rattle.xsk_laws.specs.Expected.{received, received_judged}
-use Rattle.xsk_laws.specs.Laws.{AreWholeRuns, SentIsExpected, SentIsForwarded, NothingElseIsSent, AllIsExpected, SentIsWithin}
-use Rattle.xsk_laws.proofs.Filters.{seat_at}
+use Rattle.xsk_turns.specs.Turns.{Judged, seat_of}
+use Rattle.xsk_turns.specs.Disposals.{attempts_of, disposals_of, with_disposal}
+use Rattle.xsk_turns.specs.declared.disposal.Disposal.{Disposal}
+use Rattle.xsk_turns.specs.declared.wire.Wire.{Wire}
+use Rattle.xsk_laws.specs.Expected.{received, received_judged, expected}
+use Rattle.xsk_laws.specs.Forwarded.{forwarded}
+use Rattle.xsk_laws.specs.Laws.{AreWholeRuns, SentIsForwarded, SentIsExpected, AllAreForwarded, NothingElseIsSent, AllIsForwarded, AllIsExpected, SentIsWithin}
 use Rattle.xsk_model.proofs.Seats.{IsAt, is_at}
 use Rattle.xsk_laws.proofs.Machines.{workers}
-use Rattle.xsk_laws.proofs.Joined.{sent_arrived, sent_expected, sent_forwarded}
+use Rattle.xsk_laws.proofs.Joined.{sent_forwarded, sent_expected}
 use Rattle.xsk_laws.proofs.Totals.{total, total-one, total-bytes, run_of, delivered_within, judged_within, sent_few}
 use Rattle.xsk_laws.proofs.Sockets.{sockets_are}
 use Rattle.xsk_laws.proofs.Sorted.{sorted}
 
-pub sent_is_expected : SentIsExpected
-sent_is_expected c lists verdicts frames h port queue class run place = sent_expected workers c lists verdicts frames h port queue class run place
-
 pub sent_is_forwarded : SentIsForwarded
-sent_is_forwarded c lists verdicts frames h port queue class run place = sent_forwarded workers c lists verdicts frames h port queue class run place
+sent_is_forwarded wire c lists verdicts frames h port queue class run place = sent_forwarded workers wire c lists verdicts frames h port queue class run place
+
+pub sent_is_expected : SentIsExpected
+sent_is_expected wire c lists verdicts frames h port queue class waits run place = sent_expected workers wire c lists verdicts frames h port queue class run place waits
 
 -- ---- all sockets of a queue
 
-module _ (c : Config) (lists : List PacketList) (verdicts : List (List Verdict)) (frames : List Frame) (h : List Entry) (p q : ℕ) (run : AreWholeRuns c lists verdicts frames h) (port : p < c.ports) (queue : q < c.queues) where
+module _ (wire : Wire) (c : Config) (lists : List PacketList) (verdicts : List (List Verdict)) (frames : List Frame) (h : List Entry) (p q : ℕ) (run : AreWholeRuns wire c lists verdicts frames h) (port : p < c.ports) (queue : q < c.queues) where
   abbrev d : ℕ
   d = driver_on c p q
 
@@ -62,12 +64,14 @@ module _ (c : Config) (lists : List PacketList) (verdicts : List (List Verdict))
   abbrev input : List Judged
   input = received_judged c lists verdicts (paired_port p) q
 
+  abbrev ds : List Disposal
+  ds = disposals_of (seat_of wire c e) input (attempts_of (own e h))
+
   within : (f : List ℕ → ℕ) → total f (sent c h d) ≤ total f (received c lists (paired_port p) q)
   within f =
-      let each : (k : ℕ) → k < classes_of c
-      → sent_from c ((d * classes_of c + k) ∷ []) [] (own d h) ≡ bytes_in (delivered_to (seat_at c e (paired_port p) q) (e * classes_of c + k) input) =
-      λ k class. sent_arrived workers c lists verdicts frames h p q k run (record { in_ports = port; in_queues = queue; in_classes = class }) in
-      let few = sent_few f c (own d h) (seat_at c e (paired_port p) q) input (d * classes_of c) (e * classes_of c) (classes_of c) 0 (classes_of c) (omega arith) each in
+      let each : (k : ℕ) → k < classes_of c → sent_from c ((d * classes_of c + k) ∷ []) [] (own d h) ≡ with_disposal (e * classes_of c + k) input ds =
+      λ k class. sent_forwarded workers wire c lists verdicts frames h p q k run (record { in_ports = port; in_queues = queue; in_classes = class }) in
+      let few = sent_few f c (own d h) input ds (d * classes_of c) (e * classes_of c) (classes_of c) 0 (classes_of c) (omega arith) each in
       let start : d * classes_of c + 0 ≡ d * classes_of c = omega arith in
       let all : total f (sent c h d) ≡ total f (sent_from c (run_of (d * classes_of c + 0) (classes_of c)) [] (own d h)) =
       ap (total f) (all_sent ∙ ap (λ n. sent_from c (run_of n (classes_of c)) [] (own d h)) (sym start)) in
@@ -75,24 +79,34 @@ module _ (c : Config) (lists : List PacketList) (verdicts : List (List Verdict))
         arith,
         all,
         few,
-        delivered_within (λ (x : Judged). f x.bytes) (seat_at c e (paired_port p) q) (e * classes_of c + 0) input,
+        delivered_within f (e * classes_of c + 0) input ds,
         judged_within f (received c lists (paired_port p) q) (get_or verdicts (driver_on c (paired_port p) q) []),
       )
 
+pub all_are_forwarded : AllAreForwarded
+all_are_forwarded wire c lists verdicts frames h p q run port queue =
+    sorted c (forwarded wire c h lists verdicts p q) (driver_on c p q * classes_of c) (own (driver_on c p q) h) (sent c h (driver_on c p q)) (all_sent wire c lists verdicts frames h p q run port queue)
+    (λ k class. sent_forwarded workers wire c lists verdicts frames h p q k run (record { in_ports = port; in_queues = queue; in_classes = class }))
+
 pub nothing_else_is_sent : NothingElseIsSent
-nothing_else_is_sent c lists verdicts frames h p q run port queue =
-    sorted c lists verdicts p q (driver_on c p q * classes_of c) (own (driver_on c p q) h) (sent c h (driver_on c p q)) (all_sent c lists verdicts frames h p q run port queue)
-    (λ k class. sent_expected workers c lists verdicts frames h p q k run (record { in_ports = port; in_queues = queue; in_classes = class }))
+nothing_else_is_sent wire c lists verdicts frames h p q waits run port queue =
+    sorted c (expected c lists verdicts p q) (driver_on c p q * classes_of c) (own (driver_on c p q) h) (sent c h (driver_on c p q)) (all_sent wire c lists verdicts frames h p q run port queue)
+    (λ k class. sent_expected workers wire c lists verdicts frames h p q k run (record { in_ports = port; in_queues = queue; in_classes = class }) waits)
+
+pub all_is_forwarded : AllIsForwarded
+all_is_forwarded wire c lists verdicts frames h p q run port queue one =
+    only_sent wire c lists verdicts frames h p q run port queue one
+    ∙ sent_forwarded workers wire c lists verdicts frames h p q 0 run (record { in_ports = port; in_queues = queue; in_classes = omega (arith, one) })
 
 pub all_is_expected : AllIsExpected
-all_is_expected c lists verdicts frames h p q run port queue one =
-    only_sent c lists verdicts frames h p q run port queue one
-    ∙ sent_expected workers c lists verdicts frames h p q 0 run (record { in_ports = port; in_queues = queue; in_classes = omega (arith, one) })
+all_is_expected wire c lists verdicts frames h p q waits run port queue one =
+    only_sent wire c lists verdicts frames h p q run port queue one
+    ∙ sent_expected workers wire c lists verdicts frames h p q 0 run (record { in_ports = port; in_queues = queue; in_classes = omega (arith, one) }) waits
 
 pub sent_is_within : SentIsWithin
-sent_is_within c lists verdicts frames h p q run port queue =
+sent_is_within wire c lists verdicts frames h p q run port queue =
     let sent_here = sent c h (driver_on c p q) in
     let input = received c lists (paired_port p) q in (
-      omega (arith, within c lists verdicts frames h p q run port queue (λ _. 1), total-one sent_here, total-one input),
-      omega (arith, within c lists verdicts frames h p q run port queue (λ (x : List ℕ). length x), total-bytes sent_here, total-bytes input),
+      omega (arith, within wire c lists verdicts frames h p q run port queue (λ _. 1), total-one sent_here, total-one input),
+      omega (arith, within wire c lists verdicts frames h p q run port queue (λ (x : List ℕ). length x), total-bytes sent_here, total-bytes input),
     )

@@ -1,7 +1,7 @@
 -- What a driver sent by all sockets of its queue is, in number and in bytes, what it sent by each; and what is delivered to
 -- different sockets is no more than all.
 use Rattle.std.proofs.Common.{◌≡◌, ℕ, zero, suc, ◌+◌, ◌<◌, ◌≤◌, Bool, true, false, cond, leb, List, [], ◌∷◌, ◌++◌, length, map, refl, sym, ap, subst, ◌∙◌, ⊎_elim, arith, append-nil, length-append}
-use Rattle.std.specs.List.{concat, filter}
+use Rattle.std.specs.List.{concat}
 use Rattle.std.proofs.lemmas.Bool.{cases_eq, cases_lt, eq-eqb, ne_eqb, le-leb, lt-leb}
 use Rattle.std.proofs.lemmas.List.{map-append}
 use Rattle.xsk_umem.specs.declared.batch.Item.{Item}
@@ -13,9 +13,9 @@ use Rattle.xsk_model.specs.declared.call.Ring.TheVariants.{Fill, Comp, Rx, Tx}
 use Rattle.xsk_model.specs.declared.call.Call.{Call}
 use Rattle.xsk_model.specs.declared.call.Call.TheVariants.{Reserve, Submit, Peek, Release, Swap, Look}
 use Rattle.xsk_prog.specs.declared.rule.Verdict.{Verdict}
-use Rattle.xsk_turns.specs.Turns.{Seat, Judged}
+use Rattle.xsk_turns.specs.Turns.{Judged}
 use Rattle.xsk_turns.specs.Verdicts.{judged}
-use Rattle.xsk_turns.specs.Disposals.{disposal_in, is_to, delivered_to, bytes_in}
+use Rattle.xsk_turns.specs.Disposals.{is_to, with_disposal}
 use Rattle.xsk_turns.specs.declared.disposal.Disposal.{Disposal}
 use Rattle.xsk_turns.specs.declared.disposal.Disposal.TheVariants.{Delivered, NoFrames, RxFull, TooLong, Runt, Missed, Passed, Dropped}
 
@@ -102,8 +102,11 @@ is_from n Missed = false
 is_from n Passed = false
 is_from n Dropped = false
 
-abbrev pub delivered_from : Seat → ℕ → List Judged → List Judged
-delivered_from seat n input = filter (λ packet. is_from n (disposal_in seat packet)) input
+-- the packets with such a disposal, where the disposals are those of the packets
+abbrev pub delivered_from : ℕ → List Judged → List Disposal → List (List ℕ)
+delivered_from n [] disposals = []
+delivered_from n (packet ∷ packets) [] = []
+delivered_from n (packet ∷ packets) (disposal ∷ disposals) = cond (is_from n disposal) (packet.bytes ∷ delivered_from n packets disposals) (delivered_from n packets disposals)
 
 -- one packet is delivered to this socket or to a later one
 one_socket : (n bytes : ℕ) (x : Disposal) → cond (is_to n x) bytes 0 + cond (is_from (n + 1) x) bytes 0 ≤ cond (is_from n x) bytes 0
@@ -132,31 +135,34 @@ total-cond : {X : Type 0} (f : X → ℕ) (b : Bool) (x : X) (xs : List X) → t
 total-cond f true x xs = refl
 total-cond f false x xs = omega arith
 
-pub delivered_parts : (f : Judged → ℕ) (seat : Seat) (n : ℕ) (input : List Judged)
-    → total f (delivered_to seat n input) + total f (delivered_from seat (n + 1) input) ≤ total f (delivered_from seat n input)
-delivered_parts f seat n [] = omega arith
-delivered_parts f seat n (x ∷ input) =
+pub delivered_parts : (f : List ℕ → ℕ) (n : ℕ) (input : List Judged) (disposals : List Disposal)
+    → total f (with_disposal n input disposals) + total f (delivered_from (n + 1) input disposals) ≤ total f (delivered_from n input disposals)
+delivered_parts f n [] disposals = omega arith
+delivered_parts f n (x ∷ input) [] = omega arith
+delivered_parts f n (x ∷ input) (disposal ∷ disposals) =
     omega (
       arith,
-      one_socket n (f x) (disposal_in seat x),
-      delivered_parts f seat n input,
-      total-cond f (is_to n (disposal_in seat x)) x (delivered_to seat n input),
-      total-cond f (is_from (n + 1) (disposal_in seat x)) x (delivered_from seat (n + 1) input),
-      total-cond f (is_from n (disposal_in seat x)) x (delivered_from seat n input),
+      one_socket n (f x.bytes) disposal,
+      delivered_parts f n input disposals,
+      total-cond f (is_to n disposal) x.bytes (with_disposal n input disposals),
+      total-cond f (is_from (n + 1) disposal) x.bytes (delivered_from (n + 1) input disposals),
+      total-cond f (is_from n disposal) x.bytes (delivered_from n input disposals),
     )
 
 cond_few : (b : Bool) (n : ℕ) → cond b n 0 ≤ n
 cond_few true n = omega arith
 cond_few false n = omega arith
 
-pub delivered_within : (f : Judged → ℕ) (seat : Seat) (n : ℕ) (input : List Judged) → total f (delivered_from seat n input) ≤ total f input
-delivered_within f seat n [] = omega arith
-delivered_within f seat n (x ∷ input) =
+pub delivered_within : (f : List ℕ → ℕ) (n : ℕ) (input : List Judged) (disposals : List Disposal)
+    → total f (delivered_from n input disposals) ≤ total (λ (x : Judged). f x.bytes) input
+delivered_within f n [] disposals = omega arith
+delivered_within f n (x ∷ input) [] = omega arith
+delivered_within f n (x ∷ input) (disposal ∷ disposals) =
     omega (
       arith,
-      cond_few (is_from n (disposal_in seat x)) (f x),
-      delivered_within f seat n input,
-      total-cond f (is_from n (disposal_in seat x)) x (delivered_from seat n input),
+      cond_few (is_from n disposal) (f x.bytes),
+      delivered_within f n input disposals,
+      total-cond f (is_from n disposal) x.bytes (delivered_from n input disposals),
     )
 
 -- packets with their verdicts are no more than the packets
@@ -165,23 +171,18 @@ judged_within f [] verdicts = omega arith
 judged_within f (packet ∷ packets) [] = omega arith
 judged_within f (packet ∷ packets) (verdict ∷ verdicts) = omega (arith, judged_within f packets verdicts)
 
-total-bytes_in : (f : List ℕ → ℕ) (xs : List Judged) → total f (bytes_in xs) ≡ total (λ (x : Judged). f x.bytes) xs
-total-bytes_in f [] = refl
-total-bytes_in f (x ∷ xs) = omega (arith, total-bytes_in f xs)
-
 -- where each of so many sockets sent what is delivered to its own, all sent no more than what is delivered
-pub sent_few : (f : List ℕ → ℕ) (c : Config) (mine : List Told) (seat : Seat) (input : List Judged) (t s classes i m : ℕ) → i + m ≡ classes
-    → ((k : ℕ) → k < classes → sent_from c ((t + k) ∷ []) [] mine ≡ bytes_in (delivered_to seat (s + k) input))
-    → total f (sent_from c (run_of (t + i) m) [] mine) ≤ total (λ (x : Judged). f x.bytes) (delivered_from seat (s + i) input)
-sent_few f c mine seat input t s classes i zero e h = omega (arith, sent_none f c [] mine)
-sent_few f c mine seat input t s classes i (suc m) e h =
-    let here : total f (sent_from c ((t + i) ∷ []) [] mine) ≡ total (λ (x : Judged). f x.bytes) (delivered_to seat (s + i) input) =
-    ap (total f) (h i (omega (arith, e))) ∙ total-bytes_in f (delivered_to seat (s + i) input) in
+pub sent_few : (f : List ℕ → ℕ) (c : Config) (mine : List Told) (input : List Judged) (disposals : List Disposal) (t s classes i m : ℕ) → i + m ≡ classes
+    → ((k : ℕ) → k < classes → sent_from c ((t + k) ∷ []) [] mine ≡ with_disposal (s + k) input disposals)
+    → total f (sent_from c (run_of (t + i) m) [] mine) ≤ total f (delivered_from (s + i) input disposals)
+sent_few f c mine input disposals t s classes i zero e h = omega (arith, sent_none f c [] mine)
+sent_few f c mine input disposals t s classes i (suc m) e h =
+    let here : total f (sent_from c ((t + i) ∷ []) [] mine) ≡ total f (with_disposal (s + i) input disposals) = ap (total f) (h i (omega (arith, e))) in
     let next : t + (i + 1) ≡ t + i + 1 = omega arith in
     let after : s + (i + 1) ≡ s + i + 1 = omega arith in
-    let later : total f (sent_from c (run_of (t + (i + 1)) m) [] mine) ≤ total (λ (x : Judged). f x.bytes) (delivered_from seat (s + (i + 1)) input) =
-    sent_few f c mine seat input t s classes (i + 1) m (omega (arith, e)) h in
-    let moved : total f (sent_from c (run_of (t + i + 1) m) [] mine) ≤ total (λ (x : Judged). f x.bytes) (delivered_from seat (s + i + 1) input) =
-    subst (λ n. total f (sent_from c (run_of n m) [] mine) ≤ total (λ (x : Judged). f x.bytes) (delivered_from seat (s + i + 1) input)) next
-    (subst (λ n. total f (sent_from c (run_of (t + (i + 1)) m) [] mine) ≤ total (λ (x : Judged). f x.bytes) (delivered_from seat n input)) after later) in
-    omega (arith, here, moved, sent_parts f c (t + i) (run_of (t + i + 1) m) [] mine, delivered_parts (λ (x : Judged). f x.bytes) seat (s + i) input)
+    let later : total f (sent_from c (run_of (t + (i + 1)) m) [] mine) ≤ total f (delivered_from (s + (i + 1)) input disposals) =
+    sent_few f c mine input disposals t s classes (i + 1) m (omega (arith, e)) h in
+    let moved : total f (sent_from c (run_of (t + i + 1) m) [] mine) ≤ total f (delivered_from (s + i + 1) input disposals) =
+    subst (λ n. total f (sent_from c (run_of n m) [] mine) ≤ total f (delivered_from (s + i + 1) input disposals)) next
+    (subst (λ n. total f (sent_from c (run_of (t + (i + 1)) m) [] mine) ≤ total f (delivered_from n input disposals)) after later) in
+    omega (arith, here, moved, sent_parts f c (t + i) (run_of (t + i + 1) m) [] mine, delivered_parts f (s + i) input disposals)

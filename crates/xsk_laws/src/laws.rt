@@ -1,25 +1,37 @@
 //! The laws of all workers' whole runs, each the contract of a function that does nothing. They are stated in
 //! `specs/Laws.antt`.
 
-ghost use Rattle.xsk_laws.specs.Laws.{SentIsExpected, SentIsForwarded, NothingElseIsSent, AllIsExpected, SentIsWithin, ExpectedIsOther};
+ghost use Rattle.xsk_laws.specs.Laws.{SentIsForwarded, SentIsExpected, AllAreForwarded, NothingElseIsSent, AllIsForwarded, AllIsExpected, SentIsWithin, ExpectedIsOther};
 
-/// What a driver sent by the socket of a class is exactly the paired port's packets that go to the paired socket, each
-/// whole and in order.
-pub fn sent_is_expected()
-    ensures { SentIsExpected }
-{}
-
-/// It is what the paired port's driver delivered to that socket.
+/// What a driver sent by the socket of a class is exactly what the paired port's driver delivered to the paired socket, each
+/// packet whole and in order, whatever the wire does.
 pub fn sent_is_forwarded()
     ensures { SentIsForwarded }
 {}
 
-/// All that a driver sent is what is expected by all classes together, and nothing else.
+/// Where the wire waits, it is exactly the paired port's packets that go to that socket.
+pub fn sent_is_expected()
+    ensures { SentIsExpected }
+{}
+
+/// All that a driver sent is what was forwarded by all classes together, and nothing else.
+#[tactic(auto, using(crate::proofs::Theorems::all_are_forwarded))]
+pub fn all_are_forwarded()
+    ensures { AllAreForwarded }
+{}
+
+/// Where the wire waits, it is what is expected by all classes together, and nothing else.
 pub fn nothing_else_is_sent()
     ensures { NothingElseIsSent }
 {}
 
-/// With one socket for each queue, it is all that the driver sent.
+/// With one socket for each queue, what was forwarded by it is all that the driver sent.
+#[tactic(auto, using(crate::proofs::Theorems::all_is_forwarded))]
+pub fn all_is_forwarded()
+    ensures { AllIsForwarded }
+{}
+
+/// Where the wire waits too, all that the driver sent is what is expected by that socket.
 pub fn all_is_expected()
     ensures { AllIsExpected }
 {}

@@ -33,14 +33,14 @@ use Rattle.xsk_machine.specs.Acts.{other_of, HasRoomToSend, DriverStands, AppSta
 -- ---- drivers
 
 pub driver_after : (s : Setting) (who : ℕ) (d : DriverShown) (act : Act) (l : List Told) → who < length s.config.pairs → HasRoomToSend s who d
-    → StandsWith s.config who (input_of s who) d act l → DriverStands s who d act l × IsActAfter s who act l
+    → StandsWith s.wire s.config who (input_of s who) d act l → DriverStands s who d act l × IsActAfter s who act l
 driver_after s who d (Calls call) l known room stands =
-    let tells = tells_with s.config who (input_of s who) d (Calls call) l stands in (
+    let tells = tells_with s.wire s.config who (input_of s who) d (Calls call) l stands in (
       record { known = known; room = room; stands = stands },
       (tells.legal, λ whole. tells.more (whole.driver known), record { driver = λ below. tells.run; app = λ a is. absurd (omega arith) }),
     )
 driver_after s who d IsEnd l known room stands =
-    let tells = tells_with s.config who (input_of s who) d IsEnd l stands in
+    let tells = tells_with s.wire s.config who (input_of s who) d IsEnd l stands in
     (record { known = known; room = room; stands = stands }, record { driver = λ below. tells.whole; app = λ a is. absurd (omega arith) })
 
 -- its room stays
@@ -48,7 +48,7 @@ pub room_stays : (s : Setting) (who : ℕ) (old new : DriverShown) → HasRoomTo
     → (new.sent.most_packets ≡ old.sent.most_packets) × (new.sent.most_bytes ≡ old.sent.most_bytes) → HasRoomToSend s who new
 room_stays s who old new room same = record { packets = same.0 ∙ room.packets; bytes = same.1 ∙ room.bytes }
 
--- packets are no more than what the paired port received
+-- packets are no more than what the paired port received on the queue
 pub record IsWithin (s : Setting) (who : ℕ) (packets : List (List ℕ)) : Type 0 where
   pub count : length packets ≤ length (other_of s who)
   pub bytes : length (concat packets) ≤ length (concat (other_of s who))
@@ -62,7 +62,7 @@ pub sent_at : (s : Setting) (who : ℕ) (d : DriverShown) (act : Act) (l : List 
     → IsWithin s who (sent_from s.config (sockets_of s.config who) [] l)
     → d.sent.packets ≡ sent_from s.config (sockets_of s.config who) [] l
 sent_at s who d act l is stands within =
-    let ended : StandsWith s.config who (input_of s who) d IsEnd l = subst (λ a. StandsWith s.config who (input_of s who) d a l) is stands.stands in
+    let ended : StandsWith s.wire s.config who (input_of s who) d IsEnd l = subst (λ a. StandsWith s.wire s.config who (input_of s who) d a l) is stands.stands in
     let mine = sent_from s.config (sockets_of s.config who) [] l in
     ended.sent.kept (is_false d.sent.overrun (λ overran. ⊎_elim
     (λ (many : d.sent.most_packets < length mine). absurd (omega (arith, many, stands.room.packets, within.count)))
@@ -114,6 +114,6 @@ app_after s who old new act l config caller own same stands =
 pub worker_run : (s : Setting) (who : ℕ) (act : Act) (l : List Told) → IsActAfter s who act l → IsWorkerRun s who l
 worker_run s who (Calls call) l after = after.2
 worker_run s who IsEnd l after = record {
-  driver = λ below. whole_run (driver_turn (seat_of s.config who)) (start (classes_of s.config) (input_of s who)) l (after.driver below);
+  driver = λ below. whole_run (driver_turn (seat_of s.wire s.config who)) (start (classes_of s.config) (input_of s who)) l (after.driver below);
   app = λ a is. whole_run (app_turn s.config a) (app_start s.config) l (after.app a is);
 }

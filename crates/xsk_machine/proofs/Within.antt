@@ -1,50 +1,25 @@
--- No driver sends more than the paired port received.
-use Rattle.std.proofs.Common.{◌≡◌, ℕ, ◌+◌, ◌*◌, ◌/◌, ◌<◌, ◌≤◌, Bool, true, false, if◌then◌else◌, ◌==◌, List, [], ◌∷◌, length, length-append, refl, sym, ap, subst, ◌∙◌, arith}
+-- No driver sends more than the paired port received on its queue.
+use Rattle.std.proofs.Common.{◌≡◌, ℕ, ◌+◌, ◌*◌, ◌/◌, ◌<◌, List, length, refl, sym, ap, subst, ◌∙◌, arith}
 use Rattle.std.proofs.lemmas.Nat.{div-add-mod', div_below, mod_below}
-use Rattle.std.specs.List.{concat}
 use Rattle.xsk_umem.specs.Frame.{Frame}
 use Rattle.xsk_model.specs.Config.{IsRegular, callers_of, pair_at}
 use Rattle.xsk_model.specs.Rings.{caller_of}
 use Rattle.xsk_model.specs.Entry.{Entry, own}
 use Rattle.xsk_model.specs.History.{IsHistory}
 use Rattle.xsk_model.specs.Sent.{sent}
-use Rattle.xsk_model.specs.Steering.{packet_queue, driver_on}
-use Rattle.xsk_turns.specs.Inputs.{packets_of_queue}
+use Rattle.xsk_model.specs.Steering.{driver_on}
 use Rattle.xsk_laws.specs.Laws.{AreWholeRuns}
 use Rattle.xsk_laws.proofs.Theorems.{sent_is_within}
 use Rattle.xsk_turns.specs.Workers.{Setting, IsWholeRun}
-use Rattle.xsk_machine.specs.Acts.{other_of}
 use Rattle.xsk_machine.proofs.Acts.{IsWithin}
 
--- ---- packets of a queue
-
-record IsFewer (few all : List (List ℕ)) : Type 0 where
-  count : length few ≤ length all
-  bytes : length (concat few) ≤ length (concat all)
-
-one_more : (b : Bool) (packet : List ℕ) (few all : List (List ℕ)) → IsFewer few all → IsFewer (if b then packet ∷ few else few) (packet ∷ all)
-one_more true packet few all h = record {
-  count = omega (arith, h.count);
-  bytes = omega (arith, h.bytes, length-append packet (concat few), length-append packet (concat all));
-}
-one_more false packet few all h = record {
-  count = omega (arith, h.count);
-  bytes = omega (arith, h.bytes, length-append packet (concat all));
-}
-
-queue_fewer : (queues queue : ℕ) (packets : List (List ℕ)) → IsFewer (packets_of_queue queues queue packets) packets
-queue_fewer queues queue [] = record { count = omega arith; bytes = omega arith }
-queue_fewer queues queue (packet ∷ packets) = one_more (packet_queue queues packet == queue) packet (packets_of_queue queues queue packets) packets (queue_fewer queues queue packets)
-
--- ---- drivers
-
--- each driver's packets are no more than what its paired port received
+-- each driver's packets are no more than that
 abbrev pub AreWithin : Setting → List Entry → Type 0
 AreWithin s h = (d : ℕ) → d < length s.config.pairs → IsWithin s d (sent s.config h d)
 
 module _ (s : Setting) (frames : List Frame) (h : List Entry) (regular : IsRegular s.config) (legal : IsHistory s.config frames h)
     (whole : (who : ℕ) → who < callers_of s.config → IsWholeRun s who (own who h)) where
-  whole_runs : AreWholeRuns s.config s.packets s.verdicts frames h
+  pub whole_runs : AreWholeRuns s.wire s.config s.packets s.verdicts frames h
   whole_runs = record {
     regular = regular;
     history = legal;
@@ -61,7 +36,5 @@ module _ (s : Setting) (frames : List Frame) (h : List Entry) (regular : IsRegul
       let here : driver_on s.config p q ≡ d = ap (λ n. n * s.config.queues + q) seat.0 ∙ ap (λ n. (d / s.config.queues) * s.config.queues + n) seat.1 ∙ div-add-mod' d s.config.queues in
       let port : p < s.config.ports = subst (λ n. n < s.config.ports) (sym seat.0) (div_below d s.config.queues s.config.ports some (omega (arith, below, regular.pairs))) in
       let queue : q < s.config.queues = subst (λ n. n < s.config.queues) (sym seat.1) (mod_below d s.config.queues some) in
-      let few = sent_is_within s.config s.packets s.verdicts frames h p q whole_runs port queue in
-      let less = queue_fewer s.config.queues q (other_of s d) in
-      subst (λ k. IsWithin s d (sent s.config h k)) here
-      (record { count = omega (arith, few.0, less.count); bytes = omega (arith, few.1, less.bytes) })
+      let few = sent_is_within s.wire s.config s.packets s.verdicts frames h p q whole_runs port queue in
+      subst (λ k. IsWithin s d (sent s.config h k)) here (record { count = few.0; bytes = few.1 })

@@ -8,8 +8,8 @@ use Rattle.xsk_model.specs.Legal.{IsLegal}
 use Rattle.xsk_model.specs.Steering.{paired_port}
 use Rattle.xsk_model.specs.declared.call.Act.{Act}
 use Rattle.xsk_model.specs.declared.call.Act.TheVariants.{Call as Calls, Ended as IsEnd}
-use Rattle.xsk_turns.specs.Inputs.{packets_of_port}
 use Rattle.xsk_turns.specs.Workers.{Setting, input_of, IsWorkerRun, IsWholeRun}
+use Rattle.xsk_laws.specs.Expected.{received}
 use Rattle.xsk_umem.specs.PacketList.{PacketList}
 use Rattle.xsk_driver.specs.Sent.{IsShort}
 use Rattle.xsk_driver.specs.Shown.{Shown as DriverShown}
@@ -21,9 +21,9 @@ use Rattle.xsk_app.specs.Runs.{IsNew as IsNewApp, StandsWith as AppStandsWith}
 abbrev pub HasShortPackets : PacketList → Type 0
 HasShortPackets list = All IsShort list.packets
 
--- what the paired port of a pair's port received
+-- what the paired port of a pair's port received on the pair's queue
 abbrev pub other_of : Setting → ℕ → List (List ℕ)
-other_of s who = packets_of_port s.packets (paired_port (pair_at s.config.pairs who).port)
+other_of s who = received s.config s.packets (paired_port (pair_at s.config.pairs who).port) (pair_at s.config.pairs who).queue
 
 -- a driver has room to send all of it
 pub record HasRoomToSend (s : Setting) (who : ℕ) (d : DriverShown) : Type 0 where
@@ -34,13 +34,13 @@ pub record HasRoomToSend (s : Setting) (who : ℕ) (d : DriverShown) : Type 0 wh
 pub record IsDriver (s : Setting) (who : ℕ) (d : DriverShown) : Type 0 where
   pub known : who < length s.config.pairs
   pub room : HasRoomToSend s who d
-  pub is : IsNewDriver s.config who (input_of s who) d
+  pub is : IsNewDriver s.wire s.config who (input_of s who) d
 
 -- the driver of a pair stands for a list, and gave this act after it
 pub record DriverStands (s : Setting) (who : ℕ) (d : DriverShown) (act : Act) (l : List Told) : Type 0 where
   pub known : who < length s.config.pairs
   pub room : HasRoomToSend s who d
-  pub stands : StandsWith s.config who (input_of s who) d act l
+  pub stands : StandsWith s.wire s.config who (input_of s who) d act l
 
 -- a new application
 pub record IsApp (s : Setting) (who : ℕ) (a : AppShown) : Type 0 where

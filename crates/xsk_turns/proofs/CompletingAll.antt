@@ -4,8 +4,7 @@ use Rattle.xsk_umem.specs.declared.batch.Item.{Item}
 use Rattle.xsk_turns.proofs.Object.{packets, whole_packets, sending_of}
 use Rattle.xsk_model.proofs.Completions.{own_kept}
 use Rattle.xsk_model.proofs.Sendings.{wholes, peeked_is}
-use Rattle.xsk_turns.specs.Turns.{seat_of, socket_of}
-use Rattle.xsk_turns.specs.Owned.{of_class}
+use Rattle.xsk_turns.specs.Owned.{of_class, socket_at_class}
 use Rattle.xsk_turns.specs.Law.{CompletesAll}
 use Rattle.xsk_turns.proofs.Owning.{has_ended}
 
@@ -18,9 +17,9 @@ all_done : (completed : ℕ) (all : List (List Item)) → completed ≤ length a
 all_done completed all h e = omega (arith, length-drop completed all)
 
 pub completes_all : CompletesAll
-completes_all c d class input l is fit whole below =
-    let has = has_ended c d input l is fit whole.0 whole.1 in
-    let s = socket_of (seat_of c d) class in
+completes_all wire c d class input l is fit whole below =
+    let has = has_ended wire c d input l is fit whole.0 whole.1 in
+    let s = socket_at_class c d class in
     let u = sending_of c s l in
     let within = (own_kept c d is.known l has.0.own).within s in
     let none = sym (has.0.waits class below) ∙ none_of class has.0.origins whole.0.finished has.1 in

@@ -1,26 +1,27 @@
--- In a whole run what was submitted on an RX ring are the layouts of the packets that are delivered there, in order.
-use Rattle.std.proofs.Common.{◌≡◌, ℕ, ◌*◌, ◌≤◌, ◌⊎◌, inl, inr, Bool, true, false, cond, eqb, nat_lt, nat_le, List, [], ◌∷◌, ◌++◌, length, map, flat_map, take, drop, All, refl, sym, ap, ◌∙◌, subst, append-nil, append_assoc, length-take-le, arith, IsTrue, if◌then◌else◌, leb-true}
+-- In a whole run what was submitted on an RX ring are the layouts of the packets that were delivered there, in order.
+use Rattle.std.proofs.Common.{◌≡◌, ℕ, ◌*◌, ◌≤◌, ◌⊎◌, inl, inr, Bool, true, false, cond, eqb, nat_lt, nat_le, List, [], ◌∷◌, ◌++◌, length, map, flat_map, take, drop, All, refl, sym, ap, ◌∙◌, subst, append-nil, append_assoc, length-append, length-take-le, arith, IsTrue, if◌then◌else◌, leb-true}
 use Rattle.xsk_turns.proofs.Owned.{none_submitted, other_submitted}
 use Rattle.std.proofs.lemmas.Bool.{ltb-false}
 use Rattle.std.proofs.lemmas.Bool.Decides.{nat_tests}
-use Rattle.std.proofs.lemmas.List.{map-append}
 use Rattle.std.proofs.lemmas.List.Concat.{flat_map-append}
-use Rattle.std.proofs.lemmas.List.Elements.{All-nil, All-append, All-take, All-drop, filter-append}
+use Rattle.std.proofs.lemmas.List.Elements.{All-nil, All-cons, All-append, All-take, All-drop}
 use Rattle.xsk_turns.proofs.Object.{Geometry, Frame, payload_of, Config, classes_of, IsLayout, submitted, submitted_step, submitted_of}
 use Rattle.xsk_turns.proofs.Calls.{Item, Told, with_told, Fill, Comp, Rx, RxDone, Gone, TxDone, Call, Submit, Swap, Look, Reply, Submitted, Items, Old}
 use Rattle.xsk_model.proofs.Folds.{part_of-push}
-use Rattle.xsk_turns.specs.Turns.{Seat, Judged, Kept, seat_of, start, turn, settled, application_of, limit_of, pieces_of, laid_out, frames_in, returned}
-use Rattle.xsk_turns.specs.Disposals.{disposal_in, is_to, delivered_to, bytes_in}
-use Rattle.xsk_turns.specs.Owned.{IsSeat}
-use Rattle.xsk_turns.specs.Law.{AreLayouts, IsLaidOut, DeliversInOrder}
+use Rattle.xsk_turns.specs.Turns.{Seat, Judged, Kept, IsWholeDriverRun, seat_of, start, turn, settled, application_of, limit_of, pieces_of, laid_out, frames_in, returned}
+use Rattle.xsk_turns.specs.Disposals.{attempts_of, disposals_of, disposal_in, is_to, with_disposal, delivered_to, bytes_in}
+use Rattle.xsk_turns.specs.Owned.{IsSeat, AllFit}
+use Rattle.xsk_turns.specs.Law.{AreLayouts, IsLaidOut, IsSized, DeliversInOrder, DeliversSized, DeliversAsSaid}
+use Rattle.xsk_model.specs.Steering.{packet_limit}
+use Rattle.xsk_turns.specs.declared.wire.Wire.{Wire}
 use Rattle.xsk_turns.specs.declared.disposal.Disposal.{Disposal}
-use Rattle.xsk_turns.specs.declared.disposal.Disposal.TheVariants.{Delivered, TooLong, Missed}
+use Rattle.xsk_turns.specs.declared.disposal.Disposal.TheVariants.{Delivered, NoFrames, RxFull, TooLong, Missed}
 use Rattle.xsk_turns.proofs.Rooms.{IsOwnFrame, own_frames, all_whole}
 use Rattle.xsk_turns.proofs.Layouts.{layout, one_piece, length-laid_out}
-use Rattle.xsk_turns.proofs.Disposing.{IsOver, over_later}
-use Rattle.xsk_turns.proofs.Saying.{in-untried, to_none, to_some, to_tried}
+use Rattle.xsk_turns.proofs.Disposing.{IsOver, over_later, disposes_all}
+use Rattle.xsk_turns.proofs.Saying.{disposed_as_said}
 use Rattle.xsk_turns.proofs.Walks.{Fitting, meet_fitting}
-use Rattle.xsk_turns.proofs.DriverWalk.{Family, Receiving, fresh, IsTried, call_at, told_rx_done, looked_none, looked_long, fill_items, rx_submitted, comp_submitted, looked_tx_done, point_of, reply_of, untried, untried_has, AtEntries, AtPasses, IsLaw, at_end}
+use Rattle.xsk_turns.proofs.DriverWalk.{Family, Receiving, fresh, IsTried, call_at, told_rx_done, looked_none, looked_long, fill_items, rx_submitted, comp_submitted, looked_tx_done, point_of, reply_of, untried, drops_full, drops_frameless, untried_has, AtEntries, AtPasses, IsLaw, at_end}
 
 -- ---- lists of layouts
 
@@ -43,54 +44,67 @@ laid_out-more g sg packets all packet items h k =
 
 -- ---- what holds
 
--- packets that have their disposal, and what was submitted of them
-record IsGiven (seat : Seat) (s : ℕ) (input coming : List Judged) (items : List Item) : Type 0 where
+-- packets that have their disposals, and what was submitted of them
+record IsGiven (c : Config) (s : ℕ) (input coming : List Judged) (ds : List Disposal) (items : List Item) : Type 0 where
   pub done : List Judged
   pub parts : done ++ coming ≡ input
-  pub laid : IsLaidOut seat.config.geometry seat.config.sg (bytes_in (delivered_to seat s done)) items
+  pub each : length done ≡ length ds
+  pub laid : IsLaidOut c.geometry c.sg (with_disposal s done ds) items
+  pub sized : All (IsSized c) (with_disposal s done ds)
 
-delivered-push : (seat : Seat) (s : ℕ) (done : List Judged) (packet : Judged) (d : Disposal) → disposal_in seat packet ≡ d
-    → bytes_in (delivered_to seat s (done ++ packet ∷ [])) ≡ bytes_in (delivered_to seat s done) ++ bytes_in (cond (is_to s d) (packet ∷ []) [])
-delivered-push seat s done packet d e =
-    ap bytes_in (filter-append (λ (p : Judged). is_to s (disposal_in seat p)) done (packet ∷ []) ∙ ap (λ x. delivered_to seat s done ++ cond (is_to s x) (packet ∷ []) []) e)
-    ∙ map-append (λ (p : Judged). p.bytes) (delivered_to seat s done) (cond (is_to s d) (packet ∷ []) [])
+behind_if : (b : Bool) (packet : List ℕ) (front back : List (List ℕ)) → cond b (packet ∷ front ++ back) (front ++ back) ≡ cond b (packet ∷ front) front ++ back
+behind_if true packet front back = refl
+behind_if false packet front back = refl
+
+with_disposal-push : (s : ℕ) (done : List Judged) (ds : List Disposal) (packet : Judged) (d : Disposal) → length done ≡ length ds
+    → with_disposal s (done ++ packet ∷ []) (ds ++ d ∷ []) ≡ with_disposal s done ds ++ cond (is_to s d) (packet.bytes ∷ []) []
+with_disposal-push s [] [] packet d e = refl
+with_disposal-push s [] (x ∷ ds) packet d e = absurd (omega (arith, e))
+with_disposal-push s (p ∷ done) [] packet d e = absurd (omega (arith, e))
+with_disposal-push s (p ∷ done) (x ∷ ds) packet d e =
+    ap (λ ps. cond (is_to s x) (p.bytes ∷ ps) ps) (with_disposal-push s done ds packet d (omega (arith, e)))
+    ∙ behind_if (is_to s x) p.bytes (with_disposal s done ds) (cond (is_to s d) (packet.bytes ∷ []) [])
 
 parts_more : (done coming input : List Judged) (packet : Judged) (later : List Judged) → coming ≡ packet ∷ later → done ++ coming ≡ input
     → (done ++ packet ∷ []) ++ drop 1 coming ≡ input
 parts_more done coming input packet later e h =
     ap (λ xs. (done ++ packet ∷ []) ++ drop 1 xs) e ∙ append_assoc done (packet ∷ []) later ∙ ap (λ xs. done ++ xs) (sym e) ∙ h
 
--- a packet that isn't delivered to the socket
-passes_by : (seat : Seat) (s : ℕ) (input coming : List Judged) (items : List Item) (packet : Judged) (later : List Judged) (d : Disposal) → coming ≡ packet ∷ later
-    → disposal_in seat packet ≡ d → is_to s d ≡ false → IsGiven seat s input coming items → IsGiven seat s input (drop 1 coming) items
-passes_by seat s input coming items packet later d e f g h =
-    let same : bytes_in (delivered_to seat s (h.done ++ packet ∷ [])) ≡ bytes_in (delivered_to seat s h.done) =
-    delivered-push seat s h.done packet d f ∙ ap (λ b. bytes_in (delivered_to seat s h.done) ++ bytes_in (cond b (packet ∷ []) [])) g ∙ append-nil (bytes_in (delivered_to seat s h.done)) in
-    record {
-      done = h.done ++ packet ∷ [];
-      parts = parts_more h.done coming input packet later e h.parts;
-      laid = subst (λ ps. IsLaidOut seat.config.geometry seat.config.sg ps items) (sym same) h.laid;
-    }
+module _ (c : Config) (s : ℕ) (input coming : List Judged) (ds : List Disposal) (items : List Item) (packet : Judged) (later : List Judged) (is : coming ≡ packet ∷ later) (h : IsGiven c s input coming ds items) where
+  one_more : (d : Disposal) → length (h.done ++ packet ∷ []) ≡ length (ds ++ d ∷ [])
+  one_more d = omega (arith, length-append h.done (packet ∷ []), length-append ds (d ∷ []), h.each)
 
--- one that is
-comes : (seat : Seat) (s : ℕ) (input coming : List Judged) (items more : List Item) (packet : Judged) (later : List Judged) (d : Disposal) → coming ≡ packet ∷ later
-    → disposal_in seat packet ≡ d → is_to s d ≡ true → IsLayout seat.config.geometry seat.config.sg packet.bytes more → IsGiven seat s input coming items
-    → IsGiven seat s input (drop 1 coming) (items ++ more)
-comes seat s input coming items more packet later d e f g is h =
-    let one : bytes_in (delivered_to seat s (h.done ++ packet ∷ [])) ≡ bytes_in (delivered_to seat s h.done) ++ packet.bytes ∷ [] =
-    delivered-push seat s h.done packet d f ∙ ap (λ b. bytes_in (delivered_to seat s h.done) ++ bytes_in (cond b (packet ∷ []) [])) g in
-    record {
-      done = h.done ++ packet ∷ [];
-      parts = parts_more h.done coming input packet later e h.parts;
-      laid = subst (λ ps. IsLaidOut seat.config.geometry seat.config.sg ps (items ++ more)) (sym one)
-          (laid_out-more seat.config.geometry seat.config.sg (bytes_in (delivered_to seat s h.done)) items packet.bytes more h.laid is);
-    }
+  -- a packet that isn't delivered to the socket
+  passes_by : (d : Disposal) → is_to s d ≡ false → IsGiven c s input (drop 1 coming) (ds ++ d ∷ []) items
+  passes_by d off =
+      let same : with_disposal s (h.done ++ packet ∷ []) (ds ++ d ∷ []) ≡ with_disposal s h.done ds =
+      with_disposal-push s h.done ds packet d h.each ∙ ap (λ b. with_disposal s h.done ds ++ cond b (packet.bytes ∷ []) []) off ∙ append-nil (with_disposal s h.done ds) in
+      record {
+        done = h.done ++ packet ∷ [];
+        parts = parts_more h.done coming input packet later is h.parts;
+        each = one_more d;
+        laid = subst (λ ps. IsLaidOut c.geometry c.sg ps items) (sym same) h.laid;
+        sized = subst (All (IsSized c)) (sym same) h.sized;
+      }
 
-either : (seat : Seat) (s t : ℕ) (input coming : List Judged) (items more : List Item) (packet : Judged) (later : List Judged) (same : Bool) → coming ≡ packet ∷ later
-    → disposal_in seat packet ≡ Delivered t → is_to s (Delivered t) ≡ same → IsLayout seat.config.geometry seat.config.sg packet.bytes more → IsGiven seat s input coming items
-    → IsGiven seat s input (drop 1 coming) (cond same (items ++ more) items)
-either seat s t input coming items more packet later true e f g is h = comes seat s input coming items more packet later (Delivered t) e f g is h
-either seat s t input coming items more packet later false e f g is h = passes_by seat s input coming items packet later (Delivered t) e f g h
+  -- one that is
+  comes : (d : Disposal) (more : List Item) → is_to s d ≡ true → IsLayout c.geometry c.sg packet.bytes more → IsSized c packet.bytes → IsGiven c s input (drop 1 coming) (ds ++ d ∷ []) (items ++ more)
+  comes d more on layout sized =
+      let one : with_disposal s (h.done ++ packet ∷ []) (ds ++ d ∷ []) ≡ with_disposal s h.done ds ++ packet.bytes ∷ [] =
+      with_disposal-push s h.done ds packet d h.each ∙ ap (λ b. with_disposal s h.done ds ++ cond b (packet.bytes ∷ []) []) on in
+      record {
+        done = h.done ++ packet ∷ [];
+        parts = parts_more h.done coming input packet later is h.parts;
+        each = one_more d;
+        laid = subst (λ ps. IsLaidOut c.geometry c.sg ps (items ++ more)) (sym one) (laid_out-more c.geometry c.sg (with_disposal s h.done ds) items packet.bytes more h.laid layout);
+        sized = subst (All (IsSized c)) (sym one)
+            (All-append (IsSized c) (with_disposal s h.done ds) (packet.bytes ∷ []) h.sized (All-cons (IsSized c) packet.bytes [] sized (All-nil (IsSized c))));
+      }
+
+  either : (t : ℕ) (more : List Item) (same : Bool) → is_to s (Delivered t) ≡ same → IsLayout c.geometry c.sg packet.bytes more → IsSized c packet.bytes
+      → IsGiven c s input (drop 1 coming) (ds ++ Delivered t ∷ []) (cond same (items ++ more) items)
+  either t more true e layout sized = comes (Delivered t) more e layout sized
+  either t more false e layout sized = passes_by (Delivered t) e
 
 same_number : (s t : ℕ) (x y : Bool) → eqb t s ≡ x → eqb s t ≡ y → x ≡ y
 same_number s t true true e f = refl
@@ -105,12 +119,12 @@ short_enough false len payload e = inr (ltb-false (1 * payload) len e)
 long_some : (n : ℕ) → nat_lt n 14 ≡ false → 1 ≤ n
 long_some n e = omega (arith, ltb-false n 14 e)
 
-module _ (c : Config) (d s : ℕ) (is : IsSeat c d) (input : List Judged) where
+module _ (wire : Wire) (c : Config) (d s : ℕ) (is : IsSeat c d) (input : List Judged) where
   abbrev seat : Seat
-  seat = seat_of c d
+  seat = seat_of wire c d
 
   record IsSettled (kept : Kept) (l : List Told) : Type 0 where
-    pub given : IsGiven seat s input kept.coming (submitted_of (Rx s) l)
+    pub given : IsGiven c s input kept.coming kept.disposals (submitted_of (Rx s) l)
     pub spare : All (IsOwnFrame c.geometry) kept.spare
     pub over : IsOver kept.rx_done kept.tx_done kept.coming
 
@@ -121,11 +135,11 @@ module _ (c : Config) (d s : ℕ) (is : IsSeat c d) (input : List Judged) where
   Asked kept call l = Unit {0}
 
   abbrev Ended : Kept → List Told → Type 0
-  Ended kept l = IsLaidOut c.geometry c.sg (bytes_in (delivered_to seat s input)) (submitted_of (Rx s) l)
+  Ended kept l = IsLaidOut c.geometry c.sg (with_disposal s input kept.disposals) (submitted_of (Rx s) l) × All (IsSized c) (with_disposal s input kept.disposals)
 
   still : (kept : Kept) (l : List Told) (call : Call) (reply : Reply) → submitted call ≡ [] → IsSettled kept l → IsSettled kept (with_told l call reply)
   still kept l call reply e h = record {
-    given = subst (IsGiven seat s input kept.coming) (sym (none_submitted (Rx s) l call reply e)) h.given;
+    given = subst (IsGiven c s input kept.coming kept.disposals) (sym (none_submitted (Rx s) l call reply e)) h.given;
     spare = h.spare;
     over = h.over;
   }
@@ -146,26 +160,26 @@ module _ (c : Config) (d s : ℕ) (is : IsSeat c d) (input : List Judged) where
       layout c.geometry is.geometry c.sg packet frames some count (All-take (IsOwnFrame c.geometry) (pieces_of seat packet) kept.spare own) single
 
   is_delivered : (kept : Kept) (l : List Told) (packet : Judged) (t : ℕ) → IsTried seat (Fitting c) kept.coming packet t → nat_le (pieces_of seat packet.bytes) (length kept.spare) ≡ true → IsSettled kept l
-      → IsGiven seat s input (drop 1 kept.coming) (submitted_of (Rx s) (with_told l (Submit (Rx t) (laid_out c.geometry packet.bytes (take (pieces_of seat packet.bytes) kept.spare))) Submitted))
+      → IsGiven c s input (drop 1 kept.coming) (kept.disposals ++ Delivered t ∷ []) (submitted_of (Rx s) (with_told l (Submit (Rx t) (laid_out c.geometry packet.bytes (take (pieces_of seat packet.bytes) kept.spare))) Submitted))
   is_delivered kept l packet t tried enough h =
       let items = laid_out c.geometry packet.bytes (take (pieces_of seat packet.bytes) kept.spare) in
       let told : Told = record { call = Submit (Rx t) items; reply = Submitted } in
       let same : is_to s (Delivered t) ≡ eqb s t = same_number s t (eqb t s) (eqb s t) refl refl in
-      subst (IsGiven seat s input (drop 1 kept.coming)) (sym (part_of-push submitted_step (Rx s) [] l told))
-      (either seat s t input kept.coming (submitted_of (Rx s) l) items packet tried.next.later (eqb s t) tried.next.is (to_tried c d kept.coming packet t tried) same
-      (is_layout kept packet.bytes tried.next.long tried.fits enough h.spare) h.given)
+      subst (IsGiven c s input (drop 1 kept.coming) (kept.disposals ++ Delivered t ∷ [])) (sym (part_of-push submitted_step (Rx s) [] l told))
+      (either c s input kept.coming kept.disposals (submitted_of (Rx s) l) packet tried.next.later tried.next.is h.given t items (eqb s t) same
+      (is_layout kept packet.bytes tried.next.long tried.fits enough h.spare) (record { long = ltb-false _ 14 tried.next.long; few = ltb-false (packet_limit c) _ tried.fits }))
 
   all_given : (kept : Kept) (l : List Told) → kept.tx_done ≡ true → IsSettled kept l → Ended kept l
   all_given kept l done h =
       let none : kept.coming ≡ [] = h.over.none (h.over.first done) in
       let all : h.given.done ≡ input = sym (append-nil h.given.done) ∙ ap (λ xs. h.given.done ++ xs) (sym none) ∙ h.given.parts in
-      subst (λ ps. IsLaidOut c.geometry c.sg (bytes_in (delivered_to seat s ps)) (submitted_of (Rx s) l)) all h.given.laid
+      subst (λ ps. IsLaidOut c.geometry c.sg (with_disposal s ps kept.disposals) (submitted_of (Rx s) l) × All (IsSized c) (with_disposal s ps kept.disposals)) all (h.given.laid, h.given.sized)
 
   -- a packet that isn't delivered
-  skips : (kept : Kept) (packet : Judged) (later : List Judged) (x : Disposal) (l : List Told) → kept.coming ≡ packet ∷ later → disposal_in seat packet ≡ x → is_to s x ≡ false → IsSettled kept l
+  skips : (kept : Kept) (packet : Judged) (later : List Judged) (x : Disposal) (l : List Told) → kept.coming ≡ packet ∷ later → is_to s x ≡ false → IsSettled kept l
       → IsSettled (settled kept x) l
-  skips kept packet later x l e f off h = record {
-    given = passes_by seat s input kept.coming (submitted_of (Rx s) l) packet later x e f off h.given;
+  skips kept packet later x l e off h = record {
+    given = passes_by c s input kept.coming kept.disposals (submitted_of (Rx s) l) packet later e h.given x off;
     spare = h.spare;
     over = over_later kept.rx_done kept.tx_done kept.coming h.over;
   }
@@ -173,9 +187,9 @@ module _ (c : Config) (d s : ℕ) (is : IsSeat c d) (input : List Judged) where
   entries : AtEntries seat (Fitting c) At Asked
   entries (told_rx_done n) noted kept l known found h a q =
       let now = still kept l (Swap (RxDone d) 1) (Old n) refl h in record { given = now.given; spare = now.spare; over = record { none = λ x. known.0; first = λ x. refl } }
-  entries (looked_none packet n) noted kept l known found h a q = skips kept packet known.later Missed _ known.is (to_none c d kept.coming packet known n q found) refl (still kept l _ (Old n) refl h)
+  entries (looked_none packet n) noted kept l known found h a q = skips kept packet known.later Missed _ known.is refl (still kept l _ (Old n) refl h)
   entries (looked_long packet n t) noted kept l known found h a q =
-      let now = skips kept packet known.later TooLong _ known.is (to_some c d kept.coming packet known n q t true found.0 found.1) refl (still kept l _ (Old n) refl h) in
+      let now = skips kept packet known.later TooLong _ known.is refl (still kept l _ (Old n) refl h) in
       record { given = now.given; spare = now.spare; over = now.over }
   entries (fill_items packet t items) noted kept l known found h a q =
       let now = still kept l _ (Items items) refl h in
@@ -191,7 +205,7 @@ module _ (c : Config) (d s : ℕ) (is : IsSeat c d) (input : List Judged) where
     over = over_later kept.rx_done kept.tx_done kept.coming h.over;
   }
   entries (comp_submitted k packet later) noted kept l known found h a q = record {
-    given = subst (IsGiven seat s input kept.coming) (sym (other_submitted (Rx s) l (Submit (Comp d) (map returned packet)) Submitted refl)) h.given;
+    given = subst (IsGiven c s input kept.coming kept.disposals) (sym (other_submitted (Rx s) l (Submit (Comp d) (map returned packet)) Submitted refl)) h.given;
     spare = h.spare;
     over = h.over;
   }
@@ -201,7 +215,10 @@ module _ (c : Config) (d s : ℕ) (is : IsSeat c d) (input : List Judged) where
       let now = still kept l (call_at seat (point_of e) kept) (reply_of e) refl h in record { given = now.given; spare = now.spare; over = now.over }
 
   passes : AtPasses seat (Fitting c) At
-  passes (untried packet later x) noted kept l = λ h e. skips kept packet later x l e.0 (in-untried seat packet x e.1) (untried_has (λ x. is_to s x ≡ false) refl refl refl refl seat packet x e.1) h
+  passes (untried packet later x) noted kept l = λ h e. skips kept packet later x l e.0 (untried_has (λ x. is_to s x ≡ false) refl refl refl refl seat packet x e.1) h
+  passes (drops_full packet t) noted kept l = λ h e. skips kept packet e.0.next.later RxFull l e.0.next.is refl h
+  passes (drops_frameless packet t) noted kept l = λ h e.
+      let now = skips kept packet e.0.next.later NoFrames l e.0.next.is refl h in record { given = now.given; spare = now.spare; over = now.over }
   passes p noted kept l = λ h e. h
 
   law : IsLaw seat (Fitting c) At Asked Ended
@@ -214,12 +231,43 @@ module _ (c : Config) (d s : ℕ) (is : IsSeat c d) (input : List Judged) where
 
   at_first : At Receiving fresh (start (classes_of c) input) []
   at_first = record {
-    given = record { done = []; parts = refl; laid = ([], refl, tt) };
+    given = record { done = []; parts = refl; each = refl; laid = ([], refl, tt); sized = All-nil (IsSized c) };
     spare = All-nil (IsOwnFrame c.geometry);
     over = record { none = λ e. absurd (cc); first = λ e. absurd (cc) };
   }
 
+module _ (wire : Wire) (c : Config) (d s : ℕ) (input : List Judged) (l : List Told) (is : IsSeat c d) (fit : AllFit c [] l) (whole : IsWholeDriverRun wire c d input l) where
+  abbrev all_delivered : List (List ℕ)
+  all_delivered = with_disposal s input (disposals_of (seat_of wire c d) input (attempts_of l))
+
+  at_last : IsLaidOut c.geometry c.sg all_delivered (submitted_of (Rx s) l) × All (IsSized c) all_delivered
+  at_last =
+      let at = seat_of wire c d in
+      subst (λ ds. IsLaidOut c.geometry c.sg (with_disposal s input ds) (submitted_of (Rx s) l) × All (IsSized c) (with_disposal s input ds)) (disposes_all wire c d input l whole.0 whole.1).disposals
+      (at_end at (Fitting c) (At wire c d s is input) (Asked wire c d s is input) (Ended wire c d s is input) (law wire c d s is input) (start (classes_of c) input) (at_first wire c d s is input) l
+      (meet_fitting (turn at) c _ [] l fit) whole.0 whole.1)
+
 pub delivers_in_order : DeliversInOrder
-delivers_in_order c d s input l is fit whole =
-    at_end (seat_of c d) (Fitting c) (At c d s is input) (Asked c d s is input) (Ended c d s is input) (law c d s is input) (start (classes_of c) input) (at_first c d s is input) l
-    (meet_fitting (turn (seat_of c d)) c _ [] l fit) whole.0 whole.1
+delivers_in_order wire c d s input l is fit whole = (at_last wire c d s input l is fit whole).0
+
+pub delivers_sized : DeliversSized
+delivers_sized wire c d s input l is fit whole = (at_last wire c d s input l is fit whole).1
+
+-- ---- where the wire waits
+
+bytes_if : (b : Bool) (p : Judged) (l : List Judged) → cond b (p.bytes ∷ bytes_in l) (bytes_in l) ≡ bytes_in (cond b (p ∷ l) l)
+bytes_if true p l = refl
+bytes_if false p l = refl
+
+-- the packets that the configuration delivers to a socket
+pub with_disposal_is : (seat : Seat) (s : ℕ) (ps : List Judged) → with_disposal s ps (map (disposal_in seat) ps) ≡ bytes_in (delivered_to seat s ps)
+with_disposal_is at s [] = refl
+with_disposal_is at s (packet ∷ ps) =
+    ap (λ l. cond (is_to s (disposal_in at packet)) (packet.bytes ∷ l) l) (with_disposal_is at s ps)
+    ∙ bytes_if (is_to s (disposal_in at packet)) packet (delivered_to at s ps)
+
+pub delivers_as_said : DeliversAsSaid
+delivers_as_said wire c d s input l waits is fit whole =
+    subst (λ ps. IsLaidOut c.geometry c.sg ps (submitted_of (Rx s) l))
+    (ap (with_disposal s input) (disposed_as_said wire c d input l waits fit whole) ∙ with_disposal_is (seat_of wire c d) s input)
+    (delivers_in_order wire c d s input l is fit whole)

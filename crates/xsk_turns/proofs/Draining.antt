@@ -7,7 +7,7 @@ use Rattle.xsk_turns.proofs.Object.{classes_of, Draining, are_none, unseen_after
 use Rattle.xsk_turns.specs.Turns.{Seat, Kept, Noted, seat_of, start, turn, socket_of, application_of, cell_of}
 use Rattle.xsk_turns.specs.Law.{DrainsTx}
 use Rattle.xsk_turns.proofs.Walks.{Anything, meet_anything}
-use Rattle.xsk_turns.proofs.DriverWalk.{Place, Sending, Idling, Family, call_at, told_rx_done, looked_none, looked_long, looked_some, fill_empty, rx_full, rx_submitted, comp_full, comp_submitted, tx_empty, tx_items, looked_tx_done, point_of, reply_of, leads, none_comes, waits, visited, idles, AtEntries, AtPasses, IsLaw, at_end}
+use Rattle.xsk_turns.proofs.DriverWalk.{Place, Sending, Idling, Family, call_at, told_rx_done, looked_none, looked_long, looked_some, rx_submitted, comp_full, comp_submitted, tx_empty, tx_items, looked_tx_done, point_of, reply_of, leads, none_comes, waits, drops_full, drops_frameless, visited, idles, AtEntries, AtPasses, IsLaw, at_end}
 
 pub draining_told : (ms : List Mark) (r : Ring) (l : List Told) (call : Call) (reply : Reply)
     → draining_of ms r (with_told l call reply) ≡ draining_after r (draining_of ms r l) call reply
@@ -134,8 +134,6 @@ module _ (seat : Seat) (class : ℕ) (below : class < seat.classes) where
   entries (looked_long packet n s) noted kept l known found h x q = looked_cell a t kept.tx_done ⊥ _ l seat.port (cell_of packet.verdict) n (λ x. absurd (omega (arith, x.0))) h
   entries (looked_some packet n s) noted kept l known found h x q = looked_cell a t kept.tx_done ⊥ ⊥ l seat.port (cell_of packet.verdict) n (λ x. x) h
   entries (told_rx_done n) noted kept l known found h x q = still a t kept.tx_done ⊥ _ l _ (Old n) (λ s. refl) (λ x. absurd (omega (arith, x.0))) h
-  entries (fill_empty packet s) noted kept l known found h x q = still a t kept.tx_done ⊥ _ l _ Empty (λ s. refl) (λ x. absurd (omega (arith, x.0))) h
-  entries (rx_full packet s free) noted kept l known found h x q = still a t kept.tx_done ⊥ _ l _ (Full free) (λ s. refl) (λ x. absurd (omega (arith, x.0))) h
   entries (rx_submitted packet s) noted kept l known found h x q = still a t kept.tx_done ⊥ _ l _ Submitted (λ s. refl) (λ x. absurd (omega (arith, x.0))) h
   entries (comp_full k packet later free) noted kept l known found h x q = still a t kept.tx_done _ _ l _ (Full free) (λ s. refl) (λ x. absurd (let no = x.1 in cc)) h
   entries (comp_submitted k packet later) noted kept l known found h x q = still a t kept.tx_done _ _ l _ Submitted (λ s. refl) (λ x. absurd (let no = x.1.0 in cc)) h
@@ -147,7 +145,9 @@ module _ (seat : Seat) (class : ℕ) (below : class < seat.classes) where
 
   passes : AtPasses seat Anything At
   passes none_comes noted kept l = λ h e. fewer a t kept.tx_done ⊥ _ l (λ x. absurd (omega (arith, x.0))) h
-  passes (waits packet s) noted kept l = λ h e. fewer a t kept.tx_done ⊥ _ l (λ x. absurd (omega (arith, x.0))) h
+  passes (waits packet s full) noted kept l = λ h e. fewer a t kept.tx_done ⊥ _ l (λ x. absurd (omega (arith, x.0))) h
+  passes (drops_full packet s) noted kept l = λ h e. fewer a t kept.tx_done ⊥ _ l (λ x. absurd (omega (arith, x.0))) h
+  passes (drops_frameless packet s) noted kept l = λ h e. fewer a t kept.tx_done ⊥ _ l (λ x. absurd (omega (arith, x.0))) h
   passes visited noted kept l = λ h e. fewer a t kept.tx_done _ _ l (λ x. (below, x)) h
   passes idles noted kept l = λ h e. fewer a t kept.tx_done _ ⊥ l (λ x. absurd x) h
   passes p noted kept l = λ h e. h
@@ -161,7 +161,7 @@ module _ (seat : Seat) (class : ℕ) (below : class < seat.classes) where
   }
 
 pub drains_tx : DrainsTx
-drains_tx c d class input l whole below =
-    let seat = seat_of c d in
+drains_tx wire c d class input l whole below =
+    let seat = seat_of wire c d in
     at_end seat Anything (At seat class below) (Asked seat class below) (Over seat class below) (law seat class below) (start (classes_of c) input)
     (record { unseen = refl; empty = λ x. absurd x }) l (meet_anything (turn seat) _ [] l) whole.0 whole.1

@@ -5,9 +5,9 @@ use Rattle.std.proofs.lemmas.Bool.{or_parts}
 use Rattle.xsk_turns.proofs.Calls.{Item, Told, with_told, Fill, Comp, Rx, Tx, RxDone, Gone, TxDone, Cell, Call, Reserve, Submit, Peek, Release, Swap, Look, Reply, Granted, Full, Submitted, Items, Empty, Released, Old}
 use Rattle.xsk_model.specs.Config.{map_of}
 use Rattle.xsk_turns.specs.Script.{Script, ask, again, ended, on_submitted, on_released, on_old, Asks, Ends, IsRun, Leaves}
-use Rattle.xsk_turns.specs.Turns.{Seat, Judged, Kept, Noted, moved, stopped, settled, settled_or, dropped, disposal_by, disposal_untried, supplied, with_rx_full, with_fill_empty, with_tx_empty, visit_from, socket_of, application_of, cell_of, redirect_to, limit_of, pieces_of, laid_out, returned, gathered, idle, complete, visit, transmit, deliver, reserve, go_on, take_spare, find_spare, direct, receive, turn}
+use Rattle.xsk_turns.specs.Turns.{Seat, Judged, Kept, Noted, drops, moved, stopped, settled, settled_or, dropped, disposal_by, disposal_untried, supplied, with_rx_full, with_fill_empty, with_tx_empty, no_frames, no_room, visit_from, socket_of, application_of, cell_of, redirect_to, limit_of, pieces_of, laid_out, returned, gathered, idle, complete, visit, transmit, deliver, reserve, go_on, take_spare, find_spare, direct, receive, turn}
 use Rattle.xsk_turns.specs.declared.disposal.Disposal.{Disposal}
-use Rattle.xsk_turns.specs.declared.disposal.Disposal.TheVariants.{Delivered, TooLong, Runt, Missed, Passed, Dropped}
+use Rattle.xsk_turns.specs.declared.disposal.Disposal.TheVariants.{Delivered, NoFrames, RxFull, TooLong, Runt, Missed, Passed, Dropped}
 use Rattle.xsk_prog.specs.declared.rule.Verdict.{Verdict}
 use Rattle.xsk_prog.specs.declared.rule.Verdict.TheVariants.{Drop, Pass as PassOn, Redirect}
 use Rattle.xsk_turns.proofs.Walks.{Premise, Law, Due, nothing_due, submit_due, release_due, Holds, MeetAlong, at_reserve, at_submit, at_peek, at_release, at_old, by_case, by_option, says_left, says_run, meets_law}
@@ -54,10 +54,12 @@ module _ (P : Disposal → Type 0) (runt : P Runt) (missed : P Missed) (passed :
 
 -- ---- the places of a turn, and its calls
 
--- a driver receives, tries a packet that goes to a socket, sends once so many classes are visited, or is idle
+-- a driver receives, tries a packet that goes to a socket, has too few frames for it or no room on RX, sends once so many
+-- classes are visited, or is idle
 pub data Place : Type 0 where
   Receiving : Place
   Trying : Judged → ℕ → Due → Place
+  Lacking : Judged → ℕ → Bool → Place
   Sending : ℕ → Due → Place
   Idling : Place
 
@@ -187,11 +189,11 @@ leads seat (told_rx_done n) noted kept = (Sending 0 nothing_due, moved noted, re
 leads seat (looked_none packet n) noted kept = (Sending 0 nothing_due, moved noted, settled kept Missed)
 leads seat (looked_long packet n s) noted kept = (Sending 0 nothing_due, moved noted, dropped kept TooLong)
 leads seat (looked_some packet n s) noted kept = (Trying packet s nothing_due, noted, kept)
-leads seat (fill_empty packet s) noted kept = (Sending 0 nothing_due, noted, with_fill_empty kept)
+leads seat (fill_empty packet s) noted kept = (Lacking packet s false, noted, with_fill_empty kept)
 leads seat (fill_items packet s items) noted kept = (Trying packet s (release_due (Fill seat.pair) (length items)), noted, supplied seat kept items)
 leads seat (fill_released packet s n) noted kept = (Trying packet s nothing_due, moved noted, kept)
 leads seat (rx_granted packet s) noted kept = (Trying packet s (submit_due (Rx s) (pieces_of seat packet.bytes)), moved noted, kept)
-leads seat (rx_full packet s free) noted kept = (Sending 0 nothing_due, stopped noted, with_rx_full (s % seat.classes) kept)
+leads seat (rx_full packet s free) noted kept = (Lacking packet s true, noted, with_rx_full (s % seat.classes) kept)
 leads seat (rx_submitted packet s) noted kept = (Sending 0 nothing_due, moved noted, settled (record kept { spare = drop (pieces_of seat packet.bytes) kept.spare }) (Delivered s))
 leads seat (comp_granted k packet later) noted kept = (Sending k (submit_due (Comp seat.pair) (length packet)), noted, kept)
 leads seat (comp_full k packet later free) noted kept = (Idling, stopped noted, kept)
@@ -213,7 +215,10 @@ Finds seat entry = Unit {0}
 pub data Pass : Type 0 where
   untried : Judged → List Judged → Disposal → Pass
   none_comes : Pass
-  waits : Judged → ℕ → Pass
+  lacks : Judged → ℕ → Pass
+  waits : Judged → ℕ → Bool → Pass
+  drops_full : Judged → ℕ → Pass
+  drops_frameless : Judged → ℕ → Pass
   visited : Pass
   idles : Pass
 
@@ -221,7 +226,13 @@ abbrev pub Passing : Seat → Premise Kept → Family → Pass → Noted → Kep
 Passing seat Q At (untried packet later disposal) noted kept l =
     At Receiving noted kept l → (kept.coming ≡ packet ∷ later) × (disposal_untried seat packet ≡ Some disposal) → At Receiving (moved noted) (settled kept disposal) l
 Passing seat Q At none_comes noted kept l = At Receiving noted kept l → (kept.coming ≡ []) × (kept.rx_done ≡ true) → At (Sending 0 nothing_due) noted kept l
-Passing seat Q At (waits packet s) noted kept l = At (Trying packet s nothing_due) noted kept l → IsTried seat Q kept.coming packet s → At (Sending 0 nothing_due) noted kept l
+Passing seat Q At (lacks packet s) noted kept l = At (Trying packet s nothing_due) noted kept l → IsTried seat Q kept.coming packet s → At (Lacking packet s false) noted kept l
+Passing seat Q At (waits packet s full) noted kept l =
+    At (Lacking packet s full) noted kept l → IsTried seat Q kept.coming packet s × (drops seat.wire ≡ false) → At (Sending 0 nothing_due) (cond full (stopped noted) noted) kept l
+Passing seat Q At (drops_full packet s) noted kept l =
+    At (Lacking packet s true) noted kept l → IsTried seat Q kept.coming packet s × (drops seat.wire ≡ true) → At (Sending 0 nothing_due) (moved noted) (settled kept RxFull) l
+Passing seat Q At (drops_frameless packet s) noted kept l =
+    At (Lacking packet s false) noted kept l → IsTried seat Q kept.coming packet s × (drops seat.wire ≡ true) → At (Sending 0 nothing_due) (moved noted) (dropped kept NoFrames) l
 Passing seat Q At visited noted kept l = At (Sending seat.classes nothing_due) noted kept l → kept.finished ≡ [] → At Idling noted kept l
 Passing seat Q At idles noted kept l = At Idling noted kept l → Unit {0} → At Receiving fresh kept l
 
@@ -338,6 +349,16 @@ module _ (seat : Seat) (Q : Premise Kept) (At : Family) (A : Said) (E : Kept →
   -- ---- a packet that is tried
 
   module _ (packet : Judged) (s : ℕ) where
+    go_no_frames : (noted : Noted) (kept : Kept) (l : List Told) → At (Lacking packet s false) noted kept l → IsTried seat Q kept.coming packet s → Along (no_frames seat noted kept) l
+    go_no_frames noted kept l h tried =
+        by_case Q law (drops seat.wire) _ _ l (λ e. go_transmit (moved noted) (dropped kept NoFrames) l (is.passes (drops_frameless packet s) noted kept l h (tried, e)))
+        (λ e. go_transmit noted kept l (is.passes (waits packet s false) noted kept l h (tried, e)))
+
+    go_no_room : (noted : Noted) (kept : Kept) (l : List Told) → At (Lacking packet s true) noted kept l → IsTried seat Q kept.coming packet s → Along (no_room seat noted kept) l
+    go_no_room noted kept l h tried =
+        by_case Q law (drops seat.wire) _ _ l (λ e. go_transmit (moved noted) (settled kept RxFull) l (is.passes (drops_full packet s) noted kept l h (tried, e)))
+        (λ e. go_transmit (stopped noted) kept l (is.passes (waits packet s true) noted kept l h (tried, e)))
+
     go_reserve : (noted : Noted) (kept : Kept) (l : List Told) → At (Trying packet s nothing_due) noted kept l → IsTried seat Q kept.coming packet s
         → nat_le (pieces_of seat packet.bytes) (length kept.spare) ≡ true → Along (reserve seat packet.bytes s noted kept) l
     go_reserve noted kept l h tried enough =
@@ -350,7 +371,7 @@ module _ (seat : Seat) (Q : Premise Kept) (At : Family) (A : Said) (E : Kept →
         let full : Kept = with_rx_full (s % seat.classes) kept in
         let asked = is.calls (ReserveRx packet s) noted kept l (tried, enough) h in (
           asked,
-          at_reserve Q law kept call l (deliver seat packet.bytes s (moved noted) kept) (transmit seat (stopped noted) full)
+          at_reserve Q law kept call l (deliver seat packet.bytes s (moved noted) kept) (no_room seat noted full)
               (λ q.
               let now = is.entries (rx_granted packet s) noted kept l (tried, enough) tt h asked q in
               let gives = is.calls (SubmitRx packet s) (moved noted) kept granted (tried, enough) now in (
@@ -358,12 +379,12 @@ module _ (seat : Seat) (Q : Premise Kept) (At : Family) (A : Said) (E : Kept →
                 at_submit Q law fewer give granted (transmit seat (moved (moved noted)) left)
                     (λ r. go_transmit (moved (moved noted)) left (with_told granted give Submitted) (is.entries (rx_submitted packet s) (moved noted) kept granted (tried, enough) tt now gives r)),
               ))
-              (λ free q. go_transmit (stopped noted) full (with_told l call (Full free)) (is.entries (rx_full packet s free) noted kept l (tried, enough) tt h asked q)),
+              (λ free q. go_no_room noted full (with_told l call (Full free)) (is.entries (rx_full packet s free) noted kept l (tried, enough) tt h asked q) tried),
         )
 
     go_more : (noted : Noted) (kept : Kept) (l : List Told) → At (Trying packet s nothing_due) noted kept l → IsTried seat Q kept.coming packet s → Along (go_on seat packet.bytes s noted kept) l
     go_more noted kept l h tried =
-        by_case Q law (nat_le (pieces_of seat packet.bytes) (length kept.spare)) _ _ l (go_reserve noted kept l h tried) (λ e. go_transmit noted kept l (is.passes (waits packet s) noted kept l h tried))
+        by_case Q law (nat_le (pieces_of seat packet.bytes) (length kept.spare)) _ _ l (go_reserve noted kept l h tried) (λ e. go_no_frames noted kept l (is.passes (lacks packet s) noted kept l h tried) tried)
 
     go_find : (noted : Noted) (kept : Kept) (l : List Told) → At (Trying packet s nothing_due) noted kept l → IsTried seat Q kept.coming packet s → Along (find_spare seat packet.bytes s noted kept) l
     go_find noted kept l h tried =
@@ -372,7 +393,7 @@ module _ (seat : Seat) (Q : Premise Kept) (At : Family) (A : Said) (E : Kept →
         (λ e.
         let asked = is.calls (PeekFill packet s) noted kept l (tried, e) h in (
           asked,
-          at_peek Q law kept call l (take_spare seat packet.bytes s noted kept) (transmit seat noted (with_fill_empty kept))
+          at_peek Q law kept call l (take_spare seat packet.bytes s noted kept) (no_frames seat noted (with_fill_empty kept))
               (λ items q.
               let peeked = with_told l call (Items items) in
               let give = Release (Fill seat.pair) (length items) in
@@ -383,7 +404,7 @@ module _ (seat : Seat) (Q : Premise Kept) (At : Family) (A : Said) (E : Kept →
                 at_release Q law more give peeked (go_on seat packet.bytes s (moved noted) more)
                     (λ r. go_more (moved noted) more (with_told peeked give Released) (is.entries (fill_released packet s (length items)) noted more peeked tried tt now gives r) tried),
               ))
-              (λ q. go_transmit noted (with_fill_empty kept) (with_told l call Empty) (is.entries (fill_empty packet s) noted kept l (tried, e) tt h asked q)),
+              (λ q. go_no_frames noted (with_fill_empty kept) (with_told l call Empty) (is.entries (fill_empty packet s) noted kept l (tried, e) tt h asked q) tried),
         ))
 
   -- ---- receiving

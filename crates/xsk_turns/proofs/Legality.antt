@@ -1,5 +1,6 @@
 -- Each call that a driver gives is legal, and what it keeps goes on.
 use Rattle.std.proofs.Common.{◌≡◌, ℕ, zero, suc, ◌+◌, ◌*◌, ◌<◌, ◌≤◌, ◌⊎◌, Bool, true, false, cond, eqb, inl, inr, List, [], ◌∷◌, ◌++◌, length, get_or, take, drop, map, flat_map, All, refl, sym, ap, subst, ◌∙◌, ⊎_elim, arith, append-nil, length-append, length-take-le, eq-eqb, ne_eqb, IsTrue}
+use Rattle.std.specs.Int.{div_ceil}
 use Rattle.std.proofs.lemmas.Bool.{cases_eq}
 use Rattle.std.proofs.lemmas.List.{length-map, length-drop, nil_from_length}
 use Rattle.std.proofs.lemmas.List.Elements.{All-nil, All-cons, All-head, All-tail, All-take, All-drop, All-weaker}
@@ -7,7 +8,8 @@ use Rattle.xsk_turns.proofs.Object.{payload_of, Frame, Config, classes_of, times
 use Rattle.xsk_turns.proofs.Calls.{Item, Told, Comp, Rx, Submit}
 use Rattle.xsk_model.proofs.Completions.{one_completion}
 use Rattle.xsk_model.proofs.Counting.{times-append}
-use Rattle.xsk_turns.specs.Turns.{Kept, seat_of, limit_of, pieces_of, laid_out, returned}
+use Rattle.xsk_model.specs.Steering.{packet_limit}
+use Rattle.xsk_turns.specs.Turns.{Kept, laid_out, returned}
 use Rattle.xsk_turns.specs.Owned.{IsHere}
 use Rattle.xsk_turns.specs.Owned.{IsSeat, of_class, socket_at_class, frame_numbers, IsSpare, Owned}
 use Rattle.xsk_turns.proofs.Completing.{waiting_whole, whole_some, waiting_lawful, numbers-returned, all_returned, are_completed, completes}
@@ -69,22 +71,26 @@ module _ (c : Config) (pair : ℕ) (kept : Kept) (l : List Told) (h : HasKept c 
 
 -- ---- a packet on RX
 
-module _ (c : Config) (pair socket : ℕ) (seat : IsSeat c pair) (kept : Kept) (l : List Told) (h : HasKept c pair kept l) (packet : List ℕ) (long : 14 ≤ length packet) (short : length packet ≤ limit_of (seat_of c pair)) (few : pieces_of (seat_of c pair) packet ≤ 18) (enough : pieces_of (seat_of c pair) packet ≤ length kept.spare) (here : IsHere (seat_of c pair) socket) where
+-- the frames that it needs
+abbrev pieces : Config → List ℕ → ℕ
+pieces c packet = div_ceil (length packet) (payload_of c.geometry)
+
+module _ (c : Config) (pair socket : ℕ) (seat : IsSeat c pair) (kept : Kept) (l : List Told) (h : HasKept c pair kept l) (packet : List ℕ) (long : 14 ≤ length packet) (short : length packet ≤ packet_limit c) (few : pieces c packet ≤ 18) (enough : pieces c packet ≤ length kept.spare) (here : IsHere c pair socket) where
   abbrev items : List Item
-  items = laid_out c.geometry packet (take (pieces_of (seat_of c pair) packet) kept.spare)
+  items = laid_out c.geometry packet (take (pieces c packet) kept.spare)
 
-  used_spare : All (IsSpare c l) (take (pieces_of (seat_of c pair) packet) kept.spare)
-  used_spare = All-take (IsSpare c l) (pieces_of (seat_of c pair) packet) kept.spare h.spares
+  used_spare : All (IsSpare c l) (take (pieces c packet) kept.spare)
+  used_spare = All-take (IsSpare c l) (pieces c packet) kept.spare h.spares
 
-  used_own : All (IsOwnFrame c.geometry) (take (pieces_of (seat_of c pair) packet) kept.spare)
+  used_own : All (IsOwnFrame c.geometry) (take (pieces c packet) kept.spare)
   used_own =
-      All-weaker (IsSpare c l) (IsOwnFrame c.geometry) (λ frame s. record { number = s.number; bytes = s.bytes }) (take (pieces_of (seat_of c pair) packet) kept.spare) used_spare
+      All-weaker (IsSpare c l) (IsOwnFrame c.geometry) (λ frame s. record { number = s.number; bytes = s.bytes }) (take (pieces c packet) kept.spare) used_spare
 
-  used_count : length (take (pieces_of (seat_of c pair) packet) kept.spare) ≡ pieces_of (seat_of c pair) packet
-  used_count = length-take-le (pieces_of (seat_of c pair) packet) kept.spare enough
+  used_count : length (take (pieces c packet) kept.spare) ≡ pieces c packet
+  used_count = length-take-le (pieces c packet) kept.spare enough
 
-  items_count : length items ≡ pieces_of (seat_of c pair) packet
-  items_count = length-laid_out c.geometry packet (take (pieces_of (seat_of c pair) packet) kept.spare) ∙ used_count
+  items_count : length items ≡ pieces c packet
+  items_count = length-laid_out c.geometry packet (take (pieces c packet) kept.spare) ∙ used_count
 
   some_bytes : 1 ≤ length packet
   some_bytes = omega (arith, long)
@@ -97,7 +103,7 @@ module _ (c : Config) (pair socket : ℕ) (seat : IsSeat c pair) (kept : Kept) (
       inr (items_count ∙ one_piece c.geometry seat.geometry packet some_bytes few)
 
   is_layout : IsLayout c.geometry c.sg packet items
-  is_layout = layout c.geometry seat.geometry c.sg packet (take (pieces_of (seat_of c pair) packet) kept.spare) some_bytes used_count used_own (single c.sg refl)
+  is_layout = layout c.geometry seat.geometry c.sg packet (take (pieces c packet) kept.spare) some_bytes used_count used_own (single c.sg refl)
 
   received : AreReceived c l items
   received = record {
@@ -105,19 +111,19 @@ module _ (c : Config) (pair socket : ℕ) (seat : IsSeat c pair) (kept : Kept) (
     joined = sym (append-nil items);
     laid_out = All-cons (λ (layout : List Item). (packet : List ℕ) × IsLayout c.geometry c.sg packet layout) items [] (packet, is_layout) (All-nil (λ (layout : List Item). (packet : List ℕ) × IsLayout c.geometry c.sg packet layout));
     from_fill = λ m some.
-        spare_from c l m (take (pieces_of (seat_of c pair) packet) kept.spare) used_spare
-        (omega (arith, some, ap (times m) (numbers-laid_out c.geometry packet (take (pieces_of (seat_of c pair) packet) kept.spare))));
+        spare_from c l m (take (pieces c packet) kept.spare) used_spare
+        (omega (arith, some, ap (times m) (numbers-laid_out c.geometry packet (take (pieces c packet) kept.spare))));
   }
 
-  items_times : (m : ℕ) → times m (numbers items) + times m (frame_numbers (drop (pieces_of (seat_of c pair) packet) kept.spare)) ≡ times m (frame_numbers kept.spare)
+  items_times : (m : ℕ) → times m (numbers items) + times m (frame_numbers (drop (pieces c packet) kept.spare)) ≡ times m (frame_numbers kept.spare)
   items_times m =
       omega (
         arith,
-        ap (times m) (numbers-laid_out c.geometry packet (take (pieces_of (seat_of c pair) packet) kept.spare)),
-        times-front m (pieces_of (seat_of c pair) packet) kept.spare,
+        ap (times m) (numbers-laid_out c.geometry packet (take (pieces c packet) kept.spare)),
+        times-front m (pieces c packet) kept.spare,
       )
 
-  pub legal_rx : pieces_of (seat_of c pair) packet ≤ room_of (Rx socket) l → IsLegal c l pair (Submit (Rx socket) items)
+  pub legal_rx : pieces c packet ≤ room_of (Rx socket) l → IsLegal c l pair (Submit (Rx socket) items)
   legal_rx room =
       let ring = rx_ring c pair seat socket here in
       record {
@@ -130,18 +136,18 @@ module _ (c : Config) (pair socket : ℕ) (seat : IsSeat c pair) (kept : Kept) (
           omega (arith, items_count, room),
         );
         frames = λ m. omega (arith, items_times m, h.frames m);
-        items = items_on c.geometry seat.geometry socket packet (take (pieces_of (seat_of c pair) packet) kept.spare) used_own;
+        items = items_on c.geometry seat.geometry socket packet (take (pieces c packet) kept.spare) used_own;
         packets = received;
       }
 
-  pub owned_rx : Owned c pair (record kept { spare = drop (pieces_of (seat_of c pair) packet) kept.spare }) (Submit (Rx socket) items) l
+  pub owned_rx : Owned c pair (record kept { spare = drop (pieces c packet) kept.spare }) (Submit (Rx socket) items) l
   owned_rx =
-      let after : Kept = record kept { spare = drop (pieces_of (seat_of c pair) packet) kept.spare } in
+      let after : Kept = record kept { spare = drop (pieces c packet) kept.spare } in
       record {
         own = h.own;
         frames = λ m. omega (arith, times-kept m after, items_times m, h.frames m);
-        spare = All-drop (IsSpare c l) (pieces_of (seat_of c pair) packet) kept.spare h.spares;
-        few = omega (arith, h.few, length-drop (pieces_of (seat_of c pair) packet) kept.spare);
+        spare = All-drop (IsSpare c l) (pieces c packet) kept.spare h.spares;
+        few = omega (arith, h.few, length-drop (pieces c packet) kept.spare);
         classes = h.classes;
         groups = h.at;
         queue = record { origins = h.origins; each = h.each; known = h.known; waits = h.waits };

@@ -16,6 +16,7 @@ use Rattle.xsk_turns.proofs.LegalCalls.{had_told}
 use Rattle.xsk_model.proofs.Sendings.{wholes, more_wholes, wholes-append, sending_of-push, peeked_is}
 use Rattle.xsk_turns.specs.Turns.{Kept, frame_in, frames_in, bad_ones, group_at, gathered, seat_of}
 use Rattle.xsk_turns.specs.Owned.{IsSeat, of_class, socket_at_class, frame_numbers, numbers_kept, IsSpare, Owned}
+use Rattle.xsk_turns.specs.declared.wire.Wire.{Wire}
 
 -- ---- what is had, over the lists that are kept
 
@@ -325,12 +326,12 @@ group_set groups class i new group within same other = ⊎_elim
     (λ (e : i ≡ class → ⊥). get_or-set_other groups class i new [] e ∙ other e)
     (cases_eq i class)
 
-pub has_tx : (c : Config) (pair class k : ℕ) (kept : Kept) (items : List Item) (l : List Told) → IsSeat c pair → class < classes_of c
+pub has_tx : (wire : Wire) (c : Config) (pair class k : ℕ) (kept : Kept) (items : List Item) (l : List Told) → IsSeat c pair → class < classes_of c
     → Owned c pair kept (Peek (Tx (socket_at_class c pair class)) k) l → IsLegal c l pair (Peek (Tx (socket_at_class c pair class)) k)
     → AreFresh c l (Tx (socket_at_class c pair class)) k items
-    → Has c pair kept.spare (gathered (seat_of c pair) class kept items).groups (gathered (seat_of c pair) class kept items).finished
+    → Has c pair kept.spare (gathered (seat_of wire c pair) class kept items).groups (gathered (seat_of wire c pair) class kept items).finished
     (kept.lost ++ frames_in (bad_ones (packets_from c.geometry c.sg (group_at kept class) items))) (with_told l (Peek (Tx (socket_at_class c pair class)) k) (Items items))
-has_tx c pair class k kept items l seat within h legal fresh =
+has_tx wire c pair class k kept items l seat within h legal fresh =
     let g = c.geometry in
     let sg = c.sg in
     let s = socket_at_class c pair class in

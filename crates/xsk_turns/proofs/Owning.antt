@@ -3,11 +3,12 @@ use Rattle.std.proofs.Common.{◌≡◌, ℕ, zero, suc, ◌-◌, ◌*◌, ◌<�
 use Rattle.std.proofs.lemmas.Bool.Decides.{nat_tests}
 use Rattle.std.proofs.lemmas.List.{length-replicate, take_all}
 use Rattle.std.proofs.lemmas.List.Elements.{All-nil}
-use Rattle.xsk_turns.proofs.Object.{payload_of, Frame, packets_from, Config, classes_of, socket_at, times, numbers, IsWhole, taken, room_of, IsLegal, Fits, OwnGoesOn}
+use Rattle.xsk_turns.proofs.Object.{payload_of, Frame, packets_from, Config, pair_at, classes_of, socket_at, times, numbers, IsWhole, taken, room_of, IsLegal, Fits, OwnGoesOn}
 use Rattle.xsk_turns.proofs.Calls.{Item, Told, with_told, Fill, Comp, Rx, Tx, RxDone, Gone, TxDone, Cell, Call, Submit, Peek, Swap, Reply, Granted, Full, Items, Old}
 use Rattle.xsk_turns.proofs.LegalCalls.{had_told, legal_reserve, legal_peek, legal_release, legal_look, legal_swap, room_told, held_told, IsDue}
 use Rattle.xsk_turns.specs.Script.{Script, Leaves, Ends}
 use Rattle.xsk_turns.specs.Turns.{Seat, Judged, Kept, Noted, seat_of, start, turn, application_of, cell_of, redirect_to, limit_of, pieces_of, returned, frames_in, bad_ones, group_at, gathered}
+use Rattle.xsk_turns.specs.declared.wire.Wire.{Wire}
 use Rattle.xsk_turns.specs.Owned.{IsSeat, IsHere, socket_at_class, IsSpare, Owned, AllFit, KeepsFrames, KeepsFramesAtEnd}
 use Rattle.xsk_turns.proofs.Completing.{whole_some}
 use Rattle.xsk_turns.proofs.Layouts.{pieces_some, few_pieces}
@@ -20,24 +21,25 @@ use Rattle.xsk_turns.proofs.DriverWalk.{Place, Trying, Sending, Idling, Family, 
 
 -- ---- a packet that goes to a socket
 
-here_if : (seat : Seat) (number socket : ℕ) (a b c d : Bool) → (a ≡ true → 0 < number) → (b ≡ true → number - 1 < length seat.config.sockets)
-    → (c ≡ true → (socket_at seat.config.sockets (number - 1)).port ≡ seat.port) → (d ≡ true → (socket_at seat.config.sockets (number - 1)).queue ≡ seat.queue)
-    → (if a && b && c && d then Some (number - 1) else None) ≡ Some socket → IsHere seat socket
-here_if seat number socket true true true true some known port queue h =
+here_if : (c : Config) (pair number socket : ℕ) (some known port queue : Bool) → (some ≡ true → 0 < number) → (known ≡ true → number - 1 < length c.sockets)
+    → (port ≡ true → (socket_at c.sockets (number - 1)).port ≡ (pair_at c.pairs pair).port) → (queue ≡ true → (socket_at c.sockets (number - 1)).queue ≡ (pair_at c.pairs pair).queue)
+    → (if some && known && port && queue then Some (number - 1) else None) ≡ Some socket → IsHere c pair socket
+here_if c pair number socket true true true true some known port queue h =
     let is : number - 1 ≡ socket = cc in
-    subst (IsHere seat) is (record { known = known refl; port = port refl; queue = queue refl })
-here_if seat number socket a b c d some known port queue h = cc
+    subst (IsHere c pair) is (record { known = known refl; port = port refl; queue = queue refl })
+here_if c pair number socket s k p q some known port queue h = cc
 
-pub redirect_here : (seat : Seat) (number socket : ℕ) → redirect_to seat.config seat.port seat.queue number ≡ Some socket → IsHere seat socket
-redirect_here seat number socket h =
-    here_if seat number socket (nat_lt 0 number) (nat_lt (number - 1) (length seat.config.sockets)) ((socket_at seat.config.sockets (number - 1)).port == seat.port) ((socket_at seat.config.sockets (number - 1)).queue == seat.queue)
+pub redirect_here : (c : Config) (pair number socket : ℕ) → redirect_to c (pair_at c.pairs pair).port (pair_at c.pairs pair).queue number ≡ Some socket → IsHere c pair socket
+redirect_here c pair number socket h =
+    let is = socket_at c.sockets (number - 1) in
+    here_if c pair number socket (nat_lt 0 number) (nat_lt (number - 1) (length c.sockets)) (is.port == (pair_at c.pairs pair).port) (is.queue == (pair_at c.pairs pair).queue)
     (λ e. grind (arith, nat_tests)) (λ e. grind (arith, nat_tests)) (λ e. grind (arith, nat_tests)) (λ e. grind (arith, nat_tests)) h
 
 -- ---- the law
 
-module _ (c : Config) (pair : ℕ) (is : IsSeat c pair) where
+module _ (wire : Wire) (c : Config) (pair : ℕ) (is : IsSeat c pair) where
   abbrev seat : Seat
-  seat = seat_of c pair
+  seat = seat_of wire c pair
 
   abbrev Has : Kept → List Told → Type 0
   Has kept l = HasKept c pair kept l
@@ -86,8 +88,8 @@ module _ (c : Config) (pair : ℕ) (is : IsSeat c pair) where
     few : pieces_of seat packet.bytes ≤ 18
     few = pieces_few packet.bytes short
 
-    here : IsHere seat s
-    here = redirect_here seat tried.number s tried.target
+    here : IsHere c pair s
+    here = redirect_here c pair tried.number s tried.target
 
   calls : AtCalls seat Answers At Asked
   calls TellRxDone noted kept l known h = quiet kept _ l tt h.0 (legal_swap c pair l (caller_known c pair is) (RxDone pair) 1 is.known refl (omega arith))
@@ -141,7 +143,7 @@ module _ (c : Config) (pair : ℕ) (is : IsSeat c pair) where
       let call = Peek (Tx (socket_at_class c pair k)) seat.batch in
       let got = gathered seat k kept items in
       let lost = kept.lost ++ frames_in (bad_ones (packets_from c.geometry c.sg (group_at kept k) items)) in
-      let has = has_tx c pair k seat.batch kept items l is known.0 a.0 a.1 q in
+      let has = has_tx wire c pair k seat.batch kept items l is known.0 a.0 a.1 q in
       let few = lost_few c pair kept.spare got.groups got.finished lost (with_told l call (Items items)) has (λ n. omega (arith, had_told l call (Items items) n, q.fresh n)) in (
         subst (λ (fs : List Frame). HasLists c pair kept.spare got.groups got.finished fs (with_told l call (Items items))) (sym (take_all c.geometry.frames lost few)) has,
         (q.some, omega (arith, q.few, batch_few c), held_told l (Tx (socket_at_class c pair k)) seat.batch items),
@@ -193,27 +195,27 @@ pub all_fit : (c : Config) (who : ℕ) (past l : List Told) → OwnGoesOn c who 
 all_fit c who past [] goes = tt
 all_fit c who past (t ∷ l) goes = (goes.1, all_fit c who (past ++ t ∷ []) l goes.2)
 
-module _ (c : Config) (pair : ℕ) (input : List Judged) (l : List Told) (is : IsSeat c pair) (fit : AllFit c [] l) where
+module _ (wire : Wire) (c : Config) (pair : ℕ) (input : List Judged) (l : List Told) (is : IsSeat c pair) (fit : AllFit c [] l) where
   abbrev begins : Kept
   begins = start (classes_of c) input
 
-  fits : MeetAlong (turn (seat_of c pair)) (Answers c pair is) (turn (seat_of c pair) begins) [] l
-  fits = meet_fitting (turn (seat_of c pair)) c (turn (seat_of c pair) begins) [] l fit
+  fits : MeetAlong (turn (seat_of wire c pair)) (Answers wire c pair is) (turn (seat_of wire c pair) begins) [] l
+  fits = meet_fitting (turn (seat_of wire c pair)) c (turn (seat_of wire c pair) begins) [] l fit
 
   -- what is had at each call, for laws that stand on it
-  pub meet_owned : (left : Script Kept) → Leaves (turn (seat_of c pair)) (turn (seat_of c pair) begins) l left
-      → MeetAlong (turn (seat_of c pair)) (λ kept m call reply. (Owned c pair kept call m × IsLegal c m pair call) × Fits c m call reply) (turn (seat_of c pair) begins) [] l
-  meet_owned left e = meets_said (seat_of c pair) (Answers c pair is) (At c pair is) (Asked c pair is) (Ended c pair is) (law c pair is) begins (has_new c pair input is, tt) l fits left e
+  pub meet_owned : (left : Script Kept) → Leaves (turn (seat_of wire c pair)) (turn (seat_of wire c pair) begins) l left
+      → MeetAlong (turn (seat_of wire c pair)) (λ kept m call reply. (Owned c pair kept call m × IsLegal c m pair call) × Fits c m call reply) (turn (seat_of wire c pair) begins) [] l
+  meet_owned left e = meets_said (seat_of wire c pair) (Answers wire c pair is) (At wire c pair is) (Asked wire c pair is) (Ended wire c pair is) (law wire c pair is) begins (has_new c pair input is, tt) l fits left e
 
   -- what is had at the end, where nothing finished is left
-  pub has_ended : (kept : Kept) → Ends (turn (seat_of c pair)) begins l kept → HasKept c pair kept l × (kept.finished ≡ [])
-  has_ended = at_end (seat_of c pair) (Answers c pair is) (At c pair is) (Asked c pair is) (Ended c pair is) (law c pair is) begins (has_new c pair input is, tt) l fits
+  pub has_ended : (kept : Kept) → Ends (turn (seat_of wire c pair)) begins l kept → HasKept c pair kept l × (kept.finished ≡ [])
+  has_ended = at_end (seat_of wire c pair) (Answers wire c pair is) (At wire c pair is) (Asked wire c pair is) (Ended wire c pair is) (law wire c pair is) begins (has_new c pair input is, tt) l fits
 
 pub keeps_frames : KeepsFrames
-keeps_frames c pair input l kept call rest is fit asks =
-    at_call (seat_of c pair) (Answers c pair is) (At c pair is) (Asked c pair is) (Ended c pair is) (law c pair is) (start (classes_of c) input) (has_new c pair input is, tt) l (fits c pair input l is fit) kept call rest asks
+keeps_frames wire c pair input l kept call rest is fit asks =
+    at_call (seat_of wire c pair) (Answers wire c pair is) (At wire c pair is) (Asked wire c pair is) (Ended wire c pair is) (law wire c pair is) (start (classes_of c) input) (has_new c pair input is, tt) l (fits wire c pair input l is fit) kept call rest asks
 
 pub keeps_frames_at_end : KeepsFramesAtEnd
-keeps_frames_at_end c pair input l kept is fit ends =
-    let has = has_ended c pair input l is fit kept ends in
+keeps_frames_at_end wire c pair input l kept is fit ends =
+    let has = has_ended wire c pair input l is fit kept ends in
     (has.0.own, λ m. times-kept m kept ∙ has.0.frames m)

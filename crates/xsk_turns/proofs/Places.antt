@@ -9,7 +9,7 @@ use Rattle.xsk_turns.proofs.Object.{Config, pair_at, IsConfig, IsBound, IsServed
 use Rattle.xsk_model.specs.declared.call.Ring.TheVariants.{Fill, Rx, Tx}
 use Rattle.xsk_model.proofs.Least.{least-append}
 use Rattle.xsk_model.proofs.Roles.{pair_on_only, app_of_below}
-use Rattle.xsk_turns.specs.Turns.{seat_of, application_of}
+use Rattle.xsk_model.specs.Rings.{application_on}
 use Rattle.xsk_turns.specs.Owned.{IsSeat, IsHere, socket_at_class}
 
 -- ---- the pairs
@@ -102,7 +102,7 @@ module _ (c : Config) (pair : ℕ) (seat : IsSeat c pair) where
   classes_some = queues_some (classes_of c) seat.regular.classes
 
   -- the socket of a class is one of this port and queue
-  pub class_here : (class : ℕ) → class < classes_of c → IsHere (seat_of c pair) (socket_at_class c pair class)
+  pub class_here : (class : ℕ) → class < classes_of c → IsHere c pair (socket_at_class c pair class)
   class_here class within =
       let s = socket_at_class c pair class in
       let most : suc pair * classes_of c ≤ length c.pairs * classes_of c = mul-le-mul_right (classes_of c) seat.known in
@@ -130,22 +130,22 @@ module _ (c : Config) (pair : ℕ) (seat : IsSeat c pair) where
       )
 
   -- the driver of such a socket's rings
-  driver_is : (s : ℕ) → IsHere (seat_of c pair) s → pair ≡ consumer c (Tx s)
+  driver_is : (s : ℕ) → IsHere c pair s → pair ≡ consumer c (Tx s)
   driver_is s here =
       let bound : IsBound c.ports c.queues c.pairs (socket_at c.sockets s) = seat.config.bound s (record { port = 0; queue = 0; rx = None; tx = None }) here.known in
       sym (pair_on_only c.pairs (port_of c (Tx s)) (queue_of c (Tx s)) pair bound.pair seat.known (sym here.port, sym here.queue))
 
-  pub rx_ring : (s : ℕ) → IsHere (seat_of c pair) s → HasRing c (Rx s) × (pair ≡ producer c (Rx s))
+  pub rx_ring : (s : ℕ) → IsHere c pair s → HasRing c (Rx s) × (pair ≡ producer c (Rx s))
   rx_ring s here = ((here.known, (seat.regular.places s here.known).2), driver_is s here)
 
-  pub tx_ring : (s : ℕ) → IsHere (seat_of c pair) s → HasRing c (Tx s) × (pair ≡ consumer c (Tx s))
+  pub tx_ring : (s : ℕ) → IsHere c pair s → HasRing c (Tx s) × (pair ≡ consumer c (Tx s))
   tx_ring s here = ((here.known, (seat.regular.places s here.known).3), driver_is s here)
 
   pub caller_known : pair < callers_of c
   caller_known = omega (arith, seat.known)
 
-  pub port_known : (seat_of c pair).port < c.ports
+  pub port_known : (pair_at c.pairs pair).port < c.ports
   port_known = port_within c pair seat.config seat.regular seat.known
 
-  pub app_known : application_of (seat_of c pair) < apps_of c
+  pub app_known : application_on c (pair_at c.pairs pair).port (pair_at c.pairs pair).queue < apps_of c
   app_known = omega (arith, app_of_below c (Fill pair) seat.config seat.known)

@@ -6,9 +6,10 @@ use Rattle.std.proofs.lemmas.List.Sums.{fold_push}
 use Rattle.xsk_turns.proofs.Calls.{Item, Told, with_told, Ring, Comp, Rx, Mark, RxDone, Gone, Call, Submit, Swap, Reply, Submitted, Old}
 use Rattle.xsk_turns.proofs.Object.{Config, classes_of, Telling, telling_after, telling_step, telling_of}
 use Rattle.xsk_turns.specs.Turns.{Seat, Judged, Kept, seat_of, start, turn, returned}
+use Rattle.xsk_turns.specs.declared.wire.Wire.{Wire}
 use Rattle.xsk_turns.specs.Law.{NothingReceivedLate, TellsRxDone}
 use Rattle.xsk_turns.proofs.Walks.{Anything, meet_anything}
-use Rattle.xsk_turns.proofs.DriverWalk.{Family, Receiving, fresh, TellRxDone, SubmitRx, call_at, told_rx_done, looked_none, looked_long, rx_submitted, comp_submitted, looked_tx_done, point_of, reply_of, untried, Said, AtCalls, AtEntries, AtPasses, IsLaw, at_end, of_run}
+use Rattle.xsk_turns.proofs.DriverWalk.{Family, Receiving, fresh, TellRxDone, SubmitRx, call_at, told_rx_done, looked_none, looked_long, rx_submitted, comp_submitted, looked_tx_done, point_of, reply_of, untried, drops_full, drops_frameless, Said, AtCalls, AtEntries, AtPasses, IsLaw, at_end, of_run}
 
 pub telling_told : (m : Mark) (r : Ring) (l : List Told) (call : Call) (reply : Reply) → telling_of m r (with_told l call reply) ≡ telling_after m r (telling_of m r l) call
 telling_told m r l call reply = fold_push (telling_step m r) (record { told = false; late = false }) l (record { call = call; reply = reply })
@@ -96,9 +97,9 @@ module _ (d s : ℕ) where
   abbrev Over : Kept → List Told → Type 0
   Over kept l = ((telling_of (RxDone d) (Rx s) l).late ≡ false) × ((telling_of (RxDone d) (Rx s) l).told ≡ true)
 
-module _ (c : Config) (d s : ℕ) where
+module _ (wire : Wire) (c : Config) (d s : ℕ) where
   abbrev seat : Seat
-  seat = seat_of c d
+  seat = seat_of wire c d
 
   calls : AtCalls seat Anything (At d s) (OnTime d s)
   calls TellRxDone noted kept l known h = h.late
@@ -121,6 +122,8 @@ module _ (c : Config) (d s : ℕ) where
 
   passes : AtPasses seat Anything (At d s)
   passes (untried packet later x) noted kept l = λ h e. dropped d s kept.rx_done kept.tx_done kept.coming l h
+  passes (drops_full packet t) noted kept l = λ h e. dropped d s kept.rx_done kept.tx_done kept.coming l h
+  passes (drops_frameless packet t) noted kept l = λ h e. dropped d s kept.rx_done kept.tx_done kept.coming l h
   passes p noted kept l = λ h e. h
 
   law : IsLaw seat Anything (At d s) (OnTime d s) (Over d s)
@@ -135,10 +138,10 @@ module _ (c : Config) (d s : ℕ) where
   first input = record { told = refl; late = refl; none = λ e. absurd (cc); first = λ e. absurd (cc) }
 
 pub nothing_received_late : NothingReceivedLate
-nothing_received_late c d s input l run =
-    of_run (seat_of c d) Anything (At d s) (OnTime d s) (Over d s) (law c d s) (start (classes_of c) input) (first c d s input) l (meet_anything (turn (seat_of c d)) _ [] l)
+nothing_received_late wire c d s input l run =
+    of_run (seat_of wire c d) Anything (At d s) (OnTime d s) (Over d s) (law wire c d s) (start (classes_of c) input) (first wire c d s input) l (meet_anything (turn (seat_of wire c d)) _ [] l)
     (λ m. (telling_of (RxDone d) (Rx s) m).late ≡ false) (λ kept m h. h.late) (λ kept call m h. h) (λ kept m h. h.0) run
 
 pub tells_rx_done : TellsRxDone
-tells_rx_done c d s input l whole =
-    (at_end (seat_of c d) Anything (At d s) (OnTime d s) (Over d s) (law c d s) (start (classes_of c) input) (first c d s input) l (meet_anything (turn (seat_of c d)) _ [] l) whole.0 whole.1).1
+tells_rx_done wire c d s input l whole =
+    (at_end (seat_of wire c d) Anything (At d s) (OnTime d s) (Over d s) (law wire c d s) (start (classes_of c) input) (first wire c d s input) l (meet_anything (turn (seat_of wire c d)) _ [] l) whole.0 whole.1).1

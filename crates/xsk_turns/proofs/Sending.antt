@@ -7,6 +7,7 @@ use Rattle.xsk_model.specs.declared.call.Act.TheVariants.{Call as Gave, Ended as
 use Rattle.xsk_model.proofs.Completions.{one_completion}
 use Rattle.xsk_turns.specs.Turns.{Kept, seat_of, returned}
 use Rattle.xsk_turns.specs.Owned.{IsSeat, socket_at_class, Owned}
+use Rattle.xsk_turns.specs.declared.wire.Wire.{Wire}
 use Rattle.xsk_turns.specs.Sending.{is_completing, Completes, sent_by, sent_with, sent_by_act}
 use Rattle.xsk_turns.proofs.Completing.{completes}
 use Rattle.xsk_turns.proofs.Legality.{first_class, first_known, behind_first, first_waits}
@@ -79,9 +80,9 @@ module _ (c : Config) (pair : ℕ) (seat : IsSeat c pair) (l : List Told) (kept 
       (subst (λ x. completed_in c (sockets_of c pair) (with_told l call reply) x ≡ get_or kept.finished 0 [] ∷ []) (sym k.is)
       (completed_first c pair seat kept (with_told l call reply) h k.some (subst (λ x. IsLegal c (with_told l call reply) pair x) k.is lawful)))
 
-  pub sent_next : (next : Call) → (is_completing next ≡ true → Completes pair kept reply next) → IsLegal c (with_told l call reply) pair next
-      → sent_with c pair (with_told l call reply) next ≡ sent_with c pair l call ++ sent_by (seat_of c pair) kept (Gave next)
-  sent_next next completing lawful =
+  pub sent_next : (wire : Wire) (next : Call) → (is_completing next ≡ true → Completes pair kept reply next) → IsLegal c (with_told l call reply) pair next
+      → sent_with c pair (with_told l call reply) next ≡ sent_with c pair l call ++ sent_by (seat_of wire c pair) kept (Gave next)
+  sent_next wire next completing lawful =
       ap (λ xs. xs ++ map (bytes_of c.geometry c.sg) (completed_in c (sockets_of c pair) (with_told l call reply) next)) (sent_push c (sockets_of c pair) [] l (record { call = call; reply = reply }))
       ∙ ap (λ xs. sent_with c pair l call ++ xs) (by_call next (is_completing next) refl completing lawful)
 

@@ -1,10 +1,10 @@
 -- What a driver has: the frames that it keeps, with those of the call that it gave, are those that it peeked and didn't
 -- submit, and what it keeps of them is what its own calls and replies leave. Then each call that it gives is legal.
-use Rattle.std.specs.Prelude.{◌≡◌, ℕ, ◌+◌, ◌<◌, ◌≤◌, ◌==◌, IsTrue, if◌then◌else◌, List, [], ◌∷◌, ◌++◌, length, map, flat_map, All}
+use Rattle.std.specs.Prelude.{◌≡◌, ℕ, ◌+◌, ◌*◌, ◌<◌, ◌≤◌, ◌==◌, IsTrue, if◌then◌else◌, List, [], ◌∷◌, ◌++◌, length, map, flat_map, All}
 use Rattle.xsk_umem.specs.Frame.{Frame}
 use Rattle.xsk_umem.specs.Geometry.{IsGeometry}
 use Rattle.xsk_umem.specs.declared.batch.Item.{Item}
-use Rattle.xsk_model.specs.Config.{Config, IsConfig, IsRegular, classes_of, socket_at}
+use Rattle.xsk_model.specs.Config.{Config, IsConfig, IsRegular, pair_at, classes_of, socket_at}
 use Rattle.xsk_model.specs.Packets.{rest}
 use Rattle.xsk_model.specs.Numbers.{times, numbers}
 use Rattle.xsk_model.specs.Object.{submitted}
@@ -17,7 +17,8 @@ use Rattle.xsk_model.specs.declared.call.Ring.TheVariants.{Tx}
 use Rattle.xsk_model.specs.declared.call.Call.{Call}
 use Rattle.xsk_model.specs.declared.call.Reply.{Reply}
 use Rattle.xsk_model.specs.declared.call.Reply.TheVariants.{Items}
-use Rattle.xsk_turns.specs.Turns.{Seat, Judged, Kept, seat_of, start, turn, socket_of, group_at, frames_in}
+use Rattle.xsk_turns.specs.Turns.{Judged, Kept, seat_of, start, turn, group_at, frames_in}
+use Rattle.xsk_turns.specs.declared.wire.Wire.{Wire}
 use Rattle.xsk_turns.specs.Script.{Script, Asks, Ends}
 
 -- a pair of a regular configuration
@@ -27,9 +28,9 @@ pub record IsSeat (c : Config) (pair : ℕ) : Type 0 where
   pub geometry : IsGeometry c.geometry
   pub known : pair < length c.pairs
 
--- the socket of a class
+-- the socket of a class: sockets are numbered pair by pair
 abbrev pub socket_at_class : Config → ℕ → ℕ → ℕ
-socket_at_class c pair class = socket_of (seat_of c pair) class
+socket_at_class c pair class = pair * classes_of c + class
 
 -- ---- frames
 
@@ -73,26 +74,26 @@ pub record Owned (c : Config) (pair : ℕ) (kept : Kept) (call : Call) (l : List
   pub groups : (class : ℕ) → class < classes_of c → group_at kept class ≡ rest c.geometry c.sg (peeked_of (Tx (socket_at_class c pair class)) l)
   pub queue : IsQueue c pair kept.finished call l
 
--- a socket that is bound to this port and queue
-pub record IsHere (seat : Seat) (socket : ℕ) : Type 0 where
-  pub known : socket < length seat.config.sockets
-  pub port : (socket_at seat.config.sockets socket).port ≡ seat.port
-  pub queue : (socket_at seat.config.sockets socket).queue ≡ seat.queue
+-- a socket that is bound to the port and queue of a pair
+pub record IsHere (c : Config) (pair socket : ℕ) : Type 0 where
+  pub known : socket < length c.sockets
+  pub port : (socket_at c.sockets socket).port ≡ (pair_at c.pairs pair).port
+  pub queue : (socket_at c.sockets socket).queue ≡ (pair_at c.pairs pair).queue
 
 -- ---- the room
 
 -- there is room for the items of a Peek, and their frames are whole
-abbrev pub IsWholeIn : Seat → Frame → Type 0
-IsWholeIn seat frame = length frame.bytes ≡ seat.config.geometry.chunk
+abbrev pub IsWholeIn : Config → Frame → Type 0
+IsWholeIn c frame = length frame.bytes ≡ c.geometry.chunk
 
-pub record HasRoomFor (seat : Seat) (kept : Kept) (items : List Item) : Type 0 where
+pub record HasRoomFor (c : Config) (kept : Kept) (items : List Item) : Type 0 where
   pub spare : length kept.spare + length items ≤ 64
-  pub whole : All (IsWholeIn seat) (frames_in items)
-  pub lost : (class : ℕ) → class < seat.classes → length kept.lost + length (frames_in (group_at kept class)) + length (frames_in items) ≤ seat.config.geometry.frames
+  pub whole : All (IsWholeIn c) (frames_in items)
+  pub lost : (class : ℕ) → class < classes_of c → length kept.lost + length (frames_in (group_at kept class)) + length (frames_in items) ≤ c.geometry.frames
 
-abbrev pub HasRoom : Seat → Kept → Reply → Type 0
-HasRoom seat kept (Items items) = HasRoomFor seat kept items
-HasRoom seat kept reply = Unit {0}
+abbrev pub HasRoom : Config → Kept → Reply → Type 0
+HasRoom c kept (Items items) = HasRoomFor c kept items
+HasRoom c kept reply = Unit {0}
 
 -- ---- the laws
 
@@ -104,15 +105,15 @@ AllFit c past (t ∷ l) = Fits c past t.call t.reply × AllFit c (past ++ t ∷ 
 -- At each call that a driver makes, the frames that it keeps, with those of the call, are those that it peeked and didn't
 -- submit; and the call is legal.
 abbrev pub KeepsFrames : Type 0
-KeepsFrames = (c : Config) (pair : ℕ) (input : List Judged) (l : List Told) (kept : Kept) (call : Call) (rest : Reply → Script Kept) → IsSeat c pair → AllFit c [] l
-    → Asks (turn (seat_of c pair)) (start (classes_of c) input) l kept call rest → Owned c pair kept call l × IsLegal c l pair call
+KeepsFrames = (wire : Wire) (c : Config) (pair : ℕ) (input : List Judged) (l : List Told) (kept : Kept) (call : Call) (rest : Reply → Script Kept) → IsSeat c pair → AllFit c [] l
+    → Asks (turn (seat_of wire c pair)) (start (classes_of c) input) l kept call rest → Owned c pair kept call l × IsLegal c l pair call
 
 -- at its end they are those that it keeps
 abbrev pub KeepsFramesAtEnd : Type 0
-KeepsFramesAtEnd = (c : Config) (pair : ℕ) (input : List Judged) (l : List Told) (kept : Kept) → IsSeat c pair → AllFit c [] l
-    → Ends (turn (seat_of c pair)) (start (classes_of c) input) l kept → OwnGoesOn c pair [] l × ((n : ℕ) → times n (numbers_kept kept) ≡ times n (had_of l))
+KeepsFramesAtEnd = (wire : Wire) (c : Config) (pair : ℕ) (input : List Judged) (l : List Told) (kept : Kept) → IsSeat c pair → AllFit c [] l
+    → Ends (turn (seat_of wire c pair)) (start (classes_of c) input) l kept → OwnGoesOn c pair [] l × ((n : ℕ) → times n (numbers_kept kept) ≡ times n (had_of l))
 
 -- so there is room for each reply that fits
 abbrev pub LeavesRoom : Type 0
 LeavesRoom = (c : Config) (pair : ℕ) (l : List Told) (kept : Kept) (call : Call) (reply : Reply) → IsSeat c pair → Owned c pair kept call l → IsLegal c l pair call → Fits c l call reply
-    → HasRoom (seat_of c pair) kept reply
+    → HasRoom c kept reply

@@ -1,5 +1,6 @@
 -- The workers of a setting, by their numbers among the callers: a driver for each pair, over the pair's packets, and then the
--- applications. The verdicts of a driver's packets belong to its setting. What is said of their runs holds whatever engine they run on.
+-- applications. The verdicts of a driver's packets belong to its setting, and so does what the wire does. What is said of their
+-- runs holds whatever engine they run on.
 use Rattle.std.specs.Prelude.{◌≡◌, ℕ, ◌<◌, true, List, [], length, map}
 use Rattle.std.specs.List.{slice_index_or}
 use Rattle.xsk_umem.specs.PacketList.{PacketList}
@@ -14,10 +15,12 @@ use Rattle.xsk_prog.specs.Rules.{Meets, is_exact}
 use Rattle.xsk_prog.specs.declared.rule.Rule.{Rule}
 use Rattle.xsk_prog.specs.declared.rule.Verdict.{Verdict}
 use Rattle.xsk_turns.specs.AppTurns.{IsAppRun, IsWholeAppRun}
+use Rattle.xsk_turns.specs.declared.wire.Wire.{Wire}
 
--- what is run: a configuration over the packets of each port, and the verdicts of each pair's packets
+-- what is run: a configuration and a wire over the packets of each port, and the verdicts of each pair's packets
 pub record Setting : Type 0 where
   pub config : Config
+  pub wire : Wire
   pub packets : List PacketList
   pub verdicts : List (List Verdict)
 
@@ -44,21 +47,21 @@ IsRuled rule s = AreGiven (λ queue packet verdict. Meets rule packet queue verd
 abbrev pub verdicts_to : Rule → Config → List PacketList → PairInfo → List Verdict
 verdicts_to rule c lists pair = own_verdicts rule pair.queue (packets_to c lists pair)
 
-abbrev pub ruled : Rule → Config → List PacketList → Setting
-ruled rule c lists = record { config = c; packets = lists; verdicts = map (verdicts_to rule c lists) c.pairs }
+abbrev pub ruled : Rule → Wire → Config → List PacketList → Setting
+ruled rule wire c lists = record { config = c; wire = wire; packets = lists; verdicts = map (verdicts_to rule c lists) c.pairs }
 
 abbrev pub OwnSetting : Type 0
-OwnSetting = (rule : Rule) (c : Config) (lists : List PacketList) → IsRuled rule (ruled rule c lists)
+OwnSetting = (rule : Rule) (wire : Wire) (c : Config) (lists : List PacketList) → IsRuled rule (ruled rule wire c lists)
 
 abbrev pub OneSetting : Type 0
-OneSetting = (rule : Rule) (s : Setting) → is_exact rule ≡ true → IsRuled rule s → s ≡ ruled rule s.config s.packets
+OneSetting = (rule : Rule) (s : Setting) → is_exact rule ≡ true → IsRuled rule s → s ≡ ruled rule s.wire s.config s.packets
 
 -- a caller's own calls and replies are a run: of the driver of its pair over the pair's packets, or of its application
 pub record IsWorkerRun (s : Setting) (who : ℕ) (l : List Told) : Type 0 where
-  pub driver : who < length s.config.pairs → IsDriverRun s.config who (input_of s who) l
+  pub driver : who < length s.config.pairs → IsDriverRun s.wire s.config who (input_of s who) l
   pub app : (a : ℕ) → who ≡ caller_of s.config a → IsAppRun s.config a l
 
 -- they are a whole run
 pub record IsWholeRun (s : Setting) (who : ℕ) (l : List Told) : Type 0 where
-  pub driver : who < length s.config.pairs → IsWholeDriverRun s.config who (input_of s who) l
+  pub driver : who < length s.config.pairs → IsWholeDriverRun s.wire s.config who (input_of s who) l
   pub app : (a : ℕ) → who ≡ caller_of s.config a → IsWholeAppRun s.config a l

@@ -6,7 +6,7 @@ ghost use Rattle.xsk_turns.specs.AppLaw.{LanesInOrder, LanesPassedOn, NothingSen
 ghost use Rattle.xsk_turns.specs.AppOwned.{AppKeepsFrames, AppCallsLegal, AppKeepsFramesAtEnd};
 ghost use Rattle.xsk_turns.specs.Counted.{KeepsCounters, KeepsCountersAtEnd};
 ghost use Rattle.xsk_turns.specs.Disposes.{KeepsDisposals, DisposesAll};
-ghost use Rattle.xsk_turns.specs.Law.{EachDisposedOnce, DeliversInOrder, NothingReceivedLate, TellsRxDone, DrainsTx, CompletesAll};
+ghost use Rattle.xsk_turns.specs.Law.{EachDisposedOnce, DisposedAsSaid, DeliversInOrder, DeliversSized, DeliversAsSaid, NothingReceivedLate, TellsRxDone, DrainsTx, CompletesAll};
 ghost use Rattle.xsk_turns.specs.Owned.{KeepsFrames, KeepsFramesAtEnd, LeavesRoom};
 ghost use Rattle.xsk_turns.specs.Verdicts.{OneVerdicts};
 ghost use Rattle.xsk_turns.specs.Workers.{OwnSetting, OneSetting};
@@ -52,17 +52,35 @@ pub fn disposes_all()
     ensures { DisposesAll }
 {}
 
-/// In a whole run each packet of the input has one disposal, in order: the one that the configuration and its
-/// verdict say.
-#[tactic(auto, using(crate::proofs::Saying::each_disposed_once))]
+/// In a whole run each packet of the input has one disposal by the driver's attempts, in order, whatever the wire does.
+#[tactic(auto, using(crate::proofs::Disposing::each_disposed_once))]
 pub fn each_disposed_once()
     ensures { EachDisposedOnce }
 {}
 
-/// In a whole run what was submitted on an RX ring are the layouts of the packets that are delivered there, in order.
+/// Where the wire waits it is the one that the configuration and the packet's verdict say.
+#[tactic(auto, using(crate::proofs::Saying::disposed_as_said))]
+pub fn disposed_as_said()
+    ensures { DisposedAsSaid }
+{}
+
+/// In a whole run what was submitted on an RX ring are the layouts of the packets that the driver's attempts delivered
+/// there, in order, whatever the wire does.
 #[tactic(auto, using(crate::proofs::Delivering::delivers_in_order))]
 pub fn delivers_in_order()
     ensures { DeliversInOrder }
+{}
+
+/// Each packet that they delivered has 14 bytes up to the limit.
+#[tactic(auto, using(crate::proofs::Delivering::delivers_sized))]
+pub fn delivers_sized()
+    ensures { DeliversSized }
+{}
+
+/// Where the wire waits these are the packets that the configuration and their verdicts deliver there.
+#[tactic(auto, using(crate::proofs::Delivering::delivers_as_said))]
+pub fn delivers_as_said()
+    ensures { DeliversAsSaid }
 {}
 
 /// Nothing is submitted on RX once the driver told that no further packet comes.
