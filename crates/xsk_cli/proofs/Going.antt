@@ -15,6 +15,7 @@ use Rattle.xsk_prog.specs.declared.rule.Verdict.{Verdict}
 use Rattle.xsk_prog.specs.declared.rule.Verdict.TheVariants.{Redirect as RedirectTo}
 use Rattle.xsk_args.specs.declared.program.Program.{Program}
 use Rattle.xsk_args.specs.declared.program.Program.TheVariants.{Redirect, Pass, Drop, EtherType, Fixed}
+use Rattle.xsk_turns.specs.declared.wire.Wire.TheVariants.{Wait}
 use Rattle.xsk_turns.specs.Inputs.{packets_of_port, packets_of_queue}
 use Rattle.xsk_turns.specs.Verdicts.{EachHas, IsGiven, MeetRule, judged}
 use Rattle.xsk_turns.specs.Turns.{Judged}
@@ -28,7 +29,7 @@ use Rattle.xsk_socket.specs.Regular.{cell_in, is_left_empty, map_in, pair_in, re
 use Rattle.xsk_socket.proofs.Accepted.{fits}
 use Rattle.xsk_socket.proofs.Numbered.{get_or-numbered, length-numbered}
 use Rattle.xsk_socket.proofs.Regularity.{regular-config, regular-regular}
-use Rattle.xsk_cli.specs.Outcome.{listed, setting_of, rule_by, received_on, goes_on, going_on, sent_on_by, ExpectedGoesOn, ClassGoesOn, AllGoOn}
+use Rattle.xsk_cli.specs.Outcome.{listed, rule_by, verdicts_by, received_on, goes_on, going_on, sent_on_by, ExpectedGoesOn, ClassGoesOn, AllGoOn}
 
 -- ---- verdicts
 
@@ -91,7 +92,7 @@ pub expected_goes_on : ExpectedGoesOn
 expected_goes_on layout program lists port queue class accepted place =
     let c : Config = regular_of layout in
     let rule : Rule = rule_by layout.sockets program in
-    let verdicts : List (List Verdict) = (setting_of layout program lists).verdicts in
+    let verdicts : List (List Verdict) = verdicts_by layout program lists in
     let o : ℕ = paired_port port in
     let d : ℕ = driver_on c o queue in
     let other : o < layout.ports = (are_paired layout.ports port (fits layout accepted).ports place.in_ports).in_ports in
@@ -100,7 +101,7 @@ expected_goes_on layout program lists port queue class accepted place =
     let met : MeetRule rule queue (received c (map listed lists) o queue) (get_or verdicts d []) =
     subst (λ q. MeetRule rule q (received c (map listed lists) o q) (get_or verdicts d [])) at.pair_queue
     (subst (λ p. MeetRule rule (pair_at c.pairs d).queue (received c (map listed lists) p (pair_at c.pairs d).queue) (get_or verdicts d [])) at.pair_port
-    ((own_setting rule c (map listed lists)).each d at.pair_known)) in
+    ((own_setting rule Wait c (map listed lists)).each d at.pair_known)) in
     all_go layout program o queue class (received c (map listed lists) o queue) (get_or verdicts d []) met
     ∙ ap (λ ps. filter (goes_on layout program o queue class) (packets_of_queue layout.queues queue ps)) (packets_there lists o)
 

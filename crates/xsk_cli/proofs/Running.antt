@@ -15,10 +15,13 @@ use Rattle.xsk_model.specs.Sent.{sent}
 use Rattle.xsk_model.specs.Stored.{stored_entry}
 use Rattle.xsk_model.specs.Steering.{paired_port, driver_on}
 use Rattle.xsk_model.proofs.Seats.{below}
+use Rattle.xsk_turns.specs.declared.wire.Wire.{Wire as OwnWire}
 use Rattle.xsk_turns.specs.Inputs.{packets_of_queue}
 use Rattle.xsk_turns.specs.Workers.{IsRuled, ruled}
 use Rattle.xsk_prog.specs.declared.rule.Verdict.{Verdict}
 use Rattle.xsk_args.specs.declared.program.Program.{Program}
+use Rattle.xsk_args.specs.declared.wire.Wire.{Wire}
+use Rattle.xsk_args.specs.declared.wire.Wire.TheVariants.{Wait}
 use Rattle.xsk_plain.specs.Log.{calls_of, entries_of, item_of}
 use Rattle.xsk_plain.proofs.Parts.{length-entries}
 use Rattle.xsk_plain.specs.declared.log.Log.{Log}
@@ -28,7 +31,7 @@ use Rattle.xsk_sim.proofs.Verdicts.{ends_as_ruled, stalls_as_ruled}
 use Rattle.xsk_laws.specs.Laws.{AreExpected, AreWholeRuns, IsPlace}
 use Rattle.xsk_laws.specs.Expected.{received}
 use Rattle.xsk_laws.proofs.Places.{are_paired}
-use Rattle.xsk_laws.proofs.Theorems.{all_is_expected, nothing_else_is_sent, sent_is_within}
+use Rattle.xsk_laws.proofs.Theorems.{all_are_forwarded, all_is_expected, nothing_else_is_sent, sent_is_within}
 use Rattle.xsk_socket.specs.declared.layout.Layout.{Layout}
 use Rattle.xsk_socket.specs.Layout.{fault_of, pairs_in}
 use Rattle.xsk_socket.specs.Regular.{pair_in, regular_of}
@@ -36,7 +39,7 @@ use Rattle.xsk_socket.proofs.Accepted.{fits}
 use Rattle.xsk_socket.proofs.Numbered.{length-numbered}
 use Rattle.xsk_socket.proofs.Regularity.{regular-regular}
 use Rattle.xsk_cli.specs.Judged.{excess_of}
-use Rattle.xsk_cli.specs.Outcome.{Written, listed, setting_of, frames_of, capture_of, sent_from, going_on, sent_on_by, report_of, rule_by, AreTextsOf}
+use Rattle.xsk_cli.specs.Outcome.{Written, listed, setting_of, verdicts_by, wire_by, frames_of, capture_of, sent_from, going_on, sent_on_by, report_of, rule_by, AreTextsOf}
 use Rattle.xsk_cli.specs.Steps.{lists_in}
 use Rattle.xsk_cli.proofs.Going.{classes_are, expected_goes_on, is_exact_by, packets_there}
 use Rattle.xsk_cli.proofs.Judging.{limits_of}
@@ -60,15 +63,15 @@ driver_known ports queues port queue in_ports in_queues = below port queues queu
 
 -- ---- a run that has ended
 
-module _ (layout : Layout) (program : Program) (order : ℕ) (lists : List (List (List ℕ))) (accepted : fault_of layout ≡ None) (run : Shown) (ended : HasEnded (setting_of layout program lists) (frames_of layout) order run) where
+module _ (layout : Layout) (program : Program) (wire : Wire) (order : ℕ) (lists : List (List (List ℕ))) (accepted : fault_of layout ≡ None) (run : Shown) (ended : HasEnded (setting_of layout program wire lists) (frames_of layout) order run) where
   abbrev config : Config
   config = regular_of layout
 
   abbrev verdicts : List (List Verdict)
-  verdicts = (setting_of layout program lists).verdicts
+  verdicts = verdicts_by layout program lists
 
   -- all workers have whole runs
-  whole_runs : AreWholeRuns config (map listed lists) verdicts (frames_of layout) ended.history
+  whole_runs : AreWholeRuns (wire_by wire) config (map listed lists) verdicts (frames_of layout) ended.history
   whole_runs = record {
     regular = regular-regular layout (fits layout accepted);
     history = ended.is.legal;
@@ -93,15 +96,15 @@ module _ (layout : Layout) (program : Program) (order : ℕ) (lists : List (List
     all_sent port in_ports = sent_piece port layout.queues in_ports (omega arith)
 
     -- with one socket on each queue each driver sent what goes on to its queue
-    one_sent : layout.sockets ≡ 1 → (port queue : ℕ) → port < layout.ports → queue < layout.queues → sent config ended.history (driver_on config port queue) ≡ going_on layout program lists (paired_port port) queue 0
-    one_sent one port queue in_ports in_queues =
+    one_sent : wire ≡ Wait → layout.sockets ≡ 1 → (port queue : ℕ) → port < layout.ports → queue < layout.queues → sent config ended.history (driver_on config port queue) ≡ going_on layout program lists (paired_port port) queue 0
+    one_sent waits one port queue in_ports in_queues =
         let classes : classes_of config ≡ 1 = classes_are layout (omega (arith, driver_known layout.ports layout.queues port queue in_ports in_queues)) ∙ one in
-        all_is_expected config (map listed lists) verdicts (frames_of layout) ended.history port queue whole_runs in_ports in_queues classes
+        all_is_expected (wire_by wire) config (map listed lists) verdicts (frames_of layout) ended.history port queue (ap wire_by waits) whole_runs in_ports in_queues classes
         ∙ expected_goes_on layout program lists port queue 0 accepted (record { in_ports = in_ports; in_queues = in_queues; in_classes = omega (arith, classes) })
 
     pub texts_of : (calls : ℕ) (texts : Written)
         → texts.outputs ≡ map (λ port. written (take layout.queues (drop (port * layout.queues) run.sent))) (range_with_len 0 layout.ports)
-        → calls ≡ length run.log → texts.report ≡ report_of calls → AreTextsOf layout program order lists texts
+        → calls ≡ length run.log → texts.report ≡ report_of calls → AreTextsOf layout program wire order lists texts
     texts_of calls texts outputs count report =
         let is : texts.outputs ≡ map (λ port. written (sent_from layout ended.history port)) (range_with_len 0 layout.ports) =
         outputs ∙ same_map _ _ 0 layout.ports (λ port h. ap written (all_sent port (omega (arith, h)))) in
@@ -109,12 +112,14 @@ module _ (layout : Layout) (program : Program) (order : ℕ) (lists : List (List
           run = run;
           ended = ended;
           sent = is;
-          redirected = λ port queue in_ports in_queues.
-              nothing_else_is_sent config (map listed lists) verdicts (frames_of layout) ended.history port queue whole_runs in_ports in_queues;
-          one_socket = λ one.
+          forwarded = λ port queue in_ports in_queues.
+              all_are_forwarded (wire_by wire) config (map listed lists) verdicts (frames_of layout) ended.history port queue whole_runs in_ports in_queues;
+          redirected = λ port queue waits in_ports in_queues.
+              nothing_else_is_sent (wire_by wire) config (map listed lists) verdicts (frames_of layout) ended.history port queue (ap wire_by waits) whole_runs in_ports in_queues;
+          one_socket = λ waits one.
               is
               ∙ same_map _ _ 0 layout.ports (λ port h. ap written
-              (same_map _ _ 0 layout.queues (λ queue k. one_sent one port queue (omega (arith, h)) (omega (arith, k)))));
+              (same_map _ _ 0 layout.queues (λ queue k. one_sent waits one port queue (omega (arith, h)) (omega (arith, k)))));
           report = report ∙ ap report_of (count ∙ ap length ended.log ∙ length-map ended.history (stored_entry config.geometry config.sg));
         }
 
@@ -129,7 +134,7 @@ module _ (layout : Layout) (program : Program) (order : ℕ) (lists : List (List
       sent_within port queue in_ports in_queues =
           let pair : ℕ = port * layout.queues + queue in
           let known : pair < length run.sent = omega (arith, driver_known layout.ports layout.queues port queue in_ports in_queues, pairs) in
-          let few = sent_is_within config (map listed lists) verdicts (frames_of layout) ended.history port queue whole_runs in_ports in_queues in
+          let few = sent_is_within (wire_by wire) config (map listed lists) verdicts (frames_of layout) ended.history port queue whole_runs in_ports in_queues in
           let here : received config (map listed lists) (paired_port port) queue ≡ packets_of_queue layout.queues queue (get_or lists (paired_port port) []) =
           ap (packets_of_queue layout.queues queue) (packets_there lists (paired_port port)) in
           record {
@@ -167,18 +172,18 @@ one_list-writable packets short few small = record {
 }
 
 -- a run of the code's configuration, lists and frames
-pub stalled_as : (layout : Layout) (program : Program) (order : ℕ) (c : Config) (own : List PacketList) (fs : List Frame) (lists : List (List (List ℕ))) (round : ℕ) → c ≡ regular_of layout → own ≡ map listed lists
-    → fs ≡ frames_of layout → (verdicts : List (List Verdict)) → IsRuled (rule_by layout.sockets program) (record { config = c; packets = own; verdicts = verdicts })
-    → HasStalled (record { config = c; packets = own; verdicts = verdicts }) fs order round → HasStalled (setting_of layout program lists) (frames_of layout) order round
-stalled_as layout program order c own fs lists round is_config is_own is_frames verdicts is h =
-    subst (λ f. HasStalled (setting_of layout program lists) f order round) is_frames
-    (subst (λ (l : List PacketList). HasStalled (ruled (rule_by layout.sockets program) (regular_of layout) l) fs order round) is_own
-    (subst (λ (k : Config). HasStalled (ruled (rule_by layout.sockets program) k own) fs order round) is_config (stalls_as_ruled (rule_by layout.sockets program) (record { config = c; packets = own; verdicts = verdicts }) fs order round (is_exact_by layout.sockets program) is h)))
+pub stalled_as : (layout : Layout) (program : Program) (wire : Wire) (order : ℕ) (c : Config) (own : List PacketList) (fs : List Frame) (lists : List (List (List ℕ))) (round : ℕ) → c ≡ regular_of layout → own ≡ map listed lists
+    → fs ≡ frames_of layout → (own_wire : OwnWire) → own_wire ≡ wire_by wire → (verdicts : List (List Verdict)) → IsRuled (rule_by layout.sockets program) (record { config = c; wire = own_wire; packets = own; verdicts = verdicts })
+    → HasStalled (record { config = c; wire = own_wire; packets = own; verdicts = verdicts }) fs order round → HasStalled (setting_of layout program wire lists) (frames_of layout) order round
+stalled_as layout program wire order c own fs lists round is_config is_own is_frames own_wire is_wire verdicts is h =
+    subst (λ f. HasStalled (setting_of layout program wire lists) f order round) is_frames
+    (subst (λ (l : List PacketList). HasStalled (ruled (rule_by layout.sockets program) (wire_by wire) (regular_of layout) l) fs order round) is_own
+    (subst (λ (k : Config). HasStalled (ruled (rule_by layout.sockets program) (wire_by wire) k own) fs order round) is_config (subst (λ (w : OwnWire). HasStalled (ruled (rule_by layout.sockets program) w c own) fs order round) is_wire (stalls_as_ruled (rule_by layout.sockets program) (record { config = c; wire = own_wire; packets = own; verdicts = verdicts }) fs order round (is_exact_by layout.sockets program) is h))))
 
-pub ended_as : (layout : Layout) (program : Program) (order : ℕ) (c : Config) (own : List PacketList) (fs : List Frame) (lists : List (List (List ℕ))) (run : Shown) → c ≡ regular_of layout → own ≡ map listed lists
-    → fs ≡ frames_of layout → (verdicts : List (List Verdict)) → IsRuled (rule_by layout.sockets program) (record { config = c; packets = own; verdicts = verdicts })
-    → HasEnded (record { config = c; packets = own; verdicts = verdicts }) fs order run → HasEnded (setting_of layout program lists) (frames_of layout) order run
-ended_as layout program order c own fs lists run is_config is_own is_frames verdicts is h =
-    subst (λ f. HasEnded (setting_of layout program lists) f order run) is_frames
-    (subst (λ (l : List PacketList). HasEnded (ruled (rule_by layout.sockets program) (regular_of layout) l) fs order run) is_own
-    (subst (λ (k : Config). HasEnded (ruled (rule_by layout.sockets program) k own) fs order run) is_config (ends_as_ruled (rule_by layout.sockets program) (record { config = c; packets = own; verdicts = verdicts }) fs order run (is_exact_by layout.sockets program) is h)))
+pub ended_as : (layout : Layout) (program : Program) (wire : Wire) (order : ℕ) (c : Config) (own : List PacketList) (fs : List Frame) (lists : List (List (List ℕ))) (run : Shown) → c ≡ regular_of layout → own ≡ map listed lists
+    → fs ≡ frames_of layout → (own_wire : OwnWire) → own_wire ≡ wire_by wire → (verdicts : List (List Verdict)) → IsRuled (rule_by layout.sockets program) (record { config = c; wire = own_wire; packets = own; verdicts = verdicts })
+    → HasEnded (record { config = c; wire = own_wire; packets = own; verdicts = verdicts }) fs order run → HasEnded (setting_of layout program wire lists) (frames_of layout) order run
+ended_as layout program wire order c own fs lists run is_config is_own is_frames own_wire is_wire verdicts is h =
+    subst (λ f. HasEnded (setting_of layout program wire lists) f order run) is_frames
+    (subst (λ (l : List PacketList). HasEnded (ruled (rule_by layout.sockets program) (wire_by wire) (regular_of layout) l) fs order run) is_own
+    (subst (λ (k : Config). HasEnded (ruled (rule_by layout.sockets program) (wire_by wire) k own) fs order run) is_config (subst (λ (w : OwnWire). HasEnded (ruled (rule_by layout.sockets program) w c own) fs order run) is_wire (ends_as_ruled (rule_by layout.sockets program) (record { config = c; wire = own_wire; packets = own; verdicts = verdicts }) fs order run (is_exact_by layout.sockets program) is h))))

@@ -2,8 +2,8 @@
 
 use xsk_args::{OptionRow, Takes};
 
-/// Each has a number, but `--prog` and `--sg`. The number that stands where none was said is [`Plan`](crate::words::Plan)'s.
-pub(crate) const OPTIONS: [OptionRow; 15] = [
+/// Each has a number, but `--prog`, `--wire` and `--sg`. The number that stands where none was said is [`Plan`](crate::words::Plan)'s.
+pub(crate) const OPTIONS: [OptionRow; 16] = [
     OptionRow {
         name: "ports",
         takes: Takes::Number,
@@ -55,6 +55,10 @@ pub(crate) const OPTIONS: [OptionRow; 15] = [
     OptionRow {
         name: "prog",
         takes: Takes::Program,
+    },
+    OptionRow {
+        name: "wire",
+        takes: Takes::Wire,
     },
     OptionRow {
         name: "empty",

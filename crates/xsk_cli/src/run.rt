@@ -3,10 +3,11 @@ ghost use Rattle.std.specs.Prelude.{◌≡◌, ℕ, ◌*◌, ◌<◌, ◌≤◌,
 ghost use Rattle.std.specs.List.{concat, range_with_len};
 ghost use Rattle.std.specs.Vec.Iter.{into_iter_items};
 ghost use Rattle.xsk_driver.specs.Sent.{IsShort};
+ghost use Rattle.xsk_prog.specs.Rules.{HasSockets, IsSocketCount};
 ghost use Rattle.xsk_sim.specs.Runs.{HasEnded};
 ghost use Rattle.xsk_sim.specs.Shown.{HasShortPackets};
 ghost use Rattle.xsk_cli.specs.Judged.{excess_of};
-ghost use Rattle.xsk_cli.specs.Outcome.{AreTextsBy, AreTextsOf, capture_of, frames_of, listed, made_lists, report_of, rule_by, setting_of};
+ghost use Rattle.xsk_cli.specs.Outcome.{AreTextsBy, AreTextsOf, capture_of, frames_of, listed, made_lists, report_of, rule_by, setting_of, wire_by};
 ghost use Rattle.xsk_cli.specs.Steps.{FailsMaking, FailsRunning, IsAwake, lists_in, written_by, written_in};
 ghost use Rattle.xsk_cli.specs.Words.{fault_in};
 ghost use Rattle.xsk_cli.specs.declared.words.Work.TheVariants.{Generate};
@@ -20,7 +21,7 @@ use crate::words::Work;
 use std::alloc::Global;
 use std::fmt::Write;
 use std::vec::IntoIter;
-use xsk_args::Program;
+use xsk_args::{Program, Wire};
 use xsk_pcap::Capture;
 use xsk_prog::{Rule, XdpProgram};
 use xsk_sim::{Run, SimError, simulate};
@@ -54,9 +55,10 @@ pub(crate) fn make_texts(
         Work::Simulate {
             layout,
             program,
+            wire,
             order,
             ..
-        } => run_texts(alloc, layout, *program, *order, lists),
+        } => run_texts(alloc, layout, *program, *wire, *order, lists),
         Work::Generate { .. } => Ok(made_texts(alloc, &lists[0])?),
     }
 }
@@ -66,6 +68,7 @@ fn run_texts(
     alloc: Global,
     layout: &Layout,
     program: Program,
+    wire: Wire,
     order: u32,
     lists: &[PacketList],
 ) -> Result<Texts, RunFailure>
@@ -75,20 +78,21 @@ fn run_texts(
     requires within { excess_of (lists_in lists.now) ≡ None }
     requires listed { lists.now ≡ map listed (lists_in lists.now) }
     requires short { All HasShortPackets lists.now }
-    ensures made { IfOk result (λ texts. AreTextsOf layout.now program order (lists_in lists.now) (written_in texts)) }
-    ensures failed { IfErr result (FailsRunning layout.now program order (lists_in lists.now)) }
+    ensures made { IfOk result (λ texts. AreTextsOf layout.now program wire order (lists_in lists.now) (written_in texts)) }
+    ensures failed { IfErr result (FailsRunning layout.now program wire order (lists_in lists.now)) }
 {
-    let run = run_lists(alloc, layout, program, order, lists)?;
+    let run = run_lists(alloc, layout, program, wire, order, lists)?;
     let report = report_text(alloc, run.log().len())?;
     let outputs = output_texts(alloc, layout.ports, layout.queues, run.into_sent())?;
     Ok(Texts { outputs, report })
 }
 
-/// Runs the lists of all ports under the program's rule.
+/// Runs the lists of all ports under the program's rule, with the wire.
 fn run_lists(
     alloc: Global,
     layout: &Layout,
     program: Program,
+    wire: Wire,
     order: u32,
     lists: &[PacketList],
 ) -> Result<Run, RunFailure>
@@ -98,15 +102,16 @@ fn run_lists(
     requires listed { lists.now ≡ map listed (lists_in lists.now) }
     requires short { All HasShortPackets lists.now }
     ensures pairs { IfOk result (λ run. run.pairs ≡ pairs_in layout.now) }
-    ensures ended { IfOk result (HasEnded (setting_of layout.now program (lists_in lists.now)) (frames_of layout.now) order) }
-    ensures failed { IfErr result (FailsRunning layout.now program order (lists_in lists.now)) }
+    ensures ended { IfOk result (HasEnded (setting_of layout.now program wire (lists_in lists.now)) (frames_of layout.now) order) }
+    ensures failed { IfErr result (FailsRunning layout.now program wire order (lists_in lists.now)) }
 {
     let (config, frames) = set_up(alloc, layout)?;
     let rule = rule_of(program, layout.sockets);
     let attached = XdpProgram::attach(rule, |packet: &[u8], queue: u32| {
         rule.verdict(packet, queue)
     });
-    match simulate(alloc, config, frames, lists, &attached, order) {
+    let wire = wire_of(wire);
+    match simulate(alloc, config, frames, lists, &attached, wire, order) {
         Ok(run) => Ok(run),
         Err(SimError::Stalled { round }) => Err(RunFailure::Stalled { round }),
         Err(SimError::OutOfMemory) => Err(RunFailure::OutOfMemory),
@@ -115,7 +120,9 @@ fn run_lists(
 
 /// The rule of a program, where each queue has so many sockets.
 fn rule_of(program: Program, sockets: u32) -> Rule
-    ensures { result ≡ rule_by sockets program }
+    requires { IsSocketCount sockets }
+    ensures rule { result ≡ rule_by sockets program }
+    ensures sockets { HasSockets result }
 {
     match program {
         Program::Redirect => Rule::Redirect { sockets },
@@ -123,6 +130,16 @@ fn rule_of(program: Program, sockets: u32) -> Rule
         Program::Drop => Rule::Drop,
         Program::EtherType(kind) => Rule::EtherType { kind, sockets },
         Program::Fixed(cell) => Rule::Fixed(cell),
+    }
+}
+
+/// The wire of the workers.
+fn wire_of(wire: Wire) -> xsk_sim::Wire
+    ensures { result ≡ wire_by wire }
+{
+    match wire {
+        Wire::Wait => xsk_sim::Wire::Wait,
+        Wire::Drop => xsk_sim::Wire::Drop,
     }
 }
 

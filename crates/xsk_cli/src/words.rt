@@ -6,17 +6,18 @@ ghost use Rattle.xsk_socket.specs.Layout.{fault_of};
 ghost use Rattle.xsk_cli.specs.Steps.{plan_in};
 ghost use Rattle.xsk_cli.specs.Words.{counted, fault_in, files_in, gen_plan, layout_by, plan_by};
 
-use xsk_args::{Args, Program, parse_number};
+use xsk_args::{Args, Program, Wire, parse_number};
 use xsk_socket::{Layout, Unlawful, check_layout};
 
 /// What is made of the files that a command reads.
 #[derive(Clone, Copy, Debug, PartialEq, Eq)]
 pub enum Work {
-    /// A run of the layout's workers over the captures of its ports, under a program, in rounds with an order number. With a
-    /// number of the generator no captures are read, and the packets are made.
+    /// A run of the layout's workers over the captures of its ports, under a program and with a wire, in rounds with an order
+    /// number. With a number of the generator no captures are read, and the packets are made.
     Simulate {
         layout: Layout,
         program: Program,
+        wire: Wire,
         order: u32,
         number: Option<u32>,
     },
@@ -47,6 +48,7 @@ impl<'p, 'w> Plan<'p, 'w> {
             return Err(Unlawful::Files(0));
         };
         let program = args.program("prog").unwrap_or(Program::Redirect);
+        let wire = args.wire("wire").unwrap_or(Wire::Wait);
         let order = args.number("order").unwrap_or(0);
         let number = args.number("gen");
         let named = if number.is_some() {
@@ -61,6 +63,7 @@ impl<'p, 'w> Plan<'p, 'w> {
             work: Work::Simulate {
                 layout,
                 program,
+                wire,
                 order,
                 number,
             },

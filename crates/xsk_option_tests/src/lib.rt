@@ -12,4 +12,6 @@ mod run;
 #[cfg(test)]
 mod table;
 #[cfg(test)]
+mod wires;
+#[cfg(test)]
 mod words;

@@ -62,7 +62,12 @@ fn has_each_once(text: &[u8], list: &PacketList, spread: Spread) -> bool {
             return false;
         };
         let lane = lane_of(packet, spread);
-        let place = place_of(list, nexts[lane.0 as usize % 4][lane.1 as usize % 4], lane, spread);
+        let place = place_of(
+            list,
+            nexts[lane.0 as usize % 4][lane.1 as usize % 4],
+            lane,
+            spread,
+        );
         if lane.0 < queue || place >= list.len() || list.get(place) != packet {
             return false;
         }
@@ -105,8 +110,7 @@ fn two_queues_with_two_sockets_each_cross(rt: HostRuntime) -> Result<(), Fail> {
         queues: 2,
         sockets: 2,
     };
-    let line =
-        "simulate --gen 7 --queues 2 --sockets 2 --rx 64 --tx 64 --fill 64 --comp 64 a b";
+    let line = "simulate --gen 7 --queues 2 --sockets 2 --rx 64 --tx 64 --fill 64 --comp 64 a b";
     assert!(rt; all_cross(rt.alloc(), line, 2, spread)?);
     Ok(())
 }
@@ -143,7 +147,11 @@ fn a_cell_of_another_queue_is_missed(rt: HostRuntime) -> Result<(), Fail> {
         ("simulate --queues 2 --prog fixed:1 a b c d", 1, true),
         ("simulate --queues 2 --prog fixed:2 a b c d", 1, false),
         ("simulate --queues 2 --prog fixed:0 a b c d", 2, true),
-        ("simulate --queues 2 --sockets 2 --empty 3 a b c d", 1, false),
+        (
+            "simulate --queues 2 --sockets 2 --empty 3 a b c d",
+            1,
+            false,
+        ),
         ("simulate --queues 2 --sockets 2 --empty 2 a b c d", 1, true),
         ("simulate --sockets 4 --empty 3 a b c d", 2, true),
     ];
@@ -159,15 +167,30 @@ fn numbers_of_ports_queues_and_sockets_are_refused(rt: HostRuntime) -> Result<()
         ("simulate --ports 3 a b c d", "refused ports 3\n"),
         ("simulate --queues 3 a b c d", "refused queues 3\n"),
         ("simulate --sockets 3 a b c d", "refused sockets 3\n"),
-        ("simulate --sockets 8 --queues 0 --ports 1 a", "refused ports 1\n"),
+        (
+            "simulate --sockets 8 --queues 0 --ports 1 a",
+            "refused ports 1\n",
+        ),
         ("simulate --sockets 8 --queues 0 a", "refused queues 0\n"),
-        ("simulate --sockets 4294967295 a", "refused sockets 4294967295\n"),
+        (
+            "simulate --sockets 4294967295 a",
+            "refused sockets 4294967295\n",
+        ),
         ("simulate --ports 4 a b c d", "refused files 4\n"),
         ("simulate --ports 4 --gen 7 a b", "refused files 2\n"),
-        ("simulate --ports 4 --queues 4 --frames 24 --gen 7 a b c d", "refused frames 24\n"),
+        (
+            "simulate --ports 4 --queues 4 --frames 24 --gen 7 a b c d",
+            "refused frames 24\n",
+        ),
         ("simulate --queues 2 --fill 32 a b c d", "refused pool 64\n"),
-        ("simulate --queues 2 --sockets 2 --empty 4 a b c d", "refused empty 4\n"),
-        ("simulate --ports 4 a b c d e f g h", "bad capture 2 short header\n"),
+        (
+            "simulate --queues 2 --sockets 2 --empty 4 a b c d",
+            "refused empty 4\n",
+        ),
+        (
+            "simulate --ports 4 a b c d e f g h",
+            "bad capture 2 short header\n",
+        ),
     ];
     for (line, told) in cases {
         let (status, bay) = answered(rt.alloc(), line, ROOM)?;
