@@ -10,6 +10,7 @@ use Rattle.xsk_model.specs.Opening.{AreFrames, IsOpened, opening}
 use Rattle.xsk_plain.specs.Engine.{Engine, Shows}
 use Rattle.xsk_prog.specs.declared.rule.Verdict.{Verdict}
 use Rattle.xsk_turns.specs.Workers.{Setting}
+use Rattle.xsk_turns.specs.declared.wire.Wire.{Wire}
 use Rattle.xsk_sim.specs.Turning.{HasRun}
 use Rattle.xsk_sim.specs.Seats.{EachFrom, DriverSits, AppSits, new_own, AreSeated}
 use Rattle.xsk_sim.specs.declared.rounds.Workers.{Workers}
@@ -21,15 +22,15 @@ run_begins s frames engine opened config shows log =
     record { config = config; legal = record { opened = opened; legal = tt }; shows = shows; log = log }
 
 -- the workers of a copy of the configuration are seated in an object that was opened with it
-pub seated_first : (c copy : Config) (packets : List PacketList) (verdicts : List (List Verdict)) (frames : List Frame) (w : Workers) (engine : Engine) → copy ≡ c → IsOpened c frames → engine.config ≡ c
+pub seated_first : (wire : Wire) (c copy : Config) (packets : List PacketList) (verdicts : List (List Verdict)) (frames : List Frame) (w : Workers) (engine : Engine) → copy ≡ c → IsOpened c frames → engine.config ≡ c
     → Shows engine (opening c frames) → engine.log ≡ []
-    → EachFrom w.drivers.items 0 (λ who seat. DriverSits (record { config = copy; packets = packets; verdicts = verdicts }) new_own who seat.machine (joined_ask seat.ask seat.items))
-    → EachFrom w.apps.items (length copy.pairs) (λ who seat. AppSits (record { config = copy; packets = packets; verdicts = verdicts }) new_own who seat.machine (joined_ask seat.ask seat.items))
-    → vec_len w.drivers ≡ length copy.pairs → vec_len w.apps ≡ apps_of copy → AreSeated (record { config = c; packets = packets; verdicts = verdicts }) frames [] w engine
-seated_first c copy packets verdicts frames w engine is opened config shows log drivers apps driver_count app_count =
-    subst (λ (k : Config). AreSeated (record { config = k; packets = packets; verdicts = verdicts }) frames [] w engine) is
+    → EachFrom w.drivers.items 0 (λ who seat. DriverSits (record { config = copy; wire = wire; packets = packets; verdicts = verdicts }) new_own who seat.machine (joined_ask seat.ask seat.items))
+    → EachFrom w.apps.items (length copy.pairs) (λ who seat. AppSits (record { config = copy; wire = wire; packets = packets; verdicts = verdicts }) new_own who seat.machine (joined_ask seat.ask seat.items))
+    → vec_len w.drivers ≡ length copy.pairs → vec_len w.apps ≡ apps_of copy → AreSeated (record { config = c; wire = wire; packets = packets; verdicts = verdicts }) frames [] w engine
+seated_first wire c copy packets verdicts frames w engine is opened config shows log drivers apps driver_count app_count =
+    subst (λ (k : Config). AreSeated (record { config = k; wire = wire; packets = packets; verdicts = verdicts }) frames [] w engine) is
     (record {
-      run = run_begins (record { config = copy; packets = packets; verdicts = verdicts }) frames engine (subst (λ (k : Config). IsOpened k frames) (sym is) opened) (config ∙ sym is)
+      run = run_begins (record { config = copy; wire = wire; packets = packets; verdicts = verdicts }) frames engine (subst (λ (k : Config). IsOpened k frames) (sym is) opened) (config ∙ sym is)
           (subst (λ (k : Config). Shows engine (opening k frames)) (sym is) shows) log;
       drivers = drivers;
       apps = apps;
@@ -38,11 +39,11 @@ seated_first c copy packets verdicts frames w engine is opened config shows log 
     })
 
 -- so they are with a lawful configuration and all frames of its UMEM
-pub seated_opened : (c copy : Config) (packets : List PacketList) (verdicts : List (List Verdict)) (frames : List Frame) (w : Workers) (engine : Engine) → copy ≡ c → IsGeometry copy.geometry → IsConfig c
+pub seated_opened : (wire : Wire) (c copy : Config) (packets : List PacketList) (verdicts : List (List Verdict)) (frames : List Frame) (w : Workers) (engine : Engine) → copy ≡ c → IsGeometry copy.geometry → IsConfig c
     → IsLawful c → AreFrames c.geometry frames → engine.config ≡ c → Shows engine (opening c frames) → engine.log ≡ []
-    → EachFrom w.drivers.items 0 (λ who seat. DriverSits (record { config = copy; packets = packets; verdicts = verdicts }) new_own who seat.machine (joined_ask seat.ask seat.items))
-    → EachFrom w.apps.items (length copy.pairs) (λ who seat. AppSits (record { config = copy; packets = packets; verdicts = verdicts }) new_own who seat.machine (joined_ask seat.ask seat.items))
-    → vec_len w.drivers ≡ length copy.pairs → vec_len w.apps ≡ apps_of copy → AreSeated (record { config = c; packets = packets; verdicts = verdicts }) frames [] w engine
-seated_opened c copy packets verdicts frames w engine is geometry known lawful umem config shows log drivers apps driver_count app_count =
+    → EachFrom w.drivers.items 0 (λ who seat. DriverSits (record { config = copy; wire = wire; packets = packets; verdicts = verdicts }) new_own who seat.machine (joined_ask seat.ask seat.items))
+    → EachFrom w.apps.items (length copy.pairs) (λ who seat. AppSits (record { config = copy; wire = wire; packets = packets; verdicts = verdicts }) new_own who seat.machine (joined_ask seat.ask seat.items))
+    → vec_len w.drivers ≡ length copy.pairs → vec_len w.apps ≡ apps_of copy → AreSeated (record { config = c; wire = wire; packets = packets; verdicts = verdicts }) frames [] w engine
+seated_opened wire c copy packets verdicts frames w engine is geometry known lawful umem config shows log drivers apps driver_count app_count =
     let opened : IsOpened c frames = record { geometry = subst (λ (k : Config). IsGeometry k.geometry) is geometry; config = known; lawful = lawful; umem = umem } in
-    seated_first c copy packets verdicts frames w engine is opened config shows log drivers apps driver_count app_count
+    seated_first wire c copy packets verdicts frames w engine is opened config shows log drivers apps driver_count app_count

@@ -5,3 +5,4 @@ pub mod Beginning
 pub mod Ending
 pub mod Unique
 pub mod Verdicts
+pub mod Forwarded

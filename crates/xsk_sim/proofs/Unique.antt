@@ -24,7 +24,7 @@ use Rattle.xsk_model.specs.Stored.{stored}
 
 worker_first : (s : Setting) (who : ℕ) (l more : List Told) → IsWorkerRun s who (l ++ more) → IsWorkerRun s who l
 worker_first s who l more run = record {
-  driver = λ below. run_front (driver_turn (seat_of s.config who)) (start (classes_of s.config) (input_of s who)) l more (run.driver below);
+  driver = λ below. run_front (driver_turn (seat_of s.wire s.config who)) (start (classes_of s.config) (input_of s who)) l more (run.driver below);
   app = λ a is. run_front (app_turn s.config a) (app_start s.config) l more (run.app a is);
 }
 
@@ -32,7 +32,7 @@ worker_first s who l more run = record {
 worker_next : (s : Setting) (who : ℕ) (l : List Told) (t u : Told) → IsWorkerRun s who (l ++ t ∷ []) → IsWorkerRun s who (l ++ u ∷ []) → t.call ≡ u.call
 worker_next s who l t u first second = ⊎_elim
     (λ (low : who < length s.config.pairs).
-    run_next (driver_turn (seat_of s.config who)) (start (classes_of s.config) (input_of s who)) l t u (first.driver low) (second.driver low))
+    run_next (driver_turn (seat_of s.wire s.config who)) (start (classes_of s.config) (input_of s who)) l t u (first.driver low) (second.driver low))
     (λ (high : length s.config.pairs ≤ who).
     let a : ℕ = who - length s.config.pairs in
     let is : who ≡ caller_of s.config a = omega arith in

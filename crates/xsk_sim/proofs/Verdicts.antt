@@ -15,6 +15,7 @@ use Rattle.xsk_prog.specs.declared.rule.Verdict.{Verdict}
 use Rattle.xsk_turns.specs.Turns.{IsDriverRun, IsWholeDriverRun}
 use Rattle.xsk_turns.specs.Verdicts.{judged, EachHas, IsGiven}
 use Rattle.xsk_turns.specs.Workers.{Setting, packets_to, IsWorkerRun, IsWholeRun, AreGiven, IsRuled}
+use Rattle.xsk_turns.specs.declared.wire.Wire.{Wire}
 use Rattle.xsk_driver.specs.Asking.{IsAnswer}
 use Rattle.xsk_driver.proofs.Asking.{all_meet}
 use Rattle.xsk_turns.proofs.Verdicts.{one_setting}
@@ -26,20 +27,20 @@ use Rattle.xsk_sim.specs.Runs.{HasEnded, HasStalled, EndsAsRuled, StallsAsRuled}
 
 -- ---- with others' verdicts behind its own
 
-module _ (c : Config) (packets : List PacketList) where
+module _ (wire : Wire) (c : Config) (packets : List PacketList) where
   abbrev pub setting : List (List Verdict) → Setting
-  setting verdicts = record { config = c; packets = packets; verdicts = verdicts }
+  setting verdicts = record { config = c; wire = wire; packets = packets; verdicts = verdicts }
 
   module _ (vs ws : List (List Verdict)) (who : ℕ) (same : get_or vs who [] ≡ get_or ws who []) where
     whole_as : (l : List Told) → IsWholeRun (setting vs) who l → IsWholeRun (setting ws) who l
     whole_as l run = record {
-      driver = λ known. subst (λ (v : List Verdict). IsWholeDriverRun c who (judged (packets_to c packets (pair_at c.pairs who)) v) l) same (run.driver known);
+      driver = λ known. subst (λ (v : List Verdict). IsWholeDriverRun wire c who (judged (packets_to c packets (pair_at c.pairs who)) v) l) same (run.driver known);
       app = run.app;
     }
 
     run_as : (l : List Told) → IsWorkerRun (setting vs) who l → IsWorkerRun (setting ws) who l
     run_as l run = record {
-      driver = λ known. subst (λ (v : List Verdict). IsDriverRun c who (judged (packets_to c packets (pair_at c.pairs who)) v) l) same (run.driver known);
+      driver = λ known. subst (λ (v : List Verdict). IsDriverRun wire c who (judged (packets_to c packets (pair_at c.pairs who)) v) l) same (run.driver known);
       app = run.app;
     }
 
@@ -53,7 +54,7 @@ module _ (c : Config) (packets : List PacketList) where
     record {
       known = sits.0.known;
       room = record { packets = sits.0.room.packets; bytes = sits.0.room.bytes };
-      stands = subst (λ (v : List Verdict). StandsWith c who (judged (packets_to c packets (pair_at c.pairs who)) v) d act []) same sits.0.stands;
+      stands = subst (λ (v : List Verdict). StandsWith wire c who (judged (packets_to c packets (pair_at c.pairs who)) v) d act []) same sits.0.stands;
     },
     acts_as vs ws who same act [] sits.1,
   )

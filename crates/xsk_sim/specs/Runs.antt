@@ -6,7 +6,8 @@ use Rattle.std.specs.Fn.{Shared}
 use denote.Ref.{Bor}
 use Rattle.xsk_umem.specs.Frame.{Frame}
 use Rattle.xsk_umem.specs.PacketList.{PacketList}
-use Rattle.xsk_model.specs.Config.{Config, callers_of}
+use Rattle.xsk_model.specs.Config.{Config, IsRegular, callers_of}
+use Rattle.xsk_model.specs.Steering.{driver_on}
 use Rattle.xsk_model.specs.Entry.{Entry, own}
 use Rattle.xsk_model.specs.History.{IsHistory, state_after}
 use Rattle.xsk_model.specs.Holders.{HasOneHolder}
@@ -16,6 +17,9 @@ use Rattle.xsk_prog.specs.Rules.{is_exact}
 use Rattle.xsk_prog.specs.declared.rule.Rule.{Rule}
 use Rattle.xsk_prog.specs.declared.rule.Verdict.{Verdict}
 use Rattle.xsk_turns.specs.Workers.{Setting, IsWorkerRun, IsWholeRun, AreGiven, IsRuled, ruled}
+use Rattle.xsk_turns.specs.declared.wire.Wire.{Wire}
+use Rattle.xsk_turns.specs.declared.wire.Wire.TheVariants.{Wait}
+use Rattle.xsk_laws.specs.Laws.{AreForwarded, AreExpected}
 use Rattle.xsk_driver.specs.Asking.{IsAnswer}
 use Rattle.xsk_sim.specs.Rounds.{AreRounds}
 use Rattle.xsk_sim.specs.Shown.{Shown}
@@ -59,24 +63,36 @@ pub record HasStalled (s : Setting) (frames : List Frame) (order round : ℕ) : 
 
 -- The same under a program: there are verdicts of each driver's packets, each an answer of the program's closure that meets
 -- its rule, with which the run has ended, or stalled.
-pub record HasEndedUnder {F : Type 0} (g : Shared F (Bor (List ℕ) × (ℕ × Unit {0})) Verdict) (rule : Rule) (f : F) (c : Config) (packets : List PacketList) (frames : List Frame) (order : ℕ) (run : Shown) : Type 0 where
+pub record HasEndedUnder {F : Type 0} (g : Shared F (Bor (List ℕ) × (ℕ × Unit {0})) Verdict) (rule : Rule) (f : F) (wire : Wire) (c : Config) (packets : List PacketList) (frames : List Frame) (order : ℕ) (run : Shown) : Type 0 where
   pub verdicts : List (List Verdict)
-  pub asked : AreGiven (IsAnswer g rule f) (record { config = c; packets = packets; verdicts = verdicts })
-  pub ended : HasEnded (record { config = c; packets = packets; verdicts = verdicts }) frames order run
+  pub asked : AreGiven (IsAnswer g rule f) (record { config = c; wire = wire; packets = packets; verdicts = verdicts })
+  pub ended : HasEnded (record { config = c; wire = wire; packets = packets; verdicts = verdicts }) frames order run
 
-pub record HasStalledUnder {F : Type 0} (g : Shared F (Bor (List ℕ) × (ℕ × Unit {0})) Verdict) (rule : Rule) (f : F) (c : Config) (packets : List PacketList) (frames : List Frame) (order round : ℕ) : Type 0 where
+pub record HasStalledUnder {F : Type 0} (g : Shared F (Bor (List ℕ) × (ℕ × Unit {0})) Verdict) (rule : Rule) (f : F) (wire : Wire) (c : Config) (packets : List PacketList) (frames : List Frame) (order round : ℕ) : Type 0 where
   pub verdicts : List (List Verdict)
-  pub asked : AreGiven (IsAnswer g rule f) (record { config = c; packets = packets; verdicts = verdicts })
-  pub stalled : HasStalled (record { config = c; packets = packets; verdicts = verdicts }) frames order round
+  pub asked : AreGiven (IsAnswer g rule f) (record { config = c; wire = wire; packets = packets; verdicts = verdicts })
+  pub stalled : HasStalled (record { config = c; wire = wire; packets = packets; verdicts = verdicts }) frames order round
 
 -- where the rule leaves one verdict for each packet, they are those that the rule gives itself
 abbrev pub EndsAsRuled : Type 0
 EndsAsRuled = (rule : Rule) (s : Setting) (frames : List Frame) (order : ℕ) (run : Shown) → is_exact rule ≡ true → IsRuled rule s
-    → HasEnded s frames order run → HasEnded (ruled rule s.config s.packets) frames order run
+    → HasEnded s frames order run → HasEnded (ruled rule s.wire s.config s.packets) frames order run
 
 abbrev pub StallsAsRuled : Type 0
 StallsAsRuled = (rule : Rule) (s : Setting) (frames : List Frame) (order round : ℕ) → is_exact rule ≡ true → IsRuled rule s
-    → HasStalled s frames order round → HasStalled (ruled rule s.config s.packets) frames order round
+    → HasStalled s frames order round → HasStalled (ruled rule s.wire s.config s.packets) frames order round
+
+-- What the driver of a port and queue sent in a run that has ended is what was forwarded by all classes, whatever the wire
+-- does, and nothing else. Where the wire waits it is what is expected by them.
+abbrev pub EndedIsForwarded : Type 0
+EndedIsForwarded = (s : Setting) (frames : List Frame) (order : ℕ) (run : Shown) (port queue : ℕ) → IsRegular s.config → (ended : HasEnded s frames order run)
+    → port < s.config.ports → queue < s.config.queues
+    → AreForwarded s.wire s.config ended.history s.packets s.verdicts port queue (slice_index_or run.sent (driver_on s.config port queue) [])
+
+abbrev pub EndedIsExpected : Type 0
+EndedIsExpected = (s : Setting) (frames : List Frame) (order : ℕ) (run : Shown) (port queue : ℕ) → s.wire ≡ Wait → IsRegular s.config → HasEnded s frames order run
+    → port < s.config.ports → queue < s.config.queues
+    → AreExpected s.config s.packets s.verdicts port queue (slice_index_or run.sent (driver_on s.config port queue) [])
 
 -- there is one such history for each number of rounds
 abbrev pub OneHistory : Type 0

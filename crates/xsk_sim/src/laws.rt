@@ -1,6 +1,6 @@
 //! The laws of runs, each the contract of a function that does nothing. They are stated in `specs/Runs.antt`.
 
-ghost use Rattle.xsk_sim.specs.Runs.{OneHistory, OneLog, EndsOrStalls, EndsAsRuled, StallsAsRuled};
+ghost use Rattle.xsk_sim.specs.Runs.{OneHistory, OneLog, EndsOrStalls, EndsAsRuled, StallsAsRuled, EndedIsForwarded, EndedIsExpected};
 
 /// For each number of rounds there is one history in rounds of the workers of a configuration over packets with verdicts.
 pub fn one_history()
@@ -27,4 +27,14 @@ pub fn ends_as_ruled()
 #[tactic(auto, using(crate::proofs::Verdicts::stalls_as_ruled))]
 pub fn stalls_as_ruled()
     ensures { StallsAsRuled }
+{}
+
+/// What each driver sent in a run that has ended is what the paired port's driver delivered, whatever the wire does.
+pub fn ended_is_forwarded()
+    ensures { EndedIsForwarded }
+{}
+
+/// Where the wire waits, it is what is expected of the input.
+pub fn ended_is_expected()
+    ensures { EndedIsExpected }
 {}

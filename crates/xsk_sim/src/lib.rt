@@ -8,3 +8,4 @@ mod seat;
 mod simulation;
 
 pub use simulation::{Run, SimError, simulate};
+pub use xsk_driver::Wire;

@@ -25,7 +25,7 @@ use std::alloc::Global;
 use std::marker::Model;
 use thiserror::Error;
 use xsk_app::App;
-use xsk_driver::{Driver, Inputs};
+use xsk_driver::{Driver, Inputs, Wire};
 use xsk_machine::driver_for;
 use xsk_model::Config;
 use xsk_plain::{Log, Plain};
@@ -108,12 +108,13 @@ const PACKET_ROUNDS: u64 = 256;
 
 /// Runs the drivers and applications of a regular configuration in rounds until all have ended, over one list of
 /// packets for each port, none of which has more than 262,144 bytes. The frames are all frames of its UMEM, the program is
-/// attached to every port, and `order` is the number of the rounds' order. The configuration is without need-wakeup, which the
-/// workers don't know yet.
+/// attached to every port, `wire` says what becomes of a packet that finds too few frames or no room on RX, and `order` is the
+/// number of the rounds' order. The configuration is without need-wakeup, which the workers don't know yet.
 ///
 /// Each driver asks the program once for each of its packets, so there is one list of verdicts for each driver, and all that
 /// is said of the run is said of these. Where the program's rule leaves one verdict for each packet, they are the rule's own
-/// (`laws::ends_as_ruled`).
+/// (`laws::ends_as_ruled`). What a run that has ended sent is what was delivered to the paired sockets
+/// (`laws::ended_is_forwarded`), and where the wire waits what is expected there (`laws::ended_is_expected`).
 ///
 /// It stalls exactly where some worker hasn't ended after round 1,023 + 256 x packets, which is then its round. A run
 /// that has ended is a legal history in rounds in which each worker's own calls and
@@ -125,6 +126,7 @@ pub fn simulate<F: Fn(&[u8], u32) -> Verdict>(
     frames: Frames,
     packets: &[PacketList],
     program: &XdpProgram<F>,
+    wire: Wire,
     order: u32,
 ) -> Result<Run, SimError>
     requires regular { IsRegular config }
@@ -134,14 +136,14 @@ pub fn simulate<F: Fn(&[u8], u32) -> Verdict>(
     requires short { All HasShortPackets packets.now }
     requires obeys { Obeys F.Fn program.now.rule program.now.decide }
     ensures pairs { IfOk result (λ run. run.pairs ≡ length config.pairs) }
-    ensures ended { IfOk result (HasEndedUnder F.Fn program.now.rule program.now.decide config packets.now frames.items order) }
+    ensures ended { IfOk result (HasEndedUnder F.Fn program.now.rule program.now.decide wire config packets.now frames.items order) }
     ensures stalled { (round : ℕ) → result ≡ Err (SimError.Stalled round)
-        → HasStalledUnder F.Fn program.now.rule program.now.decide config packets.now frames.items order round }
+        → HasStalledUnder F.Fn program.now.rule program.now.decide wire config packets.now frames.items order round }
 {
     let shared = config.copy(alloc)?;
     let inputs = Inputs::split(alloc, &shared, packets)?;
     let workers = Workers {
-        drivers: seat_drivers(alloc, &shared, packets, &inputs, program)?,
+        drivers: seat_drivers(alloc, &shared, packets, &inputs, program, wire)?,
         apps: seat_apps(alloc, &shared)?,
     };
     let _geometry = shared.geometry();
@@ -217,13 +219,14 @@ fn make_rounds(
     Err(SimError::Stalled { round: last })
 }
 
-/// A driver for each pair, with room for the packets of the paired port.
+/// A driver for each pair, with room for the packets that come from the paired port.
 fn seat_drivers<'a, F: Fn(&[u8], u32) -> Verdict>(
     alloc: Global,
     config: &'a Config,
     packets: &'a [PacketList],
     inputs: &'a Inputs,
     program: &XdpProgram<F>,
+    wire: Wire,
 ) -> Result<Vec<Seat<Driver<'a>>>, OutOfMemory>
     requires regular { IsRegular config.now }
     requires wakeup { config.now.wakeup ≡ false }
@@ -232,12 +235,12 @@ fn seat_drivers<'a, F: Fn(&[u8], u32) -> Verdict>(
     requires short { All HasShortPackets packets.now }
     requires obeys { Obeys F.Fn program.now.rule program.now.decide }
     ensures count { IfOk result (λ seats. vec_len seats ≡ length config.now.pairs) }
-    ensures seated { IfOk result (λ seats. (verdicts : List (List AVerdict)) × AreGiven (IsAnswer F.Fn program.now.rule program.now.decide) (record { config = config.now; packets = packets.now; verdicts = verdicts })
-        × EachFrom seats.items 0 (λ who seat. DriverSits (record { config = config.now; packets = packets.now; verdicts = verdicts }) new_own who seat.machine (joined_ask seat.ask seat.items))) }
+    ensures seated { IfOk result (λ seats. (verdicts : List (List AVerdict)) × AreGiven (IsAnswer F.Fn program.now.rule program.now.decide) (record { config = config.now; wire = wire; packets = packets.now; verdicts = verdicts })
+        × EachFrom seats.items 0 (λ who seat. DriverSits (record { config = config.now; wire = wire; packets = packets.now; verdicts = verdicts }) new_own who seat.machine (joined_ask seat.ask seat.items))) }
 {
     let mut seats = Vec::with_capacity(alloc, config.pairs().len())?;
     for pair in 0..config.pairs().len() as u32 {
-        let driver = driver_for(alloc, config, packets, inputs, program, pair)?;
+        let driver = driver_for(alloc, config, packets, inputs, program, wire, pair)?;
         seats.push(Seat::new(alloc, driver))?;
     }
     Ok(seats)

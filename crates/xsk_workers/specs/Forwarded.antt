@@ -3,12 +3,15 @@ use Rattle.std.specs.Prelude.{◌≡◌, ℕ, ◌<◌, List, [], ◌++◌, lengt
 use Rattle.std.specs.List.{slice_index_or}
 use Rattle.xsk_umem.specs.Frame.{Frame}
 use Rattle.xsk_umem.specs.PacketList.{PacketList}
-use Rattle.xsk_model.specs.Config.{callers_of}
+use Rattle.xsk_model.specs.Config.{IsRegular, callers_of}
+use Rattle.xsk_model.specs.Steering.{driver_on}
 use Rattle.xsk_model.specs.Entry.{Entry, own}
 use Rattle.xsk_model.specs.History.{IsHistory, state_after}
 use Rattle.xsk_model.specs.Holders.{HasOneHolder}
 use Rattle.xsk_model.specs.Sent.{sent}
 use Rattle.xsk_turns.specs.Workers.{Setting, IsWholeRun}
+use Rattle.xsk_turns.specs.declared.wire.Wire.TheVariants.{Wait}
+use Rattle.xsk_laws.specs.Laws.{AreForwarded, AreExpected}
 
 -- the history that the table's note shows, and for each pair the packets that its driver kept as sent
 pub record OutcomeShown : Type 0 where
@@ -26,3 +29,13 @@ pub record HasForwarded (s : Setting) (frames : List Frame) (o : OutcomeShown) :
   pub whole : (who : ℕ) → who < callers_of s.config → IsWholeRun s who (own who o.history)
   pub holders : (past later : List Entry) → o.history ≡ past ++ later → HasOneHolder s.config.geometry.frames (state_after s.config frames past)
   pub sent : (pair : ℕ) → pair < length s.config.pairs → slice_index_or o.sent pair [] ≡ sent s.config o.history pair
+
+-- What the driver of a port and queue sent is what was forwarded by all classes, whatever the wire does, and nothing else.
+-- Where the wire waits it is what is expected by them.
+abbrev pub AllAreForwarded : Type 0
+AllAreForwarded = (s : Setting) (frames : List Frame) (o : OutcomeShown) (port queue : ℕ) → IsRegular s.config → HasForwarded s frames o → port < s.config.ports → queue < s.config.queues
+    → AreForwarded s.wire s.config o.history s.packets s.verdicts port queue (slice_index_or o.sent (driver_on s.config port queue) [])
+
+abbrev pub AllAreExpected : Type 0
+AllAreExpected = (s : Setting) (frames : List Frame) (o : OutcomeShown) (port queue : ℕ) → s.wire ≡ Wait → IsRegular s.config → HasForwarded s frames o → port < s.config.ports → queue < s.config.queues
+    → AreExpected s.config s.packets s.verdicts port queue (slice_index_or o.sent (driver_on s.config port queue) [])

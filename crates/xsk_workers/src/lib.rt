@@ -3,6 +3,7 @@
 
 mod crew;
 mod either;
+pub mod laws;
 mod place;
 mod running;
 mod worker;

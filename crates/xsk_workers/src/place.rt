@@ -1,6 +1,7 @@
 //! What a worker's run is judged by.
 ghost use Rattle.xsk_turns.specs.Workers.{Setting, ruled};
 
+use xsk_driver::Wire;
 use xsk_model::Config;
 use xsk_prog::Rule;
 use xsk_umem::PacketList;
@@ -13,14 +14,15 @@ pub(crate) trait Place: Copy {
     fn touch(&self) {}
 }
 
-/// The configuration, the packets of each port, and the rule that leaves one verdict for each of them.
+/// The configuration, the packets of each port, the rule that leaves one verdict for each of them, and the wire.
 #[derive(Clone, Copy)]
 pub(crate) struct Source<'a> {
     pub(crate) config: &'a Config,
     pub(crate) packets: &'a [PacketList],
     pub(crate) rule: Rule,
+    pub(crate) wire: Wire,
 }
 
 impl Place for Source<'_> {
-    ghost setting = { λ s. ruled s.rule s.config.now s.packets.now };
+    ghost setting = { λ s. ruled s.rule s.wire s.config.now s.packets.now };
 }

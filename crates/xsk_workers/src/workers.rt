@@ -26,7 +26,7 @@ use std::marker::Model;
 use std::sync::Wait;
 use std::thread::Threads;
 use xsk_app::App;
-use xsk_driver::Inputs;
+use xsk_driver::{Inputs, Wire};
 use xsk_io::Gate;
 use xsk_machine::driver_for;
 use xsk_model::Config;
@@ -65,8 +65,12 @@ impl Outcome {
 /// Runs the drivers and applications of a regular configuration, each in a thread of its own where one can be had, until
 /// all have ended, over one list of packets for each port, none of which has more than 262,144 bytes. The frames are all
 /// frames of its UMEM, and the configuration is without need-wakeup, which the workers don't know yet. The program is
-/// attached to every port, and asked once for each packet before a worker starts; its rule leaves one verdict for each. Each
-/// worker passes the gate before each of its turns.
+/// attached to every port, and asked once for each packet before a worker starts; its rule leaves one verdict for each. The wire
+/// says what becomes of a packet that finds too few frames or no room on RX. Each worker passes the gate before each of its
+/// turns.
+///
+/// What the drivers sent is what was delivered to the paired sockets (`laws::all_are_forwarded`), and where the wire waits what
+/// is expected there (`laws::all_are_expected`).
 ///
 /// All memory is taken before a worker starts. A worker whose thread can't be had makes its calls on the caller's thread,
 /// in turn with other such workers. Nothing is promised of an end.
@@ -77,6 +81,7 @@ pub fn forward<R: Threads + Wait + Sync, F: Fn(&[u8], u32) -> Verdict, G: Gate +
     frames: Frames,
     packets: &[PacketList],
     program: &XdpProgram<F>,
+    wire: Wire,
     gate: &G,
 ) -> Result<Outcome, OutOfMemory>
     requires regular { IsRegular config }
@@ -87,7 +92,7 @@ pub fn forward<R: Threads + Wait + Sync, F: Fn(&[u8], u32) -> Verdict, G: Gate +
     requires obeys { Obeys F.Fn program.now.rule program.now.decide }
     requires exact { is_exact program.now.rule ≡ true }
     ensures pairs { IfOk result (λ outcome. length outcome.sent ≡ length config.pairs) }
-    ensures forwarded { IfOk result (HasForwarded (ruled program.now.rule config packets.now) frames.items) }
+    ensures forwarded { IfOk result (HasForwarded (ruled program.now.rule wire config packets.now) frames.items) }
 {
     let own = config.copy(alloc)?;
     let inputs = Inputs::split(alloc, &own, packets)?;
@@ -99,6 +104,7 @@ pub fn forward<R: Threads + Wait + Sync, F: Fn(&[u8], u32) -> Verdict, G: Gate +
         config: &own,
         packets,
         rule: program.rule(),
+        wire,
     };
     let workers = seat_workers(alloc, &shared, place, &inputs, program, &mut passes)?;
     let crew = Crew::new(alloc, &shared, place, workers)?;
@@ -128,7 +134,7 @@ fn seat_workers<'a, F: Fn(&[u8], u32) -> Verdict>(
     requires passes { passes.old ≡ new_passes shared.now }
     ensures taken { IfOk result (λ workers. AreTaken shared.now (callers_of shared.now.setup.config) passes.new) }
     ensures seats { IfOk result (λ workers. map (λ (w : WorkerShown). seat_of w) workers.items
-        ≡ map (seat_at (ruled place.entry.rule place.entry.config.now place.entry.packets.now) shared.now) (range_with_len 0 (callers_of shared.now.setup.config))) }
+        ≡ map (seat_at (ruled place.entry.rule place.entry.wire place.entry.config.now place.entry.packets.now) shared.now) (range_with_len 0 (callers_of shared.now.setup.config))) }
 {
     let callers = place.config.callers();
     let mut workers = Vec::with_capacity(alloc, callers as usize)?;
@@ -158,13 +164,21 @@ fn machine_for<'a, F: Fn(&[u8], u32) -> Verdict>(
     requires obeys { Obeys F.Fn program.now.rule program.now.decide }
     requires rule { (is_exact program.now.rule ≡ true) × (place.rule ≡ program.now.rule) }
     requires caller { who < callers_of place.config.now }
-    ensures new { IfOk result (IsNew (ruled place.entry.rule place.entry.config.now place.entry.packets.now) who) }
+    ensures new { IfOk result (IsNew (ruled place.entry.rule place.entry.wire place.entry.config.now place.entry.packets.now) who) }
     ensures awaits { IfOk result (λ m. awaits m ≡ nothing) }
 {
     let config = place.config;
     let pairs = config.pairs().len() as u32;
     if who < pairs {
-        let driver = driver_for(alloc, config, place.packets, inputs, program, who)?;
+        let driver = driver_for(
+            alloc,
+            config,
+            place.packets,
+            inputs,
+            program,
+            place.wire,
+            who,
+        )?;
         return Ok(Either::Driver(driver));
     }
     let app = App::new(alloc, config, who - pairs)?;

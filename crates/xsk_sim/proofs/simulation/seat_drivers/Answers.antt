@@ -22,7 +22,7 @@ pub loop-pair-preserved : goal.loop-pair-preserved
 loop-pair-preserved g c =
     let before = c.loop-pair.invariant.verdicts in
     let mine : List Verdict = verdicts_in c.in_ok-driver.driver.kept in
-    let s : Setting = record { config = c.args.config.now; packets = c.args.packets.now; verdicts = before ++ mine ∷ [] } in
+    let s : Setting = record { config = c.args.config.now; wire = c.args.wire; packets = c.args.packets.now; verdicts = before ++ mine ∷ [] } in
     let pair = c.loop-pair.pair in
     let known : pair < length s.config.pairs = omega (arith, c.loop-pair-test.true, ap (length {A = PairInfo}) c.pairs-2.ensures.value) in
     let own : slice_index_or (before ++ mine ∷ []) pair [] ≡ mine =
@@ -40,7 +40,7 @@ loop-pair-preserved g c =
       seated = rw c.in_ok-push.ensures.items
           (each_push c.loop-pair.seats.items 0 pair _ c.new.result
           (each_change c.loop-pair.seats.items 0 _ _ c.loop-pair.invariant.seated
-          (λ k seat low high sits. sits_as s.config s.packets before (before ++ mine ∷ []) k seat.machine _ (get_or-before before (mine ∷ []) k [] (omega (arith, high, given, count, items))) sits))
+          (λ k seat low high sits. sits_as s.wire s.config s.packets before (before ++ mine ∷ []) k seat.machine _ (get_or-before before (mine ∷ []) k [] (omega (arith, high, given, count, items))) sits))
           (omega (arith, count, items)) (c.new.ensures s pair new));
     }
 

@@ -13,7 +13,7 @@ new-requires g c = record { workers = are_of c.in-Ok.shared _ 0 (callers_of c.in
 
 pub give_back-requires-clause-run : goal.give_back-requires-clause-run
 give_back-requires-clause-run g c =
-    let s : Setting = ruled c.rule.result c.in_ok-own.own c.args.packets.now in
+    let s : Setting = ruled c.rule.result c.args.wire c.in_ok-own.own c.args.packets.now in
     let config : s.config ≡ c.in-Ok.shared.setup.config = search rules in
     let seats : map (λ (w : WorkerShown). seat_of w) c.run_crew-workers.result.items ≡ map (seat_at s c.in-Ok.shared) (range_with_len 0 (callers_of c.in-Ok.shared.setup.config)) =
     c.run_crew-workers.ensures.seats ∙ ap (λ k. k.seats) c.in_ok-crew.ensures ∙ c.in_ok-workers.ensures.seats in
@@ -21,14 +21,14 @@ give_back-requires-clause-run g c =
 
 pub give_back-requires-clause-count : goal.give_back-requires-clause-count
 give_back-requires-clause-count g c =
-    let s : Setting = ruled c.rule.result c.in_ok-own.own c.args.packets.now in
+    let s : Setting = ruled c.rule.result c.args.wire c.in_ok-own.own c.args.packets.now in
     let seats : map (λ (w : WorkerShown). seat_of w) c.run_crew-workers.result.items ≡ map (seat_at s c.in-Ok.shared) (range_with_len 0 (callers_of c.in-Ok.shared.setup.config)) =
     c.run_crew-workers.ensures.seats ∙ ap (λ k. k.seats) c.in_ok-crew.ensures ∙ c.in_ok-workers.ensures.seats in
     seats_count c.in-Ok.shared s c.run_crew-workers.result.items seats
 
 pub close-frames-requires : goal.close-frames-requires
 close-frames-requires g c =
-    let s : Setting = ruled c.rule.result c.in_ok-own.own c.args.packets.now in
+    let s : Setting = ruled c.rule.result c.args.wire c.in_ok-own.own c.args.packets.now in
     let config : s.config ≡ c.in-Ok.shared.setup.config = search rules in
     let seats : map (λ (w : WorkerShown). seat_of w) c.run_crew-workers.result.items ≡ map (seat_at s c.in-Ok.shared) (range_with_len 0 (callers_of c.in-Ok.shared.setup.config)) =
     c.run_crew-workers.ensures.seats ∙ ap (λ k. k.seats) c.in_ok-crew.ensures ∙ c.in_ok-workers.ensures.seats in
@@ -37,7 +37,7 @@ close-frames-requires g c =
 
 pub returns-clause-pairs : goal.returns-clause-pairs
 returns-clause-pairs g c =
-    let s : Setting = ruled c.rule.result c.in_ok-own.own c.args.packets.now in
+    let s : Setting = ruled c.rule.result c.args.wire c.in_ok-own.own c.args.packets.now in
     let is : s.config ≡ c.args.config = search rules in
     let config : s.config ≡ c.in-Ok.shared.setup.config = search rules in
     let seats : map (λ (w : WorkerShown). seat_of w) c.run_crew-workers.result.items ≡ map (seat_at s c.in-Ok.shared) (range_with_len 0 (callers_of c.in-Ok.shared.setup.config)) =
@@ -51,7 +51,7 @@ returns-clause-pairs g c =
 
 pub returns-clause-forwarded : goal.returns-clause-forwarded
 returns-clause-forwarded g c =
-    let s : Setting = ruled c.rule.result c.in_ok-own.own c.args.packets.now in
+    let s : Setting = ruled c.rule.result c.args.wire c.in_ok-own.own c.args.packets.now in
     let is : s.config ≡ c.args.config = search rules in
     let config : s.config ≡ c.in-Ok.shared.setup.config = search rules in
     let seats : map (λ (w : WorkerShown). seat_of w) c.run_crew-workers.result.items ≡ map (seat_at s c.in-Ok.shared) (range_with_len 0 (callers_of c.in-Ok.shared.setup.config)) =
@@ -60,7 +60,7 @@ returns-clause-forwarded g c =
     let regular : IsRegular s.config = subst IsRegular (sym is) c.requires.regular in
     let frames : c.in-Ok.shared.setup.frames ≡ c.args.frames.items = search rules in
     let outcome : OutcomeShown = record { history = c.close-frames.result.1.seen; sent = map packets_in c.give_back.new.sent.items } in
-    subst (λ (r : Rule). HasForwarded (ruled r c.args.config c.args.packets.now) c.args.frames.items outcome) c.rule.ensures
-    (subst (λ (k : Config). HasForwarded (ruled c.rule.result k c.args.packets.now) c.args.frames.items outcome) is
+    subst (λ (r : Rule). HasForwarded (ruled r c.args.wire c.args.config c.args.packets.now) c.args.frames.items outcome) c.rule.ensures
+    (subst (λ (k : Config). HasForwarded (ruled c.rule.result c.args.wire k c.args.packets.now) c.args.frames.items outcome) is
     (has_forwarded c.in-Ok.shared s c.args.frames.items c.give_back.new.passes (map packets_in c.give_back.new.sent.items) c.close-frames.result.1.seen regular config frames
     (c.give_back.ensures.given s have) (c.give_back.ensures.sent s have) c.close-frames.ensures.history))

@@ -1,8 +1,7 @@
-use Rattle.std.proofs.Common.{rules, ◌≡◌, ℕ, ◌<◌, List, [], length, map, sym, ap, subst, ◌∙◌}
+use Rattle.std.proofs.Common.{rules, ◌≡◌, ◌<◌, List, [], length, map, sym, subst, ◌∙◌}
 use Rattle.std.specs.List.{slice_index_or}
 use Rattle.std.proofs.lemmas.List.{get_or-map}
 use Rattle.xsk_model.specs.Config.{pair_at}
-use Rattle.xsk_model.specs.declared.config.PairInfo.{PairInfo}
 use Rattle.xsk_prog.specs.declared.rule.Rule.{Rule}
 use Rattle.xsk_prog.specs.declared.rule.Verdict.{Verdict}
 use Rattle.xsk_turns.specs.Workers.{packets_to, verdicts_to, ruled}
@@ -25,5 +24,5 @@ returns-then-who-pairs-clause-new g c =
     (all_meet g.F.Fn rule c.args.program.now.decide pair.queue (packets_to config lists pair) mine c.in_ok-driver.ensures.asked) in
     let at : slice_index_or (map (verdicts_to rule config lists) config.pairs) who [] ≡ verdicts_to rule config lists pair =
     get_or-map (verdicts_to rule config lists) config.pairs who (record { port = 0; queue = 0; fill = 0; comp = 0 }) [] (let known : who < length config.pairs = search rules in known) in
-    subst (λ (r : Rule). IsDriver (ruled r config lists) who c.in_ok-driver.driver) (sym c.requires.rule.1)
+    subst (λ (r : Rule). IsDriver (ruled r c.args.place.wire config lists) who c.in_ok-driver.driver) (sym c.requires.rule.1)
     (c.in_ok-driver.ensures.new (map (verdicts_to rule config lists) config.pairs) (at ∙ sym own))

@@ -24,7 +24,7 @@ new-requires-clause-pass g c =
 pub new-requires-clause-machine : goal.new-requires-clause-machine
 new-requires-clause-machine g c =
     let b = c.args.shared.now in
-    let s : Setting = ruled c.args.place.rule c.args.place.config.now c.args.place.packets.now in
+    let s : Setting = ruled c.args.place.rule c.args.place.wire c.args.place.config.now c.args.place.packets.now in
     let below : c.loop-who.who < callers_of b.setup.config = search rules in
     let is : c.in-Some.pass ≡ new_pass b c.loop-who.who = is_new_pass b c.loop-who.who c.loop-who.passes c.in-Some.pass below c.loop-who.invariant.0 (search rules) in
     subst (λ (k : ℕ). IsNew s k c.in_ok-machine.machine) (sym (ap (λ (p : Holder). p.who) is)) c.in_ok-machine.ensures.new
@@ -32,7 +32,7 @@ new-requires-clause-machine g c =
 pub loop-who-preserved : goal.loop-who-preserved
 loop-who-preserved g c =
     let b = c.args.shared.now in
-    let s : Setting = ruled c.args.place.rule c.args.place.config.now c.args.place.packets.now in
+    let s : Setting = ruled c.args.place.rule c.args.place.wire c.args.place.config.now c.args.place.packets.now in
     let who = c.loop-who.who in
     let below : who < callers_of b.setup.config = search rules in
     let is : c.in-Some.pass ≡ new_pass b who = is_new_pass b who c.loop-who.passes c.in-Some.pass below c.loop-who.invariant.0 (search rules) in

@@ -8,4 +8,4 @@ use Rattle.xsk_workers.proofs.workers.seat_workers.Given as goal
 abbrev pub invariant-loop-who : goal.invariant-loop-who
 invariant-loop-who g l =
     AreTaken l.shared l.who l.passes
-    × (map (λ (w : WorkerShown). seat_of w) (vec_items l.workers) ≡ map (seat_at (ruled l.place.rule l.place.config.now l.place.packets.now) l.shared) (range_with_len 0 l.who))
+    × (map (λ (w : WorkerShown). seat_of w) (vec_items l.workers) ≡ map (seat_at (ruled l.place.rule l.place.wire l.place.config.now l.place.packets.now) l.shared) (range_with_len 0 l.who))
