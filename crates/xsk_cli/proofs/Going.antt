@@ -1,18 +1,17 @@
 -- What is expected of each class, off the inputs and the words alone.
-use Rattle.std.proofs.Common.{◌≡◌, ℕ, zero, suc, ◌+◌, ◌*◌, ◌%◌, ◌<◌, ◌≤◌, ◌&&◌, Bool, cond, true, false, eqb, leb, ltb, List, [], ◌∷◌, length, map, get_or, refl, sym, ap, ◌∙◌, subst, arith, None, eq-eqb, lt-ltb, leb-true, sum, take, mul-le-mul_right}
-use Rattle.std.specs.Prelude.{filter, slice_index}
+use Rattle.std.proofs.Common.{◌≡◌, ℕ, suc, ◌+◌, ◌*◌, ◌%◌, ◌<◌, ◌≤◌, ◌&&◌, Bool, cond, true, false, eqb, leb, List, [], ◌∷◌, length, map, get_or, refl, ap, ◌∙◌, subst, arith, None, eq-eqb, lt-ltb, leb-true, sum, take, mul-le-mul_right}
+use Rattle.std.specs.Prelude.{filter}
 use Rattle.std.specs.List.{range_with_len}
 use Rattle.std.proofs.lemmas.Bool.Decides.{nat_tests}
 use Rattle.std.proofs.Math.Nat.{mod-lt, mul_assoc, mul-div_cancel_left}
 use Rattle.std.proofs.Math.ListN.{get_or-map}
 use Rattle.xsk_umem.specs.PacketList.{PacketList}
 use Rattle.xsk_model.specs.Config.{Config, pair_at, classes_of, map_of}
-use Rattle.xsk_model.specs.Steering.{packet_cell, packet_class, packet_limit, packet_queue, paired_port, driver_on, socket_on}
+use Rattle.xsk_model.specs.Steering.{packet_class, packet_limit, packet_queue, paired_port, driver_on, socket_on}
 use Rattle.xsk_model.proofs.Seats.{IsAt, below, is_at}
 use Rattle.xsk_prog.specs.declared.rule.Rule.{Rule}
 use Rattle.xsk_prog.specs.Rules.{Meets, is_exact, verdict_of}
 use Rattle.xsk_prog.specs.declared.rule.Verdict.{Verdict}
-use Rattle.xsk_prog.specs.declared.rule.Verdict.TheVariants.{Redirect as RedirectTo}
 use Rattle.xsk_args.specs.declared.program.Program.{Program}
 use Rattle.xsk_args.specs.declared.program.Program.TheVariants.{Redirect, Pass, Drop, EtherType, Fixed}
 use Rattle.xsk_turns.specs.declared.wire.Wire.TheVariants.{Wait}
@@ -29,7 +28,7 @@ use Rattle.xsk_socket.specs.Regular.{cell_in, is_left_empty, map_in, pair_in, re
 use Rattle.xsk_socket.proofs.Accepted.{fits}
 use Rattle.xsk_socket.proofs.Numbered.{get_or-numbered, length-numbered}
 use Rattle.xsk_socket.proofs.Regularity.{regular-config, regular-regular}
-use Rattle.xsk_cli.specs.Outcome.{listed, rule_by, verdicts_by, received_on, goes_on, going_on, sent_on_by, ExpectedGoesOn, ClassGoesOn, AllGoOn}
+use Rattle.xsk_cli.specs.Outcome.{listed, rule_by, verdicts_by, received_on, goes_on, going_on, ExpectedGoesOn, ClassGoesOn, AllGoOn}
 
 -- ---- verdicts
 

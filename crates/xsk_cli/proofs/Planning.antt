@@ -1,15 +1,13 @@
 -- What words ask for.
-use Rattle.std.proofs.Common.{◌≡◌, ℕ, ◌+◌, ◌*◌, ◌<◌, ◌≤◌, Bool, cond, eqb, true, false, refl, ap, ◌∙◌, arith, List, [], ◌∷◌, length, map, codes, Option, None, Some, is_some, take, drop, subst, sym}
+use Rattle.std.proofs.Common.{◌≡◌, ℕ, ◌+◌, ◌*◌, ◌<◌, ◌≤◌, Bool, cond, true, false, refl, ap, arith, List, [], ◌∷◌, length, map, codes, Option, None, Some, is_some, take, drop, subst, sym}
 use Rattle.std.specs.Prelude.{unwrap_or}
-use Rattle.std.proofs.lemmas.Bool.{ne_eqb}
 use Rattle.std.proofs.lemmas.Bool.Decides.{nat_tests}
 use Rattle.xsk_args.specs.Meaning.{Meaning}
 use Rattle.xsk_args.specs.Words.{Text}
 use Rattle.xsk_args.specs.declared.program.Program.{Program}
 use Rattle.xsk_args.specs.declared.wire.Wire.{Wire}
 use Rattle.xsk_socket.specs.declared.layout.Layout.{Layout}
-use Rattle.xsk_socket.specs.declared.layout.Unlawful.TheVariants.{Files}
-use Rattle.xsk_socket.specs.Layout.{fault_of, is_count, is_port_count}
+use Rattle.xsk_socket.specs.Layout.{fault_of}
 use Rattle.xsk_socket.proofs.Accepted.{files_are, fits}
 use Rattle.xsk_cli.specs.Words.{Plan, are_made, counted, fault_in, files_in, layout_by, inputs_named, number_of, number_or, plan_by, plan_of, ports_of, program_of, wire_of}
 use Rattle.xsk_cli.specs.Steps.{IsReady}

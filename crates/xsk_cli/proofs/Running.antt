@@ -28,7 +28,7 @@ use Rattle.xsk_plain.specs.declared.log.Log.{Log}
 use Rattle.xsk_sim.specs.Runs.{HasEnded, HasStalled}
 use Rattle.xsk_sim.specs.Shown.{HasShortPackets, Shown}
 use Rattle.xsk_sim.proofs.Verdicts.{ends_as_ruled, stalls_as_ruled}
-use Rattle.xsk_laws.specs.Laws.{AreExpected, AreWholeRuns, IsPlace}
+use Rattle.xsk_laws.specs.Laws.{AreWholeRuns}
 use Rattle.xsk_laws.specs.Expected.{received}
 use Rattle.xsk_laws.proofs.Places.{are_paired}
 use Rattle.xsk_laws.proofs.Theorems.{all_are_forwarded, all_is_expected, nothing_else_is_sent, sent_is_within}
@@ -39,7 +39,7 @@ use Rattle.xsk_socket.proofs.Accepted.{fits}
 use Rattle.xsk_socket.proofs.Numbered.{length-numbered}
 use Rattle.xsk_socket.proofs.Regularity.{regular-regular}
 use Rattle.xsk_cli.specs.Judged.{excess_of}
-use Rattle.xsk_cli.specs.Outcome.{Written, listed, setting_of, verdicts_by, wire_by, frames_of, capture_of, sent_from, going_on, sent_on_by, report_of, rule_by, AreTextsOf}
+use Rattle.xsk_cli.specs.Outcome.{Written, listed, setting_of, verdicts_by, wire_by, frames_of, sent_from, going_on, report_of, rule_by, AreTextsOf}
 use Rattle.xsk_cli.specs.Steps.{lists_in}
 use Rattle.xsk_cli.proofs.Going.{classes_are, expected_goes_on, is_exact_by, packets_there}
 use Rattle.xsk_cli.proofs.Judging.{limits_of}
