@@ -1,19 +1,24 @@
 //! `xsk_rings_bench PASSES BATCH`: two threads move descriptors from FILL over RX and back, for a script that takes the
 //! time. It ends with 0 where each thread has moved so many, at most BATCH (1 to 32) at once. `xsk_rings_bench CALLS swap`
-//! and `xsk_rings_bench CALLS look` set a mark, or look at it, so often on one thread.
+//! and `xsk_rings_bench CALLS look` set a mark, or look at it, so often on one thread. `xsk_rings_bench PASSES counts` moves so
+//! many one at a time, and tells for each thread how often it looked at the other side's count.
 #![tactic(auto)]
 
 ghost use Rattle.std.specs.Prelude.{◌≡◌, ◌≤◌};
 ghost use Rattle.xsk_umem.specs.Limits.{most_items};
 ghost use Rattle.xsk_table.specs.Held.{new_pass};
+ghost use Rattle.xsk_rings.specs.Rounds.{Rests};
 ghost use Rattle.xsk_rings_bench.specs.Moving.{moving};
 
+mod counting;
 mod marking;
 mod moving;
 mod opening;
 mod rewriting;
 
+use counting::{BACK, Counts, THERE};
 use std::alloc::Global;
+use std::io::Print;
 use std::process::ExitCode;
 use std::rt::Env;
 use std::thread::Threads;
@@ -28,6 +33,8 @@ enum Work {
     Moves(u32),
     Swaps,
     Looks,
+    /// Descriptors that move one at a time, with counted looks.
+    Counts,
 }
 
 fn main(rt: HostRuntime) -> ExitCode {
@@ -57,11 +64,14 @@ fn work_of(word: &str) -> Option<Work> {
     if word == "look" {
         return Some(Work::Looks);
     }
+    if word == "counts" {
+        return Some(Work::Counts);
+    }
     Some(Work::Moves(parse_number(word)?))
 }
 
 /// Whether the work was done so often.
-fn runs<R: Threads + Sync>(rt: &R, alloc: Global, count: u32, work: Work) -> bool {
+fn runs<R: Threads + Print + Sync>(rt: &R, alloc: Global, count: u32, work: Work) -> bool {
     let Some((shared, mut held)) = opening::opened(alloc) else {
         return false;
     };
@@ -80,6 +90,7 @@ fn runs<R: Threads + Sync>(rt: &R, alloc: Global, count: u32, work: Work) -> boo
         }
         Work::Swaps => marking::swaps(&shared, driver, count),
         Work::Looks => marking::looks(&shared, driver, count),
+        Work::Counts => both_count(rt, &shared, driver, app, count),
     }
 }
 
@@ -111,4 +122,40 @@ fn both_move<R: Threads + Sync>(
         { moving::application_moves(table, app, batch, passes) },
     );
     there && back
+}
+
+/// Has both move so many one at a time, and tells what each counted.
+fn both_count<R: Threads + Print + Sync>(
+    rt: &R,
+    table: &Shared,
+    driver: Pass,
+    app: Pass,
+    passes: u32,
+) -> bool
+    requires driver { Rests table.now driver }
+    requires app { Rests table.now app }
+{
+    let (there, back) = thread::join(
+        rt,
+        move || -> Option<Counts>
+            requires { Rests table.now driver }
+        { counting::counts_moves(table, driver, THERE, passes) },
+        move || -> Option<Counts>
+            requires { Rests table.now app }
+        { counting::counts_moves(table, app, BACK, passes) },
+    );
+    tells(rt, "driver", there) && tells(rt, "application", back)
+}
+
+/// Tells what a thread counted, if it moved all.
+fn tells<R: Print>(rt: &R, who: &str, counts: Option<Counts>) -> bool {
+    let Some(counts) = counts else {
+        return false;
+    };
+    let Counts {
+        asked,
+        waits,
+        looks,
+    } = counts;
+    println!(rt; "{who}: {asked} reserves and peeks, {waits} full or empty, {looks} looks").is_ok()
 }
