@@ -2,6 +2,8 @@ pub mod Ports
 pub mod Reading
 pub mod Writing
 pub mod Judging
+pub mod Going
+pub mod Queues
 pub mod Running
 pub mod Short
 pub mod Unique

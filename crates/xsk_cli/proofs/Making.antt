@@ -1,5 +1,5 @@
 -- Packets that are made are within the limits, and may be written.
-use Rattle.std.proofs.Common.{◌≡◌, ℕ, zero, suc, ◌+◌, ◌*◌, ◌≤◌, List, [], ◌∷◌, ◌++◌, get_or, length, map, refl, ap, ◌∙◌, subst, sym, arith, le-ltb, None}
+use Rattle.std.proofs.Common.{◌≡◌, ℕ, zero, suc, ◌+◌, ◌*◌, ◌≤◌, List, [], ◌∷◌, ◌++◌, get_or, length, map, refl, ap, ◌∙◌, subst, sym, arith, le-ltb, None, Some}
 use Rattle.std.specs.Prelude.{All, sum_by}
 use Rattle.std.specs.List.{concat, range_with_len}
 use Rattle.std.proofs.lemmas.List.{map-append}
@@ -13,16 +13,24 @@ use Rattle.xsk_socket.specs.Layout.{fault_of}
 use Rattle.xsk_socket.proofs.Accepted.{fits}
 use Rattle.xsk_cli.specs.Judged.{AreShort, packets_in, bytes_in, excess_of}
 use Rattle.xsk_cli.specs.Outcome.{listed, made_lists, AreListsOf}
-use Rattle.xsk_cli.specs.Steps.{AreUntaken, FailsMaking, MakesNone, lists_in}
+use Rattle.xsk_cli.specs.Steps.{AreUntaken, FailsMaking, MakesNone, lists_in, read_by}
+use Rattle.xsk_cli.specs.Words.{fault_in}
 use Rattle.xsk_cli.specs.declared.failure.RunFailure.{RunFailure}
 use Rattle.xsk_cli.specs.declared.failure.RunFailure.TheVariants.{BadCapture as Bad, TooMuch as Excessive, Stalled as Stalls, OutOfMemory as NoMemory}
 use Rattle.xsk_cli.proofs.Ports.{more_ports}
 use Rattle.xsk_args.specs.declared.program.Program.{Program}
+use Rattle.xsk_args.specs.declared.wire.Wire.{Wire}
 use Rattle.xsk_cli.specs.declared.words.Work.{Work}
 use Rattle.xsk_cli.specs.declared.words.Work.TheVariants.{Simulate, Generate}
 
 pub few_ports : (layout : Layout) → fault_of layout ≡ None → layout.ports ≤ 4
 few_ports layout accepted = omega (arith, (fits layout accepted).ports)
+
+-- a command reads few inputs
+pub few_read : (work : Work) → fault_in work ≡ None → read_by work ≤ 4
+few_read (Simulate layout program wire order None) accepted = few_ports layout accepted
+few_read (Simulate layout program wire order (Some number)) accepted = omega arith
+few_read (Generate number) accepted = omega arith
 
 -- ---- limits
 
@@ -73,11 +81,11 @@ made_at number (made ∷ others) list at is =
 
 -- ---- the work's packets
 
-pub untaken_makes : (layout : Layout) (program : Program) (order : ℕ) (inputs : List (List ℕ)) (failure : RunFailure) → AreUntaken inputs failure → MakesNone (Simulate layout program order None) inputs failure
-untaken_makes layout program order inputs (Bad port cause) h = h
-untaken_makes layout program order inputs (Excessive excess) h = h
-untaken_makes layout program order inputs (Stalls round) h = absurd h
-untaken_makes layout program order inputs NoMemory h = h
+pub untaken_makes : (layout : Layout) (program : Program) (wire : Wire) (order : ℕ) (inputs : List (List ℕ)) (failure : RunFailure) → AreUntaken inputs failure → MakesNone (Simulate layout program wire order None) inputs failure
+untaken_makes layout program wire order inputs (Bad port cause) h = h
+untaken_makes layout program wire order inputs (Excessive excess) h = h
+untaken_makes layout program wire order inputs (Stalls round) h = absurd h
+untaken_makes layout program wire order inputs NoMemory h = h
 
 pub none_of : {X : Type 0} (xs : List X) → length xs ≡ 0 → xs ≡ []
 none_of [] none = refl

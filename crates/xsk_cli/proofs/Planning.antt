@@ -1,33 +1,19 @@
 -- What words ask for.
-use Rattle.std.proofs.Common.{◌≡◌, ℕ, ◌+◌, ◌*◌, ◌<◌, ◌≤◌, Bool, cond, eqb, true, false, refl, ap, ◌∙◌, arith, List, [], ◌∷◌, length, map, codes, Option, None, Some, is_some, take, drop, subst, sym}
+use Rattle.std.proofs.Common.{◌≡◌, ℕ, ◌+◌, ◌*◌, ◌<◌, ◌≤◌, Bool, cond, true, false, refl, ap, arith, List, [], ◌∷◌, length, map, codes, Option, None, Some, is_some, take, drop, subst, sym}
 use Rattle.std.specs.Prelude.{unwrap_or}
-use Rattle.std.proofs.lemmas.Bool.{ne_eqb}
 use Rattle.std.proofs.lemmas.Bool.Decides.{nat_tests}
 use Rattle.xsk_args.specs.Meaning.{Meaning}
 use Rattle.xsk_args.specs.Words.{Text}
 use Rattle.xsk_args.specs.declared.program.Program.{Program}
+use Rattle.xsk_args.specs.declared.wire.Wire.{Wire}
 use Rattle.xsk_socket.specs.declared.layout.Layout.{Layout}
-use Rattle.xsk_socket.specs.declared.layout.Unlawful.TheVariants.{Files}
-use Rattle.xsk_socket.specs.Layout.{fault_of, is_count, is_port_count}
-use Rattle.xsk_socket.proofs.Accepted.{files_are}
-use Rattle.xsk_cli.specs.Words.{Plan, are_made, counted, fault_in, files_in, layout_by, inputs_named, number_of, number_or, plan_by, plan_of, ports_of, program_of}
-use Rattle.xsk_cli.specs.Steps.{IsReady, with_one_socket}
+use Rattle.xsk_socket.specs.Layout.{fault_of}
+use Rattle.xsk_socket.proofs.Accepted.{files_are, fits}
+use Rattle.xsk_cli.specs.Words.{Plan, are_made, counted, fault_in, files_in, layout_by, inputs_named, number_of, number_or, plan_by, plan_of, ports_of, program_of, wire_of}
+use Rattle.xsk_cli.specs.Steps.{IsReady}
 use Rattle.xsk_cli.proofs.Making.{few_ports}
 use Rattle.xsk_cli.specs.declared.words.Work.TheVariants.{Simulate}
 use Rattle.std.proofs.lemmas.List.{length-drop, length-take-le}
-
-fault_files : (l : Layout) → is_port_count l.ports ≡ true → is_count l.queues ≡ true → is_count l.sockets ≡ true → eqb l.files (l.files_wanted_per_port * l.ports) ≡ false → fault_of l ≡ Some (Files l.files)
-fault_files l ports queues sockets files = rw (ports, queues, sockets, files) refl
-
-some_wanted : (made : Bool) → 1 ≤ cond made 1 2
-some_wanted true = omega arith
-some_wanted false = omega arith
-
-pub no_files : (said : Meaning) → said (codes "FILE") ≡ None → fault_of (layout_by said) ≡ Some (Files 0)
-no_files said none =
-    let files : counted (length (files_in said)) ≡ 0 = ap (λ o. counted (length (unwrap_or o []))) none in
-    fault_files (layout_by said) refl refl refl (ne_eqb (counted (length (files_in said))) (cond (are_made said) 1 2 * ports_of said) (λ e. omega (arith, e, files, some_wanted (are_made said))))
-    ∙ ap (λ n. Some (Files n)) files
 
 counted_few : (n m : ℕ) → counted n ≡ m → m < 4294967295 → n ≡ m
 counted_few n m is few = grind (arith, nat_tests)
@@ -40,18 +26,23 @@ files_named said none = go (are_made said) (ports_of said) (few_ports (layout_by
     go true ports few is = omega (arith, counted_few (length (files_in said)) (1 * ports) is (omega (arith, few)))
     go false ports few is = omega (arith, counted_few (length (files_in said)) (2 * ports) is (omega (arith, few)))
 
+-- so an accepted layout has files
+pub some_files : (said : Meaning) → fault_of (layout_by said) ≡ None → said (codes "FILE") ≡ None → ⊥
+some_files said accepted none =
+    omega (arith, files_named said accepted, ap (λ o. length (unwrap_or o [])) none, (fits (layout_by said) accepted).ports)
+
 -- the plan that words ask for wants the files that they name
-ready_by : (layout : Layout) (program : Program) (order : ℕ) (number : Option ℕ) (files : List Text) → fault_of layout ≡ None → with_one_socket layout ≡ layout → length files ≡ cond (is_some number) 0 layout.ports + layout.ports
-    → IsReady (record { inputs = take (cond (is_some number) 0 layout.ports) files; outputs = drop (cond (is_some number) 0 layout.ports) files; work = Simulate layout program order number })
-ready_by layout program order None files accepted one count = record {
+ready_by : (layout : Layout) (program : Program) (wire : Wire) (order : ℕ) (number : Option ℕ) (files : List Text) → fault_of layout ≡ None → layout.wakeup ≡ false → length files ≡ cond (is_some number) 0 layout.ports + layout.ports
+    → IsReady (record { inputs = take (cond (is_some number) 0 layout.ports) files; outputs = drop (cond (is_some number) 0 layout.ports) files; work = Simulate layout program wire order number })
+ready_by layout program wire order None files accepted awake count = record {
   accepted = accepted;
-  one = one;
+  awake = awake;
   inputs = length-take-le layout.ports files (omega (arith, count));
   outputs = omega (arith, length-drop layout.ports files, count);
 }
-ready_by layout program order (Some n) files accepted one count = record {
+ready_by layout program wire order (Some n) files accepted awake count = record {
   accepted = accepted;
-  one = one;
+  awake = awake;
   inputs = refl;
   outputs = omega (arith, count);
 }
@@ -60,7 +51,7 @@ pub plan_ready : (said : Meaning) (plan : Plan) → plan ≡ plan_by said → fa
 plan_ready said plan is accepted =
     let none : fault_of (layout_by said) ≡ None = subst (λ (p : Plan). fault_in p.work ≡ None) is accepted in
     subst IsReady (sym is)
-    (ready_by (layout_by said) (program_of said) (number_or said (codes "order") 0) (number_of said (codes "gen")) (files_in said) none refl (files_named said none))
+    (ready_by (layout_by said) (program_of said) (wire_of said) (number_or said (codes "order") 0) (number_of said (codes "gen")) (files_in said) none refl (files_named said none))
 
 pub no_words : {X : Type 0} (text : X → Text) (words : List X) → length words ≡ 0 → plan_of (map text words) ≡ None
 no_words text [] none = refl

@@ -1,21 +1,19 @@
 -- The bytes of the inputs have one outcome.
-use Rattle.std.proofs.Common.{◌≡◌, ℕ, ◌<◌, ◌⊎◌, List, [], length, get_or, refl, sym, ap, ◌∙◌, subst, inl, inr, ⊎_elim, arith, Some, None, Option}
+use Rattle.std.proofs.Common.{◌≡◌, ℕ, ◌<◌, ◌⊎◌, List, [], length, map, get_or, refl, sym, ap, ◌∙◌, subst, inl, inr, ⊎_elim, arith, Some, None, Option}
 use Rattle.std.proofs.lemmas.Bool.{cases_order}
-use Rattle.std.proofs.lemmas.List.{length-map}
 use Rattle.std.proofs.lemmas.Option.{same_Some}
-use Rattle.xsk_model.specs.Stored.{stored_entry}
+use Rattle.xsk_model.specs.Entry.{Entry}
 use Rattle.xsk_pcap.specs.declared.reading.BadCapture.{BadCapture as Cause}
+use Rattle.xsk_pcap.specs.Written.{written}
 use Rattle.xsk_pcap.proofs.CaptureLaws.{one_reading, one_refusal, refused_is_no_capture}
-use Rattle.xsk_sim.specs.Shown.{Shown}
-use Rattle.xsk_sim.specs.Runs.{HasEnded}
-use Rattle.xsk_sim.proofs.Unique.{one_log, ends_or_stalls}
+use Rattle.xsk_sim.proofs.Unique.{one_run, ends_or_stalls}
 use Rattle.xsk_cli.specs.Judged.{bytes_of, AreShort, IsTooLong, AreCaptures, IsBadCapture, excess_of}
-use Rattle.xsk_cli.specs.Outcome.{Written, Outcome, long, bad, passed, stalled, made, AreListsOf, AreTextsBy, AreTextsOf, IsOutcomeOf, IsOutcomeIn, IsOutcome, IsStalledBy, OneOutcome, setting_of, frames_of, report_of}
+use Rattle.xsk_cli.specs.Outcome.{Written, Outcome, long, bad, passed, stalled, made, AreListsOf, AreTextsBy, AreTextsOf, IsOutcomeOf, IsOutcomeIn, IsOutcome, IsStalledBy, OneOutcome, setting_of, frames_of, ports_of, report_of, sent_from}
 use Rattle.xsk_args.specs.declared.program.Program.{Program}
+use Rattle.xsk_args.specs.declared.wire.Wire.{Wire}
 use Rattle.xsk_cli.specs.declared.words.Work.{Work}
 use Rattle.xsk_cli.specs.declared.words.Work.TheVariants.{Simulate, Generate}
 use Rattle.xsk_socket.specs.declared.layout.Layout.{Layout}
-use Rattle.xsk_socket.specs.Regular.{regular_of}
 use Rattle.xsk_cli.specs.declared.status.Excess.{Excess}
 use Rattle.xsk_cli.proofs.Ports.{same_lists}
 
@@ -59,29 +57,29 @@ bad_not_captures inputs p c lists a b = refused_is_no_capture (bytes_of inputs p
 -- ---- the packets
 
 pub same_packets : (work : Work) (inputs : List (List ℕ)) (some others : List (List (List ℕ))) → AreListsOf work inputs some → AreListsOf work inputs others → some ≡ others
-same_packets (Simulate layout program order None) inputs some others a b = same_captures inputs some others a b
-same_packets (Simulate layout program order (Some number)) inputs some others a b = a.1 ∙ sym b.1
+same_packets (Simulate layout program wire order None) inputs some others a b = same_captures inputs some others a b
+same_packets (Simulate layout program wire order (Some number)) inputs some others a b = a.1 ∙ sym b.1
 same_packets (Generate number) inputs some others a b = a.1 ∙ sym b.1
 
 none_bad : (inputs : List (List ℕ)) (p : ℕ) → inputs ≡ [] → p < length inputs → ⊥
 none_bad inputs p none known = omega (arith, known, ap length none)
 
 pub bad_not_packets : (work : Work) (inputs : List (List ℕ)) (p : ℕ) (c : Cause) (lists : List (List (List ℕ))) → IsBadCapture inputs p c → AreListsOf work inputs lists → ⊥
-bad_not_packets (Simulate layout program order None) inputs p c lists a b = bad_not_captures inputs p c lists a b
-bad_not_packets (Simulate layout program order (Some number)) inputs p c lists a b = none_bad inputs p b.0 a.known
+bad_not_packets (Simulate layout program wire order None) inputs p c lists a b = bad_not_captures inputs p c lists a b
+bad_not_packets (Simulate layout program wire order (Some number)) inputs p c lists a b = none_bad inputs p b.0 a.known
 bad_not_packets (Generate number) inputs p c lists a b = none_bad inputs p b.0 a.known
 
 -- ---- runs
 
-module _ (layout : Layout) (program : Program) (order : ℕ) (lists : List (List (List ℕ))) where
-  count_of_log : (run : Shown) → (ended : HasEnded (setting_of layout program lists) (frames_of layout) order run) → length run.log ≡ length ended.history
-  count_of_log run ended = ap length ended.log ∙ length-map ended.history (stored_entry (regular_of layout).geometry (regular_of layout).sg)
+module _ (layout : Layout) (program : Program) (wire : Wire) (order : ℕ) (lists : List (List (List ℕ))) (a b : Written) (s : AreTextsOf layout program wire order lists a) (t : AreTextsOf layout program wire order lists b) where
+  same_history : s.ended.history ≡ t.ended.history
+  same_history = one_run (setting_of layout program wire lists) (frames_of layout) order s.run t.run s.ended t.ended
 
-  one_report : (a b : Written) → AreTextsOf layout program order lists a → AreTextsOf layout program order lists b → a.report ≡ b.report
-  one_report a b s t =
-      s.report
-      ∙ ap report_of (sym (count_of_log s.run s.ended) ∙ ap length (one_log (setting_of layout program lists) (frames_of layout) order s.run t.run s.ended t.ended) ∙ count_of_log t.run t.ended)
-      ∙ sym t.report
+  same_outputs : a.outputs ≡ b.outputs
+  same_outputs = s.sent ∙ ap (λ h. map (λ port. written (sent_from layout h port)) (ports_of layout)) same_history ∙ sym t.sent
+
+  same_report : a.report ≡ b.report
+  same_report = s.report ∙ ap (λ (h : List Entry). report_of (length h)) same_history ∙ sym t.report
 
 same_written : (a b : Written) → a.outputs ≡ b.outputs → a.report ≡ b.report → made a ≡ made b
 same_written a b outputs report =
@@ -89,15 +87,15 @@ same_written a b outputs report =
     ∙ ap (λ report. made (record { outputs = b.outputs; report = report })) report
 
 one_made : (work : Work) (lists : List (List (List ℕ))) (a b : Written) → AreTextsBy work lists a → AreTextsBy work lists b → made a ≡ made b
-one_made (Simulate layout program order number) lists a b s t = same_written a b (s.redirected ∙ sym t.redirected) (one_report layout program order lists a b s t)
+one_made (Simulate layout program wire order number) lists a b s t = same_written a b (same_outputs layout program wire order lists a b s t) (same_report layout program wire order lists a b s t)
 one_made (Generate number) lists a b s t = same_written a b (s.0 ∙ sym t.0) (s.1 ∙ sym t.1)
 
 one_stall : (work : Work) (lists : List (List (List ℕ))) (r s : ℕ) → IsStalledBy work lists r → IsStalledBy work lists s → r ≡ s
-one_stall (Simulate layout program order number) lists r s x y = x.last ∙ sym y.last
+one_stall (Simulate layout program wire order number) lists r s x y = x.last ∙ sym y.last
 one_stall (Generate number) lists r s x y = absurd x
 
 no_texts_and_stall : (work : Work) (lists : List (List (List ℕ))) (texts : Written) (r : ℕ) → AreTextsBy work lists texts → IsStalledBy work lists r → ⊥
-no_texts_and_stall (Simulate layout program order number) lists texts r t x = ends_or_stalls (setting_of layout program lists) (frames_of layout) order r t.run t.ended x
+no_texts_and_stall (Simulate layout program wire order number) lists texts r t x = ends_or_stalls (setting_of layout program wire lists) (frames_of layout) order r t.run t.ended x
 no_texts_and_stall (Generate number) lists texts r t x = x
 
 none_some : {A : Type 0} (excess : Option Excess) (e : Excess) → excess ≡ Some e → excess ≡ None → A

@@ -10,7 +10,8 @@ use Rattle.xsk_cli.specs.Ends.{ComesOf, Ends}
 use Rattle.xsk_cli.specs.Judged.{packets_in, bytes_in, excess_of}
 use Rattle.xsk_cli.specs.declared.status.Excess.{Excess}
 use Rattle.std.proofs.lemmas.List.FromFn.{length-map-range_with_len}
-use Rattle.xsk_cli.specs.Outcome.{Written, made, IsOutcome, AreTextsBy, capture_of, sent_on_by}
+use Rattle.xsk_cli.specs.Outcome.{Written, made, IsOutcome, AreTextsBy, capture_of, sent_from}
+use Rattle.xsk_pcap.specs.Written.{written}
 use Rattle.xsk_cli.specs.Streams.{Moment, IsTold, IsFront, at_output, at_input, Reaches, AreRead, AreWritten, HasLine, IsReported, IsSilent, name_of, status_in}
 use Rattle.xsk_cli.specs.Steps.{FailsWriting, HaveRead, MakesNone, run_status, write_status, written_by}
 use Rattle.xsk_cli.specs.declared.words.Work.{Work}
@@ -188,6 +189,6 @@ status_ends answer status plan old new is ends = subst (λ r. Ends plan old new 
 
 -- there is a text for each port
 pub texts_count : (work : Work) (lists : List (List (List ℕ))) (texts : Written) → AreTextsBy work lists texts → length lists ≡ written_by work → length texts.outputs ≡ written_by work
-texts_count (Simulate layout program order number) lists texts are count =
-    ap length are.redirected ∙ length-map-range_with_len (λ port. capture_of (sent_on_by layout program lists port)) 0 layout.ports
+texts_count (Simulate layout program wire order number) lists texts are count =
+    ap length are.sent ∙ length-map-range_with_len (λ port. written (sent_from layout are.ended.history port)) 0 layout.ports
 texts_count (Generate number) lists texts are count = ap length are.0 ∙ length-map lists capture_of ∙ count

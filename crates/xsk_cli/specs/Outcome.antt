@@ -1,5 +1,5 @@
 -- What a command's work makes of the bytes of its inputs. There is one outcome of them.
-use Rattle.std.specs.Prelude.{◌≡◌, ◌&&◌, ℕ, ◌<◌, Bool, List, [], ◌∷◌, ◌++◌, length, map, filter, codes, None, Some}
+use Rattle.std.specs.Prelude.{◌≡◌, ◌&&◌, ◌==◌, ℕ, ◌<◌, Bool, List, [], ◌∷◌, ◌++◌, length, map, filter, codes, None, Some}
 use Rattle.std.specs.Fmt.{decimal}
 use Rattle.std.specs.List.{concat, range_with_len, slice_index_or}
 use Rattle.xsk_umem.specs.PacketList.{PacketList}
@@ -7,18 +7,27 @@ use Rattle.xsk_umem.specs.Registration.{fresh}
 use Rattle.xsk_umem.specs.Frame.{Frame}
 use Rattle.xsk_model.specs.Sent.{sent}
 use Rattle.xsk_model.specs.Config.{map_of}
-use Rattle.xsk_model.specs.Steering.{paired_port, socket_on}
+use Rattle.xsk_model.specs.Entry.{Entry}
+use Rattle.xsk_model.specs.Steering.{packet_class, paired_port, driver_on, socket_on}
 use Rattle.xsk_gen.specs.Generator.{first, packet}
-use Rattle.xsk_laws.specs.Expected.{has_length, leads_to}
+use Rattle.xsk_laws.specs.Expected.{expected, has_length, leads_to}
+use Rattle.xsk_laws.specs.Laws.{AreExpected, AreForwarded, IsPlace}
 use Rattle.xsk_socket.specs.declared.layout.Layout.{Layout}
+use Rattle.xsk_socket.specs.Layout.{fault_of}
 use Rattle.xsk_socket.specs.Regular.{regular_of}
 use Rattle.xsk_sim.specs.Shown.{Shown}
 use Rattle.xsk_args.specs.declared.program.Program.{Program}
 use Rattle.xsk_args.specs.declared.program.Program.TheVariants.{Redirect, Pass, Drop, EtherType, Fixed}
+use Rattle.xsk_args.specs.declared.wire.Wire.{Wire}
+use Rattle.xsk_args.specs.declared.wire.Wire.TheVariants.{Wait, Drop as Drops}
 use Rattle.xsk_prog.specs.Rules.{verdict_of}
 use Rattle.xsk_prog.specs.declared.rule.Rule.{Rule}
 use Rattle.xsk_prog.specs.declared.rule.Rule.TheVariants.{Redirect as ByClass, Pass as PassAll, Drop as DropAll, EtherType as TypeByClass, Fixed as ByCell}
-use Rattle.xsk_turns.specs.Workers.{Setting, ruled}
+use Rattle.xsk_turns.specs.Inputs.{packets_of_queue}
+use Rattle.xsk_prog.specs.declared.rule.Verdict.{Verdict}
+use Rattle.xsk_turns.specs.Workers.{Setting, ruled, verdicts_to}
+use Rattle.xsk_turns.specs.declared.wire.Wire.{Wire as OwnWire}
+use Rattle.xsk_turns.specs.declared.wire.Wire.TheVariants.{Wait as Waits, Drop as DropsNow}
 use Rattle.xsk_sim.specs.Runs.{HasEnded, HasStalled}
 use Rattle.xsk_pcap.specs.Written.{written}
 use Rattle.xsk_pcap.specs.declared.reading.BadCapture.{BadCapture as Cause}
@@ -48,8 +57,8 @@ made_lists number ports = map (λ port. first 2000 (packet number port)) (range_
 
 -- the packets of all ports: those of the captures, or those that are made, where nothing is read
 abbrev pub AreListsOf : Work → List (List ℕ) → List (List (List ℕ)) → Type 0
-AreListsOf (Simulate layout program order None) inputs lists = AreCaptures inputs lists
-AreListsOf (Simulate layout program order (Some number)) inputs lists = (inputs ≡ []) × (lists ≡ made_lists number layout.ports)
+AreListsOf (Simulate layout program wire order None) inputs lists = AreCaptures inputs lists
+AreListsOf (Simulate layout program wire order (Some number)) inputs lists = (inputs ≡ []) × (lists ≡ made_lists number layout.ports)
 AreListsOf (Generate number) inputs lists = (inputs ≡ []) × (lists ≡ made_lists number 1)
 
 -- ---- the run
@@ -66,10 +75,20 @@ rule_by sockets Drop = DropAll
 rule_by sockets (EtherType kind) = TypeByClass kind sockets
 rule_by sockets (Fixed cell) = ByCell cell
 
--- what is run: the layout's configuration over the packets of all ports, each with the verdict that the program's rule gives
--- it, with frames of zero bytes, in order
-abbrev pub setting_of : Layout → Program → List (List (List ℕ)) → Setting
-setting_of layout program lists = ruled (rule_by layout.sockets program) (regular_of layout) (map listed lists)
+-- what the wire does with a packet that finds too few frames on FILL or no room on RX (af_xdp.rst, "XDP_STATISTICS
+-- getsockopt": rx_dropped, rx_ring_full; that it may wait is this project's own)
+abbrev pub wire_by : Wire → OwnWire
+wire_by Wait = Waits
+wire_by Drops = DropsNow
+
+-- what is run: the layout's configuration and the wire over the packets of all ports, each with the verdict that the program's
+-- rule gives it, with frames of zero bytes, in order
+abbrev pub setting_of : Layout → Program → Wire → List (List (List ℕ)) → Setting
+setting_of layout program wire lists = ruled (rule_by layout.sockets program) (wire_by wire) (regular_of layout) (map listed lists)
+
+-- the verdicts, for each pair those of its packets
+abbrev pub verdicts_by : Layout → Program → List (List (List ℕ)) → List (List Verdict)
+verdicts_by layout program lists = map (verdicts_to (rule_by layout.sockets program) (regular_of layout) (map listed lists)) (regular_of layout).pairs
 
 abbrev pub frames_of : Layout → List Frame
 frames_of layout = fresh layout.chunk layout.frames
@@ -86,42 +105,64 @@ report_on packets = codes "packets " ++ decimal (length packets) ++ codes " byte
 abbrev pub capture_of : List (List ℕ) → List ℕ
 capture_of packets = written (packets ∷ [])
 
--- whether a packet that a port received is sent on: it has 14 bytes up to the number that a frame holds or, with `sg`, that
--- 18 frames hold, and the program redirects it to a cell that the port's map has and that holds the port's socket
-abbrev pub goes_on : Layout → Program → ℕ → List ℕ → Bool
-goes_on layout program port packet = has_length (regular_of layout) packet
-    && leads_to (map_of (regular_of layout) port) (socket_on (regular_of layout) port 0 0) (verdict_of (rule_by layout.sockets program) packet 0)
-
--- what a port's output tells: exactly what the other port received and sends on, in order and whole
-abbrev pub sent_on_by : Layout → Program → List (List (List ℕ)) → ℕ → List (List ℕ)
-sent_on_by layout program lists port = filter (goes_on layout program (paired_port port)) (slice_index_or lists (paired_port port) [])
-
--- where each packet is redirected and no cell is left empty, all that have such a length are sent on
-abbrev pub AllGoOn : Type 0
-AllGoOn = (layout : Layout) (lists : List (List (List ℕ))) (port : ℕ) → layout.ports ≡ 2 → layout.queues ≡ 1 → layout.sockets ≡ 1 → layout.empty ≡ None → port < 2
-    → sent_on_by layout Redirect lists port ≡ filter (has_length (regular_of layout)) (slice_index_or lists (paired_port port) [])
-
 abbrev pub ports_of : Layout → List ℕ
 ports_of layout = range_with_len 0 layout.ports
 
--- The texts of a run of these packets that has ended: what each driver sent, and the number of calls. What is sent by each
--- port is what the other port received and sends on.
-pub record AreTextsOf (layout : Layout) (program : Program) (order : ℕ) (lists : List (List (List ℕ))) (texts : Written) : Type 0 where
+abbrev pub queues_of : Layout → List ℕ
+queues_of layout = range_with_len 0 layout.queues
+
+-- what the driver of a port's queue sent by a history, and what all drivers of the port did, that of queue 0 first
+abbrev pub sent_on : Layout → List Entry → ℕ → ℕ → List (List ℕ)
+sent_on layout history port queue = sent (regular_of layout) history (driver_on (regular_of layout) port queue)
+
+abbrev pub sent_from : Layout → List Entry → ℕ → List (List (List ℕ))
+sent_from layout history port = map (sent_on layout history port) (queues_of layout)
+
+-- what a port received on a queue, where there is one list of packets for each port
+abbrev pub received_on : Layout → List (List (List ℕ)) → ℕ → ℕ → List (List ℕ)
+received_on layout lists port queue = packets_of_queue layout.queues queue (slice_index_or lists port [])
+
+-- whether a packet that a port received on a queue goes on by the socket of a class: it has 14 bytes up to the number that a
+-- frame holds or, with `sg`, that 18 frames hold, and the program redirects it to a cell that the port's map has and that
+-- holds this socket
+abbrev pub goes_on : Layout → Program → ℕ → ℕ → ℕ → List ℕ → Bool
+goes_on layout program port queue class packet = has_length (regular_of layout) packet
+    && leads_to (map_of (regular_of layout) port) (socket_on (regular_of layout) port queue class) (verdict_of (rule_by layout.sockets program) packet queue)
+
+-- what goes on of what a port received on a queue, in order and whole
+abbrev pub going_on : Layout → Program → List (List (List ℕ)) → ℕ → ℕ → ℕ → List (List ℕ)
+going_on layout program lists port queue class = filter (goes_on layout program port queue class) (received_on layout lists port queue)
+
+-- where each queue has one socket: all that goes on to a port, that of queue 0 first
+abbrev pub sent_on_by : Layout → Program → List (List (List ℕ)) → ℕ → List (List (List ℕ))
+sent_on_by layout program lists port = map (λ queue. going_on layout program lists (paired_port port) queue 0) (queues_of layout)
+
+-- The texts of a run of these packets that has ended: what the drivers of each port sent, and the number of calls. What the
+-- driver of a queue sent is what the paired port's driver delivered to the sockets of all classes, whatever the wire does, and
+-- nothing else. Where the wire waits it is what is expected there of all classes; with one socket on each queue each text is
+-- then that of all that goes on to its port.
+pub record AreTextsOf (layout : Layout) (program : Program) (wire : Wire) (order : ℕ) (lists : List (List (List ℕ))) (texts : Written) : Type 0 where
   pub run : Shown
-  pub ended : HasEnded (setting_of layout program lists) (frames_of layout) order run
-  pub sent : texts.outputs ≡ map (λ port. capture_of (sent (regular_of layout) ended.history port)) (ports_of layout)
-  pub redirected : texts.outputs ≡ map (λ port. capture_of (sent_on_by layout program lists port)) (ports_of layout)
+  pub ended : HasEnded (setting_of layout program wire lists) (frames_of layout) order run
+  pub sent : texts.outputs ≡ map (λ port. written (sent_from layout ended.history port)) (ports_of layout)
+  pub forwarded : (port queue : ℕ) → port < layout.ports → queue < layout.queues
+      → AreForwarded (wire_by wire) (regular_of layout) ended.history (map listed lists) (verdicts_by layout program lists) port queue
+      (sent_on layout ended.history port queue)
+  pub redirected : (port queue : ℕ) → wire ≡ Wait → port < layout.ports → queue < layout.queues
+      → AreExpected (regular_of layout) (map listed lists) (verdicts_by layout program lists) port queue
+      (sent_on layout ended.history port queue)
+  pub one_socket : wire ≡ Wait → layout.sockets ≡ 1 → texts.outputs ≡ map (λ port. written (sent_on_by layout program lists port)) (ports_of layout)
   pub report : texts.report ≡ report_of (length ended.history)
 
 -- the texts that the work makes of packets: of a run, or of the packets themselves
 abbrev pub AreTextsBy : Work → List (List (List ℕ)) → Written → Type 0
-AreTextsBy (Simulate layout program order number) lists texts = AreTextsOf layout program order lists texts
+AreTextsBy (Simulate layout program wire order number) lists texts = AreTextsOf layout program wire order lists texts
 AreTextsBy (Generate number) lists texts =
     (texts.outputs ≡ map capture_of lists) × (texts.report ≡ report_on (slice_index_or lists 0 []))
 
 -- the work's run of packets stalls in a round
 abbrev pub IsStalledBy : Work → List (List (List ℕ)) → ℕ → Type 0
-IsStalledBy (Simulate layout program order number) lists round = HasStalled (setting_of layout program lists) (frames_of layout) order round
+IsStalledBy (Simulate layout program wire order number) lists round = HasStalled (setting_of layout program wire lists) (frames_of layout) order round
 IsStalledBy (Generate number) lists round = ⊥
 
 -- ---- the outcome
@@ -149,3 +190,23 @@ IsOutcome work inputs (made texts) = AreShort inputs (length inputs) × IsOutcom
 -- it is a function of the work and of their bytes
 abbrev pub OneOutcome : Type 0
 OneOutcome = (work : Work) (inputs : List (List ℕ)) (some other : Outcome) → IsOutcome work inputs some → IsOutcome work inputs other → some ≡ other
+
+-- ---- what is expected, off the inputs and the words alone
+
+-- what is expected of a class on a port's queue is what goes on by its socket at the paired port
+abbrev pub ExpectedGoesOn : Type 0
+ExpectedGoesOn = (layout : Layout) (program : Program) (lists : List (List (List ℕ))) (port queue class : ℕ) → fault_of layout ≡ None
+    → IsPlace (regular_of layout) port queue class
+    → expected (regular_of layout) (map listed lists) (verdicts_by layout program lists) port queue class ≡ going_on layout program lists (paired_port port) queue class
+
+-- where each packet is redirected and no cell is left empty, all packets of the class go on that have such a length
+abbrev pub ClassGoesOn : Type 0
+ClassGoesOn = (layout : Layout) (lists : List (List (List ℕ))) (port queue class : ℕ) → layout.empty ≡ None
+    → port < layout.ports → queue < layout.queues → class < layout.sockets
+    → going_on layout Redirect lists port queue class
+    ≡ filter (λ packet. has_length (regular_of layout) packet && (packet_class layout.sockets packet == class)) (received_on layout lists port queue)
+
+-- so with one queue and one socket on each port all that have such a length
+abbrev pub AllGoOn : Type 0
+AllGoOn = (layout : Layout) (lists : List (List (List ℕ))) (port : ℕ) → layout.queues ≡ 1 → layout.sockets ≡ 1 → layout.empty ≡ None → paired_port port < layout.ports
+    → sent_on_by layout Redirect lists port ≡ filter (has_length (regular_of layout)) (slice_index_or lists (paired_port port) []) ∷ []

@@ -12,6 +12,7 @@ use Rattle.xsk_sim.specs.Runs.{HasStalled}
 use Rattle.xsk_cli.specs.Judged.{AreShort, AreCaptures, IsBadCapture, excess_of}
 use Rattle.xsk_cli.specs.Outcome.{Written, bad, passed, stalled, IsOutcome, IsStalledBy, setting_of, frames_of}
 use Rattle.xsk_args.specs.declared.program.Program.{Program}
+use Rattle.xsk_args.specs.declared.wire.Wire.{Wire}
 use Rattle.xsk_args.specs.declared.error.ArgsError.{ArgsError}
 use Rattle.xsk_args.specs.declared.error.ArgsError.TheVariants.{Usage as IsUsage, OutOfMemory as ArgsMemory}
 use Rattle.xsk_cli.specs.declared.run.Texts.{Texts}
@@ -38,28 +39,25 @@ use Rattle.xsk_cli.specs.declared.status.Status.TheVariants.{Usage, BadCapture, 
 abbrev pub plan_in : CodePlan → Plan
 plan_in plan = record { inputs = map (λ name. name.now) plan.inputs.now; outputs = map (λ name. name.now) plan.outputs.now; work = plan.work }
 
--- the layout with two ports, one queue on each and one socket on each queue, without the need-wakeup flags
-abbrev pub with_one_socket : Layout → Layout
-with_one_socket layout = record layout { ports = 2; queues = 1; sockets = 1; wakeup = false }
-
-abbrev pub HasOneSocket : Work → Type 0
-HasOneSocket (Simulate layout program order number) = with_one_socket layout ≡ layout
-HasOneSocket (Generate number) = Unit {0}
+-- its rings are without the need-wakeup flags
+abbrev pub IsAwake : Work → Type 0
+IsAwake (Simulate layout program wire order number) = layout.wakeup ≡ false
+IsAwake (Generate number) = Unit {0}
 
 -- for how many ports captures are read, and for how many they are written
 abbrev pub read_by : Work → ℕ
-read_by (Simulate layout program order None) = layout.ports
-read_by (Simulate layout program order (Some number)) = 0
+read_by (Simulate layout program wire order None) = layout.ports
+read_by (Simulate layout program wire order (Some number)) = 0
 read_by (Generate number) = 0
 
 abbrev pub written_by : Work → ℕ
-written_by (Simulate layout program order number) = layout.ports
+written_by (Simulate layout program wire order number) = layout.ports
 written_by (Generate number) = 1
 
 -- a plan whose work is accepted, with as many files as it wants
 pub record IsReady (plan : Plan) : Type 0 where
   pub accepted : fault_in plan.work ≡ None
-  pub one : HasOneSocket plan.work
+  pub awake : IsAwake plan.work
   pub inputs : length plan.inputs ≡ read_by plan.work
   pub outputs : length plan.outputs ≡ written_by plan.work
 
@@ -138,10 +136,10 @@ IsRefusal port bytes NoMemory = Unit {0}
 IsRefusal port bytes failure = ⊥
 
 -- why a run of packets gives nothing
-abbrev pub FailsRunning : Layout → Program → ℕ → List (List (List ℕ)) → RunFailure → Type 0
-FailsRunning layout program order lists (Stalls round) = HasStalled (setting_of layout program lists) (frames_of layout) order round
-FailsRunning layout program order lists NoMemory = Unit {0}
-FailsRunning layout program order lists failure = ⊥
+abbrev pub FailsRunning : Layout → Program → Wire → ℕ → List (List (List ℕ)) → RunFailure → Type 0
+FailsRunning layout program wire order lists (Stalls round) = HasStalled (setting_of layout program wire lists) (frames_of layout) order round
+FailsRunning layout program wire order lists NoMemory = Unit {0}
+FailsRunning layout program wire order lists failure = ⊥
 
 -- why work makes nothing of packets
 abbrev pub FailsMaking : Work → List (List (List ℕ)) → RunFailure → Type 0

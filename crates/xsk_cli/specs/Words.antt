@@ -6,8 +6,11 @@ use Rattle.xsk_args.specs.Number.{number_in}
 use Rattle.xsk_args.specs.Program.{program_in}
 use Rattle.xsk_args.specs.declared.program.Program.{Program}
 use Rattle.xsk_args.specs.declared.program.Program.TheVariants.{Redirect}
+use Rattle.xsk_args.specs.Wire.{wire_in}
+use Rattle.xsk_args.specs.declared.wire.Wire.{Wire}
+use Rattle.xsk_args.specs.declared.wire.Wire.TheVariants.{Wait}
 use Rattle.xsk_args.specs.Meaning.{Key, Meaning, meaning, one_value}
-use Rattle.xsk_args.specs.declared.table.Takes.TheVariants.{Nothing, Number, Program as TakesProgram}
+use Rattle.xsk_args.specs.declared.table.Takes.TheVariants.{Nothing, Number, Program as TakesProgram, Wire as TakesWire}
 use Rattle.xsk_socket.specs.declared.layout.Layout.{Layout}
 use Rattle.xsk_socket.specs.declared.layout.Unlawful.{Unlawful}
 use Rattle.xsk_socket.specs.Layout.{fault_of}
@@ -25,10 +28,13 @@ no_plan = record { inputs = []; outputs = []; work = Generate 0 }
 
 -- ---- `simulate`
 
--- the options of `simulate`, each with a number but the program and the flag
+-- the options of `simulate`, each with a number but the program, the wire and the flag
 abbrev pub options : List Key
 options =
-    (codes "frames", Number)
+    (codes "ports", Number)
+    ∷ (codes "queues", Number)
+    ∷ (codes "sockets", Number)
+    ∷ (codes "frames", Number)
     ∷ (codes "chunk", Number)
     ∷ (codes "headroom", Number)
     ∷ (codes "rx", Number)
@@ -38,6 +44,7 @@ options =
     ∷ (codes "order", Number)
     ∷ (codes "gen", Number)
     ∷ (codes "prog", TakesProgram)
+    ∷ (codes "wire", TakesWire)
     ∷ (codes "empty", Number)
     ∷ (codes "sg", Nothing)
     ∷ []
@@ -53,6 +60,10 @@ number_or said name standing = unwrap_or (number_of said name) standing
 abbrev pub program_of : Meaning → Program
 program_of said = unwrap_or (option_and_then program_in (one_value (said (codes "prog")))) Redirect
 
+-- the wire that was said, or the one that waits
+abbrev pub wire_of : Meaning → Wire
+wire_of said = unwrap_or (option_and_then wire_in (one_value (said (codes "wire")))) Wait
+
 abbrev pub files_in : Meaning → List Text
 files_in said = unwrap_or (said (codes "FILE")) []
 
@@ -66,15 +77,16 @@ counted n = if nat_lt n 4294967296 then n else 4294967295
 
 -- the ports of a command
 abbrev pub ports_of : Meaning → ℕ
-ports_of said = 2
+ports_of said = number_or said (codes "ports") 2
 
--- what is asked for: its ports with one queue each, and one socket on each queue; with `sg` packets may have several frames
--- (af_xdp.rst, "XDP_USE_SG bind flag"); with `empty` one cell of each port's XSKMAP holds no socket
+-- what is asked for: its ports, the queues of each and the sockets of each queue, all over one UMEM (af_xdp.rst,
+-- "XDP_SHARED_UMEM bind flag"); with `sg` packets may have several frames ("XDP_USE_SG bind flag"); with `empty` one cell of
+-- each port's XSKMAP holds no socket
 abbrev pub layout_by : Meaning → Layout
 layout_by said = record {
   ports = ports_of said;
-  queues = 1;
-  sockets = 1;
+  queues = number_or said (codes "queues") 1;
+  sockets = number_or said (codes "sockets") 1;
   files = counted (length (files_in said));
   files_wanted_per_port = if are_made said then 1 else 2;
   chunk = number_or said (codes "chunk") 4096;
@@ -97,7 +109,7 @@ abbrev pub plan_by : Meaning → Plan
 plan_by said = record {
   inputs = take (inputs_named said) (files_in said);
   outputs = drop (inputs_named said) (files_in said);
-  work = Simulate (layout_by said) (program_of said) (number_or said (codes "order") 0) (number_of said (codes "gen"));
+  work = Simulate (layout_by said) (program_of said) (wire_of said) (number_or said (codes "order") 0) (number_of said (codes "gen"));
 }
 
 abbrev pub simulate_plan : List Text → Option Plan
@@ -120,5 +132,5 @@ plan_of (first ∷ rest) = if bytes_eq first (codes "gen") then gen_plan rest el
 
 -- why the work is refused, where it is
 abbrev pub fault_in : Work → Option Unlawful
-fault_in (Simulate layout program order number) = fault_of layout
+fault_in (Simulate layout program wire order number) = fault_of layout
 fault_in (Generate number) = None

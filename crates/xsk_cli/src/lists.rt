@@ -2,7 +2,7 @@
 ghost use Rattle.std.specs.Prelude.{◌≡◌, ◌≤◌, None, IfErr, IfOk, length, map};
 ghost use Rattle.xsk_cli.specs.Judged.{AreShort, excess_of};
 ghost use Rattle.xsk_cli.specs.Outcome.{AreListsOf, listed};
-ghost use Rattle.xsk_cli.specs.Steps.{HasOneSocket, MakesNone, lists_in, read_by, written_by};
+ghost use Rattle.xsk_cli.specs.Steps.{MakesNone, lists_in, read_by, written_by};
 ghost use Rattle.xsk_cli.specs.Words.{fault_in};
 
 use crate::captures::take_captures;
@@ -19,7 +19,6 @@ pub(crate) fn take_lists(
     inputs: &[Vec<u8>],
 ) -> Result<Vec<PacketList>, RunFailure>
     requires accepted { fault_in work.now ≡ None }
-    requires one { HasOneSocket work.now }
     requires count { length inputs.now ≡ read_by work.now }
     requires short { AreShort (map (λ bytes. bytes.items) inputs.now) (length inputs.now) }
     ensures taken { IfOk result (λ lists. AreListsOf work.now (map (λ bytes. bytes.items) inputs.now) (lists_in lists.items)) }

@@ -2,8 +2,20 @@
 
 use xsk_args::{OptionRow, Takes};
 
-/// Each has a number, but `--prog` and `--sg`. The number that stands where none was said is [`Plan`](crate::words::Plan)'s.
-pub(crate) const OPTIONS: [OptionRow; 12] = [
+/// Each has a number, but `--prog`, `--wire` and `--sg`. The number that stands where none was said is [`Plan`](crate::words::Plan)'s.
+pub(crate) const OPTIONS: [OptionRow; 16] = [
+    OptionRow {
+        name: "ports",
+        takes: Takes::Number,
+    },
+    OptionRow {
+        name: "queues",
+        takes: Takes::Number,
+    },
+    OptionRow {
+        name: "sockets",
+        takes: Takes::Number,
+    },
     OptionRow {
         name: "frames",
         takes: Takes::Number,
@@ -43,6 +55,10 @@ pub(crate) const OPTIONS: [OptionRow; 12] = [
     OptionRow {
         name: "prog",
         takes: Takes::Program,
+    },
+    OptionRow {
+        name: "wire",
+        takes: Takes::Wire,
     },
     OptionRow {
         name: "empty",

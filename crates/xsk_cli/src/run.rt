@@ -1,15 +1,18 @@
 //! The run of a simulation, and the texts that it leaves.
-ghost use Rattle.std.specs.Prelude.{◌≡◌, ℕ, ◌<◌, ◌≤◌, None, [], All, List, IfErr, IfOk, length, map, string_bytes};
-ghost use Rattle.std.specs.List.{concat, range_with_len, slice_index_or};
+ghost use Rattle.std.specs.Prelude.{◌≡◌, ℕ, ◌*◌, ◌<◌, ◌≤◌, ◌++◌, None, All, List, IfErr, IfOk, OnOk, drop, false, length, map, string_bytes, take};
+ghost use Rattle.std.specs.List.{concat, range_with_len};
+ghost use Rattle.std.specs.Vec.Iter.{into_iter_items};
 ghost use Rattle.xsk_driver.specs.Sent.{IsShort};
+ghost use Rattle.xsk_prog.specs.Rules.{HasSockets, IsSocketCount};
 ghost use Rattle.xsk_sim.specs.Runs.{HasEnded};
 ghost use Rattle.xsk_sim.specs.Shown.{HasShortPackets};
 ghost use Rattle.xsk_cli.specs.Judged.{excess_of};
-ghost use Rattle.xsk_cli.specs.Outcome.{AreTextsBy, AreTextsOf, capture_of, frames_of, listed, made_lists, report_of, rule_by, setting_of};
-ghost use Rattle.xsk_cli.specs.Steps.{FailsMaking, FailsRunning, HasOneSocket, lists_in, with_one_socket, written_by, written_in};
+ghost use Rattle.xsk_cli.specs.Outcome.{AreTextsBy, AreTextsOf, capture_of, frames_of, listed, made_lists, report_of, rule_by, setting_of, wire_by};
+ghost use Rattle.xsk_cli.specs.Steps.{FailsMaking, FailsRunning, IsAwake, lists_in, written_by, written_in};
 ghost use Rattle.xsk_cli.specs.Words.{fault_in};
 ghost use Rattle.xsk_cli.specs.declared.words.Work.TheVariants.{Generate};
-ghost use Rattle.xsk_socket.specs.Layout.{fault_of};
+ghost use Rattle.xsk_socket.specs.Layout.{fault_of, pairs_in};
+ghost use Rattle.xsk_pcap.specs.Written.{IsWritable, written};
 
 use crate::failure::RunFailure;
 use crate::made::made_texts;
@@ -17,7 +20,8 @@ use crate::setup::set_up;
 use crate::words::Work;
 use std::alloc::Global;
 use std::fmt::Write;
-use xsk_args::Program;
+use std::vec::IntoIter;
+use xsk_args::{Program, Wire};
 use xsk_pcap::Capture;
 use xsk_prog::{Rule, XdpProgram};
 use xsk_sim::{Run, SimError, simulate};
@@ -38,7 +42,7 @@ pub(crate) fn make_texts(
     lists: &[PacketList],
 ) -> Result<Texts, RunFailure>
     requires accepted { fault_in work.now ≡ None }
-    requires one { HasOneSocket work.now }
+    requires awake { IsAwake work.now }
     requires ports { length lists.now ≡ written_by work.now }
     requires within { excess_of (lists_in lists.now) ≡ None }
     requires made { (number : ℕ) → work.now ≡ Generate number → lists_in lists.now ≡ made_lists number 1 }
@@ -51,9 +55,10 @@ pub(crate) fn make_texts(
         Work::Simulate {
             layout,
             program,
+            wire,
             order,
             ..
-        } => run_texts(alloc, layout, *program, *order, lists),
+        } => run_texts(alloc, layout, *program, *wire, *order, lists),
         Work::Generate { .. } => Ok(made_texts(alloc, &lists[0])?),
     }
 }
@@ -63,48 +68,50 @@ fn run_texts(
     alloc: Global,
     layout: &Layout,
     program: Program,
+    wire: Wire,
     order: u32,
     lists: &[PacketList],
 ) -> Result<Texts, RunFailure>
     requires accepted { fault_of layout.now ≡ None }
-    requires one { with_one_socket layout.now ≡ layout.now }
+    requires awake { layout.now.wakeup ≡ false }
     requires ports { length lists.now ≡ layout.now.ports }
     requires within { excess_of (lists_in lists.now) ≡ None }
     requires listed { lists.now ≡ map listed (lists_in lists.now) }
     requires short { All HasShortPackets lists.now }
-    ensures made { IfOk result (λ texts. AreTextsOf layout.now program order (lists_in lists.now) (written_in texts)) }
-    ensures failed { IfErr result (FailsRunning layout.now program order (lists_in lists.now)) }
+    ensures made { IfOk result (λ texts. AreTextsOf layout.now program wire order (lists_in lists.now) (written_in texts)) }
+    ensures failed { IfErr result (FailsRunning layout.now program wire order (lists_in lists.now)) }
 {
-    let run = run_lists(alloc, layout, program, order, lists)?;
+    let run = run_lists(alloc, layout, program, wire, order, lists)?;
     let report = report_text(alloc, run.log().len())?;
-    let sent = run.into_sent();
-    let outputs = output_texts(alloc, layout.ports, sent.as_slice())?;
+    let outputs = output_texts(alloc, layout.ports, layout.queues, run.into_sent())?;
     Ok(Texts { outputs, report })
 }
 
-/// Runs the lists of all ports under the program's rule.
+/// Runs the lists of all ports under the program's rule, with the wire.
 fn run_lists(
     alloc: Global,
     layout: &Layout,
     program: Program,
+    wire: Wire,
     order: u32,
     lists: &[PacketList],
 ) -> Result<Run, RunFailure>
     requires accepted { fault_of layout.now ≡ None }
-    requires one { with_one_socket layout.now ≡ layout.now }
+    requires awake { layout.now.wakeup ≡ false }
     requires ports { length lists.now ≡ layout.now.ports }
     requires listed { lists.now ≡ map listed (lists_in lists.now) }
     requires short { All HasShortPackets lists.now }
-    ensures pairs { IfOk result (λ run. run.pairs ≡ layout.now.ports) }
-    ensures ended { IfOk result (HasEnded (setting_of layout.now program (lists_in lists.now)) (frames_of layout.now) order) }
-    ensures failed { IfErr result (FailsRunning layout.now program order (lists_in lists.now)) }
+    ensures pairs { IfOk result (λ run. run.pairs ≡ pairs_in layout.now) }
+    ensures ended { IfOk result (HasEnded (setting_of layout.now program wire (lists_in lists.now)) (frames_of layout.now) order) }
+    ensures failed { IfErr result (FailsRunning layout.now program wire order (lists_in lists.now)) }
 {
     let (config, frames) = set_up(alloc, layout)?;
     let rule = rule_of(program, layout.sockets);
     let attached = XdpProgram::attach(rule, |packet: &[u8], queue: u32| {
         rule.verdict(packet, queue)
     });
-    match simulate(alloc, config, frames, lists, &attached, order) {
+    let wire = wire_of(wire);
+    match simulate(alloc, config, frames, lists, &attached, wire, order) {
         Ok(run) => Ok(run),
         Err(SimError::Stalled { round }) => Err(RunFailure::Stalled { round }),
         Err(SimError::OutOfMemory) => Err(RunFailure::OutOfMemory),
@@ -113,7 +120,9 @@ fn run_lists(
 
 /// The rule of a program, where each queue has so many sockets.
 fn rule_of(program: Program, sockets: u32) -> Rule
-    ensures { result ≡ rule_by sockets program }
+    requires { IsSocketCount sockets }
+    ensures rule { result ≡ rule_by sockets program }
+    ensures sockets { HasSockets result }
 {
     match program {
         Program::Redirect => Rule::Redirect { sockets },
@@ -124,32 +133,64 @@ fn rule_of(program: Program, sockets: u32) -> Rule
     }
 }
 
-/// The captures of what the ports' drivers sent.
+/// The wire of the workers.
+fn wire_of(wire: Wire) -> xsk_sim::Wire
+    ensures { result ≡ wire_by wire }
+{
+    match wire {
+        Wire::Wait => xsk_sim::Wire::Wait,
+        Wire::Drop => xsk_sim::Wire::Drop,
+    }
+}
+
+/// The captures of what the drivers sent, one for each port. Each list is given up once it is written.
 #[tactic(auto, using(crate::proofs::Ports::more_ports))]
-fn output_texts(alloc: Global, ports: u32, sent: &[PacketList]) -> Result<Vec<Vec<u8>>, OutOfMemory>
+fn output_texts(
+    alloc: Global,
+    ports: u32,
+    queues: u32,
+    sent: Vec<PacketList>,
+) -> Result<Vec<Vec<u8>>, OutOfMemory>
     requires ports { ports ≤ 4 }
-    requires pairs { length sent.now ≡ ports }
-    requires short { All HasShortPackets sent.now }
-    requires few { (port : ℕ) → port < ports → length (slice_index_or (lists_in sent.now) port []) ≤ 65536 }
-    requires small { (port : ℕ) → port < ports → length (concat (slice_index_or (lists_in sent.now) port [])) ≤ 33554432 }
-    ensures { IfOk result (λ texts. map (λ text. text.items) texts.items ≡ map (λ port. capture_of (slice_index_or (lists_in sent.now) port [])) (range_with_len 0 ports)) }
+    requires writable { (port count : ℕ) → port < ports → count ≤ queues → IsWritable (take count (drop (port * queues) (lists_in sent.items))) }
+    ensures { IfOk result (λ texts. map (λ text. text.items) texts.items ≡ map (λ port. written (take queues (drop (port * queues) (lists_in sent.items)))) (range_with_len 0 ports)) }
 {
     let mut texts = Vec::with_capacity(alloc, ports as usize)?;
-    for port in 0..ports {
-        let text = capture_text(alloc, sent_by(sent, port))?;
+    let mut lists = sent.into_iter();
+    for _port in 0..ports {
+        let text = port_text(alloc, queues, &mut lists)?;
         texts.push_reserved(text);
     }
     Ok(texts)
 }
 
-/// What the driver of a port sent.
-fn sent_by(sent: &[PacketList], port: u32) -> &PacketList
-    requires port { port < length sent.now }
-    requires short { All HasShortPackets sent.now }
-    ensures short { All IsShort result.now.packets }
-    ensures sent { result.now.packets ≡ slice_index_or (lists_in sent.now) port [] }
+/// The capture of the next lists, one for each queue of a port, the first queue's first.
+fn port_text(
+    alloc: Global,
+    queues: u32,
+    lists: &mut IntoIter<PacketList>,
+) -> Result<Vec<u8>, OutOfMemory>
+    requires { (count : ℕ) → count ≤ queues → IsWritable (take count (lists_in (into_iter_items lists.old))) }
+    ensures text { IfOk result (λ text. text.items ≡ written (take queues (lists_in (into_iter_items lists.old)))) }
+    ensures rest { OnOk result (into_iter_items lists.new ≡ drop queues (into_iter_items lists.old)) }
 {
-    &sent[port as usize]
+    let mut capture = Capture::start(alloc)?;
+    for _queue in 0..queues {
+        add_next(&mut capture, lists)?;
+    }
+    Ok(capture.into_bytes())
+}
+
+/// Adds the next list to a capture, where there is one, and gives it up.
+fn add_next(capture: &mut Capture, lists: &mut IntoIter<PacketList>) -> Result<(), OutOfMemory>
+    requires { IsWritable (capture.old ++ take 1 (lists_in (into_iter_items lists.old))) }
+    ensures added { OnOk result (capture.new ≡ capture.old ++ take 1 (lists_in (into_iter_items lists.old))) }
+    ensures rest { OnOk result (into_iter_items lists.new ≡ drop 1 (into_iter_items lists.old)) }
+{
+    match lists.next() {
+        Some(list) => capture.add(&list),
+        None => Ok(()),
+    }
 }
 
 /// The capture of packets.

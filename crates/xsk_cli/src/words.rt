@@ -6,20 +6,18 @@ ghost use Rattle.xsk_socket.specs.Layout.{fault_of};
 ghost use Rattle.xsk_cli.specs.Steps.{plan_in};
 ghost use Rattle.xsk_cli.specs.Words.{counted, fault_in, files_in, gen_plan, layout_by, plan_by};
 
-use xsk_args::{Args, Program, parse_number};
+use xsk_args::{Args, Program, Wire, parse_number};
 use xsk_socket::{Layout, Unlawful, check_layout};
-
-/// The ports of a command. No option tells others yet.
-const PORTS: u32 = 2;
 
 /// What is made of the files that a command reads.
 #[derive(Clone, Copy, Debug, PartialEq, Eq)]
 pub enum Work {
-    /// A run of the layout's workers over the captures of its ports, under a program, in rounds with an order number. With a
-    /// number of the generator no captures are read, and the packets are made.
+    /// A run of the layout's workers over the captures of its ports, under a program and with a wire, in rounds with an order
+    /// number. With a number of the generator no captures are read, and the packets are made.
     Simulate {
         layout: Layout,
         program: Program,
+        wire: Wire,
         order: u32,
         number: Option<u32>,
     },
@@ -44,12 +42,13 @@ impl<'p, 'w> Plan<'p, 'w> {
         ensures accepted { IfOk result (λ plan. fault_in plan.work ≡ None) }
         ensures refused { IfErr result (λ unlawful. fault_of (layout_by (under args.now)) ≡ Some unlawful) }
     {
+        let layout = layout_of(args);
+        check_layout(&layout)?;
         let Some(files) = args.files() else {
             return Err(Unlawful::Files(0));
         };
-        let layout = layout_of(args);
-        check_layout(&layout)?;
         let program = args.program("prog").unwrap_or(Program::Redirect);
+        let wire = args.wire("wire").unwrap_or(Wire::Wait);
         let order = args.number("order").unwrap_or(0);
         let number = args.number("gen");
         let named = if number.is_some() {
@@ -64,6 +63,7 @@ impl<'p, 'w> Plan<'p, 'w> {
             work: Work::Simulate {
                 layout,
                 program,
+                wire,
                 order,
                 number,
             },
@@ -71,14 +71,14 @@ impl<'p, 'w> Plan<'p, 'w> {
     }
 }
 
-/// The layout that was asked for: its ports with one queue each, and one socket on each queue.
+/// The layout that was asked for.
 fn layout_of(args: &Args<'_>) -> Layout
     ensures { result ≡ layout_by (under args.now) }
 {
     Layout {
-        ports: PORTS,
-        queues: 1,
-        sockets: 1,
+        ports: args.number("ports").unwrap_or(2),
+        queues: args.number("queues").unwrap_or(1),
+        sockets: args.number("sockets").unwrap_or(1),
         files: count_files(args),
         files_wanted_per_port: if args.number("gen").is_some() { 1 } else { 2 },
         chunk: args.number("chunk").unwrap_or(4096),

@@ -6,8 +6,12 @@ mod options;
 #[cfg(test)]
 mod programs;
 #[cfg(test)]
+mod queues;
+#[cfg(test)]
 mod run;
 #[cfg(test)]
 mod table;
+#[cfg(test)]
+mod wires;
 #[cfg(test)]
 mod words;

@@ -50,7 +50,7 @@ fn options_are_read_by_their_rules(rt: HostRuntime) -> Result<(), Fail> {
         "simulate --rx= a b c d",
         "simulate --rx +2 a b c d",
         "simulate --rx 00000000002 a b c d",
-        "simulate --queues 1 a b c d",
+        "simulate --journal a b c d",
         "simulate --sg=1 a b c d",
         "simulate --sg --sg a b c d",
         "simulate --frames -- a b c d",

@@ -176,11 +176,20 @@ simulate --frame 5 a => usage
 simulate --framess 5 a => usage
 simulate --RX 5 a => usage
 simulate --Sg a => usage
-simulate --ports 2 a => usage
-simulate --queues=1 a => usage
-simulate --sockets 1 a => usage
-simulate --wire wait a => usage
-simulate --wire=drop a => usage
+simulate --ports 2 a => ports=2 files=a
+simulate a --ports => usage
+simulate --queues=1 a => queues=1 files=a
+simulate --queues=a a => usage
+simulate --sockets 1 a => sockets=1 files=a
+simulate --sockets=1 --sockets 1 a => usage
+simulate --sockets 4 --rx 2 --ports=4 a --queues 4 => ports=4 queues=4 sockets=4 rx=2 files=a
+simulate --wire wait a => wire=wait files=a
+simulate --wire=drop a => wire=drop files=a
+simulate --wire=drop --prog=drop a --sg => prog=drop wire=drop sg files=a
+simulate a --wire => usage
+simulate --wire= a => usage
+simulate --wire Drop a => usage
+simulate --wire=waits a => usage
 simulate --prog redirect a => prog=redirect files=a
 simulate --prog=redirect a => prog=redirect files=a
 simulate a --prog pass => prog=pass files=a

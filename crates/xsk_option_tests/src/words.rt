@@ -9,7 +9,19 @@ use xsk_args::{Args, ArgsError, OptionRow, Takes, parse};
 use xsk_cli::Status;
 
 /// The options of `simulate`.
-static OPTIONS: [OptionRow; 12] = [
+static OPTIONS: [OptionRow; 16] = [
+    OptionRow {
+        name: "ports",
+        takes: Takes::Number,
+    },
+    OptionRow {
+        name: "queues",
+        takes: Takes::Number,
+    },
+    OptionRow {
+        name: "sockets",
+        takes: Takes::Number,
+    },
     OptionRow {
         name: "frames",
         takes: Takes::Number,
@@ -49,6 +61,10 @@ static OPTIONS: [OptionRow; 12] = [
     OptionRow {
         name: "prog",
         takes: Takes::Program,
+    },
+    OptionRow {
+        name: "wire",
+        takes: Takes::Wire,
     },
     OptionRow {
         name: "empty",
@@ -106,7 +122,7 @@ fn words_mean_what_the_rules_say(rt: HostRuntime) -> Result<(), Fail> {
         assert_eq!(rt; told.as_str(), meant, "{line}");
         rows = rows.saturating_add(1);
     }
-    assert_eq!(rt; rows, 293);
+    assert_eq!(rt; rows, 302);
     Ok(())
 }
 

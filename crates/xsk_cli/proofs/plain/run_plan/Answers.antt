@@ -4,12 +4,16 @@ use Rattle.xsk_cli.specs.Judged.{AreShort}
 use Rattle.xsk_cli.specs.Outcome.{made, AreListsOf, AreTextsBy, IsOutcome}
 use Rattle.xsk_cli.specs.Steps.{FailsMaking, HaveRead, MakesNone, lists_in, plan_in, run_status, write_status, written_by, written_in}
 use Rattle.xsk_cli.specs.Streams.{Moment, AreWritten}
-use Rattle.xsk_cli.proofs.Making.{making_fails}
+use Rattle.xsk_cli.proofs.Making.{few_read, making_fails}
 use Rattle.xsk_cli.proofs.Writing.{SameInputs, run_fails, unwritten_ends, done_ends, status_ends, texts_count}
 use Rattle.std.specs.Prelude.{All}
 use Rattle.xsk_sim.specs.Shown.{HasShortPackets}
 use Rattle.xsk_cli.proofs.Short.{short_lists}
 use Rattle.xsk_cli.proofs.plain.run_plan.Goals as goal
+
+pub read_inputs-requires-clause-few : goal.read_inputs-requires-clause-few
+read_inputs-requires-clause-few g c =
+    omega (arith, few_read c.args.plan.now.work c.requires.ready.accepted, c.requires.ready.inputs, length-map c.args.plan.now.inputs.now (λ name. name.now))
 
 pub returns-in_err-lists-clause-ends : goal.returns-in_err-lists-clause-ends
 returns-in_err-lists-clause-ends g c =

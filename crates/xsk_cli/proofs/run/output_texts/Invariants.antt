@@ -1,12 +1,14 @@
-use Rattle.std.proofs.Common.{◌≡◌, ◌≤◌, [], map, vec_len, vec_capacity}
-use Rattle.std.specs.List.{range_with_len, slice_index_or}
-use Rattle.xsk_cli.specs.Outcome.{capture_of}
+use Rattle.std.proofs.Common.{◌≡◌, ◌≤◌, ◌*◌, map, take, drop, vec_len, vec_capacity}
+use Rattle.std.specs.List.{range_with_len}
+use Rattle.std.specs.Vec.Iter.{into_iter_items}
+use Rattle.xsk_pcap.specs.Written.{written}
 use Rattle.xsk_cli.specs.Steps.{lists_in}
 use Rattle.xsk_cli.proofs.run.output_texts.Given as goal
 
 abbrev pub invariant-loop-port : goal.invariant-loop-port
 invariant-loop-port l = record {
-  texts : map (λ text. text.items) l.texts.items ≡ map (λ port. capture_of (slice_index_or (lists_in l.sent) port [])) (range_with_len 0 l.port);
-  count : vec_len l.texts ≡ l.port;
+  texts : map (λ text. text.items) l.texts.items ≡ map (λ port. written (take l.queues (drop (port * l.queues) (lists_in l.fn.sent.items)))) (range_with_len 0 l._port);
+  rest : into_iter_items l.lists ≡ drop (l._port * l.queues) l.fn.sent.items;
+  count : vec_len l.texts ≡ l._port;
   room : l.ports ≤ vec_capacity l.texts;
 }

@@ -1,0 +1,179 @@
+-- What is expected of each class, off the inputs and the words alone.
+use Rattle.std.proofs.Common.{◌≡◌, ℕ, suc, ◌+◌, ◌*◌, ◌%◌, ◌<◌, ◌≤◌, ◌&&◌, Bool, cond, true, false, eqb, leb, List, [], ◌∷◌, length, map, get_or, refl, ap, ◌∙◌, subst, arith, None, eq-eqb, lt-ltb, leb-true, sum, take, mul-le-mul_right}
+use Rattle.std.specs.Prelude.{filter}
+use Rattle.std.specs.List.{range_with_len}
+use Rattle.std.proofs.lemmas.Bool.Decides.{nat_tests}
+use Rattle.std.proofs.Math.Nat.{mod-lt, mul_assoc, mul-div_cancel_left}
+use Rattle.std.proofs.Math.ListN.{get_or-map}
+use Rattle.xsk_umem.specs.PacketList.{PacketList}
+use Rattle.xsk_model.specs.Config.{Config, pair_at, classes_of, map_of}
+use Rattle.xsk_model.specs.Steering.{packet_class, packet_limit, packet_queue, paired_port, driver_on, socket_on}
+use Rattle.xsk_model.proofs.Seats.{IsAt, below, is_at}
+use Rattle.xsk_prog.specs.declared.rule.Rule.{Rule}
+use Rattle.xsk_prog.specs.Rules.{Meets, is_exact, verdict_of}
+use Rattle.xsk_prog.specs.declared.rule.Verdict.{Verdict}
+use Rattle.xsk_args.specs.declared.program.Program.{Program}
+use Rattle.xsk_args.specs.declared.program.Program.TheVariants.{Redirect, Pass, Drop, EtherType, Fixed}
+use Rattle.xsk_turns.specs.declared.wire.Wire.TheVariants.{Wait}
+use Rattle.xsk_turns.specs.Inputs.{packets_of_port, packets_of_queue}
+use Rattle.xsk_turns.specs.Verdicts.{EachHas, IsGiven, MeetRule, judged}
+use Rattle.xsk_turns.specs.Turns.{Judged}
+use Rattle.xsk_turns.specs.Disposals.{bytes_in}
+use Rattle.xsk_turns.proofs.Verdicts.{own_setting}
+use Rattle.xsk_laws.specs.Expected.{received, has_length, holds_socket, is_redirected, leads_to}
+use Rattle.xsk_laws.proofs.Places.{are_paired}
+use Rattle.xsk_socket.specs.declared.layout.Layout.{Layout}
+use Rattle.xsk_socket.specs.Layout.{cells_in, pairs_in}
+use Rattle.xsk_socket.specs.Regular.{cell_in, is_left_empty, map_in, pair_in, regular_of, socket_in}
+use Rattle.xsk_socket.proofs.Accepted.{fits}
+use Rattle.xsk_socket.proofs.Numbered.{get_or-numbered, length-numbered}
+use Rattle.xsk_socket.proofs.Regularity.{regular-config, regular-regular}
+use Rattle.xsk_cli.specs.Outcome.{listed, rule_by, verdicts_by, received_on, goes_on, going_on, ExpectedGoesOn, ClassGoesOn, AllGoOn}
+
+-- ---- verdicts
+
+-- the rule of each program leaves one verdict
+pub is_exact_by : (sockets : ℕ) (program : Program) → is_exact (rule_by sockets program) ≡ true
+is_exact_by sockets Redirect = refl
+is_exact_by sockets Pass = refl
+is_exact_by sockets Drop = refl
+is_exact_by sockets (EtherType kind) = refl
+is_exact_by sockets (Fixed cell) = refl
+
+own_verdict : (sockets : ℕ) (program : Program) (queue : ℕ) (packet : List ℕ) (verdict : Verdict) → Meets (rule_by sockets program) packet queue verdict → verdict ≡ verdict_of (rule_by sockets program) packet queue
+own_verdict sockets Redirect queue packet verdict met = met
+own_verdict sockets Pass queue packet verdict met = met
+own_verdict sockets Drop queue packet verdict met = met
+own_verdict sockets (EtherType kind) queue packet verdict met = met
+own_verdict sockets (Fixed cell) queue packet verdict met = met
+
+by_length : (x y z w : Bool) → (x ≡ true → z ≡ w) → ((x && y) && z) ≡ ((x && y) && w)
+by_length true true z w h = h refl
+by_length true false z w h = refl
+by_length false y z w h = refl
+
+bytes_if : (b : Bool) (p : Judged) (ps : List Judged) (qs : List (List ℕ)) → bytes_in ps ≡ qs → bytes_in (cond b (p ∷ ps) ps) ≡ cond b (p.bytes ∷ qs) qs
+bytes_if true p ps qs e = ap (λ rs. p.bytes ∷ rs) e
+bytes_if false p ps qs e = e
+
+-- the packets whose verdicts the rule gives go on where it redirects them so
+module _ (layout : Layout) (program : Program) (o queue class : ℕ) where
+  abbrev rule : Rule
+  rule = rule_by layout.sockets program
+
+  abbrev c : Config
+  c = regular_of layout
+
+  abbrev goes : List ℕ → Bool
+  goes = goes_on layout program o queue class
+
+  one_goes : (packet : List ℕ) (verdict : Verdict) → IsGiven (λ p v. Meets rule p queue v) packet verdict
+      → is_redirected c o queue class (record { bytes = packet; verdict = verdict }) ≡ goes packet
+  one_goes packet verdict given =
+      by_length (leb 14 (length packet)) (leb (length packet) (packet_limit c)) (leads_to (map_of c o) (socket_on c o queue class) verdict) (leads_to (map_of c o) (socket_on c o queue class) (verdict_of rule packet queue))
+      (λ long. ap (leads_to (map_of c o) (socket_on c o queue class)) (own_verdict layout.sockets program queue packet verdict (given.asked (leb-true 14 (length packet) long))))
+
+  all_go : (packets : List (List ℕ)) (verdicts : List Verdict) → EachHas (IsGiven (λ p v. Meets rule p queue v)) packets verdicts
+      → bytes_in (filter (is_redirected c o queue class) (judged packets verdicts)) ≡ filter goes packets
+  all_go [] [] h = refl
+  all_go [] (verdict ∷ verdicts) h = absurd h
+  all_go (packet ∷ packets) [] h = absurd h
+  all_go (packet ∷ packets) (verdict ∷ verdicts) h =
+      let p : Judged = record { bytes = packet; verdict = verdict } in
+      bytes_if (is_redirected c o queue class p) p (filter (is_redirected c o queue class) (judged packets verdicts)) (filter goes packets) (all_go packets verdicts h.1)
+      ∙ ap (λ b. cond b (packet ∷ filter goes packets) (filter goes packets)) (one_goes packet verdict h.0)
+
+-- the packets of a port
+pub packets_there : (lists : List (List (List ℕ))) (port : ℕ) → packets_of_port (map listed lists) port ≡ get_or lists port []
+packets_there lists port = ap (λ (l : PacketList). l.packets) (get_or-map listed lists port [])
+
+pub expected_goes_on : ExpectedGoesOn
+expected_goes_on layout program lists port queue class accepted place =
+    let c : Config = regular_of layout in
+    let rule : Rule = rule_by layout.sockets program in
+    let verdicts : List (List Verdict) = verdicts_by layout program lists in
+    let o : ℕ = paired_port port in
+    let d : ℕ = driver_on c o queue in
+    let other : o < layout.ports = (are_paired layout.ports port (fits layout accepted).ports place.in_ports).in_ports in
+    let at : IsAt c o queue class d (socket_on c o queue class) =
+    is_at c o queue class (regular-config layout (fits layout accepted)) (regular-regular layout (fits layout accepted)) other place.in_queues place.in_classes in
+    let met : MeetRule rule queue (received c (map listed lists) o queue) (get_or verdicts d []) =
+    subst (λ q. MeetRule rule q (received c (map listed lists) o q) (get_or verdicts d [])) at.pair_queue
+    (subst (λ p. MeetRule rule (pair_at c.pairs d).queue (received c (map listed lists) p (pair_at c.pairs d).queue) (get_or verdicts d [])) at.pair_port
+    ((own_setting rule Wait c (map listed lists)).each d at.pair_known)) in
+    all_go layout program o queue class (received c (map listed lists) o queue) (get_or verdicts d []) met
+    ∙ ap (λ ps. filter (goes_on layout program o queue class) (packets_of_queue layout.queues queue ps)) (packets_there lists o)
+
+-- ---- the program that redirects each packet
+
+some_pairs : (m n : ℕ) → 0 < m → 0 < n → 0 < m * n
+some_pairs m n some_m some_n = grind arith
+
+pub classes_are : (layout : Layout) → 0 < pairs_in layout → classes_of (regular_of layout) ≡ layout.sockets
+classes_are layout some =
+    rw (length-numbered (pairs_in layout) (pair_in layout), length-numbered (pairs_in layout * layout.sockets) (socket_in layout)) (mul-div_cancel_left layout.sockets some)
+
+same_number : (a k class n m : ℕ) → n ≡ a + k + 1 → m ≡ a + class + 1 → eqb n m ≡ eqb k class
+same_number a k class n m e f = grind (arith, nat_tests)
+
+in_rows : (port queues queue sockets : ℕ) → (port * queues + queue) * sockets ≡ port * (queues * sockets) + queue * sockets
+in_rows port queues queue sockets =
+    let parts : (port * queues + queue) * sockets ≡ port * queues * sockets + queue * sockets = grind arith in
+    omega (arith, parts, mul_assoc port queues sockets)
+
+module _ (layout : Layout) (port queue class : ℕ) (empty : layout.empty ≡ None) (in_ports : port < layout.ports) (in_queues : queue < layout.queues) (in_sockets : class < layout.sockets) where
+  abbrev config : Config
+  config = regular_of layout
+
+  abbrev socket : ℕ
+  socket = socket_on config port queue class
+
+  -- the cell of a class holds the socket of that class
+  cell_holds : (k : ℕ) → k < layout.sockets → holds_socket (map_of config port) (queue * layout.sockets + k) socket ≡ eqb k class
+  cell_holds k known =
+      let cell : ℕ = queue * layout.sockets + k in
+      let rows : suc queue * layout.sockets ≤ layout.queues * layout.sockets = mul-le-mul_right layout.sockets in_queues in
+      let within : cell < cells_in layout = below queue layout.sockets k (cells_in layout) known rows in
+      let classes : classes_of config ≡ layout.sockets = classes_are layout (some_pairs layout.ports layout.queues (omega (arith, in_ports)) (omega (arith, in_queues))) in
+      let number : socket ≡ (port * layout.queues + queue) * layout.sockets + class = ap (λ n. (port * layout.queues + queue) * n + class) classes in
+      let rows_of : (port * layout.queues + queue) * layout.sockets ≡ port * cells_in layout + queue * layout.sockets = in_rows port layout.queues queue layout.sockets in
+      let has : get_or (map_in layout port) cell 0 ≡ port * cells_in layout + cell + 1 =
+      get_or-numbered (cells_in layout) (cell_in layout port) cell 0 within ∙ ap (λ e. cond (is_left_empty e cell) 0 (port * cells_in layout + cell + 1)) empty in
+      ap (λ m. holds_socket m cell socket) (get_or-numbered layout.ports (map_in layout) port [] in_ports)
+      ∙ ap (λ b. b && eqb (get_or (map_in layout port) cell 0) (socket + 1)) (lt-ltb cell (length (map_in layout port)) (rw (length-numbered (cells_in layout) (cell_in layout port)) within))
+      ∙ same_number (port * cells_in layout + queue * layout.sockets) k class (get_or (map_in layout port) cell 0) (socket + 1) (omega (arith, has)) (omega (arith, number, rows_of))
+
+  class_goes : (packet : List ℕ) → goes_on layout Redirect port queue class packet ≡ (has_length config packet && eqb (packet_class layout.sockets packet) class)
+  class_goes packet = ap (λ b. has_length config packet && b) (cell_holds (packet_class layout.sockets packet) (mod-lt (sum (take 14 packet)) (omega (arith, in_sockets))))
+
+pub class_goes_on : ClassGoesOn
+class_goes_on layout lists port queue class empty in_ports in_queues in_sockets = λ i.
+    filter (λ packet. class_goes layout port queue class empty in_ports in_queues in_sockets packet i) (received_on layout lists port queue)
+
+-- ---- one queue and one socket
+
+-- of one queue are all packets
+all_of_queue : (queues : ℕ) (ps : List (List ℕ)) → queues ≡ 1 → packets_of_queue queues 0 ps ≡ ps
+all_of_queue queues [] one = refl
+all_of_queue queues (packet ∷ ps) one =
+    ap (λ b. cond b (packet ∷ packets_of_queue queues 0 ps) (packets_of_queue queues 0 ps)) (eq-eqb (packet_queue queues packet) 0 (ap (λ k. sum (take 12 packet) % k) one ∙ omega arith))
+    ∙ ap (λ qs. packet ∷ qs) (all_of_queue queues ps one)
+
+keeps : (b w : Bool) → w ≡ true → (b && w) ≡ b
+keeps true w e = e
+keeps false w e = refl
+
+of_one_class : (sockets : ℕ) (packet : List ℕ) → sockets ≡ 1 → packet_class sockets packet ≡ 0
+of_one_class sockets packet one = ap (λ n. sum (take 14 packet) % n) one ∙ omega arith
+
+pub all_go_on : AllGoOn
+all_go_on layout lists port queues sockets empty known =
+    let o : ℕ = paired_port port in
+    let c : Config = regular_of layout in
+    let class : going_on layout Redirect lists o 0 0 ≡ filter (λ packet. has_length c packet && eqb (packet_class layout.sockets packet) 0) (received_on layout lists o 0) =
+    class_goes_on layout lists o 0 0 empty known (omega (arith, queues)) (omega (arith, sockets)) in
+    ap (λ n. map (λ queue. going_on layout Redirect lists o queue 0) (range_with_len 0 n)) queues
+    ∙ ap (λ ps. ps ∷ [])
+    (class
+    ∙ (λ i. filter (λ packet. keeps (has_length c packet) (eqb (packet_class layout.sockets packet) 0) (eq-eqb (packet_class layout.sockets packet) 0 (of_one_class layout.sockets packet sockets)) i) (received_on layout lists o 0))
+    ∙ ap (filter (has_length c)) (all_of_queue layout.queues (get_or lists o []) queues))

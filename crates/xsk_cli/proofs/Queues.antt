@@ -1,0 +1,139 @@
+-- The queues of a port together: what its drivers sent is among the lists of all pairs, and fits one capture.
+use Rattle.std.proofs.Common.{◌≡◌, ℕ, zero, suc, ◌+◌, ◌<◌, ◌≤◌, Bool, true, false, cond, eqb, leb, List, [], ◌∷◌, ◌++◌, length, map, get_or, take, drop, refl, sym, ap, ◌∙◌, arith}
+use Rattle.std.specs.Prelude.{All}
+use Rattle.std.specs.List.{concat, range_with_len}
+use Rattle.std.proofs.lemmas.Bool.Decides.{nat_tests}
+use Rattle.std.proofs.lemmas.List.{drop-map, length-drop, length-take-le, get_or-drop, get_or-take}
+use Rattle.std.proofs.Math.Seq.{take-add}
+use Rattle.std.proofs.lemmas.List.Elements.{All-append, recursion_from_All}
+use Rattle.std.proofs.lemmas.List.FromFn.{length-map-range_with_len, get_or-map-range_with_len}
+use Rattle.xsk_umem.specs.PacketList.{PacketList}
+use Rattle.xsk_pcap.specs.Capture.{IsShort}
+use Rattle.xsk_pcap.specs.Written.{IsWritable, all_packets}
+use Rattle.xsk_model.specs.Steering.{packet_queue}
+use Rattle.xsk_turns.specs.Inputs.{packets_of_queue}
+use Rattle.xsk_laws.proofs.Totals.{total, total-one, total-bytes}
+use Rattle.xsk_cli.specs.Steps.{lists_in}
+use Rattle.xsk_cli.proofs.Ports.{same_lists}
+
+-- entries of a list, from a place on
+pub piece : {X : Type 0} (d : X) (xs : List X) (n k : ℕ) → n + k ≤ length xs → take k (drop n xs) ≡ map (λ i. get_or xs (n + i) d) (range_with_len 0 k)
+piece {X} d xs n k within =
+    let f : ℕ → X = λ i. get_or xs (n + i) d in
+    let all : length (take k (drop n xs)) ≡ k = length-take-le k (drop n xs) (omega (arith, within, length-drop n xs)) in
+    same_lists d (take k (drop n xs)) (map f (range_with_len 0 k)) (all ∙ sym (length-map-range_with_len f 0 k))
+    (λ i h.
+    let below : i < k = omega (arith, h, all) in
+    get_or-take k (drop n xs) i d below ∙ get_or-drop n xs i d ∙ sym (get_or-map-range_with_len f 0 k i i d below (omega arith)))
+
+-- lists that are taken one after another
+pub next_list : (all rest : List PacketList) (n : ℕ) → rest ≡ drop n all → take n (lists_in all) ++ take 1 (lists_in rest) ≡ take (n + 1) (lists_in all)
+next_list all rest n is =
+    ap (λ ls. take n (lists_in all) ++ take 1 (lists_in ls)) is
+    ∙ ap (λ ls. take n (lists_in all) ++ take 1 ls) (sym (drop-map (λ (list : PacketList). list.packets) n all))
+    ∙ sym (take-add n 1 (lists_in all))
+
+pub rest_lists : (all rest : List PacketList) (n : ℕ) → rest ≡ drop n all → lists_in rest ≡ drop n (lists_in all)
+rest_lists all rest n is = ap lists_in is ∙ sym (drop-map (λ (list : PacketList). list.packets) n all)
+
+-- ---- a number of each queue, summed up over so many queues
+
+abbrev sum_over : (ℕ → ℕ) → ℕ → ℕ → ℕ
+sum_over g first zero = 0
+sum_over g first (suc count) = g first + sum_over g (first + 1) count
+
+over_none : (first count : ℕ) → sum_over (λ queue. 0) first count ≡ 0
+over_none first zero = omega arith
+over_none first (suc count) = omega (arith, over_none (first + 1) count)
+
+over_both : (g h : ℕ → ℕ) (first count : ℕ) → sum_over (λ queue. g queue + h queue) first count ≡ sum_over g first count + sum_over h first count
+over_both g h first zero = omega arith
+over_both g h first (suc count) = omega (arith, over_both g h (first + 1) count)
+
+over_less : (g h : ℕ → ℕ) (first count : ℕ) → ((queue : ℕ) → queue < first + count → g queue ≤ h queue) → sum_over g first count ≤ sum_over h first count
+over_less g h first zero each = omega arith
+over_less g h first (suc count) each = omega (arith, each first (omega arith), over_less g h (first + 1) count (λ queue below. each queue (omega (arith, below))))
+
+-- a number of one queue alone
+over_one : (queue n first count : ℕ) → sum_over (λ other. cond (eqb queue other) n 0) first count ≤ cond (leb first queue) n 0
+over_one queue n first zero = omega arith
+over_one queue n first (suc count) = step (sum_over (λ other. cond (eqb queue other) n 0) (first + 1) count) (over_one queue n (first + 1) count)
+  where
+    step : (rest : ℕ) → rest ≤ cond (leb (first + 1) queue) n 0 → cond (eqb queue first) n 0 + rest ≤ cond (leb first queue) n 0
+    step rest h = grind (arith, nat_tests)
+
+at_most : (b : Bool) (n : ℕ) → cond b n 0 ≤ n
+at_most true n = omega arith
+at_most false n = omega arith
+
+-- ---- packets
+
+module _ (f : List ℕ → ℕ) where
+  total_both : (xs ys : List (List ℕ)) → total f (xs ++ ys) ≡ total f xs + total f ys
+  total_both [] ys = omega arith
+  total_both (x ∷ xs) ys = omega (arith, total_both xs ys)
+
+  total_if : (b : Bool) (packet : List ℕ) (packets : List (List ℕ)) → total f (cond b (packet ∷ packets) packets) ≡ cond b (f packet) 0 + total f packets
+  total_if true packet packets = refl
+  total_if false packet packets = omega arith
+
+  total_all : (g : ℕ → List (List ℕ)) (first count : ℕ) → total f (all_packets (map g (range_with_len first count))) ≡ sum_over (λ queue. total f (g queue)) first count
+  total_all g first zero = refl
+  total_all g first (suc count) =
+      total_both (g first) (all_packets (map g (range_with_len (first + 1) count))) ∙ ap (λ n. total f (g first) + n) (total_all g (first + 1) count)
+
+  -- each packet goes to one queue
+  queues_total : (queues : ℕ) (packets : List (List ℕ)) (first count : ℕ) → sum_over (λ queue. total f (packets_of_queue queues queue packets)) first count ≤ total f packets
+  queues_total queues [] first count = omega (arith, over_none first count)
+  queues_total queues (packet ∷ packets) first count =
+      let own = packet_queue queues packet in
+      let here : ℕ → ℕ = λ queue. cond (eqb own queue) (f packet) 0 in
+      let others : ℕ → ℕ = λ queue. total f (packets_of_queue queues queue packets) in
+      let parts : sum_over (λ queue. total f (packets_of_queue queues queue (packet ∷ packets))) first count ≡ sum_over (λ queue. here queue + others queue) first count =
+      λ i. sum_over (λ queue. total_if (eqb own queue) packet (packets_of_queue queues queue packets) i) first count in
+      omega (arith, parts, over_both here others first count, over_one own (f packet) first count, at_most (leb first own) (f packet), queues_total queues packets first count)
+
+  within_total : (queues : ℕ) (g : ℕ → List (List ℕ)) (packets : List (List ℕ)) (count : ℕ) → ((queue : ℕ) → queue < count → total f (g queue) ≤ total f (packets_of_queue queues queue packets))
+      → total f (all_packets (map g (range_with_len 0 count))) ≤ total f packets
+  within_total queues g packets count each =
+      omega (
+        arith,
+        total_all g 0 count,
+        over_less (λ queue. total f (g queue)) (λ queue. total f (packets_of_queue queues queue packets)) 0 count (λ queue below. each queue (omega (arith, below))),
+        queues_total queues packets 0 count,
+      )
+
+all_short : (g : ℕ → List (List ℕ)) (first count : ℕ) → ((queue : ℕ) → queue < first + count → All IsShort (g queue)) → All IsShort (all_packets (map g (range_with_len first count)))
+all_short g first zero each = λ i d below. absurd (omega (arith, below))
+all_short g first (suc count) each =
+    All-append IsShort (g first) (all_packets (map g (range_with_len (first + 1) count))) (each first (omega arith)) (all_short g (first + 1) count (λ queue below. each queue (omega (arith, below))))
+
+-- of each queue no more than the port received there, and so one capture of all
+pub record IsWithin (queues : ℕ) (packets : List (List ℕ)) (queue : ℕ) (sent : List (List ℕ)) : Type 0 where
+  pub short : All IsShort sent
+  pub few : length sent ≤ length (packets_of_queue queues queue packets)
+  pub small : length (concat sent) ≤ length (concat (packets_of_queue queues queue packets))
+
+pub queues_writable : (queues : ℕ) (g : ℕ → List (List ℕ)) (packets : List (List ℕ)) (count : ℕ) → ((queue : ℕ) → queue < count → IsWithin queues packets queue (g queue))
+    → length packets ≤ 65536 → length (concat packets) ≤ 33554432 → IsWritable (map g (range_with_len 0 count))
+queues_writable queues g packets count each few small =
+    let all = all_packets (map g (range_with_len 0 count)) in
+    record {
+      each = recursion_from_All IsShort all (all_short g 0 count (λ queue below. (each queue (omega (arith, below))).short));
+      packets =
+          omega (
+            arith,
+            few,
+            total-one all,
+            total-one packets,
+            within_total (λ _. 1) queues g packets count (λ queue below. omega (arith, (each queue below).few, total-one (g queue), total-one (packets_of_queue queues queue packets))),
+          );
+      bytes =
+          omega (
+            arith,
+            small,
+            total-bytes all,
+            total-bytes packets,
+            within_total (λ (x : List ℕ). length x) queues g packets count (λ queue below. omega (arith, (each queue below).small, total-bytes (g queue), total-bytes (packets_of_queue queues queue packets))),
+          );
+    }
