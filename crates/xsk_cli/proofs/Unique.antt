@@ -6,7 +6,7 @@ use Rattle.xsk_model.specs.Entry.{Entry}
 use Rattle.xsk_pcap.specs.declared.reading.BadCapture.{BadCapture as Cause}
 use Rattle.xsk_pcap.specs.Written.{written}
 use Rattle.xsk_pcap.proofs.CaptureLaws.{one_reading, one_refusal, refused_is_no_capture}
-use Rattle.xsk_sim.proofs.Unique.{same_history, ends_or_stalls}
+use Rattle.xsk_sim.proofs.Unique.{one_run, ends_or_stalls}
 use Rattle.xsk_cli.specs.Judged.{bytes_of, AreShort, IsTooLong, AreCaptures, IsBadCapture, excess_of}
 use Rattle.xsk_cli.specs.Outcome.{Written, Outcome, long, bad, passed, stalled, made, AreListsOf, AreTextsBy, AreTextsOf, IsOutcomeOf, IsOutcomeIn, IsOutcome, IsStalledBy, OneOutcome, setting_of, frames_of, ports_of, report_of, sent_from}
 use Rattle.xsk_args.specs.declared.program.Program.{Program}
@@ -72,14 +72,14 @@ bad_not_packets (Generate number) inputs p c lists a b = none_bad inputs p b.0 a
 -- ---- runs
 
 module _ (layout : Layout) (program : Program) (wire : Wire) (order : ℕ) (lists : List (List (List ℕ))) (a b : Written) (s : AreTextsOf layout program wire order lists a) (t : AreTextsOf layout program wire order lists b) where
-  same_run : s.ended.history ≡ t.ended.history
-  same_run = same_history (setting_of layout program wire lists) (frames_of layout) order s.run t.run s.ended t.ended
+  same_history : s.ended.history ≡ t.ended.history
+  same_history = one_run (setting_of layout program wire lists) (frames_of layout) order s.run t.run s.ended t.ended
 
   same_outputs : a.outputs ≡ b.outputs
-  same_outputs = s.sent ∙ ap (λ h. map (λ port. written (sent_from layout h port)) (ports_of layout)) same_run ∙ sym t.sent
+  same_outputs = s.sent ∙ ap (λ h. map (λ port. written (sent_from layout h port)) (ports_of layout)) same_history ∙ sym t.sent
 
   same_report : a.report ≡ b.report
-  same_report = s.report ∙ ap (λ (h : List Entry). report_of (length h)) same_run ∙ sym t.report
+  same_report = s.report ∙ ap (λ (h : List Entry). report_of (length h)) same_history ∙ sym t.report
 
 same_written : (a b : Written) → a.outputs ≡ b.outputs → a.report ≡ b.report → made a ≡ made b
 same_written a b outputs report =

@@ -1,4 +1,4 @@
-//! Examples of the libraries, each a test: memory, descriptors, captures, layouts of sockets, and a run.
+//! Examples of the libraries, each a test: memory, descriptors, captures, layouts of sockets, a run, and its report.
 #![tactic(auto)]
 
 #[cfg(test)]
@@ -9,5 +9,7 @@ mod descriptors;
 mod layouts;
 #[cfg(test)]
 mod memory;
+#[cfg(test)]
+mod reports;
 #[cfg(test)]
 mod runs;

@@ -145,19 +145,20 @@ goes_no_further s frames order more run k over few is =
     (subst (λ (n : ℕ). AreRounds (IsWholeRun s) (callers_of s.config) order n k) e is.rounds) over.whole
     (ran_by s frames order over.count over.history over.is) (ran_by s frames order more k is)
 
-pub same_history : (s : Setting) (frames : List Frame) (order : ℕ) (run other : Shown) (first : HasEnded s frames order run) (second : HasEnded s frames order other)
+-- there is one history of a run that has ended
+pub one_run : (s : Setting) (frames : List Frame) (order : ℕ) (run other : Shown) → (first : HasEnded s frames order run) → (second : HasEnded s frames order other)
     → first.history ≡ second.history
-same_history s frames order run other first second = ⊎_elim
+one_run s frames order run other first second = ⊎_elim
     (λ (less : first.count < second.count). sym (goes_no_further s frames order second.count run second.history first (omega arith) second.is))
     (λ (more : second.count ≤ first.count). goes_no_further s frames order first.count other first.history second more first.is)
     (cases_lt first.count second.count)
 
 pub one_log : OneLog
 one_log s frames order run other first second =
-    first.log ∙ ap (stored s.config.geometry s.config.sg) (same_history s frames order run other first second) ∙ sym second.log
+    first.log ∙ ap (stored s.config.geometry s.config.sg) (one_run s frames order run other first second) ∙ sym second.log
 
 pub one_figures : OneFigures
-one_figures s frames order run other first second = first.figures ∙ ap (figures_of s) (same_history s frames order run other first second) ∙ sym second.figures
+one_figures s frames order run other first second = first.figures ∙ ap (figures_of s) (one_run s frames order run other first second) ∙ sym second.figures
 
 pub ends_or_stalls : EndsOrStalls
 ends_or_stalls s frames order round run over stalled =
