@@ -39,7 +39,8 @@ use Rattle.xsk_socket.proofs.Accepted.{fits}
 use Rattle.xsk_socket.proofs.Numbered.{length-numbered}
 use Rattle.xsk_socket.proofs.Regularity.{regular-regular}
 use Rattle.xsk_cli.specs.Judged.{excess_of}
-use Rattle.xsk_cli.specs.Outcome.{Written, listed, setting_of, verdicts_by, wire_by, frames_of, sent_from, going_on, report_of, rule_by, AreTextsOf}
+use Rattle.xsk_stats.specs.Report.{report_text}
+use Rattle.xsk_cli.specs.Outcome.{Written, listed, setting_of, verdicts_by, wire_by, frames_of, sent_from, going_on, rule_by, AreTextsOf}
 use Rattle.xsk_cli.specs.Steps.{lists_in}
 use Rattle.xsk_cli.proofs.Going.{classes_are, expected_goes_on, is_exact_by, packets_there}
 use Rattle.xsk_cli.proofs.Judging.{limits_of}
@@ -102,10 +103,10 @@ module _ (layout : Layout) (program : Program) (wire : Wire) (order : ℕ) (list
         all_is_expected (wire_by wire) config (map listed lists) verdicts (frames_of layout) ended.history port queue (ap wire_by waits) whole_runs in_ports in_queues classes
         ∙ expected_goes_on layout program lists port queue 0 accepted (record { in_ports = in_ports; in_queues = in_queues; in_classes = omega (arith, classes) })
 
-    pub texts_of : (calls : ℕ) (texts : Written)
+    pub texts_of : (texts : Written)
         → texts.outputs ≡ map (λ port. written (take layout.queues (drop (port * layout.queues) run.sent))) (range_with_len 0 layout.ports)
-        → calls ≡ length run.log → texts.report ≡ report_of calls → AreTextsOf layout program wire order lists texts
-    texts_of calls texts outputs count report =
+        → texts.report ≡ report_text config run.figures → AreTextsOf layout program wire order lists texts
+    texts_of texts outputs report =
         let is : texts.outputs ≡ map (λ port. written (sent_from layout ended.history port)) (range_with_len 0 layout.ports) =
         outputs ∙ same_map _ _ 0 layout.ports (λ port h. ap written (all_sent port (omega (arith, h)))) in
         record {
@@ -120,7 +121,7 @@ module _ (layout : Layout) (program : Program) (wire : Wire) (order : ℕ) (list
               is
               ∙ same_map _ _ 0 layout.ports (λ port h. ap written
               (same_map _ _ 0 layout.queues (λ queue k. one_sent waits one port queue (omega (arith, h)) (omega (arith, k)))));
-          report = report ∙ ap report_of (count ∙ ap length ended.log ∙ length-map ended.history (stored_entry config.geometry config.sg));
+          report = report ∙ ap (report_text config) ended.figures;
         }
 
     -- ---- the captures of the ports
@@ -158,10 +159,6 @@ lists_short own short pair known =
     let none : PacketList = record { packets = []; spare_packets = 0; spare_bytes = 0 } in
     let below : pair < length own = subst (λ n. pair < n) (length-map own packets) known in
     subst (All IsShort) (sym (get_or-map packets own pair none [] below)) (short pair none below)
-
--- each entry of a log is a call
-pub log_count : (log : Log) → calls_of log ≡ length (entries_of log)
-log_count log = sym (length-entries log.rows.items (map (item_of log.bytes.items) log.pieces.items))
 
 -- one list within the limits may be written
 pub one_list-writable : (packets : List (List ℕ)) → All IsShort packets → length packets ≤ 65536 → length (concat packets) ≤ 33554432 → IsWritable (packets ∷ [])

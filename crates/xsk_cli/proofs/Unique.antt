@@ -79,7 +79,7 @@ module _ (layout : Layout) (program : Program) (wire : Wire) (order : ℕ) (list
   same_outputs = s.sent ∙ ap (λ h. map (λ port. written (sent_from layout h port)) (ports_of layout)) same_history ∙ sym t.sent
 
   same_report : a.report ≡ b.report
-  same_report = s.report ∙ ap (λ (h : List Entry). report_of (length h)) same_history ∙ sym t.report
+  same_report = s.report ∙ ap (report_of layout program wire lists) same_history ∙ sym t.report
 
 same_written : (a b : Written) → a.outputs ≡ b.outputs → a.report ≡ b.report → made a ≡ made b
 same_written a b outputs report =

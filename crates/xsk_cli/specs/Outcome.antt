@@ -15,6 +15,8 @@ use Rattle.xsk_laws.specs.Laws.{AreExpected, AreForwarded, IsPlace}
 use Rattle.xsk_socket.specs.declared.layout.Layout.{Layout}
 use Rattle.xsk_socket.specs.Layout.{fault_of}
 use Rattle.xsk_socket.specs.Regular.{regular_of}
+use Rattle.xsk_driver.specs.Figured.{figures_of}
+use Rattle.xsk_stats.specs.Report.{report_text}
 use Rattle.xsk_sim.specs.Shown.{Shown}
 use Rattle.xsk_args.specs.declared.program.Program.{Program}
 use Rattle.xsk_args.specs.declared.program.Program.TheVariants.{Redirect, Pass, Drop, EtherType, Fixed}
@@ -95,10 +97,11 @@ frames_of layout = fresh layout.chunk layout.frames
 
 -- ---- the texts
 
--- the report's one line: of a run, and of packets that were made
-abbrev pub report_of : ℕ → List ℕ
-report_of calls = codes "calls " ++ decimal calls ++ codes "\n"
+-- the report of a run: its figures, each a count over its history
+abbrev pub report_of : Layout → Program → Wire → List (List (List ℕ)) → List Entry → List ℕ
+report_of layout program wire lists history = report_text (regular_of layout) (figures_of (setting_of layout program wire lists) history)
 
+-- the one line of packets that were made
 abbrev pub report_on : List (List ℕ) → List ℕ
 report_on packets = codes "packets " ++ decimal (length packets) ++ codes " bytes " ++ decimal (length (concat packets)) ++ codes "\n"
 
@@ -137,7 +140,7 @@ going_on layout program lists port queue class = filter (goes_on layout program 
 abbrev pub sent_on_by : Layout → Program → List (List (List ℕ)) → ℕ → List (List (List ℕ))
 sent_on_by layout program lists port = map (λ queue. going_on layout program lists (paired_port port) queue 0) (queues_of layout)
 
--- The texts of a run of these packets that has ended: what the drivers of each port sent, and the number of calls. What the
+-- The texts of a run of these packets that has ended: what the drivers of each port sent, and its figures. What the
 -- driver of a queue sent is what the paired port's driver delivered to the sockets of all classes, whatever the wire does, and
 -- nothing else. Where the wire waits it is what is expected there of all classes; with one socket on each queue each text is
 -- then that of all that goes on to its port.
@@ -152,7 +155,7 @@ pub record AreTextsOf (layout : Layout) (program : Program) (wire : Wire) (order
       → AreExpected (regular_of layout) (map listed lists) (verdicts_by layout program lists) port queue
       (sent_on layout ended.history port queue)
   pub one_socket : wire ≡ Wait → layout.sockets ≡ 1 → texts.outputs ≡ map (λ port. written (sent_on_by layout program lists port)) (ports_of layout)
-  pub report : texts.report ≡ report_of (length ended.history)
+  pub report : texts.report ≡ report_of layout program wire lists ended.history
 
 -- the texts that the work makes of packets: of a run, or of the packets themselves
 abbrev pub AreTextsBy : Work → List (List (List ℕ)) → Written → Type 0

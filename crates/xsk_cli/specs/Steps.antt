@@ -155,7 +155,7 @@ MakesNone work inputs (Stalls round) = IsOutcome work inputs (stalled round)
 MakesNone work inputs NoMemory = Unit {0}
 
 abbrev pub written_in : Texts → Written
-written_in texts = record { outputs = map (λ text. text.items) texts.outputs.items; report = texts.report.bytes.items }
+written_in texts = record { outputs = map (λ text. text.items) texts.outputs.items; report = texts.report.items }
 
 -- ---- writing
 

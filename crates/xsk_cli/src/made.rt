@@ -58,10 +58,10 @@ pub(crate) fn made_texts(alloc: Global, list: &PacketList) -> Result<Texts, OutO
 }
 
 /// The one line of the report.
-fn count_text(alloc: Global, packets: u32, bytes: u64) -> Result<String, OutOfMemory>
-    ensures { IfOk result (λ text. text.bytes.items ≡ codes "packets " ++ decimal packets ++ codes " bytes " ++ decimal bytes ++ codes "\n") }
+fn count_text(alloc: Global, packets: u32, bytes: u64) -> Result<Vec<u8>, OutOfMemory>
+    ensures { IfOk result (λ text. text.items ≡ codes "packets " ++ decimal packets ++ codes " bytes " ++ decimal bytes ++ codes "\n") }
 {
     let mut report = String::new(alloc);
     writeln!(report, "packets {packets} bytes {bytes}")?;
-    Ok(report)
+    Ok(report.into_bytes())
 }

@@ -35,7 +35,7 @@ pub(crate) fn write_texts<B: Bay>(
     ensures cause { IfErr result (λ failure. IsCaused (B.faults bay.old) (B.faults bay.new) (write_status failure)) }
 {
     write_outputs(bay, names, texts.outputs.as_slice())?;
-    if write_whole(bay, Stream::Report, texts.report.as_bytes()).is_err() {
+    if write_whole(bay, Stream::Report, texts.report.as_slice()).is_err() {
         return Err(WriteFailure::Unwritten(Stream::Report));
     }
     Ok(())

@@ -28,8 +28,8 @@ use xsk_io::{Bay, Stream, write_whole};
 /// Does what the words of a command line say, over a bay of which no stream is open.
 ///
 /// `simulate [OPTION ..] IN0 IN1 .. OUT0 OUT1 ..` reads a capture for each port, forwards the packets of each port to the paired
-/// one, and writes a capture for each port, with what the drivers of its queues sent, that of queue 0 first; and then the line
-/// `calls N` with the number of calls to the report. `simulate --gen N [OPTION ..] OUT0 OUT1 ..` makes the packets of a number
+/// one, and writes a capture for each port, with what the drivers of its queues sent, that of queue 0 first; and then
+/// the figures of the run, line by line, to the report. `simulate --gen N [OPTION ..] OUT0 OUT1 ..` makes the packets of a number
 /// instead. `gen N FILE` writes a capture of the packets that are made of a number, and then the line `packets P bytes B`. A
 /// refusal is told in one line to the report.
 pub fn run_plain<B: Bay>(alloc: Global, words: &[String], bay: &mut B) -> Status

@@ -1,5 +1,5 @@
 //! The run of a simulation, and the texts that it leaves.
-ghost use Rattle.std.specs.Prelude.{◌≡◌, ℕ, ◌*◌, ◌<◌, ◌≤◌, ◌++◌, None, All, List, IfErr, IfOk, OnOk, drop, false, length, map, string_bytes, take};
+ghost use Rattle.std.specs.Prelude.{◌≡◌, ℕ, ◌*◌, ◌<◌, ◌≤◌, ◌++◌, None, All, List, IfErr, IfOk, OnOk, drop, false, length, map, take};
 ghost use Rattle.std.specs.List.{concat, range_with_len};
 ghost use Rattle.std.specs.Vec.Iter.{into_iter_items};
 ghost use Rattle.xsk_driver.specs.Sent.{IsShort};
@@ -7,11 +7,14 @@ ghost use Rattle.xsk_prog.specs.Rules.{HasSockets, IsSocketCount};
 ghost use Rattle.xsk_sim.specs.Runs.{HasEnded};
 ghost use Rattle.xsk_sim.specs.Shown.{HasShortPackets};
 ghost use Rattle.xsk_cli.specs.Judged.{excess_of};
-ghost use Rattle.xsk_cli.specs.Outcome.{AreTextsBy, AreTextsOf, capture_of, frames_of, listed, made_lists, report_of, rule_by, setting_of, wire_by};
+ghost use Rattle.xsk_cli.specs.Outcome.{AreTextsBy, AreTextsOf, capture_of, frames_of, listed, made_lists, rule_by, setting_of, wire_by};
 ghost use Rattle.xsk_cli.specs.Steps.{FailsMaking, FailsRunning, IsAwake, lists_in, written_by, written_in};
 ghost use Rattle.xsk_cli.specs.Words.{fault_in};
 ghost use Rattle.xsk_cli.specs.declared.words.Work.TheVariants.{Generate};
-ghost use Rattle.xsk_socket.specs.Layout.{fault_of, pairs_in};
+ghost use Rattle.xsk_model.specs.Config.{IsRegular};
+ghost use Rattle.xsk_model.specs.Opening.{AreFrames};
+ghost use Rattle.xsk_socket.specs.Layout.{fault_of, geometry_of, pairs_in};
+ghost use Rattle.xsk_socket.specs.Regular.{regular_of};
 ghost use Rattle.xsk_pcap.specs.Written.{IsWritable, written};
 
 use crate::failure::RunFailure;
@@ -19,20 +22,21 @@ use crate::made::made_texts;
 use crate::setup::set_up;
 use crate::words::Work;
 use std::alloc::Global;
-use std::fmt::Write;
 use std::vec::IntoIter;
 use xsk_args::{Program, Wire};
+use xsk_model::Config;
 use xsk_pcap::Capture;
 use xsk_prog::{Rule, XdpProgram};
 use xsk_sim::{Run, SimError, simulate};
 use xsk_socket::Layout;
-use xsk_umem::{OutOfMemory, PacketList};
+use xsk_stats::report;
+use xsk_umem::{Frames, OutOfMemory, PacketList};
 
 /// What is written: a capture for each port, and the report.
 #[derive(Drop)]
 pub(crate) struct Texts {
     pub(crate) outputs: Vec<Vec<u8>>,
-    pub(crate) report: String,
+    pub(crate) report: Vec<u8>,
 }
 
 /// Makes what is written of the packets of all ports.
@@ -81,16 +85,21 @@ fn run_texts(
     ensures made { IfOk result (λ texts. AreTextsOf layout.now program wire order (lists_in lists.now) (written_in texts)) }
     ensures failed { IfErr result (FailsRunning layout.now program wire order (lists_in lists.now)) }
 {
-    let run = run_lists(alloc, layout, program, wire, order, lists)?;
-    let report = report_text(alloc, run.log().len())?;
+    let (config, frames) = set_up(alloc, layout)?;
+    let shared = config.copy(alloc)?;
+    let run = run_lists(alloc, layout, config, frames, program, wire, order, lists)?;
+    let report = report(alloc, &shared, run.figures())?;
     let outputs = output_texts(alloc, layout.ports, layout.queues, run.into_sent())?;
     Ok(Texts { outputs, report })
 }
 
 /// Runs the lists of all ports under the program's rule, with the wire.
+#[allow(clippy::too_many_arguments)]
 fn run_lists(
     alloc: Global,
     layout: &Layout,
+    config: Config,
+    frames: Frames,
     program: Program,
     wire: Wire,
     order: u32,
@@ -98,6 +107,10 @@ fn run_lists(
 ) -> Result<Run, RunFailure>
     requires accepted { fault_of layout.now ≡ None }
     requires awake { layout.now.wakeup ≡ false }
+    requires config { config ≡ regular_of layout.now }
+    requires regular { IsRegular config }
+    requires frames { frames.items ≡ frames_of layout.now }
+    requires known { AreFrames (geometry_of layout.now) frames.items }
     requires ports { length lists.now ≡ layout.now.ports }
     requires listed { lists.now ≡ map listed (lists_in lists.now) }
     requires short { All HasShortPackets lists.now }
@@ -105,7 +118,6 @@ fn run_lists(
     ensures ended { IfOk result (HasEnded (setting_of layout.now program wire (lists_in lists.now)) (frames_of layout.now) order) }
     ensures failed { IfErr result (FailsRunning layout.now program wire order (lists_in lists.now)) }
 {
-    let (config, frames) = set_up(alloc, layout)?;
     let rule = rule_of(program, layout.sockets);
     let attached = XdpProgram::attach(rule, |packet: &[u8], queue: u32| {
         rule.verdict(packet, queue)
@@ -203,13 +215,4 @@ pub(crate) fn capture_text(alloc: Global, list: &PacketList) -> Result<Vec<u8>, 
     let mut capture = Capture::start(alloc)?;
     capture.add(list)?;
     Ok(capture.into_bytes())
-}
-
-/// The one line of the report.
-fn report_text(alloc: Global, calls: u32) -> Result<String, OutOfMemory>
-    ensures { IfOk result (λ text. string_bytes text ≡ report_of calls) }
-{
-    let mut report = String::new(alloc);
-    writeln!(report, "calls {calls}")?;
-    Ok(report)
 }

@@ -3,6 +3,7 @@ ghost use Rattle.std.specs.Prelude.{◌≡◌, false, IfOk};
 ghost use Rattle.xsk_io.specs.declared.bay.Stream.{Stream as AStream};
 ghost use Rattle.xsk_io.specs.Memory.{is_open_of};
 
+use crate::reports::{NO_PACKETS, ONE_PACKET};
 use crate::run::run;
 use std::alloc::Global;
 use std::test::Fail;
@@ -79,7 +80,7 @@ fn one_packet_crosses_to_the_other_port(rt: HostRuntime) -> Result<(), Fail> {
     assert_eq!(rt; status, Status::Done);
     assert!(rt; holds(&bay, Stream::Output(0), HEADER.as_slice()));
     assert!(rt; holds(&bay, Stream::Output(1), with_one.as_slice()));
-    assert!(rt; holds(&bay, Stream::Report, b"calls 83\n".as_slice()));
+    assert!(rt; holds(&bay, Stream::Report, ONE_PACKET.as_bytes()));
     Ok(())
 }
 
@@ -89,7 +90,7 @@ fn empty_captures_give_empty_captures(rt: HostRuntime) -> Result<(), Fail> {
     assert_eq!(rt; status, Status::Done);
     assert!(rt; holds(&bay, Stream::Output(0), HEADER.as_slice()));
     assert!(rt; holds(&bay, Stream::Output(1), HEADER.as_slice()));
-    assert!(rt; holds(&bay, Stream::Report, b"calls 45\n".as_slice()));
+    assert!(rt; holds(&bay, Stream::Report, NO_PACKETS.as_bytes()));
     Ok(())
 }
 

@@ -4,6 +4,7 @@ ghost use Rattle.xsk_io.specs.declared.bay.Stream.{Stream as AStream};
 ghost use Rattle.xsk_io.specs.Memory.{is_open_of};
 
 use crate::commands::{HEADER, capture_of, simulate_words};
+use crate::reports::ONE_PACKET;
 use crate::run::run;
 use std::alloc::Global;
 use std::test::Fail;
@@ -115,7 +116,7 @@ fn texts_are_written_whole_by_short_writes(rt: HostRuntime) -> Result<(), Fail> 
         for (stream, text) in [
             (Stream::Output(0), HEADER.as_slice()),
             (Stream::Output(1), with_one.as_slice()),
-            (Stream::Report, b"calls 83\n".as_slice()),
+            (Stream::Report, ONE_PACKET.as_bytes()),
         ] {
             let held = bay.output(stream).ok_or("it isn't told")?;
             assert_eq!(rt; held, text);

@@ -12,6 +12,8 @@ mod many_packets;
 #[cfg(test)]
 mod refusals;
 #[cfg(test)]
+mod reports;
+#[cfg(test)]
 mod run;
 #[cfg(test)]
 mod several_frames;

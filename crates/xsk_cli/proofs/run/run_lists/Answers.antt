@@ -14,15 +14,15 @@ rule_of-rule-requires c =
 pub returns-in-Err-Stalled-clause-failed : goal.returns-in-Err-Stalled-clause-failed
 returns-in-Err-Stalled-clause-failed c =
     let under = c.in-Err-Stalled.ensures.stalled c.in-Err-Stalled.round (ap Err c.in-Err-Stalled.field-0-is) in
-    let s : Setting = record { config = c.in_ok-config.config; wire = c.wire_of-wire.result; packets = c.args.lists.now; verdicts = under.verdicts } in
-    stalled_as c.args.layout.now c.args.program c.args.wire c.args.order c.in_ok-config.config c.args.lists.now c.in_ok-config.frames.items (lists_in c.args.lists.now) c.in-Err-Stalled.round
-    c.in_ok-config.ensures.config c.requires.listed c.in_ok-config.ensures.frames c.wire_of-wire.result c.wire_of-wire.ensures under.verdicts
+    let s : Setting = record { config = c.args.config; wire = c.wire_of-wire.result; packets = c.args.lists.now; verdicts = under.verdicts } in
+    stalled_as c.args.layout.now c.args.program c.args.wire c.args.order c.args.config c.args.lists.now c.args.frames.items (lists_in c.args.lists.now) c.in-Err-Stalled.round
+    c.requires.config c.requires.listed c.requires.frames c.wire_of-wire.result c.wire_of-wire.ensures under.verdicts
     (subst (λ rule. IsRuled rule s) (ap (λ attached. attached.rule) c.attach-attached.ensures.parts ∙ c.rule_of-rule.ensures.rule) (asked_ruled _ c.attach-attached.result.rule c.attach-attached.result.decide s under.asked)) under.stalled
 
 pub returns-in-Ok-clause-ended : goal.returns-in-Ok-clause-ended
 returns-in-Ok-clause-ended c =
     let under = c.in-Ok.ensures.ended in
-    let s : Setting = record { config = c.in_ok-config.config; wire = c.wire_of-wire.result; packets = c.args.lists.now; verdicts = under.verdicts } in
-    ended_as c.args.layout.now c.args.program c.args.wire c.args.order c.in_ok-config.config c.args.lists.now c.in_ok-config.frames.items (lists_in c.args.lists.now) c.in-Ok.run'
-    c.in_ok-config.ensures.config c.requires.listed c.in_ok-config.ensures.frames c.wire_of-wire.result c.wire_of-wire.ensures under.verdicts
+    let s : Setting = record { config = c.args.config; wire = c.wire_of-wire.result; packets = c.args.lists.now; verdicts = under.verdicts } in
+    ended_as c.args.layout.now c.args.program c.args.wire c.args.order c.args.config c.args.lists.now c.args.frames.items (lists_in c.args.lists.now) c.in-Ok.run'
+    c.requires.config c.requires.listed c.requires.frames c.wire_of-wire.result c.wire_of-wire.ensures under.verdicts
     (subst (λ rule. IsRuled rule s) (ap (λ attached. attached.rule) c.attach-attached.ensures.parts ∙ c.rule_of-rule.ensures.rule) (asked_ruled _ c.attach-attached.result.rule c.attach-attached.result.decide s under.asked)) under.ended

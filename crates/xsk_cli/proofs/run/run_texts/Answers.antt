@@ -1,11 +1,17 @@
-use Rattle.std.proofs.Common.{◌≡◌, ℕ, ◌<◌, ◌*◌, List, [], get_or, length, map, take, drop, sym, ap, subst, ◌∙◌}
-use Rattle.std.specs.Prelude.{All}
+use Rattle.std.proofs.Common.{rules, Err, ◌≡◌, ℕ, ◌<◌, ◌*◌, List, [], get_or, length, map, take, drop, sym, ap, subst, ◌∙◌}
+use Rattle.std.specs.Prelude.{All, IfErr}
 use Rattle.std.specs.List.{range_with_len}
 use Rattle.std.proofs.lemmas.List.{length-map}
+use Rattle.std.proofs.lemmas.List.FromFn.{length-map-range_with_len}
+use Rattle.xsk_model.specs.Config.{Config, IsRegular}
+use Rattle.xsk_driver.specs.declared.figures.Figures.{Figures}
+use Rattle.xsk_stats.specs.Report.{report_text}
+use Rattle.xsk_socket.specs.Regular.{regular_of}
 use Rattle.xsk_pcap.specs.Capture.{IsShort}
 use Rattle.xsk_pcap.specs.Written.{IsWritable, written}
-use Rattle.xsk_cli.specs.Steps.{lists_in, written_in}
-use Rattle.xsk_cli.proofs.Running.{lists_short, log_count, sent_writable, texts_of}
+use Rattle.xsk_cli.specs.Steps.{FailsRunning, lists_in, written_in}
+use Rattle.xsk_cli.specs.declared.failure.RunFailure.TheVariants.{OutOfMemory as NoMemory}
+use Rattle.xsk_cli.proofs.Running.{lists_short, sent_writable, texts_of}
 use Rattle.xsk_cli.proofs.run.run_texts.Goals as goal
 
 pub output_texts-requires-clause-writable : goal.output_texts-requires-clause-writable
@@ -30,7 +36,23 @@ returns-clause-made c =
     let same : lists_in own ≡ run.sent = c.into_sent.ensures.sent in
     let pairs : length run.sent ≡ layout.ports * layout.queues =
     ap length (sym same) ∙ length-map own (λ list. list.packets) ∙ c.into_sent.ensures.pairs ∙ c.in_ok-run.ensures.pairs in
-    texts_of layout c.args.program c.args.wire c.args.order (lists_in c.args.lists.now) c.requires.accepted run c.in_ok-run.ensures.ended pairs c.len.result
+    texts_of layout c.args.program c.args.wire c.args.order (lists_in c.args.lists.now) c.requires.accepted run c.in_ok-run.ensures.ended pairs
     (written_in (record { outputs = c.in_ok-outputs.outputs; report = c.in_ok-report.report }))
     (c.in_ok-outputs.ensures ∙ ap (λ (ls : List (List (List ℕ))). map (λ port. written (take layout.queues (drop (port * layout.queues) ls))) (range_with_len 0 layout.ports)) same)
-    (c.len.ensures ∙ log_count c.log.result.now ∙ ap length c.log.ensures.entries) c.in_ok-report.ensures
+    (c.in_ok-report.ensures ∙ ap (λ (k : Config). report_text k c.figures.result.now) (c.in_ok-shared.ensures ∙ c.in_ok-config.ensures.config) ∙ ap (report_text (regular_of layout)) c.figures.ensures)
+
+pub report-requires-clause-regular : goal.report-requires-clause-regular
+report-requires-clause-regular c = subst IsRegular (sym c.in_ok-shared.ensures) c.in_ok-config.ensures.regular
+
+pub report-requires-clause-drivers : goal.report-requires-clause-drivers
+report-requires-clause-drivers c =
+    let layout = c.args.layout.now in
+    ap (λ (figures : Figures). length figures.drivers) (c.figures.ensures ∙ c.in_ok-run.ensures.ended.figures)
+    ∙ length-map-range_with_len _ 0 (length (regular_of layout).pairs)
+    ∙ ap (λ (k : Config). length k.pairs) (sym (c.in_ok-shared.ensures ∙ c.in_ok-config.ensures.config))
+
+pub returns-in_err-report-clause-failed : goal.returns-in_err-report-clause-failed
+returns-in_err-report-clause-failed c =
+    let gives = c.from_residual-in_err-report.ensures in
+    let error : c.from_residual-in_err-report.result ≡ Err NoMemory = search (rules, gives) in
+    subst (λ r. IfErr r (FailsRunning c.args.layout.now c.args.program c.args.wire c.args.order (lists_in c.args.lists.now))) (sym error) tt
