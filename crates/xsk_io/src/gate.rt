@@ -1,6 +1,8 @@
 //! Gates: what each worker on a thread of its own passes before each of its turns. They are for tests, which see by them that
 //! workers run at once.
+ghost use Rattle.std.specs.Prelude.{◌≡◌, ◌≤◌, ◌^◌, nat_lt, false, if◌then◌else◌};
 
+use std::marker::Model;
 use std::sync::atomic::{AtomicU64, Ordering};
 use std::thread;
 
@@ -42,8 +44,10 @@ impl PairGate {
         }
     }
 
-    /// Whether a worker below 64 has entered.
-    pub fn entered(&self, worker: u32) -> bool {
+    /// Whether a worker below 64 has entered. Of others it tells nothing.
+    pub fn entered(&self, worker: u32) -> bool
+        ensures others { 64 ≤ worker → result ≡ false }
+    {
         self.entered.load(Ordering::SeqCst) & bit(worker) != 0
     }
 
@@ -79,7 +83,9 @@ impl Gate for PairGate {
 }
 
 /// The worker's bit, and none from 64 on.
-fn bit(worker: u32) -> u64 {
+fn bit(worker: u32) -> u64
+    ensures { result ≡ (if nat_lt worker 64 then 2 ^ worker else 0) }
+{
     1u64.checked_shl(worker).unwrap_or(0)
 }
 
@@ -91,9 +97,19 @@ pub struct HoldGate {
     pushed: AtomicU64,
 }
 
+impl Model for HoldGate {
+    ghost use Rattle.std.specs.Prelude.{ℕ};
+
+    ghost Value = { ℕ };
+
+    ghost view = { λ g. g.worker };
+}
+
 impl HoldGate {
     /// A gate that holds this worker.
-    pub fn new(worker: u32) -> HoldGate {
+    pub fn new(worker: u32) -> HoldGate
+        ensures { result ≡ worker }
+    {
         HoldGate {
             worker,
             passed: AtomicU64::new(0),

@@ -3,11 +3,13 @@ pub mod Engine
 pub mod Histories
 pub mod Kept
 pub mod Laws
+pub mod Line
 pub mod Log
 pub mod Object
 pub mod Pieces
 pub mod Repeats
 pub mod Rooms
+pub mod Rows
 pub mod Sound
 pub mod Spans
 pub mod Steps

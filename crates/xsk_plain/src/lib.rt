@@ -5,6 +5,7 @@ mod checked;
 #[cfg(test)]
 mod checked_tests;
 pub mod laws;
+mod line;
 mod log;
 mod moving;
 mod noting;
@@ -17,5 +18,6 @@ mod ring_store;
 mod tests;
 
 pub use checked::Checked;
+pub use line::LineBuffer;
 pub use log::Log;
 pub use plain::{OpenRefused, Plain, items_room, payload_room};

@@ -1,7 +1,7 @@
 //! The log of all calls and replies, with payloads in place of frames.
 ghost use Rattle.std.specs.Prelude.{◌≡◌, ◌+◌, ◌*◌, ◌<◌, ◌≤◌, ◌^◌, ◌↔◌, [], length, sum_by, vec_len, vec_capacity, All, IsTrue, OnOk};
 ghost use Rattle.xsk_umem.specs.Limits.{most_items};
-ghost use Rattle.xsk_plain.specs.Pieces.{IsPieceIn, count_of};
+ghost use Rattle.xsk_plain.specs.Pieces.{IsPieceIn, IsShort, count_of};
 ghost use Rattle.xsk_plain.specs.Spans.{at_span, IsWithin};
 
 use crate::repeats::{Repeated, Repeats};
@@ -216,20 +216,21 @@ impl Repeated for Piece {
 /// payloads. Rows and pieces that come again are kept once, and a payload once while a frame's stays the same.
 #[derive(Debug, Drop)]
 pub struct Log {
-    rows: Repeats<Row>,
+    pub(crate) rows: Repeats<Row>,
     /// The items of all rows, in order.
-    pieces: Repeats<Piece>,
+    pub(crate) pieces: Repeats<Piece>,
     bytes: Vec<u8>,
     /// Where the payload stands that was kept last for a frame, by its number modulo 1,024.
     kept: [Span; KEPT],
     /// The number of pieces of all rows.
-    begun: u32,
+    pub(crate) begun: u32,
     spare_entries: u32,
     spare_bytes: u64,
     ghost rows_room: { spare_entries ≤ rows.spare },
     ghost rows_few: { length rows.items + spare_entries < 2 ^ 32 },
     ghost pieces_room: { begun + 32 * spare_entries ≤ length pieces.items + pieces.spare },
     ghost begun_within: { begun ≤ length pieces.items },
+    ghost rows_short: { All IsShort rows.items },
     ghost begun_is: { sum_by count_of rows.items ≡ begun },
     ghost bytes_room: { vec_len bytes + spare_bytes ≤ vec_capacity bytes },
     ghost pieces_in: { All (IsPieceIn bytes.items) pieces.items },

@@ -66,6 +66,15 @@ impl<T: Repeated> Repeats<T> {
         self.places.len() as u32
     }
 
+    /// The value at a place.
+    pub(crate) fn get(&self, i: u32) -> &T
+        requires { i < length self.now.items }
+        ensures { slice_get self.now.items i ≡ Some result.now }
+    {
+        let _spare = self.spare;
+        &self.values[self.places[i as usize] as usize]
+    }
+
     /// Makes room for at least so many further values. The room never gets smaller by it.
     pub(crate) fn reserve(&mut self, extra: u64) -> Result<(), OutOfMemory>
         ensures items { self.new.items ≡ self.old.items }
