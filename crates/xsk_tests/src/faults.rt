@@ -153,7 +153,18 @@ fn each_text_is_offered_as_one_piece_and_then_its_rest(rt: HostRuntime) -> Resul
         offer(Stream::Output(0), 24, 24),
         offer(Stream::Output(1), 100, 60),
         offer(Stream::Output(1), 40, 40),
-        offer(Stream::Report, 9, 9),
+        offer(Stream::Report, 677, 60),
+        offer(Stream::Report, 617, 60),
+        offer(Stream::Report, 557, 60),
+        offer(Stream::Report, 497, 60),
+        offer(Stream::Report, 437, 60),
+        offer(Stream::Report, 377, 60),
+        offer(Stream::Report, 317, 60),
+        offer(Stream::Report, 257, 60),
+        offer(Stream::Report, 197, 60),
+        offer(Stream::Report, 137, 60),
+        offer(Stream::Report, 77, 60),
+        offer(Stream::Report, 17, 17),
     ];
     assert_eq!(rt; offers, expected.as_slice());
     Ok(())
