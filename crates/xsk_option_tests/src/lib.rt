@@ -8,6 +8,8 @@ mod programs;
 #[cfg(test)]
 mod queues;
 #[cfg(test)]
+mod reports;
+#[cfg(test)]
 mod run;
 #[cfg(test)]
 mod table;

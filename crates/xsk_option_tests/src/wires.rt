@@ -9,7 +9,7 @@ use xsk_io::Stream;
 const ROOM: u32 = 16_384;
 
 /// A capture in the written form of so many packets of 60 bytes, each with its number in its first byte.
-fn capture_of(alloc: Global, packets: u8) -> Result<Vec<u8>, Fail> {
+pub(crate) fn capture_of(alloc: Global, packets: u8) -> Result<Vec<u8>, Fail> {
     let mut text = Vec::from_slice(alloc, &HEADER)?;
     for number in 0..packets {
         text.extend_from_slice(&[0, 0, 0, 0, number, 0, 0, 0, 60, 0, 0, 0, 60, 0, 0, 0])?;
@@ -20,7 +20,7 @@ fn capture_of(alloc: Global, packets: u8) -> Result<Vec<u8>, Fail> {
 }
 
 /// A capture in the written form of one packet of 9,000 bytes.
-fn capture_of_long(alloc: Global) -> Result<Vec<u8>, Fail> {
+pub(crate) fn capture_of_long(alloc: Global) -> Result<Vec<u8>, Fail> {
     let mut text = Vec::from_slice(alloc, &HEADER)?;
     text.extend_from_slice(&[0; 8])?;
     for _ in 0..2 {
