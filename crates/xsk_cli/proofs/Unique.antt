@@ -6,7 +6,7 @@ use Rattle.xsk_model.specs.Entry.{Entry}
 use Rattle.xsk_pcap.specs.declared.reading.BadCapture.{BadCapture as Cause}
 use Rattle.xsk_pcap.specs.Written.{written}
 use Rattle.xsk_pcap.proofs.CaptureLaws.{one_reading, one_refusal, refused_is_no_capture}
-use Rattle.xsk_sim.proofs.Unique.{one_run, ends_or_stalls}
+use Rattle.xsk_sim.proofs.Unique.{one_run, ends_or_stalls, one_stall as one_stalled_round}
 use Rattle.xsk_cli.specs.Judged.{bytes_of, AreShort, IsTooLong, AreCaptures, IsBadCapture, excess_of}
 use Rattle.xsk_cli.specs.Outcome.{Written, Outcome, long, bad, passed, stalled, made, AreListsOf, AreTextsBy, AreTextsOf, IsOutcomeOf, IsOutcomeIn, IsOutcome, IsStalledBy, OneOutcome, setting_of, frames_of, ports_of, report_of, sent_from}
 use Rattle.xsk_args.specs.declared.program.Program.{Program}
@@ -91,7 +91,7 @@ one_made (Simulate layout program wire order number) lists a b s t = same_writte
 one_made (Generate number) lists a b s t = same_written a b (s.0 ∙ sym t.0) (s.1 ∙ sym t.1)
 
 one_stall : (work : Work) (lists : List (List (List ℕ))) (r s : ℕ) → IsStalledBy work lists r → IsStalledBy work lists s → r ≡ s
-one_stall (Simulate layout program wire order number) lists r s x y = x.last ∙ sym y.last
+one_stall (Simulate layout program wire order number) lists r s x y = one_stalled_round (setting_of layout program wire lists) (frames_of layout) order r s x y
 one_stall (Generate number) lists r s x y = absurd x
 
 no_texts_and_stall : (work : Work) (lists : List (List (List ℕ))) (texts : Written) (r : ℕ) → AreTextsBy work lists texts → IsStalledBy work lists r → ⊥

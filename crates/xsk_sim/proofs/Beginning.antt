@@ -26,14 +26,15 @@ pub seated_first : (wire : Wire) (c copy : Config) (packets : List PacketList) (
     → Shows engine (opening c frames) → engine.log ≡ []
     → EachFrom w.drivers.items 0 (λ who seat. DriverSits (record { config = copy; wire = wire; packets = packets; verdicts = verdicts }) new_own who seat.machine (joined_ask seat.ask seat.items))
     → EachFrom w.apps.items (length copy.pairs) (λ who seat. AppSits (record { config = copy; wire = wire; packets = packets; verdicts = verdicts }) new_own who seat.machine (joined_ask seat.ask seat.items))
-    → vec_len w.drivers ≡ length copy.pairs → vec_len w.apps ≡ apps_of copy → AreSeated (record { config = c; wire = wire; packets = packets; verdicts = verdicts }) frames [] w engine
-seated_first wire c copy packets verdicts frames w engine is opened config shows log drivers apps driver_count app_count =
+    → EachFrom w.drivers.items 0 (λ who seat. seat.settled ≡ 0) → vec_len w.drivers ≡ length copy.pairs → vec_len w.apps ≡ apps_of copy → AreSeated (record { config = c; wire = wire; packets = packets; verdicts = verdicts }) frames [] w engine
+seated_first wire c copy packets verdicts frames w engine is opened config shows log drivers apps settled driver_count app_count =
     subst (λ (k : Config). AreSeated (record { config = k; wire = wire; packets = packets; verdicts = verdicts }) frames [] w engine) is
     (record {
       run = run_begins (record { config = copy; wire = wire; packets = packets; verdicts = verdicts }) frames engine (subst (λ (k : Config). IsOpened k frames) (sym is) opened) (config ∙ sym is)
           (subst (λ (k : Config). Shows engine (opening k frames)) (sym is) shows) log;
       drivers = drivers;
       apps = apps;
+      settled = settled;
       driver_count = driver_count;
       app_count = app_count;
     })
@@ -43,7 +44,7 @@ pub seated_opened : (wire : Wire) (c copy : Config) (packets : List PacketList) 
     → IsLawful c → AreFrames c.geometry frames → engine.config ≡ c → Shows engine (opening c frames) → engine.log ≡ []
     → EachFrom w.drivers.items 0 (λ who seat. DriverSits (record { config = copy; wire = wire; packets = packets; verdicts = verdicts }) new_own who seat.machine (joined_ask seat.ask seat.items))
     → EachFrom w.apps.items (length copy.pairs) (λ who seat. AppSits (record { config = copy; wire = wire; packets = packets; verdicts = verdicts }) new_own who seat.machine (joined_ask seat.ask seat.items))
-    → vec_len w.drivers ≡ length copy.pairs → vec_len w.apps ≡ apps_of copy → AreSeated (record { config = c; wire = wire; packets = packets; verdicts = verdicts }) frames [] w engine
-seated_opened wire c copy packets verdicts frames w engine is geometry known lawful umem config shows log drivers apps driver_count app_count =
+    → EachFrom w.drivers.items 0 (λ who seat. seat.settled ≡ 0) → vec_len w.drivers ≡ length copy.pairs → vec_len w.apps ≡ apps_of copy → AreSeated (record { config = c; wire = wire; packets = packets; verdicts = verdicts }) frames [] w engine
+seated_opened wire c copy packets verdicts frames w engine is geometry known lawful umem config shows log drivers apps settled driver_count app_count =
     let opened : IsOpened c frames = record { geometry = subst (λ (k : Config). IsGeometry k.geometry) is geometry; config = known; lawful = lawful; umem = umem } in
-    seated_first wire c copy packets verdicts frames w engine is opened config shows log drivers apps driver_count app_count
+    seated_first wire c copy packets verdicts frames w engine is opened config shows log drivers apps settled driver_count app_count

@@ -1,5 +1,5 @@
 -- How a run ends.
-use Rattle.std.proofs.Common.{◌≡◌, ℕ, map, ◌+◌, ◌<◌, ◌≤◌, List, [], ◌∷◌, ◌++◌, length, take, get_or, ap, sym, subst, ◌∙◌, arith, ⊎_elim}
+use Rattle.std.proofs.Common.{◌≡◌, ℕ, map, ◌+◌, ◌<◌, ◌≤◌, List, [], ◌∷◌, ◌++◌, length, take, get_or, ap, sym, subst, ◌∙◌, arith, ◌⊎◌, ⊎_elim}
 use Rattle.std.proofs.lemmas.Bool.{cases_lt}
 use Rattle.xsk_turns.specs.Stepping.{joined_ask}
 use Rattle.xsk_umem.specs.Frame.{Frame}
@@ -29,7 +29,8 @@ use Rattle.xsk_plain.specs.Log.{calls_of, entries_of, item_of}
 use Rattle.xsk_plain.specs.declared.log.Log.{Log}
 use Rattle.xsk_sim.specs.Shown.{Shown}
 use Rattle.xsk_turns.specs.Workers.{Setting, IsWorkerRun, IsWholeRun, input_of}
-use Rattle.xsk_sim.specs.Runs.{HasEnded, HasStalled, last_round_of}
+use Rattle.xsk_sim.specs.Runs.{HasEnded, HasStalled, NeverStill}
+use Rattle.xsk_sim.specs.Stalls.{StandStill}
 use Rattle.xsk_machine.specs.Acts.{IsActAfter, DriverStands}
 use Rattle.xsk_sim.specs.Seats.{EachFrom, own_in, AreSeated, HadRounds, HaveEnded, kept_lists, kept_figures}
 use Rattle.xsk_sim.specs.declared.rounds.Workers.{Workers}
@@ -139,10 +140,10 @@ module _ (s : Setting) (frames : List Frame) (h : List Entry) (w : Workers) (eng
 
 -- a run that has ended
 pub ended_run : (s : Setting) (frames : List Frame) (order count : ℕ) (w : Workers) (engine : Engine) (run : Shown) (classes calls : ℕ) (wire : Wire) → IsRegular s.config → (had : HadRounds s frames order count w engine)
-    → count ≤ last_round_of s.packets + 1 → HaveEnded w → run.log ≡ engine.log → run.sent ≡ kept_lists w
+    → count ≤ 18446744073709551616 → NeverStill s frames order count → HaveEnded w → run.log ≡ engine.log → run.sent ≡ kept_lists w
     → classes ≡ classes_of s.config → calls ≡ length engine.log → calls ≤ 18446744073709551615 → run.figures ≡ whole_of calls wire (kept_figures classes w) → wire ≡ s.wire
     → HasEnded s frames order run
-ended_run s frames order count w engine run classes calls wire regular had few ended log kept sockets number fits figures same =
+ended_run s frames order count w engine run classes calls wire regular had few never ended log kept sockets number fits figures same =
     let legal : IsHistory s.config frames had.history = had.seated.run.legal in
     let whole = whole_runs s frames had.history w engine had.seated ended in
     let within : AreWithin s had.history = are_within s frames had.history regular legal whole in
@@ -150,6 +151,7 @@ ended_run s frames order count w engine run classes calls wire regular had few e
       history = had.history;
       count = count;
       few = few;
+      never_still = never;
       is = record { legal = legal; rounds = had.rounds; runs = all_runs s frames had.history w engine had.seated };
       whole = whole;
       log = log ∙ had.seated.run.log;
@@ -160,17 +162,21 @@ ended_run s frames order count w engine run classes calls wire regular had few e
     }
 
 -- a run that has stalled
-pub stalled_run : (s : Setting) (frames : List Frame) (order round : ℕ) (w : Workers) (engine : Engine) → round ≡ last_round_of s.packets
-    → HadRounds s frames order (round + 1) w engine → (HaveEnded w → ⊥) → HasStalled s frames order round
-stalled_run s frames order round w engine last had going =
+pub stalled_run : (s : Setting) (frames : List Frame) (order round : ℕ) (w : Workers) (engine : Engine) → (had : HadRounds s frames order (round + 1) w engine) → (HaveEnded w → ⊥)
+    → round ≤ 18446744073709551615 → StandStill s frames order 64 (round + 1) had.history ⊎ (round ≡ 18446744073709551615) → NeverStill s frames order round → HasStalled s frames order round
+stalled_run s frames order round w engine had going few still first =
     let some = open_run s frames had.history w engine had.seated going in
     record {
-      last = last;
-      history = had.history;
-      is = record { legal = had.seated.run.legal; rounds = had.rounds; runs = all_runs s frames had.history w engine had.seated };
-      who = some.who;
-      known = some.high;
-      open_run = some.open_run;
+      few = few;
+      past = record {
+        history = had.history;
+        is = record { legal = had.seated.run.legal; rounds = had.rounds; runs = all_runs s frames had.history w engine had.seated };
+        who = some.who;
+        known = some.high;
+        open_run = some.open_run;
+      };
+      still = still;
+      first = first;
     }
 
 -- one item more of what a function makes of a list

@@ -6,3 +6,5 @@ pub mod Ending
 pub mod Unique
 pub mod Verdicts
 pub mod Forwarded
+pub mod Stalling
+pub mod Standing

@@ -1,7 +1,9 @@
 -- What a call on the engine does to a run.
-use Rattle.std.proofs.Common.{◌≡◌, ℕ, List, [], ◌∷◌, ◌++◌, refl, sym, subst, ap, ◌∙◌, inl, inr, append-nil}
+use Rattle.std.proofs.Common.{◌≡◌, ◌↔◌, Option, None, Some, Bool, true, false, IsTrue, ℕ, List, [], ◌∷◌, ◌++◌, refl, sym, subst, ap, ◌∙◌, inl, inr, append-nil}
 use Rattle.std.proofs.lemmas.List.{map-append}
 use Rattle.xsk_umem.specs.Frame.{Frame}
+use Rattle.xsk_umem.specs.declared.batch.Item.{Item}
+use Rattle.xsk_turns.specs.Stepping.{joined_ask}
 use Rattle.xsk_model.specs.Config.{Config}
 use Rattle.xsk_model.specs.Object.{State, reply_at, after}
 use Rattle.xsk_model.specs.Entry.{Told, Entry, own, with_told}
@@ -9,6 +11,8 @@ use Rattle.xsk_model.specs.Legal.{IsLegal}
 use Rattle.xsk_model.specs.Opening.{opening}
 use Rattle.xsk_model.specs.History.{IsHistory, state_after, MayGive}
 use Rattle.xsk_model.specs.Stored.{stored_entry}
+use Rattle.xsk_model.specs.OtherWords.{changes}
+use Rattle.xsk_model.specs.declared.ask.Ask.{Ask}
 use Rattle.xsk_model.specs.declared.call.Call.{Call}
 use Rattle.xsk_model.specs.declared.call.Reply.{Reply}
 use Rattle.xsk_model.specs.declared.call.Act.{Act}
@@ -19,7 +23,7 @@ use Rattle.xsk_plain.specs.Engine.{Engine, Shows, CanPerform}
 use Rattle.xsk_plain.proofs.Legality.{legal_can_perform}
 use Rattle.xsk_turns.specs.Workers.{Setting}
 use Rattle.xsk_machine.specs.Acts.{IsActAfter}
-use Rattle.xsk_sim.specs.Turning.{HasRun, TakesTurn}
+use Rattle.xsk_sim.specs.Turning.{HasRun, TakesTurn, Notes}
 
 -- the engine made a call and entered it
 pub record Performs (old new : Engine) (who : ℕ) (call : Call) (answer : Reply) : Type 0 where
@@ -72,35 +76,42 @@ may_give c frames h who call reply history =
     record { frames = frames; history = h ++ entry who call reply ∷ []; legal = history; entries = own-push_same who h (entry who call reply) refl }
 
 -- a worker that makes its call takes its turn
-pub turn_made : (s : Setting) (frames : List Frame) (h : List Entry) (old new : Engine) (who : ℕ) (call : Call) (reply : Reply) (act : Act) (Stands : List Told → Type 0)
+pub turn_made : (s : Setting) (frames : List Frame) (h : List Entry) (old new : Engine) (who : ℕ) (call : Call) (reply : Reply) (gave act : Act) (before settled noted : ℕ) (still : Bool) (Stands : List Told → Type 0)
     → HasRun s frames h old → IsActAfter s who (Calls call) (own who h) → Performs old new who call reply
     → (MayGive s.config (own who h) who call reply → Stands (with_told (own who h) call reply) × IsActAfter s who act (with_told (own who h) call reply))
-    → TakesTurn s frames who h Stands act new
-turn_made s frames h old new who call reply act Stands run given performs goes =
+    → gave ≡ Calls call → noted ≡ settled → IsTrue still ↔ ((changes call reply ≡ false) × (settled ≡ before))
+    → (t : TakesTurn s frames who h Stands act new) × Notes gave before settled noted still t.entries
+turn_made s frames h old new who call reply gave act before settled noted still Stands run given performs goes is notes quiet =
     let e = entry who call reply in
     let made : HasRun s frames (h ++ e ∷ []) new = run_step s frames h old new who call reply run given.0 performs in
     let stands = goes (may_give s.config frames h who call reply made.legal) in
-    let mine : own who (h ++ e ∷ []) ≡ with_told (own who h) call reply = own-push_same who h e refl in
-    record {
-      entries = e ∷ [];
-      turn = inr (given.1, (e, refl, refl));
-      run = made;
-      stands = subst Stands (sym mine) stands.0;
-      after = subst (IsActAfter s who act) (sym mine) stands.1;
-    }
+    let mine : own who (h ++ e ∷ []) ≡ with_told (own who h) call reply = own-push_same who h e refl in (
+      record {
+        entries = e ∷ [];
+        turn = inr (given.1, (e, refl, refl));
+        run = made;
+        stands = subst Stands (sym mine) stands.0;
+        after = subst (IsActAfter s who act) (sym mine) stands.1;
+      },
+      (is, notes, quiet),
+    )
 
 -- one that has ended makes none
-pub turn_past : (s : Setting) (frames : List Frame) (h : List Entry) (engine : Engine) (who : ℕ) (Stands : List Told → Type 0) → HasRun s frames h engine
-    → Stands (own who h) → IsActAfter s who IsEnd (own who h) → TakesTurn s frames who h Stands IsEnd engine
-turn_past s frames h engine who Stands run stands whole =
-    let e : h ≡ h ++ [] = sym (append-nil h) in
-    record {
-      entries = [];
-      turn = inl (whole, refl);
-      run = subst (λ l. HasRun s frames l engine) e run;
-      stands = subst (λ l. Stands (own who l)) e stands;
-      after = subst (λ l. IsActAfter s who IsEnd (own who l)) e whole;
-    }
+pub turn_past : (s : Setting) (frames : List Frame) (h : List Entry) (engine : Engine) (who : ℕ) (wants : Option Ask) (items : List Item) (before settled : ℕ) (Stands : Act → List Told → Type 0)
+    → wants ≡ None → HasRun s frames h engine → Stands (joined_ask wants items) (own who h) → IsActAfter s who (joined_ask wants items) (own who h)
+    → (t : TakesTurn s frames who h (Stands (joined_ask wants items)) (joined_ask wants items) engine) × Notes (joined_ask wants items) before settled before true t.entries
+turn_past s frames h engine who None items before settled Stands is run stands whole =
+    let e : h ≡ h ++ [] = sym (append-nil h) in (
+      record {
+        entries = [];
+        turn = inl (whole, refl);
+        run = subst (λ l. HasRun s frames l engine) e run;
+        stands = subst (λ l. Stands IsEnd (own who l)) e stands;
+        after = subst (λ l. IsActAfter s who IsEnd (own who l)) e whole;
+      },
+      (refl, refl),
+    )
+turn_past s frames h engine who (Some wanted) items before settled Stands is run stands whole = let no : Some wanted ≡ None = is in cc
 
 -- room in the log changes nothing of a run
 pub run_same : (s : Setting) (frames : List Frame) (h : List Entry) (old new : Engine) → HasRun s frames h old

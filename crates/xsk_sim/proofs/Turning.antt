@@ -1,10 +1,7 @@
 -- Turns of callers, one after the other.
-use Rattle.std.proofs.Common.{◌≡◌, ℕ, zero, suc, ◌+◌, ◌-◌, ◌^◌, ◌<◌, ◌≤◌, List, [], ◌∷◌, ◌++◌, refl, sym, subst, ap, ◌∙◌, arith, append_assoc, append-nil, vec_len, ⊎_elim}
-use Rattle.std.specs.Prelude.{OnOk}
-use Rattle.std.proofs.Common.{Result, Ok, Err}
+use Rattle.std.proofs.Common.{◌≡◌, ◌↔◌, Bool, true, IsTrue, ℕ, zero, suc, ◌+◌, ◌-◌, ◌^◌, ◌<◌, ◌≤◌, List, [], ◌∷◌, ◌++◌, refl, sym, subst, ap, ◌∙◌, arith, append_assoc, append-nil, vec_len, ⊎_elim}
 use Rattle.std.specs.List.{range_with_len}
 use Rattle.xsk_umem.specs.Frame.{Frame}
-use Rattle.xsk_model.specs.Config.{callers_of}
 use Rattle.xsk_model.proofs.Few.{apps_few}
 use Rattle.xsk_model.specs.Entry.{Told, Entry, own}
 use Rattle.xsk_model.proofs.Folds.{own-push_other}
@@ -12,12 +9,12 @@ use Rattle.xsk_model.specs.declared.call.Act.{Act}
 use Rattle.xsk_plain.specs.Engine.{Engine}
 use Rattle.xsk_driver.specs.Shown.{Shown as DriverShown}
 use Rattle.xsk_app.specs.Shown.{Shown as AppShown}
-use Rattle.xsk_sim.specs.Order.{next_number, number_at, start_of, rotated}
-use Rattle.xsk_sim.specs.Rounds.{IsTurn, AreTurns, AreRounds}
+use Rattle.xsk_sim.specs.Rounds.{IsTurn, AreTurns}
 use Rattle.xsk_turns.specs.Workers.{Setting, IsWholeRun}
 use Rattle.xsk_machine.specs.Acts.{DriverStands, AppStands, IsActAfter}
-use Rattle.xsk_sim.specs.Seats.{AreGoing, DriverSits, AppSits, own_in, AreSeated, HadTurns, HadRound, HadRounds}
+use Rattle.xsk_sim.specs.Seats.{AreGoing, DriverSits, AppSits, own_in, AreSeated, HadTurns}
 use Rattle.xsk_sim.specs.declared.rounds.Workers.{Workers}
+use Rattle.xsk_sim.proofs.Stalling.{told_both}
 
 -- the own calls and replies of a caller whose turn it isn't stay
 pub own_turn : (Whole : ℕ → List Told → Type 0) (h : List Entry) (who other : ℕ) (es : List Entry) → IsTurn Whole h who es → (other ≡ who → ⊥)
@@ -47,11 +44,6 @@ turns_both Whole past (w ∷ ws) vs es fs first rest =
       turns_both Whole (past ++ first.0) ws vs first.1 fs first.4 more,
     )
 
--- where a step went well, what follows from it
-pub on_ok : {T E : Type 0} (r : Result T E) (P Q : Type 0) → (P → Q) → OnOk r P → OnOk r Q
-on_ok (Ok x) P Q f p = f p
-on_ok (Err e) P Q f p = tt
-
 -- a worker that stands for its own calls and replies does so after further entries that aren't its own
 pub driver_on : (s : Setting) (h later : List Entry) (who : ℕ) (d : DriverShown) (act : Act) → own who later ≡ own who h → DriverSits s (own_in h) who d act
     → DriverSits s (own_in later) who d act
@@ -62,17 +54,18 @@ pub app_on : (s : Setting) (h later : List Entry) (who : ℕ) (a : AppShown) (ac
 app_on s h later who a act same sits = subst (λ l. AppStands s who a act l × IsActAfter s who act l) (sym same) sits
 
 -- callers who had their turns, and then further ones
-pub had_both : (s : Setting) (frames : List Frame) (h : List Entry) (ws vs : List ℕ) (w v : Workers) (engine later : Engine) → (had : HadTurns s frames h ws w engine)
-    → HadTurns s frames (h ++ had.entries) vs v later → HadTurns s frames h (ws ++ vs) v later
-had_both s frames h ws vs w v engine later had more = record {
+pub had_both : (s : Setting) (frames : List Frame) (h : List Entry) (ws vs : List ℕ) (w v : Workers) (engine later : Engine) (a b c : Bool) → IsTrue c ↔ (IsTrue a × IsTrue b)
+    → (had : HadTurns s frames h ws w engine a) → HadTurns s frames (h ++ had.entries) vs v later b → HadTurns s frames h (ws ++ vs) v later c
+had_both s frames h ws vs w v engine later a b c both had more = record {
   entries = had.entries ++ more.entries;
   turns = turns_both (IsWholeRun s) h ws vs had.entries more.entries had.turns more.turns;
   seated = subst (λ l. AreSeated s frames l v later) (append_assoc h had.entries more.entries) more.seated;
+  quiet = told_both s frames h had.entries more.entries a b c both had.quiet more.quiet;
 }
 
-pub had_none : (s : Setting) (frames : List Frame) (h : List Entry) (w : Workers) (engine : Engine) → AreSeated s frames h w engine → HadTurns s frames h [] w engine
+pub had_none : (s : Setting) (frames : List Frame) (h : List Entry) (w : Workers) (engine : Engine) → AreSeated s frames h w engine → HadTurns s frames h [] w engine true
 had_none s frames h w engine seated =
-    record { entries = []; turns = refl; seated = subst (λ l. AreSeated s frames l w engine) (sym (append-nil h)) seated }
+    record { entries = []; turns = refl; seated = subst (λ l. AreSeated s frames l w engine) (sym (append-nil h)) seated; quiet = (λ yes. tt, λ none. refl) }
 
 pub range-push : (a n : ℕ) → range_with_len a (suc n) ≡ range_with_len a n ++ (a + n) ∷ []
 range-push a zero = let e : a ≡ a + 0 = omega arith in ap (λ k. k ∷ []) e
@@ -93,26 +86,8 @@ range_first k =
 
 -- ---- rounds
 
-pub rounds_push : (s : Setting) (frames : List Frame) (order count number next : ℕ) (w v : Workers) (engine later : Engine) → (had : HadRounds s frames order count w engine)
-    → number ≡ number_at order count → HadRound s frames had.history number next v later
-    → HadRounds s frames order (count + 1) v later × (next ≡ number_at order (count + 1))
-rounds_push s frames order count number next w v engine later had at round =
-    let e : suc count ≡ count + 1 = omega arith in
-    let turns = subst (λ (n : ℕ). AreTurns (IsWholeRun s) had.history (rotated (callers_of s.config) (start_of (callers_of s.config) n)) round.turns.entries) at round.turns.turns in
-    let rounds : AreRounds (IsWholeRun s) (callers_of s.config) order (suc count) (had.history ++ round.turns.entries) = (had.history, round.turns.entries, refl, had.rounds, turns) in (
-      record {
-        history = had.history ++ round.turns.entries;
-        rounds = subst (λ (n : ℕ). AreRounds (IsWholeRun s) (callers_of s.config) order n (had.history ++ round.turns.entries)) e rounds;
-        seated = round.turns.seated;
-      },
-      round.number ∙ ap next_number at ∙ ap (number_at order) e,
-    )
-
-pub rounds_none : (s : Setting) (frames : List Frame) (order : ℕ) (w : Workers) (engine : Engine) → AreSeated s frames [] w engine → HadRounds s frames order 0 w engine
-rounds_none s frames order w engine seated = record { history = []; rounds = refl; seated = seated }
-
 -- workers that had turns go on
-pub going_on : {w v : Workers} {before after : Engine} {callers : List ℕ} → (g : AreGoing w before) → HadTurns g.setting g.frames g.history callers v after → AreGoing v after
+pub going_on : {w v : Workers} {before after : Engine} {callers : List ℕ} {still : Bool} → (g : AreGoing w before) → HadTurns g.setting g.frames g.history callers v after still → AreGoing v after
 going_on g had = record { setting = g.setting; frames = g.frames; history = g.history ++ had.entries; seated = had.seated }
 
 -- and are 1 at least, and few

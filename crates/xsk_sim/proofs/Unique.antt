@@ -17,8 +17,9 @@ use Rattle.xsk_sim.specs.Order.{number_at, start_of, rotated}
 use Rattle.xsk_sim.specs.Rounds.{IsTurn, AreTurns, AreRounds}
 use Rattle.xsk_turns.specs.Workers.{Setting, input_of, IsWorkerRun, IsWholeRun}
 use Rattle.xsk_driver.specs.Figured.{figures_of}
-use Rattle.xsk_sim.specs.Runs.{IsRoundHistory, HasEnded, OneHistory, OneLog, OneFigures, EndsOrStalls}
+use Rattle.xsk_sim.specs.Runs.{IsRoundHistory, HasEnded, HasStalled, OneHistory, OneLog, OneFigures, EndsOrStalls, OneStall}
 use Rattle.xsk_sim.specs.Shown.{Shown}
+use Rattle.xsk_sim.specs.Stalls.{StandStill}
 use Rattle.xsk_model.specs.Stored.{stored}
 
 -- ---- the front of a run
@@ -48,7 +49,7 @@ module _ (s : Setting) (frames : List Frame) where
     pub legal : IsHistory s.config frames h
     pub runs : (who : ℕ) → who < callers_of s.config → IsWorkerRun s who (own who h)
 
-  ran_first : (h more : List Entry) → Ran (h ++ more) → Ran h
+  pub ran_first : (h more : List Entry) → Ran (h ++ more) → Ran h
   ran_first h more ran = record {
     legal = history_first s.config frames h more ran.legal;
     runs = λ who below. worker_first s who (own who h) (own who more) (subst (IsWorkerRun s who) (own-append who h more) (ran.runs who below));
@@ -76,7 +77,7 @@ module _ (s : Setting) (frames : List Frame) where
       let two = subst (λ l. Ran (past ++ l)) b.1.2 second in
       a.1.2 ∙ ap (λ (e : Entry). e ∷ []) (entry_same past a.1.0 b.1.0 (a.1.1 ∙ sym b.1.1) one two) ∙ sym b.1.2
 
-  turns_same : (ws : List ℕ) (past es fs : List Entry) → AreTurns (IsWholeRun s) past ws es → AreTurns (IsWholeRun s) past ws fs → Ran (past ++ es) → Ran (past ++ fs) → es ≡ fs
+  pub turns_same : (ws : List ℕ) (past es fs : List Entry) → AreTurns (IsWholeRun s) past ws es → AreTurns (IsWholeRun s) past ws fs → Ran (past ++ es) → Ran (past ++ fs) → es ≡ fs
   turns_same [] past es fs first second one two = first ∙ sym second
   turns_same (w ∷ ws) past es fs first second one two =
       let one : Ran ((past ++ first.0) ++ first.1) = subst Ran (ap (λ l. past ++ l) first.2 ∙ sym (append_assoc past first.0 first.1)) one in
@@ -87,7 +88,7 @@ module _ (s : Setting) (frames : List Frame) where
       (subst (λ l. Ran ((past ++ l) ++ second.1)) (sym turn) two) in
       first.2 ∙ ap (λ l. l ++ first.1) turn ∙ ap (λ l. second.0 ++ l) rest ∙ sym second.2
 
-  rounds_same : (order count : ℕ) (h k : List Entry) → AreRounds (IsWholeRun s) (callers_of s.config) order count h → AreRounds (IsWholeRun s) (callers_of s.config) order count k → Ran h → Ran k → h ≡ k
+  pub rounds_same : (order count : ℕ) (h k : List Entry) → AreRounds (IsWholeRun s) (callers_of s.config) order count h → AreRounds (IsWholeRun s) (callers_of s.config) order count k → Ran h → Ran k → h ≡ k
   rounds_same order zero h k first second one two = first ∙ sym second
   rounds_same order (suc n) h k first second one two =
       let one : Ran (first.0 ++ first.1) = subst Ran first.2 one in
@@ -162,6 +163,29 @@ one_figures s frames order run other first second = first.figures ∙ ap (figure
 
 pub ends_or_stalls : EndsOrStalls
 ends_or_stalls s frames order round run over stalled =
-    let few : over.count ≤ round + 1 = omega (arith, over.few, stalled.last) in
-    let e : stalled.history ≡ over.history = goes_no_further s frames order (round + 1) run stalled.history over few stalled.is in
-    stalled.open_run (subst (λ l. IsWholeRun s stalled.who (own stalled.who l)) (sym e) (over.whole stalled.who stalled.known))
+    let go : over.count ≤ round + 1 → ⊥ = λ few.
+    let e : stalled.past.history ≡ over.history = goes_no_further s frames order (round + 1) run stalled.past.history over few stalled.past.is in
+    stalled.past.open_run (subst (λ l. IsWholeRun s stalled.past.who (own stalled.past.who l)) (sym e) (over.whole stalled.past.who stalled.past.known)) in
+    ⊎_elim
+    (λ (before : round < over.count). ⊎_elim
+    (λ (still : StandStill s frames order 64 (round + 1) stalled.past.history). over.never_still round before (record { past = stalled.past; still = still }))
+    (λ (last : round ≡ 18446744073709551615). go (omega (arith, last, over.few)))
+    stalled.still)
+    (λ (after : over.count ≤ round). go (omega (arith, after)))
+    (cases_lt round over.count)
+
+-- a run that has stalled at a round doesn't do so at a later one
+stalls_first : (s : Setting) (frames : List Frame) (order round later : ℕ) → HasStalled s frames order round → HasStalled s frames order later → round < later → ⊥
+stalls_first s frames order round later first second below = ⊎_elim
+    (λ (still : StandStill s frames order 64 (round + 1) first.past.history). second.first round below (record { past = first.past; still = still }))
+    (λ (last : round ≡ 18446744073709551615). omega (arith, last, second.few, below))
+    first.still
+
+pub one_stall : OneStall
+one_stall s frames order round other first second = ⊎_elim
+    (λ (low : round < other). absurd (stalls_first s frames order round other first second low))
+    (λ (high : other ≤ round). ⊎_elim
+    (λ (less : other < round). absurd (stalls_first s frames order other round second first less))
+    (λ (not : round ≤ other). omega (arith, high, not))
+    (cases_lt other round))
+    (cases_lt round other)

@@ -1,6 +1,7 @@
 -- Runs of a configuration over lists of packets, one for each port: histories in rounds, in which each worker's own calls
--- and replies are a run of its turns. A run has ended where all of these are whole, and it has stalled where one isn't.
-use Rattle.std.specs.Prelude.{◌≡◌, true, ℕ, ◌+◌, ◌*◌, ◌<◌, ◌≤◌, List, [], ◌++◌, length, sum_by}
+-- and replies are a run of its turns. A run has ended where all of these are whole, and it has stalled where one isn't and
+-- nothing has changed for 64 rounds.
+use Rattle.std.specs.Prelude.{◌≡◌, true, ℕ, ◌+◌, ◌<◌, ◌≤◌, ◌⊎◌, List, [], ◌++◌, length}
 use Rattle.std.specs.List.{slice_index_or}
 use Rattle.std.specs.Fn.{Shared}
 use denote.Ref.{Bor}
@@ -24,13 +25,7 @@ use Rattle.xsk_driver.specs.Asking.{IsAnswer}
 use Rattle.xsk_driver.specs.Figured.{figures_of}
 use Rattle.xsk_sim.specs.Rounds.{AreRounds}
 use Rattle.xsk_sim.specs.Shown.{Shown}
-
--- the number of all packets, and the last round that a run may have, counted from 0
-abbrev pub count_of : List PacketList → ℕ
-count_of packets = sum_by (λ (list : PacketList). length list.packets) packets
-
-abbrev pub last_round_of : List PacketList → ℕ
-last_round_of packets = 1023 + 256 * count_of packets
+use Rattle.xsk_sim.specs.Stalls.{StandStill}
 
 -- a legal history from the opening with these frames, of so many rounds, in which each worker's own calls and replies are
 -- a run
@@ -39,13 +34,32 @@ pub record IsRoundHistory (s : Setting) (frames : List Frame) (order count : ℕ
   pub rounds : AreRounds (IsWholeRun s) (callers_of s.config) order count h
   pub runs : (who : ℕ) → who < callers_of s.config → IsWorkerRun s who (own who h)
 
--- A run that has ended within the rounds that it may have: each worker's own calls and replies are a whole run. The log
--- is the history as it is stored, after each of its prefixes each frame has one holder, and what is shown of each driver
+-- a run that goes on after a round: of the history whose last round it is, some worker's own calls and replies aren't a whole
+-- run
+pub record GoesPast (s : Setting) (frames : List Frame) (order round : ℕ) : Type 0 where
+  pub history : List Entry
+  pub is : IsRoundHistory s frames order (round + 1) history
+  pub who : ℕ
+  pub known : who < callers_of s.config
+  pub open_run : IsWholeRun s who (own who history) → ⊥
+
+-- it stands still at this round, where nothing changed in it and in the 63 rounds before it
+pub record StandsStill (s : Setting) (frames : List Frame) (order round : ℕ) : Type 0 where
+  pub past : GoesPast s frames order round
+  pub still : StandStill s frames order 64 (round + 1) past.history
+
+-- it stands still at none of the first rounds, so many
+abbrev pub NeverStill : Setting → List Frame → ℕ → ℕ → Type 0
+NeverStill s frames order count = (round : ℕ) → round < count → StandsStill s frames order round → ⊥
+
+-- A run that has ended, with no round before at which it stood still: each worker's own calls and replies are a whole run. The
+-- log is the history as it is stored, after each of its prefixes each frame has one holder, and what is shown of each driver
 -- are the packets that its calls on COMPLETION completed. The figures are counts over the history.
 pub record HasEnded (s : Setting) (frames : List Frame) (order : ℕ) (run : Shown) : Type 0 where
   pub history : List Entry
   pub count : ℕ
-  pub few : count ≤ last_round_of s.packets + 1
+  pub few : count ≤ 18446744073709551616
+  pub never_still : NeverStill s frames order count
   pub is : IsRoundHistory s frames order count history
   pub whole : (who : ℕ) → who < callers_of s.config → IsWholeRun s who (own who history)
   pub log : run.log ≡ stored s.config.geometry s.config.sg history
@@ -53,15 +67,13 @@ pub record HasEnded (s : Setting) (frames : List Frame) (order : ℕ) (run : Sho
   pub sent : (pair : ℕ) → pair < length s.config.pairs → slice_index_or run.sent pair [] ≡ sent s.config history pair
   pub figures : run.figures ≡ figures_of s history
 
--- a run that has stalled: it had all rounds that it may have, of which this is the last, and some worker's own calls and
--- replies aren't a whole run
+-- A run that has stalled at a round: it stands still there, and at no round before. Rounds are counted up to 2^64 - 1, which
+-- is the other way to come to the last one.
 pub record HasStalled (s : Setting) (frames : List Frame) (order round : ℕ) : Type 0 where
-  pub last : round ≡ last_round_of s.packets
-  pub history : List Entry
-  pub is : IsRoundHistory s frames order (round + 1) history
-  pub who : ℕ
-  pub known : who < callers_of s.config
-  pub open_run : IsWholeRun s who (own who history) → ⊥
+  pub few : round ≤ 18446744073709551615
+  pub past : GoesPast s frames order round
+  pub still : StandStill s frames order 64 (round + 1) past.history ⊎ (round ≡ 18446744073709551615)
+  pub first : NeverStill s frames order round
 
 -- The same under a program: there are verdicts of each driver's packets, each an answer of the program's closure that meets
 -- its rule, with which the run has ended, or stalled.
@@ -114,3 +126,7 @@ OneFigures = (s : Setting) (frames : List Frame) (order : ℕ) (run other : Show
 -- and no run both ends and stalls
 abbrev pub EndsOrStalls : Type 0
 EndsOrStalls = (s : Setting) (frames : List Frame) (order round : ℕ) (run : Shown) → HasEnded s frames order run → HasStalled s frames order round → ⊥
+
+-- there is one round at which it stalls
+abbrev pub OneStall : Type 0
+OneStall = (s : Setting) (frames : List Frame) (order round other : ℕ) → HasStalled s frames order round → HasStalled s frames order other → round ≡ other

@@ -1,5 +1,5 @@
 -- The workers in their seats, each with its number among the callers.
-use Rattle.std.specs.Prelude.{◌≡◌, ℕ, ◌+◌, map, List, [], ◌∷◌, ◌++◌, length, vec_len}
+use Rattle.std.specs.Prelude.{◌≡◌, ◌↔◌, ℕ, ◌+◌, ◌<◌, Bool, IsTrue, map, List, [], ◌∷◌, ◌++◌, length, vec_len}
 use Rattle.xsk_turns.specs.Stepping.{joined_ask}
 use Rattle.xsk_umem.specs.Frame.{Frame}
 use Rattle.xsk_model.specs.Config.{callers_of}
@@ -14,6 +14,7 @@ use Rattle.xsk_driver.specs.declared.figures.DriverFigures.{DriverFigures}
 use Rattle.xsk_app.specs.Shown.{Shown as AppShown}
 use Rattle.xsk_sim.specs.Order.{start_of, rotated, next_number}
 use Rattle.xsk_sim.specs.Rounds.{AreTurns, AreRounds}
+use Rattle.xsk_sim.specs.Stalls.{settled_by, AreQuiet, StandStill}
 use Rattle.xsk_turns.specs.Workers.{Setting, IsWholeRun}
 use Rattle.xsk_machine.specs.Acts.{DriverStands, AppStands, IsActAfter}
 use Rattle.xsk_sim.specs.Turning.{HasRun}
@@ -39,11 +40,12 @@ abbrev pub new_own : ℕ → List Told
 new_own who = []
 
 -- the drivers of all pairs and then the applications stand for their own calls and replies in a history that the engine
--- has run
+-- has run, and at each driver's seat it is noted how many of its packets have their disposals by the history
 pub record AreSeated (s : Setting) (frames : List Frame) (h : List Entry) (w : Workers) (engine : Engine) : Type 0 where
   pub run : HasRun s frames h engine
   pub drivers : EachFrom w.drivers.items 0 (λ who seat. DriverSits s (own_in h) who seat.machine (joined_ask seat.ask seat.items))
   pub apps : EachFrom w.apps.items (length s.config.pairs) (λ who seat. AppSits s (own_in h) who seat.machine (joined_ask seat.ask seat.items))
+  pub settled : EachFrom w.drivers.items 0 (λ who seat. seat.settled ≡ settled_by s h who)
   pub driver_count : vec_len w.drivers ≡ length s.config.pairs
   pub app_count : vec_len w.apps ≡ apps_of s.config
 
@@ -60,15 +62,16 @@ pub record AreReady (w : Workers) (engine : Engine) : Type 0 where
   pub frames : List Frame
   pub seated : AreSeated setting frames [] w engine
 
--- after a history, the callers had their turns
-pub record HadTurns (s : Setting) (frames : List Frame) (h : List Entry) (callers : List ℕ) (w : Workers) (engine : Engine) : Type 0 where
+-- after a history, the callers had their turns, and it is told whether they changed nothing
+pub record HadTurns (s : Setting) (frames : List Frame) (h : List Entry) (callers : List ℕ) (w : Workers) (engine : Engine) (still : Bool) : Type 0 where
   pub entries : List Entry
   pub turns : AreTurns (IsWholeRun s) h callers entries
   pub seated : AreSeated s frames (h ++ entries) w engine
+  pub quiet : IsTrue still ↔ AreQuiet s frames h entries
 
 -- all callers had the round with this order number, and the next number stands
-pub record HadRound (s : Setting) (frames : List Frame) (h : List Entry) (order next : ℕ) (w : Workers) (engine : Engine) : Type 0 where
-  pub turns : HadTurns s frames h (rotated (callers_of s.config) (start_of (callers_of s.config) order)) w engine
+pub record HadRound (s : Setting) (frames : List Frame) (h : List Entry) (order next : ℕ) (w : Workers) (engine : Engine) (still : Bool) : Type 0 where
+  pub turns : HadTurns s frames h (rotated (callers_of s.config) (start_of (callers_of s.config) order)) w engine still
   pub number : next ≡ next_number order
 
 -- they had so many rounds, from the first on
@@ -76,6 +79,11 @@ pub record HadRounds (s : Setting) (frames : List Frame) (order count : ℕ) (w 
   pub history : List Entry
   pub rounds : AreRounds (IsWholeRun s) (callers_of s.config) order count history
   pub seated : AreSeated s frames history w engine
+
+-- of these, the last ones, so many, changed nothing, and no further ones before them
+pub record HaveStood (s : Setting) (frames : List Frame) (order count still : ℕ) (h : List Entry) : Type 0 where
+  pub stood : StandStill s frames order still count h
+  pub most : (longer : ℕ) → still < longer → StandStill s frames order longer count h → ⊥
 
 -- all have ended
 abbrev pub HaveEnded : Workers → Type 0

@@ -1,10 +1,12 @@
 -- Where the object stands after a history, and a worker's turn.
-use Rattle.std.specs.Prelude.{◌≡◌, ℕ, List, ◌++◌}
+use Rattle.std.specs.Prelude.{◌≡◌, ◌↔◌, ℕ, Bool, false, IsTrue, List, [], ◌∷◌, ◌++◌}
 use Rattle.xsk_umem.specs.Frame.{Frame}
 use Rattle.xsk_model.specs.Entry.{Told, Entry, own}
 use Rattle.xsk_model.specs.History.{IsHistory, state_after}
 use Rattle.xsk_model.specs.Stored.{stored}
+use Rattle.xsk_model.specs.OtherWords.{changes}
 use Rattle.xsk_model.specs.declared.call.Act.{Act}
+use Rattle.xsk_model.specs.declared.call.Act.TheVariants.{Call as Calls}
 use Rattle.xsk_plain.specs.Engine.{Engine, Shows}
 use Rattle.xsk_turns.specs.Workers.{Setting, IsWholeRun}
 use Rattle.xsk_machine.specs.Acts.{IsActAfter}
@@ -24,3 +26,9 @@ pub record TakesTurn (s : Setting) (frames : List Frame) (who : ℕ) (h : List E
   pub run : HasRun s frames (h ++ entries) engine
   pub stands : Stands (own who (h ++ entries))
   pub after : IsActAfter s who act (own who (h ++ entries))
+
+-- What is told and noted of a turn: whether its call, if it makes one, changes nothing, neither the object nor the number of
+-- settled packets, which was one number at the call before and is another now.
+abbrev pub Notes : Act → ℕ → ℕ → ℕ → Bool → List Entry → Type 0
+Notes act before settled noted still [] = IsTrue still × (noted ≡ before)
+Notes act before settled noted still (e ∷ es) = (act ≡ Calls e.call) × (noted ≡ settled) × (IsTrue still ↔ ((changes e.call e.reply ≡ false) × (settled ≡ before)))

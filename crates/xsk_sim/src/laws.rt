@@ -1,6 +1,6 @@
 //! The laws of runs, each the contract of a function that does nothing. They are stated in `specs/Runs.antt`.
 
-ghost use Rattle.xsk_sim.specs.Runs.{OneHistory, OneLog, OneFigures, EndsOrStalls, EndsAsRuled, StallsAsRuled, EndedIsForwarded, EndedIsExpected};
+ghost use Rattle.xsk_sim.specs.Runs.{OneHistory, OneLog, OneFigures, EndsOrStalls, OneStall, EndsAsRuled, StallsAsRuled, EndedIsForwarded, EndedIsExpected};
 
 /// For each number of rounds there is one history in rounds of the workers of a configuration over packets with verdicts.
 pub fn one_history()
@@ -22,6 +22,11 @@ pub fn ends_or_stalls()
     ensures { EndsOrStalls }
 {}
 
+/// There is one round at which a run stalls.
+pub fn one_stall()
+    ensures { OneStall }
+{}
+
 /// Under a rule that leaves one verdict for each packet, a run has ended with the verdicts that the rule gives itself.
 #[tactic(auto, using(crate::proofs::Verdicts::ends_as_ruled))]
 pub fn ends_as_ruled()
@@ -29,7 +34,6 @@ pub fn ends_as_ruled()
 {}
 
 /// And so has one that has stalled.
-#[tactic(auto, using(crate::proofs::Verdicts::stalls_as_ruled))]
 pub fn stalls_as_ruled()
     ensures { StallsAsRuled }
 {}

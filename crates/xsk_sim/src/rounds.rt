@@ -1,5 +1,5 @@
 //! Rounds, in which each worker makes one call.
-ghost use Rattle.std.specs.Prelude.{◌≡◌, ◌<◌, ◌+◌, ◌^◌, ◌↔◌, ℕ, List, IsTrue, [], ◌∷◌, vec_len, OnOk};
+ghost use Rattle.std.specs.Prelude.{◌≡◌, ◌<◌, ◌+◌, ◌^◌, ◌↔◌, ℕ, List, IsTrue, [], ◌∷◌, vec_len, IfOk};
 ghost use Rattle.xsk_umem.specs.Geometry.{IsGeometry};
 ghost use Rattle.xsk_umem.specs.Frame.{Frame};
 ghost use Rattle.xsk_model.specs.Entry.{Entry};
@@ -45,28 +45,33 @@ impl Workers<'_> {
         true
     }
 
-    /// Lets each worker that hasn't ended make one call, from one worker on in turn.
-    pub(crate) fn round(&mut self, plain: &mut Plain, order: &mut Order) -> Result<(), OutOfMemory>
+    /// Lets each worker that hasn't ended make one call, from one worker on in turn, and tells whether these changed nothing.
+    pub(crate) fn round(
+        &mut self,
+        plain: &mut Plain,
+        order: &mut Order,
+    ) -> Result<bool, OutOfMemory>
         requires geometry { IsGeometry plain.old.config.geometry }
         requires going { AreGoing self.old plain.old }
         ensures config { plain.new.config ≡ plain.old.config }
         ensures drivers { vec_len self.new.drivers ≡ vec_len self.old.drivers }
         ensures round { (s : Setting) (frames : List Frame) (h : List Entry) → AreSeated s frames h self.old plain.old
-            → OnOk result (HadRound s frames h order.old.number order.new.number self.new plain.new) }
+            → IfOk result (HadRound s frames h order.old.number order.new.number self.new plain.new) }
     {
         let callers = self.count();
         let start = order.start(callers);
+        let mut still = true;
         for who in start..callers {
-            self.step(plain, who)?;
+            still &= self.step(plain, who)?;
         }
         for who in 0..start {
-            self.step(plain, who)?;
+            still &= self.step(plain, who)?;
         }
-        Ok(())
+        Ok(still)
     }
 
-    /// Lets the worker with this number make its call, if it hasn't ended.
-    fn step(&mut self, plain: &mut Plain, who: u32) -> Result<(), OutOfMemory>
+    /// Lets the worker with this number make its call, if it hasn't ended, and tells whether it changed nothing.
+    fn step(&mut self, plain: &mut Plain, who: u32) -> Result<bool, OutOfMemory>
         requires geometry { IsGeometry plain.old.config.geometry }
         requires going { AreGoing self.old plain.old }
         requires who { who < vec_len self.old.drivers + vec_len self.old.apps }
@@ -74,14 +79,18 @@ impl Workers<'_> {
         ensures drivers { vec_len self.new.drivers ≡ vec_len self.old.drivers }
         ensures apps { vec_len self.new.apps ≡ vec_len self.old.apps }
         ensures turn { (s : Setting) (frames : List Frame) (h : List Entry) → AreSeated s frames h self.old plain.old
-            → OnOk result (HadTurns s frames h (who ∷ []) self.new plain.new) }
+            → IfOk result (HadTurns s frames h (who ∷ []) self.new plain.new) }
     {
         let place = who as usize;
         let drivers = self.drivers.len();
         if place < drivers {
-            self.drivers[place].step(plain, who)
+            let seat = &mut self.drivers[place];
+            let settled = seat.machine().disposals().len();
+            seat.step(plain, who, settled)
         } else {
-            self.apps[place - drivers].step(plain, who)
+            let seat = &mut self.apps[place - drivers];
+            let settled = seat.settled();
+            seat.step(plain, who, settled)
         }
     }
 }

@@ -1,5 +1,8 @@
 //! A worker in the rounds, with its next call.
-ghost use Rattle.std.specs.Prelude.{◌≡◌, ℕ, List, [], IsTrue, ◌↔◌, OnOk};
+ghost use Rattle.std.specs.Prelude.{◌≡◌, false, ℕ, List, [], IsTrue, ◌↔◌, IfOk};
+ghost use Rattle.xsk_umem.specs.declared.batch.Item.{Item};
+ghost use Rattle.xsk_model.specs.Asks.{joined_call, joined_reply};
+ghost use Rattle.xsk_model.specs.OtherWords.{changes};
 ghost use Rattle.xsk_umem.specs.Geometry.{IsGeometry};
 ghost use Rattle.xsk_umem.specs.Frame.{Frame};
 ghost use Rattle.xsk_model.specs.Entry.{Entry, own};
@@ -11,21 +14,22 @@ ghost use Rattle.xsk_turns.specs.Stepping.{joined_ask, IsGivenBack};
 ghost use Rattle.xsk_turns.specs.Workers.{Setting};
 ghost use Rattle.xsk_machine.specs.Acts.{IsActAfter};
 ghost use Rattle.xsk_sim.specs.Given.{IsGivenBack-prop};
-ghost use Rattle.xsk_sim.specs.Turning.{HasRun, TakesTurn};
+ghost use Rattle.xsk_sim.specs.Turning.{HasRun, TakesTurn, Notes};
 
 use std::alloc::Global;
 use xsk_machine::Machine;
-use xsk_model::Ask;
+use xsk_model::{Answer, Ask};
 use xsk_plain::{Plain, items_room};
 use xsk_umem::{Batch, OutOfMemory};
 
 /// A worker in the rounds, with the call that it makes next (none where it has ended) and the batch that is lent to its
-/// calls, in which the items of a Submit stand.
+/// calls, in which the items of a Submit stand. Of a driver it notes how many packets had their disposals at its last call.
 #[derive(Drop)]
 pub(crate) struct Seat<M: Machine> {
     machine: M,
     ask: Option<Ask>,
     items: Batch,
+    settled: usize,
     ghost awaits: { M.expected machine ≡ expected_of (joined_ask ask items) },
     ghost given_back: { IsGivenBack ask items } by { IsGivenBack-prop ask items },
 }
@@ -33,7 +37,8 @@ pub(crate) struct Seat<M: Machine> {
 impl<M: Machine> Seat<M> {
     pub(crate) fn new(alloc: Global, machine: M) -> Seat<M>
         requires { M.expected machine ≡ nothing }
-        ensures { (s : Setting) (who : ℕ) → M.is_new s who machine
+        ensures settled { result.settled ≡ 0 }
+        ensures stands { (s : Setting) (who : ℕ) → M.is_new s who machine
             → M.stands s who result.machine (joined_ask result.ask result.items) [] × IsActAfter s who (joined_ask result.ask result.items) [] }
     {
         let mut machine = machine;
@@ -43,6 +48,7 @@ impl<M: Machine> Seat<M> {
             machine,
             ask,
             items,
+            settled: 0,
         }
     }
 
@@ -66,22 +72,70 @@ impl<M: Machine> Seat<M> {
         machine
     }
 
-    /// Makes the worker's next call, if it hasn't ended. It must be one that can be performed.
-    pub(crate) fn step(&mut self, plain: &mut Plain, who: u32) -> Result<(), OutOfMemory>
+    /// How many packets had their disposals at the last call.
+    pub(crate) fn settled(&self) -> usize
+        ensures { result ≡ self.now.settled }
+    {
+        self.settled
+    }
+
+    /// Makes the worker's next call, if it hasn't ended, and tells whether it changed nothing: neither the object nor the
+    /// number of packets that have their disposals, which is given. It must be a call that can be performed.
+    pub(crate) fn step(
+        &mut self,
+        plain: &mut Plain,
+        who: u32,
+        settled: usize,
+    ) -> Result<bool, OutOfMemory>
         requires geometry { IsGeometry plain.old.config.geometry }
         requires can { (call : Call) → joined_ask self.old.ask self.old.items ≡ Calls call → CanPerform plain.old.config plain.old.rings call }
         ensures config { plain.new.config ≡ plain.old.config }
         ensures turn { (s : Setting) (frames : List Frame) (h : List Entry) → HasRun s frames h plain.old
             → M.stands s who self.old.machine (joined_ask self.old.ask self.old.items) (own who h)
             → IsActAfter s who (joined_ask self.old.ask self.old.items) (own who h)
-            → OnOk result (TakesTurn s frames who h (M.stands s who self.new.machine (joined_ask self.new.ask self.new.items)) (joined_ask self.new.ask self.new.items) plain.new) }
+            → IfOk result (λ still. (t : TakesTurn s frames who h (M.stands s who self.new.machine (joined_ask self.new.ask self.new.items)) (joined_ask self.new.ask self.new.items) plain.new)
+            × Notes (joined_ask self.old.ask self.old.items) self.old.settled settled self.new.settled still t.entries) }
     {
         let Some(ask) = self.ask else {
-            return Ok(());
+            return Ok(true);
         };
         plain.reserve_log(1, items_room(&self.items))?;
         let answer = plain.serve(who, ask, &mut self.items);
+        let still = is_quiet(ask, answer, self.settled, settled);
+        self.settled = settled;
         self.ask = self.machine.step(Some(answer), &mut self.items);
-        Ok(())
+        Ok(still)
+    }
+}
+
+/// Whether a call with its answer changed nothing, neither the object nor the number of settled packets.
+fn is_quiet(ask: Ask, answer: Answer, before: usize, settled: usize) -> bool
+    ensures { (items later : List Item) → IsTrue result ↔ ((changes (joined_call ask items) (joined_reply answer later) ≡ false) × (settled ≡ before)) }
+{
+    if has_changed(ask, answer) {
+        return false;
+    }
+    settled == before
+}
+
+/// Whether a call with its answer changed the object.
+fn has_changed(ask: Ask, answer: Answer) -> bool
+    ensures { (items later : List Item) → result ≡ changes (joined_call ask items) (joined_reply answer later) }
+{
+    match ask {
+        Ask::Look(_) => false,
+        Ask::Swap(_, value) => match answer {
+            Answer::Old(old) => old != value,
+            Answer::Full(_) | Answer::Empty => false,
+            Answer::Granted | Answer::Submitted | Answer::Items | Answer::Released => true,
+        },
+        Ask::Reserve(..) | Ask::Submit(_) | Ask::Peek(..) | Ask::Release(..) => match answer {
+            Answer::Full(_) | Answer::Empty => false,
+            Answer::Granted
+            | Answer::Submitted
+            | Answer::Items
+            | Answer::Released
+            | Answer::Old(_) => true,
+        },
     }
 }

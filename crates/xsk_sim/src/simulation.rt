@@ -1,5 +1,5 @@
 //! A whole simulation: from a configuration and packets to what was sent and the log.
-ghost use Rattle.std.specs.Prelude.{◌≡◌, ◌<◌, ◌≤◌, ◌+◌, ℕ, false, Err, List, [], All, IfSome, IfOk, OnOk, length, map, vec_len};
+ghost use Rattle.std.specs.Prelude.{◌≡◌, ◌<◌, ◌≤◌, ◌+◌, ◌⊎◌, ℕ, IsTrue, false, Err, List, [], All, IfSome, IfOk, OnOk, length, map, vec_len};
 ghost use Rattle.std.specs.List.{concat, slice_index_or};
 ghost use Rattle.xsk_umem.specs.Geometry.{IsGeometry};
 ghost use Rattle.xsk_model.specs.Config.{IsRegular, classes_of};
@@ -16,7 +16,8 @@ ghost use Rattle.xsk_prog.specs.Program.{Obeys};
 ghost use Rattle.xsk_prog.specs.declared.rule.Verdict.{Verdict as AVerdict};
 ghost use Rattle.xsk_turns.specs.Workers.{Setting, AreGiven};
 ghost use Rattle.xsk_driver.specs.Asking.{IsAnswer};
-ghost use Rattle.xsk_sim.specs.Runs.{HasEnded, HasStalled, HasEndedUnder, HasStalledUnder, last_round_of};
+ghost use Rattle.xsk_sim.specs.Runs.{HasEnded, HasStalled, NeverStill, HasEndedUnder, HasStalledUnder};
+ghost use Rattle.xsk_sim.specs.Stalls.{StandStill};
 ghost use Rattle.xsk_sim.specs.Seats.{EachFrom, AreSeated, AreReady, HadRounds, HaveEnded, DriverSits, AppSits, kept_lists, new_own};
 
 use crate::order::Order;
@@ -36,7 +37,7 @@ use xsk_umem::{Frames, OutOfMemory, PacketList};
 /// Why a simulation gave no run.
 #[derive(Clone, Copy, Debug, PartialEq, Eq, Error)]
 pub enum SimError {
-    /// Some worker hadn't ended after this round, the last that was made.
+    /// Nothing had changed for 64 rounds, of which this was the last, and some worker hadn't ended.
     #[error("stalled in round {round}")]
     Stalled { round: u64 },
     /// Memory couldn't be had.
@@ -110,10 +111,8 @@ impl Run {
     }
 }
 
-/// The rounds after which a run without packets has stalled, and the further ones for each packet.
-const FIRST_ROUNDS: u64 = 1_023;
-
-const PACKET_ROUNDS: u64 = 256;
+/// A run has stalled after so many rounds in which nothing changed.
+const STILL_ROUNDS: u64 = 64;
 
 /// Runs the drivers and applications of a regular configuration in rounds until all have ended, over one list of
 /// packets for each port, none of which has more than 262,144 bytes. The frames are all frames of its UMEM, the program is
@@ -125,10 +124,12 @@ const PACKET_ROUNDS: u64 = 256;
 /// (`laws::ends_as_ruled`). What a run that has ended sent is what was delivered to the paired sockets
 /// (`laws::ended_is_forwarded`), and where the wire waits what is expected there (`laws::ended_is_expected`).
 ///
-/// It stalls exactly where some worker hasn't ended after round 1,023 + 256 x packets, which is then its round. A run
-/// that has ended is a legal history in rounds in which each worker's own calls and
-/// replies are a whole run of its turns, and one that has stalled is such a history of all these rounds, in which those
-/// of some worker aren't.
+/// It stalls exactly in the first round at which some worker hasn't ended and nothing has changed for 64 rounds, this one among
+/// them: the object was the same after each of their calls, and no packet got its disposal, which it gets in the round of its
+/// driver's next call. Rounds are counted from 0. At round 2^64 - 1, to which no run comes in practice, it stalls in any case:
+/// that each run has ended or stands still by then isn't proved. A run that has ended, with no such round before, is a legal
+/// history in rounds in which each worker's own calls and replies are a whole run of its turns, and one that has stalled is such
+/// a history of all these rounds, in which those of some worker aren't.
 pub fn simulate<F: Fn(&[u8], u32) -> Verdict>(
     alloc: Global,
     config: Config,
@@ -160,15 +161,7 @@ pub fn simulate<F: Fn(&[u8], u32) -> Verdict>(
     let Ok(plain) = Plain::open(alloc, config, frames) else {
         return Err(SimError::OutOfMemory);
     };
-    run_workers(
-        alloc,
-        workers,
-        plain,
-        classes,
-        wire,
-        Order::new(order),
-        last_round(packets),
-    )
+    run_workers(alloc, workers, plain, classes, wire, Order::new(order))
 }
 
 /// Makes rounds until all workers have ended, and collects what the drivers sent and their figures.
@@ -179,20 +172,19 @@ fn run_workers(
     classes: u32,
     wire: Wire,
     order: Order,
-    last: u64,
 ) -> Result<Run, SimError>
     requires geometry { IsGeometry plain.config.geometry }
     requires ready { AreReady workers plain }
     ensures pairs { IfOk result (λ run. run.pairs ≡ vec_len workers.entry.drivers) }
-    ensures ended { (s : Setting) (frames : List Frame) → IsRegular s.config → AreSeated s frames [] workers.entry plain → last ≡ last_round_of s.packets
+    ensures ended { (s : Setting) (frames : List Frame) → IsRegular s.config → AreSeated s frames [] workers.entry plain
         → classes ≡ classes_of s.config → wire ≡ s.wire
         → IfOk result (HasEnded s frames order.number) }
-    ensures stalled { (s : Setting) (frames : List Frame) (round : ℕ) → AreSeated s frames [] workers.entry plain → last ≡ last_round_of s.packets
+    ensures stalled { (s : Setting) (frames : List Frame) (round : ℕ) → AreSeated s frames [] workers.entry plain
         → result ≡ Err (SimError.Stalled round) → HasStalled s frames order.number round }
 {
     let mut workers = workers;
     let mut plain = plain;
-    make_rounds(&mut workers, &mut plain, order, last)?;
+    make_rounds(&mut workers, &mut plain, order)?;
     let calls = u64::from(plain.log().len());
     let drivers = collect_figures(alloc, workers.drivers.as_slice(), classes)?;
     let sent = collect_sent(alloc, workers)?;
@@ -208,41 +200,41 @@ fn run_workers(
     })
 }
 
-/// The last round that may be made.
-fn last_round(packets: &[PacketList]) -> u64
-    requires { length packets.now ≤ 4 }
-    ensures { result ≡ last_round_of packets.now }
-{
-    let mut round = FIRST_ROUNDS;
-    for list in packets {
-        round = round.saturating_add(PACKET_ROUNDS * u64::from(list.len()));
-    }
-    round
-}
-
-fn make_rounds(
-    workers: &mut Workers<'_>,
-    plain: &mut Plain,
-    order: Order,
-    last: u64,
-) -> Result<(), SimError>
+/// Makes rounds until all workers have ended, or nothing has changed for too long.
+fn make_rounds(workers: &mut Workers<'_>, plain: &mut Plain, order: Order) -> Result<(), SimError>
     requires geometry { IsGeometry plain.old.config.geometry }
     requires ready { AreReady workers.old plain.old }
     ensures drivers { vec_len workers.new.drivers ≡ vec_len workers.old.drivers }
     ensures ended { (s : Setting) (frames : List Frame) → AreSeated s frames [] workers.old plain.old
-        → OnOk result ((count : ℕ) × (count ≤ last + 1) × HadRounds s frames order.number count workers.new plain.new × HaveEnded workers.new) }
+        → OnOk result ((count : ℕ) × (count ≤ 18446744073709551616) × HadRounds s frames order.number count workers.new plain.new × HaveEnded workers.new
+        × NeverStill s frames order.number count) }
     ensures stalled { (s : Setting) (frames : List Frame) (round : ℕ) → AreSeated s frames [] workers.old plain.old
         → result ≡ Err (SimError.Stalled round)
-        → (round ≡ last) × HadRounds s frames order.number (round + 1) workers.new plain.new × (HaveEnded workers.new → ⊥) }
+        → (had : HadRounds s frames order.number (round + 1) workers.new plain.new) × (HaveEnded workers.new → ⊥) × (round ≤ 18446744073709551615)
+        × (StandStill s frames order.number 64 (round + 1) had.history ⊎ (round ≡ 18446744073709551615)) × NeverStill s frames order.number round }
 {
     let mut order = order;
-    for round in 0..=last {
-        workers.round(plain, &mut order)?;
+    let mut still = 0;
+    for round in 0..=u64::MAX {
+        let quiet = workers.round(plain, &mut order)?;
+        still = still_after(still, quiet);
         if workers.have_ended() {
             return Ok(());
         }
+        if still == STILL_ROUNDS {
+            return Err(SimError::Stalled { round });
+        }
     }
-    Err(SimError::Stalled { round: last })
+    Err(SimError::Stalled { round: u64::MAX })
+}
+
+/// For how many rounds nothing has changed, by whether anything changed in the last one.
+fn still_after(still: u64, quiet: bool) -> u64
+    requires { still < 64 }
+    ensures more { IsTrue quiet → result ≡ still + 1 }
+    ensures none { (IsTrue quiet → ⊥) → result ≡ 0 }
+{
+    if quiet { still + 1 } else { 0 }
 }
 
 /// A driver for each pair, with room for the packets that come from the paired port.
@@ -261,6 +253,7 @@ fn seat_drivers<'a, F: Fn(&[u8], u32) -> Verdict>(
     requires short { All HasShortPackets packets.now }
     requires obeys { Obeys F.Fn program.now.rule program.now.decide }
     ensures count { IfOk result (λ seats. vec_len seats ≡ length config.now.pairs) }
+    ensures settled { IfOk result (λ seats. EachFrom seats.items 0 (λ who seat. seat.settled ≡ 0)) }
     ensures seated { IfOk result (λ seats. (verdicts : List (List AVerdict)) × AreGiven (IsAnswer F.Fn program.now.rule program.now.decide) (record { config = config.now; wire = wire; packets = packets.now; verdicts = verdicts })
         × EachFrom seats.items 0 (λ who seat. DriverSits (record { config = config.now; wire = wire; packets = packets.now; verdicts = verdicts }) new_own who seat.machine (joined_ask seat.ask seat.items))) }
 {

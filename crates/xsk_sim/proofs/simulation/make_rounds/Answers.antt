@@ -1,45 +1,73 @@
-use Rattle.std.proofs.Common.{◌≡◌, ◌+◌, arith, subst, ◌∙◌}
-use Rattle.xsk_sim.specs.Seats.{HadRound, HadRounds}
-use Rattle.xsk_sim.proofs.Turning.{rounds_push}
+use Rattle.std.proofs.Common.{◌≡◌, ◌+◌, ◌<◌, ◌≤◌, IsTrue, refl, arith, inl, inr, subst, ◌∙◌, ⊎_elim}
+use Rattle.xsk_sim.specs.Seats.{HaveEnded}
+use Rattle.xsk_sim.proofs.Standing.{decided, gone_none, gone_more, never_more, never_ended, Stops, stops}
 use Rattle.xsk_sim.proofs.simulation.make_rounds.Goals as goal
+
+pub loop-round-init : goal.loop-round-init
+loop-round-init c = record {
+  config = refl;
+  drivers = refl;
+  few = omega arith;
+  rounds = λ s frames seated. (gone_none s frames c.args.order.number c.args.workers.now c.args.plain.now seated, refl, λ round below still. omega (arith, below));
+  going = λ some ended. omega (arith, some);
+}
 
 pub returns-then-have_ended-clause-ended : goal.returns-then-have_ended-clause-ended
 returns-then-have_ended-clause-ended c s frames seated =
     let l = c.loop-round in
     let had = l.invariant.rounds s frames seated in
-    let round : HadRound s frames had.0.history l.order.number c.round.new.order.number c.round.new.self c.round.new.plain = c.in_ok-round.ensures.round s frames had.0.history had.0.seated in
-    let more = rounds_push s frames c.args.order.number l.round l.order.number c.round.new.order.number l.workers c.round.new.self l.plain c.round.new.plain had.0 had.1 round in
+    let more = gone_more s frames c.args.order.number l.round l.still c.still_after-still.result l.order.number c.round.new.order.number c.in_ok-quiet.quiet l.workers c.round.new.self l.plain c.round.new.plain had.0 had.1
+    (c.in_ok-quiet.ensures.round s frames had.0.had.history had.0.had.seated) c.still_after-still.ensures.more c.still_after-still.ensures.none in
     let few = c.loop-round-test.true in
     let ended = c.have_ended.ensures.0 c.if-have_ended.true in
-    (l.round + 1, omega arith, more.0, ended)
+    (l.round + 1, omega arith, more.0.had, ended, never_ended s frames c.args.order.number l.round c.still_after-still.result c.round.new.self c.round.new.plain had.2 more.0 ended)
 
 pub round-requires-clause-going : goal.round-requires-clause-going
 round-requires-clause-going c =
     let r = c.requires.ready in
     let had = c.loop-round.invariant.rounds r.setting r.frames r.seated in
-    record { setting = r.setting; frames = r.frames; history = had.0.history; seated = had.0.seated }
+    record { setting = r.setting; frames = r.frames; history = had.0.had.history; seated = had.0.had.seated }
 
 pub loop-round-preserved : goal.loop-round-preserved
-loop-round-preserved c = record {
-  config = c.round.ensures.config ∙ c.loop-round.invariant.config;
-  drivers = c.round.ensures.drivers ∙ c.loop-round.invariant.drivers;
-  rounds = λ s frames seated.
-      let l = c.loop-round in
-      let had = l.invariant.rounds s frames seated in
-      let round : HadRound s frames had.0.history l.order.number c.round.new.order.number c.round.new.self c.round.new.plain = c.in_ok-round.ensures.round s frames had.0.history had.0.seated in
-      rounds_push s frames c.args.order.number l.round l.order.number c.round.new.order.number l.workers c.round.new.self l.plain c.round.new.plain had.0 had.1 round;
-  going = λ some ended. let yes = c.have_ended.ensures.1 ended in let no = c.if-have_ended.false in cc;
-}
+loop-round-preserved c =
+    let l = c.loop-round in
+    let few : c.still_after-still.result < 64 = ⊎_elim
+    (λ (yes : IsTrue c.in_ok-quiet.quiet). omega (arith, c.still_after-still.ensures.more yes, l.invariant.few, c.if-still-eq-STILL_ROUNDS.false))
+    (λ (no : IsTrue c.in_ok-quiet.quiet → ⊥). omega (arith, c.still_after-still.ensures.none no))
+    (decided c.in_ok-quiet.quiet) in
+    record {
+      config = c.round.ensures.config ∙ l.invariant.config;
+      drivers = c.round.ensures.drivers ∙ l.invariant.drivers;
+      few = few;
+      rounds = λ s frames seated.
+          let had = l.invariant.rounds s frames seated in
+          let more = gone_more s frames c.args.order.number l.round l.still c.still_after-still.result l.order.number c.round.new.order.number c.in_ok-quiet.quiet l.workers c.round.new.self l.plain c.round.new.plain had.0 had.1
+          (c.in_ok-quiet.ensures.round s frames had.0.had.history had.0.had.seated) c.still_after-still.ensures.more c.still_after-still.ensures.none in
+          (more.0, more.1, never_more s frames c.args.order.number l.round c.still_after-still.result c.round.new.self c.round.new.plain had.2 more.0 few);
+      going = λ some ended. let yes = c.have_ended.ensures.1 ended in let no = c.if-have_ended.false in cc;
+    }
 
-pub returns-else-have_ended-clause-stalled : goal.returns-else-have_ended-clause-stalled
-returns-else-have_ended-clause-stalled c s frames round seated is =
+pub returns-then-still-eq-STILL_ROUNDS-clause-stalled : goal.returns-then-still-eq-STILL_ROUNDS-clause-stalled
+returns-then-still-eq-STILL_ROUNDS-clause-stalled c s frames round seated is =
     let l = c.loop-round in
     let had = l.invariant.rounds s frames seated in
-    let made : HadRound s frames had.0.history l.order.number c.round.new.order.number c.round.new.self c.round.new.plain = c.in_ok-round.ensures.round s frames had.0.history had.0.seated in
-    let more = rounds_push s frames c.args.order.number l.round l.order.number c.round.new.order.number l.workers c.round.new.self l.plain c.round.new.plain had.0 had.1 made in
-    let last : round ≡ c.args.last = cc in
-    let here : l.round ≡ round = omega (arith, last, c.loop-round-test.true) in (
-      last,
-      subst (λ n. HadRounds s frames c.args.order.number (n + 1) c.round.new.self c.round.new.plain) here more.0,
-      λ ended. let yes = c.have_ended.ensures.1 ended in let no = c.if-have_ended.false in cc,
-    )
+    let more = gone_more s frames c.args.order.number l.round l.still c.still_after-still.result l.order.number c.round.new.order.number c.in_ok-quiet.quiet l.workers c.round.new.self l.plain c.round.new.plain had.0 had.1
+    (c.in_ok-quiet.ensures.round s frames had.0.had.history had.0.had.seated) c.still_after-still.ensures.more c.still_after-still.ensures.none in
+    let here : l.round ≡ round = cc in
+    let few : l.round ≤ 18446744073709551615 = omega (arith, c.loop-round-test.true) in
+    let going : HaveEnded c.round.new.self → ⊥ = λ ended. let yes = c.have_ended.ensures.1 ended in let no = c.if-have_ended.false in cc in
+    subst (Stops s frames c.args.order.number c.round.new.self c.round.new.plain) here
+    (stops s frames c.args.order.number l.round c.still_after-still.result c.round.new.self c.round.new.plain more.0 going few (inl c.if-still-eq-STILL_ROUNDS.true) had.2)
+
+pub returns-else-still-eq-STILL_ROUNDS-clause-stalled : goal.returns-else-still-eq-STILL_ROUNDS-clause-stalled
+returns-else-still-eq-STILL_ROUNDS-clause-stalled c s frames round seated is =
+    let l = c.loop-round in
+    let had = l.invariant.rounds s frames seated in
+    let more = gone_more s frames c.args.order.number l.round l.still c.still_after-still.result l.order.number c.round.new.order.number c.in_ok-quiet.quiet l.workers c.round.new.self l.plain c.round.new.plain had.0 had.1
+    (c.in_ok-quiet.ensures.round s frames had.0.had.history had.0.had.seated) c.still_after-still.ensures.more c.still_after-still.ensures.none in
+    let last : round ≡ 18446744073709551615 = cc in
+    let here : l.round ≡ round = omega (arith, last, c.loop-round-test.true) in
+    let few : l.round ≤ 18446744073709551615 = omega (arith, here, last) in
+    let going : HaveEnded c.round.new.self → ⊥ = λ ended. let yes = c.have_ended.ensures.1 ended in let no = c.if-have_ended.false in cc in
+    subst (Stops s frames c.args.order.number c.round.new.self c.round.new.plain) here
+    (stops s frames c.args.order.number l.round c.still_after-still.result c.round.new.self c.round.new.plain more.0 going few (inr (here ∙ last)) had.2)

@@ -2,14 +2,18 @@ use Rattle.std.proofs.Common.{◌≡◌, ◌<◌, List, [], vec_len}
 use Rattle.xsk_umem.specs.Frame.{Frame}
 use Rattle.xsk_sim.specs.Order.{number_at}
 use Rattle.xsk_turns.specs.Workers.{Setting}
-use Rattle.xsk_sim.specs.Seats.{AreSeated, HadRounds, HaveEnded}
+use Rattle.xsk_sim.specs.Runs.{NeverStill}
+use Rattle.xsk_sim.specs.Seats.{AreSeated, HaveEnded}
+use Rattle.xsk_sim.proofs.Standing.{Gone}
 use Rattle.xsk_sim.proofs.simulation.make_rounds.Given as goal
 
 abbrev pub invariant-loop-round : goal.invariant-loop-round
 invariant-loop-round l = record {
   config : l.plain.config ≡ l.initial.plain.config;
   drivers : vec_len l.workers.drivers ≡ vec_len l.initial.workers.drivers;
+  few : l.still < 64;
   rounds : (s : Setting) (frames : List Frame) → AreSeated s frames [] l.initial.workers l.initial.plain
-      → HadRounds s frames l.initial.order.number l.round l.workers l.plain × (l.order.number ≡ number_at l.initial.order.number l.round);
+      → Gone s frames l.initial.order.number l.round l.still l.workers l.plain × (l.order.number ≡ number_at l.initial.order.number l.round)
+      × NeverStill s frames l.initial.order.number l.round;
   going : 0 < l.round → HaveEnded l.workers → ⊥;
 }

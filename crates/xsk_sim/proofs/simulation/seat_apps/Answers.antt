@@ -17,5 +17,5 @@ loop-app-preserved c =
           let who : ℕ = length c.args.config.now.pairs + c.loop-app.app in
           let new : IsApp s who c.in_ok-new.field-0 = new_app s who c.args.config.now c.loop-app.app c.in_ok-new.field-0 is refl c.in_ok-new.ensures.new in
           rw c.in_ok-push.ensures.items
-          (each_push c.loop-app.seats.items (length c.args.config.now.pairs) who _ c.new-in-loop-app.result (c.loop-app.invariant.seated s is) (omega (arith, count, items)) (c.new-in-loop-app.ensures s who new));
+          (each_push c.loop-app.seats.items (length c.args.config.now.pairs) who _ c.new-in-loop-app.result (c.loop-app.invariant.seated s is) (omega (arith, count, items)) (c.new-in-loop-app.ensures.stands s who new));
     }

@@ -15,6 +15,7 @@ loop-pair-init g c = record {
   verdicts = [];
   given = refl;
   asked = given_none (IsAnswer g.F.Fn c.args.program.now.rule c.args.program.now.decide) c.args.config.now c.args.packets.now;
+  settled = rw c.in_ok-seats.ensures.items (each_none 0 _);
   seated = rw c.in_ok-seats.ensures.items (each_none 0 _);
 }
 
@@ -37,11 +38,12 @@ loop-pair-preserved g c =
       verdicts = before ++ mine ∷ [];
       given = omega (arith, given, length-append before (mine ∷ []));
       asked = given_more By s.config s.packets before mine pair c.loop-pair.invariant.asked (sym given) c.in_ok-driver.ensures.asked;
+      settled = rw c.in_ok-push.ensures.items (each_push c.loop-pair.seats.items 0 pair _ c.new.result c.loop-pair.invariant.settled (omega (arith, count, items)) c.new.ensures.settled);
       seated = rw c.in_ok-push.ensures.items
           (each_push c.loop-pair.seats.items 0 pair _ c.new.result
           (each_change c.loop-pair.seats.items 0 _ _ c.loop-pair.invariant.seated
           (λ k seat low high sits. sits_as s.wire s.config s.packets before (before ++ mine ∷ []) k seat.machine _ (get_or-before before (mine ∷ []) k [] (omega (arith, high, given, count, items))) sits))
-          (omega (arith, count, items)) (c.new.ensures s pair new));
+          (omega (arith, count, items)) (c.new.ensures.stands s pair new));
     }
 
 pub returns-clause-seated : goal.returns-clause-seated

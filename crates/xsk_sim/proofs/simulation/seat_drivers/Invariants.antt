@@ -12,5 +12,6 @@ invariant-loop-pair g l = record {
   verdicts : List (List Verdict);
   given : length verdicts ≡ l.pair;
   asked : AreGivenUpTo (IsAnswer g.F.Fn l.program.rule l.program.decide) l.config l.packets verdicts;
+  settled : EachFrom l.seats.items 0 (λ who seat. seat.settled ≡ 0);
   seated : EachFrom l.seats.items 0 (λ who seat. DriverSits (record { config = l.config; wire = l.wire; packets = l.packets; verdicts = verdicts }) new_own who seat.machine (joined_ask seat.ask seat.items));
 }

@@ -11,13 +11,13 @@ use Rattle.xsk_sim.proofs.simulation.simulate.Given as given
 use Rattle.xsk_sim.proofs.simulation.simulate.Goals as goal
 
 -- the workers are seated as the rounds begin, and were so then
-begins : (g : given.Over) (c : goal.After-last_round g)
+begins : (g : given.Over) (c : goal.After-new g)
     → AreSeated (record { config = c.args.config; wire = c.args.wire; packets = c.args.packets.now; verdicts = c.in_ok-seat_drivers.ensures.seated.0 }) c.args.frames.items [] (record { drivers = c.in_ok-seat_drivers.field-0; apps = c.in_ok-seat_apps.field-0 }) c.in-Ok.plain
 begins g c =
     seated_opened c.args.wire c.args.config c.in_ok-shared.shared c.args.packets.now c.in_ok-seat_drivers.ensures.seated.0 c.args.frames.items (record { drivers = c.in_ok-seat_drivers.field-0; apps = c.in_ok-seat_apps.field-0 }) c.in-Ok.plain
     c.in_ok-shared.ensures c.geometry-geometry.ensures.lawful (subst IsConfig c.config.view_is c.config.invariant) c.requires.regular.lawful c.requires.frames
     c.in-Ok.ensures.config c.in-Ok.ensures.state c.in-Ok.ensures.log.0 c.in_ok-seat_drivers.ensures.seated.2
-    (c.in_ok-seat_apps.ensures.seated (record { config = c.in_ok-shared.shared; wire = c.args.wire; packets = c.args.packets.now; verdicts = c.in_ok-seat_drivers.ensures.seated.0 }) refl) c.in_ok-seat_drivers.ensures.count c.in_ok-seat_apps.ensures.count
+    (c.in_ok-seat_apps.ensures.seated (record { config = c.in_ok-shared.shared; wire = c.args.wire; packets = c.args.packets.now; verdicts = c.in_ok-seat_drivers.ensures.seated.0 }) refl) c.in_ok-seat_drivers.ensures.settled c.in_ok-seat_drivers.ensures.count c.in_ok-seat_apps.ensures.count
 
 seated : (g : given.Over) (c : goal.After-drop-shared-inside-4 g)
     → AreSeated (record { config = c.args.config; wire = c.args.wire; packets = c.args.packets.now; verdicts = c.in_ok-seat_drivers.ensures.seated.0 }) c.args.frames.items [] (record { drivers = c.in_ok-seat_drivers.field-0; apps = c.in_ok-seat_apps.field-0 }) c.in-Ok.plain
@@ -25,7 +25,7 @@ seated g c =
     seated_opened c.args.wire c.args.config c.in_ok-shared.shared c.args.packets.now c.in_ok-seat_drivers.ensures.seated.0 c.args.frames.items (record { drivers = c.in_ok-seat_drivers.field-0; apps = c.in_ok-seat_apps.field-0 }) c.in-Ok.plain
     c.in_ok-shared.ensures c.geometry-geometry.ensures.lawful (subst IsConfig c.config.view_is c.config.invariant) c.requires.regular.lawful c.requires.frames
     c.in-Ok.ensures.config c.in-Ok.ensures.state c.in-Ok.ensures.log.0 c.in_ok-seat_drivers.ensures.seated.2
-    (c.in_ok-seat_apps.ensures.seated (record { config = c.in_ok-shared.shared; wire = c.args.wire; packets = c.args.packets.now; verdicts = c.in_ok-seat_drivers.ensures.seated.0 }) refl) c.in_ok-seat_drivers.ensures.count c.in_ok-seat_apps.ensures.count
+    (c.in_ok-seat_apps.ensures.seated (record { config = c.in_ok-shared.shared; wire = c.args.wire; packets = c.args.packets.now; verdicts = c.in_ok-seat_drivers.ensures.seated.0 }) refl) c.in_ok-seat_drivers.ensures.settled c.in_ok-seat_drivers.ensures.count c.in_ok-seat_apps.ensures.count
 
 asked : (g : given.Over) (c : goal.After-drop-shared-inside-4 g)
     → AreGiven (IsAnswer g.F.Fn c.args.program.now.rule c.args.program.now.decide) (record { config = c.args.config; wire = c.args.wire; packets = c.args.packets.now; verdicts = c.in_ok-seat_drivers.ensures.seated.0 })
@@ -38,7 +38,7 @@ returns-clause-ended g c =
     let s : Setting = record { config = c.args.config; wire = c.args.wire; packets = c.args.packets.now; verdicts = c.in_ok-seat_drivers.ensures.seated.0 } in
     if_ok c.run_workers.result (HasEnded s c.args.frames.items c.args.order) _ (λ run ended. record { verdicts = s.verdicts; asked = asked g c; ended = ended })
     (subst (λ (number : ℕ). IfOk c.run_workers.result (HasEnded s c.args.frames.items number)) c.new.ensures
-    (c.run_workers.ensures.ended s c.args.frames.items c.requires.regular (seated g c) c.last_round.ensures (c.classes-classes.ensures ∙ ap classes_of c.in_ok-shared.ensures) refl))
+    (c.run_workers.ensures.ended s c.args.frames.items c.requires.regular (seated g c) (c.classes-classes.ensures ∙ ap classes_of c.in_ok-shared.ensures) refl))
 
 pub returns-clause-stalled : goal.returns-clause-stalled
 returns-clause-stalled g c round is =
@@ -47,7 +47,7 @@ returns-clause-stalled g c round is =
       verdicts = s.verdicts;
       asked = asked g c;
       stalled = subst (λ (number : ℕ). HasStalled s c.args.frames.items number round) c.new.ensures
-          (c.run_workers.ensures.stalled s c.args.frames.items round (seated g c) c.last_round.ensures is);
+          (c.run_workers.ensures.stalled s c.args.frames.items round (seated g c) is);
     }
 
 pub run_workers-requires-clause-ready : goal.run_workers-requires-clause-ready

@@ -1,7 +1,8 @@
-use Rattle.std.proofs.Common.{ℕ, ◌-◌, ◌<◌, [], ◌∷◌, ◌++◌, sym, subst, ap, ◌∙◌, arith, append_assoc}
+use Rattle.std.proofs.Common.{ℕ, ◌&&◌, ◌-◌, ◌<◌, [], ◌∷◌, ◌++◌, sym, subst, ap, ◌∙◌, arith, append_assoc}
 use Rattle.std.specs.List.{range_with_len}
 use Rattle.xsk_sim.specs.Seats.{HadTurns}
 use Rattle.xsk_sim.proofs.Turning.{going_on, going_few, had_both, range_more, range_first}
+use Rattle.xsk_sim.proofs.Stalling.{both_true}
 use Rattle.xsk_sim.proofs.rounds.Workers.round.Goals as goal
 
 pub loop-who-preserved : goal.loop-who-preserved
@@ -13,9 +14,9 @@ loop-who-preserved c = record {
       let who = c.loop-who.who in
       let start = c.start-start.result in
       let had = c.loop-who.invariant.round s frames h seated in
-      let next : HadTurns s frames (h ++ had.entries) (who ∷ []) c.step.new.self c.step.new.plain = c.in_ok-step.ensures.turn s frames (h ++ had.entries) had.seated in
-      subst (λ ws. HadTurns s frames h ws c.step.new.self c.step.new.plain) (range_more start who c.loop-who.auto.who)
-      (had_both s frames h (range_with_len start (who - start)) (who ∷ []) c.loop-who.self c.step.new.self c.loop-who.plain c.step.new.plain had next);
+      let next : HadTurns s frames (h ++ had.entries) (who ∷ []) c.step.new.self c.step.new.plain _ = c.in_ok-still.ensures.turn s frames (h ++ had.entries) had.seated in
+      subst (λ ws. HadTurns s frames h ws c.step.new.self c.step.new.plain (c.loop-who.still && c.in_ok-still.field-0)) (range_more start who c.loop-who.auto.who)
+      (had_both s frames h (range_with_len start (who - start)) (who ∷ []) c.loop-who.self c.step.new.self c.loop-who.plain c.step.new.plain c.loop-who.still _ _ (both_true _ _) had next);
 }
 
 pub loop-who-2-preserved : goal.loop-who-2-preserved
@@ -29,9 +30,9 @@ loop-who-2-preserved c = record {
       let first = range_with_len start (c.count-callers.result - start) in
       let step = c.step-in-loop-who-2.new in
       let had = c.loop-who-2.invariant.round s frames h seated in
-      let next : HadTurns s frames (h ++ had.entries) (who ∷ []) step.self step.plain = c.in_ok-step-2.ensures.turn s frames (h ++ had.entries) had.seated in
-      subst (λ ws. HadTurns s frames h ws step.self step.plain) (append_assoc first (range_with_len 0 who) (who ∷ []) ∙ ap (λ ws. first ++ ws) (range_first who))
-      (had_both s frames h (first ++ range_with_len 0 who) (who ∷ []) c.loop-who-2.self step.self c.loop-who-2.plain step.plain had next);
+      let next : HadTurns s frames (h ++ had.entries) (who ∷ []) step.self step.plain _ = c.in_ok-still-2.ensures.turn s frames (h ++ had.entries) had.seated in
+      subst (λ ws. HadTurns s frames h ws step.self step.plain (c.loop-who-2.still && c.in_ok-still-2.field-0)) (append_assoc first (range_with_len 0 who) (who ∷ []) ∙ ap (λ ws. first ++ ws) (range_first who))
+      (had_both s frames h (first ++ range_with_len 0 who) (who ∷ []) c.loop-who-2.self step.self c.loop-who-2.plain step.plain c.loop-who-2.still _ _ (both_true _ _) had next);
 }
 
 pub step-requires-clause-going : goal.step-requires-clause-going

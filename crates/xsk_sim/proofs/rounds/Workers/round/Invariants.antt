@@ -12,7 +12,7 @@ invariant-loop-who l = record {
   drivers : vec_len l.self.drivers ≡ vec_len l.initial.self.drivers;
   count : vec_len l.self.drivers + vec_len l.self.apps ≡ l.callers;
   round : (s : Setting) (frames : List Frame) (h : List Entry) → AreSeated s frames h l.initial.self l.initial.plain
-      → HadTurns s frames h (range_with_len l.start (l.who - l.start)) l.self l.plain;
+      → HadTurns s frames h (range_with_len l.start (l.who - l.start)) l.self l.plain l.still;
 }
 
 abbrev pub invariant-loop-who-2 : goal.invariant-loop-who-2
@@ -21,5 +21,5 @@ invariant-loop-who-2 l = record {
   drivers : vec_len l.self.drivers ≡ vec_len l.initial.self.drivers;
   count : vec_len l.self.drivers + vec_len l.self.apps ≡ l.callers;
   round : (s : Setting) (frames : List Frame) (h : List Entry) → AreSeated s frames h l.fn.self l.fn.plain
-      → HadTurns s frames h (range_with_len l.start (l.callers - l.start) ++ range_with_len 0 l.who) l.self l.plain;
+      → HadTurns s frames h (range_with_len l.start (l.callers - l.start) ++ range_with_len 0 l.who) l.self l.plain l.still;
 }

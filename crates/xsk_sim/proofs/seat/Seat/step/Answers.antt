@@ -1,4 +1,4 @@
-use Rattle.std.proofs.Common.{◌≡◌, Option, sym, ap, subst, refl}
+use Rattle.std.proofs.Common.{◌≡◌, Option, sym, ap, subst, refl, rules}
 use Rattle.xsk_turns.specs.Stepping.{joined_ask}
 use Rattle.xsk_model.specs.Asks.{joined_call, joined_reply}
 use Rattle.xsk_model.specs.Entry.{own}
@@ -8,7 +8,7 @@ use Rattle.xsk_model.specs.declared.call.Act.TheVariants.{Call as Calls}
 use Rattle.xsk_plain.specs.Engine.{Engine, CanPerform}
 use Rattle.xsk_machine.specs.Acts.{IsActAfter}
 use Rattle.xsk_sim.specs.Turning.{HasRun}
-use Rattle.xsk_sim.proofs.RunSteps.{Performs, turn_made, run_same}
+use Rattle.xsk_sim.proofs.RunSteps.{Performs, turn_made, turn_past, run_same}
 use Rattle.xsk_sim.proofs.seat.Seat.step.Goals as goal
 
 pub returns-clause-turn : goal.returns-clause-turn
@@ -25,14 +25,20 @@ returns-clause-turn g c s frames h run stands after =
       log = c.serve-answer.ensures.log;
       config = c.serve-answer.ensures.config;
     } in
-    turn_made s frames h engine c.serve-answer.new.self c.args.who call reply act
+    turn_made s frames h engine c.serve-answer.new.self c.args.who call reply (joined_ask c.args.self.now.ask c.args.self.now.items) act c.args.self.now.settled c.args.settled c.args.settled c.is_quiet-still.result
     (g.M.Machine.stands s c.args.who c.step-self.new.self act) room
     (subst (λ (a : Act). IsActAfter s c.args.who a (own c.args.who h)) is after) performs
     (λ may. c.step-self.ensures.goes_on s c.args.who (own c.args.who h) call reply
     (subst (λ (a : Act). g.M.Machine.stands s c.args.who c.args.self.now.machine a (own c.args.who h)) is stands) refl may)
+    is refl (c.is_quiet-still.ensures c.args.self.now.items c.serve-answer.new.items)
 
 pub serve-answer-requires-clause-can : goal.serve-answer-requires-clause-can
 serve-answer-requires-clause-can g c =
     let call = joined_call c.in-Some.ask c.args.self.now.items in
     let is : joined_ask c.args.self.now.ask c.args.self.now.items ≡ Calls call = ap (λ (a : Option Ask). joined_ask a c.args.self.now.items) c.in-Some.is in
     subst (λ (engine : Engine). CanPerform engine.config engine.rings call) (sym c.reserve_log.ensures.same) (c.requires.can call is)
+
+pub returns-in_default-clause-turn : goal.returns-in_default-clause-turn
+returns-in_default-clause-turn g c s frames h run stands after =
+    turn_past s frames h c.args.plain.now c.args.who c.args.self.now.ask c.args.self.now.items c.args.self.now.settled c.args.settled (g.M.Machine.stands s c.args.who c.args.self.now.machine)
+    (search rules) run stands after
