@@ -45,7 +45,15 @@ fn a_packet_crosses_to_the_other_port(rt: HostRuntime) -> Result<(), Fail> {
     let lists = vec![in alloc; received, PacketList::new(alloc)]?;
     let rule = Rule::Redirect { sockets: 1 };
     let program = XdpProgram::attach(rule, |bytes: &[u8], queue: u32| rule.verdict(bytes, queue));
-    let Ok(run) = simulate(alloc, config, frames, lists.as_slice(), &program, Wire::Wait, 0) else {
+    let Ok(run) = simulate(
+        alloc,
+        config,
+        frames,
+        lists.as_slice(),
+        &program,
+        Wire::Wait,
+        0,
+    ) else {
         return Err("the run didn't end")?;
     };
     assert!(rt; run.sent(0).is_empty());
