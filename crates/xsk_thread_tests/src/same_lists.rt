@@ -57,7 +57,16 @@ fn is_sent_on_threads<R: Threads + Wait + Sync>(
     let rule = Rule::Redirect { sockets: 1 };
     let program = XdpProgram::attach(rule, |bytes: &[u8], queue: u32| rule.verdict(bytes, queue));
     let (config, frames) = set_up(alloc, 2)?;
-    let Ok(outcome) = forward(rt, alloc, config, frames, lists, &program, Wire::Wait, &Open) else {
+    let Ok(outcome) = forward(
+        rt,
+        alloc,
+        config,
+        frames,
+        lists,
+        &program,
+        Wire::Wait,
+        &Open,
+    ) else {
         return Err("want of memory")?;
     };
     for pair in 0..4 {
