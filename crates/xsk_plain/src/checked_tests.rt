@@ -54,7 +54,7 @@ fn pair_on(port: u32) -> PairInfo
     }
 }
 
-fn open_one_way(alloc: Global) -> Result<Checked, Fail> {
+pub(crate) fn open_one_way(alloc: Global) -> Result<Checked, Fail> {
     let (geometry, frames) = Umem::register(alloc, 16384, 2048, 0)?;
     let _frames = geometry.frames();
     let config = one_way(alloc, geometry)?;
@@ -64,7 +64,7 @@ fn open_one_way(alloc: Global) -> Result<Checked, Fail> {
     }
 }
 
-fn reply_to(checked: &mut Checked, who: u32, call: Call) -> Result<Reply, Fail> {
+pub(crate) fn reply_to(checked: &mut Checked, who: u32, call: Call) -> Result<Reply, Fail> {
     let _geometry = checked.config().geometry();
     checked.reserve_log(1, payload_room(&call))?;
     if !checked.allows(who, &call) {

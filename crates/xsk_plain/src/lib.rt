@@ -6,6 +6,8 @@ mod checked;
 mod checked_tests;
 pub mod laws;
 mod line;
+#[cfg(test)]
+mod line_tests;
 mod log;
 mod moving;
 mod noting;
