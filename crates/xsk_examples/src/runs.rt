@@ -4,7 +4,7 @@ ghost use Rattle.std.specs.Prelude.{◌≡◌, Some};
 use std::test::Fail;
 use xsk_model::{Config, PairInfo, SocketInfo};
 use xsk_prog::{Rule, XdpProgram};
-use xsk_sim::simulate;
+use xsk_sim::{Wire, simulate};
 use xsk_umem::{PacketList, Umem};
 
 fn socket_on(port: u32) -> SocketInfo
@@ -45,7 +45,7 @@ fn a_packet_crosses_to_the_other_port(rt: HostRuntime) -> Result<(), Fail> {
     let lists = vec![in alloc; received, PacketList::new(alloc)]?;
     let rule = Rule::Redirect { sockets: 1 };
     let program = XdpProgram::attach(rule, |bytes: &[u8], queue: u32| rule.verdict(bytes, queue));
-    let Ok(run) = simulate(alloc, config, frames, lists.as_slice(), &program, 0) else {
+    let Ok(run) = simulate(alloc, config, frames, lists.as_slice(), &program, Wire::Wait, 0) else {
         return Err("the run didn't end")?;
     };
     assert!(rt; run.sent(0).is_empty());

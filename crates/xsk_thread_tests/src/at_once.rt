@@ -3,6 +3,7 @@ use crate::packets::{are_same, packets, set_up};
 use std::test::Fail;
 use xsk_io::PairGate;
 use xsk_prog::{Rule, XdpProgram};
+use xsk_sim::Wire;
 use xsk_workers::forward;
 
 #[test]
@@ -20,6 +21,7 @@ fn two_drivers_meet_at_the_gate(rt: HostRuntime) -> Result<(), Fail> {
         frames,
         lists.as_slice(),
         &program,
+        Wire::Wait,
         &gate,
     ) else {
         return Err("want of memory")?;

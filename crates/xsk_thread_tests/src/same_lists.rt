@@ -10,7 +10,7 @@ use std::test::Fail;
 use std::thread::Threads;
 use xsk_io::Open;
 use xsk_prog::{Rule, XdpProgram};
-use xsk_sim::{Run, simulate};
+use xsk_sim::{Run, Wire, simulate};
 use xsk_umem::PacketList;
 use xsk_workers::forward;
 
@@ -37,7 +37,7 @@ fn are_sent_alike<R: Threads + Wait + Sync>(
     let rule = Rule::Redirect { sockets: 1 };
     let program = XdpProgram::attach(rule, |bytes: &[u8], queue: u32| rule.verdict(bytes, queue));
     let (config, frames) = set_up(alloc, 2)?;
-    let Ok(run) = simulate(alloc, config, frames, lists, &program, 0) else {
+    let Ok(run) = simulate(alloc, config, frames, lists, &program, Wire::Wait, 0) else {
         return Err("the run didn't end")?;
     };
     Ok(is_sent_on_threads(rt, alloc, lists, &run)? && is_sent_on_threads(rt, alloc, lists, &run)?)
@@ -57,7 +57,7 @@ fn is_sent_on_threads<R: Threads + Wait + Sync>(
     let rule = Rule::Redirect { sockets: 1 };
     let program = XdpProgram::attach(rule, |bytes: &[u8], queue: u32| rule.verdict(bytes, queue));
     let (config, frames) = set_up(alloc, 2)?;
-    let Ok(outcome) = forward(rt, alloc, config, frames, lists, &program, &Open) else {
+    let Ok(outcome) = forward(rt, alloc, config, frames, lists, &program, Wire::Wait, &Open) else {
         return Err("want of memory")?;
     };
     for pair in 0..4 {

@@ -9,7 +9,7 @@ use crate::configuration::{pair_on, socket_on};
 use std::alloc::Global;
 use std::test::Fail;
 use xsk_app::App;
-use xsk_driver::{Disposal, Driver, Inputs};
+use xsk_driver::{Disposal, Driver, Inputs, Wire};
 use xsk_model::{Act, Call, Config, Mark, Reply, Ring};
 use xsk_prog::{Rule, Verdict, XdpProgram};
 use xsk_umem::{Batch, Frame, Frames, Item, PacketList, Umem, XdpDesc};
@@ -247,7 +247,17 @@ fn a_driver_receives_the_packet(rt: HostRuntime) -> Result<(), Fail> {
     let program = XdpProgram::attach(rule, |packet: &[u8], queue: u32| {
         rule.verdict(packet, queue)
     });
-    let driver = Driver::new(alloc, &config, 0, &lists[0], &inputs, &program, 4, 4096)?;
+    let driver = Driver::new(
+        alloc,
+        &config,
+        0,
+        &lists[0],
+        &inputs,
+        &program,
+        Wire::Wait,
+        4,
+        4096,
+    )?;
     let frame = packet_frame(&mut frames)?;
     let mut hand = Hand::new(driver);
     assert!(rt; hand.looks(Mark::Cell(0, 0), 1));
@@ -272,7 +282,17 @@ fn a_driver_sends_the_packet(rt: HostRuntime) -> Result<(), Fail> {
     let lists = inputs_of_ports(alloc)?;
     let inputs = Inputs::split(alloc, &config, lists.as_slice())?;
     let program = XdpProgram::attach(Rule::Drop, |_packet: &[u8], _queue: u32| Verdict::Drop);
-    let driver = Driver::new(alloc, &config, 1, &lists[1], &inputs, &program, 4, 4096)?;
+    let driver = Driver::new(
+        alloc,
+        &config,
+        1,
+        &lists[1],
+        &inputs,
+        &program,
+        Wire::Wait,
+        4,
+        4096,
+    )?;
     let frame = packet_frame(&mut frames)?;
     let mut hand = Hand::new(driver);
     assert!(rt; hand.swaps(Mark::RxDone(1)));

@@ -5,13 +5,13 @@ ghost use Rattle.xsk_sim.specs.Shown.{HasShortPackets};
 use crate::by_hand::{FREE, Hand, RECEIVED, Seen, one, packet_frame, two_ports};
 use std::alloc::Global;
 use std::test::Fail;
-use xsk_driver::{Disposal, Driver, Inputs};
+use xsk_driver::{Disposal, Driver, Inputs, Wire};
 use xsk_model::{Mark, Reply, Ring};
 use xsk_prog::{Rule, Verdict, XdpProgram};
 use xsk_umem::{Frame, PacketList, XdpDesc};
 
 /// A packet of 60 bytes with this first byte and EtherType.
-fn packet(first: u8, kind: u16) -> [u8; 60] {
+pub(crate) fn packet(first: u8, kind: u16) -> [u8; 60] {
     let mut bytes = [0; 60];
     bytes[0] = first;
     let [high, low] = kind.to_be_bytes();
@@ -21,7 +21,7 @@ fn packet(first: u8, kind: u16) -> [u8; 60] {
 }
 
 /// Three packets on port 0, and none on port 1.
-fn three(alloc: Global, packets: [[u8; 60]; 3]) -> Result<Vec<PacketList>, Fail>
+pub(crate) fn three(alloc: Global, packets: [[u8; 60]; 3]) -> Result<Vec<PacketList>, Fail>
     ensures count { IfOk result (λ lists. length lists.items ≡ 2) }
     ensures short { IfOk result (λ lists. All HasShortPackets lists.items) }
 {
@@ -33,7 +33,7 @@ fn three(alloc: Global, packets: [[u8; 60]; 3]) -> Result<Vec<PacketList>, Fail>
 }
 
 /// Whether the driver looks at cell 0, and delivers a packet in this frame to socket 0.
-fn delivers(hand: &mut Hand<Driver<'_>>, alloc: Global, frame: Frame) -> bool {
+pub(crate) fn delivers(hand: &mut Hand<Driver<'_>>, alloc: Global, frame: Frame) -> bool {
     let addr = RECEIVED.addr + 4096 * u64::from(frame.number());
     let desc = XdpDesc { addr, ..RECEIVED };
     hand.looks(Mark::Cell(0, 0), 1)
@@ -57,7 +57,17 @@ fn a_closure_of_ones_own_decides(rt: HostRuntime) -> Result<(), Fail> {
             Verdict::Drop
         }
     });
-    let driver = Driver::new(alloc, &config, 0, &lists[0], &inputs, &program, 0, 0)?;
+    let driver = Driver::new(
+        alloc,
+        &config,
+        0,
+        &lists[0],
+        &inputs,
+        &program,
+        Wire::Wait,
+        0,
+        0,
+    )?;
     let mut hand = Hand::new(driver);
     let first = packet_frame(&mut frames)?;
     let second = packet_frame(&mut frames)?;
@@ -87,7 +97,17 @@ fn an_ether_type_is_redirected(rt: HostRuntime) -> Result<(), Fail> {
         sockets: 1,
     };
     let program = XdpProgram::attach(rule, |bytes: &[u8], queue: u32| rule.verdict(bytes, queue));
-    let driver = Driver::new(alloc, &config, 0, &lists[0], &inputs, &program, 0, 0)?;
+    let driver = Driver::new(
+        alloc,
+        &config,
+        0,
+        &lists[0],
+        &inputs,
+        &program,
+        Wire::Wait,
+        0,
+        0,
+    )?;
     let mut hand = Hand::new(driver);
     let frame = packet_frame(&mut frames)?;
     assert!(rt; delivers(&mut hand, alloc, frame));
@@ -106,7 +126,17 @@ fn a_cell_that_is_not_there_is_missed(rt: HostRuntime) -> Result<(), Fail> {
     let program = XdpProgram::attach(Rule::Fixed(9), |_bytes: &[u8], _queue: u32| {
         Verdict::Redirect(9)
     });
-    let driver = Driver::new(alloc, &config, 0, &lists[0], &inputs, &program, 0, 0)?;
+    let driver = Driver::new(
+        alloc,
+        &config,
+        0,
+        &lists[0],
+        &inputs,
+        &program,
+        Wire::Wait,
+        0,
+        0,
+    )?;
     let mut hand = Hand::new(driver);
     assert!(rt; hand.swaps(Mark::RxDone(0)));
     let all = [Disposal::Missed, Disposal::Missed, Disposal::Missed];
@@ -122,7 +152,17 @@ fn a_cell_is_looked_at_again_and_the_program_is_not_asked(rt: HostRuntime) -> Re
     let inputs = Inputs::split(alloc, &config, lists.as_slice())?;
     let rule = Rule::Redirect { sockets: 1 };
     let program = XdpProgram::attach(rule, |bytes: &[u8], queue: u32| rule.verdict(bytes, queue));
-    let driver = Driver::new(alloc, &config, 0, &lists[0], &inputs, &program, 0, 0)?;
+    let driver = Driver::new(
+        alloc,
+        &config,
+        0,
+        &lists[0],
+        &inputs,
+        &program,
+        Wire::Wait,
+        0,
+        0,
+    )?;
     drop(program);
     let mut hand = Hand::new(driver);
     // The first packet finds no frame, and then its cell empty; the second is delivered.

@@ -7,7 +7,7 @@ use std::alloc::Global;
 use std::test::Fail;
 use xsk_model::{Config, PairInfo, SocketInfo};
 use xsk_prog::{Rule, XdpProgram};
-use xsk_sim::simulate;
+use xsk_sim::{Wire, simulate};
 use xsk_umem::{PacketList, Umem};
 
 /// The packets of each port, and the bytes of each.
@@ -31,7 +31,15 @@ fn packets_find_a_ring_full_and_no_frame(rt: HostRuntime) -> Result<(), Fail> {
     let program = XdpProgram::attach(rule, |packet: &[u8], queue: u32| {
         rule.verdict(packet, queue)
     });
-    let Ok(run) = simulate(alloc, config, frames, lists.as_slice(), &program, 1) else {
+    let Ok(run) = simulate(
+        alloc,
+        config,
+        frames,
+        lists.as_slice(),
+        &program,
+        Wire::Wait,
+        1,
+    ) else {
         return Err("the run didn't end")?;
     };
     let log = format!(in alloc; "{:?}", run.log())?;
