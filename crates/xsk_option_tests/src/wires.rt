@@ -54,6 +54,9 @@ fn a_packet_that_never_finds_room_is_lost_or_stalls(rt: HostRuntime) -> Result<(
     let long = capture_of_long(rt.alloc())?;
     let waiting = "simulate --sg --rx 2 a b c d";
     assert!(rt; ends(rt.alloc(), waiting, long.as_slice(), 8, b"".as_slice())?);
+    let first = Vec::from_slice(rt.alloc(), long.as_slice())?;
+    let (_, bay) = answered_over(rt.alloc(), waiting, first, ROOM)?;
+    assert!(rt; holds(&bay, Stream::Report, b"stalled 66\n".as_slice()));
     let dropping = "simulate --sg --rx 2 --wire drop a b c d";
     assert!(rt; ends(rt.alloc(), dropping, long.as_slice(), 0, HEADER.as_slice())?);
     let roomy = "simulate --sg --wire drop a b c d";
