@@ -12,14 +12,12 @@ const ROOM: u32 = 16_384;
 
 /// Whether a line of the text begins so.
 fn has_line(text: &[u8], front: &[u8]) -> bool {
-    let mut rest = text;
     let mut begins = true;
-    while !rest.is_empty() {
-        if begins && rest.starts_with(front) {
+    for at in 0..text.len() {
+        if begins && text[at..].starts_with(front) {
             return true;
         }
-        begins = rest[0] == b'\n';
-        rest = &rest[1..];
+        begins = text[at] == b'\n';
     }
     false
 }
