@@ -1,0 +1,6 @@
+pub mod Totals
+pub mod Flow
+pub mod Changing
+pub mod Opened
+pub mod Kicks
+pub mod Sums
