@@ -4,13 +4,9 @@ use Rattle.std.specs.Prelude.{IsTrue}
 use Rattle.std.specs.List.{concat}
 use Rattle.xsk_model.specs.Config.{Config}
 use Rattle.xsk_model.specs.Rings.{caller_of}
-use Rattle.xsk_model.specs.Homes.{home_app, serves}
-use Rattle.xsk_model.specs.Numbers.{times}
-use Rattle.xsk_model.specs.Own.{had_of}
-use Rattle.xsk_model.proofs.FrameTheorems.{frames_stay}
-use Rattle.xsk_model.proofs.Stays.{serves_itself}
 use Rattle.xsk_turns.specs.AppOwned.{HasOwnFrames}
-use Rattle.xsk_model.specs.Entry.{Told, with_told}
+use Rattle.xsk_turns.proofs.AppHomes.{own_frames, had_none}
+use Rattle.xsk_model.specs.Entry.{Told, with_told, own}
 use Rattle.xsk_model.specs.History.{MayGive}
 use Rattle.xsk_model.specs.Sent.{sockets_of, sent_from}
 use Rattle.xsk_model.specs.declared.call.Call.{Call}
@@ -71,20 +67,14 @@ sent_at s who d act l is stands within =
 
 -- ---- applications
 
--- in a history the frames of an application are at home with it
-own_frames : (c : Config) (a who : ℕ) (l : List Told) (call : Call) (r : Reply) → who ≡ caller_of c a → MayGive c l who call r → HasOwnFrames c a (with_told l call r)
-own_frames c a who l call r is may = λ n had.
-    let stay = frames_stay c may.frames may.history n may.legal in
-    let mine : serves c who ≡ home_app c n = stay.0 who (subst (λ m. 1 ≤ times n (had_of m)) (sym may.entries) had) in
-    sym mine ∙ ap (serves c) is ∙ serves_itself c a
-
+-- in a history all frames that an application has had are at home with it
 pub app_own : (s : Setting) (who : ℕ) (a : AppShown) (l : List Told) (call : Call) (r : Reply) → who ≡ caller_of s.config a.app → MayGive s.config l who call r
     → HasOwnFrames s.config a.app (with_told l call r)
-app_own s who a l call r is may = own_frames s.config a.app who l call r is may
+app_own s who a l call r is may = own_frames s.config a.app may.frames may.history (with_told l call r) may.legal (ap (λ w. own w may.history) (sym is) ∙ may.entries)
 
--- one that has none has no other's
+-- one that has made no call has had none
 pub app_has_none : (s : Setting) (a : AppShown) → HasOwnFrames s.config a.app []
-app_has_none s a = λ n had. absurd (omega arith)
+app_has_none s a = had_none s.config a.app
 
 app_acts : (s : Setting) (a : AppShown) (act : Act) (l : List Told) → HasOwnFrames s.config a.app l → AppStandsWith s.config a.app a act l → IsActAfter s (caller_of s.config a.app) act l
 app_acts s a (Calls call) l own stands =

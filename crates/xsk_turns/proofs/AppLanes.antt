@@ -1,24 +1,25 @@
 -- On each lane the items submitted are the first of those peeked, and at the end all of them; and there its RX ring was
 -- found empty, after both drivers had told that they have no further packet.
-use Rattle.std.proofs.Common.{◌≡◌, ℕ, ◌+◌, ◌<◌, Bool, true, false, cond, ◌&&◌, eqb, List, [], ◌∷◌, ◌++◌, length, map, drop, set, refl, sym, ap, ◌∙◌, subst, ⊎_elim, arith, append-nil, eq-eqb, ne_eqb, get_or-set_same, get_or-set_other, length-set}
+use Rattle.std.proofs.Common.{◌≡◌, ℕ, ◌+◌, ◌<◌, Bool, true, false, cond, ◌&&◌, ◌||◌, eqb, List, [], ◌∷◌, ◌++◌, length, map, drop, set, refl, sym, ap, ◌∙◌, subst, ⊎_elim, arith, append-nil, eq-eqb, ne_eqb, get_or-set_same, get_or-set_other, length-set}
 use Rattle.std.proofs.Math.Bool.{and-false}
 use Rattle.std.proofs.lemmas.Bool.{cases_eq, and_parts}
 use Rattle.std.proofs.lemmas.List.{length-replicate}
 use Rattle.xsk_turns.proofs.Object.{Frame, Config, pool_of, batch_of, submitted, taken, is_on, submitted_of, peeked_of, submitted_step, peeked_step, home_item, Telling, telling_after, telling_of, Draining, are_none, unseen_after, draining_after}
 use Rattle.xsk_turns.proofs.Calls.{Item, Told, with_told, Ring, Fill, Comp, Rx, Tx, Mark, RxDone, Gone, TxDone, Call, Submit, Peek, Swap, Look, Reply, Granted, Full, Submitted, Items, Empty, Released, Old}
 use Rattle.xsk_model.proofs.Folds.{part_of-push_same, part_of-push_other}
+use Rattle.xsk_model.specs.declared.call.Mark.TheVariants.{Kick}
 use Rattle.xsk_turns.specs.Turns.{frames_in}
 use Rattle.xsk_turns.specs.AppLaw.{IsFront, LanesInOrder, LanesPassedOn, NothingSentLate, DrainsRx}
 use Rattle.xsk_turns.specs.AppOwned.{IsApp}
 use Rattle.xsk_turns.specs.AppTurns.{AppKept, AppNoted, pair_of, rx_of, tx_of, lanes_of, home_of, both, is_set, pending_at, with_pending, with_back, with_seen, with_gone, noted_first, app_turn, app_start, IsAppRun, IsWholeAppRun}
-use Rattle.xsk_turns.proofs.AppMarks.{side_marks, draining, unseen_sides, none_unseen, other_mark, side_seen, side_unseen}
+use Rattle.xsk_turns.proofs.AppMarks.{side_marks, draining, unseen_sides, none_unseen, other_mark, other_need, side_seen, side_unseen}
 use Rattle.xsk_turns.proofs.AppOwned.{none_pending}
 use Rattle.xsk_turns.proofs.AppPlaces.{rx_lane, tx_lane}
 use Rattle.xsk_turns.proofs.Draining.{draining_told, same_unseen, when_found, found_here}
 use Rattle.xsk_turns.proofs.Owned.{peeked_none, none_submitted, other_submitted}
 use Rattle.xsk_turns.proofs.ReceivingLaws.{telling_told, and_off, now_told}
 use Rattle.xsk_turns.proofs.Walks.{Anything, meet_anything}
-use Rattle.xsk_turns.proofs.AppWalk.{Lanes, Lane, Looking, Family, busy_lane, busy_side, PeekRx, ReleaseRx, ReserveTx, SubmitTx, LookRxDone, LookGone, group, call_at, kept_before, rx_empty, rx_items, rx_released, tx_granted, tx_full, tx_submitted, comp_items, fill_submitted, looked_rx_done, told_tx_done, looked_gone, point_of, reply_of, no_lanes, has_items, has_frames, looks, begins, Said, AtCalls, AtEntries, AtPasses, IsLaw, at_end, of_run}
+use Rattle.xsk_turns.proofs.AppWalk.{Place, Lanes, Lane, Sides, Side, Ending, Looking, Waking, Looked, Kicking, TxTold, Family, is_need, busy_lane, busy_side, PeekRx, ReleaseRx, ReserveTx, SubmitTx, LookRxDone, LookGone, LookNeed, KickDriver, group, call_at, kept_before, rx_empty, rx_items, rx_released, tx_granted, tx_full, tx_submitted, comp_items, fill_submitted, looked_rx_done, told_tx_done, looked_gone, looked_need, kicked, point_of, reply_of, no_lanes, has_items, has_frames, looks, begins, Said, AtCalls, AtEntries, AtPasses, IsLaw, at_end, of_run}
 
 -- ---- what an entry leaves of a ring's items
 
@@ -79,13 +80,18 @@ at_last c a noted upto kept l done h = record {
 
 -- ---- entries that change nothing
 
+now_told_off : (b : Bool) → (b || false) ≡ b
+now_told_off true = refl
+now_told_off false = refl
+
 module _ (c : Config) (a : ℕ) (noted : AppNoted) (upto : ℕ) (kept : AppKept) (l : List Told) (h : InOrder c a noted upto kept l) where
   -- an entry that changes nothing of the lanes' items, of what was told, and of what was found
   unmoved : (call : Call) (reply : Reply) → ((t : ℕ) → submitted_of (Tx t) (with_told l call reply) ≡ submitted_of (Tx t) l) → ((s : ℕ) → peeked_of (Rx s) (with_told l call reply) ≡ peeked_of (Rx s) l)
-      → IsTelling a kept.tx_done (with_told l call reply) → ((s : ℕ) (u : Draining) → draining_after (Rx s) u call reply ≡ u) → InOrder c a noted upto kept (with_told l call reply)
+      → IsTelling a kept.tx_done (with_told l call reply) → ((lane : ℕ) → draining_after (Rx (rx_of c a lane)) (draining c a lane l) call reply ≡ draining c a lane l)
+      → InOrder c a noted upto kept (with_told l call reply)
   unmoved call reply e f g k =
       let same : (lane : ℕ) → draining c a lane (with_told l call reply) ≡ draining c a lane l =
-      λ lane. draining_told (side_marks c a) (Rx (rx_of c a lane)) l call reply ∙ k (rx_of c a lane) (draining c a lane l) in
+      λ lane. draining_told (side_marks c a) (Rx (rx_of c a lane)) l call reply ∙ k lane in
       record {
         lanes = h.lanes;
         order = λ lane within. ap (λ xs. xs ++ pending_at kept lane) (e (tx_of c a lane)) ∙ h.order lane within ∙ sym (f (rx_of c a lane));
@@ -102,7 +108,26 @@ module _ (c : Config) (a : ℕ) (noted : AppNoted) (upto : ℕ) (kept : AppKept)
       → ((s : ℕ) (u : Draining) → draining_after (Rx s) u call reply ≡ u) → InOrder c a noted upto kept (with_told l call reply)
   still call reply e f g k =
       unmoved call reply (λ t. none_submitted (Tx t) l call reply e) (λ s. peeked_none (Rx s) l call reply f)
-      (λ t. telling_told (TxDone a) (Tx t) l call reply ∙ g t (telling_of (TxDone a) (Tx t) l) ∙ h.telling t) k
+      (λ t. telling_told (TxDone a) (Tx t) l call reply ∙ g t (telling_of (TxDone a) (Tx t) l) ∙ h.telling t) (λ lane. k (rx_of c a lane) (draining c a lane l))
+
+  -- a need-wakeup flag is looked at, and a driver is woken
+  looked_flag : (need : Mark) (n : ℕ) → is_need need ≡ true → InOrder c a noted upto kept (with_told l (Look need) (Old n))
+  looked_flag need n flag =
+      let call = Look need in
+      unmoved call (Old n) (λ t. none_submitted (Tx t) l call (Old n) refl) (λ s. peeked_none (Rx s) l call (Old n) refl)
+      (λ t. telling_told (TxDone a) (Tx t) l call (Old n) ∙ h.telling t)
+      (λ lane.
+      let same : unseen_after (draining c a lane l).unseen need n ≡ (draining c a lane l).unseen =
+      ap (λ ms. unseen_after ms need n) (h.unseen lane) ∙ other_need (pair_of c a 0) (pair_of c a 1) need n (is_set kept.seen 0) (is_set kept.seen 1) flag ∙ sym (h.unseen lane) in
+      ap (λ ms. let s : Draining = record { unseen = ms; empty = (draining c a lane l).empty } in s) same)
+
+  woken : (pair n : ℕ) → InOrder c a noted upto kept (with_told l (Swap (Kick pair) 1) (Old n))
+  woken pair n =
+      let call = Swap (Kick pair) 1 in
+      unmoved call (Old n) (λ t. none_submitted (Tx t) l call (Old n) refl) (λ s. peeked_none (Rx s) l call (Old n) refl)
+      (λ t.
+      telling_told (TxDone a) (Tx t) l call (Old n) ∙ ap (λ s. telling_after (TxDone a) (Tx t) s call) (h.telling t)
+      ∙ ap (λ b. let s : Telling = record { told = b; late = false } in s) (now_told_off kept.tx_done)) (λ lane. refl)
 
   -- frames that go back
   gives : (home : ℕ) (items : List Item) → InOrder c a noted upto kept (with_told l (Submit (Fill home) items) Submitted)
@@ -111,14 +136,14 @@ module _ (c : Config) (a : ℕ) (noted : AppNoted) (upto : ℕ) (kept : AppKept)
       unmoved call Submitted (λ t. other_submitted (Tx t) l call Submitted refl) (λ s. other_peeked (Rx s) l call Submitted refl)
       (λ t.
       telling_told (TxDone a) (Tx t) l call Submitted ∙ ap (λ s. telling_after (TxDone a) (Tx t) s call) (h.telling t)
-      ∙ ap (λ b. let s : Telling = record { told = kept.tx_done; late = b } in s) (and-false kept.tx_done)) (λ s u. refl)
+      ∙ ap (λ b. let s : Telling = record { told = kept.tx_done; late = b } in s) (and-false kept.tx_done)) (λ lane. refl)
 
   -- frames that were sent
   completed : (d n : ℕ) (items : List Item) → InOrder c a noted upto kept (with_told l (Peek (Comp d) n) (Items items))
   completed d n items =
       let call = Peek (Comp d) n in
       unmoved call (Items items) (λ t. other_submitted (Tx t) l call (Items items) refl) (λ s. other_peeked (Rx s) l call (Items items) refl)
-      (λ t. telling_told (TxDone a) (Tx t) l call (Items items) ∙ h.telling t) (λ s u. refl)
+      (λ t. telling_told (TxDone a) (Tx t) l call (Items items) ∙ h.telling t) (λ lane. refl)
 
   -- what else is kept, and noted
   beside : (back : List (List Frame)) (gone : List Bool) → InOrder c a noted upto (record kept { back = back; gone = gone }) l
@@ -305,6 +330,10 @@ module _ (c : Config) (a : ℕ) (one : IsApp c a) where
   At (Lanes lane) noted kept l = InOrder c a noted lane kept l
   At (Lane lane due) noted kept l = InOrder c a noted (lane + 1) kept l × (noted.lanes_empty ≡ false)
   At Looking noted kept l = Begins c a kept l
+  At TxTold noted kept l = Begins c a kept l
+  At (Waking place need pair) noted kept l = At place noted kept l
+  At (Looked place need pair n) noted kept l = At place noted kept l
+  At (Kicking place pair) noted kept l = At place noted kept l
   At place noted kept l = InOrder c a noted (lanes_of c) kept l
 
   abbrev Asked : Said
@@ -313,6 +342,34 @@ module _ (c : Config) (a : ℕ) (one : IsApp c a) where
   abbrev Ended : AppKept → List Told → Type 0
   Ended kept l = AtEnd c a l
 
+  -- so at each place of a turn, and it stays so as drivers are woken
+  lawful_at : (place : Place) (noted : AppNoted) (kept : AppKept) (l : List Told) → At place noted kept l → Lawful c a l
+  lawful_at (Lanes lane) noted kept l h = lawful c a noted lane kept l h
+  lawful_at (Lane lane due) noted kept l h = lawful c a noted (lane + 1) kept l h.0
+  lawful_at (Sides side) noted kept l h = lawful c a noted (lanes_of c) kept l h
+  lawful_at (Side side due) noted kept l h = lawful c a noted (lanes_of c) kept l h
+  lawful_at Ending noted kept l h = lawful c a noted (lanes_of c) kept l h
+  lawful_at Looking noted kept l h = lawful c a none_noted 0 kept l h
+  lawful_at TxTold noted kept l h = lawful c a none_noted 0 kept l h
+  lawful_at (Waking place need pair) noted kept l h = lawful_at place noted kept l h
+  lawful_at (Looked place need pair n) noted kept l h = lawful_at place noted kept l h
+  lawful_at (Kicking place pair) noted kept l h = lawful_at place noted kept l h
+
+  abbrev Stays : List Told → List Told → Type 0
+  Stays l m = (noted : AppNoted) (upto : ℕ) (kept : AppKept) → InOrder c a noted upto kept l → InOrder c a noted upto kept m
+
+  stays : (place : Place) (noted : AppNoted) (kept : AppKept) (l m : List Told) → Stays l m → At place noted kept l → At place noted kept m
+  stays (Lanes lane) noted kept l m on h = on noted lane kept h
+  stays (Lane lane due) noted kept l m on h = (on noted (lane + 1) kept h.0, h.1)
+  stays (Sides side) noted kept l m on h = on noted (lanes_of c) kept h
+  stays (Side side due) noted kept l m on h = on noted (lanes_of c) kept h
+  stays Ending noted kept l m on h = on noted (lanes_of c) kept h
+  stays Looking noted kept l m on h = on none_noted 0 kept h
+  stays TxTold noted kept l m on h = on none_noted 0 kept h
+  stays (Waking place need pair) noted kept l m on h = stays place noted kept l m on h
+  stays (Looked place need pair n) noted kept l m on h = stays place noted kept l m on h
+  stays (Kicking place pair) noted kept l m on h = stays place noted kept l m on h
+
   calls : AtCalls c a At Asked
   calls (PeekRx lane) noted kept l known h = lawful c a noted lane kept l h
   calls (ReleaseRx lane n) noted kept l known h = lawful c a noted (lane + 1) kept l h.0
@@ -320,6 +377,8 @@ module _ (c : Config) (a : ℕ) (one : IsApp c a) where
   calls (SubmitTx lane) noted kept l known h = lawful c a noted (lane + 1) kept l h.0
   calls (LookRxDone side) noted kept l known h = lawful c a none_noted 0 kept l h
   calls (LookGone side) noted kept l known h = lawful c a none_noted 0 kept l h
+  calls (LookNeed place need pair) noted kept l known h = lawful_at place noted kept l h
+  calls (KickDriver place pair) noted kept l known h = lawful_at place noted kept l h
   calls p noted kept l known h = lawful c a noted (lanes_of c) (kept_before p kept) l h
 
   entries : AtEntries c a Anything At Asked
@@ -341,10 +400,12 @@ module _ (c : Config) (a : ℕ) (one : IsApp c a) where
   entries (looked_rx_done side n) noted kept l known h asked q = looked_seen c a one kept l side n known.0 known.1 h
   entries (told_tx_done n) noted kept l known h asked q = told_over c a noted kept l n known.0 known.1 h
   entries (looked_gone side n) noted kept l known h asked q = looked_gone_mark c a kept l side n h
+  entries (looked_need place need pair n) noted kept l known h asked q = stays place noted kept l _ (λ more upto k now. looked_flag c a more upto k l now need n known.1) h
+  entries (kicked place pair n) noted kept l known h asked q = stays place noted kept l _ (λ more upto k now. woken c a more upto k l now pair n) h
   entries e noted kept l known h asked q =
       still c a noted (lanes_of c) (kept_before (point_of e) kept) l h (call_at c a (point_of e) kept) (reply_of e) refl refl (λ t s. refl) (λ s u. refl)
 
-  passes : AtPasses c At
+  passes : AtPasses c a At
   passes no_lanes noted kept l = λ h done. renoted c a noted 0 kept l h noted (lanes_of c) h.known (λ e sends. absurd (let no : true ≡ false = sym done ∙ sends in cc))
   passes (has_items lane item items) noted kept l = λ h e. (renoted c a noted lane kept l h (busy_lane noted) (lane + 1) h.known (λ e. absurd (cc)), refl)
   passes (has_frames side frame frames) noted kept l = λ h e. renoted c a noted (lanes_of c) kept l h (busy_side noted) (lanes_of c) h.known h.found

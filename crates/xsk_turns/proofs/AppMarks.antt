@@ -2,9 +2,11 @@
 use Rattle.std.proofs.Common.{◌≡◌, ℕ, zero, suc, ◌<◌, Bool, true, false, cond, ◌&&◌, eqb, List, [], ◌∷◌, ◌++◌, length, set, refl, sym, ap, ◌∙◌, arith, eq-eqb, ne_eqb, get_or-set_same, get_or-set_other}
 use Rattle.xsk_turns.proofs.Object.{Config, Draining, unseen_after, draining_of}
 use Rattle.xsk_turns.proofs.Calls.{Told, Rx, Mark, RxDone, Gone}
+use Rattle.xsk_model.specs.declared.call.Mark.TheVariants.{NeedFill, NeedTx}
 use Rattle.xsk_turns.specs.AppTurns.{pair_of, rx_of, is_set}
 use Rattle.xsk_turns.specs.AppOwned.{IsApp}
 use Rattle.xsk_turns.proofs.AppPlaces.{pairs_apart}
+use Rattle.xsk_turns.proofs.AppWalk.{is_need}
 
 abbrev pub side_marks : Config → ℕ → List Mark
 side_marks c a = RxDone (pair_of c a 0) ∷ RxDone (pair_of c a 1) ∷ []
@@ -30,6 +32,18 @@ other_mark d e g n true true = refl
 other_mark d e g n true false = refl
 other_mark d e g n false true = refl
 other_mark d e g n false false = refl
+
+-- a need-wakeup flag is none of them
+pub other_need : (d e : ℕ) (need : Mark) (n : ℕ) (x y : Bool) → is_need need ≡ true → unseen_after (unseen_by d e x y) need n ≡ unseen_by d e x y
+other_need d e (NeedFill g) n true true h = refl
+other_need d e (NeedFill g) n true false h = refl
+other_need d e (NeedFill g) n false true h = refl
+other_need d e (NeedFill g) n false false h = refl
+other_need d e (NeedTx g) n true true h = refl
+other_need d e (NeedTx g) n true false h = refl
+other_need d e (NeedTx g) n false true h = refl
+other_need d e (NeedTx g) n false false h = refl
+other_need d e need n x y h = absurd (cc)
 
 -- the first mark is looked at, and the second
 first_seen : (d e n : ℕ) (x y same other : Bool) → x ≡ false → eqb d d ≡ same → same ≡ true → eqb e d ≡ other → other ≡ false

@@ -1,12 +1,14 @@
 -- At each of its calls an application has the frames that it peeked and didn't submit, and the call is legal where they are
 -- at home with it.
-use Rattle.std.proofs.Common.{◌≡◌, ℕ, ◌<◌, ◌≤◌, true, eqb, List, [], ◌∷◌, length, set, take, drop, map, All, refl, sym, ap, ◌∙◌, subst, arith, get_or-set_same, length-set, take_while}
+use Rattle.std.proofs.Common.{◌≡◌, ℕ, ◌-◌, ◌/◌, ◌<◌, ◌≤◌, true, false, eqb, inr, List, [], ◌∷◌, ◌++◌, append_assoc, append-nil, length, set, take, drop, map, All, refl, sym, ap, ◌∙◌, subst, arith, get_or-set_same, length-set, take_while}
 use Rattle.std.proofs.lemmas.Bool.Decides.{nat_tests}
 use Rattle.std.proofs.lemmas.List.{length-map}
 use Rattle.std.proofs.lemmas.List.Elements.{All-nil, All-map, All-take, All-drop, All-weaker}
 use Rattle.xsk_model.proofs.Counting.{times-flat_map-set}
-use Rattle.xsk_turns.proofs.Object.{Frame, Config, pool_of, batch_of, caller_of, producer, times, numbers, submitted, taken, had_of, home_item, IsLegal, IsItemOn}
-use Rattle.xsk_turns.proofs.Calls.{Item, Told, with_told, Fill, Comp, Rx, Tx, RxDone, Gone, TxDone, Call, Peek, Reply, Granted, Submitted, Items, Released, Old}
+use Rattle.xsk_turns.proofs.Object.{Frame, Config, pool_of, batch_of, classes_of, caller_of, app_of, producer, HasMark, is_on, room_step, held_step, times, numbers, submitted, taken, had_of, home_item, IsLegal, IsItemOn}
+use Rattle.xsk_turns.proofs.Calls.{Item, Told, with_told, Ring, Fill, Comp, Rx, Tx, RxDone, Gone, TxDone, Call, Peek, Swap, Look, Reply, Granted, Submitted, Items, Released, Old}
+use Rattle.xsk_model.specs.declared.call.Mark.TheVariants.{Kick}
+use Rattle.xsk_model.proofs.Folds.{part_of-push_other}
 use Rattle.xsk_turns.proofs.LegalCalls.{legal_reserve, legal_peek, legal_release, legal_look, legal_swap, had_told, room_told, held_told, IsDue}
 use Rattle.xsk_turns.specs.Script.{Script, Asks}
 use Rattle.xsk_turns.specs.Turns.{frames_in}
@@ -18,8 +20,8 @@ use Rattle.xsk_turns.proofs.AppOwned.{AppHas, IsBackFrame, rx_to_tx, tx_to_tx, b
 use Rattle.xsk_turns.proofs.AppPlaces.{AppSeats, app_seats}
 use Rattle.xsk_turns.proofs.Legality.{times-front}
 use Rattle.xsk_turns.proofs.Owned.{frame_numbers-in}
-use Rattle.xsk_turns.proofs.Walks.{Premise, MeetAlong, Fitting, meet_fitting}
-use Rattle.xsk_turns.proofs.AppWalk.{Place, Lane, Side, Family, PeekRx, ReleaseRx, ReserveTx, SubmitTx, PeekComp, ReleaseComp, ReserveFill, SubmitFill, LookRxDone, TellTxDone, LookGone, group, call_at, kept_before, rx_items, rx_released, tx_granted, tx_submitted, comp_items, fill_granted, fill_submitted, looked_rx_done, told_tx_done, looked_gone, point_of, reply_of, has_items, AtCalls, AtEntries, AtPasses, IsLaw, at_call, at_end}
+use Rattle.xsk_turns.proofs.Walks.{Premise, Due, nothing_due, submit_due, release_due, MeetAlong, Fitting, meet_fitting}
+use Rattle.xsk_turns.proofs.AppWalk.{Place, Lanes, Lane, Sides, Side, Ending, Looking, Waking, Looked, Kicking, TxTold, Family, PeekRx, ReleaseRx, ReserveTx, SubmitTx, PeekComp, ReleaseComp, ReserveFill, SubmitFill, LookRxDone, TellTxDone, LookGone, LookNeed, KickDriver, group, call_at, kept_before, rx_items, rx_released, tx_granted, tx_submitted, comp_items, fill_granted, fill_submitted, looked_rx_done, told_tx_done, looked_gone, looked_need, kicked, point_of, reply_of, has_items, without_need, needs_none, needs_kick, told_both, AtCalls, AtEntries, AtPasses, IsLaw, at_call, at_end}
 
 times-here : (n : ℕ) (xs : List ℕ) → 1 ≤ times n (n ∷ xs)
 times-here n xs = grind (arith, nat_tests)
@@ -42,14 +44,44 @@ module _ (c : Config) (a : ℕ) (one : IsApp c a) where
   abbrev Asked : AppKept → Call → List Told → Type 0
   Asked kept call l = AppOwned kept call l × (HasOwnFrames c a l → IsLegal c l who call)
 
-  -- what is due, and that a lane has items to pass on
+  -- a driver that it may wake, where all frames that it has had are at home with it
+  abbrev MayWake : ℕ → List Told → Type 0
+  MayWake pair l = (pair < length c.pairs) × (HasOwnFrames c a l → who ≡ app_of c (Fill pair))
+
+  -- what is due, that a lane has items to pass on, and that the flag is one that there is
   abbrev Beside : Place → AppKept → List Told → Type 0
   Beside (Lane lane due) kept l = (1 ≤ length (pending_at kept lane)) × IsDue due l
   Beside (Side side due) kept l = IsDue due l
+  Beside (Waking place need pair) kept l = Beside place kept l × HasMark c need × MayWake pair l
+  Beside (Looked place need pair n) kept l = Beside place kept l × MayWake pair l
+  Beside (Kicking place pair) kept l = Beside place kept l × MayWake pair l
   Beside place kept l = Unit {0}
 
   abbrev At : Family
   At place noted kept l = Has kept l × Beside place kept l
+
+  own_first : (l m : List Told) → HasOwnFrames c a (l ++ m) → HasOwnFrames c a l
+  own_first l m own first later n e had = own first (later ++ m) n (sym (append_assoc first later m) ∙ ap (λ xs. xs ++ m) e) had
+
+  wakes_on : (pair : ℕ) (l m : List Told) → MayWake pair l → MayWake pair (l ++ m)
+  wakes_on pair l m h = (h.0, λ own. h.1 (own_first l m own))
+
+  due_on : (due : Due) (l : List Told) (call : Call) (reply : Reply) → ((r : Ring) → is_on r call ≡ false) → IsDue due l → IsDue due (with_told l call reply)
+  due_on nothing_due l call reply off h = tt
+  due_on (submit_due r n) l call reply off h = let e = part_of-push_other room_step r 0 l (record { call = call; reply = reply }) (off r) in omega (arith, h, e)
+  due_on (release_due r n) l call reply off h = let e = part_of-push_other held_step r 0 l (record { call = call; reply = reply }) (off r) in (h.0, h.1, omega (arith, h.2, e))
+
+  beside_on : (place : Place) (kept : AppKept) (l : List Told) (call : Call) (reply : Reply) → ((r : Ring) → is_on r call ≡ false) → Beside place kept l → Beside place kept (with_told l call reply)
+  beside_on (Lane lane due) kept l call reply off h = (h.0, due_on due l call reply off h.1)
+  beside_on (Side side due) kept l call reply off h = due_on due l call reply off h
+  beside_on (Waking place need pair) kept l call reply off h = (beside_on place kept l call reply off h.0, h.1, wakes_on pair l _ h.2)
+  beside_on (Looked place need pair n) kept l call reply off h = (beside_on place kept l call reply off h.0, wakes_on pair l _ h.1)
+  beside_on (Kicking place pair) kept l call reply off h = (beside_on place kept l call reply off h.0, wakes_on pair l _ h.1)
+  beside_on (Lanes lane) kept l call reply off h = tt
+  beside_on (Sides side) kept l call reply off h = tt
+  beside_on Ending kept l call reply off h = tt
+  beside_on Looking kept l call reply off h = tt
+  beside_on TxTold kept l call reply off h = tt
 
   quiet : (kept : AppKept) (call : Call) (l : List Told) → submitted call ≡ [] → Has kept l → IsLegal c l who call → Asked kept call l
   quiet kept call l none has legal = (app_owned c kept call l (subst (λ xs. AppHas c kept (numbers xs) l) (sym none) has), λ own. legal)
@@ -91,7 +123,7 @@ module _ (c : Config) (a : ℕ) (one : IsApp c a) where
         omega (arith, has.counts frame.number, swapped, first, mine)
 
     home_seat : HasOwnFrames c a l → who ≡ producer c (Fill (home_of (pool_of c) frame))
-    home_seat own = sym (own frame.number had)
+    home_seat own = sym (own l [] frame.number (append-nil l) had)
 
     some : 1 ≤ n
     some = group_some (pool_of c) (batch_of c) frame frames seats.batch_some
@@ -157,6 +189,9 @@ module _ (c : Config) (a : ℕ) (one : IsApp c a) where
   calls (LookRxDone side) noted kept l known h = quiet kept _ l refl h.0 (legal_look c who l seats.caller (RxDone (pair_of c a side)) (seats.comp side known.0).0)
   calls TellTxDone noted kept l known h = quiet kept _ l refl h.0 (legal_swap c who l seats.caller (TxDone a) 1 seats.known refl (omega arith))
   calls (LookGone side) noted kept l known h = quiet kept _ l refl h.0 (legal_look c who l seats.caller (Gone (pair_of c a side)) (seats.comp side known).0)
+  calls (LookNeed place need pair) noted kept l known h = quiet kept _ l refl h.0 (legal_look c who l seats.caller need h.1.1)
+  calls (KickDriver place pair) noted kept l known h =
+      (app_owned c kept (Swap (Kick pair) 1) l h.0, λ own. legal_swap c who l seats.caller (Kick pair) 1 h.1.1.0 (inr (h.1.1.1 own)) (omega arith))
 
   entries : AtEntries c a Answers At Asked
   entries (rx_items lane items) noted kept l known h asked fresh =
@@ -170,7 +205,9 @@ module _ (c : Config) (a : ℕ) (one : IsApp c a) where
       )
   entries (rx_released lane n) noted kept l known h asked q = (told kept _ Released l refl refl h.0, (h.1.0, tt))
   entries (tx_granted lane) noted kept l known h asked q = (told kept _ Granted l refl refl h.0, (h.1.0, room_told l (Tx (tx_of c a lane)) (length (pending_at kept lane))))
-  entries (tx_submitted lane) noted kept l known h asked q = (app_told c (with_pending kept lane []) _ Submitted l refl (sends lane kept l known.0 h.0), tt)
+  entries (tx_submitted lane) noted kept l known h asked q =
+      let pair = seats.comp (1 - lane / classes_of c) (omega arith) in
+      (app_told c (with_pending kept lane []) _ Submitted l refl (sends lane kept l known.0 h.0), (tt, (seats.tx lane known.0).0, (pair.0, λ own. pair.1)))
   entries (comp_items side items) noted kept l known h asked fresh =
       let r = Comp (pair_of c a side) in
       let few : length items ≤ 32 = omega (arith, fresh.few, seats.batch_few) in
@@ -181,14 +218,27 @@ module _ (c : Config) (a : ℕ) (one : IsApp c a) where
       )
   entries (fill_granted side frame frames) noted kept l known h asked q = (told (with_back kept side (frame ∷ frames)) _ Granted l refl refl h.0, room_told l (Fill (home_of (pool_of c) frame)) (length (group c frame frames)))
   entries (fill_submitted side frame frames) noted kept l known h asked q =
-      (app_told c (with_back kept side (drop (length (group c frame frames)) (frame ∷ frames))) _ Submitted l refl (gives side frame frames kept l known h.0), tt)
+      let below = home_below side frame frames kept l known h.0 in (
+        app_told c (with_back kept side (drop (length (group c frame frames)) (frame ∷ frames))) _ Submitted l refl (gives side frame frames kept l known h.0),
+        (tt, below, (below, λ own. home_seat side frame frames kept l known h.0 (own_first l _ own))),
+      )
   entries (looked_rx_done side n) noted kept l known h asked q = (has_flags c kept (record kept { seen = set kept.seen side true }) _ (eqb n 1) refl refl (told kept _ (Old n) l refl refl h.0), tt)
   entries (told_tx_done n) noted kept l known h asked q = (has_flags c kept (record kept { tx_done = true }) _ true refl refl (told kept _ (Old n) l refl refl h.0), tt)
   entries (looked_gone side n) noted kept l known h asked q = (has_flags c kept (record kept { gone = set kept.gone side true }) _ (eqb n 1) refl refl (told kept _ (Old n) l refl refl h.0), tt)
+  entries (looked_need place need pair n) noted kept l known h asked q =
+      (told kept _ (Old n) l refl refl h.0, (beside_on place kept l (Look need) (Old n) (λ r. refl) h.1.0, wakes_on pair l _ h.1.2))
+  entries (kicked place pair n) noted kept l known h asked q = (told kept _ (Old n) l refl refl h.0, beside_on place kept l (Swap (Kick pair) 1) (Old n) (λ r. refl) h.1.0)
   entries e noted kept l known h asked q = (told (kept_before (point_of e) kept) (call_at c a (point_of e) kept) (reply_of e) l refl refl h.0, tt)
 
-  passes : AtPasses c At
+  passes : AtPasses c a At
   passes (has_items lane item items) noted kept l = λ h e. (h.0, (omega (arith, ap length e), tt))
+  passes (without_need place need pair) noted kept l = λ h e. (h.0, h.1.0)
+  passes (needs_none place need pair n) noted kept l = λ h e. (h.0, h.1.0)
+  passes (needs_kick place need pair n) noted kept l = λ h e. h
+  passes told_both noted kept l = λ h e.
+      let first = seats.comp 0 (omega arith) in
+      let second = seats.comp 1 (omega arith) in
+      (h.0, ((tt, (second.0, λ own. second.1)), (first.0, λ own. first.1)))
   passes p noted kept l = λ h e. (h.0, tt)
 
   law : IsLaw c a Answers At Asked Has

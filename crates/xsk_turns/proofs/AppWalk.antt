@@ -1,11 +1,12 @@
 -- The one walk along an application's turns. A law of its runs says what holds at each place of a turn, and what each entry
 -- of the list, a call with its reply, makes of it; then it holds along every run.
-use Rattle.std.proofs.Common.{◌≡◌, ℕ, zero, suc, ◌+◌, ◌-◌, ◌<◌, Bool, true, false, ◌&&◌, List, [], ◌∷◌, length, drop, map, refl, sym, ap, ◌∙◌, subst, arith}
+use Rattle.std.proofs.Common.{◌≡◌, ℕ, zero, suc, ◌+◌, ◌-◌, ◌<◌, Bool, true, false, cond, ◌&&◌, eqb, List, [], ◌∷◌, length, drop, map, refl, sym, ap, ◌∙◌, subst, arith}
 use Rattle.xsk_turns.proofs.Object.{Frame, Config, pool_of, batch_of, home_item}
 use Rattle.xsk_turns.proofs.Calls.{Item, Told, with_told, Fill, Comp, Rx, Tx, Mark, RxDone, Gone, TxDone, Call, Reserve, Submit, Peek, Release, Swap, Look, Reply, Granted, Full, Submitted, Items, Empty, Released, Old}
+use Rattle.xsk_model.specs.declared.call.Mark.TheVariants.{NeedFill, NeedTx, Kick}
 use Rattle.xsk_turns.specs.Script.{Script, ask, again, ended, on_submitted, Asks, Ends, IsRun}
 use Rattle.xsk_turns.specs.Turns.{frames_in}
-use Rattle.xsk_turns.specs.AppTurns.{AppKept, AppNoted, pair_of, rx_of, tx_of, lanes_of, home_of, group_of, both, is_set, is_none, pending_at, with_pending, back_at, with_back, pass_on, receive_lane, visit_lane, visit_lanes, give_back, complete_side, visit_side, visit_sides, with_seen, with_gone, look_marks, look_rx_done, look_gone, end_turn, turn_sides, noted_first, app_turn}
+use Rattle.xsk_turns.specs.AppTurns.{AppKept, AppNoted, pair_of, rx_of, tx_of, tx_pair, lanes_of, home_of, group_of, both, is_set, is_none, pending_at, with_pending, back_at, with_back, kick, wake, wake_both, pass_on, receive_lane, visit_lane, visit_lanes, give_back, complete_side, visit_side, visit_sides, with_seen, with_gone, look_marks, look_rx_done, look_gone, end_turn, turn_sides, noted_first, app_turn}
 use Rattle.xsk_turns.specs.AppOwned.{IsApp}
 use Rattle.xsk_turns.proofs.AppGroups.{with_back-again, with_back-same, group_some, shorter}
 use Rattle.xsk_turns.proofs.Places.{batch_some}
@@ -13,7 +14,9 @@ use Rattle.xsk_turns.proofs.Walks.{Premise, Law, Due, nothing_due, submit_due, r
 
 -- ---- the places of a turn, and its calls
 
--- an application comes to a lane or to a side, is at one, is at the end of its turn, or looks at marks there
+-- An application comes to a lane or to a side, is at one, is at the end of its turn, or looks at marks there. Before it goes on
+-- to a place it may have to look at a ring's need-wakeup flag, has looked at it, with this number, or has to wake a driver; and
+-- it has told that it sends nothing more.
 pub data Place : Type 0 where
   Lanes : ℕ → Place
   Lane : ℕ → Due → Place
@@ -21,6 +24,22 @@ pub data Place : Type 0 where
   Side : ℕ → Due → Place
   Ending : Place
   Looking : Place
+  Waking : Place → Mark → ℕ → Place
+  Looked : Place → Mark → ℕ → ℕ → Place
+  Kicking : Place → ℕ → Place
+  TxTold : Place
+
+abbrev pub is_need : Mark → Bool
+is_need (NeedFill d) = true
+is_need (NeedTx s) = true
+is_need mark = false
+
+-- the place after a Submit on TX, and after one on FILL
+abbrev pub tx_filled : Config → ℕ → ℕ → Place
+tx_filled c a lane = Waking (Lanes (lane + 1)) (NeedTx (tx_of c a lane)) (tx_pair c a lane)
+
+abbrev pub fill_filled : ℕ → ℕ → Place
+fill_filled side home = Waking (Side side nothing_due) (NeedFill home) home
 
 abbrev pub Family : Type 1
 Family = Place → AppNoted → AppKept → List Told → Type 0
@@ -32,7 +51,8 @@ busy_lane noted = record noted { lanes_empty = false }
 abbrev pub busy_side : AppNoted → AppNoted
 busy_side noted = record noted { sides_empty = false }
 
--- a call, by the lane, or by the side and the frames that it has yet to give back
+-- a call, by the lane, or by the side and the frames that it has yet to give back; or by the place to which it goes on
+-- afterwards
 pub data Point : Type 0 where
   PeekRx : ℕ → Point
   ReleaseRx : ℕ → ℕ → Point
@@ -45,6 +65,8 @@ pub data Point : Type 0 where
   LookRxDone : ℕ → Point
   TellTxDone : Point
   LookGone : ℕ → Point
+  LookNeed : Place → Mark → ℕ → Point
+  KickDriver : Place → ℕ → Point
 
 abbrev pub group : Config → Frame → List Frame → List Frame
 group c frame frames = group_of (pool_of c) (batch_of c) frame frames
@@ -62,6 +84,8 @@ asked c a (SubmitFill side frame frames) kept = (Side side (submit_due (Fill (ho
 asked c a (LookRxDone side) kept = (Looking, Look (RxDone (pair_of c a side)), kept)
 asked c a TellTxDone kept = (Ending, Swap (TxDone a) 1, kept)
 asked c a (LookGone side) kept = (Looking, Look (Gone (pair_of c a side)), kept)
+asked c a (LookNeed place need pair) kept = (Waking place need pair, Look need, kept)
+asked c a (KickDriver place pair) kept = (Kicking place pair, Swap (Kick pair) 1, kept)
 
 abbrev pub call_at : Config → ℕ → Point → AppKept → Call
 call_at c a p kept = (asked c a p kept).1
@@ -88,6 +112,8 @@ Known c (ReleaseComp side n) noted kept = side < 2
 Known c (ReserveFill side frame frames) noted kept = side < 2
 Known c (SubmitFill side frame frames) noted kept = side < 2
 Known c (LookGone side) noted kept = side < 2
+Known c (LookNeed place need pair) noted kept = (c.wakeup ≡ true) × (is_need need ≡ true)
+Known c (KickDriver place pair) noted kept = c.wakeup ≡ true
 
 -- ---- what each reply makes of it
 
@@ -107,6 +133,8 @@ pub data Entry : Type 0 where
   looked_rx_done : ℕ → ℕ → Entry
   told_tx_done : ℕ → Entry
   looked_gone : ℕ → ℕ → Entry
+  looked_need : Place → Mark → ℕ → ℕ → Entry
+  kicked : Place → ℕ → ℕ → Entry
 
 abbrev pub told : Entry → Point × Reply
 told (rx_empty lane) = (PeekRx lane, Empty)
@@ -124,6 +152,8 @@ told (fill_submitted side frame frames) = (SubmitFill side frame frames, Submitt
 told (looked_rx_done side n) = (LookRxDone side, Old n)
 told (told_tx_done n) = (TellTxDone, Old n)
 told (looked_gone side n) = (LookGone side, Old n)
+told (looked_need place need pair n) = (LookNeed place need pair, Old n)
+told (kicked place pair n) = (KickDriver place pair, Old n)
 
 abbrev pub point_of : Entry → Point
 point_of e = (told e).0
@@ -138,16 +168,18 @@ leads c a (rx_items lane items) noted kept = (Lane lane (release_due (Rx (rx_of 
 leads c a (rx_released lane n) noted kept = (Lane lane nothing_due, noted, kept)
 leads c a (tx_granted lane) noted kept = (Lane lane (submit_due (Tx (tx_of c a lane)) (length (pending_at kept lane))), noted, kept)
 leads c a (tx_full lane free) noted kept = (Lanes (lane + 1), noted, kept)
-leads c a (tx_submitted lane) noted kept = (Lanes (lane + 1), noted, with_pending kept lane [])
+leads c a (tx_submitted lane) noted kept = (tx_filled c a lane, noted, with_pending kept lane [])
 leads c a (comp_empty side) noted kept = (Sides (side + 1), noted, kept)
 leads c a (comp_items side items) noted kept = (Side side (release_due (Comp (pair_of c a side)) (length items)), busy_side noted, with_back kept side (frames_in items))
 leads c a (comp_released side n) noted kept = (Side side nothing_due, noted, kept)
 leads c a (fill_granted side frame frames) noted kept = (Side side (submit_due (Fill (home_of (pool_of c) frame)) (length (group c frame frames))), noted, with_back kept side (frame ∷ frames))
 leads c a (fill_full side frame frames free) noted kept = (Sides (side + 1), noted, with_back kept side (frame ∷ frames))
-leads c a (fill_submitted side frame frames) noted kept = (Side side nothing_due, noted, with_back kept side (drop (length (group c frame frames)) (frame ∷ frames)))
+leads c a (fill_submitted side frame frames) noted kept = (fill_filled side (home_of (pool_of c) frame), noted, with_back kept side (drop (length (group c frame frames)) (frame ∷ frames)))
 leads c a (looked_rx_done side n) noted kept = (Looking, noted, with_seen kept side n)
-leads c a (told_tx_done n) noted kept = (Looking, noted, record kept { tx_done = true })
+leads c a (told_tx_done n) noted kept = (TxTold, noted, record kept { tx_done = true })
 leads c a (looked_gone side n) noted kept = (Looking, noted, with_gone kept side n)
+leads c a (looked_need place need pair n) noted kept = (Looked place need pair n, noted, kept)
+leads c a (kicked place pair n) noted kept = (place, noted, kept)
 
 -- ---- what goes on without a call
 
@@ -160,16 +192,26 @@ pub data Pass : Type 0 where
   sides_done : Pass
   looks : Pass
   begins : Pass
+  without_need : Place → Mark → ℕ → Pass
+  needs_none : Place → Mark → ℕ → ℕ → Pass
+  needs_kick : Place → Mark → ℕ → ℕ → Pass
+  told_quietly : Pass
+  told_both : Pass
 
-abbrev pub Passing : Config → Family → Pass → AppNoted → AppKept → List Told → Type 0
-Passing c At no_lanes noted kept l = At (Lanes 0) noted kept l → kept.tx_done ≡ true → At (Sides 0) noted kept l
-Passing c At (has_items lane item items) noted kept l = At (Lanes lane) noted kept l → pending_at kept lane ≡ item ∷ items → At (Lane lane nothing_due) (busy_lane noted) kept l
-Passing c At lanes_done noted kept l = At (Lanes (lanes_of c)) noted kept l → kept.tx_done ≡ false → At (Sides 0) noted kept l
-Passing c At (has_frames side frame frames) noted kept l = At (Sides side) noted kept l → back_at kept side ≡ frame ∷ frames → At (Side side nothing_due) (busy_side noted) kept l
-Passing c At (all_given side) noted kept l = At (Side side nothing_due) noted kept l → Unit {0} → At (Sides (side + 1)) noted kept l
-Passing c At sides_done noted kept l = At (Sides 2) noted kept l → Unit {0} → At Ending noted kept l
-Passing c At looks noted kept l = At Ending noted kept l → Unit {0} → At Looking noted kept l
-Passing c At begins noted kept l = At Looking noted kept l → Unit {0} → At (Lanes 0) (noted_first kept) kept l
+abbrev pub Passing : Config → ℕ → Family → Pass → AppNoted → AppKept → List Told → Type 0
+Passing c a At no_lanes noted kept l = At (Lanes 0) noted kept l → kept.tx_done ≡ true → At (Sides 0) noted kept l
+Passing c a At (has_items lane item items) noted kept l = At (Lanes lane) noted kept l → pending_at kept lane ≡ item ∷ items → At (Lane lane nothing_due) (busy_lane noted) kept l
+Passing c a At lanes_done noted kept l = At (Lanes (lanes_of c)) noted kept l → kept.tx_done ≡ false → At (Sides 0) noted kept l
+Passing c a At (has_frames side frame frames) noted kept l = At (Sides side) noted kept l → back_at kept side ≡ frame ∷ frames → At (Side side nothing_due) (busy_side noted) kept l
+Passing c a At (all_given side) noted kept l = At (Side side nothing_due) noted kept l → Unit {0} → At (Sides (side + 1)) noted kept l
+Passing c a At sides_done noted kept l = At (Sides 2) noted kept l → Unit {0} → At Ending noted kept l
+Passing c a At looks noted kept l = At Ending noted kept l → Unit {0} → At Looking noted kept l
+Passing c a At begins noted kept l = At Looking noted kept l → Unit {0} → At (Lanes 0) (noted_first kept) kept l
+Passing c a At (without_need place need pair) noted kept l = At (Waking place need pair) noted kept l → c.wakeup ≡ false → At place noted kept l
+Passing c a At (needs_none place need pair n) noted kept l = At (Looked place need pair n) noted kept l → eqb n 1 ≡ false → At place noted kept l
+Passing c a At (needs_kick place need pair n) noted kept l = At (Looked place need pair n) noted kept l → eqb n 1 ≡ true → At (Kicking place pair) noted kept l
+Passing c a At told_quietly noted kept l = At TxTold noted kept l → c.wakeup ≡ false → At Looking noted kept l
+Passing c a At told_both noted kept l = At TxTold noted kept l → c.wakeup ≡ true → At (Kicking (Kicking Looking (pair_of c a 1)) (pair_of c a 0)) noted kept l
 
 -- ---- a law
 
@@ -186,13 +228,13 @@ AtEntries c a Q At A = (e : Entry) (noted : AppNoted) (kept : AppKept) (l : List
     → Q (kept_at c a (point_of e) kept) l (call_at c a (point_of e) kept) (reply_of e)
     → At (leads c a e noted kept).0 (leads c a e noted kept).1 (leads c a e noted kept).2 (with_told l (call_at c a (point_of e) kept) (reply_of e))
 
-abbrev pub AtPasses : Config → Family → Type 0
-AtPasses c At = (p : Pass) (noted : AppNoted) (kept : AppKept) (l : List Told) → Passing c At p noted kept l
+abbrev pub AtPasses : Config → ℕ → Family → Type 0
+AtPasses c a At = (p : Pass) (noted : AppNoted) (kept : AppKept) (l : List Told) → Passing c a At p noted kept l
 
 pub record IsLaw (c : Config) (a : ℕ) (Q : Premise AppKept) (At : Family) (A : Said) (E : AppKept → List Told → Type 0) : Type 0 where
   pub calls : AtCalls c a At A
   pub entries : AtEntries c a Q At A
-  pub passes : AtPasses c At
+  pub passes : AtPasses c a At
   pub ends : (noted : AppNoted) (kept : AppKept) (l : List Told) → kept.tx_done ≡ true → At Ending noted kept l → E kept l
 
 module _ (c : Config) (a : ℕ) (one : IsApp c a) (Q : Premise AppKept) (At : Family) (A : Said) (E : AppKept → List Told → Type 0) (is : IsLaw c a Q At A E) where
@@ -209,6 +251,31 @@ module _ (c : Config) (a : ℕ) (one : IsApp c a) (Q : Premise AppKept) (At : Fa
   abbrev Sends : ℕ → AppNoted → (AppKept → Script AppKept) → Type 0
   Sends lane noted next = (kept : AppKept) (l : List Told) → kept.tx_done ≡ false → At (Lanes lane) noted kept l → Along (next kept) l
 
+  -- ---- need-wakeup
+
+  go_kick : (place : Place) (pair : ℕ) (noted : AppNoted) (kept : AppKept) (next : Script AppKept) (l : List Told) → c.wakeup ≡ true → At (Kicking place pair) noted kept l
+      → ((m : List Told) → At place noted kept m → Along next m) → Along (kick pair kept next) l
+  go_kick place pair noted kept next l on h go =
+      let call = Swap (Kick pair) 1 in
+      let asked = is.calls (KickDriver place pair) noted kept l on h in
+      (asked, at_old Q law kept call l (λ old. next) (λ n q. go (with_told l call (Old n)) (is.entries (kicked place pair n) noted kept l on h asked q)))
+
+  go_wake : (place : Place) (need : Mark) (pair : ℕ) (noted : AppNoted) (kept : AppKept) (next : Script AppKept) (l : List Told) → is_need need ≡ true
+      → At (Waking place need pair) noted kept l → ((m : List Told) → At place noted kept m → Along next m) → Along (wake c need pair kept next) l
+  go_wake place need pair noted kept next l flag h go = by_case Q law c.wakeup _ _ l
+      (λ on.
+      let call = Look need in
+      let asked = is.calls (LookNeed place need pair) noted kept l (on, flag) h in (
+        asked,
+        at_old Q law kept call l (λ n. cond (eqb n 1) (kick pair kept next) next)
+            (λ n q.
+            let m = with_told l call (Old n) in
+            let now = is.entries (looked_need place need pair n) noted kept l (on, flag) h asked q in
+            by_case Q law (eqb n 1) _ _ m (λ e. go_kick place pair noted kept next m on (is.passes (needs_kick place need pair n) noted kept m now e) go)
+            (λ e. go m (is.passes (needs_none place need pair n) noted kept m now e))),
+      ))
+      (λ off. go l (is.passes (without_need place need pair) noted kept l h off))
+
   -- ---- the lanes
 
   go_pass_on : (lane : ℕ) (noted : AppNoted) (kept : AppKept) (next : AppKept → Script AppKept) (l : List Told) → (lane < lanes_of c) × (kept.tx_done ≡ false)
@@ -221,11 +288,15 @@ module _ (c : Config) (a : ℕ) (one : IsApp c a) (Q : Premise AppKept) (At : Fa
       let left = with_pending kept lane [] in
       let asked = is.calls (ReserveTx lane) noted kept l known h in (
         asked,
-        at_reserve Q law kept call l (ask left give (on_submitted (next left))) (next kept)
+        at_reserve Q law kept call l (ask left give (on_submitted (wake c (NeedTx (tx_of c a lane)) (tx_pair c a lane) left (next left)))) (next kept)
             (λ q.
             let now = is.entries (tx_granted lane) noted kept l known h asked q in
-            let gives = is.calls (SubmitTx lane) noted kept granted known now in
-            (gives, at_submit Q law left give granted (next left) (λ r. go left (with_told granted give Submitted) known.1 (is.entries (tx_submitted lane) noted kept granted known now gives r))))
+            let gives = is.calls (SubmitTx lane) noted kept granted known now in (
+              gives,
+              at_submit Q law left give granted (wake c (NeedTx (tx_of c a lane)) (tx_pair c a lane) left (next left))
+                  (λ r. go_wake (Lanes (lane + 1)) (NeedTx (tx_of c a lane)) (tx_pair c a lane) noted left (next left) (with_told granted give Submitted) refl
+                  (is.entries (tx_submitted lane) noted kept granted known now gives r) (λ m now. go left m known.1 now)),
+            ))
             (λ free q. go kept (with_told l call (Full free)) known.1 (is.entries (tx_full lane free) noted kept l known h asked q)),
       )
 
@@ -276,18 +347,18 @@ module _ (c : Config) (a : ℕ) (one : IsApp c a) (Q : Premise AppKept) (At : Fa
       let call = Reserve (Fill home) n in
       let give = Submit (Fill home) (map (home_item c.geometry) (group c frame frames)) in
       let granted = with_told l call Granted in
-      let sent = with_told granted give Submitted in
       let fewer = shorter n frame frames (group_some (pool_of c) (batch_of c) frame frames (batch_some c one.config)) in
       let asked = is.calls (ReserveFill side frame frames) noted kept l below h in (
         asked,
-        at_reserve Q law now call l (ask left give (on_submitted (give_back c side (n - 1) frames kept (next noted)))) (next noted now)
+        at_reserve Q law now call l (ask left give (on_submitted (wake c (NeedFill home) home left (give_back c side (n - 1) frames kept (next noted))))) (next noted now)
             (λ q.
             let has = is.entries (fill_granted side frame frames) noted kept l below h asked q in
             let gives = is.calls (SubmitFill side frame frames) noted kept granted below has in (
               gives,
-              at_submit Q law left give granted (give_back c side (n - 1) frames kept (next noted))
-                  (λ r. go_give side (n - 1) frames noted kept next sent below
-                  (subst (λ fs. At (Side side nothing_due) noted (with_back kept side fs) sent) fewer (is.entries (fill_submitted side frame frames) noted kept granted below has gives r)) go),
+              at_submit Q law left give granted (wake c (NeedFill home) home left (give_back c side (n - 1) frames kept (next noted)))
+                  (λ r. go_wake (Side side nothing_due) (NeedFill home) home noted left (give_back c side (n - 1) frames kept (next noted)) (with_told granted give Submitted) refl
+                  (is.entries (fill_submitted side frame frames) noted kept granted below has gives r)
+                  (λ m now. go_give side (n - 1) frames noted kept next m below (subst (λ fs. At (Side side nothing_due) noted (with_back kept side fs) m) fewer now) go)),
             ))
             (λ free q. go noted now (with_told l call (Full free)) (is.entries (fill_full side frame frames free) noted kept l below h asked q)),
       )
@@ -356,6 +427,12 @@ module _ (c : Config) (a : ℕ) (one : IsApp c a) (Q : Premise AppKept) (At : Fa
       go_marks (λ (k : AppKept). k.gone) (λ side. Gone (pair_of c a side)) with_gone noted
       (λ side kept l below f h. let asked = is.calls (LookGone side) noted kept l below h in (asked, λ n q. is.entries (looked_gone side n) noted kept l below h asked q)) 2 0 kept l refl h
 
+  go_wake_both : (noted : AppNoted) (kept : AppKept) (l : List Told) → At TxTold noted kept l → Along (wake_both c a kept) l
+  go_wake_both noted kept l h = by_case Q law c.wakeup _ _ l
+      (λ on. go_kick (Kicking Looking (pair_of c a 1)) (pair_of c a 0) noted kept _ l on (is.passes told_both noted kept l h on)
+      (λ m now. go_kick Looking (pair_of c a 1) noted kept (again kept) m on now (λ k over. is.passes begins noted kept k over tt)))
+      (λ off. is.passes begins noted kept l (is.passes told_quietly noted kept l h off) tt)
+
   go_end : Continues Ending (end_turn c a)
   go_end noted kept l h =
       let call = Swap (TxDone a) 1 in
@@ -368,8 +445,8 @@ module _ (c : Config) (a : ℕ) (one : IsApp c a) (Q : Premise AppKept) (At : Fa
       (λ f.
       let asked = is.calls TellTxDone noted kept l (sends, f) h in (
         asked,
-        at_old Q law kept call l (λ old. again told)
-            (λ n q. is.passes begins noted told (with_told l call (Old n)) (is.entries (told_tx_done n) noted kept l (sends, f) h asked q) tt),
+        at_old Q law kept call l (λ old. wake_both c a told)
+            (λ n q. go_wake_both noted told (with_told l call (Old n)) (is.entries (told_tx_done n) noted kept l (sends, f) h asked q)),
       ))
       (λ f. is.passes begins noted kept l looking tt))
       (λ e. go_rx_done noted kept l looking))

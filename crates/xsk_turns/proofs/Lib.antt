@@ -1,5 +1,6 @@
 pub mod AppMarks
 pub mod AppGroups
+pub mod AppHomes
 pub mod AppLanes
 pub mod AppOwned
 pub mod AppOwning

@@ -27,9 +27,9 @@ pub record IsApp (c : Config) (app : ℕ) : Type 0 where
 abbrev pub app_numbers : AppKept → List ℕ
 app_numbers kept = flat_map numbers kept.pending ++ flat_map frame_numbers kept.back
 
--- each frame that is left by a list of an application's calls and replies is at home with it
+-- each frame that an application has had, after some first of its calls and replies, is at home with it
 abbrev pub HasOwnFrames : Config → ℕ → List Told → Type 0
-HasOwnFrames c app l = (n : ℕ) → 1 ≤ times n (had_of l) → home_app c n ≡ caller_of c app
+HasOwnFrames c app l = (first later : List Told) (n : ℕ) → first ++ later ≡ l → 1 ≤ times n (had_of first) → home_app c n ≡ caller_of c app
 
 -- an application that keeps this, and gave the call after a list of its calls and replies
 abbrev pub AppOwned : AppKept → Call → List Told → Type 0

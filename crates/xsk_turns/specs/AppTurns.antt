@@ -1,6 +1,7 @@
--- The turns of the application of ports 2k and 2k + 1 and queue q, without need-wakeup. It has two sides, one for each of
--- its ports, and a lane from each class of a side to the same class of the other side. A turn visits its lanes, then its
--- sides, and then looks whether it is at its end. All of this is this project's own.
+-- The turns of the application of ports 2k and 2k + 1 and queue q. It has two sides, one for each of its ports, and a lane
+-- from each class of a side to the same class of the other side. A turn visits its lanes, then its sides, and then looks
+-- whether it is at its end. Where the need-wakeup flags are used, it looks at a ring's flag each time that it has put entries
+-- there, and wakes the driver where it is set (af_xdp.rst, "XDP_USE_NEED_WAKEUP bind flag"). The turns are this project's own.
 use Rattle.std.specs.Prelude.{ℕ, zero, suc, ◌+◌, ◌-◌, ◌*◌, ◌/◌, ◌%◌, ◌==◌, Bool, true, false, ◌&&◌, if◌then◌else◌, List, [], ◌∷◌, length, map, replicate, take, drop}
 use Rattle.std.specs.List.{slice_index_or, slice_set, take_while}
 use Rattle.xsk_umem.specs.Frame.{Frame}
@@ -11,7 +12,7 @@ use Rattle.xsk_model.specs.Entry.{Told}
 use Rattle.xsk_turns.specs.Script.{Script, ask, again, ended, granted_or_full, on_submitted, items_or_empty, on_released, on_old, IsRun, IsWhole}
 use Rattle.xsk_model.specs.declared.call.Ring.TheVariants.{Fill, Comp, Rx, Tx}
 use Rattle.xsk_model.specs.declared.call.Mark.{Mark}
-use Rattle.xsk_model.specs.declared.call.Mark.TheVariants.{RxDone, Gone, TxDone}
+use Rattle.xsk_model.specs.declared.call.Mark.TheVariants.{NeedFill, NeedTx, Kick, RxDone, Gone, TxDone}
 use Rattle.xsk_model.specs.declared.call.Call.TheVariants.{Reserve, Submit, Peek, Release, Swap, Look}
 use Rattle.xsk_turns.specs.Turns.{frames_in}
 
@@ -50,6 +51,10 @@ rx_of c app lane = side_socket c app (lane / classes_of c) (lane % classes_of c)
 abbrev pub tx_of : Config → ℕ → ℕ → ℕ
 tx_of c app lane = side_socket c app (1 - lane / classes_of c) (lane % classes_of c)
 
+-- the pair of a lane's TX ring
+abbrev pub tx_pair : Config → ℕ → ℕ → ℕ
+tx_pair c app lane = pair_of c app (1 - lane / classes_of c)
+
 abbrev pub lanes_of : Config → ℕ
 lanes_of c = 2 * classes_of c
 
@@ -81,6 +86,17 @@ abbrev pub is_none : {A : Type 0} → List A → Bool
 is_none [] = true
 is_none (x ∷ xs) = false
 
+-- ---- need-wakeup
+
+-- a pair's driver is woken by its kick
+abbrev pub kick : ℕ → AppKept → Script AppKept → Script AppKept
+kick pair kept next = ask kept (Swap (Kick pair) 1) (on_old (λ old. next))
+
+-- With need-wakeup the ring's flag is looked at, and where it is set, the ring's driver is woken.
+abbrev pub wake : Config → Mark → ℕ → AppKept → Script AppKept → Script AppKept
+wake c need pair kept next =
+    if c.wakeup then ask kept (Look need) (on_old (λ number. if number == 1 then kick pair kept next else next)) else next
+
 -- ---- the lanes
 
 -- a lane's items go on to its TX ring as they are, where it has room for all
@@ -88,7 +104,8 @@ abbrev pub pass_on : Config → ℕ → ℕ → AppKept → (AppKept → Script 
 pass_on c app lane kept next =
     ask kept (Reserve (Tx (tx_of c app lane)) (length (pending_at kept lane)))
     (granted_or_full
-    (ask (with_pending kept lane []) (Submit (Tx (tx_of c app lane)) (pending_at kept lane)) (on_submitted (next (with_pending kept lane []))))
+    (ask (with_pending kept lane []) (Submit (Tx (tx_of c app lane)) (pending_at kept lane))
+    (on_submitted (wake c (NeedTx (tx_of c app lane)) (tx_pair c app lane) (with_pending kept lane []) (next (with_pending kept lane [])))))
     (next kept))
 
 -- the items that a lane received are released and kept, and then passed on
@@ -125,7 +142,9 @@ give_back c side zero (frame ∷ frames) kept next =
     (granted_or_full
     (ask (with_back kept side (drop (length (group_of (pool_of c) (batch_of c) frame frames)) (frame ∷ frames)))
     (Submit (Fill (home_of (pool_of c) frame)) (map (home_item c.geometry) (group_of (pool_of c) (batch_of c) frame frames)))
-    (on_submitted (give_back c side (length (group_of (pool_of c) (batch_of c) frame frames) - 1) frames kept next)))
+    (on_submitted
+    (wake c (NeedFill (home_of (pool_of c) frame)) (home_of (pool_of c) frame) (with_back kept side (drop (length (group_of (pool_of c) (batch_of c) frame frames)) (frame ∷ frames)))
+    (give_back c side (length (group_of (pool_of c) (batch_of c) frame frames) - 1) frames kept next))))
     (next (with_back kept side (frame ∷ frames))))
 
 -- the items that a side completed are released, and their frames kept and given back
@@ -171,11 +190,16 @@ look_rx_done c app = look_marks (λ (kept : AppKept). kept.seen) (λ side. RxDon
 abbrev pub look_gone : Config → ℕ → ℕ → ℕ → AppKept → Script AppKept
 look_gone c app = look_marks (λ (kept : AppKept). kept.gone) (λ side. Gone (pair_of c app side)) with_gone
 
+-- With need-wakeup both drivers are woken, for each may wait to be told.
+abbrev pub wake_both : Config → ℕ → AppKept → Script AppKept
+wake_both c app kept =
+    if c.wakeup then kick (pair_of c app 0) kept (kick (pair_of c app 1) kept (again kept)) else again kept
+
 -- Where both drivers had told that they have no further packet as the turn began, and each lane was empty in it, it tells
 -- that it sends nothing more.
-abbrev pub tell_tx_done : ℕ → AppNoted → AppKept → Script AppKept
-tell_tx_done app noted kept =
-    if noted.seen && noted.lanes_empty then ask kept (Swap (TxDone app) 1) (on_old (λ old. again (record kept { tx_done = true }))) else again kept
+abbrev pub tell_tx_done : Config → ℕ → AppNoted → AppKept → Script AppKept
+tell_tx_done c app noted kept =
+    if noted.seen && noted.lanes_empty then ask kept (Swap (TxDone app) 1) (on_old (λ old. wake_both c app (record kept { tx_done = true }))) else again kept
 
 -- It has ended where both drivers had ended as the turn began, each side was empty in it, and no frame is left to give
 -- back.
@@ -187,7 +211,7 @@ end_or_look c app noted kept =
 abbrev pub end_turn : Config → ℕ → AppNoted → AppKept → Script AppKept
 end_turn c app noted kept =
     if kept.tx_done then end_or_look c app noted kept
-    else if both kept.seen then tell_tx_done app noted kept else look_rx_done c app 2 0 kept
+    else if both kept.seen then tell_tx_done c app noted kept else look_rx_done c app 2 0 kept
 
 -- ---- a turn
 
