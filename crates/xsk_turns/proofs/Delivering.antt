@@ -1,14 +1,14 @@
 -- In a whole run what was submitted on an RX ring are the layouts of the packets that were delivered there, in order.
-use Rattle.std.proofs.Common.{◌≡◌, ℕ, ◌*◌, ◌≤◌, ◌⊎◌, inl, inr, Bool, true, false, cond, eqb, nat_lt, nat_le, List, [], ◌∷◌, ◌++◌, length, map, flat_map, take, drop, All, refl, sym, ap, ◌∙◌, subst, append-nil, append_assoc, length-append, length-take-le, arith, IsTrue, if◌then◌else◌, leb-true}
+use Rattle.std.proofs.Common.{◌≡◌, ℕ, ◌-◌, ◌*◌, ◌≤◌, ◌⊎◌, inl, inr, Bool, true, false, cond, eqb, nat_lt, nat_le, List, [], ◌∷◌, ◌++◌, length, map, flat_map, take, drop, All, refl, sym, ap, ◌∙◌, subst, append-nil, append_assoc, length-append, length-take-le, arith, IsTrue, if◌then◌else◌, leb-true}
 use Rattle.xsk_turns.proofs.Owned.{none_submitted, other_submitted}
 use Rattle.std.proofs.lemmas.Bool.{ltb-false}
 use Rattle.std.proofs.lemmas.Bool.Decides.{nat_tests}
 use Rattle.std.proofs.lemmas.List.Concat.{flat_map-append}
 use Rattle.std.proofs.lemmas.List.Elements.{All-nil, All-cons, All-append, All-take, All-drop}
-use Rattle.xsk_turns.proofs.Object.{Geometry, Frame, payload_of, Config, classes_of, IsLayout, submitted, submitted_step, submitted_of}
-use Rattle.xsk_turns.proofs.Calls.{Item, Told, with_told, Fill, Comp, Rx, RxDone, Gone, TxDone, Call, Submit, Swap, Look, Reply, Submitted, Items, Old}
+use Rattle.xsk_turns.proofs.Object.{Geometry, Frame, payload_of, Config, classes_of, IsLayout, submitted, submitted_step, submitted_of, Fits}
+use Rattle.xsk_turns.proofs.Calls.{Item, Told, with_told, Fill, Comp, Rx, RxDone, Gone, TxDone, Call, Submit, Peek, Swap, Look, Reply, Submitted, Items, Old}
 use Rattle.xsk_model.proofs.Folds.{part_of-push}
-use Rattle.xsk_turns.specs.Turns.{Seat, Judged, Kept, IsWholeDriverRun, seat_of, start, turn, settled, application_of, limit_of, pieces_of, laid_out, frames_in, returned}
+use Rattle.xsk_turns.specs.Turns.{Seat, Judged, Kept, IsWholeDriverRun, seat_of, start, turn, settled, application_of, limit_of, pieces_of, laid_out, frames_in, returned, supplied}
 use Rattle.xsk_turns.specs.Disposals.{attempts_of, disposals_of, disposal_in, is_to, with_disposal, delivered_to, bytes_in}
 use Rattle.xsk_turns.specs.Owned.{IsSeat, AllFit}
 use Rattle.xsk_turns.specs.Law.{AreLayouts, IsLaidOut, IsSized, DeliversInOrder, DeliversSized, DeliversAsSaid}
@@ -21,7 +21,7 @@ use Rattle.xsk_turns.proofs.Layouts.{layout, one_piece, length-laid_out}
 use Rattle.xsk_turns.proofs.Disposing.{IsOver, over_later, disposes_all}
 use Rattle.xsk_turns.proofs.Saying.{disposed_as_said}
 use Rattle.xsk_turns.proofs.Walks.{Fitting, meet_fitting}
-use Rattle.xsk_turns.proofs.DriverWalk.{Family, Receiving, fresh, IsTried, call_at, told_rx_done, looked_none, looked_long, fill_items, rx_submitted, comp_submitted, looked_tx_done, point_of, reply_of, untried, drops_full, drops_frameless, untried_has, AtEntries, AtPasses, IsLaw, at_end}
+use Rattle.xsk_turns.proofs.DriverWalk.{Family, Begins, IsTried, call_at, told_rx_done, looked_none, looked_long, fill_items, rx_submitted, comp_submitted, looked_tx_done, looked_fill_items, found_end, point_of, reply_of, untried, drops_full, drops_frameless, parks, untried_has, AtEntries, AtPasses, IsLaw, at_end}
 
 -- ---- lists of layouts
 
@@ -184,6 +184,17 @@ module _ (wire : Wire) (c : Config) (d s : ℕ) (is : IsSeat c d) (input : List 
     over = over_later kept.rx_done kept.tx_done kept.coming h.over;
   }
 
+  -- frames that come by FILL are whole
+  supplies : (kept : Kept) (l : List Told) (n : ℕ) (items : List Item) → Fits c l (Peek (Fill d) n) (Items items) → IsSettled kept l → IsSettled (supplied seat kept items) (with_told l (Peek (Fill d) n) (Items items))
+  supplies kept l n items q h =
+      let now = still kept l (Peek (Fill d) n) (Items items) refl h in
+      record {
+        given = now.given;
+        spare = subst (λ (fs : List Frame). All (IsOwnFrame c.geometry) (kept.spare ++ fs)) (sym (all_whole c.geometry (Fill d) items q.lawful))
+            (All-append (IsOwnFrame c.geometry) kept.spare (frames_in items) now.spare (own_frames c.geometry (Fill d) items q.lawful));
+        over = now.over;
+      }
+
   entries : AtEntries seat (Fitting c) At Asked
   entries (told_rx_done n) noted kept l known found h a q =
       let now = still kept l (Swap (RxDone d) 1) (Old n) refl h in record { given = now.given; spare = now.spare; over = record { none = λ x. known.0; first = λ x. refl } }
@@ -191,14 +202,8 @@ module _ (wire : Wire) (c : Config) (d s : ℕ) (is : IsSeat c d) (input : List 
   entries (looked_long packet n t) noted kept l known found h a q =
       let now = skips kept packet known.later TooLong _ known.is refl (still kept l _ (Old n) refl h) in
       record { given = now.given; spare = now.spare; over = now.over }
-  entries (fill_items packet t items) noted kept l known found h a q =
-      let now = still kept l _ (Items items) refl h in
-      record {
-        given = now.given;
-        spare = subst (λ (fs : List Frame). All (IsOwnFrame c.geometry) (kept.spare ++ fs)) (sym (all_whole c.geometry (Fill d) items q.lawful))
-            (All-append (IsOwnFrame c.geometry) kept.spare (frames_in items) now.spare (own_frames c.geometry (Fill d) items q.lawful));
-        over = now.over;
-      }
+  entries (fill_items packet t items) noted kept l known found h a q = supplies kept l (pieces_of seat packet.bytes - length kept.spare) items q h
+  entries (looked_fill_items n items) noted kept l known found h a q = supplies kept l n items q h
   entries (rx_submitted packet t) noted kept l known found h a q = record {
     given = is_delivered kept l packet t known.0 known.1 h;
     spare = All-drop (IsOwnFrame c.geometry) (pieces_of seat packet.bytes) kept.spare h.spare;
@@ -211,6 +216,8 @@ module _ (wire : Wire) (c : Config) (d s : ℕ) (is : IsSeat c d) (input : List 
   }
   entries (looked_tx_done n) noted kept l known found h a q =
       let now = still kept l (Look (TxDone (application_of seat))) (Old n) refl h in record { given = now.given; spare = now.spare; over = record { none = now.over.none; first = λ x. known } }
+  entries (found_end n) noted kept l known found h a q =
+      let now = still kept l (Look (TxDone (application_of seat))) (Old n) refl h in record { given = now.given; spare = now.spare; over = record { none = now.over.none; first = λ x. known.1 } }
   entries e noted kept l known found h a q =
       let now = still kept l (call_at seat (point_of e) kept) (reply_of e) refl h in record { given = now.given; spare = now.spare; over = now.over }
 
@@ -219,6 +226,7 @@ module _ (wire : Wire) (c : Config) (d s : ℕ) (is : IsSeat c d) (input : List 
   passes (drops_full packet t) noted kept l = λ h e. skips kept packet e.0.next.later RxFull l e.0.next.is refl h
   passes (drops_frameless packet t) noted kept l = λ h e.
       let now = skips kept packet e.0.next.later NoFrames l e.0.next.is refl h in record { given = now.given; spare = now.spare; over = now.over }
+  passes parks noted kept l = λ h e. record { given = h.given; spare = h.spare; over = h.over }
   passes p noted kept l = λ h e. h
 
   law : IsLaw seat (Fitting c) At Asked Ended
@@ -229,7 +237,7 @@ module _ (wire : Wire) (c : Config) (d s : ℕ) (is : IsSeat c d) (input : List 
     ends = λ noted kept l n known h a q. all_given kept (with_told l (Swap (Gone d) 1) (Old n)) known.2 (still kept l (Swap (Gone d) 1) (Old n) refl h);
   }
 
-  at_first : At Receiving fresh (start (classes_of c) input) []
+  at_first : Begins At (start (classes_of c) input) []
   at_first = record {
     given = record { done = []; parts = refl; each = refl; laid = ([], refl, tt); sized = All-nil (IsSized c) };
     spare = All-nil (IsOwnFrame c.geometry);

@@ -1,13 +1,15 @@
 -- In a whole run each TX ring was found empty after the application had told that it sends no more.
-use Rattle.std.proofs.Common.{◌≡◌, ℕ, ◌+◌, ◌<◌, Bool, true, false, cond, ◌||◌, ◌&&◌, eqb, List, [], ◌∷◌, refl, ap, ◌∙◌, ⊎_elim, eq-eqb, arith}
+use Rattle.std.proofs.Common.{◌≡◌, ℕ, ◌+◌, ◌<◌, Bool, true, false, cond, ◌||◌, ◌&&◌, eqb, List, [], ◌∷◌, refl, ap, ◌∙◌, subst, ⊎_elim, eq-eqb, arith}
 use Rattle.std.proofs.lemmas.Bool.{cases_eq}
+use Rattle.std.proofs.Math.Bool.{or-true, or-false}
+use Rattle.xsk_model.specs.Marks.{is_mark}
 use Rattle.std.proofs.lemmas.List.Sums.{fold_push}
-use Rattle.xsk_turns.proofs.Calls.{Item, Told, with_told, Ring, Tx, Mark, Gone, TxDone, Cell, Call, Peek, Swap, Look, Reply, Full, Submitted, Items, Empty, Old}
+use Rattle.xsk_turns.proofs.Calls.{Item, Told, with_told, Ring, Tx, Mark, Kick, Gone, TxDone, Cell, Call, Peek, Swap, Look, Reply, Full, Submitted, Items, Empty, Old}
 use Rattle.xsk_turns.proofs.Object.{classes_of, Draining, are_none, unseen_after, draining_after, draining_step, draining_of}
 use Rattle.xsk_turns.specs.Turns.{Seat, Kept, Noted, seat_of, start, turn, socket_of, application_of, cell_of}
 use Rattle.xsk_turns.specs.Law.{DrainsTx}
 use Rattle.xsk_turns.proofs.Walks.{Anything, meet_anything}
-use Rattle.xsk_turns.proofs.DriverWalk.{Place, Sending, Idling, Family, call_at, told_rx_done, looked_none, looked_long, looked_some, rx_submitted, comp_full, comp_submitted, tx_empty, tx_items, looked_tx_done, point_of, reply_of, leads, none_comes, waits, drops_full, drops_frameless, visited, idles, AtEntries, AtPasses, IsLaw, at_end}
+use Rattle.xsk_turns.proofs.DriverWalk.{Place, Sending, Idling, Family, call_at, told_rx_done, looked_none, looked_long, looked_some, rx_submitted, comp_full, comp_submitted, tx_empty, tx_items, looked_tx_done, armed_fill, looked_tx_empty, looked_tx_items, found_end, found_none, kicked, not_kicked, point_of, reply_of, leads, none_comes, waits, drops_full, drops_frameless, visited, idles, arms, AtEntries, AtPasses, IsLaw, at_end}
 
 pub draining_told : (ms : List Mark) (r : Ring) (l : List Told) (call : Call) (reply : Reply)
     → draining_of ms r (with_told l call reply) ≡ draining_after r (draining_of ms r l) call reply
@@ -30,9 +32,9 @@ Needs class (Sending k due) noted kept = (class < k) × Quiet noted kept
 Needs class Idling noted kept = Quiet noted kept
 Needs class place noted kept = ⊥
 
-other_unseen : (a port index n : ℕ) (b : Bool) → unseen_after (cond b [] (TxDone a ∷ [])) (Cell port index) n ≡ cond b [] (TxDone a ∷ [])
-other_unseen a port index n true = refl
-other_unseen a port index n false = refl
+other_unseen : (a n : ℕ) (m : Mark) (b : Bool) → is_mark (TxDone a) m ≡ false → unseen_after (cond b [] (TxDone a ∷ [])) m n ≡ cond b [] (TxDone a ∷ [])
+other_unseen a n m true e = refl
+other_unseen a n m false e = ap (λ c. cond (c && eqb n 1) (unseen_after [] m n) (TxDone a ∷ [])) e
 
 seen_now : (a : ℕ) (same now : Bool) (b : Bool) → same ≡ true
     → cond (same && now) [] (TxDone a ∷ []) ≡ cond now [] (TxDone a ∷ [])
@@ -68,12 +70,12 @@ module _ (a t : ℕ) where
   fewer : (tx_done : Bool) (old new : Type 0) (l : List Told) → (new → old) → IsDrained a t tx_done old l → IsDrained a t tx_done new l
   fewer tx_done old new l f h = record { unseen = h.unseen; empty = λ n. h.empty (f n) }
 
-  looked_cell : (tx_done : Bool) (old new : Type 0) (l : List Told) (port index n : ℕ) → (new → ⊥) → IsDrained a t tx_done old l
-      → IsDrained a t tx_done new (with_told l (Look (Cell port index)) (Old n))
-  looked_cell tx_done old new l port index n f h =
-      let same = draining_told (TxDone a ∷ []) (Tx t) l (Look (Cell port index)) (Old n) in
+  looked_other : (tx_done : Bool) (old new : Type 0) (l : List Told) (m : Mark) (n : ℕ) → is_mark (TxDone a) m ≡ false → (new → ⊥) → IsDrained a t tx_done old l
+      → IsDrained a t tx_done new (with_told l (Look m) (Old n))
+  looked_other tx_done old new l m n e f h =
+      let same = draining_told (TxDone a ∷ []) (Tx t) l (Look m) (Old n) in
       record {
-        unseen = ap (λ s. s.unseen) same ∙ ap (λ ms. unseen_after ms (Cell port index) n) h.unseen ∙ other_unseen a port index n tx_done;
+        unseen = ap (λ s. s.unseen) same ∙ ap (λ ms. unseen_after ms m n) h.unseen ∙ other_unseen a n m tx_done e;
         empty = λ x. absurd (f x);
       }
 
@@ -95,6 +97,13 @@ module _ (a t : ℕ) where
         unseen = ap (λ s. s.unseen) same ∙ same_unseen (eqb t s) (draining a t l) false ∙ h.unseen;
         empty = λ x. absurd (f x);
       }
+
+  -- or one that found it empty, where it need not be
+  found_once : (tx_done : Bool) (l : List Told) (s n : ℕ) → IsDrained a t tx_done ⊥ l → IsDrained a t tx_done ⊥ (with_told l (Peek (Tx s) n) Empty)
+  found_once tx_done l s n h =
+      let u = draining a t l in
+      let same = draining_told (TxDone a ∷ []) (Tx t) l (Peek (Tx s) n) Empty in
+      record { unseen = ap (λ s. s.unseen) same ∙ same_unseen (eqb t s) u (are_none u.unseen) ∙ h.unseen; empty = λ x. absurd x }
 
   none_unseen : (tx_done : Bool) (old : Type 0) (l : List Told) → tx_done ≡ true → IsDrained a t tx_done old l → (draining a t l).unseen ≡ []
   none_unseen tx_done old l e h = h.unseen ∙ ap {B = List Mark} (λ b. cond b [] (TxDone a ∷ [])) e
@@ -130,9 +139,9 @@ module _ (seat : Seat) (class : ℕ) (below : class < seat.classes) where
   t = socket_of seat class
 
   entries : AtEntries seat Anything At Asked
-  entries (looked_none packet n) noted kept l known found h x q = looked_cell a t kept.tx_done ⊥ _ l seat.port (cell_of packet.verdict) n (λ x. absurd (omega (arith, x.0))) h
-  entries (looked_long packet n s) noted kept l known found h x q = looked_cell a t kept.tx_done ⊥ _ l seat.port (cell_of packet.verdict) n (λ x. absurd (omega (arith, x.0))) h
-  entries (looked_some packet n s) noted kept l known found h x q = looked_cell a t kept.tx_done ⊥ ⊥ l seat.port (cell_of packet.verdict) n (λ x. x) h
+  entries (looked_none packet n) noted kept l known found h x q = looked_other a t kept.tx_done ⊥ _ l (Cell seat.port (cell_of packet.verdict)) n refl (λ x. absurd (omega (arith, x.0))) h
+  entries (looked_long packet n s) noted kept l known found h x q = looked_other a t kept.tx_done ⊥ _ l (Cell seat.port (cell_of packet.verdict)) n refl (λ x. absurd (omega (arith, x.0))) h
+  entries (looked_some packet n s) noted kept l known found h x q = looked_other a t kept.tx_done ⊥ ⊥ l (Cell seat.port (cell_of packet.verdict)) n refl (λ x. x) h
   entries (told_rx_done n) noted kept l known found h x q = still a t kept.tx_done ⊥ _ l _ (Old n) (λ s. refl) (λ x. absurd (omega (arith, x.0))) h
   entries (rx_submitted packet s) noted kept l known found h x q = still a t kept.tx_done ⊥ _ l _ Submitted (λ s. refl) (λ x. absurd (omega (arith, x.0))) h
   entries (comp_full k packet later free) noted kept l known found h x q = still a t kept.tx_done _ _ l _ (Full free) (λ s. refl) (λ x. absurd (let no = x.1 in cc)) h
@@ -140,6 +149,15 @@ module _ (seat : Seat) (class : ℕ) (below : class < seat.classes) where
   entries (tx_empty k) noted kept l known found h x q = found_empty a t kept.tx_done class k seat.batch (socket_of seat k) (Quiet noted kept) l (λ x. x.2) (λ e. ap (socket_of seat) e) h
   entries (tx_items k items) noted kept l known found h x q = peeked a t kept.tx_done _ _ l (socket_of seat k) seat.batch items (λ x. let no = x.1.0 in cc) h
   entries (looked_tx_done n) noted kept l known found h x q = looked_mark a t kept.tx_done _ ⊥ l n (λ x. x) h
+  entries (armed_fill n) noted kept l known found h x q = still a t kept.tx_done _ ⊥ l _ (Old n) (λ s. refl) (λ x. absurd x) h
+  entries (looked_tx_empty k) noted kept l known found h x q = found_once a t kept.tx_done l (socket_of seat k) seat.batch h
+  entries (looked_tx_items k items) noted kept l known found h x q = peeked a t kept.tx_done ⊥ ⊥ l (socket_of seat k) seat.batch items (λ x. x) h
+  entries (found_end n) noted kept l known found h x q =
+      subst (λ b. IsDrained a t b ⊥ (with_told l (Look (TxDone a)) (Old n))) (ap (λ b. kept.tx_done || b) found ∙ or-true kept.tx_done) (looked_mark a t kept.tx_done ⊥ ⊥ l n (λ x. x) h)
+  entries (found_none n) noted kept l known found h x q =
+      subst (λ b. IsDrained a t b ⊥ (with_told l (Look (TxDone a)) (Old n))) (ap (λ b. kept.tx_done || b) found ∙ or-false kept.tx_done) (looked_mark a t kept.tx_done ⊥ ⊥ l n (λ x. x) h)
+  entries (kicked frames n) noted kept l known found h x q = looked_other a t kept.tx_done ⊥ ⊥ l (Kick seat.pair) n refl (λ x. x) h
+  entries (not_kicked frames n) noted kept l known found h x q = looked_other a t kept.tx_done ⊥ ⊥ l (Kick seat.pair) n refl (λ x. x) h
   entries e noted kept l known found h x q =
       still a t kept.tx_done (Needs class (leads seat e noted kept).0 noted kept) (Needs class (leads seat e noted kept).0 noted kept) l (call_at seat (point_of e) kept) (reply_of e) (λ s. refl) (λ x. x) h
 
@@ -150,6 +168,7 @@ module _ (seat : Seat) (class : ℕ) (below : class < seat.classes) where
   passes (drops_frameless packet s) noted kept l = λ h e. fewer a t kept.tx_done ⊥ _ l (λ x. absurd (omega (arith, x.0))) h
   passes visited noted kept l = λ h e. fewer a t kept.tx_done _ _ l (λ x. (below, x)) h
   passes idles noted kept l = λ h e. fewer a t kept.tx_done _ ⊥ l (λ x. absurd x) h
+  passes arms noted kept l = λ h e. fewer a t kept.tx_done _ ⊥ l (λ x. absurd x) h
   passes p noted kept l = λ h e. h
 
   law : IsLaw seat Anything At Asked Over

@@ -1,15 +1,16 @@
 -- The one walk along a driver's turns. A law of its runs says what holds at each place of a turn, and what each entry of the
 -- list, a call with its reply, makes of it; then it holds along every run.
-use Rattle.std.proofs.Common.{◌≡◌, ℕ, zero, suc, ◌+◌, ◌-◌, ◌%◌, ◌<◌, Bool, true, false, cond, ◌||◌, nat_lt, nat_le, eqb, Option, Some, None, List, [], ◌∷◌, length, map, take, drop, refl, ap, subst, arith}
+use Rattle.std.proofs.Common.{◌≡◌, ℕ, zero, suc, ◌+◌, ◌-◌, ◌%◌, ◌<◌, Bool, true, false, cond, ◌||◌, nat_lt, nat_le, eqb, Option, Some, None, List, [], ◌∷◌, length, map, take, drop, refl, sym, ap, ◌∙◌, subst, arith}
 use Rattle.std.proofs.lemmas.Bool.{or_parts}
-use Rattle.xsk_turns.proofs.Calls.{Item, Told, with_told, Fill, Comp, Rx, Tx, RxDone, Gone, TxDone, Cell, Call, Reserve, Submit, Peek, Release, Swap, Look, Reply, Granted, Full, Submitted, Items, Empty, Released, Old}
+use Rattle.xsk_turns.proofs.Calls.{Item, Told, with_told, Fill, Comp, Rx, Tx, NeedFill, NeedTx, Kick, RxDone, Gone, TxDone, Cell, Call, Reserve, Submit, Peek, Release, Swap, Look, Reply, Granted, Full, Submitted, Items, Empty, Released, Old}
 use Rattle.xsk_model.specs.Config.{map_of}
 use Rattle.xsk_turns.specs.Script.{Script, ask, again, ended, on_submitted, on_released, on_old, Asks, Ends, IsRun, Leaves}
-use Rattle.xsk_turns.specs.Turns.{Seat, Judged, Kept, Noted, drops, moved, stopped, settled, settled_or, dropped, disposal_by, disposal_untried, supplied, with_rx_full, with_fill_empty, with_tx_empty, no_frames, no_room, visit_from, socket_of, application_of, cell_of, redirect_to, limit_of, pieces_of, laid_out, returned, gathered, idle, complete, visit, transmit, deliver, reserve, go_on, take_spare, find_spare, direct, receive, turn}
+use Rattle.xsk_turns.specs.Turns.{Seat, Judged, Kept, Noted, fresh, awaits, drops, moved, stopped, lacks, settled, settled_or, dropped, disposal_by, disposal_untried, supplied, with_rx_full, with_fill_empty, with_tx_empty, no_frames, no_room, visit_from, socket_of, application_of, cell_of, redirect_to, limit_of, pieces_of, laid_out, returned, gathered, flag_tx, flag_from, flag_all, disarm, park, woken, look_kick, settle, look_tx, look_from, look_again, idle, complete, visit, transmit, deliver, reserve, go_on, take_spare, find_spare, direct, receive, turn_by, turn}
 use Rattle.xsk_turns.specs.declared.disposal.Disposal.{Disposal}
 use Rattle.xsk_turns.specs.declared.disposal.Disposal.TheVariants.{Delivered, NoFrames, RxFull, TooLong, Runt, Missed, Passed, Dropped}
 use Rattle.xsk_prog.specs.declared.rule.Verdict.{Verdict}
 use Rattle.xsk_prog.specs.declared.rule.Verdict.TheVariants.{Drop, Pass as PassOn, Redirect}
+use Rattle.xsk_umem.specs.Frame.{Frame}
 use Rattle.xsk_turns.proofs.Walks.{Premise, Law, Due, nothing_due, submit_due, release_due, Holds, MeetAlong, at_reserve, at_submit, at_peek, at_release, at_old, by_case, by_option, says_left, says_run, meets_law}
 
 -- ---- packets that are tried, and those that aren't
@@ -55,20 +56,30 @@ module _ (P : Disposal → Type 0) (runt : P Runt) (missed : P Missed) (passed :
 -- ---- the places of a turn, and its calls
 
 -- a driver receives, tries a packet that goes to a socket, has too few frames for it or no room on RX, sends once so many
--- classes are visited, or is idle
+-- classes are visited, or is idle; it sets its flags, looks again once so many classes are looked at, is parked, or clears its
+-- flags, each with FILL's or without
 pub data Place : Type 0 where
   Receiving : Place
   Trying : Judged → ℕ → Due → Place
   Lacking : Judged → ℕ → Bool → Place
   Sending : ℕ → Due → Place
   Idling : Place
+  Arming : Place
+  Looking : ℕ → Due → Place
+  Parked : Bool → Place
+  Disarming : Bool → Place
 
 -- what holds at a place
 abbrev pub Family : Type 1
 Family = Place → Noted → Kept → List Told → Type 0
 
-abbrev pub fresh : Noted
-fresh = record { progress = false; full = false }
+-- where a turn begins
+abbrev pub first_place : Option Bool → Place
+first_place None = Receiving
+first_place (Some frames) = Parked frames
+
+abbrev pub Begins : Family → Kept → List Told → Type 0
+Begins At kept l = At (first_place kept.parked) fresh kept l
 
 -- a call, by the packet and its socket, by the class and the finished packets, or by the class
 pub data Point : Type 0 where
@@ -84,6 +95,17 @@ pub data Point : Type 0 where
   ReleaseTx : ℕ → ℕ → Point
   LookTxDone : Point
   TellGone : Point
+  ArmFill : Point
+  ArmTx : ℕ → Point
+  LookFill : ℕ → Point
+  ReleaseLooked : ℕ → Point
+  LookTx : ℕ → Point
+  ReleaseLookedTx : ℕ → ℕ → Point
+  LookEnd : Point
+  LookKick : Bool → Point
+  ClearKick : Bool → Point
+  DisarmFill : Point
+  DisarmTx : ℕ → Point
 
 -- where each call is given, the call, and what is kept once it is given: a Submit takes its frames along
 abbrev pub asked : Seat → Point → Kept → Place × Call × Kept
@@ -99,6 +121,17 @@ asked seat (PeekTx k) kept = (Sending k nothing_due, Peek (Tx (socket_of seat k)
 asked seat (ReleaseTx k n) kept = (Sending (k + 1) (release_due (Tx (socket_of seat k)) n), Release (Tx (socket_of seat k)) n, kept)
 asked seat LookTxDone kept = (Idling, Look (TxDone (application_of seat)), kept)
 asked seat TellGone kept = (Idling, Swap (Gone seat.pair) 1, kept)
+asked seat ArmFill kept = (Idling, Swap (NeedFill seat.pair) 1, kept)
+asked seat (ArmTx k) kept = (Arming, Swap (NeedTx (socket_of seat k)) 1, kept)
+asked seat (LookFill n) kept = (Arming, Peek (Fill seat.pair) n, kept)
+asked seat (ReleaseLooked n) kept = (Looking 0 (release_due (Fill seat.pair) n), Release (Fill seat.pair) n, kept)
+asked seat (LookTx k) kept = (Looking k nothing_due, Peek (Tx (socket_of seat k)) seat.batch, kept)
+asked seat (ReleaseLookedTx k n) kept = (Looking (k + 1) (release_due (Tx (socket_of seat k)) n), Release (Tx (socket_of seat k)) n, kept)
+asked seat LookEnd kept = (Looking seat.classes nothing_due, Look (TxDone (application_of seat)), kept)
+asked seat (LookKick frames) kept = (Parked frames, Look (Kick seat.pair), kept)
+asked seat (ClearKick frames) kept = (Disarming frames, Swap (Kick seat.pair) 0, kept)
+asked seat DisarmFill kept = (Disarming true, Swap (NeedFill seat.pair) 0, kept)
+asked seat (DisarmTx k) kept = (Disarming false, Swap (NeedTx (socket_of seat k)) 0, kept)
 
 abbrev pub call_at : Seat → Point → Kept → Call
 call_at seat p kept = (asked seat p kept).1
@@ -121,6 +154,14 @@ pub record IsTried (seat : Seat) (Q : Premise Kept) (coming : List Judged) (pack
   pub target : redirect_to seat.config seat.port seat.queue number ≡ Some s
   pub fits : nat_lt (limit_of seat) (length packet.bytes) ≡ false
 
+-- the next packet lacks so many frames
+pub record IsLacking (seat : Seat) (Q : Premise Kept) (n : ℕ) (coming : List Judged) (spare : List Frame) : Type 0 where
+  pub packet : Judged
+  pub socket : ℕ
+  pub tried : IsTried seat Q coming packet socket
+  pub few : nat_le (pieces_of seat packet.bytes) (length spare) ≡ false
+  pub is : n ≡ pieces_of seat packet.bytes - length spare
+
 -- what is known where a call is given
 abbrev pub Known : Seat → Premise Kept → Point → Noted → Kept → Type 0
 Known seat Q TellRxDone noted kept = (kept.coming ≡ []) × (kept.rx_done ≡ false)
@@ -135,6 +176,17 @@ Known seat Q (PeekTx k) noted kept = (k < seat.classes) × (kept.finished ≡ []
 Known seat Q (ReleaseTx k n) noted kept = k < seat.classes
 Known seat Q LookTxDone noted kept = kept.rx_done ≡ true
 Known seat Q TellGone noted kept = (noted.progress ≡ false) × (noted.full ≡ false) × (kept.tx_done ≡ true)
+Known seat Q ArmFill noted kept = (noted.full ≡ false) × (awaits noted ≡ true)
+Known seat Q (ArmTx k) noted kept = k < seat.classes
+Known seat Q (LookFill n) noted kept = IsLacking seat Q n kept.coming kept.spare × (awaits noted ≡ true)
+Known seat Q (ReleaseLooked n) noted kept = awaits noted ≡ true
+Known seat Q (LookTx k) noted kept = k < seat.classes
+Known seat Q (ReleaseLookedTx k n) noted kept = k < seat.classes
+Known seat Q LookEnd noted kept = (noted.progress ≡ false) × (kept.rx_done ≡ true)
+Known seat Q (LookKick frames) noted kept = kept.parked ≡ Some frames
+Known seat Q (ClearKick frames) noted kept = kept.parked ≡ None
+Known seat Q DisarmFill noted kept = kept.parked ≡ None
+Known seat Q (DisarmTx k) noted kept = (kept.parked ≡ None) × (k < seat.classes)
 
 -- ---- what each reply makes of it
 
@@ -157,6 +209,21 @@ pub data Entry : Type 0 where
   tx_items : ℕ → List Item → Entry
   tx_released : ℕ → ℕ → Entry
   looked_tx_done : ℕ → Entry
+  armed_fill : ℕ → Entry
+  armed_tx : ℕ → ℕ → Entry
+  looked_fill_empty : ℕ → Entry
+  looked_fill_items : ℕ → List Item → Entry
+  looked_fill_released : ℕ → Entry
+  looked_tx_empty : ℕ → Entry
+  looked_tx_items : ℕ → List Item → Entry
+  looked_tx_released : ℕ → ℕ → Entry
+  found_end : ℕ → Entry
+  found_none : ℕ → Entry
+  kicked : Bool → ℕ → Entry
+  not_kicked : Bool → ℕ → Entry
+  cleared_kick : Bool → ℕ → Entry
+  disarmed_fill : ℕ → Entry
+  disarmed_tx : ℕ → ℕ → Entry
 
 abbrev pub told : Entry → Point × Reply
 told (told_rx_done n) = (TellRxDone, Old n)
@@ -176,6 +243,21 @@ told (tx_empty k) = (PeekTx k, Empty)
 told (tx_items k items) = (PeekTx k, Items items)
 told (tx_released k n) = (ReleaseTx k n, Released)
 told (looked_tx_done n) = (LookTxDone, Old n)
+told (armed_fill n) = (ArmFill, Old n)
+told (armed_tx k n) = (ArmTx k, Old n)
+told (looked_fill_empty m) = (LookFill m, Empty)
+told (looked_fill_items m items) = (LookFill m, Items items)
+told (looked_fill_released n) = (ReleaseLooked n, Released)
+told (looked_tx_empty k) = (LookTx k, Empty)
+told (looked_tx_items k items) = (LookTx k, Items items)
+told (looked_tx_released k n) = (ReleaseLookedTx k n, Released)
+told (found_end n) = (LookEnd, Old n)
+told (found_none n) = (LookEnd, Old n)
+told (kicked frames n) = (LookKick frames, Old n)
+told (not_kicked frames n) = (LookKick frames, Old n)
+told (cleared_kick frames n) = (ClearKick frames, Old n)
+told (disarmed_fill n) = (DisarmFill, Old n)
+told (disarmed_tx k n) = (DisarmTx k, Old n)
 
 abbrev pub point_of : Entry → Point
 point_of e = (told e).0
@@ -202,12 +284,31 @@ leads seat (tx_empty k) noted kept = (Sending (k + 1) nothing_due, noted, with_t
 leads seat (tx_items k items) noted kept = (Sending (k + 1) (release_due (Tx (socket_of seat k)) (length items)), moved noted, gathered seat k kept items)
 leads seat (tx_released k n) noted kept = (Sending (k + 1) nothing_due, noted, kept)
 leads seat (looked_tx_done n) noted kept = (Receiving, fresh, record kept { tx_done = kept.tx_done || eqb n 1 })
+leads seat (armed_fill n) noted kept = (Arming, noted, kept)
+leads seat (armed_tx k n) noted kept = (Arming, noted, kept)
+leads seat (looked_fill_empty m) noted kept = (Looking 0 nothing_due, noted, with_fill_empty kept)
+leads seat (looked_fill_items m items) noted kept = (Looking 0 (release_due (Fill seat.pair) (length items)), moved noted, supplied seat kept items)
+leads seat (looked_fill_released n) noted kept = (Looking 0 nothing_due, noted, kept)
+leads seat (looked_tx_empty k) noted kept = (Looking (k + 1) nothing_due, noted, with_tx_empty k kept)
+leads seat (looked_tx_items k items) noted kept = (Looking (k + 1) (release_due (Tx (socket_of seat k)) (length items)), moved noted, gathered seat k kept items)
+leads seat (looked_tx_released k n) noted kept = (Looking (k + 1) nothing_due, noted, kept)
+leads seat (found_end n) noted kept = (Disarming (awaits noted), noted, record kept { tx_done = true })
+leads seat (found_none n) noted kept = (Parked (awaits noted), fresh, record kept { parked = Some (awaits noted) })
+leads seat (kicked frames n) noted kept = (Disarming frames, noted, woken kept)
+leads seat (not_kicked frames n) noted kept = (Parked frames, fresh, kept)
+leads seat (cleared_kick frames n) noted kept = (Disarming frames, noted, kept)
+leads seat (disarmed_fill n) noted kept = (Disarming false, noted, kept)
+leads seat (disarmed_tx k n) noted kept = (Disarming false, noted, kept)
 
--- what it finds of a cell's number
+-- what it finds of a cell's number, or a mark's
 abbrev pub Finds : Seat → Entry → Type 0
 Finds seat (looked_none packet n) = redirect_to seat.config seat.port seat.queue n ≡ None
 Finds seat (looked_long packet n s) = (redirect_to seat.config seat.port seat.queue n ≡ Some s) × (nat_lt (limit_of seat) (length packet.bytes) ≡ true)
 Finds seat (looked_some packet n s) = (redirect_to seat.config seat.port seat.queue n ≡ Some s) × (nat_lt (limit_of seat) (length packet.bytes) ≡ false)
+Finds seat (found_end n) = eqb n 1 ≡ true
+Finds seat (found_none n) = eqb n 1 ≡ false
+Finds seat (kicked frames n) = eqb n 1 ≡ true
+Finds seat (not_kicked frames n) = eqb n 1 ≡ false
 Finds seat entry = Unit {0}
 
 -- ---- what goes on without a call
@@ -215,26 +316,37 @@ Finds seat entry = Unit {0}
 pub data Pass : Type 0 where
   untried : Judged → List Judged → Disposal → Pass
   none_comes : Pass
-  lacks : Judged → ℕ → Pass
+  too_few : Judged → ℕ → Pass
   waits : Judged → ℕ → Bool → Pass
   drops_full : Judged → ℕ → Pass
   drops_frameless : Judged → ℕ → Pass
   visited : Pass
   idles : Pass
+  arms : Pass
+  looks : Pass
+  finds : Pass
+  parks : Pass
+  disarmed : Pass
 
 abbrev pub Passing : Seat → Premise Kept → Family → Pass → Noted → Kept → List Told → Type 0
 Passing seat Q At (untried packet later disposal) noted kept l =
     At Receiving noted kept l → (kept.coming ≡ packet ∷ later) × (disposal_untried seat packet ≡ Some disposal) → At Receiving (moved noted) (settled kept disposal) l
 Passing seat Q At none_comes noted kept l = At Receiving noted kept l → (kept.coming ≡ []) × (kept.rx_done ≡ true) → At (Sending 0 nothing_due) noted kept l
-Passing seat Q At (lacks packet s) noted kept l = At (Trying packet s nothing_due) noted kept l → IsTried seat Q kept.coming packet s → At (Lacking packet s false) noted kept l
+Passing seat Q At (too_few packet s) noted kept l = At (Trying packet s nothing_due) noted kept l → IsTried seat Q kept.coming packet s → At (Lacking packet s false) noted kept l
 Passing seat Q At (waits packet s full) noted kept l =
-    At (Lacking packet s full) noted kept l → IsTried seat Q kept.coming packet s × (drops seat.wire ≡ false) → At (Sending 0 nothing_due) (cond full (stopped noted) noted) kept l
+    At (Lacking packet s full) noted kept l → IsTried seat Q kept.coming packet s × (drops seat.wire ≡ false) → At (Sending 0 nothing_due) (cond full (stopped noted) (lacks (pieces_of seat packet.bytes - length kept.spare) noted)) kept l
 Passing seat Q At (drops_full packet s) noted kept l =
     At (Lacking packet s true) noted kept l → IsTried seat Q kept.coming packet s × (drops seat.wire ≡ true) → At (Sending 0 nothing_due) (moved noted) (settled kept RxFull) l
 Passing seat Q At (drops_frameless packet s) noted kept l =
     At (Lacking packet s false) noted kept l → IsTried seat Q kept.coming packet s × (drops seat.wire ≡ true) → At (Sending 0 nothing_due) (moved noted) (dropped kept NoFrames) l
 Passing seat Q At visited noted kept l = At (Sending seat.classes nothing_due) noted kept l → kept.finished ≡ [] → At Idling noted kept l
 Passing seat Q At idles noted kept l = At Idling noted kept l → Unit {0} → At Receiving fresh kept l
+Passing seat Q At arms noted kept l = At Idling noted kept l → (noted.full ≡ false) × (awaits noted ≡ false) → At Arming noted kept l
+Passing seat Q At looks noted kept l = At Arming noted kept l → awaits noted ≡ false → At (Looking 0 nothing_due) noted kept l
+Passing seat Q At finds noted kept l = At (Looking seat.classes nothing_due) noted kept l → noted.progress ≡ true → At (Disarming (awaits noted)) noted kept l
+Passing seat Q At parks noted kept l =
+    At (Looking seat.classes nothing_due) noted kept l → (noted.progress ≡ false) × (kept.rx_done ≡ false) → At (Parked (awaits noted)) fresh (record kept { parked = Some (awaits noted) }) l
+Passing seat Q At disarmed noted kept l = At (Disarming false) noted kept l → kept.parked ≡ None → At Receiving fresh kept l
 
 -- ---- a law
 
@@ -266,37 +378,199 @@ pub record IsLaw (seat : Seat) (Q : Premise Kept) (At : Family) (A : Said) (E : 
 
 module _ (seat : Seat) (Q : Premise Kept) (At : Family) (A : Said) (E : Kept → List Told → Type 0) (is : IsLaw seat Q At A E) where
   abbrev law : Law Kept
-  law = record { begins = λ kept l. At Receiving fresh kept l; asks = A; ends = E }
+  law = record { begins = λ kept l. Begins At kept l; asks = A; ends = E }
 
   abbrev Along : Script Kept → List Told → Type 0
   Along s l = Holds Q law s l
 
-  go_idle : (noted : Noted) (kept : Kept) (l : List Told) → At Idling noted kept l → Along (idle seat noted kept) l
-  go_idle noted kept l h =
+  -- it isn't parked, and where it awaits frames, its next packet lacks them
+  abbrev Steady : Noted → Kept → Type 0
+  Steady noted kept = (kept.parked ≡ None) × (awaits noted ≡ true → IsLacking seat Q noted.lacking kept.coming kept.spare)
+
+  -- it awaits none
+  abbrev Awake : Noted → Kept → Type 0
+  Awake noted kept = (kept.parked ≡ None) × (noted.lacking ≡ 0)
+
+  steady : (noted : Noted) (kept : Kept) → Awake noted kept → Steady noted kept
+  steady noted kept w = (w.0, λ e. absurd (let no : false ≡ true = sym (ap (nat_lt 0) w.1) ∙ e in cc))
+
+  begins_awake : (kept : Kept) (l : List Told) → kept.parked ≡ None → At Receiving fresh kept l → Begins At kept l
+  begins_awake kept l e h = subst (λ o. At (first_place o) fresh kept l) (sym e) h
+
+  begins_parked : (frames : Bool) (kept : Kept) (l : List Told) → kept.parked ≡ Some frames → At (Parked frames) fresh kept l → Begins At kept l
+  begins_parked frames kept l e h = subst (λ o. At (first_place o) fresh kept l) (sym e) h
+
+  -- ---- flags
+
+  go_disarm_tx : (more k : ℕ) (noted : Noted) (kept : Kept) (l : List Told) → k + more ≡ seat.classes → kept.parked ≡ None → At (Disarming false) noted kept l
+      → Along (flag_tx seat 0 more k kept (again kept)) l
+  go_disarm_tx zero k noted kept l e up h = begins_awake kept l up (is.passes disarmed noted kept l h up)
+  go_disarm_tx (suc more) k noted kept l e up h =
+      let call = Swap (NeedTx (socket_of seat k)) 0 in
+      let below : k < seat.classes = omega arith in
+      let on : (k + 1) + more ≡ seat.classes = omega arith in
+      let asked = is.calls (DisarmTx k) noted kept l (up, below) h in (
+        asked,
+        at_old Q law kept call l (λ _. flag_tx seat 0 more (k + 1) kept (again kept))
+            (λ n q. go_disarm_tx more (k + 1) noted kept (with_told l call (Old n)) on up (is.entries (disarmed_tx k n) noted kept l (up, below) tt h asked q)),
+      )
+
+  go_disarm : (frames : Bool) (noted : Noted) (kept : Kept) (l : List Told) → kept.parked ≡ None → At (Disarming frames) noted kept l → Along (disarm seat frames kept) l
+  go_disarm false noted kept l up h = go_disarm_tx (seat.classes - 0) 0 noted kept l (omega arith) up h
+  go_disarm true noted kept l up h =
+      let call = Swap (NeedFill seat.pair) 0 in
+      let asked = is.calls DisarmFill noted kept l up h in (
+        asked,
+        at_old Q law kept call l (λ _. flag_from seat 0 0 kept (again kept))
+            (λ n q. go_disarm_tx (seat.classes - 0) 0 noted kept (with_told l call (Old n)) (omega arith) up (is.entries (disarmed_fill n) noted kept l up tt h asked q)),
+      )
+
+  go_parked : (frames : Bool) (kept : Kept) (l : List Told) → kept.parked ≡ Some frames → At (Parked frames) fresh kept l → Along (look_kick seat frames kept) l
+  go_parked frames kept l e h =
+      let call = Look (Kick seat.pair) in
+      let clear = Swap (Kick seat.pair) 0 in
+      let up = woken kept in
+      let asked = is.calls (LookKick frames) fresh kept l e h in (
+        asked,
+        at_old Q law kept call l (λ n. cond (eqb n 1) (ask up clear (on_old (λ _. disarm seat frames up))) (again kept))
+            (λ n q.
+            let looked = with_told l call (Old n) in
+            by_case Q law (eqb n 1) _ _ looked
+            (λ f.
+            let now = is.entries (kicked frames n) fresh kept l e f h asked q in
+            let gives = is.calls (ClearKick frames) fresh up looked refl now in (
+              gives,
+              at_old Q law up clear looked (λ _. disarm seat frames up)
+                  (λ m r. go_disarm frames fresh up (with_told looked clear (Old m)) refl (is.entries (cleared_kick frames m) fresh up looked refl tt now gives r)),
+            ))
+            (λ f. begins_parked frames kept looked e (is.entries (not_kicked frames n) fresh kept l e f h asked q))),
+      )
+
+  go_settle : (noted : Noted) (kept : Kept) (l : List Told) → kept.parked ≡ None → At (Looking seat.classes nothing_due) noted kept l → Along (settle seat noted kept) l
+  go_settle noted kept l up h =
+      let call = Look (TxDone (application_of seat)) in
+      let ending : Kept = record kept { tx_done = true } in
+      by_case Q law noted.progress _ _ l (λ e. go_disarm (awaits noted) noted kept l up (is.passes finds noted kept l h e))
+      (λ e. by_case Q law kept.rx_done _ _ l
+      (λ done.
+      let asked = is.calls LookEnd noted kept l (e, done) h in (
+        asked,
+        at_old Q law kept call l (λ n. cond (eqb n 1) (disarm seat (awaits noted) ending) (park (awaits noted) kept))
+            (λ n q.
+            let looked = with_told l call (Old n) in
+            by_case Q law (eqb n 1) _ _ looked (λ f. go_disarm (awaits noted) noted ending looked up (is.entries (found_end n) noted kept l (e, done) f h asked q))
+            (λ f. is.entries (found_none n) noted kept l (e, done) f h asked q)),
+      ))
+      (λ f. is.passes parks noted kept l h (e, f)))
+
+  go_look_tx : (more k : ℕ) (noted : Noted) (kept : Kept) (l : List Told) → k + more ≡ seat.classes → kept.parked ≡ None → At (Looking k nothing_due) noted kept l
+      → Along (look_tx seat more k noted kept) l
+  go_look_tx zero k noted kept l e up h =
+      let all : k ≡ seat.classes = omega arith in go_settle noted kept l up (subst (λ j. At (Looking j nothing_due) noted kept l) all h)
+  go_look_tx (suc more) k noted kept l e up h =
+      let call = Peek (Tx (socket_of seat k)) seat.batch in
+      let below : k < seat.classes = omega arith in
+      let on : (k + 1) + more ≡ seat.classes = omega arith in
+      let asked = is.calls (LookTx k) noted kept l below h in (
+        asked,
+        at_peek Q law kept call l
+            (λ items. ask (gathered seat k kept items) (Release (Tx (socket_of seat k)) (length items)) (on_released (look_tx seat more (k + 1) (moved noted) (gathered seat k kept items))))
+            (look_tx seat more (k + 1) noted (with_tx_empty k kept))
+            (λ items q.
+            let peeked = with_told l call (Items items) in
+            let give = Release (Tx (socket_of seat k)) (length items) in
+            let got = gathered seat k kept items in
+            let now = is.entries (looked_tx_items k items) noted kept l below tt h asked q in
+            let gives = is.calls (ReleaseLookedTx k (length items)) (moved noted) got peeked below now in (
+              gives,
+              at_release Q law got give peeked (look_tx seat more (k + 1) (moved noted) got)
+                  (λ r. go_look_tx more (k + 1) (moved noted) got (with_told peeked give Released) on up (is.entries (looked_tx_released k (length items)) (moved noted) got peeked below tt now gives r)),
+            ))
+            (λ q. go_look_tx more (k + 1) noted (with_tx_empty k kept) (with_told l call Empty) on up (is.entries (looked_tx_empty k) noted kept l below tt h asked q)),
+      )
+
+  go_look_from : (noted : Noted) (kept : Kept) (l : List Told) → kept.parked ≡ None → At (Looking 0 nothing_due) noted kept l → Along (look_from seat 0 noted kept) l
+  go_look_from noted kept l up h = go_look_tx (seat.classes - 0) 0 noted kept l (omega arith) up h
+
+  go_look_again : (noted : Noted) (kept : Kept) (l : List Told) → Steady noted kept → At Arming noted kept l → Along (look_again seat noted kept) l
+  go_look_again noted kept l st h =
+      let call = Peek (Fill seat.pair) noted.lacking in
+      by_case Q law (awaits noted) _ _ l
+      (λ e.
+      let known : Known seat Q (LookFill noted.lacking) noted kept = (st.1 e, e) in
+      let asked = is.calls (LookFill noted.lacking) noted kept l known h in (
+        asked,
+        at_peek Q law kept call l
+            (λ items. ask (supplied seat kept items) (Release (Fill seat.pair) (length items)) (on_released (look_from seat 0 (moved noted) (supplied seat kept items))))
+            (look_from seat 0 noted (with_fill_empty kept))
+            (λ items q.
+            let peeked = with_told l call (Items items) in
+            let give = Release (Fill seat.pair) (length items) in
+            let more = supplied seat kept items in
+            let now = is.entries (looked_fill_items noted.lacking items) noted kept l known tt h asked q in
+            let gives = is.calls (ReleaseLooked (length items)) (moved noted) more peeked e now in (
+              gives,
+              at_release Q law more give peeked (look_from seat 0 (moved noted) more)
+                  (λ r. go_look_from (moved noted) more (with_told peeked give Released) st.0 (is.entries (looked_fill_released (length items)) (moved noted) more peeked e tt now gives r)),
+            ))
+            (λ q. go_look_from noted (with_fill_empty kept) (with_told l call Empty) st.0 (is.entries (looked_fill_empty noted.lacking) noted kept l known tt h asked q)),
+      ))
+      (λ e. go_look_from noted kept l st.0 (is.passes looks noted kept l h e))
+
+  go_arm_tx : (more k : ℕ) (noted : Noted) (kept : Kept) (l : List Told) → k + more ≡ seat.classes → Steady noted kept → At Arming noted kept l
+      → Along (flag_tx seat 1 more k kept (look_again seat noted kept)) l
+  go_arm_tx zero k noted kept l e st h = go_look_again noted kept l st h
+  go_arm_tx (suc more) k noted kept l e st h =
+      let call = Swap (NeedTx (socket_of seat k)) 1 in
+      let below : k < seat.classes = omega arith in
+      let on : (k + 1) + more ≡ seat.classes = omega arith in
+      let asked = is.calls (ArmTx k) noted kept l below h in (
+        asked,
+        at_old Q law kept call l (λ _. flag_tx seat 1 more (k + 1) kept (look_again seat noted kept))
+            (λ n q. go_arm_tx more (k + 1) noted kept (with_told l call (Old n)) on st (is.entries (armed_tx k n) noted kept l below tt h asked q)),
+      )
+
+  go_arm : (noted : Noted) (kept : Kept) (l : List Told) → Steady noted kept → noted.full ≡ false → At Idling noted kept l → Along (flag_all seat (awaits noted) 1 kept (look_again seat noted kept)) l
+  go_arm noted kept l st full h =
+      let call = Swap (NeedFill seat.pair) 1 in
+      let all = λ (m : List Told). go_arm_tx (seat.classes - 0) 0 noted kept m (omega arith) st in
+      by_case Q law (awaits noted) _ _ l
+      (λ e.
+      let asked = is.calls ArmFill noted kept l (full, e) h in (
+        asked,
+        at_old Q law kept call l (λ _. flag_from seat 1 0 kept (look_again seat noted kept)) (λ n q. all (with_told l call (Old n)) (is.entries (armed_fill n) noted kept l (full, e) tt h asked q)),
+      ))
+      (λ e. all l (is.passes arms noted kept l h (full, e)))
+
+  go_idle : (noted : Noted) (kept : Kept) (l : List Told) → Steady noted kept → At Idling noted kept l → Along (idle seat noted kept) l
+  go_idle noted kept l st h =
       let look = Look (TxDone (application_of seat)) in
       let leave = Swap (Gone seat.pair) 1 in
-      by_case Q law (noted.progress || noted.full) _ _ l (λ e. is.passes idles noted kept l h tt)
-      (λ e. by_case Q law kept.tx_done _ _ l
-      (λ done.
+      by_case Q law (noted.progress || noted.full) _ _ l (λ e. begins_awake kept l st.0 (is.passes idles noted kept l h tt))
+      (λ e.
       let off = or_parts noted.progress noted.full e in
+      by_case Q law kept.tx_done _ _ l
+      (λ done.
       let gives = is.calls TellGone noted kept l (off.0, off.1, done) h in
       (gives, at_old Q law kept leave l (λ n. ended kept) (λ n q. is.ends noted kept l n (off.0, off.1, done) h gives q)))
-      (λ f. by_case Q law kept.rx_done _ _ l
+      (λ f. by_case Q law seat.config.wakeup _ _ l (λ w. go_arm noted kept l st off.1 h)
+      (λ w. by_case Q law kept.rx_done _ _ l
       (λ done.
-      let gives = is.calls LookTxDone noted kept l done h in (
+      let gives = is.calls LookTxDone noted kept l done h in
+      let looked : ℕ → Kept = λ n. record kept { tx_done = kept.tx_done || eqb n 1 } in (
         gives,
-        at_old Q law kept look l (λ n. again (record kept { tx_done = kept.tx_done || eqb n 1 })) (λ n q. is.entries (looked_tx_done n) noted kept l done tt h gives q),
+        at_old Q law kept look l (λ n. again (looked n)) (λ n q. begins_awake (looked n) (with_told l look (Old n)) st.0 (is.entries (looked_tx_done n) noted kept l done tt h gives q)),
       ))
-      (λ g. is.passes idles noted kept l h tt)))
+      (λ g. begins_awake kept l st.0 (is.passes idles noted kept l h tt)))))
 
   -- wherever a class's packets are all completed
   abbrev Visiting : (Noted → Kept → Script Kept) → ℕ → Type 0
-  Visiting next k = (noted : Noted) (kept : Kept) (l : List Told) → At (Sending k nothing_due) noted kept l → kept.finished ≡ [] → Along (next noted kept) l
+  Visiting next k = (noted : Noted) (kept : Kept) (l : List Told) → Steady noted kept → At (Sending k nothing_due) noted kept l → kept.finished ≡ [] → Along (next noted kept) l
 
-  go_complete : (k : ℕ) (packets : List (List Item)) (noted : Noted) (kept : Kept) (next : Noted → Kept → Script Kept) (l : List Told) → At (Sending k nothing_due) noted kept l
+  go_complete : (k : ℕ) (packets : List (List Item)) (noted : Noted) (kept : Kept) (next : Noted → Kept → Script Kept) (l : List Told) → Steady noted kept → At (Sending k nothing_due) noted kept l
       → kept.finished ≡ packets → Visiting next k → Along (complete seat packets noted kept next) l
-  go_complete k [] noted kept next l h e go = go noted kept l h e
-  go_complete k (packet ∷ later) noted kept next l h e go =
+  go_complete k [] noted kept next l st h e go = go noted kept l st h e
+  go_complete k (packet ∷ later) noted kept next l st h e go =
       let call = Reserve (Comp seat.pair) (length packet) in
       let give = Submit (Comp seat.pair) (map returned packet) in
       let granted = with_told l call Granted in
@@ -309,17 +583,17 @@ module _ (seat : Seat) (Q : Premise Kept) (At : Family) (A : Said) (E : Kept →
             let gives = is.calls (SubmitComp k packet later) noted kept granted e now in (
               gives,
               at_submit Q law left give granted (complete seat later (moved noted) left next)
-                  (λ r. go_complete k later (moved noted) left next (with_told granted give Submitted) (is.entries (comp_submitted k packet later) noted kept granted e tt now gives r) refl go),
+                  (λ r. go_complete k later (moved noted) left next (with_told granted give Submitted) st (is.entries (comp_submitted k packet later) noted kept granted e tt now gives r) refl go),
             ))
-            (λ free q. go_idle (stopped noted) kept (with_told l call (Full free)) (is.entries (comp_full k packet later free) noted kept l e tt h asked q)),
+            (λ free q. go_idle (stopped noted) kept (with_told l call (Full free)) st (is.entries (comp_full k packet later free) noted kept l e tt h asked q)),
       )
 
-  go_visit : (more k : ℕ) (noted : Noted) (kept : Kept) (l : List Told) → k + more ≡ seat.classes → At (Sending k nothing_due) noted kept l → kept.finished ≡ []
+  go_visit : (more k : ℕ) (noted : Noted) (kept : Kept) (l : List Told) → k + more ≡ seat.classes → Steady noted kept → At (Sending k nothing_due) noted kept l → kept.finished ≡ []
       → Along (visit seat more k noted kept) l
-  go_visit zero k noted kept l e h none =
+  go_visit zero k noted kept l e st h none =
       let all : k ≡ seat.classes = omega arith in
-      go_idle noted kept l (is.passes visited noted kept l (subst (λ j. At (Sending j nothing_due) noted kept l) all h) none)
-  go_visit (suc more) k noted kept l e h none =
+      go_idle noted kept l st (is.passes visited noted kept l (subst (λ j. At (Sending j nothing_due) noted kept l) all h) none)
+  go_visit (suc more) k noted kept l e st h none =
       let call = Peek (Tx (socket_of seat k)) seat.batch in
       let below : k < seat.classes = omega arith in
       let on : (k + 1) + more ≡ seat.classes = omega arith in
@@ -336,32 +610,34 @@ module _ (seat : Seat) (Q : Premise Kept) (At : Family) (A : Said) (E : Kept →
             let gives = is.calls (ReleaseTx k (length items)) (moved noted) got peeked below now in (
               gives,
               at_release Q law got give peeked (complete seat got.finished (moved noted) got (visit seat more (k + 1)))
-                  (λ r. go_complete (k + 1) got.finished (moved noted) got (visit seat more (k + 1)) (with_told peeked give Released)
-                  (is.entries (tx_released k (length items)) (moved noted) got peeked below tt now gives r) refl (λ noted kept l h none. go_visit more (k + 1) noted kept l on h none)),
+                  (λ r. go_complete (k + 1) got.finished (moved noted) got (visit seat more (k + 1)) (with_told peeked give Released) st
+                  (is.entries (tx_released k (length items)) (moved noted) got peeked below tt now gives r) refl (λ noted kept l st h none. go_visit more (k + 1) noted kept l on st h none)),
             ))
-            (λ q. go_visit more (k + 1) noted (with_tx_empty k kept) (with_told l call Empty) on (is.entries (tx_empty k) noted kept l (below, none) tt h asked q) none),
+            (λ q. go_visit more (k + 1) noted (with_tx_empty k kept) (with_told l call Empty) on st (is.entries (tx_empty k) noted kept l (below, none) tt h asked q) none),
       )
 
-  go_transmit : (noted : Noted) (kept : Kept) (l : List Told) → At (Sending 0 nothing_due) noted kept l → Along (transmit seat noted kept) l
-  go_transmit noted kept l h =
-      go_complete 0 kept.finished noted kept (visit_from seat 0) l h refl (λ noted kept l h none. go_visit (seat.classes - 0) 0 noted kept l (omega arith) h none)
+  go_transmit : (noted : Noted) (kept : Kept) (l : List Told) → Steady noted kept → At (Sending 0 nothing_due) noted kept l → Along (transmit seat noted kept) l
+  go_transmit noted kept l st h =
+      go_complete 0 kept.finished noted kept (visit_from seat 0) l st h refl (λ noted kept l st h none. go_visit (seat.classes - 0) 0 noted kept l (omega arith) st h none)
 
   -- ---- a packet that is tried
 
   module _ (packet : Judged) (s : ℕ) where
-    go_no_frames : (noted : Noted) (kept : Kept) (l : List Told) → At (Lacking packet s false) noted kept l → IsTried seat Q kept.coming packet s → Along (no_frames seat noted kept) l
-    go_no_frames noted kept l h tried =
-        by_case Q law (drops seat.wire) _ _ l (λ e. go_transmit (moved noted) (dropped kept NoFrames) l (is.passes (drops_frameless packet s) noted kept l h (tried, e)))
-        (λ e. go_transmit noted kept l (is.passes (waits packet s false) noted kept l h (tried, e)))
+    go_no_frames : (noted : Noted) (kept : Kept) (l : List Told) → Awake noted kept → At (Lacking packet s false) noted kept l → IsTried seat Q kept.coming packet s
+        → nat_le (pieces_of seat packet.bytes) (length kept.spare) ≡ false → Along (no_frames seat packet.bytes noted kept) l
+    go_no_frames noted kept l up h tried few =
+        by_case Q law (drops seat.wire) _ _ l (λ e. go_transmit (moved noted) (dropped kept NoFrames) l (steady (moved noted) (dropped kept NoFrames) up) (is.passes (drops_frameless packet s) noted kept l h (tried, e)))
+        (λ e. go_transmit (lacks (pieces_of seat packet.bytes - length kept.spare) noted) kept l
+        (up.0, λ f. record { packet = packet; socket = s; tried = tried; few = few; is = refl }) (is.passes (waits packet s false) noted kept l h (tried, e)))
 
-    go_no_room : (noted : Noted) (kept : Kept) (l : List Told) → At (Lacking packet s true) noted kept l → IsTried seat Q kept.coming packet s → Along (no_room seat noted kept) l
-    go_no_room noted kept l h tried =
-        by_case Q law (drops seat.wire) _ _ l (λ e. go_transmit (moved noted) (settled kept RxFull) l (is.passes (drops_full packet s) noted kept l h (tried, e)))
-        (λ e. go_transmit (stopped noted) kept l (is.passes (waits packet s true) noted kept l h (tried, e)))
+    go_no_room : (noted : Noted) (kept : Kept) (l : List Told) → Awake noted kept → At (Lacking packet s true) noted kept l → IsTried seat Q kept.coming packet s → Along (no_room seat noted kept) l
+    go_no_room noted kept l up h tried =
+        by_case Q law (drops seat.wire) _ _ l (λ e. go_transmit (moved noted) (settled kept RxFull) l (steady (moved noted) (settled kept RxFull) up) (is.passes (drops_full packet s) noted kept l h (tried, e)))
+        (λ e. go_transmit (stopped noted) kept l (steady (stopped noted) kept up) (is.passes (waits packet s true) noted kept l h (tried, e)))
 
-    go_reserve : (noted : Noted) (kept : Kept) (l : List Told) → At (Trying packet s nothing_due) noted kept l → IsTried seat Q kept.coming packet s
+    go_reserve : (noted : Noted) (kept : Kept) (l : List Told) → Awake noted kept → At (Trying packet s nothing_due) noted kept l → IsTried seat Q kept.coming packet s
         → nat_le (pieces_of seat packet.bytes) (length kept.spare) ≡ true → Along (reserve seat packet.bytes s noted kept) l
-    go_reserve noted kept l h tried enough =
+    go_reserve noted kept l up h tried enough =
         let n = pieces_of seat packet.bytes in
         let call = Reserve (Rx s) n in
         let give = Submit (Rx s) (laid_out seat.config.geometry packet.bytes (take n kept.spare)) in
@@ -377,23 +653,23 @@ module _ (seat : Seat) (Q : Premise Kept) (At : Family) (A : Said) (E : Kept →
               let gives = is.calls (SubmitRx packet s) (moved noted) kept granted (tried, enough) now in (
                 gives,
                 at_submit Q law fewer give granted (transmit seat (moved (moved noted)) left)
-                    (λ r. go_transmit (moved (moved noted)) left (with_told granted give Submitted) (is.entries (rx_submitted packet s) (moved noted) kept granted (tried, enough) tt now gives r)),
+                    (λ r. go_transmit (moved (moved noted)) left (with_told granted give Submitted) (steady (moved (moved noted)) left up) (is.entries (rx_submitted packet s) (moved noted) kept granted (tried, enough) tt now gives r)),
               ))
-              (λ free q. go_no_room noted full (with_told l call (Full free)) (is.entries (rx_full packet s free) noted kept l (tried, enough) tt h asked q) tried),
+              (λ free q. go_no_room noted full (with_told l call (Full free)) up (is.entries (rx_full packet s free) noted kept l (tried, enough) tt h asked q) tried),
         )
 
-    go_more : (noted : Noted) (kept : Kept) (l : List Told) → At (Trying packet s nothing_due) noted kept l → IsTried seat Q kept.coming packet s → Along (go_on seat packet.bytes s noted kept) l
-    go_more noted kept l h tried =
-        by_case Q law (nat_le (pieces_of seat packet.bytes) (length kept.spare)) _ _ l (go_reserve noted kept l h tried) (λ e. go_no_frames noted kept l (is.passes (lacks packet s) noted kept l h tried) tried)
+    go_more : (noted : Noted) (kept : Kept) (l : List Told) → Awake noted kept → At (Trying packet s nothing_due) noted kept l → IsTried seat Q kept.coming packet s → Along (go_on seat packet.bytes s noted kept) l
+    go_more noted kept l up h tried =
+        by_case Q law (nat_le (pieces_of seat packet.bytes) (length kept.spare)) _ _ l (go_reserve noted kept l up h tried) (λ e. go_no_frames noted kept l up (is.passes (too_few packet s) noted kept l h tried) tried e)
 
-    go_find : (noted : Noted) (kept : Kept) (l : List Told) → At (Trying packet s nothing_due) noted kept l → IsTried seat Q kept.coming packet s → Along (find_spare seat packet.bytes s noted kept) l
-    go_find noted kept l h tried =
+    go_find : (noted : Noted) (kept : Kept) (l : List Told) → Awake noted kept → At (Trying packet s nothing_due) noted kept l → IsTried seat Q kept.coming packet s → Along (find_spare seat packet.bytes s noted kept) l
+    go_find noted kept l up h tried =
         let call = Peek (Fill seat.pair) (pieces_of seat packet.bytes - length kept.spare) in
-        by_case Q law (nat_le (pieces_of seat packet.bytes) (length kept.spare)) _ _ l (go_reserve noted kept l h tried)
+        by_case Q law (nat_le (pieces_of seat packet.bytes) (length kept.spare)) _ _ l (go_reserve noted kept l up h tried)
         (λ e.
         let asked = is.calls (PeekFill packet s) noted kept l (tried, e) h in (
           asked,
-          at_peek Q law kept call l (take_spare seat packet.bytes s noted kept) (no_frames seat noted (with_fill_empty kept))
+          at_peek Q law kept call l (take_spare seat packet.bytes s noted kept) (no_frames seat packet.bytes noted (with_fill_empty kept))
               (λ items q.
               let peeked = with_told l call (Items items) in
               let give = Release (Fill seat.pair) (length items) in
@@ -402,25 +678,25 @@ module _ (seat : Seat) (Q : Premise Kept) (At : Family) (A : Said) (E : Kept →
               let gives = is.calls (ReleaseFill packet s (length items)) noted more peeked tried now in (
                 gives,
                 at_release Q law more give peeked (go_on seat packet.bytes s (moved noted) more)
-                    (λ r. go_more (moved noted) more (with_told peeked give Released) (is.entries (fill_released packet s (length items)) noted more peeked tried tt now gives r) tried),
+                    (λ r. go_more (moved noted) more (with_told peeked give Released) up (is.entries (fill_released packet s (length items)) noted more peeked tried tt now gives r) tried),
               ))
-              (λ q. go_no_frames noted (with_fill_empty kept) (with_told l call Empty) (is.entries (fill_empty packet s) noted kept l (tried, e) tt h asked q) tried),
+              (λ q. go_no_frames noted (with_fill_empty kept) (with_told l call Empty) up (is.entries (fill_empty packet s) noted kept l (tried, e) tt h asked q) tried e),
         ))
 
   -- ---- receiving
 
-  go_receive : (coming : List Judged) (noted : Noted) (kept : Kept) (l : List Told) → At Receiving noted kept l → kept.coming ≡ coming → Along (receive seat coming noted kept) l
-  go_receive [] noted kept l h e =
+  go_receive : (coming : List Judged) (noted : Noted) (kept : Kept) (l : List Told) → Awake noted kept → At Receiving noted kept l → kept.coming ≡ coming → Along (receive seat coming noted kept) l
+  go_receive [] noted kept l up h e =
       let call = Swap (RxDone seat.pair) 1 in
       let left : Kept = record kept { rx_done = true } in
-      by_case Q law kept.rx_done _ _ l (λ f. go_transmit noted kept l (is.passes none_comes noted kept l h (e, f)))
+      by_case Q law kept.rx_done _ _ l (λ f. go_transmit noted kept l (steady noted kept up) (is.passes none_comes noted kept l h (e, f)))
       (λ f.
       let gives = is.calls TellRxDone noted kept l (e, f) h in (
         gives,
         at_old Q law kept call l (λ n. transmit seat (moved noted) left)
-            (λ n q. go_transmit (moved noted) left (with_told l call (Old n)) (is.entries (told_rx_done n) noted kept l (e, f) tt h gives q)),
+            (λ n q. go_transmit (moved noted) left (with_told l call (Old n)) (steady (moved noted) left up) (is.entries (told_rx_done n) noted kept l (e, f) tt h gives q)),
       ))
-  go_receive (packet ∷ later) noted kept l h e =
+  go_receive (packet ∷ later) noted kept l up h e =
       let call = Look (Cell seat.port (cell_of packet.verdict)) in
       let to = λ (n : ℕ). redirect_to seat.config seat.port seat.queue n in
       let rest : drop 1 kept.coming ≡ later = ap (drop 1) e in
@@ -434,19 +710,23 @@ module _ (seat : Seat) (Q : Premise Kept) (At : Family) (A : Said) (E : Kept →
             (λ n q.
             let told = with_told l call (Old n) in
             by_option (to n) (λ o. Along (direct seat packet.bytes noted kept o) told)
-            (λ none. go_transmit (moved noted) (settled kept Missed) told (is.entries (looked_none packet n) noted kept l next none h gives q))
+            (λ none. go_transmit (moved noted) (settled kept Missed) told (steady (moved noted) (settled kept Missed) up) (is.entries (looked_none packet n) noted kept l next none h gives q))
             (λ s some. by_case Q law (nat_lt (limit_of seat) (length packet.bytes)) _ _ told
-            (λ long. go_transmit (moved noted) (dropped kept TooLong) told (is.entries (looked_long packet n s) noted kept l next (some, long) h gives q))
-            (λ fits. go_find packet s noted kept told (is.entries (looked_some packet n s) noted kept l next (some, fits) h gives q) (record { next = next; number = n; looked = (kept, l, q); target = some; fits = fits })))),
+            (λ long. go_transmit (moved noted) (dropped kept TooLong) told (steady (moved noted) (dropped kept TooLong) up) (is.entries (looked_long packet n s) noted kept l next (some, long) h gives q))
+            (λ fits. go_find packet s noted kept told up (is.entries (looked_some packet n s) noted kept l next (some, fits) h gives q) (record { next = next; number = n; looked = (kept, l, q); target = some; fits = fits })))),
       ))
-      (λ d some. go_receive later (moved noted) (settled kept d) l (is.passes (untried packet later d) noted kept l h (e, some)) rest)
+      (λ d some. go_receive later (moved noted) (settled kept d) l up (is.passes (untried packet later d) noted kept l h (e, some)) rest)
 
-  go_turn : (kept : Kept) (l : List Told) → At Receiving fresh kept l → Along (turn seat kept) l
-  go_turn kept l h = go_receive kept.coming fresh kept l h refl
+  go_by : (o : Option Bool) (kept : Kept) (l : List Told) → kept.parked ≡ o → At (first_place o) fresh kept l → Along (turn_by seat kept o) l
+  go_by None kept l e h = go_receive kept.coming fresh kept l (e, refl) h refl
+  go_by (Some frames) kept l e h = go_parked frames kept l e h
+
+  go_turn : (kept : Kept) (l : List Told) → Begins At kept l → Along (turn seat kept) l
+  go_turn kept l h = go_by kept.parked kept l refl h
 
   -- ---- runs
 
-  module _ (begins : Kept) (first : At Receiving fresh begins []) (l : List Told) (meets : MeetAlong (turn seat) Q (turn seat begins) [] l) where
+  module _ (begins : Kept) (first : Begins At begins []) (l : List Told) (meets : MeetAlong (turn seat) Q (turn seat begins) [] l) where
     -- what it says where a list stops
     pub at_call : (kept : Kept) (call : Call) (rest : Reply → Script Kept) → Asks (turn seat) begins l kept call rest → A kept call l
     at_call kept call rest asks = says_left Q law (turn seat) go_turn begins l (ask kept call rest) first meets asks
@@ -459,6 +739,6 @@ module _ (seat : Seat) (Q : Premise Kept) (At : Family) (A : Said) (E : Kept →
     meets_said left leaves = meets_law Q law (turn seat) go_turn begins l left first meets leaves
 
     -- what it says of each run
-    pub of_run : (I : List Told → Type 0) → ((kept : Kept) (m : List Told) → At Receiving fresh kept m → I m) → ((kept : Kept) (call : Call) (m : List Told) → A kept call m → I m) → ((kept : Kept) (m : List Told) → E kept m → I m)
+    pub of_run : (I : List Told → Type 0) → ((kept : Kept) (m : List Told) → Begins At kept m → I m) → ((kept : Kept) (call : Call) (m : List Told) → A kept call m → I m) → ((kept : Kept) (m : List Told) → E kept m → I m)
         → IsRun (turn seat) begins l → I l
     of_run I x y z run = says_run Q law (turn seat) go_turn I x y z begins l first meets run

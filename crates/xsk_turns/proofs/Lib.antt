@@ -29,3 +29,6 @@ pub mod ReceivingLaws
 pub mod Delivering
 pub mod Draining
 pub mod CompletingAll
+pub mod Watching
+pub mod Parking
+pub mod Finishing

@@ -1,13 +1,13 @@
 -- At each of its calls a driver has the frames that it peeked and didn't submit, and the call is legal.
-use Rattle.std.proofs.Common.{◌≡◌, ℕ, zero, suc, ◌-◌, ◌*◌, ◌<◌, ◌≤◌, Bool, true, false, cond, nat_lt, Some, None, List, [], ◌∷◌, ◌++◌, length, map, drop, get_or, flat_map, replicate, refl, sym, ap, ◌∙◌, subst, arith, append-nil, append_assoc, ◌&&◌, if◌then◌else◌, ◌==◌, leb-true, leb-false, ltb-false}
+use Rattle.std.proofs.Common.{◌≡◌, ℕ, zero, suc, ◌+◌, ◌-◌, ◌*◌, ◌<◌, ◌≤◌, Bool, true, false, cond, nat_lt, Some, None, inl, List, [], ◌∷◌, ◌++◌, length, map, drop, get_or, flat_map, replicate, refl, sym, ap, ◌∙◌, subst, arith, append-nil, append_assoc, ◌&&◌, if◌then◌else◌, ◌==◌, leb-true, leb-false, ltb-false}
 use Rattle.std.proofs.lemmas.Bool.Decides.{nat_tests}
 use Rattle.std.proofs.lemmas.List.{length-replicate, take_all}
 use Rattle.std.proofs.lemmas.List.Elements.{All-nil}
 use Rattle.xsk_turns.proofs.Object.{payload_of, Frame, packets_from, Config, pair_at, classes_of, socket_at, times, numbers, IsWhole, taken, room_of, IsLegal, Fits, OwnGoesOn}
-use Rattle.xsk_turns.proofs.Calls.{Item, Told, with_told, Fill, Comp, Rx, Tx, RxDone, Gone, TxDone, Cell, Call, Submit, Peek, Swap, Reply, Granted, Full, Items, Old}
+use Rattle.xsk_turns.proofs.Calls.{Item, Told, with_told, Fill, Comp, Rx, Tx, NeedFill, NeedTx, Kick, RxDone, Gone, TxDone, Cell, Call, Submit, Peek, Swap, Reply, Granted, Full, Items, Old}
 use Rattle.xsk_turns.proofs.LegalCalls.{had_told, legal_reserve, legal_peek, legal_release, legal_look, legal_swap, room_told, held_told, IsDue}
 use Rattle.xsk_turns.specs.Script.{Script, Leaves, Ends}
-use Rattle.xsk_turns.specs.Turns.{Seat, Judged, Kept, Noted, seat_of, start, turn, application_of, cell_of, redirect_to, limit_of, pieces_of, returned, frames_in, bad_ones, group_at, gathered}
+use Rattle.xsk_turns.specs.Turns.{Seat, Judged, Kept, Noted, seat_of, start, turn, application_of, cell_of, redirect_to, limit_of, pieces_of, returned, frames_in, bad_ones, group_at, supplied, gathered}
 use Rattle.xsk_turns.specs.declared.wire.Wire.{Wire}
 use Rattle.xsk_turns.specs.Owned.{IsSeat, IsHere, socket_at_class, IsSpare, Owned, AllFit, KeepsFrames, KeepsFramesAtEnd}
 use Rattle.xsk_turns.proofs.Completing.{whole_some}
@@ -16,8 +16,8 @@ use Rattle.xsk_turns.proofs.Legality.{first_whole, legal_rx, owned_rx, legal_com
 use Rattle.xsk_turns.proofs.Owned.{Has as HasLists, HasKept, IsQuiet, owned_quiet, times-kept, has_told, has_fill, has_tx}
 use Rattle.xsk_turns.proofs.Places.{batch_some, batch_few, class_here, rx_ring, tx_ring, caller_known, port_known, app_known}
 use Rattle.xsk_turns.proofs.Rooms.{fill_frames, all_whole, lost_few}
-use Rattle.xsk_turns.proofs.Walks.{Premise, MeetAlong, meet_fitting}
-use Rattle.xsk_turns.proofs.DriverWalk.{Place, Trying, Sending, Idling, Family, TellRxDone, LookCell, PeekFill, ReleaseFill, ReserveRx, SubmitRx, ReserveComp, SubmitComp, PeekTx, ReleaseTx, LookTxDone, TellGone, call_at, kept_at, IsTried, fill_items, tx_items, rx_granted, comp_granted, comp_full, point_of, reply_of, visited, idles, Said, AtCalls, AtEntries, AtPasses, IsLaw, at_call, at_end, meets_said}
+use Rattle.xsk_turns.proofs.Walks.{Premise, MeetAlong, release_due, meet_fitting}
+use Rattle.xsk_turns.proofs.DriverWalk.{Place, Trying, Sending, Idling, Looking, Family, TellRxDone, LookCell, PeekFill, ReleaseFill, ReserveRx, SubmitRx, ReserveComp, SubmitComp, PeekTx, ReleaseTx, LookTxDone, TellGone, ArmFill, ArmTx, LookFill, ReleaseLooked, LookTx, ReleaseLookedTx, LookEnd, LookKick, ClearKick, DisarmFill, DisarmTx, call_at, kept_at, IsTried, IsLacking, fill_items, tx_items, looked_fill_items, looked_tx_items, rx_granted, comp_granted, comp_full, point_of, reply_of, visited, idles, arms, looks, finds, parks, disarmed, Said, AtCalls, AtEntries, AtPasses, IsLaw, at_call, at_end, meets_said}
 
 -- ---- a packet that goes to a socket
 
@@ -57,6 +57,7 @@ module _ (wire : Wire) (c : Config) (pair : ℕ) (is : IsSeat c pair) where
   abbrev Beside : Place → Noted → Kept → List Told → Type 0
   Beside (Trying packet s due) noted kept l = IsDue due l
   Beside (Sending k due) noted kept l = IsDue due l
+  Beside (Looking k due) noted kept l = IsDue due l
   Beside Idling noted kept l = noted.full ≡ false → kept.finished ≡ []
   Beside place noted kept l = Unit {0}
 
@@ -90,6 +91,23 @@ module _ (wire : Wire) (c : Config) (pair : ℕ) (is : IsSeat c pair) where
 
     here : IsHere c pair s
     here = redirect_here c pair tried.number s tried.target
+
+  -- the frames that it lacks are few
+  lacking_few : (n : ℕ) (kept : Kept) → IsLacking seat Answers n kept.coming kept.spare → (1 ≤ n) × (n + length kept.spare ≤ 18)
+  lacking_few n kept lacking =
+      let below = leb-false (pieces_of seat lacking.packet.bytes) (length kept.spare) lacking.few in
+      let few = few lacking.packet lacking.socket kept.coming lacking.tried in
+      (omega (arith, below, lacking.is), omega (arith, below, few, lacking.is))
+
+  -- a flag is swapped
+  flags_fill : (kept : Kept) (l : List Told) (value : ℕ) → value ≤ 1 → Has kept l → Asked kept (Swap (NeedFill pair) value) l
+  flags_fill kept l value few h = quiet kept _ l tt h (legal_swap c pair l (caller_known c pair is) (NeedFill pair) value is.known refl few)
+
+  flags_tx : (k : ℕ) (kept : Kept) (l : List Told) (value : ℕ) → k < classes_of c → value ≤ 1 → Has kept l → Asked kept (Swap (NeedTx (socket_at_class c pair k)) value) l
+  flags_tx k kept l value within few h =
+      let s = socket_at_class c pair k in
+      let ring = tx_ring c pair is s (class_here c pair is k within) in
+      quiet kept _ l tt h (legal_swap c pair l (caller_known c pair is) (NeedTx s) value ring.0 ring.1 few)
 
   calls : AtCalls seat Answers At Asked
   calls TellRxDone noted kept l known h = quiet kept _ l tt h.0 (legal_swap c pair l (caller_known c pair is) (RxDone pair) 1 is.known refl (omega arith))
@@ -129,25 +147,55 @@ module _ (wire : Wire) (c : Config) (pair : ℕ) (is : IsSeat c pair) where
       quiet kept _ l tt h.0 (legal_release c pair l (caller_known c pair is) (Tx s) n ring.0 ring.1 h.1.0 h.1.1 h.1.2)
   calls LookTxDone noted kept l known h = quiet kept _ l tt h.0 (legal_look c pair l (caller_known c pair is) (TxDone (application_of seat)) (app_known c pair is))
   calls TellGone noted kept l known h = quiet kept _ l tt h.0 (legal_swap c pair l (caller_known c pair is) (Gone pair) 1 is.known refl (omega arith))
+  calls ArmFill noted kept l known h = flags_fill kept l 1 (omega arith) h.0
+  calls (ArmTx k) noted kept l known h = flags_tx k kept l 1 known (omega arith) h.0
+  calls (LookFill n) noted kept l known h =
+      let enough = lacking_few n kept known.0 in quiet kept _ l tt h.0 (legal_peek c pair l (caller_known c pair is) (Fill pair) n is.known refl enough.0 (omega (arith, enough.1)))
+  calls (ReleaseLooked n) noted kept l known h = quiet kept _ l tt h.0 (legal_release c pair l (caller_known c pair is) (Fill pair) n is.known refl h.1.0 h.1.1 h.1.2)
+  calls (LookTx k) noted kept l known h =
+      let s = socket_at_class c pair k in
+      let ring = tx_ring c pair is s (class_here c pair is k known) in
+      quiet kept _ l tt h.0 (legal_peek c pair l (caller_known c pair is) (Tx s) seat.batch ring.0 ring.1 (batch_some c is.config) (batch_few c))
+  calls (ReleaseLookedTx k n) noted kept l known h =
+      let s = socket_at_class c pair k in
+      let ring = tx_ring c pair is s (class_here c pair is k known) in
+      quiet kept _ l tt h.0 (legal_release c pair l (caller_known c pair is) (Tx s) n ring.0 ring.1 h.1.0 h.1.1 h.1.2)
+  calls LookEnd noted kept l known h = quiet kept _ l tt h.0 (legal_look c pair l (caller_known c pair is) (TxDone (application_of seat)) (app_known c pair is))
+  calls (LookKick frames) noted kept l known h = quiet kept _ l tt h.0 (legal_look c pair l (caller_known c pair is) (Kick pair) is.known)
+  calls (ClearKick frames) noted kept l known h = quiet kept _ l tt h.0 (legal_swap c pair l (caller_known c pair is) (Kick pair) 0 is.known (inl refl) (omega arith))
+  calls DisarmFill noted kept l known h = flags_fill kept l 0 (omega arith) h.0
+  calls (DisarmTx k) noted kept l known h = flags_tx k kept l 0 known.1 (omega arith) h.0
 
-  entries : AtEntries seat Answers At Asked
-  entries (fill_items packet s items) noted kept l known found h a q =
-      let n = pieces_of seat packet.bytes - length kept.spare in
-      let below = leb-false (pieces_of seat packet.bytes) (length kept.spare) known.1 in
-      let few = few packet s kept.coming known.0 in (
-        subst (λ (fs : List Frame). HasLists c pair (kept.spare ++ fs) kept.groups kept.finished kept.lost (with_told l (Peek (Fill pair) n) (Items items))) (sym (all_whole c.geometry (Fill pair) items q.lawful))
-            (has_fill c pair n kept items l a.0 a.1 q (omega (arith, below, few)) (fill_frames c pair n l items q.lawful)),
-        (q.some, omega (arith, q.few, few), held_told l (Fill pair) n items),
-      )
-  entries (tx_items k items) noted kept l known found h a q =
+  -- frames that come by FILL, and items by the TX ring of a class
+  fill_comes : (n : ℕ) (kept : Kept) (items : List Item) (l : List Told) → n + length kept.spare ≤ 18 → Asked kept (Peek (Fill pair) n) l → Fits c l (Peek (Fill pair) n) (Items items)
+      → Has (supplied seat kept items) (with_told l (Peek (Fill pair) n) (Items items)) × IsDue (release_due (Fill pair) (length items)) (with_told l (Peek (Fill pair) n) (Items items))
+  fill_comes n kept items l few a q = (
+    subst (λ (fs : List Frame). HasLists c pair (kept.spare ++ fs) kept.groups kept.finished kept.lost (with_told l (Peek (Fill pair) n) (Items items))) (sym (all_whole c.geometry (Fill pair) items q.lawful))
+        (has_fill c pair n kept items l a.0 a.1 q few (fill_frames c pair n l items q.lawful)),
+    (q.some, omega (arith, q.few, few), held_told l (Fill pair) n items),
+  )
+
+  tx_comes : (k : ℕ) (kept : Kept) (items : List Item) (l : List Told) → k < classes_of c → Asked kept (Peek (Tx (socket_at_class c pair k)) seat.batch) l
+      → Fits c l (Peek (Tx (socket_at_class c pair k)) seat.batch) (Items items) → Has (gathered seat k kept items) (with_told l (Peek (Tx (socket_at_class c pair k)) seat.batch) (Items items))
+      × IsDue (release_due (Tx (socket_at_class c pair k)) (length items)) (with_told l (Peek (Tx (socket_at_class c pair k)) seat.batch) (Items items))
+  tx_comes k kept items l within a q =
       let call = Peek (Tx (socket_at_class c pair k)) seat.batch in
       let got = gathered seat k kept items in
       let lost = kept.lost ++ frames_in (bad_ones (packets_from c.geometry c.sg (group_at kept k) items)) in
-      let has = has_tx wire c pair k seat.batch kept items l is known.0 a.0 a.1 q in
+      let has = has_tx wire c pair k seat.batch kept items l is within a.0 a.1 q in
       let few = lost_few c pair kept.spare got.groups got.finished lost (with_told l call (Items items)) has (λ n. omega (arith, had_told l call (Items items) n, q.fresh n)) in (
         subst (λ (fs : List Frame). HasLists c pair kept.spare got.groups got.finished fs (with_told l call (Items items))) (sym (take_all c.geometry.frames lost few)) has,
         (q.some, omega (arith, q.few, batch_few c), held_told l (Tx (socket_at_class c pair k)) seat.batch items),
       )
+
+  entries : AtEntries seat Answers At Asked
+  entries (fill_items packet s items) noted kept l known found h a q =
+      let below = leb-false (pieces_of seat packet.bytes) (length kept.spare) known.1 in
+      let few = few packet s kept.coming known.0 in
+      fill_comes (pieces_of seat packet.bytes - length kept.spare) kept items l (omega (arith, below, few)) a q
+  entries (tx_items k items) noted kept l known found h a q = tx_comes k kept items l known.0 a q
+  entries (looked_fill_items n items) noted kept l known found h a q = fill_comes n kept items l (lacking_few n kept known.0).1 a q
+  entries (looked_tx_items k items) noted kept l known found h a q = tx_comes k kept items l known a q
   entries (rx_granted packet s) noted kept l known found h a q = (told kept _ Granted l refl a q, room_told l (Rx s) (pieces_of seat packet.bytes))
   entries (comp_granted k packet later) noted kept l known found h a q = (told kept _ Granted l refl a q, room_told l (Comp pair) (length packet))
   entries (comp_full k packet later free) noted kept l known found h a q = (told kept _ (Full free) l refl a q, λ f. absurd (cc))
@@ -156,6 +204,11 @@ module _ (wire : Wire) (c : Config) (pair : ℕ) (is : IsSeat c pair) where
   passes : AtPasses seat Answers At
   passes visited noted kept l = λ h none. (h.0, λ f. none)
   passes idles noted kept l = λ h e. (h.0, tt)
+  passes arms noted kept l = λ h e. (h.0, tt)
+  passes looks noted kept l = λ h e. (h.0, tt)
+  passes finds noted kept l = λ h e. (h.0, tt)
+  passes parks noted kept l = λ h e. (h.0, tt)
+  passes disarmed noted kept l = λ h e. (h.0, tt)
   passes p noted kept l = λ h e. h
 
   law : IsLaw seat Answers At Asked Ended

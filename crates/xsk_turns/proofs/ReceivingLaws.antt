@@ -3,13 +3,14 @@ use Rattle.std.proofs.Common.{◌≡◌, ℕ, Bool, true, false, ◌||◌, ◌&&
 use Rattle.std.proofs.lemmas.Bool.{or_from}
 use Rattle.std.proofs.Math.Bool.{or-false, and-false}
 use Rattle.std.proofs.lemmas.List.Sums.{fold_push}
-use Rattle.xsk_turns.proofs.Calls.{Item, Told, with_told, Ring, Comp, Rx, Mark, RxDone, Gone, Call, Submit, Swap, Reply, Submitted, Old}
+use Rattle.xsk_turns.proofs.Calls.{Item, Told, with_told, Ring, Comp, Rx, Mark, NeedFill, NeedTx, Kick, RxDone, Gone, Call, Submit, Swap, Reply, Submitted, Old}
+use Rattle.xsk_model.specs.Marks.{is_mark}
 use Rattle.xsk_turns.proofs.Object.{Config, classes_of, Telling, telling_after, telling_step, telling_of}
-use Rattle.xsk_turns.specs.Turns.{Seat, Judged, Kept, seat_of, start, turn, returned}
+use Rattle.xsk_turns.specs.Turns.{Seat, Judged, Kept, seat_of, start, turn, returned, socket_of}
 use Rattle.xsk_turns.specs.declared.wire.Wire.{Wire}
 use Rattle.xsk_turns.specs.Law.{NothingReceivedLate, TellsRxDone}
 use Rattle.xsk_turns.proofs.Walks.{Anything, meet_anything}
-use Rattle.xsk_turns.proofs.DriverWalk.{Family, Receiving, fresh, TellRxDone, SubmitRx, call_at, told_rx_done, looked_none, looked_long, rx_submitted, comp_submitted, looked_tx_done, point_of, reply_of, untried, drops_full, drops_frameless, Said, AtCalls, AtEntries, AtPasses, IsLaw, at_end, of_run}
+use Rattle.xsk_turns.proofs.DriverWalk.{Family, Begins, TellRxDone, SubmitRx, call_at, told_rx_done, looked_none, looked_long, rx_submitted, comp_submitted, looked_tx_done, armed_fill, armed_tx, found_end, cleared_kick, disarmed_fill, disarmed_tx, point_of, reply_of, untried, drops_full, drops_frameless, Said, AtCalls, AtEntries, AtPasses, IsLaw, at_end, of_run}
 
 pub telling_told : (m : Mark) (r : Ring) (l : List Told) (call : Call) (reply : Reply) → telling_of m r (with_told l call reply) ≡ telling_after m r (telling_of m r l) call
 telling_told m r l call reply = fold_push (telling_step m r) (record { told = false; late = false }) l (record { call = call; reply = reply })
@@ -81,11 +82,12 @@ module _ (d s : ℕ) where
         first = λ f. refl;
       }
 
-  left : (rx_done tx_done : Bool) (coming : List Judged) (l : List Told) (n : ℕ) → IsTold d s rx_done tx_done coming l
-      → IsTold d s rx_done tx_done coming (with_told l (Swap (Gone d) 1) (Old n))
-  left rx_done tx_done coming l n h =
+  -- another mark is swapped
+  swaps : (rx_done tx_done : Bool) (coming : List Judged) (l : List Told) (m : Mark) (value n : ℕ) → is_mark (RxDone d) m ≡ false → IsTold d s rx_done tx_done coming l
+      → IsTold d s rx_done tx_done coming (with_told l (Swap m value) (Old n))
+  swaps rx_done tx_done coming l m value n other h =
       let u = telling_of (RxDone d) (Rx s) l in
-      let same = telling_told (RxDone d) (Rx s) l (Swap (Gone d) 1) (Old n) in
+      let same = telling_told (RxDone d) (Rx s) l (Swap m value) (Old n) ∙ ap (λ b. record u { told = u.told || (b && eqb value 1) }) other in
       record { told = ap (λ u. u.told) same ∙ or-false u.told ∙ h.told; late = ap (λ u. u.late) same ∙ h.late; none = h.none; first = h.first }
 
   abbrev At : Family
@@ -118,6 +120,13 @@ module _ (wire : Wire) (c : Config) (d s : ℕ) where
   entries (comp_submitted k packet later) noted kept l known found h a q = comp d s kept.rx_done kept.tx_done kept.coming l d (map returned packet) h
   entries (looked_tx_done n) noted kept l known found h a q =
       let now = still d s kept.rx_done kept.tx_done kept.coming l _ (Old n) (λ u. refl) h in record { told = now.told; late = now.late; none = now.none; first = λ g. known }
+  entries (found_end n) noted kept l known found h a q =
+      let now = still d s kept.rx_done kept.tx_done kept.coming l _ (Old n) (λ u. refl) h in record { told = now.told; late = now.late; none = now.none; first = λ g. known.1 }
+  entries (armed_fill n) noted kept l known found h a q = swaps d s kept.rx_done kept.tx_done kept.coming l (NeedFill d) 1 n refl h
+  entries (armed_tx k n) noted kept l known found h a q = swaps d s kept.rx_done kept.tx_done kept.coming l (NeedTx (socket_of seat k)) 1 n refl h
+  entries (cleared_kick frames n) noted kept l known found h a q = swaps d s kept.rx_done kept.tx_done kept.coming l (Kick d) 0 n refl h
+  entries (disarmed_fill n) noted kept l known found h a q = swaps d s kept.rx_done kept.tx_done kept.coming l (NeedFill d) 0 n refl h
+  entries (disarmed_tx k n) noted kept l known found h a q = swaps d s kept.rx_done kept.tx_done kept.coming l (NeedTx (socket_of seat k)) 0 n refl h
   entries e noted kept l known found h a q = still d s kept.rx_done kept.tx_done kept.coming l (call_at seat (point_of e) kept) (reply_of e) (λ u. refl) h
 
   passes : AtPasses seat Anything (At d s)
@@ -131,10 +140,10 @@ module _ (wire : Wire) (c : Config) (d s : ℕ) where
     calls = calls;
     entries = entries;
     passes = passes;
-    ends = λ noted kept l n known h a q. let now = left d s kept.rx_done kept.tx_done kept.coming l n h in (now.late, now.told ∙ now.first known.2);
+    ends = λ noted kept l n known h a q. let now = swaps d s kept.rx_done kept.tx_done kept.coming l (Gone d) 1 n refl h in (now.late, now.told ∙ now.first known.2);
   }
 
-  first : (input : List Judged) → At d s Receiving fresh (start (classes_of c) input) []
+  first : (input : List Judged) → Begins (At d s) (start (classes_of c) input) []
   first input = record { told = refl; late = refl; none = λ e. absurd (cc); first = λ e. absurd (cc) }
 
 pub nothing_received_late : NothingReceivedLate

@@ -117,3 +117,8 @@ KeepsFramesAtEnd = (wire : Wire) (c : Config) (pair : ℕ) (input : List Judged)
 abbrev pub LeavesRoom : Type 0
 LeavesRoom = (c : Config) (pair : ℕ) (l : List Told) (kept : Kept) (call : Call) (reply : Reply) → IsSeat c pair → Owned c pair kept call l → IsLegal c l pair call → Fits c l call reply
     → HasRoom c kept reply
+
+-- and it has no more finished packets than 128, four Peeks of 32 items each
+abbrev pub FinishedFew : Type 0
+FinishedFew = (wire : Wire) (c : Config) (pair : ℕ) (input : List Judged) (l : List Told) (kept : Kept) (call : Call) (rest : Reply → Script Kept) → IsSeat c pair → AllFit c [] l
+    → Asks (turn (seat_of wire c pair)) (start (classes_of c) input) l kept call rest → length kept.finished ≤ 128

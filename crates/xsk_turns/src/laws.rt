@@ -7,8 +7,9 @@ ghost use Rattle.xsk_turns.specs.AppOwned.{AppKeepsFrames, AppCallsLegal, AppKee
 ghost use Rattle.xsk_turns.specs.Counted.{KeepsCounters, KeepsCountersAtEnd};
 ghost use Rattle.xsk_turns.specs.Disposes.{KeepsDisposals, DisposesAll};
 ghost use Rattle.xsk_turns.specs.Law.{EachDisposedOnce, DisposedAsSaid, DeliversInOrder, DeliversSized, DeliversAsSaid, NothingReceivedLate, TellsRxDone, DrainsTx, CompletesAll};
-ghost use Rattle.xsk_turns.specs.Owned.{KeepsFrames, KeepsFramesAtEnd, LeavesRoom};
+ghost use Rattle.xsk_turns.specs.Owned.{KeepsFrames, KeepsFramesAtEnd, LeavesRoom, FinishedFew};
 ghost use Rattle.xsk_turns.specs.Verdicts.{OneVerdicts};
+ghost use Rattle.xsk_turns.specs.Watching.{ParkedWatches, ParkedLooks};
 ghost use Rattle.xsk_turns.specs.Workers.{OwnSetting, OneSetting};
 
 /// At each call that a driver makes, its frames are those that it peeked and didn't submit, and the call is legal.
@@ -26,6 +27,12 @@ pub fn keeps_frames_at_end()
 /// There is room for each reply that fits.
 pub fn leaves_room()
     ensures { LeavesRoom }
+{}
+
+/// No more than 128 packets are ever finished and not completed.
+#[tactic(auto, using(crate::proofs::Finishing::finished_few))]
+pub fn finished_few()
+    ensures { FinishedFew }
 {}
 
 /// At each call each counter is a count over the driver's own calls and replies, and the disposals of its packets.
@@ -101,6 +108,17 @@ pub fn drains_tx()
 /// In a whole run all packets that were peeked on a TX ring whole are completed.
 pub fn completes_all()
     ensures { CompletesAll }
+{}
+
+/// A driver that is parked watches each ring whose need-wakeup flag it has set, and its end.
+pub fn parked_watches()
+    ensures { ParkedWatches }
+{}
+
+/// It keeps that it is parked exactly where it looks at its kick.
+#[tactic(auto, using(crate::proofs::Parking::parked_looks))]
+pub fn parked_looks()
+    ensures { ParkedLooks }
 {}
 
 /// A rule with one verdict for each packet leaves one list of verdicts.

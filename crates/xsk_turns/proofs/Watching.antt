@@ -1,0 +1,281 @@
+-- A driver that is parked watches each ring whose flag it has set, and its end; and it keeps that it is parked exactly where it
+-- looks at its kick.
+use Rattle.std.proofs.Common.{◌≡◌, ℕ, ◌<◌, Bool, true, false, cond, not, eqb, ◌&&◌, List, [], ◌∷◌, refl, sym, ap, ◌∙◌, subst, eq-eqb, arith}
+use Rattle.std.proofs.lemmas.Bool.{and_from}
+use Rattle.std.proofs.lemmas.List.Sums.{fold_push}
+use Rattle.xsk_turns.proofs.Calls.{Told, with_told, Ring, Fill, Tx, Mark, NeedFill, NeedTx, Kick, RxDone, TxDone, Call, Reserve, Submit, Peek, Release, Swap, Look, Reply, Items, Empty, Released, Old}
+use Rattle.xsk_model.specs.Config.{Config, classes_of}
+use Rattle.xsk_model.specs.Marks.{is_mark}
+use Rattle.xsk_turns.specs.Script.{Leaves}
+use Rattle.xsk_turns.specs.Turns.{Seat, Judged, Kept, awaits, seat_of, start, turn, socket_of, application_of, IsDriverRun}
+use Rattle.xsk_turns.specs.Watching.{Watching, peeked, watching_after, watching_step, watching_of, ending_after, ending_step, ending_of, IsWatched, ParkedWatches}
+use Rattle.xsk_turns.specs.declared.wire.Wire.{Wire}
+use Rattle.xsk_turns.proofs.ScriptLemmas.{leaves_front, asked_last}
+use Rattle.xsk_turns.proofs.Walks.{Anything, meet_anything}
+use Rattle.xsk_turns.proofs.DriverWalk.{Family, Begins, Arming, Looking, Parked, Disarming, LookKick, told_rx_done, armed_fill, armed_tx, looked_fill_empty, looked_fill_items, looked_fill_released, looked_tx_empty, looked_tx_items, looked_tx_released, found_end, found_none, kicked, not_kicked, cleared_kick, disarmed_fill, disarmed_tx, arms, looks, finds, parks, disarmed, call_at, point_of, reply_of, Said, AtCalls, AtEntries, AtPasses, IsLaw, at_call}
+
+-- ---- the folds
+
+watching_told : (flag : Mark) (r : Ring) (kick : Mark) (l : List Told) (call : Call) (reply : Reply)
+    → watching_of flag r kick (with_told l call reply) ≡ watching_after flag r kick (watching_of flag r kick l) call reply
+watching_told flag r kick l call reply = fold_push (watching_step flag r kick) (record { set = false; watched = false }) l (record { call = call; reply = reply })
+
+ending_told : (told done kick : Mark) (l : List Told) (call : Call) (reply : Reply)
+    → ending_of told done kick (with_told l call reply) ≡ ending_after told done kick (ending_of told done kick l) call reply
+ending_told told done kick l call reply = fold_push (ending_step told done kick) (record { set = false; watched = false }) l (record { call = call; reply = reply })
+
+-- whether a call swaps a flag: no other sets it or clears it
+abbrev swaps : Mark → Call → Bool
+swaps flag (Reserve q n) = false
+swaps flag (Submit q items) = false
+swaps flag (Peek q n) = false
+swaps flag (Release q n) = false
+swaps flag (Swap m value) = is_mark flag m
+swaps flag (Look m) = false
+
+same_set : (b w : Bool) (s : Watching) → (cond b (record s { watched = w }) s).set ≡ s.set
+same_set true w s = refl
+same_set false w s = refl
+
+other_swap : (flag same : Bool) (s t : Watching) → flag ≡ false → (cond flag t (cond same (record s { watched = false }) s)).set ≡ s.set
+other_swap true same s t e = absurd (cc)
+other_swap false same s t e = same_set same false s
+
+peek_set : (b : Bool) (r : Ring) (s : Watching) (q : Ring) (reply : Reply) → (peeked r s q reply).set ≡ s.set
+peek_set b r s q (Items items) = same_set _ false s
+peek_set b r s q Empty = same_set _ s.set s
+peek_set b r s q reply = refl
+
+set_stays : (flag : Mark) (r : Ring) (kick : Mark) (s : Watching) (call : Call) (reply : Reply) → swaps flag call ≡ false → (watching_after flag r kick s call reply).set ≡ s.set
+set_stays flag r kick s (Peek q n) reply e = peek_set true r s q reply
+set_stays flag r kick s (Swap m value) reply e = other_swap (is_mark flag m) (is_mark kick m) s _ e
+set_stays flag r kick s call reply e = refl
+
+look_set : (done : Mark) (s : Watching) (m : Mark) (reply : Reply) → (ending_after done done done s (Look m) reply).set ≡ s.set
+look_set done s m (Old number) = same_set (is_mark done m) (s.set && not (eqb number 1)) s
+look_set done s m reply = refl
+
+end_stays : (told done kick : Mark) (s : Watching) (call : Call) (reply : Reply) → swaps told call ≡ false → (ending_after told done kick s call reply).set ≡ s.set
+end_stays told done kick s (Swap m value) reply e = other_swap (is_mark told m) (is_mark kick m) s _ e
+end_stays told done kick s (Look m) reply e = look_set done s m reply
+end_stays told done kick s call reply e = refl
+
+-- a swap of the flag
+set_now : (b : Bool) (s t : Watching) → b ≡ true → (cond b s t).set ≡ s.set
+set_now true s t e = refl
+set_now false s t e = absurd (cc)
+
+-- a ring that is found empty is watched
+found_empty : (b : Bool) (s : Watching) → (b ≡ false → IsWatched s) → IsWatched (cond b (record s { watched = s.set }) s)
+found_empty true s h = λ e. e
+found_empty false s h = h refl
+
+is_true : (b : Bool) → b ≡ true → b ≡ false → ⊥
+is_true true e f = absurd (cc)
+is_true false e f = absurd (cc)
+
+found_other : (b : Bool) (s : Watching) (n : ℕ) → b ≡ true → eqb n 1 ≡ false → IsWatched (cond b (record s { watched = s.set && not (eqb n 1) }) s)
+found_other true s n e f = λ g. and_from s.set (not (eqb n 1)) g (ap not f)
+found_other false s n e f = absurd (cc)
+
+-- what holds of a call that is the look at a kick
+abbrev AtKick : Type 0 → Call → Type 0
+AtKick P (Look (Kick d)) = P
+AtKick P call = Unit {0}
+
+abbrev Nothing : Kept → List Told → Type 0
+Nothing kept l = Unit {0}
+
+-- ---- FILL
+
+module _ (seat : Seat) where
+  abbrev fill : List Told → Watching
+  fill l = watching_of (NeedFill seat.pair) (Fill seat.pair) (Kick seat.pair) l
+
+  abbrev IsClear : List Told → Type 0
+  IsClear l = (fill l).set ≡ false
+
+  abbrev FillAt : Family
+  FillAt Arming noted kept l = awaits noted ≡ false → IsClear l
+  FillAt (Looking k due) noted kept l = (awaits noted ≡ false → IsClear l) × (noted.progress ≡ false → IsWatched (fill l))
+  FillAt (Parked frames) noted kept l = (frames ≡ false → IsClear l) × IsWatched (fill l)
+  FillAt (Disarming frames) noted kept l = frames ≡ false → IsClear l
+  FillAt place noted kept l = IsClear l
+
+  abbrev FillAsked : Said
+  FillAsked kept call l = AtKick (IsWatched (fill l)) call
+
+  still_clear : (l : List Told) (call : Call) (reply : Reply) → swaps (NeedFill seat.pair) call ≡ false → IsClear l → IsClear (with_told l call reply)
+  still_clear l call reply e h =
+      ap (λ (s : Watching). s.set) (watching_told (NeedFill seat.pair) (Fill seat.pair) (Kick seat.pair) l call reply)
+      ∙ set_stays (NeedFill seat.pair) (Fill seat.pair) (Kick seat.pair) (fill l) call reply e ∙ h
+
+  -- a call that the watch isn't about
+  still_fill : (l : List Told) (call : Call) (reply : Reply) → watching_after (NeedFill seat.pair) (Fill seat.pair) (Kick seat.pair) (fill l) call reply ≡ fill l
+      → IsWatched (fill l) → IsWatched (fill (with_told l call reply))
+  still_fill l call reply e h = subst IsWatched (sym (watching_told (NeedFill seat.pair) (Fill seat.pair) (Kick seat.pair) l call reply ∙ e)) h
+
+  fill_empty_now : (l : List Told) (n : ℕ) → IsWatched (fill (with_told l (Peek (Fill seat.pair) n) Empty))
+  fill_empty_now l n =
+      subst IsWatched (sym (watching_told (NeedFill seat.pair) (Fill seat.pair) (Kick seat.pair) l (Peek (Fill seat.pair) n) Empty))
+      (found_empty (eqb seat.pair seat.pair) (fill l) (λ e. absurd (is_true (eqb seat.pair seat.pair) (eq-eqb seat.pair seat.pair refl) e)))
+
+  fill_calls : AtCalls seat Anything FillAt FillAsked
+  fill_calls (LookKick frames) noted kept l known h = h.1
+  fill_calls p noted kept l known h = tt
+
+  fill_entries : AtEntries seat Anything FillAt FillAsked
+  fill_entries (armed_fill n) noted kept l known found h a q = λ e. absurd (is_true (awaits noted) known.1 e)
+  fill_entries (armed_tx k n) noted kept l known found h a q = λ e. still_clear l _ (Old n) refl (h e)
+  fill_entries (looked_fill_empty n) noted kept l known found h a q = ((λ e. absurd (is_true (awaits noted) known.1 e)), λ p. fill_empty_now l n)
+  fill_entries (looked_fill_items n items) noted kept l known found h a q = ((λ e. absurd (is_true (awaits noted) known.1 e)), λ p. absurd (cc))
+  fill_entries (looked_fill_released n) noted kept l known found h a q = ((λ e. still_clear l _ Released refl (h.0 e)), λ p. still_fill l _ Released refl (h.1 p))
+  fill_entries (looked_tx_empty k) noted kept l known found h a q = ((λ e. still_clear l _ Empty refl (h.0 e)), λ p. still_fill l _ Empty refl (h.1 p))
+  fill_entries (looked_tx_items k items) noted kept l known found h a q = ((λ e. still_clear l _ (Items items) refl (h.0 e)), λ p. absurd (cc))
+  fill_entries (looked_tx_released k n) noted kept l known found h a q = ((λ e. still_clear l _ Released refl (h.0 e)), λ p. still_fill l _ Released refl (h.1 p))
+  fill_entries (found_end n) noted kept l known found h a q = λ e. still_clear l _ (Old n) refl (h.0 e)
+  fill_entries (found_none n) noted kept l known found h a q = ((λ e. still_clear l _ (Old n) refl (h.0 e)), still_fill l _ (Old n) refl (h.1 known.0))
+  fill_entries (kicked frames n) noted kept l known found h a q = λ e. still_clear l _ (Old n) refl (h.0 e)
+  fill_entries (not_kicked frames n) noted kept l known found h a q = ((λ e. still_clear l _ (Old n) refl (h.0 e)), still_fill l _ (Old n) refl h.1)
+  fill_entries (cleared_kick frames n) noted kept l known found h a q = λ e. still_clear l _ (Old n) refl (h e)
+  fill_entries (disarmed_fill n) noted kept l known found h a q = λ e.
+      ap (λ (s : Watching). s.set) (watching_told (NeedFill seat.pair) (Fill seat.pair) (Kick seat.pair) l (Swap (NeedFill seat.pair) 0) (Old n))
+      ∙ set_now (eqb seat.pair seat.pair) (record { set = false; watched = false }) _ (eq-eqb seat.pair seat.pair refl)
+  fill_entries (disarmed_tx k n) noted kept l known found h a q = λ e. still_clear l _ (Old n) refl (h e)
+  fill_entries e noted kept l known found h a q = still_clear l (call_at seat (point_of e) kept) (reply_of e) refl h
+
+  fill_passes : AtPasses seat Anything FillAt
+  fill_passes arms noted kept l = λ h e f. h
+  fill_passes looks noted kept l = λ h e. (h, λ p f. absurd (is_true (fill l).set f (h e)))
+  fill_passes finds noted kept l = λ h e. h.0
+  fill_passes parks noted kept l = λ h e. (h.0, h.1 e.0)
+  fill_passes disarmed noted kept l = λ h e. h refl
+  fill_passes p noted kept l = λ h e. h
+
+  fill_law : IsLaw seat Anything FillAt FillAsked Nothing
+  fill_law = record { calls = fill_calls; entries = fill_entries; passes = fill_passes; ends = λ noted kept l n known h a q. tt }
+
+-- ---- the TX ring of a class
+
+module _ (seat : Seat) (class : ℕ) (below : class < seat.classes) where
+  abbrev socket : ℕ
+  socket = socket_of seat class
+
+  abbrev tx : List Told → Watching
+  tx l = watching_of (NeedTx socket) (Tx socket) (Kick seat.pair) l
+
+  abbrev TxAt : Family
+  TxAt (Looking k due) noted kept l = class < k → noted.progress ≡ false → IsWatched (tx l)
+  TxAt (Parked frames) noted kept l = IsWatched (tx l)
+  TxAt place noted kept l = Unit {0}
+
+  abbrev TxAsked : Said
+  TxAsked kept call l = AtKick (IsWatched (tx l)) call
+
+  still_tx : (l : List Told) (call : Call) (reply : Reply) → watching_after (NeedTx socket) (Tx socket) (Kick seat.pair) (tx l) call reply ≡ tx l
+      → IsWatched (tx l) → IsWatched (tx (with_told l call reply))
+  still_tx l call reply e h = subst IsWatched (sym (watching_told (NeedTx socket) (Tx socket) (Kick seat.pair) l call reply ∙ e)) h
+
+  tx_empty_now : (l : List Told) (k n : ℕ) → ((class ≡ k → ⊥) → IsWatched (tx l)) → IsWatched (tx (with_told l (Peek (Tx (socket_of seat k)) n) Empty))
+  tx_empty_now l k n h =
+      let same : class ≡ k → eqb socket (socket_of seat k) ≡ true = λ e. eq-eqb socket (socket_of seat k) (ap (socket_of seat) e) in
+      subst IsWatched (sym (watching_told (NeedTx socket) (Tx socket) (Kick seat.pair) l (Peek (Tx (socket_of seat k)) n) Empty))
+      (found_empty (eqb socket (socket_of seat k)) (tx l) (λ off. h (λ e. is_true _ (same e) off)))
+
+  tx_calls : AtCalls seat Anything TxAt TxAsked
+  tx_calls (LookKick frames) noted kept l known h = h
+  tx_calls p noted kept l known h = tt
+
+  tx_entries : AtEntries seat Anything TxAt TxAsked
+  tx_entries (looked_fill_empty n) noted kept l known found h a q = λ none p. absurd (omega (arith, none))
+  tx_entries (looked_fill_items n items) noted kept l known found h a q = λ none p. absurd (omega (arith, none))
+  tx_entries (looked_fill_released n) noted kept l known found h a q = λ none p. absurd (omega (arith, none))
+  tx_entries (looked_tx_empty k) noted kept l known found h a q = λ past p. tx_empty_now l k seat.batch (λ apart. h (omega (arith, past, apart)) p)
+  tx_entries (looked_tx_items k items) noted kept l known found h a q = λ past p. absurd (cc)
+  tx_entries (looked_tx_released k n) noted kept l known found h a q = λ past p. still_tx l _ Released refl (h past p)
+  tx_entries (found_none n) noted kept l known found h a q = still_tx l _ (Old n) refl (h below known.0)
+  tx_entries (not_kicked frames n) noted kept l known found h a q = still_tx l _ (Old n) refl h
+  tx_entries e noted kept l known found h a q = tt
+
+  tx_passes : AtPasses seat Anything TxAt
+  tx_passes looks noted kept l = λ h e none p. absurd (omega (arith, none))
+  tx_passes finds noted kept l = λ h e. tt
+  tx_passes parks noted kept l = λ h e. h below e.0
+  tx_passes p noted kept l = λ h e. h
+
+  tx_law : IsLaw seat Anything TxAt TxAsked Nothing
+  tx_law = record { calls = tx_calls; entries = tx_entries; passes = tx_passes; ends = λ noted kept l n known h a q. tt }
+
+-- ---- the end
+
+module _ (seat : Seat) where
+  abbrev done : ℕ
+  done = application_of seat
+
+  abbrev end : List Told → Watching
+  end l = ending_of (RxDone seat.pair) (TxDone done) (Kick seat.pair) l
+
+  abbrev EndAt : Family
+  EndAt (Parked frames) noted kept l = ((end l).set ≡ kept.rx_done) × IsWatched (end l)
+  EndAt place noted kept l = (end l).set ≡ kept.rx_done
+
+  abbrev EndAsked : Said
+  EndAsked kept call l = AtKick (IsWatched (end l)) call
+
+  still_told : (told : Bool) (l : List Told) (call : Call) (reply : Reply) → swaps (RxDone seat.pair) call ≡ false → (end l).set ≡ told → (end (with_told l call reply)).set ≡ told
+  still_told told l call reply e h =
+      ap (λ (s : Watching). s.set) (ending_told (RxDone seat.pair) (TxDone done) (Kick seat.pair) l call reply)
+      ∙ end_stays (RxDone seat.pair) (TxDone done) (Kick seat.pair) (end l) call reply e ∙ h
+
+  end_calls : AtCalls seat Anything EndAt EndAsked
+  end_calls (LookKick frames) noted kept l known h = h.1
+  end_calls p noted kept l known h = tt
+
+  end_entries : AtEntries seat Anything EndAt EndAsked
+  end_entries (told_rx_done n) noted kept l known found h a q =
+      ap (λ (s : Watching). s.set) (ending_told (RxDone seat.pair) (TxDone done) (Kick seat.pair) l (Swap (RxDone seat.pair) 1) (Old n))
+      ∙ set_now (eqb seat.pair seat.pair) (record { set = true; watched = false }) _ (eq-eqb seat.pair seat.pair refl)
+  end_entries (found_none n) noted kept l known found h a q = (
+    still_told kept.rx_done l _ (Old n) refl h,
+    subst IsWatched (sym (ending_told (RxDone seat.pair) (TxDone done) (Kick seat.pair) l (Look (TxDone done)) (Old n))) (found_other (eqb done done) (end l) n (eq-eqb done done refl) found),
+  )
+  end_entries (kicked frames n) noted kept l known found h a q = still_told kept.rx_done l _ (Old n) refl h.0
+  end_entries (not_kicked frames n) noted kept l known found h a q = (
+    still_told kept.rx_done l _ (Old n) refl h.0,
+    subst IsWatched (sym (ending_told (RxDone seat.pair) (TxDone done) (Kick seat.pair) l (Look (Kick seat.pair)) (Old n))) h.1,
+  )
+  end_entries e noted kept l known found h a q = still_told kept.rx_done l (call_at seat (point_of e) kept) (reply_of e) refl h
+
+  end_passes : AtPasses seat Anything EndAt
+  end_passes parks noted kept l = λ h e. (h, λ f. absurd (is_true (end l).set f (h ∙ e.1)))
+  end_passes p noted kept l = λ h e. h
+
+  end_law : IsLaw seat Anything EndAt EndAsked Nothing
+  end_law = record { calls = end_calls; entries = end_entries; passes = end_passes; ends = λ noted kept l n known h a q. tt }
+
+-- ---- the laws
+
+module _ (wire : Wire) (c : Config) (d : ℕ) (input : List Judged) (l : List Told) (run : IsDriverRun wire c d input (with_told l (Look (Kick d)) (Old 0))) where
+  abbrev seat : Seat
+  seat = seat_of wire c d
+
+  abbrev begins : Kept
+  begins = start (classes_of c) input
+
+  -- at the look at its kick
+  at_kick : (At : Family) (P : List Told → Type 0) → IsLaw seat Anything At (λ kept call m. AtKick (P m) call) Nothing → Begins At begins [] → P l
+  at_kick At P law first =
+      let t : Told = record { call = Look (Kick d); reply = Old 0 } in
+      let on = leaves_front (turn seat) (turn seat begins) l (t ∷ []) run.0 run.1 in
+      let last = asked_last (turn seat) on.0 t run.0 on.2 in
+      at_call seat Anything At (λ kept call m. AtKick (P m) call) Nothing law begins first l (meet_anything (turn seat) (turn seat begins) [] l) last.0 (Look (Kick d)) last.1
+      (subst (Leaves (turn seat) (turn seat begins) l) last.2 on.1)
+
+pub parked_watches : ParkedWatches
+parked_watches wire c d input l run =
+    let s = seat_of wire c d in
+    record {
+      fill = still_fill s l (Look (Kick d)) (Old 0) refl (at_kick wire c d input l run (FillAt s) (λ m. IsWatched (fill s m)) (fill_law s) refl);
+      tx = λ class below. still_tx s class below l (Look (Kick d)) (Old 0) refl (at_kick wire c d input l run (TxAt s class below) (λ m. IsWatched (tx s class below m)) (tx_law s class below) tt);
+      ends = subst IsWatched (sym (ending_told (RxDone d) (TxDone (done s)) (Kick d) l (Look (Kick d)) (Old 0))) (at_kick wire c d input l run (EndAt s) (λ m. IsWatched (end s m)) (end_law s) refl);
+    }
