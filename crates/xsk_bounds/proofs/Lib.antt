@@ -4,3 +4,4 @@ pub mod Changing
 pub mod Opened
 pub mod Kicks
 pub mod Sums
+pub mod AppSpending
