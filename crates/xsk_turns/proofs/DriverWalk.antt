@@ -56,18 +56,19 @@ module _ (P : Disposal → Type 0) (runt : P Runt) (missed : P Missed) (passed :
 -- ---- the places of a turn, and its calls
 
 -- a driver receives, tries a packet that goes to a socket, has too few frames for it or no room on RX, sends once so many
--- classes are visited, or is idle; it sets its flags, looks again once so many classes are looked at, is parked, or clears its
--- flags, each with FILL's or without
+-- classes are visited, or is idle; it sets its flags, looks again once so many classes are looked at, is parked, or has seen its kick,
+-- each with FILL's flag or without; or it clears its flags, FILL's first, or once those of so many classes are cleared
 pub data Place : Type 0 where
   Receiving : Place
   Trying : Judged → ℕ → Due → Place
   Lacking : Judged → ℕ → Bool → Place
   Sending : ℕ → Due → Place
   Idling : Place
-  Arming : Place
+  Arming : ℕ → Place
   Looking : ℕ → Due → Place
   Parked : Bool → Place
-  Disarming : Bool → Place
+  Woken : Bool → Place
+  Disarming : Bool → ℕ → Place
 
 -- what holds at a place
 abbrev pub Family : Type 1
@@ -122,16 +123,16 @@ asked seat (ReleaseTx k n) kept = (Sending (k + 1) (release_due (Tx (socket_of s
 asked seat LookTxDone kept = (Idling, Look (TxDone (application_of seat)), kept)
 asked seat TellGone kept = (Idling, Swap (Gone seat.pair) 1, kept)
 asked seat ArmFill kept = (Idling, Swap (NeedFill seat.pair) 1, kept)
-asked seat (ArmTx k) kept = (Arming, Swap (NeedTx (socket_of seat k)) 1, kept)
-asked seat (LookFill n) kept = (Arming, Peek (Fill seat.pair) n, kept)
+asked seat (ArmTx k) kept = (Arming k, Swap (NeedTx (socket_of seat k)) 1, kept)
+asked seat (LookFill n) kept = (Arming seat.classes, Peek (Fill seat.pair) n, kept)
 asked seat (ReleaseLooked n) kept = (Looking 0 (release_due (Fill seat.pair) n), Release (Fill seat.pair) n, kept)
 asked seat (LookTx k) kept = (Looking k nothing_due, Peek (Tx (socket_of seat k)) seat.batch, kept)
 asked seat (ReleaseLookedTx k n) kept = (Looking (k + 1) (release_due (Tx (socket_of seat k)) n), Release (Tx (socket_of seat k)) n, kept)
 asked seat LookEnd kept = (Looking seat.classes nothing_due, Look (TxDone (application_of seat)), kept)
 asked seat (LookKick frames) kept = (Parked frames, Look (Kick seat.pair), kept)
-asked seat (ClearKick frames) kept = (Disarming frames, Swap (Kick seat.pair) 0, kept)
-asked seat DisarmFill kept = (Disarming true, Swap (NeedFill seat.pair) 0, kept)
-asked seat (DisarmTx k) kept = (Disarming false, Swap (NeedTx (socket_of seat k)) 0, kept)
+asked seat (ClearKick frames) kept = (Woken frames, Swap (Kick seat.pair) 0, kept)
+asked seat DisarmFill kept = (Disarming true 0, Swap (NeedFill seat.pair) 0, kept)
+asked seat (DisarmTx k) kept = (Disarming false k, Swap (NeedTx (socket_of seat k)) 0, kept)
 
 abbrev pub call_at : Seat → Point → Kept → Call
 call_at seat p kept = (asked seat p kept).1
@@ -176,7 +177,7 @@ Known seat Q (PeekTx k) noted kept = (k < seat.classes) × (kept.finished ≡ []
 Known seat Q (ReleaseTx k n) noted kept = k < seat.classes
 Known seat Q LookTxDone noted kept = kept.rx_done ≡ true
 Known seat Q TellGone noted kept = (noted.progress ≡ false) × (noted.full ≡ false) × (kept.tx_done ≡ true)
-Known seat Q ArmFill noted kept = (noted.full ≡ false) × (awaits noted ≡ true)
+Known seat Q ArmFill noted kept = (noted.full ≡ false) × (awaits noted ≡ true) × (kept.tx_done ≡ false)
 Known seat Q (ArmTx k) noted kept = k < seat.classes
 Known seat Q (LookFill n) noted kept = IsLacking seat Q n kept.coming kept.spare × (awaits noted ≡ true)
 Known seat Q (ReleaseLooked n) noted kept = awaits noted ≡ true
@@ -284,21 +285,21 @@ leads seat (tx_empty k) noted kept = (Sending (k + 1) nothing_due, noted, with_t
 leads seat (tx_items k items) noted kept = (Sending (k + 1) (release_due (Tx (socket_of seat k)) (length items)), moved noted, gathered seat k kept items)
 leads seat (tx_released k n) noted kept = (Sending (k + 1) nothing_due, noted, kept)
 leads seat (looked_tx_done n) noted kept = (Receiving, fresh, record kept { tx_done = kept.tx_done || eqb n 1 })
-leads seat (armed_fill n) noted kept = (Arming, noted, kept)
-leads seat (armed_tx k n) noted kept = (Arming, noted, kept)
+leads seat (armed_fill n) noted kept = (Arming 0, noted, kept)
+leads seat (armed_tx k n) noted kept = (Arming (k + 1), noted, kept)
 leads seat (looked_fill_empty m) noted kept = (Looking 0 nothing_due, noted, with_fill_empty kept)
 leads seat (looked_fill_items m items) noted kept = (Looking 0 (release_due (Fill seat.pair) (length items)), moved noted, supplied seat kept items)
 leads seat (looked_fill_released n) noted kept = (Looking 0 nothing_due, noted, kept)
 leads seat (looked_tx_empty k) noted kept = (Looking (k + 1) nothing_due, noted, with_tx_empty k kept)
 leads seat (looked_tx_items k items) noted kept = (Looking (k + 1) (release_due (Tx (socket_of seat k)) (length items)), moved noted, gathered seat k kept items)
 leads seat (looked_tx_released k n) noted kept = (Looking (k + 1) nothing_due, noted, kept)
-leads seat (found_end n) noted kept = (Disarming (awaits noted), noted, record kept { tx_done = true })
+leads seat (found_end n) noted kept = (Disarming (awaits noted) 0, noted, record kept { tx_done = true })
 leads seat (found_none n) noted kept = (Parked (awaits noted), fresh, record kept { parked = Some (awaits noted) })
-leads seat (kicked frames n) noted kept = (Disarming frames, noted, woken kept)
+leads seat (kicked frames n) noted kept = (Woken frames, noted, woken kept)
 leads seat (not_kicked frames n) noted kept = (Parked frames, fresh, kept)
-leads seat (cleared_kick frames n) noted kept = (Disarming frames, noted, kept)
-leads seat (disarmed_fill n) noted kept = (Disarming false, noted, kept)
-leads seat (disarmed_tx k n) noted kept = (Disarming false, noted, kept)
+leads seat (cleared_kick frames n) noted kept = (Disarming frames 0, noted, kept)
+leads seat (disarmed_fill n) noted kept = (Disarming false 0, noted, kept)
+leads seat (disarmed_tx k n) noted kept = (Disarming false (k + 1), noted, kept)
 
 -- what it finds of a cell's number, or a mark's
 abbrev pub Finds : Seat → Entry → Type 0
@@ -341,12 +342,12 @@ Passing seat Q At (drops_frameless packet s) noted kept l =
     At (Lacking packet s false) noted kept l → IsTried seat Q kept.coming packet s × (drops seat.wire ≡ true) → At (Sending 0 nothing_due) (moved noted) (dropped kept NoFrames) l
 Passing seat Q At visited noted kept l = At (Sending seat.classes nothing_due) noted kept l → kept.finished ≡ [] → At Idling noted kept l
 Passing seat Q At idles noted kept l = At Idling noted kept l → Unit {0} → At Receiving fresh kept l
-Passing seat Q At arms noted kept l = At Idling noted kept l → (noted.full ≡ false) × (awaits noted ≡ false) → At Arming noted kept l
-Passing seat Q At looks noted kept l = At Arming noted kept l → awaits noted ≡ false → At (Looking 0 nothing_due) noted kept l
-Passing seat Q At finds noted kept l = At (Looking seat.classes nothing_due) noted kept l → noted.progress ≡ true → At (Disarming (awaits noted)) noted kept l
+Passing seat Q At arms noted kept l = At Idling noted kept l → (noted.full ≡ false) × (awaits noted ≡ false) × (kept.tx_done ≡ false) → At (Arming 0) noted kept l
+Passing seat Q At looks noted kept l = At (Arming seat.classes) noted kept l → awaits noted ≡ false → At (Looking 0 nothing_due) noted kept l
+Passing seat Q At finds noted kept l = At (Looking seat.classes nothing_due) noted kept l → noted.progress ≡ true → At (Disarming (awaits noted) 0) noted kept l
 Passing seat Q At parks noted kept l =
     At (Looking seat.classes nothing_due) noted kept l → (noted.progress ≡ false) × (kept.rx_done ≡ false) → At (Parked (awaits noted)) fresh (record kept { parked = Some (awaits noted) }) l
-Passing seat Q At disarmed noted kept l = At (Disarming false) noted kept l → kept.parked ≡ None → At Receiving fresh kept l
+Passing seat Q At disarmed noted kept l = At (Disarming false seat.classes) noted kept l → kept.parked ≡ None → At Receiving fresh kept l
 
 -- ---- a law
 
@@ -402,9 +403,10 @@ module _ (seat : Seat) (Q : Premise Kept) (At : Family) (A : Said) (E : Kept →
 
   -- ---- flags
 
-  go_disarm_tx : (more k : ℕ) (noted : Noted) (kept : Kept) (l : List Told) → k + more ≡ seat.classes → kept.parked ≡ None → At (Disarming false) noted kept l
+  go_disarm_tx : (more k : ℕ) (noted : Noted) (kept : Kept) (l : List Told) → k + more ≡ seat.classes → kept.parked ≡ None → At (Disarming false k) noted kept l
       → Along (flag_tx seat 0 more k kept (again kept)) l
-  go_disarm_tx zero k noted kept l e up h = begins_awake kept l up (is.passes disarmed noted kept l h up)
+  go_disarm_tx zero k noted kept l e up h =
+      let all : k ≡ seat.classes = omega arith in begins_awake kept l up (is.passes disarmed noted kept l (subst (λ j. At (Disarming false j) noted kept l) all h) up)
   go_disarm_tx (suc more) k noted kept l e up h =
       let call = Swap (NeedTx (socket_of seat k)) 0 in
       let below : k < seat.classes = omega arith in
@@ -415,7 +417,7 @@ module _ (seat : Seat) (Q : Premise Kept) (At : Family) (A : Said) (E : Kept →
             (λ n q. go_disarm_tx more (k + 1) noted kept (with_told l call (Old n)) on up (is.entries (disarmed_tx k n) noted kept l (up, below) tt h asked q)),
       )
 
-  go_disarm : (frames : Bool) (noted : Noted) (kept : Kept) (l : List Told) → kept.parked ≡ None → At (Disarming frames) noted kept l → Along (disarm seat frames kept) l
+  go_disarm : (frames : Bool) (noted : Noted) (kept : Kept) (l : List Told) → kept.parked ≡ None → At (Disarming frames 0) noted kept l → Along (disarm seat frames kept) l
   go_disarm false noted kept l up h = go_disarm_tx (seat.classes - 0) 0 noted kept l (omega arith) up h
   go_disarm true noted kept l up h =
       let call = Swap (NeedFill seat.pair) 0 in
@@ -492,7 +494,7 @@ module _ (seat : Seat) (Q : Premise Kept) (At : Family) (A : Said) (E : Kept →
   go_look_from : (noted : Noted) (kept : Kept) (l : List Told) → kept.parked ≡ None → At (Looking 0 nothing_due) noted kept l → Along (look_from seat 0 noted kept) l
   go_look_from noted kept l up h = go_look_tx (seat.classes - 0) 0 noted kept l (omega arith) up h
 
-  go_look_again : (noted : Noted) (kept : Kept) (l : List Told) → Steady noted kept → At Arming noted kept l → Along (look_again seat noted kept) l
+  go_look_again : (noted : Noted) (kept : Kept) (l : List Told) → Steady noted kept → At (Arming seat.classes) noted kept l → Along (look_again seat noted kept) l
   go_look_again noted kept l st h =
       let call = Peek (Fill seat.pair) noted.lacking in
       by_case Q law (awaits noted) _ _ l
@@ -517,9 +519,10 @@ module _ (seat : Seat) (Q : Premise Kept) (At : Family) (A : Said) (E : Kept →
       ))
       (λ e. go_look_from noted kept l st.0 (is.passes looks noted kept l h e))
 
-  go_arm_tx : (more k : ℕ) (noted : Noted) (kept : Kept) (l : List Told) → k + more ≡ seat.classes → Steady noted kept → At Arming noted kept l
+  go_arm_tx : (more k : ℕ) (noted : Noted) (kept : Kept) (l : List Told) → k + more ≡ seat.classes → Steady noted kept → At (Arming k) noted kept l
       → Along (flag_tx seat 1 more k kept (look_again seat noted kept)) l
-  go_arm_tx zero k noted kept l e st h = go_look_again noted kept l st h
+  go_arm_tx zero k noted kept l e st h =
+      let all : k ≡ seat.classes = omega arith in go_look_again noted kept l st (subst (λ j. At (Arming j) noted kept l) all h)
   go_arm_tx (suc more) k noted kept l e st h =
       let call = Swap (NeedTx (socket_of seat k)) 1 in
       let below : k < seat.classes = omega arith in
@@ -530,17 +533,17 @@ module _ (seat : Seat) (Q : Premise Kept) (At : Family) (A : Said) (E : Kept →
             (λ n q. go_arm_tx more (k + 1) noted kept (with_told l call (Old n)) on st (is.entries (armed_tx k n) noted kept l below tt h asked q)),
       )
 
-  go_arm : (noted : Noted) (kept : Kept) (l : List Told) → Steady noted kept → noted.full ≡ false → At Idling noted kept l → Along (flag_all seat (awaits noted) 1 kept (look_again seat noted kept)) l
-  go_arm noted kept l st full h =
+  go_arm : (noted : Noted) (kept : Kept) (l : List Told) → Steady noted kept → noted.full ≡ false → kept.tx_done ≡ false → At Idling noted kept l → Along (flag_all seat (awaits noted) 1 kept (look_again seat noted kept)) l
+  go_arm noted kept l st full sends h =
       let call = Swap (NeedFill seat.pair) 1 in
       let all = λ (m : List Told). go_arm_tx (seat.classes - 0) 0 noted kept m (omega arith) st in
       by_case Q law (awaits noted) _ _ l
       (λ e.
-      let asked = is.calls ArmFill noted kept l (full, e) h in (
+      let asked = is.calls ArmFill noted kept l (full, e, sends) h in (
         asked,
-        at_old Q law kept call l (λ _. flag_from seat 1 0 kept (look_again seat noted kept)) (λ n q. all (with_told l call (Old n)) (is.entries (armed_fill n) noted kept l (full, e) tt h asked q)),
+        at_old Q law kept call l (λ _. flag_from seat 1 0 kept (look_again seat noted kept)) (λ n q. all (with_told l call (Old n)) (is.entries (armed_fill n) noted kept l (full, e, sends) tt h asked q)),
       ))
-      (λ e. all l (is.passes arms noted kept l h (full, e)))
+      (λ e. all l (is.passes arms noted kept l h (full, e, sends)))
 
   go_idle : (noted : Noted) (kept : Kept) (l : List Told) → Steady noted kept → At Idling noted kept l → Along (idle seat noted kept) l
   go_idle noted kept l st h =
@@ -553,7 +556,7 @@ module _ (seat : Seat) (Q : Premise Kept) (At : Family) (A : Said) (E : Kept →
       (λ done.
       let gives = is.calls TellGone noted kept l (off.0, off.1, done) h in
       (gives, at_old Q law kept leave l (λ n. ended kept) (λ n q. is.ends noted kept l n (off.0, off.1, done) h gives q)))
-      (λ f. by_case Q law seat.config.wakeup _ _ l (λ w. go_arm noted kept l st off.1 h)
+      (λ f. by_case Q law seat.config.wakeup _ _ l (λ w. go_arm noted kept l st off.1 f h)
       (λ w. by_case Q law kept.rx_done _ _ l
       (λ done.
       let gives = is.calls LookTxDone noted kept l done h in

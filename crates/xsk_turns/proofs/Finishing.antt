@@ -45,7 +45,7 @@ module _ (wire : Wire) (c : Config) (pair : ℕ) (is : IsSeat c pair) where
 
   abbrev At : Family
   At Idling noted kept l = (noted.full ≡ false → kept.finished ≡ []) × Few kept
-  At Arming noted kept l = kept.finished ≡ []
+  At (Arming k) noted kept l = kept.finished ≡ []
   At (Looking k due) noted kept l = (k ≤ classes_of c) × (length kept.finished ≤ 32 * k)
   At place noted kept l = Few kept
 

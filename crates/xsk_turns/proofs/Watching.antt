@@ -12,7 +12,7 @@ use Rattle.xsk_turns.specs.Watching.{Watching, peeked, watching_after, watching_
 use Rattle.xsk_turns.specs.declared.wire.Wire.{Wire}
 use Rattle.xsk_turns.proofs.ScriptLemmas.{leaves_front, asked_last}
 use Rattle.xsk_turns.proofs.Walks.{Anything, meet_anything}
-use Rattle.xsk_turns.proofs.DriverWalk.{Family, Begins, Arming, Looking, Parked, Disarming, LookKick, told_rx_done, armed_fill, armed_tx, looked_fill_empty, looked_fill_items, looked_fill_released, looked_tx_empty, looked_tx_items, looked_tx_released, found_end, found_none, kicked, not_kicked, cleared_kick, disarmed_fill, disarmed_tx, arms, looks, finds, parks, disarmed, call_at, point_of, reply_of, Said, AtCalls, AtEntries, AtPasses, IsLaw, at_call}
+use Rattle.xsk_turns.proofs.DriverWalk.{Family, Begins, Arming, Looking, Parked, Woken, Disarming, LookKick, told_rx_done, armed_fill, armed_tx, looked_fill_empty, looked_fill_items, looked_fill_released, looked_tx_empty, looked_tx_items, looked_tx_released, found_end, found_none, kicked, not_kicked, cleared_kick, disarmed_fill, disarmed_tx, arms, looks, finds, parks, disarmed, call_at, point_of, reply_of, Said, AtCalls, AtEntries, AtPasses, IsLaw, at_call}
 
 -- ---- the folds
 
@@ -96,10 +96,11 @@ module _ (seat : Seat) where
   IsClear l = (fill l).set ≡ false
 
   abbrev FillAt : Family
-  FillAt Arming noted kept l = awaits noted ≡ false → IsClear l
+  FillAt (Arming k) noted kept l = awaits noted ≡ false → IsClear l
   FillAt (Looking k due) noted kept l = (awaits noted ≡ false → IsClear l) × (noted.progress ≡ false → IsWatched (fill l))
   FillAt (Parked frames) noted kept l = (frames ≡ false → IsClear l) × IsWatched (fill l)
-  FillAt (Disarming frames) noted kept l = frames ≡ false → IsClear l
+  FillAt (Woken frames) noted kept l = frames ≡ false → IsClear l
+  FillAt (Disarming frames k) noted kept l = frames ≡ false → IsClear l
   FillAt place noted kept l = IsClear l
 
   abbrev FillAsked : Said
