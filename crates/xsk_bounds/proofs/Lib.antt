@@ -5,3 +5,4 @@ pub mod Opened
 pub mod Kicks
 pub mod Sums
 pub mod AppSpending
+pub mod DriverSpending

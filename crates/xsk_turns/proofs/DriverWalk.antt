@@ -177,7 +177,7 @@ Known seat Q (PeekTx k) noted kept = (k < seat.classes) × (kept.finished ≡ []
 Known seat Q (ReleaseTx k n) noted kept = k < seat.classes
 Known seat Q LookTxDone noted kept = kept.rx_done ≡ true
 Known seat Q TellGone noted kept = (noted.progress ≡ false) × (noted.full ≡ false) × (kept.tx_done ≡ true)
-Known seat Q ArmFill noted kept = (noted.full ≡ false) × (awaits noted ≡ true) × (kept.tx_done ≡ false)
+Known seat Q ArmFill noted kept = (noted.full ≡ false) × (awaits noted ≡ true) × (kept.tx_done ≡ false) × (noted.progress ≡ false)
 Known seat Q (ArmTx k) noted kept = k < seat.classes
 Known seat Q (LookFill n) noted kept = IsLacking seat Q n kept.coming kept.spare × (awaits noted ≡ true)
 Known seat Q (ReleaseLooked n) noted kept = awaits noted ≡ true
@@ -342,7 +342,7 @@ Passing seat Q At (drops_frameless packet s) noted kept l =
     At (Lacking packet s false) noted kept l → IsTried seat Q kept.coming packet s × (drops seat.wire ≡ true) → At (Sending 0 nothing_due) (moved noted) (dropped kept NoFrames) l
 Passing seat Q At visited noted kept l = At (Sending seat.classes nothing_due) noted kept l → kept.finished ≡ [] → At Idling noted kept l
 Passing seat Q At idles noted kept l = At Idling noted kept l → Unit {0} → At Receiving fresh kept l
-Passing seat Q At arms noted kept l = At Idling noted kept l → (noted.full ≡ false) × (awaits noted ≡ false) × (kept.tx_done ≡ false) → At (Arming 0) noted kept l
+Passing seat Q At arms noted kept l = At Idling noted kept l → (noted.full ≡ false) × (awaits noted ≡ false) × (kept.tx_done ≡ false) × (noted.progress ≡ false) → At (Arming 0) noted kept l
 Passing seat Q At looks noted kept l = At (Arming seat.classes) noted kept l → awaits noted ≡ false → At (Looking 0 nothing_due) noted kept l
 Passing seat Q At finds noted kept l = At (Looking seat.classes nothing_due) noted kept l → noted.progress ≡ true → At (Disarming (awaits noted) 0) noted kept l
 Passing seat Q At parks noted kept l =
@@ -533,17 +533,17 @@ module _ (seat : Seat) (Q : Premise Kept) (At : Family) (A : Said) (E : Kept →
             (λ n q. go_arm_tx more (k + 1) noted kept (with_told l call (Old n)) on st (is.entries (armed_tx k n) noted kept l below tt h asked q)),
       )
 
-  go_arm : (noted : Noted) (kept : Kept) (l : List Told) → Steady noted kept → noted.full ≡ false → kept.tx_done ≡ false → At Idling noted kept l → Along (flag_all seat (awaits noted) 1 kept (look_again seat noted kept)) l
-  go_arm noted kept l st full sends h =
+  go_arm : (noted : Noted) (kept : Kept) (l : List Told) → Steady noted kept → noted.full ≡ false → kept.tx_done ≡ false → noted.progress ≡ false → At Idling noted kept l → Along (flag_all seat (awaits noted) 1 kept (look_again seat noted kept)) l
+  go_arm noted kept l st full sends none h =
       let call = Swap (NeedFill seat.pair) 1 in
       let all = λ (m : List Told). go_arm_tx (seat.classes - 0) 0 noted kept m (omega arith) st in
       by_case Q law (awaits noted) _ _ l
       (λ e.
-      let asked = is.calls ArmFill noted kept l (full, e, sends) h in (
+      let asked = is.calls ArmFill noted kept l (full, e, sends, none) h in (
         asked,
-        at_old Q law kept call l (λ _. flag_from seat 1 0 kept (look_again seat noted kept)) (λ n q. all (with_told l call (Old n)) (is.entries (armed_fill n) noted kept l (full, e, sends) tt h asked q)),
+        at_old Q law kept call l (λ _. flag_from seat 1 0 kept (look_again seat noted kept)) (λ n q. all (with_told l call (Old n)) (is.entries (armed_fill n) noted kept l (full, e, sends, none) tt h asked q)),
       ))
-      (λ e. all l (is.passes arms noted kept l h (full, e, sends)))
+      (λ e. all l (is.passes arms noted kept l h (full, e, sends, none)))
 
   go_idle : (noted : Noted) (kept : Kept) (l : List Told) → Steady noted kept → At Idling noted kept l → Along (idle seat noted kept) l
   go_idle noted kept l st h =
@@ -556,7 +556,7 @@ module _ (seat : Seat) (Q : Premise Kept) (At : Family) (A : Said) (E : Kept →
       (λ done.
       let gives = is.calls TellGone noted kept l (off.0, off.1, done) h in
       (gives, at_old Q law kept leave l (λ n. ended kept) (λ n q. is.ends noted kept l n (off.0, off.1, done) h gives q)))
-      (λ f. by_case Q law seat.config.wakeup _ _ l (λ w. go_arm noted kept l st off.1 f h)
+      (λ f. by_case Q law seat.config.wakeup _ _ l (λ w. go_arm noted kept l st off.1 f off.0 h)
       (λ w. by_case Q law kept.rx_done _ _ l
       (λ done.
       let gives = is.calls LookTxDone noted kept l done h in
