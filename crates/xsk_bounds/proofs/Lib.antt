@@ -6,3 +6,5 @@ pub mod Kicks
 pub mod Sums
 pub mod AppSpending
 pub mod DriverSpending
+pub mod Clearing
+pub mod Bounded

@@ -1,0 +1,37 @@
+-- How often the object changes in a history in which each caller's own calls are a run.
+use Rattle.std.proofs.Common.{◌≡◌, ℕ, ◌+◌, ◌*◌, ◌<◌, ◌≤◌, ◌⊎◌, List, length, refl, sym, subst, ⊎_elim, arith}
+use Rattle.xsk_umem.specs.Frame.{Frame}
+use Rattle.xsk_model.specs.Config.{Config, IsRegular, classes_of, callers_of}
+use Rattle.xsk_model.specs.Marks.{apps_of}
+use Rattle.xsk_model.specs.Rings.{caller_of}
+use Rattle.xsk_model.specs.Entry.{Entry, own, all_told}
+use Rattle.xsk_model.specs.History.{IsHistory}
+use Rattle.xsk_model.proofs.OwnRuns.{history_own}
+use Rattle.xsk_turns.specs.Turns.{IsDriverRun}
+use Rattle.xsk_turns.specs.AppTurns.{IsAppRun}
+use Rattle.xsk_turns.specs.AppOwned.{IsApp}
+use Rattle.xsk_turns.specs.Workers.{Setting, input_of, IsWorkerRun}
+use Rattle.xsk_bounds.specs.Totals.{total, sum_below, changed}
+use Rattle.xsk_bounds.proofs.Sums.{Drives, Applies, most_changes, few_changes}
+use Rattle.xsk_bounds.proofs.AppSpending.{app_applies}
+use Rattle.xsk_bounds.proofs.DriverSpending.{driver_drives}
+use Rattle.xsk_bounds.proofs.Clearing.{keeps_kicks}
+
+few_classes : (c : Config) → IsRegular c → classes_of c ≤ 4
+few_classes c regular = ⊎_elim (λ (e : classes_of c ≡ 1). omega (arith, e)) (λ rest. ⊎_elim (λ (e : classes_of c ≡ 2). omega (arith, e)) (λ (e : classes_of c ≡ 4). omega (arith, e)) rest) regular.classes
+
+pub changes_bounded : (s : Setting) (frames : List Frame) (h : List Entry) → IsRegular s.config → IsHistory s.config frames h
+    → ((who : ℕ) → who < callers_of s.config → IsWorkerRun s who (own who h))
+    → total changed (all_told h) ≤ most_changes s.config (sum_below (length s.config.pairs) (λ d. length (input_of s d)))
+changes_bounded s frames h regular history runs =
+    few_changes s.config frames h (λ d. length (input_of s d)) history
+    (λ d lt. driver_drives s.wire s.config d (input_of s d) (own d h) (few_classes s.config regular) (history_own s.config frames h d history) (drivers d lt))
+    (λ a lt. app_applies s.config a (caller_of s.config a) (own (caller_of s.config a) h) (record { config = history.opened.config; regular = regular; known = lt })
+    (history_own s.config frames h (caller_of s.config a) history) (apps a lt))
+    (keeps_kicks s.wire s.config frames h (input_of s) regular history drivers apps)
+  where
+    drivers : (d : ℕ) → d < length s.config.pairs → IsDriverRun s.wire s.config d (input_of s d) (own d h)
+    drivers d lt = (runs d (omega (arith, lt))).driver lt
+
+    apps : (a : ℕ) → a < apps_of s.config → IsAppRun s.config a (own (caller_of s.config a) h)
+    apps a lt = (runs (caller_of s.config a) (omega (arith, lt))).app a refl
