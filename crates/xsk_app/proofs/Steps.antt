@@ -1,14 +1,18 @@
 -- What each call of an application's machine and its wait come to, in the machine's own terms.
-use Rattle.std.proofs.Common.{◌≡◌, ℕ, zero, ◌++◌, ◌<◌, ◌≤◌, List, [], length, map, take, drop, sym, ap, ◌∙◌, get_or-set_same}
+use Rattle.std.proofs.Common.{◌≡◌, ℕ, zero, ◌++◌, ◌<◌, ◌≤◌, Option, Some, None, List, [], length, map, take, drop, sym, ap, ◌∙◌, get_or-set_same}
 use Rattle.xsk_turns.proofs.Object.{Frame, Config, pool_of, batch_of, home_item}
-use Rattle.xsk_turns.proofs.Calls.{Item, Fill, Comp, Rx, Reserve, Submit, Peek, Release, Granted}
-use Rattle.xsk_turns.specs.Script.{ask, on_submitted}
+use Rattle.xsk_turns.proofs.Calls.{Item, Fill, Comp, Rx, Reserve, Submit, Peek, Release, Reply, Granted, Submitted}
+use Rattle.xsk_model.specs.Expected.{CanCome, submitted}
+use Rattle.xsk_model.specs.declared.ask.Answer.{Answer}
+use Rattle.xsk_model.specs.declared.ask.Answer.TheVariants.{Granted as Allowed, Full as IsFull, Submitted as Taken, Items as HasItems, Empty as IsEmpty, Released as Freed, Old as Was}
+use Rattle.xsk_turns.specs.Stepping.{joined_answer, IsLent}
+use Rattle.xsk_turns.specs.Script.{ask}
 use Rattle.xsk_turns.specs.AppTurns.{AppKept, AppNoted, rx_of, lanes_of, pair_of, pending_at, with_pending, back_at, with_back, receive_lane, give_back}
 use Rattle.xsk_app.specs.Ways.{IsGroup}
 use Rattle.xsk_app.specs.Stands.{from_lane, after_full_lane, from_side, after_full_side, by_reply, left}
 use Rattle.xsk_app.specs.declared.machine.Wait.TheVariants.{PeekRx, ReleaseRx, PeekComp, ReserveFill, SubmitFill}
 use Rattle.xsk_turns.proofs.AppGroups.{with_back-same}
-use Rattle.xsk_app.proofs.TurnLemmas.{lane_empty, side_empty, give_back_some, give_back_granted}
+use Rattle.xsk_app.proofs.TurnLemmas.{submit_home, lane_empty, side_empty, give_back_some, give_back_granted}
 
 pub peek_lane : (c : Config) (app lane : ℕ) (noted : AppNoted) (kept : AppKept) (rx batch : ℕ) → lane < lanes_of c → pending_at kept lane ≡ []
     → rx ≡ rx_of c app lane → batch ≡ batch_of c
@@ -47,13 +51,28 @@ reserve_group c app side noted kept home count group =
 pub submit_group : (c : Config) (app side : ℕ) (noted : AppNoted) (kept : AppKept) (home count : ℕ) (items : List Item) (rest : List Frame)
     → side < length kept.back → IsGroup (pool_of c) (batch_of c) (back_at kept side) home count → 1 ≤ batch_of c
     → items ≡ map (home_item c.geometry) (take count (back_at kept side)) → rest ≡ drop count (back_at kept side)
-    → ask (with_back kept side rest) (Submit (Fill home) items) (left c app (SubmitFill side) noted (with_back kept side rest))
+    → ask (with_back kept side rest) (Submit (Fill home) items) (left c app (SubmitFill side home) noted (with_back kept side rest))
     ≡ by_reply (give_back c side zero (back_at kept side) kept (after_full_side c app side noted)) Granted
 submit_group c app side noted kept home count items rest h group some e f =
     let next = after_full_side c app side noted in
     let back = back_at kept side in
     let here : back_at (with_back kept side rest) side ≡ rest = get_or-set_same kept.back side rest [] h in
-    ap (λ (xs : List Item). ask (with_back kept side rest) (Submit (Fill home) xs) (left c app (SubmitFill side) noted (with_back kept side rest))) e
-    ∙ ap (λ (fs : List Frame). ask (with_back kept side rest) (Submit (Fill home) (map (home_item c.geometry) (take count back))) (on_submitted (give_back c side zero fs (with_back kept side rest) next))) here
-    ∙ ap (λ (fs : List Frame). ask (with_back kept side fs) (Submit (Fill home) (map (home_item c.geometry) (take count back))) (on_submitted (give_back c side zero fs (with_back kept side fs) next))) f
+    ap (λ (xs : List Item). ask (with_back kept side rest) (Submit (Fill home) xs) (left c app (SubmitFill side home) noted (with_back kept side rest))) e
+    ∙ ap (λ (fs : List Frame). submit_home c home (with_back kept side rest) (take count back) (give_back c side zero fs (with_back kept side rest) next)) here
+    ∙ ap (λ (fs : List Frame). submit_home c home (with_back kept side fs) (take count back) (give_back c side zero fs (with_back kept side fs) next)) f
     ∙ sym (give_back_granted c side back kept next home count group some)
+
+-- the reply to a Submit
+pub submitted_came : (reply : Option Reply) → CanCome submitted reply → reply ≡ Some Submitted
+submitted_came None came = absurd came
+submitted_came (Some reply) came = ap Some came
+
+pub lent_none : (answer : Option Answer) (items : List Item) → joined_answer answer items ≡ Some Submitted → IsLent answer items → items ≡ []
+lent_none None items e lent = lent
+lent_none (Some Allowed) items e lent = lent
+lent_none (Some (IsFull free)) items e lent = lent
+lent_none (Some Taken) items e lent = lent
+lent_none (Some HasItems) items e lent = absurd (cc)
+lent_none (Some IsEmpty) items e lent = lent
+lent_none (Some Freed) items e lent = lent
+lent_none (Some (Was number)) items e lent = lent

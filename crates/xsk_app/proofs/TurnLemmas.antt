@@ -3,8 +3,9 @@ use Rattle.std.proofs.Common.{◌≡◌, ◌≢◌, ℕ, zero, suc, ◌+◌, ◌
 use Rattle.std.specs.List.{prefix_len, take_while}
 use Rattle.xsk_turns.proofs.Object.{Frame, Config, pool_of, batch_of, home_item}
 use Rattle.xsk_turns.proofs.Calls.{Item, Fill, Comp, Rx, Mark, Reserve, Submit, Peek, Look, Granted, Full}
+use Rattle.xsk_model.specs.declared.call.Mark.TheVariants.{NeedFill}
 use Rattle.xsk_turns.specs.Script.{Script, ask, again, items_or_empty, on_old, granted_or_full, on_submitted, begun}
-use Rattle.xsk_turns.specs.AppTurns.{AppKept, AppNoted, rx_of, lanes_of, pair_of, pending_at, back_at, with_back, is_set, receive_lane, pass_on, visit_lane, visit_lanes, group_of, home_of, give_back, complete_side, visit_side, visit_sides, look_marks, end_turn, turn_sides, app_turn}
+use Rattle.xsk_turns.specs.AppTurns.{AppKept, AppNoted, rx_of, lanes_of, pair_of, pending_at, back_at, with_back, is_set, wake, receive_lane, pass_on, visit_lane, visit_lanes, group_of, home_of, give_back, complete_side, visit_side, visit_sides, look_marks, end_turn, turn_sides, app_turn}
 use Rattle.xsk_turns.proofs.AppGroups.{with_back-again, with_back-same, group_some, group_front}
 use Rattle.xsk_app.specs.Ways.{IsGroup, first_unset}
 use Rattle.xsk_app.specs.Stands.{from_lane, after_lane, after_full_lane, from_side, after_side, after_full_side, by_reply}
@@ -93,6 +94,10 @@ begun_side c app side noted kept h =
 
 -- ---- frames that go back
 
+-- frames are submitted on FILL, and its driver woken where it needs that
+abbrev pub submit_home : Config → ℕ → AppKept → List Frame → Script AppKept → Script AppKept
+submit_home c home kept frames next = ask kept (Submit (Fill home) (map (home_item c.geometry) frames)) (on_submitted (wake c (NeedFill home) home kept next))
+
 give_back_kept : (c : Config) (side done : ℕ) (frames : List Frame) (kept : AppKept) (xs : List Frame) (next : AppKept → Script AppKept)
     → give_back c side done frames (with_back kept side xs) next ≡ give_back c side done frames kept next
 give_back_kept c side done [] kept xs next = ap next (with_back-again kept side xs [])
@@ -102,12 +107,11 @@ give_back_kept c side zero (frame ∷ frames) kept xs next =
     let n = length group in
     let home = home_of (pool_of c) frame in
     let call = Reserve (Fill home) n in
-    let give = Submit (Fill home) (map (home_item c.geometry) group) in
     let old = with_back kept side xs in
     let same = with_back-again kept side xs in
-    ap (λ (k : AppKept). ask k call (granted_or_full (ask (with_back old side (drop n (frame ∷ frames))) give (on_submitted (give_back c side (n - 1) frames old next))) (next k))) (same (frame ∷ frames))
-    ∙ ap (λ (k : AppKept). ask (with_back kept side (frame ∷ frames)) call (granted_or_full (ask k give (on_submitted (give_back c side (n - 1) frames old next))) (next (with_back kept side (frame ∷ frames))))) (same (drop n (frame ∷ frames)))
-    ∙ ap (λ (s : Script AppKept). ask (with_back kept side (frame ∷ frames)) call (granted_or_full (ask (with_back kept side (drop n (frame ∷ frames))) give (on_submitted s)) (next (with_back kept side (frame ∷ frames)))))
+    ap (λ (k : AppKept). ask k call (granted_or_full (submit_home c home (with_back old side (drop n (frame ∷ frames))) group (give_back c side (n - 1) frames old next)) (next k))) (same (frame ∷ frames))
+    ∙ ap (λ (k : AppKept). ask (with_back kept side (frame ∷ frames)) call (granted_or_full (submit_home c home k group (give_back c side (n - 1) frames old next)) (next (with_back kept side (frame ∷ frames))))) (same (drop n (frame ∷ frames)))
+    ∙ ap (λ (s : Script AppKept). ask (with_back kept side (frame ∷ frames)) call (granted_or_full (submit_home c home (with_back kept side (drop n (frame ∷ frames))) group s) (next (with_back kept side (frame ∷ frames)))))
     (give_back_kept c side (n - 1) frames kept xs next)
 
 give_back_later : (c : Config) (side done : ℕ) (frames : List Frame) (kept : AppKept) (next : AppKept → Script AppKept)
@@ -142,7 +146,7 @@ give_back_some c side (frame ∷ frames) kept next home count h =
 pub give_back_granted : (c : Config) (side : ℕ) (back : List Frame) (kept : AppKept) (next : AppKept → Script AppKept) (home count : ℕ)
     → IsGroup (pool_of c) (batch_of c) back home count → 1 ≤ batch_of c
     → by_reply (give_back c side zero back kept next) Granted
-    ≡ ask (with_back kept side (drop count back)) (Submit (Fill home) (map (home_item c.geometry) (take count back))) (on_submitted (give_back c side zero (drop count back) (with_back kept side (drop count back)) next))
+    ≡ submit_home c home (with_back kept side (drop count back)) (take count back) (give_back c side zero (drop count back) (with_back kept side (drop count back)) next)
 give_back_granted c side [] kept next home count h some = absurd h
 give_back_granted c side (frame ∷ frames) kept next home count h some =
     let group = group_of (pool_of c) (batch_of c) frame frames in
@@ -156,10 +160,10 @@ give_back_granted c side (frame ∷ frames) kept next home count h some =
     give_back_later c side (n - 1) frames kept next
     ∙ ap (λ (fs : List Frame). give_back c side zero fs kept next) rest
     ∙ sym (give_back_kept c side zero (drop count (frame ∷ frames)) kept (drop count (frame ∷ frames)) next) in
-    ap (λ (k : ℕ). ask (with_back kept side (drop k (frame ∷ frames))) (Submit (Fill (home_of (pool_of c) frame)) (map (home_item c.geometry) group)) (on_submitted (give_back c side (n - 1) frames kept next))) (sym h.1)
-    ∙ ap (λ (d : ℕ). ask left (Submit (Fill d) (map (home_item c.geometry) group)) (on_submitted (give_back c side (n - 1) frames kept next))) (sym h.0)
-    ∙ ap (λ (g : List Frame). ask left (Submit (Fill home) (map (home_item c.geometry) g)) (on_submitted (give_back c side (n - 1) frames kept next))) items
-    ∙ ap (λ (s : Script AppKept). ask left (Submit (Fill home) (map (home_item c.geometry) (take count (frame ∷ frames)))) (on_submitted s)) later
+    ap (λ (k : ℕ). submit_home c (home_of (pool_of c) frame) (with_back kept side (drop k (frame ∷ frames))) group (give_back c side (n - 1) frames kept next)) (sym h.1)
+    ∙ ap (λ (d : ℕ). submit_home c d left group (give_back c side (n - 1) frames kept next)) (sym h.0)
+    ∙ ap (λ (g : List Frame). submit_home c home left g (give_back c side (n - 1) frames kept next)) items
+    ∙ ap (λ (s : Script AppKept). submit_home c home left (take count (frame ∷ frames)) s) later
 
 full_back : (c : Config) (side : ℕ) (back : List Frame) (kept : AppKept) (next : AppKept → Script AppKept) (free : ℕ) → back ≢ []
     → by_reply (give_back c side zero back kept next) (Full free) ≡ next (with_back kept side back)

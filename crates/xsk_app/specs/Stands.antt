@@ -1,15 +1,16 @@
 -- Where an application's machine stands in its turns: what it keeps, and what its script goes on with at each waiting point.
-use Rattle.std.specs.Prelude.{◌≡◌, ℕ, zero, ◌+◌, ◌-◌, true, false, Option, Some, None}
+use Rattle.std.specs.Prelude.{◌≡◌, ℕ, zero, ◌+◌, ◌-◌, ◌==◌, if◌then◌else◌, true, false, Option, Some, None}
 use Rattle.xsk_model.specs.Config.{Config}
 use Rattle.xsk_turns.specs.Script.{Script, ask, again, ended, never, on_submitted, items_or_empty, on_released, on_old, begun}
+use Rattle.xsk_model.specs.declared.call.Mark.TheVariants.{NeedFill, NeedTx}
 use Rattle.xsk_model.specs.declared.call.Reply.{Reply}
 use Rattle.xsk_model.specs.declared.call.Act.{Act}
 use Rattle.xsk_model.specs.declared.call.Act.TheVariants.{Call as Calls, Ended as HasEnded}
-use Rattle.xsk_turns.specs.AppTurns.{AppKept, AppNoted, lanes_of, back_at, pass_on, receive_lane, visit_lanes, give_back, complete_side, visit_sides, with_seen, with_gone, look_rx_done, look_gone, end_turn, turn_sides, app_turn}
+use Rattle.xsk_turns.specs.AppTurns.{AppKept, AppNoted, pair_of, tx_of, tx_pair, lanes_of, back_at, kick, wake, wake_both, pass_on, receive_lane, visit_lanes, give_back, complete_side, visit_sides, with_seen, with_gone, look_rx_done, look_gone, end_turn, turn_sides, app_turn}
 use Rattle.xsk_app.specs.declared.machine.Machine.{Machine}
 use Rattle.xsk_app.specs.declared.machine.Turn.{Turn}
 use Rattle.xsk_app.specs.declared.machine.Wait.{Wait}
-use Rattle.xsk_app.specs.declared.machine.Wait.TheVariants.{Start, PeekRx, ReleaseRx, ReserveTx, SubmitTx, PeekComp, ReleaseComp, ReserveFill, SubmitFill, LookRxDone, TellTxDone, LookGone, Ended}
+use Rattle.xsk_app.specs.declared.machine.Wait.TheVariants.{Start, PeekRx, ReleaseRx, ReserveTx, SubmitTx, LookNeedTx, KickTx, PeekComp, ReleaseComp, ReserveFill, SubmitFill, LookNeedFill, KickFill, LookRxDone, TellTxDone, KickFirst, KickSecond, LookGone, Ended}
 
 abbrev pub noted_by : Turn → AppNoted
 noted_by t = record { seen = t.seen; gone = t.gone; lanes_empty = t.lanes_empty; sides_empty = t.sides_empty }
@@ -36,6 +37,18 @@ after_side c app side noted kept = from_side c app (side + 1) noted kept
 abbrev pub after_full_side : Config → ℕ → ℕ → AppNoted → AppKept → Script AppKept
 after_full_side c app side noted kept = after_side c app side (record noted { sides_empty = false }) kept
 
+-- the frames of a side that are left to give back, and then those after it
+abbrev pub after_group : Config → ℕ → ℕ → AppNoted → AppKept → Script AppKept
+after_group c app side noted kept = give_back c side zero (back_at kept side) kept (after_full_side c app side noted)
+
+-- a pair's driver is woken where a ring's flag has the number 1
+abbrev pub wake_by : ℕ → AppKept → Script AppKept → ℕ → Script AppKept
+wake_by pair kept next number = if number == 1 then kick pair kept next else next
+
+-- it sends nothing more
+abbrev pub told_tx_done : AppKept → AppKept
+told_tx_done kept = record kept { tx_done = true }
+
 -- what goes on by the reply to a script's first call
 abbrev pub by_reply : Script AppKept → Reply → Script AppKept
 by_reply (ask kept call rest) reply = rest reply
@@ -49,14 +62,20 @@ left c app Start noted kept = λ reply. never
 left c app (PeekRx lane) noted kept = items_or_empty (receive_lane c app lane kept (after_full_lane c app lane noted)) (after_lane c app lane noted kept)
 left c app (ReleaseRx lane) noted kept = on_released (pass_on c app lane kept (after_full_lane c app lane noted))
 left c app (ReserveTx lane) noted kept = by_reply (pass_on c app lane kept (after_full_lane c app lane noted))
-left c app (SubmitTx lane) noted kept = on_submitted (after_full_lane c app lane noted kept)
+left c app (SubmitTx lane) noted kept = on_submitted (wake c (NeedTx (tx_of c app lane)) (tx_pair c app lane) kept (after_full_lane c app lane noted kept))
+left c app (LookNeedTx lane) noted kept = on_old (wake_by (tx_pair c app lane) kept (after_full_lane c app lane noted kept))
+left c app (KickTx lane) noted kept = on_old (λ old. after_full_lane c app lane noted kept)
 left c app (PeekComp side) noted kept = items_or_empty (complete_side c app side kept (after_full_side c app side noted)) (after_side c app side noted kept)
-left c app (ReleaseComp side) noted kept = on_released (give_back c side zero (back_at kept side) kept (after_full_side c app side noted))
-left c app (ReserveFill side home count) noted kept = by_reply (give_back c side zero (back_at kept side) kept (after_full_side c app side noted))
-left c app (SubmitFill side) noted kept = on_submitted (give_back c side zero (back_at kept side) kept (after_full_side c app side noted))
+left c app (ReleaseComp side) noted kept = on_released (after_group c app side noted kept)
+left c app (ReserveFill side home count) noted kept = by_reply (after_group c app side noted kept)
+left c app (SubmitFill side home) noted kept = on_submitted (wake c (NeedFill home) home kept (after_group c app side noted kept))
+left c app (LookNeedFill side home) noted kept = on_old (wake_by home kept (after_group c app side noted kept))
+left c app (KickFill side) noted kept = on_old (λ old. after_group c app side noted kept)
 left c app (LookRxDone side) noted kept =
     on_old (λ done. look_rx_done c app (2 - (side + 1)) (side + 1) (with_seen kept side done))
-left c app TellTxDone noted kept = on_old (λ old. again (record kept { tx_done = true }))
+left c app TellTxDone noted kept = on_old (λ old. wake_both c app (told_tx_done kept))
+left c app KickFirst noted kept = on_old (λ old. kick (pair_of c app 1) kept (again kept))
+left c app KickSecond noted kept = on_old (λ old. again kept)
 left c app (LookGone side) noted kept =
     on_old (λ gone. look_gone c app (2 - (side + 1)) (side + 1) (with_gone kept side gone))
 left c app Ended noted kept = λ reply. never

@@ -1,7 +1,7 @@
 -- Which kind of reply the application's machine waits for.
 use Rattle.xsk_model.specs.Expected.{Expected, nothing, place, submitted, item, released, number, ended}
 use Rattle.xsk_app.specs.declared.machine.Wait.{Wait}
-use Rattle.xsk_app.specs.declared.machine.Wait.TheVariants.{Start, PeekRx, ReleaseRx, ReserveTx, SubmitTx, PeekComp, ReleaseComp, ReserveFill, SubmitFill, LookRxDone, TellTxDone, LookGone, Ended}
+use Rattle.xsk_app.specs.declared.machine.Wait.TheVariants.{Start, PeekRx, ReleaseRx, ReserveTx, SubmitTx, LookNeedTx, KickTx, PeekComp, ReleaseComp, ReserveFill, SubmitFill, LookNeedFill, KickFill, LookRxDone, TellTxDone, KickFirst, KickSecond, LookGone, Ended}
 
 abbrev pub expects : Wait → Expected
 expects Start = nothing
@@ -9,11 +9,17 @@ expects (PeekRx lane) = item
 expects (ReleaseRx lane) = released
 expects (ReserveTx lane) = place
 expects (SubmitTx lane) = submitted
+expects (LookNeedTx lane) = number
+expects (KickTx lane) = number
 expects (PeekComp side) = item
 expects (ReleaseComp side) = released
 expects (ReserveFill side home count) = place
-expects (SubmitFill side) = submitted
+expects (SubmitFill side home) = submitted
+expects (LookNeedFill side home) = number
+expects (KickFill side) = number
 expects (LookRxDone side) = number
 expects TellTxDone = number
+expects KickFirst = number
+expects KickSecond = number
 expects (LookGone side) = number
 expects Ended = ended

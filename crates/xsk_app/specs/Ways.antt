@@ -1,21 +1,28 @@
 -- What an application's machine has of its configuration, and where it may wait.
-use Rattle.std.specs.Prelude.{◌≡◌, ℕ, zero, suc, ◌+◌, ◌<◌, Bool, if◌then◌else◌, Option, Some, None, List, [], ◌∷◌, length}
+use Rattle.std.specs.Prelude.{◌≡◌, ℕ, zero, suc, ◌+◌, ◌-◌, ◌*◌, ◌/◌, ◌%◌, ◌<◌, Bool, if◌then◌else◌, Option, Some, None, List, [], ◌∷◌, length, slice_index}
 use Rattle.std.specs.List.{slice_index_or}
 use Rattle.std.specs.Coded.{×_prop, Unit-prop, le_prop}
 use Rattle.std.proofs.Props.{props}
 use Rattle.xsk_umem.specs.Frame.{Frame}
 use Rattle.xsk_umem.specs.declared.batch.Item.{Item}
 use Rattle.xsk_model.specs.Config.{Config, pool_of, batch_of}
-use Rattle.xsk_turns.specs.AppTurns.{rx_of, tx_of, lanes_of, home_of, group_of, is_set}
+use Rattle.xsk_turns.specs.AppTurns.{rx_of, tx_of, tx_pair, lanes_of, home_of, group_of, is_set}
 use Rattle.xsk_app.specs.declared.machine.Way.{Way}
 use Rattle.xsk_app.specs.declared.machine.Wait.{Wait}
-use Rattle.xsk_app.specs.declared.machine.Wait.TheVariants.{Start, PeekRx, ReleaseRx, ReserveTx, SubmitTx, PeekComp, ReleaseComp, ReserveFill, SubmitFill, LookRxDone, TellTxDone, LookGone, Ended}
+use Rattle.xsk_app.specs.declared.machine.Wait.TheVariants.{Start, PeekRx, ReleaseRx, ReserveTx, SubmitTx, LookNeedTx, KickTx, PeekComp, ReleaseComp, ReserveFill, SubmitFill, LookNeedFill, KickFill, LookRxDone, TellTxDone, KickFirst, KickSecond, LookGone, Ended}
 
--- each lane has its sockets
+-- the way of a lane between the pairs of two sides
+pub record IsWay (pairs : List ℕ) (classes lane : ℕ) (way : Way) : Type 0 where
+  pub rx : way.rx ≡ slice_index pairs (lane / classes) * classes + lane % classes
+  pub tx : way.tx ≡ slice_index pairs (1 - lane / classes) * classes + lane % classes
+  pub pair : way.pair ≡ slice_index pairs (1 - lane / classes)
+
+-- each lane has its sockets, and the pair of its TX ring
 pub record AreWays (c : Config) (app : ℕ) (ways : List Way) : Type 0 where
   pub count : length ways ≡ lanes_of c
   pub rx : (lane : ℕ) (d : Way) → lane < length ways → (slice_index_or ways lane d).rx ≡ rx_of c app lane
   pub tx : (lane : ℕ) (d : Way) → lane < length ways → (slice_index_or ways lane d).tx ≡ tx_of c app lane
+  pub pair : (lane : ℕ) (d : Way) → lane < length ways → (slice_index_or ways lane d).pair ≡ tx_pair c app lane
 
 -- the home and the number of the frames that a side gives back next
 abbrev pub IsGroup : ℕ → ℕ → List Frame → ℕ → ℕ → Type 0
@@ -30,12 +37,18 @@ IsReady c pending back (PeekRx lane) = (lane < length pending) × (length (slice
 IsReady c pending back (ReleaseRx lane) = lane < length pending
 IsReady c pending back (ReserveTx lane) = lane < length pending
 IsReady c pending back (SubmitTx lane) = lane < length pending
+IsReady c pending back (LookNeedTx lane) = lane < length pending
+IsReady c pending back (KickTx lane) = lane < length pending
 IsReady c pending back (PeekComp side) = (side < 2) × (length (slice_index_or back side []) ≡ 0)
 IsReady c pending back (ReleaseComp side) = side < 2
 IsReady c pending back (ReserveFill side home count) = (side < 2) × IsGroup (pool_of c) (batch_of c) (slice_index_or back side []) home count
-IsReady c pending back (SubmitFill side) = side < 2
+IsReady c pending back (SubmitFill side home) = side < 2
+IsReady c pending back (LookNeedFill side home) = side < 2
+IsReady c pending back (KickFill side) = side < 2
 IsReady c pending back (LookRxDone side) = side < 2
 IsReady c pending back TellTxDone = Unit {0}
+IsReady c pending back KickFirst = Unit {0}
+IsReady c pending back KickSecond = Unit {0}
 IsReady c pending back (LookGone side) = side < 2
 IsReady c pending back Ended = Unit {0}
 
@@ -59,12 +72,18 @@ IsReady-prop c pending back (PeekRx lane) = ×_prop le_prop (same_number (length
 IsReady-prop c pending back (ReleaseRx lane) = le_prop
 IsReady-prop c pending back (ReserveTx lane) = le_prop
 IsReady-prop c pending back (SubmitTx lane) = le_prop
+IsReady-prop c pending back (LookNeedTx lane) = le_prop
+IsReady-prop c pending back (KickTx lane) = le_prop
 IsReady-prop c pending back (PeekComp side) = ×_prop le_prop (same_number (length (slice_index_or back side [])) 0)
 IsReady-prop c pending back (ReleaseComp side) = le_prop
 IsReady-prop c pending back (ReserveFill side home count) =
     ×_prop le_prop (IsGroup-prop (pool_of c) (batch_of c) (slice_index_or back side []) home count)
-IsReady-prop c pending back (SubmitFill side) = le_prop
+IsReady-prop c pending back (SubmitFill side home) = le_prop
+IsReady-prop c pending back (LookNeedFill side home) = le_prop
+IsReady-prop c pending back (KickFill side) = le_prop
 IsReady-prop c pending back (LookRxDone side) = le_prop
 IsReady-prop c pending back TellTxDone = Unit-prop
+IsReady-prop c pending back KickFirst = Unit-prop
+IsReady-prop c pending back KickSecond = Unit-prop
 IsReady-prop c pending back (LookGone side) = le_prop
 IsReady-prop c pending back Ended = Unit-prop

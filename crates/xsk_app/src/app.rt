@@ -1,9 +1,10 @@
 //! The application, as other crates use it.
-ghost use Rattle.std.specs.Prelude.{◌≡◌, None, Some, false, List, ℕ, ◌+◌, ◌-◌, ◌*◌, ◌/◌, ◌%◌, ◌<◌, ◌≤◌, IfOk, [], ◌∷◌, length, replicate, vec_len, slice_index};
+ghost use Rattle.std.specs.Prelude.{◌≡◌, None, Some, List, ℕ, ◌+◌, ◌-◌, ◌*◌, ◌/◌, ◌%◌, ◌<◌, ◌≤◌, IfOk, [], ◌∷◌, length, replicate, vec_len, slice_index};
 ghost use Rattle.std.specs.List.{slice_index_or};
 ghost use Rattle.xsk_model.specs.Config.{IsRegular};
 ghost use Rattle.xsk_model.specs.Marks.{apps_of};
 ghost use Rattle.xsk_app.specs.declared.machine.Way.{Way};
+ghost use Rattle.xsk_app.specs.Ways.{IsWay};
 ghost use Rattle.xsk_model.specs.Config.{Config as AConfig};
 ghost use Rattle.xsk_model.specs.Entry.{Told, with_told};
 ghost use Rattle.xsk_model.specs.History.{Fits};
@@ -41,12 +42,10 @@ impl<'a> Model for App<'a> {
 impl<'a> App<'a> {
     ghost use Rattle.xsk_app.specs.Runs.{IsNew, Stands, StandsWith, TellsWith};
 
-    /// The application with this number, of a regular configuration that has it and is without need-wakeup, which an
-    /// application doesn't know yet.
+    /// The application with this number, of a regular configuration that has it.
     pub fn new(alloc: Global, config: &'a Config, app: u32) -> Result<App<'a>, OutOfMemory>
         requires regular { IsRegular config.now }
         requires app { app < apps_of config.now }
-        requires wakeup { config.now.wakeup ≡ false }
         ensures expected { IfOk result (λ a. a.expected ≡ nothing) }
         ensures new { IfOk result (λ a. IsNew config.now app a) }
     {
@@ -133,18 +132,29 @@ fn new_ways(alloc: Global, pairs: [u32; 2], classes: u32) -> Result<Vec<Way>, Ou
     requires first { slice_index pairs 0 < 64 }
     requires second { slice_index pairs 1 < 64 }
     ensures count { IfOk result (λ ways. vec_len ways ≡ 2 * classes) }
-    ensures rx { IfOk result (λ ways. (lane : ℕ) (d : Way) → lane < vec_len ways → (slice_index_or ways.items lane d).rx ≡ slice_index pairs (lane / classes) * classes + lane % classes) }
-    ensures tx { IfOk result (λ ways. (lane : ℕ) (d : Way) → lane < vec_len ways → (slice_index_or ways.items lane d).tx ≡ slice_index pairs (1 - lane / classes) * classes + lane % classes) }
+    ensures ways { IfOk result (λ ways. (lane : ℕ) (d : Way) → lane < vec_len ways → IsWay pairs classes lane (slice_index_or ways.items lane d)) }
 {
     let mut ways = Vec::with_capacity(alloc, 2 * classes as usize)?;
     for lane in 0..2 * classes {
-        let side = (lane / classes) as usize;
-        ways.push(Way {
-            rx: pairs[side] * classes + lane % classes,
-            tx: pairs[1 - side] * classes + lane % classes,
-        })?;
+        ways.push(way_of(pairs, classes, lane))?;
     }
     Ok(ways)
+}
+
+fn way_of(pairs: [u32; 2], classes: u32, lane: u32) -> Way
+    requires some { 1 ≤ classes }
+    requires few { classes ≤ 4 }
+    requires first { slice_index pairs 0 < 64 }
+    requires second { slice_index pairs 1 < 64 }
+    requires lane { lane < 2 * classes }
+    ensures { IsWay pairs classes lane result }
+{
+    let side = (lane / classes) as usize;
+    Way {
+        rx: pairs[side] * classes + lane % classes,
+        tx: pairs[1 - side] * classes + lane % classes,
+        pair: pairs[1 - side],
+    }
 }
 
 /// No item for each of so many lanes.

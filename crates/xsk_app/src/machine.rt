@@ -10,12 +10,21 @@
 //!        LookGone of each side ──> the next turn, or Ended         where both had ended as the turn began, sides
 //!                                                                  were empty and nothing is left to give back
 //! ```
+//!
+//! With need-wakeup (af_xdp.rst, "XDP_USE_NEED_WAKEUP bind flag") it goes on from a Submit or from its end by
+//!
+//! ```text
+//! SubmitTx ──> LookNeedTx ──> KickTx            the driver of the ring is woken where the ring's flag is set
+//! SubmitFill ──> LookNeedFill ──> KickFill
+//! TellTxDone ──> KickFirst ──> KickSecond       both drivers are woken
+//! ```
 ghost use Rattle.std.specs.Prelude.{◌≡◌, ◌≢◌, ℕ, ◌+◌, ◌-◌, ◌<◌, ◌≤◌, [], ◌∷◌, IfSome, length, vec_len, map, take, drop};
 ghost use Rattle.xsk_model.specs.Config.{batch_of, pool_of};
 ghost use Rattle.xsk_model.specs.Marks.{apps_of};
 ghost use Rattle.xsk_model.specs.Asks.{joined_call, HasAsked};
 ghost use Rattle.xsk_model.specs.Expected.{CanCome, expected_by, expected_of};
 ghost use Rattle.xsk_model.specs.declared.call.Act.TheVariants as act;
+ghost use Rattle.xsk_model.specs.declared.call.Mark.TheVariants as mark;
 ghost use Rattle.xsk_model.specs.declared.call.Reply.TheVariants as reply;
 ghost use Rattle.xsk_turns.specs.AppTurns.{lanes_of, pair_of};
 ghost use Rattle.xsk_turns.specs.Stepping.{joined_ask, joined_answer, IsGivenBack, IsLent};
@@ -37,21 +46,29 @@ pub(crate) enum Wait {
     ReleaseRx { lane: usize },
     ReserveTx { lane: usize },
     SubmitTx { lane: usize },
+    LookNeedTx { lane: usize },
+    KickTx { lane: usize },
     PeekComp { side: usize },
     ReleaseComp { side: usize },
     ReserveFill { side: usize, home: u32, count: u32 },
-    SubmitFill { side: usize },
+    SubmitFill { side: usize, home: u32 },
+    LookNeedFill { side: usize, home: u32 },
+    KickFill { side: usize },
     LookRxDone { side: usize },
     TellTxDone,
+    KickFirst,
+    KickSecond,
     LookGone { side: usize },
     Ended,
 }
 
-/// The sockets of a lane: it goes from the RX ring of one side's class to the TX ring of the other side's.
+/// The sockets of a lane: it goes from the RX ring of one side's class to the TX ring of the other side's. `pair` is the
+/// other side's, whose driver sends what stands on that TX ring.
 #[derive(Clone, Copy, Debug)]
 pub(crate) struct Way {
     pub(crate) rx: u32,
     pub(crate) tx: u32,
+    pub(crate) pair: u32,
 }
 
 /// What was so as the turn began, and whether each lane and each side visited so far had an empty peek in it.
@@ -95,8 +112,8 @@ pub(crate) struct Machine<'a> {
 
 impl<'a> Machine<'a> {
     ghost use Rattle.xsk_app.specs.Waits.{expects};
-    ghost use Rattle.xsk_turns.specs.AppTurns.{pass_on, receive_lane, visit_lane, visit_lanes, give_back, complete_side, visit_side, back_at, pending_at, with_back, with_seen, with_gone, look_rx_done, look_gone, tell_tx_done, end_or_look, end_turn, turn_sides};
-    ghost use Rattle.xsk_app.specs.Stands.{GoesOn, to_do, doing, by_reply, IsSame, noted_by, kept_by, from_lane, after_full_lane, from_side, after_full_side};
+    ghost use Rattle.xsk_turns.specs.AppTurns.{tx_of, tx_pair, wake, wake_both, pass_on, receive_lane, visit_lane, visit_lanes, give_back, complete_side, visit_side, back_at, pending_at, with_back, with_seen, with_gone, look_rx_done, look_gone, tell_tx_done, end_or_look, end_turn, turn_sides};
+    ghost use Rattle.xsk_app.specs.Stands.{GoesOn, to_do, doing, by_reply, IsSame, noted_by, kept_by, from_lane, after_full_lane, from_side, after_full_side, after_group, wake_by, told_tx_done};
     ghost use Rattle.xsk_turns.specs.Script.{again};
 
     /// Goes on with the answer to the last call, whose items stand in the batch, and leaves there the items of the next one.
@@ -122,7 +139,12 @@ impl<'a> Machine<'a> {
                 Some(Answer::Full(_)) => self.go_on_full_lane(lane),
                 _ => unreachable!(),
             },
-            Wait::SubmitTx { lane } => self.go_on_full_lane(lane),
+            Wait::SubmitTx { lane } => self.look_need_tx(lane),
+            Wait::LookNeedTx { lane } => match answer {
+                Some(Answer::Old(need)) => self.learn_need_tx(lane, need),
+                _ => unreachable!(),
+            },
+            Wait::KickTx { lane } => self.go_on_full_lane(lane),
             Wait::PeekComp { side } => match answer {
                 Some(Answer::Items) => Some(self.take_completed(side, items)),
                 Some(Answer::Empty) => self.go_to_side(side + 1),
@@ -134,15 +156,22 @@ impl<'a> Machine<'a> {
                 Some(Answer::Full(_)) => self.find_fill_full(side),
                 _ => unreachable!(),
             },
-            Wait::SubmitFill { side } => self.give_back(side),
+            Wait::SubmitFill { side, home } => self.look_need_fill(side, home),
+            Wait::LookNeedFill { side, home } => match answer {
+                Some(Answer::Old(need)) => self.learn_need_fill(side, home, need),
+                _ => unreachable!(),
+            },
+            Wait::KickFill { side } => self.give_back(side),
             Wait::LookRxDone { side } => match answer {
                 Some(Answer::Old(done)) => Some(self.learn_rx_done(side, done)),
                 _ => unreachable!(),
             },
-            Wait::TellTxDone => {
-                self.tx_done = true;
-                Some(self.begin())
+            Wait::TellTxDone => Some(self.stop_sending()),
+            Wait::KickFirst => {
+                self.wait = Wait::KickSecond;
+                Some(Ask::Swap(Mark::Kick(self.pairs[1]), 1))
             }
+            Wait::KickSecond => Some(self.begin()),
             Wait::LookGone { side } => match answer {
                 Some(Answer::Old(gone)) => Some(self.learn_gone(side, gone)),
                 _ => unreachable!(),
@@ -250,6 +279,36 @@ impl<'a> Machine<'a> {
         Ask::Submit(Ring::Tx(self.ways[lane].tx))
     }
 
+    /// Looks whether the lane's TX ring needs a wakeup, where the flags are used.
+    fn look_need_tx(&mut self, lane: usize) -> Option<Ask>
+        requires { lane < vec_len self.old.pending }
+        ensures expected { expects self.new.wait ≡ expected_of (joined_ask result []) }
+        ensures goes { GoesOn self.old.config.now self.old.app self.new (joined_ask result []) (wake self.old.config.now (mark.NeedTx (tx_of self.old.config.now self.old.app lane)) (tx_pair self.old.config.now self.old.app lane) (kept_by self.old) (after_full_lane self.old.config.now self.old.app lane (noted_by self.old.turn) (kept_by self.old))) }
+        ensures same { IsSame self.old self.new }
+    {
+        if self.config.wakeup() {
+            self.wait = Wait::LookNeedTx { lane };
+            Some(Ask::Look(Mark::NeedTx(self.ways[lane].tx)))
+        } else {
+            self.go_on_full_lane(lane)
+        }
+    }
+
+    /// Wakes the driver of the lane's TX ring where the ring needs it.
+    fn learn_need_tx(&mut self, lane: usize, need: u64) -> Option<Ask>
+        requires { lane < vec_len self.old.pending }
+        ensures expected { expects self.new.wait ≡ expected_of (joined_ask result []) }
+        ensures goes { GoesOn self.old.config.now self.old.app self.new (joined_ask result []) (wake_by (tx_pair self.old.config.now self.old.app lane) (kept_by self.old) (after_full_lane self.old.config.now self.old.app lane (noted_by self.old.turn) (kept_by self.old)) need) }
+        ensures same { IsSame self.old self.new }
+    {
+        if need == 1 {
+            self.wait = Wait::KickTx { lane };
+            Some(Ask::Swap(Mark::Kick(self.ways[lane].pair), 1))
+        } else {
+            self.go_on_full_lane(lane)
+        }
+    }
+
     /// Peeks the side's COMPLETION ring, or gives back the frames that it has.
     fn open_side(&mut self, side: usize) -> Ask
         requires { side < 2 }
@@ -308,7 +367,7 @@ impl<'a> Machine<'a> {
     fn give_back(&mut self, side: usize) -> Option<Ask>
         requires { side < 2 }
         ensures expected { expects self.new.wait ≡ expected_of (joined_ask result []) }
-        ensures goes { GoesOn self.old.config.now self.old.app self.new (joined_ask result []) (give_back self.old.config.now side 0 (back_at (kept_by self.old) side) (kept_by self.old) (after_full_side self.old.config.now self.old.app side (noted_by self.old.turn))) }
+        ensures goes { GoesOn self.old.config.now self.old.app self.new (joined_ask result []) (after_group self.old.config.now self.old.app side (noted_by self.old.turn) (kept_by self.old)) }
         ensures same { IsSame self.old self.new }
     {
         match self.backs[side].first_group(self.config.pool(), self.batch) {
@@ -338,9 +397,39 @@ impl<'a> Machine<'a> {
         ensures same { IsSame self.old self.new }
         ensures items { HasAsked result items.new }
     {
-        self.wait = Wait::SubmitFill { side };
+        self.wait = Wait::SubmitFill { side, home };
         self.backs[side].give(self.config.geometry(), count, items);
         Ask::Submit(Ring::Fill(home))
+    }
+
+    /// Looks whether the home's FILL ring needs a wakeup, where the flags are used.
+    fn look_need_fill(&mut self, side: usize, home: u32) -> Option<Ask>
+        requires { side < 2 }
+        ensures expected { expects self.new.wait ≡ expected_of (joined_ask result []) }
+        ensures goes { GoesOn self.old.config.now self.old.app self.new (joined_ask result []) (wake self.old.config.now (mark.NeedFill home) home (kept_by self.old) (after_group self.old.config.now self.old.app side (noted_by self.old.turn) (kept_by self.old))) }
+        ensures same { IsSame self.old self.new }
+    {
+        if self.config.wakeup() {
+            self.wait = Wait::LookNeedFill { side, home };
+            Some(Ask::Look(Mark::NeedFill(home)))
+        } else {
+            self.give_back(side)
+        }
+    }
+
+    /// Wakes the driver of the home where its FILL ring needs it.
+    fn learn_need_fill(&mut self, side: usize, home: u32, need: u64) -> Option<Ask>
+        requires { side < 2 }
+        ensures expected { expects self.new.wait ≡ expected_of (joined_ask result []) }
+        ensures goes { GoesOn self.old.config.now self.old.app self.new (joined_ask result []) (wake_by home (kept_by self.old) (after_group self.old.config.now self.old.app side (noted_by self.old.turn) (kept_by self.old)) need) }
+        ensures same { IsSame self.old self.new }
+    {
+        if need == 1 {
+            self.wait = Wait::KickFill { side };
+            Some(Ask::Swap(Mark::Kick(home), 1))
+        } else {
+            self.give_back(side)
+        }
     }
 
     /// Keeps the side's frames, for which the FILL ring of their home has no room.
@@ -400,12 +489,27 @@ impl<'a> Machine<'a> {
     /// Tells that nothing more is sent, where both sides were seen as the turn began and each lane was empty in it.
     fn end_sending(&mut self) -> Ask
         ensures expected { expects self.new.wait ≡ expected_by (joined_call result []) }
-        ensures goes { GoesOn self.old.config.now self.old.app self.new (act.Call (joined_call result [])) (tell_tx_done self.old.app (noted_by self.old.turn) (kept_by self.old)) }
+        ensures goes { GoesOn self.old.config.now self.old.app self.new (act.Call (joined_call result [])) (tell_tx_done self.old.config.now self.old.app (noted_by self.old.turn) (kept_by self.old)) }
         ensures same { IsSame self.old self.new }
     {
         if self.turn.seen && self.turn.lanes_empty {
             self.wait = Wait::TellTxDone;
             Ask::Swap(Mark::TxDone(self.app), 1)
+        } else {
+            self.begin()
+        }
+    }
+
+    /// Wakes both drivers, where the flags are used, once it told that it sends nothing more.
+    fn stop_sending(&mut self) -> Ask
+        ensures expected { expects self.new.wait ≡ expected_by (joined_call result []) }
+        ensures goes { GoesOn self.old.config.now self.old.app self.new (act.Call (joined_call result [])) (wake_both self.old.config.now self.old.app (told_tx_done (kept_by self.old))) }
+        ensures same { IsSame self.old self.new }
+    {
+        self.tx_done = true;
+        if self.config.wakeup() {
+            self.wait = Wait::KickFirst;
+            Ask::Swap(Mark::Kick(self.pairs[0]), 1)
         } else {
             self.begin()
         }

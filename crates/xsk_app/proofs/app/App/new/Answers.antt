@@ -1,4 +1,4 @@
-use Rattle.std.proofs.Common.{rules, arith, ◌≡◌, ◌≤◌, length}
+use Rattle.std.proofs.Common.{rules, arith, ◌≡◌, ◌*◌, ◌≤◌, length}
 use Rattle.xsk_turns.specs.AppTurns.{pair_of, lanes_of}
 use Rattle.xsk_app.specs.Ways.{AreWays}
 use Rattle.xsk_turns.proofs.Places.{batch_few, batch_some}
@@ -14,9 +14,10 @@ invariant_of-machine c =
     let second = pair_is k c.args.app 1 c.port_on-2.result c.queue_on-queue.result d1 c.port_on-2.ensures.value c.queue_on-queue.ensures.value c.driver_on-second.ensures.value in
     let some : 1 ≤ c.batch.result = omega (arith, c.batch.ensures, batch_some k c.queues-queues.ensures.lawful) in
     let few : c.batch.result ≤ 32 = omega (arith, c.batch.ensures, batch_few k) in
+    let count : length c.in_ok-new_ways.field-0.items ≡ 2 * c.classes-classes.result = search rules in
     let ways : AreWays k c.args.app c.in_ok-new_ways.field-0.items =
     ways_from k c.args.app d0 d1 c.classes-classes.result c.in_ok-new_ways.field-0.items first second c.classes-classes.ensures c.requires.regular.classes
-    (search rules) (search rules) (search rules) in
+    count (λ lane d h. c.in_ok-new_ways.ensures.ways lane d (omega (arith, h, count, c.in_ok-new_ways.ensures.count))) in
     let lanes : length c.in_ok-new_pending.field-0.items ≡ lanes_of k = search rules in
     let sides : length c.in_ok-new_backs.field-0.items ≡ 2 = search rules in
     record {
