@@ -11,8 +11,8 @@ use Rattle.xsk_turns.specs.Turns.{IsDriverRun}
 use Rattle.xsk_turns.specs.AppTurns.{IsAppRun}
 use Rattle.xsk_turns.specs.AppOwned.{IsApp}
 use Rattle.xsk_turns.specs.Workers.{Setting, input_of, IsWorkerRun}
-use Rattle.xsk_bounds.specs.Totals.{total, sum_below, changed}
-use Rattle.xsk_bounds.proofs.Sums.{Drives, Applies, most_changes, few_changes}
+use Rattle.xsk_bounds.specs.Bounds.{packets_of, FewChanges}
+use Rattle.xsk_bounds.proofs.Sums.{few_changes}
 use Rattle.xsk_bounds.proofs.AppSpending.{app_applies}
 use Rattle.xsk_bounds.proofs.DriverSpending.{driver_drives}
 use Rattle.xsk_bounds.proofs.Clearing.{keeps_kicks}
@@ -20,9 +20,7 @@ use Rattle.xsk_bounds.proofs.Clearing.{keeps_kicks}
 few_classes : (c : Config) → IsRegular c → classes_of c ≤ 4
 few_classes c regular = ⊎_elim (λ (e : classes_of c ≡ 1). omega (arith, e)) (λ rest. ⊎_elim (λ (e : classes_of c ≡ 2). omega (arith, e)) (λ (e : classes_of c ≡ 4). omega (arith, e)) rest) regular.classes
 
-pub changes_bounded : (s : Setting) (frames : List Frame) (h : List Entry) → IsRegular s.config → IsHistory s.config frames h
-    → ((who : ℕ) → who < callers_of s.config → IsWorkerRun s who (own who h))
-    → total changed (all_told h) ≤ most_changes s.config (sum_below (length s.config.pairs) (λ d. length (input_of s d)))
+pub changes_bounded : FewChanges
 changes_bounded s frames h regular history runs =
     few_changes s.config frames h (λ d. length (input_of s d)) history
     (λ d lt. driver_drives s.wire s.config d (input_of s d) (own d h) (few_classes s.config regular) (history_own s.config frames h d history) (drivers d lt))

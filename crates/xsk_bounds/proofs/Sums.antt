@@ -17,6 +17,7 @@ use Rattle.xsk_model.specs.declared.call.Call.{Call}
 use Rattle.xsk_model.specs.declared.call.Call.TheVariants.{Reserve, Submit, Peek, Release, Swap, Look}
 use Rattle.xsk_model.proofs.Along.{Keeps, along}
 use Rattle.xsk_model.proofs.CallTheorems.{callers_exist}
+use Rattle.xsk_bounds.specs.Bounds.{most_changes}
 use Rattle.xsk_bounds.specs.Totals.{total, sum_below, changed, swapped, swap_count, on_ring, put, took, steps_on, steps_put, steps_taken, swaps_kick, kick_swaps}
 use Rattle.xsk_bounds.proofs.Totals.{total-append, total-le, sum-le, sum-add, sum-times, sum-const, sum-zero, sum-same, total_own}
 use Rattle.xsk_bounds.proofs.Flow.{out_from, count_on, put_on, took_on, flow}
@@ -158,10 +159,6 @@ pub record Drives (d disposed : ℕ) (l : List Told) : Type 0 where
 pub record Applies (l : List Told) : Type 0 where
   pub spends : Spends l 0
   pub swaps : total swapped l ≤ total put l + 3
-
--- how often the object may change where so many packets are disposed of
-abbrev pub most_changes : Config → ℕ → ℕ
-most_changes c packets = 3456 * packets + 13 * c.geometry.frames + 2048 * places_of c + 24 * length c.pairs + 36 * apps_of c
 
 module _ (c : Config) (frames : List Frame) (h : List Entry) (disposed : ℕ → ℕ) (history : IsHistory c frames h)
     (drives : (d : ℕ) → d < length c.pairs → Drives d (disposed d) (own d h))
