@@ -8,3 +8,5 @@ pub mod Verdicts
 pub mod Forwarded
 pub mod Stalling
 pub mod Standing
+pub mod Settling
+pub mod Bounding

@@ -6,3 +6,4 @@ pub mod Shown
 pub mod Stalls
 pub mod Turning
 pub mod Given
+pub mod Bounds
