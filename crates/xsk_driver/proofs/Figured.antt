@@ -1,12 +1,12 @@
 -- What a driver that has ended keeps are the figures of its own calls and replies.
-use Rattle.std.proofs.Common.{◌≡◌, ◌∙◌, sym, ap, subst, refl, ℕ, ◌<◌, ◌≤◌, Bool, true, false, nat_lt, cond, List, [], ◌∷◌, length, map, slice_index_or, arith}
+use Rattle.std.proofs.Common.{◌≡◌, ◌∙◌, ap, ℕ, ◌<◌, ◌≤◌, nat_lt, cond, List, length, slice_index_or, arith}
 use Rattle.std.proofs.lemmas.Bool.Decides.{nat_tests}
 use Rattle.xsk_model.specs.Config.{Config, classes_of}
 use Rattle.xsk_model.specs.Entry.{Told}
 use Rattle.xsk_turns.specs.Counted.{capped, IsCounted}
-use Rattle.xsk_turns.specs.Disposals.{attempts_of, disposals_of}
+use Rattle.xsk_turns.specs.Disposals.{attempts_of}
 use Rattle.xsk_turns.specs.Disposes.{HasDisposedAll}
-use Rattle.xsk_turns.specs.Turns.{Judged, seat_of}
+use Rattle.xsk_turns.specs.Turns.{seat_of}
 use Rattle.xsk_turns.specs.declared.disposal.Disposal.{Disposal}
 use Rattle.xsk_turns.specs.declared.disposal.DriverCounters.{DriverCounters}
 use Rattle.xsk_turns.proofs.Counting.{keeps_counters_at_end}

@@ -3,9 +3,9 @@ use Rattle.std.proofs.Common.{◌≡◌, Bool, true, false, Option, Some, None, 
 use Rattle.xsk_turns.proofs.Calls.{Told, Kick, Look}
 use Rattle.xsk_model.specs.Config.{classes_of}
 use Rattle.xsk_turns.specs.Turns.{Seat, Kept, seat_of, start, turn}
-use Rattle.xsk_turns.specs.Watching.{ParkedLooks}
+use Rattle.xsk_turns.specs.Watching.{ParkedLooks, EndsAwake}
 use Rattle.xsk_turns.proofs.Walks.{Anything, meet_anything}
-use Rattle.xsk_turns.proofs.DriverWalk.{Family, Parked, LookKick, found_none, kicked, parks, Said, AtCalls, AtEntries, AtPasses, IsLaw, at_call}
+use Rattle.xsk_turns.proofs.DriverWalk.{Family, Parked, LookKick, found_none, kicked, parks, Said, AtCalls, AtEntries, AtPasses, IsLaw, at_call, at_end}
 
 module _ (seat : Seat) where
   abbrev At : Family
@@ -15,8 +15,8 @@ module _ (seat : Seat) where
   abbrev Looks : Said
   Looks kept call l = (is_some kept.parked ≡ true → call ≡ Look (Kick seat.pair)) × (call ≡ Look (Kick seat.pair) → is_some kept.parked ≡ true)
 
-  abbrev Nothing : Kept → List Told → Type 0
-  Nothing kept l = Unit {0}
+  abbrev Awake : Kept → List Told → Type 0
+  Awake kept l = kept.parked ≡ None
 
   not_parked : {A : Type 0} (o : Option Bool) → o ≡ None → is_some o ≡ true → A
   not_parked o e f = absurd (let no : false ≡ true = sym (ap is_some e) ∙ f in cc)
@@ -34,10 +34,15 @@ module _ (seat : Seat) where
   passes parks noted kept l = λ h e. refl
   passes p noted kept l = λ h e. h
 
-  law : IsLaw seat Anything At Looks Nothing
-  law = record { calls = calls; entries = entries; passes = passes; ends = λ noted kept l n known h a q. tt }
+  law : IsLaw seat Anything At Looks Awake
+  law = record { calls = calls; entries = entries; passes = passes; ends = λ noted kept l n known h a q. h }
 
 pub parked_looks : ParkedLooks
 parked_looks wire c d input l kept call rest asks =
     let s = seat_of wire c d in
-    at_call s Anything (At s) (Looks s) (Nothing s) (law s) (start (classes_of c) input) refl l (meet_anything (turn s) (turn s (start (classes_of c) input)) [] l) kept call rest asks
+    at_call s Anything (At s) (Looks s) (Awake s) (law s) (start (classes_of c) input) refl l (meet_anything (turn s) (turn s (start (classes_of c) input)) [] l) kept call rest asks
+
+pub ends_awake : EndsAwake
+ends_awake wire c d input l kept ends =
+    let s = seat_of wire c d in
+    at_end s Anything (At s) (Looks s) (Awake s) (law s) (start (classes_of c) input) refl l (meet_anything (turn s) (turn s (start (classes_of c) input)) [] l) kept ends

@@ -3,7 +3,7 @@
 -- cleared, or items come. It watches its end so too, once it told that it has no further packet. A driver that is parked
 -- watches each ring whose flag is set, so that nothing can come there between the flag and the look. The kick, the end and
 -- the rules of watching are this project's own.
-use Rattle.std.specs.Prelude.{◌≡◌, ◌↔◌, ℕ, ◌<◌, Bool, true, false, ◌&&◌, ◌==◌, not, is_some, if◌then◌else◌, List}
+use Rattle.std.specs.Prelude.{◌≡◌, ◌↔◌, ℕ, ◌<◌, Bool, true, false, ◌&&◌, ◌==◌, not, is_some, None, if◌then◌else◌, List}
 use Rattle.std.specs.List.{fold}
 use Rattle.xsk_model.specs.Config.{Config, pair_at, classes_of}
 use Rattle.xsk_model.specs.Rings.{is_ring, application_on}
@@ -17,7 +17,7 @@ use Rattle.xsk_model.specs.declared.call.Call.{Call}
 use Rattle.xsk_model.specs.declared.call.Call.TheVariants.{Reserve, Submit, Peek, Release, Swap, Look}
 use Rattle.xsk_model.specs.declared.call.Reply.{Reply}
 use Rattle.xsk_model.specs.declared.call.Reply.TheVariants.{Granted, Full, Submitted, Items, Empty, Released, Old}
-use Rattle.xsk_turns.specs.Script.{Script, Asks}
+use Rattle.xsk_turns.specs.Script.{Script, Asks, Ends}
 use Rattle.xsk_turns.specs.Turns.{Judged, Kept, seat_of, start, turn, IsDriverRun}
 use Rattle.xsk_turns.specs.Owned.{socket_at_class}
 use Rattle.xsk_turns.specs.declared.wire.Wire.{Wire}
@@ -107,3 +107,7 @@ ParkedWatches = (wire : Wire) (c : Config) (d : ℕ) (input : List Judged) (l : 
 abbrev pub ParkedLooks : Type 0
 ParkedLooks = (wire : Wire) (c : Config) (d : ℕ) (input : List Judged) (l : List Told) (kept : Kept) (call : Call) (rest : Reply → Script Kept)
     → Asks (turn (seat_of wire c d)) (start (classes_of c) input) l kept call rest → (is_some kept.parked ≡ true) ↔ (call ≡ Look (Kick d))
+
+-- and it isn't once it has ended
+abbrev pub EndsAwake : Type 0
+EndsAwake = (wire : Wire) (c : Config) (d : ℕ) (input : List Judged) (l : List Told) (kept : Kept) → Ends (turn (seat_of wire c d)) (start (classes_of c) input) l kept → kept.parked ≡ None

@@ -9,7 +9,7 @@ ghost use Rattle.xsk_turns.specs.Disposes.{KeepsDisposals, DisposesAll};
 ghost use Rattle.xsk_turns.specs.Law.{EachDisposedOnce, DisposedAsSaid, DeliversInOrder, DeliversSized, DeliversAsSaid, NothingReceivedLate, TellsRxDone, DrainsTx, CompletesAll};
 ghost use Rattle.xsk_turns.specs.Owned.{KeepsFrames, KeepsFramesAtEnd, LeavesRoom, FinishedFew};
 ghost use Rattle.xsk_turns.specs.Verdicts.{OneVerdicts};
-ghost use Rattle.xsk_turns.specs.Watching.{ParkedWatches, ParkedLooks};
+ghost use Rattle.xsk_turns.specs.Watching.{ParkedWatches, ParkedLooks, EndsAwake};
 ghost use Rattle.xsk_turns.specs.Workers.{OwnSetting, OneSetting};
 
 /// At each call that a driver makes, its frames are those that it peeked and didn't submit, and the call is legal.
@@ -119,6 +119,12 @@ pub fn parked_watches()
 #[tactic(auto, using(crate::proofs::Parking::parked_looks))]
 pub fn parked_looks()
     ensures { ParkedLooks }
+{}
+
+/// It isn't parked once it has ended.
+#[tactic(auto, using(crate::proofs::Parking::ends_awake))]
+pub fn ends_awake()
+    ensures { EndsAwake }
 {}
 
 /// A rule with one verdict for each packet leaves one list of verdicts.

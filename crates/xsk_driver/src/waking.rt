@@ -1,0 +1,247 @@
+//! How the driver's machine parks where the need-wakeup flags are used (af_xdp.rst, "XDP_USE_NEED_WAKEUP bind flag"): it sets its
+//! flags, looks at each ring a second time, and then looks at its kick until it is 1. Whatever the application submits before
+//! the second look is found there, and whatever it submits later it submits under a flag that it sees.
+ghost use Rattle.std.specs.Prelude.{Some, None, true, ◌≡◌, ℕ, List, ◌+◌, ◌*◌, ◌<◌, ◌≤◌, ◌==◌, ◌||◌, [], if◌then◌else◌, length};
+ghost use Rattle.xsk_model.specs.Expected.{CanCome, item};
+
+use crate::disposal::DriverCounters;
+use crate::machine::{Machine, Wait};
+use xsk_model::{Answer, Ask, Mark, Ring};
+use xsk_umem::Batch;
+
+/// The machine's parking.
+impl<'a> Machine<'a> {
+    ghost use Rattle.xsk_driver.specs.Gives.{Gives, GoesFrom};
+    ghost use Rattle.xsk_turns.specs.Turns.{awaits, moved, woken, gathered, supplied, with_fill_empty, with_tx_empty, flag_from, flag_all, look_again as look_again_script, look_from, settle as settle_script, park as park_script, look_kick as look_kick_script, disarm as disarm_script, socket_of as socket_in};
+    ghost use Rattle.xsk_driver.specs.Stands.{seat_in, kept_in, noted_in, IsArming, IsSeeking, IsLooking, IsLooked, GoesOnAsk};
+    ghost use Rattle.xsk_turns.specs.Stepping.{joined_answer, joined_ask, IsLent};
+    ghost use Rattle.xsk_driver.specs.declared.machine.Wait.TheVariants.{LookFill, LookTx};
+    ghost use Rattle.xsk_turns.specs.Script.{ask, again, on_old, on_released};
+    ghost use Rattle.xsk_model.specs.declared.call.Ring.TheVariants.{Fill, Tx};
+    ghost use Rattle.xsk_model.specs.declared.call.Mark.TheVariants.{Kick};
+    ghost use Rattle.xsk_model.specs.declared.call.Call.TheVariants.{Release, Swap};
+
+    /// Sets its flags: FILL's where it waits for frames, and that of each class's TX ring.
+    pub(crate) fn arm(&mut self) -> Ask
+        requires arming { IsArming (seat_in self.old) (noted_in self.old) (kept_in self.old) 0 }
+        ensures gives { Gives self.old self.new result }
+        ensures goes { GoesOnAsk (seat_in self.old) self.new result (flag_all (seat_in self.old) (awaits (noted_in self.old)) 1 (kept_in self.old) (look_again_script (seat_in self.old) (noted_in self.old) (kept_in self.old))) }
+    {
+        if self.turn.lacking > 0 {
+            self.wait = Wait::Arm { class: 0 };
+            return Ask::Swap(Mark::NeedFill(self.pair), 1);
+        }
+        self.arm_tx(0)
+    }
+
+    /// Sets the flag of the class's TX ring, or looks again after the last one.
+    pub(crate) fn arm_tx(&mut self, class: u32) -> Ask
+        requires arming { IsArming (seat_in self.old) (noted_in self.old) (kept_in self.old) class }
+        ensures gives { Gives self.old self.new result }
+        ensures goes { GoesOnAsk (seat_in self.old) self.new result (flag_from (seat_in self.old) 1 class (kept_in self.old) (look_again_script (seat_in self.old) (noted_in self.old) (kept_in self.old))) }
+    {
+        if class == self.classes {
+            return self.look_again();
+        }
+        self.wait = Wait::Arm { class: class + 1 };
+        Ask::Swap(Mark::NeedTx(self.socket_of(class)), 1)
+    }
+
+    /// Looks a second time: at FILL where it waits for frames, and at each class's TX ring.
+    fn look_again(&mut self) -> Ask
+        requires arming { IsArming (seat_in self.old) (noted_in self.old) (kept_in self.old) self.old.classes }
+        ensures gives { Gives self.old self.new result }
+        ensures goes { GoesOnAsk (seat_in self.old) self.new result (look_again_script (seat_in self.old) (noted_in self.old) (kept_in self.old)) }
+    {
+        if self.turn.lacking > 0 {
+            self.wait = Wait::LookFill;
+            return Ask::Peek(Ring::Fill(self.pair), self.turn.lacking);
+        }
+        self.look_tx(0)
+    }
+
+    /// Looks at the class's TX ring, or goes on after the last one.
+    pub(crate) fn look_tx(&mut self, class: u32) -> Ask
+        requires looked { IsLooked (seat_in self.old) (kept_in self.old) class }
+        ensures gives { Gives self.old self.new result }
+        ensures goes { GoesOnAsk (seat_in self.old) self.new result (look_from (seat_in self.old) class (noted_in self.old) (kept_in self.old)) }
+    {
+        if class == self.classes {
+            return self.settle_down();
+        }
+        self.wait = Wait::LookTx { class };
+        Ask::Peek(Ring::Tx(self.socket_of(class)), self.batch)
+    }
+
+    /// Goes on with what stood on FILL at the second look.
+    #[inline(always)]
+    pub(crate) fn go_on_from_second_fill(
+        &mut self,
+        answer: Option<Answer>,
+        items: &mut Batch,
+    ) -> Ask
+        requires comes { CanCome item (joined_answer answer items.old) }
+        requires lent { IsLent answer items.old }
+        requires seeking { IsSeeking (kept_in self.old) }
+        ensures emptied { items.new ≡ [] }
+        ensures gives { Gives self.old self.new result }
+        ensures goes { GoesFrom self.old self.new LookFill (joined_answer answer items.old) (joined_ask (Some result) items.new) }
+    {
+        match answer {
+            Some(Answer::Items) => self.find_frames(items),
+            Some(Answer::Empty) => self.find_no_frames(),
+            _ => unreachable!(),
+        }
+    }
+
+    /// Keeps the frames that the second look found.
+    fn find_frames(&mut self, items: &mut Batch) -> Ask
+        requires seeking { IsSeeking (kept_in self.old) }
+        ensures emptied { items.new ≡ [] }
+        ensures gives { Gives self.old self.new result }
+        ensures goes { GoesOnAsk (seat_in self.old) self.new result (ask (supplied (seat_in self.old) (kept_in self.old) items.old) (Release (Fill self.old.pair) (length items.old))
+            (on_released (look_from (seat_in self.old) 0 (moved (noted_in self.old)) (supplied (seat_in self.old) (kept_in self.old) items.old)))) }
+    {
+        let count = items.len();
+        self.supply(items);
+        self.wait = Wait::ReleaseLooked { class: 0 };
+        Ask::Release(Ring::Fill(self.pair), count)
+    }
+
+    fn find_no_frames(&mut self) -> Ask
+        requires seeking { IsSeeking (kept_in self.old) }
+        ensures gives { Gives self.old self.new result }
+        ensures goes { GoesOnAsk (seat_in self.old) self.new result (look_from (seat_in self.old) 0 (noted_in self.old) (with_fill_empty (kept_in self.old))) }
+    {
+        DriverCounters::raise(&mut self.counters.rx_fill_ring_empty_descs, 1);
+        self.look_tx(0)
+    }
+
+    /// Goes on with what stood on the class's TX ring at the second look. Nothing is completed before the look has ended.
+    #[inline(always)]
+    pub(crate) fn go_on_from_second_tx(
+        &mut self,
+        class: u32,
+        answer: Option<Answer>,
+        items: &mut Batch,
+    ) -> Ask
+        requires comes { CanCome item (joined_answer answer items.old) }
+        requires lent { IsLent answer items.old }
+        requires looking { IsLooking (seat_in self.old) (kept_in self.old) class }
+        ensures emptied { items.new ≡ [] }
+        ensures gives { Gives self.old self.new result }
+        ensures goes { GoesFrom self.old self.new (LookTx class) (joined_answer answer items.old) (joined_ask (Some result) items.new) }
+    {
+        match answer {
+            Some(Answer::Items) => self.find_packets(class, items),
+            Some(Answer::Empty) => self.find_no_packets(class),
+            _ => unreachable!(),
+        }
+    }
+
+    /// Puts the items that the second look found together into packets.
+    fn find_packets(&mut self, class: u32, items: &mut Batch) -> Ask
+        requires looking { IsLooking (seat_in self.old) (kept_in self.old) class }
+        ensures emptied { items.new ≡ [] }
+        ensures gives { Gives self.old self.new result }
+        ensures goes { GoesOnAsk (seat_in self.old) self.new result (ask (gathered (seat_in self.old) class (kept_in self.old) items.old) (Release (Tx (socket_in (seat_in self.old) class)) (length items.old))
+            (on_released (look_from (seat_in self.old) (class + 1) (moved (noted_in self.old)) (gathered (seat_in self.old) class (kept_in self.old) items.old)))) }
+    {
+        let count = items.len();
+        self.gather_all(class, items);
+        self.wait = Wait::ReleaseLooked { class: class + 1 };
+        Ask::Release(Ring::Tx(self.socket_of(class)), count)
+    }
+
+    fn find_no_packets(&mut self, class: u32) -> Ask
+        requires looking { IsLooking (seat_in self.old) (kept_in self.old) class }
+        ensures gives { Gives self.old self.new result }
+        ensures goes { GoesOnAsk (seat_in self.old) self.new result (look_from (seat_in self.old) (class + 1) (noted_in self.old) (with_tx_empty class (kept_in self.old))) }
+    {
+        DriverCounters::raise_class(&mut self.counters.tx_ring_empty_descs, class, 1);
+        self.look_tx(class + 1)
+    }
+
+    /// Ends the second look: clears its flags where it gave items, and else parks, once it knows that the application may still
+    /// send.
+    fn settle_down(&mut self) -> Ask
+        ensures gives { Gives self.old self.new result }
+        ensures goes { GoesOnAsk (seat_in self.old) self.new result (settle_script (seat_in self.old) (noted_in self.old) (kept_in self.old)) }
+    {
+        if self.turn.progress {
+            return self.disarm(self.turn.lacking > 0);
+        }
+        if self.rx_done {
+            self.wait = Wait::LookEnd;
+            return self.look_at_end();
+        }
+        self.park()
+    }
+
+    /// Goes on by the mark that tells whether the application sends nothing more.
+    pub(crate) fn learn_end(&mut self, done: u64) -> Ask
+        ensures gives { Gives self.old self.new result }
+        ensures goes { GoesOnAsk (seat_in self.old) self.new result (if done == 1 then disarm_script (seat_in self.old) (awaits (noted_in self.old)) (record (kept_in self.old) { tx_done = true }) else park_script (awaits (noted_in self.old)) (kept_in self.old)) }
+    {
+        if done == 1 {
+            self.tx_done = true;
+            return self.disarm(self.turn.lacking > 0);
+        }
+        self.park()
+    }
+
+    /// Is parked: from now on it looks at its kick.
+    fn park(&mut self) -> Ask
+        ensures gives { Gives self.old self.new result }
+        ensures goes { GoesOnAsk (seat_in self.old) self.new result (park_script (awaits (noted_in self.old)) (kept_in self.old)) }
+    {
+        self.parked = Some(self.turn.lacking > 0);
+        self.begin()
+    }
+
+    pub(crate) fn look_kick(&mut self, frames: bool) -> Ask
+        ensures gives { Gives self.old self.new result }
+        ensures goes { GoesOnAsk (seat_in self.old) self.new result (look_kick_script (seat_in self.old) frames (kept_in self.old)) }
+    {
+        self.wait = Wait::LookKick { frames };
+        Ask::Look(Mark::Kick(self.pair))
+    }
+
+    /// Goes on by its kick: clears it where it was kicked, and else looks again.
+    pub(crate) fn go_on_kicked(&mut self, frames: bool, kick: u64) -> Ask
+        ensures gives { Gives self.old self.new result }
+        ensures goes { GoesOnAsk (seat_in self.old) self.new result (if kick == 1 then ask (woken (kept_in self.old)) (Swap (Kick self.old.pair) 0) (on_old (λ _. disarm_script (seat_in self.old) frames (woken (kept_in self.old)))) else again (kept_in self.old)) }
+    {
+        if kick == 1 {
+            self.parked = None;
+            self.wait = Wait::ClearKick { frames };
+            return Ask::Swap(Mark::Kick(self.pair), 0);
+        }
+        self.begin()
+    }
+
+    /// Clears its flags, FILL's too or not.
+    pub(crate) fn disarm(&mut self, frames: bool) -> Ask
+        ensures gives { Gives self.old self.new result }
+        ensures goes { GoesOnAsk (seat_in self.old) self.new result (disarm_script (seat_in self.old) frames (kept_in self.old)) }
+    {
+        if frames {
+            self.wait = Wait::Disarm { class: 0 };
+            return Ask::Swap(Mark::NeedFill(self.pair), 0);
+        }
+        self.disarm_tx(0)
+    }
+
+    /// Clears the flag of the class's TX ring, or begins a new turn after the last one.
+    pub(crate) fn disarm_tx(&mut self, class: u32) -> Ask
+        requires within { class ≤ self.old.classes }
+        ensures gives { Gives self.old self.new result }
+        ensures goes { GoesOnAsk (seat_in self.old) self.new result (flag_from (seat_in self.old) 0 class (kept_in self.old) (again (kept_in self.old))) }
+    {
+        if class == self.classes {
+            return self.begin();
+        }
+        self.wait = Wait::Disarm { class: class + 1 };
+        Ask::Swap(Mark::NeedTx(self.socket_of(class)), 0)
+    }
+}
