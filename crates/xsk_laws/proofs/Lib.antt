@@ -10,3 +10,6 @@ pub mod Sockets
 pub mod Sorted
 pub mod Theorems
 pub mod OneQueue
+pub mod Waking
+pub mod WakingEnd
+pub mod Woken

@@ -1,3 +1,4 @@
 pub mod Expected
 pub mod Forwarded
 pub mod Laws
+pub mod Woken

@@ -1,7 +1,8 @@
-//! The laws of all workers' whole runs, each the contract of a function that does nothing. They are stated in
-//! `specs/Laws.antt`.
+//! The laws of all workers' runs, each the contract of a function that does nothing. They are stated in `specs/Laws.antt`, of
+//! whole runs, and in `specs/Woken.antt`, of all runs.
 
 ghost use Rattle.xsk_laws.specs.Laws.{SentIsForwarded, SentIsExpected, AllAreForwarded, NothingElseIsSent, AllIsForwarded, AllIsExpected, SentIsWithin, ExpectedIsOther};
+ghost use Rattle.xsk_laws.specs.Woken.{NoWakesAreLost, NoneIsLostInWholeRuns};
 
 /// What a driver sent by the socket of a class is exactly what the paired port's driver delivered to the paired socket, each
 /// packet whole and in order, whatever the wire does.
@@ -45,4 +46,15 @@ pub fn sent_is_within()
 /// all packets of the paired port that have 14 bytes up to the limit.
 pub fn expected_is_other()
     ensures { ExpectedIsOther }
+{}
+
+/// No wake is lost: after each prefix of every history of the workers, where a driver is parked and entries wait on a ring whose
+/// need-wakeup flag it has set, or its end is come, its kick is set or its application owes it one.
+pub fn no_wakes_are_lost()
+    ensures { NoWakesAreLost }
+{}
+
+/// So it is after each prefix of a history in which all workers have run to their ends.
+pub fn none_is_lost_in_whole_runs()
+    ensures { NoneIsLostInWholeRuns }
 {}

@@ -1,8 +1,10 @@
 -- Which rings and marks an application has: those of its lanes and sides.
-use Rattle.std.proofs.Common.{◌≡◌, ℕ, suc, ◌+◌, ◌-◌, ◌*◌, ◌/◌, ◌%◌, ◌<◌, ◌≤◌, ◌⊎◌, ⊎_elim, length, sym, ap, ◌∙◌, subst, arith, mul-le-mul_right}
+use Rattle.std.proofs.Common.{◌≡◌, ℕ, suc, ◌+◌, ◌-◌, ◌*◌, ◌/◌, ◌%◌, ◌<◌, ◌≤◌, ◌⊎◌, ⊎_elim, None, length, sym, ap, ◌∙◌, subst, arith, mul-le-mul_right}
 use Rattle.std.proofs.Math.Nat.{mod-eq-sub-div-mul}
 use Rattle.std.proofs.lemmas.Nat.{div-mul-add, div_below, div-add-mod'}
-use Rattle.xsk_turns.proofs.Object.{Config, HasRing, pool_of, batch_of, classes_of, callers_of, caller_of, application_on, producer, consumer, apps_of}
+use Rattle.xsk_turns.proofs.Object.{Config, HasRing, pool_of, batch_of, classes_of, callers_of, caller_of, application_on, producer, consumer, apps_of, IsBound, socket_at, port_of, queue_of}
+use Rattle.xsk_model.specs.Rings.{driver_of}
+use Rattle.xsk_model.proofs.Roles.{pair_on_only}
 use Rattle.xsk_model.specs.declared.call.Ring.TheVariants.{Comp, Rx, Tx}
 use Rattle.xsk_turns.specs.AppTurns.{pair_of, side_socket, rx_of, tx_of, lanes_of}
 use Rattle.xsk_turns.specs.AppOwned.{IsApp}
@@ -114,7 +116,20 @@ module _ (c : Config) (a : ℕ) (one : IsApp c a) where
       let e = socket_pair side class k in
       ((below, at.3), ap (caller_of c) (sym (own_app side _ _ h (at.0 ∙ ap (λ (n : ℕ). n / c.queues) e) (at.1 ∙ ap (λ (n : ℕ). n % c.queues) e))))
 
-  class_below : (lane : ℕ) → lane % classes_of c < classes_of c
+  -- its driver is that of the side's pair
+  pub socket_driver : (side class : ℕ) → side < 2 → class < classes_of c → driver_of c (Tx (side_socket c a side class)) ≡ pair_of c a side
+  socket_driver side class h k =
+      let s = side_socket c a side class in
+      let within = socket_below side class h k in
+      let below = pair_below side h in
+      let bound : IsBound c.ports c.queues c.pairs (socket_at c.sockets s) = one.config.bound s (record { port = 0; queue = 0; rx = None; tx = None }) within in
+      let seat = one.regular.seats (pair_of c a side) below in
+      let at = one.regular.places s within in
+      let e = socket_pair side class k in
+      pair_on_only c.pairs (port_of c (Tx s)) (queue_of c (Tx s)) (pair_of c a side) bound.pair below
+      (seat.0 ∙ ap (λ (n : ℕ). n / c.queues) (sym e) ∙ sym at.0, seat.1 ∙ ap (λ (n : ℕ). n % c.queues) (sym e) ∙ sym at.1)
+
+  pub class_below : (lane : ℕ) → lane % classes_of c < classes_of c
   class_below lane = let h = classes_some in omega arith
 
   -- ---- the homes

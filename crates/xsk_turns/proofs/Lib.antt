@@ -5,6 +5,7 @@ pub mod AppLanes
 pub mod AppOwned
 pub mod AppOwning
 pub mod AppPlaces
+pub mod AppWaking
 pub mod AppWalk
 pub mod Calls
 pub mod Completing

@@ -1,13 +1,22 @@
 -- What holds of every run of an application, and what of every whole one, by its turns alone.
-use Rattle.std.specs.Prelude.{◌≡◌, ℕ, ◌<◌, true, false, List, [], ◌∷◌, ◌++◌}
+use Rattle.std.specs.Prelude.{◌≡◌, ℕ, ◌<◌, ◌==◌, ◌&&◌, true, false, if◌then◌else◌, List, [], ◌∷◌, ◌++◌, drop}
+use Rattle.std.specs.List.{fold}
 use Rattle.xsk_umem.specs.declared.batch.Item.{Item}
 use Rattle.xsk_model.specs.Config.{Config}
 use Rattle.xsk_model.specs.Entry.{Told}
 use Rattle.xsk_model.specs.Own.{submitted_of, peeked_of}
 use Rattle.xsk_model.specs.Ends.{draining_of, telling_of}
-use Rattle.xsk_model.specs.declared.call.Ring.TheVariants.{Rx, Tx}
-use Rattle.xsk_model.specs.declared.call.Mark.TheVariants.{RxDone, TxDone}
-use Rattle.xsk_turns.specs.AppTurns.{lanes_of, pair_of, rx_of, tx_of, IsAppRun, IsWholeAppRun}
+use Rattle.xsk_model.specs.Rings.{driver_of}
+use Rattle.xsk_model.specs.Marks.{is_mark}
+use Rattle.xsk_model.specs.declared.call.Ring.TheVariants.{Fill, Comp, Rx, Tx}
+use Rattle.xsk_model.specs.declared.call.Mark.{Mark}
+use Rattle.xsk_model.specs.declared.call.Mark.TheVariants.{NeedFill, NeedTx, Kick, RxDone, TxDone}
+use Rattle.xsk_model.specs.declared.call.Call.{Call}
+use Rattle.xsk_model.specs.declared.call.Call.TheVariants.{Reserve, Submit, Peek, Release, Swap, Look}
+use Rattle.xsk_model.specs.declared.call.Reply.{Reply}
+use Rattle.xsk_model.specs.declared.call.Reply.TheVariants.{Old}
+use Rattle.xsk_turns.specs.Script.{Script, Asks}
+use Rattle.xsk_turns.specs.AppTurns.{AppKept, lanes_of, pair_of, rx_of, tx_of, app_turn, app_start, IsAppRun, IsWholeAppRun}
 use Rattle.xsk_turns.specs.AppOwned.{IsApp}
 
 -- one list is a front of another
@@ -32,3 +41,55 @@ NothingSentLate = (c : Config) (app t : ℕ) (l : List Told) → IsApp c app →
 abbrev pub DrainsRx : Type 0
 DrainsRx = (c : Config) (app : ℕ) (l : List Told) (lane : ℕ) → IsApp c app → IsWholeAppRun c app l → lane < lanes_of c
     → (draining_of (RxDone (pair_of c app 0) ∷ RxDone (pair_of c app 1) ∷ []) (Rx (rx_of c app lane)) l).empty ≡ true
+
+-- ---- need-wakeup
+
+-- it sets kicks, and clears none
+abbrev pub SetsKick : Call → Type 0
+SetsKick (Swap (Kick d) value) = value ≡ 1
+SetsKick call = Unit {0}
+
+abbrev pub SetsKicks : List Told → Type 0
+SetsKicks [] = Unit {0}
+SetsKicks (t ∷ l) = SetsKick t.call × SetsKicks l
+
+abbrev pub OnlySetsKicks : Type 0
+OnlySetsKicks = (c : Config) (app : ℕ) (l : List Told) → IsApp c app → IsAppRun c app l → SetsKicks l
+
+-- The calls that are due where the need-wakeup flags are used: after a Submit on FILL or TX a look at that ring's flag (af_xdp.rst,
+-- "XDP_USE_NEED_WAKEUP bind flag"); where it was answered 1, a swap of the kick of the ring's driver to 1; and after it told that
+-- it sends nothing more, a swap of the kick of each of its drivers.
+abbrev pub kick_of : ℕ → List Call
+kick_of pair = Swap (Kick pair) 1 ∷ []
+
+abbrev pub flag_due : Config → Mark → Reply → List Call
+flag_due c (NeedFill d) (Old number) = if number == 1 then kick_of d else []
+flag_due c (NeedTx t) (Old number) = if number == 1 then kick_of (driver_of c (Tx t)) else []
+flag_due c mark reply = []
+
+abbrev pub due_after : Config → ℕ → Call → Reply → List Call
+due_after c app (Reserve r n) reply = []
+due_after c app (Submit (Fill d) items) reply = Look (NeedFill d) ∷ []
+due_after c app (Submit (Comp d) items) reply = []
+due_after c app (Submit (Rx s) items) reply = []
+due_after c app (Submit (Tx t) items) reply = Look (NeedTx t) ∷ []
+due_after c app (Peek r n) reply = []
+due_after c app (Release r n) reply = []
+due_after c app (Swap m value) reply = if is_mark m (TxDone app) && value == 1 then kick_of (pair_of c app 0) ++ kick_of (pair_of c app 1) else []
+due_after c app (Look m) reply = flag_due c m reply
+
+-- each call is the first that is due, where one is, and those after it stay due
+abbrev pub due_step : Config → ℕ → List Call → Told → List Call
+due_step c app due t = due_after c app t.call t.reply ++ drop 1 due
+
+abbrev pub due_of : Config → ℕ → List Told → List Call
+due_of c app l = fold (due_step c app) [] l
+
+-- so it makes each call that is due at once
+abbrev pub IsFirstDue : Call → List Call → Type 0
+IsFirstDue call [] = Unit {0}
+IsFirstDue call (first ∷ later) = call ≡ first
+
+abbrev pub WakesAtOnce : Type 0
+WakesAtOnce = (c : Config) (app : ℕ) (l : List Told) (kept : AppKept) (call : Call) (rest : Reply → Script AppKept) → IsApp c app → c.wakeup ≡ true
+    → Asks (app_turn c app) (app_start c) l kept call rest → IsFirstDue call (due_of c app l)

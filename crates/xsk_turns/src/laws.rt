@@ -2,7 +2,7 @@
 //! for a driver and in `specs/AppLaw.antt` for an application, and those of what each keeps at each call beside the
 //! definitions that they speak of.
 
-ghost use Rattle.xsk_turns.specs.AppLaw.{LanesInOrder, LanesPassedOn, NothingSentLate, DrainsRx};
+ghost use Rattle.xsk_turns.specs.AppLaw.{LanesInOrder, LanesPassedOn, NothingSentLate, DrainsRx, OnlySetsKicks, WakesAtOnce};
 ghost use Rattle.xsk_turns.specs.AppOwned.{AppKeepsFrames, AppCallsLegal, AppKeepsFramesAtEnd};
 ghost use Rattle.xsk_turns.specs.Counted.{KeepsCounters, KeepsCountersAtEnd};
 ghost use Rattle.xsk_turns.specs.Disposes.{KeepsDisposals, DisposesAll};
@@ -185,4 +185,16 @@ pub fn nothing_sent_late()
 #[tactic(auto, using(crate::proofs::AppLanes::drains_rx))]
 pub fn drains_rx()
     ensures { DrainsRx }
+{}
+
+/// It sets kicks, and clears none.
+pub fn only_sets_kicks()
+    ensures { OnlySetsKicks }
+{}
+
+/// Where the need-wakeup flags are used it looks at a ring's flag directly after each Submit on FILL or TX, wakes the ring's
+/// driver directly after that where the flag is set, and wakes both drivers directly after it told that it sends nothing more.
+#[tactic(auto, using(crate::proofs::AppWaking::wakes_at_once))]
+pub fn wakes_at_once()
+    ensures { WakesAtOnce }
 {}

@@ -1,0 +1,186 @@
+-- No wake is lost: the law, proved of what a driver watches while it is parked, and of its application, which clears no kick.
+use Rattle.std.proofs.Common.{◌≡◌, ℕ, ◌*◌, ◌/◌, ◌%◌, ◌+◌, ◌<◌, ◌≤◌, ◌⊎◌, Bool, true, false, cond, None, List, [], ◌++◌, length, refl, sym, ap, subst, ◌∙◌, ⊎_elim, arith}
+use Rattle.std.proofs.lemmas.Nat.{div_below, div-add-mod'}
+use Rattle.xsk_umem.specs.Frame.{Frame}
+use Rattle.xsk_model.specs.Config.{Config, IsConfig, IsRegular, IsBound, HasRing, pair_at, socket_at, classes_of}
+use Rattle.xsk_model.specs.Rings.{port_of, queue_of, driver_of, app_of, caller_of}
+use Rattle.xsk_model.specs.Marks.{apps_of}
+use Rattle.xsk_model.specs.Entry.{Entry, own}
+use Rattle.xsk_model.specs.History.{IsHistory, state_after}
+use Rattle.xsk_model.specs.Opening.{opening}
+use Rattle.xsk_model.specs.declared.call.Ring.TheVariants.{Fill, Tx}
+use Rattle.xsk_model.specs.declared.call.Mark.TheVariants.{NeedFill, NeedTx, Kick, RxDone, TxDone}
+use Rattle.xsk_model.proofs.Along.{along}
+use Rattle.xsk_model.proofs.FirstState.{opening_mark_is}
+use Rattle.xsk_model.proofs.Folds.{own-append}
+use Rattle.xsk_model.proofs.Histories.{history_first}
+use Rattle.xsk_model.proofs.Roles.{IsPlaced, app_below, pair_on_found, pair_on_only, ring_placed}
+use Rattle.xsk_turns.specs.AppLaw.{SetsKicks}
+use Rattle.xsk_turns.specs.AppOwned.{IsApp}
+use Rattle.xsk_turns.specs.AppTurns.{app_turn, app_start, IsAppRun}
+use Rattle.xsk_turns.specs.Owned.{socket_at_class}
+use Rattle.xsk_turns.specs.Turns.{Judged, seat_of, start, turn, IsDriverRun}
+use Rattle.xsk_turns.specs.Wakes.{IsParked, IsOwedOn, IsOwedEnd, app_for, owes_on, owes_end, IsWoken, NoWakeIsLost}
+use Rattle.xsk_turns.specs.Watching.{Watching, IsWatched, WatchesAll, watching_of}
+use Rattle.xsk_turns.specs.Workers.{input_of}
+use Rattle.xsk_turns.specs.declared.wire.Wire.{Wire}
+use Rattle.xsk_turns.proofs.AppWaking.{only_sets_kicks}
+use Rattle.xsk_turns.proofs.ScriptLemmas.{run_front, whole_run}
+use Rattle.xsk_turns.proofs.Watching.{parked_watches}
+use Rattle.xsk_laws.specs.Laws.{received_by}
+use Rattle.xsk_laws.specs.Woken.{NoWakesAreLost, NoneIsLostInWholeRuns}
+use Rattle.xsk_laws.proofs.Waking.{IsKept, IsTarget, IsKeptOn, keeps_on}
+use Rattle.xsk_laws.proofs.WakingEnd.{IsEnding, IsKeptAtEnd, keeps_at_end}
+
+-- a flag that is 1 is set, so what it stands for is watched, and the wake comes
+is_set : (b : Bool) (n : ℕ) → n ≡ cond b 1 0 → n ≡ 1 → b ≡ true
+is_set true n e f = refl
+is_set false n e f = absurd (omega (arith, e, f))
+
+wakes : (s : Watching) (owes : Bool) (flag kick : ℕ) (due : Type 0) → IsWatched s → IsKept s owes flag kick due → flag ≡ 1 → due → (kick ≡ 1) ⊎ (owes ≡ true)
+wakes s owes flag kick due watched h set x = h.woken (watched (is_set s.set flag h.set set)) x
+
+none_seen : (owes : Bool) (flag kick : ℕ) (due : Type 0) → flag ≡ 0 → IsKept (record { set = false; watched = false }) owes flag kick due
+none_seen owes flag kick due e = record { set = e; armed = λ watched. absurd (cc); woken = λ watched x. absurd (cc) }
+
+module _ (wire : Wire) (c : Config) (input : List Judged) (frames : List Frame) (h : List Entry) (d : ℕ) (regular : IsRegular c) (history : IsHistory c frames h) (below : d < length c.pairs)
+    (driver : IsDriverRun wire c d input (own d h)) (app : IsAppRun c (app_for c d) (own (app_of c (Fill d)) h)) where
+  config : IsConfig c
+  config = history.opened.config
+
+  abbrev w : ℕ
+  w = app_of c (Fill d)
+
+  known : app_for c d < apps_of c
+  known =
+      let at : IsPlaced c (Fill d) = ring_placed c (Fill d) config below in
+      app_below c.ports c.queues (pair_at c.pairs d).port (pair_at c.pairs d).queue config.ports at.port at.queue
+
+  one : IsApp c (app_for c d)
+  one = record { config = config; regular = regular; known = known }
+
+  sets : SetsKicks (own w h)
+  sets = only_sets_kicks c (app_for c d) (own w h) one app
+
+  waker : (who : ℕ) → (who ≡ d) ⊎ (who ≡ w) → (who ≡ d → ⊥) → who ≡ w
+  waker who either other = ⊎_elim (λ (e : who ≡ d). absurd (other e)) (λ (e : who ≡ w). e) either
+
+  watches : IsParked d (own d h) → WatchesAll c d (own d h)
+  watches parked =
+      subst (WatchesAll c d) (sym parked.1) (parked_watches wire c d input parked.0 (subst (IsDriverRun wire c d input) parked.1 driver))
+
+  -- ---- FILL
+
+  fill_target : IsTarget c d w (Fill d) (NeedFill d)
+  fill_target = record {
+    ring = below;
+    marked = below;
+    kicked = below;
+    consumes = refl;
+    produces = refl;
+    numbers = λ value k. k;
+    owns = λ who k. k;
+    wakes = waker;
+    apart = refl;
+  }
+
+  fill : IsOwedOn c (state_after c frames h) (own d h) d (Fill d) (NeedFill d) → IsWoken c (state_after c frames h) d (owes_on d (Fill d) (NeedFill d) (own w h))
+  fill owed =
+      let first : IsKeptOn c frames config d w (Fill d) (NeedFill d) fill_target (opening c frames) [] =
+      λ k. none_seen _ _ _ _ (opening_mark_is c frames (NeedFill d) history.opened below) in
+      let kept = along (IsKeptOn c frames config d w (Fill d) (NeedFill d) fill_target) c frames h history (keeps_on c frames config d w (Fill d) (NeedFill d) fill_target) first in
+      wakes _ _ _ _ _ (watches owed.parked).fill (kept sets) owed.set owed.waits
+
+  -- ---- a TX ring
+
+  module _ (t : ℕ) (has : HasRing c (Tx t)) (mine : driver_of c (Tx t) ≡ d) where
+    bound : IsBound c.ports c.queues c.pairs (socket_at c.sockets t)
+    bound = config.bound t (record { port = 0; queue = 0; rx = None; tx = None }) has.0
+
+    -- it is the TX ring of a class
+    of_pair : driver_of c (Tx t) ≡ t / classes_of c
+    of_pair =
+        let within : t / classes_of c < length c.pairs = div_below t (classes_of c) (length c.pairs) some (omega (arith, has.0, regular.sockets)) in
+        let seat = regular.seats (t / classes_of c) within in
+        let at = regular.places t has.0 in
+        pair_on_only c.pairs (port_of c (Tx t)) (queue_of c (Tx t)) (t / classes_of c) bound.pair within (seat.0 ∙ sym at.0, seat.1 ∙ sym at.1)
+      where
+        some : 1 ≤ classes_of c
+        some = omega (arith, regular.classes)
+
+    class_below : t % classes_of c < classes_of c
+    class_below = let few = regular.classes in omega (arith, few)
+
+    socket : socket_at_class c d (t % classes_of c) ≡ t
+    socket = ap (λ (n : ℕ). n * classes_of c + t % classes_of c) (sym mine ∙ of_pair) ∙ div-add-mod' t (classes_of c)
+
+    -- its application is that of the pair
+    same_app : app_of c (Tx t) ≡ w
+    same_app =
+        let at = (pair_on_found c.pairs (port_of c (Tx t)) (queue_of c (Tx t)) (omega (arith, bound.pair))).1 in
+        let port : port_of c (Tx t) ≡ (pair_at c.pairs d).port = sym at.0 ∙ ap (λ n. (pair_at c.pairs n).port) mine in
+        let queue : queue_of c (Tx t) ≡ (pair_at c.pairs d).queue = sym at.1 ∙ ap (λ n. (pair_at c.pairs n).queue) mine in
+        ap (λ (n : ℕ). caller_of c ((n / 2) * c.queues + queue_of c (Tx t))) port ∙ ap (λ (n : ℕ). caller_of c (((pair_at c.pairs d).port / 2) * c.queues + n)) queue
+
+    tx_target : IsTarget c d w (Tx t) (NeedTx t)
+    tx_target = record {
+      ring = has;
+      marked = has;
+      kicked = below;
+      consumes = mine;
+      produces = same_app;
+      numbers = λ value k. k;
+      owns = λ who k. k ∙ mine;
+      wakes = waker;
+      apart = refl;
+    }
+
+    tx : IsOwedOn c (state_after c frames h) (own d h) d (Tx t) (NeedTx t) → IsWoken c (state_after c frames h) d (owes_on d (Tx t) (NeedTx t) (own w h))
+    tx owed =
+        let first : IsKeptOn c frames config d w (Tx t) (NeedTx t) tx_target (opening c frames) [] =
+        λ k. none_seen _ _ _ _ (opening_mark_is c frames (NeedTx t) history.opened has) in
+        let kept = along (IsKeptOn c frames config d w (Tx t) (NeedTx t) tx_target) c frames h history (keeps_on c frames config d w (Tx t) (NeedTx t) tx_target) first in
+        let watched : IsWatched (watching_of (NeedTx t) (Tx t) (Kick d) (own d h)) =
+        subst (λ n. IsWatched (watching_of (NeedTx n) (Tx n) (Kick d) (own d h))) socket ((watches owed.parked).tx (t % classes_of c) class_below) in
+        wakes _ _ _ _ _ watched (kept sets) owed.set owed.waits
+
+  -- ---- the end
+
+  ending : IsEnding c d w (app_for c d)
+  ending = record { received = below; sent = known; kicked = below; tells = λ who k. k; wakes = waker }
+
+  at_end : IsOwedEnd c (state_after c frames h) (own d h) d → IsWoken c (state_after c frames h) d (owes_end d (TxDone (app_for c d)) (own w h))
+  at_end owed =
+      let first : IsKeptAtEnd c frames config d w (app_for c d) ending (opening c frames) [] =
+      λ k. none_seen _ _ _ _ (opening_mark_is c frames (RxDone d) history.opened below) in
+      let kept = along (IsKeptAtEnd c frames config d w (app_for c d) ending) c frames h history (keeps_at_end c frames config d w (app_for c d) ending) first in
+      wakes _ _ _ _ _ (watches owed.parked).ends (kept sets) owed.received owed.sent
+
+  pub no_wake_is_lost : NoWakeIsLost c frames h d
+  no_wake_is_lost = record { fill = fill; tx = λ t has mine. tx t has mine; at_end = at_end }
+
+pub no_wakes_are_lost : NoWakesAreLost
+no_wakes_are_lost s frames h more d are below =
+    let c = s.config in
+    let config = are.history.opened.config in
+    let a = app_for c d in
+    let at : IsPlaced c (Fill d) = ring_placed c (Fill d) config below in
+    let known : a < apps_of c = app_below c.ports c.queues (pair_at c.pairs d).port (pair_at c.pairs d).queue config.ports at.port at.queue in
+    let driver = (are.runs d (omega (arith, below))).driver below in
+    let app = (are.runs (caller_of c a) (omega (arith, known))).app a refl in
+    no_wake_is_lost s.wire c (input_of s d) frames h d are.regular (history_first c frames h more are.history) below
+    (run_front (turn (seat_of s.wire c d)) (start (classes_of c) (input_of s d)) (own d h) (own d more) (subst (IsDriverRun s.wire c d (input_of s d)) (own-append d h more) driver))
+    (run_front (app_turn c a) (app_start c) (own (caller_of c a) h) (own (caller_of c a) more) (subst (IsAppRun c a) (own-append (caller_of c a) h more) app))
+
+pub none_is_lost_in_whole_runs : NoneIsLostInWholeRuns
+none_is_lost_in_whole_runs wire c lists verdicts frames h more d are below =
+    let config = are.history.opened.config in
+    let a = app_for c d in
+    let at : IsPlaced c (Fill d) = ring_placed c (Fill d) config below in
+    let known : a < apps_of c = app_below c.ports c.queues (pair_at c.pairs d).port (pair_at c.pairs d).queue config.ports at.port at.queue in
+    let input = received_by c lists verdicts d in
+    let driver : IsDriverRun wire c d input (own d (h ++ more)) = whole_run (turn (seat_of wire c d)) (start (classes_of c) input) (own d (h ++ more)) (are.drivers d below) in
+    let app : IsAppRun c a (own (caller_of c a) (h ++ more)) = whole_run (app_turn c a) (app_start c) (own (caller_of c a) (h ++ more)) (are.apps a known) in
+    no_wake_is_lost wire c input frames h d are.regular (history_first c frames h more are.history) below
+    (run_front (turn (seat_of wire c d)) (start (classes_of c) input) (own d h) (own d more) (subst (IsDriverRun wire c d input) (own-append d h more) driver))
+    (run_front (app_turn c a) (app_start c) (own (caller_of c a) h) (own (caller_of c a) more) (subst (IsAppRun c a) (own-append (caller_of c a) h more) app))
