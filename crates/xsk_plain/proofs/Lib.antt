@@ -11,4 +11,4 @@ pub mod Bare
 pub mod Quiet
 pub mod Running
 pub mod Noted
-pub mod Lines
+pub mod RowLines

@@ -3,6 +3,7 @@ pub mod Engine
 pub mod Histories
 pub mod Kept
 pub mod Laws
+pub mod Left
 pub mod Line
 pub mod Log
 pub mod Object

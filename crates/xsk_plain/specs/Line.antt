@@ -1,10 +1,9 @@
 -- The journal's line of an entry: who made the call, the call and its reply. This project's own.
-use Rattle.std.specs.Prelude.{◌≡◌, ℕ, ◌-◌, nat_lt, if◌then◌else◌, List, ◌++◌, codes, length, slice_get, Some}
+use Rattle.std.specs.Prelude.{◌≡◌, ℕ, ◌-◌, nat_lt, if◌then◌else◌, List, [], ◌∷◌, ◌++◌, codes, slice_get, Option, None, Some}
 use Rattle.std.specs.Fmt.{decimal}
 use Rattle.std.specs.List.{flat_map}
 use Rattle.xsk_umem.specs.declared.batch.Item.{Item}
 use Rattle.xsk_umem.specs.declared.batch.XdpDesc.{XdpDesc}
-use Rattle.xsk_model.specs.Config.{Config}
 use Rattle.xsk_model.specs.Entry.{Entry}
 use Rattle.xsk_model.specs.declared.call.Ring.{Ring}
 use Rattle.xsk_model.specs.declared.call.Ring.TheVariants.{Fill, Comp, Rx, Tx}
@@ -63,11 +62,18 @@ reply_text Empty = codes "empty"
 reply_text Released = codes "released"
 reply_text (Old value) = decimal value
 
-abbrev pub line_of : Config → Entry → List ℕ
-line_of c e = who_text (length c.pairs) e.who ++ codes " " ++ call_text e.call ++ codes " -> " ++ reply_text e.reply ++ codes "\n"
+-- where the configuration has so many pairs
+abbrev pub line_of : ℕ → Entry → List ℕ
+line_of pairs e = who_text pairs e.who ++ codes " " ++ call_text e.call ++ codes " -> " ++ reply_text e.reply ++ codes "\n"
 
 -- the line of an entry of a log
-pub record IsLineAt (c : Config) (log : List Entry) (i : ℕ) (line : List ℕ) : Type 0 where
+pub record IsLineAt (pairs : ℕ) (log : List Entry) (i : ℕ) (line : List ℕ) : Type 0 where
   pub entry : Entry
   pub at : slice_get log i ≡ Some entry
-  pub is : line ≡ line_of c entry
+  pub is : line ≡ line_of pairs entry
+
+-- Of the entries that are left the first is passed: its caller is told, and its line stands in place of the one before. Where
+-- none is left, all stays as it is.
+abbrev pub TakesLine : ℕ → List Entry → List Entry → List ℕ → List ℕ → Option ℕ → Type 0
+TakesLine pairs [] later before line told = (told ≡ None) × (later ≡ []) × (line ≡ before)
+TakesLine pairs (e ∷ es) later before line told = (told ≡ Some e.who) × (later ≡ es) × (line ≡ line_of pairs e)

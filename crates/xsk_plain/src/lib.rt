@@ -6,8 +6,7 @@ mod checked;
 mod checked_tests;
 pub mod laws;
 mod line;
-#[cfg(test)]
-mod line_tests;
+mod lines;
 mod log;
 mod moving;
 mod noting;
@@ -21,5 +20,6 @@ mod tests;
 
 pub use checked::Checked;
 pub use line::LineBuffer;
+pub use lines::Lines;
 pub use log::Log;
 pub use plain::{OpenRefused, Plain, items_room, payload_room};

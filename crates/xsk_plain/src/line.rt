@@ -263,15 +263,12 @@ impl Log {
         }
     }
 
-    /// Puts the line of an entry, with its line feed, in place of what the buffer held:
-    /// `<who> <call> -> <reply>`, where drivers are `d<number>` and applications `a<number>`. The configuration is the
-    /// log's, and tells how many drivers there are. It takes no memory.
-    pub fn write_line(&self, config: &Config, i: u32, out: &mut LineBuffer)
-        requires { i < calls_of self.now }
-        ensures { IsLineAt config.now (entries_of self.now) i out.new }
+    /// Puts the line of a row, whose items begin at this place, in the buffer.
+    pub(crate) fn write_row(&self, pairs: u32, i: u32, start: u32, out: &mut LineBuffer)
+        requires row { i < calls_of self.now }
+        requires start { start ≡ sum_by count_of (take i self.now.rows.items) }
+        ensures { IsLineAt pairs (entries_of self.now) i out.new }
     {
-        let pairs = config.pairs().len() as u32;
-        let start = self.start_of(i);
         let row = self.rows.get(i);
         let line = &mut out.text;
         line.clear();
@@ -279,5 +276,17 @@ impl Log {
         line.push_str(" ");
         self.push_event(line, start, row);
         line.push_str("\n");
+    }
+
+    /// Puts the line of an entry, with its line feed, in place of what the buffer held:
+    /// `<who> <call> -> <reply>`, where drivers are `d<number>` and applications `a<number>`. The configuration is the
+    /// log's, and tells how many drivers there are. It takes no memory, and time for all rows before this one: `lines` goes
+    /// over the log in time of its own.
+    pub fn write_line(&self, config: &Config, i: u32, out: &mut LineBuffer)
+        requires { i < calls_of self.now }
+        ensures { IsLineAt (length config.now.pairs) (entries_of self.now) i out.new }
+    {
+        let pairs = config.pairs().len() as u32;
+        self.write_row(pairs, i, self.start_of(i), out);
     }
 }

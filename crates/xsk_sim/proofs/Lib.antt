@@ -10,3 +10,5 @@ pub mod Stalling
 pub mod Standing
 pub mod Settling
 pub mod Bounding
+pub mod InRounds
+pub mod Journaling

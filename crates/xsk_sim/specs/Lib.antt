@@ -7,3 +7,5 @@ pub mod Stalls
 pub mod Turning
 pub mod Given
 pub mod Bounds
+pub mod Counts
+pub mod Journal

@@ -1,6 +1,6 @@
 -- Histories in rounds: in each round each caller whose own calls and replies so far aren't a whole run makes one call, in
 -- the round's order. Which lists are whole runs is a parameter.
-use Rattle.std.specs.Prelude.{◌≡◌, ℕ, zero, suc, ◌⊎◌, List, [], ◌∷◌, ◌++◌}
+use Rattle.std.specs.Prelude.{◌≡◌, ℕ, zero, suc, ◌⊎◌, List, [], ◌∷◌, ◌++◌, length, replicate}
 use Rattle.xsk_model.specs.Entry.{Told, Entry, own}
 use Rattle.xsk_sim.specs.Order.{number_at, start_of, rotated}
 
@@ -24,3 +24,11 @@ abbrev pub AreRounds : (ℕ → List Told → Type 0) → ℕ → ℕ → ℕ �
 AreRounds Whole callers order zero h = h ≡ []
 AreRounds Whole callers order (suc round) h =
     (past es : List Entry) × (h ≡ past ++ es) × AreRounds Whole callers order round past × IsRound Whole callers order round past es
+
+-- the rounds of the entries of so many rounds, one for each entry: first those of all rounds but the last, and then the last
+-- round's number for each of its entries
+abbrev pub AreInRounds : (ℕ → List Told → Type 0) → ℕ → ℕ → ℕ → List Entry → List ℕ → Type 0
+AreInRounds Whole callers order zero h rounds = (h ≡ []) × (rounds ≡ [])
+AreInRounds Whole callers order (suc round) h rounds =
+    (past es : List Entry) × (before : List ℕ) × (h ≡ past ++ es) × (rounds ≡ before ++ replicate (length es) round)
+    × AreInRounds Whole callers order round past before × IsRound Whole callers order round past es

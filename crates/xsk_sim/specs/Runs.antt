@@ -23,7 +23,8 @@ use Rattle.xsk_turns.specs.declared.wire.Wire.TheVariants.{Wait}
 use Rattle.xsk_laws.specs.Laws.{AreForwarded, AreExpected}
 use Rattle.xsk_driver.specs.Asking.{IsAnswer}
 use Rattle.xsk_driver.specs.Figured.{figures_of}
-use Rattle.xsk_sim.specs.Rounds.{AreRounds}
+use Rattle.xsk_sim.specs.Journal.{rounds_of}
+use Rattle.xsk_sim.specs.Rounds.{AreRounds, AreInRounds}
 use Rattle.xsk_sim.specs.Shown.{Shown}
 use Rattle.xsk_sim.specs.Stalls.{StandStill}
 
@@ -130,3 +131,8 @@ EndsOrStalls = (s : Setting) (frames : List Frame) (order round : ℕ) (run : Sh
 -- there is one round at which it stalls
 abbrev pub OneStall : Type 0
 OneStall = (s : Setting) (frames : List Frame) (order round other : ℕ) → HasStalled s frames order round → HasStalled s frames order other → round ≡ other
+
+-- the entries of a history in rounds stand in the rounds whose numbers are those of their callers' entries before them
+abbrev pub EntriesStandInRounds : Type 0
+EntriesStandInRounds = (s : Setting) (frames : List Frame) (order count : ℕ) (h : List Entry) → IsRoundHistory s frames order count h
+    → AreInRounds (IsWholeRun s) (callers_of s.config) order count h (rounds_of h)

@@ -1,6 +1,6 @@
 //! The laws of runs, each the contract of a function that does nothing. They are stated in `specs/Runs.antt`.
 
-ghost use Rattle.xsk_sim.specs.Runs.{OneHistory, OneLog, OneFigures, EndsOrStalls, OneStall, EndsAsRuled, StallsAsRuled, EndedIsForwarded, EndedIsExpected};
+ghost use Rattle.xsk_sim.specs.Runs.{OneHistory, OneLog, OneFigures, EndsOrStalls, OneStall, EndsAsRuled, StallsAsRuled, EndedIsForwarded, EndedIsExpected, EntriesStandInRounds};
 
 /// For each number of rounds there is one history in rounds of the workers of a configuration over packets with verdicts.
 pub fn one_history()
@@ -46,4 +46,11 @@ pub fn ended_is_forwarded()
 /// Where the wire waits, it is what is expected of the input.
 pub fn ended_is_expected()
     ensures { EndedIsExpected }
+{}
+
+/// Each entry of a history in rounds stands in the round, counted from 0, whose number is that of its caller's entries before
+/// it. So the journal's lines begin with their rounds.
+#[tactic(auto, using(crate::proofs::InRounds::entries_stand_in_rounds))]
+pub fn entries_stand_in_rounds()
+    ensures { EntriesStandInRounds }
 {}

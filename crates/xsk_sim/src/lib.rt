@@ -1,11 +1,13 @@
 //! Rounds on one thread: in each round every worker that hasn't ended makes one call, in a stated order.
 #![tactic(auto)]
 
+mod journal;
 pub mod laws;
 mod order;
 mod rounds;
 mod seat;
 mod simulation;
 
+pub use journal::{append_journal, journal_text};
 pub use simulation::{Run, SimError, simulate};
 pub use xsk_driver::{Figures, Wire};

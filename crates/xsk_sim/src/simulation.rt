@@ -6,6 +6,7 @@ ghost use Rattle.xsk_model.specs.Config.{IsRegular, classes_of};
 ghost use Rattle.xsk_model.specs.Opening.{AreFrames};
 ghost use Rattle.xsk_model.specs.Marks.{apps_of};
 ghost use Rattle.xsk_umem.specs.Frame.{Frame};
+ghost use Rattle.xsk_plain.specs.Left.{left_of};
 ghost use Rattle.xsk_plain.specs.Log.{calls_of, entries_of};
 ghost use Rattle.xsk_turns.specs.Inputs.{inputs_of};
 ghost use Rattle.xsk_driver.specs.Figures.{figures_in};
@@ -30,7 +31,7 @@ use xsk_app::App;
 use xsk_driver::{Driver, DriverFigures, FigureList, Figures, Inputs, Wire};
 use xsk_machine::driver_for;
 use xsk_model::Config;
-use xsk_plain::{Log, Plain};
+use xsk_plain::{Lines, Log, Plain};
 use xsk_prog::{Verdict, XdpProgram};
 use xsk_umem::{Frames, OutOfMemory, PacketList};
 
@@ -65,14 +66,14 @@ pub struct Run {
 }
 
 impl Model for Run {
-    ghost use Rattle.std.specs.Prelude.{All, map, vec_len};
+    ghost use Rattle.std.specs.Prelude.{All, map, vec_len, ◌<◌, ◌^◌};
     ghost use Rattle.xsk_sim.specs.Shown.{Shown, HasShortPackets, packets_in};
 
     ghost Value = { Shown };
 
     ghost view = { λ r. record { calls = r.plain.calls; pairs = vec_len r.sent; log = r.plain.log; sent = map packets_in r.sent.items; figures = r.figures } };
 
-    ghost invariant = { λ r. All HasShortPackets r.sent.items };
+    ghost invariant = { λ r. All HasShortPackets r.sent.items × (vec_len r.sent < 2 ^ 32) };
 }
 
 impl Run {
@@ -82,6 +83,14 @@ impl Run {
         ensures entries { entries_of result.now ≡ self.now.log }
     {
         self.plain.log()
+    }
+
+    /// Goes over all calls with their replies.
+    pub(crate) fn lines(&self) -> Lines<'_>
+        ensures pairs { result.pairs ≡ self.now.pairs }
+        ensures all { left_of result ≡ self.now.log }
+    {
+        self.plain.log().lines(self.sent.len() as u32)
     }
 
     /// What the run comes to in numbers, each a count over its calls and replies.

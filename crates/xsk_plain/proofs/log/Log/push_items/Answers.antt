@@ -5,7 +5,7 @@ use Rattle.xsk_umem.specs.declared.batch.Item.{Item}
 use Rattle.xsk_plain.specs.Log.{item_of}
 use Rattle.xsk_plain.specs.Rows.{items_from}
 use Rattle.xsk_plain.specs.Line.{item_text, items_text}
-use Rattle.xsk_plain.proofs.Lines.{next_item, one_more_text}
+use Rattle.xsk_plain.proofs.RowLines.{next_item, one_more_text}
 use Rattle.xsk_plain.proofs.log.Log.push_items.Goals as goal
 
 pub overflow_add-start : goal.overflow_add-start

@@ -1,5 +1,5 @@
 use Rattle.std.proofs.Common.{◌≡◌, ◌+◌, ◌≤◌, sym, ap, ◌∙◌, arith, rules}
-use Rattle.xsk_plain.proofs.Lines.{next_start, row_within}
+use Rattle.xsk_plain.proofs.RowLines.{next_start, row_within}
 use Rattle.xsk_plain.proofs.log.Log.start_of.Goals as goal
 
 pub overflow_add-start : goal.overflow_add-start

@@ -13,7 +13,7 @@ use Rattle.xsk_plain.specs.declared.log.Row.{Row}
 use Rattle.xsk_plain.specs.Repeats.{Repeats, of_option, values_at, AreBelow}
 use Rattle.xsk_plain.specs.Pieces.{count_of, IsShort}
 use Rattle.xsk_plain.specs.Log.{entry_with, entries_from}
-use Rattle.xsk_plain.specs.Line.{item_text, items_text}
+use Rattle.xsk_plain.specs.Line.{item_text, items_text, line_of, TakesLine}
 use Rattle.xsk_plain.proofs.Places.{length-values}
 
 -- an element that a place has is the one that stands there, whatever stands for a missing one
@@ -99,3 +99,30 @@ row_short rows i row short at = subst IsShort (stands_at rows i row row at) (All
 
 pub joins : (front call arrow reply : List ℕ) → front ++ ((call ++ arrow) ++ reply) ≡ ((front ++ call) ++ arrow) ++ reply
 joins front call arrow reply = sym (append_assoc front (call ++ arrow) reply) ∙ ap (λ t. t ++ reply) (sym (append_assoc front call arrow))
+
+-- ---- a walk over the entries
+
+-- the first of those that are left stands at the walk's place
+pub passes : (pairs : ℕ) (log : List Entry) (i who : ℕ) (e : Entry) (before line : List ℕ) → slice_get log i ≡ Some e → e.who ≡ who → line ≡ line_of pairs e
+    → TakesLine pairs (drop i log) (drop (suc i) log) before line (Some who)
+passes pairs [] i who e before line at caller is = absurd (cc)
+passes pairs (x ∷ log) zero who e before line at caller is =
+    let same : e ≡ x = cc in
+    (ap Some (sym caller ∙ ap (λ (y : Entry). y.who) same), refl, is ∙ ap (line_of pairs) same)
+passes pairs (x ∷ log) (suc i) who e before line at caller is = passes pairs log i who e before line at caller is
+
+-- the same entry stands there, by whatever it is told
+pub one_caller : (log : List Entry) (i : ℕ) (e f : Entry) → slice_get log i ≡ Some e → slice_get log i ≡ Some f → e.who ≡ f.who
+one_caller log i e f first second =
+    let same : e ≡ f = cc in
+    ap (λ (x : Entry). x.who) same
+
+-- none is left at the end
+pub none_left : (log : List Entry) (i : ℕ) → length log ≤ i → drop i log ≡ []
+none_left [] zero end = refl
+none_left [] (suc i) end = refl
+none_left (x ∷ log) zero end = absurd (omega (arith, end))
+none_left (x ∷ log) (suc i) end = none_left log i (omega (arith, end))
+
+pub stays : (pairs : ℕ) (log : List Entry) (i : ℕ) (line : List ℕ) → length log ≤ i → TakesLine pairs (drop i log) (drop i log) line line None
+stays pairs log i line end = subst (λ (left : List Entry). TakesLine pairs left left line line None) (sym (none_left log i end)) (refl, refl, refl)
