@@ -1,5 +1,5 @@
 //! The figures of a run: what became of each driver's packets, and its counters.
-ghost use Rattle.std.specs.Prelude.{◌≡◌, ◌<◌, if◌then◌else◌, List, [], ◌∷◌, ◌++◌, OnErr, OnOk, Some, length, slice_get, sum};
+ghost use Rattle.std.specs.Prelude.{◌≡◌, ◌<◌, ◌^◌, if◌then◌else◌, List, [], ◌∷◌, ◌++◌, OnErr, OnOk, Some, length, slice_get, sum};
 ghost use Rattle.xsk_driver.specs.Figures.{KindsAddUp, counter_to, counters_to, figures_by, figures_in, kind_of as kind_by, kinds_of};
 ghost use Rattle.xsk_driver.specs.Figured.{FiguresAtEnd};
 ghost use Rattle.xsk_turns.specs.declared.disposal.Disposal.{Disposal as ADisposal};
@@ -140,6 +140,14 @@ impl FigureList {
         FigureList {
             figures: Vec::new(alloc),
         }
+    }
+
+    /// The list of these figures. It takes no memory.
+    pub fn of(figures: Vec<DriverFigures>) -> FigureList
+        requires { length figures.items < 2 ^ 32 }
+        ensures { result ≡ figures.items }
+    {
+        FigureList { figures }
     }
 
     /// Adds the figures of the next driver. The list stays as it was where memory can't be had.

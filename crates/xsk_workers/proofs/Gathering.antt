@@ -4,16 +4,26 @@ use Rattle.std.specs.List.{range_with_len}
 use Rattle.std.proofs.lemmas.Bool.{cases_eq}
 use Rattle.std.proofs.lemmas.List.{get_or-map, length-map, get_or_append_left, get_or_push}
 use Rattle.std.proofs.lemmas.List.Elements.{All-head, All-tail}
-use Rattle.std.proofs.lemmas.List.FromFn.{length-range_with_len, get_or-range_with_len}
-use Rattle.xsk_model.specs.Config.{callers_of}
-use Rattle.xsk_model.specs.Entry.{own}
+use Rattle.std.proofs.lemmas.List.FromFn.{length-range_with_len, get_or-range_with_len, fill_by_all}
+use Rattle.xsk_model.specs.Config.{callers_of, classes_of}
+use Rattle.xsk_model.specs.Entry.{Told, own}
 use Rattle.xsk_model.specs.declared.call.Act.TheVariants.{Ended}
-use Rattle.xsk_turns.specs.Workers.{Setting, IsWholeRun}
+use Rattle.xsk_model.proofs.CallTheorems.{callers_exist}
+use Rattle.xsk_turns.specs.Counted.{capped}
+use Rattle.xsk_turns.specs.Workers.{Setting, IsWholeRun, input_of}
+use Rattle.xsk_turns.specs.declared.wire.Wire.{Wire}
+use Rattle.xsk_driver.specs.Figures.{figures_in}
+use Rattle.xsk_driver.specs.Figured.{driver_figures_by, driver_figures_of, figures_of}
+use Rattle.xsk_driver.specs.Shown.{Shown as DriverShown}
+use Rattle.xsk_driver.specs.declared.figures.DriverFigures.{DriverFigures}
+use Rattle.xsk_driver.specs.declared.figures.Figures.{Figures}
+use Rattle.xsk_driver.proofs.Figured.{figures_at_end}
+use Rattle.xsk_machine.specs.Acts.{DriverStands}
 use Rattle.xsk_machine.proofs.Acts.{sent_at}
 use Rattle.xsk_table.specs.Held.{Board, Holder, new_pass}
 use Rattle.xsk_table.specs.Opening.{new_passes}
 use Rattle.xsk_workers.specs.Shown.{WorkerShown, Seat, seat_of, seat_at, HasRun}
-use Rattle.xsk_workers.specs.Eithers.{Stands, kept_of}
+use Rattle.xsk_workers.specs.Eithers.{Stands, kept_of, figures_kept}
 use Rattle.xsk_umem.specs.Frame.{Frame}
 use Rattle.xsk_model.specs.Config.{Config, IsRegular}
 use Rattle.xsk_model.specs.Entry.{Entry}
@@ -24,7 +34,8 @@ use Rattle.xsk_machine.proofs.Within.{are_within}
 use Rattle.xsk_table.specs.Closing.{AreThere, EndsIn}
 use Rattle.xsk_workers.specs.Shown.{AreOf}
 use Rattle.xsk_workers.specs.Forwarded.{HasForwarded}
-use Rattle.xsk_workers.specs.Gathering.{HaveRun, HaveRunFrom, AreTaken, AreGiven, AreSent, IsSentOf}
+use Rattle.xsk_workers.specs.Gathering.{HaveRun, HaveRunFrom, AreTaken, AreGiven, AreKept, AreSent, IsSentOf, AreFiguresOf, IsFiguresOf, calls_in}
+use Rattle.xsk_workers.proofs.Calls.{calls_are}
 use Rattle.xsk_workers.specs.declared.either.Either.{Either}
 use Rattle.xsk_workers.specs.declared.either.Either.TheVariants.{Driver, App}
 
@@ -66,6 +77,12 @@ is_new_pass b n passes p below taken is = ap (some_of p) (is ∙ taken.there n (
 pub given_none : (b : Board) (s : Setting) (passes : List (Option Holder)) → AreTaken b (callers_of b.setup.config) passes → AreGiven b s 0 passes
 given_none b s passes h = record { length_is = h.length_is; there = λ w none. absurd (omega arith); gone = λ w low below. h.gone w below }
 
+-- the figures of a driver that has ended
+figures_at : (s : Setting) (n classes : ℕ) (d : DriverShown) (l : List Told) → classes ≡ classes_of s.config → DriverStands s n d Ended l → IsFiguresOf s n l (figures_in classes d)
+figures_at s n classes d l is stands within =
+    ap (λ k. figures_in k d) is ∙ figures_at_end s.wire s.config n (input_of s n) d l stands.stands
+    ∙ ap (λ (ps : List (List ℕ)). driver_figures_by s.wire s.config n (input_of s n) (length ps) l) (sent_at s n d Ended l refl stands within)
+
 module _ (b : Board) (s : Setting) (n : ℕ) (passes : List (Option Holder)) (p : Holder) (known : n < callers_of b.setup.config) (h : AreGiven b s n passes) where
   abbrev more : List (Option Holder)
   more = set passes n (Some p)
@@ -86,39 +103,48 @@ module _ (b : Board) (s : Setting) (n : ℕ) (passes : List (Option Holder)) (p 
     gone = λ w low below. get_or-set_other passes n w (Some p) None (λ e. omega (arith, e)) ∙ h.gone w (omega arith) below;
   }
 
-  -- what its driver sent is kept behind the others
-  pub sent_more : (lists : List (List (List ℕ))) (m : Either) → Stands s n m Ended (own n p.view.seen) → AreSent s n passes lists → AreSent s (n + 1) more (lists ++ kept_of m)
-  sent_more lists (Driver d) stands sent =
-      let is : length lists ≡ n = sent.first (omega (arith, stands.known)) in
-      let count : length (lists ++ d.sent.packets ∷ []) ≡ n + 1 = omega (arith, is, length-append lists (d.sent.packets ∷ [])) in
+  -- what was kept of a driver stands behind the others, and of an application nothing is kept
+  one_kept : {X : Type 0} (Is : ℕ → List Told → X → Type 0) (xs : List X) (x : X) → n < length s.config.pairs → Is n (own n p.view.seen) x → AreKept Is s n passes xs → AreKept Is s (n + 1) more (xs ++ x ∷ [])
+  one_kept Is xs x below is kept =
+      let few : length xs ≡ n = kept.first (omega (arith, below)) in
+      let count : length (xs ++ x ∷ []) ≡ n + 1 = omega (arith, few, length-append xs (x ∷ [])) in
       record {
-        first = λ few. count;
-        all = λ full. omega (arith, count, stands.known, full);
-        each = λ w below. ⊎_elim
+        first = λ low. count;
+        all = λ full. omega (arith, count, below, full);
+        each = λ w none in_kept. ⊎_elim
             (λ (e : w ≡ n).
-            let at : get_or (lists ++ d.sent.packets ∷ []) w [] ≡ d.sent.packets = get_or_push lists d.sent.packets [] w (is ∙ sym e) in (
+            let at : get_or (xs ++ x ∷ []) w none ≡ x = get_or_push xs x none w (few ∙ sym e) in (
               p,
               ap (λ k. get_or more k None) e ∙ here,
-              subst (λ k. IsSentOf s k (own k p.view.seen) (get_or (lists ++ d.sent.packets ∷ []) w [])) (sym e)
-                  (subst (IsSentOf s n (own n p.view.seen)) (sym at) (λ within. sent_at s n d Ended (own n p.view.seen) refl stands within)),
+              subst (λ k. Is k (own k p.view.seen) (get_or (xs ++ x ∷ []) w none)) (sym e) (subst (Is n (own n p.view.seen)) (sym at) is),
             ))
             (λ (e : w ≡ n → ⊥).
-            let low : w < n = omega (arith, e, below, count) in
-            let old = sent.each w (omega (arith, low, is)) in
-            (old.0, before w low ∙ old.1, subst (IsSentOf s w (own w old.0.view.seen)) (sym (get_or_append_left lists (d.sent.packets ∷ []) [] w (omega (arith, low, is)))) old.2))
+            let low : w < n = omega (arith, e, in_kept, count) in
+            let old = kept.each w none (omega (arith, low, few)) in
+            (old.0, before w low ∙ old.1, subst (Is w (own w old.0.view.seen)) (sym (get_or_append_left xs (x ∷ []) none w (omega (arith, low, few)))) old.2))
             (cases_eq w n);
       }
-  sent_more lists (App a) stands sent =
-      let past : length s.config.pairs ≤ n = omega (arith, stands.caller) in
-      let is : length lists ≡ length s.config.pairs = sent.all past in
-      subst (AreSent s (n + 1) more) (sym (append-nil lists)) (record {
+
+  none_kept : {X : Type 0} (Is : ℕ → List Told → X → Type 0) (xs : List X) → length s.config.pairs ≤ n → AreKept Is s n passes xs → AreKept Is s (n + 1) more (xs ++ [])
+  none_kept Is xs past kept =
+      let count : length xs ≡ length s.config.pairs = kept.all past in
+      subst (AreKept Is s (n + 1) more) (sym (append-nil xs)) (record {
         first = λ few. absurd (omega (arith, past, few));
-        all = λ full. is;
-        each = λ w below. let old = sent.each w below in (old.0, before w (omega (arith, below, is, past)) ∙ old.1, old.2);
+        all = λ full. count;
+        each = λ w none below. let old = kept.each w none below in (old.0, before w (omega (arith, below, count, past)) ∙ old.1, old.2);
       })
 
-pub sent_none : (s : Setting) (passes : List (Option Holder)) → AreSent s 0 passes []
-sent_none s passes = record { first = λ few. refl; all = λ full. omega (arith, full); each = λ w none. absurd (omega arith) }
+  pub sent_more : (lists : List (List (List ℕ))) (m : Either) → Stands s n m Ended (own n p.view.seen) → AreSent s n passes lists → AreSent s (n + 1) more (lists ++ kept_of m)
+  sent_more lists (Driver d) stands sent = one_kept (IsSentOf s) lists d.sent.packets stands.known (λ within. sent_at s n d Ended (own n p.view.seen) refl stands within) sent
+  sent_more lists (App a) stands sent = none_kept (IsSentOf s) lists (omega (arith, stands.caller)) sent
+
+  pub figures_more : (classes : ℕ) (figures : List DriverFigures) (m : Either) → classes ≡ classes_of s.config → Stands s n m Ended (own n p.view.seen) → AreFiguresOf s n passes figures
+      → AreFiguresOf s (n + 1) more (figures ++ figures_kept classes m)
+  figures_more classes figures (Driver d) is stands kept = one_kept (IsFiguresOf s) figures (figures_in classes d) stands.known (figures_at s n classes d (own n p.view.seen) is stands) kept
+  figures_more classes figures (App a) is stands kept = none_kept (IsFiguresOf s) figures (omega (arith, stands.caller)) kept
+
+pub kept_none : {X : Type 0} (Is : ℕ → List Told → X → Type 0) (s : Setting) (passes : List (Option Holder)) → AreKept Is s 0 passes []
+kept_none Is s passes = record { first = λ few. refl; all = λ full. omega (arith, full); each = λ w none below. absurd (omega (arith, below)) }
 
 -- ---- workers that came back
 
@@ -163,11 +189,15 @@ module _ (b : Board) (s : Setting) (n : ℕ) (w : WorkerShown) (rest : List Work
   pub stands_here : (m : Either) → Stands w.setting w.pass.who m Ended (own w.pass.who w.pass.view.seen) → Stands s n m Ended (own n w.pass.view.seen)
   stands_here m h = at_seat (λ t k. Stands t k m Ended (own k w.pass.view.seen)) h
 
--- there is room for what a driver sent
-pub kept_few : (s : Setting) (n : ℕ) (passes : List (Option Holder)) (lists : List (List (List ℕ))) (m : Either) (p : Holder) → Stands s n m Ended (own n p.view.seen) → AreSent s n passes lists
-    → length lists + length (kept_of m) ≤ length s.config.pairs
-kept_few s n passes lists (Driver d) p stands sent = omega (arith, stands.known, sent.first (omega (arith, stands.known)))
-kept_few s n passes lists (App a) p stands sent = omega (arith, sent.all (omega (arith, stands.caller)))
+-- there is room for what is kept of a driver
+pub kept_few : {X : Type 0} (Is : ℕ → List Told → X → Type 0) (s : Setting) (n : ℕ) (passes : List (Option Holder)) (xs : List X) (m : Either) (l : List Told) → Stands s n m Ended l → AreKept Is s n passes xs
+    → length xs + length (kept_of m) ≤ length s.config.pairs
+kept_few Is s n passes xs (Driver d) l stands kept = omega (arith, stands.known, kept.first (omega (arith, stands.known)))
+kept_few Is s n passes xs (App a) l stands kept = omega (arith, kept.all (omega (arith, stands.caller)))
+
+pub as_many : (classes : ℕ) (m : Either) → length (figures_kept classes m) ≡ length (kept_of m)
+as_many classes (Driver d) = refl
+as_many classes (App a) = refl
 
 -- workers in these seats are workers of the setting, on the table
 pub are_of : (b : Board) (s : Setting) (n k : ℕ) (ws : List WorkerShown) → map (λ (w : WorkerShown). seat_of w) ws ≡ map (seat_at s b) (range_with_len n k) → AreOf b s ws
@@ -188,11 +218,14 @@ are_there b s passes h = λ w below. let at = h.there w below in (at.0, at.1, re
 
 -- ---- the history of them all
 
--- in the history in which all passes end each caller's own calls and replies are a whole run, and what was kept as sent is what
--- was sent there
-module _ (b : Board) (s : Setting) (frames : List Frame) (passes : List (Option Holder)) (lists : List (List (List ℕ))) (h : List Entry) (regular : IsRegular s.config)
+abbrev figures_by_parts : ℕ → Wire → List DriverFigures → Figures
+figures_by_parts calls wire drivers = record { calls = calls; wire = wire; drivers = drivers }
+
+-- in the history in which all passes end each caller's own calls and replies are a whole run, and what was kept as sent, as
+-- figures and as the number of calls is what it should be there
+module _ (b : Board) (s : Setting) (frames : List Frame) (passes : List (Option Holder)) (lists : List (List (List ℕ))) (drivers : List DriverFigures) (calls : ℕ) (wire : Wire) (h : List Entry) (regular : IsRegular s.config)
     (config : s.config ≡ b.setup.config) (opened : b.setup.frames ≡ frames) (given : AreGiven b s (callers_of b.setup.config) passes) (sent : AreSent s (callers_of b.setup.config) passes lists)
-    (ends : EndsIn b passes h) where
+    (figured : AreFiguresOf s (callers_of b.setup.config) passes drivers) (counted : calls ≡ capped (calls_in 0 passes)) (same_wire : wire ≡ s.wire) (ends : EndsIn b passes h) where
   legal : IsHistory s.config frames h
   legal = subst (λ f. IsHistory s.config f h) opened (subst (λ c. IsHistory c b.setup.frames h) (sym config) ends.legal)
 
@@ -204,18 +237,48 @@ module _ (b : Board) (s : Setting) (frames : List Frame) (passes : List (Option 
       let at = given.there who (known who below) in
       subst (IsWholeRun s who) (sym (ends.of_each who at.0 (known who below) at.1)) at.4
 
-  lists_are : length lists ≡ length s.config.pairs
-  lists_are = sent.all (omega (arith, ap (λ (c : Config). callers_of c) config))
+  past : length s.config.pairs ≤ callers_of b.setup.config
+  past = omega (arith, ap (λ (c : Config). callers_of c) config)
 
-  sent_is : (pair : ℕ) → pair < length s.config.pairs → get_or lists pair [] ≡ sent_in s.config h pair
-  sent_is pair below =
-      let at = sent.each pair (omega (arith, lists_are, below)) in
+  -- what was kept of a driver is so in the history
+  kept_is : {X : Type 0} (Is : ℕ → List Told → X → Type 0) (xs : List X) → AreKept Is s (callers_of b.setup.config) passes xs → (pair : ℕ) (none : X) → pair < length s.config.pairs → Is pair (own pair h) (get_or xs pair none)
+  kept_is Is xs kept pair none below =
+      let at = kept.each pair none (omega (arith, kept.all past, below)) in
       let who : pair < callers_of s.config = omega (arith, below) in
       let mine : own pair h ≡ own pair at.0.view.seen = ends.of_each pair at.0 (known pair who) at.1 in
-      subst (λ l. IsSentOf s pair l (get_or lists pair [])) (sym mine) at.2 (are_within s frames h regular legal whole pair below)
+      subst (λ l. Is pair l (get_or xs pair none)) (sym mine) at.2
 
-  pub has_forwarded : HasForwarded s frames (record { history = h; sent = lists })
-  has_forwarded = record { legal = legal; whole = whole; holders = λ past later split. one_holder s.config frames past later (subst (IsHistory s.config frames) split legal); sent = sent_is }
+  sent_is : (pair : ℕ) → pair < length s.config.pairs → get_or lists pair [] ≡ sent_in s.config h pair
+  sent_is pair below = kept_is (IsSentOf s) lists sent pair [] below (are_within s frames h regular legal whole pair below)
+
+  drivers_are : drivers ≡ map (driver_figures_of s h) (range_with_len 0 (length s.config.pairs))
+  drivers_are =
+      fill_by_all (driver_figures_of s h) drivers (length s.config.pairs) (driver_figures_of s h 0) (figured.all past)
+      (λ k below. kept_is (IsFiguresOf s) drivers figured k (driver_figures_of s h 0) below (are_within s frames h regular legal whole k below))
+
+  calls_is : calls ≡ capped (length h)
+  calls_is =
+      counted
+      ∙ ap capped
+      (calls_are b passes h given.length_is (λ w below. let at = given.there w below in (at.0, at.1)) ends
+      (callers_exist b.setup.config b.setup.frames h ends.legal))
+
+  abbrev figures : Figures
+  figures = record { calls = calls; wire = wire; drivers = drivers }
+
+  figures_are : figures ≡ figures_of s h
+  figures_are =
+      ap (λ (n : ℕ). figures_by_parts n wire drivers) calls_is ∙ ap (λ (x : Wire). figures_by_parts (capped (length h)) x drivers) same_wire
+      ∙ ap (figures_by_parts (capped (length h)) s.wire) drivers_are
+
+  pub has_forwarded : HasForwarded s frames (record { history = h; sent = lists; figures = figures })
+  has_forwarded = record {
+    legal = legal;
+    whole = whole;
+    holders = λ past later split. one_holder s.config frames past later (subst (IsHistory s.config frames) split legal);
+    sent = sent_is;
+    figures = figures_are;
+  }
 
   pub pairs_are : length lists ≡ length s.config.pairs
-  pairs_are = lists_are
+  pairs_are = sent.all past

@@ -1,5 +1,5 @@
 -- How a worker goes on with its call's reply.
-use Rattle.std.proofs.Common.{◌≡◌, ℕ, Option, Some, List, refl, sym, ap, subst, ◌∙◌}
+use Rattle.std.proofs.Common.{◌≡◌, ℕ, ◌+◌, Option, Some, List, [], ◌∷◌, length, refl, sym, ap, subst, ◌∙◌, arith, length-append}
 use Rattle.xsk_umem.specs.declared.batch.Item.{Item}
 use Rattle.xsk_model.specs.Config.{Config}
 use Rattle.xsk_model.specs.Asks.{joined_call, HasAsked}
@@ -15,13 +15,14 @@ use Rattle.xsk_model.specs.declared.call.Call.TheVariants.{Reserve, Submit, Peek
 use Rattle.xsk_model.specs.declared.call.Reply.{Reply}
 use Rattle.xsk_model.specs.declared.call.Reply.TheVariants.{Granted, Full, Submitted, Items, Empty, Released, Old}
 use Rattle.xsk_model.proofs.Replies.{gift_fits}
+use Rattle.xsk_turns.specs.Counted.{capped}
 use Rattle.xsk_turns.specs.Stepping.{joined_ask, IsGivenBack}
 use Rattle.xsk_turns.specs.Workers.{Setting}
 use Rattle.xsk_machine.specs.Acts.{IsActAfter}
 use Rattle.xsk_table.specs.Held.{Board, Holder, Belongs}
 use Rattle.xsk_rings.specs.Serving.{MayAsk, Served}
 use Rattle.xsk_rings.proofs.Telling.{may_give_served}
-use Rattle.xsk_workers.specs.Shown.{IsGoing}
+use Rattle.xsk_workers.specs.Shown.{IsGoing, AreCounted}
 
 -- a reply that fits a call is of the call's kind
 pub fits_kind : (c : Config) (mine : List Told) (call : Call) (reply : Reply) → Fits c mine call reply → IsReplyTo call reply
@@ -83,3 +84,11 @@ module _ {M : Type 0} (Stands : Setting → ℕ → M → Act → List Told → 
       stands = subst (λ (w : ℕ). Stands' s w machine' (joined_ask next left) (own q.who q.view.seen)) (sym served.who) (subst (Stands' s p.who machine' (joined_ask next left)) (sym now) both.0);
       after = subst (λ (w : ℕ). IsActAfter s w (joined_ask next left) (own q.who q.view.seen)) (sym served.who) (subst (IsActAfter s p.who (joined_ask next left)) (sym now) both.1);
     }
+
+-- one call more is counted
+pub one_more : (p : Holder) (call : Call) (reply : Reply) (q : Holder) (calls more : ℕ) → AreCounted calls p → Served p q call reply → more ≡ capped (calls + 1) → AreCounted more q
+one_more p call reply q calls more counted served next =
+    let mine : List Told = own p.who p.view.seen in
+    let now : own q.who q.view.seen ≡ with_told mine call reply = (may_give_served p q call reply served).1 in
+    let longer : length (own q.who q.view.seen) ≡ length mine + 1 = ap length now ∙ length-append mine ((record { call = call; reply = reply }) ∷ []) in
+    next ∙ ap (λ n. capped (n + 1)) counted ∙ (let sum : capped (capped (length mine) + 1) ≡ capped (length mine + 1) = omega arith in sum) ∙ ap capped (sym longer)

@@ -1,5 +1,6 @@
 pub mod Going
 pub mod Seats
 pub mod Lists
+pub mod Calls
 pub mod Gathering
 pub mod Forwarded

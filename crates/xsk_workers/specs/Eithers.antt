@@ -5,6 +5,8 @@ use Rattle.xsk_model.specs.Expected.{Expected}
 use Rattle.xsk_model.specs.declared.call.Act.{Act}
 use Rattle.xsk_turns.specs.Workers.{Setting}
 use Rattle.xsk_machine.specs.Acts.{IsDriver, DriverStands, IsApp, AppStands}
+use Rattle.xsk_driver.specs.Figures.{figures_in}
+use Rattle.xsk_driver.specs.declared.figures.DriverFigures.{DriverFigures}
 use Rattle.xsk_workers.specs.declared.either.Either.{Either}
 use Rattle.xsk_workers.specs.declared.either.Either.TheVariants.{Driver, App}
 
@@ -24,3 +26,8 @@ Stands s who (App a) act l = AppStands s who a act l
 abbrev pub kept_of : Either → List (List (List ℕ))
 kept_of (Driver d) = d.sent.packets ∷ []
 kept_of (App a) = []
+
+-- and its figures, where a queue has so many sockets
+abbrev pub figures_kept : ℕ → Either → List DriverFigures
+figures_kept classes (Driver d) = figures_in classes d ∷ []
+figures_kept classes (App a) = []

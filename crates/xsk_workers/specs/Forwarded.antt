@@ -11,24 +11,28 @@ use Rattle.xsk_model.specs.Holders.{HasOneHolder}
 use Rattle.xsk_model.specs.Sent.{sent}
 use Rattle.xsk_turns.specs.Workers.{Setting, IsWholeRun}
 use Rattle.xsk_turns.specs.declared.wire.Wire.TheVariants.{Wait}
+use Rattle.xsk_driver.specs.Figured.{figures_of}
+use Rattle.xsk_driver.specs.declared.figures.Figures.{Figures}
 use Rattle.xsk_laws.specs.Laws.{AreForwarded, AreExpected}
 
--- the history that the table's note shows, and for each pair the packets that its driver kept as sent
+-- the history that the table's note shows, for each pair the packets that its driver kept as sent, and the figures
 pub record OutcomeShown : Type 0 where
   pub history : List Entry
   pub sent : List (List (List ℕ))
+  pub figures : Figures
 
 abbrev pub packets_in : PacketList → List (List ℕ)
 packets_in list = list.packets
 
 -- The history is legal from the opening with these frames. Of each worker it has a whole run of its turns over the packets
 -- that came, and of no one else anything. After each of its prefixes each frame has one holder, and what each driver sent
--- are the packets that its calls on COMPLETION completed there.
+-- are the packets that its calls on COMPLETION completed there. The figures are counts over the history.
 pub record HasForwarded (s : Setting) (frames : List Frame) (o : OutcomeShown) : Type 0 where
   pub legal : IsHistory s.config frames o.history
   pub whole : (who : ℕ) → who < callers_of s.config → IsWholeRun s who (own who o.history)
   pub holders : (past later : List Entry) → o.history ≡ past ++ later → HasOneHolder s.config.geometry.frames (state_after s.config frames past)
   pub sent : (pair : ℕ) → pair < length s.config.pairs → slice_index_or o.sent pair [] ≡ sent s.config o.history pair
+  pub figures : o.figures ≡ figures_of s o.history
 
 -- What the driver of a port and queue sent is what was forwarded by all classes, whatever the wire does, and nothing else.
 -- Where the wire waits it is what is expected by them.

@@ -3,7 +3,9 @@ use Rattle.std.specs.Prelude.{◌≡◌, ℕ, ◌+◌, ◌<◌, ◌≤◌, Optio
 use Rattle.xsk_model.specs.Config.{callers_of}
 use Rattle.xsk_model.specs.Entry.{Told, own}
 use Rattle.xsk_model.specs.Sent.{sockets_of, sent_from}
-use Rattle.xsk_turns.specs.Workers.{Setting, IsWholeRun}
+use Rattle.xsk_turns.specs.Workers.{Setting, IsWholeRun, input_of}
+use Rattle.xsk_driver.specs.Figured.{driver_figures_by}
+use Rattle.xsk_driver.specs.declared.figures.DriverFigures.{DriverFigures}
 use Rattle.xsk_machine.proofs.Acts.{IsWithin}
 use Rattle.xsk_table.specs.Held.{Board, Holder, new_pass}
 use Rattle.xsk_workers.specs.Shown.{WorkerShown, seat_of, seat_at, HasRun}
@@ -30,12 +32,29 @@ pub record AreGiven (b : Board) (s : Setting) (count : ℕ) (passes : List (Opti
   pub there : (w : ℕ) → w < count → (p : Holder) × (get_or passes w None ≡ Some p) × (p.table ≡ b.table) × (p.view.setup ≡ b.setup) × IsWholeRun s w (own w p.view.seen)
   pub gone : (w : ℕ) → count ≤ w → w < callers_of b.setup.config → get_or passes w None ≡ None
 
+-- What was kept of the first drivers, one thing of each, is what it should be by what their passes saw.
+pub record AreKept {X : Type 0} (Is : ℕ → List Told → X → Type 0) (s : Setting) (count : ℕ) (passes : List (Option Holder)) (kept : List X) : Type 0 where
+  pub first : count ≤ length s.config.pairs → length kept ≡ count
+  pub all : length s.config.pairs ≤ count → length kept ≡ length s.config.pairs
+  pub each : (w : ℕ) (none : X) → w < length kept → (p : Holder) × (get_or passes w None ≡ Some p) × Is w (own w p.view.seen) (get_or kept w none)
+
 -- a list of packets is what a driver sent, by what its pass saw, unless that is more than it has room for
 abbrev pub IsSentOf : Setting → ℕ → List Told → List (List ℕ) → Type 0
 IsSentOf s who l packets = IsWithin s who (sent_from s.config (sockets_of s.config who) [] l) → packets ≡ sent_from s.config (sockets_of s.config who) [] l
 
--- so are the lists of the first drivers
-pub record AreSent (s : Setting) (count : ℕ) (passes : List (Option Holder)) (lists : List (List (List ℕ))) : Type 0 where
-  pub first : count ≤ length s.config.pairs → length lists ≡ count
-  pub all : length s.config.pairs ≤ count → length lists ≡ length s.config.pairs
-  pub each : (w : ℕ) → w < length lists → (p : Holder) × (get_or passes w None ≡ Some p) × IsSentOf s w (own w p.view.seen) (get_or lists w [])
+abbrev pub AreSent : Setting → ℕ → List (Option Holder) → List (List (List ℕ)) → Type 0
+AreSent s = AreKept (IsSentOf s) s
+
+-- and so are its figures
+abbrev pub IsFiguresOf : Setting → ℕ → List Told → DriverFigures → Type 0
+IsFiguresOf s who l figures = IsWithin s who (sent_from s.config (sockets_of s.config who) [] l)
+    → figures ≡ driver_figures_by s.wire s.config who (input_of s who) (length (sent_from s.config (sockets_of s.config who) [] l)) l
+
+abbrev pub AreFiguresOf : Setting → ℕ → List (Option Holder) → List DriverFigures → Type 0
+AreFiguresOf s = AreKept (IsFiguresOf s) s
+
+-- how many calls the passes' callers made, by number from one on
+abbrev pub calls_in : ℕ → List (Option Holder) → ℕ
+calls_in n [] = 0
+calls_in n (None ∷ passes) = calls_in (n + 1) passes
+calls_in n (Some p ∷ passes) = length (own n p.view.seen) + calls_in (n + 1) passes

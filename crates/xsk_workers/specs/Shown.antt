@@ -1,5 +1,5 @@
 -- What contracts see of a worker, and what its type keeps.
-use Rattle.std.specs.Prelude.{◌≡◌, ℕ, ◌≤◌, Option, List, [], All, vec_len, vec_capacity}
+use Rattle.std.specs.Prelude.{◌≡◌, ℕ, ◌≤◌, Option, List, [], All, length, vec_len, vec_capacity}
 use Rattle.std.specs.Vec.{vec_items}
 use Rattle.std.specs.declared.vec.Vec.{Vec}
 use Rattle.std.specs.declared.alloc.Global.{Global}
@@ -9,6 +9,7 @@ use Rattle.xsk_model.specs.Entry.{Told, own}
 use Rattle.xsk_model.specs.Expected.{Expected, expected_of}
 use Rattle.xsk_model.specs.declared.ask.Ask.{Ask}
 use Rattle.xsk_model.specs.declared.call.Act.{Act}
+use Rattle.xsk_turns.specs.Counted.{capped}
 use Rattle.xsk_turns.specs.Stepping.{joined_ask, IsGivenBack}
 use Rattle.xsk_turns.specs.Workers.{Setting, IsWholeRun}
 use Rattle.xsk_machine.specs.Acts.{IsActAfter}
@@ -36,6 +37,10 @@ seat_at s b who = record { setting = s; table = b.table; setup = b.setup; who = 
 -- the worker's own calls and replies, as far as its pass has seen, which are all of them, are a whole run of its machine
 abbrev pub HasRun : WorkerShown → Type 0
 HasRun w = IsWholeRun w.setting w.pass.who (own w.pass.who w.pass.view.seen)
+
+-- a number is that of its caller's own calls, and 2 ^ 64 - 1 where there are more
+abbrev pub AreCounted : ℕ → Holder → Type 0
+AreCounted calls p = calls ≡ capped (length (own p.who p.view.seen))
 
 -- What a worker's type keeps: no call is in flight, the pass is of the setting's configuration, and the machine stands, as
 -- the pass's caller, for the caller's own calls and replies, with what it gave after them.

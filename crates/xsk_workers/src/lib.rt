@@ -3,6 +3,7 @@
 
 mod crew;
 mod either;
+mod kept;
 pub mod laws;
 mod place;
 mod running;

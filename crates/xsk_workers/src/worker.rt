@@ -36,7 +36,8 @@ impl Pace {
     }
 }
 
-/// A machine that runs over its pass, with what it asks next, as a caller of a setting. Contracts see setting and pass.
+/// A machine that runs over its pass, with what it asks next, as a caller of a setting, and the number of its calls, which
+/// stays at 2^64 - 1. Contracts see setting and pass.
 #[derive(Drop)]
 pub(crate) struct Worker<M: Machine + Drop, P: Place> {
     machine: M,
@@ -44,20 +45,21 @@ pub(crate) struct Worker<M: Machine + Drop, P: Place> {
     items: Batch,
     pass: Pass,
     place: P,
+    calls: u64,
 }
 
 impl<M: Machine + Drop, P: Place> Model for Worker<M, P> {
-    ghost use Rattle.xsk_workers.specs.Shown.{WorkerShown, IsGoing};
+    ghost use Rattle.xsk_workers.specs.Shown.{WorkerShown, IsGoing, AreCounted};
 
     ghost Value = { WorkerShown };
 
     ghost view = { λ w. record { setting = P.setting w.place; pass = w.pass } };
 
-    ghost invariant = { λ w. IsGoing M.stands (M.expected w.machine) (P.setting w.place) w.machine w.ask w.items w.pass };
+    ghost invariant = { λ w. IsGoing M.stands (M.expected w.machine) (P.setting w.place) w.machine w.ask w.items w.pass × AreCounted w.calls w.pass };
 }
 
 impl<M: Machine + Drop, P: Place> Worker<M, P> {
-    ghost use Rattle.xsk_workers.specs.Shown.{seat_of, HasRun};
+    ghost use Rattle.xsk_workers.specs.Shown.{seat_of, HasRun, AreCounted};
 
     /// A new machine of a caller, with the caller's pass, with which no call was made.
     pub(crate) fn new(alloc: Global, place: P, machine: M, pass: Pass) -> Worker<M, P>
@@ -75,6 +77,7 @@ impl<M: Machine + Drop, P: Place> Worker<M, P> {
             items,
             pass,
             place,
+            calls: 0,
         }
     }
 
@@ -85,14 +88,20 @@ impl<M: Machine + Drop, P: Place> Worker<M, P> {
         self.pass.caller()
     }
 
-    /// The machine and the pass of a worker.
-    pub(crate) fn into_parts(self) -> (M, Pass)
+    /// The machine and the pass of a worker, and the number of its calls.
+    pub(crate) fn into_parts(self) -> (M, Pass, u64)
         ensures pass { result.1 ≡ self.pass }
         ensures rests { self.pass.view.flight ≡ idle }
         ensures stands { HasRun self → M.stands self.setting self.pass.who result.0 HasEnded (own self.pass.who self.pass.view.seen) }
+        ensures calls { AreCounted result.2 self.pass }
     {
-        let Worker { machine, pass, .. } = self;
-        (machine, pass)
+        let Worker {
+            machine,
+            pass,
+            calls,
+            ..
+        } = self;
+        (machine, pass, calls)
     }
 
     /// Makes the next call, if there is one.
@@ -105,6 +114,7 @@ impl<M: Machine + Drop, P: Place> Worker<M, P> {
             return Pace::Ended;
         };
         let answer = self.pass.serve(shared, ask, &mut self.items);
+        self.calls = self.calls.saturating_add(1);
         self.ask = self.machine.step(Some(answer), &mut self.items);
         pace_of(ask, answer)
     }

@@ -1,24 +1,27 @@
 //! A run on threads: drivers and applications over one table, from its opening to its end.
-ghost use Rattle.std.specs.Prelude.{◌≡◌, ℕ, ◌+◌, ◌≤◌, ◌<◌, List, [], ◌++◌, map, false, true, All, length, vec_len, vec_capacity, IfOk};
+ghost use Rattle.std.specs.Prelude.{◌≡◌, ℕ, ◌≤◌, ◌<◌, List, [], map, false, true, All, length, vec_capacity, IfOk};
 ghost use Rattle.std.specs.List.{range_with_len};
 ghost use Rattle.xsk_umem.specs.Frame.{Frame as Body};
-ghost use Rattle.xsk_model.specs.Config.{IsRegular, callers_of};
+ghost use Rattle.xsk_model.specs.Config.{IsRegular, callers_of, classes_of};
 ghost use Rattle.xsk_model.specs.Expected.{nothing};
 ghost use Rattle.xsk_model.specs.Opening.{AreFrames};
 ghost use Rattle.xsk_turns.specs.Inputs.{inputs_of};
 ghost use Rattle.xsk_prog.specs.Program.{Obeys};
 ghost use Rattle.xsk_prog.specs.Rules.{is_exact};
+ghost use Rattle.xsk_turns.specs.Counted.{capped};
 ghost use Rattle.xsk_turns.specs.Workers.{Setting, ruled};
+ghost use Rattle.xsk_driver.specs.Sent.{IsShort};
 ghost use Rattle.xsk_machine.specs.Acts.{HasShortPackets};
 ghost use Rattle.xsk_table.specs.Held.{Board};
 ghost use Rattle.xsk_table.specs.Opening.{new_passes};
 ghost use Rattle.xsk_workers.specs.Shown.{WorkerShown, seat_of, seat_at, HasRun, AreOf};
-ghost use Rattle.xsk_workers.specs.Gathering.{HaveRun, AreTaken, AreGiven, AreSent};
-ghost use Rattle.xsk_workers.specs.Eithers.{IsNew, awaits, kept_of};
+ghost use Rattle.xsk_workers.specs.Gathering.{HaveRun, AreTaken, AreGiven, AreSent, AreFiguresOf, calls_in};
+ghost use Rattle.xsk_workers.specs.Eithers.{IsNew, awaits};
 ghost use Rattle.xsk_workers.specs.Forwarded.{HasForwarded, packets_in};
 
 use crate::crew::{Crew, run_crew};
 use crate::either::Either;
+use crate::kept::Kept;
 use crate::place::Source;
 use crate::worker::Worker;
 use std::alloc::Global;
@@ -26,7 +29,7 @@ use std::marker::Model;
 use std::sync::Wait;
 use std::thread::Threads;
 use xsk_app::App;
-use xsk_driver::{Inputs, Wire};
+use xsk_driver::{FigureList, Figures, Inputs, Wire};
 use xsk_io::Gate;
 use xsk_machine::driver_for;
 use xsk_model::Config;
@@ -34,20 +37,24 @@ use xsk_prog::{Verdict, XdpProgram};
 use xsk_table::{Note, Passes, Shared};
 use xsk_umem::{Frames, OutOfMemory, PacketList};
 
-/// What a run on threads shows. Contracts see the history of its table, and the packets that each driver sent.
+/// What a run on threads shows. Contracts see the history of its table, the packets that each driver sent, and the figures.
 #[derive(Drop)]
 pub struct Outcome {
     note: Note,
     sent: Vec<PacketList>,
+    figures: Figures,
 }
 
 impl Model for Outcome {
-    ghost use Rattle.std.specs.Prelude.{map};
+    ghost use Rattle.std.specs.Prelude.{map, All};
+    ghost use Rattle.xsk_machine.specs.Acts.{HasShortPackets};
     ghost use Rattle.xsk_workers.specs.Forwarded.{OutcomeShown, packets_in};
 
     ghost Value = { OutcomeShown };
 
-    ghost view = { λ o. record { history = o.note.seen; sent = map packets_in o.sent.items } };
+    ghost view = { λ o. record { history = o.note.seen; sent = map packets_in o.sent.items; figures = o.figures } };
+
+    ghost invariant = { λ o. All HasShortPackets o.sent.items };
 }
 
 impl Outcome {
@@ -56,9 +63,17 @@ impl Outcome {
     /// The packets that the driver of a pair sent, in order.
     pub fn sent(&self, pair: u32) -> &PacketList
         requires { pair < length self.now.sent }
-        ensures { result.now.packets ≡ slice_index_or self.now.sent pair [] }
+        ensures short { All IsShort result.now.packets }
+        ensures sent { result.now.packets ≡ slice_index_or self.now.sent pair [] }
     {
         &self.sent[pair as usize]
+    }
+
+    /// What the run comes to in numbers, each a count over the calls and replies of its history.
+    pub fn figures(&self) -> &Figures
+        ensures { result.now ≡ self.now.figures }
+    {
+        &self.figures
     }
 }
 
@@ -92,11 +107,13 @@ pub fn forward<R: Threads + Wait + Sync, F: Fn(&[u8], u32) -> Verdict, G: Gate +
     requires obeys { Obeys F.Fn program.now.rule program.now.decide }
     requires exact { is_exact program.now.rule ≡ true }
     ensures pairs { IfOk result (λ outcome. length outcome.sent ≡ length config.pairs) }
+    ensures short { IfOk result (λ outcome. All (λ (list : List (List ℕ)). All IsShort list) outcome.sent) }
     ensures forwarded { IfOk result (HasForwarded (ruled program.now.rule wire config packets.now) frames.items) }
 {
     let own = config.copy(alloc)?;
     let inputs = Inputs::split(alloc, &own, packets)?;
-    let mut sent = Vec::with_capacity(alloc, own.pairs().len())?;
+    let classes = own.classes();
+    let mut kept = Kept::with_room(alloc, own.pairs().len())?;
     let Ok((shared, mut passes)) = Shared::open(alloc, config, frames, 0) else {
         return Err(OutOfMemory);
     };
@@ -109,9 +126,23 @@ pub fn forward<R: Threads + Wait + Sync, F: Fn(&[u8], u32) -> Verdict, G: Gate +
     let workers = seat_workers(alloc, &shared, place, &inputs, program, &mut passes)?;
     let crew = Crew::new(alloc, &shared, place, workers)?;
     let workers = run_crew(rt, &shared, gate, crew);
-    give_back(&shared, workers, &mut passes, &mut sent);
+    give_back(&shared, workers, classes, &mut passes, &mut kept);
     let (_frames, note) = shared.close(passes);
-    Ok(Outcome { note, sent })
+    let Kept {
+        calls,
+        figures,
+        sent,
+    } = kept;
+    let drivers = FigureList::of(figures);
+    Ok(Outcome {
+        note,
+        sent,
+        figures: Figures {
+            calls,
+            wire,
+            drivers,
+        },
+    })
 }
 
 /// A worker for each caller, with its pass: the drivers of all pairs, and then the applications.
@@ -185,34 +216,29 @@ fn machine_for<'a, F: Fn(&[u8], u32) -> Verdict>(
     Ok(Either::App(app))
 }
 
-/// Gives the passes of workers that have ended back, and keeps what each driver sent.
+/// Gives the passes of workers that have ended back, and keeps what is left of the workers.
 fn give_back<'a>(
     shared: &Shared,
     workers: Vec<Worker<Either<'a>, Source<'a>>>,
+    classes: u32,
     passes: &mut Passes,
-    sent: &mut Vec<PacketList>,
+    kept: &mut Kept,
 )
     requires run { (s : Setting) × HaveRun shared.now s workers.items }
     requires count { length workers.items ≡ callers_of shared.now.setup.config }
+    requires classes { classes ≡ classes_of shared.now.setup.config }
     requires taken { AreTaken shared.now (callers_of shared.now.setup.config) passes.old }
-    requires room { (sent.old.items ≡ []) × (length shared.now.setup.config.pairs ≤ vec_capacity sent.old) }
+    requires none { (kept.old.calls ≡ 0) × (kept.old.figures.items ≡ []) × (kept.old.sent.items ≡ []) }
+    requires room { (length shared.now.setup.config.pairs ≤ vec_capacity kept.old.figures) × (length shared.now.setup.config.pairs ≤ vec_capacity kept.old.sent) }
     ensures given { (s : Setting) → HaveRun shared.now s workers.entry.items → AreGiven shared.now s (callers_of shared.now.setup.config) passes.new }
-    ensures sent { (s : Setting) → HaveRun shared.now s workers.entry.items → AreSent s (callers_of shared.now.setup.config) passes.new (map packets_in sent.new.items) }
+    ensures sent { (s : Setting) → HaveRun shared.now s workers.entry.items → AreSent s (callers_of shared.now.setup.config) passes.new (map packets_in kept.new.sent.items) }
+    ensures figures { (s : Setting) → HaveRun shared.now s workers.entry.items → AreFiguresOf s (callers_of shared.now.setup.config) passes.new kept.new.figures.items }
+    ensures calls { kept.new.calls ≡ capped (calls_in 0 passes.new) }
+    ensures short { All HasShortPackets kept.new.sent.items }
 {
     for worker in workers {
-        let (machine, pass) = worker.into_parts();
+        let (machine, pass, calls) = worker.into_parts();
         passes.give(pass);
-        keep_sent(machine, sent);
-    }
-}
-
-/// Keeps what a driver sent.
-fn keep_sent(machine: Either<'_>, sent: &mut Vec<PacketList>)
-    requires room { vec_len sent.old + length (kept_of machine) ≤ vec_capacity sent.old }
-    ensures capacity { vec_capacity sent.new ≡ vec_capacity sent.old }
-    ensures lists { map packets_in sent.new.items ≡ map packets_in sent.old.items ++ kept_of machine.entry }
-{
-    if let Either::Driver(driver) = machine {
-        sent.push_reserved(driver.into_sent());
+        kept.keep(machine, classes, calls);
     }
 }

@@ -1,16 +1,22 @@
-use Rattle.std.proofs.Common.{◌≡◌, ℕ, ◌+◌, ◌≤◌, length, map, vec_items, vec_capacity}
+use Rattle.std.proofs.Common.{◌≡◌, ℕ, ◌+◌, ◌≤◌, length, map, vec_items, vec_capacity, All}
 use Rattle.std.specs.Vec.Iter.{into_iter_items}
+use Rattle.xsk_turns.specs.Counted.{capped}
 use Rattle.xsk_turns.specs.Workers.{Setting}
 use Rattle.xsk_model.specs.Config.{callers_of}
-use Rattle.xsk_workers.specs.Gathering.{HaveRun, HaveRunFrom, AreGiven, AreSent}
+use Rattle.xsk_machine.specs.Acts.{HasShortPackets}
+use Rattle.xsk_workers.specs.Gathering.{HaveRun, HaveRunFrom, AreGiven, AreSent, AreFiguresOf, calls_in}
 use Rattle.xsk_workers.specs.Forwarded.{packets_in}
 use Rattle.xsk_workers.proofs.workers.give_back.Given as goal
 
--- in a setting of the workers those that are left have run, the others' passes are given back, and what drivers sent is kept
+-- in a setting of the workers those that are left have run, the others' passes are given back, and what is left of them is kept
 abbrev pub invariant-loop-worker : goal.invariant-loop-worker
 invariant-loop-worker l =
     let n : ℕ = length l.yielded in
     ((s : Setting) → HaveRun l.shared s (vec_items l.fn.workers)
-    → HaveRunFrom l.shared s n (into_iter_items l.worker-iterator) × AreGiven l.shared s n l.passes × AreSent s n l.passes (map packets_in (vec_items l.sent)))
+    → HaveRunFrom l.shared s n (into_iter_items l.worker-iterator) × AreGiven l.shared s n l.passes × AreSent s n l.passes (map packets_in (vec_items l.kept.sent))
+    × AreFiguresOf s n l.passes (vec_items l.kept.figures))
     × (n + length (into_iter_items l.worker-iterator) ≡ callers_of l.shared.setup.config)
-    × (length l.shared.setup.config.pairs ≤ vec_capacity l.sent)
+    × (l.kept.calls ≡ capped (calls_in 0 l.passes))
+    × (length l.shared.setup.config.pairs ≤ vec_capacity l.kept.figures)
+    × (length l.shared.setup.config.pairs ≤ vec_capacity l.kept.sent)
+    × All HasShortPackets (vec_items l.kept.sent)
