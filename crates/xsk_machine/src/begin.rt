@@ -31,7 +31,6 @@ pub fn driver_for<'a, F: Fn(&[u8], u32) -> Verdict>(
     pair: u32,
 ) -> Result<Driver<'a>, OutOfMemory>
     requires regular { IsRegular config.now }
-    requires wakeup { config.now.wakeup ≡ false }
     requires lists { length packets.now ≡ config.now.ports }
     requires inputs { inputs.now ≡ inputs_of config.now packets.now }
     requires short { All HasShortPackets packets.now }

@@ -27,6 +27,8 @@ use Rattle.xsk_plain.proofs.Parts.{length-entries}
 use Rattle.xsk_plain.specs.Engine.{Engine}
 use Rattle.xsk_plain.specs.Log.{calls_of, entries_of, item_of}
 use Rattle.xsk_plain.specs.declared.log.Log.{Log}
+use Rattle.xsk_laws.specs.Woken.{AreWorkerRuns}
+use Rattle.xsk_laws.proofs.Woken.{no_wakes_are_lost}
 use Rattle.xsk_sim.specs.Shown.{Shown}
 use Rattle.xsk_turns.specs.Workers.{Setting, IsWorkerRun, IsWholeRun, input_of}
 use Rattle.xsk_sim.specs.Runs.{HasEnded, HasStalled, NeverStill}
@@ -159,11 +161,14 @@ ended_run s frames order count w engine run classes calls wire regular had few n
       figures = figures ∙ figures_whole s had.history wire calls (kept_figures classes w) same (number ∙ ap length had.seated.run.log ∙ length-map had.history (stored_entry s.config.geometry s.config.sg)) fits
           (ap (λ (n : ℕ). kept_figures n w) sockets ∙ all_figures s frames had.history w engine had.seated ended within);
       sent = λ pair below. ap (λ lists. get_or lists pair []) kept ∙ all_sent s frames had.history w engine had.seated ended within pair below;
+      woken = λ past later pair split below.
+          no_wakes_are_lost s frames past later pair
+          (subst (AreWorkerRuns s frames) split (record { regular = regular; history = legal; runs = all_runs s frames had.history w engine had.seated })) below;
     }
 
 -- a run that has stalled
 pub stalled_run : (s : Setting) (frames : List Frame) (order round : ℕ) (w : Workers) (engine : Engine) → (had : HadRounds s frames order (round + 1) w engine) → (HaveEnded w → ⊥)
-    → round ≤ 18446744073709551615 → StandStill s frames order 64 (round + 1) had.history ⊎ (round ≡ 18446744073709551615) → NeverStill s frames order round → HasStalled s frames order round
+    → round ≤ 18446744073709551615 → StandStill s frames order 64 (round + 1) had.history → NeverStill s frames order round → HasStalled s frames order round
 stalled_run s frames order round w engine had going few still first =
     let some = open_run s frames had.history w engine had.seated going in
     record {

@@ -117,13 +117,10 @@ never_ended s frames order count still w engine before gone ended = never_push s
 abbrev pub Stops : Setting → List Frame → ℕ → Workers → Engine → ℕ → Type 0
 Stops s frames order w engine round =
     (had : HadRounds s frames order (round + 1) w engine) × (HaveEnded w → ⊥) × (round ≤ 18446744073709551615)
-    × (StandStill s frames order 64 (round + 1) had.history ⊎ (round ≡ 18446744073709551615)) × NeverStill s frames order round
+    × StandStill s frames order 64 (round + 1) had.history × NeverStill s frames order round
 
 pub stops : (s : Setting) (frames : List Frame) (order round still : ℕ) (w : Workers) (engine : Engine) → Gone s frames order (round + 1) still w engine → (HaveEnded w → ⊥)
-    → round ≤ 18446744073709551615 → (still ≡ 64) ⊎ (round ≡ 18446744073709551615) → NeverStill s frames order round → Stops s frames order w engine round
-stops s frames order round still w engine gone going few why first =
-    let stood : StandStill s frames order 64 (round + 1) gone.had.history ⊎ (round ≡ 18446744073709551615) = ⊎_elim
-    (λ (long : still ≡ 64). inl (subst (λ (n : ℕ). StandStill s frames order n (round + 1) gone.had.history) long gone.stood.stood))
-    (λ (end : round ≡ 18446744073709551615). inr end)
-    why in
+    → round ≤ 18446744073709551615 → still ≡ 64 → NeverStill s frames order round → Stops s frames order w engine round
+stops s frames order round still w engine gone going few long first =
+    let stood : StandStill s frames order 64 (round + 1) gone.had.history = subst (λ (n : ℕ). StandStill s frames order n (round + 1) gone.had.history) long gone.stood.stood in
     (gone.had, going, few, stood, first)

@@ -167,19 +167,13 @@ ends_or_stalls s frames order round run over stalled =
     let e : stalled.past.history ≡ over.history = goes_no_further s frames order (round + 1) run stalled.past.history over few stalled.past.is in
     stalled.past.open_run (subst (λ l. IsWholeRun s stalled.past.who (own stalled.past.who l)) (sym e) (over.whole stalled.past.who stalled.past.known)) in
     ⊎_elim
-    (λ (before : round < over.count). ⊎_elim
-    (λ (still : StandStill s frames order 64 (round + 1) stalled.past.history). over.never_still round before (record { past = stalled.past; still = still }))
-    (λ (last : round ≡ 18446744073709551615). go (omega (arith, last, over.few)))
-    stalled.still)
+    (λ (before : round < over.count). over.never_still round before (record { past = stalled.past; still = stalled.still }))
     (λ (after : over.count ≤ round). go (omega (arith, after)))
     (cases_lt round over.count)
 
 -- a run that has stalled at a round doesn't do so at a later one
 stalls_first : (s : Setting) (frames : List Frame) (order round later : ℕ) → HasStalled s frames order round → HasStalled s frames order later → round < later → ⊥
-stalls_first s frames order round later first second below = ⊎_elim
-    (λ (still : StandStill s frames order 64 (round + 1) first.past.history). second.first round below (record { past = first.past; still = still }))
-    (λ (last : round ≡ 18446744073709551615). omega (arith, last, second.few, below))
-    first.still
+stalls_first s frames order round later first second below = second.first round below (record { past = first.past; still = first.still })
 
 pub one_stall : OneStall
 one_stall s frames order round other first second = ⊎_elim

@@ -18,6 +18,7 @@ use Rattle.xsk_prog.specs.Rules.{is_exact}
 use Rattle.xsk_prog.specs.declared.rule.Rule.{Rule}
 use Rattle.xsk_prog.specs.declared.rule.Verdict.{Verdict}
 use Rattle.xsk_turns.specs.Workers.{Setting, IsWorkerRun, IsWholeRun, AreGiven, IsRuled, ruled}
+use Rattle.xsk_turns.specs.Wakes.{NoWakeIsLost}
 use Rattle.xsk_turns.specs.declared.wire.Wire.{Wire}
 use Rattle.xsk_turns.specs.declared.wire.Wire.TheVariants.{Wait}
 use Rattle.xsk_laws.specs.Laws.{AreForwarded, AreExpected}
@@ -55,7 +56,7 @@ NeverStill s frames order count = (round : ℕ) → round < count → StandsStil
 
 -- A run that has ended, with no round before at which it stood still: each worker's own calls and replies are a whole run. The
 -- log is the history as it is stored, after each of its prefixes each frame has one holder, and what is shown of each driver
--- are the packets that its calls on COMPLETION completed. The figures are counts over the history.
+-- are the packets that its calls on COMPLETION completed. The figures are counts over the history. No wake is lost after any prefix.
 pub record HasEnded (s : Setting) (frames : List Frame) (order : ℕ) (run : Shown) : Type 0 where
   pub history : List Entry
   pub count : ℕ
@@ -67,13 +68,13 @@ pub record HasEnded (s : Setting) (frames : List Frame) (order : ℕ) (run : Sho
   pub holders : (past later : List Entry) → history ≡ past ++ later → HasOneHolder s.config.geometry.frames (state_after s.config frames past)
   pub sent : (pair : ℕ) → pair < length s.config.pairs → slice_index_or run.sent pair [] ≡ sent s.config history pair
   pub figures : run.figures ≡ figures_of s history
+  pub woken : (past later : List Entry) (pair : ℕ) → history ≡ past ++ later → pair < length s.config.pairs → NoWakeIsLost s.config frames past pair
 
--- A run that has stalled at a round: it stands still there, and at no round before. Rounds are counted up to 2^64 - 1, which
--- is the other way to come to the last one.
+-- A run that has stalled at a round: it stands still there, and at no round before.
 pub record HasStalled (s : Setting) (frames : List Frame) (order round : ℕ) : Type 0 where
   pub few : round ≤ 18446744073709551615
   pub past : GoesPast s frames order round
-  pub still : StandStill s frames order 64 (round + 1) past.history ⊎ (round ≡ 18446744073709551615)
+  pub still : StandStill s frames order 64 (round + 1) past.history
   pub first : NeverStill s frames order round
 
 -- The same under a program: there are verdicts of each driver's packets, each an answer of the program's closure that meets

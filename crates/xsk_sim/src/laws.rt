@@ -1,5 +1,6 @@
 //! The laws of runs, each the contract of a function that does nothing. They are stated in `specs/Runs.antt`.
 
+ghost use Rattle.xsk_sim.specs.Bounds.{EndsOrStandsStill};
 ghost use Rattle.xsk_sim.specs.Runs.{OneHistory, OneLog, OneFigures, EndsOrStalls, OneStall, EndsAsRuled, StallsAsRuled, EndedIsForwarded, EndedIsExpected, EntriesStandInRounds};
 
 /// For each number of rounds there is one history in rounds of the workers of a configuration over packets with verdicts.
@@ -25,6 +26,13 @@ pub fn ends_or_stalls()
 /// There is one round at which a run stalls.
 pub fn one_stall()
     ensures { OneStall }
+{}
+
+/// Each run ends or stands still: one that does neither has fewer rounds than a bound by its packets, its frames and its
+/// configuration.
+#[tactic(auto, using(crate::proofs::Bounding::ends_or_stands_still))]
+pub fn ends_or_stands_still()
+    ensures { EndsOrStandsStill }
 {}
 
 /// Under a rule that leaves one verdict for each packet, a run has ended with the verdicts that the rule gives itself.

@@ -126,7 +126,7 @@ const STILL_ROUNDS: u64 = 64;
 /// Runs the drivers and applications of a regular configuration in rounds until all have ended, over one list of
 /// packets for each port, none of which has more than 262,144 bytes. The frames are all frames of its UMEM, the program is
 /// attached to every port, `wire` says what becomes of a packet that finds too few frames or no room on RX, and `order` is the
-/// number of the rounds' order. The configuration is without need-wakeup, which the workers don't know yet.
+/// number of the rounds' order.
 ///
 /// Each driver asks the program once for each of its packets, so there is one list of verdicts for each driver, and all that
 /// is said of the run is said of these. Where the program's rule leaves one verdict for each packet, they are the rule's own
@@ -135,8 +135,8 @@ const STILL_ROUNDS: u64 = 64;
 ///
 /// It stalls exactly in the first round at which some worker hasn't ended and nothing has changed for 64 rounds, this one among
 /// them: the object was the same after each of their calls, and no packet got its disposal, which it gets in the round of its
-/// driver's next call. Rounds are counted from 0. At round 2^64 - 1, to which no run comes in practice, it stalls in any case:
-/// that each run has ended or stands still by then isn't proved. A run that has ended, with no such round before, is a legal
+/// driver's next call. Rounds are counted from 0. Each run ends or stands still (`laws::ends_or_stands_still`), and where there
+/// is no memory for the log of its calls, it is given up. A run that has ended, with no such round before, is a legal
 /// history in rounds in which each worker's own calls and replies are a whole run of its turns, and one that has stalled is such
 /// a history of all these rounds, in which those of some worker aren't.
 pub fn simulate<F: Fn(&[u8], u32) -> Verdict>(
@@ -149,7 +149,6 @@ pub fn simulate<F: Fn(&[u8], u32) -> Verdict>(
     order: u32,
 ) -> Result<Run, SimError>
     requires regular { IsRegular config }
-    requires wakeup { config.wakeup ≡ false }
     requires frames { AreFrames config.geometry frames.items }
     requires lists { length packets.now ≡ config.ports }
     requires short { All HasShortPackets packets.now }
@@ -220,7 +219,7 @@ fn make_rounds(workers: &mut Workers<'_>, plain: &mut Plain, order: Order) -> Re
     ensures stalled { (s : Setting) (frames : List Frame) (round : ℕ) → AreSeated s frames [] workers.old plain.old
         → result ≡ Err (SimError.Stalled round)
         → (had : HadRounds s frames order.number (round + 1) workers.new plain.new) × (HaveEnded workers.new → ⊥) × (round ≤ 18446744073709551615)
-        × (StandStill s frames order.number 64 (round + 1) had.history ⊎ (round ≡ 18446744073709551615)) × NeverStill s frames order.number round }
+        × StandStill s frames order.number 64 (round + 1) had.history × NeverStill s frames order.number round }
 {
     let mut order = order;
     let mut still = 0;
@@ -234,7 +233,8 @@ fn make_rounds(workers: &mut Workers<'_>, plain: &mut Plain, order: Order) -> Re
             return Err(SimError::Stalled { round });
         }
     }
-    Err(SimError::Stalled { round: u64::MAX })
+    // The log has a row for each call and counts them in 32 bits, so its room is refused long before.
+    Err(SimError::OutOfMemory)
 }
 
 /// For how many rounds nothing has changed, by whether anything changed in the last one.
@@ -256,7 +256,6 @@ fn seat_drivers<'a, F: Fn(&[u8], u32) -> Verdict>(
     wire: Wire,
 ) -> Result<Vec<Seat<Driver<'a>>>, OutOfMemory>
     requires regular { IsRegular config.now }
-    requires wakeup { config.now.wakeup ≡ false }
     requires lists { length packets.now ≡ config.now.ports }
     requires inputs { inputs.now ≡ inputs_of config.now packets.now }
     requires short { All HasShortPackets packets.now }
@@ -277,7 +276,6 @@ fn seat_drivers<'a, F: Fn(&[u8], u32) -> Verdict>(
 /// An application for each queue of two paired ports.
 fn seat_apps<'a>(alloc: Global, config: &'a Config) -> Result<Vec<Seat<App<'a>>>, OutOfMemory>
     requires regular { IsRegular config.now }
-    requires wakeup { config.now.wakeup ≡ false }
     ensures count { IfOk result (λ seats. vec_len seats ≡ apps_of config.now) }
     ensures seated { (s : Setting) → s.config ≡ config.now
         → IfOk result (λ seats. EachFrom seats.items (length config.now.pairs) (λ who seat. AppSits s new_own who seat.machine (joined_ask seat.ask seat.items))) }

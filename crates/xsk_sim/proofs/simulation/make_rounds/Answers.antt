@@ -57,17 +57,4 @@ returns-then-still-eq-STILL_ROUNDS-clause-stalled c s frames round seated is =
     let few : l.round ≤ 18446744073709551615 = omega (arith, c.loop-round-test.true) in
     let going : HaveEnded c.round.new.self → ⊥ = λ ended. let yes = c.have_ended.ensures.1 ended in let no = c.if-have_ended.false in cc in
     subst (Stops s frames c.args.order.number c.round.new.self c.round.new.plain) here
-    (stops s frames c.args.order.number l.round c.still_after-still.result c.round.new.self c.round.new.plain more.0 going few (inl c.if-still-eq-STILL_ROUNDS.true) had.2)
-
-pub returns-else-still-eq-STILL_ROUNDS-clause-stalled : goal.returns-else-still-eq-STILL_ROUNDS-clause-stalled
-returns-else-still-eq-STILL_ROUNDS-clause-stalled c s frames round seated is =
-    let l = c.loop-round in
-    let had = l.invariant.rounds s frames seated in
-    let more = gone_more s frames c.args.order.number l.round l.still c.still_after-still.result l.order.number c.round.new.order.number c.in_ok-quiet.quiet l.workers c.round.new.self l.plain c.round.new.plain had.0 had.1
-    (c.in_ok-quiet.ensures.round s frames had.0.had.history had.0.had.seated) c.still_after-still.ensures.more c.still_after-still.ensures.none in
-    let last : round ≡ 18446744073709551615 = cc in
-    let here : l.round ≡ round = omega (arith, last, c.loop-round-test.true) in
-    let few : l.round ≤ 18446744073709551615 = omega (arith, here, last) in
-    let going : HaveEnded c.round.new.self → ⊥ = λ ended. let yes = c.have_ended.ensures.1 ended in let no = c.if-have_ended.false in cc in
-    subst (Stops s frames c.args.order.number c.round.new.self c.round.new.plain) here
-    (stops s frames c.args.order.number l.round c.still_after-still.result c.round.new.self c.round.new.plain more.0 going few (inr (here ∙ last)) had.2)
+    (stops s frames c.args.order.number l.round c.still_after-still.result c.round.new.self c.round.new.plain more.0 going few c.if-still-eq-STILL_ROUNDS.true had.2)

@@ -14,7 +14,7 @@ returns-in_err-make_rounds-clause-stalled c s frames round seated is =
     let error : c.from_residual.result ≡ Err c.in_err-make_rounds.field-0.0 = search rules in
     let same : c.in_err-make_rounds.field-0.0 ≡ Stalled round = let e = sym error ∙ is in cc in
     let stalled : (had : HadRounds s frames c.args.order.number (round + 1) w engine) × (HaveEnded w → ⊥) × (round ≤ 18446744073709551615)
-    × (StandStill s frames c.args.order.number 64 (round + 1) had.history ⊎ (round ≡ 18446744073709551615)) × NeverStill s frames c.args.order.number round =
+    × StandStill s frames c.args.order.number 64 (round + 1) had.history × NeverStill s frames c.args.order.number round =
     c.in_err-make_rounds.ensures.stalled s frames round seated (ap Err same) in
     stalled_run s frames c.args.order.number round w engine stalled.0 stalled.1 stalled.2 stalled.3 stalled.4
 
