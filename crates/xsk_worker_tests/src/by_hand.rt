@@ -183,7 +183,7 @@ impl<M: Worker> Hand<M> {
         self.finds_empty(Ring::Comp(0)) && self.finds_empty(Ring::Comp(1))
     }
 
-    fn has_ended(&self) -> bool {
+    pub(crate) fn has_ended(&self) -> bool {
         matches!(&self.act, Act::Ended)
     }
 }

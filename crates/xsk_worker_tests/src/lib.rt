@@ -16,3 +16,5 @@ mod programs;
 mod redirects;
 #[cfg(test)]
 mod small_rings;
+#[cfg(test)]
+mod waking;
