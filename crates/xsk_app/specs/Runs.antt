@@ -49,7 +49,8 @@ StandsWith c a s Ended l = HasEnded c a s l
 -- ---- what follows of it, by the laws of the turns
 
 -- Where it gives a call, the list is a run, and no whole one. Its frames, with those of the call, are those that it peeked
--- and didn't submit. The call is legal where all of them are at home with it, as they are in every history of the object.
+-- and didn't submit. The call is legal where all frames that it has had are at home with it, as they are in every history of
+-- the object.
 pub record Tells (c : Config) (a : ℕ) (s : Shown) (call : Call) (l : List Told) : Type 0 where
   pub run : IsAppRun c a l
   pub more : IsWholeAppRun c a l → ⊥

@@ -1,5 +1,6 @@
 //! The application of one queue of two paired ports: it takes what one port's sockets received to the other port's
-//! sockets for sending, and gives completed frames back to the FILL rings of their homes.
+//! sockets for sending, and gives completed frames back to the FILL rings of their homes. Where the need-wakeup flags are
+//! used it wakes the drivers that need it.
 #![tactic(auto)]
 
 mod app;

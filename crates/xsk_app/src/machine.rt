@@ -112,7 +112,8 @@ pub(crate) struct Machine<'a> {
 
 impl<'a> Machine<'a> {
     ghost use Rattle.xsk_app.specs.Waits.{expects};
-    ghost use Rattle.xsk_turns.specs.AppTurns.{tx_of, tx_pair, wake, wake_both, pass_on, receive_lane, visit_lane, visit_lanes, give_back, complete_side, visit_side, back_at, pending_at, with_back, with_seen, with_gone, look_rx_done, look_gone, tell_tx_done, end_or_look, end_turn, turn_sides};
+    ghost use Rattle.xsk_app.specs.declared.machine.Wait.TheVariants as wait;
+    ghost use Rattle.xsk_turns.specs.AppTurns.{tx_of, tx_pair, kick, wake, wake_both, pass_on, receive_lane, visit_lane, visit_lanes, give_back, complete_side, visit_side, back_at, pending_at, with_back, with_seen, with_gone, look_rx_done, look_gone, tell_tx_done, end_or_look, end_turn, turn_sides};
     ghost use Rattle.xsk_app.specs.Stands.{GoesOn, to_do, doing, by_reply, IsSame, noted_by, kept_by, from_lane, after_full_lane, from_side, after_full_side, after_group, wake_by, told_tx_done};
     ghost use Rattle.xsk_turns.specs.Script.{again};
 
@@ -128,34 +129,20 @@ impl<'a> Machine<'a> {
     {
         match self.wait {
             Wait::Start => Some(self.begin()),
-            Wait::PeekRx { lane } => match answer {
-                Some(Answer::Items) => Some(self.take_received(lane, items)),
-                Some(Answer::Empty) => self.go_to_lane(lane + 1),
-                _ => unreachable!(),
-            },
+            Wait::PeekRx { lane } => self.go_on_from_rx(lane, answer, items),
             Wait::ReleaseRx { lane } => Some(self.reserve_tx(lane)),
-            Wait::ReserveTx { lane } => match answer {
-                Some(Answer::Granted) => Some(self.send_on(lane, items)),
-                Some(Answer::Full(_)) => self.go_on_full_lane(lane),
-                _ => unreachable!(),
-            },
+            Wait::ReserveTx { lane } => self.go_on_at_tx(lane, answer, items),
             Wait::SubmitTx { lane } => self.look_need_tx(lane),
             Wait::LookNeedTx { lane } => match answer {
                 Some(Answer::Old(need)) => self.learn_need_tx(lane, need),
                 _ => unreachable!(),
             },
             Wait::KickTx { lane } => self.go_on_full_lane(lane),
-            Wait::PeekComp { side } => match answer {
-                Some(Answer::Items) => Some(self.take_completed(side, items)),
-                Some(Answer::Empty) => self.go_to_side(side + 1),
-                _ => unreachable!(),
-            },
+            Wait::PeekComp { side } => self.go_on_from_comp(side, answer, items),
             Wait::ReleaseComp { side } => self.give_back(side),
-            Wait::ReserveFill { side, home, count } => match answer {
-                Some(Answer::Granted) => Some(self.refill(side, home, count, items)),
-                Some(Answer::Full(_)) => self.find_fill_full(side),
-                _ => unreachable!(),
-            },
+            Wait::ReserveFill { side, home, count } => {
+                self.go_on_at_fill(side, home, count, answer, items)
+            }
             Wait::SubmitFill { side, home } => self.look_need_fill(side, home),
             Wait::LookNeedFill { side, home } => match answer {
                 Some(Answer::Old(need)) => self.learn_need_fill(side, home, need),
@@ -167,16 +154,102 @@ impl<'a> Machine<'a> {
                 _ => unreachable!(),
             },
             Wait::TellTxDone => Some(self.stop_sending()),
-            Wait::KickFirst => {
-                self.wait = Wait::KickSecond;
-                Some(Ask::Swap(Mark::Kick(self.pairs[1]), 1))
-            }
+            Wait::KickFirst => Some(self.kick_second()),
             Wait::KickSecond => Some(self.begin()),
             Wait::LookGone { side } => match answer {
                 Some(Answer::Old(gone)) => Some(self.learn_gone(side, gone)),
                 _ => unreachable!(),
             },
             Wait::Ended => unreachable!(),
+        }
+    }
+
+    /// Goes on with what stood on the lane's RX ring.
+    #[inline(always)]
+    fn go_on_from_rx(
+        &mut self,
+        lane: usize,
+        answer: Option<Answer>,
+        items: &mut Batch,
+    ) -> Option<Ask>
+        requires at { self.old.wait ≡ wait.PeekRx lane }
+        requires comes { CanCome (expects self.old.wait) (joined_answer answer items.old) }
+        requires lent { IsLent answer items.old }
+        ensures expected { expects self.new.wait ≡ expected_of (joined_ask result items.new) }
+        ensures goes { GoesOn self.old.config.now self.old.app self.new (joined_ask result items.new) (to_do self.old.config.now self.old.app self.old (joined_answer answer items.old)) }
+        ensures same { IsSame self.old self.new }
+        ensures given_back { IsGivenBack result items.new }
+    {
+        match answer {
+            Some(Answer::Items) => Some(self.take_received(lane, items)),
+            Some(Answer::Empty) => self.go_to_lane(lane + 1),
+            _ => unreachable!(),
+        }
+    }
+
+    /// Goes on by whether the lane's TX ring has room.
+    #[inline(always)]
+    fn go_on_at_tx(&mut self, lane: usize, answer: Option<Answer>, items: &mut Batch) -> Option<Ask>
+        requires at { self.old.wait ≡ wait.ReserveTx lane }
+        requires comes { CanCome (expects self.old.wait) (joined_answer answer items.old) }
+        requires lent { IsLent answer items.old }
+        ensures expected { expects self.new.wait ≡ expected_of (joined_ask result items.new) }
+        ensures goes { GoesOn self.old.config.now self.old.app self.new (joined_ask result items.new) (to_do self.old.config.now self.old.app self.old (joined_answer answer items.old)) }
+        ensures same { IsSame self.old self.new }
+        ensures given_back { IsGivenBack result items.new }
+    {
+        match answer {
+            Some(Answer::Granted) => Some(self.send_on(lane, items)),
+            Some(Answer::Full(_)) => self.go_on_full_lane(lane),
+            _ => unreachable!(),
+        }
+    }
+
+    /// Goes on with what stood on the side's COMPLETION ring.
+    #[inline(always)]
+    fn go_on_from_comp(
+        &mut self,
+        side: usize,
+        answer: Option<Answer>,
+        items: &mut Batch,
+    ) -> Option<Ask>
+        requires at { self.old.wait ≡ wait.PeekComp side }
+        requires comes { CanCome (expects self.old.wait) (joined_answer answer items.old) }
+        requires lent { IsLent answer items.old }
+        ensures expected { expects self.new.wait ≡ expected_of (joined_ask result items.new) }
+        ensures goes { GoesOn self.old.config.now self.old.app self.new (joined_ask result items.new) (to_do self.old.config.now self.old.app self.old (joined_answer answer items.old)) }
+        ensures same { IsSame self.old self.new }
+        ensures given_back { IsGivenBack result items.new }
+    {
+        match answer {
+            Some(Answer::Items) => Some(self.take_completed(side, items)),
+            Some(Answer::Empty) => self.go_to_side(side + 1),
+            _ => unreachable!(),
+        }
+    }
+
+    /// Goes on by whether the home's FILL ring has room.
+    #[inline(always)]
+    fn go_on_at_fill(
+        &mut self,
+        side: usize,
+        home: u32,
+        count: u32,
+        answer: Option<Answer>,
+        items: &mut Batch,
+    ) -> Option<Ask>
+        requires at { self.old.wait ≡ wait.ReserveFill side home count }
+        requires comes { CanCome (expects self.old.wait) (joined_answer answer items.old) }
+        requires lent { IsLent answer items.old }
+        ensures expected { expects self.new.wait ≡ expected_of (joined_ask result items.new) }
+        ensures goes { GoesOn self.old.config.now self.old.app self.new (joined_ask result items.new) (to_do self.old.config.now self.old.app self.old (joined_answer answer items.old)) }
+        ensures same { IsSame self.old self.new }
+        ensures given_back { IsGivenBack result items.new }
+    {
+        match answer {
+            Some(Answer::Granted) => Some(self.refill(side, home, count, items)),
+            Some(Answer::Full(_)) => self.find_fill_full(side),
+            _ => unreachable!(),
         }
     }
 
@@ -513,6 +586,16 @@ impl<'a> Machine<'a> {
         } else {
             self.begin()
         }
+    }
+
+    /// Wakes the second driver.
+    fn kick_second(&mut self) -> Ask
+        ensures expected { expects self.new.wait ≡ expected_by (joined_call result []) }
+        ensures goes { GoesOn self.old.config.now self.old.app self.new (act.Call (joined_call result [])) (kick (pair_of self.old.config.now self.old.app 1) (kept_by self.old) (again (kept_by self.old))) }
+        ensures same { IsSame self.old self.new }
+    {
+        self.wait = Wait::KickSecond;
+        Ask::Swap(Mark::Kick(self.pairs[1]), 1)
     }
 
     /// Ends where both drivers had ended as the turn began and nothing is left to give back, and else looks for them.

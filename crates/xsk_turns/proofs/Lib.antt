@@ -4,6 +4,7 @@ pub mod AppHomes
 pub mod AppLanes
 pub mod AppOwned
 pub mod AppOwning
+pub mod AppPaying
 pub mod AppPlaces
 pub mod AppWaking
 pub mod AppWalk

@@ -1,5 +1,5 @@
 -- What holds of every run of an application, and what of every whole one, by its turns alone.
-use Rattle.std.specs.Prelude.{◌≡◌, ℕ, ◌<◌, ◌==◌, ◌&&◌, true, false, if◌then◌else◌, List, [], ◌∷◌, ◌++◌, drop}
+use Rattle.std.specs.Prelude.{◌≡◌, ℕ, ◌<◌, ◌≤◌, ◌⊎◌, ◌==◌, ◌&&◌, true, false, if◌then◌else◌, List, [], ◌∷◌, ◌++◌, drop}
 use Rattle.std.specs.List.{fold}
 use Rattle.xsk_umem.specs.declared.batch.Item.{Item}
 use Rattle.xsk_model.specs.Config.{Config}
@@ -8,6 +8,7 @@ use Rattle.xsk_model.specs.Own.{submitted_of, peeked_of}
 use Rattle.xsk_model.specs.Ends.{draining_of, telling_of}
 use Rattle.xsk_model.specs.Rings.{driver_of}
 use Rattle.xsk_model.specs.Marks.{is_mark}
+use Rattle.xsk_model.specs.declared.call.Ring.{Ring}
 use Rattle.xsk_model.specs.declared.call.Ring.TheVariants.{Fill, Comp, Rx, Tx}
 use Rattle.xsk_model.specs.declared.call.Mark.{Mark}
 use Rattle.xsk_model.specs.declared.call.Mark.TheVariants.{NeedFill, NeedTx, Kick, RxDone, TxDone}
@@ -18,6 +19,8 @@ use Rattle.xsk_model.specs.declared.call.Reply.TheVariants.{Old}
 use Rattle.xsk_turns.specs.Script.{Script, Asks}
 use Rattle.xsk_turns.specs.AppTurns.{AppKept, lanes_of, pair_of, rx_of, tx_of, app_turn, app_start, IsAppRun, IsWholeAppRun}
 use Rattle.xsk_turns.specs.AppOwned.{IsApp}
+use Rattle.xsk_turns.specs.Owned.{AllFit}
+use Rattle.xsk_turns.specs.Wakes.{owes_on, owes_end}
 
 -- one list is a front of another
 abbrev pub IsFront : List Item → List Item → Type 0
@@ -93,3 +96,21 @@ IsFirstDue call (first ∷ later) = call ≡ first
 abbrev pub WakesAtOnce : Type 0
 WakesAtOnce = (c : Config) (app : ℕ) (l : List Told) (kept : AppKept) (call : Call) (rest : Reply → Script AppKept) → IsApp c app → c.wakeup ≡ true
     → Asks (app_turn c app) (app_start c) l kept call rest → IsFirstDue call (due_of c app l)
+
+-- a ring that a driver consumes, with its flag
+abbrev pub IsFlagged : Config → ℕ → Ring → Mark → Type 0
+IsFlagged c d (Fill e) (NeedFill f) = (e ≡ d) × (f ≡ d)
+IsFlagged c d (Tx t) (NeedTx u) = (driver_of c (Tx t) ≡ d) × (u ≡ t)
+IsFlagged c d r flag = ⊥
+
+-- So what it owes it pays at once: where it owes a driver a kick for what it submitted on a ring, its next call is the look at
+-- the ring's flag, or the kick;
+abbrev pub PaysAtOnce : Type 0
+PaysAtOnce = (c : Config) (app : ℕ) (l : List Told) (kept : AppKept) (call : Call) (rest : Reply → Script AppKept) (d : ℕ) (r : Ring) (flag : Mark) → IsApp c app → c.wakeup ≡ true
+    → AllFit c [] l → Asks (app_turn c app) (app_start c) l kept call rest → IsFlagged c d r flag → owes_on d r flag l ≡ true → (call ≡ Look flag) ⊎ (call ≡ Swap (Kick d) 1)
+
+-- and where it owes one for the end to the driver of a side, its next call is that kick, or that of the side before it.
+abbrev pub PaysEndAtOnce : Type 0
+PaysEndAtOnce = (c : Config) (app : ℕ) (l : List Told) (kept : AppKept) (call : Call) (rest : Reply → Script AppKept) (side : ℕ) → IsApp c app → c.wakeup ≡ true → side < 2
+    → Asks (app_turn c app) (app_start c) l kept call rest → owes_end (pair_of c app side) (TxDone app) l ≡ true
+    → (other : ℕ) × (other ≤ side) × (call ≡ Swap (Kick (pair_of c app other)) 1)

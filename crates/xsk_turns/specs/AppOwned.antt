@@ -1,6 +1,6 @@
 -- What an application has: at each call the frames that it keeps, with those of the call, are those that it peeked and
--- didn't submit, and the call is legal where these are at home with it. That they are is a law of the object: in every
--- history frames stay with one application.
+-- didn't submit, and the call is legal where all frames that it has had are at home with it: it wakes the driver of a home
+-- after it gave the frames back. That they are is a law of the object: in every history frames stay with one application.
 use Rattle.std.specs.Prelude.{◌≡◌, ℕ, ◌+◌, ◌<◌, ◌≤◌, List, [], ◌++◌, flat_map}
 use Rattle.xsk_model.specs.Config.{Config, IsConfig, IsRegular}
 use Rattle.xsk_model.specs.Marks.{apps_of}

@@ -2,7 +2,7 @@
 //! for a driver and in `specs/AppLaw.antt` for an application, and those of what each keeps at each call beside the
 //! definitions that they speak of.
 
-ghost use Rattle.xsk_turns.specs.AppLaw.{LanesInOrder, LanesPassedOn, NothingSentLate, DrainsRx, OnlySetsKicks, WakesAtOnce};
+ghost use Rattle.xsk_turns.specs.AppLaw.{LanesInOrder, LanesPassedOn, NothingSentLate, DrainsRx, OnlySetsKicks, WakesAtOnce, PaysAtOnce, PaysEndAtOnce};
 ghost use Rattle.xsk_turns.specs.AppOwned.{AppKeepsFrames, AppCallsLegal, AppKeepsFramesAtEnd};
 ghost use Rattle.xsk_turns.specs.Counted.{KeepsCounters, KeepsCountersAtEnd};
 ghost use Rattle.xsk_turns.specs.Disposes.{KeepsDisposals, DisposesAll};
@@ -156,8 +156,8 @@ pub fn app_keeps_frames_at_end()
     ensures { AppKeepsFramesAtEnd }
 {}
 
-/// Each call that an application makes is legal where all frames that it has are at home with it, as they are in every history
-/// of the object.
+/// Each call that an application makes is legal where all frames that it has had are at home with it, as they are in every
+/// history of the object.
 #[tactic(auto, using(crate::proofs::AppOwning::app_calls_legal))]
 pub fn app_calls_legal()
     ensures { AppCallsLegal }
@@ -197,4 +197,16 @@ pub fn only_sets_kicks()
 #[tactic(auto, using(crate::proofs::AppWaking::wakes_at_once))]
 pub fn wakes_at_once()
     ensures { WakesAtOnce }
+{}
+
+/// So where it owes a driver a kick for what it submitted on a ring, its next call is the look at the ring's flag, or the kick.
+#[tactic(auto, using(crate::proofs::AppPaying::pays_at_once))]
+pub fn pays_at_once()
+    ensures { PaysAtOnce }
+{}
+
+/// Where it owes a kick for the end, its next call is that kick, or the one before it.
+#[tactic(auto, using(crate::proofs::AppPaying::pays_end_at_once))]
+pub fn pays_end_at_once()
+    ensures { PaysEndAtOnce }
 {}
