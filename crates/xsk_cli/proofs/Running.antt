@@ -1,6 +1,6 @@
 -- What a run of the command sent is what is expected at each port and queue, and fits the captures of the ports.
 use Rattle.std.proofs.Common.{◌≡◌, ℕ, suc, ◌+◌, ◌*◌, ◌<◌, ◌≤◌, List, [], ◌∷◌, length, map, get_or, take, drop, refl, sym, ap, ◌∙◌, subst, arith, None, append-nil, mul-le-mul_right}
-use Rattle.std.specs.Prelude.{All}
+use Rattle.std.specs.Prelude.{All, ◌++◌, Bool, if◌then◌else◌}
 use Rattle.std.specs.List.{concat, range_with_len}
 use Rattle.std.proofs.lemmas.List.{length-map, get_or-map}
 use Rattle.std.proofs.lemmas.List.Elements.{recursion_from_All}
@@ -26,7 +26,10 @@ use Rattle.xsk_plain.specs.Log.{calls_of, entries_of, item_of}
 use Rattle.xsk_plain.proofs.Parts.{length-entries}
 use Rattle.xsk_plain.specs.declared.log.Log.{Log}
 use Rattle.xsk_sim.specs.Runs.{HasEnded, HasStalled}
+use Rattle.xsk_sim.specs.Journal.{journal_of}
 use Rattle.xsk_sim.specs.Shown.{HasShortPackets, Shown}
+use Rattle.xsk_sim.proofs.InRounds.{entries_stand_in_rounds}
+use Rattle.xsk_sim.proofs.Journaling.{journal_stored}
 use Rattle.xsk_sim.proofs.Verdicts.{ends_as_ruled, stalls_as_ruled}
 use Rattle.xsk_laws.specs.Laws.{AreWholeRuns}
 use Rattle.xsk_laws.specs.Expected.{received}
@@ -40,7 +43,7 @@ use Rattle.xsk_socket.proofs.Numbered.{length-numbered}
 use Rattle.xsk_socket.proofs.Regularity.{regular-regular}
 use Rattle.xsk_cli.specs.Judged.{excess_of}
 use Rattle.xsk_stats.specs.Report.{report_text}
-use Rattle.xsk_cli.specs.Outcome.{Written, listed, setting_of, verdicts_by, wire_by, frames_of, sent_from, going_on, rule_by, AreTextsOf}
+use Rattle.xsk_cli.specs.Outcome.{Written, listed, setting_of, verdicts_by, wire_by, frames_of, sent_from, going_on, rule_by, report_of, AreTextsOf}
 use Rattle.xsk_cli.specs.Steps.{lists_in}
 use Rattle.xsk_cli.proofs.Going.{classes_are, expected_goes_on, is_exact_by, packets_there}
 use Rattle.xsk_cli.proofs.Judging.{limits_of}
@@ -103,10 +106,11 @@ module _ (layout : Layout) (program : Program) (wire : Wire) (order : ℕ) (list
         all_is_expected (wire_by wire) config (map listed lists) verdicts (frames_of layout) ended.history port queue (ap wire_by waits) whole_runs in_ports in_queues classes
         ∙ expected_goes_on layout program lists port queue 0 accepted (record { in_ports = in_ports; in_queues = in_queues; in_classes = omega (arith, classes) })
 
-    pub texts_of : (texts : Written)
+    pub texts_of : (journal : Bool) (texts : Written)
         → texts.outputs ≡ map (λ port. written (take layout.queues (drop (port * layout.queues) run.sent))) (range_with_len 0 layout.ports)
-        → texts.report ≡ report_text config run.figures → AreTextsOf layout program wire order lists texts
-    texts_of texts outputs report =
+        → run.pairs ≡ pairs_in layout → texts.report ≡ report_text config run.figures ++ (if journal then journal_of run.pairs run.log else [])
+        → AreTextsOf layout program wire order lists journal texts
+    texts_of journal texts outputs drivers report =
         let is : texts.outputs ≡ map (λ port. written (sent_from layout ended.history port)) (range_with_len 0 layout.ports) =
         outputs ∙ same_map _ _ 0 layout.ports (λ port h. ap written (all_sent port (omega (arith, h)))) in
         record {
@@ -121,7 +125,12 @@ module _ (layout : Layout) (program : Program) (wire : Wire) (order : ℕ) (list
               is
               ∙ same_map _ _ 0 layout.ports (λ port h. ap written
               (same_map _ _ 0 layout.queues (λ queue k. one_sent waits one port queue (omega (arith, h)) (omega (arith, k)))));
-          report = report ∙ ap (report_text config) ended.figures;
+          report =
+              report ∙ ap (λ figures. report_text config figures ++ (if journal then journal_of run.pairs run.log else [])) ended.figures
+              ∙ ap (λ n. report_of layout program wire lists ended.history ++ (if journal then journal_of n run.log else [])) (drivers ∙ sym (pairs_are layout))
+              ∙ ap (λ h. report_of layout program wire lists ended.history ++ (if journal then journal_of (length config.pairs) h else [])) ended.log
+              ∙ ap (λ t. report_of layout program wire lists ended.history ++ (if journal then t else [])) (journal_stored config.geometry config.sg (length config.pairs) ended.history);
+          rounds = entries_stand_in_rounds (setting_of layout program wire lists) (frames_of layout) order ended.count ended.history ended.is;
         }
 
     -- ---- the captures of the ports

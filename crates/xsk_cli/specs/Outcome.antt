@@ -1,12 +1,12 @@
 -- What a command's work makes of the bytes of its inputs. There is one outcome of them.
-use Rattle.std.specs.Prelude.{◌≡◌, ◌&&◌, ◌==◌, ℕ, ◌<◌, Bool, List, [], ◌∷◌, ◌++◌, length, map, filter, codes, None, Some}
+use Rattle.std.specs.Prelude.{◌≡◌, ◌&&◌, ◌==◌, ℕ, ◌<◌, Bool, List, [], ◌∷◌, ◌++◌, length, map, filter, codes, None, Some, if◌then◌else◌}
 use Rattle.std.specs.Fmt.{decimal}
 use Rattle.std.specs.List.{concat, range_with_len, slice_index_or}
 use Rattle.xsk_umem.specs.PacketList.{PacketList}
 use Rattle.xsk_umem.specs.Registration.{fresh}
 use Rattle.xsk_umem.specs.Frame.{Frame}
 use Rattle.xsk_model.specs.Sent.{sent}
-use Rattle.xsk_model.specs.Config.{map_of}
+use Rattle.xsk_model.specs.Config.{callers_of, map_of}
 use Rattle.xsk_model.specs.Entry.{Entry}
 use Rattle.xsk_model.specs.Steering.{packet_class, paired_port, driver_on, socket_on}
 use Rattle.xsk_gen.specs.Generator.{first, packet}
@@ -17,6 +17,8 @@ use Rattle.xsk_socket.specs.Layout.{fault_of}
 use Rattle.xsk_socket.specs.Regular.{regular_of}
 use Rattle.xsk_driver.specs.Figured.{figures_of}
 use Rattle.xsk_stats.specs.Report.{report_text}
+use Rattle.xsk_sim.specs.Journal.{journal_of, rounds_of}
+use Rattle.xsk_sim.specs.Rounds.{AreInRounds}
 use Rattle.xsk_sim.specs.Shown.{Shown}
 use Rattle.xsk_args.specs.declared.program.Program.{Program}
 use Rattle.xsk_args.specs.declared.program.Program.TheVariants.{Redirect, Pass, Drop, EtherType, Fixed}
@@ -27,7 +29,7 @@ use Rattle.xsk_prog.specs.declared.rule.Rule.{Rule}
 use Rattle.xsk_prog.specs.declared.rule.Rule.TheVariants.{Redirect as ByClass, Pass as PassAll, Drop as DropAll, EtherType as TypeByClass, Fixed as ByCell}
 use Rattle.xsk_turns.specs.Inputs.{packets_of_queue}
 use Rattle.xsk_prog.specs.declared.rule.Verdict.{Verdict}
-use Rattle.xsk_turns.specs.Workers.{Setting, ruled, verdicts_to}
+use Rattle.xsk_turns.specs.Workers.{Setting, IsWholeRun, ruled, verdicts_to}
 use Rattle.xsk_turns.specs.declared.wire.Wire.{Wire as OwnWire}
 use Rattle.xsk_turns.specs.declared.wire.Wire.TheVariants.{Wait as Waits, Drop as DropsNow}
 use Rattle.xsk_sim.specs.Runs.{HasEnded, HasStalled}
@@ -59,8 +61,8 @@ made_lists number ports = map (λ port. first 2000 (packet number port)) (range_
 
 -- the packets of all ports: those of the captures, or those that are made, where nothing is read
 abbrev pub AreListsOf : Work → List (List ℕ) → List (List (List ℕ)) → Type 0
-AreListsOf (Simulate layout program wire order None) inputs lists = AreCaptures inputs lists
-AreListsOf (Simulate layout program wire order (Some number)) inputs lists = (inputs ≡ []) × (lists ≡ made_lists number layout.ports)
+AreListsOf (Simulate layout program wire order None journal) inputs lists = AreCaptures inputs lists
+AreListsOf (Simulate layout program wire order (Some number) journal) inputs lists = (inputs ≡ []) × (lists ≡ made_lists number layout.ports)
 AreListsOf (Generate number) inputs lists = (inputs ≡ []) × (lists ≡ made_lists number 1)
 
 -- ---- the run
@@ -100,6 +102,11 @@ frames_of layout = fresh layout.chunk layout.frames
 -- the report of a run: its figures, each a count over its history
 abbrev pub report_of : Layout → Program → Wire → List (List (List ℕ)) → List Entry → List ℕ
 report_of layout program wire lists history = report_text (regular_of layout) (figures_of (setting_of layout program wire lists) history)
+
+-- and behind it the journal of its history, where that was asked for
+abbrev pub told_of : Layout → Program → Wire → List (List (List ℕ)) → Bool → List Entry → List ℕ
+told_of layout program wire lists journal history =
+    report_of layout program wire lists history ++ (if journal then journal_of (length (regular_of layout).pairs) history else [])
 
 -- the one line of packets that were made
 abbrev pub report_on : List (List ℕ) → List ℕ
@@ -143,8 +150,8 @@ sent_on_by layout program lists port = map (λ queue. going_on layout program li
 -- The texts of a run of these packets that has ended: what the drivers of each port sent, and its figures. What the
 -- driver of a queue sent is what the paired port's driver delivered to the sockets of all classes, whatever the wire does, and
 -- nothing else. Where the wire waits it is what is expected there of all classes; with one socket on each queue each text is
--- then that of all that goes on to its port.
-pub record AreTextsOf (layout : Layout) (program : Program) (wire : Wire) (order : ℕ) (lists : List (List (List ℕ))) (texts : Written) : Type 0 where
+-- then that of all that goes on to its port. The journal tells of each entry the round in which it stands.
+pub record AreTextsOf (layout : Layout) (program : Program) (wire : Wire) (order : ℕ) (lists : List (List (List ℕ))) (journal : Bool) (texts : Written) : Type 0 where
   pub run : Shown
   pub ended : HasEnded (setting_of layout program wire lists) (frames_of layout) order run
   pub sent : texts.outputs ≡ map (λ port. written (sent_from layout ended.history port)) (ports_of layout)
@@ -155,17 +162,18 @@ pub record AreTextsOf (layout : Layout) (program : Program) (wire : Wire) (order
       → AreExpected (regular_of layout) (map listed lists) (verdicts_by layout program lists) port queue
       (sent_on layout ended.history port queue)
   pub one_socket : wire ≡ Wait → layout.sockets ≡ 1 → texts.outputs ≡ map (λ port. written (sent_on_by layout program lists port)) (ports_of layout)
-  pub report : texts.report ≡ report_of layout program wire lists ended.history
+  pub report : texts.report ≡ told_of layout program wire lists journal ended.history
+  pub rounds : AreInRounds (IsWholeRun (setting_of layout program wire lists)) (callers_of (regular_of layout)) order ended.count ended.history (rounds_of ended.history)
 
 -- the texts that the work makes of packets: of a run, or of the packets themselves
 abbrev pub AreTextsBy : Work → List (List (List ℕ)) → Written → Type 0
-AreTextsBy (Simulate layout program wire order number) lists texts = AreTextsOf layout program wire order lists texts
+AreTextsBy (Simulate layout program wire order number journal) lists texts = AreTextsOf layout program wire order lists journal texts
 AreTextsBy (Generate number) lists texts =
     (texts.outputs ≡ map capture_of lists) × (texts.report ≡ report_on (slice_index_or lists 0 []))
 
 -- the work's run of packets stalls in a round
 abbrev pub IsStalledBy : Work → List (List (List ℕ)) → ℕ → Type 0
-IsStalledBy (Simulate layout program wire order number) lists round = HasStalled (setting_of layout program wire lists) (frames_of layout) order round
+IsStalledBy (Simulate layout program wire order number journal) lists round = HasStalled (setting_of layout program wire lists) (frames_of layout) order round
 IsStalledBy (Generate number) lists round = ⊥
 
 -- ---- the outcome

@@ -41,17 +41,17 @@ plan_in plan = record { inputs = map (λ name. name.now) plan.inputs.now; output
 
 -- its rings are without the need-wakeup flags
 abbrev pub IsAwake : Work → Type 0
-IsAwake (Simulate layout program wire order number) = layout.wakeup ≡ false
+IsAwake (Simulate layout program wire order number journal) = layout.wakeup ≡ false
 IsAwake (Generate number) = Unit {0}
 
 -- for how many ports captures are read, and for how many they are written
 abbrev pub read_by : Work → ℕ
-read_by (Simulate layout program wire order None) = layout.ports
-read_by (Simulate layout program wire order (Some number)) = 0
+read_by (Simulate layout program wire order None journal) = layout.ports
+read_by (Simulate layout program wire order (Some number) journal) = 0
 read_by (Generate number) = 0
 
 abbrev pub written_by : Work → ℕ
-written_by (Simulate layout program wire order number) = layout.ports
+written_by (Simulate layout program wire order number journal) = layout.ports
 written_by (Generate number) = 1
 
 -- a plan whose work is accepted, with as many files as it wants

@@ -28,7 +28,7 @@ no_plan = record { inputs = []; outputs = []; work = Generate 0 }
 
 -- ---- `simulate`
 
--- the options of `simulate`, each with a number but the program, the wire and the flag
+-- the options of `simulate`, each with a number but the program, the wire and the flags
 abbrev pub options : List Key
 options =
     (codes "ports", Number)
@@ -47,6 +47,7 @@ options =
     ∷ (codes "wire", TakesWire)
     ∷ (codes "empty", Number)
     ∷ (codes "sg", Nothing)
+    ∷ (codes "journal", Nothing)
     ∷ []
 
 -- the number that was said under a name, or the one that stands where none was said
@@ -109,7 +110,7 @@ abbrev pub plan_by : Meaning → Plan
 plan_by said = record {
   inputs = take (inputs_named said) (files_in said);
   outputs = drop (inputs_named said) (files_in said);
-  work = Simulate (layout_by said) (program_of said) (wire_of said) (number_or said (codes "order") 0) (number_of said (codes "gen"));
+  work = Simulate (layout_by said) (program_of said) (wire_of said) (number_or said (codes "order") 0) (number_of said (codes "gen")) (is_some (said (codes "journal")));
 }
 
 abbrev pub simulate_plan : List Text → Option Plan
@@ -132,5 +133,5 @@ plan_of (first ∷ rest) = if bytes_eq first (codes "gen") then gen_plan rest el
 
 -- why the work is refused, where it is
 abbrev pub fault_in : Work → Option Unlawful
-fault_in (Simulate layout program wire order number) = fault_of layout
+fault_in (Simulate layout program wire order number journal) = fault_of layout
 fault_in (Generate number) = None

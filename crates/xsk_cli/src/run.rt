@@ -1,9 +1,10 @@
 //! The run of a simulation, and the texts that it leaves.
-ghost use Rattle.std.specs.Prelude.{◌≡◌, ℕ, ◌*◌, ◌<◌, ◌≤◌, ◌++◌, None, All, List, IfErr, IfOk, OnOk, drop, false, length, map, take};
+ghost use Rattle.std.specs.Prelude.{◌≡◌, ℕ, ◌*◌, ◌<◌, ◌≤◌, ◌++◌, [], None, All, List, IfErr, IfOk, OnOk, drop, false, if◌then◌else◌, length, map, take};
 ghost use Rattle.std.specs.List.{concat, range_with_len};
 ghost use Rattle.std.specs.Vec.Iter.{into_iter_items};
 ghost use Rattle.xsk_driver.specs.Sent.{IsShort};
 ghost use Rattle.xsk_prog.specs.Rules.{HasSockets, IsSocketCount};
+ghost use Rattle.xsk_sim.specs.Journal.{journal_of};
 ghost use Rattle.xsk_sim.specs.Runs.{HasEnded};
 ghost use Rattle.xsk_sim.specs.Shown.{HasShortPackets};
 ghost use Rattle.xsk_cli.specs.Judged.{excess_of};
@@ -16,6 +17,7 @@ ghost use Rattle.xsk_model.specs.Opening.{AreFrames};
 ghost use Rattle.xsk_socket.specs.Layout.{fault_of, geometry_of, pairs_in};
 ghost use Rattle.xsk_socket.specs.Regular.{regular_of};
 ghost use Rattle.xsk_pcap.specs.Written.{IsWritable, written};
+ghost use Rattle.xsk_stats.specs.Report.{report_text};
 
 use crate::failure::RunFailure;
 use crate::made::made_texts;
@@ -27,7 +29,7 @@ use xsk_args::{Program, Wire};
 use xsk_model::Config;
 use xsk_pcap::Capture;
 use xsk_prog::{Rule, XdpProgram};
-use xsk_sim::{Run, SimError, simulate};
+use xsk_sim::{Run, SimError, append_journal, simulate};
 use xsk_socket::Layout;
 use xsk_stats::report;
 use xsk_umem::{Frames, OutOfMemory, PacketList};
@@ -61,8 +63,9 @@ pub(crate) fn make_texts(
             program,
             wire,
             order,
+            journal,
             ..
-        } => run_texts(alloc, layout, *program, *wire, *order, lists),
+        } => run_texts(alloc, layout, *program, *wire, *order, *journal, lists),
         Work::Generate { .. } => Ok(made_texts(alloc, &lists[0])?),
     }
 }
@@ -74,6 +77,7 @@ fn run_texts(
     program: Program,
     wire: Wire,
     order: u32,
+    journal: bool,
     lists: &[PacketList],
 ) -> Result<Texts, RunFailure>
     requires accepted { fault_of layout.now ≡ None }
@@ -82,15 +86,33 @@ fn run_texts(
     requires within { excess_of (lists_in lists.now) ≡ None }
     requires listed { lists.now ≡ map listed (lists_in lists.now) }
     requires short { All HasShortPackets lists.now }
-    ensures made { IfOk result (λ texts. AreTextsOf layout.now program wire order (lists_in lists.now) (written_in texts)) }
+    ensures made { IfOk result (λ texts. AreTextsOf layout.now program wire order (lists_in lists.now) journal (written_in texts)) }
     ensures failed { IfErr result (FailsRunning layout.now program wire order (lists_in lists.now)) }
 {
     let (config, frames) = set_up(alloc, layout)?;
     let shared = config.copy(alloc)?;
     let run = run_lists(alloc, layout, config, frames, program, wire, order, lists)?;
-    let report = report(alloc, &shared, run.figures())?;
+    let report = told_text(alloc, &shared, &run, journal)?;
     let outputs = output_texts(alloc, layout.ports, layout.queues, run.into_sent())?;
     Ok(Texts { outputs, report })
+}
+
+/// The report of a run, and behind it the journal, where that was asked for.
+fn told_text(
+    alloc: Global,
+    config: &Config,
+    run: &Run,
+    journal: bool,
+) -> Result<Vec<u8>, OutOfMemory>
+    requires regular { IsRegular config.now }
+    requires drivers { length run.now.figures.drivers ≡ length config.now.pairs }
+    ensures { IfOk result (λ text. text.items ≡ report_text config.now run.now.figures ++ (if journal then journal_of run.now.pairs run.now.log else [])) }
+{
+    let mut text = report(alloc, config, run.figures())?;
+    if journal {
+        append_journal(alloc, &mut text, run)?;
+    }
+    Ok(text)
 }
 
 /// Runs the lists of all ports under the program's rule, with the wire.

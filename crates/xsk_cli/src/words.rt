@@ -13,13 +13,15 @@ use xsk_socket::{Layout, Unlawful, check_layout};
 #[derive(Clone, Copy, Debug, PartialEq, Eq)]
 pub enum Work {
     /// A run of the layout's workers over the captures of its ports, under a program and with a wire, in rounds with an order
-    /// number. With a number of the generator no captures are read, and the packets are made.
+    /// number. With a number of the generator no captures are read, and the packets are made. The journal follows the report
+    /// where that was asked for.
     Simulate {
         layout: Layout,
         program: Program,
         wire: Wire,
         order: u32,
         number: Option<u32>,
+        journal: bool,
     },
     /// A capture of the packets that are made of a number.
     Generate {
@@ -66,6 +68,7 @@ impl<'p, 'w> Plan<'p, 'w> {
                 wire,
                 order,
                 number,
+                journal: args.is_said("journal"),
             },
         })
     }

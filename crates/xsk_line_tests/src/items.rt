@@ -36,8 +36,16 @@ fn items_have_their_options(rt: HostRuntime) -> Result<(), Fail> {
     assert!(rt; line.bytes() == b"d0 peek fill.0 2 -> items 0:0:0 2048:0:0\n".as_slice());
     drop(tell(&mut plain, &mut line, 0, Call::Reserve(Ring::Rx(0), 2))?);
     let descs = [
-        XdpDesc { addr: 256, len: 1792, options: 1 },
-        XdpDesc { addr: 2304, len: 60, options: 0 },
+        XdpDesc {
+            addr: 256,
+            len: 1792,
+            options: 1,
+        },
+        XdpDesc {
+            addr: 2304,
+            len: 60,
+            options: 0,
+        },
     ];
     let packet = described(rt.alloc(), taken, descs)?;
     drop(tell(&mut plain, &mut line, 0, Call::Submit(Ring::Rx(0), packet))?);
@@ -81,7 +89,12 @@ fn the_longest_line_is_whole(rt: HostRuntime) -> Result<(), Fail> {
     let mut plain = open(alloc)?;
     let mut line = LineBuffer::new();
     drop(tell(&mut plain, &mut line, 2, Call::Reserve(Ring::Tx(1), 32))?);
-    drop(tell(&mut plain, &mut line, 2, Call::Submit(Ring::Tx(1), largest(alloc)))?);
+    drop(tell(
+        &mut plain,
+        &mut line,
+        2,
+        Call::Submit(Ring::Tx(1), largest(alloc)),
+    )?);
     let sent = longest(alloc, "a0 submit tx.1", " -> submitted\n")?;
     assert!(rt; line.bytes() == sent.as_bytes());
     drop(tell(&mut plain, &mut line, u32::MAX, Call::Peek(Ring::Tx(1), 32))?);

@@ -3,7 +3,7 @@ ghost use Rattle.std.specs.Prelude.{◌≡◌, Some};
 
 use std::alloc::Global;
 use std::test::Fail;
-use xsk_model::{Call, Config, PairInfo, Reply, SocketInfo};
+use xsk_model::{Ask, Call, Config, PairInfo, Reply, SocketInfo};
 use xsk_plain::{LineBuffer, Plain, payload_room};
 use xsk_umem::{OutOfMemory, Umem};
 
@@ -64,4 +64,23 @@ pub(crate) fn tell(
     };
     log.write_line(plain.config(), last, line);
     Ok(reply)
+}
+
+/// The same for a call without items, whose reply is given up.
+pub(crate) fn tell_ask(
+    plain: &mut Plain,
+    line: &mut LineBuffer,
+    who: u32,
+    ask: Ask,
+) -> Result<(), Fail> {
+    let call = match ask {
+        Ask::Reserve(ring, count) => Call::Reserve(ring, count),
+        Ask::Peek(ring, count) => Call::Peek(ring, count),
+        Ask::Release(ring, count) => Call::Release(ring, count),
+        Ask::Swap(mark, value) => Call::Swap(mark, value),
+        Ask::Look(mark) => Call::Look(mark),
+        Ask::Submit(_ring) => return Err("a call with items")?,
+    };
+    drop(tell(plain, line, who, call)?);
+    Ok(())
 }

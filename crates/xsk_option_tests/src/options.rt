@@ -50,7 +50,8 @@ fn options_are_read_by_their_rules(rt: HostRuntime) -> Result<(), Fail> {
         "simulate --rx= a b c d",
         "simulate --rx +2 a b c d",
         "simulate --rx 00000000002 a b c d",
-        "simulate --journal a b c d",
+        "simulate --journal=1 a b c d",
+        "simulate --journal --journal a b c d",
         "simulate --sg=1 a b c d",
         "simulate --sg --sg a b c d",
         "simulate --frames -- a b c d",
@@ -61,6 +62,7 @@ fn options_are_read_by_their_rules(rt: HostRuntime) -> Result<(), Fail> {
         "gen 0 --x",
         "gen 4294967296 x",
         "gen --order 1 x",
+        "gen --journal 0",
     ] {
         let (status, bay) = answered(rt.alloc(), line, ROOM)?;
         assert_eq!(rt; status, Status::Usage, "{line}");

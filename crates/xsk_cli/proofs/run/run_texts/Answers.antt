@@ -1,10 +1,11 @@
-use Rattle.std.proofs.Common.{rules, Err, ◌≡◌, ℕ, ◌<◌, ◌*◌, List, [], get_or, length, map, take, drop, sym, ap, subst, ◌∙◌}
-use Rattle.std.specs.Prelude.{All, IfErr}
+use Rattle.std.proofs.Common.{rules, Err, ◌≡◌, ℕ, ◌<◌, ◌*◌, List, [], get_or, length, map, take, drop, sym, ap, subst, ◌∙◌, ◌++◌}
+use Rattle.std.specs.Prelude.{All, IfErr, if◌then◌else◌}
 use Rattle.std.specs.List.{range_with_len}
 use Rattle.std.proofs.lemmas.List.{length-map}
 use Rattle.std.proofs.lemmas.List.FromFn.{length-map-range_with_len}
 use Rattle.xsk_model.specs.Config.{Config, IsRegular}
 use Rattle.xsk_driver.specs.declared.figures.Figures.{Figures}
+use Rattle.xsk_sim.specs.Journal.{journal_of}
 use Rattle.xsk_stats.specs.Report.{report_text}
 use Rattle.xsk_socket.specs.Regular.{regular_of}
 use Rattle.xsk_pcap.specs.Capture.{IsShort}
@@ -36,18 +37,19 @@ returns-clause-made c =
     let same : lists_in own ≡ run.sent = c.into_sent.ensures.sent in
     let pairs : length run.sent ≡ layout.ports * layout.queues =
     ap length (sym same) ∙ length-map own (λ list. list.packets) ∙ c.into_sent.ensures.pairs ∙ c.in_ok-run.ensures.pairs in
-    texts_of layout c.args.program c.args.wire c.args.order (lists_in c.args.lists.now) c.requires.accepted run c.in_ok-run.ensures.ended pairs
+    texts_of layout c.args.program c.args.wire c.args.order (lists_in c.args.lists.now) c.requires.accepted run c.in_ok-run.ensures.ended pairs c.args.journal
     (written_in (record { outputs = c.in_ok-outputs.outputs; report = c.in_ok-report.report }))
     (c.in_ok-outputs.ensures ∙ ap (λ (ls : List (List (List ℕ))). map (λ port. written (take layout.queues (drop (port * layout.queues) ls))) (range_with_len 0 layout.ports)) same)
-    (c.in_ok-report.ensures ∙ ap (λ (k : Config). report_text k c.figures.result.now) (c.in_ok-shared.ensures ∙ c.in_ok-config.ensures.config) ∙ ap (report_text (regular_of layout)) c.figures.ensures)
+    c.in_ok-run.ensures.pairs
+    (c.in_ok-report.ensures ∙ ap (λ (k : Config). report_text k run.figures ++ (if c.args.journal then journal_of run.pairs run.log else [])) (c.in_ok-shared.ensures ∙ c.in_ok-config.ensures.config))
 
-pub report-requires-clause-regular : goal.report-requires-clause-regular
-report-requires-clause-regular c = subst IsRegular (sym c.in_ok-shared.ensures) c.in_ok-config.ensures.regular
+pub told_text-requires-clause-regular : goal.told_text-requires-clause-regular
+told_text-requires-clause-regular c = subst IsRegular (sym c.in_ok-shared.ensures) c.in_ok-config.ensures.regular
 
-pub report-requires-clause-drivers : goal.report-requires-clause-drivers
-report-requires-clause-drivers c =
+pub told_text-requires-clause-drivers : goal.told_text-requires-clause-drivers
+told_text-requires-clause-drivers c =
     let layout = c.args.layout.now in
-    ap (λ (figures : Figures). length figures.drivers) (c.figures.ensures ∙ c.in_ok-run.ensures.ended.figures)
+    ap (λ (figures : Figures). length figures.drivers) c.in_ok-run.ensures.ended.figures
     ∙ length-map-range_with_len _ 0 (length (regular_of layout).pairs)
     ∙ ap (λ (k : Config). length k.pairs) (sym (c.in_ok-shared.ensures ∙ c.in_ok-config.ensures.config))
 
