@@ -5,9 +5,9 @@ use Rattle.xsk_io.specs.declared.bay.Kind.TheVariants.{Open, Read, Write}
 use Rattle.xsk_io.specs.declared.bay.Stream.TheVariants.{Input, Output, Report}
 use Rattle.xsk_pcap.specs.declared.reading.BadCapture.{BadCapture as Cause}
 use Rattle.xsk_cli.specs.Cause.{IsCaused}
-use Rattle.xsk_cli.specs.Ends.{Ends, AreTold, Answers, AreTaken, NoneRose, IsComplete}
+use Rattle.xsk_cli.specs.Ends.{ComesOf, EndsBy, Ends, AreTold, Answers, AreTaken, NoneRose, IsComplete}
 use Rattle.xsk_cli.specs.Judged.{bytes_of, excess_of}
-use Rattle.xsk_cli.specs.Outcome.{Outcome, long, bad, passed, stalled, made, made_lists, IsOutcome, IsOutcomeIn}
+use Rattle.xsk_cli.specs.Outcome.{Written, Outcome, long, bad, passed, stalled, made, made_lists, IsOutcome, IsOutcomeIn}
 use Rattle.xsk_cli.specs.Streams.{Moment, Reach, IsTold}
 use Rattle.xsk_cli.specs.Words.{Plan, fault_in}
 use Rattle.xsk_cli.specs.declared.words.Work.{Work}
@@ -25,13 +25,16 @@ told_is left bytes text is h = subst (λ l. IsTold l text) is h
 
 module _ (plan : Plan) (old new : Moment) (inputs : List (List ℕ)) (told : AreTold plan inputs old) where
   -- all inputs were read
-  same_inputs : (status : Status) → (ends : Ends plan old new status) → ends.reach.ends ≡ length plan.inputs → ends.inputs ≡ inputs
-  same_inputs status ends all =
+  pub same_inputs_by : (Comes : List (List ℕ) → Written → Moment → Status → Type 0) (status : Status) → (ends : EndsBy Comes plan old new status) → ends.reach.ends ≡ length plan.inputs → ends.inputs ≡ inputs
+  same_inputs_by Comes status ends all =
       same_lists [] ends.inputs inputs (ends.count ∙ all ∙ sym told.count)
       (λ i h.
       let below : i < ends.reach.ends = omega (arith, h, ends.count) in
       let known : i < length inputs = omega (arith, below, all, told.count) in
       sym (told_is (old.left (Input i)) (bytes_of inputs i) (get_or ends.inputs i []) (told.each i known) (ends.reads.all i below)))
+
+  same_inputs : (status : Status) → (ends : Ends plan old new status) → ends.reach.ends ≡ length plan.inputs → ends.inputs ≡ inputs
+  same_inputs status ends all = same_inputs_by (ComesOf plan.work) status ends all
 
   same_outcome : (status : Status) (mine outcome : Outcome) → (ends : Ends plan old new status) → ends.reach.ends ≡ length plan.inputs → IsOutcome plan.work ends.inputs mine → IsOutcome plan.work inputs outcome → outcome ≡ mine
   same_outcome status mine outcome ends all is other =

@@ -8,7 +8,7 @@ use Rattle.xsk_io.proofs.Steps.{Adds-none}
 use Rattle.xsk_socket.specs.declared.layout.Unlawful.{Unlawful}
 use Rattle.xsk_cli.specs.Cause.{IsCaused, NeverFalls, NoOthers}
 use Rattle.xsk_cli.specs.Ends.{Ends}
-use Rattle.xsk_cli.specs.Steps.{Comes, args_status}
+use Rattle.xsk_cli.specs.Steps.{ComesTo, Comes, args_status}
 use Rattle.xsk_args.specs.declared.error.ArgsError.{ArgsError}
 use Rattle.xsk_args.specs.declared.error.ArgsError.TheVariants.{Usage as IsUsage, OutOfMemory as ArgsMemory}
 use Rattle.xsk_cli.specs.Streams.{Moment, HasLine, IsAtOnce, IsSilent, status_in}
@@ -64,22 +64,27 @@ module _ (planned : Option Plan) (old : Moment) (closed : (stream : Stream) → 
     uncounted = λ _ kind stream. refl;
   }
 
-pub plan_comes : (planned : Option Plan) (plan : Plan) (old new : Moment) (status : Status) → planned ≡ Some plan → fault_in plan.work ≡ None → (IsAtOnce status → ⊥) → Ends plan old new status
-    → (HasLine status → IsSilent old new) → IsCaused old.faults new.faults status → NeverFalls old.faults new.faults → NoOthers old.faults new.faults status → Comes planned old new status
-plan_comes planned plan old new status is accepted begun ends silent cause falls others = record {
+pub plan_comes_to : (Ending : Plan → Type 0) (planned : Option Plan) (plan : Plan) (old new : Moment) (status : Status) → planned ≡ Some plan → fault_in plan.work ≡ None → (IsAtOnce status → ⊥) → Ending plan
+    → (HasLine status → IsSilent old new) → IsCaused old.faults new.faults status → NeverFalls old.faults new.faults → NoOthers old.faults new.faults status → ComesTo Ending planned old new status
+plan_comes_to Ending planned plan old new status is accepted begun ends silent cause falls others = record {
   usage = λ e. absurd (begun (subst IsAtOnce (sym e) tt));
   unplanned = λ none. let no = sym is ∙ none in absurd cc;
   refused = λ other reason same faulty.
       let plans : plan ≡ other = same_Some plan other (sym is ∙ same) in
       let no = sym accepted ∙ subst (λ (p : Plan). fault_in p.work ≡ Some reason) (sym plans) faulty in
       absurd cc;
-  ends = subst (λ o. Ends (unwrap_or o no_plan) old new status) (sym is) ends;
+  ends = subst (λ o. Ending (unwrap_or o no_plan)) (sym is) ends;
   silent = silent;
   cause = cause;
   falls = falls;
   others = others;
   uncounted = λ at_once. absurd (begun at_once);
 }
+
+pub plan_comes : (planned : Option Plan) (plan : Plan) (old new : Moment) (status : Status) → planned ≡ Some plan → fault_in plan.work ≡ None → (IsAtOnce status → ⊥) → Ends plan old new status
+    → (HasLine status → IsSilent old new) → IsCaused old.faults new.faults status → NeverFalls old.faults new.faults → NoOthers old.faults new.faults status → Comes planned old new status
+plan_comes planned plan old new status is accepted begun ends silent cause falls others =
+    plan_comes_to (λ p. Ends p old new status) planned plan old new status is accepted begun ends silent cause falls others
 
 -- an answer with such a status
 pub comes_as : (answer : Result Unit Status) (status : Status) (planned : Option Plan) (old new : Moment) → answer ≡ Err status → Comes planned old new status → Comes planned old new (status_in answer)

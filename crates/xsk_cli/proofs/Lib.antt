@@ -9,6 +9,7 @@ pub mod Short
 pub mod Unique
 pub mod Answering
 pub mod Coming
+pub mod Showing
 pub mod Making
 pub mod Outputs
 pub mod Counting

@@ -3,7 +3,7 @@ use Rattle.std.proofs.Common.{◌≡◌, ℕ, zero, suc, ◌+◌, ◌<◌, ◌�
 use Rattle.std.specs.Prelude.{All}
 use Rattle.std.specs.List.{concat, range_with_len}
 use Rattle.std.proofs.lemmas.Bool.Decides.{nat_tests}
-use Rattle.std.proofs.lemmas.List.{drop-map, length-drop, length-take-le, get_or-drop, get_or-take}
+use Rattle.std.proofs.lemmas.List.{drop-map, length-drop, length-take-le, get_or-drop, get_or-take, take_more}
 use Rattle.std.proofs.Math.Seq.{take-add}
 use Rattle.std.proofs.lemmas.List.Elements.{All-append, recursion_from_All}
 use Rattle.std.proofs.lemmas.List.FromFn.{length-map-range_with_len, get_or-map-range_with_len}
@@ -35,6 +35,13 @@ next_list all rest n is =
 
 pub rest_lists : (all rest : List PacketList) (n : ℕ) → rest ≡ drop n all → lists_in rest ≡ drop n (lists_in all)
 rest_lists all rest n is = ap lists_in is ∙ sym (drop-map (λ (list : PacketList). list.packets) n all)
+
+-- what one driver more sent stands behind what those before it did
+pub one_more_sent : (all so_far : List (List (List ℕ))) (first place : ℕ) (packets : List (List ℕ)) → first + place < length all → so_far ≡ take place (drop first all) → packets ≡ get_or all (first + place) []
+    → so_far ++ packets ∷ [] ≡ take (place + 1) (drop first all)
+one_more_sent all so_far first place packets below was is =
+    let here : place < length (drop first all) = omega (arith, below, length-drop first all) in
+    ap (λ ls. ls ++ packets ∷ []) was ∙ ap (λ x. take place (drop first all) ++ x ∷ []) (is ∙ sym (get_or-drop first all place [])) ∙ sym (take_more (drop first all) place [] here)
 
 -- ---- a number of each queue, summed up over so many queues
 

@@ -9,7 +9,9 @@ use Rattle.xsk_pcap.specs.Capture.{IsShort}
 use Rattle.xsk_pcap.specs.Written.{IsWritable, written}
 use Rattle.xsk_umem.specs.PacketList.{PacketList}
 use Rattle.xsk_umem.specs.Frame.{Frame}
-use Rattle.xsk_model.specs.Config.{Config, classes_of}
+use Rattle.xsk_model.specs.Config.{Config, classes_of, callers_of}
+use Rattle.xsk_model.specs.Entry.{Entry, own}
+use Rattle.xsk_model.specs.History.{IsHistory}
 use Rattle.xsk_model.specs.Rings.{caller_of}
 use Rattle.xsk_model.specs.Sent.{sent}
 use Rattle.xsk_model.specs.Stored.{stored_entry}
@@ -17,7 +19,8 @@ use Rattle.xsk_model.specs.Steering.{paired_port, driver_on}
 use Rattle.xsk_model.proofs.Seats.{below}
 use Rattle.xsk_turns.specs.declared.wire.Wire.{Wire as OwnWire}
 use Rattle.xsk_turns.specs.Inputs.{packets_of_queue}
-use Rattle.xsk_turns.specs.Workers.{IsRuled, ruled}
+use Rattle.xsk_turns.specs.Workers.{IsRuled, IsWholeRun, ruled}
+use Rattle.xsk_prog.specs.declared.rule.Rule.{Rule}
 use Rattle.xsk_prog.specs.declared.rule.Verdict.{Verdict}
 use Rattle.xsk_args.specs.declared.program.Program.{Program}
 use Rattle.xsk_args.specs.declared.wire.Wire.{Wire}
@@ -25,6 +28,7 @@ use Rattle.xsk_args.specs.declared.wire.Wire.TheVariants.{Wait}
 use Rattle.xsk_plain.specs.Log.{calls_of, entries_of, item_of}
 use Rattle.xsk_plain.proofs.Parts.{length-entries}
 use Rattle.xsk_plain.specs.declared.log.Log.{Log}
+use Rattle.xsk_workers.specs.Forwarded.{OutcomeShown, HasForwarded}
 use Rattle.xsk_sim.specs.Runs.{HasEnded, HasStalled}
 use Rattle.xsk_sim.specs.Journal.{journal_of}
 use Rattle.xsk_sim.specs.Shown.{HasShortPackets, Shown}
@@ -43,7 +47,7 @@ use Rattle.xsk_socket.proofs.Numbered.{length-numbered}
 use Rattle.xsk_socket.proofs.Regularity.{regular-regular}
 use Rattle.xsk_cli.specs.Judged.{excess_of}
 use Rattle.xsk_stats.specs.Report.{report_text}
-use Rattle.xsk_cli.specs.Outcome.{Written, listed, setting_of, verdicts_by, wire_by, frames_of, sent_from, going_on, rule_by, report_of, AreTextsOf}
+use Rattle.xsk_cli.specs.Outcome.{Written, listed, setting_of, verdicts_by, wire_by, frames_of, sent_from, going_on, rule_by, report_of, told_of, AreTextsIn, AreTextsOf}
 use Rattle.xsk_cli.specs.Steps.{lists_in}
 use Rattle.xsk_cli.proofs.Going.{classes_are, expected_goes_on, is_exact_by, packets_there}
 use Rattle.xsk_cli.proofs.Judging.{limits_of}
@@ -56,7 +60,7 @@ pub pairs_are : (layout : Layout) → length (regular_of layout).pairs ≡ pairs
 pairs_are layout = length-numbered (pairs_in layout) (pair_in layout)
 
 -- so many of a port's pairs are among all
-rows : (ports queues port count : ℕ) → port < ports → count ≤ queues → port * queues + count ≤ ports * queues
+pub rows : (ports queues port count : ℕ) → port < ports → count ≤ queues → port * queues + count ≤ ports * queues
 rows ports queues port count in_ports few =
     let next : suc port * queues ≡ port * queues + queues = grind arith in
     let most : suc port * queues ≤ ports * queues = mul-le-mul_right queues in_ports in
@@ -65,9 +69,11 @@ rows ports queues port count in_ports few =
 driver_known : (ports queues port queue : ℕ) → port < ports → queue < queues → port * queues + queue < ports * queues
 driver_known ports queues port queue in_ports in_queues = below port queues queue (ports * queues) in_queues (mul-le-mul_right queues in_ports)
 
--- ---- a run that has ended
+-- ---- a history in which all runs are whole, and the lists that are shown of it
 
-module _ (layout : Layout) (program : Program) (wire : Wire) (order : ℕ) (lists : List (List (List ℕ))) (accepted : fault_of layout ≡ None) (run : Shown) (ended : HasEnded (setting_of layout program wire lists) (frames_of layout) order run) where
+module _ (layout : Layout) (program : Program) (wire : Wire) (lists : List (List (List ℕ))) (accepted : fault_of layout ≡ None) (history : List Entry) (legal : IsHistory (regular_of layout) (frames_of layout) history)
+    (whole : (who : ℕ) → who < callers_of (regular_of layout) → IsWholeRun (setting_of layout program wire lists) who (own who history)) (all : List (List (List ℕ)))
+    (each : (pair : ℕ) → pair < length (regular_of layout).pairs → get_or all pair [] ≡ sent (regular_of layout) history pair) where
   abbrev config : Config
   config = regular_of layout
 
@@ -75,91 +81,134 @@ module _ (layout : Layout) (program : Program) (wire : Wire) (order : ℕ) (list
   verdicts = verdicts_by layout program lists
 
   -- all workers have whole runs
-  whole_runs : AreWholeRuns (wire_by wire) config (map listed lists) verdicts (frames_of layout) ended.history
+  whole_runs : AreWholeRuns (wire_by wire) config (map listed lists) verdicts (frames_of layout) history
   whole_runs = record {
     regular = regular-regular layout (fits layout accepted);
-    history = ended.is.legal;
-    drivers = λ d below. (ended.whole d (omega (arith, below))).driver below;
-    apps = λ a below. (ended.whole (caller_of config a) (omega (arith, below))).app a refl;
+    history = legal;
+    drivers = λ d below. (whole d (omega (arith, below))).driver below;
+    apps = λ a below. (whole (caller_of config a) (omega (arith, below))).app a refl;
   }
 
-  shown_sent : (port queue : ℕ) → port < layout.ports → queue < layout.queues → get_or run.sent (port * layout.queues + queue) [] ≡ sent config ended.history (driver_on config port queue)
+  shown_sent : (port queue : ℕ) → port < layout.ports → queue < layout.queues → get_or all (port * layout.queues + queue) [] ≡ sent config history (driver_on config port queue)
   shown_sent port queue in_ports in_queues =
-      ended.sent (port * layout.queues + queue) (omega (arith, driver_known layout.ports layout.queues port queue in_ports in_queues, pairs_are layout))
+      each (port * layout.queues + queue) (omega (arith, driver_known layout.ports layout.queues port queue in_ports in_queues, pairs_are layout))
 
-  module _ (pairs : length run.sent ≡ pairs_in layout) where
+  module _ (pairs : length all ≡ pairs_in layout) where
     sent_piece : (port count : ℕ) → port < layout.ports → count ≤ layout.queues
-        → take count (drop (port * layout.queues) run.sent) ≡ map (λ queue. sent config ended.history (driver_on config port queue)) (range_with_len 0 count)
+        → take count (drop (port * layout.queues) all) ≡ map (λ queue. sent config history (driver_on config port queue)) (range_with_len 0 count)
     sent_piece port count in_ports few =
-        piece [] run.sent (port * layout.queues) count (omega (arith, rows layout.ports layout.queues port count in_ports few, pairs))
+        piece [] all (port * layout.queues) count (omega (arith, rows layout.ports layout.queues port count in_ports few, pairs))
         ∙ same_map _ _ 0 count (λ queue below. shown_sent port queue in_ports (omega (arith, below, few)))
 
     -- ---- the texts
 
-    all_sent : (port : ℕ) → port < layout.ports → take layout.queues (drop (port * layout.queues) run.sent) ≡ sent_from layout ended.history port
+    all_sent : (port : ℕ) → port < layout.ports → take layout.queues (drop (port * layout.queues) all) ≡ sent_from layout history port
     all_sent port in_ports = sent_piece port layout.queues in_ports (omega arith)
 
     -- with one socket on each queue each driver sent what goes on to its queue
-    one_sent : wire ≡ Wait → layout.sockets ≡ 1 → (port queue : ℕ) → port < layout.ports → queue < layout.queues → sent config ended.history (driver_on config port queue) ≡ going_on layout program lists (paired_port port) queue 0
+    one_sent : wire ≡ Wait → layout.sockets ≡ 1 → (port queue : ℕ) → port < layout.ports → queue < layout.queues → sent config history (driver_on config port queue) ≡ going_on layout program lists (paired_port port) queue 0
     one_sent waits one port queue in_ports in_queues =
         let classes : classes_of config ≡ 1 = classes_are layout (omega (arith, driver_known layout.ports layout.queues port queue in_ports in_queues)) ∙ one in
-        all_is_expected (wire_by wire) config (map listed lists) verdicts (frames_of layout) ended.history port queue (ap wire_by waits) whole_runs in_ports in_queues classes
+        all_is_expected (wire_by wire) config (map listed lists) verdicts (frames_of layout) history port queue (ap wire_by waits) whole_runs in_ports in_queues classes
         ∙ expected_goes_on layout program lists port queue 0 accepted (record { in_ports = in_ports; in_queues = in_queues; in_classes = omega (arith, classes) })
 
-    pub texts_of : (journal : Bool) (texts : Written)
-        → texts.outputs ≡ map (λ port. written (take layout.queues (drop (port * layout.queues) run.sent))) (range_with_len 0 layout.ports)
-        → run.pairs ≡ pairs_in layout → texts.report ≡ report_text config run.figures ++ (if journal then journal_of run.pairs run.log else [])
-        → AreTextsOf layout program wire order lists journal texts
-    texts_of journal texts outputs drivers report =
-        let is : texts.outputs ≡ map (λ port. written (sent_from layout ended.history port)) (range_with_len 0 layout.ports) =
+    pub texts_in : (told : List ℕ) (texts : Written)
+        → texts.outputs ≡ map (λ port. written (take layout.queues (drop (port * layout.queues) all))) (range_with_len 0 layout.ports)
+        → texts.report ≡ told → AreTextsIn layout program wire lists history told texts
+    texts_in told texts outputs report =
+        let is : texts.outputs ≡ map (λ port. written (sent_from layout history port)) (range_with_len 0 layout.ports) =
         outputs ∙ same_map _ _ 0 layout.ports (λ port h. ap written (all_sent port (omega (arith, h)))) in
         record {
-          run = run;
-          ended = ended;
           sent = is;
           forwarded = λ port queue in_ports in_queues.
-              all_are_forwarded (wire_by wire) config (map listed lists) verdicts (frames_of layout) ended.history port queue whole_runs in_ports in_queues;
+              all_are_forwarded (wire_by wire) config (map listed lists) verdicts (frames_of layout) history port queue whole_runs in_ports in_queues;
           redirected = λ port queue waits in_ports in_queues.
-              nothing_else_is_sent (wire_by wire) config (map listed lists) verdicts (frames_of layout) ended.history port queue (ap wire_by waits) whole_runs in_ports in_queues;
+              nothing_else_is_sent (wire_by wire) config (map listed lists) verdicts (frames_of layout) history port queue (ap wire_by waits) whole_runs in_ports in_queues;
           one_socket = λ waits one.
               is
               ∙ same_map _ _ 0 layout.ports (λ port h. ap written
               (same_map _ _ 0 layout.queues (λ queue k. one_sent waits one port queue (omega (arith, h)) (omega (arith, k)))));
-          report =
-              report ∙ ap (λ figures. report_text config figures ++ (if journal then journal_of run.pairs run.log else [])) ended.figures
-              ∙ ap (λ n. report_of layout program wire lists ended.history ++ (if journal then journal_of n run.log else [])) (drivers ∙ sym (pairs_are layout))
-              ∙ ap (λ h. report_of layout program wire lists ended.history ++ (if journal then journal_of (length config.pairs) h else [])) ended.log
-              ∙ ap (λ t. report_of layout program wire lists ended.history ++ (if journal then t else [])) (journal_stored config.geometry config.sg (length config.pairs) ended.history);
-          rounds = entries_stand_in_rounds (setting_of layout program wire lists) (frames_of layout) order ended.count ended.history ended.is;
+          report = report;
         }
 
     -- ---- the captures of the ports
 
-    module _ (count_is : length lists ≡ layout.ports) (within : excess_of lists ≡ None) (each_short : (pair : ℕ) → pair < length run.sent → All IsShort (get_or run.sent pair [])) where
+    module _ (count_is : length lists ≡ layout.ports) (within : excess_of lists ≡ None) (each_short : (pair : ℕ) → pair < length all → All IsShort (get_or all pair [])) where
       other_known : (port : ℕ) → port < layout.ports → paired_port port < length lists
       other_known port in_ports = omega (arith, count_is, (are_paired layout.ports port (fits layout accepted).ports in_ports).in_ports)
 
       sent_within : (port queue : ℕ) → port < layout.ports → queue < layout.queues
-          → IsWithin layout.queues (get_or lists (paired_port port) []) queue (sent config ended.history (driver_on config port queue))
+          → IsWithin layout.queues (get_or lists (paired_port port) []) queue (sent config history (driver_on config port queue))
       sent_within port queue in_ports in_queues =
           let pair : ℕ = port * layout.queues + queue in
-          let known : pair < length run.sent = omega (arith, driver_known layout.ports layout.queues port queue in_ports in_queues, pairs) in
-          let few = sent_is_within (wire_by wire) config (map listed lists) verdicts (frames_of layout) ended.history port queue whole_runs in_ports in_queues in
+          let known : pair < length all = omega (arith, driver_known layout.ports layout.queues port queue in_ports in_queues, pairs) in
+          let few = sent_is_within (wire_by wire) config (map listed lists) verdicts (frames_of layout) history port queue whole_runs in_ports in_queues in
           let here : received config (map listed lists) (paired_port port) queue ≡ packets_of_queue layout.queues queue (get_or lists (paired_port port) []) =
           ap (packets_of_queue layout.queues queue) (packets_there lists (paired_port port)) in
           record {
             short = subst (All IsShort) (shown_sent port queue in_ports in_queues) (each_short pair known);
-            few = subst (λ (ps : List (List ℕ)). length (sent config ended.history (driver_on config port queue)) ≤ length ps) here few.0;
-            small = subst (λ (ps : List (List ℕ)). length (concat (sent config ended.history (driver_on config port queue))) ≤ length (concat ps)) here few.1;
+            few = subst (λ (ps : List (List ℕ)). length (sent config history (driver_on config port queue)) ≤ length ps) here few.0;
+            small = subst (λ (ps : List (List ℕ)). length (concat (sent config history (driver_on config port queue))) ≤ length (concat ps)) here few.1;
           }
 
-      pub sent_writable : (port count : ℕ) → port < layout.ports → count ≤ layout.queues → IsWritable (take count (drop (port * layout.queues) run.sent))
-      sent_writable port count in_ports few =
+      pub all_writable : (port count : ℕ) → port < layout.ports → count ≤ layout.queues → IsWritable (take count (drop (port * layout.queues) all))
+      all_writable port count in_ports few =
           let own : List (List ℕ) = get_or lists (paired_port port) [] in
           subst IsWritable (sym (sent_piece port count in_ports few))
-          (queues_writable layout.queues (λ queue. sent config ended.history (driver_on config port queue)) own count (λ queue below. sent_within port queue in_ports (omega (arith, below, few)))
+          (queues_writable layout.queues (λ queue. sent config history (driver_on config port queue)) own count (λ queue below. sent_within port queue in_ports (omega (arith, below, few)))
           (omega (arith, get_or-le-sum_by (λ (packets : List (List ℕ)). length packets) lists (paired_port port) [] (other_known port in_ports), (limits_of lists within).0))
           (omega (arith, get_or-le-sum_by (λ (packets : List (List ℕ)). length (concat packets)) lists (paired_port port) [] (other_known port in_ports), (limits_of lists within).1)))
+
+-- ---- a run in rounds that has ended
+
+module _ (layout : Layout) (program : Program) (wire : Wire) (order : ℕ) (lists : List (List (List ℕ))) (accepted : fault_of layout ≡ None) (run : Shown) (ended : HasEnded (setting_of layout program wire lists) (frames_of layout) order run)
+    (pairs : length run.sent ≡ pairs_in layout) where
+  pub texts_of : (journal : Bool) (texts : Written)
+      → texts.outputs ≡ map (λ port. written (take layout.queues (drop (port * layout.queues) run.sent))) (range_with_len 0 layout.ports)
+      → run.pairs ≡ pairs_in layout → texts.report ≡ report_text (regular_of layout) run.figures ++ (if journal then journal_of run.pairs run.log else [])
+      → AreTextsOf layout program wire order lists journal texts
+  texts_of journal texts outputs drivers report =
+      let config : Config = regular_of layout in
+      record {
+        run = run;
+        ended = ended;
+        are =
+            texts_in layout program wire lists accepted ended.history ended.is.legal ended.whole run.sent ended.sent pairs (told_of layout program wire lists journal ended.history) texts outputs
+            (report ∙ ap (λ figures. report_text config figures ++ (if journal then journal_of run.pairs run.log else [])) ended.figures
+            ∙ ap (λ n. report_of layout program wire lists ended.history ++ (if journal then journal_of n run.log else [])) (drivers ∙ sym (pairs_are layout))
+            ∙ ap (λ h. report_of layout program wire lists ended.history ++ (if journal then journal_of (length config.pairs) h else [])) ended.log
+            ∙ ap (λ t. report_of layout program wire lists ended.history ++ (if journal then t else [])) (journal_stored config.geometry config.sg (length config.pairs) ended.history));
+        rounds = entries_stand_in_rounds (setting_of layout program wire lists) (frames_of layout) order ended.count ended.history ended.is;
+      }
+
+  pub sent_writable : length lists ≡ layout.ports → excess_of lists ≡ None → ((pair : ℕ) → pair < length run.sent → All IsShort (get_or run.sent pair [])) → (port count : ℕ) → port < layout.ports → count ≤ layout.queues
+      → IsWritable (take count (drop (port * layout.queues) run.sent))
+  sent_writable count_is within each_short = all_writable layout program wire lists accepted ended.history ended.is.legal ended.whole run.sent ended.sent pairs count_is within each_short
+
+-- ---- a run on threads
+
+module _ (layout : Layout) (program : Program) (wire : Wire) (lists : List (List (List ℕ))) (accepted : fault_of layout ≡ None) (o : OutcomeShown) (shown : HasForwarded (setting_of layout program wire lists) (frames_of layout) o)
+    (pairs : length o.sent ≡ pairs_in layout) where
+  pub texts_shown : (texts : Written)
+      → texts.outputs ≡ map (λ port. written (take layout.queues (drop (port * layout.queues) o.sent))) (range_with_len 0 layout.ports)
+      → texts.report ≡ report_text (regular_of layout) o.figures → AreTextsIn layout program wire lists o.history (report_of layout program wire lists o.history) texts
+  texts_shown texts outputs report =
+      texts_in layout program wire lists accepted o.history shown.legal shown.whole o.sent shown.sent pairs (report_of layout program wire lists o.history) texts outputs (report ∙ ap (report_text (regular_of layout)) shown.figures)
+
+  pub shown_writable : length lists ≡ layout.ports → excess_of lists ≡ None → ((pair : ℕ) → pair < length o.sent → All IsShort (get_or o.sent pair [])) → (port count : ℕ) → port < layout.ports → count ≤ layout.queues
+      → IsWritable (take count (drop (port * layout.queues) o.sent))
+  shown_writable count_is within each_short = all_writable layout program wire lists accepted o.history shown.legal shown.whole o.sent shown.sent pairs count_is within each_short
+
+-- so it is one of the command's setting
+pub forwarded_as : (layout : Layout) (program : Program) (wire : Wire) (c : Config) (own : List PacketList) (fs : List Frame) (lists : List (List (List ℕ))) (o : OutcomeShown) → c ≡ regular_of layout → own ≡ map listed lists
+    → fs ≡ frames_of layout → (own_wire : OwnWire) → own_wire ≡ wire_by wire → (rule : Rule) → rule ≡ rule_by layout.sockets program
+    → HasForwarded (ruled rule own_wire c own) fs o → HasForwarded (setting_of layout program wire lists) (frames_of layout) o
+forwarded_as layout program wire c own fs lists o is_config is_own is_frames own_wire is_wire rule is_rule h =
+    subst (λ f. HasForwarded (setting_of layout program wire lists) f o) is_frames
+    (subst (λ (l : List PacketList). HasForwarded (ruled (rule_by layout.sockets program) (wire_by wire) (regular_of layout) l) fs o) is_own
+    (subst (λ (k : Config). HasForwarded (ruled (rule_by layout.sockets program) (wire_by wire) k own) fs o) is_config
+    (subst (λ (w : OwnWire). HasForwarded (ruled (rule_by layout.sockets program) w c own) fs o) is_wire
+    (subst (λ (r : Rule). HasForwarded (ruled r own_wire c own) fs o) is_rule h))))
 
 -- the lists of the code
 pub lists_short : (own : List PacketList) → All HasShortPackets own → (pair : ℕ) → pair < length (lists_in own) → All IsShort (get_or (lists_in own) pair [])

@@ -35,7 +35,7 @@ one_long inputs p q a b = ⊎_elim
     other)
     (cases_order p q)
 
-long_not_short : (inputs : List (List ℕ)) (p : ℕ) → IsTooLong inputs p → AreShort inputs (length inputs) → ⊥
+pub long_not_short : (inputs : List (List ℕ)) (p : ℕ) → IsTooLong inputs p → AreShort inputs (length inputs) → ⊥
 long_not_short inputs p a short = omega (arith, a.long, short p a.known)
 
 refused_port : (inputs : List (List ℕ)) (p q : ℕ) (c d : Cause) → IsBadCapture inputs p c → IsBadCapture inputs q d → p < q → ⊥
@@ -76,10 +76,10 @@ module _ (layout : Layout) (program : Program) (wire : Wire) (order : ℕ) (list
   same_history = one_run (setting_of layout program wire lists) (frames_of layout) order s.run t.run s.ended t.ended
 
   same_outputs : a.outputs ≡ b.outputs
-  same_outputs = s.sent ∙ ap (λ h. map (λ port. written (sent_from layout h port)) (ports_of layout)) same_history ∙ sym t.sent
+  same_outputs = s.are.sent ∙ ap (λ h. map (λ port. written (sent_from layout h port)) (ports_of layout)) same_history ∙ sym t.are.sent
 
   same_report : a.report ≡ b.report
-  same_report = s.report ∙ ap (told_of layout program wire lists journal) same_history ∙ sym t.report
+  same_report = s.are.report ∙ ap (told_of layout program wire lists journal) same_history ∙ sym t.are.report
 
 same_written : (a b : Written) → a.outputs ≡ b.outputs → a.report ≡ b.report → made a ≡ made b
 same_written a b outputs report =
@@ -98,7 +98,7 @@ no_texts_and_stall : (work : Work) (lists : List (List (List ℕ))) (texts : Wri
 no_texts_and_stall (Simulate layout program wire order number journal) lists texts r t x = ends_or_stalls (setting_of layout program wire lists) (frames_of layout) order r t.run t.ended x
 no_texts_and_stall (Generate number) lists texts r t x = x
 
-none_some : {A : Type 0} (excess : Option Excess) (e : Excess) → excess ≡ Some e → excess ≡ None → A
+pub none_some : {A : Type 0} (excess : Option Excess) (e : Excess) → excess ≡ Some e → excess ≡ None → A
 none_some excess e is none = let no = sym is ∙ none in absurd cc
 
 module _ (work : Work) where

@@ -6,7 +6,7 @@ use Rattle.xsk_io.specs.Bay.{Adds, AddsNoneBut, Grows, GrowsByPart, IsOffered, S
 use Rattle.xsk_io.specs.declared.bay.Stream.{Stream}
 use Rattle.xsk_io.specs.declared.bay.Stream.TheVariants.{Input, Output, Report}
 use Rattle.xsk_io.proofs.Steps.{Adds-then, IsOffered-later}
-use Rattle.xsk_cli.specs.Ends.{ComesOf, Ends}
+use Rattle.xsk_cli.specs.Ends.{ComesOf, EndsBy, Ends}
 use Rattle.xsk_cli.specs.Judged.{packets_in, bytes_in, excess_of}
 use Rattle.xsk_cli.specs.declared.status.Excess.{Excess}
 use Rattle.std.proofs.lemmas.List.FromFn.{length-map-range_with_len}
@@ -82,9 +82,10 @@ module _ (plan : Plan) (bytes : List (List ℕ)) (old mid new : Moment) (have : 
   abbrev no_texts : Written
   no_texts = record { outputs = []; report = [] }
 
-  refused : (status : Status) → Reaches (length plan.inputs) (length plan.outputs) status (at_input (length plan.inputs) (length plan.inputs)) → IsReported [] status old mid
-      → ((stream : Stream) → status ≡ OpenFault stream → ⊥) → ComesOf plan.work bytes no_texts old status → Ends plan old mid status
-  refused status reaches reported other comes = record {
+  -- no texts were made, whatever it comes of
+  pub refused_by : (Comes : List (List ℕ) → Written → Moment → Status → Type 0) (status : Status) → Reaches (length plan.inputs) (length plan.outputs) status (at_input (length plan.inputs) (length plan.inputs)) → IsReported [] status old mid
+      → ((stream : Stream) → status ≡ OpenFault stream → ⊥) → Comes bytes no_texts old status → EndsBy Comes plan old mid status
+  refused_by Comes status reaches reported other comes = record {
     inputs = bytes;
     texts = no_texts;
     reach = at_input (length plan.inputs) (length plan.inputs);
@@ -98,6 +99,13 @@ module _ (plan : Plan) (bytes : List (List ℕ)) (old mid new : Moment) (have : 
     comes = comes;
   }
 
+  refused : (status : Status) → Reaches (length plan.inputs) (length plan.outputs) status (at_input (length plan.inputs) (length plan.inputs)) → IsReported [] status old mid
+      → ((stream : Stream) → status ≡ OpenFault stream → ⊥) → ComesOf plan.work bytes no_texts old status → Ends plan old mid status
+  refused status reaches reported other comes = refused_by (ComesOf plan.work) status reaches reported other comes
+
+  pub ran_out_by : (Comes : List (List ℕ) → Written → Moment → Status → Type 0) → Comes bytes no_texts old OutOfMemory → EndsBy Comes plan old mid OutOfMemory
+  ran_out_by Comes comes = refused_by Comes OutOfMemory (record { known = omega arith; ends = omega arith; last = omega arith; outputs = refl; wholes = refl }) tt (λ stream e. cc) comes
+
   pub run_fails : (failure : RunFailure) → MakesNone plan.work bytes failure → Ends plan old mid (run_status failure)
   run_fails (Bad port cause) h = refused (BadCapture port cause) refl tt (λ stream e. cc) h
   run_fails (Excessive (LongInput port)) h = absurd (no_long h.1.0 port h.1.2)
@@ -106,10 +114,11 @@ module _ (plan : Plan) (bytes : List (List ℕ)) (old mid new : Moment) (have : 
   run_fails (Stalls round) h = refused (Stalled round) refl tt (λ stream e. cc) h
   run_fails NoMemory h = refused OutOfMemory (record { known = omega arith; ends = omega arith; last = omega arith; outputs = refl; wholes = refl }) tt (λ stream e. cc) tt
 
-  module _ (texts : Written) (is : IsOutcome plan.work bytes (made texts)) (same : SameInputs mid new) where
+  -- whatever it comes of
+  module _ (Comes : List (List ℕ) → Written → Moment → Status → Type 0) (texts : Written) (same : SameInputs mid new) where
     wrote : (status : Status) (opened whole : ℕ) → Reaches (length plan.inputs) (length plan.outputs) status (at_output (length plan.inputs) opened whole)
         → AreWritten plan.outputs texts.outputs opened whole mid new → IsReported texts.report status old new
-        → ((stream : Stream) → status ≡ OpenFault stream → IsTold (new.asked stream) (name_of plan stream)) → ComesOf plan.work bytes texts old status → Ends plan old new status
+        → ((stream : Stream) → status ≡ OpenFault stream → IsTold (new.asked stream) (name_of plan stream)) → Comes bytes texts old status → EndsBy Comes plan old new status
     wrote status opened whole reaches writes reported asked comes = record {
       inputs = bytes;
       texts = texts;
@@ -127,19 +136,28 @@ module _ (plan : Plan) (bytes : List (List ℕ)) (old mid new : Moment) (have : 
     since_offered : IsOffered (mid.offers Report) (new.offers Report) (length texts.report) → IsOffered (old.offers Report) (new.offers Report) (length texts.report)
     since_offered offered = subst (λ o. IsOffered o (new.offers Report) (length texts.report)) (have.offers Report) offered
 
-    pub done_ends : AreWritten plan.outputs texts.outputs (length plan.outputs) (length plan.outputs) mid new → Grows (mid.held Report) (new.held Report) texts.report → IsOffered (mid.offers Report) (new.offers Report) (length texts.report) → Ends plan old new Done
-    done_ends writes grown offered =
+    pub done_by : Comes bytes texts old Done → AreWritten plan.outputs texts.outputs (length plan.outputs) (length plan.outputs) mid new → Grows (mid.held Report) (new.held Report) texts.report
+        → IsOffered (mid.offers Report) (new.offers Report) (length texts.report) → EndsBy Comes plan old new Done
+    done_by is writes grown offered =
         wrote Done (length plan.outputs) (length plan.outputs) refl writes (subst (λ m. Grows m (new.held Report) texts.report) have.report grown, since_offered offered) (λ stream e. absurd (cc)) is
 
-    pub unwritten_ends : (failure : WriteFailure) → FailsWriting plan.outputs texts mid new failure → Ends plan old new (write_status failure)
-    unwritten_ends (Unopened port) h =
+    pub unwritten_by : ((stream : Stream) → Comes bytes texts old (WriteFault stream)) → ((port : ℕ) → Comes bytes texts old (OpenFault (Output port))) → (failure : WriteFailure) → FailsWriting plan.outputs texts mid new failure
+        → EndsBy Comes plan old new (write_status failure)
+    unwritten_by written opened (Unopened port) h =
         wrote (OpenFault (Output port)) port port (h.0.0, refl) h.0.1 tt
-        (λ stream e. subst (λ s. IsTold (new.asked s) (name_of plan s)) (let i : Output port ≡ stream = cc in i) h.0.2) is
-    unwritten_ends (Unwritten (Input port)) h = absurd h.0
-    unwritten_ends (Unwritten (Output port)) h =
-        wrote (WriteFault (Output port)) (port + 1) port (h.0.0, refl) h.0.1 (h.1.0 ∙ have.report, subst (λ o. Adds o (new.offers Report) []) (have.offers Report) h.1.1) (λ stream e. absurd (cc)) is
-    unwritten_ends (Unwritten Report) h =
-        wrote (WriteFault Report) (length plan.outputs) (length plan.outputs) refl h.0 (subst (λ m. GrowsByPart m (new.held Report) texts.report) have.report h.1, since_offered h.2) (λ stream e. absurd (cc)) is
+        (λ stream e. subst (λ s. IsTold (new.asked s) (name_of plan s)) (let i : Output port ≡ stream = cc in i) h.0.2) (opened port)
+    unwritten_by written opened (Unwritten (Input port)) h = absurd h.0
+    unwritten_by written opened (Unwritten (Output port)) h =
+        wrote (WriteFault (Output port)) (port + 1) port (h.0.0, refl) h.0.1 (h.1.0 ∙ have.report, subst (λ o. Adds o (new.offers Report) []) (have.offers Report) h.1.1) (λ stream e. absurd (cc)) (written (Output port))
+    unwritten_by written opened (Unwritten Report) h =
+        wrote (WriteFault Report) (length plan.outputs) (length plan.outputs) refl h.0 (subst (λ m. GrowsByPart m (new.held Report) texts.report) have.report h.1, since_offered h.2) (λ stream e. absurd (cc)) (written Report)
+
+  module _ (texts : Written) (is : IsOutcome plan.work bytes (made texts)) (same : SameInputs mid new) where
+    pub done_ends : AreWritten plan.outputs texts.outputs (length plan.outputs) (length plan.outputs) mid new → Grows (mid.held Report) (new.held Report) texts.report → IsOffered (mid.offers Report) (new.offers Report) (length texts.report) → Ends plan old new Done
+    done_ends writes grown offered = done_by (ComesOf plan.work) texts same is writes grown offered
+
+    pub unwritten_ends : (failure : WriteFailure) → FailsWriting plan.outputs texts mid new failure → Ends plan old new (write_status failure)
+    unwritten_ends failure h = unwritten_by (ComesOf plan.work) texts same (λ stream. is) (λ port. is) failure h
 
 -- ---- and then the line of a refusal, which changes the report alone
 
@@ -165,9 +183,9 @@ reported_still text old mid new OutOfMemory is silent = tt
 output_is_no_report : (port : ℕ) → Output port ≢ Report
 output_is_no_report port e = cc
 
-pub told_ends : (plan : Plan) (old mid new : Moment) (status : Status) → Ends plan old mid status → Same mid.is_open new.is_open → Same mid.asked new.asked → Same mid.left new.left → SameBut Report mid.held new.held
-    → AddsNoneBut Report mid.offers new.offers → ((HasLine status → ⊥) → IsSilent mid new) → Ends plan old new status
-told_ends plan old mid new status ends opened asked left held offers silent = record {
+pub told_by : (Comes : List (List ℕ) → Written → Moment → Status → Type 0) (plan : Plan) (old mid new : Moment) (status : Status) → EndsBy Comes plan old mid status → Same mid.is_open new.is_open → Same mid.asked new.asked → Same mid.left new.left → SameBut Report mid.held new.held
+    → AddsNoneBut Report mid.offers new.offers → ((HasLine status → ⊥) → IsSilent mid new) → EndsBy Comes plan old new status
+told_by Comes plan old mid new status ends opened asked left held offers silent = record {
   inputs = ends.inputs;
   texts = ends.texts;
   reach = ends.reach;
@@ -183,6 +201,10 @@ told_ends plan old mid new status ends opened asked left held offers silent = re
   comes = ends.comes;
 }
 
+pub told_ends : (plan : Plan) (old mid new : Moment) (status : Status) → Ends plan old mid status → Same mid.is_open new.is_open → Same mid.asked new.asked → Same mid.left new.left → SameBut Report mid.held new.held
+    → AddsNoneBut Report mid.offers new.offers → ((HasLine status → ⊥) → IsSilent mid new) → Ends plan old new status
+told_ends plan old mid new status ends opened asked left held offers silent = told_by (ComesOf plan.work) plan old mid new status ends opened asked left held offers silent
+
 -- an answer with such a status
 pub status_ends : (answer : Result Unit Status) (status : Status) (plan : Plan) (old new : Moment) → answer ≡ Err status → Ends plan old new status → Ends plan old new (status_in answer)
 status_ends answer status plan old new is ends = subst (λ r. Ends plan old new (status_in r)) (sym is) ends
@@ -190,5 +212,5 @@ status_ends answer status plan old new is ends = subst (λ r. Ends plan old new 
 -- there is a text for each port
 pub texts_count : (work : Work) (lists : List (List (List ℕ))) (texts : Written) → AreTextsBy work lists texts → length lists ≡ written_by work → length texts.outputs ≡ written_by work
 texts_count (Simulate layout program wire order number journal) lists texts are count =
-    ap length are.sent ∙ length-map-range_with_len (λ port. written (sent_from layout are.ended.history port)) 0 layout.ports
+    ap length are.are.sent ∙ length-map-range_with_len (λ port. written (sent_from layout are.ended.history port)) 0 layout.ports
 texts_count (Generate number) lists texts are count = ap length are.0 ∙ length-map lists capture_of ∙ count

@@ -27,8 +27,8 @@ ComesOf work inputs texts old (TooMuch excess) = IsOutcome work inputs (passed e
 ComesOf work inputs texts old (Refused unlawful) = fault_in work ≡ Some unlawful
 ComesOf work inputs texts old status = Unit {0}
 
--- how a command with this plan ends
-pub record Ends (plan : Plan) (old new : Moment) (status : Status) : Type 0 where
+-- how a command with this plan ends, where its status comes so of the bytes of its inputs and of its texts
+pub record EndsBy (Comes : List (List ℕ) → Written → Moment → Status → Type 0) (plan : Plan) (old new : Moment) (status : Status) : Type 0 where
   -- the bytes of the inputs that were read to their ends, and the texts
   pub inputs : List (List ℕ)
   pub texts : Written
@@ -40,7 +40,11 @@ pub record Ends (plan : Plan) (old new : Moment) (status : Status) : Type 0 wher
   pub writes : AreWritten plan.outputs texts.outputs reach.outputs reach.wholes old new
   pub reported : IsReported texts.report status old new
   pub asked : (stream : Stream) → status ≡ OpenFault stream → IsTold (new.asked stream) (name_of plan stream)
-  pub comes : ComesOf plan.work inputs texts old status
+  pub comes : Comes inputs texts old status
+
+-- with what its work makes of them
+abbrev pub Ends : Plan → Moment → Moment → Status → Type 0
+Ends plan old new status = EndsBy (ComesOf plan.work) plan old new status
 
 -- ---- inputs whose bytes the bay tells
 

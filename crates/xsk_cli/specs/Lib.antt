@@ -7,3 +7,4 @@ pub mod Streams
 pub mod Line
 pub mod Ends
 pub mod Steps
+pub mod Forward

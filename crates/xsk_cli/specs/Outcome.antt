@@ -147,22 +147,27 @@ going_on layout program lists port queue class = filter (goes_on layout program 
 abbrev pub sent_on_by : Layout → Program → List (List (List ℕ)) → ℕ → List (List (List ℕ))
 sent_on_by layout program lists port = map (λ queue. going_on layout program lists (paired_port port) queue 0) (queues_of layout)
 
--- The texts of a run of these packets that has ended: what the drivers of each port sent, and its figures. What the
--- driver of a queue sent is what the paired port's driver delivered to the sockets of all classes, whatever the wire does, and
--- nothing else. Where the wire waits it is what is expected there of all classes; with one socket on each queue each text is
--- then that of all that goes on to its port. The journal tells of each entry the round in which it stands.
+-- The texts of a history of these packets: what the drivers of each port sent in it, and what is told of it. What the driver of a
+-- queue sent is what the paired port's driver delivered to the sockets of all classes, whatever the wire does, and nothing
+-- else. Where the wire waits it is what is expected there of all classes; with one socket on each queue each text is then that
+-- of all that goes on to its port.
+pub record AreTextsIn (layout : Layout) (program : Program) (wire : Wire) (lists : List (List (List ℕ))) (history : List Entry) (told : List ℕ) (texts : Written) : Type 0 where
+  pub sent : texts.outputs ≡ map (λ port. written (sent_from layout history port)) (ports_of layout)
+  pub forwarded : (port queue : ℕ) → port < layout.ports → queue < layout.queues
+      → AreForwarded (wire_by wire) (regular_of layout) history (map listed lists) (verdicts_by layout program lists) port queue
+      (sent_on layout history port queue)
+  pub redirected : (port queue : ℕ) → wire ≡ Wait → port < layout.ports → queue < layout.queues
+      → AreExpected (regular_of layout) (map listed lists) (verdicts_by layout program lists) port queue
+      (sent_on layout history port queue)
+  pub one_socket : wire ≡ Wait → layout.sockets ≡ 1 → texts.outputs ≡ map (λ port. written (sent_on_by layout program lists port)) (ports_of layout)
+  pub report : texts.report ≡ told
+
+-- Those of a run in rounds that has ended: its figures are told, and the journal, which tells of each entry the round in which it
+-- stands.
 pub record AreTextsOf (layout : Layout) (program : Program) (wire : Wire) (order : ℕ) (lists : List (List (List ℕ))) (journal : Bool) (texts : Written) : Type 0 where
   pub run : Shown
   pub ended : HasEnded (setting_of layout program wire lists) (frames_of layout) order run
-  pub sent : texts.outputs ≡ map (λ port. written (sent_from layout ended.history port)) (ports_of layout)
-  pub forwarded : (port queue : ℕ) → port < layout.ports → queue < layout.queues
-      → AreForwarded (wire_by wire) (regular_of layout) ended.history (map listed lists) (verdicts_by layout program lists) port queue
-      (sent_on layout ended.history port queue)
-  pub redirected : (port queue : ℕ) → wire ≡ Wait → port < layout.ports → queue < layout.queues
-      → AreExpected (regular_of layout) (map listed lists) (verdicts_by layout program lists) port queue
-      (sent_on layout ended.history port queue)
-  pub one_socket : wire ≡ Wait → layout.sockets ≡ 1 → texts.outputs ≡ map (λ port. written (sent_on_by layout program lists port)) (ports_of layout)
-  pub report : texts.report ≡ told_of layout program wire lists journal ended.history
+  pub are : AreTextsIn layout program wire lists ended.history (told_of layout program wire lists journal ended.history) texts
   pub rounds : AreInRounds (IsWholeRun (setting_of layout program wire lists)) (callers_of (regular_of layout)) order ended.count ended.history (rounds_of ended.history)
 
 -- the texts that the work makes of packets: of a run, or of the packets themselves

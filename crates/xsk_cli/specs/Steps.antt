@@ -15,7 +15,7 @@ use Rattle.xsk_args.specs.declared.program.Program.{Program}
 use Rattle.xsk_args.specs.declared.wire.Wire.{Wire}
 use Rattle.xsk_args.specs.declared.error.ArgsError.{ArgsError}
 use Rattle.xsk_args.specs.declared.error.ArgsError.TheVariants.{Usage as IsUsage, OutOfMemory as ArgsMemory}
-use Rattle.xsk_cli.specs.declared.run.Texts.{Texts}
+use Rattle.xsk_cli.specs.declared.texts.Texts.{Texts}
 use Rattle.xsk_cli.specs.declared.words.Plan.{Plan as CodePlan}
 use Rattle.xsk_cli.specs.Words.{Plan, fault_in, no_plan}
 use Rattle.xsk_cli.specs.Cause.{IsCaused, NeverFalls, NoOthers}
@@ -83,17 +83,20 @@ abbrev pub write_status : WriteFailure → Status
 write_status (Unopened port) = OpenFault (Output port)
 write_status (Unwritten stream) = WriteFault stream
 
--- what words come to before a refusal is told, where this is their plan
-pub record Comes (planned : Option Plan) (old new : Moment) (status : Status) : Type 0 where
+-- what words come to before a refusal is told, where this is their plan and a plan ends so
+pub record ComesTo (Ending : Plan → Type 0) (planned : Option Plan) (old new : Moment) (status : Status) : Type 0 where
   pub usage : status ≡ Usage → planned ≡ None
   pub unplanned : planned ≡ None → (status ≡ Usage) ⊎ (status ≡ OutOfMemory)
   pub refused : (plan : Plan) (unlawful : Unlawful) → planned ≡ Some plan → fault_in plan.work ≡ Some unlawful → (status ≡ Refused unlawful) ⊎ (status ≡ OutOfMemory)
-  pub ends : Ends (unwrap_or planned no_plan) old new status
+  pub ends : Ending (unwrap_or planned no_plan)
   pub silent : HasLine status → IsSilent old new
   pub cause : IsCaused old.faults new.faults status
   pub falls : NeverFalls old.faults new.faults
   pub others : NoOthers old.faults new.faults status
   pub uncounted : IsAtOnce status → (kind : Kind) → Same (old.faults kind) (new.faults kind)
+
+abbrev pub Comes : Option Plan → Moment → Moment → Status → Type 0
+Comes planned old new status = ComesTo (λ plan. Ends plan old new status) planned old new status
 
 -- ---- reading
 
@@ -140,6 +143,11 @@ abbrev pub FailsRunning : Layout → Program → Wire → ℕ → List (List (Li
 FailsRunning layout program wire order lists (Stalls round) = HasStalled (setting_of layout program wire lists) (frames_of layout) order round
 FailsRunning layout program wire order lists NoMemory = Unit {0}
 FailsRunning layout program wire order lists failure = ⊥
+
+-- no run was made
+abbrev pub IsBeforeRun : RunFailure → Type 0
+IsBeforeRun (Stalls round) = ⊥
+IsBeforeRun failure = Unit {0}
 
 -- why work makes nothing of packets
 abbrev pub FailsMaking : Work → List (List (List ℕ)) → RunFailure → Type 0

@@ -11,10 +11,13 @@ mod made;
 mod options;
 mod output;
 mod plain;
-mod run;
 mod setup;
+mod shown;
 mod status;
+mod texts;
+mod threads;
 mod words;
 
 pub use plain::run_plain;
 pub use status::{Excess, Status};
+pub use threads::{Ended, run};

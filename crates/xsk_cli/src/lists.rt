@@ -2,7 +2,7 @@
 ghost use Rattle.std.specs.Prelude.{◌≡◌, ◌≤◌, None, IfErr, IfOk, length, map};
 ghost use Rattle.xsk_cli.specs.Judged.{AreShort, excess_of};
 ghost use Rattle.xsk_cli.specs.Outcome.{AreListsOf, listed};
-ghost use Rattle.xsk_cli.specs.Steps.{MakesNone, lists_in, read_by, written_by};
+ghost use Rattle.xsk_cli.specs.Steps.{IsBeforeRun, MakesNone, lists_in, read_by, written_by};
 ghost use Rattle.xsk_cli.specs.Words.{fault_in};
 
 use crate::captures::take_captures;
@@ -26,6 +26,7 @@ pub(crate) fn take_lists(
     ensures count { IfOk result (λ lists. length lists.items ≡ written_by work.now) }
     ensures listed { IfOk result (λ lists. lists.items ≡ map listed (lists_in lists.items)) }
     ensures failed { IfErr result (MakesNone work.now (map (λ bytes. bytes.items) inputs.now)) }
+    ensures no_run { IfErr result IsBeforeRun }
 {
     match work {
         Work::Simulate { number: None, .. } => take_captures(alloc, inputs),

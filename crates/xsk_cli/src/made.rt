@@ -8,7 +8,7 @@ ghost use Rattle.xsk_cli.specs.Outcome.{capture_of, listed, made_lists, report_o
 ghost use Rattle.xsk_cli.specs.Steps.{lists_in, written_in};
 
 use crate::captures::without_room;
-use crate::run::{Texts, capture_text};
+use crate::texts::{Texts, capture_text};
 use std::alloc::Global;
 use std::fmt::Write;
 use xsk_gen::generate;

@@ -6,7 +6,7 @@ ghost use Rattle.xsk_cli.specs.Steps.{FailsOutput, FailsOutputs, FailsWriting, w
 ghost use Rattle.xsk_cli.specs.Streams.{AreWritten, IsTold};
 
 use crate::failure::WriteFailure;
-use crate::run::Texts;
+use crate::texts::Texts;
 use xsk_io::{Bay, Stream, write_whole};
 
 /// Opens the outputs by their names and writes them, one after another, and then writes the report.

@@ -19,7 +19,7 @@ use crate::line::line;
 use crate::lists::take_lists;
 use crate::options::OPTIONS;
 use crate::output::write_texts;
-use crate::run::make_texts;
+use crate::texts::make_texts;
 use crate::words::{Plan, Work, read_gen};
 use std::alloc::Global;
 use xsk_args::parse;
@@ -73,7 +73,7 @@ pub fn run_plain<B: Bay>(alloc: Global, words: &[String], bay: &mut B) -> Status
     status
 }
 
-fn status_of(answer: Result<(), Status>) -> Status
+pub(crate) fn status_of(answer: Result<(), Status>) -> Status
     ensures { result ≡ status_in answer }
 {
     match answer {
@@ -158,7 +158,7 @@ fn run_plan<B: Bay>(alloc: Global, plan: &Plan<'_, '_>, bay: &mut B) -> Result<(
 }
 
 /// Writes the line of a refusal to the report. A fault there changes nothing.
-fn tell<B: Bay>(bay: &mut B, status: &Status)
+pub(crate) fn tell<B: Bay>(bay: &mut B, status: &Status)
     ensures line { HasLine status.now → GotLine (line_of status.now)
         (record { is_open = B.is_open bay.old; asked = B.asked bay.old; left = B.left bay.old; held = B.held bay.old; offers = B.offers bay.old; faults = B.faults bay.old })
         (record { is_open = B.is_open bay.new; asked = B.asked bay.new; left = B.left bay.new; held = B.held bay.new; offers = B.offers bay.new; faults = B.faults bay.new }) }

@@ -2,7 +2,7 @@ use Rattle.std.proofs.Common.{rules, ◌≡◌, length, map, sym, ap, ◌∙◌,
 use Rattle.std.proofs.lemmas.List.{length-map}
 use Rattle.xsk_cli.specs.Judged.{AreShort}
 use Rattle.xsk_cli.specs.Outcome.{made, AreListsOf, AreTextsBy, IsOutcome}
-use Rattle.xsk_cli.specs.Steps.{FailsMaking, HaveRead, MakesNone, lists_in, plan_in, run_status, write_status, written_by, written_in}
+use Rattle.xsk_cli.specs.Steps.{FailsMaking, HaveRead, MakesNone, lists_in, plan_in, read_status, run_status, write_status, written_by, written_in}
 use Rattle.xsk_cli.specs.Streams.{Moment, AreWritten}
 use Rattle.xsk_cli.proofs.Making.{few_read, making_fails}
 use Rattle.xsk_cli.proofs.Writing.{SameInputs, run_fails, unwritten_ends, done_ends, status_ends, texts_count}
@@ -14,6 +14,14 @@ use Rattle.xsk_cli.proofs.plain.run_plan.Goals as goal
 pub read_inputs-requires-clause-few : goal.read_inputs-requires-clause-few
 read_inputs-requires-clause-few g c =
     omega (arith, few_read c.args.plan.now.work c.requires.ready.accepted, c.requires.ready.inputs, length-map c.args.plan.now.inputs.now (λ name. name.now))
+
+pub returns-in_err-inputs-clause-ends : goal.returns-in_err-inputs-clause-ends
+returns-in_err-inputs-clause-ends g c =
+    let old : Moment = record { is_open = g.B.Bay.is_open c.args.bay.now; asked = g.B.Bay.asked c.args.bay.now; left = g.B.Bay.left c.args.bay.now; held = g.B.Bay.held c.args.bay.now; offers = g.B.Bay.offers c.args.bay.now; faults = g.B.Bay.faults c.args.bay.now } in
+    let mid : Moment = record { is_open = g.B.Bay.is_open c.read_inputs.new.bay; asked = g.B.Bay.asked c.read_inputs.new.bay; left = g.B.Bay.left c.read_inputs.new.bay; held = g.B.Bay.held c.read_inputs.new.bay; offers = g.B.Bay.offers c.read_inputs.new.bay; faults = g.B.Bay.faults c.read_inputs.new.bay } in
+    let plan = plan_in c.args.plan.now in
+    let failure = c.in_err-inputs.field-0.0 in
+    status_ends c.from_residual.result (read_status failure) plan old mid (search rules) (c.in_err-inputs.ensures.failed plan (search rules))
 
 pub returns-in_err-lists-clause-ends : goal.returns-in_err-lists-clause-ends
 returns-in_err-lists-clause-ends g c =

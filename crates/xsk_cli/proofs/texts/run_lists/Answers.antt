@@ -4,7 +4,7 @@ use Rattle.xsk_sim.proofs.Verdicts.{asked_ruled}
 use Rattle.xsk_socket.proofs.Accepted.{fits}
 use Rattle.xsk_cli.specs.Steps.{lists_in}
 use Rattle.xsk_cli.proofs.Running.{stalled_as, ended_as}
-use Rattle.xsk_cli.proofs.run.run_lists.Goals as goal
+use Rattle.xsk_cli.proofs.texts.run_lists.Goals as goal
 
 pub rule_of-rule-requires : goal.rule_of-rule-requires
 rule_of-rule-requires c =

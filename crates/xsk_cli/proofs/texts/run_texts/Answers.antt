@@ -13,7 +13,7 @@ use Rattle.xsk_pcap.specs.Written.{IsWritable, written}
 use Rattle.xsk_cli.specs.Steps.{FailsRunning, lists_in, written_in}
 use Rattle.xsk_cli.specs.declared.failure.RunFailure.TheVariants.{OutOfMemory as NoMemory}
 use Rattle.xsk_cli.proofs.Running.{lists_short, sent_writable, texts_of}
-use Rattle.xsk_cli.proofs.run.run_texts.Goals as goal
+use Rattle.xsk_cli.proofs.texts.run_texts.Goals as goal
 
 pub output_texts-requires-clause-writable : goal.output_texts-requires-clause-writable
 output_texts-requires-clause-writable c port count in_ports few =

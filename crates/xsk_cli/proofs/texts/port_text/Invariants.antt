@@ -1,7 +1,7 @@
 use Rattle.std.proofs.Common.{◌≡◌, take, drop}
 use Rattle.std.specs.Vec.Iter.{into_iter_items}
 use Rattle.xsk_cli.specs.Steps.{lists_in}
-use Rattle.xsk_cli.proofs.run.port_text.Given as goal
+use Rattle.xsk_cli.proofs.texts.port_text.Given as goal
 
 abbrev pub invariant-loop-queue : goal.invariant-loop-queue
 invariant-loop-queue l = record {

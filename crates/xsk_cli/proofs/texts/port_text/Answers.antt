@@ -4,7 +4,7 @@ use Rattle.std.specs.Vec.Iter.{into_iter_items}
 use Rattle.xsk_pcap.specs.Written.{IsWritable}
 use Rattle.xsk_cli.specs.Steps.{lists_in}
 use Rattle.xsk_cli.proofs.Queues.{next_list}
-use Rattle.xsk_cli.proofs.run.port_text.Goals as goal
+use Rattle.xsk_cli.proofs.texts.port_text.Goals as goal
 
 pub add_next-requires : goal.add_next-requires
 add_next-requires c =

@@ -6,7 +6,7 @@ use Rattle.xsk_pcap.specs.Written.{IsWritable, written}
 use Rattle.xsk_cli.specs.Steps.{lists_in}
 use Rattle.xsk_cli.proofs.Ports.{more_ports}
 use Rattle.xsk_cli.proofs.Queues.{rest_lists}
-use Rattle.xsk_cli.proofs.run.output_texts.Goals as goal
+use Rattle.xsk_cli.proofs.texts.output_texts.Goals as goal
 
 pub port_text-requires : goal.port_text-requires
 port_text-requires c count few =

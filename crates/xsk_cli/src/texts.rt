@@ -153,7 +153,7 @@ fn run_lists(
 }
 
 /// The rule of a program, where each queue has so many sockets.
-fn rule_of(program: Program, sockets: u32) -> Rule
+pub(crate) fn rule_of(program: Program, sockets: u32) -> Rule
     requires { IsSocketCount sockets }
     ensures rule { result ≡ rule_by sockets program }
     ensures sockets { HasSockets result }
@@ -168,7 +168,7 @@ fn rule_of(program: Program, sockets: u32) -> Rule
 }
 
 /// The wire of the workers.
-fn wire_of(wire: Wire) -> xsk_sim::Wire
+pub(crate) fn wire_of(wire: Wire) -> xsk_sim::Wire
     ensures { result ≡ wire_by wire }
 {
     match wire {

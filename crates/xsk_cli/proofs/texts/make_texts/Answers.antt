@@ -1,6 +1,6 @@
 use Rattle.std.proofs.Common.{rules, ◌≡◌, get_or}
 use Rattle.xsk_cli.proofs.Making.{made_at}
-use Rattle.xsk_cli.proofs.run.make_texts.Goals as goal
+use Rattle.xsk_cli.proofs.texts.make_texts.Goals as goal
 
 pub made_texts-requires-clause-short : goal.made_texts-requires-clause-short
 made_texts-requires-clause-short c =

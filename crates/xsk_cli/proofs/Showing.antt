@@ -1,0 +1,202 @@
+-- How `forward` ends, and what it answers.
+use Rattle.std.proofs.Common.{◌≡◌, ◌≤◌, ℕ, List, [], length, Option, Some, None, refl, sym, ap, ◌∙◌, subst, arith}
+use Rattle.std.specs.Prelude.{Result, Err, unwrap_or}
+use Rattle.xsk_io.specs.declared.bay.Kind.TheVariants.{Open, Write}
+use Rattle.xsk_io.specs.declared.bay.Stream.TheVariants.{Input, Output, Report}
+use Rattle.xsk_pcap.specs.declared.reading.BadCapture.TheVariants.{OutOfMemory as NoCause}
+use Rattle.xsk_args.specs.declared.error.ArgsError.{ArgsError}
+use Rattle.xsk_args.specs.declared.error.ArgsError.TheVariants.{Usage as IsUsage, OutOfMemory as ArgsMemory}
+use Rattle.xsk_socket.specs.declared.layout.Unlawful.{Unlawful}
+use Rattle.xsk_workers.specs.Forwarded.{OutcomeShown}
+use Rattle.xsk_cli.specs.Cause.{IsCaused}
+use Rattle.xsk_cli.specs.Ends.{Answers, AreTaken, AreTold, ComesOf, Ends, EndsBy, IsComplete, NoneRose}
+use Rattle.std.proofs.lemmas.List.FromFn.{length-map-range_with_len}
+use Rattle.xsk_pcap.specs.Written.{written}
+use Rattle.xsk_cli.specs.Forward.{AreTextsFrom, ComesShown, EndsShown, IsAfterRun, IsRefusedAs, IsRun, IsShown}
+use Rattle.xsk_cli.specs.Judged.{excess_of}
+use Rattle.xsk_cli.specs.Outcome.{IsOutcome, Outcome, Written, sent_from, bad, long, made, passed, stalled}
+use Rattle.xsk_cli.specs.Steps.{Comes, ComesTo, HaveRead, IsBeforeRun, args_status, read_status, run_status, written_by}
+use Rattle.xsk_cli.specs.Streams.{Moment, Reach, status_in}
+use Rattle.xsk_cli.specs.Words.{Plan, fault_in, no_plan}
+use Rattle.xsk_cli.specs.declared.failure.ReadFailure.{ReadFailure}
+use Rattle.xsk_cli.specs.declared.failure.ReadFailure.TheVariants.{Unopened as NoInput, Unread, TooLong, OutOfMemory as NoRoom}
+use Rattle.xsk_cli.specs.declared.failure.RunFailure.{RunFailure}
+use Rattle.xsk_cli.specs.declared.failure.RunFailure.TheVariants.{BadCapture as Bad, TooMuch as Excessive, Stalled as Stalls, OutOfMemory as NoMemory}
+use Rattle.xsk_cli.specs.declared.words.Work.{Work}
+use Rattle.xsk_cli.specs.declared.words.Work.TheVariants.{Simulate, Generate}
+use Rattle.xsk_cli.specs.declared.status.Status.{Status}
+use Rattle.xsk_cli.specs.declared.status.Status.TheVariants.{Done, Usage, BadCapture, ReadFault, WriteFault, OpenFault, Refused, Stalled, TooMuch, OutOfMemory}
+use Rattle.xsk_cli.proofs.Answering.{answered, completes, same_inputs_by}
+use Rattle.xsk_cli.proofs.Making.{few_ports}
+use Rattle.xsk_cli.proofs.Writing.{ran_out_by}
+use Rattle.xsk_cli.proofs.Unique.{bad_not_packets, long_not_short, none_some, same_packets}
+
+-- ---- before any run
+
+-- a command that ends before any run ends so by either
+pub shown_none : (plan : Plan) (old new : Moment) (status : Status) → Ends plan old new status → (IsAfterRun status → ⊥) → EndsShown None old new status plan
+shown_none plan old new status ends before = record {
+  inputs = ends.inputs;
+  texts = ends.texts;
+  reach = ends.reach;
+  reaches = ends.reaches;
+  count = ends.count;
+  short = ends.short;
+  reads = ends.reads;
+  writes = ends.writes;
+  reported = ends.reported;
+  asked = ends.asked;
+  comes = (before, ends.comes);
+}
+
+plain_of : (plan : Plan) (old new : Moment) (status : Status) → EndsShown None old new status plan → Ends plan old new status
+plain_of plan old new status ends = record {
+  inputs = ends.inputs;
+  texts = ends.texts;
+  reach = ends.reach;
+  reaches = ends.reaches;
+  count = ends.count;
+  short = ends.short;
+  reads = ends.reads;
+  writes = ends.writes;
+  reported = ends.reported;
+  asked = ends.asked;
+  comes = ends.comes.1;
+}
+
+pub comes_before : (planned : Option Plan) (old new : Moment) (status : Status) → Comes planned old new status → (IsAfterRun status → ⊥) → ComesTo (EndsShown None old new status) planned old new status
+comes_before planned old new status comes before = record {
+  usage = comes.usage;
+  unplanned = comes.unplanned;
+  refused = comes.refused;
+  ends = shown_none (unwrap_or planned no_plan) old new status comes.ends before;
+  silent = comes.silent;
+  cause = comes.cause;
+  falls = comes.falls;
+  others = comes.others;
+  uncounted = comes.uncounted;
+}
+
+pub args_before : (error : ArgsError) → IsAfterRun (args_status error) → ⊥
+args_before IsUsage wrong = wrong
+args_before ArgsMemory wrong = wrong
+
+pub read_before : (failure : ReadFailure) → IsAfterRun (read_status failure) → ⊥
+read_before (NoInput port) wrong = wrong
+read_before (Unread port) wrong = wrong
+read_before (TooLong port) wrong = wrong
+read_before NoRoom wrong = wrong
+
+pub run_before : (failure : RunFailure) → IsBeforeRun failure → IsAfterRun (run_status failure) → ⊥
+run_before (Bad port cause) before wrong = wrong
+run_before (Excessive excess) before wrong = wrong
+run_before (Stalls round) before wrong = before
+run_before NoMemory before wrong = wrong
+
+-- an answer with such a status, where this was shown
+pub status_shown : (answer : Result Unit Status) (status : Status) (shown other : Option OutcomeShown) (plan : Plan) (old new : Moment) → answer ≡ Err status → other ≡ shown → EndsShown shown old new status plan
+    → EndsShown other old new (status_in answer) plan
+status_shown answer status shown other plan old new is same ends =
+    subst (λ o. EndsShown o old new (status_in answer) plan) (sym same) (subst (λ r. EndsShown shown old new (status_in r) plan) (sym is) ends)
+
+pub comes_shown : (answer : Result Unit Status) (status : Status) (other : Option OutcomeShown) (planned : Option Plan) (old new : Moment) → answer ≡ Err status → other ≡ None → Comes planned old new status → (IsAfterRun status → ⊥)
+    → ComesTo (EndsShown other old new (status_in answer)) planned old new (status_in answer)
+comes_shown answer status other planned old new is same comes before =
+    subst (λ o. ComesTo (EndsShown o old new (status_in answer)) planned old new (status_in answer)) (sym same)
+    (subst (λ r. ComesTo (EndsShown None old new (status_in r)) planned old new (status_in r)) (sym is) (comes_before planned old new status comes before))
+
+-- ---- what is answered
+
+refused_outcome : (work : Work) (inputs : List (List ℕ)) (outcome : Outcome) → IsRefusedAs work inputs outcome → IsOutcome work inputs outcome
+refused_outcome work inputs (long port) h = h
+refused_outcome work inputs (bad port cause) h = h
+refused_outcome work inputs (passed excess) h = h
+refused_outcome work inputs (stalled round) h = absurd h
+refused_outcome work inputs (made texts) h = absurd h
+
+-- inputs whose packets were run aren't refused
+shown_not_refused : (work : Work) (inputs : List (List ℕ)) (o : OutcomeShown) (outcome : Outcome) → IsShown work inputs o → IsRefusedAs work inputs outcome → ⊥
+shown_not_refused work inputs o (long port) is h = long_not_short inputs port h is.short
+shown_not_refused work inputs o (bad port cause) is h = bad_not_packets work inputs port cause is.lists h.1 is.are
+shown_not_refused work inputs o (passed excess) is h = none_some (excess_of h.1.0) excess h.1.2 (ap excess_of (same_packets work inputs h.1.0 is.lists h.1.1 is.are) ∙ is.within)
+shown_not_refused work inputs o (stalled round) is h = h
+shown_not_refused work inputs o (made texts) is h = h
+
+module _ (plan : Plan) (old new : Moment) (inputs : List (List ℕ)) (told : AreTold plan inputs old) (o : OutcomeShown) (outcome : Outcome) (refused : IsRefusedAs plan.work inputs outcome) where
+  none_refused : {X : Type 0} (status : Status) → (ends : EndsShown (Some o) old new status plan) → ends.reach.ends ≡ length plan.inputs → IsShown plan.work ends.inputs o → X
+  none_refused status ends all is =
+      absurd (shown_not_refused plan.work inputs o outcome (subst (λ i. IsShown plan.work i o) (same_inputs_by plan old new inputs told (ComesShown plan.work (Some o)) status ends all) is) refused)
+
+  reached : (status : Status) (r : Reach) → (ends : EndsShown (Some o) old new status plan) → ends.reach ≡ r → ends.reach.ends ≡ r.ends
+  reached status r ends is = ap (λ (x : Reach). x.ends) is
+
+  answered_some : (status : Status) → EndsShown (Some o) old new status plan → Answers plan.work outcome status
+  answered_some Done ends = none_refused Done ends (reached Done _ ends ends.reaches) ends.comes.is
+  answered_some Usage ends = absurd ends.comes
+  answered_some (BadCapture port cause) ends = absurd ends.comes
+  answered_some (ReadFault port) ends = tt
+  answered_some (WriteFault (Input port)) ends = absurd ends.reaches
+  answered_some (WriteFault (Output port)) ends = none_refused (WriteFault (Output port)) ends (reached (WriteFault (Output port)) _ ends ends.reaches.1) ends.comes.is
+  answered_some (WriteFault Report) ends = none_refused (WriteFault Report) ends (reached (WriteFault Report) _ ends ends.reaches) ends.comes.is
+  answered_some (OpenFault (Input port)) ends = tt
+  answered_some (OpenFault (Output port)) ends = none_refused (OpenFault (Output port)) ends (reached (OpenFault (Output port)) _ ends ends.reaches.1) ends.comes.is
+  answered_some (OpenFault Report) ends = absurd ends.reaches
+  answered_some (Refused unlawful) ends = absurd ends.comes
+  answered_some (Stalled round) ends = absurd ends.comes
+  answered_some (TooMuch excess) ends = absurd ends.comes
+  answered_some OutOfMemory ends = tt
+
+pub answered_shown : (plan : Plan) (old new : Moment) (inputs : List (List ℕ)) → AreTold plan inputs old → (shown : Option OutcomeShown) (status : Status) (outcome : Outcome) → EndsShown shown old new status plan → (status ≡ Usage → ⊥)
+    → IsRefusedAs plan.work inputs outcome → Answers plan.work outcome status
+answered_shown plan old new inputs told None status outcome ends words h = answered plan old new inputs told status outcome (plain_of plan old new status ends) words (refused_outcome plan.work inputs outcome h)
+answered_shown plan old new inputs told (Some o) status outcome ends words h = answered_some plan old new inputs told o outcome h status ends
+
+-- ---- completeness
+
+completes_some : (plan : Plan) (old new : Moment) (o : OutcomeShown) (status : Status) → EndsShown (Some o) old new status plan → NoneRose old.faults new.faults → IsCaused old.faults new.faults status → IsComplete status
+completes_some plan old new o Done ends none caused = tt
+completes_some plan old new o Usage ends none caused = absurd ends.comes
+completes_some plan old new o (BadCapture port cause) ends none caused = absurd ends.comes
+completes_some plan old new o (ReadFault port) ends none caused = absurd ends.comes
+completes_some plan old new o (WriteFault stream) ends none caused = none Write stream caused
+completes_some plan old new o (OpenFault stream) ends none caused = none Open stream caused
+completes_some plan old new o (Refused unlawful) ends none caused = absurd ends.comes
+completes_some plan old new o (Stalled round) ends none caused = absurd ends.comes
+completes_some plan old new o (TooMuch excess) ends none caused = absurd ends.comes
+completes_some plan old new o OutOfMemory ends none caused = tt
+
+pub completes_shown : (plan : Plan) (old new : Moment) (inputs : List (List ℕ)) → AreTold plan inputs old → (shown : Option OutcomeShown) (status : Status) → EndsShown shown old new status plan → (status ≡ Usage → ⊥) → fault_in plan.work ≡ None
+    → AreTaken plan.work inputs → NoneRose old.faults new.faults → IsCaused old.faults new.faults status → IsComplete status
+completes_shown plan old new inputs told None status ends words accepted taken none caused = completes plan old new inputs told status (plain_of plan old new status ends) words accepted taken none caused
+completes_shown plan old new inputs told (Some o) status ends words accepted taken none caused = completes_some plan old new o status ends none caused
+
+-- ---- refusals
+
+pub refusal_shown : (plan : Plan) (old new : Moment) (shown : Option OutcomeShown) (unlawful : Unlawful) → EndsShown shown old new (Refused unlawful) plan → fault_in plan.work ≡ Some unlawful
+refusal_shown plan old new None unlawful ends = ends.comes.1
+refusal_shown plan old new (Some o) unlawful ends = absurd ends.comes
+
+pub check_shown : (plan : Plan) (old new : Moment) (shown : Option OutcomeShown) (port : ℕ) → EndsShown shown old new (BadCapture port NoCause) plan → ⊥
+check_shown plan old new None port ends = ends.comes.1.1.check refl
+check_shown plan old new (Some o) port ends = ends.comes
+
+-- ---- texts
+
+-- there is a text for each port
+pub shown_count : (work : Work) (lists : List (List (List ℕ))) (o : OutcomeShown) (texts : Written) → AreTextsFrom work lists o texts → length texts.outputs ≡ written_by work
+shown_count (Simulate layout program wire order number journal) lists o texts are = ap length are.sent ∙ length-map-range_with_len (λ port. written (sent_from layout o.history port)) 0 layout.ports
+shown_count (Generate number) lists o texts are = absurd are
+
+-- for few ports
+pub few_written : (work : Work) → fault_in work ≡ None → written_by work ≤ 4
+few_written (Simulate layout program wire order number journal) accepted = few_ports layout accepted
+few_written (Generate number) accepted = omega arith
+
+-- no memory for the run, or for its texts
+module _ (answer : Result Unit Status) (plan : Plan) (bytes : List (List ℕ)) (old mid new : Moment) (have : HaveRead plan.inputs bytes (length plan.inputs) old mid) where
+  ran_out_of : (shown : Option OutcomeShown) → ((o : OutcomeShown) → shown ≡ Some o → IsShown plan.work bytes o) → EndsShown shown old mid OutOfMemory plan
+  ran_out_of None each = ran_out_by plan bytes old mid new have (ComesShown plan.work None) ((λ no. no), tt)
+  ran_out_of (Some o) each = ran_out_by plan bytes old mid new have (ComesShown plan.work (Some o)) (each o refl)
+
+  pub ran_out_shown : (shown : Option OutcomeShown) → ((o : OutcomeShown) → shown ≡ Some o → IsShown plan.work bytes o) → answer ≡ Err OutOfMemory → EndsShown shown old mid (status_in answer) plan
+  ran_out_shown shown each is = status_shown answer OutOfMemory shown shown plan old mid is refl (ran_out_of shown each)

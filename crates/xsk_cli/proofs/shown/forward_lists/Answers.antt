@@ -1,0 +1,32 @@
+use Rattle.std.proofs.Common.{◌≡◌, true, length, ap, subst, sym, ◌∙◌, arith}
+use Rattle.xsk_model.specs.Config.{Config}
+use Rattle.xsk_prog.specs.Rules.{is_exact}
+use Rattle.xsk_prog.specs.declared.rule.Rule.{Rule}
+use Rattle.xsk_socket.proofs.Accepted.{fits}
+use Rattle.xsk_cli.specs.Outcome.{rule_by}
+use Rattle.xsk_cli.specs.Steps.{lists_in}
+use Rattle.xsk_cli.proofs.Going.{is_exact_by}
+use Rattle.xsk_cli.proofs.Running.{forwarded_as, pairs_are}
+use Rattle.xsk_cli.proofs.shown.forward_lists.Goals as goal
+
+pub rule_of-rule-requires : goal.rule_of-rule-requires
+rule_of-rule-requires g c =
+    let sockets = (fits c.args.layout.now c.requires.accepted).sockets in
+    record { some = omega (arith, sockets); few = omega (arith, sockets) }
+
+pub forward-requires-clause-exact : goal.forward-requires-clause-exact
+forward-requires-clause-exact g c κs within =
+    let rule : c.attach-attached.result.rule ≡ rule_by c.args.layout.now.sockets c.args.program = ap (λ attached. attached.rule) c.attach-attached.ensures.parts ∙ c.rule_of-rule.ensures.rule in
+    subst (λ (r : Rule). is_exact r ≡ true) (sym rule) (is_exact_by c.args.layout.now.sockets c.args.program)
+
+pub returns-clause-pairs : goal.returns-clause-pairs
+returns-clause-pairs g c = c.in_ok-outcome.ensures.pairs ∙ ap (λ (k : Config). length k.pairs) c.requires.config ∙ pairs_are c.args.layout.now
+
+pub returns-clause-forwarded : goal.returns-clause-forwarded
+returns-clause-forwarded g c =
+    forwarded_as c.args.layout.now c.args.program c.args.wire c.args.config c.args.lists.now c.args.frames.items (lists_in c.args.lists.now) c.in_ok-outcome.outcome
+    c.requires.config c.requires.listed c.requires.frames c.wire_of-wire.result c.wire_of-wire.ensures c.attach-attached.result.rule
+    (ap (λ attached. attached.rule) c.attach-attached.ensures.parts ∙ c.rule_of-rule.ensures.rule) c.in_ok-outcome.ensures.forwarded
+
+pub returns-clause-short : goal.returns-clause-short
+returns-clause-short g c = c.in_ok-outcome.ensures.short

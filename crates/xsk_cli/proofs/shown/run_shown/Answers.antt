@@ -1,0 +1,61 @@
+use Rattle.std.proofs.Common.{rules, arith, Err, ◌≡◌, ℕ, ◌<◌, ◌≤◌, ◌*◌, List, [], Some, None, get_or, length, map, take, drop, refl, sym, ap, subst, ◌∙◌}
+use Rattle.std.specs.Prelude.{All, IfErr, IfOk}
+use Rattle.std.proofs.lemmas.List.{length-map}
+use Rattle.std.proofs.lemmas.List.FromFn.{length-map-range_with_len}
+use Rattle.std.proofs.lemmas.Option.{same_Some}
+use Rattle.xsk_model.specs.Config.{Config, IsRegular}
+use Rattle.xsk_driver.specs.declared.figures.Figures.{Figures}
+use Rattle.xsk_stats.specs.Report.{report_text}
+use Rattle.xsk_socket.specs.Regular.{regular_of}
+use Rattle.xsk_workers.specs.Forwarded.{OutcomeShown, HasForwarded}
+use Rattle.xsk_cli.specs.Outcome.{frames_of, setting_of}
+use Rattle.xsk_cli.specs.Steps.{lists_in, written_in}
+use Rattle.xsk_cli.proofs.Making.{few_ports}
+use Rattle.xsk_socket.proofs.Accepted.{fits}
+use Rattle.xsk_socket.proofs.Regularity.{regular-config}
+use Rattle.xsk_cli.proofs.Running.{pairs_are, shown_writable, texts_shown}
+use Rattle.xsk_cli.proofs.shown.run_shown.Goals as goal
+
+pub keep_shown-requires-clause-regular : goal.keep_shown-requires-clause-regular
+keep_shown-requires-clause-regular g c = subst IsRegular (sym c.in_ok-shared.ensures) c.in_ok-config.ensures.regular
+
+pub keep_shown-requires-clause-drivers : goal.keep_shown-requires-clause-drivers
+keep_shown-requires-clause-drivers g c =
+    let layout = c.args.layout.now in
+    ap (λ (figures : Figures). length figures.drivers) c.in_ok-shown.ensures.forwarded.figures
+    ∙ length-map-range_with_len _ 0 (length (regular_of layout).pairs)
+    ∙ ap (λ (k : Config). length k.pairs) (sym (c.in_ok-shared.ensures ∙ c.in_ok-config.ensures.config))
+
+pub keep_shown-requires-clause-ports : goal.keep_shown-requires-clause-ports
+keep_shown-requires-clause-ports g c = few_ports c.args.layout.now c.requires.accepted
+
+pub keep_shown-requires-clause-few : goal.keep_shown-requires-clause-few
+keep_shown-requires-clause-few g c =
+    let layout = c.args.layout.now in
+    omega (arith, (regular-config layout (fits layout c.requires.accepted)).pairs_few, pairs_are layout)
+
+pub keep_shown-requires-clause-writable : goal.keep_shown-requires-clause-writable
+keep_shown-requires-clause-writable g c port count in_ports few =
+    let layout = c.args.layout.now in
+    let lists : List (List (List ℕ)) = lists_in c.args.lists.now in
+    let known : length lists ≡ layout.ports = length-map c.args.lists.now (λ list. list.packets) ∙ c.requires.ports in
+    shown_writable layout c.args.program c.args.wire lists c.requires.accepted c.in_ok-shown.shown c.in_ok-shown.ensures.forwarded c.in_ok-shown.ensures.pairs known c.requires.within
+    (λ pair below. c.in_ok-shown.ensures.short pair [] below) port count in_ports few
+
+pub returns-clause-made : goal.returns-clause-made
+returns-clause-made g c =
+    let layout = c.args.layout.now in (
+      c.in_ok-shown.shown,
+      c.keep_shown.ensures.kept,
+      texts_shown layout c.args.program c.args.wire (lists_in c.args.lists.now) c.requires.accepted c.in_ok-shown.shown c.in_ok-shown.ensures.forwarded c.in_ok-shown.ensures.pairs
+          (written_in c.in_ok-texts.texts) c.in_ok-texts.ensures.outputs
+          (c.in_ok-texts.ensures.report ∙ ap (λ (k : Config). report_text k c.in_ok-shown.shown.figures) (c.in_ok-shared.ensures ∙ c.in_ok-config.ensures.config)),
+    )
+
+pub returns-clause-shown : goal.returns-clause-shown
+returns-clause-shown g c o is =
+    subst (HasForwarded (setting_of c.args.layout.now c.args.program c.args.wire (lists_in c.args.lists.now)) (frames_of c.args.layout.now)) (same_Some c.in_ok-shown.shown o (sym c.keep_shown.ensures.kept ∙ is)) c.in_ok-shown.ensures.forwarded
+
+pub returns-in_err-texts-clause-shown : goal.returns-in_err-texts-clause-shown
+returns-in_err-texts-clause-shown g c o is =
+    subst (HasForwarded (setting_of c.args.layout.now c.args.program c.args.wire (lists_in c.args.lists.now)) (frames_of c.args.layout.now)) (same_Some c.in_ok-shown.shown o (sym c.keep_shown.ensures.kept ∙ is)) c.in_ok-shown.ensures.forwarded

@@ -1,0 +1,146 @@
+use Rattle.std.proofs.Common.{rules, ◌≡◌, length, map, sym, ap, ◌∙◌, subst, arith, Option, None, Some}
+use Rattle.std.specs.Prelude.{All}
+use Rattle.std.proofs.lemmas.List.{length-map}
+use Rattle.xsk_sim.specs.Shown.{HasShortPackets}
+use Rattle.xsk_workers.specs.Forwarded.{OutcomeShown}
+use Rattle.xsk_cli.specs.Forward.{AreTextsFrom, ComesShown, EndsShown, HasShown, IsShown, IsWritten}
+use Rattle.xsk_cli.specs.Judged.{AreShort}
+use Rattle.xsk_cli.specs.Outcome.{AreListsOf}
+use Rattle.xsk_cli.specs.Steps.{HaveRead, MakesNone, lists_in, plan_in, read_status, run_status, write_status, written_by, written_in}
+use Rattle.xsk_cli.specs.Streams.{Moment, AreWritten}
+use Rattle.xsk_cli.specs.declared.status.Status.TheVariants.{Done}
+use Rattle.xsk_cli.proofs.Making.{few_read}
+use Rattle.xsk_cli.proofs.Short.{short_lists}
+use Rattle.xsk_cli.proofs.Showing.{read_before, run_before, shown_none, status_shown, shown_count, ran_out_shown, few_written}
+use Rattle.xsk_cli.proofs.Writing.{SameInputs, done_by, run_fails, unwritten_by}
+use Rattle.xsk_cli.proofs.threads.forward_plan.Goals as goal
+
+pub read_inputs-requires-clause-few : goal.read_inputs-requires-clause-few
+read_inputs-requires-clause-few g c =
+    omega (arith, few_read c.args.plan.now.work c.requires.ready.accepted, c.requires.ready.inputs, length-map c.args.plan.now.inputs.now (λ name. name.now))
+
+pub returns-in_err-inputs-clause-ends : goal.returns-in_err-inputs-clause-ends
+returns-in_err-inputs-clause-ends g c =
+    let old : Moment = record { is_open = g.B.Bay.is_open c.args.bay.now; asked = g.B.Bay.asked c.args.bay.now; left = g.B.Bay.left c.args.bay.now; held = g.B.Bay.held c.args.bay.now; offers = g.B.Bay.offers c.args.bay.now; faults = g.B.Bay.faults c.args.bay.now } in
+    let mid : Moment = record { is_open = g.B.Bay.is_open c.read_inputs.new.bay; asked = g.B.Bay.asked c.read_inputs.new.bay; left = g.B.Bay.left c.read_inputs.new.bay; held = g.B.Bay.held c.read_inputs.new.bay; offers = g.B.Bay.offers c.read_inputs.new.bay; faults = g.B.Bay.faults c.read_inputs.new.bay } in
+    let plan = plan_in c.args.plan.now in
+    let failure = c.in_err-inputs.field-0.0 in
+    status_shown c.from_residual.result (read_status failure) None _ plan old mid (search rules) c.requires.none
+    (shown_none plan old mid (read_status failure) (c.in_err-inputs.ensures.failed plan (search rules)) (read_before failure))
+
+pub returns-in_err-lists-clause-ends : goal.returns-in_err-lists-clause-ends
+returns-in_err-lists-clause-ends g c =
+    let old : Moment = record { is_open = g.B.Bay.is_open c.args.bay.now; asked = g.B.Bay.asked c.args.bay.now; left = g.B.Bay.left c.args.bay.now; held = g.B.Bay.held c.args.bay.now; offers = g.B.Bay.offers c.args.bay.now; faults = g.B.Bay.faults c.args.bay.now } in
+    let mid : Moment = record { is_open = g.B.Bay.is_open c.read_inputs.new.bay; asked = g.B.Bay.asked c.read_inputs.new.bay; left = g.B.Bay.left c.read_inputs.new.bay; held = g.B.Bay.held c.read_inputs.new.bay; offers = g.B.Bay.offers c.read_inputs.new.bay; faults = g.B.Bay.faults c.read_inputs.new.bay } in
+    let plan = plan_in c.args.plan.now in
+    let bytes = map (λ bytes. bytes.items) c.in_ok-inputs.inputs.items in
+    let failure = c.in_err-lists.field-0.0 in
+    let have : HaveRead plan.inputs bytes (length plan.inputs) old mid = subst (λ n. HaveRead plan.inputs bytes n old mid) (sym (length-map c.args.plan.now.inputs.now (λ name. name.now))) c.in_ok-inputs.ensures.read in
+    let makes : MakesNone plan.work bytes failure = subst (λ inputs. MakesNone plan.work (map (λ bytes. bytes.items) inputs) failure) c.as_slice.ensures.value c.in_err-lists.ensures.failed in
+    status_shown c.from_residual-in_err-lists.result (run_status failure) None _ plan old mid (search rules) c.requires.none
+    (shown_none plan old mid (run_status failure) (run_fails plan bytes old mid mid have failure makes) (run_before failure c.in_err-lists.ensures.no_run))
+
+pub make_shown-requires-clause-short : goal.make_shown-requires-clause-short
+make_shown-requires-clause-short g c κs within =
+    subst (All HasShortPackets) (sym c.as_slice-2.ensures.value)
+    (short_lists (plan_in c.args.plan.now).work (map (λ bytes. bytes.items) c.as_slice.result.now) c.in_ok-lists.lists.items c.in_ok-lists.ensures.taken)
+
+pub returns-in_err-texts-clause-ends : goal.returns-in_err-texts-clause-ends
+returns-in_err-texts-clause-ends g c =
+    let old : Moment = record { is_open = g.B.Bay.is_open c.args.bay.now; asked = g.B.Bay.asked c.args.bay.now; left = g.B.Bay.left c.args.bay.now; held = g.B.Bay.held c.args.bay.now; offers = g.B.Bay.offers c.args.bay.now; faults = g.B.Bay.faults c.args.bay.now } in
+    let mid : Moment = record { is_open = g.B.Bay.is_open c.read_inputs.new.bay; asked = g.B.Bay.asked c.read_inputs.new.bay; left = g.B.Bay.left c.read_inputs.new.bay; held = g.B.Bay.held c.read_inputs.new.bay; offers = g.B.Bay.offers c.read_inputs.new.bay; faults = g.B.Bay.faults c.read_inputs.new.bay } in
+    let plan = plan_in c.args.plan.now in
+    let bytes = map (λ bytes. bytes.items) c.in_ok-inputs.inputs.items in
+    let lists = lists_in c.in_ok-lists.lists.items in
+    let have : HaveRead plan.inputs bytes (length plan.inputs) old mid = subst (λ n. HaveRead plan.inputs bytes n old mid) (sym (length-map c.args.plan.now.inputs.now (λ name. name.now))) c.in_ok-inputs.ensures.read in
+    let short : AreShort bytes (length bytes) = subst (AreShort bytes) (sym have.count_is) have.short in
+    let are : AreListsOf plan.work bytes lists = subst (λ inputs. AreListsOf plan.work (map (λ bytes. bytes.items) inputs) lists) c.as_slice.ensures.value c.in_ok-lists.ensures.taken in
+    let same_lists : lists_in c.as_slice-2.result.now ≡ lists = ap lists_in c.as_slice-2.ensures.value in
+    let ports : length lists ≡ written_by plan.work = length-map c.in_ok-lists.lists.items (λ list. list.packets) ∙ c.in_ok-lists.ensures.count in
+    let shown : Option OutcomeShown = c.make_shown.new.outcome in
+    let each : (o : OutcomeShown) → shown ≡ Some o → IsShown plan.work bytes o = λ o is. record {
+      short = short;
+      lists = lists;
+      are = are;
+      ports = ports;
+      within = c.in_ok-lists.ensures.within;
+      shown = subst (λ ls. HasShown plan.work ls o) same_lists (c.make_shown.ensures.shown o is);
+    } in
+    ran_out_shown c.from_residual-in_err-texts.result plan bytes old mid mid have shown each (search (rules, c.in_err-texts.ensures.failed))
+
+pub write_texts-requires-clause-few : goal.write_texts-requires-clause-few
+write_texts-requires-clause-few g c =
+    omega (arith, few_written c.args.plan.now.work c.requires.ready.accepted, c.requires.ready.outputs, length-map c.args.plan.now.outputs.now (λ name. name.now))
+
+pub write_texts-requires-clause-texts : goal.write_texts-requires-clause-texts
+write_texts-requires-clause-texts g c =
+    let plan = plan_in c.args.plan.now in
+    omega (
+      arith,
+      shown_count plan.work (lists_in c.as_slice-2.result.now) c.in_ok-texts.ensures.made.0 (written_in c.in_ok-texts.texts) c.in_ok-texts.ensures.made.2,
+      length-map c.in_ok-texts.texts.outputs.items (λ text. text.items),
+      length-map c.args.plan.now.outputs.now (λ name. name.now),
+      c.requires.ready.outputs,
+    )
+
+pub returns-in_err-write_texts-clause-ends : goal.returns-in_err-write_texts-clause-ends
+returns-in_err-write_texts-clause-ends g c =
+    let old : Moment = record { is_open = g.B.Bay.is_open c.args.bay.now; asked = g.B.Bay.asked c.args.bay.now; left = g.B.Bay.left c.args.bay.now; held = g.B.Bay.held c.args.bay.now; offers = g.B.Bay.offers c.args.bay.now; faults = g.B.Bay.faults c.args.bay.now } in
+    let mid : Moment = record { is_open = g.B.Bay.is_open c.read_inputs.new.bay; asked = g.B.Bay.asked c.read_inputs.new.bay; left = g.B.Bay.left c.read_inputs.new.bay; held = g.B.Bay.held c.read_inputs.new.bay; offers = g.B.Bay.offers c.read_inputs.new.bay; faults = g.B.Bay.faults c.read_inputs.new.bay } in
+    let new : Moment = record { is_open = g.B.Bay.is_open c.write_texts.new.bay; asked = g.B.Bay.asked c.write_texts.new.bay; left = g.B.Bay.left c.write_texts.new.bay; held = g.B.Bay.held c.write_texts.new.bay; offers = g.B.Bay.offers c.write_texts.new.bay; faults = g.B.Bay.faults c.write_texts.new.bay } in
+    let plan = plan_in c.args.plan.now in
+    let bytes = map (λ bytes. bytes.items) c.in_ok-inputs.inputs.items in
+    let lists = lists_in c.in_ok-lists.lists.items in
+    let texts = written_in c.in_ok-texts.texts in
+    let failure = c.in_err-write_texts.field-0.0 in
+    let have : HaveRead plan.inputs bytes (length plan.inputs) old mid = subst (λ n. HaveRead plan.inputs bytes n old mid) (sym (length-map c.args.plan.now.inputs.now (λ name. name.now))) c.in_ok-inputs.ensures.read in
+    let short : AreShort bytes (length bytes) = subst (AreShort bytes) (sym have.count_is) have.short in
+    let are : AreListsOf plan.work bytes lists = subst (λ inputs. AreListsOf plan.work (map (λ bytes. bytes.items) inputs) lists) c.as_slice.ensures.value c.in_ok-lists.ensures.taken in
+    let same_lists : lists_in c.as_slice-2.result.now ≡ lists = ap lists_in c.as_slice-2.ensures.value in
+    let ports : length lists ≡ written_by plan.work = length-map c.in_ok-lists.lists.items (λ list. list.packets) ∙ c.in_ok-lists.ensures.count in
+    let o = c.in_ok-texts.ensures.made.0 in
+    let is_some : c.make_shown.new.outcome ≡ Some o = c.in_ok-texts.ensures.made.1 in
+    let shown : IsShown plan.work bytes o = record {
+      short = short;
+      lists = lists;
+      are = are;
+      ports = ports;
+      within = c.in_ok-lists.ensures.within;
+      shown = subst (λ ls. HasShown plan.work ls o) same_lists (c.make_shown.ensures.shown o is_some);
+    } in
+    let is : IsWritten plan.work bytes o texts = record { is = shown; texts_are = subst (λ ls. AreTextsFrom plan.work ls o texts) same_lists c.in_ok-texts.ensures.made.2 } in
+    let same : SameInputs mid new = record { opened = c.write_texts.ensures.opened; asked = c.write_texts.ensures.asked; left = λ port. c.write_texts.ensures.left _ } in
+    status_shown c.from_residual-in_err-write_texts.result (write_status failure) (Some o) _ plan old new (search rules) is_some
+    (unwritten_by plan bytes old mid new have (ComesShown plan.work (Some o)) texts same (λ stream. is) (λ port. is) failure c.in_err-write_texts.ensures.failed)
+
+pub returns-clause-ends : goal.returns-clause-ends
+returns-clause-ends g c =
+    let old : Moment = record { is_open = g.B.Bay.is_open c.args.bay.now; asked = g.B.Bay.asked c.args.bay.now; left = g.B.Bay.left c.args.bay.now; held = g.B.Bay.held c.args.bay.now; offers = g.B.Bay.offers c.args.bay.now; faults = g.B.Bay.faults c.args.bay.now } in
+    let mid : Moment = record { is_open = g.B.Bay.is_open c.read_inputs.new.bay; asked = g.B.Bay.asked c.read_inputs.new.bay; left = g.B.Bay.left c.read_inputs.new.bay; held = g.B.Bay.held c.read_inputs.new.bay; offers = g.B.Bay.offers c.read_inputs.new.bay; faults = g.B.Bay.faults c.read_inputs.new.bay } in
+    let new : Moment = record { is_open = g.B.Bay.is_open c.write_texts.new.bay; asked = g.B.Bay.asked c.write_texts.new.bay; left = g.B.Bay.left c.write_texts.new.bay; held = g.B.Bay.held c.write_texts.new.bay; offers = g.B.Bay.offers c.write_texts.new.bay; faults = g.B.Bay.faults c.write_texts.new.bay } in
+    let plan = plan_in c.args.plan.now in
+    let bytes = map (λ bytes. bytes.items) c.in_ok-inputs.inputs.items in
+    let lists = lists_in c.in_ok-lists.lists.items in
+    let texts = written_in c.in_ok-texts.texts in
+    let have : HaveRead plan.inputs bytes (length plan.inputs) old mid = subst (λ n. HaveRead plan.inputs bytes n old mid) (sym (length-map c.args.plan.now.inputs.now (λ name. name.now))) c.in_ok-inputs.ensures.read in
+    let short : AreShort bytes (length bytes) = subst (AreShort bytes) (sym have.count_is) have.short in
+    let are : AreListsOf plan.work bytes lists = subst (λ inputs. AreListsOf plan.work (map (λ bytes. bytes.items) inputs) lists) c.as_slice.ensures.value c.in_ok-lists.ensures.taken in
+    let same_lists : lists_in c.as_slice-2.result.now ≡ lists = ap lists_in c.as_slice-2.ensures.value in
+    let ports : length lists ≡ written_by plan.work = length-map c.in_ok-lists.lists.items (λ list. list.packets) ∙ c.in_ok-lists.ensures.count in
+    let o = c.in_ok-texts.ensures.made.0 in
+    let is_some : c.make_shown.new.outcome ≡ Some o = c.in_ok-texts.ensures.made.1 in
+    let shown : IsShown plan.work bytes o = record {
+      short = short;
+      lists = lists;
+      are = are;
+      ports = ports;
+      within = c.in_ok-lists.ensures.within;
+      shown = subst (λ ls. HasShown plan.work ls o) same_lists (c.make_shown.ensures.shown o is_some);
+    } in
+    let is : IsWritten plan.work bytes o texts = record { is = shown; texts_are = subst (λ ls. AreTextsFrom plan.work ls o texts) same_lists c.in_ok-texts.ensures.made.2 } in
+    let same : SameInputs mid new = record { opened = c.write_texts.ensures.opened; asked = c.write_texts.ensures.asked; left = λ port. c.write_texts.ensures.left _ } in
+    let count : length plan.outputs ≡ length c.args.plan.now.outputs.now = length-map c.args.plan.now.outputs.now (λ name. name.now) in
+    let writes : AreWritten plan.outputs texts.outputs (length plan.outputs) (length plan.outputs) mid new =
+    subst (λ n. AreWritten plan.outputs texts.outputs n n mid new) (sym count) c.in_ok-write_texts.ensures.written in
+    subst (λ x. EndsShown x old new Done plan) (sym is_some)
+    (done_by plan bytes old mid new have (ComesShown plan.work (Some o)) texts same is writes c.in_ok-write_texts.ensures.report c.in_ok-write_texts.ensures.offered)

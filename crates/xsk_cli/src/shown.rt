@@ -1,0 +1,218 @@
+//! The run of a command on threads, and the texts of what it shows.
+ghost use Rattle.std.specs.Prelude.{◌≡◌, ℕ, ◌+◌, ◌*◌, ◌<◌, ◌≤◌, None, Some, All, List, IfErr, IfOk, drop, false, length, map, take};
+ghost use Rattle.std.specs.List.{range_with_len};
+ghost use Rattle.xsk_driver.specs.Sent.{IsShort};
+ghost use Rattle.xsk_machine.specs.Acts.{HasShortPackets};
+ghost use Rattle.xsk_model.specs.Config.{IsRegular};
+ghost use Rattle.xsk_model.specs.Opening.{AreFrames};
+ghost use Rattle.xsk_pcap.specs.Written.{IsWritable, written};
+ghost use Rattle.xsk_socket.specs.Layout.{fault_of, geometry_of, pairs_in};
+ghost use Rattle.xsk_socket.specs.Regular.{regular_of};
+ghost use Rattle.xsk_stats.specs.Report.{report_text};
+ghost use Rattle.xsk_workers.specs.Forwarded.{HasForwarded, OutcomeShown};
+ghost use Rattle.xsk_cli.specs.Forward.{AreTextsFrom, HasShown, IsRun};
+ghost use Rattle.xsk_cli.specs.Judged.{excess_of};
+ghost use Rattle.xsk_cli.specs.Outcome.{AreTextsIn, frames_of, listed, report_of, setting_of};
+ghost use Rattle.xsk_cli.specs.Steps.{IsAwake, lists_in, written_by, written_in};
+ghost use Rattle.xsk_cli.specs.Words.{fault_in};
+
+use crate::failure::RunFailure;
+use crate::setup::set_up;
+use crate::texts::{Texts, rule_of, wire_of};
+use crate::words::Work;
+use std::alloc::Global;
+use std::sync::Wait;
+use std::thread::Threads;
+use xsk_args::{Program, Wire};
+use xsk_io::Gate;
+use xsk_model::Config;
+use xsk_pcap::Capture;
+use xsk_prog::XdpProgram;
+use xsk_socket::Layout;
+use xsk_stats::report;
+use xsk_umem::{Frames, OutOfMemory, PacketList};
+use xsk_workers::{Outcome, forward};
+
+/// Runs the packets of all ports on threads, keeps what the run shows, and makes its texts.
+pub(crate) fn make_shown<R: Threads + Wait + Sync, G: Gate + Sync>(
+    rt: &R,
+    alloc: Global,
+    work: &Work,
+    lists: &[PacketList],
+    gate: &G,
+    outcome: &mut Option<Outcome>,
+) -> Result<Texts, RunFailure>
+    requires accepted { fault_in work.now ≡ None }
+    requires awake { IsAwake work.now }
+    requires runs { IsRun work.now }
+    requires ports { length lists.now ≡ written_by work.now }
+    requires within { excess_of (lists_in lists.now) ≡ None }
+    requires listed { lists.now ≡ map listed (lists_in lists.now) }
+    requires short { All HasShortPackets lists.now }
+    requires none { outcome.old ≡ None }
+    ensures made { IfOk result (λ texts. (o : OutcomeShown) × (outcome.new ≡ Some o) × AreTextsFrom work.now (lists_in lists.now) o (written_in texts)) }
+    ensures shown { (o : OutcomeShown) → outcome.new ≡ Some o → HasShown work.now (lists_in lists.now) o }
+    ensures failed { IfErr result (λ failure. failure ≡ RunFailure.OutOfMemory) }
+{
+    match work {
+        Work::Simulate {
+            layout,
+            program,
+            wire,
+            ..
+        } => run_shown(rt, alloc, layout, *program, *wire, lists, gate, outcome),
+        Work::Generate { .. } => unreachable!(),
+    }
+}
+
+/// Runs the packets of all ports on threads, keeps what the run shows, and makes its texts.
+#[allow(clippy::too_many_arguments)]
+fn run_shown<R: Threads + Wait + Sync, G: Gate + Sync>(
+    rt: &R,
+    alloc: Global,
+    layout: &Layout,
+    program: Program,
+    wire: Wire,
+    lists: &[PacketList],
+    gate: &G,
+    outcome: &mut Option<Outcome>,
+) -> Result<Texts, RunFailure>
+    requires accepted { fault_of layout.now ≡ None }
+    requires awake { layout.now.wakeup ≡ false }
+    requires ports { length lists.now ≡ layout.now.ports }
+    requires within { excess_of (lists_in lists.now) ≡ None }
+    requires listed { lists.now ≡ map listed (lists_in lists.now) }
+    requires short { All HasShortPackets lists.now }
+    requires none { outcome.old ≡ None }
+    ensures made { IfOk result (λ texts. (o : OutcomeShown) × (outcome.new ≡ Some o) × AreTextsIn layout.now program wire (lists_in lists.now) o.history (report_of layout.now program wire (lists_in lists.now) o.history) (written_in texts)) }
+    ensures shown { (o : OutcomeShown) → outcome.new ≡ Some o → HasForwarded (setting_of layout.now program wire (lists_in lists.now)) (frames_of layout.now) o }
+    ensures failed { IfErr result (λ failure. failure ≡ RunFailure.OutOfMemory) }
+{
+    let (config, frames) = set_up(alloc, layout)?;
+    let shared = config.copy(alloc)?;
+    let shown = forward_lists(
+        rt, alloc, layout, config, frames, program, wire, lists, gate,
+    )?;
+    let texts = keep_shown(alloc, layout, &shared, shown, outcome)?;
+    Ok(texts)
+}
+
+/// Keeps what a run shows, whether or not there is memory for its texts, and makes these.
+fn keep_shown(
+    alloc: Global,
+    layout: &Layout,
+    config: &Config,
+    shown: Outcome,
+    outcome: &mut Option<Outcome>,
+) -> Result<Texts, OutOfMemory>
+    requires regular { IsRegular config.now }
+    requires drivers { length shown.figures.drivers ≡ length config.now.pairs }
+    requires ports { layout.now.ports ≤ 4 }
+    requires few { layout.now.ports * layout.now.queues < 4294967296 }
+    requires sent { length shown.sent ≡ pairs_in layout.now }
+    requires writable { (port count : ℕ) → port < layout.now.ports → count ≤ layout.now.queues → IsWritable (take count (drop (port * layout.now.queues) shown.sent)) }
+    ensures kept { outcome.new ≡ Some shown }
+    ensures outputs { IfOk result (λ texts. (written_in texts).outputs ≡ map (λ port. written (take layout.now.queues (drop (port * layout.now.queues) shown.sent))) (range_with_len 0 layout.now.ports)) }
+    ensures report { IfOk result (λ texts. (written_in texts).report ≡ report_text config.now shown.figures) }
+{
+    let texts = shown_texts(alloc, layout, config, &shown);
+    *outcome = Some(shown);
+    texts
+}
+
+/// Runs the lists of all ports on threads under the program's rule, with the wire.
+#[allow(clippy::too_many_arguments)]
+fn forward_lists<R: Threads + Wait + Sync, G: Gate + Sync>(
+    rt: &R,
+    alloc: Global,
+    layout: &Layout,
+    config: Config,
+    frames: Frames,
+    program: Program,
+    wire: Wire,
+    lists: &[PacketList],
+    gate: &G,
+) -> Result<Outcome, OutOfMemory>
+    requires accepted { fault_of layout.now ≡ None }
+    requires awake { layout.now.wakeup ≡ false }
+    requires config { config ≡ regular_of layout.now }
+    requires regular { IsRegular config }
+    requires frames { frames.items ≡ frames_of layout.now }
+    requires known { AreFrames (geometry_of layout.now) frames.items }
+    requires ports { length lists.now ≡ layout.now.ports }
+    requires listed { lists.now ≡ map listed (lists_in lists.now) }
+    requires short { All HasShortPackets lists.now }
+    ensures pairs { IfOk result (λ o. length o.sent ≡ pairs_in layout.now) }
+    ensures short { IfOk result (λ o. All (λ (list : List (List ℕ)). All IsShort list) o.sent) }
+    ensures forwarded { IfOk result (HasForwarded (setting_of layout.now program wire (lists_in lists.now)) (frames_of layout.now)) }
+{
+    let rule = rule_of(program, layout.sockets);
+    let attached = XdpProgram::attach(rule, |packet: &[u8], queue: u32| {
+        rule.verdict(packet, queue)
+    });
+    let wire = wire_of(wire);
+    let outcome = forward(rt, alloc, config, frames, lists, &attached, wire, gate)?;
+    Ok(outcome)
+}
+
+/// The texts of what a run shows: a capture for each port, and the report.
+fn shown_texts(
+    alloc: Global,
+    layout: &Layout,
+    config: &Config,
+    outcome: &Outcome,
+) -> Result<Texts, OutOfMemory>
+    requires regular { IsRegular config.now }
+    requires drivers { length outcome.now.figures.drivers ≡ length config.now.pairs }
+    requires ports { layout.now.ports ≤ 4 }
+    requires few { layout.now.ports * layout.now.queues < 4294967296 }
+    requires sent { length outcome.now.sent ≡ pairs_in layout.now }
+    requires writable { (port count : ℕ) → port < layout.now.ports → count ≤ layout.now.queues → IsWritable (take count (drop (port * layout.now.queues) outcome.now.sent)) }
+    ensures outputs { IfOk result (λ texts. (written_in texts).outputs ≡ map (λ port. written (take layout.now.queues (drop (port * layout.now.queues) outcome.now.sent))) (range_with_len 0 layout.now.ports)) }
+    ensures report { IfOk result (λ texts. (written_in texts).report ≡ report_text config.now outcome.now.figures) }
+{
+    let report = report(alloc, config, outcome.figures())?;
+    let outputs = shown_outputs(alloc, layout.ports, layout.queues, outcome)?;
+    Ok(Texts { outputs, report })
+}
+
+/// The captures of what the drivers sent, one for each port.
+#[tactic(auto, using(crate::proofs::Ports::more_ports))]
+fn shown_outputs(
+    alloc: Global,
+    ports: u32,
+    queues: u32,
+    outcome: &Outcome,
+) -> Result<Vec<Vec<u8>>, OutOfMemory>
+    requires ports { ports ≤ 4 }
+    requires sent { length outcome.now.sent ≡ ports * queues }
+    requires few { ports * queues < 4294967296 }
+    requires writable { (port count : ℕ) → port < ports → count ≤ queues → IsWritable (take count (drop (port * queues) outcome.now.sent)) }
+    ensures { IfOk result (λ texts. map (λ text. text.items) texts.items ≡ map (λ port. written (take queues (drop (port * queues) outcome.now.sent))) (range_with_len 0 ports)) }
+{
+    let mut texts = Vec::with_capacity(alloc, ports as usize)?;
+    for port in 0..ports {
+        let text = shown_output(alloc, outcome, port * queues, queues)?;
+        texts.push_reserved(text);
+    }
+    Ok(texts)
+}
+
+/// The capture of what so many drivers sent, from one on.
+fn shown_output(
+    alloc: Global,
+    outcome: &Outcome,
+    first: u32,
+    count: u32,
+) -> Result<Vec<u8>, OutOfMemory>
+    requires known { first + count ≤ length outcome.now.sent }
+    requires few { first + count < 4294967296 }
+    requires writable { (n : ℕ) → n ≤ count → IsWritable (take n (drop first outcome.now.sent)) }
+    ensures { IfOk result (λ text. text.items ≡ written (take count (drop first outcome.now.sent))) }
+{
+    let mut capture = Capture::start(alloc)?;
+    for place in 0..count {
+        capture.add(outcome.sent(first + place))?;
+    }
+    Ok(capture.into_bytes())
+}

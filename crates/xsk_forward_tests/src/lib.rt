@@ -1,0 +1,7 @@
+//! Tests of the command `forward`, over bays in memory.
+#![tactic(auto)]
+
+#[cfg(test)]
+mod commands;
+#[cfg(test)]
+mod run;
