@@ -32,17 +32,15 @@ some_files said accepted none =
     omega (arith, files_named said accepted, ap (λ o. length (unwrap_or o [])) none, (fits (layout_by said) accepted).ports)
 
 -- the plan that words ask for wants the files that they name
-ready_by : (layout : Layout) (program : Program) (wire : Wire) (order : ℕ) (number : Option ℕ) (journal : Bool) (files : List Text) → fault_of layout ≡ None → layout.wakeup ≡ false → length files ≡ cond (is_some number) 0 layout.ports + layout.ports
+ready_by : (layout : Layout) (program : Program) (wire : Wire) (order : ℕ) (number : Option ℕ) (journal : Bool) (files : List Text) → fault_of layout ≡ None → length files ≡ cond (is_some number) 0 layout.ports + layout.ports
     → IsReady (record { inputs = take (cond (is_some number) 0 layout.ports) files; outputs = drop (cond (is_some number) 0 layout.ports) files; work = Simulate layout program wire order number journal })
-ready_by layout program wire order None journal files accepted awake count = record {
+ready_by layout program wire order None journal files accepted count = record {
   accepted = accepted;
-  awake = awake;
   inputs = length-take-le layout.ports files (omega (arith, count));
   outputs = omega (arith, length-drop layout.ports files, count);
 }
-ready_by layout program wire order (Some n) journal files accepted awake count = record {
+ready_by layout program wire order (Some n) journal files accepted count = record {
   accepted = accepted;
-  awake = awake;
   inputs = refl;
   outputs = omega (arith, count);
 }
@@ -51,7 +49,7 @@ pub plan_ready : (said : Meaning) (plan : Plan) → plan ≡ plan_by said → fa
 plan_ready said plan is accepted =
     let none : fault_of (layout_by said) ≡ None = subst (λ (p : Plan). fault_in p.work ≡ None) is accepted in
     subst IsReady (sym is)
-    (ready_by (layout_by said) (program_of said) (wire_of said) (number_or said (codes "order") 0) (number_of said (codes "gen")) (is_some (said (codes "journal"))) (files_in said) none refl (files_named said none))
+    (ready_by (layout_by said) (program_of said) (wire_of said) (number_or said (codes "order") 0) (number_of said (codes "gen")) (is_some (said (codes "journal"))) (files_in said) none (files_named said none))
 
 pub no_words : {X : Type 0} (text : X → Text) (words : List X) → length words ≡ 0 → plan_of (map text words) ≡ None
 no_words text [] none = refl

@@ -46,6 +46,7 @@ forward_options =
     ∷ (codes "wire", TakesWire)
     ∷ (codes "empty", Number)
     ∷ (codes "sg", Nothing)
+    ∷ (codes "wakeup", Nothing)
     ∷ []
 
 abbrev pub forward_plan : List Text → Option Plan

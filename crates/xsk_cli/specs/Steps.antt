@@ -39,11 +39,6 @@ use Rattle.xsk_cli.specs.declared.status.Status.TheVariants.{Usage, BadCapture, 
 abbrev pub plan_in : CodePlan → Plan
 plan_in plan = record { inputs = map (λ name. name.now) plan.inputs.now; outputs = map (λ name. name.now) plan.outputs.now; work = plan.work }
 
--- its rings are without the need-wakeup flags
-abbrev pub IsAwake : Work → Type 0
-IsAwake (Simulate layout program wire order number journal) = layout.wakeup ≡ false
-IsAwake (Generate number) = Unit {0}
-
 -- for how many ports captures are read, and for how many they are written
 abbrev pub read_by : Work → ℕ
 read_by (Simulate layout program wire order None journal) = layout.ports
@@ -57,7 +52,6 @@ written_by (Generate number) = 1
 -- a plan whose work is accepted, with as many files as it wants
 pub record IsReady (plan : Plan) : Type 0 where
   pub accepted : fault_in plan.work ≡ None
-  pub awake : IsAwake plan.work
   pub inputs : length plan.inputs ≡ read_by plan.work
   pub outputs : length plan.outputs ≡ written_by plan.work
 

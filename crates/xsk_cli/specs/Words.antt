@@ -47,6 +47,7 @@ options =
     ∷ (codes "wire", TakesWire)
     ∷ (codes "empty", Number)
     ∷ (codes "sg", Nothing)
+    ∷ (codes "wakeup", Nothing)
     ∷ (codes "journal", Nothing)
     ∷ []
 
@@ -98,7 +99,7 @@ layout_by said = record {
   fill = number_or said (codes "fill") 2048;
   comp = number_or said (codes "comp") 2048;
   sg = is_some (said (codes "sg"));
-  wakeup = false;
+  wakeup = is_some (said (codes "wakeup"));
   empty = number_of said (codes "empty");
 }
 

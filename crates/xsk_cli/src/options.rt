@@ -3,7 +3,7 @@
 use xsk_args::{OptionRow, Takes};
 
 /// Each has a number, but `--prog`, `--wire`, `--sg` and `--journal`. The number that stands where none was said is [`Plan`](crate::words::Plan)'s.
-pub(crate) const OPTIONS: [OptionRow; 17] = [
+pub(crate) const OPTIONS: [OptionRow; 18] = [
     OptionRow {
         name: "ports",
         takes: Takes::Number,
@@ -66,6 +66,10 @@ pub(crate) const OPTIONS: [OptionRow; 17] = [
     },
     OptionRow {
         name: "sg",
+        takes: Takes::Nothing,
+    },
+    OptionRow {
+        name: "wakeup",
         takes: Takes::Nothing,
     },
     OptionRow {

@@ -13,7 +13,7 @@ ghost use Rattle.xsk_workers.specs.Forwarded.{HasForwarded, OutcomeShown};
 ghost use Rattle.xsk_cli.specs.Forward.{AreTextsFrom, HasShown, IsRun};
 ghost use Rattle.xsk_cli.specs.Judged.{excess_of};
 ghost use Rattle.xsk_cli.specs.Outcome.{AreTextsIn, frames_of, listed, report_of, setting_of};
-ghost use Rattle.xsk_cli.specs.Steps.{IsAwake, lists_in, written_by, written_in};
+ghost use Rattle.xsk_cli.specs.Steps.{lists_in, written_by, written_in};
 ghost use Rattle.xsk_cli.specs.Words.{fault_in};
 
 use crate::failure::RunFailure;
@@ -43,7 +43,6 @@ pub(crate) fn make_shown<R: Threads + Wait + Sync, G: Gate + Sync>(
     outcome: &mut Option<Outcome>,
 ) -> Result<Texts, RunFailure>
     requires accepted { fault_in work.now ≡ None }
-    requires awake { IsAwake work.now }
     requires runs { IsRun work.now }
     requires ports { length lists.now ≡ written_by work.now }
     requires within { excess_of (lists_in lists.now) ≡ None }
@@ -78,7 +77,6 @@ fn run_shown<R: Threads + Wait + Sync, G: Gate + Sync>(
     outcome: &mut Option<Outcome>,
 ) -> Result<Texts, RunFailure>
     requires accepted { fault_of layout.now ≡ None }
-    requires awake { layout.now.wakeup ≡ false }
     requires ports { length lists.now ≡ layout.now.ports }
     requires within { excess_of (lists_in lists.now) ≡ None }
     requires listed { lists.now ≡ map listed (lists_in lists.now) }
@@ -134,7 +132,6 @@ fn forward_lists<R: Threads + Wait + Sync, G: Gate + Sync>(
     gate: &G,
 ) -> Result<Outcome, OutOfMemory>
     requires accepted { fault_of layout.now ≡ None }
-    requires awake { layout.now.wakeup ≡ false }
     requires config { config ≡ regular_of layout.now }
     requires regular { IsRegular config }
     requires frames { frames.items ≡ frames_of layout.now }

@@ -9,7 +9,7 @@ ghost use Rattle.xsk_sim.specs.Runs.{HasEnded};
 ghost use Rattle.xsk_sim.specs.Shown.{HasShortPackets};
 ghost use Rattle.xsk_cli.specs.Judged.{excess_of};
 ghost use Rattle.xsk_cli.specs.Outcome.{AreTextsBy, AreTextsOf, capture_of, frames_of, listed, made_lists, rule_by, setting_of, wire_by};
-ghost use Rattle.xsk_cli.specs.Steps.{FailsMaking, FailsRunning, IsAwake, lists_in, written_by, written_in};
+ghost use Rattle.xsk_cli.specs.Steps.{FailsMaking, FailsRunning, lists_in, written_by, written_in};
 ghost use Rattle.xsk_cli.specs.Words.{fault_in};
 ghost use Rattle.xsk_cli.specs.declared.words.Work.TheVariants.{Generate};
 ghost use Rattle.xsk_model.specs.Config.{IsRegular};
@@ -48,7 +48,6 @@ pub(crate) fn make_texts(
     lists: &[PacketList],
 ) -> Result<Texts, RunFailure>
     requires accepted { fault_in work.now ≡ None }
-    requires awake { IsAwake work.now }
     requires ports { length lists.now ≡ written_by work.now }
     requires within { excess_of (lists_in lists.now) ≡ None }
     requires made { (number : ℕ) → work.now ≡ Generate number → lists_in lists.now ≡ made_lists number 1 }
@@ -81,7 +80,6 @@ fn run_texts(
     lists: &[PacketList],
 ) -> Result<Texts, RunFailure>
     requires accepted { fault_of layout.now ≡ None }
-    requires awake { layout.now.wakeup ≡ false }
     requires ports { length lists.now ≡ layout.now.ports }
     requires within { excess_of (lists_in lists.now) ≡ None }
     requires listed { lists.now ≡ map listed (lists_in lists.now) }
@@ -128,7 +126,6 @@ fn run_lists(
     lists: &[PacketList],
 ) -> Result<Run, RunFailure>
     requires accepted { fault_of layout.now ≡ None }
-    requires awake { layout.now.wakeup ≡ false }
     requires config { config ≡ regular_of layout.now }
     requires regular { IsRegular config }
     requires frames { frames.items ≡ frames_of layout.now }

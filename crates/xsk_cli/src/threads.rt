@@ -29,7 +29,7 @@ use xsk_io::{Bay, Gate};
 use xsk_workers::Outcome;
 
 /// The options of `forward`: those of `simulate` but `--order`, for there are no rounds.
-const FORWARD_OPTIONS: [OptionRow; 15] = [
+const FORWARD_OPTIONS: [OptionRow; 16] = [
     OptionRow {
         name: "ports",
         takes: Takes::Number,
@@ -88,6 +88,10 @@ const FORWARD_OPTIONS: [OptionRow; 15] = [
     },
     OptionRow {
         name: "sg",
+        takes: Takes::Nothing,
+    },
+    OptionRow {
+        name: "wakeup",
         takes: Takes::Nothing,
     },
 ];

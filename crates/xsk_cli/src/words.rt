@@ -92,7 +92,7 @@ fn layout_of(args: &Args<'_>) -> Layout
         fill: args.number("fill").unwrap_or(2048),
         comp: args.number("comp").unwrap_or(2048),
         sg: args.is_said("sg"),
-        wakeup: false,
+        wakeup: args.is_said("wakeup"),
         empty: args.number("empty"),
     }
 }

@@ -250,8 +250,11 @@ simulate --empty=-1 a => usage
 simulate --empty=none a => usage
 simulate --empty= a => usage
 simulate --empty a => usage
-simulate --wakeup a => usage
-simulate --journal a => usage
+simulate --wakeup a => wakeup files=a
+simulate --wakeup=1 a => usage
+simulate --wakeup --wakeup a => usage
+simulate --journal a --sg --wakeup => sg wakeup journal files=a
+simulate --journal=1 a => usage
 simulate --help a => usage
 simulate a --help => usage
 simulate -h a => usage

@@ -9,7 +9,7 @@ use xsk_args::{Args, ArgsError, OptionRow, Takes, parse};
 use xsk_cli::Status;
 
 /// The options of `simulate`.
-static OPTIONS: [OptionRow; 16] = [
+static OPTIONS: [OptionRow; 18] = [
     OptionRow {
         name: "ports",
         takes: Takes::Number,
@@ -72,6 +72,14 @@ static OPTIONS: [OptionRow; 16] = [
     },
     OptionRow {
         name: "sg",
+        takes: Takes::Nothing,
+    },
+    OptionRow {
+        name: "wakeup",
+        takes: Takes::Nothing,
+    },
+    OptionRow {
+        name: "journal",
         takes: Takes::Nothing,
     },
 ];

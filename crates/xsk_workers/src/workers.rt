@@ -79,10 +79,9 @@ impl Outcome {
 
 /// Runs the drivers and applications of a regular configuration, each in a thread of its own where one can be had, until
 /// all have ended, over one list of packets for each port, none of which has more than 262,144 bytes. The frames are all
-/// frames of its UMEM, and the configuration is without need-wakeup, which the workers don't know yet. The program is
-/// attached to every port, and asked once for each packet before a worker starts; its rule leaves one verdict for each. The wire
-/// says what becomes of a packet that finds too few frames or no room on RX. Each worker passes the gate before each of its
-/// turns.
+/// frames of its UMEM. The program is attached to every port, and asked once for each packet before a worker starts; its rule
+/// leaves one verdict for each. The wire says what becomes of a packet that finds too few frames or no room on RX. Each worker
+/// passes the gate before each of its turns.
 ///
 /// What the drivers sent is what was delivered to the paired sockets (`laws::all_are_forwarded`), and where the wire waits what
 /// is expected there (`laws::all_are_expected`).
@@ -100,7 +99,6 @@ pub fn forward<R: Threads + Wait + Sync, F: Fn(&[u8], u32) -> Verdict, G: Gate +
     gate: &G,
 ) -> Result<Outcome, OutOfMemory>
     requires regular { IsRegular config }
-    requires wakeup { config.wakeup ≡ false }
     requires frames { AreFrames config.geometry frames.items }
     requires lists { length packets.now ≡ config.ports }
     requires short { All HasShortPackets packets.now }
@@ -155,7 +153,6 @@ fn seat_workers<'a, F: Fn(&[u8], u32) -> Verdict>(
     passes: &mut Passes,
 ) -> Result<Vec<Worker<Either<'a>, Source<'a>>>, OutOfMemory>
     requires regular { IsRegular place.config.now }
-    requires wakeup { place.config.now.wakeup ≡ false }
     requires lists { length place.packets.now ≡ place.config.now.ports }
     requires inputs { inputs.now ≡ inputs_of place.config.now place.packets.now }
     requires short { All HasShortPackets place.packets.now }
@@ -188,7 +185,6 @@ fn machine_for<'a, F: Fn(&[u8], u32) -> Verdict>(
     who: u32,
 ) -> Result<Either<'a>, OutOfMemory>
     requires regular { IsRegular place.config.now }
-    requires wakeup { place.config.now.wakeup ≡ false }
     requires lists { length place.packets.now ≡ place.config.now.ports }
     requires inputs { inputs.now ≡ inputs_of place.config.now place.packets.now }
     requires short { All HasShortPackets place.packets.now }
