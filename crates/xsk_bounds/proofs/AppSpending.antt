@@ -1,34 +1,30 @@
 -- What an application puts into rings it took from rings that come before them, and it swaps no more marks than it puts items,
 -- but for three at its end.
-use Rattle.std.proofs.Common.{◌≡◌, ℕ, zero, suc, ◌+◌, ◌-◌, ◌*◌, ◌<◌, ◌≤◌, ◌⊎◌, inl, inr, Bool, true, false, cond, eqb, Option, Some, None, List, [], ◌∷◌, ◌++◌, length, get_or, set, take, drop, map, replicate, refl, sym, ap, subst, ◌∙◌, ⊎_elim, arith, length-append, length-take, length-drop, length-set, append_assoc, append-nil}
+use Rattle.std.proofs.Common.{◌≡◌, ℕ, zero, suc, ◌+◌, ◌*◌, ◌<◌, ◌≤◌, Bool, true, false, cond, eqb, Option, Some, None, List, [], ◌∷◌, ◌++◌, length, get_or, set, drop, map, replicate, refl, sym, ap, ◌∙◌, arith, length-append, length-take, length-drop, length-set}
 use Rattle.std.proofs.lemmas.List.{length-map}
 use Rattle.xsk_umem.specs.Frame.{Frame}
 use Rattle.xsk_umem.specs.declared.batch.Item.{Item}
 use Rattle.xsk_model.specs.Config.{Config, pool_of, batch_of}
 use Rattle.xsk_model.specs.Opening.{home_item}
-use Rattle.xsk_model.specs.Rings.{caller_of}
-use Rattle.xsk_model.specs.Object.{submitted, taken}
 use Rattle.xsk_model.specs.Entry.{Told, with_told}
 use Rattle.xsk_model.specs.Legal.{IsLegal}
 use Rattle.xsk_model.specs.History.{Fits, OwnGoesOn}
-use Rattle.xsk_model.specs.declared.call.Ring.{Ring}
 use Rattle.xsk_model.specs.declared.call.Ring.TheVariants.{Fill, Comp, Rx, Tx}
-use Rattle.xsk_model.specs.declared.call.Mark.{Mark}
 use Rattle.xsk_model.specs.declared.call.Mark.TheVariants.{Kick, TxDone}
 use Rattle.xsk_model.specs.declared.call.Call.{Call}
-use Rattle.xsk_model.specs.declared.call.Call.TheVariants.{Reserve, Submit, Peek, Release, Swap, Look}
+use Rattle.xsk_model.specs.declared.call.Call.TheVariants.{Submit, Peek, Swap}
 use Rattle.xsk_model.specs.declared.call.Reply.{Reply}
 use Rattle.xsk_model.specs.declared.call.Reply.TheVariants.{Granted, Full, Submitted, Items, Empty, Released, Old}
-use Rattle.xsk_turns.specs.Script.{Script, ask, Leaves, begun}
+use Rattle.xsk_turns.specs.Script.{Script, ask, begun}
 use Rattle.xsk_turns.specs.Turns.{frame_in, frames_in}
-use Rattle.xsk_turns.specs.AppTurns.{AppKept, AppNoted, lanes_of, group_of, pending_at, with_pending, back_at, with_back, app_turn, app_start, noted_first, IsAppRun}
+use Rattle.xsk_turns.specs.AppTurns.{AppKept, lanes_of, group_of, pending_at, with_pending, with_back, app_turn, app_start, IsAppRun}
 use Rattle.xsk_turns.specs.AppOwned.{IsApp}
 use Rattle.xsk_turns.proofs.AppGroups.{group_front}
 use Rattle.xsk_turns.proofs.Walks.{Premise, MeetAlong}
-use Rattle.xsk_turns.proofs.AppWalk.{Place, Lanes, Lane, Sides, Side, Ending, Looking, Waking, Looked, Kicking, TxTold, Family, Said, SubmitTx, SubmitFill, call_at, reply_of, point_of, rx_empty, rx_items, rx_released, tx_granted, tx_full, tx_submitted, comp_empty, comp_items, comp_released, fill_granted, fill_full, fill_submitted, looked_rx_done, told_tx_done, looked_gone, looked_need, kicked, no_lanes, has_items, lanes_done, has_frames, all_given, sides_done, looks, begins, without_need, needs_none, needs_kick, told_quietly, told_both, AtCalls, AtEntries, AtPasses, IsLaw, of_run}
+use Rattle.xsk_turns.proofs.AppWalk.{Place, Lanes, Ending, Looking, Waking, Looked, Kicking, TxTold, Family, Said, rx_empty, rx_items, rx_released, tx_granted, tx_full, tx_submitted, comp_empty, comp_items, comp_released, fill_granted, fill_full, fill_submitted, looked_rx_done, told_tx_done, looked_gone, looked_need, kicked, no_lanes, has_items, lanes_done, has_frames, all_given, sides_done, looks, begins, without_need, needs_none, needs_kick, told_quietly, told_both, AtCalls, AtEntries, AtPasses, IsLaw, of_run}
 use Rattle.xsk_bounds.specs.Totals.{total, put, steps_put, steps_taken, swapped}
-use Rattle.xsk_bounds.proofs.Totals.{total-append, total-push}
-use Rattle.xsk_bounds.proofs.Sums.{Spends, Applies}
+use Rattle.xsk_bounds.proofs.Totals.{total-push}
+use Rattle.xsk_bounds.proofs.Sums.{Applies}
 
 -- ---- legal calls with fitting replies
 

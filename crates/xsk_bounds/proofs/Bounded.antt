@@ -1,17 +1,14 @@
 -- How often the object changes in a history in which each caller's own calls are a run.
-use Rattle.std.proofs.Common.{◌≡◌, ℕ, ◌+◌, ◌*◌, ◌<◌, ◌≤◌, ◌⊎◌, List, length, refl, sym, subst, ⊎_elim, arith}
-use Rattle.xsk_umem.specs.Frame.{Frame}
-use Rattle.xsk_model.specs.Config.{Config, IsRegular, classes_of, callers_of}
+use Rattle.std.proofs.Common.{◌≡◌, ℕ, ◌<◌, ◌≤◌, length, refl, ⊎_elim, arith}
+use Rattle.xsk_model.specs.Config.{Config, IsRegular, classes_of}
 use Rattle.xsk_model.specs.Marks.{apps_of}
 use Rattle.xsk_model.specs.Rings.{caller_of}
-use Rattle.xsk_model.specs.Entry.{Entry, own, all_told}
-use Rattle.xsk_model.specs.History.{IsHistory}
+use Rattle.xsk_model.specs.Entry.{own}
 use Rattle.xsk_model.proofs.OwnRuns.{history_own}
 use Rattle.xsk_turns.specs.Turns.{IsDriverRun}
 use Rattle.xsk_turns.specs.AppTurns.{IsAppRun}
-use Rattle.xsk_turns.specs.AppOwned.{IsApp}
-use Rattle.xsk_turns.specs.Workers.{Setting, input_of, IsWorkerRun}
-use Rattle.xsk_bounds.specs.Bounds.{packets_of, FewChanges}
+use Rattle.xsk_turns.specs.Workers.{input_of}
+use Rattle.xsk_bounds.specs.Bounds.{FewChanges}
 use Rattle.xsk_bounds.proofs.Sums.{few_changes}
 use Rattle.xsk_bounds.proofs.AppSpending.{app_applies}
 use Rattle.xsk_bounds.proofs.DriverSpending.{driver_drives}

@@ -1,10 +1,10 @@
 -- How often rings and marks change: each place of a ring is reserved, filled, emptied and freed once for each item put there.
-use Rattle.std.proofs.Common.{◌≡◌, ℕ, zero, suc, ◌+◌, ◌-◌, ◌*◌, ◌<◌, ◌≤◌, Bool, true, false, cond, not, eqb, nat_le, List, [], ◌∷◌, ◌++◌, length, get_or, set, take, drop, refl, sym, ap, subst, ◌∙◌, arith, length-append, length-take, length-drop}
+use Rattle.std.proofs.Common.{◌≡◌, ℕ, zero, suc, ◌+◌, ◌*◌, ◌<◌, ◌≤◌, Bool, true, false, cond, nat_le, List, [], ◌∷◌, ◌++◌, length, get_or, set, take, refl, ap, ◌∙◌, arith, length-append, length-take, length-drop}
 use Rattle.xsk_umem.specs.Frame.{Frame}
 use Rattle.xsk_umem.specs.declared.batch.Item.{Item}
 use Rattle.xsk_model.specs.Config.{Config, HasRing, size_of}
-use Rattle.xsk_model.specs.Rings.{place, places_of}
-use Rattle.xsk_model.specs.Object.{RingState, State, empty_ring, ring_at, mark_at, free, peek_reply, reply_at, call_ring, ring_after, rings_after, submitted, taken, after}
+use Rattle.xsk_model.specs.Rings.{place}
+use Rattle.xsk_model.specs.Object.{RingState, State, empty_ring, ring_at, mark_at, free, peek_reply, reply_at, call_ring, ring_after, rings_after, submitted}
 use Rattle.xsk_model.specs.Entry.{Told, Entry, told, own, all_told}
 use Rattle.xsk_model.specs.Legal.{IsLegal}
 use Rattle.xsk_model.specs.Opening.{opening}
@@ -15,7 +15,7 @@ use Rattle.xsk_model.specs.declared.call.Mark.{Mark}
 use Rattle.xsk_model.specs.declared.call.Call.{Call}
 use Rattle.xsk_model.specs.declared.call.Call.TheVariants.{Reserve, Submit, Peek, Release, Swap, Look}
 use Rattle.xsk_model.specs.declared.call.Reply.{Reply}
-use Rattle.xsk_model.specs.declared.call.Reply.TheVariants.{Granted, Full, Submitted, Items, Empty, Released, Old}
+use Rattle.xsk_model.specs.declared.call.Reply.TheVariants.{Granted, Full, Old}
 use Rattle.xsk_model.proofs.Along.{Keeps, along}
 use Rattle.xsk_model.proofs.Folds.{all_told-append}
 use Rattle.xsk_model.proofs.Histories.{IsSound}

@@ -1,17 +1,16 @@
 -- A driver clears its kick only where its last look saw it set, and sets none; an application sets kicks and clears none.
-use Rattle.std.proofs.Common.{◌≡◌, ◌≢◌, ℕ, ◌+◌, ◌<◌, ◌≤◌, ◌⊎◌, inl, inr, Bool, true, false, eqb, ◌&&◌, Option, Some, None, List, [], ◌∷◌, ◌++◌, length, refl, sym, ap, subst, ◌∙◌, ⊎_elim, arith, eq-eqb, append_assoc}
+use Rattle.std.proofs.Common.{◌≡◌, ℕ, ◌<◌, inl, inr, true, false, eqb, List, [], ◌∷◌, ◌++◌, length, refl, ap, subst, ◌∙◌, ⊎_elim, arith, eq-eqb}
 use Rattle.std.proofs.lemmas.Bool.{and_from}
 use Rattle.std.proofs.lemmas.List.Sums.{fold_push}
 use Rattle.xsk_umem.specs.Frame.{Frame}
-use Rattle.xsk_model.specs.Config.{Config, IsRegular, classes_of, callers_of}
+use Rattle.xsk_model.specs.Config.{Config, IsRegular, classes_of}
 use Rattle.xsk_model.specs.Marks.{apps_of}
 use Rattle.xsk_model.specs.Rings.{caller_of, app_of, application_on, port_of, queue_of}
 use Rattle.xsk_model.specs.Opening.{opening}
 use Rattle.xsk_model.specs.declared.call.Ring.TheVariants.{Fill}
-use Rattle.xsk_model.specs.Entry.{Told, Entry, told, own, with_told}
+use Rattle.xsk_model.specs.Entry.{Told, Entry, told, own}
 use Rattle.xsk_model.specs.Legal.{IsLegal}
 use Rattle.xsk_model.specs.History.{GoesOn, IsHistory}
-use Rattle.xsk_model.specs.declared.call.Mark.{Mark}
 use Rattle.xsk_model.specs.declared.call.Mark.TheVariants.{Kick}
 use Rattle.xsk_model.specs.declared.call.Call.{Call}
 use Rattle.xsk_model.specs.declared.call.Call.TheVariants.{Swap, Look}
@@ -19,16 +18,16 @@ use Rattle.xsk_model.specs.declared.call.Reply.{Reply}
 use Rattle.xsk_model.specs.declared.call.Reply.TheVariants.{Old}
 use Rattle.xsk_model.proofs.Folds.{own-append, own-push_same}
 use Rattle.xsk_model.proofs.Histories.{goes_rest}
-use Rattle.xsk_turns.specs.Script.{Script, ask, IsRun, Leaves, Asks}
+use Rattle.xsk_turns.specs.Script.{Script, IsRun, Leaves, Asks}
 use Rattle.xsk_turns.specs.Turns.{Judged, Kept, seat_of, start, turn, IsDriverRun}
-use Rattle.xsk_turns.specs.AppTurns.{AppKept, app_turn, app_start, noted_first, IsAppRun}
+use Rattle.xsk_turns.specs.AppTurns.{AppKept, app_turn, app_start, IsAppRun}
 use Rattle.xsk_turns.specs.AppOwned.{IsApp}
 use Rattle.xsk_turns.specs.declared.wire.Wire.{Wire}
-use Rattle.xsk_turns.proofs.ScriptLemmas.{leaves_front, asked_last, run_front}
+use Rattle.xsk_turns.proofs.ScriptLemmas.{leaves_front, asked_last}
 use Rattle.xsk_turns.proofs.Walks.{Anything, meet_anything}
-use Rattle.xsk_turns.proofs.DriverWalk.{Place, Woken, Family, Said, ClearKick, kicked, untried, none_comes, too_few, waits, drops_full, drops_frameless, visited, idles, arms, looks, finds, parks, disarmed, IsLaw, AtCalls, AtEntries, AtPasses, at_call}
+use Rattle.xsk_turns.proofs.DriverWalk.{Woken, Family, Said, ClearKick, kicked, untried, none_comes, too_few, waits, drops_full, drops_frameless, visited, idles, arms, looks, finds, parks, disarmed, IsLaw, AtCalls, AtEntries, AtPasses, at_call}
 use Rattle.xsk_turns.proofs.AppWalk as walk
-use Rattle.xsk_bounds.specs.Totals.{old_of, looks_at_kick, saw_kick, saw_last}
+use Rattle.xsk_bounds.specs.Totals.{saw_kick, saw_last}
 use Rattle.xsk_bounds.proofs.Kicks.{KeepsKicks}
 
 -- ---- a driver

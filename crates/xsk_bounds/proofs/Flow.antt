@@ -1,12 +1,11 @@
 -- What goes into rings and what is taken from them: each item taken was put there, or stood there at the opening.
-use Rattle.std.proofs.Common.{◌≡◌, ℕ, zero, suc, ◌+◌, ◌*◌, ◌<◌, ◌≤◌, true, List, [], ◌∷◌, ◌++◌, length, get_or, set, refl, sym, ap, subst, ◌∙◌, arith, length-append}
+use Rattle.std.proofs.Common.{◌≡◌, ℕ, zero, suc, ◌+◌, ◌*◌, ◌<◌, List, [], ◌∷◌, length, get_or, set, refl, sym, ap, ◌∙◌, arith, length-append}
 use Rattle.xsk_umem.specs.Frame.{Frame}
-use Rattle.xsk_umem.specs.declared.batch.Item.{Item}
 use Rattle.xsk_model.specs.Config.{Config, HasRing, size_of}
 use Rattle.xsk_model.specs.Rings.{place, places_of}
-use Rattle.xsk_model.specs.Object.{RingState, State, empty_ring, ring_at, reply_at, call_ring, ring_after, rings_after, submitted, taken, after}
-use Rattle.xsk_model.specs.Entry.{Told, Entry, told, own, all_told}
-use Rattle.xsk_model.specs.Legal.{IsKnown, IsLegal}
+use Rattle.xsk_model.specs.Object.{RingState, State, empty_ring, ring_at, reply_at, call_ring, ring_after, rings_after, submitted, taken}
+use Rattle.xsk_model.specs.Entry.{Told, Entry, told, all_told}
+use Rattle.xsk_model.specs.Legal.{IsKnown}
 use Rattle.xsk_model.specs.Opening.{opening}
 use Rattle.xsk_model.specs.History.{IsHistory, state_after}
 use Rattle.xsk_model.specs.declared.call.Ring.{Ring}
@@ -15,9 +14,8 @@ use Rattle.xsk_model.specs.declared.call.Call.TheVariants.{Reserve, Submit, Peek
 use Rattle.xsk_model.specs.declared.call.Reply.{Reply}
 use Rattle.xsk_model.proofs.Along.{Keeps, along}
 use Rattle.xsk_model.proofs.Folds.{all_told-append}
-use Rattle.xsk_model.proofs.Histories.{IsSound}
-use Rattle.xsk_model.proofs.Moves.{ring_reply, reply_at-on, ring_after-out}
-use Rattle.xsk_model.proofs.Places.{is_ring-self, place_below}
+use Rattle.xsk_model.proofs.Moves.{ring_reply, ring_after-out}
+use Rattle.xsk_model.proofs.Places.{place_below}
 use Rattle.xsk_bounds.specs.Totals.{total}
 use Rattle.xsk_bounds.proofs.Totals.{total-push}
 

@@ -1,15 +1,15 @@
 -- Kicks: each time that a driver clears its kick the kick was set, so it is cleared no more often than it was set.
-use Rattle.std.proofs.Common.{◌≡◌, ◌≢◌, ℕ, ◌+◌, ◌<◌, ◌≤◌, ◌⊎◌, Bool, true, false, cond, eqb, ◌&&◌, List, [], ◌∷◌, ◌++◌, length, refl, sym, ap, subst, ◌∙◌, ⊎_elim, arith, append_assoc, append-nil, eqb-true, eq-eqb, ne_eqb}
+use Rattle.std.proofs.Common.{◌≡◌, ◌≢◌, ℕ, ◌+◌, ◌<◌, ◌≤◌, ◌⊎◌, Bool, true, false, cond, eqb, ◌&&◌, List, [], ◌∷◌, ◌++◌, length, refl, sym, ap, subst, ◌∙◌, ⊎_elim, arith, append_assoc, eqb-true}
 use Rattle.std.proofs.lemmas.Bool.{cases_Bool, cases_eq, and_parts}
 use Rattle.std.proofs.lemmas.List.Sums.{fold_push}
 use Rattle.xsk_umem.specs.Frame.{Frame}
 use Rattle.xsk_model.specs.Config.{Config, IsConfig}
-use Rattle.xsk_model.specs.Marks.{HasMark, is_mark}
+use Rattle.xsk_model.specs.Marks.{is_mark}
 use Rattle.xsk_model.specs.Object.{State, mark_at, reply_at, after}
-use Rattle.xsk_model.specs.Entry.{Told, Entry, told, own, all_told}
+use Rattle.xsk_model.specs.Entry.{Entry, told, own, all_told}
 use Rattle.xsk_model.specs.Legal.{IsLegal}
 use Rattle.xsk_model.specs.Opening.{opening}
-use Rattle.xsk_model.specs.History.{IsHistory, state_after}
+use Rattle.xsk_model.specs.History.{IsHistory}
 use Rattle.xsk_model.specs.declared.call.Mark.{Mark}
 use Rattle.xsk_model.specs.declared.call.Mark.TheVariants.{Kick}
 use Rattle.xsk_model.specs.declared.call.Call.{Call}

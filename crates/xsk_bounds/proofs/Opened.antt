@@ -1,5 +1,5 @@
 -- What stands in the rings at the opening, and how much is reserved in them at any time.
-use Rattle.std.proofs.Common.{◌≡◌, ℕ, zero, suc, ◌+◌, ◌*◌, ◌<◌, ◌≤◌, Bool, true, false, cond, nat_lt, nat_le, List, [], ◌∷◌, ◌++◌, length, get_or, set, take, drop, replicate, map, All, refl, sym, ap, subst, ◌∙◌, ⊎_elim, arith, lt-ltb, le-ltb, length-take, length-drop}
+use Rattle.std.proofs.Common.{◌≡◌, ℕ, zero, suc, ◌+◌, ◌*◌, ◌<◌, ◌≤◌, Bool, true, false, cond, nat_lt, List, [], ◌∷◌, length, get_or, take, drop, replicate, All, refl, ap, ◌∙◌, ⊎_elim, arith, lt-ltb, le-ltb, length-take, length-drop}
 use Rattle.std.proofs.lemmas.Bool.{cases_lt}
 use Rattle.std.proofs.lemmas.List.{length-map, get_or_past}
 use Rattle.std.proofs.lemmas.List.Elements.{All-set, All-append, All-head, All-tail}
@@ -7,7 +7,7 @@ use Rattle.xsk_umem.specs.Frame.{Frame}
 use Rattle.xsk_umem.specs.Geometry.{Geometry}
 use Rattle.xsk_model.specs.Config.{Config, IsConfig, HasRing, size_of, pool_of}
 use Rattle.xsk_model.specs.Rings.{place, places_of}
-use Rattle.xsk_model.specs.Object.{RingState, State, empty_ring, ring_at, call_ring, ring_after, rings_after, submitted, after}
+use Rattle.xsk_model.specs.Object.{RingState, State, empty_ring, ring_at, call_ring, ring_after, rings_after, submitted}
 use Rattle.xsk_model.specs.Entry.{Entry, own}
 use Rattle.xsk_model.specs.Legal.{IsLegal}
 use Rattle.xsk_model.specs.Opening.{IsOpened, home_item, home_rings, opening}
@@ -96,7 +96,7 @@ out_none v i (ring ∷ rings) none =
     let here : length ring.out * v (i + 0) ≡ 0 = none zero (omega arith) in
     let same = ap (λ n. length ring.out * v n) (let e : i + 0 ≡ i = omega arith in e) in
     let later = out_none v (i + 1) rings (λ k lt.
-      ap (λ n. length (get_or rings k empty_ring).out * v n) (let e : i + 1 + k ≡ i + suc k = omega arith in e) ∙ none (suc k) (omega (arith, lt))) in
+    ap (λ n. length (get_or rings k empty_ring).out * v n) (let e : i + 1 + k ≡ i + suc k = omega arith in e) ∙ none (suc k) (omega (arith, lt))) in
     omega (arith, here, same, later)
 
 -- the items of the opening are at their end, on FILL

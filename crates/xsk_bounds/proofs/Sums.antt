@@ -1,17 +1,14 @@
 -- From what each caller's own calls come to, to how often the object changes.
-use Rattle.std.proofs.Common.{◌≡◌, ◌≢◌, ℕ, zero, suc, ◌+◌, ◌*◌, ◌<◌, ◌≤◌, Bool, true, false, cond, eqb, ◌&&◌, List, [], ◌∷◌, ◌++◌, length, All, refl, sym, ap, subst, ◌∙◌, ⊎_elim, arith, eq-eqb, ne_eqb}
-use Rattle.std.proofs.lemmas.Bool.{cases_eq, cases_Bool}
+use Rattle.std.proofs.Common.{◌≡◌, ℕ, zero, suc, ◌+◌, ◌*◌, ◌<◌, ◌≤◌, Bool, true, false, cond, eqb, ◌&&◌, List, [], ◌∷◌, length, All, refl, sym, ap, ◌∙◌, ⊎_elim, arith, ne_eqb}
+use Rattle.std.proofs.lemmas.Bool.{cases_eq}
 use Rattle.std.proofs.lemmas.List.Elements.{All-nil, All-head, All-tail, All-push}
 use Rattle.xsk_umem.specs.Frame.{Frame}
-use Rattle.xsk_model.specs.Config.{Config, HasRing, callers_of}
-use Rattle.xsk_model.specs.Marks.{apps_of, is_mark}
-use Rattle.xsk_model.specs.Rings.{place, places_of}
+use Rattle.xsk_model.specs.Config.{Config, callers_of}
+use Rattle.xsk_model.specs.Marks.{apps_of}
 use Rattle.xsk_model.specs.Object.{State, submitted, taken}
 use Rattle.xsk_model.specs.Entry.{Told, Entry, told, own, all_told}
 use Rattle.xsk_model.specs.Legal.{IsKnown}
-use Rattle.xsk_model.specs.Opening.{opening}
-use Rattle.xsk_model.specs.History.{IsHistory, state_after}
-use Rattle.xsk_model.specs.declared.call.Mark.{Mark}
+use Rattle.xsk_model.specs.History.{IsHistory}
 use Rattle.xsk_model.specs.declared.call.Mark.TheVariants.{NeedFill, NeedTx, Kick, RxDone, Gone, TxDone, Cell}
 use Rattle.xsk_model.specs.declared.call.Call.{Call}
 use Rattle.xsk_model.specs.declared.call.Call.TheVariants.{Reserve, Submit, Peek, Release, Swap, Look}
@@ -19,9 +16,9 @@ use Rattle.xsk_model.proofs.Along.{Keeps, along}
 use Rattle.xsk_model.proofs.CallTheorems.{callers_exist}
 use Rattle.xsk_bounds.specs.Bounds.{most_changes}
 use Rattle.xsk_bounds.specs.Totals.{total, sum_below, changed, swapped, swap_count, on_ring, put, took, steps_on, steps_put, steps_taken, swaps_kick, kick_swaps}
-use Rattle.xsk_bounds.proofs.Totals.{total-append, total-le, sum-le, sum-add, sum-times, sum-const, sum-zero, sum-same, total_own}
-use Rattle.xsk_bounds.proofs.Flow.{out_from, count_on, put_on, took_on, flow}
-use Rattle.xsk_bounds.proofs.Changing.{standing, reserved, changes_by}
+use Rattle.xsk_bounds.proofs.Totals.{total-le, sum-le, sum-add, sum-times, sum-const, sum-zero, total_own}
+use Rattle.xsk_bounds.proofs.Flow.{count_on, put_on, took_on, flow}
+use Rattle.xsk_bounds.proofs.Changing.{changes_by}
 use Rattle.xsk_bounds.proofs.Opened.{steps_at, steps_at_place, opening_standing, opening_out, opening_steps, reserved_few}
 use Rattle.xsk_bounds.proofs.Kicks.{KeepsKicks, cleared_few}
 
@@ -192,7 +189,7 @@ module _ (c : Config) (frames : List Frame) (h : List Entry) (disposed : ℕ →
       omega (
         arith,
         sum-le (apps_of c) (λ a. total put (own (length c.pairs + a) h) + total steps_put (own (length c.pairs + a) h)) (λ a. total steps_taken (own (length c.pairs + a) h))
-        (λ a lt. let one = (applies a lt).spends in omega (arith, one)),
+            (λ a lt. let one = (applies a lt).spends in omega (arith, one)),
         sum-add (apps_of c) (λ a. total put (own (length c.pairs + a) h)) (λ a. total steps_put (own (length c.pairs + a) h)),
       )
 
@@ -239,10 +236,10 @@ module _ (c : Config) (frames : List Frame) (h : List Entry) (disposed : ℕ →
       omega (
         arith,
         sum-le (length c.pairs) (λ d. total (kick_swaps d 0) (own d h)) (λ d. apps (kick_swaps d 1))
-        (λ d lt. omega (arith, own_few (kick_swaps d 0) d h, cleared_few c frames h d lt history (keeps d lt), set_by d)),
+            (λ d lt. omega (arith, own_few (kick_swaps d 0) d h, cleared_few c frames h d lt history (keeps d lt), set_by d)),
         sum_swap (length c.pairs) (apps_of c) (λ d a. total (kick_swaps d 1) (own (length c.pairs + a) h)),
         sum-le (apps_of c) (λ a. sum_below (length c.pairs) (λ d. total (kick_swaps d 1) (own (length c.pairs + a) h))) (λ a. total swapped (own (length c.pairs + a) h))
-        (λ a lt. kicks_few (length c.pairs) 1 (own (length c.pairs + a) h)),
+            (λ a lt. kicks_few (length c.pairs) 1 (own (length c.pairs + a) h)),
       )
 
   drivers_swap : drivers swapped ≤ 11 * (drivers took + sum_below (length c.pairs) (λ d. total (kick_swaps d 0) (own d h)) + 2 * length c.pairs) + 2 * length c.pairs

@@ -42,7 +42,9 @@ fn two_queues_send_what_rounds_send(rt: HostRuntime) -> Result<(), Fail> {
 fn is_in_order(text: &[u8]) -> bool {
     let mut last = [0u8; 4];
     for place in 0..text.len() / RECORD {
-        let packet = text.get(HEADER.len() + 16 + RECORD * place..).unwrap_or(&[]);
+        let packet = text
+            .get(HEADER.len() + 16 + RECORD * place..)
+            .unwrap_or(&[]);
         let (Some(number), Some(kind)) = (packet.first(), packet.get(12)) else {
             return false;
         };

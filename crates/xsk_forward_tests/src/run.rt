@@ -34,12 +34,7 @@ fn capture_of(alloc: Global, count: u8) -> Result<Vec<u8>, Fail> {
 }
 
 /// A bay with so many packets at each of two ports, of which these calls fail.
-fn bay_with(
-    alloc: Global,
-    first: u8,
-    second: u8,
-    fails: &[FailingCall],
-) -> Result<MemoryBay, Fail>
+fn bay_with(alloc: Global, first: u8, second: u8, fails: &[FailingCall]) -> Result<MemoryBay, Fail>
     ensures { IfOk result (λ bay. (stream : AStream) → is_open_of bay.memory stream ≡ false) }
 {
     let inputs = vec![in alloc; capture_of(alloc, first)?, capture_of(alloc, second)?]?;
