@@ -1,5 +1,5 @@
 -- The journal of a run: for each call a line with its round in front. This project's own.
-use Rattle.std.specs.Prelude.{◌≡◌, ℕ, List, [], ◌∷◌, ◌++◌, codes, length}
+use Rattle.std.specs.Prelude.{ℕ, List, [], ◌∷◌, ◌++◌, codes, length}
 use Rattle.std.specs.Fmt.{decimal}
 use Rattle.xsk_model.specs.Entry.{Entry, own}
 use Rattle.xsk_plain.specs.Line.{line_of}

@@ -1,5 +1,4 @@
-use Rattle.std.proofs.Common.{◌≡◌, ◌≤◌, ◌+◌, suc, length, map, sym, subst, ap, ◌∙◌, arith, rules, drop, Some}
-use Rattle.xsk_model.specs.Entry.{Entry}
+use Rattle.std.proofs.Common.{◌≡◌, ◌≤◌, ◌+◌, suc, map, sym, subst, ap, ◌∙◌, arith, rules, drop, Some}
 use Rattle.xsk_plain.specs.Log.{entries_of, item_of}
 use Rattle.xsk_plain.specs.Line.{TakesLine}
 use Rattle.xsk_plain.proofs.Parts.{length-entries}

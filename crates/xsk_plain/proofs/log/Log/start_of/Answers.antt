@@ -1,4 +1,4 @@
-use Rattle.std.proofs.Common.{◌≡◌, ◌+◌, ◌≤◌, sym, ap, ◌∙◌, arith, rules}
+use Rattle.std.proofs.Common.{◌+◌, ◌≤◌, sym, ap, ◌∙◌, arith, rules}
 use Rattle.xsk_plain.proofs.RowLines.{next_start, row_within}
 use Rattle.xsk_plain.proofs.log.Log.start_of.Goals as goal
 

@@ -1,4 +1,4 @@
-use Rattle.std.proofs.Common.{◌≡◌, ◌<◌, Some, length, sym, ap, ◌∙◌, rules}
+use Rattle.std.proofs.Common.{◌<◌, length, sym, ap, ◌∙◌, rules}
 use Rattle.std.specs.Prelude.{slice_get}
 use Rattle.xsk_plain.proofs.RowLines.{has_at, value_at, place_within, read_within}
 use Rattle.xsk_plain.proofs.repeats.Repeats.get.Goals as goal
