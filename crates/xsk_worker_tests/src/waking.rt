@@ -173,7 +173,12 @@ fn packets_of_two_classes_are_finished_together(rt: HostRuntime) -> Result<(), F
     assert!(rt; hand.goes(Seen::Reserve(Ring::Comp(0), 1), Reply::Granted));
     assert!(rt; hand.goes(Seen::Submit(Ring::Comp(0), 1, FIRST_SENT), Reply::Submitted));
     assert!(rt; hand.goes(Seen::Reserve(Ring::Comp(0), 1), Reply::Granted));
-    assert!(rt; hand.goes(Seen::Submit(Ring::Comp(0), 1, SECOND_SENT), Reply::Submitted));
+    assert!(rt;
+        hand.goes(
+            Seen::Submit(Ring::Comp(0), 1, SECOND_SENT),
+            Reply::Submitted
+        )
+    );
     assert!(rt; hand.finds_empty(Ring::Tx(0)) && hand.finds_empty(Ring::Tx(1)));
     assert_eq!(rt; hand.worker.sent().len(), 2);
     Ok(())
