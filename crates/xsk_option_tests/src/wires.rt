@@ -63,3 +63,17 @@ fn a_packet_that_never_finds_room_is_lost_or_stalls(rt: HostRuntime) -> Result<(
     assert!(rt; ends(rt.alloc(), roomy, long.as_slice(), 0, long.as_slice())?);
     Ok(())
 }
+
+#[test]
+fn a_packet_of_three_frames_stalls_over_too_few_frames_or_places(
+    rt: HostRuntime,
+) -> Result<(), Fail> {
+    let long = capture_of_long(rt.alloc())?;
+    let one_frame = "simulate --sg --frames 2 a b c d";
+    assert!(rt; ends(rt.alloc(), one_frame, long.as_slice(), 8, b"".as_slice())?);
+    let two_places = "simulate --sg --comp 2 a b c d";
+    assert!(rt; ends(rt.alloc(), two_places, long.as_slice(), 8, b"".as_slice())?);
+    let short = capture_of(rt.alloc(), 3)?;
+    assert!(rt; ends(rt.alloc(), one_frame, short.as_slice(), 0, short.as_slice())?);
+    Ok(())
+}
