@@ -130,7 +130,7 @@ fn words_mean_what_the_rules_say(rt: HostRuntime) -> Result<(), Fail> {
         assert_eq!(rt; told.as_str(), meant, "{line}");
         rows = rows.saturating_add(1);
     }
-    assert_eq!(rt; rows, 302);
+    assert_eq!(rt; rows, 305);
     Ok(())
 }
 
