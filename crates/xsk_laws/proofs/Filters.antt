@@ -126,10 +126,10 @@ looks false true to = refl
 looks false false to = refl
 
 -- a packet of a port and queue goes to a socket there by its length and its verdict
-abbrev is_fit : Config → ℕ → ℕ → Judged → Bool
+abbrev pub is_fit : Config → ℕ → ℕ → Judged → Bool
 is_fit c o s packet = has_length c packet.bytes && leads_to (map_of c o) s packet.verdict
 
-to_fit : (wire : Wire) (c : Config) (d o q s : ℕ) (packet : Judged) → IsBoundTo c o q s → is_to s (disposal_in (seat_at wire c d o q) packet) ≡ is_fit c o s packet
+pub to_fit : (wire : Wire) (c : Config) (d o q s : ℕ) (packet : Judged) → IsBoundTo c o q s → is_to s (disposal_in (seat_at wire c d o q) packet) ≡ is_fit c o s packet
 to_fit wire c d o q s packet bound = by packet.verdict
   where
     by : (verdict : Verdict) → (let p : Judged = record { bytes = packet.bytes; verdict = verdict } in is_to s (disposal_in (seat_at wire c d o q) p) ≡ is_fit c o s p)

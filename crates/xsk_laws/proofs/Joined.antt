@@ -57,12 +57,12 @@ pub record Workers : Type 0 where
   pub none_sent_late : NothingSentLate
   pub drains_rx : DrainsRx
 
-seat_is : (wire : Wire) (c : Config) (p q k d s : ℕ) → IsAt c p q k d s → seat_of wire c d ≡ seat_at wire c d p q
+pub seat_is : (wire : Wire) (c : Config) (p q k d s : ℕ) → IsAt c p q k d s → seat_of wire c d ≡ seat_at wire c d p q
 seat_is wire c p q k d s at =
     ap (λ n. record { config = c; pair = d; port = n; queue = (pair_at c.pairs d).queue; classes = classes_of c; batch = batch_of c; wire = wire }) at.pair_port
     ∙ ap (λ n. seat_at wire c d p n) at.pair_queue
 
-input_is : (c : Config) (lists : List PacketList) (verdicts : List (List Verdict)) (p q k d s : ℕ) → IsAt c p q k d s → received_by c lists verdicts d ≡ judged (received c lists p q) (get_or verdicts d [])
+pub input_is : (c : Config) (lists : List PacketList) (verdicts : List (List Verdict)) (p q k d s : ℕ) → IsAt c p q k d s → received_by c lists verdicts d ≡ judged (received c lists p q) (get_or verdicts d [])
 input_is c lists verdicts p q k d s at =
     ap (λ n. judged (received c lists n (pair_at c.pairs d).queue) (get_or verdicts d [])) at.pair_port ∙ ap (λ n. judged (received c lists p n) (get_or verdicts d [])) at.pair_queue
 

@@ -10,6 +10,7 @@ pub mod Sockets
 pub mod Sorted
 pub mod Theorems
 pub mod OneQueue
+pub mod Losing
 pub mod Waking
 pub mod WakingEnd
 pub mod Woken

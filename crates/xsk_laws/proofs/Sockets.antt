@@ -59,7 +59,7 @@ first_of c p q = driver_on c p q * classes_of c
 
 module _ (c : Config) (p q : ℕ) (config : IsConfig c) (regular : IsRegular c) (port : p < c.ports) (queue : q < c.queues) where
   -- a socket that is bound there has a number of that pair
-  at_pair : (s : ℕ) → s < length c.sockets → is_here p q (socket_at c.sockets s) ≡ true → s / classes_of c ≡ driver_on c p q
+  pub at_pair : (s : ℕ) → s < length c.sockets → is_here p q (socket_at c.sockets s) ≡ true → s / classes_of c ≡ driver_on c p q
   at_pair s h e =
       let at = regular.places s h in
       let both = and_parts (eqb (socket_at c.sockets s).port p) (eqb (socket_at c.sockets s).queue q) e in

@@ -1,4 +1,5 @@
 pub mod Expected
 pub mod Forwarded
 pub mod Laws
+pub mod Lost
 pub mod Woken

@@ -1,13 +1,24 @@
-//! The laws of all workers' runs, each the contract of a function that does nothing. They are stated in `specs/Laws.antt`, of
-//! whole runs, and in `specs/Woken.antt`, of all runs.
+//! The laws of all workers' runs, each the contract of a function that does nothing. They are stated in `specs/Laws.antt`
+//! and `specs/Lost.antt`, of whole runs, and in `specs/Woken.antt`, of all runs.
 
 ghost use Rattle.xsk_laws.specs.Laws.{SentIsForwarded, SentIsExpected, AllAreForwarded, NothingElseIsSent, AllIsForwarded, AllIsExpected, SentIsWithin, ExpectedIsOther};
+ghost use Rattle.xsk_laws.specs.Lost.{ForwardedIsUnlost, OnlyRedirectedAreLost};
 ghost use Rattle.xsk_laws.specs.Woken.{NoWakesAreLost, NoneIsLostInWholeRuns};
 
 /// What a driver sent by the socket of a class is exactly what the paired port's driver delivered to the paired socket, each
 /// packet whole and in order, whatever the wire does.
 pub fn sent_is_forwarded()
     ensures { SentIsForwarded }
+{}
+
+/// What the paired port's driver delivered to a socket is exactly what goes there of the packets that the wire didn't lose.
+pub fn forwarded_is_unlost()
+    ensures { ForwardedIsUnlost }
+{}
+
+/// A wire loses only packets that go to a socket of their queue.
+pub fn only_redirected_are_lost()
+    ensures { OnlyRedirectedAreLost }
 {}
 
 /// Where the wire waits, it is exactly the paired port's packets that go to that socket.
