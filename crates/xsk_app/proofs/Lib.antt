@@ -2,4 +2,3 @@ pub mod Fresh
 pub mod Steps
 pub mod TurnLemmas
 pub mod Runs
-pub mod TwoPorts

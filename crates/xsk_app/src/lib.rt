@@ -6,8 +6,6 @@
 mod app;
 mod back;
 mod machine;
-#[cfg(test)]
-mod tests;
 
 pub use app::App;
 pub use xsk_model::Act;

@@ -15,6 +15,3 @@ pub use number::parse_number;
 pub use program::{Program, parse_program};
 pub use table::{OptionRow, Takes};
 pub use wire::{Wire, parse_wire};
-
-#[cfg(test)]
-mod tests;

@@ -4,6 +4,8 @@
 #[cfg(test)]
 mod options;
 #[cfg(test)]
+mod parsing;
+#[cfg(test)]
 mod programs;
 #[cfg(test)]
 mod queues;

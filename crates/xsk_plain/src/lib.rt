@@ -2,8 +2,6 @@
 #![tactic(auto)]
 
 mod checked;
-#[cfg(test)]
-mod checked_tests;
 pub mod laws;
 mod line;
 mod lines;
@@ -15,8 +13,6 @@ mod opening;
 mod plain;
 mod repeats;
 mod ring_store;
-#[cfg(test)]
-mod tests;
 
 pub use checked::Checked;
 pub use line::LineBuffer;

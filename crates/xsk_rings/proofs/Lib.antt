@@ -1,4 +1,3 @@
 pub mod Looping
 pub mod Telling
 pub mod Rounds
-mod Keeping

@@ -6,10 +6,3 @@ pub mod laws;
 mod serving;
 
 pub use calls::RingCalls;
-
-#[cfg(test)]
-mod note_tests;
-#[cfg(test)]
-mod round_tests;
-#[cfg(test)]
-mod tests;

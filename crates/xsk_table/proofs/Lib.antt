@@ -28,5 +28,3 @@ pub mod Deals
 pub mod Noting
 pub mod NewNotes
 pub mod FreshFrames
-mod TestParts
-mod MeetingTestParts

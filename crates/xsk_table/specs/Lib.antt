@@ -8,4 +8,3 @@ pub mod Opening
 pub mod Meeting
 pub mod Closing
 pub mod Laws
-pub mod TwoPorts

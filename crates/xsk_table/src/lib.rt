@@ -25,8 +25,3 @@ pub use pass::Pass;
 pub use passes::Passes;
 pub use shared::{Shared, SharedRefused};
 pub use view::{Asking, Key, Law, View};
-
-#[cfg(test)]
-mod meeting_tests;
-#[cfg(test)]
-mod tests;

@@ -1,12 +1,12 @@
--- The configuration that tests make by hand: two ports with one queue each and one socket on each queue.
-use Rattle.std.proofs.Common.{ℕ, ◌≤◌, inl, [], ◌∷◌, refl, lit<, lit≤, Some, false}
+-- The configuration that tests make by hand: two ports with one queue each and one socket on each queue, with the need-wakeup flags or without.
+use Rattle.std.proofs.Common.{ℕ, ◌≤◌, inl, [], ◌∷◌, refl, lit<, lit≤, Bool, Some, false}
 use Rattle.std.specs.Prelude.{All, IsSome}
 use Rattle.std.proofs.lemmas.List.Elements.{All-cons, All-nil}
 use Rattle.xsk_umem.specs.Geometry.{Geometry}
 use Rattle.xsk_model.specs.Config.{Config, IsConfig, IsRingSize, IsBound, IsServed, IsMap}
 
-abbrev pub two_ports : Geometry → Config
-two_ports g = record {
+abbrev pub two_ports : Bool → Geometry → Config
+two_ports wakeup g = record {
   geometry = g;
   ports = 2;
   queues = 1;
@@ -14,7 +14,7 @@ two_ports g = record {
   pairs = (record { port = 0; queue = 0; fill = 2048; comp = 2048 }) ∷ (record { port = 1; queue = 0; fill = 2048; comp = 2048 }) ∷ [];
   cells = (1 ∷ []) ∷ (2 ∷ []) ∷ [];
   sg = false;
-  wakeup = false;
+  wakeup = wakeup;
 }
 
 both : {X : Type 0} (P : X → Type 0) (x y : X) → P x → P y → All P (x ∷ y ∷ [])
@@ -26,9 +26,9 @@ has_ring = refl
 full_ring : IsRingSize 2048
 full_ring = record { power = (11, refl); least = lit≤ tt; most = lit≤ tt }
 
-pub two_ports-config : (g : Geometry) → IsConfig (two_ports g)
-two_ports-config g =
-    let c = two_ports g in
+pub two_ports-config : (wakeup : Bool) (g : Geometry) → IsConfig (two_ports wakeup g)
+two_ports-config wakeup g =
+    let c = two_ports wakeup g in
     record {
       ports = inl refl;
       queues = inl refl;

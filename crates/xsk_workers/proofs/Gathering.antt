@@ -30,7 +30,9 @@ use Rattle.xsk_model.specs.Entry.{Entry}
 use Rattle.xsk_model.specs.History.{IsHistory}
 use Rattle.xsk_model.specs.Sent.{sent as sent_in}
 use Rattle.xsk_model.proofs.Theorems.{one_holder}
-use Rattle.xsk_machine.proofs.Within.{are_within}
+use Rattle.xsk_laws.specs.Laws.{AreWholeRuns}
+use Rattle.xsk_laws.proofs.Woken.{none_is_lost_in_whole_runs}
+use Rattle.xsk_machine.proofs.Within.{are_within, whole_runs}
 use Rattle.xsk_table.specs.Closing.{AreThere, EndsIn}
 use Rattle.xsk_workers.specs.Shown.{AreOf}
 use Rattle.xsk_workers.specs.Forwarded.{HasForwarded}
@@ -278,6 +280,9 @@ module _ (b : Board) (s : Setting) (frames : List Frame) (passes : List (Option 
     holders = λ past later split. one_holder s.config frames past later (subst (IsHistory s.config frames) split legal);
     sent = sent_is;
     figures = figures_are;
+    woken = λ past later pair split below.
+        none_is_lost_in_whole_runs s.wire s.config s.packets s.verdicts frames past later pair
+        (subst (AreWholeRuns s.wire s.config s.packets s.verdicts frames) split (whole_runs s frames h regular legal whole)) below;
   }
 
   pub pairs_are : length lists ≡ length s.config.pairs

@@ -9,6 +9,7 @@ use Rattle.xsk_model.specs.Entry.{Entry, own}
 use Rattle.xsk_model.specs.History.{IsHistory, state_after}
 use Rattle.xsk_model.specs.Holders.{HasOneHolder}
 use Rattle.xsk_model.specs.Sent.{sent}
+use Rattle.xsk_turns.specs.Wakes.{NoWakeIsLost}
 use Rattle.xsk_turns.specs.Workers.{Setting, IsWholeRun}
 use Rattle.xsk_turns.specs.declared.wire.Wire.TheVariants.{Wait}
 use Rattle.xsk_driver.specs.Figured.{figures_of}
@@ -25,14 +26,15 @@ abbrev pub packets_in : PacketList → List (List ℕ)
 packets_in list = list.packets
 
 -- The history is legal from the opening with these frames. Of each worker it has a whole run of its turns over the packets
--- that came, and of no one else anything. After each of its prefixes each frame has one holder, and what each driver sent
--- are the packets that its calls on COMPLETION completed there. The figures are counts over the history.
+-- that came, and of no one else anything. After each of its prefixes each frame has one holder and no wake is lost, and what each
+-- driver sent are the packets that its calls on COMPLETION completed there. The figures are counts over the history.
 pub record HasForwarded (s : Setting) (frames : List Frame) (o : OutcomeShown) : Type 0 where
   pub legal : IsHistory s.config frames o.history
   pub whole : (who : ℕ) → who < callers_of s.config → IsWholeRun s who (own who o.history)
   pub holders : (past later : List Entry) → o.history ≡ past ++ later → HasOneHolder s.config.geometry.frames (state_after s.config frames past)
   pub sent : (pair : ℕ) → pair < length s.config.pairs → slice_index_or o.sent pair [] ≡ sent s.config o.history pair
   pub figures : o.figures ≡ figures_of s o.history
+  pub woken : (past later : List Entry) (pair : ℕ) → o.history ≡ past ++ later → pair < length s.config.pairs → NoWakeIsLost s.config frames past pair
 
 -- What the driver of a port and queue sent is what was forwarded by all classes, whatever the wire does, and nothing else.
 -- Where the wire waits it is what is expected by them.

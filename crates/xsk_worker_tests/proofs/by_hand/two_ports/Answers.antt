@@ -1,3 +1,4 @@
+use Rattle.std.proofs.Common.{false}
 use Rattle.xsk_worker_tests.proofs.TwoPorts.{two_ports-config}
 use Rattle.xsk_worker_tests.proofs.by_hand.two_ports.Goals as goal
 
@@ -13,4 +14,4 @@ of_parts-config-requires c =
       c.in_ok-cells.ensures.items,
       c.in_ok-vec.ensures.items,
       c.in_ok-vec-2.ensures.items,
-    ) (two_ports-config c.in_ok-geometry.geometry)
+    ) (two_ports-config false c.in_ok-geometry.geometry)

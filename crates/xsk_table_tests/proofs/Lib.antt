@@ -1,0 +1,3 @@
+mod TestParts
+mod MeetingTestParts
+mod Keeping
