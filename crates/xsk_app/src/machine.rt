@@ -111,7 +111,7 @@ pub(crate) struct Machine<'a> {
 }
 
 impl<'a> Machine<'a> {
-    ghost use Rattle.xsk_app.specs.Waits.{expects};
+    ghost use Rattle.xsk_app.specs.Waits.{expects, IsBare};
     ghost use Rattle.xsk_app.specs.declared.machine.Wait.TheVariants as wait;
     ghost use Rattle.xsk_turns.specs.AppTurns.{tx_of, tx_pair, kick, wake, wake_both, pass_on, receive_lane, visit_lane, visit_lanes, give_back, complete_side, visit_side, back_at, pending_at, with_back, with_seen, with_gone, look_rx_done, look_gone, tell_tx_done, end_or_look, end_turn, turn_sides};
     ghost use Rattle.xsk_app.specs.Stands.{GoesOn, to_do, doing, by_reply, IsSame, noted_by, kept_by, from_lane, after_full_lane, from_side, after_full_side, after_group, wake_by, told_tx_done};
@@ -128,9 +128,7 @@ impl<'a> Machine<'a> {
         ensures given_back { IsGivenBack result items.new }
     {
         match self.wait {
-            Wait::Start => Some(self.begin()),
             Wait::PeekRx { lane } => self.go_on_from_rx(lane, answer, items),
-            Wait::ReleaseRx { lane } => Some(self.reserve_tx(lane)),
             Wait::ReserveTx { lane } => self.go_on_at_tx(lane, answer, items),
             Wait::SubmitTx { lane } => self.look_need_tx(lane),
             Wait::LookNeedTx { lane } => match answer {
@@ -149,23 +147,45 @@ impl<'a> Machine<'a> {
                 _ => unreachable!(),
             },
             Wait::KickFill { side } => self.give_back(side),
-            Wait::LookRxDone { side } => match answer {
-                Some(Answer::Old(done)) => Some(self.learn_rx_done(side, done)),
-                _ => unreachable!(),
-            },
-            Wait::TellTxDone => Some(self.stop_sending()),
-            Wait::KickFirst => Some(self.kick_second()),
-            Wait::KickSecond => Some(self.begin()),
-            Wait::LookGone { side } => match answer {
-                Some(Answer::Old(gone)) => Some(self.learn_gone(side, gone)),
-                _ => unreachable!(),
-            },
+            Wait::Start
+            | Wait::ReleaseRx { .. }
+            | Wait::LookRxDone { .. }
+            | Wait::TellTxDone
+            | Wait::KickFirst
+            | Wait::KickSecond
+            | Wait::LookGone { .. } => Some(self.go_on_bare(answer)),
             Wait::Ended => unreachable!(),
         }
     }
 
-    /// Goes on with what stood on the lane's RX ring.
+    /// Goes on from a waiting point with no items to a call with none.
     #[inline(always)]
+    fn go_on_bare(&mut self, answer: Option<Answer>) -> Ask
+        requires bare { IsBare self.old.wait }
+        requires comes { CanCome (expects self.old.wait) (joined_answer answer []) }
+        ensures expected { expects self.new.wait ≡ expected_by (joined_call result []) }
+        ensures goes { GoesOn self.old.config.now self.old.app self.new (act.Call (joined_call result [])) (to_do self.old.config.now self.old.app self.old (joined_answer answer [])) }
+        ensures same { IsSame self.old self.new }
+    {
+        match self.wait {
+            Wait::Start => self.begin(),
+            Wait::ReleaseRx { lane } => self.reserve_tx(lane),
+            Wait::LookRxDone { side } => match answer {
+                Some(Answer::Old(done)) => self.learn_rx_done(side, done),
+                _ => unreachable!(),
+            },
+            Wait::TellTxDone => self.stop_sending(),
+            Wait::KickFirst => self.kick_second(),
+            Wait::KickSecond => self.begin(),
+            Wait::LookGone { side } => match answer {
+                Some(Answer::Old(gone)) => self.learn_gone(side, gone),
+                _ => unreachable!(),
+            },
+            _ => unreachable!(),
+        }
+    }
+
+    /// Goes on with what stood on the lane's RX ring.
     fn go_on_from_rx(
         &mut self,
         lane: usize,
@@ -181,14 +201,13 @@ impl<'a> Machine<'a> {
         ensures given_back { IsGivenBack result items.new }
     {
         match answer {
-            Some(Answer::Items) => Some(self.take_received(lane, items)),
+            Some(Answer::Items) => self.take_received(lane, items),
             Some(Answer::Empty) => self.go_to_lane(lane + 1),
             _ => unreachable!(),
         }
     }
 
     /// Goes on by whether the lane's TX ring has room.
-    #[inline(always)]
     fn go_on_at_tx(&mut self, lane: usize, answer: Option<Answer>, items: &mut Batch) -> Option<Ask>
         requires at { self.old.wait ≡ wait.ReserveTx lane }
         requires comes { CanCome (expects self.old.wait) (joined_answer answer items.old) }
@@ -199,14 +218,13 @@ impl<'a> Machine<'a> {
         ensures given_back { IsGivenBack result items.new }
     {
         match answer {
-            Some(Answer::Granted) => Some(self.send_on(lane, items)),
+            Some(Answer::Granted) => self.send_on(lane, items),
             Some(Answer::Full(_)) => self.go_on_full_lane(lane),
             _ => unreachable!(),
         }
     }
 
     /// Goes on with what stood on the side's COMPLETION ring.
-    #[inline(always)]
     fn go_on_from_comp(
         &mut self,
         side: usize,
@@ -222,14 +240,13 @@ impl<'a> Machine<'a> {
         ensures given_back { IsGivenBack result items.new }
     {
         match answer {
-            Some(Answer::Items) => Some(self.take_completed(side, items)),
+            Some(Answer::Items) => self.take_completed(side, items),
             Some(Answer::Empty) => self.go_to_side(side + 1),
             _ => unreachable!(),
         }
     }
 
     /// Goes on by whether the home's FILL ring has room.
-    #[inline(always)]
     fn go_on_at_fill(
         &mut self,
         side: usize,
@@ -247,7 +264,7 @@ impl<'a> Machine<'a> {
         ensures given_back { IsGivenBack result items.new }
     {
         match answer {
-            Some(Answer::Granted) => Some(self.refill(side, home, count, items)),
+            Some(Answer::Granted) => self.refill(side, home, count, items),
             Some(Answer::Full(_)) => self.find_fill_full(side),
             _ => unreachable!(),
         }
@@ -311,18 +328,18 @@ impl<'a> Machine<'a> {
     }
 
     /// Keeps the items that were received on a lane that had none.
-    fn take_received(&mut self, lane: usize, items: &mut Batch) -> Ask
+    fn take_received(&mut self, lane: usize, items: &mut Batch) -> Option<Ask>
         requires lane { lane < vec_len self.old.pending }
         requires empty { pending_at (kept_by self.old) lane ≡ [] }
-        ensures expected { expects self.new.wait ≡ expected_by (joined_call result items.new) }
-        ensures goes { doing self.old.config.now self.old.app self.new (act.Call (joined_call result items.new)) ≡ receive_lane self.old.config.now self.old.app lane (kept_by self.old) (after_full_lane self.old.config.now self.old.app lane (noted_by self.old.turn)) items.old }
+        ensures expected { expects self.new.wait ≡ expected_of (joined_ask result items.new) }
+        ensures goes { doing self.old.config.now self.old.app self.new (joined_ask result items.new) ≡ receive_lane self.old.config.now self.old.app lane (kept_by self.old) (after_full_lane self.old.config.now self.old.app lane (noted_by self.old.turn)) items.old }
         ensures same { IsSame self.old self.new }
-        ensures items { items.new ≡ [] }
+        ensures given_back { IsGivenBack result items.new }
     {
         let count = items.len();
         self.wait = Wait::ReleaseRx { lane };
         self.pending[lane].append(items);
-        Ask::Release(Ring::Rx(self.ways[lane].rx), count)
+        Some(Ask::Release(Ring::Rx(self.ways[lane].rx), count))
     }
 
     /// Asks for places on the lane's TX ring.
@@ -337,19 +354,19 @@ impl<'a> Machine<'a> {
     }
 
     /// Puts the lane's pending items on its TX ring as they are.
-    fn send_on(&mut self, lane: usize, items: &mut Batch) -> Ask
+    fn send_on(&mut self, lane: usize, items: &mut Batch) -> Option<Ask>
         requires lane { lane < vec_len self.old.pending }
         requires empty { items.old ≡ [] }
-        ensures expected { expects self.new.wait ≡ expected_by (joined_call result items.new) }
-        ensures goes { doing self.old.config.now self.old.app self.new (act.Call (joined_call result items.new)) ≡ by_reply (pass_on self.old.config.now self.old.app lane (kept_by self.old) (after_full_lane self.old.config.now self.old.app lane (noted_by self.old.turn))) reply.Granted }
+        ensures expected { expects self.new.wait ≡ expected_of (joined_ask result items.new) }
+        ensures goes { doing self.old.config.now self.old.app self.new (joined_ask result items.new) ≡ by_reply (pass_on self.old.config.now self.old.app lane (kept_by self.old) (after_full_lane self.old.config.now self.old.app lane (noted_by self.old.turn))) reply.Granted }
         ensures same { IsSame self.old self.new }
-        ensures items { HasAsked result items.new }
+        ensures given_back { IsGivenBack result items.new }
     {
         self.wait = Wait::SubmitTx { lane };
         let pending = &mut self.pending[lane];
         let _count = pending.len();
         items.append(pending);
-        Ask::Submit(Ring::Tx(self.ways[lane].tx))
+        Some(Ask::Submit(Ring::Tx(self.ways[lane].tx)))
     }
 
     /// Looks whether the lane's TX ring needs a wakeup, where the flags are used.
@@ -422,18 +439,18 @@ impl<'a> Machine<'a> {
     }
 
     /// Keeps the frames that were completed on a side that had none.
-    fn take_completed(&mut self, side: usize, items: &mut Batch) -> Ask
+    fn take_completed(&mut self, side: usize, items: &mut Batch) -> Option<Ask>
         requires side { side < 2 }
         requires empty { back_at (kept_by self.old) side ≡ [] }
-        ensures expected { expects self.new.wait ≡ expected_by (joined_call result items.new) }
-        ensures goes { doing self.old.config.now self.old.app self.new (act.Call (joined_call result items.new)) ≡ complete_side self.old.config.now self.old.app side (kept_by self.old) (after_full_side self.old.config.now self.old.app side (noted_by self.old.turn)) items.old }
+        ensures expected { expects self.new.wait ≡ expected_of (joined_ask result items.new) }
+        ensures goes { doing self.old.config.now self.old.app self.new (joined_ask result items.new) ≡ complete_side self.old.config.now self.old.app side (kept_by self.old) (after_full_side self.old.config.now self.old.app side (noted_by self.old.turn)) items.old }
         ensures same { IsSame self.old self.new }
-        ensures items { items.new ≡ [] }
+        ensures given_back { IsGivenBack result items.new }
     {
         let count = items.len();
         self.wait = Wait::ReleaseComp { side };
         self.backs[side].keep(items);
-        Ask::Release(Ring::Comp(self.pairs[side]), count)
+        Some(Ask::Release(Ring::Comp(self.pairs[side]), count))
     }
 
     /// Gives back the next frames that have one home, or goes on where the side has none.
@@ -461,18 +478,18 @@ impl<'a> Machine<'a> {
     }
 
     /// Puts the side's first frames on the FILL ring of their home.
-    fn refill(&mut self, side: usize, home: u32, count: u32, items: &mut Batch) -> Ask
+    fn refill(&mut self, side: usize, home: u32, count: u32, items: &mut Batch) -> Option<Ask>
         requires side { side < 2 }
         requires group { IsGroup (pool_of self.old.config.now) (batch_of self.old.config.now) (back_at (kept_by self.old) side) home count }
         requires empty { items.old ≡ [] }
-        ensures expected { expects self.new.wait ≡ expected_by (joined_call result items.new) }
-        ensures goes { doing self.old.config.now self.old.app self.new (act.Call (joined_call result items.new)) ≡ by_reply (give_back self.old.config.now side 0 (back_at (kept_by self.old) side) (kept_by self.old) (after_full_side self.old.config.now self.old.app side (noted_by self.old.turn))) reply.Granted }
+        ensures expected { expects self.new.wait ≡ expected_of (joined_ask result items.new) }
+        ensures goes { doing self.old.config.now self.old.app self.new (joined_ask result items.new) ≡ by_reply (give_back self.old.config.now side 0 (back_at (kept_by self.old) side) (kept_by self.old) (after_full_side self.old.config.now self.old.app side (noted_by self.old.turn))) reply.Granted }
         ensures same { IsSame self.old self.new }
-        ensures items { HasAsked result items.new }
+        ensures given_back { IsGivenBack result items.new }
     {
         self.wait = Wait::SubmitFill { side, home };
         self.backs[side].give(self.config.geometry(), count, items);
-        Ask::Submit(Ring::Fill(home))
+        Some(Ask::Submit(Ring::Fill(home)))
     }
 
     /// Looks whether the home's FILL ring needs a wakeup, where the flags are used.

@@ -60,15 +60,15 @@ impl Finished {
         self.lengths.front().copied()
     }
 
-    /// Appends a packet of the batch's items, and leaves it empty.
-    pub(crate) fn push(&mut self, items: &mut Batch)
+    /// Appends a packet of the batch's items and its last one, and leaves the batch empty.
+    pub(crate) fn push(&mut self, items: &mut Batch, last: Item)
         requires room { length self.old < 128 }
-        requires few { length items.old ≤ 18 }
-        ensures packets { self.new ≡ self.old ++ items.old ∷ [] }
+        requires few { length items.old < 18 }
+        ensures packets { self.new ≡ self.old ++ (items.old ++ last ∷ []) ∷ [] }
         ensures items { items.new ≡ [] }
     {
-        let length = items.len();
-        append(&mut self.items, items);
+        let length = items.len() + 1;
+        append(&mut self.items, items, last);
         self.lengths.push_back_reserved(length);
     }
 
@@ -95,16 +95,17 @@ impl Finished {
     }
 }
 
-/// Moves all items of the batch to the end of the queue, which has room for them.
-fn append(queue: &mut VecDeque<Item>, items: &mut Batch)
-    requires { length queue.old.items + length items.old ≤ deque_capacity queue.old }
-    ensures queue { queue.new.items ≡ queue.old.items ++ items.old }
+/// Moves all items of the batch and then a last one to the end of the queue, which has room for them.
+fn append(queue: &mut VecDeque<Item>, items: &mut Batch, last: Item)
+    requires { length queue.old.items + length items.old + 1 ≤ deque_capacity queue.old }
+    ensures queue { queue.new.items ≡ queue.old.items ++ (items.old ++ last ∷ []) }
     ensures items { items.new ≡ [] }
     ensures capacity { deque_capacity queue.new ≡ deque_capacity queue.old }
 {
     while let Some(item) = items.pop_front() {
         queue.push_back_reserved(item);
     }
+    queue.push_back_reserved(last);
 }
 
 /// Takes the first items of the queue, so many, for the packet that was begun last: appends their bytes to it, and puts the

@@ -1,6 +1,6 @@
 -- Items on their way into a ring and out of it, and what the log notes of them.
 use Rattle.std.proofs.Common.{◌≡◌, ℕ, ◌+◌, ◌≤◌, Option, Some, None, List, [], ◌∷◌, ◌++◌, length, map, refl, sym, ap, ◌∙◌, arith, append_assoc, append-nil, length-append}
-use Rattle.std.specs.Prelude.{All}
+use Rattle.std.specs.Prelude.{All, slice_get}
 use Rattle.std.specs.Option.{option_map}
 use Rattle.std.proofs.lemmas.List.{map-append, map_push}
 use Rattle.std.proofs.lemmas.List.Elements.{All-head, All-tail, All-same, All-push, All-weaker}
@@ -13,10 +13,14 @@ use Rattle.xsk_plain.specs.declared.log.Piece.{Piece}
 use Rattle.xsk_plain.specs.declared.log.Span.{Span}
 use Rattle.xsk_plain.specs.declared.ring_store.RingStore.{RingStore}
 use Rattle.xsk_plain.specs.declared.ring_store.Stored.{Stored}
-use Rattle.xsk_plain.specs.Kept.{IsKept, AreKept, AllKept}
+use Rattle.xsk_plain.specs.Kept.{IsNotedAt, IsKept, AreKept, AllKept, IsHeld, AreHeld}
+use Rattle.xsk_plain.specs.Notes.{Notes, NotesGrow}
+use Rattle.xsk_plain.specs.Repeats.{KeepsValues}
 use Rattle.xsk_plain.specs.Log.{frame_at, item_of}
 use Rattle.xsk_plain.specs.Spans.{at_span, IsWithin, Grows}
 use Rattle.xsk_plain.specs.Stores.{stored_item_of, piece_of}
+use Rattle.std.proofs.lemmas.Option.{slice_get_within}
+use Rattle.xsk_plain.proofs.Places.{slice_get-append}
 use Rattle.xsk_plain.proofs.Parts.{at_span-append}
 
 -- ---- payloads
@@ -27,25 +31,64 @@ grows_none bytes = record { more = []; is = sym (append-nil bytes) }
 pub grows_more : (old bytes new more : List ℕ) → Grows old bytes → new ≡ bytes ++ more → Grows old new
 grows_more old bytes new more h is = record { more = h.more ++ more; is = is ∙ ap (λ xs. xs ++ more) h.is ∙ append_assoc old h.more more }
 
-kept_grown : (c : Config) (bytes new : List ℕ) (stored : Stored) → Grows bytes new → IsKept c bytes stored → IsKept c new stored
-kept_grown c bytes new stored grows h = record {
-  within = let w : stored.payload.start + stored.payload.len ≤ length bytes = h.within in omega (arith, ap length grows.is, length-append bytes grows.more);
-  shows = ap (λ (xs : List ℕ). at_span xs stored.payload) grows.is ∙ at_span-append bytes grows.more stored.payload h.within ∙ h.shows;
-}
-
-pub are_kept_grown : (c : Config) (bytes new : List ℕ) (store : RingStore) → Grows bytes new → AreKept c bytes store → AreKept c new store
-are_kept_grown c bytes new store grows h = All-weaker (IsKept c bytes) (IsKept c new) (λ stored k. kept_grown c bytes new stored grows k) store.out.items h
-
-pub all_kept_grown : (c : Config) (bytes new : List ℕ) (stores : List RingStore) → Grows bytes new → AllKept c bytes stores → AllKept c new stores
-all_kept_grown c bytes new stores grows h = All-weaker (AreKept c bytes) (AreKept c new) (λ store k. are_kept_grown c bytes new store grows k) stores h
-
 pub grows_on : (old bytes new : List ℕ) → Grows old bytes → Grows bytes new → Grows old new
 grows_on old bytes new h k = grows_more old bytes new k.more h k.is
 
--- a payload that is kept
-pub kept_new : (c : Config) (new piece : List ℕ) (item : Item) (span : Span) → IsWithin new span → at_span new span ≡ piece → piece ≡ payload c.geometry c.sg item
-    → IsKept c new (record { item = item; payload = span })
-kept_new c new piece item span within shown shows = record { within = within; shows = shown ∙ shows }
+noted_grown : (old new : List Piece) (piece : Piece) (place : Option ℕ) → KeepsValues old new → IsNotedAt old piece place → IsNotedAt new piece place
+noted_grown old new piece None grows h = h
+noted_grown old new piece (Some place) grows h = ap (λ vs. slice_get vs place) grows.is ∙ slice_get-append old grows.more place (slice_get_within old place piece h) ∙ h
+
+within_grown : (old new : List ℕ) (span : Span) → Grows old new → IsWithin old span → IsWithin new span
+within_grown old new span grows h = omega (arith, h, ap length grows.is, length-append old grows.more)
+
+kept_grown : (c : Config) (old new : Notes) (stored : Stored) → NotesGrow old new → IsKept c old stored → IsKept c new stored
+kept_grown c old new stored grows h = record {
+  within = within_grown old.bytes new.bytes stored.payload grows.bytes h.within;
+  shows = ap (λ (xs : List ℕ). at_span xs stored.payload) grows.bytes.is ∙ at_span-append old.bytes grows.bytes.more stored.payload h.within ∙ h.shows;
+  noted = noted_grown old.values new.values (piece_of stored) stored.place grows.values h.noted;
+}
+
+held_grown : (old new : Notes) (stored : Stored) → NotesGrow old new → IsHeld old stored → IsHeld new stored
+held_grown old new stored grows h = record {
+  within = within_grown old.bytes new.bytes stored.payload grows.bytes h.within;
+  noted = noted_grown old.values new.values (piece_of stored) stored.place grows.values h.noted;
+}
+
+pub are_held_grown : (old new : Notes) (out : List Stored) → NotesGrow old new → All (IsHeld old) out → All (IsHeld new) out
+are_held_grown old new out grows h = All-weaker (IsHeld old) (IsHeld new) (λ stored k. held_grown old new stored grows k) out h
+
+-- what is kept is held
+pub are_held : (c : Config) (notes : Notes) (store : RingStore) → AreKept c notes store → AreHeld notes store
+are_held c notes store h = All-weaker (IsKept c notes) (IsHeld notes) (λ stored k. record { within = k.within; noted = k.noted }) store.out.items h
+
+pub out_kept_grown : (c : Config) (old new : Notes) (out : List Stored) → NotesGrow old new → All (IsKept c old) out → All (IsKept c new) out
+out_kept_grown c old new out grows h = All-weaker (IsKept c old) (IsKept c new) (λ stored k. kept_grown c old new stored grows k) out h
+
+pub are_kept_grown : (c : Config) (old new : Notes) (store : RingStore) → NotesGrow old new → AreKept c old store → AreKept c new store
+are_kept_grown c old new store grows h = out_kept_grown c old new store.out.items grows h
+
+pub all_kept_grown : (c : Config) (old new : Notes) (stores : List RingStore) → NotesGrow old new → AllKept c old stores → AllKept c new stores
+all_kept_grown c old new stores grows h = All-weaker (AreKept c old) (AreKept c new) (λ store k. are_kept_grown c old new store grows k) stores h
+
+-- ---- pieces and payloads behind others
+
+pub keeps_same : {T : Type 0} (old new : List T) → new ≡ old → KeepsValues old new
+keeps_same old new is = record { more = []; is = is ∙ sym (append-nil old) }
+
+pub grows_same : (old new : List ℕ) → new ≡ old → Grows old new
+grows_same old new is = record { more = []; is = is ∙ sym (append-nil old) }
+
+pub notes_none : (notes : Notes) → NotesGrow notes notes
+notes_none notes = record { bytes = grows_same notes.bytes notes.bytes refl; values = keeps_same notes.values notes.values refl }
+
+keeps_on : {T : Type 0} (old now new : List T) → KeepsValues old now → KeepsValues now new → KeepsValues old new
+keeps_on old now new h k = record { more = h.more ++ k.more; is = k.is ∙ ap (λ xs. xs ++ k.more) h.is ∙ append_assoc old h.more k.more }
+
+pub notes_on : (old now new : Notes) → NotesGrow old now → NotesGrow now new → NotesGrow old new
+notes_on old now new h k = record {
+  bytes = grows_on old.bytes now.bytes new.bytes h.bytes k.bytes;
+  values = keeps_on old.values now.values new.values h.values k.values;
+}
 
 frame_kept : (bytes shown : List ℕ) (span : Span) (frame : Option Frame) → at_span bytes span ≡ shown
     → option_map (frame_at bytes span) (option_map (λ (f : Frame). f.number) frame) ≡ option_map (λ (f : Frame). record f { bytes = shown }) frame
@@ -53,10 +96,10 @@ frame_kept bytes shown span None is = refl
 frame_kept bytes shown span (Some f) is = ap (λ (xs : List ℕ). Some (record { number = f.number; bytes = xs })) is
 
 -- what the log shows of an item whose payload is kept
-pub item_kept : (c : Config) (bytes : List ℕ) (stored : Stored) (piece : Piece) → piece ≡ piece_of stored → IsKept c bytes stored → item_of bytes piece ≡ stored_item c.geometry c.sg stored.item
-item_kept c bytes stored piece is h =
+pub item_kept : (c : Config) (bytes : List ℕ) (stored : Stored) (piece : Piece) → piece ≡ piece_of stored → at_span bytes stored.payload ≡ payload c.geometry c.sg stored.item → item_of bytes piece ≡ stored_item c.geometry c.sg stored.item
+item_kept c bytes stored piece is shows =
     ap (item_of bytes) is
-    ∙ ap (λ (f : Option Frame). record { frame = f; desc = stored.item.desc }) (frame_kept bytes (payload c.geometry c.sg stored.item) stored.payload stored.item.frame h.shows)
+    ∙ ap (λ (f : Option Frame). record { frame = f; desc = stored.item.desc }) (frame_kept bytes (payload c.geometry c.sg stored.item) stored.payload stored.item.frame shows)
 
 -- ---- items that are put
 
@@ -73,7 +116,7 @@ out_step before after left rest all stored is first done =
     ∙ append_assoc (map stored_item_of before) (stored.item ∷ []) rest ∙ ap (λ xs. map stored_item_of before ++ xs) (sym first) ∙ done
 
 -- a put item is kept
-pub put_kept : (c : Config) (bytes : List ℕ) (before after : RingStore) (stored : Stored) → after.out.items ≡ before.out.items ++ stored ∷ [] → AreKept c bytes before
+pub put_kept : (c : Config) (bytes : Notes) (before after : RingStore) (stored : Stored) → after.out.items ≡ before.out.items ++ stored ∷ [] → AreKept c bytes before
     → IsKept c bytes stored → AreKept c bytes after
 put_kept c bytes before after stored is kept new =
     All-same (IsKept c bytes) after.out.items (before.out.items ++ stored ∷ []) is (All-push (IsKept c bytes) before.out.items stored kept new)

@@ -19,6 +19,7 @@ use Rattle.xsk_model.specs.Opening.{AreFrames, home_item, home_ring, home_rings,
 use Rattle.xsk_model.proofs.Opened.{length-frames, get_or-blanks, opening-marks, length-home_rings}
 use Rattle.xsk_plain.specs.declared.ring_store.RingStore.{RingStore}
 use Rattle.xsk_plain.specs.Engine.{seen, no_part}
+use Rattle.xsk_plain.specs.Notes.{Notes}
 use Rattle.xsk_plain.specs.Kept.{IsKept, AreKept, AllKept}
 use Rattle.xsk_model.specs.Sizes.{sizes_of}
 use Rattle.xsk_plain.specs.Stores.{stored_item_of, home_stored, part_of, parts_of, size_in, sizes_in, IsBlank, Has}
@@ -69,12 +70,12 @@ one_more all rest k x is =
 -- one more frame in a FILL ring's store
 pub fill_step : (g : Geometry) (before after : RingStore) (all rest : List Frame) (k size : ℕ) (frame : Frame) (item : Item) → Has before (map (home_stored g) (take k all)) 0 0 size
     → item ≡ home_item g frame → drop k all ≡ frame ∷ rest
-    → Has after (before.out.items ++ (record { item = item; payload = record { start = 0; len = 0 } }) ∷ []) before.held before.room before.size
+    → Has after (before.out.items ++ (record { item = item; payload = record { start = 0; len = 0 }; place = None }) ∷ []) before.held before.room before.size
     → Has after (map (home_stored g) (take (k + 1) all)) 0 0 size
 fill_step g before after all rest k size frame item h is next step = record {
   out =
-      step.out ∙ ap (λ xs. xs ++ (record { item = item; payload = record { start = 0; len = 0 } }) ∷ []) h.out
-      ∙ ap (λ (i : Item). map (home_stored g) (take k all) ++ (record { item = i; payload = record { start = 0; len = 0 } }) ∷ []) is
+      step.out ∙ ap (λ xs. xs ++ (record { item = item; payload = record { start = 0; len = 0 }; place = None }) ∷ []) h.out
+      ∙ ap (λ (i : Item). map (home_stored g) (take k all) ++ (record { item = i; payload = record { start = 0; len = 0 }; place = None }) ∷ []) is
       ∙ sym (map_push (home_stored g) (take k all) frame) ∙ ap (map (home_stored g)) (sym (one_more all rest k frame next).0);
   held = step.held ∙ h.held;
   room = step.room ∙ h.room;
@@ -163,20 +164,21 @@ invalid : (inside fits known : Bool) → (inside && false && fits && known) ≡ 
 invalid true fits known = refl
 invalid false fits known = refl
 
-pub home_kept : (c : Config) (bytes : List ℕ) (frame : Frame) → IsKept c bytes (home_stored c.geometry frame)
-home_kept c bytes frame = record {
+pub home_kept : (c : Config) (notes : Notes) (frame : Frame) → IsKept c notes (home_stored c.geometry frame)
+home_kept c notes frame = record {
+  noted = tt;
   within = omega arith;
   shows =
       sym (no_payload (is_valid c.geometry c.sg (home_item c.geometry frame).desc) [] (invalid (is_inside c.geometry (home_item c.geometry frame).desc) (fits_chunk c.geometry (home_item c.geometry frame).desc) (has_known_options c.sg (home_item c.geometry frame).desc)));
 }
 
-pub store_kept : (c : Config) (bytes : List ℕ) (store : RingStore) (frames : List Frame) (size : ℕ) → Has store (map (home_stored c.geometry) frames) 0 0 size → AreKept c bytes store
-store_kept c bytes store frames size h =
-    All-same (IsKept c bytes) store.out.items (map (home_stored c.geometry) frames) h.out
-    (All-map (IsKept c bytes) (home_stored c.geometry) frames (λ k d within. home_kept c bytes (get_or frames k d)))
+pub store_kept : (c : Config) (notes : Notes) (store : RingStore) (frames : List Frame) (size : ℕ) → Has store (map (home_stored c.geometry) frames) 0 0 size → AreKept c notes store
+store_kept c notes store frames size h =
+    All-same (IsKept c notes) store.out.items (map (home_stored c.geometry) frames) h.out
+    (All-map (IsKept c notes) (home_stored c.geometry) frames (λ k d within. home_kept c notes (get_or frames k d)))
 
-pub blank_kept : (c : Config) (bytes : List ℕ) (rings : List RingStore) → All IsBlank rings → AllKept c bytes rings
-blank_kept c bytes rings blank = All-weaker IsBlank (AreKept c bytes) (λ store h. All-same (IsKept c bytes) store.out.items [] h.out (All-nil (IsKept c bytes))) rings blank
+pub blank_kept : (c : Config) (notes : Notes) (rings : List RingStore) → All IsBlank rings → AllKept c notes rings
+blank_kept c notes rings blank = All-weaker IsBlank (AreKept c notes) (λ store h. All-same (IsKept c notes) store.out.items [] h.out (All-nil (IsKept c notes))) rings blank
 
 -- ---- the next FILL ring
 
@@ -199,9 +201,9 @@ module _ (c : Config) (rings : List RingStore) (pair : ℕ) (after : RingStore) 
       let len : length (set rings pair after) ≡ length rings = length-set rings pair after in
       subst IsBlank (sym (get_or-set_other rings pair k after d (omega arith))) (blank k d (omega arith) (omega arith))
 
-  pub next_kept : ((bytes : List ℕ) → AllKept c bytes rings) → (bytes : List ℕ) → AllKept c bytes (set rings pair after)
-  next_kept kept bytes =
-      All-set (AreKept c bytes) rings pair after (store_kept c bytes after (take (pool_of c) (drop (pair * pool_of c) frames)) size has) (kept bytes)
+  pub next_kept : ((notes : Notes) → AllKept c notes rings) → (notes : Notes) → AllKept c notes (set rings pair after)
+  next_kept kept notes =
+      All-set (AreKept c notes) rings pair after (store_kept c notes after (take (pool_of c) (drop (pair * pool_of c) frames)) size has) (kept notes)
 
 -- a FILL ring has room for its pool
 pub pool_fits : (c : Config) (rings : List RingStore) (pair : ℕ) (d : RingStore) → IsLawful c → sizes_in rings ≡ sizes_of c → pair < length c.pairs → pair < length rings

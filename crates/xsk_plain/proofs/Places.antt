@@ -6,7 +6,7 @@ use Rattle.std.proofs.lemmas.List.Elements.{All-head, All-tail, All-push, All-sa
 use Rattle.std.proofs.lemmas.Option.{slice_get_within}
 use Rattle.xsk_plain.specs.Repeats.{of_option, values_at, AreBelow, KeepsValues}
 
-slice_get-append : {T : Type 0} (values more : List T) (place : ℕ) → place < length values → slice_get (values ++ more) place ≡ slice_get values place
+pub slice_get-append : {T : Type 0} (values more : List T) (place : ℕ) → place < length values → slice_get (values ++ more) place ≡ slice_get values place
 slice_get-append [] more place h = absurd (omega (arith, h))
 slice_get-append (x ∷ values) more zero h = refl
 slice_get-append (x ∷ values) more (suc place) h = slice_get-append values more place (omega (arith, h))

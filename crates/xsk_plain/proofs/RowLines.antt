@@ -49,7 +49,7 @@ place_within count places i place below lt is =
     subst (λ (p : ℕ). p < count) (sym is) (All-get_or (λ (p : ℕ). p < count) places i place lt below)
 
 -- so is one that the list shows to be there
-pub read_within : {T : Type 0} (values : List T) (places : List ℕ) (shown : Repeats T) (spare i : ℕ) → record { items = values_at values places; spare = spare } ≡ shown
+pub read_within : {T : Type 0} (values : List T) (places : List ℕ) (shown : Repeats T) (spare i : ℕ) → record { values = values; items = values_at values places; spare = spare } ≡ shown
     → AreBelow (length values) places → i < length shown.items → i < length places
 read_within values places shown spare i view below lt =
     subst (λ (n : ℕ). i < n) (sym (ap (λ list. length list.items) view) ∙ length-values values places below) lt

@@ -17,6 +17,7 @@ use Rattle.xsk_plain.specs.Engine.{Part, no_part, part_in}
 use Rattle.xsk_plain.specs.Steps.{free_in, part_after, parts_after}
 use Rattle.xsk_model.specs.Sizes.{sizes_of, fill_size, comp_size, rx_size, tx_size}
 use Rattle.xsk_plain.specs.Stores.{stored_item_of, part_of, parts_of, size_in, sizes_in, Has}
+use Rattle.xsk_plain.specs.Notes.{Notes}
 use Rattle.xsk_plain.specs.Kept.{IsKept, AreKept, AllKept}
 
 -- ---- the size of a ring, by its place
@@ -90,12 +91,12 @@ module _ (c : Config) (rings : List RingStore) (p : ℕ) (before after : RingSto
       let there : get_or (map size_in rings) p 0 ≡ before.size = get_or-map size_in rings p before 0 within ∙ sym (ap size_in is) in
       map-set size_in rings p after ∙ ap (set (map size_in rings) p) (same ∙ sym there) ∙ set-get_or (map size_in rings) p 0
 
-  pub kept-set : (bytes : List ℕ) → AllKept c bytes rings → (AreKept c bytes before → AreKept c bytes after) → AllKept c bytes (set rings p after)
-  kept-set bytes all step =
-      All-set (AreKept c bytes) rings p after (step (subst (AreKept c bytes) (sym is) (All-get_or (AreKept c bytes) rings p before within all))) all
+  pub kept-set : (notes : Notes) → AllKept c notes rings → (AreKept c notes before → AreKept c notes after) → AllKept c notes (set rings p after)
+  kept-set notes all step =
+      All-set (AreKept c notes) rings p after (step (subst (AreKept c notes) (sym is) (All-get_or (AreKept c notes) rings p before within all))) all
 
-  pub kept_here : (bytes : List ℕ) → AllKept c bytes rings → AreKept c bytes before
-  kept_here bytes all = subst (AreKept c bytes) (sym is) (All-get_or (AreKept c bytes) rings p before within all)
+  pub kept_here : (notes : Notes) → AllKept c notes rings → AreKept c notes before
+  kept_here notes all = subst (AreKept c notes) (sym is) (All-get_or (AreKept c notes) rings p before within all)
 
   pub part_here : (r : Ring) → p ≡ place c r → part_in c (parts_of rings) r ≡ part_of before
   part_here r at = ap (λ k. get_or (map part_of rings) k no_part) (sym at) ∙ get_or-map part_of rings p before no_part within ∙ sym (ap part_of is)
@@ -130,8 +131,8 @@ part_has store items peeked reserved entries h =
     ∙ ap (λ n. record { out = map stored_item_of items; held = n; room = store.room }) held
     ∙ ap (λ n. record { out = map stored_item_of items; held = peeked; room = n }) room
 
-pub kept_same : (c : Config) (bytes : List ℕ) (before after : RingStore) → after.out.items ≡ before.out.items → AreKept c bytes before → AreKept c bytes after
-kept_same c bytes before after same kept = All-same (IsKept c bytes) after.out.items before.out.items same kept
+pub kept_same : (c : Config) (notes : Notes) (before after : RingStore) → after.out.items ≡ before.out.items → AreKept c notes before → AreKept c notes after
+kept_same c notes before after same kept = All-same (IsKept c notes) after.out.items before.out.items same kept
 
 pub reserve_yes : {X : Type 0} (n places : ℕ) (x y : X) → n ≤ places → cond (nat_le n places) x y ≡ x
 reserve_yes n places x y h = grind (arith, nat_tests)

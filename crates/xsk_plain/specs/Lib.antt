@@ -6,6 +6,7 @@ pub mod Laws
 pub mod Left
 pub mod Line
 pub mod Log
+pub mod Notes
 pub mod Object
 pub mod Pieces
 pub mod Repeats

@@ -17,6 +17,8 @@ use Rattle.xsk_plain.specs.declared.log.Span.{Span}
 use Rattle.xsk_plain.specs.declared.log.Event.{Event}
 use Rattle.xsk_plain.specs.declared.log.Event.TheVariants.{Granted as WasGranted, Full as WasFull, Submitted as WasSubmitted, Items as HadItems, Empty as WasEmpty, Released as WasReleased, Swapped, Looked}
 use Rattle.xsk_plain.specs.Spans.{at_span, IsWithin, Grows}
+use Rattle.xsk_plain.specs.Repeats.{KeepsValues}
+use Rattle.xsk_plain.specs.Notes.{Notes}
 
 -- the frame of a piece, with the payload in place of its bytes
 abbrev pub frame_at : List ℕ → Span → ℕ → Frame
@@ -65,6 +67,10 @@ calls_of log = length log.rows.items
 abbrev pub noted_in : Log → List Item
 noted_in log = map (item_of log.bytes.items) (drop log.begun log.pieces.items)
 
+-- what the items of rings rest on
+abbrev pub notes_of : Log → Notes
+notes_of log = record { bytes = log.bytes.items; values = log.pieces.values }
+
 -- the entries and the noted items stay, and so do the bytes, behind which others may come; the payload stands among them
 pub record KeepsPayload (old new : Log) (payload : List ℕ) (place : Span) : Type 0 where
   pub entries : entries_of new ≡ entries_of old
@@ -72,6 +78,7 @@ pub record KeepsPayload (old new : Log) (payload : List ℕ) (place : Span) : Ty
   pub len : length new.rows.items ≡ length old.rows.items
   pub pieces_len : length new.pieces.items ≡ length old.pieces.items
   pub bytes : Grows old.bytes.items new.bytes.items
+  pub values : new.pieces.values ≡ old.pieces.values
   pub within : IsWithin new.bytes.items place
   pub shows : at_span new.bytes.items place ≡ payload
   pub begun : new.begun ≡ old.begun
@@ -85,6 +92,7 @@ pub record NotesPiece (old new : Log) (piece : Piece) : Type 0 where
   pub len : length new.rows.items ≡ length old.rows.items
   pub pieces_len : length new.pieces.items ≡ length old.pieces.items + 1
   pub bytes : new.bytes.items ≡ old.bytes.items
+  pub values : KeepsValues old.pieces.values new.pieces.values
   pub begun : new.begun ≡ old.begun
   pub spare_entries : new.spare_entries ≡ old.spare_entries
   pub spare_bytes : new.spare_bytes ≡ old.spare_bytes
@@ -93,7 +101,7 @@ pub record NotesPiece (old new : Log) (piece : Piece) : Type 0 where
 pub record EndsEntry (old new : Log) (who : ℕ) (event : Event) : Type 0 where
   pub entries : entries_of new ≡ entries_of old ++ entry_with who event (noted_in old) ∷ []
   pub len : length new.rows.items ≡ length old.rows.items + 1
-  pub bytes : new.bytes.items ≡ old.bytes.items
+  pub notes : notes_of new ≡ notes_of old
   pub begun : new.begun ≡ length new.pieces.items
   pub spare_entries : new.spare_entries + 1 ≡ old.spare_entries
   pub spare_bytes : new.spare_bytes ≡ old.spare_bytes

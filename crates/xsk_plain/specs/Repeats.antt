@@ -1,8 +1,9 @@
--- A list in which equal values are kept once, and the further values for which room is reserved.
+-- A list in which equal values are kept once, the values that are kept, and the further ones for which room is reserved.
 use Rattle.std.specs.Prelude.{◌≡◌, ℕ, ◌<◌, Option, Some, None, List, [], ◌∷◌, ◌++◌, All, slice_get}
 use Rattle.std.specs.List.{flat_map}
 
 pub record Repeats (T : Type 0) : Type 0 where
+  pub values : List T
   pub items : List T
   pub spare : ℕ
 

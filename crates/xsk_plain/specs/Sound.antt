@@ -2,7 +2,7 @@
 use Rattle.std.specs.Prelude.{◌≡◌, ◌≤◌, [], length}
 use Rattle.xsk_plain.specs.Engine.{Engine}
 use Rattle.xsk_plain.specs.Kept.{AllKept}
-use Rattle.xsk_plain.specs.Log.{entries_of, calls_of}
+use Rattle.xsk_plain.specs.Log.{entries_of, calls_of, notes_of}
 use Rattle.xsk_plain.specs.Stores.{parts_of}
 use Rattle.xsk_plain.specs.declared.plain.Plain.TheInside.{Inside}
 
@@ -21,6 +21,6 @@ engine_of p = record {
 -- stands empty, with room for all of them
 pub record IsSound (p : Inside) : Type 0 where
   pub noted : length p.log.pieces.items ≡ p.log.begun
-  pub kept : AllKept p.object.config p.log.bytes.items p.object.rings.items
+  pub kept : AllKept p.object.config (notes_of p.log) p.object.rings.items
   pub home : p.home.items ≡ []
   pub limit : p.object.config.geometry.frames ≤ p.home.limit

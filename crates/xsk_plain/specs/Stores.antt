@@ -1,5 +1,5 @@
 -- What a ring's store shows, and what its steps change.
-use Rattle.std.specs.Prelude.{◌≡◌, ℕ, List, [], map}
+use Rattle.std.specs.Prelude.{◌≡◌, ℕ, None, List, [], map}
 use Rattle.xsk_umem.specs.declared.batch.Item.{Item}
 use Rattle.std.specs.Option.{option_map}
 use Rattle.xsk_umem.specs.Frame.{Frame}
@@ -31,7 +31,7 @@ piece_of stored = record { frame = option_map (λ (f : Frame). f.number) stored.
 
 -- the item of a frame at the opening
 abbrev pub home_stored : Geometry → Frame → Stored
-home_stored g frame = record { item = home_item g frame; payload = record { start = 0; len = 0 } }
+home_stored g frame = record { item = home_item g frame; payload = record { start = 0; len = 0 }; place = None }
 
 -- a store with nothing in it
 pub record IsBlank (store : RingStore) : Type 0 where

@@ -1,7 +1,8 @@
 //! The log of all calls and replies, with payloads in place of frames.
-ghost use Rattle.std.specs.Prelude.{◌≡◌, ◌+◌, ◌*◌, ◌<◌, ◌≤◌, ◌^◌, ◌↔◌, [], length, sum_by, vec_len, vec_capacity, All, IsTrue, OnOk};
+ghost use Rattle.std.specs.Prelude.{◌≡◌, Some, slice_get, ◌+◌, ◌*◌, ◌<◌, ◌≤◌, ◌^◌, ◌↔◌, [], length, sum_by, vec_len, vec_capacity, All, IsTrue, OnOk};
 ghost use Rattle.xsk_umem.specs.Limits.{most_items};
 ghost use Rattle.xsk_plain.specs.Pieces.{IsPieceIn, IsShort, count_of};
+ghost use Rattle.xsk_plain.specs.declared.log.Piece.{Piece as APiece};
 ghost use Rattle.xsk_plain.specs.Spans.{at_span, IsWithin};
 
 use crate::repeats::{Repeated, Repeats};
@@ -72,8 +73,7 @@ impl Repeated for Row {
 
     #[inline(always)]
     fn key(&self) -> u64 {
-        let items = u64::from(self.items) * 64 + u64::from(self.who) * 509;
-        self.event.key().wrapping_add(items)
+        self.event.key().wrapping_add(u64::from(self.items) * 64)
     }
 }
 
@@ -275,12 +275,29 @@ impl Log {
         ensures bytes { OnOk result (bytes ≤ self.new.spare_bytes) }
         ensures kept { (self.old.spare_entries ≤ self.new.spare_entries) × (self.old.spare_bytes ≤ self.new.spare_bytes) }
         ensures begun { self.new.begun ≡ self.old.begun }
+        ensures values { self.new.pieces.values ≡ self.old.pieces.values }
         ensures pieces { length self.new.pieces.items ≡ length self.old.pieces.items }
     {
         let bytes = u64::from(bytes);
         if entries <= self.spare_entries && bytes <= self.spare_bytes {
             return Ok(());
         }
+        self.reserve_more(entries, bytes)
+    }
+
+    /// Makes room for at least so many further entries and bytes of payloads, and for many at once.
+    #[inline(never)]
+    fn reserve_more(&mut self, entries: u32, bytes: u64) -> Result<(), OutOfMemory>
+        ensures log { entries_of self.new ≡ entries_of self.old }
+        ensures calls { calls_of self.new ≡ calls_of self.old }
+        ensures payloads { self.new.bytes.items ≡ self.old.bytes.items }
+        ensures entries { OnOk result (entries ≤ self.new.spare_entries) }
+        ensures bytes { OnOk result (bytes ≤ self.new.spare_bytes) }
+        ensures kept { (self.old.spare_entries ≤ self.new.spare_entries) × (self.old.spare_bytes ≤ self.new.spare_bytes) }
+        ensures begun { self.new.begun ≡ self.old.begun }
+        ensures values { self.new.pieces.values ≡ self.old.pieces.values }
+        ensures pieces { length self.new.pieces.items ≡ length self.old.pieces.items }
+    {
         let (most_entries, most_bytes) = if self.rows.len() == 0 {
             (FIRST_ENTRIES, FIRST_BYTES)
         } else {
@@ -302,6 +319,7 @@ impl Log {
         ensures bytes { OnOk result (self.new.spare_bytes ≡ bytes) }
         ensures kept { (self.old.spare_entries ≤ self.new.spare_entries) × (self.old.spare_bytes ≤ self.new.spare_bytes) }
         ensures begun { self.new.begun ≡ self.old.begun }
+        ensures values { self.new.pieces.values ≡ self.old.pieces.values }
         ensures pieces { length self.new.pieces.items ≡ length self.old.pieces.items }
     {
         self.rows.reserve(u64::from(entries))?;
@@ -337,26 +355,39 @@ impl Log {
         span
     }
 
-    /// Adds an item to the entry that is being made.
-    pub(crate) fn note(&mut self, piece: Piece)
+    /// Adds an item to the entry that is being made, and tells the place of its piece.
+    #[inline(always)]
+    pub(crate) fn note(&mut self, piece: Piece) -> u32
         requires spare { 1 ≤ self.old.spare_entries }
         requires few { length self.old.pieces.items < self.old.begun + most_items }
         requires payload { IsPieceIn self.old.bytes.items piece }
-        ensures { NotesPiece self.old self.new piece }
+        ensures notes { NotesPiece self.old self.new piece }
+        ensures place { slice_get self.new.pieces.values result ≡ Some piece }
     {
-        self.pieces.push_reserved(&piece);
+        self.pieces.push_reserved(&piece)
     }
 
-    /// Ends the entry that is being made, with the items that were noted for it.
+    /// Adds an item whose piece was noted before, at this place.
     #[inline(always)]
-    pub(crate) fn enter(&mut self, who: u32, event: Event)
+    pub(crate) fn note_again(&mut self, place: u32)
         requires spare { 1 ≤ self.old.spare_entries }
-        requires few { length self.old.pieces.items ≤ self.old.begun + most_items }
+        requires few { length self.old.pieces.items < self.old.begun + most_items }
+        requires noted { (piece : APiece) × (slice_get self.old.pieces.values place ≡ Some piece) × IsPieceIn self.old.bytes.items piece }
+        ensures { (piece : APiece) → slice_get self.old.pieces.values place ≡ Some piece → NotesPiece self.old self.new piece }
+    {
+        self.pieces.push_place(place);
+    }
+
+    /// Ends the entry that is being made, with the items that were noted for it, so many.
+    #[inline(always)]
+    pub(crate) fn enter(&mut self, who: u32, event: Event, items: u32)
+        requires spare { 1 ≤ self.old.spare_entries }
+        requires few { items ≤ most_items }
+        requires items { length self.old.pieces.items ≡ self.old.begun + items }
         ensures { EndsEntry self.old self.new who event }
     {
+        let _place = self.rows.push_reserved(&Row { who, event, items });
         let end = self.pieces.len();
-        let items = end - self.begun;
-        self.rows.push_reserved(&Row { who, event, items });
         self.begun = end;
         self.spare_entries -= 1;
     }

@@ -1,14 +1,14 @@
 //! Items moved into rings, out of rings, and given back.
-ghost use Rattle.std.specs.Prelude.{◌≡◌, ◌+◌, ◌-◌, ◌≤◌, [], ◌++◌, length, take, drop, map, vec_len};
+ghost use Rattle.std.specs.Prelude.{◌≡◌, ◌+◌, ◌-◌, ◌<◌, ◌≤◌, [], ◌++◌, length, take, drop, map, vec_len};
 ghost use Rattle.xsk_umem.specs.Limits.{most_items};
 ghost use Rattle.xsk_model.specs.Config.{Config as Parts};
 ghost use Rattle.xsk_model.specs.Stored.{stored_item};
 ghost use Rattle.xsk_plain.specs.Engine.{frames_in, frames_of};
-ghost use Rattle.xsk_plain.specs.Kept.{AreKept, AreWithin};
-ghost use Rattle.xsk_plain.specs.Log.{NotesItems, noted_in};
+ghost use Rattle.xsk_plain.specs.Kept.{AreKept, IsHeld, AreHeld};
+ghost use Rattle.xsk_plain.specs.Log.{NotesItems, NotesPiece, noted_in, notes_of};
+ghost use Rattle.xsk_plain.specs.Notes.{NotesGrow};
 ghost use Rattle.xsk_plain.specs.Rooms.{items_bytes};
-ghost use Rattle.xsk_plain.specs.Spans.{Grows};
-ghost use Rattle.xsk_plain.specs.Stores.{part_of, stored_item_of};
+ghost use Rattle.xsk_plain.specs.Stores.{part_of, stored_item_of, piece_of};
 
 use crate::log::Log;
 use crate::ring_store::{RingStore, Stored};
@@ -24,11 +24,11 @@ pub(crate) fn put_items(store: &mut RingStore, log: &mut Log, config: &Config, i
     requires room { length items.old ≤ store.old.room }
     ensures log { NotesItems log.old log.new (items_bytes config.now items.old) }
     ensures noted { noted_in log.new ≡ map (stored_item config.now.geometry config.now.sg) items.old }
-    ensures bytes { Grows log.old.bytes.items log.new.bytes.items }
+    ensures notes { NotesGrow (notes_of log.old) (notes_of log.new) }
     ensures ring { part_of store.new ≡ record { out = map stored_item_of store.old.out.items ++ items.old; held = store.old.held; room = store.old.room - length items.old } }
     ensures left { items.new ≡ [] }
     ensures size { store.new.size ≡ store.old.size }
-    ensures kept { AreKept config.now log.old.bytes.items store.old → AreKept config.now log.new.bytes.items store.new }
+    ensures kept { AreKept config.now (notes_of log.old) store.old → AreKept config.now (notes_of log.new) store.new }
 {
     for _ in 0..items.len() {
         let item = items.pop_front().unwrap();
@@ -36,8 +36,13 @@ pub(crate) fn put_items(store: &mut RingStore, log: &mut Log, config: &Config, i
             number_of(&item),
             payload_of(&item, config.geometry(), config.sg()),
         );
-        let stored = Stored { item, payload };
-        log.note(stored.piece());
+        let mut stored = Stored {
+            item,
+            payload,
+            place: None,
+        };
+        let place = log.note(stored.piece());
+        stored.place = Some(place);
         store.put(stored);
     }
 }
@@ -56,19 +61,35 @@ pub(crate) fn take_items(store: &mut RingStore, log: &mut Log, count: u32, items
     requires spare { 1 ≤ log.old.spare_entries }
     requires start { length log.old.pieces.items ≡ log.old.begun }
     requires few { count ≤ most_items }
-    requires within { AreWithin log.old.bytes.items store.old }
+    requires held { AreHeld (notes_of log.old) store.old }
     ensures log { NotesItems log.old log.new 0 }
-    ensures noted { (config : Parts) → AreKept config log.old.bytes.items store.old → noted_in log.new ≡ map (stored_item config.geometry config.sg) items.new }
-    ensures bytes { log.new.bytes.items ≡ log.old.bytes.items }
+    ensures noted { (config : Parts) → AreKept config (notes_of log.old) store.old → noted_in log.new ≡ map (stored_item config.geometry config.sg) items.new }
+    ensures notes { NotesGrow (notes_of log.old) (notes_of log.new) }
     ensures items { items.new ≡ take count (map stored_item_of store.old.out.items) }
     ensures ring { part_of store.new ≡ record { out = drop count (map stored_item_of store.old.out.items); held = store.old.held + length items.new; room = store.old.room } }
     ensures size { store.new.size ≡ store.old.size }
-    ensures kept { (config : Parts) → AreKept config log.old.bytes.items store.old → AreKept config log.new.bytes.items store.new }
+    ensures kept { (config : Parts) → AreKept config (notes_of log.old) store.old → AreKept config (notes_of log.new) store.new }
 {
     for _ in 0..count.min(store.len()) {
         let stored = store.take().unwrap();
-        log.note(stored.piece());
+        note_stored(log, &stored);
         items.push(stored.item);
+    }
+}
+
+/// Notes an item that is taken: its piece stands at its place, unless it was there at the opening.
+#[inline(always)]
+fn note_stored(log: &mut Log, stored: &Stored)
+    requires spare { 1 ≤ log.old.spare_entries }
+    requires few { length log.old.pieces.items < log.old.begun + most_items }
+    requires held { IsHeld (notes_of log.old) stored.now }
+    ensures { NotesPiece log.old log.new (piece_of stored.now) }
+{
+    match stored.place {
+        Some(place) => log.note_again(place),
+        None => {
+            let _place = log.note(stored.piece());
+        }
     }
 }
 

@@ -36,7 +36,8 @@ impl Object {
     ghost use Rattle.xsk_model.specs.declared.call.Call.TheVariants.{Reserve, Submit, Peek, Release, Swap};
     ghost use Rattle.xsk_plain.specs.Engine.{seen, part_in, CanPerform, frames_out};
     ghost use Rattle.xsk_plain.specs.Kept.{AllKept};
-    ghost use Rattle.xsk_plain.specs.Log.{NotesItems, noted_in};
+    ghost use Rattle.xsk_plain.specs.Log.{NotesItems, noted_in, notes_of};
+    ghost use Rattle.xsk_plain.specs.Notes.{Notes};
     ghost use Rattle.xsk_plain.specs.Object.{ChangesRing, KeepsRings};
     ghost use Rattle.xsk_plain.specs.Rooms.{items_bytes};
     ghost use Rattle.xsk_plain.specs.Steps.{free_in};
@@ -70,7 +71,7 @@ impl Object {
         ensures marks { self.new.marks.items ≡ self.old.marks.items }
         ensures rings { parts_of self.new.rings.items ≡ map seen (opening self.old.config home.old.items).rings }
         ensures home { home.new ≡ record home.old { items = [] } }
-        ensures kept { (bytes : List ℕ) → AllKept self.old.config bytes self.new.rings.items }
+        ensures kept { (notes : Notes) → AllKept self.old.config notes self.new.rings.items }
     {
         fill_pools(&self.config, home, self.rings.as_mut_slice());
     }
@@ -79,7 +80,7 @@ impl Object {
     pub(crate) fn reserve(&mut self, ring: Ring, count: u32) -> Result<(), u32>
         requires can { CanPerform self.old.config (parts_of self.old.rings.items) (Reserve ring count) }
         ensures changes { ChangesRing self.old self.new ring (Reserve ring count) }
-        ensures kept { (bytes : List ℕ) → AllKept self.old.config bytes self.old.rings.items → AllKept self.old.config bytes self.new.rings.items }
+        ensures kept { (notes : Notes) → AllKept self.old.config notes self.old.rings.items → AllKept self.old.config notes self.new.rings.items }
         ensures granted { IsOk result ↔ (count ≤ free_in (size_of self.old.config ring) (part_in self.old.config (parts_of self.old.rings.items) ring)) }
         ensures full { IfErr result (λ free. free ≡ free_in (size_of self.old.config ring) (part_in self.old.config (parts_of self.old.rings.items) ring)) }
     {
@@ -93,9 +94,9 @@ impl Object {
         requires spare { 1 ≤ log.old.spare_entries }
         requires start { length log.old.pieces.items ≡ log.old.begun }
         requires bytes { items_bytes self.old.config items.old ≤ log.old.spare_bytes }
-        requires kept { AllKept self.old.config log.old.bytes.items self.old.rings.items }
+        requires kept { AllKept self.old.config (notes_of log.old) self.old.rings.items }
         ensures changes { ChangesRing self.old self.new ring (Submit ring items.old) }
-        ensures kept { AllKept self.old.config log.new.bytes.items self.new.rings.items }
+        ensures kept { AllKept self.old.config (notes_of log.new) self.new.rings.items }
         ensures log { NotesItems log.old log.new (items_bytes self.old.config items.old) }
         ensures noted { noted_in log.new ≡ map (stored_item self.old.config.geometry self.old.config.sg) items.old }
         ensures left { items.new ≡ [] }
@@ -110,9 +111,9 @@ impl Object {
         requires can { CanPerform self.old.config (parts_of self.old.rings.items) (Peek ring count) }
         requires spare { 1 ≤ log.old.spare_entries }
         requires start { length log.old.pieces.items ≡ log.old.begun }
-        requires kept { AllKept self.old.config log.old.bytes.items self.old.rings.items }
+        requires kept { AllKept self.old.config (notes_of log.old) self.old.rings.items }
         ensures changes { ChangesRing self.old self.new ring (Peek ring count) }
-        ensures kept { AllKept self.old.config log.new.bytes.items self.new.rings.items }
+        ensures kept { AllKept self.old.config (notes_of log.new) self.new.rings.items }
         ensures log { NotesItems log.old log.new 0 }
         ensures noted { noted_in log.new ≡ map (stored_item self.old.config.geometry self.old.config.sg) items.new }
         ensures items { items.new ≡ take count (part_in self.old.config (parts_of self.old.rings.items) ring).out }
@@ -125,7 +126,7 @@ impl Object {
     pub(crate) fn release(&mut self, ring: Ring, count: u32)
         requires can { CanPerform self.old.config (parts_of self.old.rings.items) (Release ring count) }
         ensures changes { ChangesRing self.old self.new ring (Release ring count) }
-        ensures kept { (bytes : List ℕ) → AllKept self.old.config bytes self.old.rings.items → AllKept self.old.config bytes self.new.rings.items }
+        ensures kept { (notes : Notes) → AllKept self.old.config notes self.old.rings.items → AllKept self.old.config notes self.new.rings.items }
     {
         let place = ring_place(&self.config, ring);
         self.rings[place].release(count);

@@ -6,6 +6,7 @@ ghost use Rattle.xsk_model.specs.Marks.{mark_places_of};
 ghost use Rattle.xsk_model.specs.Opening.{AreFrames, opening, opening_cells};
 ghost use Rattle.xsk_plain.specs.Engine.{seen};
 ghost use Rattle.xsk_plain.specs.Kept.{AllKept};
+ghost use Rattle.xsk_plain.specs.Notes.{Notes};
 ghost use Rattle.xsk_model.specs.Sizes.{sizes_of};
 ghost use Rattle.xsk_plain.specs.Stores.{IsBlank, Has, home_stored, parts_of, sizes_in};
 
@@ -82,7 +83,7 @@ pub(crate) fn fill_pools(config: &Config, home: &mut Frames, rings: &mut [RingSt
     ensures sizes { sizes_in rings.new ≡ sizes_in rings.old }
     ensures parts { parts_of rings.new ≡ map seen (opening config.now home.old.items).rings }
     ensures home { home.new ≡ record home.old { items = [] } }
-    ensures kept { (bytes : List ℕ) → AllKept config.now bytes rings.new }
+    ensures kept { (notes : Notes) → AllKept config.now notes rings.new }
 {
     let pool = config.pool();
     for pair in 0..config.pairs().len() {

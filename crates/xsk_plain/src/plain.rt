@@ -80,6 +80,7 @@ impl Plain {
     }
 
     /// Makes room in the log for at least so many further entries and payload bytes. The state and the log stay.
+    #[inline(always)]
     pub fn reserve_log(&mut self, entries: u32, bytes: u32) -> Result<(), OutOfMemory>
         ensures entries { OnOk result (entries ≤ self.new.spare_entries) }
         ensures bytes { OnOk result (bytes ≤ self.new.spare_bytes) }
@@ -181,6 +182,7 @@ impl Plain {
         home
     }
 
+    #[inline(always)]
     fn reserve(&mut self, who: u32, ring: Ring, count: u32) -> Answer
         requires can { CanPerform self.old.config self.old.rings (Call.Reserve ring count) }
         requires entries { 1 ≤ self.old.spare_entries }
@@ -191,11 +193,11 @@ impl Plain {
     {
         match self.object.reserve(ring, count) {
             Ok(()) => {
-                self.log.enter(who, Event::Granted(ring, count));
+                self.log.enter(who, Event::Granted(ring, count), 0);
                 Answer::Granted
             }
             Err(free) => {
-                self.log.enter(who, Event::Full(ring, count, free));
+                self.log.enter(who, Event::Full(ring, count, free), 0);
                 Answer::Full(free)
             }
         }
@@ -210,8 +212,9 @@ impl Plain {
         ensures enters { Enters self.old self.new who (Call.Submit ring items.old) (joined_reply result items.new) (items_bytes self.old.config items.old) }
         ensures follows { FollowsObject self.old self.new who (Call.Submit ring items.old) (joined_reply result items.new) }
     {
+        let count = items.len();
         self.object.submit(ring, items, &mut self.log);
-        self.log.enter(who, Event::Submitted(ring));
+        self.log.enter(who, Event::Submitted(ring), count);
         Answer::Submitted
     }
 
@@ -226,14 +229,15 @@ impl Plain {
     {
         self.object.peek(ring, count, &mut self.log, items);
         if items.is_empty() {
-            self.log.enter(who, Event::Empty(ring, count));
+            self.log.enter(who, Event::Empty(ring, count), 0);
             Answer::Empty
         } else {
-            self.log.enter(who, Event::Items(ring, count));
+            self.log.enter(who, Event::Items(ring, count), items.len());
             Answer::Items
         }
     }
 
+    #[inline(always)]
     fn release(&mut self, who: u32, ring: Ring, count: u32) -> Answer
         requires can { CanPerform self.old.config self.old.rings (Call.Release ring count) }
         requires entries { 1 ≤ self.old.spare_entries }
@@ -243,7 +247,7 @@ impl Plain {
         ensures follows { FollowsObject self.old self.new who (Call.Release ring count) (joined_reply result []) }
     {
         self.object.release(ring, count);
-        self.log.enter(who, Event::Released(ring, count));
+        self.log.enter(who, Event::Released(ring, count), 0);
         Answer::Released
     }
 
@@ -256,10 +260,11 @@ impl Plain {
         ensures follows { FollowsObject self.old self.new who (Call.Swap mark value) (joined_reply result []) }
     {
         let old = self.object.swap(mark, value);
-        self.log.enter(who, Event::Swapped(mark, value, old));
+        self.log.enter(who, Event::Swapped(mark, value, old), 0);
         Answer::Old(old)
     }
 
+    #[inline(always)]
     fn look(&mut self, who: u32, mark: Mark) -> Answer
         requires can { CanPerform self.old.config self.old.rings (Call.Look mark) }
         requires entries { 1 ≤ self.old.spare_entries }
@@ -269,7 +274,7 @@ impl Plain {
         ensures follows { FollowsObject self.old self.new who (Call.Look mark) (joined_reply result []) }
     {
         let old = self.object.look(mark);
-        self.log.enter(who, Event::Looked(mark, old));
+        self.log.enter(who, Event::Looked(mark, old), 0);
         Answer::Old(old)
     }
 }

@@ -1,6 +1,6 @@
 //! Lists in which many values are equal, so that each value is kept once and the list has its place.
 ghost use Rattle.std.specs.Prelude.{◌≡◌, ◌+◌, ◌≤◌, ◌↔◌, ◌^◌, ◌<◌, [], ◌∷◌, ◌++◌, Some, length, slice_get, vec_len, vec_capacity, IsTrue, OnOk};
-ghost use Rattle.xsk_plain.specs.Repeats.{KeepsValues};
+ghost use Rattle.xsk_plain.specs.Repeats.{KeepsValues, of_option};
 
 use std::alloc::Global;
 use std::marker::Model;
@@ -36,7 +36,7 @@ impl<T> Model for Repeats<T> {
 
     ghost Value = { List T };
 
-    ghost view = { λ r. record { items = values_at r.values.items r.places.items; spare = r.spare } };
+    ghost view = { λ r. record { values = r.values.items; items = values_at r.values.items r.places.items; spare = r.spare } };
 
     ghost invariant = { λ r. AreBelow (length r.values.items) r.places.items
         × (vec_len r.values ≤ vec_len r.places)
@@ -48,7 +48,7 @@ impl<T> Model for Repeats<T> {
 impl<T: Repeated> Repeats<T> {
     /// An empty list. It takes no memory.
     pub(crate) fn new(alloc: Global) -> Repeats<T>
-        ensures { result ≡ record { items = []; spare = 0 } }
+        ensures { result ≡ record { values = []; items = []; spare = 0 } }
     {
         Repeats {
             values: Vec::new(alloc),
@@ -77,6 +77,7 @@ impl<T: Repeated> Repeats<T> {
 
     /// Makes room for at least so many further values. The room never gets smaller by it.
     pub(crate) fn reserve(&mut self, extra: u64) -> Result<(), OutOfMemory>
+        ensures values { self.new.values ≡ self.old.values }
         ensures items { self.new.items ≡ self.old.items }
         ensures room { OnOk result (extra ≤ self.new.spare) }
         ensures kept { self.old.spare ≤ self.new.spare }
@@ -92,14 +93,30 @@ impl<T: Repeated> Repeats<T> {
         Ok(())
     }
 
-    /// Appends a value in the room that is reserved.
+    /// Appends a value in the room that is reserved, and tells its place among the values that are kept.
     #[inline(always)]
-    pub(crate) fn push_reserved(&mut self, value: &T)
+    pub(crate) fn push_reserved(&mut self, value: &T) -> u32
         requires { 1 ≤ self.old.spare }
         ensures items { self.new.items ≡ self.old.items ++ value.now ∷ [] }
+        ensures place { slice_get self.new.values result ≡ Some value.now }
+        ensures kept { KeepsValues self.old.values self.new.values }
         ensures spare { self.new.spare + 1 ≡ self.old.spare }
     {
         let place = place_of(&mut self.values, &mut self.recent, value);
+        self.places.push_reserved(place);
+        self.spare -= 1;
+        place
+    }
+
+    /// Appends the value that is kept at a place, in the room that is reserved.
+    #[inline(always)]
+    pub(crate) fn push_place(&mut self, place: u32)
+        requires spare { 1 ≤ self.old.spare }
+        requires known { place < length self.old.values }
+        ensures items { self.new.items ≡ self.old.items ++ of_option (slice_get self.old.values place) }
+        ensures values { self.new.values ≡ self.old.values }
+        ensures spare { self.new.spare + 1 ≡ self.old.spare }
+    {
         self.places.push_reserved(place);
         self.spare -= 1;
     }

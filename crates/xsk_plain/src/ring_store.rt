@@ -12,6 +12,8 @@ use xsk_umem::{Item, OutOfMemory};
 pub(crate) struct Stored {
     pub(crate) item: Item,
     pub(crate) payload: Span,
+    /// The place of its piece in the log, where it was noted.
+    pub(crate) place: Option<u32>,
 }
 
 impl Stored {
@@ -43,7 +45,7 @@ pub(crate) struct RingStore {
 }
 
 impl RingStore {
-    ghost use Rattle.std.specs.Prelude.{◌≡◌, ◌+◌, ◌-◌, ◌<◌, ◌≤◌, ◌↔◌, [], ◌∷◌, ◌++◌, length, IsOk, IsNone, OnOk, OnErr, IfOk, IfErr, IfSome, IfNone};
+    ghost use Rattle.std.specs.Prelude.{◌≡◌, None, ◌+◌, ◌-◌, ◌<◌, ◌≤◌, ◌↔◌, [], ◌∷◌, ◌++◌, length, IsOk, IsNone, OnOk, OnErr, IfOk, IfErr, IfSome, IfNone};
     ghost use Rattle.xsk_plain.specs.Steps.{free_in};
     ghost use Rattle.xsk_plain.specs.Stores.{part_of, Has};
 
@@ -100,11 +102,12 @@ impl RingStore {
     /// Puts an item into a free place at the opening. Where none is free the item is dropped.
     pub(crate) fn fill(&mut self, item: Item)
         requires { 0 < free_in self.old.size (part_of self.old) }
-        ensures { Has self.new (self.old.out.items ++ (record { item = item; payload = record { start = 0; len = 0 } }) ∷ []) self.old.held self.old.room self.old.size }
+        ensures { Has self.new (self.old.out.items ++ (record { item = item; payload = record { start = 0; len = 0 }; place = None }) ∷ []) self.old.held self.old.room self.old.size }
     {
         self.out.push_back_reserved(Stored {
             item,
             payload: Span::default(),
+            place: None,
         });
     }
 

@@ -1,9 +1,9 @@
 use Rattle.std.proofs.Common.{◌≡◌, ◌+◌, ◌≤◌, ◌++◌, length, map}
 use Rattle.xsk_model.specs.Stored.{stored_item}
 use Rattle.xsk_plain.specs.Kept.{AreKept}
-use Rattle.xsk_plain.specs.Log.{entries_of, noted_in}
+use Rattle.xsk_plain.specs.Log.{entries_of, noted_in, notes_of}
 use Rattle.xsk_plain.specs.Rooms.{items_bytes}
-use Rattle.xsk_plain.specs.Spans.{Grows}
+use Rattle.xsk_plain.specs.Notes.{NotesGrow}
 use Rattle.xsk_plain.specs.Stores.{stored_item_of}
 use Rattle.xsk_plain.proofs.moving.put_items.Given as goal
 
@@ -17,12 +17,12 @@ invariant-loop l = record {
   pieces : length l.log.pieces.items ≡ l.log.begun + l.counter;
   spare_entries : l.log.spare_entries ≡ l.initial.log.spare_entries;
   spare_bytes : l.log.spare_bytes + items_bytes l.config l.initial.items ≡ l.initial.log.spare_bytes + items_bytes l.config l.items;
-  bytes : Grows l.initial.log.bytes.items l.log.bytes.items;
+  notes : NotesGrow (notes_of l.initial.log) (notes_of l.log);
   rest : length l.items + l.counter ≡ length l.initial.items;
   few : length l.initial.items ≤ 32;
   out : map stored_item_of l.store.out.items ++ l.items ≡ map stored_item_of l.initial.store.out.items ++ l.initial.items;
   room : l.store.room + length l.initial.items ≡ l.initial.store.room + length l.items;
   held : l.store.held ≡ l.initial.store.held;
   size : l.store.size ≡ l.initial.store.size;
-  kept : AreKept l.config l.initial.log.bytes.items l.initial.store → AreKept l.config l.log.bytes.items l.store;
+  kept : AreKept l.config (notes_of l.initial.log) l.initial.store → AreKept l.config (notes_of l.log) l.store;
 }

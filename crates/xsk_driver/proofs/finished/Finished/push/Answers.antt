@@ -23,11 +23,12 @@ push_back_reserved-requires c =
 pub invariant_of-self : goal.invariant_of-self
 invariant_of-self c =
     let lengths : List ℕ = c.self.inside.lengths.items in
-    let count : length c.append.new.queue.items ≡ length c.self.inside.items.items + length c.args.items.now =
-    ap (λ (is : List Item). length is) c.append.ensures.queue ∙ length-append c.self.inside.items.items c.args.items.now in
-    let longer : sum (lengths ++ c.len-length.result ∷ []) ≡ sum lengths + sum (c.len-length.result ∷ []) = sum_by-append (λ x. x) lengths (c.len-length.result ∷ []) in (
-      ap sum c.push_back_reserved.ensures.items ∙ omega (arith, longer, count, c.self.invariant.0, c.len-length.ensures.value),
-      subst (All (λ n. n ≤ 18)) (sym c.push_back_reserved.ensures.items) (All-push (λ n. n ≤ 18) lengths c.len-length.result c.self.invariant.1 (omega (arith, c.requires.few, c.len-length.ensures.value))),
+    let count : length c.append.new.queue.items ≡ length c.self.inside.items.items + length (c.args.items.now ++ c.args.last ∷ []) =
+    ap (λ (is : List Item). length is) c.append.ensures.queue ∙ length-append c.self.inside.items.items (c.args.items.now ++ c.args.last ∷ []) in
+    let one : length (c.args.items.now ++ c.args.last ∷ []) ≡ length c.args.items.now + 1 = length-append c.args.items.now (c.args.last ∷ []) in
+    let longer : sum (lengths ++ (c.len-length.result + 1) ∷ []) ≡ sum lengths + sum ((c.len-length.result + 1) ∷ []) = sum_by-append (λ x. x) lengths ((c.len-length.result + 1) ∷ []) in (
+      ap sum c.push_back_reserved.ensures.items ∙ omega (arith, longer, count, one, c.self.invariant.0, c.len-length.ensures.value),
+      subst (All (λ n. n ≤ 18)) (sym c.push_back_reserved.ensures.items) (All-push (λ n. n ≤ 18) lengths (c.len-length.result + 1) c.self.invariant.1 (omega (arith, c.requires.few, c.len-length.ensures.value))),
       omega (arith, c.append.ensures.capacity, c.self.invariant.2),
       omega (arith, c.push_back_reserved.ensures.capacity, c.self.invariant.3),
     )
@@ -36,7 +37,8 @@ pub returns-clause-packets : goal.returns-clause-packets
 returns-clause-packets c =
     let lengths : List ℕ = c.self.inside.lengths.items in
     let items : List Item = c.self.inside.items.items in
+    let one : length (c.args.items.now ++ c.args.last ∷ []) ≡ length c.args.items.now + 1 = length-append c.args.items.now (c.args.last ∷ []) in
     ap (λ (ns : List ℕ). cut_by ns c.append.new.queue.items) c.push_back_reserved.ensures.items
-    ∙ ap (cut_by (lengths ++ c.len-length.result ∷ [])) c.append.ensures.queue
-    ∙ cut_push lengths items c.args.items.now c.len-length.result c.self.invariant.0 c.len-length.ensures.value
-    ∙ ap (λ (ps : List (List Item)). ps ++ c.args.items.now ∷ []) c.self.view_is
+    ∙ ap (cut_by (lengths ++ (c.len-length.result + 1) ∷ [])) c.append.ensures.queue
+    ∙ cut_push lengths items (c.args.items.now ++ c.args.last ∷ []) (c.len-length.result + 1) c.self.invariant.0 (omega (arith, one, c.len-length.ensures.value))
+    ∙ ap (λ (ps : List (List Item)). ps ++ (c.args.items.now ++ c.args.last ∷ []) ∷ []) c.self.view_is

@@ -1,4 +1,4 @@
-use Rattle.std.proofs.Common.{◌-◌, rules, refl}
+use Rattle.std.proofs.Common.{rules, refl, arith}
 use Rattle.xsk_plain.specs.declared.log.Row.{Row}
 use Rattle.xsk_plain.proofs.Parts.{entries-enter}
 use Rattle.xsk_plain.proofs.Places.{one_more}
@@ -6,13 +6,13 @@ use Rattle.xsk_plain.proofs.log.Log.enter.Goals as goal
 
 pub returns : goal.returns
 returns c =
-    let row : Row = record { who = c.args.who; event = c.args.event; items = c.len-end.result - c.args.self.now.begun } in
+    let row : Row = record { who = c.args.who; event = c.args.event; items = c.args.items } in
     record {
-      entries = entries-enter c.args.self.now.bytes.items c.args.self.now.pieces.items c.args.self.now.rows.items c.push_reserved.new.self.items
+      entries = entries-enter c.args.self.now.bytes.items c.args.self.now.pieces.items c.args.self.now.rows.items c.push_reserved-place.new.self.items
           row c.args.self.now.begun
-          c.push_reserved.ensures.items c.args.self.now.begun_is (search rules);
-      len = one_more c.args.self.now.rows.items c.push_reserved.new.self.items row c.push_reserved.ensures.items;
-      bytes = refl;
+          c.push_reserved-place.ensures.items c.args.self.now.begun_is (omega (arith, c.requires.items));
+      len = one_more c.args.self.now.rows.items c.push_reserved-place.new.self.items row c.push_reserved-place.ensures.items;
+      notes = refl;
       begun = search rules;
       spare_entries = search rules;
       spare_bytes = refl;

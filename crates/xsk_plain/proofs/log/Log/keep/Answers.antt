@@ -14,6 +14,7 @@ returns c =
       noted = noted-bytes c.args.self.now.bytes.items c.extend_from_slice.new.self.items c.args.payload.now c.args.self.now.pieces.items c.args.self.now.begun grown c.args.self.now.pieces_in;
       len = refl;
       pieces_len = refl;
+      values = refl;
       bytes = record { more = c.args.payload.now; is = grown };
       within = search rules;
       shows = ap (λ xs. at_span xs span) grown ∙ at_span-end c.args.self.now.bytes.items c.args.payload.now span start refl;

@@ -1,8 +1,9 @@
 use Rattle.std.proofs.Common.{◌≡◌, ◌+◌, ◌<◌, set, length, take, drop, map, refl, sym, ap, subst, arith, ◌∙◌}
 use Rattle.xsk_model.specs.declared.call.Call.TheVariants.{Peek}
 use Rattle.xsk_plain.specs.Engine.{Part}
-use Rattle.xsk_plain.specs.Kept.{AreKept, AllKept}
 use Rattle.xsk_plain.specs.Stores.{stored_item_of}
+use Rattle.xsk_plain.specs.Log.{notes_of}
+use Rattle.xsk_plain.proofs.Moves.{all_kept_grown}
 use Rattle.xsk_plain.proofs.StoreSteps.{sizes-set, kept-set, parts-set, part_here, length-rings, kept_here}
 use Rattle.xsk_plain.proofs.object.Object.peek.Goals as goal
 
@@ -29,16 +30,16 @@ returns-clause-changes c =
 pub returns-clause-kept : goal.returns-clause-kept
 returns-clause-kept c =
     let within : c.ring_place-place.result < length c.args.self.now.rings.items = omega (arith, c.ring_place-place.ensures.within, length-rings c.args.self.now.config c.args.self.now.rings.items c.args.self.now.sizes) in
-    subst (λ bytes. AllKept c.args.self.now.config bytes (set c.args.self.now.rings.items c.ring_place-place.result c.take_items.new.store)) (sym c.take_items.ensures.bytes)
-    (kept-set c.args.self.now.config c.args.self.now.rings.items c.ring_place-place.result c.index_mut.result.now c.take_items.new.store within c.index_mut.ensures.value
-    c.args.log.now.bytes.items c.requires.kept
-    (λ kept. subst (λ bytes. AreKept c.args.self.now.config bytes c.take_items.new.store) c.take_items.ensures.bytes (c.take_items.ensures.kept c.args.self.now.config kept)))
+    kept-set c.args.self.now.config c.args.self.now.rings.items c.ring_place-place.result c.index_mut.result.now c.take_items.new.store within c.index_mut.ensures.value
+    (notes_of c.take_items.new.log) (all_kept_grown c.args.self.now.config (notes_of c.args.log.now) (notes_of c.take_items.new.log) c.args.self.now.rings.items c.take_items.ensures.notes c.requires.kept)
+    (λ kept. c.take_items.ensures.kept c.args.self.now.config (kept_here c.args.self.now.config c.args.self.now.rings.items c.ring_place-place.result c.index_mut.result.now c.take_items.new.store within c.index_mut.ensures.value
+    (notes_of c.args.log.now) c.requires.kept))
 
 pub returns-clause-noted : goal.returns-clause-noted
 returns-clause-noted c =
     let within : c.ring_place-place.result < length c.args.self.now.rings.items = omega (arith, c.ring_place-place.ensures.within, length-rings c.args.self.now.config c.args.self.now.rings.items c.args.self.now.sizes) in
     c.take_items.ensures.noted c.args.self.now.config (kept_here c.args.self.now.config c.args.self.now.rings.items c.ring_place-place.result c.index_mut.result.now c.take_items.new.store within c.index_mut.ensures.value
-    c.args.log.now.bytes.items c.requires.kept)
+    (notes_of c.args.log.now) c.requires.kept)
 
 pub returns-clause-items : goal.returns-clause-items
 returns-clause-items c =

@@ -22,5 +22,5 @@ returns-clause-changes c =
 pub returns-clause-kept : goal.returns-clause-kept
 returns-clause-kept c =
     let within : c.ring_place-place.result < length c.args.self.now.rings.items = omega (arith, c.ring_place-place.ensures.within, length-rings c.args.self.now.config c.args.self.now.rings.items c.args.self.now.sizes) in
-    λ bytes. λ kept. kept-set c.args.self.now.config c.args.self.now.rings.items c.ring_place-place.result c.index_mut.result.now c.release.new.self within c.index_mut.ensures.value
-    bytes kept (kept_same c.args.self.now.config bytes c.index_mut.result.now c.release.new.self c.release.ensures.out)
+    λ notes. λ kept. kept-set c.args.self.now.config c.args.self.now.rings.items c.ring_place-place.result c.index_mut.result.now c.release.new.self within c.index_mut.ensures.value
+    notes kept (kept_same c.args.self.now.config notes c.index_mut.result.now c.release.new.self c.release.ensures.out)

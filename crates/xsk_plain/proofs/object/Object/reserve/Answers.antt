@@ -24,8 +24,8 @@ returns-clause-changes c =
 pub returns-clause-kept : goal.returns-clause-kept
 returns-clause-kept c =
     let within : c.ring_place-place.result < length c.args.self.now.rings.items = omega (arith, c.ring_place-place.ensures.within, length-rings c.args.self.now.config c.args.self.now.rings.items c.args.self.now.sizes) in
-    λ bytes. λ kept. kept-set c.args.self.now.config c.args.self.now.rings.items c.ring_place-place.result c.index_mut.result.now c.reserve.new.self within c.index_mut.ensures.value
-    bytes kept (kept_same c.args.self.now.config bytes c.index_mut.result.now c.reserve.new.self
+    λ notes. λ kept. kept-set c.args.self.now.config c.args.self.now.rings.items c.ring_place-place.result c.index_mut.result.now c.reserve.new.self within c.index_mut.ensures.value
+    notes kept (kept_same c.args.self.now.config notes c.index_mut.result.now c.reserve.new.self
     (reserved_items c.index_mut.result.now c.reserve.new.self c.args.count c.reserve.result c.reserve.ensures.ok c.reserve.ensures.err).0)
 
 pub returns-clause-granted : goal.returns-clause-granted

@@ -2,6 +2,7 @@ use Rattle.std.proofs.Common.{◌≡◌, ◌≤◌, length, arith, ap, ◌∙◌
 use Rattle.xsk_umem.specs.Frames.{Frames}
 use Rattle.xsk_model.specs.Config.{Config}
 use Rattle.xsk_model.proofs.Opened.{length-frames}
+use Rattle.xsk_plain.specs.Log.{notes_of}
 use Rattle.xsk_plain.proofs.plain.Plain.open.Goals as goal
 
 pub invariant_of-result : goal.invariant_of-result
@@ -13,7 +14,7 @@ invariant_of-result c =
     let count : length c.args.frames.items ≡ c.args.config.geometry.frames = length-frames c.args.config.geometry c.args.frames.items c.requires.frames in
     record {
       noted = c.new-2.ensures.noted;
-      kept = rw c.fill.ensures.config (c.fill.ensures.kept c.new-2.result.bytes.items);
+      kept = rw c.fill.ensures.config (c.fill.ensures.kept (notes_of c.new-2.result));
       home = ap (λ (q : Frames). q.items) c.fill.ensures.home;
       limit = omega arith;
     }
