@@ -33,11 +33,14 @@ fn capture_of(alloc: Global, count: u8) -> Result<Vec<u8>, Fail> {
     Ok(text)
 }
 
-/// A bay with so many packets at each of two ports, of which these calls fail.
-fn bay_with(alloc: Global, first: u8, second: u8, fails: &[FailingCall]) -> Result<MemoryBay, Fail>
+/// A bay with so many packets at each port, of which these calls fail.
+fn bay_with(alloc: Global, packets: &[u8], fails: &[FailingCall]) -> Result<MemoryBay, Fail>
     ensures { IfOk result (λ bay. (stream : AStream) → is_open_of bay.memory stream ≡ false) }
 {
-    let inputs = vec![in alloc; capture_of(alloc, first)?, capture_of(alloc, second)?]?;
+    let mut inputs = Vec::new(alloc);
+    for count in packets {
+        inputs.push(capture_of(alloc, *count)?)?;
+    }
     match MemoryBay::new(alloc, inputs, ROOM, Vec::from_slice(alloc, fails)?) {
         Ok(bay) => Ok(bay),
         Err(_) => Err("out of memory")?,
@@ -76,12 +79,12 @@ pub(crate) fn ended<R: Threads + Wait + Sync, G: Gate + Sync>(
     rt: &R,
     alloc: Global,
     line: &str,
-    packets: (u8, u8),
+    packets: &[u8],
     fails: &[FailingCall],
     gate: &G,
 ) -> Result<(Ended, MemoryBay), Fail> {
     let words = words_of(alloc, line)?;
-    let mut bay = bay_with(alloc, packets.0, packets.1, fails)?;
+    let mut bay = bay_with(alloc, packets, fails)?;
     let ended = run(rt, alloc, words.as_slice(), &mut bay, gate);
     Ok((ended, bay))
 }
@@ -90,16 +93,21 @@ pub(crate) fn ended<R: Threads + Wait + Sync, G: Gate + Sync>(
 pub(crate) fn ended_alone(
     alloc: Global,
     line: &str,
-    packets: (u8, u8),
+    packets: &[u8],
 ) -> Result<(Status, MemoryBay), Fail> {
     let words = words_of(alloc, line)?;
-    let mut bay = bay_with(alloc, packets.0, packets.1, &[])?;
+    let mut bay = bay_with(alloc, packets, &[])?;
     let status = run_alone(alloc, words.as_slice(), &mut bay);
     Ok((status, bay))
 }
 
-/// Whether two bays hold the same in each output.
-pub(crate) fn hold_the_same(one: &MemoryBay, other: &MemoryBay) -> bool {
-    one.output(Stream::Output(0)) == other.output(Stream::Output(0))
-        && one.output(Stream::Output(1)) == other.output(Stream::Output(1))
+/// Whether two bays hold the same in the output of each of so many ports.
+pub(crate) fn hold_the_same(one: &MemoryBay, other: &MemoryBay, ports: u32) -> bool {
+    for port in 0..ports {
+        let stream = Stream::Output(port);
+        if one.output(stream) != other.output(stream) {
+            return false;
+        }
+    }
+    true
 }

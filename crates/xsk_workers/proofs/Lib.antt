@@ -1,4 +1,5 @@
 pub mod Going
+pub mod Sleeping
 pub mod Seats
 pub mod Lists
 pub mod Calls

@@ -2,7 +2,7 @@
 use Rattle.std.proofs.Common.{◌≡◌, List, map, All, sym, ap, subst, ◌∙◌, arith}
 use Rattle.std.proofs.lemmas.List.{get_or-map, length-map}
 use Rattle.std.proofs.lemmas.List.Elements.{All-map, All-weaker}
-use Rattle.xsk_table.specs.Held.{Board, Belongs}
+use Rattle.xsk_table.specs.Held.{Board, Holder, Belongs}
 use Rattle.atomic_table.specs.Seated.{TableId}
 use Rattle.xsk_turns.specs.Workers.{Setting}
 use Rattle.xsk_table.specs.View.{Setup}
@@ -11,6 +11,12 @@ use Rattle.xsk_workers.specs.Shown.{WorkerShown, Seat, seat_of, seat_at}
 -- who has the same seat belongs to the same table
 pub still_belongs : (b : Board) (old new : WorkerShown) → seat_of new ≡ seat_of old → Belongs b old.pass → Belongs b new.pass
 still_belongs b old new same belongs = record { table = ap (λ (s : Seat). s.table) same ∙ belongs.table; setup = ap (λ (s : Seat). s.setup) same ∙ belongs.setup }
+
+-- the seat of a worker of a setting with a pass
+pub seat_with : (w : WorkerShown) (s : Setting) (p : Holder) → w.setting ≡ s → w.pass ≡ p → seat_of w ≡ record { setting = s; table = p.table; setup = p.view.setup; who = p.who }
+seat_with w s p setting pass =
+    ap (λ (x : Setting). record { setting = x; table = w.pass.table; setup = w.pass.view.setup; who = w.pass.who }) setting
+    ∙ ap (λ (x : Holder). record { setting = s; table = x.table; setup = x.view.setup; who = x.who }) pass
 
 -- the seat of a worker of a setting that belongs to a table
 pub seat_is : (b : Board) (s : Setting) (w : WorkerShown) → Belongs b w.pass → w.setting ≡ s → seat_of w ≡ seat_at s b w.pass.who

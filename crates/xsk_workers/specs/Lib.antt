@@ -1,4 +1,5 @@
 pub mod Shown
+pub mod Parking
 pub mod Eithers
 pub mod Forwarded
 pub mod Gathering

@@ -16,10 +16,11 @@ use Rattle.xsk_machine.specs.Acts.{IsActAfter}
 use Rattle.xsk_table.specs.View.{Setup, idle}
 use Rattle.xsk_table.specs.Held.{Board, Holder, Belongs}
 
--- a worker: the setting, and the pass of its caller
+-- a worker: the setting, the pass of its caller, and the call that it makes next, without its items
 pub record WorkerShown : Type 0 where
   pub setting : Setting
   pub pass : Holder
+  pub next : Option Ask
 
 -- what of a worker never changes: its setting, its table and the table's setup, its caller
 pub record Seat : Type 0 where

@@ -5,6 +5,7 @@ mod crew;
 mod either;
 mod kept;
 pub mod laws;
+mod parking;
 mod place;
 mod running;
 mod worker;

@@ -51,6 +51,7 @@ pub(crate) fn run<R: Wait, M: Machine + Drop, P: Place, G: Gate>(
             Pace::Ended => break,
             Pace::Moved => backoff.reset(),
             Pace::Waited => backoff.snooze(),
+            Pace::Parked => worker.rest(rt, &backoff),
         }
     }
     worker

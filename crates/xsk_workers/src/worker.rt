@@ -4,14 +4,22 @@ ghost use Rattle.xsk_model.specs.Entry.{own};
 ghost use Rattle.xsk_model.specs.Expected.{nothing};
 ghost use Rattle.xsk_model.specs.declared.call.Act.TheVariants.{Ended as HasEnded};
 ghost use Rattle.xsk_table.specs.View.{idle};
+ghost use Rattle.std.specs.Prelude.{Some, ◌↔◌, option_map};
+ghost use Rattle.xsk_model.specs.declared.ask.Ask.TheVariants.{Look};
+ghost use Rattle.xsk_model.specs.declared.ask.Answer.TheVariants.{Old};
+ghost use Rattle.xsk_model.specs.declared.call.Mark.TheVariants.{Kick};
 ghost use Rattle.xsk_table.specs.Held.{Board, Belongs};
-ghost use Rattle.xsk_workers.specs.declared.worker.Pace.TheVariants.{Ended};
+ghost use Rattle.xsk_workers.specs.Parking.{token_of, IsParkerOf, IsAsleep, IsLastOf, woken_by};
+ghost use Rattle.xsk_workers.specs.declared.worker.Pace.TheVariants.{Parked, Ended};
 
 use crate::place::Place;
+use crossbeam_utils::Backoff;
+use crossbeam_utils::sync::{Parker, Unparker};
 use std::alloc::Global;
 use std::marker::Model;
+use std::sync::Wait;
 use xsk_machine::Machine;
-use xsk_model::{Answer, Ask};
+use xsk_model::{Answer, Ask, Mark};
 use xsk_rings::RingCalls;
 use xsk_table::{Pass, Shared};
 use xsk_umem::Batch;
@@ -23,6 +31,8 @@ pub enum Pace {
     Moved,
     /// It found a ring full or empty, or looked at a mark.
     Waited,
+    /// Its driver found that it wasn't kicked, and looks again.
+    Parked,
     /// It had ended before.
     Ended,
 }
@@ -37,7 +47,7 @@ impl Pace {
 }
 
 /// A machine that runs over its pass, with what it asks next, as a caller of a setting, and the number of its calls, which
-/// stays at 2^64 - 1. Contracts see setting and pass.
+/// stays at 2^64 - 1. A driver has what it sleeps on, where drivers sleep. Contracts see setting, pass and the next call.
 #[derive(Drop)]
 pub(crate) struct Worker<M: Machine + Drop, P: Place> {
     machine: M,
@@ -45,28 +55,39 @@ pub(crate) struct Worker<M: Machine + Drop, P: Place> {
     items: Batch,
     pass: Pass,
     place: P,
+    parker: Option<Parker>,
     calls: u64,
 }
 
 impl<M: Machine + Drop, P: Place> Model for Worker<M, P> {
     ghost use Rattle.xsk_workers.specs.Shown.{WorkerShown, IsGoing, AreCounted};
+    ghost use Rattle.xsk_workers.specs.Parking.{IsParkerOf};
 
     ghost Value = { WorkerShown };
 
-    ghost view = { λ w. record { setting = P.setting w.place; pass = w.pass } };
+    ghost view = { λ w. record { setting = P.setting w.place; pass = w.pass; next = w.ask } };
 
-    ghost invariant = { λ w. IsGoing M.stands (M.expected w.machine) (P.setting w.place) w.machine w.ask w.items w.pass × AreCounted w.calls w.pass };
+    ghost invariant = { λ w. IsGoing M.stands (M.expected w.machine) (P.setting w.place) w.machine w.ask w.items w.pass × AreCounted w.calls w.pass
+        × IsParkerOf (P.tokens w.place) w.pass.who w.parker };
 }
 
 impl<M: Machine + Drop, P: Place> Worker<M, P> {
     ghost use Rattle.xsk_workers.specs.Shown.{seat_of, HasRun, AreCounted};
 
-    /// A new machine of a caller, with the caller's pass, with which no call was made.
-    pub(crate) fn new(alloc: Global, place: P, machine: M, pass: Pass) -> Worker<M, P>
+    /// A new machine of a caller, with the caller's pass, with which no call was made, and its parker.
+    pub(crate) fn new(
+        alloc: Global,
+        place: P,
+        machine: M,
+        pass: Pass,
+        parker: Option<Parker>,
+    ) -> Worker<M, P>
         requires expected { M.expected machine ≡ nothing }
         requires pass { (pass.view.flight ≡ idle) × (pass.view.seen ≡ []) × (pass.view.setup.config ≡ (P.setting place).config) }
         requires machine { M.is_new (P.setting place) pass.who machine }
-        ensures { result ≡ record { setting = P.setting place; pass = pass } }
+        requires parker { IsParkerOf (P.tokens place) pass.who parker }
+        ensures setting { result.setting ≡ P.setting place }
+        ensures pass { result.pass ≡ pass }
     {
         let mut machine = machine;
         let mut items = Batch::new(alloc);
@@ -77,6 +98,7 @@ impl<M: Machine + Drop, P: Place> Worker<M, P> {
             items,
             pass,
             place,
+            parker,
             calls: 0,
         }
     }
@@ -104,11 +126,12 @@ impl<M: Machine + Drop, P: Place> Worker<M, P> {
         (machine, pass, calls)
     }
 
-    /// Makes the next call, if there is one.
+    /// Makes the next call, if there is one, and wakes the driver that it kicks.
     pub(crate) fn turn(&mut self, shared: &Shared) -> Pace
         requires { Belongs shared.now self.old.pass }
         ensures seat { seat_of self.new ≡ seat_of self.old }
         ensures whole { result ≡ Ended → HasRun self.new }
+        ensures parked { result ≡ Parked ↔ IsAsleep self.new }
     {
         let Some(ask) = self.ask else {
             return Pace::Ended;
@@ -116,14 +139,52 @@ impl<M: Machine + Drop, P: Place> Worker<M, P> {
         let answer = self.pass.serve(shared, ask, &mut self.items);
         self.calls = self.calls.saturating_add(1);
         self.ask = self.machine.step(Some(answer), &mut self.items);
-        pace_of(ask, answer)
+        wake(&self.place, &self.pass, ask);
+        pace_of(self.pass.caller(), ask, answer, self.ask)
+    }
+
+    /// Waits until the driver is kicked, where it is parked: it spins and yields for a few looks, and then sleeps.
+    pub(crate) fn rest<R: Wait>(&self, rt: &R, backoff: &Backoff)
+        requires { IsAsleep self.now }
+    {
+        if let Some(parker) = &self.parker
+            && backoff.is_completed()
+        {
+            parker.park(rt);
+        } else {
+            backoff.snooze();
+        }
     }
 }
 
-/// Whether a call moved something.
-fn pace_of(ask: Ask, answer: Answer) -> Pace
-    ensures { (result ≡ Ended) → ⊥ }
+/// Wakes the driver that a caller's last call has kicked.
+fn wake<P: Place>(place: &P, pass: &Pass, ask: Ask)
+    requires { IsLastOf pass.now ask }
 {
+    if let Some(waker) = waker_for(place, ask) {
+        waker.unpark();
+    }
+}
+
+/// What wakes the driver that a call kicks.
+fn waker_for<P: Place>(place: &P, ask: Ask) -> Option<&Unparker>
+    ensures { option_map (λ waker. token_of waker.now) result ≡ woken_by (P.tokens place.now) ask }
+{
+    match ask {
+        Ask::Swap(Mark::Kick(pair), 1) => place.waker(pair),
+        _ => None,
+    }
+}
+
+/// What came of a caller's call, where this is its next.
+fn pace_of(who: u32, ask: Ask, answer: Answer, next: Option<Ask>) -> Pace
+    ensures goes_on { (result ≡ Ended) → ⊥ }
+    ensures parked { result ≡ Parked ↔ (ask ≡ Look (Kick who)) × (answer ≡ Old 0) × (next ≡ Some (Look (Kick who))) }
+{
+    let look = Ask::Look(Mark::Kick(who));
+    if ask == look && answer == Answer::Old(0) && next == Some(look) {
+        return Pace::Parked;
+    }
     match (ask, answer) {
         (Ask::Look(_), _) | (_, Answer::Full(_) | Answer::Empty) => Pace::Waited,
         _ => Pace::Moved,

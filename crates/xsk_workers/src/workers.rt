@@ -15,6 +15,7 @@ ghost use Rattle.xsk_machine.specs.Acts.{HasShortPackets};
 ghost use Rattle.xsk_table.specs.Held.{Board};
 ghost use Rattle.xsk_table.specs.Opening.{new_passes};
 ghost use Rattle.xsk_workers.specs.Shown.{WorkerShown, seat_of, seat_at, HasRun, AreOf};
+ghost use Rattle.xsk_workers.specs.Parking.{token_of, token_in};
 ghost use Rattle.xsk_workers.specs.Gathering.{HaveRun, AreTaken, AreGiven, AreSent, AreFiguresOf, calls_in};
 ghost use Rattle.xsk_workers.specs.Eithers.{IsNew, awaits};
 ghost use Rattle.xsk_workers.specs.Forwarded.{HasForwarded, packets_in};
@@ -22,8 +23,10 @@ ghost use Rattle.xsk_workers.specs.Forwarded.{HasForwarded, packets_in};
 use crate::crew::{Crew, run_crew};
 use crate::either::Either;
 use crate::kept::Kept;
+use crate::parking::parkers_for;
 use crate::place::Source;
 use crate::worker::Worker;
+use crossbeam_utils::sync::Parker;
 use std::alloc::Global;
 use std::marker::Model;
 use std::sync::Wait;
@@ -112,6 +115,7 @@ pub fn forward<R: Threads + Wait + Sync, F: Fn(&[u8], u32) -> Verdict, G: Gate +
     let inputs = Inputs::split(alloc, &own, packets)?;
     let classes = own.classes();
     let mut kept = Kept::with_room(alloc, own.pairs().len())?;
+    let (parkers, wakers) = parkers_for(alloc, &own)?;
     let Ok((shared, mut passes)) = Shared::open(alloc, config, frames, 0) else {
         return Err(OutOfMemory);
     };
@@ -120,8 +124,17 @@ pub fn forward<R: Threads + Wait + Sync, F: Fn(&[u8], u32) -> Verdict, G: Gate +
         packets,
         rule: program.rule(),
         wire,
+        wakers: wakers.as_slice(),
     };
-    let workers = seat_workers(alloc, &shared, place, &inputs, program, &mut passes)?;
+    let workers = seat_workers(
+        alloc,
+        &shared,
+        place,
+        &inputs,
+        program,
+        parkers,
+        &mut passes,
+    )?;
     let crew = Crew::new(alloc, &shared, place, workers)?;
     let workers = run_crew(rt, &shared, gate, crew);
     give_back(&shared, workers, classes, &mut passes, &mut kept);
@@ -143,13 +156,15 @@ pub fn forward<R: Threads + Wait + Sync, F: Fn(&[u8], u32) -> Verdict, G: Gate +
     })
 }
 
-/// A worker for each caller, with its pass: the drivers of all pairs, and then the applications.
+/// A worker for each caller, with its pass: the drivers of all pairs, each with its parker where they sleep, and then the
+/// applications.
 fn seat_workers<'a, F: Fn(&[u8], u32) -> Verdict>(
     alloc: Global,
     shared: &Shared,
     place: Source<'a>,
     inputs: &'a Inputs,
     program: &XdpProgram<F>,
+    parkers: Vec<Parker>,
     passes: &mut Passes,
 ) -> Result<Vec<Worker<Either<'a>, Source<'a>>>, OutOfMemory>
     requires regular { IsRegular place.config.now }
@@ -159,6 +174,7 @@ fn seat_workers<'a, F: Fn(&[u8], u32) -> Verdict>(
     requires obeys { Obeys F.Fn program.now.rule program.now.decide }
     requires rule { (is_exact program.now.rule ≡ true) × (place.rule ≡ program.now.rule) }
     requires table { shared.now.setup.config ≡ place.config.now }
+    requires parkers { map token_in parkers.items ≡ map token_of place.wakers.now }
     requires passes { passes.old ≡ new_passes shared.now }
     ensures taken { IfOk result (λ workers. AreTaken shared.now (callers_of shared.now.setup.config) passes.new) }
     ensures seats { IfOk result (λ workers. map (λ (w : WorkerShown). seat_of w) workers.items
@@ -166,12 +182,13 @@ fn seat_workers<'a, F: Fn(&[u8], u32) -> Verdict>(
 {
     let callers = place.config.callers();
     let mut workers = Vec::with_capacity(alloc, callers as usize)?;
+    let mut parkers = parkers.into_iter();
     for who in 0..callers {
         let machine = machine_for(alloc, place, inputs, program, who)?;
         let Some(pass) = passes.take(who) else {
             unreachable!()
         };
-        workers.push(Worker::new(alloc, place, machine, pass))?;
+        workers.push(Worker::new(alloc, place, machine, pass, parkers.next()))?;
     }
     Ok(workers)
 }

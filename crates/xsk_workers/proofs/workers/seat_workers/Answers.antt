@@ -9,10 +9,15 @@ use Rattle.xsk_workers.specs.Shown.{WorkerShown, Seat, seat_of, seat_at}
 use Rattle.xsk_workers.specs.Eithers.{IsNew}
 use Rattle.xsk_workers.specs.Gathering.{AreTaken}
 use Rattle.xsk_workers.proofs.Gathering.{taken_none, taken_more, is_new_pass}
+use Rattle.xsk_workers.proofs.Seats.{seat_with}
+use Rattle.xsk_workers.proofs.Sleeping.{AreParkersFrom, all_parkers, first_parker, later_parkers}
+use Rattle.xsk_workers.specs.Parking.{token_of, IsParkerOf}
+use Rattle.std.specs.Vec.Iter.{into_iter_items, into_iter_len, into_iter_steps}
+use Rattle.std.proofs.lemmas.List.{nil_from_length}
 use Rattle.xsk_workers.proofs.workers.seat_workers.Goals as goal
 
 pub loop-who-init : goal.loop-who-init
-loop-who-init g c = (subst (AreTaken c.args.shared.now 0) (sym c.requires.passes) (taken_none c.args.shared.now), search rules)
+loop-who-init g c = (subst (AreTaken c.args.shared.now 0) (sym c.requires.passes) (taken_none c.args.shared.now), search rules, subst (AreParkersFrom (map token_of c.args.place.wakers.now) 0) (sym c.into_iter-parkers.ensures.rest) (all_parkers (map token_of c.args.place.wakers.now) c.args.parkers.items c.requires.parkers))
 
 pub new-requires-clause-pass : goal.new-requires-clause-pass
 new-requires-clause-pass g c =
@@ -37,7 +42,7 @@ loop-who-preserved g c =
     let below : who < callers_of b.setup.config = search rules in
     let is : c.in-Some.pass ≡ new_pass b who = is_new_pass b who c.loop-who.passes c.in-Some.pass below c.loop-who.invariant.0 (search rules) in
     let worker : WorkerShown = c.new.result in
-    let seat : seat_of worker ≡ seat_at s b who = ap (λ (w : WorkerShown). seat_of w) c.new.ensures ∙ ap (λ (p : Holder). seat_of (record { setting = s; pass = p })) is in
+    let seat : seat_of worker ≡ seat_at s b who = seat_with worker s (new_pass b who) c.new.ensures.setting (c.new.ensures.pass ∙ is) in
     let range : range_with_len 0 (who + 1) ≡ range_with_len 0 who ++ who ∷ [] =
     let next : who + 1 ≡ suc who = omega arith in
     let here : 0 + who ≡ who = omega arith in
@@ -49,4 +54,19 @@ loop-who-preserved g c =
           ∙ ap (λ (l : List Seat). l ++ seat_at s b who ∷ []) c.loop-who.invariant.1
           ∙ sym (map-append (seat_at s b) (range_with_len 0 who) (who ∷ []))
           ∙ ap (map (seat_at s b)) (sym range),
+      later_parkers (map token_of c.args.place.wakers.now) who (into_iter_items c.loop-who.parkers) (into_iter_items c.next.new.self) c.next.result c.next.ensures.items
+          (λ none. nil_from_length (into_iter_items c.next.new.self) (let zero : into_iter_len c.next.new.self ≡ 0 = (subst (λ next. into_iter_steps c.loop-who.parkers next c.next.new.self) none c.next.ensures.cases).1 in search (rules, zero)))
+          c.loop-who.invariant.2,
     )
+
+pub new-requires-clause-parker : goal.new-requires-clause-parker
+new-requires-clause-parker g c =
+    let b = c.args.shared.now in
+    let tokens = map token_of c.args.place.wakers.now in
+    let below : c.loop-who.who < callers_of b.setup.config = search rules in
+    let is : c.in-Some.pass ≡ new_pass b c.loop-who.who = is_new_pass b c.loop-who.who c.loop-who.passes c.in-Some.pass below c.loop-who.invariant.0 (search rules) in
+    subst (λ (who : ℕ). IsParkerOf tokens who c.next.result) (sym (ap (λ (p : Holder). p.who) is))
+    (first_parker tokens c.loop-who.who (into_iter_items c.loop-who.parkers) (into_iter_items c.next.new.self) c.next.result c.next.ensures.items
+    (λ none. nil_from_length (into_iter_items c.next.new.self) (let zero : into_iter_len c.next.new.self ≡ 0 = (subst (λ next. into_iter_steps c.loop-who.parkers next c.next.new.self) none c.next.ensures.cases).1 in search (rules, zero)))
+    c.loop-who.invariant.2)
+

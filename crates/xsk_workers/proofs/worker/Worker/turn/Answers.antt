@@ -1,6 +1,12 @@
-use Rattle.std.proofs.Common.{refl}
+use Rattle.std.proofs.Common.{◌≡◌, ◌↔◌, ℕ, Some, refl, sym, subst}
 use Rattle.xsk_model.specs.Asks.{joined_call, joined_reply}
 use Rattle.xsk_model.specs.Entry.{own}
+use Rattle.xsk_model.specs.declared.ask.Ask.TheVariants.{Look}
+use Rattle.xsk_model.specs.declared.ask.Answer.TheVariants.{Old}
+use Rattle.xsk_model.specs.declared.call.Mark.TheVariants.{Kick}
+use Rattle.xsk_workers.specs.Parking.{IsParkerOf}
+use Rattle.xsk_workers.specs.declared.worker.Pace.TheVariants.{Parked}
+use Rattle.xsk_workers.proofs.Sleeping.{sleeps, slept}
 use Rattle.xsk_workers.proofs.Going.{stood, may_come, comes, goes_on, one_more}
 use Rattle.xsk_workers.proofs.worker.Worker.turn.Goals as goal
 
@@ -25,4 +31,23 @@ invariant_of-self g c =
           (stood g.M.Machine.stands (g.M.Machine.expected c.self.inside.machine) s c.self.inside.machine c.self.inside.ask c.self.inside.items p going ask c.in-Some.is) refl
           (may_come g.M.Machine.stands (g.M.Machine.expected c.self.inside.machine) s c.self.inside.machine c.self.inside.ask c.self.inside.items p going ask c.in-Some.is c.serve-answer.new.self reply served)),
       one_more p call reply c.serve-answer.new.self c.self.inside.calls c.saturating_add-self-inside.result c.self.invariant.1 served c.saturating_add-self-inside.ensures,
+      subst (λ (who : ℕ). IsParkerOf (g.P.Place.tokens c.self.inside.place) who c.self.inside.parker) (sym served.who) c.self.invariant.2,
+    )
+
+pub returns-clause-parked : goal.returns-clause-parked
+returns-clause-parked g c =
+    let p = c.self.inside.pass in
+    let q = c.serve-answer.new.self in
+    let ask = c.in-Some.ask in
+    let answer = c.serve-answer.result in
+    let next = c.step-self-inside.result in
+    let served = c.serve-answer.ensures.told.served in
+    let told : (c.pace_of.result ≡ Parked) ↔ ((ask ≡ Look (Kick q.who)) × (answer ≡ Old 0) × (next ≡ Some (Look (Kick q.who)))) =
+    subst (λ (who : ℕ). (c.pace_of.result ≡ Parked) ↔ ((ask ≡ Look (Kick who)) × (answer ≡ Old 0) × (next ≡ Some (Look (Kick who))))) c.caller.ensures c.pace_of.ensures.parked in (
+      λ parked.
+      let is = told.0 parked in
+      record { looked = sleeps p q ask answer c.self.inside.items c.serve-answer.new.items served is.0 is.1; looks = is.2 },
+      λ asleep.
+      let is = slept p q ask answer c.self.inside.items c.serve-answer.new.items served asleep.looked in
+      told.1 (is.0, is.1, asleep.looks),
     )
