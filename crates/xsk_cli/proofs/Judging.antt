@@ -4,6 +4,7 @@ use Rattle.std.specs.Prelude.{sum_by, Result, Err, IfErr}
 use Rattle.std.specs.List.{concat, flat_map}
 use Rattle.std.proofs.lemmas.List.{map-append, length-map, get_or-map}
 use Rattle.std.proofs.lemmas.List.Sums.{sum_by-append}
+use Rattle.std.proofs.Math.Seq.{get_or-append_seam}
 use Rattle.std.proofs.lemmas.Bool.Decides.{nat_tests}
 use Rattle.xsk_umem.specs.PacketList.{PacketList}
 use Rattle.xsk_pcap.specs.Capture.{IsCapture, Record, record_bytes, header_bytes}
@@ -100,6 +101,13 @@ bytes_of_lists (list ∷ lists) =
 
 pub text_at : {X : Type 0} (text : X → List ℕ) (xs : List X) (port : ℕ) (d : X) (bytes : List ℕ) → port < length xs → bytes ≡ text (get_or xs port d) → bytes ≡ bytes_of (map text xs) port
 text_at text xs port d bytes known is = is ∙ sym (get_or-map text xs port d [] known)
+
+-- of a list that is taken element by element, the text at the next place
+pub text_next : {X : Type 0} (text : X → List ℕ) (before : List X) (x : X) (after all : List X) (port : ℕ) → before ++ x ∷ after ≡ all → port ≡ length before → (port < length all) × (text x ≡ bytes_of (map text all) port)
+text_next text before x after all port is at =
+    let known : port < length all = omega (arith, at, ap length is, length-append before (x ∷ after)) in
+    let here : x ≡ get_or all port x = sym (get_or-append_seam before x after x) ∙ ap (λ xs. get_or xs (length before) x) is ∙ ap (λ n. get_or all n x) (sym at) in
+    (known, text_at text all port x (text x) known (ap text here))
 
 pub short_all : {X : Type 0} (text : X → List ℕ) (xs : List X) → AreShort (map text xs) (length xs) → AreShort (map text xs) (length (map text xs))
 short_all text xs short = subst (AreShort (map text xs)) (sym (length-map xs text)) short

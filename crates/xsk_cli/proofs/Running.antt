@@ -14,7 +14,6 @@ use Rattle.xsk_model.specs.Entry.{Entry, own}
 use Rattle.xsk_model.specs.History.{IsHistory}
 use Rattle.xsk_model.specs.Rings.{caller_of}
 use Rattle.xsk_model.specs.Sent.{sent}
-use Rattle.xsk_model.specs.Stored.{stored_entry}
 use Rattle.xsk_model.specs.Steering.{paired_port, driver_on}
 use Rattle.xsk_model.proofs.Seats.{below}
 use Rattle.xsk_turns.specs.declared.wire.Wire.{Wire as OwnWire}
@@ -25,9 +24,6 @@ use Rattle.xsk_prog.specs.declared.rule.Verdict.{Verdict}
 use Rattle.xsk_args.specs.declared.program.Program.{Program}
 use Rattle.xsk_args.specs.declared.wire.Wire.{Wire}
 use Rattle.xsk_args.specs.declared.wire.Wire.TheVariants.{Wait}
-use Rattle.xsk_plain.specs.Log.{calls_of, entries_of, item_of}
-use Rattle.xsk_plain.proofs.Parts.{length-entries}
-use Rattle.xsk_plain.specs.declared.log.Log.{Log}
 use Rattle.xsk_workers.specs.Forwarded.{OutcomeShown, HasForwarded}
 use Rattle.xsk_sim.specs.Runs.{HasEnded, HasStalled}
 use Rattle.xsk_sim.specs.Journal.{journal_of}

@@ -1,5 +1,5 @@
 -- How `forward` ends, and what it answers.
-use Rattle.std.proofs.Common.{◌≡◌, ◌≤◌, ℕ, List, [], length, Option, Some, None, refl, sym, ap, ◌∙◌, subst, arith}
+use Rattle.std.proofs.Common.{◌≡◌, ◌≤◌, ℕ, List, length, Option, Some, None, refl, sym, ap, ◌∙◌, subst, arith}
 use Rattle.std.specs.Prelude.{Result, Err, unwrap_or}
 use Rattle.xsk_io.specs.declared.bay.Kind.TheVariants.{Open, Write}
 use Rattle.xsk_io.specs.declared.bay.Stream.TheVariants.{Input, Output, Report}
@@ -9,10 +9,10 @@ use Rattle.xsk_args.specs.declared.error.ArgsError.TheVariants.{Usage as IsUsage
 use Rattle.xsk_socket.specs.declared.layout.Unlawful.{Unlawful}
 use Rattle.xsk_workers.specs.Forwarded.{OutcomeShown}
 use Rattle.xsk_cli.specs.Cause.{IsCaused}
-use Rattle.xsk_cli.specs.Ends.{Answers, AreTaken, AreTold, ComesOf, Ends, EndsBy, IsComplete, NoneRose}
+use Rattle.xsk_cli.specs.Ends.{Answers, AreTaken, AreTold, Ends, IsComplete, NoneRose}
 use Rattle.std.proofs.lemmas.List.FromFn.{length-map-range_with_len}
 use Rattle.xsk_pcap.specs.Written.{written}
-use Rattle.xsk_cli.specs.Forward.{AreTextsFrom, ComesShown, EndsShown, IsAfterRun, IsRefusedAs, IsRun, IsShown}
+use Rattle.xsk_cli.specs.Forward.{AreTextsFrom, ComesShown, EndsShown, IsAfterRun, IsRefusedAs, IsShown}
 use Rattle.xsk_cli.specs.Judged.{excess_of}
 use Rattle.xsk_cli.specs.Outcome.{IsOutcome, Outcome, Written, sent_from, bad, long, made, passed, stalled}
 use Rattle.xsk_cli.specs.Steps.{Comes, ComesTo, HaveRead, IsBeforeRun, args_status, read_status, run_status, written_by}

@@ -1,5 +1,5 @@
 -- Which words are a command, and what it does. This project's own.
-use Rattle.std.specs.Prelude.{ℕ, codes, Bool, false, List, [], ◌∷◌, length, take, drop, Option, None, is_some, option_and_then, option_map, if◌then◌else◌, unwrap_or, nat_lt}
+use Rattle.std.specs.Prelude.{ℕ, codes, Bool, List, [], ◌∷◌, length, take, drop, Option, None, is_some, option_and_then, option_map, if◌then◌else◌, unwrap_or, nat_lt}
 use Rattle.std.specs.Str.{bytes_eq}
 use Rattle.xsk_args.specs.Words.{Text, is_dashed}
 use Rattle.xsk_args.specs.Number.{number_in}

@@ -21,14 +21,14 @@ const MOST_BYTES: u64 = 33_554_432;
 /// The packets of each port's capture, all together within the limits.
 pub(crate) fn take_captures(
     alloc: Global,
-    inputs: &[Vec<u8>],
+    inputs: Vec<Vec<u8>>,
 ) -> Result<Vec<PacketList>, RunFailure>
-    requires few { length inputs.now ≤ 4 }
-    requires short { AreShort (map (λ bytes. bytes.items) inputs.now) (length inputs.now) }
-    ensures taken { IfOk result (λ lists. AreCaptures (map (λ bytes. bytes.items) inputs.now) (lists_in lists.items)) }
+    requires few { length inputs.items ≤ 4 }
+    requires short { AreShort (map (λ bytes. bytes.items) inputs.items) (length inputs.items) }
+    ensures taken { IfOk result (λ lists. AreCaptures (map (λ bytes. bytes.items) inputs.items) (lists_in lists.items)) }
     ensures within { IfOk result (λ lists. excess_of (lists_in lists.items) ≡ None) }
     ensures listed { IfOk result (λ lists. lists.items ≡ map listed (lists_in lists.items)) }
-    ensures failed { IfErr result (AreUntaken (map (λ bytes. bytes.items) inputs.now)) }
+    ensures failed { IfErr result (AreUntaken (map (λ bytes. bytes.items) inputs.items)) }
 {
     let lists = read_captures(alloc, inputs)?;
     match check_limits(lists.as_slice()) {
@@ -38,26 +38,28 @@ pub(crate) fn take_captures(
 }
 
 /// The packets of each port's capture.
-fn read_captures(alloc: Global, inputs: &[Vec<u8>]) -> Result<Vec<PacketList>, RunFailure>
-    requires few { length inputs.now ≤ 4 }
-    requires short { AreShort (map (λ bytes. bytes.items) inputs.now) (length inputs.now) }
-    ensures read { IfOk result (λ lists. AreCaptures (map (λ bytes. bytes.items) inputs.now) (lists_in lists.items)) }
+fn read_captures(alloc: Global, inputs: Vec<Vec<u8>>) -> Result<Vec<PacketList>, RunFailure>
+    requires few { length inputs.items ≤ 4 }
+    requires short { AreShort (map (λ bytes. bytes.items) inputs.items) (length inputs.items) }
+    ensures read { IfOk result (λ lists. AreCaptures (map (λ bytes. bytes.items) inputs.items) (lists_in lists.items)) }
     ensures listed { IfOk result (λ lists. lists.items ≡ map listed (lists_in lists.items)) }
-    ensures failed { IfErr result (AreUntaken (map (λ bytes. bytes.items) inputs.now)) }
+    ensures failed { IfErr result (AreUntaken (map (λ bytes. bytes.items) inputs.items)) }
 {
     let mut lists = Vec::with_capacity(alloc, inputs.len())?;
-    for port in 0..inputs.len() as u32 {
-        let list = read_capture(alloc, port, inputs[port as usize].as_slice())?;
+    let mut port = 0;
+    for bytes in inputs {
+        let list = read_capture(alloc, port, bytes)?;
         lists.push_reserved(list);
+        port += 1;
     }
     Ok(lists)
 }
 
 /// The packets of a port's capture, with no room for others.
-fn read_capture(alloc: Global, port: u32, bytes: &[u8]) -> Result<PacketList, RunFailure>
-    ensures found { IfOk result (λ list. IsCapture bytes.now list.packets) }
+fn read_capture(alloc: Global, port: u32, bytes: Vec<u8>) -> Result<PacketList, RunFailure>
+    ensures found { IfOk result (λ list. IsCapture bytes.items list.packets) }
     ensures listed { IfOk result (λ list. list ≡ listed list.packets) }
-    ensures failed { IfErr result (IsRefusal port bytes.now) }
+    ensures failed { IfErr result (IsRefusal port bytes.items) }
 {
     match read(alloc, bytes) {
         Ok(list) => Ok(without_room(list)),

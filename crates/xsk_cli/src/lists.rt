@@ -16,16 +16,16 @@ use xsk_umem::PacketList;
 pub(crate) fn take_lists(
     alloc: Global,
     work: &Work,
-    inputs: &[Vec<u8>],
+    inputs: Vec<Vec<u8>>,
 ) -> Result<Vec<PacketList>, RunFailure>
     requires accepted { fault_in work.now ≡ None }
-    requires count { length inputs.now ≡ read_by work.now }
-    requires short { AreShort (map (λ bytes. bytes.items) inputs.now) (length inputs.now) }
-    ensures taken { IfOk result (λ lists. AreListsOf work.now (map (λ bytes. bytes.items) inputs.now) (lists_in lists.items)) }
+    requires count { length inputs.items ≡ read_by work.now }
+    requires short { AreShort (map (λ bytes. bytes.items) inputs.items) (length inputs.items) }
+    ensures taken { IfOk result (λ lists. AreListsOf work.now (map (λ bytes. bytes.items) inputs.items) (lists_in lists.items)) }
     ensures within { IfOk result (λ lists. excess_of (lists_in lists.items) ≡ None) }
     ensures count { IfOk result (λ lists. length lists.items ≡ written_by work.now) }
     ensures listed { IfOk result (λ lists. lists.items ≡ map listed (lists_in lists.items)) }
-    ensures failed { IfErr result (MakesNone work.now (map (λ bytes. bytes.items) inputs.now)) }
+    ensures failed { IfErr result (MakesNone work.now (map (λ bytes. bytes.items) inputs.items)) }
     ensures no_run { IfErr result IsBeforeRun }
 {
     match work {

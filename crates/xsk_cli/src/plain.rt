@@ -150,8 +150,7 @@ fn run_plan<B: Bay>(alloc: Global, plan: &Plan<'_, '_>, bay: &mut B) -> Result<(
     ensures falls { NeverFalls (B.faults bay.old) (B.faults bay.new) }
 {
     let inputs = read_inputs(alloc, bay, plan.inputs)?;
-    let lists = take_lists(alloc, &plan.work, inputs.as_slice())?;
-    drop(inputs);
+    let lists = take_lists(alloc, &plan.work, inputs)?;
     let texts = make_texts(alloc, &plan.work, lists.as_slice())?;
     write_texts(bay, plan.outputs, &texts)?;
     Ok(())

@@ -174,7 +174,8 @@ pub(crate) fn wire_of(wire: Wire) -> xsk_sim::Wire
     }
 }
 
-/// The captures of what the drivers sent, one for each port. Each list is given up once it is written.
+/// The captures of what the drivers sent, one for each port. That of the first queue becomes the text, and each other list is
+/// given up once it is copied.
 #[tactic(auto, using(crate::proofs::Ports::more_ports))]
 fn output_texts(
     alloc: Global,
@@ -183,6 +184,7 @@ fn output_texts(
     sent: Vec<PacketList>,
 ) -> Result<Vec<Vec<u8>>, OutOfMemory>
     requires ports { ports ≤ 4 }
+    requires queues { 1 ≤ queues }
     requires writable { (port count : ℕ) → port < ports → count ≤ queues → IsWritable (take count (drop (port * queues) (lists_in sent.items))) }
     ensures { IfOk result (λ texts. map (λ text. text.items) texts.items ≡ map (λ port. written (take queues (drop (port * queues) (lists_in sent.items)))) (range_with_len 0 ports)) }
 {
@@ -201,15 +203,28 @@ fn port_text(
     queues: u32,
     lists: &mut IntoIter<PacketList>,
 ) -> Result<Vec<u8>, OutOfMemory>
-    requires { (count : ℕ) → count ≤ queues → IsWritable (take count (lists_in (into_iter_items lists.old))) }
+    requires some { 1 ≤ queues }
+    requires writable { (count : ℕ) → count ≤ queues → IsWritable (take count (lists_in (into_iter_items lists.old))) }
     ensures text { IfOk result (λ text. text.items ≡ written (take queues (lists_in (into_iter_items lists.old)))) }
     ensures rest { OnOk result (into_iter_items lists.new ≡ drop queues (into_iter_items lists.old)) }
 {
-    let mut capture = Capture::start(alloc)?;
-    for _queue in 0..queues {
+    let mut capture = first_capture(alloc, lists)?;
+    for _queue in 1..queues {
         add_next(&mut capture, lists)?;
     }
     Ok(capture.into_bytes())
+}
+
+/// The capture that the next list becomes, where there is one.
+fn first_capture(alloc: Global, lists: &mut IntoIter<PacketList>) -> Result<Capture, OutOfMemory>
+    requires { IsWritable (take 1 (lists_in (into_iter_items lists.old))) }
+    ensures made { IfOk result (λ capture. capture ≡ take 1 (lists_in (into_iter_items lists.old))) }
+    ensures rest { OnOk result (into_iter_items lists.new ≡ drop 1 (into_iter_items lists.old)) }
+{
+    match lists.next() {
+        Some(list) => Capture::of(alloc, list),
+        None => Capture::start(alloc),
+    }
 }
 
 /// Adds the next list to a capture, where there is one, and gives it up.

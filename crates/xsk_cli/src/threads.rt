@@ -235,8 +235,7 @@ fn forward_plan<R: Threads + Wait + Sync, B: Bay, G: Gate + Sync>(
     ensures falls { NeverFalls (B.faults bay.old) (B.faults bay.new) }
 {
     let inputs = read_inputs(alloc, bay, plan.inputs)?;
-    let lists = take_lists(alloc, &plan.work, inputs.as_slice())?;
-    drop(inputs);
+    let lists = take_lists(alloc, &plan.work, inputs)?;
     let texts = make_shown(rt, alloc, &plan.work, lists.as_slice(), gate, outcome)?;
     write_texts(bay, plan.outputs, &texts)?;
     Ok(())

@@ -1,8 +1,9 @@
-//! xsk_sim: two drivers and an application forward a port's packets in rounds.
+//! xsk_sim: two drivers and an application forward a port's packets in rounds. What was sent has gaps for a capture's headers.
 ghost use Rattle.std.specs.Prelude.{◌≡◌, Some};
 
 use std::test::Fail;
 use xsk_model::{Config, PairInfo, SocketInfo};
+use xsk_pcap::GAPS;
 use xsk_prog::{Rule, XdpProgram};
 use xsk_sim::{Wire, simulate};
 use xsk_umem::{PacketList, Umem};
@@ -60,5 +61,8 @@ fn a_packet_crosses_to_the_other_port(rt: HostRuntime) -> Result<(), Fail> {
     assert_eq!(rt; run.sent(1).len(), 1);
     assert_eq!(rt; run.sent(1).get(0), [7; 60].as_slice());
     assert_eq!(rt; run.log().len(), 83);
+    for list in run.into_sent() {
+        assert_eq!(rt; list.into_parts().gaps, Some(GAPS));
+    }
     Ok(())
 }

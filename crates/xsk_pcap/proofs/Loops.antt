@@ -1,110 +1,117 @@
--- The two ways over a capture's records: the first measures them, the second copies their packets.
-use Rattle.std.proofs.Common.{◌≡◌, ℕ, ◌+◌, ◌<◌, ◌≤◌, List, [], ◌∷◌, ◌++◌, length, drop, map, Some, refl, sym, ap, subst, ◌∙◌, append_assoc, arith}
-use Rattle.std.specs.List.{flat_map, concat, AllByRecursion}
-use Rattle.std.proofs.lemmas.List.{append-nil, length-append}
-use Rattle.xsk_umem.proofs.Lengths.{length_concat-push}
+-- The way over a capture's records, which finds the spans of their packets.
+use Rattle.std.proofs.Common.{◌≡◌, ℕ, ◌+◌, ◌≤◌, Bool, true, false, List, [], ◌∷◌, ◌++◌, length, drop, map, refl, sym, ap, subst, ◌∙◌, append_assoc, arith}
+use Rattle.std.specs.Prelude.{◌||◌, not, if◌then◌else◌}
+use Rattle.std.proofs.lemmas.List.{length-append, map-append, take_at, drop_at, drop-drop}
+use Rattle.std.proofs.lemmas.List.Elements.{All-push}
+use Rattle.xsk_umem.specs.declared.packet_list.Span.{Span}
+use Rattle.xsk_umem.specs.Span.{at_span, IsWithin, AreFrom, AreInText, end_of}
 use Rattle.xsk_pcap.specs.declared.endianness.Endianness.{Endianness}
-use Rattle.xsk_pcap.specs.declared.reading.BadCapture.{BadCapture}
-use Rattle.xsk_pcap.specs.Capture.{header_bytes, Record, record_bytes, IsShort, AreRecords, Begins, IsCapture, record_refusal}
-use Rattle.xsk_pcap.specs.Steps.{BeginsRecord, Measures, Appends}
+use Rattle.xsk_pcap.specs.Capture.{header_bytes, Begins, IsCapture}
+use Rattle.xsk_pcap.specs.Steps.{BeginsRecord, Finds}
 use Rattle.xsk_pcap.proofs.Grammar.{Begins-push}
-use Rattle.xsk_pcap.proofs.Unique.{short_of, front_unique, length-record, EndsAt-refused, Begins-body}
+use Rattle.xsk_pcap.proofs.Unique.{drop_16-record, length-record}
 
--- ---- measuring
-
--- a record takes at least 16 bytes beside its packet
+-- a record takes 16 bytes beside its packet
 pub length-begins_record : (order : Endianness) (bytes packet rest : List ℕ) → BeginsRecord order bytes packet rest → length bytes ≡ 16 + length packet + length rest
 length-begins_record order bytes packet rest b =
     omega (arith, ap length b.whole, length-record order b.of rest, length-append b.of.packet rest, ap length b.packet_is)
 
-pub Measures-none : (order : Endianness) (bytes : List ℕ) (rest : List ℕ) → Begins order bytes [] rest → Measures order bytes rest 0 0
-Measures-none order bytes rest begins = record { packets = []; begins = begins; count_is = refl; total_is = refl }
+-- the packets up to a place, and their spans where there was memory for all of them
+pub record Finding (order : Endianness) (bytes rest : List ℕ) (lacks : Bool) (spans : List Span) : Type 0 where
+  pub packets : List (List ℕ)
+  pub begins : Begins order bytes packets rest
+  pub shown : lacks ≡ false → map (at_span bytes) spans ≡ packets
+  pub are : AreInText bytes spans
+  pub behind : end_of 0 spans + length rest ≤ length bytes
 
-pub Measures-push : (order : Endianness) (bytes rest packet more : List ℕ) (count total : ℕ) → Measures order bytes rest count total → BeginsRecord order rest packet more
-    → Measures order bytes more (count + 1) (total + length packet)
-Measures-push order bytes rest packet more count total m next = record {
-  packets = m.packets ++ packet ∷ [];
-  begins = Begins-push order bytes m.packets rest packet more m.begins next;
-  count_is = omega (arith, length-append m.packets (packet ∷ []), m.count_is);
-  total_is = omega (arith, length_concat-push m.packets packet, m.total_is);
+pub Finding-none : (order : Endianness) (bytes rest : List ℕ) → Begins order bytes [] rest → length rest ≤ length bytes → Finding order bytes rest false []
+Finding-none order bytes rest begins within = record {
+  packets = [];
+  begins = begins;
+  shown = λ _. refl;
+  are = record { within = λ k d h. absurd (omega (arith, h)); apart = tt };
+  behind = omega (arith, within);
 }
 
--- ---- copying
+-- ---- one record more
 
--- of all packets, those that are left have room, and the others have been appended
-pub record Copies (order : Endianness) (bytes rest : List ℕ) (old now : List (List ℕ)) (room_packets room_bytes : ℕ) : Type 0 where
-  pub packets : List (List ℕ)
-  pub left : List (List ℕ)
-  pub all : AreRecords order bytes packets
-  pub others : AreRecords order rest left
-  pub joined : old ++ packets ≡ now ++ left
-  pub enough_packets : length left ≤ room_packets
-  pub enough_bytes : length (concat left) ≤ room_bytes
+-- spans in order stay so with one behind them, which is then the last
+apart-push : (from : ℕ) (spans : List Span) (span : Span) → AreFrom from spans → end_of from spans ≤ span.start → AreFrom from (spans ++ span ∷ [])
+apart-push from [] span apart behind = (behind, tt)
+apart-push from (old ∷ spans) span apart behind = (apart.0, apart-push (old.start + old.len) spans span apart.1 behind)
 
-AreRecords-next : (order : Endianness) (rest packet more : List ℕ) (left : List (List ℕ)) → AreRecords order rest left → BeginsRecord order rest packet more
-    → (others : List (List ℕ)) × (left ≡ packet ∷ others) × AreRecords order more others
-AreRecords-next order rest packet more left are next = next_of order rest packet more left are.records (short_of are) are.packets_are are.bytes_are next
-  where
-    next_of : (order : Endianness) (rest packet more : List ℕ) (left : List (List ℕ)) (rs : List Record) → AllByRecursion IsShort (map (λ r. r.packet) rs) → map (λ r. r.packet) rs ≡ left → flat_map (record_bytes order) rs ≡ rest
-        → BeginsRecord order rest packet more → (others : List (List ℕ)) × (left ≡ packet ∷ others) × AreRecords order more others
-    next_of order rest packet more left [] short packets bytes next =
-        absurd (omega (arith, ap length bytes, length-begins_record order rest packet more next))
-    next_of order rest packet more left (r ∷ rs) short packets bytes next =
-        let u = front_unique order r next.of (flat_map (record_bytes order) rs) more short.0 next.short (bytes ∙ sym next.whole) in (
-          map (λ r. r.packet) rs,
-          sym packets ∙ ap (λ (p : List ℕ). p ∷ map (λ r. r.packet) rs) (u.0 ∙ next.packet_is),
-          record { records = rs; short = short.1; packets_are = refl; bytes_are = u.1 },
-        )
+end_of-push : (from : ℕ) (spans : List Span) (span : Span) → end_of from (spans ++ span ∷ []) ≡ span.start + span.len
+end_of-push from [] span = refl
+end_of-push from (first ∷ spans) span = end_of-push (first.start + first.len) spans span
 
--- the first of the packets that are left, and the others
-pub Copies-next : (order : Endianness) (bytes rest packet more : List ℕ) (old now : List (List ℕ)) (n m : ℕ) (c : Copies order bytes rest old now n m) → BeginsRecord order rest packet more
-    → (others : List (List ℕ)) × (c.left ≡ packet ∷ others) × AreRecords order more others × (1 + length others ≤ n) × (length packet + length (concat others) ≤ m)
-Copies-next order bytes rest packet more old now n m c next =
-    let a = AreRecords-next order rest packet more c.left c.others next in
-    (a.0, a.1, a.2, omega (arith, ap length a.1, c.enough_packets), omega (arith, ap (λ (ps : List (List ℕ)). length (concat ps)) a.1, length-append packet (concat a.0), c.enough_bytes))
+-- what is left of a capture stands at its end
+drop-begins : (order : Endianness) (bytes rest : List ℕ) (packets : List (List ℕ)) (offset : ℕ) → Begins order bytes packets rest → offset + length rest ≡ length bytes → drop offset bytes ≡ rest
+drop-begins order bytes rest packets offset begins at =
+    let front : List ℕ = header_bytes order begins.header ++ begins.body in
+    let whole : front ++ rest ≡ bytes = append_assoc (header_bytes order begins.header) begins.body rest ∙ begins.whole in
+    let len : length front ≡ offset = omega (arith, ap length whole, length-append front rest, at) in
+    ap (drop offset) (sym whole) ∙ drop_at front rest offset len
 
-pub Copies-push : (order : Endianness) (bytes rest packet more : List ℕ) (old now new : List (List ℕ)) (n m n' m' : ℕ) → Copies order bytes rest old now n m → BeginsRecord order rest packet more
-    → new ≡ now ++ packet ∷ [] → n' + 1 ≡ n → m' + length packet ≡ m → Copies order bytes more old new n' m'
-Copies-push order bytes rest packet more old now new n m n' m' c next pushed fewer_packets fewer_bytes =
-    let a = Copies-next order bytes rest packet more old now n m c next in
+-- the packet of the record that begins there
+at_span-record : (order : Endianness) (bytes rest packet more : List ℕ) (packets : List (List ℕ)) (offset : ℕ) (span : Span) → Begins order bytes packets rest → BeginsRecord order rest packet more
+    → offset + length rest ≡ length bytes → span.start ≡ offset + 16 → span.len ≡ length packet → at_span bytes span ≡ packet
+at_span-record order bytes rest packet more packets offset span begins next at start len =
+    let behind : drop 16 rest ≡ packet ++ more =
+    ap (drop 16) (sym next.whole) ∙ drop_16-record order next.of more ∙ ap (λ (p : List ℕ). p ++ more) next.packet_is in
+    let from : drop (offset + 16) bytes ≡ packet ++ more =
+    sym (drop-drop 16 offset bytes) ∙ ap (drop 16) (drop-begins order bytes rest packets offset begins at) ∙ behind in
+    rw (start, len, from) (take_at packet more (length packet) refl)
+
+-- one packet more, and its span behind the others
+pub Finding-push : (order : Endianness) (bytes rest packet more : List ℕ) (offset : ℕ) (lacks : Bool) (spans : List Span) (span : Span) → Finding order bytes rest lacks spans → BeginsRecord order rest packet more
+    → offset + length rest ≡ length bytes → span.start ≡ offset + 16 → span.len ≡ length packet → Finding order bytes more lacks (spans ++ span ∷ [])
+Finding-push order bytes rest packet more offset lacks spans span f next at start len =
+    let long : length rest ≡ 16 + length packet + length more = length-begins_record order rest packet more next in
+    let behind : end_of 0 spans ≤ span.start = omega (arith, f.behind, at, start) in
+    let here : at_span bytes span ≡ packet = at_span-record order bytes rest packet more f.packets offset span f.begins next at start len in
     record {
-      packets = c.packets;
-      left = a.0;
-      all = c.all;
-      others = a.2;
-      joined = c.joined ∙ ap (λ (ps : List (List ℕ)). now ++ ps) a.1 ∙ sym (append_assoc now (packet ∷ []) a.0) ∙ ap (λ (ps : List (List ℕ)). ps ++ a.0) (sym pushed);
-      enough_packets = omega (arith, a.3, fewer_packets);
-      enough_bytes = omega (arith, a.4, fewer_bytes);
+      packets = f.packets ++ packet ∷ [];
+      begins = Begins-push order bytes f.packets rest packet more f.begins next;
+      shown = λ none. map-append (at_span bytes) spans (span ∷ []) ∙ ap (λ (ps : List (List ℕ)). ps ++ at_span bytes span ∷ []) (f.shown none) ∙ ap (λ (p : List ℕ). f.packets ++ p ∷ []) here;
+      are = record { within = All-push (IsWithin bytes) spans span f.are.within (omega (arith, long, at, start, len)); apart = apart-push 0 spans span f.are.apart behind };
+      behind = omega (arith, end_of-push 0 spans span, long, at, start, len);
     }
 
--- what is left begins with a record that passes
-pub Copies-passes : (order : Endianness) (offset : ℕ) (bytes rest : List ℕ) (old now : List (List ℕ)) (n m : ℕ) (refusal : BadCapture) → Copies order bytes rest old now n m
-    → 0 < length rest → record_refusal order offset rest ≡ Some refusal → ⊥
-Copies-passes order offset bytes rest old now n m refusal c some fails = passes_of c.others.records (short_of c.others) c.others.bytes_are
+-- one packet more, without its span
+pub Finding-lacks : (order : Endianness) (bytes rest packet more : List ℕ) (lacks : Bool) (spans : List Span) → Finding order bytes rest lacks spans → BeginsRecord order rest packet more → Finding order bytes more true spans
+Finding-lacks order bytes rest packet more lacks spans f next =
+    let long : length rest ≡ 16 + length packet + length more = length-begins_record order rest packet more next in
+    record {
+      packets = f.packets ++ packet ∷ [];
+      begins = Begins-push order bytes f.packets rest packet more f.begins next;
+      shown = λ none. absurd (true_false none);
+      are = f.are;
+      behind = omega (arith, f.behind, long);
+    }
   where
-    passes_of : (rs : List Record) → AllByRecursion IsShort (map (λ r. r.packet) rs) → flat_map (record_bytes order) rs ≡ rest → ⊥
-    passes_of [] short e = absurd (omega (arith, ap length e, some))
-    passes_of (r ∷ rs) short e = EndsAt-refused order offset rest refusal fails r (flat_map (record_bytes order) rs) short.0 e
+    true_false : true ≡ false → ⊥
+    true_false e = cc
 
--- where nothing is left all packets have been appended
-pub Copies-done : (order : Endianness) (bytes rest : List ℕ) (old now : List (List ℕ)) (n m : ℕ) → Copies order bytes rest old now n m → length rest ≡ 0 → Appends order bytes old now
-Copies-done order bytes rest old now n m c none = record { packets = c.packets; are = c.all; appended = sym (c.joined ∙ ap (λ (ps : List (List ℕ)). now ++ ps) (left_of c.others.records c.others.packets_are c.others.bytes_are) ∙ append-nil now) }
-  where
-    left_of : (rs : List Record) → map (λ r. r.packet) rs ≡ c.left → flat_map (record_bytes order) rs ≡ rest → c.left ≡ []
-    left_of [] packets e = sym packets
-    left_of (r ∷ rs) packets e = absurd (omega (arith, ap length e, length-record order r (flat_map (record_bytes order) rs), none))
+-- one packet more, and its span where memory for it could be had
+pub Finding-more : (order : Endianness) (bytes rest packet more : List ℕ) (offset : ℕ) (lacks failed : Bool) (spans new : List Span) (span : Span) → Finding order bytes rest lacks spans → BeginsRecord order rest packet more
+    → offset + length rest ≡ length bytes → span.start ≡ offset + 16 → span.len ≡ length packet → new ≡ (if not failed then spans ++ span ∷ [] else spans) → Finding order bytes more (lacks || failed) new
+Finding-more order bytes rest packet more offset false false spans new span f next at start len is = rw is (Finding-push order bytes rest packet more offset false spans span f next at start len)
+Finding-more order bytes rest packet more offset true false spans new span f next at start len is = rw is (Finding-push order bytes rest packet more offset true spans span f next at start len)
+Finding-more order bytes rest packet more offset false true spans new span f next at start len is = rw is (Finding-lacks order bytes rest packet more false spans f next)
+Finding-more order bytes rest packet more offset true true spans new span f next at start len is = rw is (Finding-lacks order bytes rest packet more true spans f next)
 
--- the packets that were copied from behind a capture's file header are the capture's
-pub copied_capture : (order : Endianness) (bytes body : List ℕ) (packets old new : List (List ℕ)) → Begins order bytes packets [] → body ≡ drop 24 bytes → old ≡ [] → Appends order body old new → IsCapture bytes new
-copied_capture order bytes body packets old new begins is empty appends =
-    let same : begins.body ≡ body = sym (append-nil begins.body) ∙ sym (Begins-body order begins) ∙ sym is in
-    let new_is : appends.packets ≡ new = ap (λ (ps : List (List ℕ)). ps ++ appends.packets) (sym empty) ∙ sym appends.appended in (
-      order,
-      record {
-        header = begins.header;
-        magic = begins.magic;
-        body = body;
-        records = subst (λ (ps : List (List ℕ)). AreRecords order body ps) new_is appends.are;
-        whole = ap (λ (t : List ℕ). header_bytes order begins.header ++ (t ++ [])) (sym same) ∙ begins.whole;
-      },
-    )
+-- ---- at the end
+
+rest_none : (rest : List ℕ) → length rest ≡ 0 → rest ≡ []
+rest_none [] none = refl
+rest_none (x ∷ rest) none = absurd (omega (arith, none))
+
+-- where nothing is left the bytes are a capture of the packets that were found
+pub Finding-capture : (order : Endianness) (bytes rest : List ℕ) (lacks : Bool) (spans : List Span) (f : Finding order bytes rest lacks spans) → length rest ≡ 0 → IsCapture bytes f.packets
+Finding-capture order bytes rest lacks spans f none = (order, subst (Begins order bytes f.packets) (rest_none rest none) f.begins)
+
+pub Finding-done : (order : Endianness) (bytes rest : List ℕ) (lacks : Bool) (spans : List Span) → Finding order bytes rest lacks spans → lacks ≡ false → length rest ≡ 0 → Finds order bytes spans
+Finding-done order bytes rest lacks spans f has none = record {
+  begins = subst (λ (ps : List (List ℕ)). Begins order bytes ps []) (sym (f.shown has)) (subst (Begins order bytes f.packets) (rest_none rest none) f.begins);
+  are = f.are;
+}

@@ -20,7 +20,7 @@ captured_in-record Little r rest short = number_in-field Little 4 (length r.pack
 captured_in-record Big r rest short = number_in-field Big 4 (length r.packet) (field Big 4 r.original ++ (r.packet ++ rest)) (omega arith)
 
 -- what stands behind a record's header
-drop_16-record : (order : Endianness) (r : Record) (rest : List ℕ) → drop 16 (record_bytes order r ++ rest) ≡ r.packet ++ rest
+pub drop_16-record : (order : Endianness) (r : Record) (rest : List ℕ) → drop 16 (record_bytes order r ++ rest) ≡ r.packet ++ rest
 drop_16-record Little r rest = refl
 drop_16-record Big r rest = refl
 

@@ -75,7 +75,7 @@ lists_in-written lists writable =
     ap (cut_into (map length lists)) (packets_in-text_of 0 (all_packets lists) writable.each) ∙ cut_into-all lists
 
 -- what is kept of lists shows them
-pub IsKept-lists : (text counts : List ℕ) (number : ℕ) (lists : List (List (List ℕ))) → text ≡ written lists → counts ≡ map length lists → number ≡ length (all_packets lists) → IsWritable lists
+IsKept-lists : (text counts : List ℕ) (number : ℕ) (lists : List (List (List ℕ))) → text ≡ written lists → counts ≡ map length lists → number ≡ length (all_packets lists) → IsWritable lists
     → (lists_in text counts number ≡ lists) × IsKept text counts number
 IsKept-lists text counts number lists t c n writable =
     let is : lists_in text counts number ≡ lists = rw (t, c, n) (lists_in-written lists writable) in (
@@ -87,6 +87,12 @@ IsKept-lists text counts number lists t c n writable =
         writable = subst IsWritable (sym is) writable;
       },
     )
+
+-- what is kept of one list
+pub IsKept-one : (text counts : List ℕ) (number : ℕ) (list : List (List ℕ)) → text ≡ written (list ∷ []) → counts ≡ number ∷ [] → number ≡ length list → IsWritable (list ∷ [])
+    → (lists_in text counts number ≡ list ∷ []) × IsKept text counts number
+IsKept-one text counts number list t c n writable =
+    IsKept-lists text counts number (list ∷ []) t (c ∙ ap (λ (k : ℕ). k ∷ []) n) (n ∙ ap length (sym (append-nil list))) writable
 
 -- one list more
 pub IsKept-push : (text counts text' counts' : List ℕ) (number n : ℕ) (old : List (List (List ℕ))) (list : List (List ℕ)) → lists_in text counts number ≡ old → IsKept text counts number → IsWritable (old ++ list ∷ [])

@@ -1,10 +1,10 @@
--- What the steps of reading a capture find.
-use Rattle.std.specs.Prelude.{◌≡◌, ℕ, ◌≤◌, IsTrue, List, ◌++◌, length, drop}
-use Rattle.std.specs.List.{concat}
-use Rattle.xsk_umem.specs.PacketList.{PacketList}
+-- What the steps of reading a capture find, and what those of writing one into gaps begin with.
+use Rattle.std.specs.Prelude.{◌≡◌, ℕ, ◌≤◌, IsTrue, List, [], ◌++◌, length, drop, map}
+use Rattle.xsk_umem.specs.Span.{at_span, AreInText, end_of, spans_from}
+use Rattle.xsk_umem.specs.declared.packet_list.Span.{Span}
 use Rattle.xsk_pcap.specs.declared.endianness.Endianness.{Endianness}
 use Rattle.xsk_pcap.specs.Numbers.{number_in}
-use Rattle.xsk_pcap.specs.Capture.{is_magic, Record, record_bytes, IsShort, AreRecords, Begins}
+use Rattle.xsk_pcap.specs.Capture.{is_magic, Record, record_bytes, IsShort, Begins}
 
 -- the file header passes its checks in this byte order
 pub record PassesHeader (order : Endianness) (bytes : List ℕ) : Type 0 where
@@ -21,22 +21,13 @@ pub record BeginsRecord (order : Endianness) (bytes packet rest : List ℕ) : Ty
   pub packet_is : of.packet ≡ packet
   pub whole : record_bytes order of ++ rest ≡ bytes
 
--- the bytes begin as a capture of so many packets with so many captured bytes, and then the rest
-pub record Measures (order : Endianness) (bytes rest : List ℕ) (count total : ℕ) : Type 0 where
-  pub packets : List (List ℕ)
-  pub begins : Begins order bytes packets rest
-  pub count_is : length packets ≡ count
-  pub total_is : length (concat packets) ≡ total
+-- the bytes are a capture of the packets that stand in these spans of them
+pub record Finds (order : Endianness) (bytes : List ℕ) (spans : List Span) : Type 0 where
+  pub begins : Begins order bytes (map (at_span bytes) spans) []
+  pub are : AreInText bytes spans
 
--- the bytes are the records of packets that the room holds
-pub record HasRoom (order : Endianness) (bytes : List ℕ) (room : PacketList) : Type 0 where
-  pub packets : List (List ℕ)
-  pub are : AreRecords order bytes packets
-  pub enough_packets : length packets ≤ room.spare_packets
-  pub enough_bytes : length (concat packets) ≤ room.spare_bytes
-
--- the packets of the bytes' records have been appended
-pub record Appends (order : Endianness) (bytes : List ℕ) (old new : List (List ℕ)) : Type 0 where
-  pub packets : List (List ℕ)
-  pub are : AreRecords order bytes packets
-  pub appended : new ≡ old ++ packets
+-- the packets stand in the text behind the gaps of a capture's headers, and there is nothing else
+pub record HasGaps (text : List ℕ) (spans : List Span) : Type 0 where
+  pub are : AreInText text spans
+  pub spaced : spans ≡ spans_from 24 16 (map (at_span text) spans)
+  pub end : end_of 24 spans ≡ length text

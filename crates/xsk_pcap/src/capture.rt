@@ -1,15 +1,28 @@
 //! A capture as it is written.
-ghost use Rattle.std.specs.Prelude.{◌≡◌, ◌+◌, ◌*◌, ◌/◌, ◌%◌, ◌^◌, ◌<◌, ◌≤◌, [], ◌∷◌, ◌++◌, length, vec_capacity, IfOk, OnOk, OnErr};
+ghost use Rattle.std.specs.Prelude.{◌≡◌, ◌+◌, ◌*◌, ◌/◌, ◌%◌, ◌^◌, ◌<◌, ◌≤◌, [], ◌∷◌, ◌++◌, length, map, vec_capacity, IfOk, OnOk, OnErr};
 ghost use Rattle.std.specs.List.{concat, AllByRecursion};
 ghost use Rattle.byteorder.specs.Endian.{little_bytes};
+ghost use Rattle.xsk_umem.specs.Span.{at_span};
 ghost use Rattle.xsk_pcap.specs.declared.endianness.Endianness.TheVariants.{Little};
 ghost use Rattle.xsk_pcap.specs.Capture.{record_bytes, IsShort};
+ghost use Rattle.xsk_pcap.specs.Steps.{HasGaps};
 ghost use Rattle.xsk_pcap.specs.Written.{written, written_record, text_of, IsWritable};
 
 use byteorder::{ByteOrder, LittleEndian};
 use std::alloc::Global;
 use std::marker::Model;
-use xsk_umem::{OutOfMemory, PacketList};
+use xsk_umem::{Gaps, OutOfMemory, PacketList, Parts, Span};
+
+const FILE_HEADER: u32 = 24;
+
+const RECORD_HEADER: u32 = 16;
+
+/// The gaps with which a list becomes a capture without a copy: one holds the file header, and the others the headers of
+/// the records.
+pub const GAPS: Gaps = Gaps {
+    first: FILE_HEADER,
+    before_each: RECORD_HEADER,
+};
 
 /// Little endian, time stamps of microseconds, version 2.4, a snapshot length of 262,144, and link type Ethernet.
 const WRITTEN_HEADER: [u8; 24] = [
@@ -49,6 +62,40 @@ impl Capture {
             text,
             counts: Vec::new(alloc),
             number: 0,
+        })
+    }
+
+    /// A capture of the packets of one list, within the limits of [`add`](Capture::add). Where the list has the [`GAPS`] the
+    /// headers are written into them, and no packet is copied.
+    pub fn of(alloc: Global, list: PacketList) -> Result<Capture, OutOfMemory>
+        requires { IsWritable (list.packets ∷ []) }
+        ensures { IfOk result (λ capture. capture ≡ list.packets ∷ []) }
+    {
+        let Parts { text, spans, gaps } = list.into_parts();
+        if gaps == Some(GAPS) {
+            Capture::in_gaps(alloc, text, spans.as_slice())
+        } else {
+            let mut capture = Capture::start(alloc)?;
+            capture.add(&PacketList::of_spans(text, spans))?;
+            Ok(capture)
+        }
+    }
+
+    /// A capture of the packets that stand in a text, written into the gaps between them.
+    fn in_gaps(alloc: Global, text: Vec<u8>, spans: &[Span]) -> Result<Capture, OutOfMemory>
+        requires gaps { HasGaps text.items spans.now }
+        requires writable { IsWritable (map (at_span text.items) spans.now ∷ []) }
+        ensures { IfOk result (λ capture. capture ≡ map (at_span text.items) spans.now ∷ []) }
+    {
+        let number = spans.len() as u32;
+        let mut counts = Vec::with_capacity(alloc, 1)?;
+        counts.push_reserved(number);
+        let mut text = text;
+        fill_gaps(text.as_mut_slice(), spans);
+        Ok(Capture {
+            text,
+            counts,
+            number,
         })
     }
 
@@ -111,6 +158,21 @@ fn append_record(text: &mut Vec<u8>, number: u32, packet: &[u8])
     let header = record_header(number, packet.len() as u32);
     text.extend_from_slice(&header).unwrap();
     text.extend_from_slice(packet).unwrap();
+}
+
+/// Writes the file header and the headers of the records into the gaps of a text.
+fn fill_gaps(text: &mut [u8], spans: &[Span])
+    requires gaps { HasGaps text.old spans.now }
+    requires short { AllByRecursion IsShort (map (at_span text.old) spans.now) }
+    requires few { length spans.now < 2 ^ 32 }
+    ensures { text.new ≡ written (map (at_span text.old) spans.now ∷ []) }
+{
+    text[..FILE_HEADER as usize].copy_from_slice(&WRITTEN_HEADER);
+    for number in 0..spans.len() as u32 {
+        let span = spans[number as usize];
+        let header = record_header(number, span.len as u32);
+        text[span.start - RECORD_HEADER as usize..span.start].copy_from_slice(&header);
+    }
 }
 
 /// Seconds, microseconds, captured length and original length.

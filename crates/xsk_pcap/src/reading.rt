@@ -1,14 +1,14 @@
 //! Captures read as lists of packets, or the first failing check with its place.
-ghost use Rattle.std.specs.Prelude.{◌≡◌, ◌≤◌, ℕ, List, [], length, IfOk, IfErr, MatchResult};
+ghost use Rattle.std.specs.Prelude.{◌≡◌, ◌<◌, ◌≤◌, ◌^◌, ℕ, List, length, IfOk, IfErr, MatchResult};
 ghost use Rattle.std.specs.List.{AllByRecursion};
 ghost use Rattle.xsk_pcap.specs.Capture.{is_magic as magic_test, IsCapture, IsShort, IsRefused, IsCause};
-ghost use Rattle.xsk_pcap.specs.Capture.{FailsAtRecord, order_of, header_refusal, record_refusal};
-ghost use Rattle.xsk_pcap.specs.Steps.{PassesHeader, BeginsRecord, Measures, HasRoom, Appends};
+ghost use Rattle.xsk_pcap.specs.Capture.{order_of, header_refusal, record_refusal};
+ghost use Rattle.xsk_pcap.specs.Steps.{PassesHeader, BeginsRecord, Finds};
 
 use crate::endianness::Endianness;
 use std::alloc::Global;
 use thiserror::Error;
-use xsk_umem::{OutOfMemory, PacketList};
+use xsk_umem::{PacketList, Span};
 
 const FILE_HEADER: usize = 24;
 
@@ -38,20 +38,9 @@ pub enum BadCapture {
     /// The record has more than 262,144 captured bytes.
     #[error("the record at byte {at} is too long")]
     RecordTooLong { at: u64 },
-    /// All checks pass, but memory for the packets couldn't be had, or they or their bytes are more than 32 bits count.
+    /// All checks pass, but memory for the packets couldn't be had, or they are more than 32 bits count.
     #[error("out of memory")]
     OutOfMemory,
-}
-
-impl From<OutOfMemory> for BadCapture {
-    ghost use Rattle.std.specs.Prelude.{◌≡◌};
-    ghost use Rattle.xsk_pcap.specs.declared.reading.BadCapture.TheVariants as errors;
-
-    ghost from_gives = { λ _ e. e ≡ errors.OutOfMemory };
-
-    fn from(_error: OutOfMemory) -> BadCapture {
-        BadCapture::OutOfMemory
-    }
 }
 
 fn is_magic(number: u32) -> bool
@@ -113,78 +102,50 @@ fn split_record(order: Endianness, offset: u64, bytes: &[u8]) -> Result<(&[u8], 
     Ok(rest.split_at(captured))
 }
 
-/// How many packets there are, and how many bytes they have together.
-#[derive(Clone, Copy)]
-struct Size {
-    packets: usize,
-    bytes: usize,
-}
-
-/// Goes over all records without copying any.
-fn measure(order: Endianness, bytes: &[u8]) -> Result<Size, BadCapture>
+/// The spans of the packets of all records. Where memory for them can't be had it goes on to the end all the same, since a
+/// check that fails comes first.
+fn find_packets(alloc: Global, order: Endianness, bytes: &[u8]) -> Result<Vec<Span>, BadCapture>
     requires { PassesHeader order bytes.now }
-    ensures measured { IfOk result (λ size. Measures order bytes.now [] size.packets size.bytes) }
-    ensures failed { IfErr result (FailsAtRecord bytes.now) }
+    ensures found { IfOk result (λ spans. Finds order bytes.now spans.items) }
+    ensures few { IfOk result (λ spans. length spans.items < 2 ^ 32) }
+    ensures cause { IfErr result (IsCause bytes.now) }
 {
-    let mut size = Size {
-        packets: 0,
-        bytes: 0,
-    };
+    let mut spans = Vec::new(alloc);
+    let mut lacks_room = false;
     let mut rest = &bytes[FILE_HEADER..];
     while !rest.is_empty() {
-        let offset = (bytes.len() - rest.len()) as u64;
-        let (packet, after) = split_record(order, offset, rest)?;
-        size.packets += 1;
-        size.bytes += packet.len();
-        rest = after;
-    }
-    Ok(size)
-}
-
-/// An empty list with room for so much.
-fn with_room(alloc: Global, size: Size) -> Result<PacketList, OutOfMemory>
-    ensures { IfOk result (λ list. (list.packets ≡ []) × (size.packets ≤ list.spare_packets) × (size.bytes ≤ list.spare_bytes)) }
-{
-    let packets = u32::try_from(size.packets).map_err(|_| OutOfMemory)?;
-    let bytes = u32::try_from(size.bytes).map_err(|_| OutOfMemory)?;
-    let mut list = PacketList::new(alloc);
-    list.reserve(packets, bytes)?;
-    Ok(list)
-}
-
-/// Copies the packets of whole records to the end of a list that has room for them.
-fn copy_packets(order: Endianness, records: &[u8], list: &mut PacketList)
-    requires { HasRoom order records.now list.old }
-    ensures { Appends order records.now list.old.packets list.new.packets }
-{
-    let mut rest = records;
-    while !rest.is_empty() {
-        let Ok((packet, after)) = split_record(order, 0, rest) else {
-            unreachable!();
+        let offset = bytes.len() - rest.len();
+        let (packet, after) = split_record(order, offset as u64, rest)?;
+        let span = Span {
+            start: offset + RECORD_HEADER,
+            len: packet.len(),
         };
-        list.push_reserved(packet);
+        lacks_room |= spans.push(span).is_err();
         rest = after;
     }
+    if lacks_room || spans.len() > u32::MAX as usize {
+        return Err(BadCapture::OutOfMemory);
+    }
+    Ok(spans)
 }
 
 /// Reads a capture in either byte order, with time stamps of microseconds or nanoseconds, and gives its packets in order.
+/// They are spans of the bytes, which the list keeps: no packet is copied.
 ///
-/// Times, original lengths, the time zone, the accuracy and the snapshot length may be anything, and aren't kept. A packet
+/// Times, original lengths, the time zone, the accuracy and the snapshot length may be anything, and aren't told. A packet
 /// may be empty, or longer than the snapshot length.
-pub fn read(alloc: Global, bytes: &[u8]) -> Result<PacketList, BadCapture>
+pub fn read(alloc: Global, bytes: Vec<u8>) -> Result<PacketList, BadCapture>
     // What is read is a capture of these packets.
-    ensures found { IfOk result (λ list. IsCapture bytes.now list.packets) }
+    ensures found { IfOk result (λ list. IsCapture bytes.items list.packets) }
     ensures short { IfOk result (λ list. AllByRecursion IsShort list.packets) }
     // What is a capture is read as its packets, unless memory runs out.
-    ensures accepted { (packets : List (List ℕ)) → IsCapture bytes.now packets →
+    ensures accepted { (packets : List (List ℕ)) → IsCapture bytes.items packets →
         MatchResult result (λ list. list.packets ≡ packets) (λ e. e ≡ BadCapture.OutOfMemory) }
     // The first check that fails decides, whatever memory there is.
-    ensures refused { (refusal : BadCapture) → IsRefused bytes.now refusal → result ≡ Err refusal }
-    ensures cause { IfErr result (IsCause bytes.now) }
+    ensures refused { (refusal : BadCapture) → IsRefused bytes.items refusal → result ≡ Err refusal }
+    ensures cause { IfErr result (IsCause bytes.items) }
 {
-    let order = check_header(bytes)?;
-    let size = measure(order, bytes)?;
-    let mut list = with_room(alloc, size)?;
-    copy_packets(order, &bytes[FILE_HEADER..], &mut list);
-    Ok(list)
+    let order = check_header(bytes.as_slice())?;
+    let spans = find_packets(alloc, order, bytes.as_slice())?;
+    Ok(PacketList::of_spans(bytes, spans))
 }

@@ -3,8 +3,8 @@ use std::alloc::Global;
 use std::test::Fail;
 use xsk_model::{Config, PairInfo, SocketInfo};
 use xsk_socket::{
-    Layout, RingKind, Setup, SetupError, Unlawful, XDP_COPY, XDP_SHARED_UMEM, XDP_USE_NEED_WAKEUP, XDP_USE_SG, XDP_ZEROCOPY,
-    check_layout, regular,
+    Layout, RingKind, Setup, SetupError, Unlawful, XDP_COPY, XDP_SHARED_UMEM, XDP_USE_NEED_WAKEUP,
+    XDP_USE_SG, XDP_ZEROCOPY, check_layout, regular,
 };
 use xsk_umem::Umem;
 

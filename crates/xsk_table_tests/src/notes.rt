@@ -5,8 +5,8 @@ ghost use Rattle.xsk_model.specs.declared.call.Ring.TheVariants.{Fill, Rx};
 ghost use Rattle.xsk_rings.specs.TwoPairs.{setup_from};
 ghost use Rattle.xsk_rings.specs.Rounds.{Rests, mine_of, LastTook, HasFromFill};
 
-use crate::rounds::received;
 use crate::calls::opened;
+use crate::rounds::received;
 use std::alloc::Global;
 use std::process::Abort;
 use std::test::Fail;

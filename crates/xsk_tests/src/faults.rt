@@ -110,7 +110,7 @@ fn each_write_that_fails_is_told(rt: HostRuntime) -> Result<(), Fail> {
 #[test]
 fn texts_are_written_whole_by_short_writes(rt: HostRuntime) -> Result<(), Fail> {
     let with_one = capture_of(rt.alloc(), &[60])?;
-    for most in [1, 3, 7, 23, 24, 25, 99, 100, ROOM] {
+    for most in [1, 3, 7, 23, 24, 25, 30, 99, 100, ROOM] {
         let (status, bay) = ended(rt.alloc(), &[FailingCall::Write(1_000)], most)?;
         assert_eq!(rt; status, Status::Done);
         for (stream, text) in [

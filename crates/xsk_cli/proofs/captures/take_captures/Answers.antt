@@ -7,8 +7,8 @@ use Rattle.xsk_cli.proofs.captures.take_captures.Goals as goal
 
 pub check_limits-requires-clause-small : goal.check_limits-requires-clause-small
 check_limits-requires-clause-small c =
-    let inputs = map (λ bytes. bytes.items) c.args.inputs.now in
-    let few : length inputs ≤ 4 = omega (arith, length-map c.args.inputs.now (λ bytes. bytes.items), c.requires.few) in
+    let inputs = map (λ bytes. bytes.items) c.args.inputs.items in
+    let few : length inputs ≤ 4 = omega (arith, length-map c.args.inputs.items (λ bytes. bytes.items), c.requires.few) in
     let small : bytes_in (lists_in c.in_ok-lists.lists.items) ≤ 138412128 =
-    bytes_small inputs (lists_in c.in_ok-lists.lists.items) c.in_ok-lists.ensures.read (short_all (λ bytes. bytes.items) c.args.inputs.now c.requires.short) few in
+    bytes_small inputs (lists_in c.in_ok-lists.lists.items) c.in_ok-lists.ensures.read (short_all (λ bytes. bytes.items) c.args.inputs.items c.requires.short) few in
     rw c.as_slice.ensures.value (omega (arith, small))

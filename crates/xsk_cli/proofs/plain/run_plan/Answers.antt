@@ -31,7 +31,7 @@ returns-in_err-lists-clause-ends g c =
     let bytes = map (λ bytes. bytes.items) c.in_ok-inputs.inputs.items in
     let failure = c.in_err-lists.field-0.0 in
     let have : HaveRead plan.inputs bytes (length plan.inputs) old mid = subst (λ n. HaveRead plan.inputs bytes n old mid) (sym (length-map c.args.plan.now.inputs.now (λ name. name.now))) c.in_ok-inputs.ensures.read in
-    let makes : MakesNone plan.work bytes failure = subst (λ inputs. MakesNone plan.work (map (λ bytes. bytes.items) inputs) failure) c.as_slice.ensures.value c.in_err-lists.ensures.failed in
+    let makes : MakesNone plan.work bytes failure = c.in_err-lists.ensures.failed in
     status_ends c.from_residual-in_err-lists.result (run_status failure) plan old mid (search rules) (run_fails plan bytes old mid mid have failure makes)
 
 pub returns-in_err-texts-clause-ends : goal.returns-in_err-texts-clause-ends
@@ -44,19 +44,19 @@ returns-in_err-texts-clause-ends g c =
     let failure = c.in_err-texts.field-0.0 in
     let have : HaveRead plan.inputs bytes (length plan.inputs) old mid = subst (λ n. HaveRead plan.inputs bytes n old mid) (sym (length-map c.args.plan.now.inputs.now (λ name. name.now))) c.in_ok-inputs.ensures.read in
     let short : AreShort bytes (length bytes) = subst (AreShort bytes) (sym have.count_is) have.short in
-    let are : AreListsOf plan.work bytes lists = subst (λ inputs. AreListsOf plan.work (map (λ bytes. bytes.items) inputs) lists) c.as_slice.ensures.value c.in_ok-lists.ensures.taken in
-    let fails : FailsMaking plan.work lists failure = subst (λ ls. FailsMaking plan.work (lists_in ls) failure) c.as_slice-2.ensures.value c.in_err-texts.ensures.failed in
+    let are : AreListsOf plan.work bytes lists = c.in_ok-lists.ensures.taken in
+    let fails : FailsMaking plan.work lists failure = subst (λ ls. FailsMaking plan.work (lists_in ls) failure) c.as_slice.ensures.value c.in_err-texts.ensures.failed in
     status_ends c.from_residual-in_err-texts.result (run_status failure) plan old mid (search rules)
     (run_fails plan bytes old mid mid have failure (making_fails plan.work bytes lists failure short are c.in_ok-lists.ensures.within fails))
 
 pub write_texts-requires-clause-texts : goal.write_texts-requires-clause-texts
 write_texts-requires-clause-texts g c =
     let plan = plan_in c.args.plan.now in
-    let count : length (lists_in c.as_slice-2.result.now) ≡ written_by plan.work =
-    length-map c.as_slice-2.result.now (λ list. list.packets) ∙ ap length c.as_slice-2.ensures.value ∙ c.in_ok-lists.ensures.count in
+    let count : length (lists_in c.as_slice.result.now) ≡ written_by plan.work =
+    length-map c.as_slice.result.now (λ list. list.packets) ∙ ap length c.as_slice.ensures.value ∙ c.in_ok-lists.ensures.count in
     omega (
       arith,
-      texts_count plan.work (lists_in c.as_slice-2.result.now) (written_in c.in_ok-texts.texts) c.in_ok-texts.ensures.made count,
+      texts_count plan.work (lists_in c.as_slice.result.now) (written_in c.in_ok-texts.texts) c.in_ok-texts.ensures.made count,
       length-map c.in_ok-texts.texts.outputs.items (λ text. text.items),
       length-map c.args.plan.now.outputs.now (λ name. name.now),
       c.requires.ready.outputs,
@@ -74,8 +74,8 @@ returns-in_err-write_texts-clause-ends g c =
     let failure = c.in_err-write_texts.field-0.0 in
     let have : HaveRead plan.inputs bytes (length plan.inputs) old mid = subst (λ n. HaveRead plan.inputs bytes n old mid) (sym (length-map c.args.plan.now.inputs.now (λ name. name.now))) c.in_ok-inputs.ensures.read in
     let short : AreShort bytes (length bytes) = subst (AreShort bytes) (sym have.count_is) have.short in
-    let are : AreListsOf plan.work bytes lists = subst (λ inputs. AreListsOf plan.work (map (λ bytes. bytes.items) inputs) lists) c.as_slice.ensures.value c.in_ok-lists.ensures.taken in
-    let is : AreTextsBy plan.work lists texts = subst (λ ls. AreTextsBy plan.work (lists_in ls) texts) c.as_slice-2.ensures.value c.in_ok-texts.ensures.made in
+    let are : AreListsOf plan.work bytes lists = c.in_ok-lists.ensures.taken in
+    let is : AreTextsBy plan.work lists texts = subst (λ ls. AreTextsBy plan.work (lists_in ls) texts) c.as_slice.ensures.value c.in_ok-texts.ensures.made in
     let outcome : IsOutcome plan.work bytes (made texts) = (short, (lists, are, (c.in_ok-lists.ensures.within, is))) in
     let same : SameInputs mid new = record { opened = c.write_texts.ensures.opened; asked = c.write_texts.ensures.asked; left = λ port. c.write_texts.ensures.left _ } in
     status_ends c.from_residual-in_err-write_texts.result (write_status failure) plan old new (search rules)
@@ -92,8 +92,8 @@ returns-clause-ends g c =
     let texts = written_in c.in_ok-texts.texts in
     let have : HaveRead plan.inputs bytes (length plan.inputs) old mid = subst (λ n. HaveRead plan.inputs bytes n old mid) (sym (length-map c.args.plan.now.inputs.now (λ name. name.now))) c.in_ok-inputs.ensures.read in
     let short : AreShort bytes (length bytes) = subst (AreShort bytes) (sym have.count_is) have.short in
-    let are : AreListsOf plan.work bytes lists = subst (λ inputs. AreListsOf plan.work (map (λ bytes. bytes.items) inputs) lists) c.as_slice.ensures.value c.in_ok-lists.ensures.taken in
-    let is : AreTextsBy plan.work lists texts = subst (λ ls. AreTextsBy plan.work (lists_in ls) texts) c.as_slice-2.ensures.value c.in_ok-texts.ensures.made in
+    let are : AreListsOf plan.work bytes lists = c.in_ok-lists.ensures.taken in
+    let is : AreTextsBy plan.work lists texts = subst (λ ls. AreTextsBy plan.work (lists_in ls) texts) c.as_slice.ensures.value c.in_ok-texts.ensures.made in
     let outcome : IsOutcome plan.work bytes (made texts) = (short, (lists, are, (c.in_ok-lists.ensures.within, is))) in
     let same : SameInputs mid new = record { opened = c.write_texts.ensures.opened; asked = c.write_texts.ensures.asked; left = λ port. c.write_texts.ensures.left _ } in
     let count : length plan.outputs ≡ length c.args.plan.now.outputs.now = length-map c.args.plan.now.outputs.now (λ name. name.now) in
@@ -103,5 +103,5 @@ returns-clause-ends g c =
 
 pub make_texts-requires-clause-short : goal.make_texts-requires-clause-short
 make_texts-requires-clause-short g c =
-    subst (All HasShortPackets) (sym c.as_slice-2.ensures.value)
-    (short_lists (plan_in c.args.plan.now).work (map (λ bytes. bytes.items) c.as_slice.result.now) c.in_ok-lists.lists.items c.in_ok-lists.ensures.taken)
+    subst (All HasShortPackets) (sym c.as_slice.ensures.value)
+    (short_lists (plan_in c.args.plan.now).work (map (λ bytes. bytes.items) c.in_ok-inputs.inputs.items) c.in_ok-lists.lists.items c.in_ok-lists.ensures.taken)

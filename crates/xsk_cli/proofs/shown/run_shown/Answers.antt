@@ -1,5 +1,4 @@
-use Rattle.std.proofs.Common.{rules, arith, Err, ◌≡◌, ℕ, ◌<◌, ◌≤◌, ◌*◌, List, [], Some, None, get_or, length, map, take, drop, refl, sym, ap, subst, ◌∙◌}
-use Rattle.std.specs.Prelude.{All, IfErr, IfOk}
+use Rattle.std.proofs.Common.{arith, ◌≡◌, ℕ, List, [], length, sym, ap, subst, ◌∙◌}
 use Rattle.std.proofs.lemmas.List.{length-map}
 use Rattle.std.proofs.lemmas.List.FromFn.{length-map-range_with_len}
 use Rattle.std.proofs.lemmas.Option.{same_Some}
@@ -7,7 +6,7 @@ use Rattle.xsk_model.specs.Config.{Config, IsRegular}
 use Rattle.xsk_driver.specs.declared.figures.Figures.{Figures}
 use Rattle.xsk_stats.specs.Report.{report_text}
 use Rattle.xsk_socket.specs.Regular.{regular_of}
-use Rattle.xsk_workers.specs.Forwarded.{OutcomeShown, HasForwarded}
+use Rattle.xsk_workers.specs.Forwarded.{HasForwarded}
 use Rattle.xsk_cli.specs.Outcome.{frames_of, setting_of}
 use Rattle.xsk_cli.specs.Steps.{lists_in, written_in}
 use Rattle.xsk_cli.proofs.Making.{few_ports}

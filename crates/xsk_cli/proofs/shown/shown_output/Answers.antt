@@ -1,4 +1,4 @@
-use Rattle.std.proofs.Common.{rules, ◌≡◌, ℕ, ◌+◌, ◌<◌, ◌++◌, List, [], ◌∷◌, length, get_or, take, drop, sym, ap, subst, ◌∙◌, arith}
+use Rattle.std.proofs.Common.{◌+◌, ◌<◌, length, sym, subst, ◌∙◌, arith}
 use Rattle.xsk_pcap.specs.Written.{IsWritable}
 use Rattle.xsk_cli.proofs.Queues.{one_more_sent}
 use Rattle.xsk_cli.proofs.shown.shown_output.Goals as goal

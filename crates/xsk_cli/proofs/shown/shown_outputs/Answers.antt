@@ -1,4 +1,4 @@
-use Rattle.std.proofs.Common.{rules, ◌≡◌, ◌+◌, ◌*◌, ◌<◌, ◌≤◌, ◌++◌, ◌∙◌, [], ◌∷◌, ap, sym, map, take, drop, length, List, ℕ, Vec, Global, arith}
+use Rattle.std.proofs.Common.{rules, ◌*◌, ◌++◌, ◌∙◌, [], ◌∷◌, ap, sym, map, take, drop, List, ℕ, Vec, Global, arith}
 use Rattle.std.proofs.lemmas.List.{map-append}
 use Rattle.std.specs.List.{range_with_len}
 use Rattle.xsk_pcap.specs.Written.{written}

@@ -8,8 +8,8 @@ use Rattle.xsk_cli.proofs.Ports.{more_ports}
 use Rattle.xsk_cli.proofs.Queues.{rest_lists}
 use Rattle.xsk_cli.proofs.texts.output_texts.Goals as goal
 
-pub port_text-requires : goal.port_text-requires
-port_text-requires c count few =
+pub port_text-requires-clause-writable : goal.port_text-requires-clause-writable
+port_text-requires-clause-writable c count few =
     let port = c.loop-port._port in
     subst (λ ls. IsWritable (take count ls)) (sym (rest_lists c.args.sent.items (into_iter_items c.loop-port.lists) (port * c.args.queues) c.loop-port.invariant.rest))
     (c.requires.writable port count c.loop-port-test.true few)

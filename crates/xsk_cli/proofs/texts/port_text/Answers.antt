@@ -13,7 +13,7 @@ add_next-requires c =
     let queue = c.loop-queue._queue in
     let is : c.loop-queue.capture ++ take 1 (lists_in rest) ≡ take (queue + 1) (lists_in all) =
     ap (λ ls. ls ++ take 1 (lists_in rest)) c.loop-queue.invariant.added ∙ next_list all rest queue c.loop-queue.invariant.rest in
-    subst IsWritable (sym is) (c.requires (queue + 1) (omega (arith, c.loop-queue-test.true)))
+    subst IsWritable (sym is) (c.requires.writable (queue + 1) (omega (arith, c.loop-queue-test.true)))
 
 pub loop-queue-preserved : goal.loop-queue-preserved
 loop-queue-preserved c =

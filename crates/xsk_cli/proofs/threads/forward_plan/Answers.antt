@@ -36,14 +36,14 @@ returns-in_err-lists-clause-ends g c =
     let bytes = map (λ bytes. bytes.items) c.in_ok-inputs.inputs.items in
     let failure = c.in_err-lists.field-0.0 in
     let have : HaveRead plan.inputs bytes (length plan.inputs) old mid = subst (λ n. HaveRead plan.inputs bytes n old mid) (sym (length-map c.args.plan.now.inputs.now (λ name. name.now))) c.in_ok-inputs.ensures.read in
-    let makes : MakesNone plan.work bytes failure = subst (λ inputs. MakesNone plan.work (map (λ bytes. bytes.items) inputs) failure) c.as_slice.ensures.value c.in_err-lists.ensures.failed in
+    let makes : MakesNone plan.work bytes failure = c.in_err-lists.ensures.failed in
     status_shown c.from_residual-in_err-lists.result (run_status failure) None _ plan old mid (search rules) c.requires.none
     (shown_none plan old mid (run_status failure) (run_fails plan bytes old mid mid have failure makes) (run_before failure c.in_err-lists.ensures.no_run))
 
 pub make_shown-requires-clause-short : goal.make_shown-requires-clause-short
 make_shown-requires-clause-short g c κs within =
-    subst (All HasShortPackets) (sym c.as_slice-2.ensures.value)
-    (short_lists (plan_in c.args.plan.now).work (map (λ bytes. bytes.items) c.as_slice.result.now) c.in_ok-lists.lists.items c.in_ok-lists.ensures.taken)
+    subst (All HasShortPackets) (sym c.as_slice.ensures.value)
+    (short_lists (plan_in c.args.plan.now).work (map (λ bytes. bytes.items) c.in_ok-inputs.inputs.items) c.in_ok-lists.lists.items c.in_ok-lists.ensures.taken)
 
 pub returns-in_err-texts-clause-ends : goal.returns-in_err-texts-clause-ends
 returns-in_err-texts-clause-ends g c =
@@ -54,8 +54,8 @@ returns-in_err-texts-clause-ends g c =
     let lists = lists_in c.in_ok-lists.lists.items in
     let have : HaveRead plan.inputs bytes (length plan.inputs) old mid = subst (λ n. HaveRead plan.inputs bytes n old mid) (sym (length-map c.args.plan.now.inputs.now (λ name. name.now))) c.in_ok-inputs.ensures.read in
     let short : AreShort bytes (length bytes) = subst (AreShort bytes) (sym have.count_is) have.short in
-    let are : AreListsOf plan.work bytes lists = subst (λ inputs. AreListsOf plan.work (map (λ bytes. bytes.items) inputs) lists) c.as_slice.ensures.value c.in_ok-lists.ensures.taken in
-    let same_lists : lists_in c.as_slice-2.result.now ≡ lists = ap lists_in c.as_slice-2.ensures.value in
+    let are : AreListsOf plan.work bytes lists = c.in_ok-lists.ensures.taken in
+    let same_lists : lists_in c.as_slice.result.now ≡ lists = ap lists_in c.as_slice.ensures.value in
     let ports : length lists ≡ written_by plan.work = length-map c.in_ok-lists.lists.items (λ list. list.packets) ∙ c.in_ok-lists.ensures.count in
     let shown : Option OutcomeShown = c.make_shown.new.outcome in
     let each : (o : OutcomeShown) → shown ≡ Some o → IsShown plan.work bytes o = λ o is. record {
@@ -77,7 +77,7 @@ write_texts-requires-clause-texts g c =
     let plan = plan_in c.args.plan.now in
     omega (
       arith,
-      shown_count plan.work (lists_in c.as_slice-2.result.now) c.in_ok-texts.ensures.made.0 (written_in c.in_ok-texts.texts) c.in_ok-texts.ensures.made.2,
+      shown_count plan.work (lists_in c.as_slice.result.now) c.in_ok-texts.ensures.made.0 (written_in c.in_ok-texts.texts) c.in_ok-texts.ensures.made.2,
       length-map c.in_ok-texts.texts.outputs.items (λ text. text.items),
       length-map c.args.plan.now.outputs.now (λ name. name.now),
       c.requires.ready.outputs,
@@ -95,8 +95,8 @@ returns-in_err-write_texts-clause-ends g c =
     let failure = c.in_err-write_texts.field-0.0 in
     let have : HaveRead plan.inputs bytes (length plan.inputs) old mid = subst (λ n. HaveRead plan.inputs bytes n old mid) (sym (length-map c.args.plan.now.inputs.now (λ name. name.now))) c.in_ok-inputs.ensures.read in
     let short : AreShort bytes (length bytes) = subst (AreShort bytes) (sym have.count_is) have.short in
-    let are : AreListsOf plan.work bytes lists = subst (λ inputs. AreListsOf plan.work (map (λ bytes. bytes.items) inputs) lists) c.as_slice.ensures.value c.in_ok-lists.ensures.taken in
-    let same_lists : lists_in c.as_slice-2.result.now ≡ lists = ap lists_in c.as_slice-2.ensures.value in
+    let are : AreListsOf plan.work bytes lists = c.in_ok-lists.ensures.taken in
+    let same_lists : lists_in c.as_slice.result.now ≡ lists = ap lists_in c.as_slice.ensures.value in
     let ports : length lists ≡ written_by plan.work = length-map c.in_ok-lists.lists.items (λ list. list.packets) ∙ c.in_ok-lists.ensures.count in
     let o = c.in_ok-texts.ensures.made.0 in
     let is_some : c.make_shown.new.outcome ≡ Some o = c.in_ok-texts.ensures.made.1 in
@@ -124,8 +124,8 @@ returns-clause-ends g c =
     let texts = written_in c.in_ok-texts.texts in
     let have : HaveRead plan.inputs bytes (length plan.inputs) old mid = subst (λ n. HaveRead plan.inputs bytes n old mid) (sym (length-map c.args.plan.now.inputs.now (λ name. name.now))) c.in_ok-inputs.ensures.read in
     let short : AreShort bytes (length bytes) = subst (AreShort bytes) (sym have.count_is) have.short in
-    let are : AreListsOf plan.work bytes lists = subst (λ inputs. AreListsOf plan.work (map (λ bytes. bytes.items) inputs) lists) c.as_slice.ensures.value c.in_ok-lists.ensures.taken in
-    let same_lists : lists_in c.as_slice-2.result.now ≡ lists = ap lists_in c.as_slice-2.ensures.value in
+    let are : AreListsOf plan.work bytes lists = c.in_ok-lists.ensures.taken in
+    let same_lists : lists_in c.as_slice.result.now ≡ lists = ap lists_in c.as_slice.ensures.value in
     let ports : length lists ≡ written_by plan.work = length-map c.in_ok-lists.lists.items (λ list. list.packets) ∙ c.in_ok-lists.ensures.count in
     let o = c.in_ok-texts.ensures.made.0 in
     let is_some : c.make_shown.new.outcome ≡ Some o = c.in_ok-texts.ensures.made.1 in

@@ -3,7 +3,7 @@ use Rattle.std.specs.Prelude.{option_map}
 use Rattle.xsk_args.specs.Words.{Text}
 use Rattle.xsk_args.specs.Meaning.{meaning, under}
 use Rattle.xsk_socket.specs.Layout.{fault_of}
-use Rattle.xsk_cli.specs.Forward.{forward_options, forward_plan, IsRun}
+use Rattle.xsk_cli.specs.Forward.{forward_options, forward_plan}
 use Rattle.xsk_cli.specs.Steps.{args_status, plan_in}
 use Rattle.xsk_cli.specs.Streams.{Moment}
 use Rattle.xsk_cli.specs.Words.{Plan, layout_by, plan_by}

@@ -69,4 +69,3 @@ new-requires-clause-parker g c =
     (first_parker tokens c.loop-who.who (into_iter_items c.loop-who.parkers) (into_iter_items c.next.new.self) c.next.result c.next.ensures.items
     (λ none. nil_from_length (into_iter_items c.next.new.self) (let zero : into_iter_len c.next.new.self ≡ 0 = (subst (λ next. into_iter_steps c.loop-who.parkers next c.next.new.self) none c.next.ensures.cases).1 in search (rules, zero)))
     c.loop-who.invariant.2)
-
