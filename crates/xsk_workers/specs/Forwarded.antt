@@ -1,17 +1,23 @@
 -- What a run on threads shows. All workers' calls stand in one legal history, whatever threads did when.
 use Rattle.std.specs.Prelude.{◌≡◌, ℕ, ◌<◌, List, [], ◌++◌, length}
 use Rattle.std.specs.List.{slice_index_or}
+use Rattle.std.specs.Fn.{Shared}
+use denote.Ref.{Bor}
 use Rattle.xsk_umem.specs.Frame.{Frame}
 use Rattle.xsk_umem.specs.PacketList.{PacketList}
-use Rattle.xsk_model.specs.Config.{IsRegular, callers_of}
+use Rattle.xsk_model.specs.Config.{Config, IsRegular, callers_of}
 use Rattle.xsk_model.specs.Steering.{driver_on}
 use Rattle.xsk_model.specs.Entry.{Entry, own}
 use Rattle.xsk_model.specs.History.{IsHistory, state_after}
 use Rattle.xsk_model.specs.Holders.{HasOneHolder}
 use Rattle.xsk_model.specs.Sent.{sent}
+use Rattle.xsk_prog.specs.declared.rule.Rule.{Rule}
+use Rattle.xsk_prog.specs.declared.rule.Verdict.{Verdict}
 use Rattle.xsk_turns.specs.Wakes.{NoWakeIsLost}
-use Rattle.xsk_turns.specs.Workers.{Setting, IsWholeRun}
+use Rattle.xsk_turns.specs.Workers.{Setting, IsWholeRun, AreGiven}
+use Rattle.xsk_turns.specs.declared.wire.Wire.{Wire}
 use Rattle.xsk_turns.specs.declared.wire.Wire.TheVariants.{Wait}
+use Rattle.xsk_driver.specs.Asking.{IsAnswer}
 use Rattle.xsk_driver.specs.Figured.{figures_of}
 use Rattle.xsk_driver.specs.declared.figures.Figures.{Figures}
 use Rattle.xsk_laws.specs.Laws.{AreForwarded, AreExpected}
@@ -35,6 +41,17 @@ pub record HasForwarded (s : Setting) (frames : List Frame) (o : OutcomeShown) :
   pub sent : (pair : ℕ) → pair < length s.config.pairs → slice_index_or o.sent pair [] ≡ sent s.config o.history pair
   pub figures : o.figures ≡ figures_of s o.history
   pub woken : (past later : List Entry) (pair : ℕ) → o.history ≡ past ++ later → pair < length s.config.pairs → NoWakeIsLost s.config frames past pair
+
+-- a setting, by its parts
+abbrev pub setting_with : Config → Wire → List PacketList → List (List Verdict) → Setting
+setting_with c wire packets verdicts = record { config = c; wire = wire; packets = packets; verdicts = verdicts }
+
+-- The same under a program: there are verdicts of each driver's packets, each an answer of the program's closure that meets
+-- its rule, with which it has forwarded.
+pub record HasForwardedUnder {F : Type 0} (g : Shared F (Bor (List ℕ) × (ℕ × Unit {0})) Verdict) (rule : Rule) (f : F) (wire : Wire) (c : Config) (packets : List PacketList) (frames : List Frame) (o : OutcomeShown) : Type 0 where
+  pub verdicts : List (List Verdict)
+  pub asked : AreGiven (IsAnswer g rule f) (setting_with c wire packets verdicts)
+  pub forwarded : HasForwarded (setting_with c wire packets verdicts) frames o
 
 -- What the driver of a port and queue sent is what was forwarded by all classes, whatever the wire does, and nothing else.
 -- Where the wire waits it is what is expected by them.

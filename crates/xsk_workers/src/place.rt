@@ -1,14 +1,16 @@
 //! What a worker's run is judged by, and whom it may wake.
-ghost use Rattle.std.specs.Prelude.{◌≡◌, ℕ, List, map, option_map};
+ghost use Rattle.std.specs.Prelude.{◌≡◌, ℕ, List, [], map, option_map};
 ghost use Rattle.std.specs.List.{slice_get};
 ghost use Rattle.atomic_table.specs.Seated.{TableId};
-ghost use Rattle.xsk_turns.specs.Workers.{Setting, ruled};
+ghost use Rattle.xsk_prog.specs.declared.rule.Verdict.{Verdict as AVerdict};
+ghost use Rattle.xsk_turns.specs.Workers.{Setting};
 ghost use Rattle.xsk_workers.specs.Parking.{token_of};
 
 use crossbeam_utils::sync::Unparker;
+use std::alloc::AllocError;
+use std::marker::{Brand, PhantomData};
 use xsk_driver::Wire;
 use xsk_model::Config;
-use xsk_prog::Rule;
 use xsk_umem::PacketList;
 
 /// A value that shows the setting of a run, by the references that the machines borrow, and what wakes the driver of each pair.
@@ -23,19 +25,35 @@ pub(crate) trait Place: Copy {
         ensures { option_map (λ waker. token_of waker.now) result ≡ slice_get (tokens self.now) pair };
 }
 
-/// The configuration, the packets of each port, the rule that leaves one verdict for each of them, the wire, and what wakes the
-/// drivers.
-#[derive(Clone, Copy)]
-pub(crate) struct Source<'a> {
-    pub(crate) config: &'a Config,
-    pub(crate) packets: &'a [PacketList],
-    pub(crate) rule: Rule,
-    pub(crate) wire: Wire,
-    pub(crate) wakers: &'a [Unparker],
+/// The verdicts of each pair's packets, which are known once all drivers are made. No value of it has bytes: what a worker's
+/// run is judged by goes to threads, so it may keep no snapshot.
+pub(crate) trait Verdicts {
+    ghost verdicts: { List (List AVerdict) };
 }
 
-impl Place for Source<'_> {
-    ghost setting = { λ s. ruled s.rule s.wire s.config.now s.packets.now };
+impl Verdicts for Brand {
+    ghost verdicts = { [] };
+}
+
+/// The configuration, the packets of each port, the wire, and what wakes the drivers.
+pub(crate) struct Source<'a, V: Verdicts> {
+    pub(crate) config: &'a Config,
+    pub(crate) packets: &'a [PacketList],
+    pub(crate) wire: Wire,
+    pub(crate) wakers: &'a [Unparker],
+    pub(crate) verdicts: PhantomData<V>,
+}
+
+impl<V: Verdicts> Clone for Source<'_, V> {
+    fn clone(&self) -> Result<Self, AllocError> {
+        Ok(*self)
+    }
+}
+
+impl<V: Verdicts> Copy for Source<'_, V> {}
+
+impl<V: Verdicts> Place for Source<'_, V> {
+    ghost setting = { λ s. record { config = s.config.now; wire = s.wire; packets = s.packets.now; verdicts = V.verdicts } };
 
     ghost tokens = { λ s. map token_of s.wakers.now };
 

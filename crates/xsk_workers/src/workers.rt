@@ -1,5 +1,5 @@
 //! A run on threads: drivers and applications over one table, from its opening to its end.
-ghost use Rattle.std.specs.Prelude.{◌≡◌, ℕ, ◌≤◌, ◌<◌, List, [], map, false, true, All, length, vec_capacity, IfOk};
+ghost use Rattle.std.specs.Prelude.{◌≡◌, ℕ, ◌≤◌, ◌<◌, List, [], map, false, true, All, length, vec_capacity, IfOk, IfSome, IfNone};
 ghost use Rattle.std.specs.List.{range_with_len};
 ghost use Rattle.xsk_umem.specs.Frame.{Frame as Body};
 ghost use Rattle.xsk_model.specs.Config.{IsRegular, callers_of, classes_of};
@@ -9,7 +9,7 @@ ghost use Rattle.xsk_turns.specs.Inputs.{inputs_of};
 ghost use Rattle.xsk_prog.specs.Program.{Obeys};
 ghost use Rattle.xsk_prog.specs.Rules.{is_exact};
 ghost use Rattle.xsk_turns.specs.Counted.{capped};
-ghost use Rattle.xsk_turns.specs.Workers.{Setting, ruled};
+ghost use Rattle.xsk_turns.specs.Workers.{Setting, ruled, AreGiven as HaveVerdicts};
 ghost use Rattle.xsk_driver.specs.Sent.{IsShort};
 ghost use Rattle.xsk_machine.specs.Acts.{HasShortPackets};
 ghost use Rattle.xsk_table.specs.Held.{Board};
@@ -18,21 +18,23 @@ ghost use Rattle.xsk_workers.specs.Shown.{WorkerShown, seat_of, seat_at, HasRun,
 ghost use Rattle.xsk_workers.specs.Parking.{token_of, token_in};
 ghost use Rattle.xsk_workers.specs.Gathering.{HaveRun, AreTaken, AreGiven, AreSent, AreFiguresOf, calls_in};
 ghost use Rattle.xsk_workers.specs.Eithers.{IsNew, awaits};
-ghost use Rattle.xsk_workers.specs.Forwarded.{HasForwarded, packets_in};
+ghost use Rattle.xsk_workers.specs.Forwarded.{HasForwarded, HasForwardedUnder, packets_in, setting_with};
+ghost use Rattle.xsk_workers.specs.Drivers.{kept_in, IsFresh, AreNew};
+ghost use Rattle.xsk_driver.specs.Asking.{IsAnswer};
 
 use crate::crew::{Crew, run_crew};
 use crate::either::Either;
 use crate::kept::Kept;
 use crate::parking::parkers_for;
-use crate::place::Source;
+use crate::place::{Source, Verdicts};
 use crate::worker::Worker;
 use crossbeam_utils::sync::Parker;
 use std::alloc::Global;
-use std::marker::Model;
+use std::marker::{Brand, Model, PhantomData};
 use std::sync::Wait;
 use std::thread::Threads;
 use xsk_app::App;
-use xsk_driver::{FigureList, Figures, Inputs, Wire};
+use xsk_driver::{Driver, FigureList, Figures, Inputs, Wire};
 use xsk_io::Gate;
 use xsk_machine::driver_for;
 use xsk_model::Config;
@@ -82,9 +84,9 @@ impl Outcome {
 
 /// Runs the drivers and applications of a regular configuration, each in a thread of its own where one can be had, until
 /// all have ended, over one list of packets for each port, none of which has more than 262,144 bytes. The frames are all
-/// frames of its UMEM. The program is attached to every port, and asked once for each packet before a worker starts; its rule
-/// leaves one verdict for each. The wire says what becomes of a packet that finds too few frames or no room on RX. Each worker
-/// passes the gate before each of its turns.
+/// frames of its UMEM. The program is attached to every port, and asked once for each packet before a worker starts: the run is
+/// one under the verdicts that it gave, which are the rule's own where that leaves one for each packet. The wire says what
+/// becomes of a packet that finds too few frames or no room on RX. Each worker passes the gate before each of its turns.
 ///
 /// What the drivers sent is what was delivered to the paired sockets (`laws::all_are_forwarded`), and where the wire waits what
 /// is expected there (`laws::all_are_expected`).
@@ -106,35 +108,80 @@ pub fn forward<R: Threads + Wait + Sync, F: Fn(&[u8], u32) -> Verdict, G: Gate +
     requires lists { length packets.now ≡ config.ports }
     requires short { All HasShortPackets packets.now }
     requires obeys { Obeys F.Fn program.now.rule program.now.decide }
-    requires exact { is_exact program.now.rule ≡ true }
     ensures pairs { IfOk result (λ outcome. length outcome.sent ≡ length config.pairs) }
     ensures short { IfOk result (λ outcome. All (λ (list : List (List ℕ)). All IsShort list) outcome.sent) }
-    ensures forwarded { IfOk result (HasForwarded (ruled program.now.rule wire config packets.now) frames.items) }
+    ensures under { IfOk result (HasForwardedUnder F.Fn program.now.rule program.now.decide wire config packets.now frames.items) }
+    ensures forwarded { is_exact program.now.rule ≡ true → IfOk result (HasForwarded (ruled program.now.rule wire config packets.now) frames.items) }
 {
     let own = config.copy(alloc)?;
     let inputs = Inputs::split(alloc, &own, packets)?;
+    let drivers = drivers_for(alloc, &own, packets, &inputs, program, wire)?;
+    let outcome = run_drivers::<Brand, R, G>(
+        rt, alloc, &own, config, frames, packets, wire, gate, drivers,
+    )?;
+    Ok(outcome)
+}
+
+/// A driver for each pair. The program is asked once for each packet.
+fn drivers_for<'a, F: Fn(&[u8], u32) -> Verdict>(
+    alloc: Global,
+    config: &'a Config,
+    packets: &'a [PacketList],
+    inputs: &'a Inputs,
+    program: &XdpProgram<F>,
+    wire: Wire,
+) -> Result<Vec<Driver<'a>>, OutOfMemory>
+    requires regular { IsRegular config.now }
+    requires lists { length packets.now ≡ config.now.ports }
+    requires inputs { inputs.now ≡ inputs_of config.now packets.now }
+    requires short { All HasShortPackets packets.now }
+    requires obeys { Obeys F.Fn program.now.rule program.now.decide }
+    ensures new { IfOk result (λ drivers. AreNew (setting_with config.now wire packets.now (kept_in drivers.items)) 0 drivers.items) }
+    ensures asked { IfOk result (λ drivers. HaveVerdicts (IsAnswer F.Fn program.now.rule program.now.decide) (setting_with config.now wire packets.now (kept_in drivers.items))) }
+{
+    let count = config.pairs().len() as u32;
+    let mut drivers = Vec::with_capacity(alloc, count as usize)?;
+    for pair in 0..count {
+        drivers.push(driver_for(alloc, config, packets, inputs, program, wire, pair)?)?;
+    }
+    Ok(drivers)
+}
+
+/// Runs drivers that were made for these packets, and the applications. The verdicts are those that the drivers keep.
+fn run_drivers<'a, V: Verdicts + Send, R: Threads + Wait + Sync, G: Gate + Sync>(
+    rt: &R,
+    alloc: Global,
+    own: &'a Config,
+    config: Config,
+    frames: Frames,
+    packets: &'a [PacketList],
+    wire: Wire,
+    gate: &G,
+    drivers: Vec<Driver<'a>>,
+) -> Result<Outcome, OutOfMemory>
+    requires own { own.now ≡ config }
+    requires regular { IsRegular config }
+    requires frames { AreFrames config.geometry frames.items }
+    requires count { length drivers.items ≡ length config.pairs }
+    requires new { AreNew (setting_with config wire packets.now V.verdicts) 0 drivers.items }
+    ensures pairs { IfOk result (λ outcome. length outcome.sent ≡ length config.pairs) }
+    ensures short { IfOk result (λ outcome. All (λ (list : List (List ℕ)). All IsShort list) outcome.sent) }
+    ensures forwarded { IfOk result (HasForwarded (setting_with config wire packets.now V.verdicts) frames.items) }
+{
     let classes = own.classes();
     let mut kept = Kept::with_room(alloc, own.pairs().len())?;
-    let (parkers, wakers) = parkers_for(alloc, &own)?;
+    let (parkers, wakers) = parkers_for(alloc, own)?;
     let Ok((shared, mut passes)) = Shared::open(alloc, config, frames, 0) else {
         return Err(OutOfMemory);
     };
-    let place = Source {
-        config: &own,
+    let place: Source<'_, V> = Source {
+        config: own,
         packets,
-        rule: program.rule(),
         wire,
         wakers: wakers.as_slice(),
+        verdicts: PhantomData,
     };
-    let workers = seat_workers(
-        alloc,
-        &shared,
-        place,
-        &inputs,
-        program,
-        parkers,
-        &mut passes,
-    )?;
+    let workers = seat_workers(alloc, &shared, place, drivers, parkers, &mut passes)?;
     let crew = Crew::new(alloc, &shared, place, workers)?;
     let workers = run_crew(rt, &shared, gate, crew);
     give_back(&shared, workers, classes, &mut passes, &mut kept);
@@ -158,33 +205,30 @@ pub fn forward<R: Threads + Wait + Sync, F: Fn(&[u8], u32) -> Verdict, G: Gate +
 
 /// A worker for each caller, with its pass: the drivers of all pairs, each with its parker where they sleep, and then the
 /// applications.
-fn seat_workers<'a, F: Fn(&[u8], u32) -> Verdict>(
+fn seat_workers<'a, V: Verdicts>(
     alloc: Global,
     shared: &Shared,
-    place: Source<'a>,
-    inputs: &'a Inputs,
-    program: &XdpProgram<F>,
+    place: Source<'a, V>,
+    drivers: Vec<Driver<'a>>,
     parkers: Vec<Parker>,
     passes: &mut Passes,
-) -> Result<Vec<Worker<Either<'a>, Source<'a>>>, OutOfMemory>
+) -> Result<Vec<Worker<Either<'a>, Source<'a, V>>>, OutOfMemory>
     requires regular { IsRegular place.config.now }
-    requires lists { length place.packets.now ≡ place.config.now.ports }
-    requires inputs { inputs.now ≡ inputs_of place.config.now place.packets.now }
-    requires short { All HasShortPackets place.packets.now }
-    requires obeys { Obeys F.Fn program.now.rule program.now.decide }
-    requires rule { (is_exact program.now.rule ≡ true) × (place.rule ≡ program.now.rule) }
+    requires count { length drivers.items ≡ length place.config.now.pairs }
+    requires new { AreNew (setting_with place.config.now place.wire place.packets.now V.verdicts) 0 drivers.items }
     requires table { shared.now.setup.config ≡ place.config.now }
     requires parkers { map token_in parkers.items ≡ map token_of place.wakers.now }
     requires passes { passes.old ≡ new_passes shared.now }
     ensures taken { IfOk result (λ workers. AreTaken shared.now (callers_of shared.now.setup.config) passes.new) }
     ensures seats { IfOk result (λ workers. map (λ (w : WorkerShown). seat_of w) workers.items
-        ≡ map (seat_at (ruled place.entry.rule place.entry.wire place.entry.config.now place.entry.packets.now) shared.now) (range_with_len 0 (callers_of shared.now.setup.config))) }
+        ≡ map (seat_at (setting_with place.entry.config.now place.entry.wire place.entry.packets.now V.verdicts) shared.now) (range_with_len 0 (callers_of shared.now.setup.config))) }
 {
     let callers = place.config.callers();
     let mut workers = Vec::with_capacity(alloc, callers as usize)?;
+    let mut drivers = drivers.into_iter();
     let mut parkers = parkers.into_iter();
     for who in 0..callers {
-        let machine = machine_for(alloc, place, inputs, program, who)?;
+        let machine = machine_of(alloc, place, drivers.next(), who)?;
         let Some(pass) = passes.take(who) else {
             unreachable!()
         };
@@ -193,46 +237,32 @@ fn seat_workers<'a, F: Fn(&[u8], u32) -> Verdict>(
     Ok(workers)
 }
 
-/// The machine of a caller: the driver of its pair, or its application.
-fn machine_for<'a, F: Fn(&[u8], u32) -> Verdict>(
+/// The machine of a caller: its driver, or where it has none its application.
+fn machine_of<'a, V: Verdicts>(
     alloc: Global,
-    place: Source<'a>,
-    inputs: &'a Inputs,
-    program: &XdpProgram<F>,
+    place: Source<'a, V>,
+    driver: Option<Driver<'a>>,
     who: u32,
 ) -> Result<Either<'a>, OutOfMemory>
     requires regular { IsRegular place.config.now }
-    requires lists { length place.packets.now ≡ place.config.now.ports }
-    requires inputs { inputs.now ≡ inputs_of place.config.now place.packets.now }
-    requires short { All HasShortPackets place.packets.now }
-    requires obeys { Obeys F.Fn program.now.rule program.now.decide }
-    requires rule { (is_exact program.now.rule ≡ true) × (place.rule ≡ program.now.rule) }
     requires caller { who < callers_of place.config.now }
-    ensures new { IfOk result (IsNew (ruled place.entry.rule place.entry.wire place.entry.config.now place.entry.packets.now) who) }
+    requires driver { IfSome driver (IsFresh (setting_with place.config.now place.wire place.packets.now V.verdicts) who) }
+    requires app { IfNone driver (length place.config.now.pairs ≤ who) }
+    ensures new { IfOk result (IsNew (setting_with place.entry.config.now place.entry.wire place.entry.packets.now V.verdicts) who) }
     ensures awaits { IfOk result (λ m. awaits m ≡ nothing) }
 {
     let config = place.config;
-    let pairs = config.pairs().len() as u32;
-    if who < pairs {
-        let driver = driver_for(
-            alloc,
-            config,
-            place.packets,
-            inputs,
-            program,
-            place.wire,
-            who,
-        )?;
+    if let Some(driver) = driver {
         return Ok(Either::Driver(driver));
     }
-    let app = App::new(alloc, config, who - pairs)?;
+    let app = App::new(alloc, config, who - config.pairs().len() as u32)?;
     Ok(Either::App(app))
 }
 
 /// Gives the passes of workers that have ended back, and keeps what is left of the workers.
-fn give_back<'a>(
+fn give_back<'a, V: Verdicts>(
     shared: &Shared,
-    workers: Vec<Worker<Either<'a>, Source<'a>>>,
+    workers: Vec<Worker<Either<'a>, Source<'a, V>>>,
     classes: u32,
     passes: &mut Passes,
     kept: &mut Kept,

@@ -14,19 +14,15 @@ rule_of-rule-requires g c =
     let sockets = (fits c.args.layout.now c.requires.accepted).sockets in
     record { some = omega (arith, sockets); few = omega (arith, sockets) }
 
-pub forward-requires-clause-exact : goal.forward-requires-clause-exact
-forward-requires-clause-exact g c κs within =
-    let rule : c.attach-attached.result.rule ≡ rule_by c.args.layout.now.sockets c.args.program = ap (λ attached. attached.rule) c.attach-attached.ensures.parts ∙ c.rule_of-rule.ensures.rule in
-    subst (λ (r : Rule). is_exact r ≡ true) (sym rule) (is_exact_by c.args.layout.now.sockets c.args.program)
-
 pub returns-clause-pairs : goal.returns-clause-pairs
 returns-clause-pairs g c = c.in_ok-outcome.ensures.pairs ∙ ap (λ (k : Config). length k.pairs) c.requires.config ∙ pairs_are c.args.layout.now
 
 pub returns-clause-forwarded : goal.returns-clause-forwarded
 returns-clause-forwarded g c =
+    let is : c.attach-attached.result.rule ≡ rule_by c.args.layout.now.sockets c.args.program = ap (λ attached. attached.rule) c.attach-attached.ensures.parts ∙ c.rule_of-rule.ensures.rule in
     forwarded_as c.args.layout.now c.args.program c.args.wire c.args.config c.args.lists.now c.args.frames.items (lists_in c.args.lists.now) c.in_ok-outcome.outcome
     c.requires.config c.requires.listed c.requires.frames c.wire_of-wire.result c.wire_of-wire.ensures c.attach-attached.result.rule
-    (ap (λ attached. attached.rule) c.attach-attached.ensures.parts ∙ c.rule_of-rule.ensures.rule) c.in_ok-outcome.ensures.forwarded
+    is (c.in_ok-outcome.ensures.forwarded (subst (λ (r : Rule). is_exact r ≡ true) (sym is) (is_exact_by c.args.layout.now.sockets c.args.program)))
 
 pub returns-clause-short : goal.returns-clause-short
 returns-clause-short g c = c.in_ok-outcome.ensures.short

@@ -1,88 +1,27 @@
-use Rattle.std.proofs.Common.{rules, arith, ◌≡◌, ◌≤◌, ℕ, List, length, map, refl, sym, ap, subst, ◌∙◌}
-use Rattle.std.specs.Prelude.{All}
-use Rattle.std.specs.List.{range_with_len}
-use Rattle.std.proofs.lemmas.List.Elements.{All-map}
-use Rattle.xsk_driver.specs.Sent.{IsShort}
-use Rattle.xsk_model.specs.Config.{Config, IsRegular, callers_of}
-use Rattle.xsk_turns.specs.Workers.{Setting, ruled}
-use Rattle.xsk_prog.specs.declared.rule.Rule.{Rule}
-use Rattle.xsk_workers.specs.Shown.{WorkerShown, seat_of, seat_at}
-use Rattle.xsk_workers.specs.Forwarded.{packets_in, HasForwarded, OutcomeShown}
-use Rattle.xsk_workers.proofs.Gathering.{are_of, have_run_all, seats_count, are_there, has_forwarded, pairs_are}
+use Rattle.std.proofs.Common.{subst}
+use Rattle.xsk_model.specs.Config.{Config}
+use Rattle.xsk_turns.specs.Workers.{AreGiven}
+use Rattle.xsk_driver.specs.Asking.{IsAnswer}
+use Rattle.xsk_workers.specs.Drivers.{kept_in, AreNew}
+use Rattle.xsk_workers.specs.Forwarded.{setting_with}
+use Rattle.xsk_workers.proofs.Making.{forwards_as_ruled}
+use Rattle.xsk_workers.proofs.workers.forward.Given as given
 use Rattle.xsk_workers.proofs.workers.forward.Goals as goal
 
-pub new-requires : goal.new-requires
-new-requires g c = record { workers = are_of c.in-Ok.shared _ 0 (callers_of c.in-Ok.shared.setup.config) c.in_ok-workers.workers.items c.in_ok-workers.ensures.seats }
+pub run_drivers-requires-clause-new : goal.run_drivers-requires-clause-new
+run_drivers-requires-clause-new g c κs within =
+    subst (λ (k : Config). AreNew (setting_with k c.args.wire c.args.packets.now (kept_in c.in_ok-drivers.drivers.items)) 0 c.in_ok-drivers.drivers.items) c.in_ok-own.ensures c.in_ok-drivers.ensures.new
 
-pub give_back-requires-clause-run : goal.give_back-requires-clause-run
-give_back-requires-clause-run g c =
-    let s : Setting = ruled c.rule.result c.args.wire c.in_ok-own.own c.args.packets.now in
-    let config : s.config ≡ c.in-Ok.shared.setup.config = search rules in
-    let seats : map (λ (w : WorkerShown). seat_of w) c.run_crew-workers.result.items ≡ map (seat_at s c.in-Ok.shared) (range_with_len 0 (callers_of c.in-Ok.shared.setup.config)) =
-    c.run_crew-workers.ensures.seats ∙ ap (λ k. k.seats) c.in_ok-crew.ensures ∙ c.in_ok-workers.ensures.seats in
-    (s, have_run_all c.in-Ok.shared s c.run_crew-workers.result.items config seats c.run_crew-workers.ensures.whole)
+asked : (g : given.Over) (c : goal.After-drop-own-inside-4 g)
+    → AreGiven (IsAnswer g.F.Fn c.args.program.now.rule c.args.program.now.decide) (setting_with c.args.config c.args.wire c.args.packets.now (kept_in c.in_ok-drivers.drivers.items))
+asked g c =
+    subst (λ (k : Config). AreGiven (IsAnswer g.F.Fn c.args.program.now.rule c.args.program.now.decide) (setting_with k c.args.wire c.args.packets.now (kept_in c.in_ok-drivers.drivers.items)))
+    c.in_ok-own.ensures c.in_ok-drivers.ensures.asked
 
-pub give_back-requires-clause-count : goal.give_back-requires-clause-count
-give_back-requires-clause-count g c =
-    let s : Setting = ruled c.rule.result c.args.wire c.in_ok-own.own c.args.packets.now in
-    let seats : map (λ (w : WorkerShown). seat_of w) c.run_crew-workers.result.items ≡ map (seat_at s c.in-Ok.shared) (range_with_len 0 (callers_of c.in-Ok.shared.setup.config)) =
-    c.run_crew-workers.ensures.seats ∙ ap (λ k. k.seats) c.in_ok-crew.ensures ∙ c.in_ok-workers.ensures.seats in
-    seats_count c.in-Ok.shared s c.run_crew-workers.result.items seats
-
-pub close-frames-requires : goal.close-frames-requires
-close-frames-requires g c =
-    let s : Setting = ruled c.rule.result c.args.wire c.in_ok-own.own c.args.packets.now in
-    let config : s.config ≡ c.in-Ok.shared.setup.config = search rules in
-    let seats : map (λ (w : WorkerShown). seat_of w) c.run_crew-workers.result.items ≡ map (seat_at s c.in-Ok.shared) (range_with_len 0 (callers_of c.in-Ok.shared.setup.config)) =
-    c.run_crew-workers.ensures.seats ∙ ap (λ k. k.seats) c.in_ok-crew.ensures ∙ c.in_ok-workers.ensures.seats in
-    let have = have_run_all c.in-Ok.shared s c.run_crew-workers.result.items config seats c.run_crew-workers.ensures.whole in
-    record { there = are_there c.in-Ok.shared s c.give_back.new.passes (c.give_back.ensures.given s have) }
-
-pub returns-clause-pairs : goal.returns-clause-pairs
-returns-clause-pairs g c =
-    let s : Setting = ruled c.rule.result c.args.wire c.in_ok-own.own c.args.packets.now in
-    let is : s.config ≡ c.args.config = search rules in
-    let config : s.config ≡ c.in-Ok.shared.setup.config = search rules in
-    let seats : map (λ (w : WorkerShown). seat_of w) c.run_crew-workers.result.items ≡ map (seat_at s c.in-Ok.shared) (range_with_len 0 (callers_of c.in-Ok.shared.setup.config)) =
-    c.run_crew-workers.ensures.seats ∙ ap (λ k. k.seats) c.in_ok-crew.ensures ∙ c.in_ok-workers.ensures.seats in
-    let have = have_run_all c.in-Ok.shared s c.run_crew-workers.result.items config seats c.run_crew-workers.ensures.whole in
-    let regular : IsRegular s.config = subst IsRegular (sym is) c.requires.regular in
-    let frames : c.in-Ok.shared.setup.frames ≡ c.args.frames.items = search rules in
-    pairs_are c.in-Ok.shared s c.args.frames.items c.give_back.new.passes (map packets_in c.give_back.new.kept.sent.items) c.give_back.new.kept.figures.items c.give_back.new.kept.calls c.args.wire c.close-frames.result.1.seen regular config frames
-    (c.give_back.ensures.given s have) (c.give_back.ensures.sent s have) (c.give_back.ensures.figures s have) c.give_back.ensures.calls refl c.close-frames.ensures.history
-    ∙ ap (λ (k : Config). length k.pairs) is
+pub returns-clause-under : goal.returns-clause-under
+returns-clause-under g c = record { verdicts = kept_in c.in_ok-drivers.drivers.items; asked = asked g c; forwarded = c.in_ok-outcome.ensures.forwarded }
 
 pub returns-clause-forwarded : goal.returns-clause-forwarded
-returns-clause-forwarded g c =
-    let s : Setting = ruled c.rule.result c.args.wire c.in_ok-own.own c.args.packets.now in
-    let is : s.config ≡ c.args.config = search rules in
-    let config : s.config ≡ c.in-Ok.shared.setup.config = search rules in
-    let seats : map (λ (w : WorkerShown). seat_of w) c.run_crew-workers.result.items ≡ map (seat_at s c.in-Ok.shared) (range_with_len 0 (callers_of c.in-Ok.shared.setup.config)) =
-    c.run_crew-workers.ensures.seats ∙ ap (λ k. k.seats) c.in_ok-crew.ensures ∙ c.in_ok-workers.ensures.seats in
-    let have = have_run_all c.in-Ok.shared s c.run_crew-workers.result.items config seats c.run_crew-workers.ensures.whole in
-    let regular : IsRegular s.config = subst IsRegular (sym is) c.requires.regular in
-    let frames : c.in-Ok.shared.setup.frames ≡ c.args.frames.items = search rules in
-    let kept = c.give_back.new.kept in
-    let outcome : OutcomeShown = record {
-      history = c.close-frames.result.1.seen;
-      sent = map packets_in kept.sent.items;
-      figures = record { calls = kept.calls; wire = c.args.wire; drivers = c.of-drivers.result };
-    } in
-    subst (λ (r : Rule). HasForwarded (ruled r c.args.wire c.args.config c.args.packets.now) c.args.frames.items outcome) c.rule.ensures
-    (subst (λ (k : Config). HasForwarded (ruled c.rule.result c.args.wire k c.args.packets.now) c.args.frames.items outcome) is
-    (subst (λ ds. HasForwarded s c.args.frames.items (record { history = c.close-frames.result.1.seen; sent = map packets_in kept.sent.items; figures = record { calls = kept.calls; wire = c.args.wire; drivers = ds } })) (sym c.of-drivers.ensures)
-    (has_forwarded c.in-Ok.shared s c.args.frames.items c.give_back.new.passes (map packets_in kept.sent.items) kept.figures.items kept.calls c.args.wire c.close-frames.result.1.seen regular config frames
-    (c.give_back.ensures.given s have) (c.give_back.ensures.sent s have) (c.give_back.ensures.figures s have) c.give_back.ensures.calls refl c.close-frames.ensures.history)))
-
-pub returns-clause-short : goal.returns-clause-short
-returns-clause-short g c = All-map (λ (list : List (List ℕ)). All IsShort list) packets_in c.give_back.new.kept.sent.items c.give_back.ensures.short
-
-pub of-drivers-requires : goal.of-drivers-requires
-of-drivers-requires g c =
-    let s : Setting = ruled c.rule.result c.args.wire c.in_ok-own.own c.args.packets.now in
-    let config : s.config ≡ c.in-Ok.shared.setup.config = search rules in
-    let seats : map (λ (w : WorkerShown). seat_of w) c.run_crew-workers.result.items ≡ map (seat_at s c.in-Ok.shared) (range_with_len 0 (callers_of c.in-Ok.shared.setup.config)) =
-    c.run_crew-workers.ensures.seats ∙ ap (λ k. k.seats) c.in_ok-crew.ensures ∙ c.in_ok-workers.ensures.seats in
-    let have = have_run_all c.in-Ok.shared s c.run_crew-workers.result.items config seats c.run_crew-workers.ensures.whole in
-    let past : length s.config.pairs ≤ callers_of c.in-Ok.shared.setup.config = omega (arith, ap (λ (k : Config). callers_of k) config) in
-    omega (arith, (c.give_back.ensures.figures s have).all past, ap (λ (k : Config). length k.pairs) config, c.close-frames.ensures.history.legal.opened.config.pairs_few)
+returns-clause-forwarded g c exact =
+    forwards_as_ruled g.F.Fn c.args.program.now.rule c.args.program.now.decide (setting_with c.args.config c.args.wire c.args.packets.now (kept_in c.in_ok-drivers.drivers.items)) c.args.frames.items c.in_ok-outcome.outcome
+    exact (asked g c) c.in_ok-outcome.ensures.forwarded

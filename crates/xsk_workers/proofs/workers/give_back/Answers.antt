@@ -15,7 +15,7 @@ use Rattle.xsk_workers.proofs.Gathering.{given_none, kept_none, given_more, sent
 use Rattle.xsk_workers.proofs.workers.give_back.Goals as goal
 
 pub loop-worker-init : goal.loop-worker-init
-loop-worker-init c =
+loop-worker-init g c =
     let b = c.args.shared.now in
     let taken = c.requires.taken in (
       λ s have. (
@@ -32,7 +32,7 @@ loop-worker-init c =
     )
 
 pub keep-requires-clause-sent : goal.keep-requires-clause-sent
-keep-requires-clause-sent c =
+keep-requires-clause-sent g c =
     let b = c.args.shared.now in
     let s = c.requires.run.0 in
     let n : ℕ = length c.loop-worker.yielded in
@@ -47,7 +47,7 @@ keep-requires-clause-sent c =
     omega (arith, few, config, c.loop-worker.invariant.4, length-map c.loop-worker.kept.sent.items packets_in, c.loop-worker.kept.sent.ok.0)
 
 pub keep-requires-clause-figures : goal.keep-requires-clause-figures
-keep-requires-clause-figures c =
+keep-requires-clause-figures g c =
     let b = c.args.shared.now in
     let s = c.requires.run.0 in
     let n : ℕ = length c.loop-worker.yielded in
@@ -62,7 +62,7 @@ keep-requires-clause-figures c =
     omega (arith, few, config, c.loop-worker.invariant.3, as_many c.args.classes m, c.loop-worker.kept.figures.ok.0)
 
 pub loop-worker-preserved : goal.loop-worker-preserved
-loop-worker-preserved c =
+loop-worker-preserved g c =
     let b = c.args.shared.now in
     let n : ℕ = length c.loop-worker.yielded in
     let w = c.in-Some.worker in

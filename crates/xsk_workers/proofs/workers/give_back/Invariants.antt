@@ -10,7 +10,7 @@ use Rattle.xsk_workers.proofs.workers.give_back.Given as goal
 
 -- in a setting of the workers those that are left have run, the others' passes are given back, and what is left of them is kept
 abbrev pub invariant-loop-worker : goal.invariant-loop-worker
-invariant-loop-worker l =
+invariant-loop-worker g l =
     let n : ℕ = length l.yielded in
     ((s : Setting) → HaveRun l.shared s (vec_items l.fn.workers)
     → HaveRunFrom l.shared s n (into_iter_items l.worker-iterator) × AreGiven l.shared s n l.passes × AreSent s n l.passes (map packets_in (vec_items l.kept.sent))
