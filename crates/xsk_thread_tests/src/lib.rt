@@ -4,6 +4,8 @@
 #[cfg(test)]
 mod at_once;
 #[cfg(test)]
+mod own_closure;
+#[cfg(test)]
 mod packets;
 #[cfg(test)]
 mod same_lists;

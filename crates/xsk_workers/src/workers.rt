@@ -147,7 +147,7 @@ fn drivers_for<'a, F: Fn(&[u8], u32) -> Verdict>(
     Ok(drivers)
 }
 
-/// Runs drivers that were made for these packets, and the applications. The verdicts are those that the drivers keep.
+/// Runs drivers that were made for these packets, and the applications, under the verdicts that the drivers keep.
 fn run_drivers<'a, V: Verdicts + Send, R: Threads + Wait + Sync, G: Gate + Sync>(
     rt: &R,
     alloc: Global,
