@@ -1,6 +1,7 @@
 //! Verdicts, and rules that say which verdicts a packet may have.
-ghost use Rattle.std.specs.Prelude.{◌≡◌, ◌≤◌, length};
-ghost use Rattle.xsk_prog.specs.Rules.{HasSockets, IsRuled, Meets, ether_type_of, verdict_of};
+ghost use Rattle.std.specs.Prelude.{◌≡◌, ◌<◌, ◌≤◌, length};
+ghost use Rattle.xsk_model.specs.Steering.{packet_cell as packet_cell_of};
+ghost use Rattle.xsk_prog.specs.Rules.{HasSockets, IsRuled, IsSocketCount, Meets, ether_type_of, verdict_of};
 
 use xsk_model::steering::packet_cell;
 
@@ -42,17 +43,29 @@ impl Rule {
         ensures meets { Meets self.now packet.now queue result }
     {
         match *self {
-            Rule::Redirect { sockets } => Verdict::Redirect(packet_cell(packet, queue, sockets)),
+            Rule::Redirect { sockets } => Verdict::Redirect(cell_of(packet, queue, sockets)),
             Rule::Drop => Verdict::Drop,
             Rule::Pass => Verdict::Pass,
             Rule::EtherType { kind, sockets } if ether_type(packet) == kind => {
-                Verdict::Redirect(packet_cell(packet, queue, sockets))
+                Verdict::Redirect(cell_of(packet, queue, sockets))
             }
             Rule::EtherType { .. } => Verdict::Pass,
             Rule::Fixed(cell) => Verdict::Redirect(cell),
             Rule::AtMost(_) => Verdict::Drop,
         }
     }
+}
+
+/// The cell of a packet's queue and class, where each queue has so many sockets. No byte is read where it has one.
+fn cell_of(packet: &[u8], queue: u32, sockets: u32) -> u32
+    requires sockets { IsSocketCount sockets }
+    requires queue { queue < 4 }
+    ensures { result ≡ packet_cell_of sockets queue packet.now }
+{
+    if sockets == 1 {
+        return queue;
+    }
+    packet_cell(packet, queue, sockets)
 }
 
 /// The EtherType of a packet with an Ethernet header: the two bytes behind both addresses, big endian.
