@@ -4,7 +4,7 @@ ghost use Rattle.std.specs.List.{slice_index_or};
 ghost use Rattle.std.specs.VecDeque.{deque_capacity};
 ghost use Rattle.xsk_umem.specs.Geometry.{IsGeometry};
 ghost use Rattle.xsk_model.specs.Packets.{bytes_of};
-ghost use Rattle.xsk_turns.specs.Turns.{returned};
+ghost use Rattle.xsk_turns.specs.Turns.{returned as item_returned};
 ghost use Rattle.xsk_driver.specs.Sent.{Sends, last_length};
 ghost use Rattle.xsk_driver.specs.Sendings.{sendings_of};
 
@@ -84,13 +84,12 @@ impl Finished {
         requires lawful { IsGeometry geometry.now }
         requires empty { items.old ≡ [] }
         ensures packets { self.new ≡ drop 1 self.old }
-        ensures items { items.new ≡ map returned (slice_index_or self.old 0 []) }
+        ensures items { items.new ≡ map item_returned (slice_index_or self.old 0 []) }
         ensures limits { (sending.new.most_packets ≡ sending.old.most_packets) × (sending.new.most_bytes ≡ sending.old.most_bytes) }
         ensures sends { (packets : List (List ℕ)) → Sends (sendings_of sending.old) packets
             → Sends (sendings_of sending.new) (packets ++ bytes_of geometry.now sg (slice_index_or self.old 0 []) ∷ []) }
     {
         let length = self.lengths.pop_front().unwrap();
-        sending.begin();
         send(&mut self.items, length, geometry, sg, sending, items);
     }
 }
@@ -108,9 +107,62 @@ fn append(queue: &mut VecDeque<Item>, items: &mut Batch, last: Item)
     queue.push_back_reserved(last);
 }
 
+/// Takes the first items of the queue, so many, as a packet: keeps its bytes as sent, and puts the items with their addresses
+/// alone into the batch.
+fn send(
+    queue: &mut VecDeque<Item>,
+    count: u32,
+    geometry: &Geometry,
+    sg: bool,
+    sending: &mut Sending,
+    items: &mut Batch,
+)
+    requires lawful { IsGeometry geometry.now }
+    requires few { count ≤ 18 }
+    requires some { count ≤ length queue.old.items }
+    requires empty { items.old ≡ [] }
+    ensures queue { queue.new.items ≡ drop count queue.old.items }
+    ensures items { items.new ≡ map item_returned (take count queue.old.items) }
+    ensures capacity { deque_capacity queue.new ≡ deque_capacity queue.old }
+    ensures limits { (sending.new.most_packets ≡ sending.old.most_packets) × (sending.new.most_bytes ≡ sending.old.most_bytes) }
+    ensures sends { (packets : List (List ℕ)) → Sends (sendings_of sending.old) packets
+        → Sends (sendings_of sending.new) (packets ++ bytes_of geometry.now sg (take count queue.old.items) ∷ []) }
+{
+    if count == 1 {
+        send_whole(queue, geometry, sg, sending, items);
+        return;
+    }
+    sending.begin();
+    send_pieces(queue, count, geometry, sg, sending, items);
+}
+
+/// Takes the first item of the queue, a packet of its own: keeps its bytes as sent, and puts the item with its address alone
+/// into the batch.
+fn send_whole(
+    queue: &mut VecDeque<Item>,
+    geometry: &Geometry,
+    sg: bool,
+    sending: &mut Sending,
+    items: &mut Batch,
+)
+    requires lawful { IsGeometry geometry.now }
+    requires some { 1 ≤ length queue.old.items }
+    requires empty { items.old ≡ [] }
+    ensures queue { queue.new.items ≡ drop 1 queue.old.items }
+    ensures items { items.new ≡ map item_returned (take 1 queue.old.items) }
+    ensures capacity { deque_capacity queue.new ≡ deque_capacity queue.old }
+    ensures limits { (sending.new.most_packets ≡ sending.old.most_packets) × (sending.new.most_bytes ≡ sending.old.most_bytes) }
+    ensures sends { (packets : List (List ℕ)) → Sends (sendings_of sending.old) packets
+        → Sends (sendings_of sending.new) (packets ++ bytes_of geometry.now sg (take 1 queue.old.items) ∷ []) }
+{
+    let item = queue.pop_front().unwrap();
+    sending.add(payload_of(&item, geometry, sg));
+    items.push(returned(item));
+}
+
 /// Takes the first items of the queue, so many, for the packet that was begun last: appends their bytes to it, and puts the
 /// items with their addresses alone into the batch.
-fn send(
+fn send_pieces(
     queue: &mut VecDeque<Item>,
     count: u32,
     geometry: &Geometry,
@@ -124,7 +176,7 @@ fn send(
     requires empty { items.old ≡ [] }
     requires begun { sending.old.overrun ≡ false → last_length sending.old.list.packets ≡ 0 }
     ensures queue { queue.new.items ≡ drop count queue.old.items }
-    ensures items { items.new ≡ map returned (take count queue.old.items) }
+    ensures items { items.new ≡ map item_returned (take count queue.old.items) }
     ensures capacity { deque_capacity queue.new ≡ deque_capacity queue.old }
     ensures limits { (sending.new.most_packets ≡ sending.old.most_packets) × (sending.new.most_bytes ≡ sending.old.most_bytes) }
     ensures sends { (packets : List (List ℕ)) → Sends (sendings_of sending.old) (packets ++ [] ∷ [])
@@ -133,13 +185,20 @@ fn send(
     for _ in 0..count {
         let item = queue.pop_front().unwrap();
         sending.extend(payload_of(&item, geometry, sg));
-        items.push(Item {
-            frame: item.frame,
-            desc: XdpDesc {
-                addr: item.desc.addr,
-                len: 0,
-                options: 0,
-            },
-        });
+        items.push(returned(item));
+    }
+}
+
+/// The item with its address alone, as it is given back.
+fn returned(item: Item) -> Item
+    ensures { result ≡ item_returned item }
+{
+    Item {
+        frame: item.frame,
+        desc: XdpDesc {
+            addr: item.desc.addr,
+            len: 0,
+            options: 0,
+        },
     }
 }

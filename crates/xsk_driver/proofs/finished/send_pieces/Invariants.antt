@@ -2,7 +2,7 @@ use Rattle.std.proofs.Common.{◌≡◌, ◌≤◌, ◌*◌, false}
 use Rattle.std.specs.VecDeque.{deque_capacity}
 use Rattle.xsk_driver.specs.Sent.{last_length}
 use Rattle.xsk_driver.proofs.Sent.{SendsSoFar}
-use Rattle.xsk_driver.proofs.finished.send.Given as goal
+use Rattle.xsk_driver.proofs.finished.send_pieces.Given as goal
 
 abbrev pub invariant-loop : goal.invariant-loop
 invariant-loop l = SendsSoFar l.geometry l.sg l.initial.sending l.sending l.initial.queue.items l.queue.items l.items l.counter
