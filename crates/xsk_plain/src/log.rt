@@ -13,13 +13,13 @@ use xsk_umem::{OutOfMemory, XdpDesc};
 /// The most items of one call.
 pub(crate) const MOST_ITEMS: u32 = 32;
 
-/// The entries and the payload bytes for which room is made at first. What isn't used takes addresses alone, and a list
-/// that needn't grow leaves no holes behind.
+/// The entries and the payload bytes for which room is made at first, beside what is asked for. What isn't used takes
+/// addresses alone, and a list that needn't grow leaves no holes behind.
 const FIRST_ENTRIES: u32 = 32_768;
 
 const FIRST_BYTES: u64 = 33_554_432;
 
-/// Those for which it is made at once later.
+/// Those for which it is made later, each time that room is wanting.
 const NEXT_ENTRIES: u32 = 1_024;
 
 const NEXT_BYTES: u64 = 1_048_576;
@@ -285,7 +285,7 @@ impl Log {
         self.reserve_more(entries, bytes)
     }
 
-    /// Makes room for at least so many further entries and bytes of payloads, and for many at once.
+    /// Makes room for so many further entries and bytes of payloads, and for a portion more.
     #[inline(never)]
     fn reserve_more(&mut self, entries: u32, bytes: u64) -> Result<(), OutOfMemory>
         ensures log { entries_of self.new ≡ entries_of self.old }
@@ -303,8 +303,8 @@ impl Log {
         } else {
             (NEXT_ENTRIES, NEXT_BYTES)
         };
-        let entries = entries.max(self.spare_entries).max(most_entries);
-        let bytes = bytes.max(self.spare_bytes).max(most_bytes);
+        let entries = entries.max(self.spare_entries).saturating_add(most_entries);
+        let bytes = bytes.max(self.spare_bytes).saturating_add(most_bytes);
         self.make_room(entries, bytes)
     }
 
@@ -387,9 +387,10 @@ impl Log {
         ensures { EndsEntry self.old self.new who event }
     {
         let _place = self.rows.push_reserved(&Row { who, event, items });
-        let end = self.pieces.len();
-        self.begun = end;
         self.spare_entries -= 1;
+        if items > 0 {
+            self.begun = self.pieces.len();
+        }
     }
 }
 

@@ -27,22 +27,24 @@ pub(crate) struct Repeats<T> {
     places: Vec<u32>,
     /// The place of the value that came last, by its number modulo 2,048.
     recent: [u32; RECENT],
-    spare: u64,
+    /// The number of values that the list may come to in the room that is reserved.
+    limit: u64,
 }
 
 impl<T> Model for Repeats<T> {
-    ghost use Rattle.std.specs.Prelude.{◌+◌, ◌<◌, ◌≤◌, ◌^◌, length, vec_len, vec_capacity};
+    ghost use Rattle.std.specs.Prelude.{◌+◌, ◌-◌, ◌<◌, ◌≤◌, ◌^◌, length, vec_len, vec_capacity};
     ghost use Rattle.xsk_plain.specs.Repeats.{Repeats as List, values_at, AreBelow};
 
     ghost Value = { List T };
 
-    ghost view = { λ r. record { values = r.values.items; items = values_at r.values.items r.places.items; spare = r.spare } };
+    ghost view = { λ r. record { values = r.values.items; items = values_at r.values.items r.places.items; spare = r.limit - vec_len r.places } };
 
     ghost invariant = { λ r. AreBelow (length r.values.items) r.places.items
         × (vec_len r.values ≤ vec_len r.places)
-        × (vec_len r.values + r.spare ≤ vec_capacity r.values)
-        × (vec_len r.places + r.spare ≤ vec_capacity r.places)
-        × (vec_len r.places + r.spare < 2 ^ 32) };
+        × (vec_len r.places ≤ r.limit)
+        × (vec_len r.values + (r.limit - vec_len r.places) ≤ vec_capacity r.values)
+        × (r.limit ≤ vec_capacity r.places)
+        × (r.limit < 2 ^ 32) };
 }
 
 impl<T: Repeated> Repeats<T> {
@@ -54,7 +56,7 @@ impl<T: Repeated> Repeats<T> {
             values: Vec::new(alloc),
             places: Vec::new(alloc),
             recent: [0; RECENT],
-            spare: 0,
+            limit: 0,
         }
     }
 
@@ -62,7 +64,7 @@ impl<T: Repeated> Repeats<T> {
     pub(crate) fn len(&self) -> u32
         ensures { result ≡ length self.now.items }
     {
-        let _spare = self.spare;
+        let _limit = self.limit;
         self.places.len() as u32
     }
 
@@ -71,7 +73,7 @@ impl<T: Repeated> Repeats<T> {
         requires { i < length self.now.items }
         ensures { slice_get self.now.items i ≡ Some result.now }
     {
-        let _spare = self.spare;
+        let _limit = self.limit;
         &self.values[self.places[i as usize] as usize]
     }
 
@@ -83,13 +85,14 @@ impl<T: Repeated> Repeats<T> {
         ensures kept { self.old.spare ≤ self.new.spare }
         ensures few { OnOk result (length self.new.items + self.new.spare < 2 ^ 32) }
     {
-        let extra = extra.max(self.spare);
-        if extra > u64::from(u32::MAX) - self.places.len() as u64 {
+        let len = self.places.len() as u64;
+        let extra = extra.max(self.limit - len);
+        if extra > u64::from(u32::MAX) - len {
             return Err(OutOfMemory);
         }
         self.values.reserve(extra as usize)?;
         self.places.reserve(extra as usize)?;
-        self.spare = extra;
+        self.limit = len + extra;
         Ok(())
     }
 
@@ -104,7 +107,6 @@ impl<T: Repeated> Repeats<T> {
     {
         let place = place_of(&mut self.values, &mut self.recent, value);
         self.places.push_reserved(place);
-        self.spare -= 1;
         place
     }
 
@@ -118,7 +120,6 @@ impl<T: Repeated> Repeats<T> {
         ensures spare { self.new.spare + 1 ≡ self.old.spare }
     {
         self.places.push_reserved(place);
-        self.spare -= 1;
     }
 }
 

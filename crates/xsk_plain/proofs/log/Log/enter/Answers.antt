@@ -4,8 +4,8 @@ use Rattle.xsk_plain.proofs.Parts.{entries-enter}
 use Rattle.xsk_plain.proofs.Places.{one_more}
 use Rattle.xsk_plain.proofs.log.Log.enter.Goals as goal
 
-pub returns : goal.returns
-returns c =
+pub returns-then-items-gt0 : goal.returns-then-items-gt0
+returns-then-items-gt0 c =
     let row : Row = record { who = c.args.who; event = c.args.event; items = c.args.items } in
     record {
       entries = entries-enter c.args.self.now.bytes.items c.args.self.now.pieces.items c.args.self.now.rows.items c.push_reserved-place.new.self.items
@@ -14,6 +14,20 @@ returns c =
       len = one_more c.args.self.now.rows.items c.push_reserved-place.new.self.items row c.push_reserved-place.ensures.items;
       notes = refl;
       begun = search rules;
+      spare_entries = search rules;
+      spare_bytes = refl;
+    }
+
+pub returns-else-items-gt0 : goal.returns-else-items-gt0
+returns-else-items-gt0 c =
+    let row : Row = record { who = c.args.who; event = c.args.event; items = c.args.items } in
+    record {
+      entries = entries-enter c.args.self.now.bytes.items c.args.self.now.pieces.items c.args.self.now.rows.items c.push_reserved-place.new.self.items
+          row c.args.self.now.begun
+          c.push_reserved-place.ensures.items c.args.self.now.begun_is (omega (arith, c.requires.items));
+      len = one_more c.args.self.now.rows.items c.push_reserved-place.new.self.items row c.push_reserved-place.ensures.items;
+      notes = refl;
+      begun = omega (arith, c.requires.items, c.if-items-gt0.false);
       spare_entries = search rules;
       spare_bytes = refl;
     }

@@ -1,4 +1,4 @@
-use Rattle.std.proofs.Common.{◌+◌, Some, ◌++◌, map, sym, ap, ◌∙◌, arith}
+use Rattle.std.proofs.Common.{Some, ◌++◌, map, sym, ap, ◌∙◌, arith}
 use Rattle.std.specs.Prelude.{codes}
 use Rattle.xsk_plain.specs.Log.{item_of, entry_with}
 use Rattle.xsk_plain.specs.Rows.{event_text, items_from}

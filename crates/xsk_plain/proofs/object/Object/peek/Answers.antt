@@ -1,4 +1,4 @@
-use Rattle.std.proofs.Common.{◌≡◌, ◌+◌, ◌<◌, set, length, take, drop, map, refl, sym, ap, subst, arith, ◌∙◌}
+use Rattle.std.proofs.Common.{◌≡◌, ◌+◌, ◌<◌, length, take, drop, map, refl, sym, ap, arith, ◌∙◌}
 use Rattle.xsk_model.specs.declared.call.Call.TheVariants.{Peek}
 use Rattle.xsk_plain.specs.Engine.{Part}
 use Rattle.xsk_plain.specs.Stores.{stored_item_of}
