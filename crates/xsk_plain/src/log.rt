@@ -303,8 +303,8 @@ impl Log {
         } else {
             (NEXT_ENTRIES, NEXT_BYTES)
         };
-        let entries = entries.max(self.spare_entries).saturating_add(most_entries);
-        let bytes = bytes.max(self.spare_bytes).saturating_add(most_bytes);
+        let entries = entries.saturating_add(most_entries).max(self.spare_entries);
+        let bytes = bytes.saturating_add(most_bytes).max(self.spare_bytes);
         self.make_room(entries, bytes)
     }
 
