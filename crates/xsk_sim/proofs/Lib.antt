@@ -1,4 +1,5 @@
 pub mod RunSteps
+pub mod Rooms
 pub mod Seating
 pub mod Turning
 pub mod Beginning

@@ -1,5 +1,8 @@
 -- Turns of callers, one after the other.
-use Rattle.std.proofs.Common.{◌≡◌, ◌↔◌, Bool, true, IsTrue, ℕ, zero, suc, ◌+◌, ◌-◌, ◌^◌, ◌<◌, ◌≤◌, List, [], ◌∷◌, ◌++◌, refl, sym, subst, ap, ◌∙◌, arith, append_assoc, append-nil, vec_len, ⊎_elim}
+use Rattle.std.proofs.Common.{◌≡◌, ◌↔◌, Bool, true, IsTrue, ℕ, ◌+◌, ◌-◌, ◌<◌, ◌≤◌, List, [], ◌∷◌, ◌++◌, length, take, get_or, refl, sym, subst, ap, ◌∙◌, arith, append_assoc, append-nil, length-append, vec_len, ◌⊎◌, inl, inr, ⊎_elim}
+use Rattle.std.proofs.Math.ListN.{get_or-append}
+use Rattle.std.proofs.lemmas.List.{take_more, take_all, get_or-append_right}
+use Rattle.std.proofs.lemmas.List.FromFn.{length-range_with_len, get_or-range_with_len}
 use Rattle.std.specs.List.{range_with_len}
 use Rattle.xsk_umem.specs.Frame.{Frame}
 use Rattle.xsk_model.proofs.Few.{apps_few}
@@ -9,11 +12,13 @@ use Rattle.xsk_model.specs.declared.call.Act.{Act}
 use Rattle.xsk_plain.specs.Engine.{Engine}
 use Rattle.xsk_driver.specs.Shown.{Shown as DriverShown}
 use Rattle.xsk_app.specs.Shown.{Shown as AppShown}
+use Rattle.xsk_sim.specs.Order.{rotated}
 use Rattle.xsk_sim.specs.Rounds.{IsTurn, AreTurns}
 use Rattle.xsk_turns.specs.Workers.{Setting, IsWholeRun}
 use Rattle.xsk_machine.specs.Acts.{DriverStands, AppStands, IsActAfter}
 use Rattle.xsk_sim.specs.Seats.{AreGoing, DriverSits, AppSits, own_in, AreSeated, HadTurns}
 use Rattle.xsk_sim.specs.declared.rounds.Workers.{Workers}
+use Rattle.xsk_sim.proofs.RunSteps.{run_same}
 use Rattle.xsk_sim.proofs.Stalling.{told_both}
 
 -- the own calls and replies of a caller whose turn it isn't stay
@@ -67,31 +72,78 @@ pub had_none : (s : Setting) (frames : List Frame) (h : List Entry) (w : Workers
 had_none s frames h w engine seated =
     record { entries = []; turns = refl; seated = subst (λ l. AreSeated s frames l w engine) (sym (append-nil h)) seated; quiet = (λ yes. tt, λ none. refl) }
 
-pub range-push : (a n : ℕ) → range_with_len a (suc n) ≡ range_with_len a n ++ (a + n) ∷ []
-range-push a zero = let e : a ≡ a + 0 = omega arith in ap (λ k. k ∷ []) e
-range-push a (suc n) =
-    let e : a + 1 + n ≡ a + suc n = omega arith in ap (λ ks. a ∷ ks) (range-push (a + 1) n) ∙ ap (λ k. a ∷ (range_with_len (a + 1) n ++ k ∷ [])) e
+-- ---- callers in turn
 
-pub range_more : (a k : ℕ) → a ≤ k → range_with_len a (k - a) ++ k ∷ [] ≡ range_with_len a (k + 1 - a)
-range_more a k h =
-    let e : k ≡ a + (k - a) = omega arith in
-    let f : suc (k - a) ≡ k + 1 - a = omega arith in
-    ap (λ (j : ℕ). range_with_len a (k - a) ++ j ∷ []) e ∙ sym (range-push a (k - a)) ∙ ap (range_with_len a) f
+-- the caller after so many turns of a round, whose first caller is the start
+pub record InTurn (callers start turn who : ℕ) : Type 0 where
+  pub below : who < callers
+  pub at : (who ≡ start + turn) ⊎ (who + callers ≡ start + turn)
 
-pub range_first : (k : ℕ) → range_with_len 0 k ++ k ∷ [] ≡ range_with_len 0 (k + 1)
-range_first k =
-    let e : k ≡ 0 + k = omega arith in
-    let f : suc k ≡ k + 1 = omega arith in
-    ap (λ (j : ℕ). range_with_len 0 k ++ j ∷ []) e ∙ sym (range-push 0 k) ∙ ap (range_with_len 0) f
+pub turn_first : (callers start : ℕ) → start < callers → InTurn callers start 0 start
+turn_first callers start below = record { below = below; at = inl (omega arith) }
+
+pub turn_next : (callers start turn who : ℕ) → InTurn callers start turn who → (who + 1 ≡ callers → ⊥) → InTurn callers start (turn + 1) (who + 1)
+turn_next callers start turn who is other = record {
+  below = omega (arith, is.below, other);
+  at = ⊎_elim (λ (up : who ≡ start + turn). inl (omega (arith, up))) (λ (over : who + callers ≡ start + turn). inr (omega (arith, over))) is.at;
+}
+
+pub turn_round : (callers start turn who : ℕ) → start < callers → turn < callers → InTurn callers start turn who → who + 1 ≡ callers → InTurn callers start (turn + 1) 0
+turn_round callers start turn who below within is last = record {
+  below = omega (arith, below);
+  at = ⊎_elim (λ (up : who ≡ start + turn). inr (omega (arith, up, last))) (λ (over : who + callers ≡ start + turn). absurd (omega (arith, over, last, below, within))) is.at;
+}
+
+length_rotated : (callers start : ℕ) → start < callers → length (rotated callers start) ≡ callers
+length_rotated callers start below =
+    omega (arith, below, length-append (range_with_len start (callers - start)) (range_with_len 0 start), length-range_with_len start (callers - start), length-range_with_len 0 start)
+
+rotated_at : (callers start turn who : ℕ) → start < callers → turn < callers → InTurn callers start turn who → get_or (rotated callers start) turn 0 ≡ who
+rotated_at callers start turn who below within is =
+    let first = range_with_len start (callers - start) in
+    let count : length first ≡ callers - start = length-range_with_len start (callers - start) in
+    ⊎_elim
+    (λ (up : who ≡ start + turn).
+    let low : turn < callers - start = omega (arith, up, is.below, below) in
+    get_or-append first (range_with_len 0 start) 0 turn (omega (arith, low, count)) ∙ get_or-range_with_len start (callers - start) turn 0 low ∙ sym up)
+    (λ (over : who + callers ≡ start + turn).
+    let at : 0 + (turn - (callers - start)) ≡ who = omega (arith, over, below) in
+    get_or-append_right first (range_with_len 0 start) (callers - start) turn 0 count (omega (arith, over, below))
+    ∙ get_or-range_with_len 0 start (turn - (callers - start)) 0 (omega (arith, over, below, within)) ∙ at)
+    is.at
+
+-- the callers of one turn more
+pub rotated_more : (callers start turn who : ℕ) → start < callers → turn < callers → InTurn callers start turn who
+    → take turn (rotated callers start) ++ who ∷ [] ≡ take (turn + 1) (rotated callers start)
+rotated_more callers start turn who below within is =
+    let all = rotated callers start in
+    let known : turn < length all = omega (arith, within, length_rotated callers start below) in
+    sym (take_more all turn 0 known ∙ ap (λ (w : ℕ). take turn all ++ w ∷ []) (rotated_at callers start turn who below within is))
+
+-- and those of all turns
+pub rotated_all : (callers start : ℕ) → start < callers → take callers (rotated callers start) ≡ rotated callers start
+rotated_all callers start below = take_all callers (rotated callers start) (omega (arith, length_rotated callers start below))
 
 -- ---- rounds
+
+-- room in the log leaves the workers where they are
+pub seated_same : (s : Setting) (frames : List Frame) (h : List Entry) (w : Workers) (old new : Engine) → AreSeated s frames h w old
+    → new ≡ record old { spare_entries = new.spare_entries; spare_bytes = new.spare_bytes } → AreSeated s frames h w new
+seated_same s frames h w old new seated same = record {
+  run = run_same s frames h old new seated.run same;
+  drivers = seated.drivers;
+  apps = seated.apps;
+  settled = seated.settled;
+  driver_count = seated.driver_count;
+  app_count = seated.app_count;
+}
 
 -- workers that had turns go on
 pub going_on : {w v : Workers} {before after : Engine} {callers : List ℕ} {still : Bool} → (g : AreGoing w before) → HadTurns g.setting g.frames g.history callers v after still → AreGoing v after
 going_on g had = record { setting = g.setting; frames = g.frames; history = g.history ++ had.entries; seated = had.seated }
 
 -- and are 1 at least, and few
-pub going_few : {w : Workers} {engine : Engine} → AreGoing w engine → (vec_len w.drivers + vec_len w.apps < 2 ^ 32) × (0 < vec_len w.drivers + vec_len w.apps)
+pub going_few : {w : Workers} {engine : Engine} → AreGoing w engine → (vec_len w.drivers + vec_len w.apps ≤ 72) × (0 < vec_len w.drivers + vec_len w.apps)
 going_few g =
     let config = g.seated.run.legal.opened.config in
     let apps = apps_few g.setting.config config in

@@ -9,3 +9,4 @@ pub mod Given
 pub mod Bounds
 pub mod Counts
 pub mod Journal
+pub mod Rooms

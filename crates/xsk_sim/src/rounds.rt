@@ -1,9 +1,10 @@
 //! Rounds, in which each worker makes one call.
-ghost use Rattle.std.specs.Prelude.{◌≡◌, ◌<◌, ◌+◌, ◌^◌, ◌↔◌, ℕ, List, IsTrue, [], ◌∷◌, vec_len, IfOk};
+ghost use Rattle.std.specs.Prelude.{◌≡◌, ◌<◌, ◌≤◌, ◌+◌, ◌^◌, ◌↔◌, ℕ, List, IsTrue, [], ◌∷◌, vec_len, IfOk};
 ghost use Rattle.xsk_umem.specs.Geometry.{IsGeometry};
 ghost use Rattle.xsk_umem.specs.Frame.{Frame};
 ghost use Rattle.xsk_model.specs.Entry.{Entry};
 ghost use Rattle.xsk_turns.specs.Workers.{Setting};
+ghost use Rattle.xsk_sim.specs.Rooms.{most_payload};
 ghost use Rattle.xsk_sim.specs.Seats.{AreSeated, AreGoing, HadTurns, HadRound, HaveEnded};
 
 use crate::order::Order;
@@ -12,6 +13,9 @@ use xsk_app::App;
 use xsk_driver::Driver;
 use xsk_plain::Plain;
 use xsk_umem::OutOfMemory;
+
+/// The most payload bytes of a call: 32 items with chunks of 4,096 bytes.
+const MOST_PAYLOAD: u32 = 32 * 4096;
 
 /// All workers: the drivers by their pairs, then the applications by their numbers.
 #[derive(Drop)]
@@ -46,6 +50,7 @@ impl Workers<'_> {
     }
 
     /// Lets each worker that hasn't ended make one call, from one worker on in turn, and tells whether these changed nothing.
+    /// The log has room for all of them before the first.
     pub(crate) fn round(
         &mut self,
         plain: &mut Plain,
@@ -59,27 +64,36 @@ impl Workers<'_> {
             → IfOk result (HadRound s frames h order.old.number order.new.number self.new plain.new) }
     {
         let callers = self.count();
+        plain.reserve_log(callers, callers * MOST_PAYLOAD)?;
         let start = order.start(callers);
+        let mut who = start;
         let mut still = true;
-        for who in start..callers {
-            still &= self.step(plain, who)?;
-        }
-        for who in 0..start {
-            still &= self.step(plain, who)?;
+        for _turn in 0..callers {
+            still &= self.step(plain, who);
+            who += 1;
+            if who == callers {
+                who = 0;
+            }
         }
         Ok(still)
     }
 
-    /// Lets the worker with this number make its call, if it hasn't ended, and tells whether it changed nothing.
-    fn step(&mut self, plain: &mut Plain, who: u32) -> Result<bool, OutOfMemory>
+    /// Lets the worker with this number make its call, if it hasn't ended, and tells whether it changed nothing. The log must
+    /// have room for any call.
+    #[inline(always)]
+    fn step(&mut self, plain: &mut Plain, who: u32) -> bool
         requires geometry { IsGeometry plain.old.config.geometry }
         requires going { AreGoing self.old plain.old }
         requires who { who < vec_len self.old.drivers + vec_len self.old.apps }
+        requires entries { 1 ≤ plain.old.spare_entries }
+        requires bytes { most_payload ≤ plain.old.spare_bytes }
         ensures config { plain.new.config ≡ plain.old.config }
+        ensures entries { plain.old.spare_entries ≤ plain.new.spare_entries + 1 }
+        ensures bytes { plain.old.spare_bytes ≤ plain.new.spare_bytes + most_payload }
         ensures drivers { vec_len self.new.drivers ≡ vec_len self.old.drivers }
         ensures apps { vec_len self.new.apps ≡ vec_len self.old.apps }
         ensures turn { (s : Setting) (frames : List Frame) (h : List Entry) → AreSeated s frames h self.old plain.old
-            → IfOk result (HadTurns s frames h (who ∷ []) self.new plain.new) }
+            → HadTurns s frames h (who ∷ []) self.new plain.new result }
     {
         let place = who as usize;
         let drivers = self.drivers.len();

@@ -1,5 +1,5 @@
 //! A worker in the rounds, with its next call.
-ghost use Rattle.std.specs.Prelude.{◌≡◌, false, ℕ, List, [], IsTrue, ◌↔◌, IfOk};
+ghost use Rattle.std.specs.Prelude.{◌≡◌, ◌≤◌, ◌+◌, false, ℕ, List, [], IsTrue, ◌↔◌};
 ghost use Rattle.xsk_umem.specs.declared.batch.Item.{Item};
 ghost use Rattle.xsk_model.specs.Asks.{joined_call, joined_reply};
 ghost use Rattle.xsk_model.specs.OtherWords.{changes};
@@ -14,13 +14,14 @@ ghost use Rattle.xsk_turns.specs.Stepping.{joined_ask, IsGivenBack};
 ghost use Rattle.xsk_turns.specs.Workers.{Setting};
 ghost use Rattle.xsk_machine.specs.Acts.{IsActAfter};
 ghost use Rattle.xsk_sim.specs.Given.{IsGivenBack-prop};
+ghost use Rattle.xsk_sim.specs.Rooms.{most_payload};
 ghost use Rattle.xsk_sim.specs.Turning.{HasRun, TakesTurn, Notes};
 
 use std::alloc::Global;
 use xsk_machine::Machine;
 use xsk_model::{Answer, Ask};
-use xsk_plain::{Plain, items_room};
-use xsk_umem::{Batch, OutOfMemory};
+use xsk_plain::Plain;
+use xsk_umem::Batch;
 
 /// A worker in the rounds, with the call that it makes next (none where it has ended) and the batch that is lent to its
 /// calls, in which the items of a Submit stand. Of a driver it notes how many packets had their disposals at its last call.
@@ -80,31 +81,31 @@ impl<M: Machine> Seat<M> {
     }
 
     /// Makes the worker's next call, if it hasn't ended, and tells whether it changed nothing: neither the object nor the
-    /// number of packets that have their disposals, which is given. It must be a call that can be performed.
-    pub(crate) fn step(
-        &mut self,
-        plain: &mut Plain,
-        who: u32,
-        settled: usize,
-    ) -> Result<bool, OutOfMemory>
+    /// number of packets that have their disposals, which is given. It must be a call that can be performed, and the log must
+    /// have room for any call.
+    pub(crate) fn step(&mut self, plain: &mut Plain, who: u32, settled: usize) -> bool
         requires geometry { IsGeometry plain.old.config.geometry }
         requires can { (call : Call) → joined_ask self.old.ask self.old.items ≡ Calls call → CanPerform plain.old.config plain.old.rings call }
+        requires entries { 1 ≤ plain.old.spare_entries }
+        requires bytes { most_payload ≤ plain.old.spare_bytes }
         ensures config { plain.new.config ≡ plain.old.config }
+        ensures entries { plain.old.spare_entries ≤ plain.new.spare_entries + 1 }
+        ensures bytes { plain.old.spare_bytes ≤ plain.new.spare_bytes + most_payload }
         ensures turn { (s : Setting) (frames : List Frame) (h : List Entry) → HasRun s frames h plain.old
             → M.stands s who self.old.machine (joined_ask self.old.ask self.old.items) (own who h)
             → IsActAfter s who (joined_ask self.old.ask self.old.items) (own who h)
-            → IfOk result (λ still. (t : TakesTurn s frames who h (M.stands s who self.new.machine (joined_ask self.new.ask self.new.items)) (joined_ask self.new.ask self.new.items) plain.new)
-            × Notes (joined_ask self.old.ask self.old.items) self.old.settled settled self.new.settled still t.entries) }
+            → (t : TakesTurn s frames who h (M.stands s who self.new.machine (joined_ask self.new.ask self.new.items)) (joined_ask self.new.ask self.new.items) plain.new)
+            × Notes (joined_ask self.old.ask self.old.items) self.old.settled settled self.new.settled result t.entries }
     {
         let Some(ask) = self.ask else {
-            return Ok(true);
+            return true;
         };
-        plain.reserve_log(1, items_room(&self.items))?;
+        let _count = self.items.len();
         let answer = plain.serve(who, ask, &mut self.items);
         let still = is_quiet(ask, answer, self.settled, settled);
         self.settled = settled;
         self.ask = self.machine.step(Some(answer), &mut self.items);
-        Ok(still)
+        still
     }
 }
 

@@ -1,52 +1,78 @@
-use Rattle.std.proofs.Common.{ℕ, ◌&&◌, ◌-◌, ◌<◌, [], ◌∷◌, ◌++◌, sym, subst, ap, ◌∙◌, arith, append_assoc}
-use Rattle.std.specs.List.{range_with_len}
+use Rattle.std.proofs.Common.{◌≡◌, ℕ, ◌&&◌, ◌+◌, ◌<◌, [], ◌∷◌, ◌++◌, take, refl, sym, ap, subst, ◌∙◌, arith}
+use Rattle.xsk_model.specs.Config.{callers_of}
+use Rattle.xsk_plain.specs.Engine.{Engine}
+use Rattle.xsk_sim.specs.Order.{rotated, start_of}
 use Rattle.xsk_sim.specs.Seats.{HadTurns}
-use Rattle.xsk_sim.proofs.Turning.{going_on, going_few, had_both, range_more, range_first}
+use Rattle.xsk_sim.proofs.Turning.{InTurn, going_on, going_few, had_both, had_none, seated_same, rotated_more, rotated_all, turn_first, turn_next, turn_round}
 use Rattle.xsk_sim.proofs.Stalling.{both_true}
 use Rattle.xsk_sim.proofs.rounds.Workers.round.Goals as goal
+use Rattle.xsk_sim.proofs.rounds.Workers.round.Goals.{then-who-callers, else-who-callers}
 
-pub loop-who-preserved : goal.loop-who-preserved
-loop-who-preserved c = record {
-  config = c.step.ensures.config ∙ c.loop-who.invariant.config;
-  drivers = c.step.ensures.drivers ∙ c.loop-who.invariant.drivers;
-  count = omega (arith, c.step.ensures.drivers, c.step.ensures.apps, c.loop-who.invariant.count);
-  round = λ s frames h seated.
-      let who = c.loop-who.who in
-      let start = c.start-start.result in
-      let had = c.loop-who.invariant.round s frames h seated in
-      let next : HadTurns s frames (h ++ had.entries) (who ∷ []) c.step.new.self c.step.new.plain _ = c.in_ok-still.ensures.turn s frames (h ++ had.entries) had.seated in
-      subst (λ ws. HadTurns s frames h ws c.step.new.self c.step.new.plain (c.loop-who.still && c.in_ok-still.field-0)) (range_more start who c.loop-who.auto.who)
-      (had_both s frames h (range_with_len start (who - start)) (who ∷ []) c.loop-who.self c.step.new.self c.loop-who.plain c.step.new.plain c.loop-who.still _ _ (both_true _ _) had next);
-}
+pub loop-turn-init : goal.loop-turn-init
+loop-turn-init c =
+    let below : c.start-start.result < c.count-callers.result = omega (arith, c.start-start.ensures.start, c.count-callers.ensures, (going_few c.requires.going).1) in
+    record {
+      config = ap (λ (e : Engine). e.config) c.reserve_log.ensures.same;
+      drivers = refl;
+      count = sym c.count-callers.ensures;
+      who = turn_first c.count-callers.result c.start-start.result below;
+      entries = omega (arith, c.in_ok-reserve_log.ensures.entries);
+      bytes = omega (arith, c.in_ok-reserve_log.ensures.bytes);
+      round = λ s frames h seated.
+          had_none s frames h c.args.self.now c.reserve_log.new.self
+          (seated_same s frames h c.args.self.now c.args.plain.now c.reserve_log.new.self seated c.reserve_log.ensures.same);
+    }
 
-pub loop-who-2-preserved : goal.loop-who-2-preserved
-loop-who-2-preserved c = record {
-  config = c.step-in-loop-who-2.ensures.config ∙ c.loop-who-2.invariant.config;
-  drivers = c.step-in-loop-who-2.ensures.drivers ∙ c.loop-who-2.invariant.drivers;
-  count = omega (arith, c.step-in-loop-who-2.ensures.drivers, c.step-in-loop-who-2.ensures.apps, c.loop-who-2.invariant.count);
-  round = λ s frames h seated.
-      let who = c.loop-who-2.who in
-      let start = c.start-start.result in
-      let first = range_with_len start (c.count-callers.result - start) in
-      let step = c.step-in-loop-who-2.new in
-      let had = c.loop-who-2.invariant.round s frames h seated in
-      let next : HadTurns s frames (h ++ had.entries) (who ∷ []) step.self step.plain _ = c.in_ok-still-2.ensures.turn s frames (h ++ had.entries) had.seated in
-      subst (λ ws. HadTurns s frames h ws step.self step.plain (c.loop-who-2.still && c.in_ok-still-2.field-0)) (append_assoc first (range_with_len 0 who) (who ∷ []) ∙ ap (λ ws. first ++ ws) (range_first who))
-      (had_both s frames h (first ++ range_with_len 0 who) (who ∷ []) c.loop-who-2.self step.self c.loop-who-2.plain step.plain c.loop-who-2.still _ _ (both_true _ _) had next);
-}
+pub loop-turn-preserved : goal.loop-turn-preserved
+loop-turn-preserved c =
+    let l = c.loop-turn in
+    let step = c.step-still.new in
+    let callers = c.count-callers.result in
+    let start = c.start-start.result in
+    let below : start < callers = omega (arith, c.start-start.ensures.start, c.count-callers.ensures, (going_few c.requires.going).1) in
+    record {
+      config = c.step-still.ensures.config ∙ l.invariant.config;
+      drivers = c.step-still.ensures.drivers ∙ l.invariant.drivers;
+      count = omega (arith, c.step-still.ensures.drivers, c.step-still.ensures.apps, l.invariant.count);
+      who = elim c.if-who-callers.branch [
+        | then-who-callers w ↦ subst (InTurn callers start (l._turn + 1)) (sym w.who-is)
+            (turn_round callers start l._turn l.who below c.loop-turn-test.true l.invariant.who w.if-who-callers.true)
+        | else-who-callers w ↦ subst (InTurn callers start (l._turn + 1)) (sym w.who-is)
+            (turn_next callers start l._turn l.who l.invariant.who w.if-who-callers.false)
+      ];
+      entries = omega (arith, c.step-still.ensures.entries, l.invariant.entries);
+      bytes = omega (arith, c.step-still.ensures.bytes, l.invariant.bytes);
+      round = λ s frames h seated.
+          let had = l.invariant.round s frames h seated in
+          let next : HadTurns s frames (h ++ had.entries) (l.who ∷ []) step.self step.plain c.step-still.result = c.step-still.ensures.turn s frames (h ++ had.entries) had.seated in
+          subst (λ ws. HadTurns s frames h ws step.self step.plain (l.still && c.step-still.result)) (rotated_more callers start l._turn l.who below c.loop-turn-test.true l.invariant.who)
+          (had_both s frames h (take l._turn (rotated callers start)) (l.who ∷ []) l.self step.self l.plain step.plain l.still _ _ (both_true _ _) had next);
+    }
 
-pub step-requires-clause-going : goal.step-requires-clause-going
-step-requires-clause-going c =
+pub step-still-requires-clause-going : goal.step-still-requires-clause-going
+step-still-requires-clause-going c =
     let g = c.requires.going in
-    going_on g (c.loop-who.invariant.round g.setting g.frames g.history g.seated)
+    going_on g (c.loop-turn.invariant.round g.setting g.frames g.history g.seated)
 
-pub step-requires-in-loop-who-2-clause-going : goal.step-requires-in-loop-who-2-clause-going
-step-requires-in-loop-who-2-clause-going c =
-    let g = c.requires.going in
-    going_on g (c.loop-who-2.invariant.round g.setting g.frames g.history g.seated)
+pub returns-clause-round : goal.returns-clause-round
+returns-clause-round c s frames h seated =
+    let l = c.loop-turn in
+    let callers = c.count-callers.result in
+    let start = c.start-start.result in
+    let number = c.args.order.now.number in
+    let below : start < callers = omega (arith, c.start-start.ensures.start, c.count-callers.ensures, (going_few c.requires.going).1) in
+    let all : l._turn ≡ callers = omega (arith, c.loop-turn-test.false, l.auto._turn-end) in
+    let known : callers ≡ callers_of s.config = omega (arith, c.count-callers.ensures, seated.driver_count, seated.app_count) in
+    let turned : take l._turn (rotated callers start) ≡ rotated (callers_of s.config) (start_of (callers_of s.config) number) =
+    ap (λ (n : ℕ). take n (rotated callers start)) all ∙ rotated_all callers start below ∙ ap (rotated callers) c.start-start.ensures.start
+    ∙ ap (λ (n : ℕ). rotated n (start_of n number)) known in
+    record {
+      turns = subst (λ ws. HadTurns s frames h ws l.self l.plain l.still) turned (l.invariant.round s frames h seated);
+      number = c.start-start.ensures.next;
+    }
 
 pub count-callers-requires : goal.count-callers-requires
-count-callers-requires c = record { few = (going_few c.requires.going).0 }
+count-callers-requires c = record { few = omega (arith, (going_few c.requires.going).0) }
 
 pub start-start-requires : goal.start-start-requires
 start-start-requires c = subst (λ (n : ℕ). 0 < n) (sym c.count-callers.ensures) (going_few c.requires.going).1

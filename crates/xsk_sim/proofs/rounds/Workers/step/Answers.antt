@@ -1,17 +1,14 @@
-use Rattle.std.proofs.Common.{◌≡◌, ℕ, ◌+◌, ◌-◌, ◌<◌, [], ◌∷◌, ◌++◌, length, sym, ap, subst, ◌∙◌, arith}
-use Rattle.std.specs.Vec.{with_item}
+use Rattle.std.proofs.Common.{◌≡◌, ℕ, ◌+◌, ◌-◌, ◌<◌, ◌++◌, length, sym, ap, subst, ◌∙◌, arith}
 use Rattle.xsk_turns.specs.Stepping.{joined_ask}
 use Rattle.xsk_turns.specs.Workers.{IsWholeRun}
-use Rattle.xsk_machine.specs.Acts.{DriverStands, AppStands}
 use Rattle.xsk_driver.specs.Shown.{Shown as DriverShown}
-use Rattle.xsk_sim.specs.Seats.{DriverSits, AppSits, own_in, HadTurns}
+use Rattle.xsk_sim.specs.Seats.{DriverSits, AppSits, own_in}
 use Rattle.xsk_sim.proofs.Seating.{each_at, each_set, each_change}
 use Rattle.xsk_sim.proofs.RunSteps.{can_make}
 use Rattle.xsk_sim.proofs.Turning.{own_turn, one_turn, driver_on, app_on}
-use Rattle.xsk_sim.specs.Turning.{TakesTurn, Notes}
+use Rattle.xsk_sim.specs.Turning.{Notes}
 use Rattle.xsk_sim.specs.Stalls.{settled_of, settled_by}
 use Rattle.xsk_sim.proofs.Stalling.{driver_notes, app_notes}
-use Rattle.xsk_sim.proofs.Verdicts.{if_ok}
 use Rattle.xsk_sim.proofs.rounds.Workers.step.Goals as goal
 
 pub returns-then-place-drivers-clause-turn : goal.returns-then-place-drivers-clause-turn
@@ -25,13 +22,10 @@ returns-then-place-drivers-clause-turn c s frames h seated =
     let noted : seat.settled ≡ settled_by s h who = each_at w.drivers.items 0 who who _ seat seated.settled (omega arith) (omega arith) c.index_mut-seat.ensures.value in
     let now : ℕ = length c.disposals-settled.result.now in
     let is : now ≡ length seat.machine.kept.disposals = ap length c.disposals-settled.ensures ∙ ap (λ (d : DriverShown). length d.kept.disposals) c.machine.ensures in
-    if_ok c.step.result (λ still. (t : TakesTurn s frames who h (DriverStands s who v.machine (joined_ask v.ask v.items)) (joined_ask v.ask v.items) c.step.new.plain)
-    × Notes (joined_ask seat.ask seat.items) seat.settled now v.settled still t.entries)
-    (HadTurns s frames h (who ∷ []) (record { drivers = with_item w.drivers who v; apps = w.apps }) c.step.new.plain)
-    (λ still took.
+    let took = c.step.ensures.turn s frames h seated.run here.0 here.1 in
     let t = took.0 in
-    let tells = driver_notes s frames (IsWholeRun s) h who t.entries seat.machine (joined_ask seat.ask seat.items) seat.settled v.settled still t.turn t.run.legal here.0.known here.0 noted
-    (subst (λ (n : ℕ). Notes (joined_ask seat.ask seat.items) seat.settled n v.settled still t.entries) is took.1) in
+    let tells = driver_notes s frames (IsWholeRun s) h who t.entries seat.machine (joined_ask seat.ask seat.items) seat.settled v.settled c.step.result t.turn t.run.legal here.0.known here.0 noted
+    (subst (λ (n : ℕ). Notes (joined_ask seat.ask seat.items) seat.settled n v.settled c.step.result t.entries) is took.1) in
     record {
       entries = t.entries;
       turns = one_turn (IsWholeRun s) h who t.entries t.turn;
@@ -47,7 +41,7 @@ returns-then-place-drivers-clause-turn c s frames h seated =
         app_count = seated.app_count;
       };
       quiet = tells.0;
-    }) (c.step.ensures.turn s frames h seated.run here.0 here.1)
+    }
 
 pub returns-else-place-drivers-clause-turn : goal.returns-else-place-drivers-clause-turn
 returns-else-place-drivers-clause-turn c s frames h seated =
@@ -62,10 +56,7 @@ returns-else-place-drivers-clause-turn c s frames h seated =
     each_at w.apps.items (length s.config.pairs) i who _ c.index_mut-seat-else-place-drivers.result.now seated.apps below place c.index_mut-seat-else-place-drivers.ensures.value in
     let seat = c.index_mut-seat-else-place-drivers.result.now in
     let now : ℕ = c.settled-settled.result in
-    if_ok c.step-else-place-drivers.result (λ still. (t : TakesTurn s frames who h (AppStands s who v.machine (joined_ask v.ask v.items)) (joined_ask v.ask v.items) c.step-else-place-drivers.new.plain)
-    × Notes (joined_ask seat.ask seat.items) seat.settled now v.settled still t.entries)
-    (HadTurns s frames h (who ∷ []) (record { drivers = w.drivers; apps = with_item w.apps i v }) c.step-else-place-drivers.new.plain)
-    (λ still took.
+    let took = c.step-else-place-drivers.ensures.turn s frames h seated.run here.0 here.1 in
     let t = took.0 in
     record {
       entries = t.entries;
@@ -81,9 +72,9 @@ returns-else-place-drivers-clause-turn c s frames h seated =
         driver_count = seated.driver_count;
         app_count = seated.app_count;
       };
-      quiet = app_notes s frames (IsWholeRun s) h who t.entries (joined_ask seat.ask seat.items) seat.settled v.settled still t.turn t.run.legal (omega (arith, place))
-          (subst (λ (n : ℕ). Notes (joined_ask seat.ask seat.items) seat.settled n v.settled still t.entries) c.settled-settled.ensures took.1);
-    }) (c.step-else-place-drivers.ensures.turn s frames h seated.run here.0 here.1)
+      quiet = app_notes s frames (IsWholeRun s) h who t.entries (joined_ask seat.ask seat.items) seat.settled v.settled c.step-else-place-drivers.result t.turn t.run.legal (omega (arith, place))
+          (subst (λ (n : ℕ). Notes (joined_ask seat.ask seat.items) seat.settled n v.settled c.step-else-place-drivers.result t.entries) c.settled-settled.ensures took.1);
+    }
 
 pub step-requires-clause-can : goal.step-requires-clause-can
 step-requires-clause-can c call is =

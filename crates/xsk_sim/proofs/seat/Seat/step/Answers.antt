@@ -1,14 +1,13 @@
-use Rattle.std.proofs.Common.{◌≡◌, Option, sym, ap, subst, refl, rules}
+use Rattle.std.proofs.Common.{◌≡◌, Option, ap, subst, refl, rules, arith}
 use Rattle.xsk_turns.specs.Stepping.{joined_ask}
 use Rattle.xsk_model.specs.Asks.{joined_call, joined_reply}
 use Rattle.xsk_model.specs.Entry.{own}
 use Rattle.xsk_model.specs.declared.ask.Ask.{Ask}
 use Rattle.xsk_model.specs.declared.call.Act.{Act}
 use Rattle.xsk_model.specs.declared.call.Act.TheVariants.{Call as Calls}
-use Rattle.xsk_plain.specs.Engine.{Engine, CanPerform}
 use Rattle.xsk_machine.specs.Acts.{IsActAfter}
-use Rattle.xsk_sim.specs.Turning.{HasRun}
-use Rattle.xsk_sim.proofs.RunSteps.{Performs, turn_made, turn_past, run_same}
+use Rattle.xsk_sim.proofs.RunSteps.{Performs, turn_made, turn_past}
+use Rattle.xsk_sim.proofs.Rooms.{payload_within}
 use Rattle.xsk_sim.proofs.seat.Seat.step.Goals as goal
 
 pub returns-clause-turn : goal.returns-clause-turn
@@ -17,16 +16,14 @@ returns-clause-turn g c s frames h run stands after =
     let reply = joined_reply c.serve-answer.result c.serve-answer.new.items in
     let act = joined_ask c.step-self.result c.step-self.new.items in
     let is : joined_ask c.args.self.now.ask c.args.self.now.items ≡ Calls call = ap (λ (a : Option Ask). joined_ask a c.args.self.now.items) c.in-Some.is in
-    let engine = c.reserve_log.new.self in
-    let room : HasRun s frames h engine = run_same s frames h c.args.plain.now engine run c.reserve_log.ensures.same in
-    let performs : Performs engine c.serve-answer.new.self c.args.who call reply = record {
+    let performs : Performs c.args.plain.now c.serve-answer.new.self c.args.who call reply = record {
       reply = c.serve-answer.ensures.reply;
       state = c.serve-answer.ensures.state;
       log = c.serve-answer.ensures.log;
       config = c.serve-answer.ensures.config;
     } in
-    turn_made s frames h engine c.serve-answer.new.self c.args.who call reply (joined_ask c.args.self.now.ask c.args.self.now.items) act c.args.self.now.settled c.args.settled c.args.settled c.is_quiet-still.result
-    (g.M.Machine.stands s c.args.who c.step-self.new.self act) room
+    turn_made s frames h c.args.plain.now c.serve-answer.new.self c.args.who call reply (joined_ask c.args.self.now.ask c.args.self.now.items) act c.args.self.now.settled c.args.settled c.args.settled c.is_quiet-still.result
+    (g.M.Machine.stands s c.args.who c.step-self.new.self act) run
     (subst (λ (a : Act). IsActAfter s c.args.who a (own c.args.who h)) is after) performs
     (λ may. c.step-self.ensures.goes_on s c.args.who (own c.args.who h) call reply
     (subst (λ (a : Act). g.M.Machine.stands s c.args.who c.args.self.now.machine a (own c.args.who h)) is stands) refl may)
@@ -36,7 +33,15 @@ pub serve-answer-requires-clause-can : goal.serve-answer-requires-clause-can
 serve-answer-requires-clause-can g c =
     let call = joined_call c.in-Some.ask c.args.self.now.items in
     let is : joined_ask c.args.self.now.ask c.args.self.now.items ≡ Calls call = ap (λ (a : Option Ask). joined_ask a c.args.self.now.items) c.in-Some.is in
-    subst (λ (engine : Engine). CanPerform engine.config engine.rings call) (sym c.reserve_log.ensures.same) (c.requires.can call is)
+    c.requires.can call is
+
+pub serve-answer-requires-clause-bytes : goal.serve-answer-requires-clause-bytes
+serve-answer-requires-clause-bytes g c =
+    omega (arith, payload_within c.args.plain.now.config c.in-Some.ask c.args.self.now.items c.requires.geometry c.len-count.ensures.few, c.requires.bytes)
+
+pub returns-clause-bytes : goal.returns-clause-bytes
+returns-clause-bytes g c =
+    omega (arith, payload_within c.args.plain.now.config c.in-Some.ask c.args.self.now.items c.requires.geometry c.len-count.ensures.few, c.serve-answer.ensures.bytes)
 
 pub returns-in_default-clause-turn : goal.returns-in_default-clause-turn
 returns-in_default-clause-turn g c s frames h run stands after =
