@@ -2,10 +2,9 @@
 use Rattle.std.proofs.Common.{◌≡◌, ◌≢◌, ℕ, zero, suc, ◌+◌, ◌-◌, ◌*◌, ◌<◌, ◌≤◌, ◌⊎◌, inl, inr, Bool, true, false, cond, List, [], ◌∷◌, ◌++◌, length, refl, sym, subst, ap, ◌∙◌, ⊎_elim, arith, append_assoc, append-nil}
 use Rattle.std.proofs.lemmas.Bool.{cases_eq, cases_lt, cases_Bool}
 use Rattle.xsk_umem.specs.Frame.{Frame}
-use Rattle.xsk_model.specs.Config.{IsRegular, callers_of, classes_of}
+use Rattle.xsk_model.specs.Config.{callers_of, classes_of}
 use Rattle.xsk_model.specs.Rings.{caller_of}
 use Rattle.xsk_model.specs.Entry.{Told, Entry, told, own, all_told}
-use Rattle.xsk_model.specs.History.{IsHistory}
 use Rattle.xsk_model.specs.OtherWords.{changes}
 use Rattle.xsk_model.proofs.CallTheorems.{leaves_state}
 use Rattle.xsk_model.proofs.Folds.{own-append, own-push_same, own-push_other, all_told-append}
@@ -14,13 +13,13 @@ use Rattle.xsk_turns.specs.AppTurns.{app_start, app_turn}
 use Rattle.xsk_turns.specs.Workers.{Setting, input_of, IsWorkerRun, IsWholeRun}
 use Rattle.xsk_turns.proofs.ScriptLemmas.{whole_ends}
 use Rattle.xsk_bounds.specs.Totals.{total, sum_below, changed}
-use Rattle.xsk_bounds.specs.Bounds.{packets_of, most_changes}
-use Rattle.xsk_bounds.proofs.Totals.{total-push, sum-le, sum-same}
+use Rattle.xsk_bounds.specs.Bounds.{packets_of}
+use Rattle.xsk_bounds.proofs.Totals.{total-push, sum-le}
 use Rattle.xsk_bounds.proofs.Bounded.{changes_bounded}
 use Rattle.xsk_sim.specs.Rounds.{AreRounds}
-use Rattle.xsk_sim.specs.Stalls.{settled_of, settled_by, IsQuiet, AreQuiet, StandStill}
-use Rattle.xsk_sim.specs.Runs.{IsRoundHistory, GoesPast, StandsStill, NeverStill}
-use Rattle.xsk_sim.specs.Bounds.{most_rounds, EndsOrStandsStill}
+use Rattle.xsk_sim.specs.Stalls.{settled_of, settled_by, AreQuiet, StandStill}
+use Rattle.xsk_sim.specs.Runs.{IsRoundHistory, NeverStill}
+use Rattle.xsk_sim.specs.Bounds.{EndsOrStandsStill}
 use Rattle.xsk_sim.proofs.Settling.{settled_grows, settled_few}
 use Rattle.xsk_sim.proofs.Unique.{Ran, ran_first}
 

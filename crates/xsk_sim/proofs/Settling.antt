@@ -1,12 +1,12 @@
 -- How many packets of a driver have their disposal: never fewer at a later call, and never more than it has.
-use Rattle.std.proofs.Common.{◌≡◌, ℕ, ◌+◌, ◌≤◌, List, [], ◌∷◌, ◌++◌, length, drop, refl, sym, subst, ap, ◌∙◌, arith, length-append, append-nil, append_assoc, ◌⊎◌, inl, inr, ⊎_elim}
-use Rattle.xsk_model.specs.Config.{Config, classes_of}
+use Rattle.std.proofs.Common.{◌≡◌, ℕ, ◌≤◌, List, [], ◌∷◌, ◌++◌, length, drop, refl, sym, subst, arith, length-append}
+use Rattle.xsk_model.specs.Config.{classes_of}
 use Rattle.xsk_model.specs.Entry.{Told, with_told}
 use Rattle.xsk_model.specs.declared.call.Call.{Call}
 use Rattle.xsk_model.specs.declared.call.Reply.{Reply}
 use Rattle.xsk_model.specs.declared.call.Reply.TheVariants.{Submitted}
 use Rattle.xsk_turns.specs.Script.{Script, ask, again, ended, never, begun, Leaves, Asks, IsRun}
-use Rattle.xsk_turns.specs.Turns.{Seat, Judged, Kept, Noted, settled, dropped, pieces_of, seat_of, start, turn, IsDriverRun}
+use Rattle.xsk_turns.specs.Turns.{Seat, Kept, settled, dropped, pieces_of, seat_of, start, turn, IsDriverRun}
 use Rattle.xsk_turns.specs.Workers.{Setting, input_of}
 use Rattle.xsk_turns.specs.declared.disposal.Disposal.{Disposal}
 use Rattle.xsk_turns.specs.declared.disposal.Disposal.TheVariants.{Delivered, NoFrames, RxFull, TooLong, Missed}
@@ -14,7 +14,7 @@ use Rattle.xsk_turns.proofs.Disposing.{keeps_disposals}
 use Rattle.xsk_turns.proofs.ScriptLemmas.{leaves_on, leaves_front, asked_last}
 use Rattle.xsk_turns.proofs.Walks.{Premise, MeetAlong}
 use Rattle.xsk_turns.proofs.DriverWalk as walk
-use Rattle.xsk_sim.specs.Stalls.{settled_along, settled_of}
+use Rattle.xsk_sim.specs.Stalls.{settled_of}
 use Rattle.xsk_sim.proofs.Stalling.{settled_at}
 
 -- ---- each call is one that is asked

@@ -19,7 +19,6 @@ use Rattle.xsk_turns.specs.Workers.{Setting, input_of, IsWorkerRun, IsWholeRun}
 use Rattle.xsk_driver.specs.Figured.{figures_of}
 use Rattle.xsk_sim.specs.Runs.{IsRoundHistory, HasEnded, HasStalled, OneHistory, OneLog, OneFigures, EndsOrStalls, OneStall}
 use Rattle.xsk_sim.specs.Shown.{Shown}
-use Rattle.xsk_sim.specs.Stalls.{StandStill}
 use Rattle.xsk_model.specs.Stored.{stored}
 
 -- ---- the front of a run

@@ -1,6 +1,6 @@
 -- How many rounds a run can have: where it neither ends nor stands still, something changes in each 64 rounds, and the object
 -- changes, and packets get their disposals, only so often. This is this project's own.
-use Rattle.std.specs.Prelude.{◌≡◌, ℕ, ◌+◌, ◌*◌, ◌<◌, List}
+use Rattle.std.specs.Prelude.{ℕ, ◌+◌, ◌*◌, ◌<◌, List}
 use Rattle.xsk_umem.specs.Frame.{Frame}
 use Rattle.xsk_model.specs.Config.{IsRegular, callers_of}
 use Rattle.xsk_model.specs.Entry.{Entry, own}

@@ -1,7 +1,7 @@
 -- Runs of a configuration over lists of packets, one for each port: histories in rounds, in which each worker's own calls
 -- and replies are a run of its turns. A run has ended where all of these are whole, and it has stalled where one isn't and
 -- nothing has changed for 64 rounds.
-use Rattle.std.specs.Prelude.{◌≡◌, true, ℕ, ◌+◌, ◌<◌, ◌≤◌, ◌⊎◌, List, [], ◌++◌, length}
+use Rattle.std.specs.Prelude.{◌≡◌, true, ℕ, ◌+◌, ◌<◌, ◌≤◌, List, [], ◌++◌, length}
 use Rattle.std.specs.List.{slice_index_or}
 use Rattle.std.specs.Fn.{Shared}
 use denote.Ref.{Bor}

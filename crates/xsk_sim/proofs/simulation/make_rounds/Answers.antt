@@ -1,4 +1,4 @@
-use Rattle.std.proofs.Common.{◌≡◌, ◌+◌, ◌<◌, ◌≤◌, IsTrue, refl, arith, inl, inr, subst, ◌∙◌, ⊎_elim}
+use Rattle.std.proofs.Common.{◌≡◌, ◌+◌, ◌<◌, ◌≤◌, IsTrue, refl, arith, subst, ◌∙◌, ⊎_elim}
 use Rattle.xsk_sim.specs.Seats.{HaveEnded}
 use Rattle.xsk_sim.proofs.Standing.{decided, gone_none, gone_more, never_more, never_ended, Stops, stops}
 use Rattle.xsk_sim.proofs.simulation.make_rounds.Goals as goal

@@ -1,4 +1,4 @@
-use Rattle.std.proofs.Common.{◌≡◌, ℕ, length, map, ◌+◌, ◌≤◌, ◌⊎◌, Err, sym, ap, ◌∙◌, refl, rules}
+use Rattle.std.proofs.Common.{◌≡◌, ℕ, length, map, ◌+◌, ◌≤◌, Err, sym, ap, ◌∙◌, refl, rules}
 use Rattle.xsk_sim.specs.declared.simulation.SimError.TheVariants.{Stalled}
 use Rattle.xsk_sim.specs.Runs.{NeverStill}
 use Rattle.xsk_driver.specs.Figures.{figures_in}
