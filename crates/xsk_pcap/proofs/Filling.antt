@@ -2,14 +2,15 @@
 use Rattle.std.proofs.Common.{◌≡◌, ℕ, ◌+◌, ◌-◌, ◌/◌, ◌%◌, ◌<◌, ◌≤◌, List, [], ◌∷◌, ◌++◌, length, get_or, take, drop, map, refl, sym, ap, subst, ◌∙◌, append_assoc, arith}
 use Rattle.std.specs.Prelude.{All}
 use Rattle.std.specs.List.{AllByRecursion}
-use Rattle.std.proofs.lemmas.List.{append-nil, length-append, length-drop, length-take-le, take_at, drop_at, drop_all, drop_more, drop-drop, take-append-drop}
-use Rattle.std.proofs.lemmas.List.Elements.{All-head, All-tail}
+use Rattle.std.proofs.lemmas.List.{append-nil, length-append, length-drop, length-map, length-take-le, take_at, drop_at, drop_all, drop_more, drop-drop, take-append-drop}
+use Rattle.std.proofs.lemmas.List.Elements.{All-head, All-tail, All-weaker}
 use Rattle.byteorder.specs.Endian.{little_bytes}
 use Rattle.xsk_umem.specs.declared.packet_list.Span.{Span}
 use Rattle.xsk_umem.specs.Span.{at_span, IsWithin, end_of, spans_from}
 use Rattle.xsk_pcap.specs.declared.endianness.Endianness.TheVariants.{Little}
 use Rattle.xsk_pcap.specs.Capture.{header_bytes, record_bytes, IsShort}
-use Rattle.xsk_pcap.specs.Written.{written_header, written_record, text_of, written}
+use Rattle.xsk_pcap.specs.Laid.{IsLaid}
+use Rattle.xsk_pcap.specs.Written.{written_header, written_record, text_of, written, IsWritable}
 use Rattle.xsk_pcap.specs.Steps.{HasGaps}
 use Rattle.xsk_pcap.proofs.Unique.{length-record}
 
@@ -141,3 +142,43 @@ Filling-done all number text f = done_of f.packets f.gapped f.spaced f.to_be
     done_of : (packets : List (List ℕ)) → AreGapped f.rest packets → [] ≡ spans_from (length f.front) 16 packets → f.front ++ text_of number packets ≡ all → text ≡ all
     done_of [] none spaced to_be = sym f.whole ∙ ap (λ (t : List ℕ). f.front ++ t) none ∙ to_be
     done_of (p ∷ ps) gapped spaced to_be = absurd (omega (arith, ap length spaced))
+
+-- ---- where the packets stand then
+
+-- behind their headers
+packets_behind_headers : (front : List ℕ) (number : ℕ) (packets : List (List ℕ)) → map (at_span (front ++ text_of number packets)) (spans_from (length front) 16 packets) ≡ packets
+packets_behind_headers front number [] = refl
+packets_behind_headers front number (p ∷ ps) =
+    let r = written_record number p in
+    let header : List ℕ = little_bytes 4 r.seconds ++ little_bytes 4 r.fraction ++ little_bytes 4 (length p) ++ little_bytes 4 (length p) in
+    let bytes : List ℕ = record_bytes Little r in
+    let rest : List ℕ = text_of (number + 1) ps in
+    let all : List ℕ = front ++ (bytes ++ rest) in
+    let start : ℕ = length front + 16 in
+    let parts : (front ++ header) ++ (p ++ rest) ≡ all = append_assoc front header (p ++ rest) ∙ ap (λ (t : List ℕ). front ++ t) (sym (append_assoc header p rest)) in
+    let from : drop start all ≡ p ++ rest = ap (drop start) (sym parts) ∙ drop_at (front ++ header) (p ++ rest) start (omega (arith, length-append front header)) in
+    let first : take (length p) (drop start all) ≡ p = ap (take (length p)) from ∙ take_at p rest (length p) refl in
+    let len : start + length p ≡ length (front ++ bytes) = omega (arith, length-append front bytes, length-append header p) in
+    let others : map (at_span all) (spans_from (start + length p) 16 ps) ≡ ps =
+    ap (λ (t : List ℕ). map (at_span t) (spans_from (start + length p) 16 ps)) (sym (append_assoc front bytes rest))
+    ∙ ap (λ (n : ℕ). map (at_span ((front ++ bytes) ++ rest)) (spans_from n 16 ps)) len ∙ packets_behind_headers (front ++ bytes) (number + 1) ps in
+    ap (λ (q : List ℕ). q ∷ map (at_span all) (spans_from (start + length p) 16 ps)) first ∙ ap (λ (qs : List (List ℕ)). p ∷ qs) others
+
+-- the text with the headers is the capture, and the packets stand where they stood
+pub laid_out : (text new : List ℕ) (spans : List Span) → HasGaps text spans → IsWritable (map (at_span text) spans ∷ []) → length new ≡ length text → new ≡ written (map (at_span text) spans ∷ [])
+    → IsLaid (map (at_span text) spans) new spans
+laid_out text new spans has writable same is =
+    let packets : List (List ℕ) = map (at_span text) spans in
+    let front : List ℕ = header_bytes Little written_header in
+    let text_is : new ≡ front ++ text_of 0 packets = is ∙ ap (λ (ps : List (List ℕ)). front ++ text_of 0 ps) (append-nil packets) in
+    record {
+      text_is = is;
+      are = record {
+        within = All-weaker (IsWithin text) (IsWithin new) (λ span within. let w : span.start + span.len ≤ length text = within in omega (arith, w, same)) spans has.are.within;
+        apart = has.are.apart;
+      };
+      packets_are =
+          ap (λ (t : List ℕ). map (at_span t) spans) text_is ∙ ap (map (at_span (front ++ text_of 0 packets))) has.spaced
+          ∙ packets_behind_headers front 0 packets;
+      few = omega (arith, writable.packets, ap length (append-nil packets), length-map spans (at_span text));
+    }

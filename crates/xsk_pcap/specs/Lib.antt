@@ -5,3 +5,4 @@ pub mod Written
 pub mod Laws
 pub mod Steps
 pub mod Kept
+pub mod Laid

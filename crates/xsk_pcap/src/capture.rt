@@ -1,11 +1,12 @@
 //! A capture as it is written.
-ghost use Rattle.std.specs.Prelude.{◌≡◌, ◌+◌, ◌*◌, ◌/◌, ◌%◌, ◌^◌, ◌<◌, ◌≤◌, [], ◌∷◌, ◌++◌, length, map, vec_capacity, IfOk, OnOk, OnErr};
+ghost use Rattle.std.specs.Prelude.{◌≡◌, ◌+◌, ◌*◌, ◌/◌, ◌%◌, ◌^◌, ◌<◌, ◌≤◌, [], ◌∷◌, ◌++◌, length, map, vec_capacity, IfErr, IfOk, OnOk, OnErr};
 ghost use Rattle.std.specs.List.{concat, AllByRecursion};
 ghost use Rattle.byteorder.specs.Endian.{little_bytes};
 ghost use Rattle.xsk_umem.specs.Span.{at_span};
 ghost use Rattle.xsk_pcap.specs.declared.endianness.Endianness.TheVariants.{Little};
 ghost use Rattle.xsk_pcap.specs.Capture.{record_bytes, IsShort};
 ghost use Rattle.xsk_pcap.specs.Steps.{HasGaps};
+ghost use Rattle.xsk_pcap.specs.Laid.{IsLaid};
 ghost use Rattle.xsk_pcap.specs.Written.{written, written_record, text_of, IsWritable};
 
 use byteorder::{ByteOrder, LittleEndian};
@@ -71,27 +72,26 @@ impl Capture {
         requires { IsWritable (list.packets ∷ []) }
         ensures { IfOk result (λ capture. capture ≡ list.packets ∷ []) }
     {
-        let Parts { text, spans, gaps } = list.into_parts();
-        if gaps == Some(GAPS) {
-            Capture::in_gaps(alloc, text, spans.as_slice())
-        } else {
-            let mut capture = Capture::start(alloc)?;
-            capture.add(&PacketList::of_spans(text, spans))?;
-            Ok(capture)
+        match write_in_gaps(list) {
+            Ok(laid) => Capture::of_laid(alloc, laid),
+            Err(list) => {
+                let mut capture = Capture::start(alloc)?;
+                capture.add(&list)?;
+                Ok(capture)
+            }
         }
     }
 
-    /// A capture of the packets that stand in a text, written into the gaps between them.
-    fn in_gaps(alloc: Global, text: Vec<u8>, spans: &[Span]) -> Result<Capture, OutOfMemory>
-        requires gaps { HasGaps text.items spans.now }
-        requires writable { IsWritable (map (at_span text.items) spans.now ∷ []) }
-        ensures { IfOk result (λ capture. capture ≡ map (at_span text.items) spans.now ∷ []) }
+    /// A capture of the one list that has been laid out as one.
+    fn of_laid(alloc: Global, laid: Laid) -> Result<Capture, OutOfMemory>
+        requires laid { IsLaid (map (at_span laid.text.items) laid.spans.items) laid.text.items laid.spans.items }
+        requires writable { IsWritable (map (at_span laid.text.items) laid.spans.items ∷ []) }
+        ensures { IfOk result (λ capture. capture ≡ map (at_span laid.text.items) laid.spans.items ∷ []) }
     {
+        let Laid { text, spans } = laid;
         let number = spans.len() as u32;
         let mut counts = Vec::with_capacity(alloc, 1)?;
         counts.push_reserved(number);
-        let mut text = text;
-        fill_gaps(text.as_mut_slice(), spans);
         Ok(Capture {
             text,
             counts,
@@ -122,6 +122,41 @@ impl Capture {
     {
         self.text
     }
+}
+
+/// What a list has become in whose gaps the headers of its capture are.
+#[derive(Debug, Drop)]
+pub struct Laid {
+    /// The bytes of the capture.
+    pub text: Vec<u8>,
+    /// Where the list's packets stand in it.
+    pub spans: Vec<Span>,
+}
+
+/// Writes the capture of a list, within the limits of [`Capture::add`], into the list's own text, where it has the [`GAPS`]
+/// for the headers. A list without them comes back as it was. It copies no packet and takes no memory.
+pub fn write_in_gaps(list: PacketList) -> Result<Laid, PacketList>
+    requires { IsWritable (list.packets ∷ []) }
+    ensures laid { IfOk result (λ laid. IsLaid list.packets laid.text.items laid.spans.items) }
+    ensures refused { IfErr result (λ other. other.packets ≡ list.packets) }
+{
+    let Parts { text, spans, gaps } = list.into_parts();
+    if gaps == Some(GAPS) {
+        Ok(lay(text, spans))
+    } else {
+        Err(PacketList::of_spans(text, spans))
+    }
+}
+
+/// Writes the headers of a capture into the gaps of a text.
+fn lay(text: Vec<u8>, spans: Vec<Span>) -> Laid
+    requires gaps { HasGaps text.items spans.items }
+    requires writable { IsWritable (map (at_span text.items) spans.items ∷ []) }
+    ensures { IsLaid (map (at_span text.items) spans.items) result.text.items result.spans.items }
+{
+    let mut text = text;
+    fill_gaps(text.as_mut_slice(), spans.as_slice());
+    Laid { text, spans }
 }
 
 /// The bytes of the records of a list's packets.

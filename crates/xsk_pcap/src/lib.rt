@@ -6,7 +6,7 @@ mod endianness;
 pub mod laws;
 mod reading;
 
-pub use capture::{Capture, GAPS};
+pub use capture::{Capture, GAPS, Laid, write_in_gaps};
 pub use reading::{BadCapture, read};
 
 #[cfg(test)]

@@ -1,0 +1,12 @@
+-- A list whose text has become its capture.
+use Rattle.std.specs.Prelude.{◌≡◌, ℕ, ◌<◌, ◌^◌, List, [], ◌∷◌, length, map}
+use Rattle.xsk_umem.specs.declared.packet_list.Span.{Span}
+use Rattle.xsk_umem.specs.Span.{at_span, AreInText}
+use Rattle.xsk_pcap.specs.Written.{written}
+
+-- the text is the capture of these packets alone, and they stand in these spans of it
+pub record IsLaid (packets : List (List ℕ)) (text : List ℕ) (spans : List Span) : Type 0 where
+  pub text_is : text ≡ written (packets ∷ [])
+  pub are : AreInText text spans
+  pub packets_are : map (at_span text) spans ≡ packets
+  pub few : length spans < 2 ^ 32
