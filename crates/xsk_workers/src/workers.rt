@@ -31,6 +31,7 @@ use crate::worker::Worker;
 use crossbeam_utils::sync::Parker;
 use std::alloc::Global;
 use std::marker::{Brand, Model, PhantomData};
+use std::mem;
 use std::sync::Wait;
 use std::thread::Threads;
 use xsk_app::App;
@@ -79,6 +80,23 @@ impl Outcome {
         ensures { result.now ≡ self.now.figures }
     {
         &self.figures
+    }
+
+    /// Takes the lists of what the drivers sent, one for each pair. The outcome has none then. It takes no memory.
+    pub fn take_sent(&mut self, alloc: Global) -> Vec<PacketList>
+        ensures lists { map packets_in result.items ≡ self.old.sent }
+        ensures short { All HasShortPackets result.items }
+        ensures left { self.new ≡ record self.old { sent = [] } }
+    {
+        mem::replace(&mut self.sent, Vec::new(alloc))
+    }
+
+    /// Puts lists in the place of those that the outcome has. It takes no memory.
+    pub fn put_sent(&mut self, sent: Vec<PacketList>)
+        requires short { All HasShortPackets sent.items }
+        ensures { self.new ≡ record self.old { sent = map packets_in sent.items } }
+    {
+        self.sent = sent;
     }
 }
 
