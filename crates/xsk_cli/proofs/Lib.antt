@@ -14,3 +14,4 @@ pub mod Making
 pub mod Outputs
 pub mod Counting
 pub mod Planning
+pub mod Lending

@@ -8,3 +8,4 @@ pub mod Line
 pub mod Ends
 pub mod Steps
 pub mod Forward
+pub mod Lent

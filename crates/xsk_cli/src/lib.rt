@@ -5,6 +5,7 @@ mod captures;
 mod failure;
 mod input;
 pub mod laws;
+mod lent;
 mod line;
 mod lists;
 mod made;

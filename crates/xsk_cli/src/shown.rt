@@ -1,5 +1,5 @@
 //! The run of a command on threads, and the texts of what it shows.
-ghost use Rattle.std.specs.Prelude.{◌≡◌, ℕ, ◌+◌, ◌*◌, ◌<◌, ◌≤◌, None, Some, All, List, IfErr, IfOk, drop, false, length, map, take};
+ghost use Rattle.std.specs.Prelude.{◌≡◌, ℕ, ◌+◌, ◌*◌, ◌<◌, ◌≤◌, None, Some, All, List, IfErr, IfOk, OnErr, OnOk, drop, false, length, map, take};
 ghost use Rattle.std.specs.List.{range_with_len};
 ghost use Rattle.xsk_driver.specs.Sent.{IsShort};
 ghost use Rattle.xsk_machine.specs.Acts.{HasShortPackets};
@@ -12,11 +12,13 @@ ghost use Rattle.xsk_stats.specs.Report.{report_text};
 ghost use Rattle.xsk_workers.specs.Forwarded.{HasForwarded, OutcomeShown};
 ghost use Rattle.xsk_cli.specs.Forward.{AreTextsFrom, HasShown, IsRun};
 ghost use Rattle.xsk_cli.specs.Judged.{excess_of};
+ghost use Rattle.xsk_cli.specs.Lent.{IsLent};
 ghost use Rattle.xsk_cli.specs.Outcome.{AreTextsIn, frames_of, listed, report_of, setting_of};
 ghost use Rattle.xsk_cli.specs.Steps.{lists_in, written_by, written_in};
 ghost use Rattle.xsk_cli.specs.Words.{fault_in};
 
 use crate::failure::RunFailure;
+use crate::lent::{Lent, lend};
 use crate::setup::set_up;
 use crate::texts::{Texts, rule_of, wire_of};
 use crate::words::Work;
@@ -33,7 +35,8 @@ use xsk_stats::report;
 use xsk_umem::{Frames, OutOfMemory, PacketList};
 use xsk_workers::{Outcome, forward};
 
-/// Runs the packets of all ports on threads, keeps what the run shows, and makes its texts.
+/// Runs the packets of all ports on threads, and makes the texts of what the run shows. This is kept where there is no memory
+/// for them.
 pub(crate) fn make_shown<R: Threads + Wait + Sync, G: Gate + Sync>(
     rt: &R,
     alloc: Global,
@@ -41,7 +44,7 @@ pub(crate) fn make_shown<R: Threads + Wait + Sync, G: Gate + Sync>(
     lists: &[PacketList],
     gate: &G,
     outcome: &mut Option<Outcome>,
-) -> Result<Texts, RunFailure>
+) -> Result<Lent, RunFailure>
     requires accepted { fault_in work.now ≡ None }
     requires runs { IsRun work.now }
     requires ports { length lists.now ≡ written_by work.now }
@@ -49,7 +52,7 @@ pub(crate) fn make_shown<R: Threads + Wait + Sync, G: Gate + Sync>(
     requires listed { lists.now ≡ map listed (lists_in lists.now) }
     requires short { All HasShortPackets lists.now }
     requires none { outcome.old ≡ None }
-    ensures made { IfOk result (λ texts. (o : OutcomeShown) × (outcome.new ≡ Some o) × AreTextsFrom work.now (lists_in lists.now) o (written_in texts)) }
+    ensures made { IfOk result (λ lent. (o : OutcomeShown) × IsLent lent o × HasShown work.now (lists_in lists.now) o × AreTextsFrom work.now (lists_in lists.now) o (written_in lent.texts)) }
     ensures shown { (o : OutcomeShown) → outcome.new ≡ Some o → HasShown work.now (lists_in lists.now) o }
     ensures failed { IfErr result (λ failure. failure ≡ RunFailure.OutOfMemory) }
 {
@@ -64,7 +67,8 @@ pub(crate) fn make_shown<R: Threads + Wait + Sync, G: Gate + Sync>(
     }
 }
 
-/// Runs the packets of all ports on threads, keeps what the run shows, and makes its texts.
+/// Runs the packets of all ports on threads, and makes the texts of what the run shows. This is kept where there is no memory
+/// for them.
 #[allow(clippy::too_many_arguments)]
 fn run_shown<R: Threads + Wait + Sync, G: Gate + Sync>(
     rt: &R,
@@ -75,14 +79,15 @@ fn run_shown<R: Threads + Wait + Sync, G: Gate + Sync>(
     lists: &[PacketList],
     gate: &G,
     outcome: &mut Option<Outcome>,
-) -> Result<Texts, RunFailure>
+) -> Result<Lent, RunFailure>
     requires accepted { fault_of layout.now ≡ None }
     requires ports { length lists.now ≡ layout.now.ports }
     requires within { excess_of (lists_in lists.now) ≡ None }
     requires listed { lists.now ≡ map listed (lists_in lists.now) }
     requires short { All HasShortPackets lists.now }
     requires none { outcome.old ≡ None }
-    ensures made { IfOk result (λ texts. (o : OutcomeShown) × (outcome.new ≡ Some o) × AreTextsIn layout.now program wire (lists_in lists.now) o.history (report_of layout.now program wire (lists_in lists.now) o.history) (written_in texts)) }
+    ensures made { IfOk result (λ lent. (o : OutcomeShown) × IsLent lent o × HasForwarded (setting_of layout.now program wire (lists_in lists.now)) (frames_of layout.now) o
+        × AreTextsIn layout.now program wire (lists_in lists.now) o.history (report_of layout.now program wire (lists_in lists.now) o.history) (written_in lent.texts)) }
     ensures shown { (o : OutcomeShown) → outcome.new ≡ Some o → HasForwarded (setting_of layout.now program wire (lists_in lists.now)) (frames_of layout.now) o }
     ensures failed { IfErr result (λ failure. failure ≡ RunFailure.OutOfMemory) }
 {
@@ -91,31 +96,75 @@ fn run_shown<R: Threads + Wait + Sync, G: Gate + Sync>(
     let shown = forward_lists(
         rt, alloc, layout, config, frames, program, wire, lists, gate,
     )?;
-    let texts = keep_shown(alloc, layout, &shared, shown, outcome)?;
-    Ok(texts)
+    let lent = keep_shown(alloc, layout, &shared, shown, outcome)?;
+    Ok(lent)
 }
 
-/// Keeps what a run shows, whether or not there is memory for its texts, and makes these.
+/// Makes the texts of what a run shows, and keeps that where there is no memory for them.
 fn keep_shown(
     alloc: Global,
     layout: &Layout,
     config: &Config,
     shown: Outcome,
     outcome: &mut Option<Outcome>,
-) -> Result<Texts, OutOfMemory>
+) -> Result<Lent, OutOfMemory>
     requires regular { IsRegular config.now }
     requires drivers { length shown.figures.drivers ≡ length config.now.pairs }
     requires ports { layout.now.ports ≤ 4 }
     requires few { layout.now.ports * layout.now.queues < 4294967296 }
     requires sent { length shown.sent ≡ pairs_in layout.now }
+    requires short { All (λ (list : List (List ℕ)). All IsShort list) shown.sent }
     requires writable { (port count : ℕ) → port < layout.now.ports → count ≤ layout.now.queues → IsWritable (take count (drop (port * layout.now.queues) shown.sent)) }
-    ensures kept { outcome.new ≡ Some shown }
-    ensures outputs { IfOk result (λ texts. (written_in texts).outputs ≡ map (λ port. written (take layout.now.queues (drop (port * layout.now.queues) shown.sent))) (range_with_len 0 layout.now.ports)) }
-    ensures report { IfOk result (λ texts. (written_in texts).report ≡ report_text config.now shown.figures) }
+    ensures lent { IfOk result (λ lent. IsLent lent shown) }
+    ensures outputs { IfOk result (λ lent. (written_in lent.texts).outputs ≡ map (λ port. written (take layout.now.queues (drop (port * layout.now.queues) shown.sent))) (range_with_len 0 layout.now.ports)) }
+    ensures report { IfOk result (λ lent. (written_in lent.texts).report ≡ report_text config.now shown.figures) }
+    ensures kept { OnErr result (outcome.new ≡ Some shown) }
+    ensures unkept { OnOk result (outcome.new ≡ outcome.old) }
 {
-    let texts = shown_texts(alloc, layout, config, &shown);
-    *outcome = Some(shown);
-    texts
+    match lend_shown(alloc, layout, config, shown) {
+        Ok(lent) => Ok(lent),
+        Err(shown) => {
+            *outcome = Some(shown);
+            Err(OutOfMemory)
+        }
+    }
+}
+
+/// Makes the texts of what a run shows: a capture for each port, and the report. With one queue a port the captures are the
+/// lists' own texts.
+#[allow(clippy::result_large_err)]
+fn lend_shown(
+    alloc: Global,
+    layout: &Layout,
+    config: &Config,
+    shown: Outcome,
+) -> Result<Lent, Outcome>
+    requires regular { IsRegular config.now }
+    requires drivers { length shown.figures.drivers ≡ length config.now.pairs }
+    requires ports { layout.now.ports ≤ 4 }
+    requires few { layout.now.ports * layout.now.queues < 4294967296 }
+    requires sent { length shown.sent ≡ pairs_in layout.now }
+    requires short { All (λ (list : List (List ℕ)). All IsShort list) shown.sent }
+    requires writable { (port count : ℕ) → port < layout.now.ports → count ≤ layout.now.queues → IsWritable (take count (drop (port * layout.now.queues) shown.sent)) }
+    ensures lent { IfOk result (λ lent. IsLent lent shown) }
+    ensures outputs { IfOk result (λ lent. (written_in lent.texts).outputs ≡ map (λ port. written (take layout.now.queues (drop (port * layout.now.queues) shown.sent))) (range_with_len 0 layout.now.ports)) }
+    ensures report { IfOk result (λ lent. (written_in lent.texts).report ≡ report_text config.now shown.figures) }
+    ensures refused { IfErr result (λ other. other ≡ shown) }
+{
+    let Ok(report) = report(alloc, config, shown.figures()) else {
+        return Err(shown);
+    };
+    if layout.queues == 1 {
+        return lend(alloc, layout.ports, report, shown);
+    }
+    match shown_outputs(alloc, layout.ports, layout.queues, &shown) {
+        Ok(outputs) => Ok(Lent {
+            texts: Texts { outputs, report },
+            outcome: shown,
+            loan: None,
+        }),
+        Err(OutOfMemory) => Err(shown),
+    }
 }
 
 /// Runs the lists of all ports on threads under the program's rule, with the wire.
@@ -150,27 +199,6 @@ fn forward_lists<R: Threads + Wait + Sync, G: Gate + Sync>(
     let wire = wire_of(wire);
     let outcome = forward(rt, alloc, config, frames, lists, &attached, wire, gate)?;
     Ok(outcome)
-}
-
-/// The texts of what a run shows: a capture for each port, and the report.
-fn shown_texts(
-    alloc: Global,
-    layout: &Layout,
-    config: &Config,
-    outcome: &Outcome,
-) -> Result<Texts, OutOfMemory>
-    requires regular { IsRegular config.now }
-    requires drivers { length outcome.now.figures.drivers ≡ length config.now.pairs }
-    requires ports { layout.now.ports ≤ 4 }
-    requires few { layout.now.ports * layout.now.queues < 4294967296 }
-    requires sent { length outcome.now.sent ≡ pairs_in layout.now }
-    requires writable { (port count : ℕ) → port < layout.now.ports → count ≤ layout.now.queues → IsWritable (take count (drop (port * layout.now.queues) outcome.now.sent)) }
-    ensures outputs { IfOk result (λ texts. (written_in texts).outputs ≡ map (λ port. written (take layout.now.queues (drop (port * layout.now.queues) outcome.now.sent))) (range_with_len 0 layout.now.ports)) }
-    ensures report { IfOk result (λ texts. (written_in texts).report ≡ report_text config.now outcome.now.figures) }
-{
-    let report = report(alloc, config, outcome.figures())?;
-    let outputs = shown_outputs(alloc, layout.ports, layout.queues, outcome)?;
-    Ok(Texts { outputs, report })
 }
 
 /// The captures of what the drivers sent, one for each port.

@@ -236,7 +236,9 @@ fn forward_plan<R: Threads + Wait + Sync, B: Bay, G: Gate + Sync>(
 {
     let inputs = read_inputs(alloc, bay, plan.inputs)?;
     let lists = take_lists(alloc, &plan.work, inputs)?;
-    let texts = make_shown(rt, alloc, &plan.work, lists.as_slice(), gate, outcome)?;
-    write_texts(bay, plan.outputs, &texts)?;
+    let lent = make_shown(rt, alloc, &plan.work, lists.as_slice(), gate, outcome)?;
+    let written = write_texts(bay, plan.outputs, &lent.texts);
+    *outcome = Some(lent.give_back());
+    written?;
     Ok(())
 }

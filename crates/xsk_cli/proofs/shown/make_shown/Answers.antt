@@ -1,13 +1,14 @@
-use Rattle.std.proofs.Common.{◌≡◌, Some, IfOk, sym, subst}
+use Rattle.std.proofs.Common.{IfOk, sym, subst}
 use Rattle.xsk_workers.specs.Forwarded.{OutcomeShown}
 use Rattle.xsk_cli.specs.Forward.{AreTextsFrom, HasShown}
+use Rattle.xsk_cli.specs.Lent.{IsLent}
 use Rattle.xsk_cli.specs.Steps.{lists_in, written_in}
 use Rattle.xsk_cli.specs.declared.words.Work.{Work}
 use Rattle.xsk_cli.proofs.shown.make_shown.Goals as goal
 
 pub returns-clause-made : goal.returns-clause-made
 returns-clause-made g c =
-    subst (λ (w : Work). IfOk c.run_shown.result (λ texts. (o : OutcomeShown) × (c.run_shown.new.outcome ≡ Some o) × AreTextsFrom w (lists_in c.args.lists.now) o (written_in texts)))
+    subst (λ (w : Work). IfOk c.run_shown.result (λ lent. (o : OutcomeShown) × IsLent lent o × HasShown w (lists_in c.args.lists.now) o × AreTextsFrom w (lists_in c.args.lists.now) o (written_in lent.texts)))
     (sym c.in-Simulate.is) c.run_shown.ensures.made
 
 pub returns-clause-shown : goal.returns-clause-shown

@@ -45,16 +45,13 @@ pub returns-clause-made : goal.returns-clause-made
 returns-clause-made g c =
     let layout = c.args.layout.now in (
       c.in_ok-shown.shown,
-      c.keep_shown.ensures.kept,
+      c.in_ok-lent.ensures.lent,
+      c.in_ok-shown.ensures.forwarded,
       texts_shown layout c.args.program c.args.wire (lists_in c.args.lists.now) c.requires.accepted c.in_ok-shown.shown c.in_ok-shown.ensures.forwarded c.in_ok-shown.ensures.pairs
-          (written_in c.in_ok-texts.texts) c.in_ok-texts.ensures.outputs
-          (c.in_ok-texts.ensures.report ∙ ap (λ (k : Config). report_text k c.in_ok-shown.shown.figures) (c.in_ok-shared.ensures ∙ c.in_ok-config.ensures.config)),
+          (written_in c.in_ok-lent.lent.texts) c.in_ok-lent.ensures.outputs
+          (c.in_ok-lent.ensures.report ∙ ap (λ (k : Config). report_text k c.in_ok-shown.shown.figures) (c.in_ok-shared.ensures ∙ c.in_ok-config.ensures.config)),
     )
 
-pub returns-clause-shown : goal.returns-clause-shown
-returns-clause-shown g c o is =
-    subst (HasForwarded (setting_of c.args.layout.now c.args.program c.args.wire (lists_in c.args.lists.now)) (frames_of c.args.layout.now)) (same_Some c.in_ok-shown.shown o (sym c.keep_shown.ensures.kept ∙ is)) c.in_ok-shown.ensures.forwarded
-
-pub returns-in_err-texts-clause-shown : goal.returns-in_err-texts-clause-shown
-returns-in_err-texts-clause-shown g c o is =
-    subst (HasForwarded (setting_of c.args.layout.now c.args.program c.args.wire (lists_in c.args.lists.now)) (frames_of c.args.layout.now)) (same_Some c.in_ok-shown.shown o (sym c.keep_shown.ensures.kept ∙ is)) c.in_ok-shown.ensures.forwarded
+pub returns-in_err-lent-clause-shown : goal.returns-in_err-lent-clause-shown
+returns-in_err-lent-clause-shown g c o is =
+    subst (HasForwarded (setting_of c.args.layout.now c.args.program c.args.wire (lists_in c.args.lists.now)) (frames_of c.args.layout.now)) (same_Some c.in_ok-shown.shown o (sym c.in_err-lent.ensures.kept ∙ is)) c.in_ok-shown.ensures.forwarded

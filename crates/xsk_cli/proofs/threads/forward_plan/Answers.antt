@@ -1,5 +1,5 @@
 use Rattle.std.proofs.Common.{rules, ◌≡◌, length, map, sym, ap, ◌∙◌, subst, arith, Option, None, Some}
-use Rattle.std.specs.Prelude.{All}
+use Rattle.std.specs.Prelude.{All, Err, Ok}
 use Rattle.std.proofs.lemmas.List.{length-map}
 use Rattle.xsk_sim.specs.Shown.{HasShortPackets}
 use Rattle.xsk_workers.specs.Forwarded.{OutcomeShown}
@@ -45,8 +45,8 @@ make_shown-requires-clause-short g c κs within =
     subst (All HasShortPackets) (sym c.as_slice.ensures.value)
     (short_lists (plan_in c.args.plan.now).work (map (λ bytes. bytes.items) c.in_ok-inputs.inputs.items) c.in_ok-lists.lists.items c.in_ok-lists.ensures.taken)
 
-pub returns-in_err-texts-clause-ends : goal.returns-in_err-texts-clause-ends
-returns-in_err-texts-clause-ends g c =
+pub returns-in_err-lent-clause-ends : goal.returns-in_err-lent-clause-ends
+returns-in_err-lent-clause-ends g c =
     let old : Moment = record { is_open = g.B.Bay.is_open c.args.bay.now; asked = g.B.Bay.asked c.args.bay.now; left = g.B.Bay.left c.args.bay.now; held = g.B.Bay.held c.args.bay.now; offers = g.B.Bay.offers c.args.bay.now; faults = g.B.Bay.faults c.args.bay.now } in
     let mid : Moment = record { is_open = g.B.Bay.is_open c.read_inputs.new.bay; asked = g.B.Bay.asked c.read_inputs.new.bay; left = g.B.Bay.left c.read_inputs.new.bay; held = g.B.Bay.held c.read_inputs.new.bay; offers = g.B.Bay.offers c.read_inputs.new.bay; faults = g.B.Bay.faults c.read_inputs.new.bay } in
     let plan = plan_in c.args.plan.now in
@@ -66,81 +66,86 @@ returns-in_err-texts-clause-ends g c =
       within = c.in_ok-lists.ensures.within;
       shown = subst (λ ls. HasShown plan.work ls o) same_lists (c.make_shown.ensures.shown o is);
     } in
-    ran_out_shown c.from_residual-in_err-texts.result plan bytes old mid mid have shown each (search (rules, c.in_err-texts.ensures.failed))
+    ran_out_shown c.from_residual-in_err-lent.result plan bytes old mid mid have shown each (search (rules, c.in_err-lent.ensures.failed))
 
-pub write_texts-requires-clause-few : goal.write_texts-requires-clause-few
-write_texts-requires-clause-few g c =
+pub write_texts-written-requires-clause-few : goal.write_texts-written-requires-clause-few
+write_texts-written-requires-clause-few g c =
     omega (arith, few_written c.args.plan.now.work c.requires.ready.accepted, c.requires.ready.outputs, length-map c.args.plan.now.outputs.now (λ name. name.now))
 
-pub write_texts-requires-clause-texts : goal.write_texts-requires-clause-texts
-write_texts-requires-clause-texts g c =
+pub write_texts-written-requires-clause-texts : goal.write_texts-written-requires-clause-texts
+write_texts-written-requires-clause-texts g c =
     let plan = plan_in c.args.plan.now in
     omega (
       arith,
-      shown_count plan.work (lists_in c.as_slice.result.now) c.in_ok-texts.ensures.made.0 (written_in c.in_ok-texts.texts) c.in_ok-texts.ensures.made.2,
-      length-map c.in_ok-texts.texts.outputs.items (λ text. text.items),
+      shown_count plan.work (lists_in c.as_slice.result.now) c.in_ok-lent.ensures.made.0 (written_in c.in_ok-lent.lent.texts) c.in_ok-lent.ensures.made.3,
+      length-map c.in_ok-lent.lent.texts.outputs.items (λ text. text.items),
       length-map c.args.plan.now.outputs.now (λ name. name.now),
       c.requires.ready.outputs,
     )
 
-pub returns-in_err-write_texts-clause-ends : goal.returns-in_err-write_texts-clause-ends
-returns-in_err-write_texts-clause-ends g c =
+pub give_back-requires : goal.give_back-requires
+give_back-requires g c = (c.in_ok-lent.ensures.made.0, c.in_ok-lent.ensures.made.1)
+
+pub returns-in_err-written-clause-ends : goal.returns-in_err-written-clause-ends
+returns-in_err-written-clause-ends g c =
     let old : Moment = record { is_open = g.B.Bay.is_open c.args.bay.now; asked = g.B.Bay.asked c.args.bay.now; left = g.B.Bay.left c.args.bay.now; held = g.B.Bay.held c.args.bay.now; offers = g.B.Bay.offers c.args.bay.now; faults = g.B.Bay.faults c.args.bay.now } in
     let mid : Moment = record { is_open = g.B.Bay.is_open c.read_inputs.new.bay; asked = g.B.Bay.asked c.read_inputs.new.bay; left = g.B.Bay.left c.read_inputs.new.bay; held = g.B.Bay.held c.read_inputs.new.bay; offers = g.B.Bay.offers c.read_inputs.new.bay; faults = g.B.Bay.faults c.read_inputs.new.bay } in
-    let new : Moment = record { is_open = g.B.Bay.is_open c.write_texts.new.bay; asked = g.B.Bay.asked c.write_texts.new.bay; left = g.B.Bay.left c.write_texts.new.bay; held = g.B.Bay.held c.write_texts.new.bay; offers = g.B.Bay.offers c.write_texts.new.bay; faults = g.B.Bay.faults c.write_texts.new.bay } in
+    let new : Moment = record { is_open = g.B.Bay.is_open c.write_texts-written.new.bay; asked = g.B.Bay.asked c.write_texts-written.new.bay; left = g.B.Bay.left c.write_texts-written.new.bay; held = g.B.Bay.held c.write_texts-written.new.bay; offers = g.B.Bay.offers c.write_texts-written.new.bay; faults = g.B.Bay.faults c.write_texts-written.new.bay } in
     let plan = plan_in c.args.plan.now in
     let bytes = map (λ bytes. bytes.items) c.in_ok-inputs.inputs.items in
     let lists = lists_in c.in_ok-lists.lists.items in
-    let texts = written_in c.in_ok-texts.texts in
-    let failure = c.in_err-write_texts.field-0.0 in
+    let texts = written_in c.in_ok-lent.lent.texts in
+    let failure = c.in_err-written.field-0.0 in
+    let gave : c.write_texts-written.result ≡ Err failure = search rules in
     let have : HaveRead plan.inputs bytes (length plan.inputs) old mid = subst (λ n. HaveRead plan.inputs bytes n old mid) (sym (length-map c.args.plan.now.inputs.now (λ name. name.now))) c.in_ok-inputs.ensures.read in
     let short : AreShort bytes (length bytes) = subst (AreShort bytes) (sym have.count_is) have.short in
     let are : AreListsOf plan.work bytes lists = c.in_ok-lists.ensures.taken in
     let same_lists : lists_in c.as_slice.result.now ≡ lists = ap lists_in c.as_slice.ensures.value in
     let ports : length lists ≡ written_by plan.work = length-map c.in_ok-lists.lists.items (λ list. list.packets) ∙ c.in_ok-lists.ensures.count in
-    let o = c.in_ok-texts.ensures.made.0 in
-    let is_some : c.make_shown.new.outcome ≡ Some o = c.in_ok-texts.ensures.made.1 in
+    let o = c.in_ok-lent.ensures.made.0 in
+    let is_some : Some c.give_back.result ≡ Some o = ap Some (c.give_back.ensures o c.in_ok-lent.ensures.made.1) in
     let shown : IsShown plan.work bytes o = record {
       short = short;
       lists = lists;
       are = are;
       ports = ports;
       within = c.in_ok-lists.ensures.within;
-      shown = subst (λ ls. HasShown plan.work ls o) same_lists (c.make_shown.ensures.shown o is_some);
+      shown = subst (λ ls. HasShown plan.work ls o) same_lists c.in_ok-lent.ensures.made.2;
     } in
-    let is : IsWritten plan.work bytes o texts = record { is = shown; texts_are = subst (λ ls. AreTextsFrom plan.work ls o texts) same_lists c.in_ok-texts.ensures.made.2 } in
-    let same : SameInputs mid new = record { opened = c.write_texts.ensures.opened; asked = c.write_texts.ensures.asked; left = λ port. c.write_texts.ensures.left _ } in
-    status_shown c.from_residual-in_err-write_texts.result (write_status failure) (Some o) _ plan old new (search rules) is_some
-    (unwritten_by plan bytes old mid new have (ComesShown plan.work (Some o)) texts same (λ stream. is) (λ port. is) failure c.in_err-write_texts.ensures.failed)
+    let is : IsWritten plan.work bytes o texts = record { is = shown; texts_are = subst (λ ls. AreTextsFrom plan.work ls o texts) same_lists c.in_ok-lent.ensures.made.3 } in
+    let same : SameInputs mid new = record { opened = c.write_texts-written.ensures.opened; asked = c.write_texts-written.ensures.asked; left = λ port. c.write_texts-written.ensures.left _ } in
+    status_shown c.from_residual-in_err-written.result (write_status failure) (Some o) _ plan old new (search rules) is_some
+    (unwritten_by plan bytes old mid new have (ComesShown plan.work (Some o)) texts same (λ stream. is) (λ port. is) failure (rw gave at c.write_texts-written.ensures.failed))
 
 pub returns-clause-ends : goal.returns-clause-ends
 returns-clause-ends g c =
     let old : Moment = record { is_open = g.B.Bay.is_open c.args.bay.now; asked = g.B.Bay.asked c.args.bay.now; left = g.B.Bay.left c.args.bay.now; held = g.B.Bay.held c.args.bay.now; offers = g.B.Bay.offers c.args.bay.now; faults = g.B.Bay.faults c.args.bay.now } in
     let mid : Moment = record { is_open = g.B.Bay.is_open c.read_inputs.new.bay; asked = g.B.Bay.asked c.read_inputs.new.bay; left = g.B.Bay.left c.read_inputs.new.bay; held = g.B.Bay.held c.read_inputs.new.bay; offers = g.B.Bay.offers c.read_inputs.new.bay; faults = g.B.Bay.faults c.read_inputs.new.bay } in
-    let new : Moment = record { is_open = g.B.Bay.is_open c.write_texts.new.bay; asked = g.B.Bay.asked c.write_texts.new.bay; left = g.B.Bay.left c.write_texts.new.bay; held = g.B.Bay.held c.write_texts.new.bay; offers = g.B.Bay.offers c.write_texts.new.bay; faults = g.B.Bay.faults c.write_texts.new.bay } in
+    let new : Moment = record { is_open = g.B.Bay.is_open c.write_texts-written.new.bay; asked = g.B.Bay.asked c.write_texts-written.new.bay; left = g.B.Bay.left c.write_texts-written.new.bay; held = g.B.Bay.held c.write_texts-written.new.bay; offers = g.B.Bay.offers c.write_texts-written.new.bay; faults = g.B.Bay.faults c.write_texts-written.new.bay } in
+    let gave : c.write_texts-written.result ≡ Ok tt = search rules in
     let plan = plan_in c.args.plan.now in
     let bytes = map (λ bytes. bytes.items) c.in_ok-inputs.inputs.items in
     let lists = lists_in c.in_ok-lists.lists.items in
-    let texts = written_in c.in_ok-texts.texts in
+    let texts = written_in c.in_ok-lent.lent.texts in
     let have : HaveRead plan.inputs bytes (length plan.inputs) old mid = subst (λ n. HaveRead plan.inputs bytes n old mid) (sym (length-map c.args.plan.now.inputs.now (λ name. name.now))) c.in_ok-inputs.ensures.read in
     let short : AreShort bytes (length bytes) = subst (AreShort bytes) (sym have.count_is) have.short in
     let are : AreListsOf plan.work bytes lists = c.in_ok-lists.ensures.taken in
     let same_lists : lists_in c.as_slice.result.now ≡ lists = ap lists_in c.as_slice.ensures.value in
     let ports : length lists ≡ written_by plan.work = length-map c.in_ok-lists.lists.items (λ list. list.packets) ∙ c.in_ok-lists.ensures.count in
-    let o = c.in_ok-texts.ensures.made.0 in
-    let is_some : c.make_shown.new.outcome ≡ Some o = c.in_ok-texts.ensures.made.1 in
+    let o = c.in_ok-lent.ensures.made.0 in
+    let is_some : Some c.give_back.result ≡ Some o = ap Some (c.give_back.ensures o c.in_ok-lent.ensures.made.1) in
     let shown : IsShown plan.work bytes o = record {
       short = short;
       lists = lists;
       are = are;
       ports = ports;
       within = c.in_ok-lists.ensures.within;
-      shown = subst (λ ls. HasShown plan.work ls o) same_lists (c.make_shown.ensures.shown o is_some);
+      shown = subst (λ ls. HasShown plan.work ls o) same_lists c.in_ok-lent.ensures.made.2;
     } in
-    let is : IsWritten plan.work bytes o texts = record { is = shown; texts_are = subst (λ ls. AreTextsFrom plan.work ls o texts) same_lists c.in_ok-texts.ensures.made.2 } in
-    let same : SameInputs mid new = record { opened = c.write_texts.ensures.opened; asked = c.write_texts.ensures.asked; left = λ port. c.write_texts.ensures.left _ } in
+    let is : IsWritten plan.work bytes o texts = record { is = shown; texts_are = subst (λ ls. AreTextsFrom plan.work ls o texts) same_lists c.in_ok-lent.ensures.made.3 } in
+    let same : SameInputs mid new = record { opened = c.write_texts-written.ensures.opened; asked = c.write_texts-written.ensures.asked; left = λ port. c.write_texts-written.ensures.left _ } in
     let count : length plan.outputs ≡ length c.args.plan.now.outputs.now = length-map c.args.plan.now.outputs.now (λ name. name.now) in
     let writes : AreWritten plan.outputs texts.outputs (length plan.outputs) (length plan.outputs) mid new =
-    subst (λ n. AreWritten plan.outputs texts.outputs n n mid new) (sym count) c.in_ok-write_texts.ensures.written in
+    subst (λ n. AreWritten plan.outputs texts.outputs n n mid new) (sym count) (rw gave at c.write_texts-written.ensures.written) in
     subst (λ x. EndsShown x old new Done plan) (sym is_some)
-    (done_by plan bytes old mid new have (ComesShown plan.work (Some o)) texts same is writes c.in_ok-write_texts.ensures.report c.in_ok-write_texts.ensures.offered)
+    (done_by plan bytes old mid new have (ComesShown plan.work (Some o)) texts same is writes (rw gave at c.write_texts-written.ensures.report) (rw gave at c.write_texts-written.ensures.offered))

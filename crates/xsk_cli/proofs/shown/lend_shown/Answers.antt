@@ -1,0 +1,24 @@
+use Rattle.std.proofs.Common.{rules, ◌≡◌, ℕ, ◌*◌, List, IfOk, length, map, take, drop, sym, subst, arith}
+use Rattle.std.specs.List.{range_with_len}
+use Rattle.xsk_pcap.specs.Written.{IsWritable, written}
+use Rattle.xsk_cli.specs.Outcome.{capture_of}
+use Rattle.xsk_cli.specs.Steps.{written_in}
+use Rattle.xsk_cli.proofs.Lending.{captures_of_ports, each_writable}
+use Rattle.xsk_cli.proofs.shown.lend_shown.Goals as goal
+
+pub lend-requires-clause-writable : goal.lend-requires-clause-writable
+lend-requires-clause-writable c =
+    let layout = c.args.layout.now in
+    let sent = c.args.shown.sent in
+    let one : layout.queues ≡ 1 = search rules in
+    let count : length sent ≡ layout.ports * 1 = subst (λ (q : ℕ). length sent ≡ layout.ports * q) one c.requires.sent in
+    each_writable sent layout.ports (omega (arith, count)) (λ port below. subst (λ (q : ℕ). IsWritable (take 1 (drop (port * q) sent))) one (c.requires.writable port 1 below (omega (arith, one))))
+
+pub returns-then-layout-eq1-clause-outputs : goal.returns-then-layout-eq1-clause-outputs
+returns-then-layout-eq1-clause-outputs c =
+    let layout = c.args.layout.now in
+    let sent = c.args.shown.sent in
+    let one : layout.queues ≡ 1 = search rules in
+    let count : length sent ≡ layout.ports * 1 = subst (λ (q : ℕ). length sent ≡ layout.ports * q) one c.requires.sent in
+    subst (λ (q : ℕ). IfOk c.lend.result (λ lent. (written_in lent.texts).outputs ≡ map (λ port. written (take q (drop (port * q) sent))) (range_with_len 0 layout.ports))) (sym one)
+    (subst (λ (texts : List (List ℕ)). IfOk c.lend.result (λ lent. (written_in lent.texts).outputs ≡ texts)) (captures_of_ports sent layout.ports (omega (arith, count))) c.lend.ensures.outputs)
