@@ -186,3 +186,31 @@ fn gaps_of_headers_and_others_come_to_one_text(rt: HostRuntime) -> Result<(), Fa
     }
     Ok(())
 }
+
+/// The list that a list with these gaps becomes again once its capture was written into them, and the capture's bytes.
+fn laid_in(alloc: Global, gaps: Gaps) -> Result<(usize, PacketList), Fail> {
+    let list = PacketList::with_gaps(alloc, gaps)?;
+    match write_in_gaps(with_both(list, &[7; 60], b"ab")?) {
+        Ok(laid) => {
+            let len = laid.text.len();
+            Ok((len, PacketList::of_spans(laid.text, laid.spans)))
+        }
+        Err(list) => Ok((0, list)),
+    }
+}
+
+#[test]
+fn a_list_is_made_again_of_the_text_in_its_gaps(rt: HostRuntime) -> Result<(), Fail> {
+    for (before_each, bytes) in [(16, 118), (17, 0)] {
+        let gaps = Gaps {
+            first: 24,
+            before_each,
+        };
+        let (len, list) = laid_in(rt.alloc(), gaps)?;
+        assert_eq!(rt; len, bytes);
+        assert!(rt; list.len() == 2);
+        assert_eq!(rt; list.get(0), [7; 60].as_slice());
+        assert_eq!(rt; list.get(1), b"ab".as_slice());
+    }
+    Ok(())
+}
