@@ -1,4 +1,4 @@
-use Rattle.std.proofs.Common.{rules, ◌≡◌, ◌≤◌, [], List, ℕ, map, vec_capacity, sym, ap, ◌∙◌}
+use Rattle.std.proofs.Common.{rules, ◌≡◌, ◌≤◌, [], map, vec_capacity}
 use Rattle.xsk_cli.specs.Steps.{lists_in}
 use Rattle.xsk_cli.proofs.Lending.{has_lent}
 use Rattle.xsk_cli.proofs.lent.lend.Goals as goal

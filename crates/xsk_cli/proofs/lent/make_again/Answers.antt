@@ -1,9 +1,9 @@
-use Rattle.std.proofs.Common.{rules, ◌≡◌, ◌∷◌, ◌++◌, [], length, map, sym, ap, subst, ◌∙◌, arith, length-append}
+use Rattle.std.proofs.Common.{rules, ◌≡◌, ◌∷◌, ◌++◌, [], length, map, sym, ap, subst, arith, length-append}
 use Rattle.std.proofs.lemmas.List.{nil_from_length}
 use Rattle.std.specs.Vec.Iter.{into_iter_items, into_iter_len}
 use Rattle.xsk_workers.specs.Forwarded.{packets_in}
 use Rattle.xsk_cli.specs.Lent.{AreKept}
-use Rattle.xsk_cli.proofs.Lending.{MakesRest, made_more, makes_all, none_next, rest_next}
+use Rattle.xsk_cli.proofs.Lending.{MakesRest, made_more, makes_all, rest_next}
 use Rattle.xsk_cli.proofs.lent.make_again.Goals as goal
 
 pub loop-one-init : goal.loop-one-init

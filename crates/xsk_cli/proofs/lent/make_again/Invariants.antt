@@ -1,4 +1,4 @@
-use Rattle.std.proofs.Common.{◌≡◌, ℕ, ◌+◌, ◌≤◌, List, length, map, vec_capacity}
+use Rattle.std.proofs.Common.{ℕ, ◌+◌, ◌≤◌, List, length, map, vec_capacity}
 use Rattle.std.specs.Vec.Iter.{into_iter_items}
 use Rattle.xsk_workers.specs.Forwarded.{packets_in}
 use Rattle.xsk_cli.specs.Lent.{IsLoan}

@@ -1,7 +1,6 @@
 use Rattle.std.proofs.Common.{rules, ◌≡◌, ℕ, ◌*◌, List, IfOk, length, map, take, drop, sym, subst, arith}
 use Rattle.std.specs.List.{range_with_len}
 use Rattle.xsk_pcap.specs.Written.{IsWritable, written}
-use Rattle.xsk_cli.specs.Outcome.{capture_of}
 use Rattle.xsk_cli.specs.Steps.{written_in}
 use Rattle.xsk_cli.proofs.Lending.{captures_of_ports, each_writable}
 use Rattle.xsk_cli.proofs.shown.lend_shown.Goals as goal

@@ -1,8 +1,7 @@
 use Rattle.std.proofs.Common.{map, sym, subst}
 use Rattle.std.specs.Prelude.{All, List, ℕ}
 use Rattle.xsk_driver.specs.Sent.{IsShort}
-use Rattle.xsk_workers.specs.Forwarded.{OutcomeShown}
-use Rattle.xsk_cli.specs.Lent.{HasLent, IsLent, IsWithLoan}
+use Rattle.xsk_cli.specs.Lent.{HasLent, IsWithLoan}
 use Rattle.xsk_cli.proofs.Lending.{given_back, short_again}
 use Rattle.xsk_cli.proofs.lent.Lent.give_back.Goals as goal
 
