@@ -74,7 +74,6 @@ impl<'a> Machine<'a> {
     }
 
     /// Goes on with what stood on FILL at the second look.
-    #[inline(always)]
     pub(crate) fn go_on_from_second_fill(
         &mut self,
         answer: Option<Answer>,
@@ -118,7 +117,6 @@ impl<'a> Machine<'a> {
     }
 
     /// Goes on with what stood on the class's TX ring at the second look. Nothing is completed before the look has ended.
-    #[inline(always)]
     pub(crate) fn go_on_from_second_tx(
         &mut self,
         class: u32,

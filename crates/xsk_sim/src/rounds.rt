@@ -80,7 +80,6 @@ impl Workers<'_> {
 
     /// Lets the worker with this number make its call, if it hasn't ended, and tells whether it changed nothing. The log must
     /// have room for any call.
-    #[inline(always)]
     fn step(&mut self, plain: &mut Plain, who: u32) -> bool
         requires geometry { IsGeometry plain.old.config.geometry }
         requires going { AreGoing self.old plain.old }
