@@ -12,3 +12,4 @@ pub mod Quiet
 pub mod Running
 pub mod Noted
 pub mod RowLines
+pub mod RowPlaces

@@ -11,6 +11,7 @@ pub mod Object
 pub mod Pieces
 pub mod Repeats
 pub mod Rooms
+pub mod RowCodes
 pub mod Rows
 pub mod Sound
 pub mod Spans

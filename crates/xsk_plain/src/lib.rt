@@ -13,6 +13,7 @@ mod opening;
 mod plain;
 mod repeats;
 mod ring_store;
+mod rows;
 
 pub use checked::Checked;
 pub use line::LineBuffer;

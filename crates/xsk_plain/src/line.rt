@@ -274,7 +274,7 @@ impl Log {
         line.clear();
         push_who(line, pairs, row.who);
         line.push_str(" ");
-        self.push_event(line, start, row);
+        self.push_event(line, start, &row);
         line.push_str("\n");
     }
 

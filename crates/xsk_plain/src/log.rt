@@ -6,6 +6,7 @@ ghost use Rattle.xsk_plain.specs.declared.log.Piece.{Piece as APiece};
 ghost use Rattle.xsk_plain.specs.Spans.{at_span, IsWithin};
 
 use crate::repeats::{Repeated, Repeats};
+use crate::rows::Rows;
 use std::alloc::Global;
 use xsk_model::{Mark, Ring};
 use xsk_umem::{OutOfMemory, XdpDesc};
@@ -63,137 +64,6 @@ pub(crate) struct Row {
     pub(crate) items: u32,
 }
 
-impl Repeated for Row {
-    #[inline(always)]
-    fn is(&self, other: &Row) -> bool
-        ensures { IsTrue result ↔ (self.now ≡ other.now) }
-    {
-        self.who == other.who && self.items == other.items && self.event.is(&other.event)
-    }
-
-    #[inline(always)]
-    fn key(&self) -> u64 {
-        self.event.key().wrapping_add(u64::from(self.items) * 64)
-    }
-}
-
-impl Event {
-    /// Whether both are equal.
-    #[inline(always)]
-    fn is(&self, other: &Event) -> bool
-        ensures { IsTrue result ↔ (self.now ≡ other.now) }
-    {
-        match self {
-            Event::Granted(ring, count) => match other {
-                Event::Granted(place, places) => is_ring(*ring, *place) && count == places,
-                _ => false,
-            },
-            Event::Full(ring, count, free) => match other {
-                Event::Full(place, places, others) => {
-                    is_ring(*ring, *place) && count == places && free == others
-                }
-                _ => false,
-            },
-            Event::Submitted(ring) => match other {
-                Event::Submitted(place) => is_ring(*ring, *place),
-                _ => false,
-            },
-            Event::Items(ring, count) => match other {
-                Event::Items(place, places) => is_ring(*ring, *place) && count == places,
-                _ => false,
-            },
-            Event::Empty(ring, count) => match other {
-                Event::Empty(place, places) => is_ring(*ring, *place) && count == places,
-                _ => false,
-            },
-            Event::Released(ring, count) => match other {
-                Event::Released(place, places) => is_ring(*ring, *place) && count == places,
-                _ => false,
-            },
-            Event::Swapped(mark, value, old) => match other {
-                Event::Swapped(cell, values, olds) => {
-                    is_mark(*mark, *cell) && value == values && old == olds
-                }
-                _ => false,
-            },
-            Event::Looked(mark, old) => match other {
-                Event::Looked(cell, olds) => is_mark(*mark, *cell) && old == olds,
-                _ => false,
-            },
-        }
-    }
-
-    /// A number of its kind, its ring or mark, and what else it tells.
-    #[inline(always)]
-    fn key(&self) -> u64 {
-        match self {
-            Event::Granted(ring, count) => key(0, ring_number(*ring), u64::from(*count)),
-            Event::Full(ring, count, free) => {
-                key(
-                    u64::from(*free) * 8 + 1,
-                    ring_number(*ring),
-                    u64::from(*count),
-                )
-            }
-            Event::Submitted(ring) => key(2, ring_number(*ring), 0),
-            Event::Items(ring, count) => key(3, ring_number(*ring), u64::from(*count)),
-            Event::Empty(ring, count) => key(4, ring_number(*ring), u64::from(*count)),
-            Event::Released(ring, count) => key(5, ring_number(*ring), u64::from(*count)),
-            Event::Swapped(mark, value, old) => key(
-                6,
-                mark_number(*mark),
-                value.wrapping_add(*old),
-            ),
-            Event::Looked(mark, old) => key(7, mark_number(*mark), *old),
-        }
-    }
-}
-
-fn key(kind: u64, place: u64, number: u64) -> u64 {
-    kind.wrapping_add(place.wrapping_mul(8))
-        .wrapping_add(number.wrapping_mul(64))
-}
-
-fn is_ring(ring: Ring, other: Ring) -> bool
-    ensures { IsTrue result ↔ (ring ≡ other) }
-{
-    ring == other
-}
-
-fn is_mark(mark: Mark, other: Mark) -> bool
-    ensures { IsTrue result ↔ (mark ≡ other) }
-{
-    mark == other
-}
-
-fn ring_number(ring: Ring) -> u64 {
-    let kind = match ring {
-        Ring::Fill(_) => 0,
-        Ring::Comp(_) => 1,
-        Ring::Rx(_) => 2,
-        Ring::Tx(_) => 3,
-    };
-    let number = match ring {
-        Ring::Fill(pair) => pair,
-        Ring::Comp(pair) => pair,
-        Ring::Rx(socket) => socket,
-        Ring::Tx(socket) => socket,
-    };
-    4 * u64::from(number) + kind
-}
-
-fn mark_number(mark: Mark) -> u64 {
-    match mark {
-        Mark::NeedFill(pair) => 8 * u64::from(pair),
-        Mark::NeedTx(socket) => 8 * u64::from(socket) + 1,
-        Mark::Kick(pair) => 8 * u64::from(pair) + 2,
-        Mark::RxDone(pair) => 8 * u64::from(pair) + 3,
-        Mark::Gone(pair) => 8 * u64::from(pair) + 4,
-        Mark::TxDone(app) => 8 * u64::from(app) + 5,
-        Mark::Cell(port, index) => 8 * (u64::from(port) + 4 * u64::from(index)) + 6,
-    }
-}
-
 impl Repeated for Piece {
     fn is(&self, other: &Piece) -> bool
         ensures { IsTrue result ↔ (self.now ≡ other.now) }
@@ -213,10 +83,11 @@ impl Repeated for Piece {
 }
 
 /// All calls on an object with their callers and replies, in order: frames by their numbers, with descriptors and
-/// payloads. Rows and pieces that come again are kept once, and a payload once while a frame's stays the same.
+/// payloads. A row takes four bytes where its numbers are small. Pieces that come again are kept once, and a payload once
+/// while a frame's stays the same.
 #[derive(Debug, Drop)]
 pub struct Log {
-    pub(crate) rows: Repeats<Row>,
+    pub(crate) rows: Rows,
     /// The items of all rows, in order.
     pub(crate) pieces: Repeats<Piece>,
     bytes: Vec<u8>,
@@ -247,7 +118,7 @@ impl Log {
         ensures noted { length result.pieces.items ≡ result.begun }
     {
         Log {
-            rows: Repeats::new(alloc),
+            rows: Rows::new(alloc),
             pieces: Repeats::new(alloc),
             bytes: Vec::new(alloc),
             kept: [Span::default(); KEPT],
@@ -386,7 +257,7 @@ impl Log {
         requires items { length self.old.pieces.items ≡ self.old.begun + items }
         ensures { EndsEntry self.old self.new who event }
     {
-        let _place = self.rows.push_reserved(&Row { who, event, items });
+        self.rows.push_reserved(&Row { who, event, items });
         self.spare_entries -= 1;
         if items > 0 {
             self.begun = self.pieces.len();

@@ -203,6 +203,7 @@ impl Plain {
         }
     }
 
+    #[inline(always)]
     fn submit(&mut self, who: u32, ring: Ring, items: &mut Batch) -> Answer
         requires can { CanPerform self.old.config self.old.rings (Call.Submit ring items.old) }
         requires entries { 1 ≤ self.old.spare_entries }
@@ -218,6 +219,7 @@ impl Plain {
         Answer::Submitted
     }
 
+    #[inline(always)]
     fn peek(&mut self, who: u32, ring: Ring, count: u32, items: &mut Batch) -> Answer
         requires can { CanPerform self.old.config self.old.rings (Call.Peek ring count) }
         requires empty { items.old ≡ [] }
@@ -251,6 +253,7 @@ impl Plain {
         Answer::Released
     }
 
+    #[inline(always)]
     fn swap(&mut self, who: u32, mark: Mark, value: u64) -> Answer
         requires can { CanPerform self.old.config self.old.rings (Call.Swap mark value) }
         requires entries { 1 ≤ self.old.spare_entries }

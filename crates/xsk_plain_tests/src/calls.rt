@@ -98,3 +98,36 @@ fn the_largest_numbers_have_their_lines(rt: HostRuntime) -> Result<(), Fail> {
     ];
     all_tell(rt.alloc(), cases.as_slice())
 }
+
+#[test]
+fn rows_at_the_border_of_small_numbers_have_their_lines(rt: HostRuntime) -> Result<(), Fail> {
+    let cases: [Case; 6] = [
+        (
+            127,
+            Ask::Reserve(Ring::Rx(1), 63),
+            "a125 reserve rx.1 63 -> full 32\n",
+        ),
+        (
+            128,
+            Ask::Reserve(Ring::Rx(1), 64),
+            "a126 reserve rx.1 64 -> full 32\n",
+        ),
+        (
+            1,
+            Ask::Swap(Mark::NeedTx(1), 63),
+            "d1 swap need.tx.1 63 -> 0\n",
+        ),
+        (
+            1,
+            Ask::Swap(Mark::NeedTx(1), 64),
+            "d1 swap need.tx.1 64 -> 63\n",
+        ),
+        (1, Ask::Look(Mark::NeedTx(1)), "d1 look need.tx.1 -> 64\n"),
+        (
+            0,
+            Ask::Swap(Mark::Cell(1, 1), 1),
+            "d0 swap cell.1.1 1 -> 0\n",
+        ),
+    ];
+    all_tell(rt.alloc(), cases.as_slice())
+}

@@ -8,10 +8,10 @@ pub returns-then-items-gt0 : goal.returns-then-items-gt0
 returns-then-items-gt0 c =
     let row : Row = record { who = c.args.who; event = c.args.event; items = c.args.items } in
     record {
-      entries = entries-enter c.args.self.now.bytes.items c.args.self.now.pieces.items c.args.self.now.rows.items c.push_reserved-place.new.self.items
+      entries = entries-enter c.args.self.now.bytes.items c.args.self.now.pieces.items c.args.self.now.rows.items c.push_reserved.new.self.items
           row c.args.self.now.begun
-          c.push_reserved-place.ensures.items c.args.self.now.begun_is (omega (arith, c.requires.items));
-      len = one_more c.args.self.now.rows.items c.push_reserved-place.new.self.items row c.push_reserved-place.ensures.items;
+          c.push_reserved.ensures.items c.args.self.now.begun_is (omega (arith, c.requires.items));
+      len = one_more c.args.self.now.rows.items c.push_reserved.new.self.items row c.push_reserved.ensures.items;
       notes = refl;
       begun = search rules;
       spare_entries = search rules;
@@ -22,10 +22,10 @@ pub returns-else-items-gt0 : goal.returns-else-items-gt0
 returns-else-items-gt0 c =
     let row : Row = record { who = c.args.who; event = c.args.event; items = c.args.items } in
     record {
-      entries = entries-enter c.args.self.now.bytes.items c.args.self.now.pieces.items c.args.self.now.rows.items c.push_reserved-place.new.self.items
+      entries = entries-enter c.args.self.now.bytes.items c.args.self.now.pieces.items c.args.self.now.rows.items c.push_reserved.new.self.items
           row c.args.self.now.begun
-          c.push_reserved-place.ensures.items c.args.self.now.begun_is (omega (arith, c.requires.items));
-      len = one_more c.args.self.now.rows.items c.push_reserved-place.new.self.items row c.push_reserved-place.ensures.items;
+          c.push_reserved.ensures.items c.args.self.now.begun_is (omega (arith, c.requires.items));
+      len = one_more c.args.self.now.rows.items c.push_reserved.new.self.items row c.push_reserved.ensures.items;
       notes = refl;
       begun = omega (arith, c.requires.items, c.if-items-gt0.false);
       spare_entries = search rules;

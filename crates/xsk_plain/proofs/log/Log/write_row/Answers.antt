@@ -9,15 +9,15 @@ use Rattle.xsk_plain.proofs.log.Log.write_row.Goals as goal
 pub push_event-requires-clause-within : goal.push_event-requires-clause-within
 push_event-requires-clause-within c =
     let log = c.args.self.now in
-    omega (arith, row_within log.rows.items c.args.i c.get-row.result.now c.get-row.ensures, c.requires.start, log.begun_is, log.begun_within)
+    omega (arith, row_within log.rows.items c.args.i c.get-row.result c.get-row.ensures, c.requires.start, log.begun_is, log.begun_within)
 
 pub push_event-requires-clause-few : goal.push_event-requires-clause-few
-push_event-requires-clause-few c = row_short c.args.self.now.rows.items c.args.i c.get-row.result.now c.args.self.now.rows_short c.get-row.ensures
+push_event-requires-clause-few c = row_short c.args.self.now.rows.items c.args.i c.get-row.result c.args.self.now.rows_short c.get-row.ensures
 
 pub returns : goal.returns
 returns c =
     let log = c.args.self.now in
-    let row = c.get-row.result.now in
+    let row = c.get-row.result in
     let start = c.args.start in
     let items = items_from log start row.items in
     let entry = entry_with row.who row.event items in
