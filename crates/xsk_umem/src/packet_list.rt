@@ -244,14 +244,27 @@ fn before_each(gaps: Option<Gaps>) -> u32
     }
 }
 
-/// Appends so many zero bytes, for which there must be room.
+/// Appends so many zero bytes, for which there must be room: 16 at once, as before a capture's packet, and the rest.
 fn append_gap(text: &mut Vec<u8>, gap: u32)
     requires { vec_len text.old + gap ≤ vec_capacity text.old }
     ensures items { text.new.items ≡ text.old.items ++ replicate gap 0 }
     ensures len { vec_len text.new ≡ vec_len text.old + gap }
+    ensures capacity { vec_capacity text.old ≤ vec_capacity text.new }
+{
+    for _ in 0..gap / 16 {
+        text.extend_from_slice(&[0; 16]).unwrap();
+    }
+    append_zeros(text, gap % 16);
+}
+
+/// Appends so many zero bytes one by one.
+fn append_zeros(text: &mut Vec<u8>, count: u32)
+    requires { vec_len text.old + count ≤ vec_capacity text.old }
+    ensures items { text.new.items ≡ text.old.items ++ replicate count 0 }
+    ensures len { vec_len text.new ≡ vec_len text.old + count }
     ensures capacity { vec_capacity text.new ≡ vec_capacity text.old }
 {
-    for _ in 0..gap {
+    for _ in 0..count {
         text.push_reserved(0);
     }
 }
