@@ -89,6 +89,7 @@ impl Object {
     }
 
     /// Moves the items into reserved places of a ring, and notes each in the log with its payload.
+    #[inline(always)]
     pub(crate) fn submit(&mut self, ring: Ring, items: &mut Batch, log: &mut Log)
         requires can { CanPerform self.old.config (parts_of self.old.rings.items) (Submit ring items.old) }
         requires spare { 1 ≤ log.old.spare_entries }
@@ -106,6 +107,7 @@ impl Object {
     }
 
     /// Takes at most so many items from a ring into an empty batch, and notes each in the log.
+    #[inline(always)]
     pub(crate) fn peek(&mut self, ring: Ring, count: u32, log: &mut Log, items: &mut Batch)
         requires empty { items.old ≡ [] }
         requires can { CanPerform self.old.config (parts_of self.old.rings.items) (Peek ring count) }

@@ -122,8 +122,8 @@ fn number_of(apart: &mut Vec<Row>, row: &Row) -> u32
     }
 }
 
-/// Puts a row apart, and tells its number.
-#[inline(never)]
+/// Puts a row apart, and tells its number. It is inlined, rare as it is, so that a small row needn't stand in memory.
+#[inline(always)]
 fn set_apart(apart: &mut Vec<Row>, row: &Row) -> u32
     requires room { vec_len apart.old + 1 ≤ vec_capacity apart.old }
     requires few { vec_len apart.old < 2 ^ 31 }
@@ -193,7 +193,6 @@ fn unless_items(items: u32, number: u64) -> u64
     if items == 0 { number } else { LARGE }
 }
 
-#[inline(always)]
 fn of_ring(kind: u32, ring: Ring, first: u32, second: u64) -> Digits
     ensures kind { result.kind ≡ kind }
     ensures side { result.side < 4 }
@@ -216,7 +215,6 @@ fn of_ring(kind: u32, ring: Ring, first: u32, second: u64) -> Digits
 }
 
 /// Those of a mark that isn't a cell. For a cell the second number is large.
-#[inline(always)]
 fn of_mark(kind: u32, mark: Mark, first: u64, second: u64) -> Digits
     ensures kind { result.kind ≡ kind }
     ensures side { result.side < 6 }
@@ -249,7 +247,6 @@ fn of_mark(kind: u32, mark: Mark, first: u64, second: u64) -> Digits
     }
 }
 
-#[inline(always)]
 fn of_look(mark: Mark, old: u64, items: u32) -> Digits
     ensures kind { result.kind ≡ 7 }
     ensures side { result.side < 8 }
