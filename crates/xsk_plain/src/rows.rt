@@ -156,8 +156,8 @@ fn code_of(row: &Row) -> Option<u32>
     if row.who >= 128 || digits.place >= 64 || digits.first >= LARGE || digits.second >= LARGE {
         return None;
     }
-    let side = (digits.kind * 8 + digits.side) * 128 + row.who;
-    Some(((side * 64 + digits.place) * 64 + digits.first as u32) * 64 + digits.second as u32)
+    let seat = (digits.kind * 8 + digits.side) * 128 + row.who;
+    Some(((seat * 64 + digits.place) * 64 + digits.first as u32) * 64 + digits.second as u32)
 }
 
 #[inline(always)]
@@ -286,55 +286,39 @@ fn small_row_of(code: u32) -> Row
 fn event_of(kind: u32, side: u32, place: u32, first: u32, second: u32) -> Event
     ensures { result ≡ event_at kind side place first second }
 {
-    if kind == 0 {
-        Event::Granted(ring_of(side, place), first)
-    } else if kind == 1 {
-        Event::Submitted(ring_of(side, place))
-    } else if kind == 2 {
-        Event::Items(ring_of(side, place), first)
-    } else if kind == 3 {
-        Event::Empty(ring_of(side, place), first)
-    } else if kind == 4 {
-        Event::Released(ring_of(side, place), first)
-    } else if kind == 5 {
-        Event::Full(ring_of(side, place), first, second)
-    } else if kind == 6 {
-        Event::Swapped(mark_of(side, place, 0), u64::from(first), u64::from(second))
-    } else {
-        Event::Looked(mark_of(side, place, second), u64::from(first))
+    match kind {
+        0 => Event::Granted(ring_of(side, place), first),
+        1 => Event::Submitted(ring_of(side, place)),
+        2 => Event::Items(ring_of(side, place), first),
+        3 => Event::Empty(ring_of(side, place), first),
+        4 => Event::Released(ring_of(side, place), first),
+        5 => Event::Full(ring_of(side, place), first, second),
+        6 => Event::Swapped(mark_of(side, place, 0), u64::from(first), u64::from(second)),
+        _ => Event::Looked(mark_of(side, place, second), u64::from(first)),
     }
 }
 
 fn ring_of(side: u32, place: u32) -> Ring
     ensures { result ≡ ring_at side place }
 {
-    if side == 0 {
-        Ring::Fill(place)
-    } else if side == 1 {
-        Ring::Comp(place)
-    } else if side == 2 {
-        Ring::Rx(place)
-    } else {
-        Ring::Tx(place)
+    match side {
+        0 => Ring::Fill(place),
+        1 => Ring::Comp(place),
+        2 => Ring::Rx(place),
+        _ => Ring::Tx(place),
     }
 }
 
 fn mark_of(side: u32, place: u32, index: u32) -> Mark
     ensures { result ≡ mark_at side place index }
 {
-    if side == 0 {
-        Mark::NeedFill(place)
-    } else if side == 1 {
-        Mark::NeedTx(place)
-    } else if side == 2 {
-        Mark::Kick(place)
-    } else if side == 3 {
-        Mark::RxDone(place)
-    } else if side == 4 {
-        Mark::Gone(place)
-    } else if side == 5 {
-        Mark::TxDone(place)
-    } else {
-        Mark::Cell(place, index)
+    match side {
+        0 => Mark::NeedFill(place),
+        1 => Mark::NeedTx(place),
+        2 => Mark::Kick(place),
+        3 => Mark::RxDone(place),
+        4 => Mark::Gone(place),
+        5 => Mark::TxDone(place),
+        _ => Mark::Cell(place, index),
     }
 }

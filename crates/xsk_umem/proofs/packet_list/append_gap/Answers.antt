@@ -1,12 +1,12 @@
-use Rattle.std.proofs.Common.{◌≡◌, ℕ, List, ◌+◌, ◌*◌, ◌/◌, ◌%◌, ◌++◌, replicate, ap, sym, ◌∙◌, arith, rules, append_assoc}
+use Rattle.std.proofs.Common.{◌≡◌, ℕ, List, ◌+◌, ◌*◌, ◌/◌, ◌%◌, ◌++◌, replicate, ap, ◌∙◌, arith, rules, append_assoc}
 use Rattle.std.proofs.lemmas.List.{replicate-append-replicate}
 use Rattle.std.proofs.lemmas.Nat.{div-add-mod'}
 use Rattle.xsk_umem.proofs.packet_list.append_gap.Goals as goal
 
 pub loop-preserved : goal.loop-preserved
 loop-preserved c =
-    let before = c.args.text.now.items in
-    let so = replicate (c.loop.counter * 16) 0 in
+    let before : List ℕ = c.args.text.now.items in
+    let so : List ℕ = replicate (c.loop.counter * 16) 0 in
     let grown : c.extend_from_slice.new.self.items ≡ c.loop.text.items ++ replicate 16 0 = rw c.unwrap.ensures at c.extend_from_slice.ensures.items in
     let count : c.loop.counter * 16 + 16 ≡ (c.loop.counter + 1) * 16 = omega arith in (
       grown ∙ ap (λ (xs : List ℕ). xs ++ replicate 16 0) c.loop.invariant.0 ∙ append_assoc before so (replicate 16 0)
