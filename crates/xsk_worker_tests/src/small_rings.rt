@@ -4,10 +4,11 @@ ghost use Rattle.std.specs.Prelude.{◌≡◌, IfOk, Some, length};
 ghost use Rattle.xsk_sim.specs.Shown.{HasShortPackets};
 
 use std::alloc::Global;
+use std::str;
 use std::test::Fail;
 use xsk_model::{Config, PairInfo, SocketInfo};
 use xsk_prog::{Rule, XdpProgram};
-use xsk_sim::{Wire, simulate};
+use xsk_sim::{Wire, journal_text, simulate};
 use xsk_umem::{PacketList, Umem};
 
 /// The packets of each port, and the bytes of each.
@@ -42,9 +43,12 @@ fn packets_find_a_ring_full_and_no_frame(rt: HostRuntime) -> Result<(), Fail> {
     ) else {
         return Err("the run didn't end")?;
     };
-    let log = format!(in alloc; "{:?}", run.log())?;
-    assert!(rt; log.contains("Full(Rx("));
-    assert!(rt; log.contains("Empty(Fill("));
+    let journal = journal_text(alloc, &run)?;
+    let Ok(journal) = str::from_utf8(journal.as_slice()) else {
+        return Err("the journal isn't text")?;
+    };
+    assert!(rt; journal.contains(" reserve rx.0 1 -> full 0\n"));
+    assert!(rt; journal.contains(" peek fill.0 1 -> empty\n"));
     assert!(rt; are_all(run.sent(0)) && are_all(run.sent(1)));
     Ok(())
 }
