@@ -14,6 +14,3 @@ pub use descriptor::{DescError, fragments, validate};
 pub use gather::{Ending, Gather, Gathered, judge};
 pub use payload::payload_of;
 pub use standing::Standing;
-
-#[cfg(test)]
-mod tests;

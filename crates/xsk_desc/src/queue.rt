@@ -103,20 +103,3 @@ fn is_piece(desc: XdpDesc, item: &Item, last: bool) -> bool
 {
     desc.addr == item.desc.addr && last != (desc.options == CONTINUED)
 }
-
-#[cfg(test)]
-impl Queue {
-    /// Whether one more descriptor finds room.
-    pub(crate) fn has_room(&self) -> bool
-        ensures { IsTrue result → length self.now.descs < self.now.limit }
-    {
-        self.descs.len() < self.limit as usize
-    }
-
-    /// Whether there is a descriptor of a packet that is at its end.
-    pub(crate) fn has_packet(&self) -> bool
-        ensures { IsTrue result → self.now.begun < length self.now.descs }
-    {
-        (self.begun as usize) < self.descs.len()
-    }
-}

@@ -28,9 +28,6 @@ use xsk_model::placement::{has_mark, has_ring, ring_place, ring_places};
 use xsk_model::{Call, Config, Ring};
 use xsk_umem::{Batch, Geometry, Item, OutOfMemory, XdpDesc};
 
-#[cfg(test)]
-mod tests;
-
 /// The most items of one call.
 const MOST_ITEMS: u32 = 32;
 

@@ -5,6 +5,3 @@ mod draws;
 mod packets;
 
 pub use packets::generate;
-
-#[cfg(test)]
-mod tests;

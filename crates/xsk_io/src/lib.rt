@@ -20,6 +20,3 @@ pub use file::FileBay;
 pub use gate::{Gate, HoldGate, Open, PairGate};
 pub use steady::SteadyBay;
 pub use whole::{ReadError, read_whole, write_whole};
-
-#[cfg(test)]
-mod tests;

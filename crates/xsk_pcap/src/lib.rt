@@ -8,6 +8,3 @@ mod reading;
 
 pub use capture::{Capture, GAPS, Laid, write_in_gaps};
 pub use reading::{BadCapture, read};
-
-#[cfg(test)]
-mod tests;

@@ -8,6 +8,3 @@ mod rule;
 
 pub use program::XdpProgram;
 pub use rule::{Rule, Verdict};
-
-#[cfg(test)]
-mod tests;

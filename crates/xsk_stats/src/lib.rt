@@ -5,6 +5,3 @@ mod text;
 mod totals;
 
 pub use text::report;
-
-#[cfg(test)]
-mod tests;

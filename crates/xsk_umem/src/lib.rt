@@ -15,6 +15,3 @@ pub use geometry::Geometry;
 pub use memory::OutOfMemory;
 pub use packet_list::{Gaps, PacketList, Parts, Span};
 pub use umem::{Umem, UmemError};
-
-#[cfg(test)]
-mod tests;

@@ -10,6 +10,3 @@ pub use layout::{
     word_count,
 };
 pub use words::{pack, unpack, used};
-
-#[cfg(test)]
-mod tests;
