@@ -73,10 +73,15 @@ fn tell_parts(config: &Config, text: &mut String) -> Result<(), Trouble> {
     let lawful = config.lawful();
     let regular = config.regular();
     write!(text, "lawful {lawful} regular {regular}")?;
+    if !regular {
+        return Err(Trouble::BadLayout);
+    }
     let pool = config.pool();
     let batch = config.batch();
+    write!(text, " pool {pool} batch {batch}")?;
     let callers = config.callers();
-    writeln!(text, " pool {pool} batch {batch} callers {callers}")?;
+    let classes = config.classes();
+    writeln!(text, " callers {callers} classes {classes}")?;
     Ok(())
 }
 

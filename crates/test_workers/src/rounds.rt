@@ -35,13 +35,11 @@ pub(crate) fn play_run(
     let run = run_of(alloc, config, frames, lists.as_slice(), program, wire, order)?;
     tell_figures(&run, text)?;
     tell_sent(&run, pairs, text)?;
-    tell_journal(alloc, &run, rest, text)
+    answer_all(alloc, &run, rest, text)
 }
 
 fn tell_figures(run: &Run, text: &mut String) -> Result<(), Trouble> {
     let figures = run.figures();
-    let calls = figures.calls;
-    writeln!(text, "calls {calls}")?;
     for pair in 0..figures.drivers.len() {
         tell_driver(pair, figures.drivers.get(pair), text)?;
     }
@@ -69,25 +67,27 @@ fn tell_sent(run: &Run, pairs: u32, text: &mut String) -> Result<(), Trouble>
     Ok(())
 }
 
-fn tell_journal(
+/// Answers further lines: `calls`, `journal`, and `find TEXT`.
+fn answer_all(
     alloc: Global,
     run: &Run,
     lines: &[&str],
     text: &mut String,
 ) -> Result<(), Trouble> {
+    let calls = run.figures().calls;
     let journal = journal_text(alloc, run)?;
     let journal = str::from_utf8(journal.as_slice()).map_err(|_| Trouble::BadLine)?;
     for line in lines {
-        tell_found(journal, line, text)?;
+        match *line {
+            "calls" => writeln!(text, "calls: {calls}")?,
+            "journal" => write!(text, "{journal}")?,
+            _ => tell_found(journal, line, text)?,
+        }
     }
     Ok(())
 }
 
 fn tell_found(journal: &str, line: &str, text: &mut String) -> Result<(), Trouble> {
-    if line == "journal" {
-        write!(text, "{journal}")?;
-        return Ok(());
-    }
     let Some(wanted) = line.strip_prefix("find ") else {
         return Err(Trouble::BadLine);
     };
