@@ -121,12 +121,22 @@ pub(crate) fn driver_of<'a>(
     match program {
         Program::Ruled(rule) => {
             let rule = attachable(rule)?;
-            let program = XdpProgram::attach(rule, |packet: &[u8], queue: u32| rule.verdict(packet, queue));
-            Ok(Driver::new(alloc, config, pair, packets, inputs, &program, wire, room.0, room.1)?)
+            let program = XdpProgram::attach(
+                rule,
+                |packet: &[u8], queue: u32| rule.verdict(packet, queue),
+            );
+            Ok(Driver::new(
+                alloc, config, pair, packets, inputs, &program, wire, room.0, room.1,
+            )?)
         }
         Program::Even => {
-            let program = XdpProgram::attach(Rule::AtMost(1), |packet: &[u8], _queue: u32| is_even(packet));
-            Ok(Driver::new(alloc, config, pair, packets, inputs, &program, wire, room.0, room.1)?)
+            let program = XdpProgram::attach(
+                Rule::AtMost(1),
+                |packet: &[u8], _queue: u32| is_even(packet),
+            );
+            Ok(Driver::new(
+                alloc, config, pair, packets, inputs, &program, wire, room.0, room.1,
+            )?)
         }
     }
 }
@@ -150,11 +160,17 @@ pub(crate) fn run_of(
     match program {
         Program::Ruled(rule) => {
             let rule = attachable(rule)?;
-            let program = XdpProgram::attach(rule, |packet: &[u8], queue: u32| rule.verdict(packet, queue));
+            let program = XdpProgram::attach(
+                rule,
+                |packet: &[u8], queue: u32| rule.verdict(packet, queue),
+            );
             Ok(simulate(alloc, config, frames, packets, &program, wire, order)?)
         }
         Program::Even => {
-            let program = XdpProgram::attach(Rule::AtMost(1), |packet: &[u8], _queue: u32| is_even(packet));
+            let program = XdpProgram::attach(
+                Rule::AtMost(1),
+                |packet: &[u8], _queue: u32| is_even(packet),
+            );
             Ok(simulate(alloc, config, frames, packets, &program, wire, order)?)
         }
     }

@@ -63,7 +63,13 @@ fn tell_part(
             Ok(())
         }
         ["redirect", cell, port, queue] => {
-            tell_redirect(config, long_number(cell)?, number(port)?, number(queue)?, text)
+            tell_redirect(
+                config,
+                long_number(cell)?,
+                number(port)?,
+                number(queue)?,
+                text,
+            )
         }
         _ => Err(Trouble::BadLine),
     }

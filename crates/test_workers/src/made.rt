@@ -1,5 +1,5 @@
 //! The configuration of a script and the frames of its UMEM.
-ghost use Rattle.std.specs.Prelude.{◌≡◌, None, IfOk};
+ghost use Rattle.std.specs.Prelude.{◌≡◌, ◌/◌, None, IfOk};
 ghost use Rattle.xsk_model.specs.Config.{IsRegular};
 ghost use Rattle.xsk_model.specs.Opening.{AreFrames};
 ghost use Rattle.xsk_socket.specs.Layout.{fault_of, geometry_of};
@@ -28,8 +28,21 @@ fn register(alloc: Global, layout: &Layout) -> Result<(Geometry, Frames), Troubl
     ensures frames { IfOk result (λ made. AreFrames made.0 made.1.items) }
 {
     let len = u64::from(layout.frames) * u64::from(layout.chunk);
-    match Umem::register(alloc, len, layout.chunk, layout.headroom) {
+    all_frames(alloc, len, layout.chunk, layout.headroom)
+}
+
+/// A UMEM's geometry, and all its frames.
+pub(crate) fn all_frames(
+    alloc: Global,
+    len: u64,
+    chunk: u32,
+    headroom: u32,
+) -> Result<(Geometry, Frames), Trouble>
+    ensures geometry { IfOk result (λ made. made.0 ≡ record { frames = len / chunk; chunk = chunk; headroom = headroom }) }
+    ensures frames { IfOk result (λ made. AreFrames made.0 made.1.items) }
+{
+    match Umem::register(alloc, len, chunk, headroom) {
         Ok(made) => Ok(made),
-        Err(_) => Err(Trouble::NoMemory),
+        Err(_) => Err(Trouble::BadLayout),
     }
 }

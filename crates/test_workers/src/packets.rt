@@ -38,12 +38,7 @@ fn list_of(alloc: Global, lines: &[&str], port: u32) -> Result<PacketList, Troub
     Ok(list)
 }
 
-fn read_line(
-    alloc: Global,
-    list: &mut PacketList,
-    line: &str,
-    port: u32,
-) -> Result<(), Trouble>
+fn read_line(alloc: Global, list: &mut PacketList, line: &str, port: u32) -> Result<(), Trouble>
     requires { HasShortPackets list.old }
     ensures { OnOk result (HasShortPackets list.new) }
 {
@@ -56,12 +51,7 @@ fn read_line(
     Ok(())
 }
 
-fn push_one(
-    alloc: Global,
-    list: &mut PacketList,
-    words: &[&str],
-    port: u32,
-) -> Result<(), Trouble>
+fn push_one(alloc: Global, list: &mut PacketList, words: &[&str], port: u32) -> Result<(), Trouble>
     requires { HasShortPackets list.old }
     ensures { OnOk result (HasShortPackets list.new) }
 {
@@ -88,12 +78,7 @@ fn edit(bytes: &mut Vec<u8>, edits: &[&str]) -> Result<(), Trouble> {
     Ok(())
 }
 
-fn push_all(
-    alloc: Global,
-    list: &mut PacketList,
-    words: &[&str],
-    port: u32,
-) -> Result<(), Trouble>
+fn push_all(alloc: Global, list: &mut PacketList, words: &[&str], port: u32) -> Result<(), Trouble>
     requires { HasShortPackets list.old }
     ensures { OnOk result (HasShortPackets list.new) }
 {

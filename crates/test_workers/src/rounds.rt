@@ -32,7 +32,15 @@ pub(crate) fn play_run(
     let program = program_of(alloc, lines)?;
     let pairs = config.pairs().len() as u32;
     let wire = wire_of(lines);
-    let run = run_of(alloc, config, frames, lists.as_slice(), program, wire, order)?;
+    let run = run_of(
+        alloc,
+        config,
+        frames,
+        lists.as_slice(),
+        program,
+        wire,
+        order,
+    )?;
     tell_figures(&run, text)?;
     tell_sent(&run, pairs, text)?;
     answer_all(alloc, &run, rest, text)
@@ -50,10 +58,25 @@ fn tell_figures(run: &Run, text: &mut String) -> Result<(), Trouble> {
 fn tell_driver(pair: u32, figures: &DriverFigures, text: &mut String) -> Result<(), Trouble> {
     let count = figures.packets_in;
     write!(text, "d{pair} in {count}")?;
-    let [delivered, no_frames, rx_full, too_long, runt, missed, passed, dropped] = figures.kinds;
-    write!(text, " delivered {delivered} noframes {no_frames} rxfull {rx_full} toolong {too_long}")?;
+    let [
+        delivered,
+        no_frames,
+        rx_full,
+        too_long,
+        runt,
+        missed,
+        passed,
+        dropped,
+    ] = figures.kinds;
+    write!(
+        text,
+        " delivered {delivered} noframes {no_frames} rxfull {rx_full} toolong {too_long}"
+    )?;
     let sent = figures.sent;
-    writeln!(text, " runt {runt} missed {missed} passed {passed} dropped {dropped} sent {sent}")?;
+    writeln!(
+        text,
+        " runt {runt} missed {missed} passed {passed} dropped {dropped} sent {sent}"
+    )?;
     Ok(())
 }
 
@@ -68,12 +91,7 @@ fn tell_sent(run: &Run, pairs: u32, text: &mut String) -> Result<(), Trouble>
 }
 
 /// Answers further lines: `calls`, `journal`, and `find TEXT`.
-fn answer_all(
-    alloc: Global,
-    run: &Run,
-    lines: &[&str],
-    text: &mut String,
-) -> Result<(), Trouble> {
+fn answer_all(alloc: Global, run: &Run, lines: &[&str], text: &mut String) -> Result<(), Trouble> {
     let calls = run.figures().calls;
     let journal = journal_text(alloc, run)?;
     let journal = str::from_utf8(journal.as_slice()).map_err(|_| Trouble::BadLine)?;
@@ -91,7 +109,11 @@ fn tell_found(journal: &str, line: &str, text: &mut String) -> Result<(), Troubl
     let Some(wanted) = line.strip_prefix("find ") else {
         return Err(Trouble::BadLine);
     };
-    let found = if journal.contains(wanted) { "yes" } else { "no" };
+    let found = if journal.contains(wanted) {
+        "yes"
+    } else {
+        "no"
+    };
     writeln!(text, "{wanted}: {found}")?;
     Ok(())
 }

@@ -67,7 +67,12 @@ impl fmt::Display for CallText<'_> {
     fn fmt<W: fmt::Write>(&self, f: &mut fmt::Formatter<W>) -> fmt::Result {
         match self.0 {
             Call::Reserve(ring, count) => write!(f, "reserve {} {}", RingText(*ring), *count),
-            Call::Submit(ring, items) => write!(f, "submit {}{}", RingText(*ring), ItemsText(items)),
+            Call::Submit(ring, items) => write!(
+                f,
+                "submit {}{}",
+                RingText(*ring),
+                ItemsText(items)
+            ),
             Call::Peek(ring, count) => write!(f, "peek {} {}", RingText(*ring), *count),
             Call::Release(ring, count) => write!(f, "release {} {}", RingText(*ring), *count),
             Call::Swap(mark, value) => write!(f, "swap {} {}", MarkText(*mark), *value),

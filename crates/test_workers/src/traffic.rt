@@ -2,8 +2,8 @@
 //! `bind SOCKET PORT QUEUE FLAGS` (with `SHARED` behind it, a socket's number, where the UMEM is shared). Then the object is
 //! opened over them, and `peek WHO fill PAIR COUNT` (or `comp`, `rx`, `tx`) makes a call.
 ghost use Rattle.std.specs.Prelude.{◌≡◌, IfOk};
-ghost use Rattle.xsk_model.specs.Opening.{AreFrames};
 
+use crate::made::all_frames;
 use crate::texts::ItemsText;
 use crate::trouble::Trouble;
 use crate::words::number;
@@ -12,7 +12,7 @@ use std::fmt::Write;
 use xsk_model::{Call, Config, Reply, Ring};
 use xsk_plain::{Checked, payload_room};
 use xsk_socket::{RingKind, Setup};
-use xsk_umem::{Frames, Geometry, Umem};
+use xsk_umem::Geometry;
 
 /// The bytes of a chunk.
 const CHUNK: u32 = 2048;
@@ -41,7 +41,8 @@ pub(crate) fn play_traffic(
 
 /// The object over the sockets, and all frames of a UMEM.
 fn opened(alloc: Global, count: u32, lines: &[&str]) -> Result<Checked, Trouble> {
-    let (geometry, frames) = register(alloc, count)?;
+    let len = u64::from(count) * u64::from(CHUNK);
+    let (geometry, frames) = all_frames(alloc, len, CHUNK, 0)?;
     let config = sealed(alloc, geometry, lines)?;
     if !config.lawful() {
         return Err(Trouble::BadLayout);
@@ -49,15 +50,6 @@ fn opened(alloc: Global, count: u32, lines: &[&str]) -> Result<Checked, Trouble>
     match Checked::open(alloc, config, frames) {
         Ok(checked) => Ok(checked),
         Err(_) => Err(Trouble::NoMemory),
-    }
-}
-
-fn register(alloc: Global, count: u32) -> Result<(Geometry, Frames), Trouble>
-    ensures { IfOk result (λ made. AreFrames made.0 made.1.items) }
-{
-    match Umem::register(alloc, u64::from(count) * u64::from(CHUNK), CHUNK, 0) {
-        Ok(made) => Ok(made),
-        Err(_) => Err(Trouble::BadLayout),
     }
 }
 
@@ -100,7 +92,9 @@ fn add_ring(setup: &mut Setup, socket: u32, kind: &str, size: u32) -> Result<(),
         "comp" => RingKind::Comp,
         _ => return Err(Trouble::BadLine),
     };
-    setup.ring(socket, kind, size).map_err(|_| Trouble::BadSetup)
+    setup
+        .ring(socket, kind, size)
+        .map_err(|_| Trouble::BadSetup)
 }
 
 fn bind(setup: &mut Setup, socket: u32, words: &[&str]) -> Result<(), Trouble>
@@ -113,7 +107,13 @@ fn bind(setup: &mut Setup, socket: u32, words: &[&str]) -> Result<(), Trouble>
         [] => None,
         [other, ..] => Some(number(other)?),
     };
-    let done = setup.bind(socket, number(port)?, number(queue)?, number(flags)?, shared);
+    let done = setup.bind(
+        socket,
+        number(port)?,
+        number(queue)?,
+        number(flags)?,
+        shared,
+    );
     done.map_err(|_| Trouble::BadSetup)
 }
 
@@ -134,6 +134,7 @@ fn make_call(
     call: Call,
     text: &mut String,
 ) -> Result<(), Trouble> {
+    let _geometry = checked.config().geometry();
     checked.reserve_log(1, payload_room(&call))?;
     if !checked.allows(who, &call) {
         writeln!(text, "not legal")?;
