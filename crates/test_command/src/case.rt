@@ -12,6 +12,7 @@ pub(crate) enum Instruction<'a> {
     Case(&'a str),
     Run(&'a str),
     Alone(&'a str),
+    Files(&'a str),
     Meaning(&'a str),
     Table(&'a str),
     /// Something that a case keeps, by its name.
@@ -28,6 +29,7 @@ impl<'a> Instruction<'a> {
             "case" => Instruction::Case(rest),
             "run" => Instruction::Run(rest),
             "alone" => Instruction::Alone(rest),
+            "files" => Instruction::Files(rest),
             "meaning" => Instruction::Meaning(rest),
             "table" => Instruction::Table(rest),
             _ => Instruction::Setting(name, rest),

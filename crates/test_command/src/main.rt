@@ -10,8 +10,11 @@
 //! - `fail open N`, `fail read N`, `fail write N`, `most N`, `pair`, `hold WORKER`, `writes` and `has FRONT` are about the next
 //!   run: a call that fails, the most bytes that a write takes, a gate, that its writes are told, and that of its report only
 //!   is told whether it has a line that begins so.
-//! - `run WORD ..` runs the command of these words, with threads for `forward`, and `alone WORD ..` without.
+//! - `run WORD ..` runs the command of these words, with threads for `forward`, `alone WORD ..` without, and `files WORD ..` over
+//!   the files of the folder.
 //! - `meaning WORD ..` tells what the words of `simulate` mean, and `table WORD ..` those of a smaller table of options.
+//!
+//! At the end it does what its own words say, as the program does, and ends with the status of that.
 //!
 //! Empty lines and those that begin with `#` say nothing.
 #![tactic(auto)]
@@ -24,16 +27,17 @@ mod table;
 mod text;
 
 use crate::case::{Case, Instruction};
-use crate::run::{run, run_alone};
+use crate::run::{run, run_alone, run_over_files};
 use crate::table::{meaning, meaning_by_small_table};
 use anyhow::Result;
 use std::alloc::Global;
-use std::io::{BufRead, BufReader};
+use std::process::ExitCode;
+use std::rt::Files;
 use std::sync::Wait;
 use std::thread::Threads;
 
 /// Does what a line says, and gives what is to be printed.
-fn done<R: Threads + Wait + Sync>(
+fn done<R: Files + Print + Threads + Wait + Sync>(
     rt: &R,
     alloc: Global,
     case: &mut Case,
@@ -55,6 +59,7 @@ fn done<R: Threads + Wait + Sync>(
             case.forget();
             Ok(told)
         }
+        Instruction::Files(words) => run_over_files(rt, alloc, words),
         Instruction::Meaning(words) => meaning(alloc, case, words),
         Instruction::Table(words) => meaning_by_small_table(alloc, words),
         Instruction::Setting(name, value) => {
@@ -66,13 +71,21 @@ fn done<R: Threads + Wait + Sync>(
     }
 }
 
-fn main(rt: HostRuntime) -> Result<()> {
+/// Does what the lines of standard input say.
+fn play<R: Input + Files + Print + AllocGlobal + Threads + Wait + Sync>(rt: &R) -> Result<()> {
     let alloc = rt.alloc();
     let mut case = Case::new(alloc);
-    for line in BufReader::new(alloc, rt.reader())?.lines(alloc) {
+    for line in rt.lines(alloc) {
         let line = line?;
-        let told = done(&rt, alloc, &mut case, line.as_str())?;
+        let told = done(rt, alloc, &mut case, line.as_str())?;
         print!(rt; "{told}")?;
     }
     Ok(())
+}
+
+fn main(rt: HostRuntime) -> ExitCode {
+    if play(&rt).is_err() {
+        return ExitCode::from(1);
+    }
+    xsk_program::run(&rt)
 }

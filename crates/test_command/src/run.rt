@@ -9,10 +9,11 @@ use crate::show::{Shown, show};
 use anyhow::{Result, anyhow};
 use std::alloc::Global;
 use std::fmt::Write;
+use std::rt::Files;
 use std::sync::Wait;
 use std::thread::Threads;
 use xsk_cli::{Ended, Status, run_plain};
-use xsk_io::{Bay, Gate, HoldGate, MemoryBay, Open, PairGate};
+use xsk_io::{Bay, FileBay, Gate, HoldGate, MemoryBay, Open, PairGate};
 
 /// Runs the command of a line, with threads for `forward`, and tells how it ended and what it left.
 pub(crate) fn run<R: Threads + Wait + Sync>(
@@ -37,6 +38,20 @@ pub(crate) fn run<R: Threads + Wait + Sync>(
     let shown = shown_by(&ended);
     show(alloc, case, ended.status, shown, &bay, &mut told)?;
     Ok(told)
+}
+
+/// Runs the command of a line over files, and tells how it ended. What it reports is printed at once.
+pub(crate) fn run_over_files<R: Files + Print + Threads + Wait + Sync>(
+    rt: &R,
+    alloc: Global,
+    line: &str,
+) -> Result<String> {
+    println!(rt; "> {line}")?;
+    let words = words_of(alloc, line)?;
+    let mut bay = FileBay::new(rt);
+    let ended = through(rt, alloc, words.as_slice(), &mut bay, &Open);
+    let status = ended.status;
+    Ok(format!(in alloc; "{status:?}, {}\n", status.exit_status())?)
 }
 
 /// Runs the command of a line without threads, and tells how it ended and what it left.

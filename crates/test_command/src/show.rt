@@ -88,7 +88,11 @@ fn show_report(alloc: Global, case: &Case, bay: &MemoryBay, told: &mut String) -
     }
     for front in &case.next.fronts {
         let front = front.as_str();
-        let has = if has_line(report, front) { "has" } else { "lacks" };
+        let has = if has_line(report, front) {
+            "has"
+        } else {
+            "lacks"
+        };
         writeln!(told, "{has} {front}")?;
     }
     Ok(())
