@@ -1,0 +1,18 @@
+//! The laws of files, each the contract of a function that does nothing.
+ghost use Rattle.xsk_pcapng.specs.Laws.{OneReading, OneRefusal, RefusedIsNoFile, WrittenReadsBack};
+
+/// For one number of ports, bytes are a file of one choice of lists at most.
+pub fn one_reading()
+    ensures { OneReading }
+{}
+
+/// Bytes are refused for one reason at most, and what is refused is no file.
+pub fn one_refusal()
+    ensures one { OneRefusal }
+    ensures no_file { RefusedIsNoFile }
+{}
+
+/// What is written reads back as the lists, one for each port.
+pub fn written_reads_back()
+    ensures { WrittenReadsBack }
+{}
