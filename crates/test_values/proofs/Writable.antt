@@ -1,5 +1,5 @@
 -- Lists that are few and short enough may be written into one capture.
-use Rattle.std.proofs.Common.{ℕ, ◌≤◌, List, [], ◌∷◌, length, arith, append-nil, length-append}
+use Rattle.std.proofs.Common.{ℕ, ◌+◌, ◌≤◌, List, [], ◌∷◌, length, arith, append-nil, length-append}
 use Rattle.std.specs.Prelude.{All, ◌++◌}
 use Rattle.std.specs.List.{concat}
 use Rattle.std.proofs.lemmas.List.Elements.{recursion_from_All, All-append}
@@ -21,3 +21,9 @@ two_lists a b short_a few_a small_a short_b few_b small_b = record {
   packets = rw (append-nil, length-append) (omega (arith, few_a, few_b));
   bytes = rw (append-nil, concat-append, length-append) (omega (arith, small_a, small_b));
 }
+
+grown_by : (a b : List (List ℕ)) (most : ℕ) → length (concat a) + length (concat b) ≤ most → length (concat (a ++ b)) ≤ most
+grown_by a b most h = rw (concat-append, length-append) h
+
+pub grown : (a : List (List ℕ)) (packet : List ℕ) (most : ℕ) → length (concat a) + length packet ≤ most → length (concat (a ++ packet ∷ [])) ≤ most
+grown a packet most h = grown_by a (packet ∷ []) most (rw append-nil h)

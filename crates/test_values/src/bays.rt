@@ -12,9 +12,7 @@ use crate::line::{Fault, Line};
 use crate::runs;
 use std::alloc::Global;
 use std::fmt::Write;
-use xsk_io::{
-    Bay, Fail, MemoryBay, Offer, ReadError, SteadyBay, Stream, read_whole, write_whole,
-};
+use xsk_io::{Bay, Fail, MemoryBay, Offer, ReadError, SteadyBay, Stream, read_whole, write_whole};
 
 const INPUT: Stream = Stream::Input(0);
 

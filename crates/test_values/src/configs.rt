@@ -32,7 +32,12 @@ fn tell_numbers(config: &Config, told: &mut String) -> Result<(), Fault> {
     write!(told, ", {} sockets", config.sockets().len())?;
     write!(told, ", {} pairs", config.pairs().len())?;
     write!(told, ", {frames} frames, pool {}", config.pool())?;
-    write!(told, ", {} callers, batch {}", config.callers(), config.batch())?;
+    write!(
+        told,
+        ", {} callers, batch {}",
+        config.callers(),
+        config.batch()
+    )?;
     for (word, holds) in [
         ("lawful", config.lawful()),
         ("regular", config.regular()),
@@ -144,6 +149,11 @@ fn tell_mark(config: &Config, mark: Mark, told: &mut String) -> Result<(), Fault
 
 /// How many words the rings have, and how many all have.
 fn tell_count(config: &Config, told: &mut String) -> Result<(), Fault> {
-    write!(told, "{} of rings, {} in all", marks_base(config), word_count(config))?;
+    write!(
+        told,
+        "{} of rings, {} in all",
+        marks_base(config),
+        word_count(config)
+    )?;
     Ok(())
 }

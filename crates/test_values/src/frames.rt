@@ -167,11 +167,7 @@ fn fill_taken(
     Ok(())
 }
 
-fn show_taken(
-    taken: &Option<Frame>,
-    line: &mut Line<'_>,
-    told: &mut String,
-) -> Result<(), Fault> {
+fn show_taken(taken: &Option<Frame>, line: &mut Line<'_>, told: &mut String) -> Result<(), Fault> {
     let Some(frame) = taken else {
         return Err(Fault::BadLine);
     };

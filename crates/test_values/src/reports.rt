@@ -87,12 +87,7 @@ fn four_in(line: &mut Line<'_>) -> Result<[u64; 4], Fault> {
     Ok([line.long()?, line.long()?, line.long()?, line.long()?])
 }
 
-fn tell(
-    alloc: Global,
-    layout: &Layout,
-    figures: &Figures,
-    told: &mut String,
-) -> Result<(), Fault> {
+fn tell(alloc: Global, layout: &Layout, figures: &Figures, told: &mut String) -> Result<(), Fault> {
     let config = configure(alloc, layout)?;
     tell_text(alloc, &config, figures, told)
 }

@@ -154,7 +154,10 @@ fn tell(told: &mut String, outcome: Result<(), SetupError>) -> Result<(), Fault>
 
 /// The bind flags by their names.
 fn tell_flags(told: &mut String) -> Result<(), Fault> {
-    write!(told, "shared {XDP_SHARED_UMEM}, copy {XDP_COPY}, zerocopy {XDP_ZEROCOPY}")?;
+    write!(
+        told,
+        "shared {XDP_SHARED_UMEM}, copy {XDP_COPY}, zerocopy {XDP_ZEROCOPY}"
+    )?;
     write!(told, ", wakeup {XDP_USE_NEED_WAKEUP}, sg {XDP_USE_SG}")?;
     Ok(())
 }

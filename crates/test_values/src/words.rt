@@ -21,7 +21,10 @@ impl Words {
                 tell_packed(XdpDesc { addr, len, options }, told)?;
             }
             "unpack" => tell(unpack(line.long()?, line.long()?), told)?,
-            "places" => write!(told, "producer {PRODUCER}, consumer {CONSUMER}, entries {ENTRIES}")?,
+            "places" => write!(
+                told,
+                "producer {PRODUCER}, consumer {CONSUMER}, entries {ENTRIES}"
+            )?,
             _ => return Err(Fault::BadLine),
         }
         Ok(())

@@ -1,7 +1,7 @@
 use Rattle.std.proofs.Common.{arith, length-append}
 use Rattle.std.proofs.lemmas.List.Elements.{All-push}
-use Rattle.std.proofs.lemmas.List.Folds.{concat-append}
 use Rattle.xsk_pcap.specs.Capture.{IsShort}
+use Rattle.test_values.proofs.Writable.{grown}
 use Rattle.test_values.proofs.written.Short.pushed.Goals as goal
 
 pub invariant_of-result-clause-short : goal.invariant_of-result-clause-short
@@ -15,5 +15,5 @@ invariant_of-result-clause-few c =
 
 pub invariant_of-result-clause-small : goal.invariant_of-result-clause-small
 invariant_of-result-clause-small c =
-    rw (c.in_ok-push.ensures.pushed, concat-append, length-append)
-    (omega (arith, c.if-bytes-packet-gt16000000.false, c.bytes.ensures))
+    rw c.in_ok-push.ensures.pushed
+    (grown c.args.self.list.packets c.args.packet.now 16000000 (omega (arith, c.if-bytes-packet-gt16000000.false, c.bytes.ensures)))
