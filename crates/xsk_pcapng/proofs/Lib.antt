@@ -5,3 +5,4 @@ pub mod Walk
 pub mod Listing
 pub mod Appending
 pub mod WrittenLaw
+pub mod Fits
