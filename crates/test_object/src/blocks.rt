@@ -1,0 +1,92 @@
+//! Setups and scripts, each a line with a name and the lines behind it.
+use crate::run::run;
+use crate::words::number;
+use std::alloc::{AllocError, Global};
+use std::string::String;
+use xsk_umem::OutOfMemory;
+
+/// A block's first line is `setup NAME`, or `script NAME SETUP` with the starting counts behind it, or with `plain`, where
+/// calls are made that aren't legal.
+#[derive(Drop)]
+pub(crate) struct Block {
+    head: String,
+    lines: Vec<String>,
+}
+
+/// Takes a line in: blocks are apart by empty lines, and `#` begins a remark.
+pub(crate) fn take(
+    alloc: Global,
+    blocks: &mut Vec<Block>,
+    line: String,
+) -> Result<(), AllocError> {
+    if line.as_str().starts_with("#") || line.is_empty() {
+        return Ok(());
+    }
+    if line.as_str().starts_with("setup ") || line.as_str().starts_with("script ") {
+        blocks.push(Block {
+            head: line,
+            lines: Vec::new(alloc),
+        })?;
+        return Ok(());
+    }
+    if let Some(block) = blocks.last_mut() {
+        block.lines.push(line)?;
+    }
+    Ok(())
+}
+
+/// The lines of the setup of a name.
+fn setup_named<'a>(blocks: &'a [Block], name: &str) -> Option<&'a [String]> {
+    for block in blocks {
+        if block.head.as_str().strip_prefix("setup ") == Some(name) {
+            return Some(block.lines.as_slice());
+        }
+    }
+    None
+}
+
+/// What is printed of a block: of a setup nothing.
+pub(crate) fn told(alloc: Global, blocks: &[Block], block: &Block) -> Result<String, OutOfMemory> {
+    let words: Vec<&str> = block.head.as_str().split_whitespace().collect(alloc)?;
+    let ["script", name, setup, counts @ ..] = words.as_slice() else {
+        return Ok(String::new(alloc));
+    };
+    let mut out = format!(in alloc; "script {name}\n")?;
+    match setup_named(blocks, setup) {
+        Some(setup) => all_runs(alloc, setup, block.lines.as_slice(), counts, &mut out)?,
+        None => out.push_str("no such setup\n")?,
+    }
+    out.push_str("\n")?;
+    Ok(out)
+}
+
+/// Runs a script from each starting count. The first run is printed, and each other one where it differs.
+fn all_runs(
+    alloc: Global,
+    setup: &[String],
+    script: &[String],
+    counts: &[&str],
+    out: &mut String,
+) -> Result<(), OutOfMemory> {
+    let mut told = None;
+    for count in counts {
+        let plain = *count == "plain";
+        let text = run(alloc, setup, script, plain, number(count).unwrap_or(0))?;
+        let text = match text {
+            Some(text) => text,
+            None => format!(in alloc; "no configuration\n")?,
+        };
+        match &told {
+            None => {
+                out.push_str(text.as_str())?;
+                told = Some(text);
+            }
+            Some(first) => {
+                if *first != text {
+                    out.push_str(format!(in alloc; "from {count}:\n{text}")?.as_str())?;
+                }
+            }
+        }
+    }
+    Ok(())
+}

@@ -1,0 +1,240 @@
+//! The frames that are out of all rings, of both engines.
+use crate::bytes;
+use crate::reply::{Asked, NOT_LEGAL, reply_words};
+use crate::words::{Body, Move, Thing};
+use std::alloc::Global;
+use std::string::String;
+use xsk_model::{Call, Reply};
+use xsk_umem::{Batch, Frame, Item, OutOfMemory};
+
+/// What an engine told, and whether all frames that it gave are the right ones with the right bytes.
+#[derive(Drop)]
+pub(crate) struct Told {
+    pub(crate) words: String,
+    pub(crate) fine: bool,
+}
+
+/// The frames of one engine that are out of its rings, by number.
+#[derive(Drop)]
+pub(crate) struct Store {
+    frames: Vec<Option<Frame>>,
+}
+
+/// What is known of all frames.
+#[derive(Drop)]
+pub(crate) struct Known {
+    pub(crate) chunk: u32,
+    /// What was last written into each frame, by number.
+    seeds: Vec<u32>,
+    written: u32,
+}
+
+impl Known {
+    pub(crate) fn new(alloc: Global, chunk: u32, frames: u32) -> Result<Known, OutOfMemory> {
+        Ok(Known {
+            chunk,
+            seeds: vec![in alloc; 0u32; frames as usize]?,
+            written: 0,
+        })
+    }
+
+    /// The frame in which an address lies.
+    pub(crate) fn frame_at(&self, addr: u64) -> Option<u32> {
+        let number = addr.checked_div(u64::from(self.chunk))?;
+        if number < self.seeds.len() as u64 {
+            u32::try_from(number).ok()
+        } else {
+            None
+        }
+    }
+
+    /// The frame that goes with an item.
+    pub(crate) fn frame_of(&self, thing: Thing) -> Option<u32> {
+        match thing.body {
+            Body::Addressed => self.frame_at(thing.desc.addr),
+            Body::Number(number) => Some(number),
+            Body::Without => None,
+        }
+    }
+
+    /// What was last written into a frame.
+    pub(crate) fn seed(&self, number: u32) -> u32 {
+        match self.seeds.get(number as usize) {
+            Some(seed) => *seed,
+            None => 0,
+        }
+    }
+
+    /// What is to be written into a frame now.
+    fn next_seed(&mut self, number: u32) -> Option<u32> {
+        let seed = self.seeds.get_mut(number as usize)?;
+        self.written = self.written.wrapping_add(1);
+        *seed = self.written;
+        Some(*seed)
+    }
+
+    /// Whether an item has the frame of its address, with its bytes.
+    fn is_right(&self, item: &Item) -> bool {
+        match (&item.frame, self.frame_at(item.desc.addr)) {
+            (Some(frame), Some(number)) => {
+                frame.number() == number && bytes::holds(frame, self.seed(number))
+            }
+            (None, None) => true,
+            _ => false,
+        }
+    }
+}
+
+impl Store {
+    fn new(alloc: Global, frames: u32) -> Result<Store, OutOfMemory> {
+        let mut places = Vec::with_capacity(alloc, frames as usize)?;
+        for _ in 0..frames {
+            places.push(None)?;
+        }
+        Ok(Store { frames: places })
+    }
+
+    fn has(&self, number: u32) -> bool {
+        match self.frames.get(number as usize) {
+            Some(frame) => frame.is_some(),
+            None => false,
+        }
+    }
+
+    fn take(&mut self, number: u32) -> Option<Frame> {
+        self.frames.get_mut(number as usize)?.take()
+    }
+
+    fn put(&mut self, frame: Frame) {
+        if let Some(place) = self.frames.get_mut(frame.number() as usize) {
+            *place = Some(frame);
+        }
+    }
+
+    fn write(&mut self, number: u32, seed: u32) {
+        if let Some(frame) = self.take(number) {
+            let mut frame = frame;
+            bytes::write(&mut frame, seed);
+            self.put(frame);
+        }
+    }
+
+    fn batch(&mut self, alloc: Global, known: &Known, things: &[Thing]) -> Batch {
+        let mut batch = Batch::new(alloc);
+        for thing in things {
+            let frame = match known.frame_of(*thing) {
+                Some(number) => self.take(number),
+                None => None,
+            };
+            if batch.len() < 32 {
+                batch.push(Item {
+                    frame,
+                    desc: thing.desc,
+                });
+            }
+        }
+        batch
+    }
+
+    /// A call with frames from here.
+    pub(crate) fn call(
+        &mut self,
+        alloc: Global,
+        known: &Known,
+        made: Move,
+        things: &[Thing],
+    ) -> Call {
+        match made {
+            Move::Reserve(ring, count) => Call::Reserve(ring, count),
+            Move::Submit(ring) => Call::Submit(ring, self.batch(alloc, known, things)),
+            Move::Peek(ring, count) => Call::Peek(ring, count),
+            Move::Release(ring, count) => Call::Release(ring, count),
+            Move::Swap(mark, value) => Call::Swap(mark, value),
+            Move::Look(mark) => Call::Look(mark),
+        }
+    }
+
+    /// Takes the frames of items in, and tells whether they are the right ones.
+    fn put_items(&mut self, known: &Known, items: Batch) -> bool {
+        let mut items = items;
+        let mut fine = true;
+        for _ in 0..items.len() {
+            if let Some(item) = items.pop_front() {
+                fine = fine && known.is_right(&item);
+                self.put_item(item);
+            }
+        }
+        fine
+    }
+
+    fn put_item(&mut self, item: Item) {
+        if let Some(frame) = item.frame {
+            self.put(frame);
+        }
+    }
+
+    /// Tells what came of a call, and keeps the frames that came with it.
+    pub(crate) fn settle(
+        &mut self,
+        alloc: Global,
+        known: &Known,
+        asked: Asked,
+    ) -> Result<Told, OutOfMemory> {
+        match asked {
+            Asked::Made(reply) => {
+                let words = reply_words(alloc, &reply)?;
+                let fine = match reply {
+                    Reply::Items(items) => self.put_items(known, items),
+                    _ => true,
+                };
+                Ok(Told { words, fine })
+            }
+            Asked::Refused(call) => {
+                if let Call::Submit(_, items) = call {
+                    self.put_items(known, items);
+                }
+                let words = format!(in alloc; "{NOT_LEGAL}")?;
+                Ok(Told { words, fine: true })
+            }
+        }
+    }
+}
+
+/// The frames of both engines.
+#[derive(Drop)]
+pub(crate) struct Hand {
+    pub(crate) known: Known,
+    /// Those of the object on one thread.
+    pub(crate) mine: Store,
+    /// Those of the table.
+    pub(crate) theirs: Store,
+}
+
+impl Hand {
+    pub(crate) fn new(alloc: Global, chunk: u32, frames: u32) -> Result<Hand, OutOfMemory> {
+        Ok(Hand {
+            known: Known::new(alloc, chunk, frames)?,
+            mine: Store::new(alloc, frames)?,
+            theirs: Store::new(alloc, frames)?,
+        })
+    }
+
+    /// Writes other bytes into the frames of these items.
+    pub(crate) fn write(&mut self, things: &[Thing]) {
+        for thing in things {
+            if let Some(number) = self.known.frame_of(*thing) {
+                self.write_one(number);
+            }
+        }
+    }
+
+    fn write_one(&mut self, number: u32) {
+        if !self.mine.has(number) {
+            return;
+        }
+        if let Some(seed) = self.known.next_seed(number) {
+            self.mine.write(number, seed);
+            self.theirs.write(number, seed);
+        }
+    }
+}

@@ -1,0 +1,77 @@
+//! A table with two notes that were taken on it.
+use crate::reply::Asked;
+use crate::table::Table;
+use std::marker::Model;
+use xsk_model::Call;
+use xsk_table::Note;
+use xsk_umem::Frames;
+
+/// A table, and an early note and a late one.
+#[derive(Drop)]
+pub(crate) struct Noted {
+    table: Table,
+    early: Option<Note>,
+    late: Option<Note>,
+}
+
+impl Model for Noted {
+    ghost use Rattle.std.specs.Prelude.{◌≡◌, IfSome};
+    ghost use Rattle.xsk_table.specs.Held.{Board};
+
+    ghost Value = { Board };
+
+    ghost view = { λ n. n.table };
+
+    ghost invariant = { λ n. IfSome n.early (λ note. note.table ≡ n.table.table) × IfSome n.late (λ note. note.table ≡ n.table.table) };
+}
+
+impl Noted {
+    pub(crate) fn new(table: Table) -> Noted {
+        Noted {
+            table,
+            early: None,
+            late: None,
+        }
+    }
+
+    /// Makes a call where it is legal, and tells the looks at the other side's count that it took.
+    pub(crate) fn ask(&mut self, who: u32, call: Call, anew: bool) -> (Asked, u32) {
+        self.table.ask(who, call, anew)
+    }
+
+    /// Takes a note, and tells whether there is such a caller.
+    pub(crate) fn note(&mut self, who: u32, late: bool) -> bool {
+        let note = self.table.note(who);
+        let taken = note.is_some();
+        if late {
+            self.late = note;
+        } else {
+            self.early = note;
+        }
+        taken
+    }
+
+    /// Lets a caller meet a note, and tells whether both were there.
+    pub(crate) fn meet(&mut self, who: u32, late: bool) -> bool {
+        let note = if late {
+            self.late.take()
+        } else {
+            self.early.take()
+        };
+        match note {
+            Some(note) => self.table.meet(who, note),
+            None => false,
+        }
+    }
+
+    /// Takes a caller's pass, and gives it back. Tells its number, and whether there was no second one.
+    pub(crate) fn lends_once(&mut self, who: u32) -> Option<(u32, bool)> {
+        self.table.lends_once(who)
+    }
+
+    /// Ends the table, and gives the frames that stand in rings.
+    pub(crate) fn close(self) -> Frames {
+        let Noted { table, .. } = self;
+        table.close()
+    }
+}

@@ -1,0 +1,90 @@
+//! The object on one thread, as a script has it.
+use crate::reply::Asked;
+use std::alloc::Global;
+use xsk_model::{Call, Config};
+use xsk_plain::{Checked, LineBuffer, Log, Plain, payload_room};
+use xsk_umem::{Frames, OutOfMemory};
+
+/// The engine that tells which calls are legal, or the one that makes each call that can be made.
+#[derive(Drop)]
+pub(crate) enum Object {
+    Checked(Checked),
+    Plain(Plain),
+}
+
+fn ask_checked(checked: &mut Checked, who: u32, call: Call) -> Result<Asked, OutOfMemory> {
+    let _geometry = checked.config().geometry();
+    checked.reserve_log(1, payload_room(&call))?;
+    if !checked.allows(who, &call) {
+        return Ok(Asked::Refused(call));
+    }
+    Ok(Asked::Made(checked.perform(who, call)))
+}
+
+fn ask_plain(plain: &mut Plain, who: u32, call: Call) -> Result<Asked, OutOfMemory> {
+    let _geometry = plain.config().geometry();
+    plain.reserve_log(1, payload_room(&call))?;
+    if !plain.can_perform(&call) {
+        return Ok(Asked::Refused(call));
+    }
+    Ok(Asked::Made(plain.perform(who, call)))
+}
+
+impl Object {
+    pub(crate) fn config(&self) -> &Config {
+        match self {
+            Object::Checked(checked) => checked.config(),
+            Object::Plain(plain) => plain.config(),
+        }
+    }
+
+    pub(crate) fn log(&self) -> &Log {
+        match self {
+            Object::Checked(checked) => checked.log(),
+            Object::Plain(plain) => plain.log(),
+        }
+    }
+
+    /// Makes a call where it is legal, or can be made.
+    pub(crate) fn ask(&mut self, who: u32, call: Call) -> Result<Asked, OutOfMemory> {
+        match self {
+            Object::Checked(checked) => ask_checked(checked, who, call),
+            Object::Plain(plain) => ask_plain(plain, who, call),
+        }
+    }
+
+    /// The frames that stand in rings, ring by ring and in order.
+    pub(crate) fn close(self) -> Frames {
+        match self {
+            Object::Checked(checked) => checked.close(),
+            Object::Plain(plain) => plain.close(),
+        }
+    }
+
+    /// Puts the line of the last call, if there is one, in the buffer.
+    pub(crate) fn tell_last(&self, line: &mut LineBuffer) {
+        let log = self.log();
+        if let Some(last) = log.len().checked_sub(1) {
+            log.write_line(self.config(), last, line);
+        }
+    }
+
+    /// The lines of all calls, one behind the other, and their callers. Behind the last one there is none, and the buffer
+    /// stays.
+    pub(crate) fn walk(&self, alloc: Global) -> Result<(Vec<u8>, Vec<u32>), OutOfMemory> {
+        let mut line = LineBuffer::new();
+        let mut text = Vec::new(alloc);
+        let mut callers = Vec::new(alloc);
+        let mut lines = self.log().lines(self.config().pairs().len() as u32);
+        for _ in 0..self.log().len() {
+            if let Some(who) = lines.write_next(&mut line) {
+                text.extend_from_slice(line.bytes())?;
+                callers.push(who)?;
+            }
+        }
+        if lines.write_next(&mut line).is_some() {
+            text.extend_from_slice(line.bytes())?;
+        }
+        Ok((text, callers))
+    }
+}

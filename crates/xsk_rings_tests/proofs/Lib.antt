@@ -1,3 +1,0 @@
-mod Setup
-mod Resting
-mod Noting

@@ -1,4 +1,0 @@
-use Rattle.xsk_rings_tests.proofs.table.asked_anew.Given as goal
-
-abbrev pub ghosts-asked : goal.ghosts-asked
-ghosts-asked a = record { name = a.blank.name; parts = a.blank.parts }

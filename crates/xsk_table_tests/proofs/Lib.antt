@@ -1,3 +1,0 @@
-mod TestParts
-mod MeetingTestParts
-mod Keeping

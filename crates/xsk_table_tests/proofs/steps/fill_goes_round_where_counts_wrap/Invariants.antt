@@ -1,4 +1,0 @@
-use Rattle.xsk_table_tests.proofs.steps.fill_goes_round_where_counts_wrap.Given as goal
-
-abbrev pub ghosts-fill_goes_round : goal.ghosts-fill_goes_round
-ghosts-fill_goes_round g a = record { name = a.blank.name; parts = a.blank.parts }
