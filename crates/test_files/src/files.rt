@@ -1,16 +1,26 @@
 //! Files are copied and refused, a folder fails at its first read, and the report is printed.
+ghost use Rattle.std.specs.Prelude.{◌≡◌, false};
+ghost use Rattle.xsk_io.specs.declared.bay.Stream.{Stream};
+
+use std::alloc::Global;
 use std::fs;
 use std::test::Fail;
 use xsk_io::{Bay, BayFailed, FileBay, ReadError, Stream, read_whole, write_whole};
 
-/// Copies a file of at most five bytes.
-fn copy(rt: &HostRuntime, from: &str, to: &str) -> Result<(), ReadError> {
-    let mut bay = FileBay::new(rt);
+/// Copies a text of at most five bytes, over any bay.
+fn copy_over<B: Bay>(alloc: Global, bay: &mut B, from: &str, to: &str) -> Result<(), ReadError>
+    requires none_open { (stream : Stream) → B.is_open bay.old stream ≡ false }
+{
     bay.open(Stream::Input(0), from)?;
-    let text = read_whole(rt.alloc(), &mut bay, Stream::Input(0), 5)?;
+    let text = read_whole(alloc, bay, Stream::Input(0), 5)?;
     bay.open(Stream::Output(3), to)?;
-    write_whole(&mut bay, Stream::Output(3), text.as_slice())?;
+    write_whole(bay, Stream::Output(3), text.as_slice())?;
     Ok(())
+}
+
+/// Copies a file.
+fn copy(rt: &HostRuntime, from: &str, to: &str) -> Result<(), ReadError> {
+    copy_over(rt.alloc(), &mut FileBay::new(rt), from, to)
 }
 
 /// Whether a copy fails with a fault.
