@@ -176,9 +176,7 @@ fn is_bound(ports: u32, queues: u32, pairs: &[PairInfo], socket: &SocketInfo) ->
 fn is_served(sockets: &[SocketInfo], pair: &PairInfo) -> bool
     ensures { IsTrue result → IsServed sockets.now pair.now }
 {
-    sockets
-        .iter()
-        .any(|socket| socket.port == pair.port && socket.queue == pair.queue)
+    sockets.iter().any(|socket| socket.port == pair.port && socket.queue == pair.queue)
         && is_ring_size(pair.fill)
         && is_ring_size(pair.comp)
 }
@@ -264,9 +262,7 @@ impl Setup {
         if !maps {
             return None;
         }
-        Some(Config::of_parts(
-            geometry, ports, queues, sockets, pairs, cells, sg, wakeup,
-        ))
+        Some(Config::of_parts(geometry, ports, queues, sockets, pairs, cells, sg, wakeup))
     }
 
     /// The configuration with its frames, if it is lawful.

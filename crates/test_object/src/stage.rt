@@ -62,7 +62,10 @@ impl Stage {
     }
 
     fn ask_object(&mut self, who: u32, made: Move, things: &[Thing]) -> Result<Told, OutOfMemory> {
-        let call = self.hand.mine.call(self.alloc, &self.hand.known, made, things);
+        let call = self
+            .hand
+            .mine
+            .call(self.alloc, &self.hand.known, made, things);
         let asked = self.object.ask(who, call)?;
         self.hand.mine.settle(self.alloc, &self.hand.known, asked)
     }
@@ -77,9 +80,15 @@ impl Stage {
         let Some(table) = &mut self.table else {
             return Ok(None);
         };
-        let call = self.hand.theirs.call(self.alloc, &self.hand.known, made, things);
+        let call = self
+            .hand
+            .theirs
+            .call(self.alloc, &self.hand.known, made, things);
         let (asked, looks) = table.ask(who, call, anew);
-        let told = self.hand.theirs.settle(self.alloc, &self.hand.known, asked)?;
+        let told = self
+            .hand
+            .theirs
+            .settle(self.alloc, &self.hand.known, asked)?;
         Ok(Some((told, looks)))
     }
 
