@@ -8,10 +8,11 @@ ghost use Rattle.std.specs.Prelude.{◌≡◌, false, IfOk};
 ghost use Rattle.xsk_io.specs.declared.bay.Stream.{Stream};
 ghost use Rattle.xsk_io.specs.Memory.{is_open_of};
 
+use crate::case::Case;
 use crate::line::{Fault, Line};
 use crate::runs;
+use crate::told::Told;
 use std::alloc::Global;
-use std::fmt::Write;
 use xsk_io::{Bay, Fail, MemoryBay, Offer, ReadError, SteadyBay, Stream, read_whole, write_whole};
 
 const INPUT: Stream = Stream::Input(0);
@@ -36,19 +37,6 @@ impl Bays {
         }
     }
 
-    pub fn answer(&mut self, line: &mut Line<'_>, told: &mut String) -> Result<(), Fault> {
-        match line.word()? {
-            "copy" => self.copy(line, told),
-            "steady" => self.copy_steadily(line, told),
-            "report" => self.report(line, told),
-            word => {
-                self.change(word, line)?;
-                told.push_str("ok")?;
-                Ok(())
-            }
-        }
-    }
-
     fn change(&mut self, word: &str, line: &mut Line<'_>) -> Result<(), Fault> {
         match word {
             "fail" => self.fails.push(fail_in(line)?)?,
@@ -59,38 +47,60 @@ impl Bays {
         Ok(())
     }
 
-    fn copy(&mut self, line: &mut Line<'_>, told: &mut String) -> Result<(), Fault> {
-        let text = line.bytes(self.alloc)?;
+    fn copy(&self, line: &mut Line<'_>, told: &mut Told) -> Result<(), Fault> {
+        let word = line.word()?;
         let limit = line.number()?;
-        let inputs = vec![in self.alloc; text]?;
-        let fails = self.fails.as_slice();
-        let (outcome, bay) = copied(self.alloc, inputs, self.room, fails, self.most, limit)?;
-        tell_outcome(outcome, told)?;
-        tell_held(bay.output(OUTPUT), told)?;
-        tell_offers(bay.offers(), told)
+        let inputs = inputs_in(self.alloc, word)?;
+        let bay = new_bay(
+            self.alloc,
+            inputs,
+            self.room,
+            self.fails.as_slice(),
+            self.most,
+        )?;
+        tell_copied(self.alloc, bay, limit, told);
+        Ok(())
     }
 
-    fn copy_steadily(&mut self, line: &mut Line<'_>, told: &mut String) -> Result<(), Fault> {
-        let text = line.bytes(self.alloc)?;
+    fn copy_steadily(&self, line: &mut Line<'_>, told: &mut Told) -> Result<(), Fault> {
+        let word = line.word()?;
         let limit = line.number()?;
-        let inputs = vec![in self.alloc; text]?;
-        let (outcome, bay) = copied_steadily(self.alloc, inputs, self.room, limit)?;
-        tell_outcome(outcome, told)?;
-        tell_held(bay.output(OUTPUT), told)
-    }
-
-    fn report(&mut self, line: &mut Line<'_>, told: &mut String) -> Result<(), Fault> {
-        let fails = self.fails.as_slice();
-        let inputs = Vec::new(self.alloc);
-        let mut bay = new_bay(self.alloc, inputs, self.room, fails, self.most)?;
-        for _ in 0..u64::MAX {
-            let Some(word) = line.next() else {
-                break;
-            };
-            report_text(&mut bay, runs::parse(self.alloc, word)?.as_slice(), told)?;
+        let inputs = inputs_in(self.alloc, word)?;
+        match SteadyBay::new(self.alloc, inputs, self.room) {
+            Ok(bay) => tell_copied_steadily(self.alloc, bay, limit, told),
+            Err(_) => return Err(Fault::OutOfMemory),
         }
-        tell_held(bay.output(Stream::Report), told)?;
-        tell_offers(bay.offers(), told)
+        Ok(())
+    }
+
+    fn report(&self, line: &mut Line<'_>, told: &mut Told) -> Result<(), Fault> {
+        let inputs = Vec::new(self.alloc);
+        let mut bay = new_bay(
+            self.alloc,
+            inputs,
+            self.room,
+            self.fails.as_slice(),
+            self.most,
+        )?;
+        report_all(self.alloc, &mut bay, line, told)?;
+        tell_held(bay.output(Stream::Report), told);
+        tell_offers(bay.offers(), told);
+        Ok(())
+    }
+}
+
+impl Case for Bays {
+    fn answer(&mut self, word: &str, line: &mut Line<'_>, told: &mut Told) -> Result<(), Fault> {
+        match word {
+            "copy" => self.copy(line, told),
+            "steady" => self.copy_steadily(line, told),
+            "report" => self.report(line, told),
+            _ => {
+                self.change(word, line)?;
+                told.say("ok");
+                Ok(())
+            }
+        }
     }
 }
 
@@ -103,6 +113,12 @@ fn fail_in(line: &mut Line<'_>) -> Result<Fail, Fault> {
         "write" => Ok(Fail::Write(number)),
         _ => Err(Fault::BadLine),
     }
+}
+
+/// One input, with the bytes of a word.
+fn inputs_in(alloc: Global, word: &str) -> Result<Vec<Vec<u8>>, Fault> {
+    let text = runs::parse(alloc, word)?;
+    Ok(vec![in alloc; text]?)
 }
 
 fn new_bay(
@@ -127,32 +143,22 @@ fn new_bay(
     Ok(bay)
 }
 
-/// How a copy ends over a bay of which these calls fail, and the bay.
-fn copied(
-    alloc: Global,
-    inputs: Vec<Vec<u8>>,
-    room: u32,
-    fails: &[Fail],
-    most: Option<u32>,
-    limit: u32,
-) -> Result<(Result<(), ReadError>, MemoryBay), Fault> {
-    let mut bay = new_bay(alloc, inputs, room, fails, most)?;
-    let outcome = copy(alloc, &mut bay, limit as usize);
-    Ok((outcome, bay))
+/// Copies over a bay, and tells what came of it.
+fn tell_copied(alloc: Global, bay: MemoryBay, limit: u32, told: &mut Told)
+    requires { (stream : Stream) → is_open_of bay.memory stream ≡ false }
+{
+    let mut bay = bay;
+    tell_outcome(copy(alloc, &mut bay, limit as usize), told);
+    tell_held(bay.output(OUTPUT), told);
+    tell_offers(bay.offers(), told);
 }
 
-fn copied_steadily(
-    alloc: Global,
-    inputs: Vec<Vec<u8>>,
-    room: u32,
-    limit: u32,
-) -> Result<(Result<(), ReadError>, SteadyBay), Fault> {
-    let Ok(bay) = SteadyBay::new(alloc, inputs, room) else {
-        return Err(Fault::OutOfMemory);
-    };
+fn tell_copied_steadily(alloc: Global, bay: SteadyBay, limit: u32, told: &mut Told)
+    requires { (stream : Stream) → is_open_of bay stream ≡ false }
+{
     let mut bay = bay;
-    let outcome = copy(alloc, &mut bay, limit as usize);
-    Ok((outcome, bay))
+    tell_outcome(copy(alloc, &mut bay, limit as usize), told);
+    tell_held(bay.output(OUTPUT), told);
 }
 
 /// Copies an input to an output, over any bay.
@@ -166,40 +172,59 @@ fn copy<B: Bay>(alloc: Global, bay: &mut B, limit: usize) -> Result<(), ReadErro
     Ok(())
 }
 
-fn report_text(bay: &mut MemoryBay, text: &[u8], told: &mut String) -> Result<(), Fault> {
+/// Writes the texts of a line to the report.
+fn report_all(
+    alloc: Global,
+    bay: &mut MemoryBay,
+    line: &mut Line<'_>,
+    told: &mut Told,
+) -> Result<(), Fault> {
+    for _ in 0..u64::MAX {
+        let Some(word) = line.next() else {
+            break;
+        };
+        report_text(bay, runs::parse(alloc, word)?.as_slice(), told);
+    }
+    Ok(())
+}
+
+fn report_text(bay: &mut MemoryBay, text: &[u8], told: &mut Told) {
     match write_whole(bay, Stream::Report, text) {
-        Ok(()) => told.push_str("ok, ")?,
-        Err(_) => told.push_str("failed, ")?,
+        Ok(()) => told.say("ok, "),
+        Err(_) => told.say("failed, "),
     }
-    Ok(())
 }
 
-fn tell_outcome(outcome: Result<(), ReadError>, told: &mut String) -> Result<(), Fault> {
+fn tell_outcome(outcome: Result<(), ReadError>, told: &mut Told) {
     match outcome {
-        Ok(()) => told.push_str("ok, ")?,
-        Err(error) => write!(told, "{error:?}, ")?,
+        Ok(()) => told.say("ok"),
+        Err(error) => told.name(&error),
     }
-    Ok(())
+    told.say(", ");
 }
 
-fn tell_held(held: Option<&[u8]>, told: &mut String) -> Result<(), Fault> {
+fn tell_held(held: Option<&[u8]>, told: &mut Told) {
     match held {
         Some(bytes) => {
-            told.push_str("holds ")?;
-            runs::tell(told, bytes)?;
+            told.say("holds ");
+            runs::tell(told, bytes);
         }
-        None => told.push_str("isn't told")?,
+        None => told.say("isn't told"),
     }
-    Ok(())
 }
 
-fn tell_offers(offers: Option<&[Offer]>, told: &mut String) -> Result<(), Fault> {
-    let Some(offers) = offers else {
-        told.push_str(", the writes aren't told")?;
-        return Ok(());
-    };
-    for offer in offers {
-        write!(told, ", {} of {}", offer.taken, offer.len)?;
+fn tell_offers(offers: Option<&[Offer]>, told: &mut Told) {
+    match offers {
+        Some(offers) => tell_each(offers, told),
+        None => told.say(", the writes aren't told"),
     }
-    Ok(())
+}
+
+fn tell_each(offers: &[Offer], told: &mut Told) {
+    for offer in offers {
+        told.say(", ");
+        told.count(offer.taken);
+        told.say(" of ");
+        told.count(offer.len);
+    }
 }

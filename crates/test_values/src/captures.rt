@@ -4,12 +4,13 @@
 //! bytes) and `read`, and then `packet NUMBER` of what was read. `gaps FIRST BEFORE_EACH` and `push BYTES` make a list, and `next` begins
 //! a second one. `copies` writes both into one capture, `of` makes the first the capture and adds the second, and `laid` writes the
 //! first into its own gaps, after which its packets are read. What was written is the file then. `show FROM LEN` tells its bytes.
-use crate::line::{Fault, Line};
-use crate::packets::{gaps_in, tell_packet};
+use crate::case::Case;
+use crate::line::{Fault, Line, number_in};
+use crate::packets::{gaps_in, tell_packet, tell_sizes};
 use crate::runs;
+use crate::told::Told;
 use crate::written::{Short, copies, laid, of};
 use std::alloc::Global;
-use std::fmt::Write;
 use std::mem;
 use xsk_pcap::read;
 use xsk_umem::PacketList;
@@ -36,46 +37,42 @@ impl Captures {
         }
     }
 
-    pub fn answer(&mut self, line: &mut Line<'_>, told: &mut String) -> Result<(), Fault> {
-        let word = line.word()?;
+    fn change(&mut self, word: &str, line: &mut Line<'_>) -> Result<(), Fault> {
         match word {
-            "read" => self.read(line, told),
-            "packet" => tell_packet(&self.read, line.number()?, told),
-            "show" => show(self.file.as_slice(), line.number()?, line.number()?, told),
-            "copies" | "of" => {
-                let first = self.take_first();
-                self.file = write(self.alloc, word, first, &self.list)?;
-                write!(told, "{} bytes", self.file.len())?;
-                Ok(())
-            }
-            "laid" => self.lay(told),
-            _ => {
-                self.change(word, line)?;
-                told.push_str("ok")?;
-                Ok(())
-            }
+            "bytes" => self.begin(line),
+            "more" => runs::append(&mut self.file, line.word()?),
+            "byte" => self.overwrite(line),
+            "gaps" => self.begin_list(line),
+            "push" => self.push(line),
+            "next" => self.end_list(),
+            _ => Err(Fault::BadLine),
         }
     }
 
-    fn change(&mut self, word: &str, line: &mut Line<'_>) -> Result<(), Fault> {
-        match word {
-            "bytes" => self.file = line.bytes(self.alloc)?,
-            "more" => {
-                let bytes = line.bytes(self.alloc)?;
-                self.file.extend_from_slice(bytes.as_slice())?;
-            }
-            "byte" => {
-                let place = line.number()?;
-                overwrite(&mut self.file, place, line.bytes(self.alloc)?.as_slice())?;
-            }
-            "gaps" => self.list = Short::with_gaps(self.alloc, gaps_in(line)?)?,
-            "push" => {
-                let bytes = line.bytes(self.alloc)?;
-                self.list = self.take_list().pushed(bytes.as_slice())?;
-            }
-            "next" => self.before = self.take_list(),
-            _ => return Err(Fault::BadLine),
-        }
+    fn begin(&mut self, line: &mut Line<'_>) -> Result<(), Fault> {
+        self.file.clear();
+        runs::append(&mut self.file, line.word()?)
+    }
+
+    fn overwrite(&mut self, line: &mut Line<'_>) -> Result<(), Fault> {
+        let place = line.number()?;
+        let bytes = line.bytes(self.alloc)?;
+        overwrite(&mut self.file, place, bytes.as_slice())
+    }
+
+    fn begin_list(&mut self, line: &mut Line<'_>) -> Result<(), Fault> {
+        self.list = Short::with_gaps(self.alloc, gaps_in(line)?)?;
+        Ok(())
+    }
+
+    fn push(&mut self, line: &mut Line<'_>) -> Result<(), Fault> {
+        let bytes = line.bytes(self.alloc)?;
+        self.list = self.take_list().pushed(bytes.as_slice())?;
+        Ok(())
+    }
+
+    fn end_list(&mut self) -> Result<(), Fault> {
+        self.before = self.take_list();
         Ok(())
     }
 
@@ -87,34 +84,73 @@ impl Captures {
         mem::replace(&mut self.before, Short::empty(self.alloc))
     }
 
-    fn lay(&mut self, told: &mut String) -> Result<(), Fault> {
+    fn write(&mut self, word: &str, told: &mut Told) -> Result<(), Fault> {
+        let first = self.take_first();
+        self.file = write(self.alloc, word, first, &self.list)?;
+        told.count(self.file.len());
+        told.say(" bytes");
+        Ok(())
+    }
+
+    fn lay(&mut self, told: &mut Told) -> Result<(), Fault> {
         let (len, list) = laid(self.take_list());
-        match len {
-            Some(len) => write!(told, "{len} bytes")?,
-            None => told.push_str("no such gaps")?,
-        }
-        write!(told, ", {} packets", list.len())?;
+        tell_laid(len, list.len(), told);
         self.read = list;
         Ok(())
     }
 
-    fn read(&mut self, line: &mut Line<'_>, told: &mut String) -> Result<(), Fault> {
+    /// The first bytes that a line asks for, or all.
+    fn start(&self, line: &mut Line<'_>) -> Result<&[u8], Fault> {
         let len = match line.next() {
-            Some(word) => word.parse::<usize>().map_err(|_| Fault::BadLine)?,
+            Some(word) => number_in(word)? as usize,
             None => self.file.len(),
         };
-        let Some(bytes) = self.file.get(..len) else {
-            return Err(Fault::NotLegal);
-        };
-        match read(self.alloc, Vec::from_slice(self.alloc, bytes)?) {
+        match self.file.get(..len) {
+            Some(bytes) => Ok(bytes),
+            None => Err(Fault::NotLegal),
+        }
+    }
+
+    fn read(&mut self, line: &mut Line<'_>, told: &mut Told) -> Result<(), Fault> {
+        let bytes = Vec::from_slice(self.alloc, self.start(line)?)?;
+        match read(self.alloc, bytes) {
             Ok(list) => {
-                write!(told, "{} packets, {} bytes", list.len(), list.bytes())?;
+                tell_sizes(&list, told);
                 self.read = list;
             }
-            Err(refusal) => write!(told, "{refusal:?}")?,
+            Err(refusal) => told.name(&refusal),
         }
         Ok(())
     }
+}
+
+impl Case for Captures {
+    fn answer(&mut self, word: &str, line: &mut Line<'_>, told: &mut Told) -> Result<(), Fault> {
+        match word {
+            "read" => self.read(line, told),
+            "packet" => tell_packet(&self.read, line.number()?, told),
+            "show" => runs::show(self.file.as_slice(), line, told),
+            "copies" | "of" => self.write(word, told),
+            "laid" => self.lay(told),
+            _ => {
+                self.change(word, line)?;
+                told.say("ok");
+                Ok(())
+            }
+        }
+    }
+}
+
+fn tell_laid(len: Option<usize>, packets: u32, told: &mut Told) {
+    match len {
+        Some(len) => {
+            told.count(len);
+            told.say(" bytes, ");
+        }
+        None => told.say("no such gaps, "),
+    }
+    told.number(packets);
+    told.say(" packets");
 }
 
 fn write(alloc: Global, word: &str, first: Short, second: &Short) -> Result<Vec<u8>, Fault> {
@@ -133,15 +169,6 @@ fn overwrite(file: &mut Vec<u8>, place: u32, bytes: &[u8]) -> Result<(), Fault> 
         };
         *old = *byte;
         at = at.saturating_add(1);
-    }
-    Ok(())
-}
-
-fn show(file: &[u8], from: u32, len: u32, told: &mut String) -> Result<(), Fault> {
-    let from = from as usize;
-    match file.get(from..from + len as usize) {
-        Some(bytes) => runs::tell(told, bytes)?,
-        None => return Err(Fault::NotLegal),
     }
     Ok(())
 }

@@ -10,98 +10,66 @@ use crate::packets::Packets;
 use crate::programs::Programs;
 use crate::reports::Reports;
 use crate::setups::Setups;
+use crate::told::Told;
 use crate::words::Words;
-use std::alloc::Global;
+use std::alloc::{AllocError, Global};
 
-/// What a case is about.
-#[derive(Clone, Copy)]
-pub enum Kind {
-    Setup,
-    Layout,
-    Descriptors,
-    Capture,
-    Report,
-    Frames,
-    Packets,
-    Words,
-    Program,
-    Generated,
-    Bay,
+/// A case of one kind, with what its calls so far have made.
+pub trait Case {
+    /// Makes the call that a line's first word names, with the others, and tells its answer.
+    fn answer(&mut self, word: &str, line: &mut Line<'_>, told: &mut Told) -> Result<(), Fault>;
 }
 
-/// The kind that a line names with its first word.
-pub fn kind_of(text: &str) -> Option<Kind> {
-    match Line::new(text).next() {
-        Some(word) => kind_in(word),
-        None => None,
+/// A case's lines, and what came of them.
+pub fn tell(alloc: Global, text: &str) -> Result<String, AllocError> {
+    let mut told = Told::new(alloc);
+    match text.split_once("\n") {
+        Some((head, lines)) => begin(alloc, head, lines, &mut told),
+        None => begin(alloc, text, "", &mut told),
+    }
+    told.say("\n");
+    told.into_text()
+}
+
+fn begin(alloc: Global, head: &str, lines: &str, told: &mut Told) {
+    told.say(head);
+    match Line::new(head).next() {
+        Some(kind) => go_through(alloc, kind, lines, told),
+        None => told.say(": no kind"),
     }
 }
 
-fn kind_in(word: &str) -> Option<Kind> {
-    match word {
-        "setup" => Some(Kind::Setup),
-        "layout" => Some(Kind::Layout),
-        "descriptors" => Some(Kind::Descriptors),
-        "capture" => Some(Kind::Capture),
-        "report" => Some(Kind::Report),
-        "frames" => Some(Kind::Frames),
-        "packets" => Some(Kind::Packets),
-        "words" => Some(Kind::Words),
-        "program" => Some(Kind::Program),
-        "generated" => Some(Kind::Generated),
-        "bay" => Some(Kind::Bay),
-        _ => None,
+fn go_through(alloc: Global, kind: &str, lines: &str, told: &mut Told) {
+    match kind {
+        "setup" => run(Setups::new(alloc), lines, told),
+        "layout" => run(Layouts::new(alloc), lines, told),
+        "descriptors" => run(Descriptors::new(alloc), lines, told),
+        "capture" => run(Captures::new(alloc), lines, told),
+        "report" => run(Reports::new(alloc), lines, told),
+        "frames" => run(Frames::new(alloc), lines, told),
+        "packets" => run(Packets::new(alloc), lines, told),
+        "words" => run(Words, lines, told),
+        "program" => run(Programs::new(alloc), lines, told),
+        "generated" => run(Generated::new(alloc), lines, told),
+        "bay" => run(Bays::new(alloc), lines, told),
+        _ => told.say(": no such kind"),
     }
 }
 
-/// A case that goes on, with what its calls so far have made.
-#[derive(Drop)]
-pub enum Case {
-    Setup(Setups),
-    Layout(Layouts),
-    Descriptors(Descriptors),
-    Capture(Captures),
-    Report(Reports),
-    Frames(Frames),
-    Packets(Packets),
-    Words(Words),
-    Program(Programs),
-    Generated(Generated),
-    Bay(Bays),
-}
-
-impl Case {
-    /// A case of a kind in which no call was made.
-    pub fn new(alloc: Global, kind: Kind) -> Case {
-        match kind {
-            Kind::Setup => Case::Setup(Setups::new(alloc)),
-            Kind::Layout => Case::Layout(Layouts::new(alloc)),
-            Kind::Descriptors => Case::Descriptors(Descriptors::new(alloc)),
-            Kind::Capture => Case::Capture(Captures::new(alloc)),
-            Kind::Report => Case::Report(Reports::new(alloc)),
-            Kind::Frames => Case::Frames(Frames::new(alloc)),
-            Kind::Packets => Case::Packets(Packets::new(alloc)),
-            Kind::Words => Case::Words(Words),
-            Kind::Program => Case::Program(Programs::new(alloc)),
-            Kind::Generated => Case::Generated(Generated::new(alloc)),
-            Kind::Bay => Case::Bay(Bays::new(alloc)),
+fn run<C: Case + Drop>(case: C, lines: &str, told: &mut Told) {
+    let mut case = case;
+    for line in lines.lines() {
+        told.say("\n");
+        told.say(line);
+        told.say(": ");
+        if let Err(fault) = answer(&mut case, line, told) {
+            told.say(fault.in_words());
         }
     }
+}
 
-    /// Makes the call of a line, and tells its answer.
-    pub fn answer(&mut self, line: &mut Line<'_>, told: &mut String) -> Result<(), Fault> {
-        match self {
-            Case::Setup(case) => case.answer(line, told),
-            Case::Layout(case) => case.answer(line, told),
-            Case::Descriptors(case) => case.answer(line, told),
-            Case::Capture(case) => case.answer(line, told),
-            Case::Report(case) => case.answer(line, told),
-            Case::Frames(case) => case.answer(line, told),
-            Case::Packets(case) => case.answer(line, told),
-            Case::Words(case) => case.answer(line, told),
-            Case::Program(case) => case.answer(line, told),
-            Case::Generated(case) => case.answer(line, told),
-            Case::Bay(case) => case.answer(line, told),
-        }
-    }
+fn answer<C: Case>(case: &mut C, text: &str, told: &mut Told) -> Result<(), Fault> {
+    let mut line = Line::new(text);
+    let word = line.word()?;
+    case.answer(word, &mut line, told)
 }

@@ -2,7 +2,7 @@
 //!
 //! `numbers`, `sockets`, `pairs`, `cells PORT`, `cell PORT INDEX`, `base KIND NUMBER`, `mark KIND NUMBER`, `count`.
 use crate::line::{Fault, Line};
-use std::fmt::Write;
+use crate::told::Told;
 use xsk_model::placement::{has_mark, has_ring};
 use xsk_model::{Config, Mark, Ring};
 use xsk_words::{entry_words, mark_word, marks_base, ring_base, word_count};
@@ -11,14 +11,14 @@ pub fn answer(
     config: &Config,
     word: &str,
     line: &mut Line<'_>,
-    told: &mut String,
+    told: &mut Told,
 ) -> Result<(), Fault> {
     match word {
         "numbers" => tell_numbers(config, told),
         "sockets" => tell_sockets(config, told),
         "pairs" => tell_pairs(config, told),
         "cells" => tell_cells(config, line.number()?, told),
-        "cell" => tell_cell(config, line.number()?, line.number()?, told),
+        "cell" => tell_cell(config, line, told),
         "base" => tell_base(config, ring_in(line)?, told),
         "mark" => tell_mark(config, mark_in(line)?, told),
         "count" => tell_count(config, told),
@@ -26,79 +26,108 @@ pub fn answer(
     }
 }
 
-fn tell_numbers(config: &Config, told: &mut String) -> Result<(), Fault> {
-    let frames = config.geometry().frames();
-    write!(told, "{} ports, {} queues", config.ports(), config.queues())?;
-    write!(told, ", {} sockets", config.sockets().len())?;
-    write!(told, ", {} pairs", config.pairs().len())?;
-    write!(told, ", {frames} frames, pool {}", config.pool())?;
-    write!(
-        told,
-        ", {} callers, batch {}",
-        config.callers(),
-        config.batch()
-    )?;
-    for (word, holds) in [
-        ("lawful", config.lawful()),
-        ("regular", config.regular()),
-        ("sg", config.sg()),
-        ("wakeup", config.wakeup()),
-    ] {
-        if holds {
-            write!(told, ", {word}")?;
-        }
-    }
+fn tell_numbers(config: &Config, told: &mut Told) -> Result<(), Fault> {
+    told.number(config.ports());
+    told.say(" ports, ");
+    told.number(config.queues());
+    told.say(" queues, ");
+    told.count(config.sockets().len());
+    told.say(" sockets, ");
+    told.count(config.pairs().len());
+    told.say(" pairs, ");
+    tell_sizes(config, told);
+    tell_options(config, told);
     Ok(())
+}
+
+fn tell_sizes(config: &Config, told: &mut Told) {
+    told.number(config.geometry().frames());
+    told.say(" frames, pool ");
+    told.number(config.pool());
+    told.say(", ");
+    told.number(config.callers());
+    told.say(" callers, batch ");
+    told.number(config.batch());
+}
+
+fn tell_options(config: &Config, told: &mut Told) {
+    if config.lawful() {
+        told.say(", lawful");
+    }
+    if config.regular() {
+        told.say(", regular");
+    }
+    if config.sg() {
+        told.say(", sg");
+    }
+    if config.wakeup() {
+        told.say(", wakeup");
+    }
 }
 
 /// Each socket's port and queue, and the sizes of its RX and TX.
-fn tell_sockets(config: &Config, told: &mut String) -> Result<(), Fault> {
-    write!(told, "{} sockets", config.sockets().len())?;
+fn tell_sockets(config: &Config, told: &mut Told) -> Result<(), Fault> {
+    told.count(config.sockets().len());
+    told.say(" sockets");
     for socket in config.sockets() {
-        write!(told, "; {}.{} rx ", socket.port, socket.queue)?;
-        tell_size(socket.rx, told)?;
-        told.push_str(" tx ")?;
-        tell_size(socket.tx, told)?;
+        tell_place(socket.port, socket.queue, told);
+        told.say(" rx ");
+        tell_size(socket.rx, told);
+        told.say(" tx ");
+        tell_size(socket.tx, told);
     }
     Ok(())
 }
 
-fn tell_size(size: Option<u32>, told: &mut String) -> Result<(), Fault> {
+fn tell_place(port: u32, queue: u32, told: &mut Told) {
+    told.say("; ");
+    told.number(port);
+    told.say(".");
+    told.number(queue);
+}
+
+fn tell_size(size: Option<u32>, told: &mut Told) {
     match size {
-        Some(size) => write!(told, "{size}")?,
-        None => told.push_str("none")?,
+        Some(size) => told.number(size),
+        None => told.say("none"),
     }
-    Ok(())
 }
 
 /// Each pair's port and queue, and the sizes of its FILL and COMPLETION.
-fn tell_pairs(config: &Config, told: &mut String) -> Result<(), Fault> {
-    write!(told, "{} pairs", config.pairs().len())?;
+fn tell_pairs(config: &Config, told: &mut Told) -> Result<(), Fault> {
+    told.count(config.pairs().len());
+    told.say(" pairs");
     for pair in config.pairs() {
-        write!(told, "; {}.{} fill {}", pair.port, pair.queue, pair.fill)?;
-        write!(told, " comp {}", pair.comp)?;
+        tell_place(pair.port, pair.queue, told);
+        told.say(" fill ");
+        told.number(pair.fill);
+        told.say(" comp ");
+        told.number(pair.comp);
     }
     Ok(())
 }
 
 /// The numbers in all cells of a port.
-fn tell_cells(config: &Config, port: u32, told: &mut String) -> Result<(), Fault> {
+fn tell_cells(config: &Config, port: u32, told: &mut Told) -> Result<(), Fault> {
     if port >= config.ports() {
         return Err(Fault::NotLegal);
     }
     let count = config.cells(port);
-    write!(told, "{count} cells:")?;
+    told.number(count);
+    told.say(" cells:");
     for index in 0..count {
-        write!(told, " {}", config.cell(port, index))?;
+        told.say(" ");
+        told.long(config.cell(port, index));
     }
     Ok(())
 }
 
-fn tell_cell(config: &Config, port: u32, index: u32, told: &mut String) -> Result<(), Fault> {
+fn tell_cell(config: &Config, line: &mut Line<'_>, told: &mut Told) -> Result<(), Fault> {
+    let (port, index) = line.two()?;
     if port >= config.ports() || index >= config.cells(port) {
         return Err(Fault::NotLegal);
     }
-    write!(told, "{}", config.cell(port, index))?;
+    told.long(config.cell(port, index));
     Ok(())
 }
 
@@ -130,30 +159,29 @@ fn mark_in(line: &mut Line<'_>) -> Result<Mark, Fault> {
 }
 
 /// Where a ring's words begin, and how many words its entries have.
-fn tell_base(config: &Config, ring: Ring, told: &mut String) -> Result<(), Fault> {
+fn tell_base(config: &Config, ring: Ring, told: &mut Told) -> Result<(), Fault> {
     if !has_ring(config, ring) {
         return Err(Fault::NotLegal);
     }
-    let base = ring_base(config, ring);
-    write!(told, "{base}, entries of {}", entry_words(ring))?;
+    told.count(ring_base(config, ring));
+    told.say(", entries of ");
+    told.count(entry_words(ring));
     Ok(())
 }
 
-fn tell_mark(config: &Config, mark: Mark, told: &mut String) -> Result<(), Fault> {
+fn tell_mark(config: &Config, mark: Mark, told: &mut Told) -> Result<(), Fault> {
     if !has_mark(config, mark) {
         return Err(Fault::NotLegal);
     }
-    write!(told, "{}", mark_word(config, mark))?;
+    told.count(mark_word(config, mark));
     Ok(())
 }
 
 /// How many words the rings have, and how many all have.
-fn tell_count(config: &Config, told: &mut String) -> Result<(), Fault> {
-    write!(
-        told,
-        "{} of rings, {} in all",
-        marks_base(config),
-        word_count(config)
-    )?;
+fn tell_count(config: &Config, told: &mut Told) -> Result<(), Fault> {
+    told.count(marks_base(config));
+    told.say(" of rings, ");
+    told.count(word_count(config));
+    told.say(" in all");
     Ok(())
 }

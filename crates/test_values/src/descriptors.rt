@@ -4,11 +4,13 @@
 //! `push ADDR LEN OPTIONS`, `carry ADDR LEN OPTIONS` (with the next frame of the UMEM), `open` (the items of the packet that
 //! isn't finished), `rest` (the same, taken out of the gather, which ends). Items that come out are told by the addresses and
 //! lengths of their descriptors, and the numbers of their frames.
+use crate::case::Case;
+use crate::frames::tell_frame_in;
 use crate::line::{Fault, Line};
+use crate::told::Told;
 use std::alloc::Global;
-use std::fmt::Write;
 use xsk_desc::{Gather, Gathered, fragments, validate};
-use xsk_umem::{Batch, Frames, Geometry, Item, Umem, XdpDesc};
+use xsk_umem::{Batch, Frames, Geometry, Item, XdpDesc};
 
 #[derive(Drop)]
 pub struct Descriptors {
@@ -26,58 +28,43 @@ impl Descriptors {
         }
     }
 
-    pub fn answer(&mut self, line: &mut Line<'_>, told: &mut String) -> Result<(), Fault> {
-        match line.word()? {
-            "umem" => self.register(line, told),
-            "valid" => self.judge(line, told),
-            "pieces" => tell_pieces(line.number()?, line.number()?, told),
-            "gather" => {
-                self.gather = Some(Gather::new(self.alloc, has_sg(line)?));
-                told.push_str("ok")?;
-                Ok(())
-            }
-            "push" => self.push(line, told),
-            "carry" => self.carry(line, told),
-            "open" => self.tell_open(told),
-            "rest" => self.tell_rest(told),
-            _ => Err(Fault::BadLine),
+    fn register(&mut self, line: &mut Line<'_>, told: &mut Told) -> Result<(), Fault> {
+        match line.umem(self.alloc)? {
+            Ok(umem) => self.umem = Some(umem),
+            Err(_) => return Err(Fault::NotLegal),
         }
-    }
-
-    fn register(&mut self, line: &mut Line<'_>, told: &mut String) -> Result<(), Fault> {
-        let len = line.long()?;
-        let Ok(umem) = Umem::register(self.alloc, len, line.number()?, line.number()?) else {
-            return Err(Fault::NotLegal);
-        };
-        self.umem = Some(umem);
-        told.push_str("ok")?;
+        told.say("ok");
         Ok(())
     }
 
-    fn judge(&mut self, line: &mut Line<'_>, told: &mut String) -> Result<(), Fault> {
-        let Some((geometry, _)) = &self.umem else {
-            return Err(Fault::BadLine);
-        };
-        let desc = desc_in(line)?;
-        match validate(desc, geometry, has_sg(line)?) {
-            Ok(()) => told.push_str("valid")?,
-            Err(error) => write!(told, "{error:?}")?,
-        }
+    fn begin(&mut self, line: &mut Line<'_>, told: &mut Told) -> Result<(), Fault> {
+        let sg = has_sg(line.word()?)?;
+        self.gather = Some(Gather::new(self.alloc, sg));
+        told.say("ok");
         Ok(())
     }
 
-    fn push(&mut self, line: &mut Line<'_>, told: &mut String) -> Result<(), Fault> {
+    fn judge(&self, line: &mut Line<'_>, told: &mut Told) -> Result<(), Fault> {
+        let desc = line.desc()?;
+        let sg = has_sg(line.word()?)?;
+        match &self.umem {
+            Some((geometry, _)) => tell_validity(desc, geometry, sg, told),
+            None => Err(Fault::BadLine),
+        }
+    }
+
+    fn push(&mut self, desc: XdpDesc, told: &mut Told) -> Result<(), Fault> {
         let Some((geometry, _)) = &self.umem else {
             return Err(Fault::BadLine);
         };
         let Some(gather) = &mut self.gather else {
             return Err(Fault::BadLine);
         };
-        let desc = desc_in(line)?;
-        tell_gathered(gather.push(geometry, Item { frame: None, desc }), told)
+        tell_gathered(gather.push(geometry, Item { frame: None, desc }), told);
+        Ok(())
     }
 
-    fn carry(&mut self, line: &mut Line<'_>, told: &mut String) -> Result<(), Fault> {
+    fn carry(&mut self, desc: XdpDesc, told: &mut Told) -> Result<(), Fault> {
         let Some((geometry, frames)) = &mut self.umem else {
             return Err(Fault::BadLine);
         };
@@ -85,80 +72,99 @@ impl Descriptors {
             return Err(Fault::BadLine);
         };
         let frame = frames.pop_front();
-        let desc = desc_in(line)?;
-        tell_gathered(gather.push(geometry, Item { frame, desc }), told)
-    }
-
-    fn tell_open(&mut self, told: &mut String) -> Result<(), Fault> {
-        let Some(gather) = &self.gather else {
-            return Err(Fault::BadLine);
-        };
-        write!(told, "{}", gather.rest())?;
+        tell_gathered(gather.push(geometry, Item { frame, desc }), told);
         Ok(())
     }
 
-    fn tell_rest(&mut self, told: &mut String) -> Result<(), Fault> {
-        let Some(gather) = self.gather.take() else {
-            return Err(Fault::BadLine);
-        };
-        tell_items(gather.into_rest(), told)
+    fn tell_open(&self, told: &mut Told) -> Result<(), Fault> {
+        match &self.gather {
+            Some(gather) => told.number(gather.rest()),
+            None => return Err(Fault::BadLine),
+        }
+        Ok(())
+    }
+
+    fn tell_rest(&mut self, told: &mut Told) -> Result<(), Fault> {
+        match self.gather.take() {
+            Some(gather) => tell_items(gather.into_rest(), told),
+            None => return Err(Fault::BadLine),
+        }
+        Ok(())
     }
 }
 
-fn desc_in(line: &mut Line<'_>) -> Result<XdpDesc, Fault> {
-    Ok(XdpDesc {
-        addr: line.long()?,
-        len: line.number()?,
-        options: line.number()?,
-    })
+impl Case for Descriptors {
+    fn answer(&mut self, word: &str, line: &mut Line<'_>, told: &mut Told) -> Result<(), Fault> {
+        match word {
+            "umem" => self.register(line, told),
+            "valid" => self.judge(line, told),
+            "pieces" => tell_pieces(line, told),
+            "gather" => self.begin(line, told),
+            "push" => self.push(line.desc()?, told),
+            "carry" => self.carry(line.desc()?, told),
+            "open" => self.tell_open(told),
+            "rest" => self.tell_rest(told),
+            _ => Err(Fault::BadLine),
+        }
+    }
 }
 
-fn has_sg(line: &mut Line<'_>) -> Result<bool, Fault> {
-    match line.word()? {
+fn has_sg(word: &str) -> Result<bool, Fault> {
+    match word {
         "sg" => Ok(true),
         "plain" => Ok(false),
         _ => Err(Fault::BadLine),
     }
 }
 
-fn tell_pieces(len: u32, payload: u32, told: &mut String) -> Result<(), Fault> {
+fn tell_validity(
+    desc: XdpDesc,
+    geometry: &Geometry,
+    sg: bool,
+    told: &mut Told,
+) -> Result<(), Fault> {
+    match validate(desc, geometry, sg) {
+        Ok(()) => told.say("valid"),
+        Err(error) => told.name(&error),
+    }
+    Ok(())
+}
+
+fn tell_pieces(line: &mut Line<'_>, told: &mut Told) -> Result<(), Fault> {
+    let (len, payload) = line.two()?;
     if len == 0 || payload == 0 {
         return Err(Fault::NotLegal);
     }
-    write!(told, "{}", fragments(len, payload))?;
+    told.number(fragments(len, payload));
     Ok(())
 }
 
-fn tell_gathered(gathered: Gathered, told: &mut String) -> Result<(), Fault> {
+fn tell_gathered(gathered: Gathered, told: &mut Told) {
     match gathered {
-        Gathered::More => told.push_str("more")?,
+        Gathered::More => told.say("more"),
         Gathered::Whole(items) => {
-            told.push_str("whole, ")?;
-            tell_items(items, told)?;
+            told.say("whole, ");
+            tell_items(items, told);
         }
         Gathered::Bad(items) => {
-            told.push_str("bad, ")?;
-            tell_items(items, told)?;
+            told.say("bad, ");
+            tell_items(items, told);
         }
     }
-    Ok(())
 }
 
-fn tell_items(items: Batch, told: &mut String) -> Result<(), Fault> {
-    let mut items = items;
-    write!(told, "{} items:", items.len())?;
-    for _ in 0..items.len() {
-        if let Some(item) = items.pop_front() {
-            tell_item(&item, told)?;
-        }
+fn tell_items(items: Batch, told: &mut Told) {
+    told.number(items.len());
+    told.say(" items:");
+    for number in 0..items.len() {
+        tell_item(items.item(number), told);
     }
-    Ok(())
 }
 
-fn tell_item(item: &Item, told: &mut String) -> Result<(), Fault> {
-    write!(told, " {}+{}", item.desc.addr, item.desc.len)?;
-    if let Some(frame) = &item.frame {
-        write!(told, " in frame {}", frame.number())?;
-    }
-    Ok(())
+fn tell_item(item: &Item, told: &mut Told) {
+    told.say(" ");
+    told.long(item.desc.addr);
+    told.say("+");
+    told.number(item.desc.len);
+    tell_frame_in(item, told);
 }

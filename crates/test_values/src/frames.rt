@@ -4,11 +4,12 @@
 //! `take` (the next of them), `fill OFFSET BYTES` and `show FROM LEN` (of the frame taken), `give` (puts it back), `put ADDR LEN OPTIONS`
 //! (the frame taken, if there is one, into the batch), `item NUMBER`, `pop` (takes the batch's first item, and its frame), `batch`
 //! (its length), `append` (moves all items to a second batch and back).
+use crate::case::Case;
 use crate::line::{Fault, Line};
-use crate::runs;
+use crate::told::Told;
+use crate::{runs, words};
 use std::alloc::Global;
-use std::fmt::Write;
-use xsk_umem::{Batch, Frame, Frames as Queue, Geometry, Item, Umem, XdpDesc};
+use xsk_umem::{Batch, Frame, Frames as Queue, Geometry, Item};
 
 #[derive(Drop)]
 pub struct Frames {
@@ -28,122 +29,132 @@ impl Frames {
         }
     }
 
-    pub fn answer(&mut self, line: &mut Line<'_>, told: &mut String) -> Result<(), Fault> {
-        match line.word()? {
-            "register" => self.register(line, told),
-            "fill" => fill_taken(self.alloc, &mut self.frame, line, told),
-            "show" => show_taken(&self.frame, line, told),
-            "put" => {
-                let frame = self.frame.take();
-                put(&mut self.batch, frame, line, told)
-            }
-            "item" => tell_item(&self.batch, line.number()?, told),
-            "pop" => self.pop(told),
-            "append" => append(self.alloc, &mut self.batch, told),
-            "batch" => {
-                write!(told, "{} items", self.batch.len())?;
-                Ok(())
-            }
-            word => match &mut self.umem {
-                Some((geometry, queue)) => {
-                    ask(geometry, queue, &mut self.frame, word, line, told)
-                }
-                None => Err(Fault::BadLine),
-            },
-        }
-    }
-
-    fn register(&mut self, line: &mut Line<'_>, told: &mut String) -> Result<(), Fault> {
-        match Umem::register(self.alloc, line.long()?, line.number()?, line.number()?) {
+    fn register(&mut self, line: &mut Line<'_>, told: &mut Told) -> Result<(), Fault> {
+        match line.umem(self.alloc)? {
             Ok((geometry, queue)) => {
-                write!(told, "{} frames of {}", geometry.frames(), geometry.chunk())?;
-                write!(told, ", headroom {}", geometry.headroom())?;
-                write!(told, ", payload {}", geometry.payload())?;
+                tell_geometry(&geometry, told);
                 self.umem = Some((geometry, queue));
             }
-            Err(error) => write!(told, "{error:?}")?,
+            Err(error) => told.name(&error),
         }
         Ok(())
     }
 
-    fn pop(&mut self, told: &mut String) -> Result<(), Fault> {
+    fn ask(&mut self, word: &str, line: &mut Line<'_>, told: &mut Told) -> Result<(), Fault> {
+        let Some((geometry, queue)) = &mut self.umem else {
+            return Err(Fault::BadLine);
+        };
+        match word {
+            "left" => tell_left(queue, told),
+            "take" => take(queue, &mut self.frame, told),
+            "give" => give(queue, &mut self.frame, told),
+            _ => ask(geometry, word, line, told),
+        }
+    }
+
+    fn pop(&mut self, told: &mut Told) -> Result<(), Fault> {
         match self.batch.pop_front() {
             Some(item) => {
-                tell(&item, told)?;
+                tell(&item, told);
                 self.frame = item.frame;
             }
-            None => told.push_str("none")?,
+            None => told.say("none"),
         }
         Ok(())
     }
 }
 
-fn ask(
-    geometry: &Geometry,
-    queue: &mut Queue,
-    taken: &mut Option<Frame>,
-    word: &str,
-    line: &mut Line<'_>,
-    told: &mut String,
-) -> Result<(), Fault> {
+impl Case for Frames {
+    fn answer(&mut self, word: &str, line: &mut Line<'_>, told: &mut Told) -> Result<(), Fault> {
+        match word {
+            "register" => self.register(line, told),
+            "fill" => fill_taken(self.alloc, &mut self.frame, line, told),
+            "show" => show_taken(&self.frame, line, told),
+            "put" => put(&mut self.batch, &mut self.frame, line, told),
+            "item" => tell_item(&self.batch, line.number()?, told),
+            "pop" => self.pop(told),
+            "append" => append(self.alloc, &mut self.batch, told),
+            "batch" => tell_length(&self.batch, told),
+            _ => self.ask(word, line, told),
+        }
+    }
+}
+
+fn tell_geometry(geometry: &Geometry, told: &mut Told) {
+    told.number(geometry.frames());
+    told.say(" frames of ");
+    told.number(geometry.chunk());
+    told.say(", headroom ");
+    told.number(geometry.headroom());
+    told.say(", payload ");
+    told.number(geometry.payload());
+}
+
+fn ask(geometry: &Geometry, word: &str, line: &mut Line<'_>, told: &mut Told) -> Result<(), Fault> {
     match word {
         "at" => tell_frame(geometry.frame_of(line.long()?), told),
         "of" => tell_addresses(geometry, line.number()?, told),
-        "left" => tell_left(queue, told),
-        "take" => {
-            *taken = queue.pop_front();
-            tell_taken(taken, told)
-        }
-        "give" => give(queue, taken.take(), told),
         _ => Err(Fault::BadLine),
     }
 }
 
-fn tell_frame(frame: Option<u32>, told: &mut String) -> Result<(), Fault> {
+fn tell_frame(frame: Option<u32>, told: &mut Told) -> Result<(), Fault> {
     match frame {
-        Some(number) => write!(told, "frame {number}")?,
-        None => told.push_str("none")?,
+        Some(number) => {
+            told.say("frame ");
+            told.number(number);
+        }
+        None => told.say("none"),
     }
     Ok(())
 }
 
-fn tell_addresses(geometry: &Geometry, frame: u32, told: &mut String) -> Result<(), Fault> {
-    write!(told, "base {}", geometry.base_of(frame))?;
-    write!(told, ", data {}", geometry.data_of(frame))?;
+fn tell_addresses(geometry: &Geometry, frame: u32, told: &mut Told) -> Result<(), Fault> {
+    told.say("base ");
+    told.long(geometry.base_of(frame));
+    told.say(", data ");
+    told.long(geometry.data_of(frame));
     Ok(())
 }
 
-fn tell_left(queue: &Queue, told: &mut String) -> Result<(), Fault> {
-    write!(told, "{} frames", queue.len())?;
+fn tell_left(queue: &Queue, told: &mut Told) -> Result<(), Fault> {
+    told.number(queue.len());
+    told.say(" frames");
     if queue.is_empty() {
-        told.push_str(", empty")?;
+        told.say(", empty");
     }
     if queue.is_full() {
-        told.push_str(", full")?;
+        told.say(", full");
     }
     Ok(())
 }
 
-fn tell_taken(taken: &Option<Frame>, told: &mut String) -> Result<(), Fault> {
+fn take(queue: &mut Queue, taken: &mut Option<Frame>, told: &mut Told) -> Result<(), Fault> {
+    *taken = queue.pop_front();
     match taken {
-        Some(frame) => {
-            write!(told, "frame {}", frame.number())?;
-            write!(told, " of {} bytes", frame.bytes().len())?;
-        }
-        None => told.push_str("none")?,
+        Some(frame) => tell_taken(frame, told),
+        None => told.say("none"),
     }
     Ok(())
 }
 
-fn give(queue: &mut Queue, taken: Option<Frame>, told: &mut String) -> Result<(), Fault> {
-    let Some(frame) = taken else {
+fn tell_taken(frame: &Frame, told: &mut Told) {
+    told.say("frame ");
+    told.number(frame.number());
+    told.say(" of ");
+    told.count(frame.bytes().len());
+    told.say(" bytes");
+}
+
+fn give(queue: &mut Queue, taken: &mut Option<Frame>, told: &mut Told) -> Result<(), Fault> {
+    let Some(frame) = taken.take() else {
         return Err(Fault::BadLine);
     };
     if queue.is_full() {
         return Err(Fault::NotLegal);
     }
     queue.push_back(frame);
-    told.push_str("ok")?;
+    told.say("ok");
     Ok(())
 }
 
@@ -151,78 +162,93 @@ fn fill_taken(
     alloc: Global,
     taken: &mut Option<Frame>,
     line: &mut Line<'_>,
-    told: &mut String,
+    told: &mut Told,
 ) -> Result<(), Fault> {
     let Some(frame) = taken else {
         return Err(Fault::BadLine);
     };
     let offset = line.number()?;
     let piece = line.bytes(alloc)?;
+    fill(frame, offset, piece.as_slice())?;
+    told.say("ok");
+    Ok(())
+}
+
+fn fill(frame: &mut Frame, offset: u32, piece: &[u8]) -> Result<(), Fault> {
     let room = frame.bytes().len();
     if piece.len() > room || offset as usize > room - piece.len() {
         return Err(Fault::NotLegal);
     }
-    frame.fill(offset, piece.as_slice());
-    told.push_str("ok")?;
+    frame.fill(offset, piece);
     Ok(())
 }
 
-fn show_taken(taken: &Option<Frame>, line: &mut Line<'_>, told: &mut String) -> Result<(), Fault> {
-    let Some(frame) = taken else {
-        return Err(Fault::BadLine);
-    };
-    let from = line.number()? as usize;
-    let len = line.number()? as usize;
-    match frame.bytes().get(from..from + len) {
-        Some(bytes) => runs::tell(told, bytes)?,
-        None => return Err(Fault::NotLegal),
+fn show_taken(taken: &Option<Frame>, line: &mut Line<'_>, told: &mut Told) -> Result<(), Fault> {
+    match taken {
+        Some(frame) => runs::show(frame.bytes(), line, told),
+        None => Err(Fault::BadLine),
     }
-    Ok(())
 }
 
 fn put(
     batch: &mut Batch,
-    frame: Option<Frame>,
+    taken: &mut Option<Frame>,
     line: &mut Line<'_>,
-    told: &mut String,
+    told: &mut Told,
 ) -> Result<(), Fault> {
-    let desc = XdpDesc {
-        addr: line.long()?,
-        len: line.number()?,
-        options: line.number()?,
-    };
+    let desc = line.desc()?;
     if batch.len() >= 32 {
         return Err(Fault::NotLegal);
     }
+    let frame = taken.take();
     batch.push(Item { frame, desc });
-    told.push_str("ok")?;
+    told.say("ok");
     Ok(())
 }
 
-fn tell_item(batch: &Batch, number: u32, told: &mut String) -> Result<(), Fault> {
+fn tell_length(batch: &Batch, told: &mut Told) -> Result<(), Fault> {
+    told.number(batch.len());
+    told.say(" items");
+    Ok(())
+}
+
+fn tell_item(batch: &Batch, number: u32, told: &mut Told) -> Result<(), Fault> {
     if number >= batch.len() {
         return Err(Fault::NotLegal);
     }
-    let desc = batch.desc(number);
-    write!(told, "{} ", desc.addr)?;
-    tell(batch.item(number), told)
+    told.long(batch.desc(number).addr);
+    told.say(" ");
+    tell(batch.item(number), told);
+    Ok(())
 }
 
-fn tell(item: &Item, told: &mut String) -> Result<(), Fault> {
-    write!(told, "{}+{}", item.desc.addr, item.desc.len)?;
-    write!(told, " options {}", item.desc.options)?;
+fn tell(item: &Item, told: &mut Told) {
+    words::tell(item.desc, told);
+    tell_frame_in(item, told);
+}
+
+/// The number of an item's frame, if it has one.
+pub fn tell_frame_in(item: &Item, told: &mut Told) {
     if let Some(frame) = &item.frame {
-        write!(told, " in frame {}", frame.number())?;
+        told.say(" in frame ");
+        told.number(frame.number());
     }
+}
+
+fn append(alloc: Global, batch: &mut Batch, told: &mut Told) -> Result<(), Fault> {
+    let mut other = Batch::new(alloc);
+    tell_lengths(batch.len(), other.len(), told);
+    told.say(" items, ");
+    other.append(batch);
+    tell_lengths(batch.len(), other.len(), told);
+    told.say(", ");
+    batch.append(&mut other);
+    tell_lengths(batch.len(), other.len(), told);
     Ok(())
 }
 
-fn append(alloc: Global, batch: &mut Batch, told: &mut String) -> Result<(), Fault> {
-    let mut other = Batch::new(alloc);
-    write!(told, "{} and {} items", batch.len(), other.len())?;
-    other.append(batch);
-    write!(told, ", {} and {}", batch.len(), other.len())?;
-    batch.append(&mut other);
-    write!(told, ", {} and {}", batch.len(), other.len())?;
-    Ok(())
+fn tell_lengths(first: u32, second: u32, told: &mut Told) {
+    told.number(first);
+    told.say(" and ");
+    told.number(second);
 }

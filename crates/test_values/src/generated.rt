@@ -2,10 +2,11 @@
 //!
 //! `make NUMBER PORT`, `show PACKET LEN` (its length and first bytes), `sum` (of all bytes, each multiplied by its place among all, modulo
 //! 1,000,003).
+use crate::case::Case;
 use crate::line::{Fault, Line};
 use crate::runs;
+use crate::told::Told;
 use std::alloc::Global;
-use std::fmt::Write;
 use xsk_gen::generate;
 use xsk_umem::PacketList;
 
@@ -25,15 +26,24 @@ impl Generated {
         }
     }
 
-    pub fn answer(&mut self, line: &mut Line<'_>, told: &mut String) -> Result<(), Fault> {
-        match line.word()? {
-            "make" => {
-                self.list = make(self.alloc, line.number()?, line.number()?)?;
-                tell_lengths(&self.list, told)
-            }
-            "show" => show(&self.list, line.number()?, line.number()?, told),
+    fn make(&mut self, line: &mut Line<'_>, told: &mut Told) -> Result<(), Fault> {
+        let (number, port) = line.two()?;
+        if port >= 4 {
+            return Err(Fault::NotLegal);
+        }
+        self.list = generate(self.alloc, number, port)?;
+        tell_lengths(&self.list, told);
+        Ok(())
+    }
+}
+
+impl Case for Generated {
+    fn answer(&mut self, word: &str, line: &mut Line<'_>, told: &mut Told) -> Result<(), Fault> {
+        match word {
+            "make" => self.make(line, told),
+            "show" => show(&self.list, line, told),
             "sum" => {
-                write!(told, "{}", sum(&self.list))?;
+                told.long(sum(&self.list));
                 Ok(())
             }
             _ => Err(Fault::BadLine),
@@ -41,15 +51,8 @@ impl Generated {
     }
 }
 
-fn make(alloc: Global, number: u32, port: u32) -> Result<PacketList, Fault> {
-    if port >= 4 {
-        return Err(Fault::NotLegal);
-    }
-    Ok(generate(alloc, number, port)?)
-}
-
 /// How many packets there are, and the lengths of the shortest and the longest.
-fn tell_lengths(list: &PacketList, told: &mut String) -> Result<(), Fault> {
+fn tell_lengths(list: &PacketList, told: &mut Told) {
     let mut least = usize::MAX;
     let mut most = 0;
     for index in 0..list.len() {
@@ -57,20 +60,29 @@ fn tell_lengths(list: &PacketList, told: &mut String) -> Result<(), Fault> {
         least = least.min(len);
         most = most.max(len);
     }
-    write!(told, "{} packets of {least} to {most} bytes", list.len())?;
-    Ok(())
+    told.number(list.len());
+    told.say(" packets of ");
+    told.count(least);
+    told.say(" to ");
+    told.count(most);
+    told.say(" bytes");
 }
 
-fn show(list: &PacketList, index: u32, len: u32, told: &mut String) -> Result<(), Fault> {
+fn show(list: &PacketList, line: &mut Line<'_>, told: &mut Told) -> Result<(), Fault> {
+    let (index, len) = line.two()?;
     if index >= list.len() {
         return Err(Fault::NotLegal);
     }
-    let packet = list.get(index);
-    let Some(bytes) = packet.get(..len as usize) else {
+    show_start(list.get(index), len as usize, told)
+}
+
+fn show_start(packet: &[u8], len: usize, told: &mut Told) -> Result<(), Fault> {
+    let Some(bytes) = packet.get(..len) else {
         return Err(Fault::NotLegal);
     };
-    write!(told, "{} bytes: ", packet.len())?;
-    runs::tell(told, bytes)?;
+    told.count(packet.len());
+    told.say(" bytes: ");
+    runs::tell(told, bytes);
     Ok(())
 }
 

@@ -5,10 +5,11 @@
 ghost use Rattle.std.specs.Prelude.{◌≡◌, None, IfOk, OnOk};
 ghost use Rattle.xsk_model.specs.Config.{IsRegular};
 
+use crate::case::Case;
 use crate::configs;
 use crate::line::{Fault, Line};
+use crate::told::Told;
 use std::alloc::Global;
-use std::fmt::Write;
 use xsk_model::Config;
 use xsk_socket::{Layout, check_layout, regular};
 use xsk_umem::Umem;
@@ -48,22 +49,26 @@ impl Layouts {
         }
     }
 
-    pub fn answer(&mut self, line: &mut Line<'_>, told: &mut String) -> Result<(), Fault> {
-        match line.word()? {
-            "check" => {
-                self.layout = changed(LEAST, line)?;
-                tell(&self.layout, told)
-            }
-            "also" => {
-                self.layout = changed(self.layout, line)?;
-                tell(&self.layout, told)
-            }
-            "regular" => {
-                self.config = Some(configure(self.alloc, &self.layout)?);
-                told.push_str("ok")?;
-                Ok(())
-            }
-            word => match &self.config {
+    fn change(&mut self, from: Layout, line: &mut Line<'_>, told: &mut Told) -> Result<(), Fault> {
+        self.layout = changed(from, line)?;
+        tell(&self.layout, told);
+        Ok(())
+    }
+
+    fn configure(&mut self, told: &mut Told) -> Result<(), Fault> {
+        self.config = Some(configure(self.alloc, &self.layout)?);
+        told.say("ok");
+        Ok(())
+    }
+}
+
+impl Case for Layouts {
+    fn answer(&mut self, word: &str, line: &mut Line<'_>, told: &mut Told) -> Result<(), Fault> {
+        match word {
+            "check" => self.change(LEAST, line, told),
+            "also" => self.change(self.layout, line, told),
+            "regular" => self.configure(told),
+            _ => match &self.config {
                 Some(config) => configs::answer(config, word, line, told),
                 None => Err(Fault::BadLine),
             },
@@ -72,12 +77,11 @@ impl Layouts {
 }
 
 /// Judges a layout.
-fn tell(layout: &Layout, told: &mut String) -> Result<(), Fault> {
+fn tell(layout: &Layout, told: &mut Told) {
     match check_layout(layout) {
-        Ok(()) => told.push_str("accepted")?,
-        Err(refusal) => write!(told, "{refusal:?}")?,
+        Ok(()) => told.say("accepted"),
+        Err(refusal) => told.name(&refusal),
     }
-    Ok(())
 }
 
 /// The regular configuration of a layout that is accepted.
@@ -104,62 +108,29 @@ pub fn changed(layout: Layout, line: &mut Line<'_>) -> Result<Layout, Fault> {
         let Some(word) = line.next() else {
             break;
         };
-        layout = with(layout, word, line.number()?)?;
+        change(&mut layout, word, line.number()?)?;
     }
     Ok(layout)
 }
 
-fn with(layout: Layout, word: &str, number: u32) -> Result<Layout, Fault> {
-    match word {
-        "ports" | "queues" | "sockets" | "files" | "wanted" => {
-            Ok(with_counts(layout, word, number))
-        }
-        "chunk" | "headroom" | "frames" => Ok(with_umem(layout, word, number)),
-        "rx" | "tx" | "fill" | "comp" => Ok(with_rings(layout, word, number)),
-        "sg" | "wakeup" | "empty" => Ok(with_options(layout, word, number)),
-        _ => Err(Fault::BadLine),
-    }
-}
-
-fn with_counts(layout: Layout, word: &str, number: u32) -> Layout {
-    let mut layout = layout;
+fn change(layout: &mut Layout, word: &str, number: u32) -> Result<(), Fault> {
     match word {
         "ports" => layout.ports = number,
         "queues" => layout.queues = number,
         "sockets" => layout.sockets = number,
         "files" => layout.files = number,
-        _ => layout.files_wanted_per_port = number,
-    }
-    layout
-}
-
-fn with_umem(layout: Layout, word: &str, number: u32) -> Layout {
-    let mut layout = layout;
-    match word {
+        "wanted" => layout.files_wanted_per_port = number,
         "chunk" => layout.chunk = number,
         "headroom" => layout.headroom = number,
-        _ => layout.frames = number,
-    }
-    layout
-}
-
-fn with_rings(layout: Layout, word: &str, number: u32) -> Layout {
-    let mut layout = layout;
-    match word {
+        "frames" => layout.frames = number,
         "rx" => layout.rx = number,
         "tx" => layout.tx = number,
         "fill" => layout.fill = number,
-        _ => layout.comp = number,
-    }
-    layout
-}
-
-fn with_options(layout: Layout, word: &str, number: u32) -> Layout {
-    let mut layout = layout;
-    match word {
+        "comp" => layout.comp = number,
         "sg" => layout.sg = number == 1,
         "wakeup" => layout.wakeup = number == 1,
-        _ => layout.empty = Some(number),
+        "empty" => layout.empty = Some(number),
+        _ => return Err(Fault::BadLine),
     }
-    layout
+    Ok(())
 }

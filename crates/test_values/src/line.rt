@@ -1,16 +1,26 @@
 //! The words of a line.
 use std::alloc::{AllocError, AllocFailed, Global};
 use std::str::SplitWhitespace;
-use xsk_umem::OutOfMemory;
+use xsk_umem::{Frames, Geometry, OutOfMemory, Umem, UmemError, XdpDesc};
 
 /// Why a line has no answer.
-#[derive(Clone, Copy, Debug)]
+#[derive(Clone, Copy)]
 pub enum Fault {
     /// A word is missing or wrong, or what the call is made on.
     BadLine,
     /// The call has a condition that doesn't hold.
     NotLegal,
     OutOfMemory,
+}
+
+impl Fault {
+    pub fn in_words(self) -> &'static str {
+        match self {
+            Fault::BadLine => "bad line",
+            Fault::NotLegal => "not legal",
+            Fault::OutOfMemory => "out of memory",
+        }
+    }
 }
 
 impl From<AllocError> for Fault {
@@ -28,6 +38,14 @@ impl<T: Drop> From<AllocFailed<T>> for Fault {
 impl From<OutOfMemory> for Fault {
     fn from(_error: OutOfMemory) -> Fault {
         Fault::OutOfMemory
+    }
+}
+
+/// The number in a word.
+pub fn number_in(word: &str) -> Result<u32, Fault> {
+    match word.parse::<u32>() {
+        Ok(number) => Ok(number),
+        Err(_) => Err(Fault::BadLine),
     }
 }
 
@@ -59,16 +77,40 @@ impl<'a> Line<'a> {
 
     /// The next word, as a number.
     pub fn number(&mut self) -> Result<u32, Fault> {
-        self.word()?.parse::<u32>().map_err(|_| Fault::BadLine)
+        number_in(self.word()?)
     }
 
     /// The next word, as a number of 64 bits.
     pub fn long(&mut self) -> Result<u64, Fault> {
-        self.word()?.parse::<u64>().map_err(|_| Fault::BadLine)
+        match self.word()?.parse::<u64>() {
+            Ok(number) => Ok(number),
+            Err(_) => Err(Fault::BadLine),
+        }
+    }
+
+    /// The next two words, as numbers.
+    pub fn two(&mut self) -> Result<(u32, u32), Fault> {
+        let first = self.number()?;
+        let second = self.number()?;
+        Ok((first, second))
     }
 
     /// The bytes of the next word.
     pub fn bytes(&mut self, alloc: Global) -> Result<Vec<u8>, Fault> {
         crate::runs::parse(alloc, self.word()?)
+    }
+
+    /// The next three words, as a descriptor.
+    pub fn desc(&mut self) -> Result<XdpDesc, Fault> {
+        let addr = self.long()?;
+        let (len, options) = self.two()?;
+        Ok(XdpDesc { addr, len, options })
+    }
+
+    /// The UMEM of the length, the chunk and the headroom in the next three words.
+    pub fn umem(&mut self, alloc: Global) -> Result<Result<(Geometry, Frames), UmemError>, Fault> {
+        let len = self.long()?;
+        let (chunk, headroom) = self.two()?;
+        Ok(Umem::register(alloc, len, chunk, headroom))
     }
 }

@@ -5,11 +5,12 @@
 //! the text that were told last).
 ghost use Rattle.std.specs.Prelude.{◌≤◌, length};
 
+use crate::case::Case;
 use crate::line::{Fault, Line};
 use crate::runs;
+use crate::told::Told;
 use std::alloc::Global;
-use std::fmt::Write;
-use xsk_umem::{Gaps, PacketList, Parts};
+use xsk_umem::{Gaps, PacketList, Parts, Span};
 
 #[derive(Drop)]
 pub struct Packets {
@@ -25,60 +26,77 @@ impl Packets {
         }
     }
 
-    pub fn answer(&mut self, line: &mut Line<'_>, told: &mut String) -> Result<(), Fault> {
-        match line.word()? {
-            "gaps" => {
-                let gaps = gaps_in(line)?;
-                self.list = PacketList::with_gaps(self.alloc, gaps)?;
-                told.push_str("ok")?;
-            }
-            "push" => {
-                let bytes = line.bytes(self.alloc)?;
-                self.list.push(bytes.as_slice())?;
-                told.push_str("ok")?;
-            }
-            "reserve" => reserve(self.alloc, &mut self.list, line, told)?,
-            "get" => tell_packet(&self.list, line.number()?, told)?,
-            "size" => tell_size(&self.list, told)?,
-            "again" => {
-                let list = self.take();
-                self.list = again(list);
-                told.push_str("ok")?;
-            }
-            "parts" => tell_parts(self.take().into_parts(), told)?,
-            _ => return Err(Fault::BadLine),
+    fn take(&mut self) -> PacketList {
+        std::mem::replace(&mut self.list, PacketList::new(self.alloc))
+    }
+
+    fn change(&mut self, word: &str, line: &mut Line<'_>) -> Result<(), Fault> {
+        match word {
+            "gaps" => self.begin(gaps_in(line)?),
+            "push" => self.push(line),
+            "reserve" => reserve(self.alloc, &mut self.list, line),
+            "again" => self.again(),
+            _ => Err(Fault::BadLine),
         }
+    }
+
+    fn begin(&mut self, gaps: Gaps) -> Result<(), Fault> {
+        self.list = PacketList::with_gaps(self.alloc, gaps)?;
         Ok(())
     }
 
-    fn take(&mut self) -> PacketList {
-        std::mem::replace(&mut self.list, PacketList::new(self.alloc))
+    fn push(&mut self, line: &mut Line<'_>) -> Result<(), Fault> {
+        let bytes = line.bytes(self.alloc)?;
+        self.list.push(bytes.as_slice())?;
+        Ok(())
+    }
+
+    /// Makes a list of the same packets as spans of the same text.
+    fn again(&mut self) -> Result<(), Fault> {
+        let Parts { text, spans, .. } = self.take().into_parts();
+        self.list = PacketList::of_spans(text, spans);
+        Ok(())
+    }
+}
+
+impl Case for Packets {
+    fn answer(&mut self, word: &str, line: &mut Line<'_>, told: &mut Told) -> Result<(), Fault> {
+        match word {
+            "get" => tell_packet(&self.list, line.number()?, told),
+            "size" => tell_size(&self.list, told),
+            "parts" => tell_parts(self.take().into_parts(), told),
+            _ => {
+                self.change(word, line)?;
+                told.say("ok");
+                Ok(())
+            }
+        }
     }
 }
 
 pub fn gaps_in(line: &mut Line<'_>) -> Result<Gaps, Fault> {
-    Ok(Gaps {
-        first: line.number()?,
-        before_each: line.number()?,
-    })
+    let (first, before_each) = line.two()?;
+    Ok(Gaps { first, before_each })
 }
 
 /// Appends two packets and more bytes in room that is reserved for them.
-fn reserve(
+fn reserve(alloc: Global, list: &mut PacketList, line: &mut Line<'_>) -> Result<(), Fault> {
+    let first = line.word()?;
+    let second = line.word()?;
+    let more = line.bytes(alloc)?;
+    reserve_two(alloc, list, first, second, more.as_slice())
+}
+
+fn reserve_two(
     alloc: Global,
     list: &mut PacketList,
-    line: &mut Line<'_>,
-    told: &mut String,
+    first: &str,
+    second: &str,
+    more: &[u8],
 ) -> Result<(), Fault> {
-    let first = line.bytes(alloc)?;
-    let second = line.bytes(alloc)?;
-    let more = line.bytes(alloc)?;
-    if first.len() > 1_000_000 || second.len() > 1_000_000 || more.len() > 1_000_000 {
-        return Err(Fault::NotLegal);
-    }
-    append_three(list, first.as_slice(), second.as_slice(), more.as_slice())?;
-    told.push_str("ok")?;
-    Ok(())
+    let first = runs::parse(alloc, first)?;
+    let second = runs::parse(alloc, second)?;
+    append_three(list, first.as_slice(), second.as_slice(), more)
 }
 
 fn append_three(
@@ -86,9 +104,10 @@ fn append_three(
     first: &[u8],
     second: &[u8],
     more: &[u8],
-) -> Result<(), Fault>
-    requires { (length first.now ≤ 1000000) × (length second.now ≤ 1000000) × (length more.now ≤ 1000000) }
-{
+) -> Result<(), Fault> {
+    if first.len() > 1_000_000 || second.len() > 1_000_000 || more.len() > 1_000_000 {
+        return Err(Fault::NotLegal);
+    }
     list.reserve(2, (first.len() + second.len() + more.len()) as u32)?;
     list.push_reserved(first);
     list.push_reserved(second);
@@ -96,37 +115,57 @@ fn append_three(
     Ok(())
 }
 
-pub fn tell_packet(list: &PacketList, number: u32, told: &mut String) -> Result<(), Fault> {
+pub fn tell_packet(list: &PacketList, number: u32, told: &mut Told) -> Result<(), Fault> {
     if number >= list.len() {
         return Err(Fault::NotLegal);
     }
-    runs::tell(told, list.get(number))?;
+    runs::tell(told, list.get(number));
     Ok(())
 }
 
-fn tell_size(list: &PacketList, told: &mut String) -> Result<(), Fault> {
-    write!(told, "{} packets, {} bytes", list.len(), list.bytes())?;
+/// How many packets there are, and how many bytes.
+pub fn tell_sizes(list: &PacketList, told: &mut Told) {
+    told.number(list.len());
+    told.say(" packets, ");
+    told.long(list.bytes());
+    told.say(" bytes");
+}
+
+fn tell_size(list: &PacketList, told: &mut Told) -> Result<(), Fault> {
+    tell_sizes(list, told);
     if list.is_empty() {
-        told.push_str(", empty")?;
+        told.say(", empty");
     }
     Ok(())
 }
 
-fn tell_parts(parts: Parts, told: &mut String) -> Result<(), Fault> {
-    match parts.gaps {
-        Some(gaps) => write!(told, "gaps {} {}", gaps.first, gaps.before_each)?,
-        None => told.push_str("no gaps")?,
-    }
-    for span in parts.spans.as_slice() {
-        write!(told, ", {} at {}", span.len, span.start)?;
-    }
-    write!(told, ", text of {}: ", parts.text.len())?;
-    runs::tell(told, parts.text.as_slice())?;
+fn tell_parts(parts: Parts, told: &mut Told) -> Result<(), Fault> {
+    tell_gaps(parts.gaps, told);
+    tell_spans(parts.spans.as_slice(), told);
+    told.say(", text of ");
+    told.count(parts.text.len());
+    told.say(": ");
+    runs::tell(told, parts.text.as_slice());
     Ok(())
 }
 
-/// A list of the same packets as spans of the same text.
-fn again(list: PacketList) -> PacketList {
-    let Parts { text, spans, .. } = list.into_parts();
-    PacketList::of_spans(text, spans)
+fn tell_gaps(gaps: Option<Gaps>, told: &mut Told) {
+    match gaps {
+        Some(gaps) => {
+            told.say("gaps ");
+            told.number(gaps.first);
+            told.say(" ");
+            told.number(gaps.before_each);
+        }
+        None => told.say("no gaps"),
+    }
+}
+
+fn tell_spans(spans: &[Span], told: &mut Told) {
+    for span in spans {
+        told.say(", ");
+        told.count(span.len);
+        told.say(" at ");
+        told.count(span.start);
+    }
 }

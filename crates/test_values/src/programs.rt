@@ -6,9 +6,11 @@
 ghost use Rattle.std.specs.Prelude.{◌≡◌, true};
 ghost use Rattle.xsk_prog.specs.Rules.{HasSockets, IsRuled};
 
+use crate::case::Case;
 use crate::line::{Fault, Line};
+use crate::runs;
+use crate::told::Told;
 use std::alloc::Global;
-use std::fmt::Write;
 use xsk_prog::{Rule, Verdict, XdpProgram};
 
 #[derive(Drop)]
@@ -27,40 +29,58 @@ impl Programs {
         }
     }
 
-    pub fn answer(&mut self, line: &mut Line<'_>, told: &mut String) -> Result<(), Fault> {
-        match line.word()? {
-            "rule" => {
-                self.rule = rule_in(line)?;
-                write!(told, "{:?}", self.rule)?;
-            }
-            "packet" => {
-                self.packet = line.bytes(self.alloc)?;
-                write!(told, "{} bytes", self.packet.len())?;
-            }
-            word => {
+    fn take_rule(&mut self, line: &mut Line<'_>, told: &mut Told) -> Result<(), Fault> {
+        self.rule = rule_in(line)?;
+        told.name(&self.rule);
+        Ok(())
+    }
+
+    fn take_packet(&mut self, line: &mut Line<'_>, told: &mut Told) -> Result<(), Fault> {
+        self.packet.clear();
+        runs::append(&mut self.packet, line.word()?)?;
+        told.count(self.packet.len());
+        told.say(" bytes");
+        Ok(())
+    }
+}
+
+impl Case for Programs {
+    fn answer(&mut self, word: &str, line: &mut Line<'_>, told: &mut Told) -> Result<(), Fault> {
+        match word {
+            "rule" => self.take_rule(line, told),
+            "packet" => self.take_packet(line, told),
+            _ => {
                 let verdict = ask(word, self.rule, self.packet.as_slice(), line.number()?)?;
-                write!(told, "{verdict:?}")?;
+                told.name(&verdict);
+                Ok(())
             }
         }
-        Ok(())
     }
 }
 
 fn rule_in(line: &mut Line<'_>) -> Result<Rule, Fault> {
     match line.word()? {
-        "redirect" => Ok(Rule::Redirect {
-            sockets: line.number()?,
-        }),
         "drop" => Ok(Rule::Drop),
         "pass" => Ok(Rule::Pass),
-        "ethertype" => {
-            let kind = line.word()?.parse::<u16>().map_err(|_| Fault::BadLine)?;
-            let sockets = line.number()?;
-            Ok(Rule::EtherType { kind, sockets })
-        }
-        "fixed" => Ok(Rule::Fixed(line.number()?)),
-        "atmost" => Ok(Rule::AtMost(line.number()?)),
+        word => numbered(word, line.number()?, line),
+    }
+}
+
+/// The rule with a number that a word names.
+fn numbered(word: &str, number: u32, line: &mut Line<'_>) -> Result<Rule, Fault> {
+    match word {
+        "redirect" => Ok(Rule::Redirect { sockets: number }),
+        "fixed" => Ok(Rule::Fixed(number)),
+        "atmost" => Ok(Rule::AtMost(number)),
+        "ethertype" => ether_type(number, line.number()?),
         _ => Err(Fault::BadLine),
+    }
+}
+
+fn ether_type(kind: u32, sockets: u32) -> Result<Rule, Fault> {
+    match u16::try_from(kind) {
+        Ok(kind) => Ok(Rule::EtherType { kind, sockets }),
+        Err(_) => Err(Fault::BadLine),
     }
 }
 

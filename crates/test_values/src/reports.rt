@@ -6,8 +6,10 @@
 ghost use Rattle.std.specs.Prelude.{◌≡◌, length};
 ghost use Rattle.xsk_model.specs.Config.{IsRegular};
 
+use crate::case::Case;
 use crate::layouts::{LEAST, changed, configure};
 use crate::line::{Fault, Line};
+use crate::told::Told;
 use std::alloc::Global;
 use xsk_driver::{DriverCounters, DriverFigures, FigureList, Figures, Wire};
 use xsk_model::Config;
@@ -35,16 +37,25 @@ impl Reports {
         }
     }
 
-    pub fn answer(&mut self, line: &mut Line<'_>, told: &mut String) -> Result<(), Fault> {
-        match line.word()? {
+    fn change(&mut self, word: &str, line: &mut Line<'_>) -> Result<(), Fault> {
+        match word {
             "layout" => self.layout = changed(LEAST, line)?,
             "wire" => self.figures.wire = wire_in(line.word()?)?,
             "calls" => self.figures.calls = line.long()?,
             "driver" => self.figures.drivers.push(driver_in(line)?)?,
-            "report" => return tell(self.alloc, &self.layout, &self.figures, told),
             _ => return Err(Fault::BadLine),
         }
-        told.push_str("ok")?;
+        Ok(())
+    }
+}
+
+impl Case for Reports {
+    fn answer(&mut self, word: &str, line: &mut Line<'_>, told: &mut Told) -> Result<(), Fault> {
+        if word == "report" {
+            return tell(self.alloc, &self.layout, &self.figures, told);
+        }
+        self.change(word, line)?;
+        told.say("ok");
         Ok(())
     }
 }
@@ -59,35 +70,41 @@ fn wire_in(word: &str) -> Result<Wire, Fault> {
 
 fn driver_in(line: &mut Line<'_>) -> Result<DriverFigures, Fault> {
     let packets_in = line.long()?;
-    let first = four_in(line)?;
-    let second = four_in(line)?;
+    let mut kinds = [0; 8];
+    take_numbers(&mut kinds, line)?;
     let sent = line.long()?;
+    let counters = counters_in(line)?;
     Ok(DriverFigures {
         packets_in,
-        kinds: [
-            first[0], first[1], first[2], first[3], second[0], second[1], second[2], second[3],
-        ],
+        kinds,
         sent,
-        counters: counters_in(line)?,
+        counters,
     })
 }
 
 fn counters_in(line: &mut Line<'_>) -> Result<DriverCounters, Fault> {
-    Ok(DriverCounters {
+    let mut counters = DriverCounters {
         rx_dropped: line.long()?,
         rx_invalid_descs: line.long()?,
         rx_fill_ring_empty_descs: line.long()?,
-        rx_ring_full: four_in(line)?,
-        tx_invalid_descs: four_in(line)?,
-        tx_ring_empty_descs: four_in(line)?,
-    })
+        rx_ring_full: [0; 4],
+        tx_invalid_descs: [0; 4],
+        tx_ring_empty_descs: [0; 4],
+    };
+    take_numbers(&mut counters.rx_ring_full, line)?;
+    take_numbers(&mut counters.tx_invalid_descs, line)?;
+    take_numbers(&mut counters.tx_ring_empty_descs, line)?;
+    Ok(counters)
 }
 
-fn four_in(line: &mut Line<'_>) -> Result<[u64; 4], Fault> {
-    Ok([line.long()?, line.long()?, line.long()?, line.long()?])
+fn take_numbers(numbers: &mut [u64], line: &mut Line<'_>) -> Result<(), Fault> {
+    for number in numbers {
+        *number = line.long()?;
+    }
+    Ok(())
 }
 
-fn tell(alloc: Global, layout: &Layout, figures: &Figures, told: &mut String) -> Result<(), Fault> {
+fn tell(alloc: Global, layout: &Layout, figures: &Figures, told: &mut Told) -> Result<(), Fault> {
     let config = configure(alloc, layout)?;
     tell_text(alloc, &config, figures, told)
 }
@@ -96,7 +113,7 @@ fn tell_text(
     alloc: Global,
     config: &Config,
     figures: &Figures,
-    told: &mut String,
+    told: &mut Told,
 ) -> Result<(), Fault>
     requires { IsRegular config.now }
 {
@@ -104,10 +121,14 @@ fn tell_text(
         return Err(Fault::NotLegal);
     }
     let text = report(alloc, config, figures)?;
-    match str::from_utf8(text.as_slice()) {
+    tell_lines(text.as_slice(), told)
+}
+
+fn tell_lines(text: &[u8], told: &mut Told) -> Result<(), Fault> {
+    match str::from_utf8(text) {
         Ok(text) => {
-            told.push_str("\n")?;
-            told.push_str(text)?;
+            told.say("\n");
+            told.say(text);
             Ok(())
         }
         Err(_) => Err(Fault::BadLine),

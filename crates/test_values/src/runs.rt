@@ -1,8 +1,8 @@
 //! Bytes in words: parts behind one another with a `.` between, each of them bytes as hex, or one byte as hex, an `x` and how
 //! often it stands. `0102.07x60` has 62 bytes, and `-` none.
-use crate::line::Fault;
-use std::alloc::{AllocError, Global};
-use std::fmt::Write;
+use crate::line::{Fault, Line, number_in};
+use crate::told::Told;
+use std::alloc::Global;
 
 /// From so many equal bytes on they are written as one and their number.
 const LEAST_RUN: usize = 4;
@@ -10,22 +10,29 @@ const LEAST_RUN: usize = 4;
 /// The bytes of a word.
 pub fn parse(alloc: Global, word: &str) -> Result<Vec<u8>, Fault> {
     let mut bytes = Vec::new(alloc);
-    if word == "-" {
-        return Ok(bytes);
-    }
-    for part in word.split('.') {
-        match part.split_once('x') {
-            Some((byte, times)) => push_times(&mut bytes, byte, times)?,
-            None => push_digits(&mut bytes, part)?,
-        }
-    }
+    append(&mut bytes, word)?;
     Ok(bytes)
 }
 
+/// Appends the bytes of a word.
+pub fn append(bytes: &mut Vec<u8>, word: &str) -> Result<(), Fault> {
+    if word == "-" {
+        return Ok(());
+    }
+    for part in word.split('.') {
+        match part.split_once('x') {
+            Some((byte, times)) => push_times(bytes, byte, times)?,
+            None => push_digits(bytes, part)?,
+        }
+    }
+    Ok(())
+}
+
 fn push_times(bytes: &mut Vec<u8>, byte: &str, times: &str) -> Result<(), Fault> {
-    let byte = u8::from_str_radix(byte, 16).map_err(|_| Fault::BadLine)?;
-    let times = times.parse::<u32>().map_err(|_| Fault::BadLine)?;
-    for _ in 0..times {
+    let Ok(byte) = u8::from_str_radix(byte, 16) else {
+        return Err(Fault::BadLine);
+    };
+    for _ in 0..number_in(times)? {
         bytes.push(byte)?;
     }
     Ok(())
@@ -51,33 +58,61 @@ fn push_digits(bytes: &mut Vec<u8>, digits: &str) -> Result<(), Fault> {
     }
 }
 
-/// Writes bytes as a word.
-pub fn tell(told: &mut String, bytes: &[u8]) -> Result<(), AllocError> {
+/// Tells the bytes FROM and LEN of a line say.
+pub fn show(bytes: &[u8], line: &mut Line<'_>, told: &mut Told) -> Result<(), Fault> {
+    let (from, len) = line.two()?;
+    let from = from as usize;
+    match bytes.get(from..from + len as usize) {
+        Some(bytes) => {
+            tell(told, bytes);
+            Ok(())
+        }
+        None => Err(Fault::NotLegal),
+    }
+}
+
+/// Tells bytes as a word.
+pub fn tell(told: &mut Told, bytes: &[u8]) {
     if bytes.is_empty() {
-        return told.push_str("-");
+        told.say("-");
     }
     let mut rest = bytes;
-    let mut is_run = false;
+    let mut was_run = false;
     for _ in 0..bytes.len() {
         let Some(first) = rest.first() else {
             break;
         };
-        let count = rest.iter().take_while(|byte| **byte == *first).count();
-        let was_run = is_run;
-        is_run = count >= LEAST_RUN;
+        let count = equal_at_start(rest, *first);
+        let is_run = count >= LEAST_RUN;
         if rest.len() < bytes.len() && (is_run || was_run) {
-            told.push_str(".")?;
+            told.say(".");
         }
-        let taken = if is_run { count } else { 1 };
-        if is_run {
-            write!(told, "{first:02x}x{count}")?;
+        told.hex(*first);
+        was_run = is_run;
+        rest = if is_run {
+            tell_times(count, told);
+            after(rest, count)
         } else {
-            write!(told, "{first:02x}")?;
-        }
-        match rest.get(taken..) {
-            Some(after) => rest = after,
-            None => break,
+            after(rest, 1)
+        };
+    }
+}
+
+fn tell_times(count: usize, told: &mut Told) {
+    told.say("x");
+    told.count(count);
+}
+
+/// How many bytes at the start are equal to a byte.
+fn equal_at_start(bytes: &[u8], first: u8) -> usize {
+    for (index, byte) in bytes.iter().enumerate() {
+        if *byte != first {
+            return index;
         }
     }
-    Ok(())
+    bytes.len()
+}
+
+fn after(bytes: &[u8], count: usize) -> &[u8] {
+    bytes.get(count..).unwrap_or(&[])
 }

@@ -2,16 +2,17 @@
 //!
 //! `umem LEN CHUNK HEADROOM`, `device PORTS QUEUES`, `socket`, `ring SOCKET KIND SIZE`, `bind SOCKET PORT QUEUE FLAGS [SHARED]`,
 //! `seal`, `flags`, and the questions about the configuration that was sealed.
+use crate::case::Case;
 use crate::configs;
-use crate::line::{Fault, Line};
+use crate::line::{Fault, Line, number_in};
+use crate::told::Told;
 use std::alloc::Global;
-use std::fmt::Write;
 use xsk_model::Config;
 use xsk_socket::{
     RingKind, Setup, SetupError, XDP_COPY, XDP_SHARED_UMEM, XDP_USE_NEED_WAKEUP, XDP_USE_SG,
     XDP_ZEROCOPY,
 };
-use xsk_umem::{Geometry, Umem};
+use xsk_umem::Geometry;
 
 #[derive(Drop)]
 pub struct Setups {
@@ -31,57 +32,65 @@ impl Setups {
         }
     }
 
-    pub fn answer(&mut self, line: &mut Line<'_>, told: &mut String) -> Result<(), Fault> {
-        match line.word()? {
-            "umem" => self.register(line, told),
-            "device" => self.begin(line, told),
-            "seal" => self.seal(told),
-            "flags" => tell_flags(told),
-            word => match &mut self.config {
-                Some(config) => configs::answer(config, word, line, told),
-                None => match &mut self.setup {
-                    Some(setup) => call(setup, word, line, told),
-                    None => Err(Fault::BadLine),
-                },
-            },
-        }
-    }
-
-    fn register(&mut self, line: &mut Line<'_>, told: &mut String) -> Result<(), Fault> {
-        match Umem::register(self.alloc, line.long()?, line.number()?, line.number()?) {
+    fn register(&mut self, line: &mut Line<'_>, told: &mut Told) -> Result<(), Fault> {
+        match line.umem(self.alloc)? {
             Ok((geometry, frames)) => {
                 self.geometry = Some(geometry);
-                write!(told, "{} frames", frames.len())?;
+                told.number(frames.len());
+                told.say(" frames");
             }
-            Err(error) => write!(told, "{error:?}")?,
+            Err(error) => told.name(&error),
         }
         Ok(())
     }
 
-    fn begin(&mut self, line: &mut Line<'_>, told: &mut String) -> Result<(), Fault> {
+    fn begin(&mut self, line: &mut Line<'_>, told: &mut Told) -> Result<(), Fault> {
         let Some(geometry) = self.geometry else {
             return Err(Fault::BadLine);
         };
-        self.setup = Some(over(self.alloc, geometry, line.number()?, line.number()?)?);
-        told.push_str("ok")?;
+        let (ports, queues) = line.two()?;
+        self.setup = Some(over(self.alloc, geometry, ports, queues)?);
+        told.say("ok");
         Ok(())
     }
 
-    fn seal(&mut self, told: &mut String) -> Result<(), Fault> {
+    fn seal(&mut self, told: &mut Told) -> Result<(), Fault> {
         let Some(setup) = self.setup.take() else {
             return Err(Fault::BadLine);
         };
         match setup.seal() {
             Ok(config) => {
                 self.config = Some(config);
-                told.push_str("ok")?;
+                told.say("ok");
             }
             Err((error, setup)) => {
                 self.setup = Some(setup);
-                write!(told, "{error:?}")?;
+                told.name(&error);
             }
         }
         Ok(())
+    }
+
+    fn ask(&mut self, word: &str, line: &mut Line<'_>, told: &mut Told) -> Result<(), Fault> {
+        if let Some(config) = &self.config {
+            return configs::answer(config, word, line, told);
+        }
+        match &mut self.setup {
+            Some(setup) => call(setup, word, line, told),
+            None => Err(Fault::BadLine),
+        }
+    }
+}
+
+impl Case for Setups {
+    fn answer(&mut self, word: &str, line: &mut Line<'_>, told: &mut Told) -> Result<(), Fault> {
+        match word {
+            "umem" => self.register(line, told),
+            "device" => self.begin(line, told),
+            "seal" => self.seal(told),
+            "flags" => tell_flags(told),
+            _ => self.ask(word, line, told),
+        }
     }
 }
 
@@ -96,42 +105,42 @@ fn over(alloc: Global, geometry: Geometry, ports: u32, queues: u32) -> Result<Se
     Ok(Setup::new(alloc, geometry, ports, queues))
 }
 
-fn call(
-    setup: &mut Setup,
-    word: &str,
-    line: &mut Line<'_>,
-    told: &mut String,
-) -> Result<(), Fault> {
+fn call(setup: &mut Setup, word: &str, line: &mut Line<'_>, told: &mut Told) -> Result<(), Fault> {
     match word {
         "socket" => add_socket(setup, told),
-        "ring" => {
-            let socket = line.number()?;
-            let kind = kind_of(line.word()?)?;
-            tell(told, setup.ring(socket, kind, line.number()?))
-        }
-        "bind" => tell(told, bind(setup, line)?),
+        "ring" => add_ring(setup, line, told),
+        "bind" => bind(setup, line, told),
         _ => Err(Fault::BadLine),
     }
 }
 
-fn add_socket(setup: &mut Setup, told: &mut String) -> Result<(), Fault> {
+fn add_socket(setup: &mut Setup, told: &mut Told) -> Result<(), Fault> {
     match setup.socket() {
-        Ok(number) => write!(told, "socket {number}")?,
-        Err(error) => write!(told, "{error:?}")?,
+        Ok(number) => {
+            told.say("socket ");
+            told.number(number);
+        }
+        Err(error) => told.name(&error),
     }
     Ok(())
 }
 
-fn bind(setup: &mut Setup, line: &mut Line<'_>) -> Result<Result<(), SetupError>, Fault> {
+fn add_ring(setup: &mut Setup, line: &mut Line<'_>, told: &mut Told) -> Result<(), Fault> {
     let socket = line.number()?;
-    let port = line.number()?;
-    let queue = line.number()?;
-    let flags = line.number()?;
+    let kind = kind_of(line.word()?)?;
+    tell(setup.ring(socket, kind, line.number()?), told);
+    Ok(())
+}
+
+fn bind(setup: &mut Setup, line: &mut Line<'_>, told: &mut Told) -> Result<(), Fault> {
+    let (socket, port) = line.two()?;
+    let (queue, flags) = line.two()?;
     let shared = match line.next() {
-        Some(word) => Some(word.parse::<u32>().map_err(|_| Fault::BadLine)?),
+        Some(word) => Some(number_in(word)?),
         None => None,
     };
-    Ok(setup.bind(socket, port, queue, flags, shared))
+    tell(setup.bind(socket, port, queue, flags, shared), told);
+    Ok(())
 }
 
 fn kind_of(word: &str) -> Result<RingKind, Fault> {
@@ -144,20 +153,24 @@ fn kind_of(word: &str) -> Result<RingKind, Fault> {
     }
 }
 
-fn tell(told: &mut String, outcome: Result<(), SetupError>) -> Result<(), Fault> {
+fn tell(outcome: Result<(), SetupError>, told: &mut Told) {
     match outcome {
-        Ok(()) => told.push_str("ok")?,
-        Err(error) => write!(told, "{error:?}")?,
+        Ok(()) => told.say("ok"),
+        Err(error) => told.name(&error),
     }
-    Ok(())
 }
 
 /// The bind flags by their names.
-fn tell_flags(told: &mut String) -> Result<(), Fault> {
-    write!(
-        told,
-        "shared {XDP_SHARED_UMEM}, copy {XDP_COPY}, zerocopy {XDP_ZEROCOPY}"
-    )?;
-    write!(told, ", wakeup {XDP_USE_NEED_WAKEUP}, sg {XDP_USE_SG}")?;
+fn tell_flags(told: &mut Told) -> Result<(), Fault> {
+    tell_flag("shared ", XDP_SHARED_UMEM, told);
+    tell_flag(", copy ", XDP_COPY, told);
+    tell_flag(", zerocopy ", XDP_ZEROCOPY, told);
+    tell_flag(", wakeup ", XDP_USE_NEED_WAKEUP, told);
+    tell_flag(", sg ", XDP_USE_SG, told);
     Ok(())
+}
+
+fn tell_flag(name: &str, flag: u32, told: &mut Told) {
+    told.say(name);
+    told.number(flag);
 }

@@ -2,42 +2,65 @@
 //!
 //! `used PRODUCER CONSUMER`, `pack ADDR LEN OPTIONS` (its words, and the descriptor of these), `unpack FIRST SECOND`, and
 //! `places` (of a ring's own words).
+use crate::case::Case;
 use crate::line::{Fault, Line};
-use std::fmt::Write;
+use crate::told::Told;
 use xsk_umem::XdpDesc;
 use xsk_words::{CONSUMER, ENTRIES, PRODUCER, pack, unpack, used};
 
 #[derive(Drop)]
 pub struct Words;
 
-impl Words {
-    pub fn answer(&mut self, line: &mut Line<'_>, told: &mut String) -> Result<(), Fault> {
-        match line.word()? {
-            "used" => write!(told, "{}", used(line.number()?, line.number()?))?,
-            "pack" => {
-                let addr = line.long()?;
-                let len = line.number()?;
-                let options = line.number()?;
-                tell_packed(XdpDesc { addr, len, options }, told)?;
-            }
-            "unpack" => tell(unpack(line.long()?, line.long()?), told)?,
-            "places" => write!(
-                told,
-                "producer {PRODUCER}, consumer {CONSUMER}, entries {ENTRIES}"
-            )?,
-            _ => return Err(Fault::BadLine),
+impl Case for Words {
+    fn answer(&mut self, word: &str, line: &mut Line<'_>, told: &mut Told) -> Result<(), Fault> {
+        match word {
+            "used" => tell_used(line, told),
+            "pack" => tell_packed(line.desc()?, told),
+            "unpack" => tell_unpacked(line, told),
+            "places" => tell_places(told),
+            _ => Err(Fault::BadLine),
         }
-        Ok(())
     }
 }
 
-fn tell_packed(desc: XdpDesc, told: &mut String) -> Result<(), Fault> {
-    let (first, second) = pack(desc);
-    write!(told, "{first} {second}, of ")?;
-    tell(unpack(first, second), told)
+fn tell_used(line: &mut Line<'_>, told: &mut Told) -> Result<(), Fault> {
+    let (producer, consumer) = line.two()?;
+    told.number(used(producer, consumer));
+    Ok(())
 }
 
-fn tell(desc: XdpDesc, told: &mut String) -> Result<(), Fault> {
-    write!(told, "{}+{} options {}", desc.addr, desc.len, desc.options)?;
+fn tell_packed(desc: XdpDesc, told: &mut Told) -> Result<(), Fault> {
+    let (first, second) = pack(desc);
+    told.long(first);
+    told.say(" ");
+    told.long(second);
+    told.say(", of ");
+    tell(unpack(first, second), told);
     Ok(())
+}
+
+fn tell_unpacked(line: &mut Line<'_>, told: &mut Told) -> Result<(), Fault> {
+    let first = line.long()?;
+    let second = line.long()?;
+    tell(unpack(first, second), told);
+    Ok(())
+}
+
+fn tell_places(told: &mut Told) -> Result<(), Fault> {
+    told.say("producer ");
+    told.count(PRODUCER);
+    told.say(", consumer ");
+    told.count(CONSUMER);
+    told.say(", entries ");
+    told.count(ENTRIES);
+    Ok(())
+}
+
+/// Tells a descriptor.
+pub fn tell(desc: XdpDesc, told: &mut Told) {
+    told.long(desc.addr);
+    told.say("+");
+    told.number(desc.len);
+    told.say(" options ");
+    told.number(desc.options);
 }
