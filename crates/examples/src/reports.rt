@@ -6,22 +6,24 @@ use crate::runs::{LAYOUT, forwarded};
 use anyhow::{Result, bail};
 use std::alloc::Global;
 use xsk_model::Config;
-use xsk_sim::Run;
+use xsk_sim::Figures;
 use xsk_stats::report;
 
 pub fn report_a_run<R: Print>(rt: &R, alloc: Global) -> Result<()> {
-    let (config, frames) = opened(alloc, &LAYOUT)?;
-    let shared = config.copy(alloc)?;
-    let run = forwarded(alloc, config, frames)?;
-    let text = String::from_utf8(reported(alloc, &shared, &run)?)?;
+    let text = String::from_utf8(text_of_a_run(alloc)?)?;
     print!(rt; "{text}")?;
     Ok(())
 }
 
-fn reported(alloc: Global, config: &Config, run: &Run) -> Result<Vec<u8>>
+fn text_of_a_run(alloc: Global) -> Result<Vec<u8>> {
+    let (config, frames) = opened(alloc, &LAYOUT)?;
+    let run = forwarded(alloc, config.copy(alloc)?, frames)?;
+    reported(alloc, &config, run.figures())
+}
+
+fn reported(alloc: Global, config: &Config, figures: &Figures) -> Result<Vec<u8>>
     requires { IsRegular config.now }
 {
-    let figures = run.figures();
     if figures.drivers.len() as usize != config.pairs().len() {
         bail!("a driver lacks its figures");
     }

@@ -1,6 +1,8 @@
 //! xsk_sim: two drivers and an application forward a port's packets in rounds. What was sent has gaps for a capture's headers.
+ghost use Rattle.std.specs.Prelude.{All, IfOk};
 ghost use Rattle.xsk_model.specs.Config.{IsRegular};
 ghost use Rattle.xsk_model.specs.Opening.{AreFrames};
+ghost use Rattle.xsk_sim.specs.Shown.{HasShortPackets};
 
 use crate::layouts::opened;
 use anyhow::{Result, bail};
@@ -33,12 +35,7 @@ pub const LAYOUT: Layout = Layout {
 
 pub fn forward_a_packet<R: Print>(rt: &R, alloc: Global) -> Result<()> {
     let (config, frames) = opened(alloc, &LAYOUT)?;
-    let run = forwarded(alloc, config, frames)?;
-    println!(rt; "a run of {} calls", run.log().len())?;
-    for list in run.into_sent() {
-        tell(rt, list)?;
-    }
-    Ok(())
+    tell_run(rt, forwarded(alloc, config, frames)?)
 }
 
 /// The run in which port 0 of two receives one packet.
@@ -46,24 +43,35 @@ pub fn forwarded(alloc: Global, config: Config, frames: Frames) -> Result<Run>
     requires regular { IsRegular config }
     requires frames { AreFrames config.geometry frames.items }
 {
-    let mut received = PacketList::new(alloc);
-    received.push(&[7; 60])?;
-    let lists = vec![in alloc; received, PacketList::new(alloc)]?;
-    if lists.len() != config.ports() as usize {
+    let received = received(alloc)?;
+    if received.len() != config.ports() as usize {
         bail!("there is a list for each port");
     }
     let rule = Rule::Redirect { sockets: 1 };
     let program = XdpProgram::attach(rule, |bytes: &[u8], queue: u32| rule.verdict(bytes, queue));
-    let run = simulate(
-        alloc,
-        config,
-        frames,
-        lists.as_slice(),
-        &program,
-        Wire::Wait,
-        0,
-    )?;
-    Ok(run)
+    let lists = received.as_slice();
+    Ok(simulate(alloc, config, frames, lists, &program, Wire::Wait, 0)?)
+}
+
+/// A list of one packet for port 0, and one of none for port 1.
+fn received(alloc: Global) -> Result<Vec<PacketList>>
+    ensures { IfOk result (λ lists. All HasShortPackets lists.items) }
+{
+    let mut first = PacketList::new(alloc);
+    first.push(&[7; 60])?;
+    Ok(vec![in alloc; first, PacketList::new(alloc)]?)
+}
+
+fn tell_run<R: Print>(rt: &R, run: Run) -> Result<()> {
+    println!(rt; "a run of {} calls", run.log().len())?;
+    tell_all(rt, run.into_sent())
+}
+
+fn tell_all<R: Print>(rt: &R, sent: Vec<PacketList>) -> Result<()> {
+    for list in sent {
+        tell(rt, list)?;
+    }
+    Ok(())
 }
 
 /// What a driver sent.
