@@ -27,4 +27,3 @@ ring_size size is =
       least = rw found.1 least;
       most = rw found.1 most;
     }
-

@@ -14,11 +14,7 @@ pub(crate) struct Block {
 }
 
 /// Takes a line in: blocks are apart by empty lines, and `#` begins a remark.
-pub(crate) fn take(
-    alloc: Global,
-    blocks: &mut Vec<Block>,
-    line: String,
-) -> Result<(), AllocError> {
+pub(crate) fn take(alloc: Global, blocks: &mut Vec<Block>, line: String) -> Result<(), AllocError> {
     if line.as_str().starts_with("#") || line.is_empty() {
         return Ok(());
     }

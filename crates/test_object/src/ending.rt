@@ -1,6 +1,8 @@
 //! The end of a run: all lines of the log once more, and the frames that stand in rings.
 use crate::bytes;
 use crate::hand::Known;
+use crate::noted::Noted;
+use crate::object::Object;
 use crate::stage::Stage;
 use std::alloc::Global;
 use std::string::String;
@@ -32,28 +34,47 @@ fn frame_words(alloc: Global, known: &Known, frame: &Frame) -> Result<String, Ou
     Ok(format!(in alloc; " {number}{sign}")?)
 }
 
+/// Goes over the lines of all calls once more, which are those that were told.
+fn walk(stage: &mut Stage) -> Result<(), OutOfMemory> {
+    let (lines, callers) = stage.object.walk(stage.alloc)?;
+    let same = lines.as_slice() == stage.lines.as_slice();
+    let by_same = callers.as_slice() == stage.callers.as_slice();
+    if !same || !by_same {
+        stage.print("  a walk tells other lines")?;
+    }
+    Ok(())
+}
+
+/// The frames that the object gives up.
+fn left(alloc: Global, known: &Known, object: Object, out: &mut String) -> Result<(), OutOfMemory> {
+    let words = frames_words(alloc, known, object.close())?;
+    out.push_str(words.as_str())?;
+    Ok(out.push_str("\n")?)
+}
+
+/// Those that the table gives up, if there is one.
+fn left_on_table(
+    alloc: Global,
+    known: &Known,
+    table: Option<Noted>,
+    out: &mut String,
+) -> Result<(), OutOfMemory> {
+    let Some(table) = table else {
+        return Ok(());
+    };
+    let words = frames_words(alloc, known, table.close())?;
+    out.push_str("on the table ")?;
+    out.push_str(words.as_str())?;
+    Ok(out.push_str("\n")?)
+}
+
 /// What is printed of a run.
 pub(crate) fn end(stage: Stage) -> Result<String, OutOfMemory> {
     let mut stage = stage;
-    let (lines, callers) = stage.object.walk(stage.alloc)?;
-    if lines != stage.lines || callers != stage.callers {
-        stage.print("  a walk tells other lines")?;
-    }
-    let Stage {
-        alloc,
-        object,
-        table,
-        hand,
-        out,
-        ..
-    } = stage;
+    walk(&mut stage)?;
+    let (alloc, object, table, hand, out) = stage.into_parts();
     let mut out = out;
-    out.push_str(frames_words(alloc, &hand.known, object.close())?.as_str())?;
-    out.push_str("\n")?;
-    if let Some(table) = table {
-        out.push_str("on the table ")?;
-        out.push_str(frames_words(alloc, &hand.known, table.close())?.as_str())?;
-        out.push_str("\n")?;
-    }
+    left(alloc, &hand.known, object, &mut out)?;
+    left_on_table(alloc, &hand.known, table, &mut out)?;
     Ok(out)
 }

@@ -176,9 +176,7 @@ fn is_bound(ports: u32, queues: u32, pairs: &[PairInfo], socket: &SocketInfo) ->
 fn is_served(sockets: &[SocketInfo], pair: &PairInfo) -> bool
     ensures { IsTrue result → IsServed sockets.now pair.now }
 {
-    sockets
-        .iter()
-        .any(|socket| socket.port == pair.port && socket.queue == pair.queue)
+    sockets.iter().any(|socket| socket.port == pair.port && socket.queue == pair.queue)
         && is_ring_size(pair.fill)
         && is_ring_size(pair.comp)
 }
@@ -264,9 +262,20 @@ impl Setup {
         if !maps {
             return None;
         }
-        Some(Config::of_parts(
-            geometry, ports, queues, sockets, pairs, cells, sg, wakeup,
-        ))
+        Some(Config::of_parts(geometry, ports, queues, sockets, pairs, cells, sg, wakeup))
+    }
+
+    /// The configuration with these frames, if it is lawful.
+    fn lawful(self, geometry: Geometry, frames: Frames) -> Option<(Config, Frames)>
+        requires { AreFrames geometry frames.items }
+        ensures lawful { IfSome result (λ made. IsLawful made.0) }
+        ensures frames { IfSome result (λ made. AreFrames made.0.geometry made.1.items) }
+    {
+        let config = self.config(geometry)?;
+        if !config.lawful() {
+            return None;
+        }
+        Some((config, frames))
     }
 
     /// The configuration with its frames, if it is lawful.
@@ -275,13 +284,9 @@ impl Setup {
         ensures frames { IfSome result (λ made. AreFrames made.0.geometry made.1.items) }
     {
         let len = u64::from(self.frames) * u64::from(self.chunk);
-        let Ok((geometry, frames)) = Umem::register(alloc, len, self.chunk, self.headroom) else {
-            return None;
-        };
-        let config = self.config(geometry)?;
-        if !config.lawful() {
-            return None;
+        match Umem::register(alloc, len, self.chunk, self.headroom) {
+            Ok((geometry, frames)) => self.lawful(geometry, frames),
+            Err(_) => None,
         }
-        Some((config, frames))
     }
 }

@@ -47,6 +47,19 @@ impl Stage {
         }
     }
 
+    /// The allocator, both engines, the frames out of their rings, and all that is printed.
+    pub(crate) fn into_parts(self) -> (Global, Object, Option<Noted>, Hand, String) {
+        let Stage {
+            alloc,
+            object,
+            table,
+            hand,
+            out,
+            ..
+        } = self;
+        (alloc, object, table, hand, out)
+    }
+
     pub(crate) fn print(&mut self, text: &str) -> Result<(), OutOfMemory> {
         self.out.push_str(text)?;
         Ok(self.out.push_str("\n")?)
@@ -62,7 +75,10 @@ impl Stage {
     }
 
     fn ask_object(&mut self, who: u32, made: Move, things: &[Thing]) -> Result<Told, OutOfMemory> {
-        let call = self.hand.mine.call(self.alloc, &self.hand.known, made, things);
+        let call = self
+            .hand
+            .mine
+            .call(self.alloc, &self.hand.known, made, things);
         let asked = self.object.ask(who, call)?;
         self.hand.mine.settle(self.alloc, &self.hand.known, asked)
     }
@@ -77,9 +93,15 @@ impl Stage {
         let Some(table) = &mut self.table else {
             return Ok(None);
         };
-        let call = self.hand.theirs.call(self.alloc, &self.hand.known, made, things);
+        let call = self
+            .hand
+            .theirs
+            .call(self.alloc, &self.hand.known, made, things);
         let (asked, looks) = table.ask(who, call, anew);
-        let told = self.hand.theirs.settle(self.alloc, &self.hand.known, asked)?;
+        let told = self
+            .hand
+            .theirs
+            .settle(self.alloc, &self.hand.known, asked)?;
         Ok(Some((told, looks)))
     }
 
