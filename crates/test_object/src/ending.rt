@@ -2,7 +2,6 @@
 use crate::bytes;
 use crate::hand::Known;
 use crate::noted::Noted;
-use crate::object::Object;
 use crate::stage::Stage;
 use std::alloc::Global;
 use std::string::String;
@@ -45,36 +44,39 @@ fn walk(stage: &mut Stage) -> Result<(), OutOfMemory> {
     Ok(())
 }
 
-/// The frames that the object gives up.
-fn left(alloc: Global, known: &Known, object: Object, out: &mut String) -> Result<(), OutOfMemory> {
-    let words = frames_words(alloc, known, object.close())?;
-    out.push_str(words.as_str())?;
-    Ok(out.push_str("\n")?)
-}
-
-/// Those that the table gives up, if there is one.
-fn left_on_table(
-    alloc: Global,
-    known: &Known,
-    table: Option<Noted>,
-    out: &mut String,
-) -> Result<(), OutOfMemory> {
+/// The frames that the table gives up, if there is one.
+fn table_words(alloc: Global, known: &Known, table: Option<Noted>) -> Result<String, OutOfMemory> {
     let Some(table) = table else {
-        return Ok(());
+        return Ok(String::new(alloc));
     };
     let words = frames_words(alloc, known, table.close())?;
-    out.push_str("on the table ")?;
-    out.push_str(words.as_str())?;
-    Ok(out.push_str("\n")?)
+    Ok(format!(in alloc; "on the table {words}\n")?)
 }
 
 /// What is printed of a run.
 pub(crate) fn end(stage: Stage) -> Result<String, OutOfMemory> {
     let mut stage = stage;
     walk(&mut stage)?;
-    let (alloc, object, table, hand, out) = stage.into_parts();
-    let mut out = out;
-    left(alloc, &hand.known, object, &mut out)?;
-    left_on_table(alloc, &hand.known, table, &mut out)?;
-    Ok(out)
+    let Stage {
+        alloc,
+        object,
+        table,
+        hand,
+        out,
+        ..
+    } = stage;
+    let mine = frames_words(alloc, &hand.known, object.close());
+    let theirs = table_words(alloc, &hand.known, table);
+    joined(alloc, &out, mine, theirs)
+}
+
+fn joined(
+    alloc: Global,
+    out: &String,
+    mine: Result<String, OutOfMemory>,
+    theirs: Result<String, OutOfMemory>,
+) -> Result<String, OutOfMemory> {
+    let mine = mine?;
+    let theirs = theirs?;
+    Ok(format!(in alloc; "{out}{mine}\n{theirs}")?)
 }

@@ -47,19 +47,6 @@ impl Stage {
         }
     }
 
-    /// The allocator, both engines, the frames out of their rings, and all that is printed.
-    pub(crate) fn into_parts(self) -> (Global, Object, Option<Noted>, Hand, String) {
-        let Stage {
-            alloc,
-            object,
-            table,
-            hand,
-            out,
-            ..
-        } = self;
-        (alloc, object, table, hand, out)
-    }
-
     pub(crate) fn print(&mut self, text: &str) -> Result<(), OutOfMemory> {
         self.out.push_str(text)?;
         Ok(self.out.push_str("\n")?)
