@@ -39,7 +39,7 @@ use xsk_umem::Batch;
 pub(crate) const SIDES: usize = 2;
 
 /// What the machine waits for, each at its lane or its side. `home` is the pair to which `count` frames go back.
-#[derive(Clone, Copy, Debug)]
+#[derive(Clone, Copy)]
 pub(crate) enum Wait {
     Start,
     PeekRx { lane: usize },
@@ -64,7 +64,7 @@ pub(crate) enum Wait {
 
 /// The sockets of a lane: it goes from the RX ring of one side's class to the TX ring of the other side's. `pair` is the
 /// other side's, whose driver sends what stands on that TX ring.
-#[derive(Clone, Copy, Debug)]
+#[derive(Clone, Copy)]
 pub(crate) struct Way {
     pub(crate) rx: u32,
     pub(crate) tx: u32,
@@ -72,7 +72,7 @@ pub(crate) struct Way {
 }
 
 /// What was so as the turn began, and whether each lane and each side visited so far had an empty peek in it.
-#[derive(Clone, Copy, Debug)]
+#[derive(Clone, Copy)]
 pub(crate) struct Turn {
     pub(crate) seen: bool,
     pub(crate) gone: bool,

@@ -1,0 +1,23 @@
+//! Examples of the libraries: memory, descriptors, captures, layouts of sockets, a run, and its report. Each is a function that
+//! prints what it shows.
+#![tactic(auto)]
+
+mod captures;
+mod descriptors;
+mod layouts;
+mod memory;
+mod reports;
+mod runs;
+
+use anyhow::Result;
+
+fn main(rt: HostRuntime) -> Result<()> {
+    let alloc = rt.alloc();
+    memory::fill_a_frame(&rt, alloc)?;
+    descriptors::gather_a_packet(&rt, alloc)?;
+    captures::write_and_read(&rt, alloc)?;
+    captures::write_in_gaps(&rt, alloc)?;
+    layouts::configure(&rt, alloc)?;
+    runs::forward_a_packet(&rt, alloc)?;
+    reports::report_a_run(&rt, alloc)
+}

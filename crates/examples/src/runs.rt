@@ -1,0 +1,78 @@
+//! xsk_sim: two drivers and an application forward a port's packets in rounds. What was sent has gaps for a capture's headers.
+ghost use Rattle.xsk_model.specs.Config.{IsRegular};
+ghost use Rattle.xsk_model.specs.Opening.{AreFrames};
+
+use crate::layouts::opened;
+use anyhow::{Result, bail};
+use std::alloc::Global;
+use xsk_model::Config;
+use xsk_pcap::GAPS;
+use xsk_prog::{Rule, XdpProgram};
+use xsk_sim::{Run, Wire, simulate};
+use xsk_socket::Layout;
+use xsk_umem::{Frames, PacketList};
+
+/// Two ports with one queue each, and one socket on each queue.
+pub const LAYOUT: Layout = Layout {
+    ports: 2,
+    queues: 1,
+    sockets: 1,
+    files: 4,
+    files_wanted_per_port: 2,
+    chunk: 4096,
+    headroom: 0,
+    frames: 256,
+    rx: 2048,
+    tx: 2048,
+    fill: 2048,
+    comp: 2048,
+    sg: false,
+    wakeup: false,
+    empty: None,
+};
+
+pub fn forward_a_packet<R: Print>(rt: &R, alloc: Global) -> Result<()> {
+    let (config, frames) = opened(alloc, &LAYOUT)?;
+    let run = forwarded(alloc, config, frames)?;
+    println!(rt; "a run of {} calls", run.log().len())?;
+    for list in run.into_sent() {
+        tell(rt, list)?;
+    }
+    Ok(())
+}
+
+/// The run in which port 0 of two receives one packet.
+pub fn forwarded(alloc: Global, config: Config, frames: Frames) -> Result<Run>
+    requires regular { IsRegular config }
+    requires frames { AreFrames config.geometry frames.items }
+{
+    let mut received = PacketList::new(alloc);
+    received.push(&[7; 60])?;
+    let lists = vec![in alloc; received, PacketList::new(alloc)]?;
+    if lists.len() != config.ports() as usize {
+        bail!("there is a list for each port");
+    }
+    let rule = Rule::Redirect { sockets: 1 };
+    let program = XdpProgram::attach(rule, |bytes: &[u8], queue: u32| rule.verdict(bytes, queue));
+    let run = simulate(
+        alloc,
+        config,
+        frames,
+        lists.as_slice(),
+        &program,
+        Wire::Wait,
+        0,
+    )?;
+    Ok(run)
+}
+
+/// What a driver sent.
+fn tell<R: Print>(rt: &R, list: PacketList) -> Result<()> {
+    println!(rt; "{} packets sent", list.len())?;
+    for i in 0..list.len() {
+        println!(rt; "{:?}", list.get(i))?;
+    }
+    let has_gaps = list.into_parts().gaps == Some(GAPS);
+    println!(rt; "with gaps for headers: {has_gaps}")?;
+    Ok(())
+}

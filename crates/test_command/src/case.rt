@@ -1,0 +1,231 @@
+//! Instructions, and what those of a case have said so far.
+
+use crate::lanes::Spread;
+use crate::text::text_of;
+use anyhow::Result;
+use std::alloc::{AllocError, Global};
+use xsk_io::Fail;
+
+/// What a line says.
+pub(crate) enum Instruction<'a> {
+    Nothing,
+    Case(&'a str),
+    Run(&'a str),
+    Alone(&'a str),
+    Files(&'a str),
+    Meaning(&'a str),
+    Table(&'a str),
+    /// Something that a case keeps, by its name.
+    Setting(&'a str, &'a str),
+}
+
+impl<'a> Instruction<'a> {
+    pub(crate) fn of(line: &'a str) -> Instruction<'a> {
+        if line.is_empty() || line.starts_with('#') {
+            return Instruction::Nothing;
+        }
+        let (name, rest) = line.split_once(' ').unwrap_or((line, ""));
+        match name {
+            "case" => Instruction::Case(rest),
+            "run" => Instruction::Run(rest),
+            "alone" => Instruction::Alone(rest),
+            "files" => Instruction::Files(rest),
+            "meaning" => Instruction::Meaning(rest),
+            "table" => Instruction::Table(rest),
+            _ => Instruction::Setting(name, rest),
+        }
+    }
+}
+
+/// Bytes with a name.
+#[derive(Drop)]
+pub(crate) struct Named {
+    pub(crate) name: String,
+    pub(crate) bytes: Vec<u8>,
+}
+
+/// Which workers a gate holds.
+#[derive(Clone, Copy, PartialEq, Eq)]
+pub(crate) enum Holds {
+    NoOne,
+    /// Workers 0 and 1 until both have come.
+    Pair,
+    /// This one, until another has gone on for long.
+    One(u32),
+}
+
+/// What is said of the next run.
+#[derive(Drop)]
+pub(crate) struct Next {
+    pub(crate) fails: Vec<Fail>,
+    pub(crate) most: Option<u32>,
+    pub(crate) holds: Holds,
+    pub(crate) tells_writes: bool,
+    pub(crate) fronts: Vec<String>,
+}
+
+impl Next {
+    fn new(alloc: Global) -> Next {
+        Next {
+            fails: Vec::new(alloc),
+            most: None,
+            holds: Holds::NoOne,
+            tells_writes: false,
+            fronts: Vec::new(alloc),
+        }
+    }
+}
+
+/// The texts of a case, and what is said of its runs.
+#[derive(Drop)]
+pub(crate) struct Case {
+    alloc: Global,
+    pub(crate) texts: Vec<Named>,
+    pub(crate) inputs: Vec<String>,
+    pub(crate) room: u32,
+    pub(crate) spread: Option<Spread>,
+    pub(crate) next: Next,
+}
+
+/// The room of an output where none is said.
+const ROOM: u32 = 65_536;
+
+impl Case {
+    pub(crate) fn new(alloc: Global) -> Case {
+        Case {
+            alloc,
+            texts: Vec::new(alloc),
+            inputs: Vec::new(alloc),
+            room: ROOM,
+            spread: None,
+            next: Next::new(alloc),
+        }
+    }
+
+    /// Forgets what was said of a run.
+    pub(crate) fn forget(&mut self) {
+        self.next = Next::new(self.alloc);
+    }
+
+    /// The bytes of a text.
+    pub(crate) fn text(&self, name: &str) -> Option<&[u8]> {
+        for text in &self.texts {
+            if text.name.as_str() == name {
+                return Some(text.bytes.as_slice());
+            }
+        }
+        None
+    }
+
+    /// The name of the first text with these bytes.
+    pub(crate) fn name_of(&self, bytes: &[u8]) -> Option<&str> {
+        for text in &self.texts {
+            if text.bytes.as_slice() == bytes {
+                return Some(text.name.as_str());
+            }
+        }
+        None
+    }
+
+    /// Keeps what an instruction says. False where it says nothing.
+    pub(crate) fn set(&mut self, alloc: Global, name: &str, value: &str) -> Result<bool> {
+        match name {
+            "text" => self.add_text(alloc, value),
+            "inputs" => self.set_inputs(alloc, value),
+            "has" => {
+                self.next.fronts.push(String::from_str(alloc, value)?)?;
+                Ok(true)
+            }
+            "fail" => self.add_fail(value),
+            "lanes" => Ok(self.set_spread(value)),
+            "pair" => {
+                self.next.holds = Holds::Pair;
+                Ok(true)
+            }
+            "writes" => {
+                self.next.tells_writes = true;
+                Ok(true)
+            }
+            _ => Ok(self.set_number(name, value)),
+        }
+    }
+
+    fn add_text(&mut self, alloc: Global, value: &str) -> Result<bool> {
+        let (name, tokens) = value.split_once(' ').unwrap_or((value, "zeros:0"));
+        let Some(bytes) = text_of(alloc, tokens)? else {
+            return Ok(false);
+        };
+        let name = String::from_str(alloc, name)?;
+        self.texts.push(Named { name, bytes })?;
+        Ok(true)
+    }
+
+    fn set_inputs(&mut self, alloc: Global, names: &str) -> Result<bool> {
+        self.inputs = Vec::new(alloc);
+        for name in names.split(' ') {
+            if self.text(name).is_none() {
+                return Ok(false);
+            }
+            self.inputs.push(String::from_str(alloc, name)?)?;
+        }
+        Ok(true)
+    }
+
+    fn add_fail(&mut self, value: &str) -> Result<bool> {
+        match fail_of(value) {
+            Some(fail) => {
+                self.next.fails.push(fail)?;
+                Ok(true)
+            }
+            None => Ok(false),
+        }
+    }
+
+    fn set_spread(&mut self, value: &str) -> bool {
+        self.spread = spread_of(value);
+        self.spread.is_some()
+    }
+
+    fn set_number(&mut self, name: &str, value: &str) -> bool {
+        let Ok(number) = value.parse::<u32>() else {
+            return false;
+        };
+        match name {
+            "room" => self.room = number,
+            "most" => self.next.most = Some(number),
+            "hold" => self.next.holds = Holds::One(number),
+            _ => return false,
+        }
+        true
+    }
+}
+
+fn fail_of(value: &str) -> Option<Fail> {
+    let (kind, number) = value.split_once(' ')?;
+    let number = number.parse::<u32>().ok()?;
+    match kind {
+        "open" => Some(Fail::Open(number)),
+        "read" => Some(Fail::Read(number)),
+        "write" => Some(Fail::Write(number)),
+        _ => None,
+    }
+}
+
+fn spread_of(value: &str) -> Option<Spread> {
+    let (queues, sockets) = value.split_once(' ')?;
+    let queues = queues.parse::<u32>().ok()?;
+    let sockets = sockets.parse::<u32>().ok()?;
+    Some(Spread { queues, sockets })
+}
+
+/// A copy of the bytes of each input. None where an input has no text.
+pub(crate) fn inputs_of(alloc: Global, case: &Case) -> Result<Option<Vec<Vec<u8>>>, AllocError> {
+    let mut inputs = Vec::new(alloc);
+    for name in &case.inputs {
+        let Some(bytes) = case.text(name.as_str()) else {
+            return Ok(None);
+        };
+        inputs.push(Vec::from_slice(alloc, bytes)?)?;
+    }
+    Ok(Some(inputs))
+}

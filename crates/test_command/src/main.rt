@@ -1,0 +1,91 @@
+//! Runs the commands of many cases over a bay in memory, and prints how each ended and what it left.
+//!
+//! Each line of standard input is an instruction, whose first word says what it does:
+//!
+//! - `case NAME` begins a case, which has no texts and no inputs yet.
+//! - `text NAME TOKEN ..` names bytes (`text.rt` says what a token is).
+//! - `inputs NAME ..` says the texts that the ports' inputs have.
+//! - `room N` says how many bytes an output takes, and the report; 65,536 where it isn't said.
+//! - `lanes QUEUES SOCKETS` has each output told lane by lane, where the order between lanes is free.
+//! - `fail open N`, `fail read N`, `fail write N`, `most N`, `pair`, `hold WORKER`, `writes` and `has FRONT` are about the next
+//!   run: a call that fails, the most bytes that a write takes, a gate, that its writes are told, and that of its report only
+//!   is told whether it has a line that begins so.
+//! - `run WORD ..` runs the command of these words, with threads for `forward`, `alone WORD ..` without, and `files WORD ..` over
+//!   the files of the folder.
+//! - `meaning WORD ..` tells what the words of `simulate` mean, and `table WORD ..` those of a smaller table of options.
+//!
+//! At the end it does what its own words say, as the program does, and ends with the status of that.
+//!
+//! Empty lines and those that begin with `#` say nothing.
+#![tactic(auto)]
+
+mod case;
+mod lanes;
+mod run;
+mod show;
+mod table;
+mod text;
+
+use crate::case::{Case, Instruction};
+use crate::run::{run, run_alone, run_over_files};
+use crate::table::{meaning, meaning_by_small_table};
+use anyhow::Result;
+use std::alloc::Global;
+use std::process::ExitCode;
+use std::rt::Files;
+use std::sync::Wait;
+use std::thread::Threads;
+
+/// Does what a line says, and gives what is to be printed.
+fn done<R: Files + Print + Threads + Wait + Sync>(
+    rt: &R,
+    alloc: Global,
+    case: &mut Case,
+    line: &str,
+) -> Result<String> {
+    match Instruction::of(line) {
+        Instruction::Nothing => Ok(String::new(alloc)),
+        Instruction::Case(name) => {
+            *case = Case::new(alloc);
+            Ok(format!(in alloc; "\n== {name}\n")?)
+        }
+        Instruction::Run(words) => {
+            let told = run(rt, alloc, case, words)?;
+            case.forget();
+            Ok(told)
+        }
+        Instruction::Alone(words) => {
+            let told = run_alone(alloc, case, words)?;
+            case.forget();
+            Ok(told)
+        }
+        Instruction::Files(words) => run_over_files(rt, alloc, words),
+        Instruction::Meaning(words) => meaning(alloc, case, words),
+        Instruction::Table(words) => meaning_by_small_table(alloc, words),
+        Instruction::Setting(name, value) => {
+            if case.set(alloc, name, value)? {
+                return Ok(String::new(alloc));
+            }
+            Ok(format!(in alloc; "no such instruction: {line}\n")?)
+        }
+    }
+}
+
+/// Does what the lines of standard input say.
+fn play<R: Input + Files + Print + AllocGlobal + Threads + Wait + Sync>(rt: &R) -> Result<()> {
+    let alloc = rt.alloc();
+    let mut case = Case::new(alloc);
+    for line in rt.lines(alloc) {
+        let line = line?;
+        let told = done(rt, alloc, &mut case, line.as_str())?;
+        print!(rt; "{told}")?;
+    }
+    Ok(())
+}
+
+fn main(rt: HostRuntime) -> ExitCode {
+    if play(&rt).is_err() {
+        return ExitCode::from(1);
+    }
+    xsk_program::run(&rt)
+}

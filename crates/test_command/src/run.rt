@@ -1,0 +1,155 @@
+//! A command over a bay in memory. What its contract says is proved of the command; a case looks at its status, its streams and
+//! its writes alone.
+ghost use Rattle.std.specs.Prelude.{◌≡◌, false, IfOk};
+ghost use Rattle.xsk_io.specs.declared.bay.Stream.{Stream as AStream};
+ghost use Rattle.xsk_io.specs.Memory.{is_open_of};
+
+use crate::case::{Case, Holds, inputs_of};
+use crate::show::{Shown, show};
+use anyhow::{Result, anyhow};
+use std::alloc::Global;
+use std::fmt::Write;
+use std::rt::Files;
+use std::sync::Wait;
+use std::thread::Threads;
+use xsk_cli::{Ended, Status, run_plain};
+use xsk_io::{Bay, FileBay, Gate, HoldGate, MemoryBay, Open, PairGate};
+
+/// Runs the command of a line, with threads for `forward`, and tells how it ended and what it left.
+pub(crate) fn run<R: Threads + Wait + Sync>(
+    rt: &R,
+    alloc: Global,
+    case: &Case,
+    line: &str,
+) -> Result<String> {
+    let words = words_of(alloc, line)?;
+    let mut bay = bay_of(alloc, case)?;
+    let mut told = format!(in alloc; "> {line}\n")?;
+    let ended = match case.next.holds {
+        Holds::NoOne => through(rt, alloc, words.as_slice(), &mut bay, &Open),
+        Holds::Pair => run_pair(rt, alloc, words.as_slice(), &mut bay, &mut told)?,
+        Holds::One(worker) => {
+            let gate = HoldGate::new(worker);
+            let ended = through(rt, alloc, words.as_slice(), &mut bay, &gate);
+            writeln!(told, "another goes on: {}", gate.pushed())?;
+            ended
+        }
+    };
+    let shown = shown_by(&ended);
+    show(alloc, case, ended.status, shown, &bay, &mut told)?;
+    Ok(told)
+}
+
+/// Runs the command of a line over files, and tells how it ended. What it reports is printed at once.
+pub(crate) fn run_over_files<R: Files + Print + Threads + Wait + Sync>(
+    rt: &R,
+    alloc: Global,
+    line: &str,
+) -> Result<String> {
+    println!(rt; "> {line}")?;
+    let words = words_of(alloc, line)?;
+    let mut bay = FileBay::new(rt);
+    let ended = through(rt, alloc, words.as_slice(), &mut bay, &Open);
+    let status = ended.status;
+    Ok(format!(in alloc; "{status:?}, {}\n", status.exit_status())?)
+}
+
+/// Runs the command of a line without threads, and tells how it ended and what it left.
+pub(crate) fn run_alone(alloc: Global, case: &Case, line: &str) -> Result<String> {
+    let mut told = format!(in alloc; "> {line}\n")?;
+    let words = words_of(alloc, line)?;
+    let (status, bay) = ended_alone(alloc, case, words.as_slice())?;
+    show(alloc, case, status, Shown::Nothing, &bay, &mut told)?;
+    Ok(told)
+}
+
+/// How a command ends without threads, and what it leaves.
+pub(crate) fn ended_alone(
+    alloc: Global,
+    case: &Case,
+    words: &[String],
+) -> Result<(Status, MemoryBay)> {
+    let mut bay = bay_of(alloc, case)?;
+    let status = alone(alloc, words, &mut bay);
+    Ok((status, bay))
+}
+
+/// The words of a line. An empty line has none.
+fn words_of(alloc: Global, line: &str) -> Result<Vec<String>> {
+    if line.is_empty() {
+        return Ok(Vec::new(alloc));
+    }
+    words_in(alloc, line)
+}
+
+/// The words of a line, parted by spaces: one at least, which may be empty.
+pub(crate) fn words_in(alloc: Global, line: &str) -> Result<Vec<String>> {
+    let mut words = Vec::new(alloc);
+    for word in line.split(' ') {
+        words.push(String::from_str(alloc, word)?)?;
+    }
+    Ok(words)
+}
+
+/// A bay with the inputs of a case, of which the calls fail that are to fail in the next run.
+fn bay_of(alloc: Global, case: &Case) -> Result<MemoryBay>
+    ensures { IfOk result (λ bay. (stream : AStream) → is_open_of bay.memory stream ≡ false) }
+{
+    let Some(inputs) = inputs_of(alloc, case)? else {
+        return Err(anyhow!("an input has no text"));
+    };
+    let fails = Vec::from_slice(alloc, case.next.fails.as_slice())?;
+    let Ok(mut bay) = MemoryBay::new(alloc, inputs, case.room, fails) else {
+        return Err(anyhow!("out of memory"));
+    };
+    if let Some(most) = case.next.most
+        && most >= 1
+    {
+        bay.take_at_most(most);
+    }
+    Ok(bay)
+}
+
+/// Runs a command over the gate of a pair, and tells who came to it.
+fn run_pair<R: Threads + Wait + Sync, B: Bay>(
+    rt: &R,
+    alloc: Global,
+    words: &[String],
+    bay: &mut B,
+    told: &mut String,
+) -> Result<Ended>
+    requires { (stream : AStream) → B.is_open bay.old stream ≡ false }
+{
+    let gate = PairGate::new();
+    let ended = through(rt, alloc, words, bay, &gate);
+    let met = gate.entered(0) && gate.entered(1) && !gate.limit_met();
+    writeln!(told, "two drivers meet: {met}")?;
+    Ok(ended)
+}
+
+fn through<R: Threads + Wait + Sync, B: Bay, G: Gate + Sync>(
+    rt: &R,
+    alloc: Global,
+    words: &[String],
+    bay: &mut B,
+    gate: &G,
+) -> Ended
+    requires { (stream : AStream) → B.is_open bay.old stream ≡ false }
+{
+    xsk_cli::run(rt, alloc, words, bay, gate)
+}
+
+fn alone<B: Bay>(alloc: Global, words: &[String], bay: &mut B) -> Status
+    requires { (stream : AStream) → B.is_open bay.old stream ≡ false }
+{
+    run_plain(alloc, words, bay)
+}
+
+/// What a run on threads shows.
+fn shown_by(ended: &Ended) -> Shown {
+    match &ended.outcome {
+        None => Shown::Nothing,
+        Some(outcome) if outcome.figures().calls == 0 => Shown::NoCalls,
+        Some(_) => Shown::Calls,
+    }
+}

@@ -1,0 +1,193 @@
+//! What words mean by a table of options.
+
+use crate::case::Case;
+use crate::run::{ended_alone, words_in};
+use anyhow::{Result, anyhow};
+use std::alloc::Global;
+use std::fmt::Write;
+use xsk_args::{Args, ArgsError, OptionRow, Takes, Wire, parse};
+use xsk_cli::Status;
+
+/// The options of `simulate`.
+static OPTIONS: [OptionRow; 18] = [
+    OptionRow {
+        name: "ports",
+        takes: Takes::Number,
+    },
+    OptionRow {
+        name: "queues",
+        takes: Takes::Number,
+    },
+    OptionRow {
+        name: "sockets",
+        takes: Takes::Number,
+    },
+    OptionRow {
+        name: "frames",
+        takes: Takes::Number,
+    },
+    OptionRow {
+        name: "chunk",
+        takes: Takes::Number,
+    },
+    OptionRow {
+        name: "headroom",
+        takes: Takes::Number,
+    },
+    OptionRow {
+        name: "rx",
+        takes: Takes::Number,
+    },
+    OptionRow {
+        name: "tx",
+        takes: Takes::Number,
+    },
+    OptionRow {
+        name: "fill",
+        takes: Takes::Number,
+    },
+    OptionRow {
+        name: "comp",
+        takes: Takes::Number,
+    },
+    OptionRow {
+        name: "order",
+        takes: Takes::Number,
+    },
+    OptionRow {
+        name: "gen",
+        takes: Takes::Number,
+    },
+    OptionRow {
+        name: "prog",
+        takes: Takes::Program,
+    },
+    OptionRow {
+        name: "wire",
+        takes: Takes::Wire,
+    },
+    OptionRow {
+        name: "empty",
+        takes: Takes::Number,
+    },
+    OptionRow {
+        name: "sg",
+        takes: Takes::Nothing,
+    },
+    OptionRow {
+        name: "wakeup",
+        takes: Takes::Nothing,
+    },
+    OptionRow {
+        name: "journal",
+        takes: Takes::Nothing,
+    },
+];
+
+/// A smaller table, with an option that takes any text.
+static SMALL: [OptionRow; 5] = [
+    OptionRow {
+        name: "rx",
+        takes: Takes::Number,
+    },
+    OptionRow {
+        name: "order",
+        takes: Takes::Number,
+    },
+    OptionRow {
+        name: "prog",
+        takes: Takes::AnyText,
+    },
+    OptionRow {
+        name: "wire",
+        takes: Takes::Wire,
+    },
+    OptionRow {
+        name: "sg",
+        takes: Takes::Nothing,
+    },
+];
+
+/// What the words of a line mean, and whether the command takes them for a faulty command line where they mean nothing, and only
+/// there.
+pub(crate) fn meaning(alloc: Global, case: &Case, line: &str) -> Result<String> {
+    let words = words_in(alloc, line)?;
+    let mut told = format!(in alloc; "{line} => ")?;
+    let means = match parse(alloc, "simulate", OPTIONS.as_slice(), words.as_slice()) {
+        Ok(args) => {
+            tell_meaning(&args, OPTIONS.as_slice(), &mut told)?;
+            true
+        }
+        Err(error) => tell_refusal(error, &mut told)?,
+    };
+    let (status, _bay) = ended_alone(alloc, case, words.as_slice())?;
+    if means == (status == Status::Usage) {
+        write!(told, ", but the command ends with {status:?}")?;
+    }
+    told.push_str("\n")?;
+    Ok(told)
+}
+
+/// What the words of a line mean by the smaller table.
+pub(crate) fn meaning_by_small_table(alloc: Global, line: &str) -> Result<String> {
+    let words = words_in(alloc, line)?;
+    let mut told = format!(in alloc; "{line} => ")?;
+    match parse(alloc, "simulate", SMALL.as_slice(), words.as_slice()) {
+        Ok(args) => tell_meaning(&args, SMALL.as_slice(), &mut told)?,
+        Err(error) => {
+            tell_refusal(error, &mut told)?;
+        }
+    }
+    told.push_str("\n")?;
+    Ok(told)
+}
+
+/// Tells that words mean nothing.
+fn tell_refusal(error: ArgsError, told: &mut String) -> Result<bool> {
+    match error {
+        ArgsError::Usage => told.push_str("usage")?,
+        ArgsError::OutOfMemory => return Err(anyhow!("out of memory")),
+    }
+    Ok(false)
+}
+
+/// Tells the options that were said, with their values, and the files.
+fn tell_meaning(args: &Args<'_>, table: &[OptionRow], told: &mut String) -> Result<()> {
+    for row in table {
+        tell_option(args, *row, told)?;
+    }
+    told.push_str("files")?;
+    let mut between = "=";
+    for file in args.files().unwrap_or(&[]) {
+        told.push_str(between)?;
+        told.push_str(file)?;
+        between = ",";
+    }
+    Ok(())
+}
+
+/// Tells an option that was said, with its value as the table's kind of it is read.
+fn tell_option(args: &Args<'_>, row: OptionRow, told: &mut String) -> Result<()> {
+    let name = row.name;
+    if row.takes == Takes::Number
+        && let Some(number) = args.number(name)
+    {
+        write!(told, "{name}={number} ")?;
+    } else if row.takes == Takes::Wire
+        && let Some(wire) = args.wire(name)
+    {
+        write!(told, "{name}={} ", word_of(wire))?;
+    } else if let Some(text) = args.text(name) {
+        write!(told, "{name}={text} ")?;
+    } else if args.is_said(name) {
+        write!(told, "{name} ")?;
+    }
+    Ok(())
+}
+
+fn word_of(wire: Wire) -> &'static str {
+    match wire {
+        Wire::Wait => "wait",
+        Wire::Drop => "drop",
+    }
+}

@@ -1,0 +1,5 @@
+use Rattle.xsk_rings.specs.Rounds.{Rests}
+use Rattle.test_threads.proofs.going.peek.Given as goal
+
+abbrev pub invariant-tries : goal.invariant-tries
+invariant-tries l = Rests l.shared l.pass

@@ -1,0 +1,80 @@
+//! Calls that a thread makes until they go on, each of them legal, with its looks at the other side's count counted.
+ghost use Rattle.xsk_rings.specs.Rounds.{Rests};
+
+use std::thread;
+use xsk_model::{Call, Reply, Ring};
+use xsk_rings::RingCalls;
+use xsk_table::{Pass, Shared};
+use xsk_umem::Item;
+
+/// How often a call is made again that found a ring full or empty.
+const PATIENCE: u64 = 10_000_000_000;
+
+/// What a caller did: its Reserves and Peeks, how many of them found a ring full or empty, and its looks at the other side's
+/// count.
+#[derive(Clone, Copy, Debug, Default, PartialEq, Eq)]
+pub(crate) struct Tally {
+    pub(crate) asked: u32,
+    pub(crate) waits: u32,
+    pub(crate) looks: u32,
+}
+
+impl Tally {
+    /// Counts a call by its reply, and whether it looked.
+    fn count(&mut self, reply: &Reply, looked: bool) {
+        let (asked, waits) = match reply {
+            Reply::Granted | Reply::Items(_) => (1, 0),
+            Reply::Full(_) | Reply::Empty => (1, 1),
+            Reply::Submitted | Reply::Released | Reply::Old(_) => (0, 0),
+        };
+        self.asked = self.asked.saturating_add(asked);
+        self.waits = self.waits.saturating_add(waits);
+        self.looks = self.looks.saturating_add(u32::from(looked));
+    }
+}
+
+/// Makes a call. None where it isn't legal.
+pub(crate) fn make(shared: &Shared, pass: &mut Pass, call: Call, tally: &mut Tally) -> Option<Reply>
+    requires { Rests shared.now pass.old }
+    ensures { Rests shared.now pass.new }
+{
+    if !pass.allows(shared, &call) {
+        return None;
+    }
+    let looked = match &call {
+        Call::Reserve(..) | Call::Peek(..) => !pass.covers(shared, &call),
+        Call::Submit(..) | Call::Release(..) | Call::Swap(..) | Call::Look(_) => false,
+    };
+    let reply = pass.perform(shared, call);
+    tally.count(&reply, looked);
+    Some(reply)
+}
+
+/// Reserves a place, and waits until one is free.
+pub(crate) fn reserve(shared: &Shared, pass: &mut Pass, ring: Ring, tally: &mut Tally) -> Option<()>
+    requires { Rests shared.now pass.old }
+    ensures { Rests shared.now pass.new }
+{
+    'tries: for _ in 0..PATIENCE {
+        if let Reply::Granted = make(shared, pass, Call::Reserve(ring, 1), tally)? {
+            return Some(());
+        }
+        thread::yield_now();
+    }
+    None
+}
+
+/// Takes an item, and waits until there is one.
+pub(crate) fn peek(shared: &Shared, pass: &mut Pass, ring: Ring, tally: &mut Tally) -> Option<Item>
+    requires { Rests shared.now pass.old }
+    ensures { Rests shared.now pass.new }
+{
+    'tries: for _ in 0..PATIENCE {
+        if let Reply::Items(items) = make(shared, pass, Call::Peek(ring, 1), tally)? {
+            let mut items = items;
+            return items.pop_front();
+        }
+        thread::yield_now();
+    }
+    None
+}

@@ -1,0 +1,107 @@
+//! Drivers and applications, each on a thread of its own, send what they send in rounds.
+ghost use Rattle.std.specs.Prelude.{◌≡◌, All, IfOk, length};
+ghost use Rattle.xsk_machine.specs.Acts.{HasShortPackets};
+ghost use Rattle.xsk_prog.specs.Program.{Obeys};
+
+use crate::setting::{are_alike, layout, packets, set_up};
+use std::alloc::Global;
+use std::sync::Wait;
+use std::test::Fail;
+use std::thread::Threads;
+use xsk_io::{Gate, Open, PairGate};
+use xsk_prog::{Rule, Verdict, XdpProgram};
+use xsk_sim::{Wire, simulate};
+use xsk_socket::Layout;
+use xsk_umem::PacketList;
+use xsk_workers::forward;
+
+/// What each driver sends in rounds.
+fn sent_in_rounds<F: Fn(&[u8], u32) -> Verdict>(
+    alloc: Global,
+    layout: &Layout,
+    lists: &[PacketList],
+    program: &XdpProgram<F>,
+) -> Result<Vec<PacketList>, Fail>
+    requires short { All HasShortPackets lists.now }
+    requires obeys { Obeys F.Fn program.now.rule program.now.decide }
+{
+    let (config, frames) = set_up(alloc, layout)?;
+    if lists.len() != config.ports() as usize {
+        return Err("there is no list for each port")?;
+    }
+    match simulate(alloc, config, frames, lists, program, Wire::Wait, 0) {
+        Ok(run) => Ok(run.into_sent()),
+        Err(_) => Err("the run didn't end")?,
+    }
+}
+
+/// What each driver sends on threads.
+fn sent_on_threads<R: Threads + Wait + Sync, F: Fn(&[u8], u32) -> Verdict, G: Gate + Sync>(
+    rt: &R,
+    alloc: Global,
+    layout: &Layout,
+    lists: &[PacketList],
+    program: &XdpProgram<F>,
+    gate: &G,
+) -> Result<Vec<PacketList>, Fail>
+    requires short { All HasShortPackets lists.now }
+    requires obeys { Obeys F.Fn program.now.rule program.now.decide }
+{
+    let (config, frames) = set_up(alloc, layout)?;
+    if lists.len() != config.ports() as usize {
+        return Err("there is no list for each port")?;
+    }
+    let mut outcome = forward(rt, alloc, config, frames, lists, program, Wire::Wait, gate)?;
+    Ok(outcome.take_sent(alloc))
+}
+
+#[test]
+fn threads_send_what_rounds_send(rt: HostRuntime) -> Result<(), Fail> {
+    let alloc = rt.alloc();
+    let lists = vec![in alloc; packets(alloc, 200)?, packets(alloc, 200)?]?;
+    let rule = Rule::Redirect { sockets: 1 };
+    let program = XdpProgram::attach(rule, |bytes: &[u8], queue: u32| rule.verdict(bytes, queue));
+    let layout = layout(2, 4);
+    let rounds = sent_in_rounds(alloc, &layout, lists.as_slice(), &program)?;
+    assert!(rt; rounds.iter().all(|list| list.len() == 100));
+    for _ in 0..2 {
+        let threads = sent_on_threads(&rt, alloc, &layout, lists.as_slice(), &program, &Open)?;
+        assert!(rt; are_alike(threads.as_slice(), rounds.as_slice()));
+    }
+    Ok(())
+}
+
+#[test]
+fn threads_send_what_a_closure_of_ones_own_redirects(rt: HostRuntime) -> Result<(), Fail> {
+    let alloc = rt.alloc();
+    let lists = vec![in alloc; packets(alloc, 200)?, packets(alloc, 200)?]?;
+    let program = XdpProgram::attach(Rule::AtMost(1), |bytes: &[u8], _queue: u32| {
+        if bytes[0] % 2 == 0 {
+            Verdict::Redirect(0)
+        } else {
+            Verdict::Drop
+        }
+    });
+    let layout = layout(1, 4);
+    let rounds = sent_in_rounds(alloc, &layout, lists.as_slice(), &program)?;
+    let threads = sent_on_threads(&rt, alloc, &layout, lists.as_slice(), &program, &Open)?;
+    assert!(rt; rounds.iter().all(|list| list.len() == 100));
+    assert!(rt; are_alike(threads.as_slice(), rounds.as_slice()));
+    Ok(())
+}
+
+/// Workers run at once: two drivers meet at a gate that holds each until the other has come.
+#[test]
+fn two_drivers_meet_at_the_gate(rt: HostRuntime) -> Result<(), Fail> {
+    let alloc = rt.alloc();
+    let lists = vec![in alloc; packets(alloc, 1)?, packets(alloc, 0)?]?;
+    let sent = vec![in alloc; packets(alloc, 0)?, packets(alloc, 1)?]?;
+    let rule = Rule::Redirect { sockets: 1 };
+    let program = XdpProgram::attach(rule, |bytes: &[u8], queue: u32| rule.verdict(bytes, queue));
+    let gate = PairGate::new();
+    let threads = sent_on_threads(&rt, alloc, &layout(1, 4), lists.as_slice(), &program, &gate)?;
+    assert!(rt; gate.entered(0) && gate.entered(1));
+    assert!(rt; !gate.limit_met());
+    assert!(rt; are_alike(threads.as_slice(), sent.as_slice()));
+    Ok(())
+}

@@ -1,0 +1,6 @@
+use Rattle.std.specs.Prelude.{◌≡◌, All, length}
+use Rattle.xsk_sim.specs.Shown.{HasShortPackets}
+use Rattle.test_workers.proofs.packets.lists_of.Given as goal
+
+abbrev pub invariant-loop-port : goal.invariant-loop-port
+invariant-loop-port l = (length l.lists.items ≡ l.port) × All HasShortPackets l.lists.items

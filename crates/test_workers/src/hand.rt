@@ -1,0 +1,125 @@
+//! A worker that is played by hand: it makes one call, and goes on with the reply to it.
+ghost use Rattle.std.specs.Prelude.{◌≡◌, IfSome, Some};
+ghost use Rattle.xsk_model.specs.Expected.{Expected, CanCome, expected_by, expected_of, nothing};
+
+use crate::texts::{DisposalText, PacketsText};
+use crate::trouble::Trouble;
+use std::fmt::Write;
+use std::mem;
+use xsk_app::App;
+use xsk_driver::{Disposal, Driver};
+use xsk_model::{Act, Call, Reply};
+
+pub(crate) trait Worker: Drop {
+    // What it waits for.
+    ghost expected: { Self → Expected };
+
+    /// Goes on with the reply to the last call (none at first).
+    fn next(&mut self, reply: Option<Reply>) -> Act
+        requires { CanCome (expected self.old) reply }
+        ensures { expected self.new ≡ expected_of result };
+
+    /// Answers a question. False where the line is none.
+    fn tell(&self, line: &str, text: &mut String) -> Result<bool, Trouble>;
+}
+
+impl Worker for Driver<'_> {
+    ghost expected = { λ d. d.expected };
+
+    fn next(&mut self, reply: Option<Reply>) -> Act {
+        Driver::next(self, reply)
+    }
+
+    fn tell(&self, line: &str, text: &mut String) -> Result<bool, Trouble> {
+        match line {
+            "parked" => writeln!(text, "parked: {}", self.parked())?,
+            "disposals" => tell_disposals(self.disposals(), text)?,
+            "sent" => tell_sent(self, text)?,
+            _ => return Ok(false),
+        }
+        Ok(true)
+    }
+}
+
+fn tell_disposals(disposals: &[Disposal], text: &mut String) -> Result<(), Trouble> {
+    write!(text, "disposals:")?;
+    for disposal in disposals {
+        let disposal = DisposalText(*disposal);
+        write!(text, " {disposal}")?;
+    }
+    writeln!(text)?;
+    Ok(())
+}
+
+/// The packets that were sent, or that they were too many for their room.
+fn tell_sent(driver: &Driver<'_>, text: &mut String) -> Result<(), Trouble> {
+    if driver.overrun() {
+        writeln!(text, "sent: more than there was room for")?;
+        return Ok(());
+    }
+    let sent = PacketsText(driver.sent());
+    writeln!(text, "sent: {sent}")?;
+    Ok(())
+}
+
+impl Worker for App<'_> {
+    ghost expected = { λ a. a.expected };
+
+    fn next(&mut self, reply: Option<Reply>) -> Act {
+        App::next(self, reply)
+    }
+
+    fn tell(&self, _line: &str, _text: &mut String) -> Result<bool, Trouble> {
+        Ok(false)
+    }
+}
+
+/// The reply, where it is one of the call's kind.
+fn fitting(call: &Call, reply: Reply) -> Option<Reply>
+    ensures { IfSome result (λ r. CanCome (expected_by call.now) (Some r)) }
+{
+    let fits = match call {
+        Call::Reserve(_, _) => matches!(&reply, Reply::Granted | Reply::Full(_)),
+        Call::Submit(_, _) => matches!(&reply, Reply::Submitted),
+        Call::Peek(_, _) => matches!(&reply, Reply::Items(_) | Reply::Empty),
+        Call::Release(_, _) => matches!(&reply, Reply::Released),
+        Call::Swap(_, _) | Call::Look(_) => matches!(&reply, Reply::Old(_)),
+    };
+    if fits { Some(reply) } else { None }
+}
+
+/// A worker, with the call that it makes now.
+#[derive(Drop)]
+pub(crate) struct Hand<M: Worker> {
+    worker: M,
+    act: Act,
+    ghost awaits: { M.expected worker ≡ expected_of act },
+}
+
+impl<M: Worker> Hand<M> {
+    pub(crate) fn new(worker: M) -> Hand<M>
+        requires { M.expected worker ≡ nothing }
+    {
+        let mut worker = worker;
+        let act = worker.next(None);
+        Hand { worker, act }
+    }
+
+    pub(crate) fn worker(&self) -> &M {
+        &self.worker
+    }
+
+    pub(crate) fn act(&self) -> &Act {
+        &self.act
+    }
+
+    /// Goes on with the reply and hands out the call that it answers. None, and the worker stays, where it can't come.
+    pub(crate) fn goes(&mut self, reply: Reply) -> Option<Act> {
+        let Act::Call(call) = &self.act else {
+            return None;
+        };
+        let reply = fitting(call, reply)?;
+        let next = self.worker.next(Some(reply));
+        Some(mem::replace(&mut self.act, next))
+    }
+}

@@ -1,0 +1,84 @@
+//! The layout of a script: `layout NAME=NUMBER ..`, with the names of the layout's fields. What isn't named is as in
+//! `PLAIN`: two ports with one queue and one socket each.
+ghost use Rattle.std.specs.Prelude.{◌≡◌, None, IfOk};
+ghost use Rattle.xsk_socket.specs.Layout.{fault_of};
+
+use crate::trouble::Trouble;
+use crate::words::{halves, number};
+use xsk_socket::{Layout, check_layout};
+
+const PLAIN: Layout = Layout {
+    ports: 2,
+    queues: 1,
+    sockets: 1,
+    files: 0,
+    files_wanted_per_port: 0,
+    chunk: 4096,
+    headroom: 0,
+    frames: 256,
+    rx: 2048,
+    tx: 2048,
+    fill: 2048,
+    comp: 2048,
+    sg: false,
+    wakeup: false,
+    empty: None,
+};
+
+/// The layout of a script, which is accepted.
+pub(crate) fn layout_of(lines: &[&str]) -> Result<Layout, Trouble>
+    ensures { IfOk result (λ layout. fault_of layout ≡ None) }
+{
+    let layout = layout_in(lines)?;
+    if check_layout(&layout).is_err() {
+        return Err(Trouble::BadLayout);
+    }
+    Ok(layout)
+}
+
+fn layout_in(lines: &[&str]) -> Result<Layout, Trouble> {
+    let mut layout = PLAIN;
+    for line in lines {
+        read_line(&mut layout, line)?;
+    }
+    Ok(layout)
+}
+
+fn read_line(layout: &mut Layout, line: &str) -> Result<(), Trouble> {
+    let mut words = line.split_whitespace();
+    if words.next() != Some("layout") {
+        return Ok(());
+    }
+    for word in words {
+        let (name, value) = halves(word, '=')?;
+        set(layout, name, number(value)?)?;
+    }
+    Ok(())
+}
+
+fn set(layout: &mut Layout, name: &str, value: u32) -> Result<(), Trouble> {
+    match name {
+        "ports" => layout.ports = value,
+        "queues" => layout.queues = value,
+        "sockets" => layout.sockets = value,
+        "chunk" => layout.chunk = value,
+        "headroom" => layout.headroom = value,
+        "frames" => layout.frames = value,
+        "sg" => layout.sg = value == 1,
+        "wakeup" => layout.wakeup = value == 1,
+        "empty" => layout.empty = Some(value),
+        _ => set_ring(layout, name, value)?,
+    }
+    Ok(())
+}
+
+fn set_ring(layout: &mut Layout, name: &str, value: u32) -> Result<(), Trouble> {
+    match name {
+        "rx" => layout.rx = value,
+        "tx" => layout.tx = value,
+        "fill" => layout.fill = value,
+        "comp" => layout.comp = value,
+        _ => return Err(Trouble::BadLine),
+    }
+    Ok(())
+}

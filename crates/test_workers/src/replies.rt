@@ -1,0 +1,66 @@
+//! Replies, in the form of the journal: `granted`, `full 3`, `submitted`, `items 0:60:0 ..`, `empty`, `released`, or what a
+//! mark was.
+ghost use Rattle.std.specs.Prelude.{◌<◌, length};
+
+use crate::shelf::Shelf;
+use crate::trouble::Trouble;
+use crate::words::{halves, long_number, number};
+use std::alloc::Global;
+use xsk_model::Reply;
+use xsk_umem::{Batch, Frame, Item, XdpDesc};
+
+/// The most items of one reply.
+const MOST_ITEMS: u32 = 32;
+
+/// The reply of a line. The frames of its items are taken from the shelf.
+pub(crate) fn reply_of(alloc: Global, line: &str, shelf: &mut Shelf) -> Result<Reply, Trouble> {
+    match line {
+        "granted" => Ok(Reply::Granted),
+        "submitted" => Ok(Reply::Submitted),
+        "empty" => Ok(Reply::Empty),
+        "released" => Ok(Reply::Released),
+        _ => long_reply(alloc, line, shelf),
+    }
+}
+
+fn long_reply(alloc: Global, line: &str, shelf: &mut Shelf) -> Result<Reply, Trouble> {
+    let Some((word, rest)) = line.split_once(' ') else {
+        return Ok(Reply::Old(long_number(line)?));
+    };
+    match word {
+        "full" => Ok(Reply::Full(number(rest)?)),
+        "items" => Ok(Reply::Items(items_of(alloc, rest, shelf)?)),
+        _ => Err(Trouble::BadLine),
+    }
+}
+
+fn items_of(alloc: Global, text: &str, shelf: &mut Shelf) -> Result<Batch, Trouble> {
+    let mut items = Batch::new(alloc);
+    for word in text.split_whitespace() {
+        let desc = desc_of(word)?;
+        let frame = frame_at(desc.addr, shelf)?;
+        if items.len() == MOST_ITEMS {
+            return Err(Trouble::BadLine);
+        }
+        items.push(Item { frame, desc });
+    }
+    Ok(items)
+}
+
+fn desc_of(word: &str) -> Result<XdpDesc, Trouble> {
+    let (addr, rest) = halves(word, ':')?;
+    let (len, options) = halves(rest, ':')?;
+    Ok(XdpDesc {
+        addr: long_number(addr)?,
+        len: number(len)?,
+        options: number(options)?,
+    })
+}
+
+/// The frame that an address lies in, and none outside the UMEM.
+fn frame_at(addr: u64, shelf: &mut Shelf) -> Result<Option<Frame>, Trouble> {
+    match shelf.place(addr) {
+        Some((number, _)) => Ok(Some(shelf.take(number)?)),
+        None => Ok(None),
+    }
+}

@@ -1,0 +1,95 @@
+//! The frames that a worker doesn't have, by their numbers.
+
+use crate::trouble::Trouble;
+use crate::words::{byte, long_number, number, words_behind};
+use std::alloc::Global;
+use xsk_model::{Act, Call};
+use xsk_umem::{Batch, Frame, Frames};
+
+#[derive(Drop)]
+pub(crate) struct Shelf {
+    frames: Vec<Option<Frame>>,
+    /// The bytes of a frame.
+    chunk: u32,
+}
+
+impl Shelf {
+    /// All frames of a UMEM, whose bytes are those that the script gives by `frame ADDRESS LEN BYTE`.
+    pub(crate) fn new(
+        alloc: Global,
+        frames: Frames,
+        chunk: u32,
+        lines: &[&str],
+    ) -> Result<Shelf, Trouble> {
+        let mut all = frames;
+        let mut frames = Vec::new(alloc);
+        for _ in 0..all.len() {
+            frames.push(all.pop_front())?;
+        }
+        let mut shelf = Shelf { frames, chunk };
+        for line in lines {
+            if let Some(words) = words_behind(alloc, line, "frame")? {
+                shelf.write(alloc, words.as_slice())?;
+            }
+        }
+        Ok(shelf)
+    }
+
+    /// The number of the frame that an address lies in, and the place in it. None where it lies outside the UMEM.
+    pub(crate) fn place(&self, addr: u64) -> Option<(usize, u32)> {
+        let chunk = u64::from(self.chunk);
+        if chunk == 0 || addr / chunk >= self.frames.len() as u64 {
+            return None;
+        }
+        Some(((addr / chunk) as usize, (addr % chunk) as u32))
+    }
+
+    fn write(&mut self, alloc: Global, words: &[&str]) -> Result<(), Trouble> {
+        let [addr, len, value] = words else {
+            return Err(Trouble::BadLine);
+        };
+        let piece = vec![in alloc; byte(value)?; number(len)? as usize]?;
+        let (frame, offset) = self.place(long_number(addr)?).ok_or(Trouble::NoFrame)?;
+        let mut frame = self.take(frame)?;
+        let room = frame.bytes().len();
+        if offset as usize > room || piece.len() > room - offset as usize {
+            return Err(Trouble::BadLine);
+        }
+        frame.fill(offset, piece.as_slice());
+        self.put(frame);
+        Ok(())
+    }
+
+    /// Takes a frame, which must be there.
+    pub(crate) fn take(&mut self, number: usize) -> Result<Frame, Trouble> {
+        let Some(place) = self.frames.get_mut(number) else {
+            return Err(Trouble::NoFrame);
+        };
+        place.take().ok_or(Trouble::NoFrame)
+    }
+
+    fn put(&mut self, frame: Frame) {
+        let number = frame.number() as usize;
+        if let Some(place) = self.frames.get_mut(number) {
+            *place = Some(frame);
+        }
+    }
+
+    /// Puts back the frames that a worker gave away by a call.
+    pub(crate) fn put_back(&mut self, act: Act) {
+        if let Act::Call(Call::Submit(_, items)) = act {
+            self.put_all(items);
+        }
+    }
+
+    fn put_all(&mut self, items: Batch) {
+        let mut items = items;
+        for _ in 0..items.len() {
+            if let Some(item) = items.pop_front() {
+                if let Some(frame) = item.frame {
+                    self.put(frame);
+                }
+            }
+        }
+    }
+}

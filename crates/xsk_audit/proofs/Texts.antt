@@ -1,0 +1,101 @@
+-- How the readers follow a text.
+use Rattle.std.proofs.Common.{◌≡◌, ℕ, ◌+◌, ◌-◌, ◌*◌, ◌^◌, ◌<◌, ◌≤◌, Option, Some, None, List, [], ◌∷◌, ◌++◌, length, take, drop, slice_index, refl, sym, ap, ◌∙◌, inl, inr, true, false, append_assoc}
+use Rattle.std.specs.Prelude.{Bool, ◌==◌, ◌&&◌, nat_eq}
+use Rattle.std.specs.Borrow.{Bor}
+use Rattle.std.specs.Option.{MatchOption}
+use Rattle.std.specs.Cmp.Lexicographic.{pointwise}
+use Rattle.std.specs.Char.{is_ascii_digit}
+use Rattle.std.proofs.lemmas.Bool.{cases_Bool, eq-eqb, eqb-true, le-leb, lt-leb}
+use Rattle.std.specs.Fmt.{decimal}
+use Rattle.xsk_audit.proofs.Numbers.{number-text, some-value}
+use Rattle.std.proofs.lemmas.List.{drop_more}
+use Rattle.xsk_audit.specs.Reading.{text_view, word_at, number_at, digits_end, digits_from, is_leading_zero}
+
+-- a digit, another byte, a zero in front and a number that is too large, at place i
+pub digits-stop : (value len : ℕ) (xs : List ℕ) (i : ℕ) → i < length xs → is_ascii_digit (slice_index xs i) ≡ false
+    → digits_from value len (drop i xs) ≡ digits_end value len (drop i xs)
+unfolding digits_from
+digits-stop value len xs i within other = rw (drop_more xs i 0 within, other) refl
+
+pub digits-zero : (value len : ℕ) (xs : List ℕ) (i : ℕ) → i < length xs → is_ascii_digit (slice_index xs i) ≡ true → is_leading_zero value len ≡ true
+    → digits_from value len (drop i xs) ≡ None
+unfolding digits_from
+digits-zero value len xs i within digit leading = rw (drop_more xs i 0 within, digit, leading) refl
+
+pub digits-over : (value len : ℕ) (xs : List ℕ) (i : ℕ) → i < length xs → is_ascii_digit (slice_index xs i) ≡ true → is_leading_zero value len ≡ false
+    → 2 ^ 64 ≤ value * 10 + (slice_index xs i - 48) → digits_from value len (drop i xs) ≡ None
+unfolding digits_from
+digits-over value len xs i within digit plain big = rw (drop_more xs i 0 within, digit, plain, le-leb _ _ big) refl
+
+pub digits-next : (value len : ℕ) (xs : List ℕ) (i : ℕ) → i < length xs → is_ascii_digit (slice_index xs i) ≡ true → is_leading_zero value len ≡ false
+    → value * 10 + (slice_index xs i - 48) < 2 ^ 64
+    → digits_from value len (drop i xs) ≡ digits_from (value * 10 + (slice_index xs i - 48)) (len + 1) (drop (i + 1) xs)
+unfolding digits_from
+digits-next value len xs i within digit plain small = rw (drop_more xs i 0 within, digit, plain, lt-leb _ _ small) refl
+
+-- ---- words
+
+-- both bytes of a test, in turn
+both : (b c : Bool) → b && c ≡ true → (b ≡ true) × (c ≡ true)
+both true c h = (refl, h)
+both false c h = cc h
+
+pub word-found : (word xs : List ℕ) → pointwise nat_eq (take (length word) xs) word ≡ true → word_at word xs ≡ Some (drop (length word) xs)
+unfolding word_at
+word-found [] xs h = refl
+word-found (w ∷ word) [] h = cc h
+word-found (w ∷ word) (x ∷ xs) h =
+    let p = both (x == w) (pointwise nat_eq (take (length word) xs) word) h in
+    rw p.0 (word-found word xs p.1)
+
+pub word-missed : (word xs : List ℕ) → pointwise nat_eq (take (length word) xs) word ≡ false → word_at word xs ≡ None
+unfolding word_at
+word-missed [] xs h = cc h
+word-missed (w ∷ word) [] h = refl
+word-missed (w ∷ word) (x ∷ xs) h = elim (cases_Bool (x == w)) [
+  | inl same ↦ rw same (word-missed word xs (rw same at h))
+  | inr other ↦ rw other refl
+]
+
+pub word-view : (word xs : List ℕ) (r : Option (Bor (List ℕ)))
+    → MatchOption r (pointwise nat_eq (take (length word) xs) word ≡ false) (λ x. (pointwise nat_eq (take (length word) xs) word ≡ true) × (x.now ≡ drop (length word) xs) × (length x.now + length word ≡ length xs))
+    → text_view r ≡ word_at word xs
+word-view word xs None h = sym (word-missed word xs h)
+word-view word xs (Some rest) h = ap Some h.1 ∙ sym (word-found word xs h.0)
+
+-- a word that was read stands at the front
+pub word-text : (word xs rest : List ℕ) → word_at word xs ≡ Some rest → xs ≡ word ++ rest
+unfolding word_at
+word-text [] xs rest h = some-value xs rest h
+word-text (w ∷ word) [] rest h = cc h
+word-text (w ∷ word) (x ∷ xs) rest h = elim (cases_Bool (x == w)) [
+  | inl same ↦
+      let first : x ≡ w = eqb-true x w same in
+      rw first (ap (λ (l : List ℕ). w ∷ l) (word-text word xs rest (rw same at h)))
+  | inr other ↦ cc (rw other at h)
+]
+
+-- a word is read where it stands at the front
+pub word-again : (word rest : List ℕ) → word_at word (word ++ rest) ≡ Some rest
+unfolding word_at
+word-again [] rest = refl
+word-again (w ∷ word) rest = rw (eq-eqb w w refl) (word-again word rest)
+
+-- two texts that were compared are one
+pub same-bytes : (xs ys : List ℕ) → pointwise nat_eq xs ys ≡ true → xs ≡ ys
+same-bytes [] [] h = refl
+same-bytes [] (y ∷ ys) h = cc h
+same-bytes (x ∷ xs) [] h = cc h
+same-bytes (x ∷ xs) (y ∷ ys) h =
+    let p = both (x == y) (pointwise nat_eq xs ys) h in
+    let first : x ≡ y = eqb-true x y p.0 in
+    rw first (ap (λ (l : List ℕ). y ∷ l) (same-bytes xs ys p.1))
+
+-- a line of a round, a space and a text
+pub timed-text : (line : List ℕ) (round : ℕ) (rest later text : List ℕ) → Some (round, rest) ≡ number_at line → Some later ≡ word_at (32 ∷ []) rest
+    → pointwise nat_eq later text ≡ true → (round < 2 ^ 64) × (line ≡ decimal round ++ 32 ∷ [] ++ text)
+timed-text line round rest later text number word same =
+    let n = number-text line round rest (sym number) in (
+      n.1,
+      n.0 ∙ ap (λ l. decimal round ++ l) (word-text (32 ∷ []) rest later (sym word) ∙ ap (λ l. 32 ∷ l) (same-bytes later text same)) ∙ sym (append_assoc (decimal round) (32 ∷ []) text),
+    )

@@ -1,0 +1,5 @@
+pub mod Lines
+pub mod Reading
+pub mod Views
+pub mod Shelf
+pub mod Telling

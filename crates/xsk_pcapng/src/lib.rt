@@ -1,0 +1,11 @@
+//! Files of several interfaces (pcapng draft): read into a list of packets for each port, and written from such lists.
+#![tactic(auto)]
+
+mod endianness;
+pub mod laws;
+mod lists;
+mod reading;
+mod writing;
+
+pub use reading::{BadPcapng, read};
+pub use writing::write;

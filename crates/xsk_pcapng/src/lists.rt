@@ -1,0 +1,99 @@
+//! The packets that were found in a file, laid out as a list for each port.
+ghost use Rattle.std.specs.Prelude.{◌≡◌, ◌<◌, ◌≤◌, ◌++◌, map, length, All, IfOk, IfSome, Some, slice_get};
+ghost use Rattle.std.specs.List.{concat};
+ghost use Rattle.xsk_umem.specs.Span.{at_span};
+ghost use Rattle.xsk_pcapng.specs.Blocks.{packets_at};
+ghost use Rattle.xsk_pcapng.specs.Pcapng.{lists_of as lists_by_port};
+ghost use Rattle.xsk_pcapng.specs.Steps.{arrival_in, IsFoundIn};
+ghost use Rattle.xsk_pcapng.specs.Written.{packets_of};
+
+use crate::reading::Found;
+use std::alloc::Global;
+use xsk_umem::{OutOfMemory, PacketList};
+
+/// How much the packets of one interface take.
+#[derive(Clone, Copy, Debug)]
+struct Room {
+    packets: u32,
+    bytes: u32,
+}
+
+/// The lists of so many ports.
+pub fn lists_of(
+    alloc: Global,
+    bytes: &[u8],
+    found: &[Found],
+    ports: u32,
+) -> Result<Vec<PacketList>, OutOfMemory>
+    requires { All (IsFoundIn bytes.now) found.now }
+    ensures { IfOk result (λ lists. packets_of lists.items ≡ lists_by_port ports (map (arrival_in bytes.now) found.now)) }
+{
+    let mut lists = Vec::new(alloc);
+    for port in 0..ports {
+        lists.push(list_of(alloc, bytes, found, port)?)?;
+    }
+    Ok(lists)
+}
+
+/// The list of one port.
+fn list_of(
+    alloc: Global,
+    bytes: &[u8],
+    found: &[Found],
+    port: u32,
+) -> Result<PacketList, OutOfMemory>
+    requires { All (IsFoundIn bytes.now) found.now }
+    ensures { IfOk result (λ list. list.packets ≡ packets_at port (map (arrival_in bytes.now) found.now)) }
+{
+    let room = room_of(bytes, found, port).ok_or(OutOfMemory)?;
+    let mut list = PacketList::new(alloc);
+    list.reserve(room.packets, room.bytes)?;
+    append_packets(&mut list, bytes, found, port);
+    Ok(list)
+}
+
+/// The room of the packets of one port, where 32 bits count it.
+fn room_of(bytes: &[u8], found: &[Found], port: u32) -> Option<Room>
+    requires { All (IsFoundIn bytes.now) found.now }
+    ensures packets { IfSome result (λ room. room.packets ≡ length (packets_at port (map (arrival_in bytes.now) found.now))) }
+    ensures bytes { IfSome result (λ room. room.bytes ≡ length (concat (packets_at port (map (arrival_in bytes.now) found.now)))) }
+{
+    let mut room = Room {
+        packets: 0,
+        bytes: 0,
+    };
+    for i in 0..found.len() {
+        let packet = found[i];
+        if packet.interface != port {
+            continue;
+        }
+        let len = u32::try_from(bytes_at(bytes, packet).len()).ok()?;
+        room.packets = room.packets.checked_add(1)?;
+        room.bytes = room.bytes.checked_add(len)?;
+    }
+    Some(room)
+}
+
+/// Appends the packets of one port, for which there must be room.
+fn append_packets(list: &mut PacketList, bytes: &[u8], found: &[Found], port: u32)
+    requires within { All (IsFoundIn bytes.now) found.now }
+    requires packets { length (packets_at port (map (arrival_in bytes.now) found.now)) ≤ list.old.spare_packets }
+    requires bytes { length (concat (packets_at port (map (arrival_in bytes.now) found.now))) ≤ list.old.spare_bytes }
+    ensures { list.new.packets ≡ list.old.packets ++ packets_at port (map (arrival_in bytes.now) found.now) }
+{
+    for i in 0..found.len() {
+        let packet = found[i];
+        if packet.interface != port {
+            continue;
+        }
+        list.push_reserved(bytes_at(bytes, packet));
+    }
+}
+
+/// The bytes of a packet that was found.
+fn bytes_at(bytes: &[u8], packet: Found) -> &[u8]
+    requires { IsFoundIn bytes.now packet }
+    ensures { result.now ≡ at_span bytes.now packet.span }
+{
+    &bytes[packet.span.start..packet.span.start + packet.span.len]
+}
