@@ -50,7 +50,17 @@ fn drive(
 {
     let lists = lists_of(alloc, lines, config.ports())?;
     let inputs = Inputs::split(alloc, config, lists.as_slice())?;
-    drive_on(alloc, config, lists.as_slice(), &inputs, lines, words, rest, shelf, text)
+    drive_on(
+        alloc,
+        config,
+        lists.as_slice(),
+        &inputs,
+        lines,
+        words,
+        rest,
+        shelf,
+        text,
+    )
 }
 
 /// Plays a driver over the packets of all ports.
