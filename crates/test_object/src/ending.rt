@@ -1,6 +1,7 @@
 //! The end of a run: all lines of the log once more, and the frames that stand in rings.
 use crate::bytes;
 use crate::hand::Known;
+use crate::noted::Noted;
 use crate::stage::Stage;
 use std::alloc::Global;
 use std::string::String;
@@ -32,13 +33,30 @@ fn frame_words(alloc: Global, known: &Known, frame: &Frame) -> Result<String, Ou
     Ok(format!(in alloc; " {number}{sign}")?)
 }
 
+/// Goes over the lines of all calls once more, which are those that were told.
+fn walk(stage: &mut Stage) -> Result<(), OutOfMemory> {
+    let (lines, callers) = stage.object.walk(stage.alloc)?;
+    let same = lines.as_slice() == stage.lines.as_slice();
+    let by_same = callers.as_slice() == stage.callers.as_slice();
+    if !same || !by_same {
+        stage.print("  a walk tells other lines")?;
+    }
+    Ok(())
+}
+
+/// The frames that the table gives up, if there is one.
+fn table_words(alloc: Global, known: &Known, table: Option<Noted>) -> Result<String, OutOfMemory> {
+    let Some(table) = table else {
+        return Ok(String::new(alloc));
+    };
+    let words = frames_words(alloc, known, table.close())?;
+    Ok(format!(in alloc; "on the table {words}\n")?)
+}
+
 /// What is printed of a run.
 pub(crate) fn end(stage: Stage) -> Result<String, OutOfMemory> {
     let mut stage = stage;
-    let (lines, callers) = stage.object.walk(stage.alloc)?;
-    if lines != stage.lines || callers != stage.callers {
-        stage.print("  a walk tells other lines")?;
-    }
+    walk(&mut stage)?;
     let Stage {
         alloc,
         object,
@@ -47,13 +65,18 @@ pub(crate) fn end(stage: Stage) -> Result<String, OutOfMemory> {
         out,
         ..
     } = stage;
-    let mut out = out;
-    out.push_str(frames_words(alloc, &hand.known, object.close())?.as_str())?;
-    out.push_str("\n")?;
-    if let Some(table) = table {
-        out.push_str("on the table ")?;
-        out.push_str(frames_words(alloc, &hand.known, table.close())?.as_str())?;
-        out.push_str("\n")?;
-    }
-    Ok(out)
+    let mine = frames_words(alloc, &hand.known, object.close());
+    let theirs = table_words(alloc, &hand.known, table);
+    joined(alloc, &out, mine, theirs)
+}
+
+fn joined(
+    alloc: Global,
+    out: &String,
+    mine: Result<String, OutOfMemory>,
+    theirs: Result<String, OutOfMemory>,
+) -> Result<String, OutOfMemory> {
+    let mine = mine?;
+    let theirs = theirs?;
+    Ok(format!(in alloc; "{out}{mine}\n{theirs}")?)
 }

@@ -26,12 +26,28 @@ fn setup_of(alloc: Global, lines: &[String]) -> Result<Option<Setup>, OutOfMemor
     Ok(Some(setup))
 }
 
-fn object_of(alloc: Global, setup: Setup, plain: bool) -> Option<Object> {
+fn plain_of(alloc: Global, setup: Setup) -> Option<Object> {
     let (config, frames) = setup.make(alloc)?;
-    if plain {
-        return Some(Object::Plain(Plain::open(alloc, config, frames).ok()?));
+    match Plain::open(alloc, config, frames) {
+        Ok(plain) => Some(Object::Plain(plain)),
+        Err(_) => None,
     }
-    Some(Object::Checked(Checked::open(alloc, config, frames).ok()?))
+}
+
+fn checked_of(alloc: Global, setup: Setup) -> Option<Object> {
+    let (config, frames) = setup.make(alloc)?;
+    match Checked::open(alloc, config, frames) {
+        Ok(checked) => Some(Object::Checked(checked)),
+        Err(_) => None,
+    }
+}
+
+fn object_of(alloc: Global, setup: Setup, plain: bool) -> Option<Object> {
+    if plain {
+        plain_of(alloc, setup)
+    } else {
+        checked_of(alloc, setup)
+    }
 }
 
 fn table_of(alloc: Global, setup: Setup, first: u32) -> Option<Noted> {

@@ -96,29 +96,54 @@ impl Setup {
 }
 
 fn read_part(words: &[&str]) -> Option<Part> {
-    match words {
-        ["umem", frames, chunk, headroom] => Some(Part::Umem(
-            number(frames)?,
-            number(chunk)?,
-            number(headroom)?,
-        )),
-        ["device", ports, queues] => Some(Part::Device(number(ports)?, number(queues)?)),
-        ["pair", port, queue, fill, comp] => Some(Part::Pair(PairInfo {
-            port: number(port)?,
-            queue: number(queue)?,
-            fill: number(fill)?,
-            comp: number(comp)?,
-        })),
-        ["socket", port, queue, rx, tx] => Some(Part::Socket(SocketInfo {
-            port: number(port)?,
-            queue: number(queue)?,
-            rx: size(rx)?,
-            tx: size(tx)?,
-        })),
-        ["sg"] => Some(Part::Sg),
-        ["wakeup"] => Some(Part::Wakeup),
+    let (name, rest) = words.split_first()?;
+    match *name {
+        "umem" => read_umem(rest),
+        "device" => read_device(rest),
+        "pair" => read_pair(rest),
+        "socket" => read_socket(rest),
+        "sg" => Some(Part::Sg),
+        "wakeup" => Some(Part::Wakeup),
         _ => None,
     }
+}
+
+fn read_umem(words: &[&str]) -> Option<Part> {
+    let [frames, chunk, headroom] = words else {
+        return None;
+    };
+    Some(Part::Umem(number(frames)?, number(chunk)?, number(headroom)?))
+}
+
+fn read_device(words: &[&str]) -> Option<Part> {
+    let [ports, queues] = words else {
+        return None;
+    };
+    Some(Part::Device(number(ports)?, number(queues)?))
+}
+
+fn read_pair(words: &[&str]) -> Option<Part> {
+    let [port, queue, fill, comp] = words else {
+        return None;
+    };
+    Some(Part::Pair(PairInfo {
+        port: number(port)?,
+        queue: number(queue)?,
+        fill: number(fill)?,
+        comp: number(comp)?,
+    }))
+}
+
+fn read_socket(words: &[&str]) -> Option<Part> {
+    let [port, queue, rx, tx] = words else {
+        return None;
+    };
+    Some(Part::Socket(SocketInfo {
+        port: number(port)?,
+        queue: number(queue)?,
+        rx: size(rx)?,
+        tx: size(tx)?,
+    }))
 }
 
 /// The size of a ring, or `-` where there is none.
@@ -265,19 +290,28 @@ impl Setup {
         Some(Config::of_parts(geometry, ports, queues, sockets, pairs, cells, sg, wakeup))
     }
 
+    /// The configuration with these frames, if it is lawful.
+    fn lawful(self, geometry: Geometry, frames: Frames) -> Option<(Config, Frames)>
+        requires { AreFrames geometry frames.items }
+        ensures lawful { IfSome result (λ made. IsLawful made.0) }
+        ensures frames { IfSome result (λ made. AreFrames made.0.geometry made.1.items) }
+    {
+        let config = self.config(geometry)?;
+        if !config.lawful() {
+            return None;
+        }
+        Some((config, frames))
+    }
+
     /// The configuration with its frames, if it is lawful.
     pub(crate) fn make(self, alloc: Global) -> Option<(Config, Frames)>
         ensures lawful { IfSome result (λ made. IsLawful made.0) }
         ensures frames { IfSome result (λ made. AreFrames made.0.geometry made.1.items) }
     {
         let len = u64::from(self.frames) * u64::from(self.chunk);
-        let Ok((geometry, frames)) = Umem::register(alloc, len, self.chunk, self.headroom) else {
-            return None;
-        };
-        let config = self.config(geometry)?;
-        if !config.lawful() {
-            return None;
+        match Umem::register(alloc, len, self.chunk, self.headroom) {
+            Ok((geometry, frames)) => self.lawful(geometry, frames),
+            Err(_) => None,
         }
-        Some((config, frames))
     }
 }

@@ -32,30 +32,52 @@ pub(crate) enum Step {
 /// What a line says, and none where it says nothing.
 pub(crate) fn read(alloc: Global, line: &str) -> Result<Option<Step>, AllocError> {
     let words: Vec<&str> = line.split_whitespace().collect(alloc)?;
-    match words.as_slice() {
-        ["passes"] => Ok(Some(Step::Passes)),
-        ["note", name, time] => Ok(noted(name, time).map(|(who, late)| Step::Note(who, late))),
-        ["meet", name, time] => Ok(noted(name, time).map(|(who, late)| Step::Meet(who, late))),
-        ["drawn", seed, calls] => Ok(drawn(seed, calls)),
-        ["count", name, place, most] => Ok(counted(name, place, most)),
-        ["anew", rest @ ..] => call(alloc, rest, true),
-        rest => call(alloc, rest, false),
+    let Some((name, rest)) = words.as_slice().split_first() else {
+        return Ok(None);
+    };
+    match *name {
+        "passes" => Ok(Some(Step::Passes)),
+        "note" => Ok(note(rest)),
+        "meet" => Ok(meet(rest)),
+        "drawn" => Ok(drawn(rest)),
+        "count" => Ok(counted(rest)),
+        "anew" => call(alloc, rest, true),
+        _ => call(alloc, words.as_slice(), false),
     }
 }
 
-fn noted(name: &str, time: &str) -> Option<(Who, bool)> {
-    match time {
+fn note(words: &[&str]) -> Option<Step> {
+    let (who, late) = noted(words)?;
+    Some(Step::Note(who, late))
+}
+
+fn meet(words: &[&str]) -> Option<Step> {
+    let (who, late) = noted(words)?;
+    Some(Step::Meet(who, late))
+}
+
+fn noted(words: &[&str]) -> Option<(Who, bool)> {
+    let [name, time] = words else {
+        return None;
+    };
+    match *time {
         "early" => Some((read_who(name)?, false)),
         "late" => Some((read_who(name)?, true)),
         _ => None,
     }
 }
 
-fn drawn(seed: &str, calls: &str) -> Option<Step> {
+fn drawn(words: &[&str]) -> Option<Step> {
+    let [seed, calls] = words else {
+        return None;
+    };
     Some(Step::Drawn(large(seed)?, number(calls)?))
 }
 
-fn counted(name: &str, place: &str, most: &str) -> Option<Step> {
+fn counted(words: &[&str]) -> Option<Step> {
+    let [name, place, most] = words else {
+        return None;
+    };
     Some(Step::Count(read_who(name)?, mark(place)?, large(most)?))
 }
 
@@ -84,13 +106,21 @@ fn call(alloc: Global, words: &[&str], anew: bool) -> Result<Option<Step>, Alloc
 }
 
 fn made(verb: &str, place: &str, rest: &[&str]) -> Option<Move> {
-    match (verb, rest) {
-        ("reserve", [count]) => Some(Move::Reserve(ring(place)?, number(count)?)),
-        ("submit", _) => Some(Move::Submit(ring(place)?)),
-        ("peek", [count]) => Some(Move::Peek(ring(place)?, number(count)?)),
-        ("release", [count]) => Some(Move::Release(ring(place)?, number(count)?)),
-        ("swap", [value]) => Some(Move::Swap(mark(place)?, large(value)?)),
-        ("look", []) => Some(Move::Look(mark(place)?)),
+    match verb {
+        "reserve" => Some(Move::Reserve(ring(place)?, number(only(rest)?)?)),
+        "submit" => Some(Move::Submit(ring(place)?)),
+        "peek" => Some(Move::Peek(ring(place)?, number(only(rest)?)?)),
+        "release" => Some(Move::Release(ring(place)?, number(only(rest)?)?)),
+        "swap" => Some(Move::Swap(mark(place)?, large(only(rest)?)?)),
+        "look" => Some(Move::Look(mark(place)?)),
+        _ => None,
+    }
+}
+
+/// The word that is left, which is the only one.
+fn only<'a>(words: &[&'a str]) -> Option<&'a str> {
+    match words {
+        [word] => Some(*word),
         _ => None,
     }
 }

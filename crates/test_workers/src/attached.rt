@@ -1,16 +1,17 @@
 //! The program of a script, by one of these lines: `program redirect SOCKETS`, `program drop`, `program pass`,
 //! `program ether KIND SOCKETS`, `program fixed CELL`, `program atmost CELLS`, or `program even`, which redirects packets to
-//! cell 0 whose first byte is even, and drops all others. Without one it is `program redirect 1`.
+//! cell 0 whose first byte is even, and drops all others. Without one it is `program redirect 1`. And what the wire does where
+//! a packet finds no frame or no room: by `wire drop` it drops it, and else it waits.
 ghost use Rattle.std.specs.Prelude.{◌≡◌, ◌<◌, ◌≤◌, All, IfOk, length};
 ghost use Rattle.xsk_model.specs.Config.{IsRegular};
 ghost use Rattle.xsk_model.specs.Expected.{nothing};
 ghost use Rattle.xsk_model.specs.Opening.{AreFrames};
-ghost use Rattle.xsk_prog.specs.Rules.{HasSockets, IsBelow};
+ghost use Rattle.xsk_prog.specs.Rules.{HasSockets, IsBelow, IsRuled, Meets};
 ghost use Rattle.xsk_driver.specs.Sent.{IsShort};
 ghost use Rattle.xsk_sim.specs.Shown.{HasShortPackets};
 
 use crate::trouble::Trouble;
-use crate::words::{number, words_behind};
+use crate::words::{Line, number, two_numbers};
 use std::alloc::Global;
 use xsk_driver::{Driver, Inputs, Wire};
 use xsk_model::Config;
@@ -18,65 +19,74 @@ use xsk_prog::{Rule, Verdict, XdpProgram};
 use xsk_sim::{Run, simulate};
 use xsk_umem::{Frames, PacketList};
 
-#[derive(Clone, Copy, Debug)]
-pub(crate) enum Program {
-    /// One that answers as its rule does.
-    Ruled(Rule),
-    /// A closure of its own.
-    Even,
+#[derive(Clone, Copy)]
+pub(crate) struct Program {
+    rule: Rule,
+    /// Whether it redirects packets whose first byte is even, as far as the rule lets it.
+    even: bool,
+    wire: Wire,
 }
 
 /// The program of a script.
-pub(crate) fn program_of(alloc: Global, lines: &[&str]) -> Result<Program, Trouble> {
-    let mut program = Program::Ruled(Rule::Redirect { sockets: 1 });
+pub(crate) fn program_of(lines: &[Line<'_>]) -> Result<Program, Trouble> {
+    let mut program = Program {
+        rule: Rule::Redirect { sockets: 1 },
+        even: false,
+        wire: Wire::Wait,
+    };
     for line in lines {
-        if let Some(words) = words_behind(alloc, line, "program")? {
-            program = program_by(words.as_slice())?;
+        if let Some(words) = line.behind("program") {
+            set_program(&mut program, words)?;
+        }
+        if line.text == "wire drop" {
+            program.wire = Wire::Drop;
         }
     }
     Ok(program)
 }
 
-fn program_by(words: &[&str]) -> Result<Program, Trouble> {
+fn set_program(program: &mut Program, words: &[&str]) -> Result<(), Trouble> {
     let (first, rest) = words.split_first().ok_or(Trouble::BadLine)?;
     if *first == "even" {
-        return Ok(Program::Even);
+        program.even = true;
+        program.rule = Rule::AtMost(1);
+        return Ok(());
     }
-    Ok(Program::Ruled(rule_by(first, rest)?))
+    program.even = false;
+    program.rule = match rest {
+        [] => plain_rule(first)?,
+        [one] => rule_by(first, number(one)?)?,
+        _ => ether_rule(first, rest)?,
+    };
+    Ok(())
 }
 
-fn rule_by(name: &str, rest: &[&str]) -> Result<Rule, Trouble> {
+fn plain_rule(name: &str) -> Result<Rule, Trouble> {
     match name {
-        "redirect" => Ok(Rule::Redirect {
-            sockets: number_at(rest, 0)?,
-        }),
         "drop" => Ok(Rule::Drop),
         "pass" => Ok(Rule::Pass),
-        "ether" => Ok(Rule::EtherType {
-            kind: u16::try_from(number_at(rest, 0)?).map_err(|_| Trouble::BadLine)?,
-            sockets: number_at(rest, 1)?,
-        }),
-        "fixed" => Ok(Rule::Fixed(number_at(rest, 0)?)),
-        "atmost" => Ok(Rule::AtMost(number_at(rest, 0)?)),
         _ => Err(Trouble::BadLine),
     }
 }
 
-fn number_at(words: &[&str], place: usize) -> Result<u32, Trouble> {
-    number(words.get(place).ok_or(Trouble::BadLine)?)
-}
-
-/// What the wire does: `wire drop` drops, and else it waits.
-pub(crate) fn wire_of(lines: &[&str]) -> Wire {
-    for line in lines {
-        if *line == "wire drop" {
-            return Wire::Drop;
-        }
+fn rule_by(name: &str, number: u32) -> Result<Rule, Trouble> {
+    match name {
+        "redirect" => Ok(Rule::Redirect { sockets: number }),
+        "fixed" => Ok(Rule::Fixed(number)),
+        "atmost" => Ok(Rule::AtMost(number)),
+        _ => Err(Trouble::BadLine),
     }
-    Wire::Wait
 }
 
-/// The rule, where it can be attached.
+fn ether_rule(name: &str, words: &[&str]) -> Result<Rule, Trouble> {
+    let (kind, sockets) = two_numbers(words)?;
+    match u16::try_from(kind) {
+        Ok(kind) if name == "ether" => Ok(Rule::EtherType { kind, sockets }),
+        _ => Err(Trouble::BadLine),
+    }
+}
+
+/// The rule of a program, where it can be attached.
 fn attachable(rule: Rule) -> Result<Rule, Trouble>
     ensures { IfOk result HasSockets }
 {
@@ -91,9 +101,22 @@ fn attachable(rule: Rule) -> Result<Rule, Trouble>
     Ok(rule)
 }
 
-fn is_even(packet: &[u8]) -> Verdict
-    requires { 14 ≤ length packet.now }
-    ensures { IsBelow 1 result }
+/// What a program answers.
+fn decided(rule: Rule, even: bool, packet: &[u8], queue: u32) -> Verdict
+    requires sockets { HasSockets rule }
+    requires packet { IsRuled packet.now queue }
+    ensures { Meets rule packet.now queue result }
+{
+    match rule {
+        Rule::AtMost(cells) if even && cells > 0 => by_first_byte(packet, cells),
+        _ => rule.verdict(packet, queue),
+    }
+}
+
+fn by_first_byte(packet: &[u8], cells: u32) -> Verdict
+    requires packet { 14 ≤ length packet.now }
+    requires cells { 0 < cells }
+    ensures { IsBelow cells result }
 {
     if packet[0] % 2 == 0 {
         Verdict::Redirect(0)
@@ -110,7 +133,6 @@ pub(crate) fn driver_of<'a>(
     packets: &'a PacketList,
     inputs: &'a Inputs,
     program: Program,
-    wire: Wire,
     room: (u32, u32),
 ) -> Result<Driver<'a>, Trouble>
     requires regular { IsRegular config.now }
@@ -118,27 +140,15 @@ pub(crate) fn driver_of<'a>(
     requires short { All IsShort packets.now.packets }
     ensures { IfOk result (λ d. d.expected ≡ nothing) }
 {
-    match program {
-        Program::Ruled(rule) => {
-            let rule = attachable(rule)?;
-            let program = XdpProgram::attach(
-                rule,
-                |packet: &[u8], queue: u32| rule.verdict(packet, queue),
-            );
-            Ok(Driver::new(
-                alloc, config, pair, packets, inputs, &program, wire, room.0, room.1,
-            )?)
-        }
-        Program::Even => {
-            let program = XdpProgram::attach(
-                Rule::AtMost(1),
-                |packet: &[u8], _queue: u32| is_even(packet),
-            );
-            Ok(Driver::new(
-                alloc, config, pair, packets, inputs, &program, wire, room.0, room.1,
-            )?)
-        }
-    }
+    let Program { rule, even, wire } = program;
+    let rule = attachable(rule)?;
+    let program = XdpProgram::attach(
+        rule,
+        |packet: &[u8], queue: u32| decided(rule, even, packet, queue),
+    );
+    Ok(Driver::new(
+        alloc, config, pair, packets, inputs, &program, wire, room.0, room.1,
+    )?)
 }
 
 /// A run of all workers in rounds.
@@ -148,7 +158,6 @@ pub(crate) fn run_of(
     frames: Frames,
     packets: &[PacketList],
     program: Program,
-    wire: Wire,
     order: u32,
 ) -> Result<Run, Trouble>
     requires regular { IsRegular config }
@@ -157,21 +166,11 @@ pub(crate) fn run_of(
     requires short { All HasShortPackets packets.now }
     ensures { IfOk result (λ run. run.pairs ≡ length config.pairs) }
 {
-    match program {
-        Program::Ruled(rule) => {
-            let rule = attachable(rule)?;
-            let program = XdpProgram::attach(
-                rule,
-                |packet: &[u8], queue: u32| rule.verdict(packet, queue),
-            );
-            Ok(simulate(alloc, config, frames, packets, &program, wire, order)?)
-        }
-        Program::Even => {
-            let program = XdpProgram::attach(
-                Rule::AtMost(1),
-                |packet: &[u8], _queue: u32| is_even(packet),
-            );
-            Ok(simulate(alloc, config, frames, packets, &program, wire, order)?)
-        }
-    }
+    let Program { rule, even, wire } = program;
+    let rule = attachable(rule)?;
+    let program = XdpProgram::attach(
+        rule,
+        |packet: &[u8], queue: u32| decided(rule, even, packet, queue),
+    );
+    Ok(simulate(alloc, config, frames, packets, &program, wire, order)?)
 }

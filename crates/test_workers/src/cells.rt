@@ -2,10 +2,9 @@
 ghost use Rattle.std.specs.Prelude.{IfOk};
 ghost use Rattle.xsk_model.specs.Config.{HasRing};
 
-use crate::layout::layout_of;
 use crate::made::set_up;
 use crate::trouble::Trouble;
-use crate::words::{long_number, number};
+use crate::words::{Line, number, three_numbers, two_numbers};
 use std::alloc::Global;
 use std::fmt::Write;
 use xsk_map::{Miss, redirect};
@@ -15,33 +14,45 @@ use xsk_plain::Plain;
 /// Tells what further lines ask for.
 pub(crate) fn tell_config(
     alloc: Global,
-    lines: &[&str],
-    rest: &[&str],
+    lines: &[Line<'_>],
+    rest: &[Line<'_>],
     text: &mut String,
 ) -> Result<(), Trouble> {
-    let layout = layout_of(lines)?;
-    let (config, _frames) = set_up(alloc, &layout)?;
-    let mut config = config;
+    let (mut config, _frames) = set_up(alloc, lines)?;
     for line in rest {
-        let words: Vec<&str> = line.split_whitespace().collect(alloc)?;
-        if *line == "open" {
-            tell_opened(alloc, lines, text)?;
-        } else {
-            write!(text, "{line}: ")?;
-            tell_part(alloc, &mut config, words.as_slice(), text)?;
-        }
+        tell_line(alloc, &mut config, lines, line, text)?;
     }
     Ok(())
 }
 
+fn tell_line(
+    alloc: Global,
+    config: &mut Config,
+    lines: &[Line<'_>],
+    line: &Line<'_>,
+    text: &mut String,
+) -> Result<(), Trouble> {
+    if line.text == "open" {
+        return tell_opened(alloc, lines, text);
+    }
+    text.push_str(line.text)?;
+    text.push_str(": ")?;
+    let Some((first, words)) = line.split() else {
+        return Err(Trouble::BadLine);
+    };
+    tell_part(alloc, config, first, words, text)
+}
+
 /// Opens the object over all frames, and tells how many come back.
-fn tell_opened(alloc: Global, lines: &[&str], text: &mut String) -> Result<(), Trouble> {
-    let layout = layout_of(lines)?;
-    let (config, frames) = set_up(alloc, &layout)?;
+fn tell_opened(alloc: Global, lines: &[Line<'_>], text: &mut String) -> Result<(), Trouble> {
+    let (config, frames) = set_up(alloc, lines)?;
     let Ok(plain) = Plain::open(alloc, config, frames) else {
         return Err(Trouble::NoMemory);
     };
-    let count = plain.close().len();
+    tell_frames(plain.close().len(), text)
+}
+
+fn tell_frames(count: u32, text: &mut String) -> Result<(), Trouble> {
     writeln!(text, "{count} frames come back")?;
     Ok(())
 }
@@ -50,51 +61,55 @@ fn tell_opened(alloc: Global, lines: &[&str], text: &mut String) -> Result<(), T
 fn tell_part(
     alloc: Global,
     config: &mut Config,
+    part: &str,
     words: &[&str],
     text: &mut String,
 ) -> Result<(), Trouble> {
-    match words {
-        ["parts"] => tell_parts(config, text),
-        ["size", ring, place] => tell_size(config, ring, number(place)?, text),
-        ["cell", port, index] => tell_cell(alloc, config, number(port)?, number(index)?, text),
-        ["set", port, index, value] => {
-            set_cell(config, number(port)?, number(index)?, long_number(value)?)?;
-            writeln!(text, "done")?;
-            Ok(())
-        }
-        ["redirect", cell, port, queue] => {
-            tell_redirect(
-                config,
-                long_number(cell)?,
-                number(port)?,
-                number(queue)?,
-                text,
-            )
-        }
+    match part {
+        "parts" => tell_parts(config, text),
+        "size" => tell_size(config, words, text),
+        "cell" => tell_cell(alloc, config, words, text),
+        "set" => set_cell(config, words, text),
+        "redirect" => tell_redirect(config, words, text),
         _ => Err(Trouble::BadLine),
     }
 }
 
 fn tell_parts(config: &Config, text: &mut String) -> Result<(), Trouble> {
-    let lawful = config.lawful();
     let regular = config.regular();
-    write!(text, "lawful {lawful} regular {regular}")?;
+    tell_laws(config.lawful(), regular, text)?;
     if !regular {
         return Err(Trouble::BadLayout);
     }
-    let pool = config.pool();
-    let batch = config.batch();
+    tell_pools(config.pool(), config.batch(), text)?;
+    tell_callers(config.callers(), config.classes(), text)
+}
+
+fn tell_laws(lawful: bool, regular: bool, text: &mut String) -> Result<(), Trouble> {
+    write!(text, "lawful {lawful} regular {regular}")?;
+    Ok(())
+}
+
+fn tell_pools(pool: u32, batch: u32, text: &mut String) -> Result<(), Trouble> {
     write!(text, " pool {pool} batch {batch}")?;
-    let callers = config.callers();
-    let classes = config.classes();
+    Ok(())
+}
+
+fn tell_callers(callers: u32, classes: u32, text: &mut String) -> Result<(), Trouble> {
     writeln!(text, " callers {callers} classes {classes}")?;
     Ok(())
 }
 
-fn tell_size(config: &Config, ring: &str, place: u32, text: &mut String) -> Result<(), Trouble> {
-    let ring = ring_of(config, ring, place)?;
-    let size = config.size(ring);
-    writeln!(text, "{size}")?;
+fn tell_size(config: &Config, words: &[&str], text: &mut String) -> Result<(), Trouble> {
+    let [ring, place] = words else {
+        return Err(Trouble::BadLine);
+    };
+    let ring = ring_of(config, ring, number(place)?)?;
+    tell_value(u64::from(config.size(ring)), text)
+}
+
+fn tell_value(value: u64, text: &mut String) -> Result<(), Trouble> {
+    writeln!(text, "{value}")?;
     Ok(())
 }
 
@@ -119,44 +134,54 @@ fn ring_of(config: &Config, ring: &str, place: u32) -> Result<Ring, Trouble>
 fn tell_cell(
     alloc: Global,
     config: &Config,
-    port: u32,
-    index: u32,
+    words: &[&str],
     text: &mut String,
 ) -> Result<(), Trouble> {
+    let (port, index) = two_numbers(words)?;
     let copy = config.copy(alloc)?;
-    if port >= copy.ports() || index >= copy.cells(port) {
-        return Err(Trouble::NoPlace);
-    }
-    let value = copy.cell(port, index);
-    writeln!(text, "{value}")?;
-    Ok(())
+    tell_value(cell_of(&copy, port, index)?, text)
 }
 
-fn set_cell(config: &mut Config, port: u32, index: u32, value: u64) -> Result<(), Trouble> {
+fn cell_of(config: &Config, port: u32, index: u32) -> Result<u64, Trouble> {
     if port >= config.ports() || index >= config.cells(port) {
         return Err(Trouble::NoPlace);
     }
-    if value > config.sockets().len() as u64 {
+    Ok(config.cell(port, index))
+}
+
+fn set_cell(config: &mut Config, words: &[&str], text: &mut String) -> Result<(), Trouble> {
+    let (port, index, value) = three_numbers(words)?;
+    if port >= config.ports() || index >= config.cells(port) {
         return Err(Trouble::NoPlace);
     }
-    config.set_cell(port, index, value);
+    if value as usize > config.sockets().len() {
+        return Err(Trouble::NoPlace);
+    }
+    config.set_cell(port, index, u64::from(value));
+    text.push_str("done\n")?;
     Ok(())
 }
 
-fn tell_redirect(
-    config: &Config,
-    cell: u64,
-    port: u32,
-    queue: u32,
-    text: &mut String,
-) -> Result<(), Trouble> {
-    if cell > config.sockets().len() as u64 {
+fn tell_redirect(config: &Config, words: &[&str], text: &mut String) -> Result<(), Trouble> {
+    let (cell, port, queue) = three_numbers(words)?;
+    if cell as usize > config.sockets().len() {
         return Err(Trouble::NoPlace);
     }
-    match redirect(cell, config, port, queue) {
-        Ok(socket) => writeln!(text, "socket {socket}")?,
-        Err(Miss::EmptyCell) => writeln!(text, "an empty cell")?,
-        Err(Miss::OtherQueue) => writeln!(text, "another queue")?,
+    match redirect(u64::from(cell), config, port, queue) {
+        Ok(socket) => tell_socket(socket, text),
+        Err(miss) => tell_miss(miss, text),
     }
+}
+
+fn tell_socket(socket: u32, text: &mut String) -> Result<(), Trouble> {
+    writeln!(text, "socket {socket}")?;
+    Ok(())
+}
+
+fn tell_miss(miss: Miss, text: &mut String) -> Result<(), Trouble> {
+    text.push_str(match miss {
+        Miss::EmptyCell => "an empty cell\n",
+        Miss::OtherQueue => "another queue\n",
+    })?;
     Ok(())
 }

@@ -2,7 +2,7 @@
 ghost use Rattle.std.specs.Prelude.{◌≡◌, IfSome, Some};
 ghost use Rattle.xsk_model.specs.Expected.{Expected, CanCome, expected_by, expected_of, nothing};
 
-use crate::texts::{DisposalText, PacketsText};
+use crate::texts::{tell_act, tell_disposal, tell_packets};
 use crate::trouble::Trouble;
 use std::fmt::Write;
 use std::mem;
@@ -32,7 +32,7 @@ impl Worker for Driver<'_> {
 
     fn tell(&self, line: &str, text: &mut String) -> Result<bool, Trouble> {
         match line {
-            "parked" => writeln!(text, "parked: {}", self.parked())?,
+            "parked" => tell_parked(self.parked(), text)?,
             "disposals" => tell_disposals(self.disposals(), text)?,
             "sent" => tell_sent(self, text)?,
             _ => return Ok(false),
@@ -41,25 +41,28 @@ impl Worker for Driver<'_> {
     }
 }
 
+fn tell_parked(parked: bool, text: &mut String) -> Result<(), Trouble> {
+    writeln!(text, "parked: {parked}")?;
+    Ok(())
+}
+
 fn tell_disposals(disposals: &[Disposal], text: &mut String) -> Result<(), Trouble> {
-    write!(text, "disposals:")?;
+    text.push_str("disposals:")?;
     for disposal in disposals {
-        let disposal = DisposalText(*disposal);
-        write!(text, " {disposal}")?;
+        tell_disposal(*disposal, text)?;
     }
-    writeln!(text)?;
+    text.push('\n')?;
     Ok(())
 }
 
 /// The packets that were sent, or that they were too many for their room.
 fn tell_sent(driver: &Driver<'_>, text: &mut String) -> Result<(), Trouble> {
     if driver.overrun() {
-        writeln!(text, "sent: more than there was room for")?;
+        text.push_str("sent: more than there was room for\n")?;
         return Ok(());
     }
-    let sent = PacketsText(driver.sent());
-    writeln!(text, "sent: {sent}")?;
-    Ok(())
+    text.push_str("sent: ")?;
+    tell_packets(driver.sent(), text)
 }
 
 impl Worker for App<'_> {
@@ -88,29 +91,40 @@ fn fitting(call: &Call, reply: Reply) -> Option<Reply>
     if fits { Some(reply) } else { None }
 }
 
-/// A worker, with the call that it makes now.
+/// A worker with its name, a letter and a number, and with the call that it makes now.
 #[derive(Drop)]
 pub(crate) struct Hand<M: Worker> {
+    letter: char,
+    number: u32,
     worker: M,
     act: Act,
     ghost awaits: { M.expected worker ≡ expected_of act },
 }
 
 impl<M: Worker> Hand<M> {
-    pub(crate) fn new(worker: M) -> Hand<M>
+    pub(crate) fn new(letter: char, number: u32, worker: M) -> Hand<M>
         requires { M.expected worker ≡ nothing }
     {
         let mut worker = worker;
         let act = worker.next(None);
-        Hand { worker, act }
+        Hand {
+            letter,
+            number,
+            worker,
+            act,
+        }
     }
 
-    pub(crate) fn worker(&self) -> &M {
-        &self.worker
+    /// Answers a question. False where the line is none.
+    pub(crate) fn tell(&self, line: &str, text: &mut String) -> Result<bool, Trouble> {
+        self.worker.tell(line, text)
     }
 
-    pub(crate) fn act(&self) -> &Act {
-        &self.act
+    /// Tells its call, with what comes.
+    pub(crate) fn tell_call(&self, reply: &str, text: &mut String) -> Result<(), Trouble> {
+        tell_name(self.letter, self.number, text)?;
+        tell_act(&self.act, text)?;
+        tell_reply(reply, text)
     }
 
     /// Goes on with the reply and hands out the call that it answers. None, and the worker stays, where it can't come.
@@ -122,4 +136,14 @@ impl<M: Worker> Hand<M> {
         let next = self.worker.next(Some(reply));
         Some(mem::replace(&mut self.act, next))
     }
+}
+
+fn tell_name(letter: char, number: u32, text: &mut String) -> Result<(), Trouble> {
+    write!(text, "{letter}{number} ")?;
+    Ok(())
+}
+
+fn tell_reply(reply: &str, text: &mut String) -> Result<(), Trouble> {
+    writeln!(text, " -> {reply}")?;
+    Ok(())
 }

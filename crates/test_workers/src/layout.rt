@@ -4,7 +4,7 @@ ghost use Rattle.std.specs.Prelude.{◌≡◌, None, IfOk};
 ghost use Rattle.xsk_socket.specs.Layout.{fault_of};
 
 use crate::trouble::Trouble;
-use crate::words::{halves, number};
+use crate::words::{Line, halves, number};
 use xsk_socket::{Layout, check_layout};
 
 const PLAIN: Layout = Layout {
@@ -26,7 +26,7 @@ const PLAIN: Layout = Layout {
 };
 
 /// The layout of a script, which is accepted.
-pub(crate) fn layout_of(lines: &[&str]) -> Result<Layout, Trouble>
+pub(crate) fn layout_of(lines: &[Line<'_>]) -> Result<Layout, Trouble>
     ensures { IfOk result (λ layout. fault_of layout ≡ None) }
 {
     let layout = layout_in(lines)?;
@@ -36,19 +36,17 @@ pub(crate) fn layout_of(lines: &[&str]) -> Result<Layout, Trouble>
     Ok(layout)
 }
 
-fn layout_in(lines: &[&str]) -> Result<Layout, Trouble> {
+fn layout_in(lines: &[Line<'_>]) -> Result<Layout, Trouble> {
     let mut layout = PLAIN;
     for line in lines {
-        read_line(&mut layout, line)?;
+        if let Some(words) = line.behind("layout") {
+            set_all(&mut layout, words)?;
+        }
     }
     Ok(layout)
 }
 
-fn read_line(layout: &mut Layout, line: &str) -> Result<(), Trouble> {
-    let mut words = line.split_whitespace();
-    if words.next() != Some("layout") {
-        return Ok(());
-    }
+fn set_all(layout: &mut Layout, words: &[&str]) -> Result<(), Trouble> {
     for word in words {
         let (name, value) = halves(word, '=')?;
         set(layout, name, number(value)?)?;

@@ -5,21 +5,22 @@ ghost use Rattle.xsk_model.specs.Opening.{AreFrames};
 ghost use Rattle.xsk_socket.specs.Layout.{fault_of, geometry_of};
 ghost use Rattle.xsk_socket.specs.Regular.{regular_of};
 
+use crate::layout::layout_of;
 use crate::trouble::Trouble;
+use crate::words::Line;
 use std::alloc::Global;
 use xsk_model::Config;
 use xsk_socket::{Layout, regular};
 use xsk_umem::{Frames, Geometry, Umem};
 
-/// The configuration of an accepted layout, and the frames of its UMEM.
-pub(crate) fn set_up(alloc: Global, layout: &Layout) -> Result<(Config, Frames), Trouble>
-    requires { fault_of layout.now ≡ None }
-    ensures config { IfOk result (λ made. made.0 ≡ regular_of layout.now) }
+/// The configuration of a script's layout, and the frames of its UMEM.
+pub(crate) fn set_up(alloc: Global, lines: &[Line<'_>]) -> Result<(Config, Frames), Trouble>
     ensures regular { IfOk result (λ made. IsRegular made.0) }
-    ensures frames { IfOk result (λ made. AreFrames (geometry_of layout.now) made.1.items) }
+    ensures frames { IfOk result (λ made. AreFrames made.0.geometry made.1.items) }
 {
-    let (geometry, frames) = register(alloc, layout)?;
-    Ok((regular(alloc, geometry, layout)?, frames))
+    let layout = layout_of(lines)?;
+    let (geometry, frames) = register(alloc, &layout)?;
+    Ok((regular(alloc, geometry, &layout)?, frames))
 }
 
 fn register(alloc: Global, layout: &Layout) -> Result<(Geometry, Frames), Trouble>

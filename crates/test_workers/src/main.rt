@@ -29,23 +29,39 @@ mod trouble;
 mod words;
 
 use std::io::{self, Print};
+use words::Line;
 
 fn main(rt: HostRuntime) -> io::Result<()> {
     let text = io::read_to_string(rt.alloc(), rt.reader())?;
+    print_all(&rt, text.as_str())
+}
+
+/// Prints what comes of each script of a text.
+fn print_all<R: Print + AllocGlobal>(rt: &R, text: &str) -> io::Result<()> {
     let mut lines = Vec::new(rt.alloc());
     for line in text.lines() {
-        if line.is_empty() {
-            print_one(&rt, lines.as_slice())?;
-            lines.clear();
-        } else {
-            lines.push(line)?;
-        }
+        add_line(rt, &mut lines, line)?;
     }
-    print_one(&rt, lines.as_slice())
+    print_one(rt, lines.as_slice())
+}
+
+/// Takes a line of a script, or, where it is empty, prints what comes of the script that it ends.
+fn add_line<'a, R: Print + AllocGlobal>(
+    rt: &R,
+    lines: &mut Vec<Line<'a>>,
+    line: &'a str,
+) -> io::Result<()> {
+    if line.is_empty() {
+        print_one(rt, lines.as_slice())?;
+        lines.clear();
+        return Ok(());
+    }
+    lines.push(Line::new(rt.alloc(), line)?)?;
+    Ok(())
 }
 
 /// Plays a script and prints what came of it. No lines are no script.
-fn print_one<R: Print + AllocGlobal>(rt: &R, lines: &[&str]) -> io::Result<()> {
+fn print_one<R: Print + AllocGlobal>(rt: &R, lines: &[Line<'_>]) -> io::Result<()> {
     if lines.is_empty() {
         return Ok(());
     }

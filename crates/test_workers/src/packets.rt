@@ -5,7 +5,7 @@ ghost use Rattle.xsk_driver.specs.Sent.{IsShort};
 ghost use Rattle.xsk_sim.specs.Shown.{HasShortPackets};
 
 use crate::trouble::Trouble;
-use crate::words::{byte, halves, number, words_behind};
+use crate::words::{Line, byte, halves, number, three_numbers};
 use std::alloc::Global;
 use xsk_umem::PacketList;
 
@@ -15,7 +15,7 @@ const MOST_BYTES: usize = 262_144;
 /// The packets of each port.
 pub(crate) fn lists_of(
     alloc: Global,
-    lines: &[&str],
+    lines: &[Line<'_>],
     ports: u32,
 ) -> Result<Vec<PacketList>, Trouble>
     ensures count { IfOk result (λ lists. length lists.items ≡ ports) }
@@ -28,7 +28,7 @@ pub(crate) fn lists_of(
     Ok(lists)
 }
 
-fn list_of(alloc: Global, lines: &[&str], port: u32) -> Result<PacketList, Trouble>
+fn list_of(alloc: Global, lines: &[Line<'_>], port: u32) -> Result<PacketList, Trouble>
     ensures { IfOk result HasShortPackets }
 {
     let mut list = PacketList::new(alloc);
@@ -38,15 +38,20 @@ fn list_of(alloc: Global, lines: &[&str], port: u32) -> Result<PacketList, Troub
     Ok(list)
 }
 
-fn read_line(alloc: Global, list: &mut PacketList, line: &str, port: u32) -> Result<(), Trouble>
+fn read_line(
+    alloc: Global,
+    list: &mut PacketList,
+    line: &Line<'_>,
+    port: u32,
+) -> Result<(), Trouble>
     requires { HasShortPackets list.old }
     ensures { OnOk result (HasShortPackets list.new) }
 {
-    if let Some(words) = words_behind(alloc, line, "packet")? {
-        return push_one(alloc, list, words.as_slice(), port);
+    if let Some(words) = line.behind("packet") {
+        return push_one(alloc, list, words, port);
     }
-    if let Some(words) = words_behind(alloc, line, "packets")? {
-        return push_all(alloc, list, words.as_slice(), port);
+    if let Some(words) = line.behind("packets") {
+        return push_all(alloc, list, words, port);
     }
     Ok(())
 }
@@ -55,26 +60,46 @@ fn push_one(alloc: Global, list: &mut PacketList, words: &[&str], port: u32) -> 
     requires { HasShortPackets list.old }
     ensures { OnOk result (HasShortPackets list.new) }
 {
-    let [on, len, byte_word, edits @ ..] = words else {
+    let [on, len, value, edits @ ..] = words else {
         return Err(Trouble::BadLine);
     };
     if number(on)? != port {
         return Ok(());
     }
-    let mut bytes = vec![in alloc; byte(byte_word)?; number(len)? as usize]?;
-    edit(&mut bytes, edits)?;
+    push_filled(alloc, list, byte(value)?, number(len)?, edits)
+}
+
+/// Pushes a packet whose bytes are all the same, but for those that are named.
+fn push_filled(
+    alloc: Global,
+    list: &mut PacketList,
+    value: u8,
+    len: u32,
+    edits: &[&str],
+) -> Result<(), Trouble>
+    requires { HasShortPackets list.old }
+    ensures { OnOk result (HasShortPackets list.new) }
+{
+    let mut bytes = vec![in alloc; value; len as usize]?;
+    edit(bytes.as_mut_slice(), edits)?;
     push_short(list, bytes.as_slice())
 }
 
 /// Sets the bytes that are named.
-fn edit(bytes: &mut Vec<u8>, edits: &[&str]) -> Result<(), Trouble> {
+fn edit(bytes: &mut [u8], edits: &[&str]) -> Result<(), Trouble> {
     for word in edits {
-        let (at, value) = halves(word, ':')?;
-        let Some(place) = bytes.get_mut(number(at)? as usize) else {
-            return Err(Trouble::BadLine);
-        };
-        *place = byte(value)?;
+        set_byte(bytes, word)?;
     }
+    Ok(())
+}
+
+fn set_byte(bytes: &mut [u8], word: &str) -> Result<(), Trouble> {
+    let (at, value) = halves(word, ':')?;
+    let value = byte(value)?;
+    let Some(place) = bytes.get_mut(number(at)? as usize) else {
+        return Err(Trouble::BadLine);
+    };
+    *place = value;
     Ok(())
 }
 
@@ -82,16 +107,12 @@ fn push_all(alloc: Global, list: &mut PacketList, words: &[&str], port: u32) -> 
     requires { HasShortPackets list.old }
     ensures { OnOk result (HasShortPackets list.new) }
 {
-    let [on, count, len] = words else {
-        return Err(Trouble::BadLine);
-    };
-    if number(on)? != port {
+    let (on, count, len) = three_numbers(words)?;
+    if on != port {
         return Ok(());
     }
-    let len = number(len)? as usize;
-    for place in 0..number(count)? {
-        let bytes = vec![in alloc; (place % 256) as u8; len]?;
-        push_short(list, bytes.as_slice())?;
+    for place in 0..count {
+        push_filled(alloc, list, (place % 256) as u8, len, &[])?;
     }
     Ok(())
 }

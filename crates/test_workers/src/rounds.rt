@@ -1,49 +1,67 @@
 //! Runs of all workers in rounds.
-ghost use Rattle.std.specs.Prelude.{◌≡◌, ◌<◌, length};
+ghost use Rattle.std.specs.Prelude.{◌≡◌, ◌<◌, IfOk, length};
 
-use crate::attached::{program_of, run_of, wire_of};
-use crate::layout::layout_of;
+use crate::attached::{program_of, run_of};
 use crate::made::set_up;
 use crate::packets::lists_of;
-use crate::texts::PacketsText;
+use crate::texts::tell_packets;
 use crate::trouble::Trouble;
-use crate::words::number;
+use crate::words::{Line, one_number};
 use std::alloc::Global;
 use std::fmt::Write;
 use std::str;
 use xsk_driver::DriverFigures;
 use xsk_sim::{Run, journal_text};
 
+/// The kinds of disposal, as figures have them.
+const KINDS: [&str; 8] = [
+    "delivered",
+    "noframes",
+    "rxfull",
+    "toolong",
+    "runt",
+    "missed",
+    "passed",
+    "dropped",
+];
+
 /// Makes a run: `run ORDER`, and tells its figures and what was sent. Further lines ask for its journal.
 pub(crate) fn play_run(
     alloc: Global,
-    lines: &[&str],
+    lines: &[Line<'_>],
     words: &[&str],
-    rest: &[&str],
+    rest: &[Line<'_>],
     text: &mut String,
 ) -> Result<(), Trouble> {
-    let [order] = words else {
-        return Err(Trouble::BadLine);
-    };
-    let order = number(order)?;
-    let layout = layout_of(lines)?;
-    let (config, frames) = set_up(alloc, &layout)?;
-    let lists = lists_of(alloc, lines, config.ports())?;
-    let program = program_of(alloc, lines)?;
+    let (run, pairs) = run_by(alloc, lines, one_number(words)?)?;
+    tell_run(alloc, &run, pairs, rest, text)
+}
+
+/// The run of a script, and the number of its pairs.
+fn run_by(alloc: Global, lines: &[Line<'_>], order: u32) -> Result<(Run, u32), Trouble>
+    ensures { IfOk result (λ made. made.1 ≡ made.0.pairs) }
+{
+    let program = program_of(lines)?;
+    let (config, frames) = set_up(alloc, lines)?;
     let pairs = config.pairs().len() as u32;
-    let wire = wire_of(lines);
-    let run = run_of(
-        alloc,
-        config,
-        frames,
-        lists.as_slice(),
-        program,
-        wire,
-        order,
-    )?;
-    tell_figures(&run, text)?;
-    tell_sent(&run, pairs, text)?;
-    answer_all(alloc, &run, rest, text)
+    let lists = lists_of(alloc, lines, config.ports())?;
+    let run = run_of(alloc, config, frames, lists.as_slice(), program, order)?;
+    Ok((run, pairs))
+}
+
+fn tell_run(
+    alloc: Global,
+    run: &Run,
+    pairs: u32,
+    rest: &[Line<'_>],
+    text: &mut String,
+) -> Result<(), Trouble>
+    requires { pairs ≡ run.now.pairs }
+{
+    tell_figures(run, text)?;
+    tell_sent(run, pairs, text)?;
+    let journal = journal_text(alloc, run)?;
+    answer_all(run, journal.as_slice(), rest, text)
 }
 
 fn tell_figures(run: &Run, text: &mut String) -> Result<(), Trouble> {
@@ -56,27 +74,18 @@ fn tell_figures(run: &Run, text: &mut String) -> Result<(), Trouble> {
 
 /// The packets of a driver that came in, those with each kind of disposal, and those that went out.
 fn tell_driver(pair: u32, figures: &DriverFigures, text: &mut String) -> Result<(), Trouble> {
-    let count = figures.packets_in;
-    write!(text, "d{pair} in {count}")?;
-    let [
-        delivered,
-        no_frames,
-        rx_full,
-        too_long,
-        runt,
-        missed,
-        passed,
-        dropped,
-    ] = figures.kinds;
-    write!(
-        text,
-        " delivered {delivered} noframes {no_frames} rxfull {rx_full} toolong {too_long}"
-    )?;
-    let sent = figures.sent;
-    writeln!(
-        text,
-        " runt {runt} missed {missed} passed {passed} dropped {dropped} sent {sent}"
-    )?;
+    write!(text, "d{pair}")?;
+    tell_count("in", figures.packets_in, text)?;
+    for (name, count) in KINDS.iter().zip(&figures.kinds) {
+        tell_count(name, *count, text)?;
+    }
+    tell_count("sent", figures.sent, text)?;
+    text.push('\n')?;
+    Ok(())
+}
+
+fn tell_count(name: &str, count: u64, text: &mut String) -> Result<(), Trouble> {
+    write!(text, " {name} {count}")?;
     Ok(())
 }
 
@@ -84,24 +93,41 @@ fn tell_sent(run: &Run, pairs: u32, text: &mut String) -> Result<(), Trouble>
     requires { pairs ≡ run.now.pairs }
 {
     for pair in 0..pairs {
-        let sent = PacketsText(run.sent(pair));
-        writeln!(text, "d{pair} sent {sent}")?;
+        write!(text, "d{pair} sent ")?;
+        tell_packets(run.sent(pair), text)?;
     }
     Ok(())
 }
 
 /// Answers further lines: `calls`, `journal`, and `find TEXT`.
-fn answer_all(alloc: Global, run: &Run, lines: &[&str], text: &mut String) -> Result<(), Trouble> {
-    let calls = run.figures().calls;
-    let journal = journal_text(alloc, run)?;
-    let journal = str::from_utf8(journal.as_slice()).map_err(|_| Trouble::BadLine)?;
+fn answer_all(
+    run: &Run,
+    journal: &[u8],
+    lines: &[Line<'_>],
+    text: &mut String,
+) -> Result<(), Trouble> {
+    let Ok(journal) = str::from_utf8(journal) else {
+        return Err(Trouble::BadLine);
+    };
     for line in lines {
-        match *line {
-            "calls" => writeln!(text, "calls: {calls}")?,
-            "journal" => write!(text, "{journal}")?,
-            _ => tell_found(journal, line, text)?,
-        }
+        answer(run, journal, line.text, text)?;
     }
+    Ok(())
+}
+
+fn answer(run: &Run, journal: &str, line: &str, text: &mut String) -> Result<(), Trouble> {
+    match line {
+        "calls" => tell_calls(run.figures().calls, text),
+        "journal" => {
+            text.push_str(journal)?;
+            Ok(())
+        }
+        _ => tell_found(journal, line, text),
+    }
+}
+
+fn tell_calls(calls: u64, text: &mut String) -> Result<(), Trouble> {
+    writeln!(text, "calls: {calls}")?;
     Ok(())
 }
 
@@ -109,11 +135,11 @@ fn tell_found(journal: &str, line: &str, text: &mut String) -> Result<(), Troubl
     let Some(wanted) = line.strip_prefix("find ") else {
         return Err(Trouble::BadLine);
     };
-    let found = if journal.contains(wanted) {
-        "yes"
-    } else {
-        "no"
-    };
+    tell_answer(wanted, journal.contains(wanted), text)
+}
+
+fn tell_answer(wanted: &str, found: bool, text: &mut String) -> Result<(), Trouble> {
+    let found = if found { "yes" } else { "no" };
     writeln!(text, "{wanted}: {found}")?;
     Ok(())
 }

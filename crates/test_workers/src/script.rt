@@ -5,28 +5,33 @@ use crate::played::{play_app, play_driver};
 use crate::rounds::play_run;
 use crate::traffic::play_traffic;
 use crate::trouble::Trouble;
+use crate::words::Line;
 use std::alloc::{AllocError, Global};
-use std::fmt::Write;
 
 /// What came of a script, under its name.
-pub(crate) fn play(alloc: Global, lines: &[&str]) -> Result<String, AllocError> {
+pub(crate) fn play(alloc: Global, lines: &[Line<'_>]) -> Result<String, AllocError> {
     let mut text = String::new(alloc);
-    if let Some(name) = lines.first() {
-        writeln!(text, "{name}")?;
-    }
-    if let Err(trouble) = play_lines(alloc, lines, &mut text) {
-        writeln!(text, "{trouble}")?;
-    }
+    tell(alloc, lines, &mut text)?;
     Ok(text)
 }
 
+fn tell(alloc: Global, lines: &[Line<'_>], text: &mut String) -> Result<(), AllocError> {
+    if let Some(name) = lines.first() {
+        text.push_str(name.text)?;
+        text.push('\n')?;
+    }
+    match play_lines(alloc, lines, text) {
+        Ok(()) => Ok(()),
+        Err(trouble) => trouble.tell(text),
+    }
+}
+
 /// Plays what the first line says that says something to be played.
-fn play_lines(alloc: Global, lines: &[&str], text: &mut String) -> Result<(), Trouble> {
-    for (place, line) in lines.iter().enumerate() {
-        let words: Vec<&str> = line.split_whitespace().collect(alloc)?;
-        let rest = lines.get(place..).unwrap_or(&[]);
-        let rest = rest.get(1..).unwrap_or(&[]);
-        if let Some((first, words)) = words.as_slice().split_first() {
+fn play_lines(alloc: Global, lines: &[Line<'_>], text: &mut String) -> Result<(), Trouble> {
+    let mut rest = lines;
+    for line in lines {
+        rest = rest.get(1..).unwrap_or(&[]);
+        if let Some((first, words)) = line.split() {
             if play_work(alloc, first, lines, words, rest, text)? {
                 return Ok(());
             }
@@ -39,9 +44,9 @@ fn play_lines(alloc: Global, lines: &[&str], text: &mut String) -> Result<(), Tr
 fn play_work(
     alloc: Global,
     work: &str,
-    lines: &[&str],
+    lines: &[Line<'_>],
     words: &[&str],
-    rest: &[&str],
+    rest: &[Line<'_>],
     text: &mut String,
 ) -> Result<bool, Trouble> {
     match work {

@@ -1,7 +1,7 @@
 //! The frames that a worker doesn't have, by their numbers.
 
 use crate::trouble::Trouble;
-use crate::words::{byte, long_number, number, words_behind};
+use crate::words::{Line, three_numbers};
 use std::alloc::Global;
 use xsk_model::{Act, Call};
 use xsk_umem::{Batch, Frame, Frames};
@@ -14,25 +14,24 @@ pub(crate) struct Shelf {
 }
 
 impl Shelf {
-    /// All frames of a UMEM, whose bytes are those that the script gives by `frame ADDRESS LEN BYTE`.
-    pub(crate) fn new(
-        alloc: Global,
-        frames: Frames,
-        chunk: u32,
-        lines: &[&str],
-    ) -> Result<Shelf, Trouble> {
+    /// All frames of a UMEM.
+    pub(crate) fn new(alloc: Global, frames: Frames, chunk: u32) -> Result<Shelf, Trouble> {
         let mut all = frames;
         let mut frames = Vec::new(alloc);
         for _ in 0..all.len() {
             frames.push(all.pop_front())?;
         }
-        let mut shelf = Shelf { frames, chunk };
+        Ok(Shelf { frames, chunk })
+    }
+
+    /// Writes the bytes that a script gives by `frame ADDRESS LEN BYTE`.
+    pub(crate) fn write_all(&mut self, alloc: Global, lines: &[Line<'_>]) -> Result<(), Trouble> {
         for line in lines {
-            if let Some(words) = words_behind(alloc, line, "frame")? {
-                shelf.write(alloc, words.as_slice())?;
+            if let Some(words) = line.behind("frame") {
+                self.write(alloc, words)?;
             }
         }
-        Ok(shelf)
+        Ok(())
     }
 
     /// The number of the frame that an address lies in, and the place in it. None where it lies outside the UMEM.
@@ -45,19 +44,16 @@ impl Shelf {
     }
 
     fn write(&mut self, alloc: Global, words: &[&str]) -> Result<(), Trouble> {
-        let [addr, len, value] = words else {
+        let (addr, len, value) = three_numbers(words)?;
+        let Ok(value) = u8::try_from(value) else {
             return Err(Trouble::BadLine);
         };
-        let piece = vec![in alloc; byte(value)?; number(len)? as usize]?;
-        let (frame, offset) = self.place(long_number(addr)?).ok_or(Trouble::NoFrame)?;
-        let mut frame = self.take(frame)?;
-        let room = frame.bytes().len();
-        if offset as usize > room || piece.len() > room - offset as usize {
-            return Err(Trouble::BadLine);
-        }
-        frame.fill(offset, piece.as_slice());
-        self.put(frame);
-        Ok(())
+        let piece = vec![in alloc; value; len as usize]?;
+        let (number, offset) = self.place(u64::from(addr)).ok_or(Trouble::NoFrame)?;
+        let Some(place) = self.frames.get_mut(number) else {
+            return Err(Trouble::NoFrame);
+        };
+        fill(place, offset, piece.as_slice())
     }
 
     /// Takes a frame, which must be there.
@@ -92,4 +88,17 @@ impl Shelf {
             }
         }
     }
+}
+
+/// Writes bytes into a frame, which must be there.
+fn fill(place: &mut Option<Frame>, offset: u32, piece: &[u8]) -> Result<(), Trouble> {
+    let Some(frame) = place else {
+        return Err(Trouble::NoFrame);
+    };
+    let room = frame.bytes().len();
+    if offset as usize > room || piece.len() > room - offset as usize {
+        return Err(Trouble::BadLine);
+    }
+    frame.fill(offset, piece);
+    Ok(())
 }

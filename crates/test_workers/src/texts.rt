@@ -1,147 +1,146 @@
 //! Calls and what came of packets, as they are printed. Calls have the form of the journal.
 
-use std::fmt;
+use crate::trouble::Trouble;
+use std::fmt::Write;
 use xsk_driver::Disposal;
 use xsk_model::{Act, Call, Mark, Ring};
-use xsk_umem::{Batch, PacketList, XdpDesc};
+use xsk_umem::{Batch, PacketList};
 
-#[derive(Drop)]
-pub(crate) struct RingText(pub(crate) Ring);
-
-impl fmt::Display for RingText {
-    fn fmt<W: fmt::Write>(&self, f: &mut fmt::Formatter<W>) -> fmt::Result {
-        match self.0 {
-            Ring::Fill(pair) => write!(f, "fill.{pair}"),
-            Ring::Comp(pair) => write!(f, "comp.{pair}"),
-            Ring::Rx(socket) => write!(f, "rx.{socket}"),
-            Ring::Tx(socket) => write!(f, "tx.{socket}"),
-        }
+/// What kind of ring it is, and its number.
+fn ring_parts(ring: Ring) -> (&'static str, u32) {
+    match ring {
+        Ring::Fill(pair) => ("fill", pair),
+        Ring::Comp(pair) => ("comp", pair),
+        Ring::Rx(socket) => ("rx", socket),
+        Ring::Tx(socket) => ("tx", socket),
     }
 }
 
-#[derive(Drop)]
-struct MarkText(Mark);
-
-impl fmt::Display for MarkText {
-    fn fmt<W: fmt::Write>(&self, f: &mut fmt::Formatter<W>) -> fmt::Result {
-        match self.0 {
-            Mark::NeedFill(pair) => write!(f, "need.fill.{pair}"),
-            Mark::NeedTx(socket) => write!(f, "need.tx.{socket}"),
-            Mark::Kick(pair) => write!(f, "kick.{pair}"),
-            Mark::RxDone(pair) => write!(f, "rxdone.{pair}"),
-            Mark::Gone(pair) => write!(f, "gone.{pair}"),
-            Mark::TxDone(app) => write!(f, "txdone.{app}"),
-            Mark::Cell(port, index) => write!(f, "cell.{port}.{index}"),
-        }
+/// What kind of mark it is, and its first number.
+fn mark_parts(mark: Mark) -> (&'static str, u32) {
+    match mark {
+        Mark::NeedFill(pair) => ("need.fill", pair),
+        Mark::NeedTx(socket) => ("need.tx", socket),
+        Mark::Kick(pair) => ("kick", pair),
+        Mark::RxDone(pair) => ("rxdone", pair),
+        Mark::Gone(pair) => ("gone", pair),
+        Mark::TxDone(app) => ("txdone", app),
+        Mark::Cell(port, _) => ("cell", port),
     }
 }
 
-#[derive(Drop)]
-struct DescText(XdpDesc);
+fn tell_ring(verb: &str, ring: Ring, text: &mut String) -> Result<(), Trouble> {
+    let (kind, number) = ring_parts(ring);
+    write!(text, "{verb} {kind}.{number}")?;
+    Ok(())
+}
 
-impl fmt::Display for DescText {
-    fn fmt<W: fmt::Write>(&self, f: &mut fmt::Formatter<W>) -> fmt::Result {
-        let XdpDesc { addr, len, options } = self.0;
-        write!(f, "{addr}:{len}:{options}")
+fn tell_mark(verb: &str, mark: Mark, text: &mut String) -> Result<(), Trouble> {
+    let (kind, number) = mark_parts(mark);
+    write!(text, "{verb} {kind}.{number}")?;
+    if let Mark::Cell(_, index) = mark {
+        write!(text, ".{index}")?;
+    }
+    Ok(())
+}
+
+fn tell_number(number: u64, text: &mut String) -> Result<(), Trouble> {
+    write!(text, " {number}")?;
+    Ok(())
+}
+
+/// Tells items, each behind a space.
+pub(crate) fn tell_items(items: &Batch, text: &mut String) -> Result<(), Trouble> {
+    for place in 0..items.len() {
+        let desc = items.desc(place);
+        write!(text, " {}:{}:{}", desc.addr, desc.len, desc.options)?;
+    }
+    Ok(())
+}
+
+fn tell_call(call: &Call, text: &mut String) -> Result<(), Trouble> {
+    match call {
+        Call::Reserve(ring, _) => tell_ring("reserve", *ring, text),
+        Call::Submit(ring, _) => tell_ring("submit", *ring, text),
+        Call::Peek(ring, _) => tell_ring("peek", *ring, text),
+        Call::Release(ring, _) => tell_ring("release", *ring, text),
+        Call::Swap(mark, _) => tell_mark("swap", *mark, text),
+        Call::Look(mark) => tell_mark("look", *mark, text),
     }
 }
 
-/// Items, each behind a space.
-#[derive(Drop)]
-pub(crate) struct ItemsText<'a>(pub(crate) &'a Batch);
-
-impl fmt::Display for ItemsText<'_> {
-    fn fmt<W: fmt::Write>(&self, f: &mut fmt::Formatter<W>) -> fmt::Result {
-        for i in 0..self.0.len() {
-            let desc = DescText(self.0.desc(i));
-            write!(f, " {desc}")?;
+/// Tells what a call carries.
+fn tell_load(call: &Call, text: &mut String) -> Result<(), Trouble> {
+    match call {
+        Call::Reserve(_, count) | Call::Peek(_, count) | Call::Release(_, count) => {
+            tell_number(u64::from(*count), text)
         }
-        Ok(())
+        Call::Submit(_, items) => tell_items(items, text),
+        Call::Swap(_, value) => tell_number(*value, text),
+        Call::Look(_) => Ok(()),
     }
 }
 
-#[derive(Drop)]
-struct CallText<'a>(&'a Call);
+pub(crate) fn tell_act(act: &Act, text: &mut String) -> Result<(), Trouble> {
+    let Act::Call(call) = act else {
+        text.push_str("ended")?;
+        return Ok(());
+    };
+    tell_call(call, text)?;
+    tell_load(call, text)
+}
 
-impl fmt::Display for CallText<'_> {
-    fn fmt<W: fmt::Write>(&self, f: &mut fmt::Formatter<W>) -> fmt::Result {
-        match self.0 {
-            Call::Reserve(ring, count) => write!(f, "reserve {} {}", RingText(*ring), *count),
-            Call::Submit(ring, items) => write!(
-                f,
-                "submit {}{}",
-                RingText(*ring),
-                ItemsText(items)
-            ),
-            Call::Peek(ring, count) => write!(f, "peek {} {}", RingText(*ring), *count),
-            Call::Release(ring, count) => write!(f, "release {} {}", RingText(*ring), *count),
-            Call::Swap(mark, value) => write!(f, "swap {} {}", MarkText(*mark), *value),
-            Call::Look(mark) => write!(f, "look {}", MarkText(*mark)),
-        }
+fn disposal_name(disposal: Disposal) -> &'static str {
+    match disposal {
+        Disposal::Delivered(_) => " delivered",
+        Disposal::NoFrames => " noframes",
+        Disposal::RxFull => " rxfull",
+        Disposal::TooLong => " toolong",
+        Disposal::Runt => " runt",
+        Disposal::Missed => " missed",
+        Disposal::Passed => " passed",
+        Disposal::Dropped => " dropped",
     }
 }
 
-#[derive(Drop)]
-pub(crate) struct ActText<'a>(pub(crate) &'a Act);
-
-impl fmt::Display for ActText<'_> {
-    fn fmt<W: fmt::Write>(&self, f: &mut fmt::Formatter<W>) -> fmt::Result {
-        match self.0 {
-            Act::Call(call) => write!(f, "{}", CallText(call)),
-            Act::Ended => write!(f, "ended"),
-        }
+/// Tells a disposal behind a space.
+pub(crate) fn tell_disposal(disposal: Disposal, text: &mut String) -> Result<(), Trouble> {
+    text.push_str(disposal_name(disposal))?;
+    if let Disposal::Delivered(socket) = disposal {
+        write!(text, ".{socket}")?;
     }
+    Ok(())
 }
 
-#[derive(Drop)]
-pub(crate) struct DisposalText(pub(crate) Disposal);
-
-impl fmt::Display for DisposalText {
-    fn fmt<W: fmt::Write>(&self, f: &mut fmt::Formatter<W>) -> fmt::Result {
-        match self.0 {
-            Disposal::Delivered(socket) => write!(f, "delivered.{socket}"),
-            Disposal::NoFrames => write!(f, "noframes"),
-            Disposal::RxFull => write!(f, "rxfull"),
-            Disposal::TooLong => write!(f, "toolong"),
-            Disposal::Runt => write!(f, "runt"),
-            Disposal::Missed => write!(f, "missed"),
-            Disposal::Passed => write!(f, "passed"),
-            Disposal::Dropped => write!(f, "dropped"),
-        }
+/// Tells the number of packets, and each behind a space.
+pub(crate) fn tell_packets(list: &PacketList, text: &mut String) -> Result<(), Trouble> {
+    let count = list.len();
+    write!(text, "{count}")?;
+    for place in 0..list.len() {
+        tell_bytes(list.get(place), text)?;
     }
+    text.push('\n')?;
+    Ok(())
 }
 
-/// The number of packets, and each behind a space.
-#[derive(Drop)]
-pub(crate) struct PacketsText<'a>(pub(crate) &'a PacketList);
-
-impl fmt::Display for PacketsText<'_> {
-    fn fmt<W: fmt::Write>(&self, f: &mut fmt::Formatter<W>) -> fmt::Result {
-        write!(f, "{}", self.0.len())?;
-        for i in 0..self.0.len() {
-            let packet = BytesText(self.0.get(i));
-            write!(f, " {packet}")?;
+/// Tells bytes as runs of the same: `07x60` are sixty times 7.
+fn tell_bytes(bytes: &[u8], text: &mut String) -> Result<(), Trouble> {
+    let mut last = 0;
+    let mut count = 0u64;
+    let mut before = ' ';
+    for byte in bytes {
+        if count > 0 && *byte != last {
+            tell_same(before, last, count, text)?;
+            before = ',';
+            count = 0;
         }
-        Ok(())
+        last = *byte;
+        count = count.saturating_add(1);
     }
+    tell_same(before, last, count, text)
 }
 
-/// Bytes as runs of the same: `07x60` are sixty times 7.
-#[derive(Drop)]
-struct BytesText<'a>(&'a [u8]);
-
-impl fmt::Display for BytesText<'_> {
-    fn fmt<W: fmt::Write>(&self, f: &mut fmt::Formatter<W>) -> fmt::Result {
-        let mut last = 0;
-        let mut count = 0u64;
-        for byte in self.0 {
-            if count > 0 && *byte != last {
-                write!(f, "{last:02x}x{count},")?;
-                count = 0;
-            }
-            last = *byte;
-            count = count.saturating_add(1);
-        }
-        write!(f, "{last:02x}x{count}")
-    }
+fn tell_same(before: char, byte: u8, count: u64, text: &mut String) -> Result<(), Trouble> {
+    write!(text, "{before}{byte:02x}x{count}")?;
+    Ok(())
 }

@@ -2,13 +2,13 @@
 //! `bind SOCKET PORT QUEUE FLAGS` (with `SHARED` behind it, a socket's number, where the UMEM is shared). Then the object is
 //! opened over them, and `peek WHO fill PAIR COUNT` (or `comp`, `rx`, `tx`) makes a call.
 ghost use Rattle.std.specs.Prelude.{◌≡◌, IfOk};
+ghost use Rattle.xsk_model.specs.Config.{IsLawful};
 
 use crate::made::all_frames;
-use crate::texts::ItemsText;
+use crate::texts::tell_items;
 use crate::trouble::Trouble;
-use crate::words::number;
+use crate::words::{Line, number, one_number, three_numbers};
 use std::alloc::Global;
-use std::fmt::Write;
 use xsk_model::{Call, Config, Reply, Ring};
 use xsk_plain::{Checked, payload_room};
 use xsk_socket::{RingKind, Setup};
@@ -21,100 +21,141 @@ const CHUNK: u32 = 2048;
 pub(crate) fn play_traffic(
     alloc: Global,
     words: &[&str],
-    rest: &[&str],
+    rest: &[Line<'_>],
     text: &mut String,
 ) -> Result<(), Trouble> {
-    let [count] = words else {
-        return Err(Trouble::BadLine);
-    };
-    let mut checked = opened(alloc, number(count)?, rest)?;
-    for line in rest {
-        let words: Vec<&str> = line.split_whitespace().collect(alloc)?;
-        if let ["peek", who, ring, place, count] = words.as_slice() {
-            write!(text, "{line}: ")?;
-            let call = Call::Peek(ring_of(ring, number(place)?)?, number(count)?);
-            make_call(&mut checked, number(who)?, call, text)?;
+    let mut checked = opened(alloc, one_number(words)?, rest)?;
+    peek_all(&mut checked, rest, text)
+}
+
+fn peek_all(checked: &mut Checked, lines: &[Line<'_>], text: &mut String) -> Result<(), Trouble> {
+    for line in lines {
+        if let Some(words) = line.behind("peek") {
+            text.push_str(line.text)?;
+            text.push_str(": ")?;
+            peek(checked, words, text)?;
         }
     }
     Ok(())
 }
 
+fn peek(checked: &mut Checked, words: &[&str], text: &mut String) -> Result<(), Trouble> {
+    let [who, ring, place, count] = words else {
+        return Err(Trouble::BadLine);
+    };
+    let ring = ring_of(ring, number(place)?)?;
+    make_peek(checked, number(who)?, ring, number(count)?, text)
+}
+
 /// The object over the sockets, and all frames of a UMEM.
-fn opened(alloc: Global, count: u32, lines: &[&str]) -> Result<Checked, Trouble> {
+fn opened(alloc: Global, count: u32, lines: &[Line<'_>]) -> Result<Checked, Trouble> {
     let len = u64::from(count) * u64::from(CHUNK);
     let (geometry, frames) = all_frames(alloc, len, CHUNK, 0)?;
     let config = sealed(alloc, geometry, lines)?;
-    if !config.lawful() {
-        return Err(Trouble::BadLayout);
-    }
     match Checked::open(alloc, config, frames) {
         Ok(checked) => Ok(checked),
         Err(_) => Err(Trouble::NoMemory),
     }
 }
 
-/// The configuration of the sockets.
-fn sealed(alloc: Global, geometry: Geometry, lines: &[&str]) -> Result<Config, Trouble>
-    ensures { IfOk result (λ config. config.geometry ≡ geometry) }
+/// The configuration of the sockets, which is lawful.
+fn sealed(alloc: Global, geometry: Geometry, lines: &[Line<'_>]) -> Result<Config, Trouble>
+    ensures geometry { IfOk result (λ config. config.geometry ≡ geometry) }
+    ensures lawful { IfOk result IsLawful }
 {
     let mut setup = Setup::new(alloc, geometry, 2, 1);
-    for line in lines {
-        let words: Vec<&str> = line.split_whitespace().collect(alloc)?;
-        add(&mut setup, words.as_slice())?;
+    add_all(&mut setup, lines)?;
+    let Ok(config) = setup.seal() else {
+        return Err(Trouble::BadSetup);
+    };
+    if !config.lawful() {
+        return Err(Trouble::BadLayout);
     }
-    match setup.seal() {
-        Ok(config) => Ok(config),
-        Err(_) => Err(Trouble::BadSetup),
-    }
+    Ok(config)
 }
 
-fn add(setup: &mut Setup, words: &[&str]) -> Result<(), Trouble>
+fn add_all(setup: &mut Setup, lines: &[Line<'_>]) -> Result<(), Trouble>
     ensures { setup.new.geometry ≡ setup.old.geometry }
 {
-    match words {
-        ["socket"] => {
-            setup.socket().map_err(|_| Trouble::BadSetup)?;
-            Ok(())
+    for line in lines {
+        if let Some((first, words)) = line.split() {
+            add(setup, first, words)?;
         }
-        ["ring", socket, kind, size] => add_ring(setup, number(socket)?, kind, number(size)?),
-        ["bind", socket, rest @ ..] => bind(setup, number(socket)?, rest),
+    }
+    Ok(())
+}
+
+fn add(setup: &mut Setup, what: &str, words: &[&str]) -> Result<(), Trouble>
+    ensures { setup.new.geometry ≡ setup.old.geometry }
+{
+    match what {
+        "socket" => add_socket(setup),
+        "ring" => add_ring(setup, words),
+        "bind" => bind(setup, words),
         _ => Ok(()),
     }
 }
 
-fn add_ring(setup: &mut Setup, socket: u32, kind: &str, size: u32) -> Result<(), Trouble>
+fn add_socket(setup: &mut Setup) -> Result<(), Trouble>
     ensures { setup.new.geometry ≡ setup.old.geometry }
 {
-    let kind = match kind {
-        "rx" => RingKind::Rx,
-        "tx" => RingKind::Tx,
-        "fill" => RingKind::Fill,
-        "comp" => RingKind::Comp,
-        _ => return Err(Trouble::BadLine),
-    };
-    setup
-        .ring(socket, kind, size)
-        .map_err(|_| Trouble::BadSetup)
+    match setup.socket() {
+        Ok(_) => Ok(()),
+        Err(_) => Err(Trouble::BadSetup),
+    }
 }
 
-fn bind(setup: &mut Setup, socket: u32, words: &[&str]) -> Result<(), Trouble>
+fn add_ring(setup: &mut Setup, words: &[&str]) -> Result<(), Trouble>
     ensures { setup.new.geometry ≡ setup.old.geometry }
 {
-    let [port, queue, flags, shared @ ..] = words else {
+    let [socket, kind, size] = words else {
         return Err(Trouble::BadLine);
     };
-    let shared = match shared {
-        [] => None,
-        [other, ..] => Some(number(other)?),
+    match setup.ring(number(socket)?, kind_of(kind)?, number(size)?) {
+        Ok(()) => Ok(()),
+        Err(_) => Err(Trouble::BadSetup),
+    }
+}
+
+fn kind_of(kind: &str) -> Result<RingKind, Trouble> {
+    match kind {
+        "rx" => Ok(RingKind::Rx),
+        "tx" => Ok(RingKind::Tx),
+        "fill" => Ok(RingKind::Fill),
+        "comp" => Ok(RingKind::Comp),
+        _ => Err(Trouble::BadLine),
+    }
+}
+
+fn bind(setup: &mut Setup, words: &[&str]) -> Result<(), Trouble>
+    ensures { setup.new.geometry ≡ setup.old.geometry }
+{
+    let [socket, rest @ ..] = words else {
+        return Err(Trouble::BadLine);
     };
-    let done = setup.bind(
-        socket,
-        number(port)?,
-        number(queue)?,
-        number(flags)?,
-        shared,
-    );
-    done.map_err(|_| Trouble::BadSetup)
+    let socket = number(socket)?;
+    match rest {
+        [port, queue, flags, other] => {
+            let (port, queue, flags) = (number(port)?, number(queue)?, number(flags)?);
+            bind_at(setup, socket, (port, queue, flags), Some(number(other)?))
+        }
+        _ => bind_at(setup, socket, three_numbers(rest)?, None),
+    }
+}
+
+fn bind_at(
+    setup: &mut Setup,
+    socket: u32,
+    at: (u32, u32, u32),
+    shared: Option<u32>,
+) -> Result<(), Trouble>
+    ensures { setup.new.geometry ≡ setup.old.geometry }
+{
+    let (port, queue, flags) = at;
+    match setup.bind(socket, port, queue, flags, shared) {
+        Ok(()) => Ok(()),
+        Err(_) => Err(Trouble::BadSetup),
+    }
 }
 
 fn ring_of(ring: &str, place: u32) -> Result<Ring, Trouble> {
@@ -128,22 +169,31 @@ fn ring_of(ring: &str, place: u32) -> Result<Ring, Trouble> {
 }
 
 /// Makes a call, where it is legal, and tells the items of its reply.
-fn make_call(
+fn make_peek(
     checked: &mut Checked,
     who: u32,
-    call: Call,
+    ring: Ring,
+    count: u32,
     text: &mut String,
 ) -> Result<(), Trouble> {
     let _geometry = checked.config().geometry();
+    let call = Call::Peek(ring, count);
     checked.reserve_log(1, payload_room(&call))?;
-    if !checked.allows(who, &call) {
-        writeln!(text, "not legal")?;
-        return Ok(());
+    if checked.allows(who, &call) {
+        tell_reply(checked.perform(who, call), text)
+    } else {
+        text.push_str("not legal\n")?;
+        Ok(())
     }
-    match checked.perform(who, call) {
-        Reply::Items(items) => writeln!(text, "items{}", ItemsText(&items))?,
-        Reply::Empty => writeln!(text, "empty")?,
-        _ => return Err(Trouble::BadReply),
+}
+
+fn tell_reply(reply: Reply, text: &mut String) -> Result<(), Trouble> {
+    if let Reply::Items(items) = &reply {
+        text.push_str("items")?;
+        tell_items(items, text)?;
+        text.push('\n')?;
+    } else {
+        text.push_str("empty\n")?;
     }
     Ok(())
 }

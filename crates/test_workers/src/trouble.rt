@@ -1,32 +1,46 @@
 //! Why a script doesn't go on.
 
 use std::alloc::{AllocError, AllocFailed};
-use thiserror::Error;
+use std::fmt::Write;
 use xsk_sim::SimError;
 use xsk_umem::OutOfMemory;
 
-#[derive(Clone, Copy, Debug, PartialEq, Eq, Error)]
+#[derive(Clone, Copy)]
 pub(crate) enum Trouble {
-    #[error("out of memory")]
     NoMemory,
-    #[error("a line can't be read")]
     BadLine,
-    #[error("the layout isn't accepted")]
     BadLayout,
-    #[error("the frame isn't there")]
     NoFrame,
-    #[error("there is no such worker")]
     NoWorker,
-    #[error("that reply can't come")]
     BadReply,
-    #[error("there is no such cell, ring or port")]
     NoPlace,
-    #[error("the sockets can't be set up")]
     BadSetup,
-    #[error("the call isn't legal")]
-    NotLegal,
-    #[error("stalled in round {0}")]
     Stalled(u64),
+}
+
+impl Trouble {
+    fn words(self) -> &'static str {
+        match self {
+            Trouble::NoMemory => "out of memory",
+            Trouble::BadLine => "a line can't be read",
+            Trouble::BadLayout => "the layout isn't accepted",
+            Trouble::NoFrame => "the frame isn't there",
+            Trouble::NoWorker => "there is no such worker",
+            Trouble::BadReply => "that reply can't come",
+            Trouble::NoPlace => "there is no such cell, ring or port",
+            Trouble::BadSetup => "the sockets can't be set up",
+            Trouble::Stalled(_) => "stalled in round ",
+        }
+    }
+
+    /// Tells it in a line.
+    pub(crate) fn tell(self, text: &mut String) -> Result<(), AllocError> {
+        text.push_str(self.words())?;
+        if let Trouble::Stalled(round) = self {
+            write!(text, "{round}")?;
+        }
+        text.push('\n')
+    }
 }
 
 impl From<AllocError> for Trouble {

@@ -1,31 +1,74 @@
-//! The words of a line, and numbers among them.
+//! Lines with their words, and numbers among these.
 
 use crate::trouble::Trouble;
-use std::alloc::Global;
+use std::alloc::{AllocError, Global};
 
-/// The words of a line behind its first, where that is this one.
-pub(crate) fn words_behind<'a>(
-    alloc: Global,
-    line: &'a str,
-    first: &str,
-) -> Result<Option<Vec<&'a str>>, Trouble> {
-    let mut words = line.split_whitespace();
-    if words.next() != Some(first) {
-        return Ok(None);
+/// A line and its words.
+#[derive(Drop)]
+pub(crate) struct Line<'a> {
+    pub(crate) text: &'a str,
+    words: Vec<&'a str>,
+}
+
+impl<'a> Line<'a> {
+    pub(crate) fn new(alloc: Global, text: &'a str) -> Result<Line<'a>, AllocError> {
+        let words = text.split_whitespace().collect(alloc)?;
+        Ok(Line { text, words })
     }
-    Ok(Some(words.collect(alloc)?))
+
+    /// Its first word, and those behind it.
+    pub(crate) fn split(&self) -> Option<(&str, &[&'a str])> {
+        let (first, rest) = self.words.as_slice().split_first()?;
+        Some((*first, rest))
+    }
+
+    /// The words behind its first, where that is this one.
+    pub(crate) fn behind(&self, wanted: &str) -> Option<&[&'a str]> {
+        let (first, rest) = self.split()?;
+        if first == wanted { Some(rest) } else { None }
+    }
 }
 
 pub(crate) fn number(word: &str) -> Result<u32, Trouble> {
-    word.parse::<u32>().map_err(|_| Trouble::BadLine)
+    match word.parse::<u32>() {
+        Ok(number) => Ok(number),
+        Err(_) => Err(Trouble::BadLine),
+    }
 }
 
 pub(crate) fn long_number(word: &str) -> Result<u64, Trouble> {
-    word.parse::<u64>().map_err(|_| Trouble::BadLine)
+    match word.parse::<u64>() {
+        Ok(number) => Ok(number),
+        Err(_) => Err(Trouble::BadLine),
+    }
 }
 
 pub(crate) fn byte(word: &str) -> Result<u8, Trouble> {
-    word.parse::<u8>().map_err(|_| Trouble::BadLine)
+    match word.parse::<u8>() {
+        Ok(number) => Ok(number),
+        Err(_) => Err(Trouble::BadLine),
+    }
+}
+
+pub(crate) fn one_number(words: &[&str]) -> Result<u32, Trouble> {
+    match words {
+        [word] => number(word),
+        _ => Err(Trouble::BadLine),
+    }
+}
+
+pub(crate) fn two_numbers(words: &[&str]) -> Result<(u32, u32), Trouble> {
+    match words {
+        [one, two] => Ok((number(one)?, number(two)?)),
+        _ => Err(Trouble::BadLine),
+    }
+}
+
+pub(crate) fn three_numbers(words: &[&str]) -> Result<(u32, u32, u32), Trouble> {
+    match words {
+        [one, two, three] => Ok((number(one)?, number(two)?, number(three)?)),
+        _ => Err(Trouble::BadLine),
+    }
 }
 
 /// The two halves of a word around a mark.
