@@ -3,10 +3,10 @@ ghost use Rattle.std.specs.Prelude.{IfOk};
 ghost use Rattle.xsk_model.specs.Config.{HasRing};
 
 use crate::made::set_up;
+use crate::texts::{tell_last, tell_number};
 use crate::trouble::Trouble;
 use crate::words::{Line, number, three_numbers, two_numbers};
 use std::alloc::Global;
-use std::fmt::Write;
 use xsk_map::{Miss, redirect};
 use xsk_model::{Config, Ring};
 use xsk_plain::Plain;
@@ -49,11 +49,8 @@ fn tell_opened(alloc: Global, lines: &[Line<'_>], text: &mut String) -> Result<(
     let Ok(plain) = Plain::open(alloc, config, frames) else {
         return Err(Trouble::NoMemory);
     };
-    tell_frames(plain.close().len(), text)
-}
-
-fn tell_frames(count: u32, text: &mut String) -> Result<(), Trouble> {
-    writeln!(text, "{count} frames come back")?;
+    tell_number("", u64::from(plain.close().len()), text)?;
+    text.push_str(" frames come back\n")?;
     Ok(())
 }
 
@@ -81,22 +78,23 @@ fn tell_parts(config: &Config, text: &mut String) -> Result<(), Trouble> {
     if !regular {
         return Err(Trouble::BadLayout);
     }
-    tell_pools(config.pool(), config.batch(), text)?;
-    tell_callers(config.callers(), config.classes(), text)
+    tell_number(" pool ", u64::from(config.pool()), text)?;
+    tell_number(" batch ", u64::from(config.batch()), text)?;
+    tell_number(" callers ", u64::from(config.callers()), text)?;
+    tell_last(" classes ", u64::from(config.classes()), text)
 }
 
 fn tell_laws(lawful: bool, regular: bool, text: &mut String) -> Result<(), Trouble> {
-    write!(text, "lawful {lawful} regular {regular}")?;
-    Ok(())
-}
-
-fn tell_pools(pool: u32, batch: u32, text: &mut String) -> Result<(), Trouble> {
-    write!(text, " pool {pool} batch {batch}")?;
-    Ok(())
-}
-
-fn tell_callers(callers: u32, classes: u32, text: &mut String) -> Result<(), Trouble> {
-    writeln!(text, " callers {callers} classes {classes}")?;
+    text.push_str(if lawful {
+        "lawful true"
+    } else {
+        "lawful false"
+    })?;
+    text.push_str(if regular {
+        " regular true"
+    } else {
+        " regular false"
+    })?;
     Ok(())
 }
 
@@ -105,12 +103,7 @@ fn tell_size(config: &Config, words: &[&str], text: &mut String) -> Result<(), T
         return Err(Trouble::BadLine);
     };
     let ring = ring_of(config, ring, number(place)?)?;
-    tell_value(u64::from(config.size(ring)), text)
-}
-
-fn tell_value(value: u64, text: &mut String) -> Result<(), Trouble> {
-    writeln!(text, "{value}")?;
-    Ok(())
+    tell_last("", u64::from(config.size(ring)), text)
 }
 
 /// A ring that the configuration has.
@@ -139,7 +132,7 @@ fn tell_cell(
 ) -> Result<(), Trouble> {
     let (port, index) = two_numbers(words)?;
     let copy = config.copy(alloc)?;
-    tell_value(cell_of(&copy, port, index)?, text)
+    tell_last("", cell_of(&copy, port, index)?, text)
 }
 
 fn cell_of(config: &Config, port: u32, index: u32) -> Result<u64, Trouble> {
@@ -168,14 +161,9 @@ fn tell_redirect(config: &Config, words: &[&str], text: &mut String) -> Result<(
         return Err(Trouble::NoPlace);
     }
     match redirect(u64::from(cell), config, port, queue) {
-        Ok(socket) => tell_socket(socket, text),
+        Ok(socket) => tell_last("socket ", u64::from(socket), text),
         Err(miss) => tell_miss(miss, text),
     }
-}
-
-fn tell_socket(socket: u32, text: &mut String) -> Result<(), Trouble> {
-    writeln!(text, "socket {socket}")?;
-    Ok(())
 }
 
 fn tell_miss(miss: Miss, text: &mut String) -> Result<(), Trouble> {

@@ -2,9 +2,8 @@
 ghost use Rattle.std.specs.Prelude.{◌≡◌, IfSome, Some};
 ghost use Rattle.xsk_model.specs.Expected.{Expected, CanCome, expected_by, expected_of, nothing};
 
-use crate::texts::{tell_act, tell_disposal, tell_packets};
+use crate::texts::{tell_act, tell_disposal, tell_number, tell_packets};
 use crate::trouble::Trouble;
-use std::fmt::Write;
 use std::mem;
 use xsk_app::App;
 use xsk_driver::{Disposal, Driver};
@@ -42,7 +41,11 @@ impl Worker for Driver<'_> {
 }
 
 fn tell_parked(parked: bool, text: &mut String) -> Result<(), Trouble> {
-    writeln!(text, "parked: {parked}")?;
+    text.push_str(if parked {
+        "parked: true\n"
+    } else {
+        "parked: false\n"
+    })?;
     Ok(())
 }
 
@@ -94,7 +97,7 @@ fn fitting(call: &Call, reply: Reply) -> Option<Reply>
 /// A worker with its name, a letter and a number, and with the call that it makes now.
 #[derive(Drop)]
 pub(crate) struct Hand<M: Worker> {
-    letter: char,
+    letter: &'static str,
     number: u32,
     worker: M,
     act: Act,
@@ -102,7 +105,7 @@ pub(crate) struct Hand<M: Worker> {
 }
 
 impl<M: Worker> Hand<M> {
-    pub(crate) fn new(letter: char, number: u32, worker: M) -> Hand<M>
+    pub(crate) fn new(letter: &'static str, number: u32, worker: M) -> Hand<M>
         requires { M.expected worker ≡ nothing }
     {
         let mut worker = worker;
@@ -122,9 +125,13 @@ impl<M: Worker> Hand<M> {
 
     /// Tells its call, with what comes.
     pub(crate) fn tell_call(&self, reply: &str, text: &mut String) -> Result<(), Trouble> {
-        tell_name(self.letter, self.number, text)?;
+        tell_number(self.letter, u64::from(self.number), text)?;
+        text.push(' ')?;
         tell_act(&self.act, text)?;
-        tell_reply(reply, text)
+        text.push_str(" -> ")?;
+        text.push_str(reply)?;
+        text.push('\n')?;
+        Ok(())
     }
 
     /// Goes on with the reply and hands out the call that it answers. None, and the worker stays, where it can't come.
@@ -136,14 +143,4 @@ impl<M: Worker> Hand<M> {
         let next = self.worker.next(Some(reply));
         Some(mem::replace(&mut self.act, next))
     }
-}
-
-fn tell_name(letter: char, number: u32, text: &mut String) -> Result<(), Trouble> {
-    write!(text, "{letter}{number} ")?;
-    Ok(())
-}
-
-fn tell_reply(reply: &str, text: &mut String) -> Result<(), Trouble> {
-    writeln!(text, " -> {reply}")?;
-    Ok(())
 }

@@ -18,9 +18,11 @@ use xsk_driver::Inputs;
 use xsk_model::Config;
 use xsk_umem::{Frames, PacketList};
 
-/// Plays a driver: `driver PAIR PACKETS BYTES`, with room for so many packets and bytes that it sends.
-pub(crate) fn play_driver(
+/// Plays a driver, by `driver PAIR PACKETS BYTES`, with room for so many packets and bytes that it sends, or an application,
+/// by `app NUMBER`.
+pub(crate) fn play_hand(
     alloc: Global,
+    driver: bool,
     lines: &[Line<'_>],
     words: &[&str],
     rest: &[Line<'_>],
@@ -29,7 +31,11 @@ pub(crate) fn play_driver(
     let (config, frames) = set_up(alloc, lines)?;
     let mut shelf = shelf_of(alloc, &config, frames)?;
     shelf.write_all(alloc, lines)?;
-    drive(alloc, &config, lines, words, rest, &mut shelf, text)
+    if driver {
+        drive(alloc, &config, lines, words, rest, &mut shelf, text)
+    } else {
+        pass_on(alloc, &config, words, rest, &mut shelf, text)
+    }
 }
 
 fn shelf_of(alloc: Global, config: &Config, frames: Frames) -> Result<Shelf, Trouble> {
@@ -87,39 +93,26 @@ fn drive_on(
     };
     let program = program_of(lines)?;
     let driver = driver_of(alloc, config, pair, list, inputs, program, (packets, bytes))?;
-    let mut hand = Hand::new('d', pair, driver);
+    let mut hand = Hand::new("d", pair, driver);
     play(alloc, &mut hand, rest, shelf, text)
-}
-
-/// Plays an application: `app NUMBER`.
-pub(crate) fn play_app(
-    alloc: Global,
-    lines: &[Line<'_>],
-    words: &[&str],
-    rest: &[Line<'_>],
-    text: &mut String,
-) -> Result<(), Trouble> {
-    let (config, frames) = set_up(alloc, lines)?;
-    let mut shelf = shelf_of(alloc, &config, frames)?;
-    shelf.write_all(alloc, lines)?;
-    pass_on(alloc, &config, one_number(words)?, rest, &mut shelf, text)
 }
 
 /// Plays an application of a configuration.
 fn pass_on(
     alloc: Global,
     config: &Config,
-    app: u32,
+    words: &[&str],
     rest: &[Line<'_>],
     shelf: &mut Shelf,
     text: &mut String,
 ) -> Result<(), Trouble>
     requires { IsRegular config.now }
 {
+    let app = one_number(words)?;
     if app >= (config.ports() / 2) * config.queues() {
         return Err(Trouble::NoWorker);
     }
-    let mut hand = Hand::new('a', app, App::new(alloc, config, app)?);
+    let mut hand = Hand::new("a", app, App::new(alloc, config, app)?);
     play(alloc, &mut hand, rest, shelf, text)
 }
 

@@ -4,25 +4,24 @@ ghost use Rattle.std.specs.Prelude.{◌≡◌, ◌<◌, IfOk, length};
 use crate::attached::{program_of, run_of};
 use crate::made::set_up;
 use crate::packets::lists_of;
-use crate::texts::tell_packets;
+use crate::texts::{tell_last, tell_number, tell_packets};
 use crate::trouble::Trouble;
 use crate::words::{Line, one_number};
 use std::alloc::Global;
-use std::fmt::Write;
 use std::str;
 use xsk_driver::DriverFigures;
 use xsk_sim::{Run, journal_text};
 
 /// The kinds of disposal, as figures have them.
 const KINDS: [&str; 8] = [
-    "delivered",
-    "noframes",
-    "rxfull",
-    "toolong",
-    "runt",
-    "missed",
-    "passed",
-    "dropped",
+    " delivered ",
+    " noframes ",
+    " rxfull ",
+    " toolong ",
+    " runt ",
+    " missed ",
+    " passed ",
+    " dropped ",
 ];
 
 /// Makes a run: `run ORDER`, and tells its figures and what was sent. Further lines ask for its journal.
@@ -74,26 +73,20 @@ fn tell_figures(run: &Run, text: &mut String) -> Result<(), Trouble> {
 
 /// The packets of a driver that came in, those with each kind of disposal, and those that went out.
 fn tell_driver(pair: u32, figures: &DriverFigures, text: &mut String) -> Result<(), Trouble> {
-    write!(text, "d{pair}")?;
-    tell_count("in", figures.packets_in, text)?;
+    tell_number("d", u64::from(pair), text)?;
+    tell_number(" in ", figures.packets_in, text)?;
     for (name, count) in KINDS.iter().zip(&figures.kinds) {
-        tell_count(name, *count, text)?;
+        tell_number(name, *count, text)?;
     }
-    tell_count("sent", figures.sent, text)?;
-    text.push('\n')?;
-    Ok(())
-}
-
-fn tell_count(name: &str, count: u64, text: &mut String) -> Result<(), Trouble> {
-    write!(text, " {name} {count}")?;
-    Ok(())
+    tell_last(" sent ", figures.sent, text)
 }
 
 fn tell_sent(run: &Run, pairs: u32, text: &mut String) -> Result<(), Trouble>
     requires { pairs ≡ run.now.pairs }
 {
     for pair in 0..pairs {
-        write!(text, "d{pair} sent ")?;
+        tell_number("d", u64::from(pair), text)?;
+        text.push_str(" sent ")?;
         tell_packets(run.sent(pair), text)?;
     }
     Ok(())
@@ -117,18 +110,13 @@ fn answer_all(
 
 fn answer(run: &Run, journal: &str, line: &str, text: &mut String) -> Result<(), Trouble> {
     match line {
-        "calls" => tell_calls(run.figures().calls, text),
+        "calls" => tell_last("calls: ", run.figures().calls, text),
         "journal" => {
             text.push_str(journal)?;
             Ok(())
         }
         _ => tell_found(journal, line, text),
     }
-}
-
-fn tell_calls(calls: u64, text: &mut String) -> Result<(), Trouble> {
-    writeln!(text, "calls: {calls}")?;
-    Ok(())
 }
 
 fn tell_found(journal: &str, line: &str, text: &mut String) -> Result<(), Trouble> {
@@ -139,7 +127,7 @@ fn tell_found(journal: &str, line: &str, text: &mut String) -> Result<(), Troubl
 }
 
 fn tell_answer(wanted: &str, found: bool, text: &mut String) -> Result<(), Trouble> {
-    let found = if found { "yes" } else { "no" };
-    writeln!(text, "{wanted}: {found}")?;
+    text.push_str(wanted)?;
+    text.push_str(if found { ": yes\n" } else { ": no\n" })?;
     Ok(())
 }

@@ -1,7 +1,7 @@
 //! One script.
 
 use crate::cells::tell_config;
-use crate::played::{play_app, play_driver};
+use crate::played::play_hand;
 use crate::rounds::play_run;
 use crate::traffic::play_traffic;
 use crate::trouble::Trouble;
@@ -50,8 +50,8 @@ fn play_work(
     text: &mut String,
 ) -> Result<bool, Trouble> {
     match work {
-        "driver" => play_driver(alloc, lines, words, rest, text)?,
-        "app" => play_app(alloc, lines, words, rest, text)?,
+        "driver" => play_hand(alloc, true, lines, words, rest, text)?,
+        "app" => play_hand(alloc, false, lines, words, rest, text)?,
         "run" => play_run(alloc, lines, words, rest, text)?,
         "config" => tell_config(alloc, lines, rest, text)?,
         "traffic" => play_traffic(alloc, words, rest, text)?,

@@ -9,43 +9,52 @@ use xsk_umem::{Batch, PacketList};
 /// What kind of ring it is, and its number.
 fn ring_parts(ring: Ring) -> (&'static str, u32) {
     match ring {
-        Ring::Fill(pair) => ("fill", pair),
-        Ring::Comp(pair) => ("comp", pair),
-        Ring::Rx(socket) => ("rx", socket),
-        Ring::Tx(socket) => ("tx", socket),
+        Ring::Fill(pair) => (" fill.", pair),
+        Ring::Comp(pair) => (" comp.", pair),
+        Ring::Rx(socket) => (" rx.", socket),
+        Ring::Tx(socket) => (" tx.", socket),
     }
 }
 
 /// What kind of mark it is, and its first number.
 fn mark_parts(mark: Mark) -> (&'static str, u32) {
     match mark {
-        Mark::NeedFill(pair) => ("need.fill", pair),
-        Mark::NeedTx(socket) => ("need.tx", socket),
-        Mark::Kick(pair) => ("kick", pair),
-        Mark::RxDone(pair) => ("rxdone", pair),
-        Mark::Gone(pair) => ("gone", pair),
-        Mark::TxDone(app) => ("txdone", app),
-        Mark::Cell(port, _) => ("cell", port),
+        Mark::NeedFill(pair) => (" need.fill.", pair),
+        Mark::NeedTx(socket) => (" need.tx.", socket),
+        Mark::Kick(pair) => (" kick.", pair),
+        Mark::RxDone(pair) => (" rxdone.", pair),
+        Mark::Gone(pair) => (" gone.", pair),
+        Mark::TxDone(app) => (" txdone.", app),
+        Mark::Cell(port, _) => (" cell.", port),
     }
 }
 
 fn tell_ring(verb: &str, ring: Ring, text: &mut String) -> Result<(), Trouble> {
     let (kind, number) = ring_parts(ring);
-    write!(text, "{verb} {kind}.{number}")?;
-    Ok(())
+    text.push_str(verb)?;
+    tell_number(kind, u64::from(number), text)
 }
 
 fn tell_mark(verb: &str, mark: Mark, text: &mut String) -> Result<(), Trouble> {
     let (kind, number) = mark_parts(mark);
-    write!(text, "{verb} {kind}.{number}")?;
-    if let Mark::Cell(_, index) = mark {
-        write!(text, ".{index}")?;
+    text.push_str(verb)?;
+    tell_number(kind, u64::from(number), text)?;
+    match mark {
+        Mark::Cell(_, index) => tell_number(".", u64::from(index), text),
+        _ => Ok(()),
     }
+}
+
+/// Tells a number behind what it is.
+pub(crate) fn tell_number(before: &str, number: u64, text: &mut String) -> Result<(), Trouble> {
+    write!(text, "{before}{number}")?;
     Ok(())
 }
 
-fn tell_number(number: u64, text: &mut String) -> Result<(), Trouble> {
-    write!(text, " {number}")?;
+/// Tells a number behind what it is, and ends the line.
+pub(crate) fn tell_last(before: &str, number: u64, text: &mut String) -> Result<(), Trouble> {
+    tell_number(before, number, text)?;
+    text.push('\n')?;
     Ok(())
 }
 
@@ -73,10 +82,10 @@ fn tell_call(call: &Call, text: &mut String) -> Result<(), Trouble> {
 fn tell_load(call: &Call, text: &mut String) -> Result<(), Trouble> {
     match call {
         Call::Reserve(_, count) | Call::Peek(_, count) | Call::Release(_, count) => {
-            tell_number(u64::from(*count), text)
+            tell_number(" ", u64::from(*count), text)
         }
         Call::Submit(_, items) => tell_items(items, text),
-        Call::Swap(_, value) => tell_number(*value, text),
+        Call::Swap(_, value) => tell_number(" ", *value, text),
         Call::Look(_) => Ok(()),
     }
 }
@@ -106,16 +115,15 @@ fn disposal_name(disposal: Disposal) -> &'static str {
 /// Tells a disposal behind a space.
 pub(crate) fn tell_disposal(disposal: Disposal, text: &mut String) -> Result<(), Trouble> {
     text.push_str(disposal_name(disposal))?;
-    if let Disposal::Delivered(socket) = disposal {
-        write!(text, ".{socket}")?;
+    match disposal {
+        Disposal::Delivered(socket) => tell_number(".", u64::from(socket), text),
+        _ => Ok(()),
     }
-    Ok(())
 }
 
 /// Tells the number of packets, and each behind a space.
 pub(crate) fn tell_packets(list: &PacketList, text: &mut String) -> Result<(), Trouble> {
-    let count = list.len();
-    write!(text, "{count}")?;
+    tell_number("", u64::from(list.len()), text)?;
     for place in 0..list.len() {
         tell_bytes(list.get(place), text)?;
     }

@@ -188,12 +188,14 @@ fn make_peek(
 }
 
 fn tell_reply(reply: Reply, text: &mut String) -> Result<(), Trouble> {
-    if let Reply::Items(items) = &reply {
-        text.push_str("items")?;
-        tell_items(items, text)?;
-        text.push('\n')?;
-    } else {
-        text.push_str("empty\n")?;
+    match &reply {
+        Reply::Items(items) => {
+            text.push_str("items")?;
+            tell_items(items, text)?;
+            text.push('\n')?;
+        }
+        Reply::Empty => text.push_str("empty\n")?,
+        _ => return Err(Trouble::BadReply),
     }
     Ok(())
 }
