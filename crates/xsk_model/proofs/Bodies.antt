@@ -1,6 +1,6 @@
 -- What the frames of earlier calls and replies hold says nothing of which call is legal.
-use Rattle.std.proofs.Common.{◌≡◌, ℕ, ◌+◌, ◌-◌, ◌≤◌, Bool, true, false, cond, not, eqb, nat_le, nat_lt, Option, Some, None, List, [], ◌∷◌, ◌++◌, length, map, drop, refl, sym, ap, subst, ◌∙◌}
-use Rattle.std.specs.Prelude.{IsTrue, is_some, option_to_list}
+use Rattle.std.proofs.Common.{◌≡◌, ℕ, suc, ◌+◌, ◌-◌, ◌≤◌, Bool, true, false, cond, not, eqb, nat_le, nat_lt, Option, Some, None, List, [], ◌∷◌, ◌++◌, length, map, drop, refl, sym, ap, subst, ◌∙◌}
+use Rattle.std.specs.Prelude.{IsTrue, is_some, option_to_list, unwrap_or}
 use Rattle.std.specs.Option.{option_map}
 use Rattle.std.specs.List.{fold}
 use Rattle.std.proofs.lemmas.List.{length-map, map-append, drop-map}
@@ -11,14 +11,18 @@ use Rattle.xsk_model.specs.Config.{Config}
 use Rattle.xsk_model.specs.Descriptor.{is_valid}
 use Rattle.xsk_model.specs.Packets.{Packet, whole, bad, packets, packets_from, ended_by, group_after, whole_packets}
 use Rattle.xsk_model.specs.Numbers.{times, number_of, numbers, without}
-use Rattle.xsk_model.specs.Rings.{is_ring}
+use Rattle.xsk_model.specs.Rings.{is_ring, port_of}
 use Rattle.xsk_model.specs.Object.{submitted, taken}
 use Rattle.xsk_model.specs.Entry.{Told}
 use Rattle.xsk_model.specs.Own.{had_step, had_of, is_fill_peek, fill_step, is_from_fill, is_on, part_of, granted, released, room_step, held_step, room_of, held_of, Sending, waiting, is_same, completed_by, sending_after, sending_step, sending_of}
+use Rattle.xsk_model.specs.Marks.{is_mark}
+use Rattle.xsk_model.specs.Swaps.{set_after, set_step, last_set, number_in, seen_after, seen_step, last_seen, IsTimely, IsFed, MayFeed}
 use Rattle.xsk_model.specs.Legal.{HasRole, IsCounted, ArePackets, AreReceived, AreCompleted, IsLegal}
 use Rattle.xsk_model.specs.OtherWords.{bare_frame, bare_item, bare_call, bare_reply, bare}
 use Rattle.xsk_model.specs.declared.call.Ring.{Ring}
 use Rattle.xsk_model.specs.declared.call.Ring.TheVariants.{Fill, Comp, Rx, Tx}
+use Rattle.xsk_model.specs.declared.call.Mark.{Mark}
+use Rattle.xsk_model.specs.declared.call.Mark.TheVariants.{NeedFill, NeedTx, Kick, RxDone, Gone, TxDone, Cell, Closing, Acked, Bounced}
 use Rattle.xsk_model.specs.declared.call.Call.{Call}
 use Rattle.xsk_model.specs.declared.call.Call.TheVariants.{Reserve, Submit, Peek, Release, Swap, Look}
 use Rattle.xsk_model.specs.declared.call.Reply.{Reply}
@@ -154,6 +158,39 @@ fill-bare n mine = fold-bare (fill_step n)
     ∙ ap (λ b. cond (nat_lt 0 (times n (numbers (taken t.reply)))) b before) (is_fill_peek-bare t.call))
     false mine
 
+-- ---- marks
+
+set-bare : (m : Mark) (before : Option ℕ) (call : Call) → set_after m before (bare_call call) ≡ set_after m before call
+set-bare m before (Reserve r n) = refl
+set-bare m before (Submit r items) = refl
+set-bare m before (Peek r n) = refl
+set-bare m before (Release r n) = refl
+set-bare m before (Swap n value) = refl
+set-bare m before (Look n) = refl
+
+number_in-bare : (before : Option ℕ) (reply : Reply) → number_in before (bare_reply reply) ≡ number_in before reply
+number_in-bare before Granted = refl
+number_in-bare before (Full places) = refl
+number_in-bare before Submitted = refl
+number_in-bare before (Items items) = refl
+number_in-bare before Empty = refl
+number_in-bare before Released = refl
+number_in-bare before (Old number) = refl
+
+seen-bare : (m : Mark) (before : Option ℕ) (call : Call) (reply : Reply) → seen_after m before (bare_call call) (bare_reply reply) ≡ seen_after m before call reply
+seen-bare m before (Reserve r n) reply = refl
+seen-bare m before (Submit r items) reply = refl
+seen-bare m before (Peek r n) reply = refl
+seen-bare m before (Release r n) reply = refl
+seen-bare m before (Swap n value) reply = refl
+seen-bare m before (Look n) reply = ap (λ x. cond (is_mark m n) x before) (number_in-bare before reply)
+
+last_set-bare : (m : Mark) (mine : List Told) → last_set m (map bare mine) ≡ last_set m mine
+last_set-bare m mine = fold-bare (set_step m) (λ before t. set-bare m before t.call) None mine
+
+last_seen-bare : (m : Mark) (mine : List Told) → last_seen m (map bare mine) ≡ last_seen m mine
+last_seen-bare m mine = fold-bare (seen_step m) (λ before t. seen-bare m before t.call t.reply) None mine
+
 -- ---- packets
 
 bare_packet : Packet → Packet
@@ -272,12 +309,45 @@ alike : {A : Type 0} (f : List Told → A) → ((mine : List Told) → f (map ba
 alike f h mine other e = sym (h mine) ∙ ap f e ∙ h other
 
 module _ (c : Config) (mine other : List Told) (e : map bare mine ≡ map bare other) where
+  same_set : (m : Mark) → last_set m mine ≡ last_set m other
+  same_set m = alike (last_set m) (last_set-bare m) mine other e
+
+  same_time : (m : Mark) (value : ℕ) → IsTimely c mine m value → IsTimely c other m value
+  same_time (NeedFill d) value h = h
+  same_time (NeedTx s) value h = h
+  same_time (Kick d) value h = h
+  same_time (RxDone d) value h = h
+  same_time (Gone d) value h = h
+  same_time (TxDone a) value h = h
+  same_time (Cell port index) value h = h
+  same_time (Closing s) value h = (h.0, λ index has holds. sym (same_set (Cell (port_of c (Rx s)) index)) ∙ h.1 index has holds)
+  same_time (Acked s) value h = (
+    h.0,
+    sym (alike (last_seen (Closing s)) (last_seen-bare (Closing s)) mine other e) ∙ h.1,
+    sym (alike (room_of (Rx s)) (room-bare (Rx s)) mine other e) ∙ h.2,
+  )
+  same_time (Bounced d) value h = h ∙ ap (λ last. suc (unwrap_or last 0)) (same_set (Bounced d))
+
+  same_fed : (r : Ring) → IsFed c mine r → IsFed c other r
+  same_fed (Fill d) h = h
+  same_fed (Comp d) h = h
+  same_fed (Rx s) h = λ is set. h is (same_set (Acked s) ∙ set)
+  same_fed (Tx s) h = λ is set. h is (same_set (Closing s) ∙ set)
+
+  same_feeds : (call : Call) → MayFeed c mine call → MayFeed c other call
+  same_feeds (Reserve r n) h = same_fed r h
+  same_feeds (Submit r items) h = same_fed r h
+  same_feeds (Peek r n) h = h
+  same_feeds (Release r n) h = h
+  same_feeds (Swap m value) h = h
+  same_feeds (Look m) h = h
+
   same_role : (who : ℕ) (call : Call) → HasRole c mine who call → HasRole c other who call
   same_role who (Reserve r n) h = h
   same_role who (Submit r items) h = h
   same_role who (Peek r n) h = h
   same_role who (Release r n) h = h
-  same_role who (Swap m value) h = h
+  same_role who (Swap m value) h = (h.0, same_time m value h.1)
   same_role who (Look m) h = h
 
   same_counted : (call : Call) → IsCounted c mine call → IsCounted c other call
@@ -341,4 +411,5 @@ module _ (c : Config) (mine other : List Told) (e : map bare mine ≡ map bare o
     frames = λ n. subst (λ had. times n (numbers (submitted call)) ≤ times n had) (alike had_of had-bare mine other e) (h.frames n);
     items = h.items;
     packets = same_packets call h.packets;
+    feeds = same_feeds call h.feeds;
   }

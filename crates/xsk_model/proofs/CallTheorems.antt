@@ -1,19 +1,20 @@
 -- The laws of single calls, proved.
-use Rattle.std.proofs.Common.{◌≡◌, ◌≢◌, ℕ, ◌<◌, ◌≤◌, true, false, List, [], ◌∷◌, ◌++◌, All, refl, sym, ap, subst, arith, ◌∙◌}
+use Rattle.std.proofs.Common.{◌≡◌, ◌↔◌, ℕ, ◌<◌, ◌≤◌, inl, inr, true, false, List, [], ◌∷◌, ◌++◌, All, refl, sym, ap, subst, arith, ◌∙◌}
 use Rattle.std.proofs.lemmas.List.Elements.{All-nil, All-cons}
 use Rattle.xsk_umem.specs.Frame.{Frame}
 use Rattle.xsk_model.specs.Config.{Config, callers_of}
-use Rattle.xsk_model.specs.Marks.{IsMarkNumber, IsMarkOwner}
+use Rattle.xsk_model.specs.Marks.{IsMarkNumber}
+use Rattle.xsk_model.specs.Swaps.{IsTimely}
 use Rattle.xsk_model.specs.Object.{State, mark_at, after}
-use Rattle.xsk_model.specs.Entry.{Entry, own}
+use Rattle.xsk_model.specs.Entry.{Told, Entry, own}
 use Rattle.xsk_model.specs.Legal.{IsCounted, IsLegal, AreCompleted}
 use Rattle.xsk_model.specs.Opening.{opening}
 use Rattle.xsk_model.specs.History.{GoesOn, IsHistory, state_after, Fits}
-use Rattle.xsk_model.specs.OtherWords.{changes}
-use Rattle.xsk_model.specs.Laws.{LastIsGift, OneMore, CallersExist, LegalSwaps, MarksAfter, LeavesState, ChangesState, FewMoved, FromFill, ExactCompletion, BodiesDontMatter, ShapesDecide}
+use Rattle.xsk_model.specs.OtherWords.{changes, is_flag}
+use Rattle.xsk_model.specs.Laws.{LastIsGift, OneMore, CallersExist, LegalSwaps, LegalCells, LegalClosings, LegalAcks, LegalBounces, MarksAfter, LeavesState, ChangesState, FewMoved, FromFill, ExactCompletion, BodiesDontMatter, ShapesDecide}
 use Rattle.xsk_model.specs.declared.call.Ring.TheVariants.{Comp, Rx}
 use Rattle.xsk_model.specs.declared.call.Mark.{Mark}
-use Rattle.xsk_model.specs.declared.call.Mark.TheVariants.{NeedFill, NeedTx, Kick, RxDone, Gone, TxDone, Cell}
+use Rattle.xsk_model.specs.declared.call.Mark.TheVariants.{NeedFill, NeedTx, Kick, RxDone, Gone, TxDone, Cell, Closing, Acked, Bounced}
 use Rattle.xsk_model.specs.declared.call.Call.{Call}
 use Rattle.xsk_model.specs.declared.call.Call.TheVariants.{Reserve, Submit, Peek, Release}
 use Rattle.xsk_model.proofs.Folds.{own-push_same}
@@ -74,33 +75,104 @@ marks_after_entry c frames h e m history has =
           ∙ mark_stays c s (own e.who h) e.who e.call m history.opened.config has entry.0 other,
     )
 
-abbrev IsFlag : Mark → ℕ → Type 0
-IsFlag m value = (value ≤ 1) × ((port index : ℕ) → m ≢ Cell port index)
+-- a flag may be set to 0 and 1, at any time
+flag_number : (c : Config) (m : Mark) (value : ℕ) → is_flag m ≡ true → IsMarkNumber c m value ↔ (value ≤ 1)
+flag_number c (NeedFill d) value is = (λ h. h, λ h. h)
+flag_number c (NeedTx s) value is = (λ h. h, λ h. h)
+flag_number c (Kick d) value is = (λ h. h, λ h. h)
+flag_number c (RxDone d) value is = (λ h. h, λ h. h)
+flag_number c (Gone d) value is = (λ h. h, λ h. h)
+flag_number c (TxDone a) value is = (λ h. h, λ h. h)
+flag_number c (Cell port index) value is = absurd (cc)
+flag_number c (Closing s) value is = absurd (cc)
+flag_number c (Acked s) value is = absurd (cc)
+flag_number c (Bounced d) value is = absurd (cc)
 
-flag_number : (c : Config) (who : ℕ) (m : Mark) (value : ℕ) → IsMarkOwner c who m → IsMarkNumber c m value → IsFlag m value
-flag_number c who (NeedFill d) value may h = (h, λ port index e. absurd (cc))
-flag_number c who (NeedTx s) value may h = (h, λ port index e. absurd (cc))
-flag_number c who (Kick d) value may h = (h, λ port index e. absurd (cc))
-flag_number c who (RxDone d) value may h = (h, λ port index e. absurd (cc))
-flag_number c who (Gone d) value may h = (h, λ port index e. absurd (cc))
-flag_number c who (TxDone a) value may h = (h, λ port index e. absurd (cc))
-flag_number c who (Cell port index) value may h = absurd may
-
-number_of_flag : (c : Config) (who : ℕ) (m : Mark) (value : ℕ) → IsMarkOwner c who m → value ≤ 1 → IsMarkNumber c m value
-number_of_flag c who (NeedFill d) value may h = h
-number_of_flag c who (NeedTx s) value may h = h
-number_of_flag c who (Kick d) value may h = h
-number_of_flag c who (RxDone d) value may h = h
-number_of_flag c who (Gone d) value may h = h
-number_of_flag c who (TxDone a) value may h = h
-number_of_flag c who (Cell port index) value may h = absurd may
+pub flag_time : (c : Config) (mine : List Told) (m : Mark) (value : ℕ) → is_flag m ≡ true → IsTimely c mine m value
+flag_time c mine (NeedFill d) value is = tt
+flag_time c mine (NeedTx s) value is = tt
+flag_time c mine (Kick d) value is = tt
+flag_time c mine (RxDone d) value is = tt
+flag_time c mine (Gone d) value is = tt
+flag_time c mine (TxDone a) value is = tt
+flag_time c mine (Cell port index) value is = absurd (cc)
+flag_time c mine (Closing s) value is = absurd (cc)
+flag_time c mine (Acked s) value is = absurd (cc)
+flag_time c mine (Bounced d) value is = absurd (cc)
 
 pub legal_swaps : LegalSwaps
-legal_swaps c mine who m value = (
-  λ legal.
-      let flag : IsFlag m value = flag_number c who m value legal.role legal.counted in
-      (legal.caller, legal.known, legal.role, flag.0, flag.1),
-  λ h. record { caller = h.0; known = h.1; role = h.2; counted = number_of_flag c who m value h.2 h.3; frames = λ n. omega arith; items = tt; packets = tt },
+legal_swaps c mine who m value is = (
+  λ legal. (legal.caller, legal.known, legal.role.0, (flag_number c m value is).0 legal.counted),
+  λ h. record {
+    caller = h.0;
+    known = h.1;
+    role = (h.2, flag_time c mine m value is);
+    counted = (flag_number c m value is).1 h.3;
+    frames = λ n. omega arith;
+    items = tt;
+    packets = tt;
+    feeds = tt;
+  },
+)
+
+pub legal_cells : LegalCells
+legal_cells c mine who port index value = (
+  λ legal. (legal.caller, legal.known, legal.role.1, legal.role.0.0, legal.role.0.1, legal.role.0.2),
+  λ h. record {
+    caller = h.0;
+    known = h.1;
+    role = ((h.3, h.4, h.5), h.2);
+    counted = inr (h.2, h.3, h.4);
+    frames = λ n. omega arith;
+    items = tt;
+    packets = tt;
+    feeds = tt;
+  },
+)
+
+pub legal_closings : LegalClosings
+legal_closings c mine who s value = (
+  λ legal. (legal.caller, legal.known, legal.role.0.0, legal.role.0.1, legal.role.1.0, legal.role.1.1),
+  λ h. record {
+    caller = h.0;
+    known = h.1;
+    role = ((h.2, h.3), (h.4, h.5));
+    counted = omega (arith, h.4);
+    frames = λ n. omega arith;
+    items = tt;
+    packets = tt;
+    feeds = tt;
+  },
+)
+
+pub legal_acks : LegalAcks
+legal_acks c mine who s value = (
+  λ legal. (legal.caller, legal.known, legal.role.0.0, legal.role.0.1, legal.role.1.0, legal.role.1.1, legal.role.1.2),
+  λ h. record {
+    caller = h.0;
+    known = h.1;
+    role = ((h.2, h.3), (h.4, h.5, h.6));
+    counted = omega (arith, h.4);
+    frames = λ n. omega arith;
+    items = tt;
+    packets = tt;
+    feeds = tt;
+  },
+)
+
+pub legal_bounces : LegalBounces
+legal_bounces c mine who d value = (
+  λ legal. (legal.caller, legal.known, legal.role.0, legal.counted, legal.role.1),
+  λ h. record {
+    caller = h.0;
+    known = h.1;
+    role = (h.2, h.4);
+    counted = h.3;
+    frames = λ n. omega arith;
+    items = tt;
+    packets = tt;
+    feeds = tt;
+  },
 )
 
 -- ---- legality in other words

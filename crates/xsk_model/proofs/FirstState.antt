@@ -1,23 +1,20 @@
 -- What each part of the state is at the opening.
-use Rattle.std.proofs.Common.{◌≡◌, ℕ, zero, suc, ◌+◌, ◌-◌, ◌*◌, ◌<◌, ◌≤◌, List, ◌∷◌, ◌++◌, length, get_or, take, drop, map, replicate, flat_map, refl, sym, ap, ◌∙◌, arith, suc-mul, mul-le-mul_right}
+use Rattle.std.proofs.Common.{◌≡◌, ℕ, zero, suc, ◌+◌, ◌-◌, ◌*◌, ◌<◌, ◌≤◌, List, ◌∷◌, length, get_or, take, drop, map, refl, sym, ap, ◌∙◌, arith, suc-mul, mul-le-mul_right}
 use Rattle.std.specs.List.{range_with_len}
-use Rattle.std.proofs.lemmas.List.{length-replicate, get_or-replicate, get_or_append_left, get_or_past, drop-map, take-map, drop-drop}
+use Rattle.std.proofs.lemmas.List.{get_or_past, drop-map, take-map, drop-drop}
 use Rattle.xsk_umem.specs.Frame.{Frame}
 use Rattle.xsk_umem.specs.Geometry.{Geometry}
 use Rattle.xsk_model.specs.Config.{Config, HasRing, pool_of}
 use Rattle.xsk_model.specs.Rings.{place}
-use Rattle.xsk_model.specs.Marks.{HasMark, apps_of, mark_place}
 use Rattle.xsk_model.specs.Numbers.{numbers}
-use Rattle.xsk_model.specs.Object.{empty_ring, ring_at, mark_at}
-use Rattle.xsk_model.specs.Opening.{IsOpened, home_item, home_ring, home_rings, opening_cells, opening}
+use Rattle.xsk_model.specs.Object.{empty_ring, ring_at}
+use Rattle.xsk_model.specs.Opening.{IsOpened, home_item, home_ring, home_rings, opening}
 use Rattle.xsk_model.specs.Holders.{out_numbers}
-use Rattle.xsk_model.specs.Homes.{pool_at, first_ring, first_mark, IsFirst}
+use Rattle.xsk_model.specs.Homes.{pool_at, first_ring, IsFirst}
 use Rattle.xsk_model.specs.declared.call.Ring.{Ring}
 use Rattle.xsk_model.specs.declared.call.Ring.TheVariants.{Fill, Comp, Rx, Tx}
-use Rattle.xsk_model.specs.declared.call.Mark.{Mark}
-use Rattle.xsk_model.specs.declared.call.Mark.TheVariants.{NeedFill, NeedTx, Kick, RxDone, Gone, TxDone, Cell}
 use Rattle.xsk_model.proofs.Opened.{get_or-blanks, numbers-home, length-home_rings, all_pools, opening-rings, opening-callers, opening-had, opening-marks}
-use Rattle.xsk_model.proofs.MarkNumbers.{mark_opening}
+use Rattle.xsk_model.proofs.MarkNumbers.{opening_mark_is}
 
 -- ---- rings
 
@@ -85,31 +82,14 @@ pub opening_numbers : (c : Config) (frames : List Frame) (d : ℕ) → IsOpened 
     → out_numbers (ring_at c (opening c frames) (Fill d)) ≡ range_with_len (d * pool_of c) (pool_of c)
 opening_numbers c frames d opened h = ap out_numbers (first_fill c frames d h) ∙ pool_numbers c frames d opened h
 
--- ---- marks
-
-no_flag : (c : Config) (k : ℕ) → k < 4 * length c.pairs + length c.sockets + apps_of c
-    → get_or (replicate (4 * length c.pairs + length c.sockets + apps_of c) 0 ++ flat_map opening_cells c.cells) k 0 ≡ 0
-no_flag c k h =
-    let blanks : List ℕ = replicate (4 * length c.pairs + length c.sockets + apps_of c) 0 in
-    let len : length blanks ≡ 4 * length c.pairs + length c.sockets + apps_of c = length-replicate (4 * length c.pairs + length c.sockets + apps_of c) 0 in
-    get_or_append_left blanks (flat_map opening_cells c.cells) 0 k (omega (arith, len, h))
-    ∙ get_or-replicate {A = ℕ} (4 * length c.pairs + length c.sockets + apps_of c) k 0 0 h
-
-pub opening_mark_is : (c : Config) (frames : List Frame) (m : Mark) → IsOpened c frames → HasMark c m → mark_at c (opening c frames) m ≡ first_mark c m
-opening_mark_is c frames (NeedFill d) opened h = no_flag c (mark_place c (NeedFill d)) (omega (arith, h))
-opening_mark_is c frames (NeedTx s) opened h = no_flag c (mark_place c (NeedTx s)) (omega (arith, h.0))
-opening_mark_is c frames (Kick d) opened h = no_flag c (mark_place c (Kick d)) (omega (arith, h))
-opening_mark_is c frames (RxDone d) opened h = no_flag c (mark_place c (RxDone d)) (omega (arith, h))
-opening_mark_is c frames (Gone d) opened h = no_flag c (mark_place c (Gone d)) (omega (arith, h))
-opening_mark_is c frames (TxDone a) opened h = no_flag c (mark_place c (TxDone a)) (omega (arith, h))
-opening_mark_is c frames (Cell port index) opened h = mark_opening c frames (Cell port index) opened.config h
+-- ---- all parts
 
 pub opening_first : (c : Config) (frames : List Frame) → IsOpened c frames → IsFirst c frames (opening c frames)
 opening_first c frames opened =
     record {
       ring = λ r has. opening_ring_is c frames r has;
       pool = λ d h. opening_numbers c frames d opened h;
-      mark = λ m has. opening_mark_is c frames m opened has;
+      mark = λ m has. opening_mark_is c frames m opened.config has;
       had = opening-had c frames opened;
       rings = opening-rings c frames opened;
       marks = opening-marks c frames opened.config;

@@ -31,6 +31,7 @@ pub mod Released
 pub mod FrameTheorems
 pub mod RingEntries
 pub mod Changes
+pub mod Closings
 pub mod Legality
 pub mod Bodies
 pub mod Shapes

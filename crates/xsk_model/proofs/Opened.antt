@@ -11,7 +11,7 @@ use Rattle.xsk_umem.specs.declared.batch.Item.{Item}
 use Rattle.xsk_model.specs.Config.{Config, IsConfig, IsMap, HasRing, size_of, pool_of, callers_of}
 use Rattle.xsk_model.specs.Numbers.{times, numbers}
 use Rattle.xsk_model.specs.Rings.{place, places_of}
-use Rattle.xsk_model.specs.Marks.{mark_places_of, apps_of}
+use Rattle.xsk_model.specs.Marks.{mark_places_of, flags_of}
 use Rattle.xsk_model.specs.Object.{RingState, empty_ring, ring_at, had_by}
 use Rattle.xsk_model.specs.Legal.{IsItemOn}
 use Rattle.xsk_model.specs.Opening.{AreFrames, IsOpened, home_item, home_rings, opening_cells, opening}
@@ -211,8 +211,10 @@ pub opening-marks : (c : Config) (frames : List Frame) → IsConfig c → length
 opening-marks c frames config =
     omega (
       arith,
-      length-append (replicate (4 * length c.pairs + length c.sockets + apps_of c) 0) (flat_map opening_cells c.cells),
-      length-replicate {A = ℕ} (4 * length c.pairs + length c.sockets + apps_of c) 0,
+      length-append (replicate (flags_of c) 0 ++ flat_map opening_cells c.cells) (replicate (2 * length c.sockets + length c.pairs) 0),
+      length-append (replicate (flags_of c) 0) (flat_map opening_cells c.cells),
+      length-replicate {A = ℕ} (flags_of c) 0,
+      length-replicate {A = ℕ} (2 * length c.sockets + length c.pairs) 0,
       length-cells (length c.sockets) c.cells config.cells,
       config.maps,
     )

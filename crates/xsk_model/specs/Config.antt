@@ -9,7 +9,8 @@ use Rattle.xsk_model.specs.declared.call.Ring.{Ring}
 use Rattle.xsk_model.specs.declared.call.Ring.TheVariants.{Fill, Comp, Rx, Tx}
 
 -- the UMEM, the device's ports and queues, the sockets with their bindings, the pairs of FILL and COMPLETION, the
--- XSKMAP of each port, and whether XDP_USE_SG and XDP_USE_NEED_WAKEUP are set
+-- XSKMAP of each port, whether XDP_USE_SG and XDP_USE_NEED_WAKEUP are set, and the socket that is to be closed while
+-- traffic flows
 pub record Config : Type 0 where
   pub geometry : Geometry
   pub ports : ℕ
@@ -19,6 +20,7 @@ pub record Config : Type 0 where
   pub cells : List (List ℕ)
   pub sg : Bool
   pub wakeup : Bool
+  pub closing : Option ℕ
 
 -- a ring's size: a power of two (af_xdp.rst, "Rings") from 2 to 2,048
 pub record IsRingSize (size : ℕ) : Type 0 where
@@ -29,6 +31,10 @@ pub record IsRingSize (size : ℕ) : Type 0 where
 -- how many pairs a port's queue has
 abbrev pub pairs_at : List PairInfo → ℕ → ℕ → ℕ
 pairs_at pairs port queue = count_by (λ (p : PairInfo). p.port == port && p.queue == queue) pairs
+
+-- the socket of a number; where there is none, one with no rings
+abbrev pub socket_at : List SocketInfo → ℕ → SocketInfo
+socket_at sockets s = slice_index_or sockets s (record { port = 0; queue = 0; rx = None; tx = None })
 
 -- a socket has a ring at least, and is bound to a queue that has one pair
 pub record IsBound (ports queues : ℕ) (pairs : List PairInfo) (socket : SocketInfo) : Type 0 where
@@ -50,6 +56,10 @@ pub record IsMap (sockets : ℕ) (map : List ℕ) : Type 0 where
   pub few : length map ≤ 64
   pub known : All (λ v. v ≤ sockets) map
 
+-- a socket that may be closed is there, with both rings
+abbrev pub IsClosable : List SocketInfo → ℕ → Type 0
+IsClosable sockets s = (s < length sockets) × IsSome (socket_at sockets s).rx × IsSome (socket_at sockets s).tx
+
 -- what holds of every configuration; that there are 1 to 64 pairs follows from the other parts
 pub record IsConfig (c : Config) : Type 0 where
   pub ports : (c.ports ≡ 2) ⊎ (c.ports ≡ 4)
@@ -62,6 +72,7 @@ pub record IsConfig (c : Config) : Type 0 where
   pub served : All (IsServed c.sockets) c.pairs
   pub maps : length c.cells ≡ c.ports
   pub cells : All (IsMap (length c.sockets)) c.cells
+  pub closing : IfSome c.closing (IsClosable c.sockets)
 
 -- one driver for each pair, and one application for each queue of two paired ports
 abbrev pub callers_of : Config → ℕ
@@ -79,10 +90,7 @@ map_of c port = slice_index_or c.cells port []
 abbrev pub with_cell : Config → ℕ → ℕ → ℕ → Config
 with_cell c port index value = record c { cells = slice_set c.cells port (slice_set (map_of c port) index value) }
 
--- the socket and the pair of a number; where there is none, one with no rings
-abbrev pub socket_at : List SocketInfo → ℕ → SocketInfo
-socket_at sockets s = slice_index_or sockets s (record { port = 0; queue = 0; rx = None; tx = None })
-
+-- the pair of a number; where there is none, one with no rings
 abbrev pub pair_at : List PairInfo → ℕ → PairInfo
 pair_at pairs d = slice_index_or pairs d (record { port = 0; queue = 0; fill = 0; comp = 0 })
 

@@ -14,7 +14,7 @@ use Rattle.xsk_model.specs.Holders.{out_numbers}
 use Rattle.xsk_model.specs.declared.call.Ring.{Ring}
 use Rattle.xsk_model.specs.declared.call.Ring.TheVariants.{Fill, Comp, Rx, Tx}
 use Rattle.xsk_model.specs.declared.call.Mark.{Mark}
-use Rattle.xsk_model.specs.declared.call.Mark.TheVariants.{NeedFill, NeedTx, Kick, RxDone, Gone, TxDone, Cell}
+use Rattle.xsk_model.specs.declared.call.Mark.TheVariants.{NeedFill, NeedTx, Kick, RxDone, Gone, TxDone, Cell, Closing, Acked, Bounced}
 
 -- ---- homes
 
@@ -63,6 +63,9 @@ first_mark c (RxDone d) = 0
 first_mark c (Gone d) = 0
 first_mark c (TxDone a) = 0
 first_mark c (Cell port index) = slice_index (map_of c port) index
+first_mark c (Closing s) = 0
+first_mark c (Acked s) = 0
+first_mark c (Bounced d) = 0
 
 -- the state in which a configuration is opened, part by part
 pub record IsFirst (c : Config) (frames : List Frame) (s : State) : Type 0 where

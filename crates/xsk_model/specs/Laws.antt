@@ -1,29 +1,31 @@
 -- The laws of the object, each over all histories.
-use Rattle.std.specs.Prelude.{◌≡◌, ◌≢◌, ◌↔◌, ℕ, ◌+◌, ◌<◌, ◌≤◌, Bool, true, false, List, [], ◌∷◌, ◌++◌, length, take, drop, map, flat_map, All, AllPairs, Contains, IfSome}
+use Rattle.std.specs.Prelude.{◌≡◌, ◌≢◌, ◌↔◌, ℕ, suc, ◌+◌, ◌^◌, ◌<◌, ◌≤◌, Bool, true, false, List, [], ◌∷◌, ◌++◌, length, take, drop, map, flat_map, All, AllPairs, Contains, IfSome, None, Some, unwrap_or, slice_index}
 use Rattle.std.specs.List.{filter}
 use Rattle.xsk_umem.specs.Frame.{Frame}
 use Rattle.xsk_umem.specs.Geometry.{Geometry, IsGeometry}
 use Rattle.xsk_umem.specs.declared.batch.Item.{Item}
-use Rattle.xsk_model.specs.Config.{Config, IsConfig, IsRegular, HasRing, size_of, callers_of, classes_of}
+use Rattle.xsk_model.specs.Config.{Config, IsConfig, IsRegular, HasRing, size_of, callers_of, classes_of, map_of, socket_at}
 use Rattle.xsk_model.specs.Numbers.{times, numbers}
 use Rattle.xsk_model.specs.Rings.{is_ring, place, places_of, port_of, queue_of, driver_of, application_on, caller_of, app_of, producer, consumer}
 use Rattle.xsk_model.specs.Steering.{driver_on, socket_on}
-use Rattle.xsk_model.specs.Marks.{HasMark, mark_place, mark_places_of, IsMarkNumber, IsMarkOwner}
+use Rattle.xsk_model.specs.Marks.{HasMark, mark_place, mark_places_of, HoldsClosing, IsMarkNumber, IsMarkOwner}
 use Rattle.xsk_model.specs.Object.{State, ring_at, mark_at, had_by, submitted, peek_reply, reply_at, after, IsWithinRing}
 use Rattle.xsk_model.specs.Entry.{Told, Entry, own, all_told}
 use Rattle.xsk_model.specs.Own.{had_of, part_of, is_on, room_of, held_of, given_of, released_of, peeked_of, submitted_of, sending_of}
+use Rattle.xsk_model.specs.Swaps.{last_set, last_seen, HasCleared}
 use Rattle.xsk_model.specs.Legal.{IsItemOn, IsKnown, IsLegal}
 use Rattle.xsk_model.specs.Opening.{IsOpened, opening}
 use Rattle.xsk_model.specs.History.{IsHistory, state_after, MayGive, Fits, OwnGoesOn}
+use Rattle.xsk_model.specs.Ends.{telling_of}
 use Rattle.xsk_model.specs.Holders.{HasOneHolder, out_numbers}
 use Rattle.xsk_model.specs.Homes.{home_app, serves, AreApart, AreBelow, IsFirst}
 use Rattle.xsk_model.specs.Packets.{packets, whole_packets, bytes_of, IsLayout}
-use Rattle.xsk_model.specs.Sent.{sockets_of, completed_in, sent_by}
-use Rattle.xsk_model.specs.OtherWords.{changes, IsFew, WasLastOnFill, IsNextToSend, bare, IsShaped}
+use Rattle.xsk_model.specs.Sent.{sockets_of, completed_in, sent, sent_by, bounced_in, bounced_of, all_sent}
+use Rattle.xsk_model.specs.OtherWords.{changes, IsFew, WasLastOnFill, IsNextToSend, bare, IsShaped, is_flag, IsLegalOpen}
 use Rattle.xsk_model.specs.declared.call.Ring.{Ring}
 use Rattle.xsk_model.specs.declared.call.Ring.TheVariants.{Comp, Rx, Tx}
 use Rattle.xsk_model.specs.declared.call.Mark.{Mark}
-use Rattle.xsk_model.specs.declared.call.Mark.TheVariants.{Cell}
+use Rattle.xsk_model.specs.declared.call.Mark.TheVariants.{Cell, Closing, Acked, Bounced}
 use Rattle.xsk_model.specs.declared.call.Call.{Call}
 use Rattle.xsk_model.specs.declared.call.Call.TheVariants.{Reserve, Submit, Peek, Release, Swap}
 use Rattle.xsk_model.specs.declared.call.Reply.{Reply}
@@ -206,6 +208,23 @@ abbrev pub SentInOrder : Type 0
 SentInOrder = (c : Config) (frames : List Frame) (h : List Entry) (d socket : ℕ) → IsHistory c frames h
     → sent_by c h d socket ≡ map (bytes_of c.geometry c.sg) (take (sending_of c socket (own d h)).completed (whole_packets (packets c.geometry c.sg (peeked_of (Tx socket) (own d h)))))
 
+-- the packets that a driver bounced are the first of those that it is to bounce, as many as it counted
+abbrev pub BouncedInOrder : Type 0
+BouncedInOrder = (c : Config) (frames : List Frame) (h : List Entry) (d : ℕ) (bounces : List (List ℕ)) → IsHistory c frames h → HasMark c (Bounced d)
+    → (bounced_of bounces (own d h) ≡ take (mark_at c (state_after c frames h) (Bounced d)) bounces)
+
+-- all that a driver sends stands in the history's order: an entry of its own puts what it completes or bounces behind all
+-- that was sent before
+abbrev pub SentGrows : Type 0
+SentGrows = (c : Config) (bounces : List (List ℕ)) (h : List Entry) (e : Entry) (d : ℕ)
+    → (e.who ≡ d → all_sent c bounces (h ++ e ∷ []) d ≡ all_sent c bounces h d
+    ++ (map (bytes_of c.geometry c.sg) (completed_in c (sockets_of c d) (own d h) e.call) ++ bounced_in bounces e.call))
+    × (e.who ≢ d → all_sent c bounces (h ++ e ∷ []) d ≡ all_sent c bounces h d)
+
+-- with no packet to bounce, all that is sent was completed
+abbrev pub AllCompleted : Type 0
+AllCompleted = (c : Config) (h : List Entry) (d : ℕ) → all_sent c [] h d ≡ sent c h d
+
 -- ---- marks
 
 -- each mark has a number of its kind
@@ -213,10 +232,76 @@ abbrev pub MarkNumbers : Type 0
 MarkNumbers = (c : Config) (frames : List Frame) (h : List Entry) (m : Mark) → IsHistory c frames h → HasMark c m
     → IsMarkNumber c m (mark_at c (state_after c frames h) m)
 
--- a Swap is legal exactly where a mark that isn't a cell is set to 0 or 1 by its owner
+-- a Swap of a flag is legal exactly where its owner sets it to 0 or 1
 abbrev pub LegalSwaps : Type 0
-LegalSwaps = (c : Config) (mine : List Told) (who : ℕ) (m : Mark) (value : ℕ)
-    → IsLegal c mine who (Swap m value) ↔ ((who < callers_of c) × HasMark c m × IsMarkOwner c who m × (value ≤ 1) × ((port index : ℕ) → m ≢ Cell port index))
+LegalSwaps = (c : Config) (mine : List Told) (who : ℕ) (m : Mark) (value : ℕ) → is_flag m ≡ true
+    → IsLegal c mine who (Swap m value) ↔ ((who < callers_of c) × HasMark c m × IsMarkOwner c who m × (value ≤ 1))
+
+-- a cell is lowered, to 0, by the application of its socket's queue, where it holds the socket to close
+abbrev pub LegalCells : Type 0
+LegalCells = (c : Config) (mine : List Told) (who port index value : ℕ)
+    → IsLegal c mine who (Swap (Cell port index) value) ↔ ((who < callers_of c) × HasMark c (Cell port index) × (value ≡ 0)
+    × (s : ℕ) × HoldsClosing c port index s × (who ≡ caller_of c (application_on c port (socket_at c.sockets s).queue)))
+
+-- a socket is closed by its application, once the cells of its port that held it are lowered
+abbrev pub LegalClosings : Type 0
+LegalClosings = (c : Config) (mine : List Told) (who s value : ℕ)
+    → IsLegal c mine who (Swap (Closing s) value) ↔ ((who < callers_of c) × HasMark c (Closing s) × (c.closing ≡ Some s) × (who ≡ app_of c (Rx s))
+    × (value ≡ 1) × HasCleared c mine s)
+
+-- that is acknowledged by the socket's driver, once it saw it and has no place of the RX ring reserved
+abbrev pub LegalAcks : Type 0
+LegalAcks = (c : Config) (mine : List Told) (who s value : ℕ)
+    → IsLegal c mine who (Swap (Acked s) value) ↔ ((who < callers_of c) × HasMark c (Acked s) × (c.closing ≡ Some s) × (who ≡ driver_of c (Rx s))
+    × (value ≡ 1) × (last_seen (Closing s) mine ≡ Some 1) × (room_of (Rx s) mine ≡ 0))
+
+-- a bounced packet is counted by its driver, as one more than it counted before
+abbrev pub LegalBounces : Type 0
+LegalBounces = (c : Config) (mine : List Told) (who d value : ℕ)
+    → IsLegal c mine who (Swap (Bounced d) value) ↔ ((who < callers_of c) × HasMark c (Bounced d) × (who ≡ d) × (value < 2 ^ 64)
+    × (value ≡ suc (unwrap_or (last_set (Bounced d) mine) 0)))
+
+-- cells only fall
+abbrev pub CellsFall : Type 0
+CellsFall = (c : Config) (frames : List Frame) (past later : List Entry) (port index : ℕ) → IsHistory c frames (past ++ later) → HasMark c (Cell port index)
+    → mark_at c (state_after c frames (past ++ later)) (Cell port index) ≤ mark_at c (state_after c frames past) (Cell port index)
+
+-- where Closing is 1, each cell of the socket's port that held the socket at the opening is 0
+abbrev pub ClosedCells : Type 0
+ClosedCells = (c : Config) (frames : List Frame) (h : List Entry) (s index : ℕ) → IsHistory c frames h → HasMark c (Closing s)
+    → mark_at c (state_after c frames h) (Closing s) ≡ 1 → HasMark c (Cell (port_of c (Rx s)) index) → HoldsClosing c (port_of c (Rx s)) index s
+    → mark_at c (state_after c frames h) (Cell (port_of c (Rx s)) index) ≡ 0
+
+-- Acked is 1 only where Closing is, and so only where those cells are 0
+abbrev pub AckedIsClosed : Type 0
+AckedIsClosed = (c : Config) (frames : List Frame) (h : List Entry) (s : ℕ) → IsHistory c frames h → HasMark c (Acked s)
+    → mark_at c (state_after c frames h) (Acked s) ≡ 1 → mark_at c (state_after c frames h) (Closing s) ≡ 1
+
+-- nobody submits on RX after it was acknowledged, nor on TX after it was closed
+abbrev pub EndedRings : Type 0
+EndedRings = (c : Config) (frames : List Frame) (past later : List Entry) (e : Entry) (s value : ℕ) → IsHistory c frames (past ++ e ∷ later)
+    → (e.call ≡ Swap (Acked s) value → submitted_of (Rx s) (all_told later) ≡ [])
+    × (e.call ≡ Swap (Closing s) value → submitted_of (Tx s) (all_told later) ≡ [])
+
+-- nor does anybody reserve there, and of an RX ring that was acknowledged no place stays reserved
+abbrev pub NothingReserved : Type 0
+NothingReserved = (c : Config) (frames : List Frame) (past later : List Entry) (e : Entry) (s value : ℕ) → IsHistory c frames (past ++ e ∷ later)
+    → (e.call ≡ Swap (Acked s) value → All (λ (x : Entry). (n : ℕ) → x.call ≢ Reserve (Rx s) n) later)
+    × (e.call ≡ Swap (Acked s) value → room_of (Rx s) (own (driver_of c (Rx s)) (past ++ e ∷ later)) ≡ 0)
+    × (e.call ≡ Swap (Closing s) value → All (λ (x : Entry). (n : ℕ) → x.call ≢ Reserve (Tx s) n) later)
+
+-- so by a caller's own calls and replies alone nothing is submitted late (`Ends.antt`)
+abbrev pub NeverLate : Type 0
+NeverLate = (c : Config) (who s : ℕ) (mine : List Told) → OwnGoesOn c who [] mine
+    → ((telling_of (Acked s) (Rx s) mine).late ≡ false) × ((telling_of (Closing s) (Tx s) mine).late ≡ false)
+
+-- with no socket to close, cells stay, nothing is closed or acknowledged, and no ring is ended: which calls are legal is as it
+-- was without all this
+abbrev pub NothingCloses : Type 0
+NothingCloses = (c : Config) → c.closing ≡ None
+    → ((mine : List Told) (who : ℕ) (call : Call) → IsLegal c mine who call ↔ IsLegalOpen c mine who call)
+    × ((frames : List Frame) (h : List Entry) (port index : ℕ) → IsHistory c frames h → HasMark c (Cell port index)
+    → mark_at c (state_after c frames h) (Cell port index) ≡ slice_index (map_of c port) index)
 
 -- a mark is what a Swap of it sets, and what it was after all other calls
 abbrev pub MarksAfter : Type 0

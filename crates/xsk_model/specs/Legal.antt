@@ -12,7 +12,8 @@ use Rattle.xsk_model.specs.Config.{Config, HasRing, callers_of}
 use Rattle.xsk_model.specs.Packets.{IsLayout}
 use Rattle.xsk_model.specs.Numbers.{times, numbers}
 use Rattle.xsk_model.specs.Rings.{producer, consumer, port_of, queue_of}
-use Rattle.xsk_model.specs.Marks.{HasMark, IsMarkNumber, MaySwap}
+use Rattle.xsk_model.specs.Marks.{HasMark, IsMarkNumber}
+use Rattle.xsk_model.specs.Swaps.{MaySwap, MayFeed}
 use Rattle.xsk_model.specs.Object.{submitted}
 use Rattle.xsk_model.specs.Entry.{Told}
 use Rattle.xsk_model.specs.Own.{had_of, room_of, held_of, is_from_fill, waiting, sending_of}
@@ -121,3 +122,4 @@ pub record IsLegal (c : Config) (mine : List Told) (who : ℕ) (call : Call) : T
   pub frames : HasFrames mine call
   pub items : AreItems c.geometry call
   pub packets : ArePackets c mine call
+  pub feeds : MayFeed c mine call

@@ -20,6 +20,7 @@ pub mod Sent
 pub mod Sizes
 pub mod Steering
 pub mod Stored
+pub mod Swaps
 pub mod Expected
 pub mod Ends
 pub mod OtherWords

@@ -7,7 +7,7 @@ use Rattle.xsk_umem.specs.Frame.{Frame}
 use Rattle.xsk_umem.specs.Geometry.{Geometry, IsGeometry, base_of}
 use Rattle.xsk_umem.specs.declared.batch.Item.{Item}
 use Rattle.xsk_model.specs.Config.{Config, IsConfig, IsLawful, pool_of, callers_of}
-use Rattle.xsk_model.specs.Marks.{apps_of}
+use Rattle.xsk_model.specs.Marks.{flags_of}
 use Rattle.xsk_model.specs.Object.{RingState, State, empty_ring}
 
 -- all frames of the UMEM in order, with the bodies that are handed in
@@ -41,6 +41,6 @@ opening_cells cells = cells ++ replicate (64 - length cells) 0
 abbrev pub opening : Config → List Frame → State
 opening c frames = record {
   rings = home_rings c.geometry (pool_of c) (length c.pairs) frames ++ replicate (length c.pairs + 2 * length c.sockets) empty_ring;
-  marks = replicate (4 * length c.pairs + length c.sockets + apps_of c) 0 ++ flat_map opening_cells c.cells;
+  marks = replicate (flags_of c) 0 ++ flat_map opening_cells c.cells ++ replicate (2 * length c.sockets + length c.pairs) 0;
   had = replicate (callers_of c) [];
 }

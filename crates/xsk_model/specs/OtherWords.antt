@@ -1,21 +1,26 @@
 -- What is said of single calls in other words than those of `Object.antt` and `Own.antt`: whether a call changes the
 -- state, from which ring a frame came last, which packet a driver completes next, the layouts of packets by their
 -- lengths alone, and calls without the bytes of their frames. All of this is this project's own.
-use Rattle.std.specs.Prelude.{◌≡◌, ℕ, ◌<◌, ◌≤◌, ◌⊎◌, Bool, true, false, not, IsTrue, ◌==◌, Some, List, [], ◌∷◌, ◌++◌, length, map, All}
+use Rattle.std.specs.Prelude.{◌≡◌, ℕ, suc, unwrap_or, ◌<◌, ◌≤◌, ◌⊎◌, Bool, true, false, not, IsTrue, ◌==◌, Some, List, [], ◌∷◌, ◌++◌, length, map, All}
 use Rattle.std.specs.Option.{option_map}
 use Rattle.xsk_umem.specs.Frame.{Frame}
 use Rattle.xsk_umem.specs.Geometry.{Geometry, payload_of, data_of}
 use Rattle.xsk_umem.specs.declared.batch.Item.{Item}
 use Rattle.xsk_umem.specs.Limits.{most_items}
-use Rattle.xsk_model.specs.Config.{Config, HasRing}
+use Rattle.xsk_model.specs.Config.{Config, HasRing, callers_of}
 use Rattle.xsk_model.specs.Numbers.{times, numbers}
 use Rattle.xsk_model.specs.Packets.{packets, whole_packets}
-use Rattle.xsk_model.specs.Rings.{port_of, queue_of}
+use Rattle.xsk_model.specs.Rings.{port_of, queue_of, producer, consumer}
 use Rattle.xsk_model.specs.Object.{taken}
 use Rattle.xsk_model.specs.Entry.{Told, Entry, own}
 use Rattle.xsk_model.specs.Own.{peeked_of}
 use Rattle.xsk_model.specs.Sent.{sent_by}
+use Rattle.xsk_model.specs.Marks.{IsMarkOwner}
+use Rattle.xsk_model.specs.Swaps.{last_set}
+use Rattle.xsk_model.specs.Legal.{IsKnown, IsCounted, HasFrames, AreItems, ArePackets}
 use Rattle.xsk_model.specs.declared.call.Ring.TheVariants.{Fill, Comp, Tx}
+use Rattle.xsk_model.specs.declared.call.Mark.{Mark}
+use Rattle.xsk_model.specs.declared.call.Mark.TheVariants.{NeedFill, NeedTx, Kick, RxDone, Gone, TxDone, Cell, Closing, Acked, Bounced}
 use Rattle.xsk_model.specs.declared.call.Call.{Call}
 use Rattle.xsk_model.specs.declared.call.Call.TheVariants.{Reserve, Submit, Peek, Release, Swap, Look}
 use Rattle.xsk_model.specs.declared.call.Reply.{Reply}
@@ -58,6 +63,42 @@ pub record IsNextToSend (c : Config) (past : List Entry) (d : ℕ) (items : List
   pub sent : length front ≡ length (sent_by c past d socket)
   pub frames : numbers items ≡ numbers packet
   pub addresses : map (λ (i : Item). i.desc.addr) items ≡ map (λ (i : Item). i.desc.addr) packet
+
+-- ---- flags, and legality with no socket to close
+
+-- the marks that their owners may set to 0 and 1 at any time
+abbrev pub is_flag : Mark → Bool
+is_flag (NeedFill d) = true
+is_flag (NeedTx s) = true
+is_flag (Kick d) = true
+is_flag (RxDone d) = true
+is_flag (Gone d) = true
+is_flag (TxDone a) = true
+is_flag (Cell port index) = false
+is_flag (Closing s) = false
+is_flag (Acked s) = false
+is_flag (Bounced d) = false
+
+-- a call but a Swap by the caller whose it is; a flag is set to 0 or 1 by its owner, and a count of bounced packets to one
+-- more by its driver
+abbrev pub HasOpenRole : Config → List Told → ℕ → Call → Type 0
+HasOpenRole c mine who (Reserve r n) = who ≡ producer c r
+HasOpenRole c mine who (Submit r items) = who ≡ producer c r
+HasOpenRole c mine who (Peek r n) = who ≡ consumer c r
+HasOpenRole c mine who (Release r n) = who ≡ consumer c r
+HasOpenRole c mine who (Swap (Bounced d) value) = (who ≡ d) × (value ≡ suc (unwrap_or (last_set (Bounced d) mine) 0))
+HasOpenRole c mine who (Swap m value) = (is_flag m ≡ true) × IsMarkOwner c who m
+HasOpenRole c mine who (Look m) = Unit {0}
+
+-- a legal call where nothing is closed: no cell is set, nothing is closed or acknowledged, and no ring is ended
+pub record IsLegalOpen (c : Config) (mine : List Told) (who : ℕ) (call : Call) : Type 0 where
+  pub caller : who < callers_of c
+  pub known : IsKnown c call
+  pub role : HasOpenRole c mine who call
+  pub counted : IsCounted c mine call
+  pub frames : HasFrames mine call
+  pub items : AreItems c.geometry call
+  pub packets : ArePackets c mine call
 
 -- ---- without bytes
 

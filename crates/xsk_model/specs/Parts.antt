@@ -14,4 +14,5 @@ parts_of c = record {
   cells = map vec_items c.cells.items;
   sg = c.sg;
   wakeup = c.wakeup;
+  closing = c.closing;
 }

@@ -1,5 +1,6 @@
--- The packets that a driver sent: those that its Submits on COMPLETION completed, in order.
-use Rattle.std.specs.Prelude.{ℕ, ◌+◌, ◌&&◌, ◌==◌, if◌then◌else◌, List, [], ◌∷◌, ◌++◌, map, flat_map}
+-- The packets that a driver sent: those that its Submits on COMPLETION completed, in order, and beside them those that it
+-- bounced.
+use Rattle.std.specs.Prelude.{ℕ, ◌+◌, ◌&&◌, ◌==◌, if◌then◌else◌, List, [], ◌∷◌, ◌++◌, ◌-◌, map, flat_map, take, drop}
 use Rattle.xsk_umem.specs.declared.batch.Item.{Item}
 use Rattle.xsk_model.specs.Config.{Config, pair_at}
 use Rattle.xsk_model.specs.Packets.{bytes_of}
@@ -7,6 +8,7 @@ use Rattle.xsk_model.specs.Entry.{Told, Entry, own}
 use Rattle.xsk_model.specs.Own.{waiting, completed_by, sending_of}
 use Rattle.xsk_model.specs.declared.config.SocketInfo.{SocketInfo}
 use Rattle.xsk_model.specs.declared.call.Ring.TheVariants.{Fill, Comp, Rx, Tx}
+use Rattle.xsk_model.specs.declared.call.Mark.TheVariants.{Bounced}
 use Rattle.xsk_model.specs.declared.call.Call.{Call}
 use Rattle.xsk_model.specs.declared.call.Call.TheVariants.{Reserve, Submit, Peek, Release, Swap, Look}
 
@@ -45,3 +47,24 @@ sent c h d = sent_from c (sockets_of c d) [] (own d h)
 
 abbrev pub sent_by : Config → List Entry → ℕ → ℕ → List (List ℕ)
 sent_by c h d socket = sent_from c (socket ∷ []) [] (own d h)
+
+-- ---- bounced packets
+
+-- The packet that a call bounces, of those that the caller is to bounce: to set Bounced to v is to send the v-th. Where the
+-- list has none, nothing is sent.
+abbrev pub bounced_in : List (List ℕ) → Call → List (List ℕ)
+bounced_in bounces (Swap (Bounced d) value) = take 1 (drop (value - 1) bounces)
+bounced_in bounces call = []
+
+-- the packets that a caller bounced
+abbrev pub bounced_of : List (List ℕ) → List Told → List (List ℕ)
+bounced_of bounces mine = flat_map (λ (t : Told). bounced_in bounces t.call) mine
+
+abbrev pub all_sent_from : Config → List ℕ → List (List ℕ) → List Told → List Told → List (List ℕ)
+all_sent_from c sockets bounces past [] = []
+all_sent_from c sockets bounces past (t ∷ mine) =
+    map (bytes_of c.geometry c.sg) (completed_in c sockets past t.call) ++ bounced_in bounces t.call ++ all_sent_from c sockets bounces (past ++ t ∷ []) mine
+
+-- all that a driver sent, where these are the packets that it is to bounce
+abbrev pub all_sent : Config → List (List ℕ) → List Entry → ℕ → List (List ℕ)
+all_sent c bounces h d = all_sent_from c (sockets_of c d) bounces [] (own d h)

@@ -31,6 +31,12 @@ pub enum Mark {
     TxDone(u32),
     /// An entry of a port's XSKMAP: port and index. 0 is empty, and v stands for socket v - 1.
     Cell(u32, u32),
+    /// The application of a socket has begun to close it.
+    Closing(u32),
+    /// The driver of a socket that is closed will put nothing more into its RX.
+    Acked(u32),
+    /// How many packets the driver of a pair has bounced.
+    Bounced(u32),
 }
 
 /// One call on the object.

@@ -1,9 +1,9 @@
 //! The configuration: the UMEM, ports, queues, sockets, pairs and cells.
-ghost use Rattle.std.specs.Prelude.{◌≡◌, ◌<◌, ◌≤◌, ◌↔◌, IfOk, IsTrue, length, map, slice_get, Some};
+ghost use Rattle.std.specs.Prelude.{◌≡◌, ◌<◌, ◌≤◌, ◌↔◌, IfOk, IsTrue, length, map, slice_get, None, Some};
 ghost use Rattle.std.specs.List.{flat_map};
 ghost use Rattle.std.specs.Vec.{vec_items};
 ghost use Rattle.xsk_umem.specs.Geometry.{IsGeometry};
-ghost use Rattle.xsk_model.specs.Config.{IsConfig, IsLawful, IsRegular, HasRing, ArePairsInOrder, AreSocketsInOrder, size_of, batch_of, callers_of, pool_of, classes_of, map_of, with_cell, pair_sizes, socket_sizes, size_or_none, least};
+ghost use Rattle.xsk_model.specs.Config.{IsConfig, IsClosable, IsLawful, IsRegular, HasRing, ArePairsInOrder, AreSocketsInOrder, size_of, batch_of, callers_of, pool_of, classes_of, map_of, with_cell, pair_sizes, socket_sizes, size_or_none, least};
 
 use crate::Ring;
 use std::alloc::Global;
@@ -39,6 +39,7 @@ pub struct Config {
     cells: Vec<Vec<u64>>,
     sg: bool,
     wakeup: bool,
+    closing: Option<u32>,
 }
 
 impl Model for Config {
@@ -68,8 +69,8 @@ impl Config {
         sg: bool,
         wakeup: bool,
     ) -> Config
-        requires { IsConfig (record { geometry = geometry; ports = ports; queues = queues; sockets = sockets.items; pairs = pairs.items; cells = map vec_items cells.items; sg = sg; wakeup = wakeup }) }
-        ensures { result ≡ record { geometry = geometry; ports = ports; queues = queues; sockets = sockets.items; pairs = pairs.items; cells = map vec_items cells.items; sg = sg; wakeup = wakeup } }
+        requires { IsConfig (record { geometry = geometry; ports = ports; queues = queues; sockets = sockets.items; pairs = pairs.items; cells = map vec_items cells.items; sg = sg; wakeup = wakeup; closing = None }) }
+        ensures { result ≡ record { geometry = geometry; ports = ports; queues = queues; sockets = sockets.items; pairs = pairs.items; cells = map vec_items cells.items; sg = sg; wakeup = wakeup; closing = None } }
     {
         Config {
             geometry,
@@ -80,6 +81,7 @@ impl Config {
             cells,
             sg,
             wakeup,
+            closing: None,
         }
     }
 
@@ -190,6 +192,7 @@ impl Config {
             cells,
             sg: self.sg,
             wakeup: self.wakeup,
+            closing: self.closing,
         })
     }
 
@@ -220,6 +223,22 @@ impl Config {
         ensures { self.new ≡ with_cell self.old port index value }
     {
         self.cells[port as usize][index as usize] = value;
+    }
+
+    /// The socket that is to be closed while traffic flows, if any.
+    pub fn closing(&self) -> Option<u32>
+        ensures value { result ≡ self.now.closing }
+        ensures lawful { IsConfig self.now }
+    {
+        self.closing
+    }
+
+    /// Makes a socket the one to be closed. It must exist and have RX and TX.
+    pub fn set_closing(&mut self, socket: u32)
+        requires { IsClosable self.old.sockets socket }
+        ensures { self.new ≡ record self.old { closing = Some socket } }
+    {
+        self.closing = Some(socket);
     }
 
     /// Whether the pairs divide the frames, and each home pool has a frame at least and fits each FILL ring.

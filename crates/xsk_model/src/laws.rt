@@ -5,6 +5,7 @@ ghost use Rattle.xsk_model.specs.Laws.{OneHolder, FramesByOwn, HadAndDistinct, I
 ghost use Rattle.xsk_model.specs.Laws.{FramesStay, FramesApart, FramesBelow, SubmitsOwn, OpeningIs, HeldAndOut, CountsGrow, PeekFinds, ReserveFinds};
 ghost use Rattle.xsk_model.specs.Laws.{LastIsGift, OneMore, CallersExist, LegalSwaps, MarksAfter, LeavesState, ChangesState};
 ghost use Rattle.xsk_model.specs.Laws.{FewMoved, FromFill, ExactCompletion, BodiesDontMatter};
+ghost use Rattle.xsk_model.specs.Laws.{LegalCells, LegalClosings, LegalAcks, LegalBounces, CellsFall, ClosedCells, AckedIsClosed, EndedRings, NothingReserved, NeverLate, NothingCloses, BouncedInOrder, SentGrows, AllCompleted};
 ghost use Rattle.xsk_model.specs.Laws.{ShapesDecide, RegularSeats};
 ghost use Rattle.xsk_model.specs.Asks.{CallsSplit, AsksJoin, RepliesSplit, AnswersJoin};
 
@@ -189,9 +190,79 @@ pub fn callers_exist()
     ensures { CallersExist }
 {}
 
-/// A Swap is legal exactly where a mark that isn't a cell is set to 0 or 1 by its owner.
+/// A Swap of a flag is legal exactly where its owner sets it to 0 or 1.
 pub fn legal_swaps()
     ensures { LegalSwaps }
+{}
+
+/// A cell is lowered, to 0, by the application of its socket's queue, where it holds the socket to close.
+pub fn legal_cells()
+    ensures { LegalCells }
+{}
+
+/// A socket is closed by its application, once the cells of its port that held it are lowered.
+pub fn legal_closings()
+    ensures { LegalClosings }
+{}
+
+/// That is acknowledged by the socket's driver, once it saw it and has no place of the RX ring reserved.
+pub fn legal_acks()
+    ensures { LegalAcks }
+{}
+
+/// A bounced packet is counted by its driver, as one more than it counted before.
+pub fn legal_bounces()
+    ensures { LegalBounces }
+{}
+
+/// Cells only fall.
+pub fn cells_fall()
+    ensures { CellsFall }
+{}
+
+/// Where Closing is 1, each cell of the socket's port that held the socket at the opening is 0.
+pub fn closed_cells()
+    ensures { ClosedCells }
+{}
+
+/// Acked is 1 only where Closing is.
+pub fn acked_is_closed()
+    ensures { AckedIsClosed }
+{}
+
+/// Nobody submits on RX after it was acknowledged, nor on TX after it was closed.
+pub fn ended_rings()
+    ensures { EndedRings }
+{}
+
+/// Nor does anybody reserve there, and of an RX ring that was acknowledged no place stays reserved.
+pub fn nothing_reserved()
+    ensures { NothingReserved }
+{}
+
+/// So by a caller's own calls and replies alone nothing is submitted late.
+pub fn never_late()
+    ensures { NeverLate }
+{}
+
+/// With no socket to close, which calls are legal is as it was, and cells stay.
+pub fn nothing_closes()
+    ensures { NothingCloses }
+{}
+
+/// The packets that a driver bounced are the first of those that it is to bounce, as many as it counted.
+pub fn bounced_in_order()
+    ensures { BouncedInOrder }
+{}
+
+/// All that a driver sends stands in the history's order.
+pub fn sent_grows()
+    ensures { SentGrows }
+{}
+
+/// With no packet to bounce, all that is sent was completed.
+pub fn all_completed()
+    ensures { AllCompleted }
 {}
 
 /// A mark is what a Swap of it sets, and what it was after all other calls.

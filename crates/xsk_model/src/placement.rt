@@ -1,8 +1,8 @@
 //! The places of rings and marks in lists of all, and the sizes of rings.
-ghost use Rattle.std.specs.Prelude.{◌≡◌, ◌-◌, ◌*◌, ◌<◌, ◌≤◌, ◌↔◌, IsTrue};
+ghost use Rattle.std.specs.Prelude.{◌≡◌, ◌<◌, ◌≤◌, ◌↔◌, IsTrue};
 ghost use Rattle.xsk_model.specs.Config.{HasRing};
 ghost use Rattle.xsk_model.specs.Rings.{place, places_of};
-ghost use Rattle.xsk_model.specs.Marks.{HasMark, mark_place as place_of_mark, mark_places_of};
+ghost use Rattle.xsk_model.specs.Marks.{HasMark, mark_place as place_of_mark, mark_places_of, flags_of, cells_end_of};
 
 use crate::steering::applications;
 use crate::{Config, Mark, Ring};
@@ -54,7 +54,7 @@ pub const CELLS: u32 = 64;
 /// The marks that aren't cells: NeedFill by pair, NeedTx by socket, Kick, RxDone and Gone by pair, and TxDone by
 /// application.
 pub fn first_cell(config: &Config) -> usize
-    ensures { result ≡ mark_places_of config.now - 64 * config.now.ports }
+    ensures { result ≡ flags_of config.now }
 {
     4 * config.pairs().len() + config.sockets().len() + applications(config) as usize
 }
@@ -77,7 +77,25 @@ pub fn mark_place(config: &Config, mark: Mark) -> usize
         Mark::Cell(port, index) => {
             first_cell(config) + CELLS as usize * port as usize + index as usize
         }
+        Mark::Closing(socket) => cells_end(config) + socket as usize,
+        Mark::Acked(socket) => cells_end(config) + sockets + socket as usize,
+        Mark::Bounced(pair) => cells_end(config) + 2 * sockets + pair as usize,
     }
+}
+
+/// The places for marks.
+pub fn mark_places(config: &Config) -> usize
+    ensures value { result ≡ mark_places_of config.now }
+    ensures few { result ≤ 776 }
+{
+    cells_end(config) + 2 * config.sockets().len() + config.pairs().len()
+}
+
+/// The marks before Closing: those before the cells, and the cells of all ports.
+fn cells_end(config: &Config) -> usize
+    ensures { result ≡ cells_end_of config.now }
+{
+    first_cell(config) + CELLS as usize * config.ports() as usize
 }
 
 /// Whether what a mark belongs to exists.
@@ -90,6 +108,8 @@ pub fn has_mark(config: &Config, mark: Mark) -> bool
         Mark::NeedFill(pair) | Mark::Kick(pair) | Mark::RxDone(pair) | Mark::Gone(pair) => {
             (pair as usize) < pairs
         }
+        Mark::Closing(socket) | Mark::Acked(socket) => (socket as usize) < config.sockets().len(),
+        Mark::Bounced(pair) => (pair as usize) < pairs,
         Mark::TxDone(app) => app < applications(config),
         Mark::Cell(port, index) => port < config.ports() && index < config.cells(port),
     }

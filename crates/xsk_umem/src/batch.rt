@@ -3,7 +3,6 @@ ghost use Rattle.std.specs.Prelude.{◌≡◌, ◌+◌, ◌<◌, ◌≤◌, List
 ghost use Rattle.xsk_umem.specs.Limits.{most_items};
 
 use crate::Frame;
-use std::alloc::Global;
 use std::marker::Model;
 use std::{array, mem};
 
@@ -53,7 +52,7 @@ impl Model for Batch {
 
 impl Batch {
     /// An empty batch. It takes no memory.
-    pub fn new(_alloc: Global) -> Batch
+    pub fn new() -> Batch
         ensures { result ≡ [] }
     {
         Batch {

@@ -14,6 +14,7 @@ invariant_of-self c =
     let within : c.args.port < length c.self.inside.cells.items = omega arith in
     let here : IsMap (length c.self.inside.sockets.items) c.index_mut.result.now.items = map_known _ _ _ c.index_mut.result.now c.self.invariant.cells within c.index_mut.ensures.value in
     record {
+      closing = c.self.invariant.closing;
       ports = c.self.invariant.ports;
       queues = c.self.invariant.queues;
       some = c.self.invariant.some;
