@@ -5,6 +5,7 @@ use Rattle.xsk_umem.specs.declared.batch.Item.{Item}
 use Rattle.xsk_model.specs.Config.{Config, HasRing}
 use Rattle.xsk_model.specs.Rings.{producer}
 use Rattle.xsk_model.specs.Entry.{Told}
+use Rattle.xsk_model.specs.Swaps.{IsFed}
 use Rattle.xsk_model.specs.Legal.{IsLegal, ArePackets}
 use Rattle.xsk_model.specs.History.{OwnGoesOn}
 use Rattle.xsk_model.specs.declared.call.Ring.{Ring}
@@ -29,8 +30,8 @@ module _ (c : Config) (kept : Noted) (mine : List Told) (items : List Item) (geo
       pieces_received c mine items geometry may.some (λ k item within. (may.lawful k item within).body) (filled_from c kept mine h items may.packets.0) may.packets.1
   placed_packets (Tx s) has is may = tt
 
-  pub may_legal : (r : Ring) → HasRing c r → kept.who ≡ producer c r → MaySubmit c kept r items → IsLegal c mine kept.who (Submit r items)
-  may_legal r has is may = record {
+  pub may_legal : (r : Ring) → HasRing c r → kept.who ≡ producer c r → IsFed c mine r → MaySubmit c kept r items → IsLegal c mine kept.who (Submit r items)
+  may_legal r has is fed may = record {
     caller = h.caller;
     known = has;
     role = is;
@@ -38,6 +39,7 @@ module _ (c : Config) (kept : Noted) (mine : List Told) (items : List Item) (geo
     frames = has_to_had c kept mine h items may.frames;
     items = may.lawful;
     packets = placed_packets r has is may;
+    feeds = fed;
   }
 
   legal_packets : (r : Ring) → HasRing c r → kept.who ≡ producer c r → IsLegal c mine kept.who (Submit r items) → MayPlace c kept r items

@@ -47,6 +47,7 @@ fetching_own c who mine r n (item ∷ items) more goes legal fresh =
       frames = legal.frames;
       items = tt;
       packets = tt;
+      feeds = tt;
     })
     (record {
       some = omega arith;
@@ -168,7 +169,7 @@ room_same g sg a b (Tx s) desc e h =
     subst (λ qs. (s < length qs) × (length (pushed g sg (slice_index_or qs s no_queue) desc).descs ≤ (slice_index_or qs s no_queue).limit)) (sym e) h
 
 queues_same : (g : Geometry) (sg : Bool) (kept : Noted) (places : List Places) (sources : List (Option Ring)) (r : Ring) (desc : XdpDesc)
-    → queues_with g sg (record { who = kept.who; places = places; sources = sources; queues = kept.queues }) r desc ≡ queues_with g sg kept r desc
+    → queues_with g sg (record { who = kept.who; places = places; sources = sources; queues = kept.queues; marked = kept.marked }) r desc ≡ queues_with g sg kept r desc
 queues_same g sg kept places sources (Fill d) desc = refl
 queues_same g sg kept places sources (Comp d) desc = refl
 queues_same g sg kept places sources (Rx s) desc = refl

@@ -29,6 +29,7 @@ use Rattle.xsk_desc.specs.Noted.{Queue, Noted}
 use Rattle.xsk_desc.specs.Queue.{pushed}
 use Rattle.xsk_desc.specs.Standing.{source_of, desc_of, uncompleted, places_at, no_queue, queue_at, none_back, Keeps, fetching}
 use Rattle.xsk_desc.specs.Noting.{one_held, sources_with, queues_with, fetched_item}
+use Rattle.xsk_desc.proofs.Marks.{SameMarks, same_itself, same_told, same_between, marks_same}
 use Rattle.xsk_desc.proofs.Sources.{source_of-push}
 use Rattle.xsk_desc.proofs.Pushing.{pushed_is}
 
@@ -42,6 +43,7 @@ pub record HasPeeked (c : Config) (r : Ring) (items : List Item) (mine after : L
   pub held : (q : Ring) → held_of q after ≡ cond (is_ring q r) (held_of q mine + length items) (held_of q mine)
   pub sources : (n : ℕ) → source_of n after ≡ cond (nat_lt 0 (times n (numbers items))) (Some r) (source_of n mine)
   pub sendings : (s : ℕ) → sending_of c s after ≡ cond (is_ring (Tx s) r) (with_peeked (sending_of c s mine) items) (sending_of c s mine)
+  pub marks : SameMarks mine after
 
 pub same_either : (b : Bool) (x y : ℕ) → y ≡ x → cond b y x ≡ x
 same_either true x y h = h
@@ -58,6 +60,7 @@ told_peeked c r n items mine =
           part_of-push held_step q 0 mine t ∙ ap (λ k. cond (is_ring q r) k (held_of q mine)) more;
       sources = λ k. source_of-push k mine t;
       sendings = λ s. sending_of-push c s mine t;
+      marks = same_told mine t (λ m b. refl) (λ m b. refl);
     }
 
 same_sending : (b : Bool) (u : Sending) → u ≡ cond b (with_peeked u []) u
@@ -70,6 +73,7 @@ nothing_peeked c r mine = record {
   held = λ q. sym (same_either (is_ring q r) (held_of q mine) (held_of q mine + 0) (omega arith));
   sources = λ n. refl;
   sendings = λ s. same_sending (is_ring (Tx s) r) (sending_of c s mine);
+  marks = same_itself mine;
 }
 
 pub fetching_peeked : (c : Config) (r : Ring) (items : List Item) (mine : List Told) → HasPeeked c r items mine (mine ++ fetching r items)
@@ -83,6 +87,7 @@ pub record IsFetched (c : Config) (r : Ring) (item : Item) (before after : List 
   pub held : (q : Ring) → held_of q after ≡ cond (is_ring q r) (held_of q before + 1) (held_of q before)
   pub sources : (n : ℕ) → source_of n after ≡ cond (nat_lt 0 (times n (number_of item.frame))) (Some r) (source_of n before)
   pub sendings : (s : ℕ) → sending_of c s after ≡ cond (is_ring (Tx s) r) (with_peeked (sending_of c s before) (item ∷ [])) (sending_of c s before)
+  pub marks : SameMarks before after
 
 held_more : (b : Bool) (h len x y : ℕ) → x ≡ cond b (h + len) h → y ≡ cond b (h + (len + 1)) h → y ≡ cond b (x + 1) x
 held_more true h len x y e f = omega (arith, e, f)
@@ -118,6 +123,7 @@ one_fetched c r done item mine before after h k = record {
   sources = λ n. source_more (Some r) (source_of n mine) (source_of n before) (source_of n after) (times n (numbers done)) (times n (number_of item.frame))
       (times n (numbers (done ++ item ∷ []))) (one_number n done item) (h.sources n) (k.sources n);
   sendings = λ s. sending_more (is_ring (Tx s) r) (sending_of c s mine) (sending_of c s before) (sending_of c s after) done item (h.sendings s) (k.sendings s);
+  marks = same_between mine before after h.marks k.marks;
 }
 
 -- ---- what is kept
@@ -229,6 +235,7 @@ module _ (c : Config) (kept : Noted) (r : Ring) (item : Item) (before after : Li
     begun = λ s has.
         ap (λ (q : Queue). q.begun) (queue-with c.geometry c.sg kept r item.desc s (omega (arith, has.0, h.sockets)))
         ∙ (desc_more (is_ring (Tx s) r) c (queue_at kept s) (sending_of c s before) (sending_of c s after) item (step.sendings s) (within s) (h.descs s has) (h.begun s has)).1;
+    marked = marks_same c kept.who kept.marked before after step.marks h.marked;
   }
     where
       limit_same : (b : Bool) (q : Queue) → (cond b (pushed c.geometry c.sg q item.desc) q).limit ≡ q.limit

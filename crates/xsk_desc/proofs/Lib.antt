@@ -7,6 +7,9 @@ pub mod Fetched
 pub mod Fetching
 pub mod Frames
 pub mod Going
+pub mod Got
+pub mod Items
+pub mod Marks
 pub mod Opening
 pub mod Placed
 pub mod Placing
@@ -14,6 +17,7 @@ pub mod Pushing
 pub mod Quiet
 pub mod Received
 pub mod Rooms
+pub mod Setting
 pub mod Sources
 pub mod Steps
 pub mod Submits

@@ -1,5 +1,5 @@
 -- A new standing stands for no calls.
-use Rattle.std.proofs.Common.{◌≡◌, ℕ, ◌<◌, ◌≤◌, List, [], ◌∷◌, ◌++◌, length, get_or, replicate, None, refl, sym, ap, subst, ◌∙◌, ⊎_elim, arith, length-append}
+use Rattle.std.proofs.Common.{◌≡◌, ℕ, ◌<◌, ◌≤◌, Bool, false, List, [], ◌∷◌, ◌++◌, length, get_or, replicate, None, refl, sym, ap, subst, ◌∙◌, ⊎_elim, arith, length-append}
 use Rattle.std.proofs.lemmas.Bool.{cases_lt, cases_eq}
 use Rattle.std.proofs.lemmas.List.{get_or_push, get_or_past, get_or_append_left, get_or-replicate, length-replicate}
 use Rattle.xsk_model.specs.Config.{Config, HasRing, callers_of}
@@ -7,8 +7,11 @@ use Rattle.xsk_model.specs.Rings.{place, places_of}
 use Rattle.xsk_model.specs.declared.call.Ring.{Ring}
 use Rattle.xsk_model.proofs.Places.{place_below}
 use Rattle.xsk_desc.specs.declared.standing.Places.{Places}
+use Rattle.xsk_desc.specs.declared.marked.Marked.{Marked}
 use Rattle.xsk_desc.specs.Noted.{Queue, Noted}
+use Rattle.xsk_desc.specs.Marked.{IsMarked}
 use Rattle.xsk_desc.specs.Standing.{StandsFor, IsFresh, no_queue}
+use Rattle.xsk_desc.proofs.Marks.{marks_none}
 
 -- the queues that were made
 abbrev pub AllFresh : Config → ℕ → List Queue → Type 0
@@ -30,10 +33,10 @@ fresh_all c who queues len h s = ⊎_elim
     subst (λ q. IsFresh c who s q) (sym (get_or_past queues s no_queue beyond)) (record { descs = refl; begun = refl; limit = λ has is. absurd (omega (arith, beyond, len, has.0)) }))
     (cases_lt s (length queues))
 
-pub opened : (c : Config) (kept : Noted) (none : Places) → none ≡ record { room = 0; held = 0 } → kept.who < callers_of c
+pub opened : (c : Config) (kept : Noted) (none : Places) → kept.marked ≡ record { lowered = replicate 64 false; closed = false; acked = false; seen = false; bounced = 0 } → none ≡ record { room = 0; held = 0 } → kept.who < callers_of c
     → kept.places ≡ replicate (places_of c) none → kept.sources ≡ replicate c.geometry.frames None → length kept.queues ≡ length c.sockets
     → ((s : ℕ) → IsFresh c kept.who s (get_or kept.queues s no_queue)) → StandsFor c kept []
-opened c kept none zero who places sources len each =
+opened c kept none marked zero who places sources len each =
     let at : (r : Ring) → HasRing c r → get_or kept.places (place c r) none ≡ none =
     λ r has. ap (λ ps. get_or ps (place c r) none) places ∙ get_or-replicate (places_of c) (place c r) none none (place_below c r has) in
     record {
@@ -49,5 +52,6 @@ opened c kept none zero who places sources len each =
         sources = λ n below. ap (λ ss. get_or ss n None) sources ∙ get_or-replicate c.geometry.frames n None None below;
         descs = λ s has. (each s).descs;
         begun = λ s has. (each s).begun;
+        marked = subst (λ (m : Marked). IsMarked c kept.who m []) (sym marked) (marks_none c kept.who);
       };
     }

@@ -225,7 +225,7 @@ given_same a b (Rx s) source e h = tt
 given_same a b (Tx s) source e h = tt
 
 off_same : (kept : Noted) (places : List Places) (sources : List (Option Ring)) (source : Option Ring)
-    → queues_of_source (record { who = kept.who; places = places; sources = sources; queues = kept.queues }) source ≡ queues_of_source kept source
+    → queues_of_source (record { who = kept.who; places = places; sources = sources; queues = kept.queues; marked = kept.marked }) source ≡ queues_of_source kept source
 off_same kept places sources None = refl
 off_same kept places sources (Some (Fill d)) = refl
 off_same kept places sources (Some (Comp d)) = refl
@@ -233,7 +233,7 @@ off_same kept places sources (Some (Rx s)) = refl
 off_same kept places sources (Some (Tx s)) = refl
 
 without_same : (kept : Noted) (places : List Places) (sources : List (Option Ring)) (r : Ring) (source : Option Ring)
-    → queues_without (record { who = kept.who; places = places; sources = sources; queues = kept.queues }) r source ≡ queues_without kept r source
+    → queues_without (record { who = kept.who; places = places; sources = sources; queues = kept.queues; marked = kept.marked }) r source ≡ queues_without kept r source
 without_same kept places sources (Fill d) source = refl
 without_same kept places sources (Comp d) source = off_same kept places sources source
 without_same kept places sources (Rx s) source = refl

@@ -22,6 +22,7 @@ use Rattle.xsk_desc.specs.Queue.{first_off}
 use Rattle.xsk_desc.specs.Standing.{source_of, desc_of, uncompleted, places_at, no_queue, queue_at, Keeps, placing}
 use Rattle.xsk_desc.specs.Pieces.{item_source}
 use Rattle.xsk_desc.specs.Noting.{one_filled, queues_of_source, queues_without, placed_item}
+use Rattle.xsk_desc.proofs.Marks.{SameMarks, same_itself, same_told, same_between, marks_same}
 use Rattle.xsk_desc.proofs.Sources.{source_of-push}
 use Rattle.xsk_desc.proofs.Fetching.{same_either, source_more, one_number, length-sources, source-with}
 
@@ -31,6 +32,7 @@ pub record HasPlaced (r : Ring) (items : List Item) (mine after : List Told) : T
   pub room : (q : Ring) → room_of q after ≡ cond (is_ring q r) (room_of q mine - length items) (room_of q mine)
   pub held : (q : Ring) → held_of q after ≡ held_of q mine
   pub sources : (n : ℕ) → source_of n after ≡ cond (nat_lt 0 (times n (numbers items))) None (source_of n mine)
+  pub marks : SameMarks mine after
 
 pub told_placed : (r : Ring) (items : List Item) (mine : List Told) → HasPlaced r items mine (with_told mine (Submit r items) Submitted)
 told_placed r items mine =
@@ -41,6 +43,7 @@ told_placed r items mine =
           part_of-push room_step q 0 mine t ∙ ap (λ k. cond (is_ring q r) k (room_of q mine)) less;
       held = λ q. part_of-push held_step q 0 mine t ∙ same_either (is_ring q r) (held_of q mine) (held_step (held_of q mine) t) (omega arith);
       sources = λ n. source_of-push n mine t;
+      marks = same_told mine t (λ m b. refl) (λ m b. refl);
     }
 
 nothing_placed : (r : Ring) (mine : List Told) → HasPlaced r [] mine mine
@@ -48,6 +51,7 @@ nothing_placed r mine = record {
   room = λ q. sym (same_either (is_ring q r) (room_of q mine) (room_of q mine - 0) (omega arith));
   held = λ q. refl;
   sources = λ n. refl;
+  marks = same_itself mine;
 }
 
 pub placing_placed : (r : Ring) (items : List Item) (mine : List Told) → HasPlaced r items mine (mine ++ placing r items)
@@ -60,6 +64,7 @@ pub record IsPlaced (r : Ring) (item : Item) (before after : List Told) : Type 0
   pub room : (q : Ring) → room_of q after ≡ cond (is_ring q r) (room_of q before - 1) (room_of q before)
   pub held : (q : Ring) → held_of q after ≡ held_of q before
   pub sources : (n : ℕ) → source_of n after ≡ cond (nat_lt 0 (times n (number_of item.frame))) None (source_of n before)
+  pub marks : SameMarks before after
 
 room_less : (b : Bool) (h len x y : ℕ) → x ≡ cond b (h - len) h → y ≡ cond b (h - (len + 1)) h → y ≡ cond b (x - 1) x
 room_less true h len x y e f = omega (arith, e, f)
@@ -75,6 +80,7 @@ one_placed r done item mine before after h k = record {
   held = λ q. k.held q ∙ sym (h.held q);
   sources = λ n. source_more None (source_of n mine) (source_of n before) (source_of n after) (times n (numbers done)) (times n (number_of item.frame))
       (times n (numbers (done ++ item ∷ []))) (one_number n done item) (h.sources n) (k.sources n);
+  marks = same_between mine before after h.marks k.marks;
 }
 
 -- ---- what is kept
@@ -169,4 +175,5 @@ module _ (c : Config) (kept : Noted) (r : Ring) (item : Item) where
         ∙ sym (step.sources n);
     descs = λ s has. (left s has).descs;
     begun = λ s has. (left s has).begun;
+    marked = marks_same c kept.who kept.marked before after step.marks h.marked;
   }

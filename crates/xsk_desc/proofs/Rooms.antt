@@ -19,17 +19,19 @@ use Rattle.xsk_desc.specs.declared.standing.Places.{Places}
 use Rattle.xsk_desc.specs.Noted.{Noted}
 use Rattle.xsk_desc.specs.Standing.{with_places, StandsFor, Keeps, places_at, source_of, uncompleted, desc_of, none_back}
 use Rattle.xsk_desc.proofs.Sources.{source_of-push}
+use Rattle.xsk_desc.proofs.Marks.{SameMarks, same_told, marks_same}
 use Rattle.xsk_desc.proofs.Going.{own_push, gift_goes, gift_legal, room_few}
 
 -- a call that moves no frame
 module _ (c : Config) (kept : Noted) (mine : List Told) (t : Told) (r : Ring) (p : Places) where
   pub keeps_quiet : HasRing c r → submitted t.call ≡ [] → taken t.reply ≡ [] → ((u : Ring) → is_on u t.call ≡ is_ring u r)
       → ((s : ℕ) → sending_after c s (sending_of c s mine) t.call t.reply ≡ sending_of c s mine)
+      → SameMarks mine (mine ++ t ∷ [])
       → Keeps c kept mine mine none_back
       → p.room ≡ room_step (places_at kept (place c r)).room t
       → p.held ≡ held_step (places_at kept (place c r)).held t
       → Keeps c (with_places kept (place c r) p) (mine ++ t ∷ []) (mine ++ t ∷ []) none_back
-  keeps_quiet has given got on still h room held =
+  keeps_quiet has given got on still same h room held =
       let within : place c r < length kept.places = omega (arith, h.rings, place_below c r has) in
       let none : Places = record { room = 0; held = 0 } in
       let at : (u : Ring) → HasRing c u → get_or (set kept.places (place c r) p) (place c u) none ≡ cond (is_ring u r) p (get_or kept.places (place c u) none) =
@@ -52,6 +54,7 @@ module _ (c : Config) (kept : Noted) (mine : List Told) (t : Told) (r : Ring) (p
         sources = λ n k. h.sources n k ∙ sym (same_source n);
         descs = λ s k. h.descs s k ∙ ap (λ u. map desc_of (uncompleted c u)) (sym (sending_of-push c s mine t ∙ still s));
         begun = λ s k. h.begun s k ∙ ap (λ u. length (rest c.geometry c.sg u.peeked)) (sym (sending_of-push c s mine t ∙ still s));
+        marked = marks_same c kept.who kept.marked mine (mine ++ t ∷ []) same h.marked;
       }
     where
       same_source : (n : ℕ) → source_of n (mine ++ t ∷ []) ≡ source_of n mine
@@ -86,7 +89,8 @@ module _ (c : Config) (kept : Noted) (mine : List Told) (r : Ring) (n : ℕ) whe
   granted_stands p h gift room held = record {
     caller = h.caller;
     own = gift_goes c mine kept.who (Reserve r n) Granted gift;
-    keeps = keeps_quiet c kept mine (record { call = Reserve r n; reply = Granted }) r p (gift_legal c mine kept.who (Reserve r n) Granted gift).known refl refl (λ u. refl) (λ s. refl) h.keeps
+    keeps = keeps_quiet c kept mine (record { call = Reserve r n; reply = Granted }) r p (gift_legal c mine kept.who (Reserve r n) Granted gift).known refl refl (λ u. refl) (λ s. refl)
+        (same_told mine (record { call = Reserve r n; reply = Granted }) (λ m b. refl) (λ m b. refl)) h.keeps
         (omega (arith, room)) (omega (arith, held));
   }
 
@@ -109,7 +113,8 @@ module _ (c : Config) (kept : Noted) (mine : List Told) (r : Ring) (n : ℕ) whe
   released_stands p h legal room held = record {
     caller = h.caller;
     own = own_push c kept.who [] mine (record { call = Release r n; reply = Released }) h.own legal tt;
-    keeps = keeps_quiet c kept mine (record { call = Release r n; reply = Released }) r p legal.known refl refl (λ u. refl) (λ s. refl) h.keeps
+    keeps = keeps_quiet c kept mine (record { call = Release r n; reply = Released }) r p legal.known refl refl (λ u. refl) (λ s. refl)
+        (same_told mine (record { call = Release r n; reply = Released }) (λ m b. refl) (λ m b. refl)) h.keeps
         (omega (arith, room)) (omega (arith, held));
   }
 

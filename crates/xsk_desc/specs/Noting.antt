@@ -63,6 +63,7 @@ fetched_item c r item kept = record {
   places = one_held kept (place c r);
   sources = sources_with kept.sources item.frame (Some r);
   queues = queues_with c.geometry c.sg kept r item.desc;
+  marked = kept.marked;
 }
 
 abbrev pub placed_item : Config → Ring → Item → Noted → Noted
@@ -71,6 +72,7 @@ placed_item c r item kept = record {
   places = one_filled kept (place c r);
   sources = sources_with kept.sources item.frame None;
   queues = queues_without kept r (item_source kept.sources item);
+  marked = kept.marked;
 }
 
 -- ---- room

@@ -19,6 +19,7 @@ use Rattle.xsk_model.specs.declared.call.Call.TheVariants.{Submit, Peek}
 use Rattle.xsk_model.specs.declared.call.Reply.TheVariants.{Submitted, Items}
 use Rattle.xsk_desc.specs.declared.standing.Places.{Places}
 use Rattle.xsk_desc.specs.Noted.{Queue, Noted}
+use Rattle.xsk_desc.specs.Marked.{IsMarked}
 
 -- ---- frames
 
@@ -71,7 +72,7 @@ queue_at kept s = slice_index_or kept.queues s no_queue
 abbrev pub with_places : Noted → ℕ → Places → Noted
 with_places kept i places = record kept { places = slice_set kept.places i places }
 
--- Room, held items and frames are those that `mine` leaves. The queues are those that `queued` leaves, without the first
+-- Room, held items, frames and marks are those that `mine` leaves. The queues are those that `queued` leaves, without the first
 -- `back` items of each.
 -- There is room for all frames on each TX ring that the caller consumes.
 pub record Keeps (c : Config) (kept : Noted) (mine queued : List Told) (back : ℕ → ℕ) : Type 0 where
@@ -84,6 +85,7 @@ pub record Keeps (c : Config) (kept : Noted) (mine queued : List Told) (back : �
   pub sources : (n : ℕ) → n < c.geometry.frames → source_at kept n ≡ source_of n mine
   pub descs : (s : ℕ) → HasRing c (Tx s) → (queue_at kept s).descs ≡ drop (back s) (map desc_of (uncompleted c (sending_of c s queued)))
   pub begun : (s : ℕ) → HasRing c (Tx s) → (queue_at kept s).begun ≡ length (rest c.geometry c.sg (sending_of c s queued).peeked)
+  pub marked : IsMarked c kept.who kept.marked mine
 
 abbrev pub none_back : ℕ → ℕ
 none_back s = 0

@@ -1,11 +1,14 @@
 -- Laws of what a standing stands for. Each is the contract of a function of its own.
-use Rattle.std.specs.Prelude.{◌≡◌, ℕ, Bool, true, false, List, [], ◌∷◌, ◌++◌}
+use Rattle.std.specs.Prelude.{◌≡◌, ℕ, Bool, true, false, not, List, [], ◌∷◌, ◌++◌}
 use Rattle.xsk_umem.specs.declared.batch.Item.{Item}
 use Rattle.xsk_model.specs.Config.{Config}
 use Rattle.xsk_model.specs.Entry.{Told, with_told}
 use Rattle.xsk_model.specs.Legal.{IsLegal}
 use Rattle.xsk_model.specs.History.{MayGive, Fits}
+use Rattle.xsk_model.specs.OtherWords.{is_flag}
 use Rattle.xsk_model.specs.declared.call.Ring.{Ring}
+use Rattle.xsk_model.specs.declared.call.Mark.{Mark}
+use Rattle.xsk_model.specs.declared.call.Mark.TheVariants.{Closing}
 use Rattle.xsk_model.specs.declared.call.Call.{Call}
 use Rattle.xsk_model.specs.declared.call.Call.TheVariants.{Reserve, Submit, Peek, Release, Swap, Look}
 use Rattle.xsk_model.specs.declared.call.Reply.{Reply}
@@ -14,11 +17,16 @@ use Rattle.xsk_desc.specs.Noted.{Noted}
 use Rattle.xsk_desc.specs.Standing.{StandsFor, IsPlacing, IsFetching}
 use Rattle.xsk_desc.specs.Noting.{IsFor, CanGrant, CanRelease, CanFetch, CanPlace}
 
--- whether a call with its reply is one that a standing notes: not a Swap or a Look, nor a Reserve that found too few
--- places free or a Peek that found nothing
+-- whether a standing notes what a mark was found to be
+abbrev pub is_watched : Mark → Bool
+is_watched (Closing s) = true
+is_watched m = false
+
+-- whether a call with its reply is one that a standing notes: not a Swap of a flag, a Look but at Closing, a Reserve that
+-- found too few places free or a Peek that found nothing
 abbrev pub is_noted : Call → Reply → Bool
-is_noted (Swap m value) reply = false
-is_noted (Look m) reply = false
+is_noted (Swap m value) reply = not (is_flag m)
+is_noted (Look m) reply = is_watched m
 is_noted call (Full places) = false
 is_noted call Empty = false
 is_noted call reply = true

@@ -78,7 +78,7 @@ impl Gather {
         ensures stands { (g : Numbers) → StandsFor g result [] }
     {
         Gather {
-            items: Batch::new(alloc),
+            items: Batch::new(),
             sg,
             alloc,
         }
@@ -98,8 +98,8 @@ impl Gather {
         self.items.push(item);
         match ending {
             Ending::More => Gathered::More,
-            Ending::Whole => Gathered::Whole(mem::replace(&mut self.items, Batch::new(self.alloc))),
-            Ending::Bad => Gathered::Bad(mem::replace(&mut self.items, Batch::new(self.alloc))),
+            Ending::Whole => Gathered::Whole(mem::replace(&mut self.items, Batch::new())),
+            Ending::Bad => Gathered::Bad(mem::replace(&mut self.items, Batch::new())),
         }
     }
 

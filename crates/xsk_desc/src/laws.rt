@@ -41,8 +41,8 @@ pub fn packet_of_a_layout()
     ensures { LayoutIsPacket }
 {}
 
-/// A Swap, a Look, a Reserve that found too few places free and a Peek that found nothing need no note: with such a
-/// legal call and a fitting reply a standing stands for the longer list as it is.
+/// A Swap of a flag, a Look but at Closing, a Reserve that found too few places free and a Peek that found nothing need no
+/// note: with such a legal call and a fitting reply a standing stands for the longer list as it is.
 pub fn some_calls_need_no_note()
     ensures { NeedsNoNote }
 {}

@@ -5,6 +5,8 @@
 mod descriptor;
 mod gather;
 pub mod laws;
+mod marked;
+mod noting;
 mod payload;
 mod queue;
 mod roles;

@@ -1,8 +1,10 @@
 //! Which rings and marks are a caller's own.
-ghost use Rattle.std.specs.Prelude.{◌≡◌, ◌<◌, ◌↔◌, IsTrue};
-ghost use Rattle.xsk_model.specs.Config.{HasRing};
+ghost use Rattle.std.specs.Prelude.{◌≡◌, ◌<◌, ◌↔◌, ℕ, IsTrue, Some};
+ghost use Rattle.xsk_model.specs.Config.{IsConfig, HasRing};
 ghost use Rattle.xsk_model.specs.Rings.{port_of, queue_of, driver_of, app_of, producer, consumer};
-ghost use Rattle.xsk_model.specs.Marks.{HasMark, IsMarkNumber, IsMarkOwner};
+ghost use Rattle.xsk_model.specs.Marks.{HasMark, HoldsClosing, IsMarkNumber, IsMarkOwner};
+ghost use Rattle.xsk_model.specs.declared.call.Mark.TheVariants.{Cell};
+ghost use Rattle.xsk_desc.specs.Marked.{is_number};
 ghost use Rattle.xsk_desc.specs.Roles.{IsPairAt};
 
 use xsk_model::placement::{has_mark, has_ring};
@@ -39,7 +41,7 @@ fn is_application(config: &Config, who: u32, ring: Ring) -> bool
 }
 
 /// The port and the queue of a ring, which must exist.
-fn seat_of(config: &Config, ring: Ring) -> (u32, u32)
+pub(crate) fn seat_of(config: &Config, ring: Ring) -> (u32, u32)
     requires { HasRing config.now ring }
     ensures value { result ≡ (port_of config.now ring, queue_of config.now ring) }
     ensures port { port_of config.now ring < config.now.ports }
@@ -86,18 +88,86 @@ pub(crate) fn consumes(config: &Config, who: u32, ring: Ring) -> bool
     }
 }
 
-/// Whether the mark exists and the caller may set it to the number.
-pub(crate) fn may_swap(config: &Config, who: u32, mark: Mark, value: u64) -> bool
-    ensures { IsTrue result ↔ (HasMark config.now mark × IsMarkOwner config.now who mark × IsMarkNumber config.now mark value) }
+/// Whether the mark exists and is the caller's.
+pub(crate) fn owns(config: &Config, who: u32, mark: Mark) -> bool
+    ensures { IsTrue result ↔ (HasMark config.now mark × IsMarkOwner config.now who mark) }
 {
-    if !has_mark(config, mark) || value > 1 {
+    if !has_mark(config, mark) {
         return false;
     }
     match mark {
-        Mark::NeedFill(pair) | Mark::RxDone(pair) | Mark::Gone(pair) => who == pair,
+        Mark::NeedFill(pair) | Mark::RxDone(pair) | Mark::Gone(pair) | Mark::Bounced(pair) => {
+            who == pair
+        }
         Mark::NeedTx(socket) => consumes(config, who, Ring::Tx(socket)),
         Mark::Kick(pair) => who == pair || produces(config, who, Ring::Fill(pair)),
         Mark::TxDone(app) => who == config.pairs().len() as u32 + app,
-        Mark::Cell(_, _) => false,
+        Mark::Cell(port, index) => owns_cell(config, who, port, index),
+        Mark::Closing(socket) => {
+            is_closing(config, socket) && consumes(config, who, Ring::Rx(socket))
+        }
+        Mark::Acked(socket) => {
+            is_closing(config, socket) && produces(config, who, Ring::Rx(socket))
+        }
+    }
+}
+
+/// Whether the cell, which must exist, holds the socket to close, and the caller is the application of the port and of
+/// that socket's queue.
+fn owns_cell(config: &Config, who: u32, port: u32, index: u32) -> bool
+    requires { HasMark config.now (Cell port index) }
+    ensures { IsTrue result ↔ IsMarkOwner config.now who (Cell port index) }
+{
+    match config.closing() {
+        Some(socket) => {
+            let queue = config.sockets()[socket as usize].queue;
+            config.cell(port, index) == u64::from(socket) + 1
+                && who == config.pairs().len() as u32 + application_on(config, port, queue)
+        }
+        None => false,
+    }
+}
+
+/// Whether the mark, which must exist, may have the number.
+pub(crate) fn may_be(config: &Config, mark: Mark, value: u64) -> bool
+    requires { HasMark config.now mark }
+    ensures { IsTrue result ↔ IsMarkNumber config.now mark value }
+{
+    match mark {
+        Mark::NeedFill(_)
+        | Mark::NeedTx(_)
+        | Mark::Kick(_)
+        | Mark::RxDone(_)
+        | Mark::Gone(_)
+        | Mark::TxDone(_)
+        | Mark::Closing(_)
+        | Mark::Acked(_) => value <= 1,
+        Mark::Cell(port, index) => {
+            value == config.cell(port, index) || value == 0 && holds(config, port, index)
+        }
+        Mark::Bounced(_) => true,
+    }
+}
+
+/// Whether the cell, which must exist, holds the socket to close.
+pub(crate) fn holds(config: &Config, port: u32, index: u32) -> bool
+    requires { HasMark config.now (Cell port index) }
+    ensures { IsTrue result ↔ ((s : ℕ) × HoldsClosing config.now port index s) }
+{
+    match config.closing() {
+        Some(socket) => config.cell(port, index) == u64::from(socket) + 1,
+        None => false,
+    }
+}
+
+/// Whether the socket is the one to close.
+pub(crate) fn is_closing(config: &Config, socket: u32) -> bool
+    ensures value { result ≡ is_number socket config.now.closing }
+    ensures closing { IsTrue result ↔ (config.now.closing ≡ Some socket) }
+    ensures lawful { IsConfig config.now }
+{
+    match config.closing() {
+        Some(closing) => socket == closing,
+        None => false,
     }
 }

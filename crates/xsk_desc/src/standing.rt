@@ -6,26 +6,29 @@ ghost use Rattle.xsk_umem.specs.Frame.{Frame as Body};
 ghost use Rattle.xsk_umem.specs.Geometry.{IsGeometry};
 ghost use Rattle.xsk_umem.specs.Limits.{most_items};
 ghost use Rattle.xsk_umem.specs.declared.batch.Item.{Item as AnItem};
-ghost use Rattle.xsk_model.specs.Config.{HasRing, callers_of};
+ghost use Rattle.xsk_model.specs.Config.{IsConfig, HasRing, callers_of};
 ghost use Rattle.xsk_model.specs.Numbers.{times, numbers};
 ghost use Rattle.xsk_model.specs.Rings.{place, places_of, port_of, queue_of, producer};
 ghost use Rattle.xsk_model.specs.Entry.{Told, with_told};
 ghost use Rattle.xsk_model.specs.Legal.{IsLegal, IsItemOn, IsPlainOn};
-ghost use Rattle.xsk_model.specs.History.{MayGive};
-ghost use Rattle.xsk_model.specs.declared.call.Ring.TheVariants.{Comp, Tx};
-ghost use Rattle.xsk_model.specs.declared.call.Call.TheVariants.{Reserve, Submit, Peek, Release};
-ghost use Rattle.xsk_model.specs.declared.call.Reply.TheVariants.{Granted, Submitted, Items, Released};
+ghost use Rattle.xsk_model.specs.Marks.{IsMarkOwner};
+ghost use Rattle.xsk_model.specs.History.{MayGive, Fits};
+ghost use Rattle.xsk_model.specs.declared.call.Ring.TheVariants.{Comp, Rx, Tx};
+ghost use Rattle.xsk_model.specs.declared.call.Call.TheVariants.{Reserve, Submit, Peek, Release, Swap, Look};
+ghost use Rattle.xsk_model.specs.declared.call.Reply.TheVariants.{Granted, Submitted, Items, Released, Old};
 ghost use Rattle.xsk_desc.specs.Standing.{StandsFor, IsPlacing, IsFetching, IsFresh, places_at, no_queue, with_places};
 ghost use Rattle.xsk_desc.specs.Noting.{one_filled, one_held, sources_with, queues_with, queues_without, HasRoom, HasGiven, IsFor, CanGrant, CanRelease, CanFetch, CanPlace};
+ghost use Rattle.xsk_desc.specs.Setting.{MaySet, IsTime, IsOpen, AreCleared};
 ghost use Rattle.xsk_desc.specs.Pieces.{MaySubmit, has, item_source, IsFill, IsPiece, ArePieces, GivesBack};
 
 use crate::descriptor::CONTINUED;
+use crate::marked::Marked;
 use crate::queue::Queue;
-use crate::roles::{consumes, may_swap, produces};
+use crate::roles::{consumes, is_closing, may_be, owns, produces, seat_of};
 use std::alloc::Global;
 use std::marker::Model;
 use xsk_model::placement::{has_mark, has_ring, ring_place, ring_places};
-use xsk_model::{Call, Config, Ring};
+use xsk_model::{Call, Config, Mark, Ring};
 use xsk_umem::{Batch, Geometry, Item, OutOfMemory, XdpDesc};
 
 /// The most items of one call.
@@ -48,6 +51,7 @@ pub struct Standing {
     sources: Vec<Option<Ring>>,
     /// By socket; only the TX rings that the caller consumes have room.
     queues: Vec<Queue>,
+    marked: Marked,
 }
 
 impl Model for Standing {
@@ -55,7 +59,7 @@ impl Model for Standing {
 
     ghost Value = { Noted };
 
-    ghost view = { λ s. record { who = s.who; places = s.places.items; sources = s.sources.items; queues = s.queues.items } };
+    ghost view = { λ s. record { who = s.who; places = s.places.items; sources = s.sources.items; queues = s.queues.items; marked = s.marked } };
 }
 
 impl Standing {
@@ -74,6 +78,7 @@ impl Standing {
             places,
             sources,
             queues,
+            marked: Marked::new(),
         })
     }
 
@@ -83,9 +88,9 @@ impl Standing {
         ensures { (mine : List Told) → StandsFor config.now self.now mine → (IsTrue result ↔ IsLegal config.now mine self.now.who call.now) }
     {
         match call {
-            Call::Reserve(ring, n) => is_few(*n) && produces(config, self.who, *ring),
+            Call::Reserve(ring, n) => is_few(*n) && self.feeds(config, *ring),
             Call::Submit(ring, items) => {
-                produces(config, self.who, *ring) && self.may_submit(config, *ring, items)
+                self.feeds(config, *ring) && self.may_submit(config, *ring, items)
             }
             Call::Peek(ring, n) => is_few(*n) && consumes(config, self.who, *ring),
             Call::Release(ring, n) => {
@@ -93,7 +98,7 @@ impl Standing {
                     && consumes(config, self.who, *ring)
                     && *n <= self.places[ring_place(config, *ring)].held
             }
-            Call::Swap(mark, value) => may_swap(config, self.who, *mark, *value),
+            Call::Swap(mark, value) => self.may_set(config, *mark, *value),
             Call::Look(mark) => has_mark(config, *mark),
         }
     }
@@ -156,6 +161,46 @@ impl Standing {
         let Places { room, held } = self.places_at(place);
         let held = held - n;
         self.put_places(place, Places { room, held });
+    }
+
+    /// Notes a Swap of a mark to a number, whatever it was before.
+    pub fn swapped(&mut self, config: &Config, mark: Mark, value: u64)
+        requires { IsFor config.now self.old }
+        ensures kind { IsFor config.now self.new }
+        ensures caller { self.new.who ≡ self.old.who }
+        ensures stands { (mine : List Told) (old : ℕ) → StandsFor config.now self.old mine → IsLegal config.now mine self.old.who (Swap mark value)
+            → Fits config.now mine (Swap mark value) (Old old) → StandsFor config.now self.new (with_told mine (Swap mark value) (Old old)) }
+    {
+        self.marked.swapped(config, mark, value);
+    }
+
+    /// Notes a Look at a mark, which was answered by a number.
+    pub fn looked(&mut self, config: &Config, mark: Mark, old: u64)
+        requires { IsFor config.now self.old }
+        ensures kind { IsFor config.now self.new }
+        ensures caller { self.new.who ≡ self.old.who }
+        ensures stands { (mine : List Told) → StandsFor config.now self.old mine → IsLegal config.now mine self.old.who (Look mark)
+            → Fits config.now mine (Look mark) (Old old) → StandsFor config.now self.new (with_told mine (Look mark) (Old old)) }
+    {
+        self.marked.looked(config, mark, old);
+    }
+
+    /// Notes a Swap or a Look, which was answered by a number. Of another call it notes nothing.
+    pub fn marked(&mut self, config: &Config, call: &Call, old: u64)
+        requires { IsFor config.now self.old }
+        ensures kind { IsFor config.now self.new }
+        ensures caller { self.new.who ≡ self.old.who }
+        ensures stands { (mine : List Told) → StandsFor config.now self.old mine → IsLegal config.now mine self.old.who call.now
+            → Fits config.now mine call.now (Old old) → StandsFor config.now self.new (with_told mine call.now (Old old)) }
+    {
+        match call {
+            Call::Swap(mark, value) => self.swapped(config, *mark, *value),
+            Call::Look(mark) => self.looked(config, *mark, old),
+            Call::Reserve(_, _) => {}
+            Call::Submit(_, _) => {}
+            Call::Peek(_, _) => {}
+            Call::Release(_, _) => {}
+        }
     }
 
     /// What is kept of the ring of a place.
@@ -245,6 +290,76 @@ impl Standing {
             Ring::Comp(pair) => self.are_completed(config, pair, items),
             Ring::Rx(_) => self.are_from_fill(items) && are_layouts(config, items),
         }
+    }
+
+    /// Whether the ring exists, the caller reserves and submits on it, and it hasn't ended it.
+    fn feeds(&self, config: &Config, ring: Ring) -> bool
+        ensures { IsTrue result ↔ (HasRing config.now ring × (self.now.who ≡ producer config.now ring) × IsOpen config.now self.now.marked ring) }
+    {
+        produces(config, self.who, ring) && self.is_open(config, ring)
+    }
+
+    fn is_open(&self, config: &Config, ring: Ring) -> bool
+        ensures { IsTrue result ↔ IsOpen config.now self.now.marked ring }
+    {
+        match ring {
+            Ring::Fill(_) | Ring::Comp(_) => true,
+            Ring::Rx(socket) => !self.marked.acked || !is_closing(config, socket),
+            Ring::Tx(socket) => !self.marked.closed || !is_closing(config, socket),
+        }
+    }
+
+    /// Whether the mark exists and is the caller's, may have the number, and may be set to it now.
+    fn may_set(&self, config: &Config, mark: Mark, value: u64) -> bool
+        requires { length self.now.places ≡ places_of config.now }
+        ensures value { IsTrue result ↔ MaySet config.now self.now mark value }
+        ensures lawful { IsConfig config.now }
+    {
+        let _ports = config.ports();
+        owns(config, self.who, mark)
+            && may_be(config, mark, value)
+            && self.is_time(config, mark, value)
+    }
+
+    /// Whether the caller, whose mark it is, may set it to the number now.
+    fn is_time(&self, config: &Config, mark: Mark, value: u64) -> bool
+        requires lawful { IsConfig config.now }
+        requires rings { length self.now.places ≡ places_of config.now }
+        requires owner { IsMarkOwner config.now self.now.who mark }
+        ensures { IsTrue result ↔ IsTime config.now self.now mark value }
+    {
+        match mark {
+            Mark::NeedFill(_)
+            | Mark::NeedTx(_)
+            | Mark::Kick(_)
+            | Mark::RxDone(_)
+            | Mark::Gone(_)
+            | Mark::TxDone(_) => true,
+            Mark::Cell(_, _) => value == 0,
+            Mark::Closing(socket) => value == 1 && self.has_cleared(config, socket),
+            Mark::Acked(socket) => {
+                value == 1 && self.marked.seen && self.has_no_room(config, socket)
+            }
+            Mark::Bounced(_) => value > 0 && value - 1 == self.marked.bounced,
+        }
+    }
+
+    /// Whether the caller lowered each cell of the socket's port that held the socket to close.
+    fn has_cleared(&self, config: &Config, socket: u32) -> bool
+        requires { HasRing config.now (Rx socket) }
+        ensures { IsTrue result ↔ AreCleared config.now self.now.marked (port_of config.now (Rx socket)) }
+    {
+        let (port, _) = seat_of(config, Ring::Rx(socket));
+        self.marked.are_cleared(config, port)
+    }
+
+    /// Whether no place of the RX ring is reserved.
+    fn has_no_room(&self, config: &Config, socket: u32) -> bool
+        requires ring { HasRing config.now (Rx socket) }
+        requires rings { length self.now.places ≡ places_of config.now }
+        ensures { IsTrue result ↔ ((places_at self.now (place config.now (Rx socket))).room ≡ 0) }
+    {
+        self.places[ring_place(config, Ring::Rx(socket))].room == 0
     }
 
     /// The ring from which the caller last got the item's frame, if it has it.
