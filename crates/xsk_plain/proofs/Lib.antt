@@ -8,8 +8,6 @@ pub mod Follows
 pub mod Closing
 pub mod Legality
 pub mod Bare
-pub mod Quiet
 pub mod Running
-pub mod Noted
 pub mod RowLines
 pub mod RowPlaces

@@ -13,10 +13,10 @@ use Rattle.xsk_umem.specs.declared.batch.Item.{Item}
 use Rattle.xsk_model.specs.Config.{Config, IsConfig, IsLawful, pool_of, pair_at}
 use Rattle.xsk_model.specs.declared.call.Ring.TheVariants.{Fill}
 use Rattle.xsk_model.specs.Descriptor.{is_valid, is_inside, fits_chunk, has_known_options}
-use Rattle.xsk_model.specs.Marks.{apps_of, mark_places_of}
+use Rattle.xsk_model.specs.Marks.{flags_of}
 use Rattle.xsk_model.specs.Object.{RingState, empty_ring}
 use Rattle.xsk_model.specs.Opening.{AreFrames, home_item, home_ring, home_rings, opening_cells, opening}
-use Rattle.xsk_model.proofs.Opened.{length-frames, get_or-blanks, opening-marks, length-home_rings}
+use Rattle.xsk_model.proofs.Opened.{length-frames, get_or-blanks, length-home_rings}
 use Rattle.xsk_plain.specs.declared.ring_store.RingStore.{RingStore}
 use Rattle.xsk_plain.specs.Engine.{seen, no_part}
 use Rattle.xsk_plain.specs.Notes.{Notes}
@@ -223,16 +223,14 @@ cell_step old marks new cells index cell pushed before within is =
     pushed ∙ ap (λ xs. xs ++ cell ∷ []) before ∙ append_assoc old (take index cells) (cell ∷ [])
     ∙ ap (λ x. old ++ (take index cells ++ x ∷ [])) (sym (get_or_from_slice_get cells index cell 0 is)) ∙ ap (λ xs. old ++ xs) (sym (take_more cells index 0 within))
 
-pub blank_step : (old marks new cells : List ℕ) (b n : ℕ) → new ≡ marks ++ 0 ∷ [] → marks ≡ old ++ (cells ++ replicate (b - n) 0) → n ≤ b
-    → new ≡ old ++ (cells ++ replicate (b + 1 - n) 0)
-blank_step old marks new cells b n pushed before h =
-    let one : b - n + 1 ≡ b + 1 - n = omega arith in
-    pushed ∙ ap (λ xs. xs ++ 0 ∷ []) before ∙ append_assoc old (cells ++ replicate (b - n) 0) (0 ∷ [])
-    ∙ ap (λ xs. old ++ xs) (append_assoc cells (replicate (b - n) 0) (0 ∷ []) ∙ ap (λ xs. cells ++ xs) (replicate_more (b - n) 0 ∙ ap (λ m. replicate {A = ℕ} m 0) one))
+-- one zero more
+pub zero_step : (old marks new : List ℕ) (n : ℕ) → new ≡ marks ++ 0 ∷ [] → marks ≡ old ++ replicate n 0 → new ≡ old ++ replicate (n + 1) 0
+zero_step old marks new n pushed before =
+    pushed ∙ ap (λ xs. xs ++ 0 ∷ []) before ∙ append_assoc old (replicate n 0) (0 ∷ []) ∙ ap (λ xs. old ++ xs) (replicate_more n 0)
 
--- how many marks there are
-pub marks_count : (c : Config) (marks : List ℕ) (port : ℕ) → IsConfig c → marks ≡ replicate (4 * length c.pairs + length c.sockets + apps_of c) 0 ++ flat_map opening_cells (take port c.cells)
-    → c.ports ≤ port → length marks ≡ mark_places_of c
-marks_count c marks port config is h =
-    ap length (is ∙ ap (λ maps. replicate (4 * length c.pairs + length c.sockets + apps_of c) 0 ++ flat_map opening_cells maps) (take_all port c.cells (omega (arith, config.maps))))
-    ∙ opening-marks c [] config
+-- the cells of all ports, and the marks behind them
+pub marks_open : (c : Config) (marks new : List ℕ) (port : ℕ) → IsConfig c → marks ≡ replicate (flags_of c) 0 ++ flat_map opening_cells (take port c.cells)
+    → c.ports ≤ port → new ≡ marks ++ replicate (2 * length c.sockets + length c.pairs) 0 → new ≡ (opening c []).marks
+marks_open c marks new port config is end added =
+    added ∙ ap (λ xs. xs ++ replicate (2 * length c.sockets + length c.pairs) 0)
+    (is ∙ ap (λ maps. replicate (flags_of c) 0 ++ flat_map opening_cells maps) (take_all port c.cells (omega (arith, config.maps, end))))

@@ -18,8 +18,9 @@ use Rattle.xsk_model.proofs.Folds.{own-push_same, own-push_other}
 use Rattle.xsk_model.proofs.Histories.{goes_push, after_all-append}
 use Rattle.xsk_desc.specs.Noted.{Noted}
 use Rattle.xsk_desc.specs.Standing.{StandsFor}
+use Rattle.xsk_desc.specs.Given.{StandsGiven}
 use Rattle.xsk_plain.specs.Engine.{Engine, Shows}
-use Rattle.xsk_plain.specs.Histories.{HasRun, NotesOwn, EachNotesOwn, StandsGiven}
+use Rattle.xsk_plain.specs.Histories.{HasRun, NotesOwn, EachNotesOwn}
 use Rattle.xsk_plain.specs.Rooms.{Enters}
 use Rattle.xsk_plain.specs.Steps.{FollowsObject}
 use Rattle.xsk_plain.proofs.Bare.{log_decides}

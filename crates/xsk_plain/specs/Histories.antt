@@ -3,12 +3,9 @@
 use Rattle.std.specs.Prelude.{◌≡◌, ℕ, Some, List, length, slice_get}
 use Rattle.xsk_umem.specs.Frame.{Frame}
 use Rattle.xsk_model.specs.Config.{Config, callers_of}
-use Rattle.xsk_model.specs.Entry.{Told, Entry, own, with_told}
+use Rattle.xsk_model.specs.Entry.{Entry, own}
 use Rattle.xsk_model.specs.History.{IsHistory, state_after}
 use Rattle.xsk_model.specs.Stored.{stored}
-use Rattle.xsk_model.specs.declared.call.Call.{Call}
-use Rattle.xsk_model.specs.declared.call.Call.TheVariants.{Reserve, Submit, Peek, Release, Swap, Look}
-use Rattle.xsk_model.specs.declared.call.Reply.TheVariants.{Submitted, Released}
 use Rattle.xsk_desc.specs.Noted.{Noted}
 use Rattle.xsk_desc.specs.Standing.{StandsFor}
 use Rattle.xsk_plain.specs.Engine.{Engine, Shows}
@@ -35,13 +32,3 @@ pub record NotesOwn (c : Config) (h : List Entry) (who : ℕ) (kept : Noted) : T
 pub record EachNotesOwn (c : Config) (h : List Entry) (noted : List Noted) : Type 0 where
   pub count : length noted ≡ callers_of c
   pub each : (who : ℕ) (kept : Noted) → slice_get noted who ≡ Some kept → NotesOwn c h who kept
-
--- A standing that stands for a caller's own calls and replies and for what a further call gives, whatever its reply: the
--- items of a Submit, and the places of a Release.
-abbrev pub StandsGiven : Config → Noted → List Told → Call → Type 0
-StandsGiven c kept mine (Reserve r n) = StandsFor c kept mine
-StandsGiven c kept mine (Submit r items) = StandsFor c kept (with_told mine (Submit r items) Submitted)
-StandsGiven c kept mine (Peek r n) = StandsFor c kept mine
-StandsGiven c kept mine (Release r n) = StandsFor c kept (with_told mine (Release r n) Released)
-StandsGiven c kept mine (Swap m value) = StandsFor c kept mine
-StandsGiven c kept mine (Look m) = StandsFor c kept mine

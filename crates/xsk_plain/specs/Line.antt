@@ -8,7 +8,7 @@ use Rattle.xsk_model.specs.Entry.{Entry}
 use Rattle.xsk_model.specs.declared.call.Ring.{Ring}
 use Rattle.xsk_model.specs.declared.call.Ring.TheVariants.{Fill, Comp, Rx, Tx}
 use Rattle.xsk_model.specs.declared.call.Mark.{Mark}
-use Rattle.xsk_model.specs.declared.call.Mark.TheVariants.{NeedFill, NeedTx, Kick, RxDone, Gone, TxDone, Cell}
+use Rattle.xsk_model.specs.declared.call.Mark.TheVariants.{NeedFill, NeedTx, Kick, RxDone, Gone, TxDone, Cell, Closing, Acked, Bounced}
 use Rattle.xsk_model.specs.declared.call.Call.{Call}
 use Rattle.xsk_model.specs.declared.call.Call.TheVariants.{Reserve, Submit, Peek, Release, Swap, Look}
 use Rattle.xsk_model.specs.declared.call.Reply.{Reply}
@@ -33,6 +33,9 @@ mark_text (RxDone pair) = codes "rxdone." ++ decimal pair
 mark_text (Gone pair) = codes "gone." ++ decimal pair
 mark_text (TxDone app) = codes "txdone." ++ decimal app
 mark_text (Cell port index) = codes "cell." ++ decimal port ++ codes "." ++ decimal index
+mark_text (Closing socket) = codes "closing." ++ decimal socket
+mark_text (Acked socket) = codes "acked." ++ decimal socket
+mark_text (Bounced pair) = codes "bounced." ++ decimal pair
 
 -- address, length and options of a descriptor
 abbrev pub desc_text : XdpDesc → List ℕ

@@ -5,7 +5,7 @@ use Rattle.std.specs.List.{slice_index_or}
 use Rattle.xsk_model.specs.declared.call.Ring.{Ring}
 use Rattle.xsk_model.specs.declared.call.Ring.TheVariants.{Fill, Comp, Rx, Tx}
 use Rattle.xsk_model.specs.declared.call.Mark.{Mark}
-use Rattle.xsk_model.specs.declared.call.Mark.TheVariants.{NeedFill, NeedTx, Kick, RxDone, Gone, TxDone, Cell}
+use Rattle.xsk_model.specs.declared.call.Mark.TheVariants.{NeedFill, NeedTx, Kick, RxDone, Gone, TxDone, Cell, Closing}
 use Rattle.xsk_plain.specs.declared.log.Row.{Row}
 use Rattle.xsk_plain.specs.declared.log.Event.{Event}
 use Rattle.xsk_plain.specs.declared.log.Event.TheVariants.{Granted, Full, Submitted, Items, Empty, Released, Swapped, Looked}
@@ -27,7 +27,8 @@ mark_at side place index =
     else if side == 3 then RxDone place
     else if side == 4 then Gone place
     else if side == 5 then TxDone place
-    else Cell place index
+    else if side == 6 then Cell place index
+    else Closing place
 
 abbrev pub event_at : (kind side place first second : ℕ) → Event
 event_at kind side place first second =

@@ -16,7 +16,6 @@ pub struct Checked {
     plain: Plain,
     /// By caller.
     standings: Vec<Standing>,
-    alloc: Global,
 }
 
 impl Model for Checked {
@@ -60,11 +59,7 @@ impl Checked {
             return Err(OpenRefused { config, frames });
         };
         let plain = Plain::open(alloc, config, frames)?;
-        Ok(Checked {
-            plain,
-            standings,
-            alloc,
-        })
+        Ok(Checked { plain, standings })
     }
 
     /// Makes room in the log for at least so many further entries and payload bytes. The state and the log stay.
@@ -119,7 +114,7 @@ impl Checked {
         ensures entries { self.new.spare_entries + 1 ≡ self.old.spare_entries }
         ensures bytes { self.new.spare_bytes + payload_bytes self.old.config call ≡ self.old.spare_bytes }
     {
-        let mut items = Batch::new(self.alloc);
+        let mut items = Batch::new();
         let ask = call.split(&mut items);
         let standing = &mut self.standings[who as usize];
         let answer = serve_noted(&mut self.plain, standing, who, ask, &mut items);

@@ -118,6 +118,9 @@ fn push_mark(line: &mut ArrayString<2048>, mark: Mark)
             push_named(line, "cell.", port);
             push_named(line, ".", index);
         }
+        Mark::Closing(socket) => push_named(line, "closing.", socket),
+        Mark::Acked(socket) => push_named(line, "acked.", socket),
+        Mark::Bounced(pair) => push_named(line, "bounced.", pair),
     }
 }
 

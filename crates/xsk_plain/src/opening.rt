@@ -1,5 +1,5 @@
 //! Empty rings and first marks of a configuration.
-ghost use Rattle.std.specs.Prelude.{◌≡◌, ◌+◌, ◌*◌, ◌<◌, ◌≤◌, ℕ, List, [], ◌∷◌, ◌++◌, length, take, drop, map, vec_len, All, IfOk, OnOk};
+ghost use Rattle.std.specs.Prelude.{◌≡◌, ◌+◌, ◌*◌, ◌<◌, ◌≤◌, ℕ, List, [], ◌∷◌, ◌++◌, length, replicate, take, drop, map, vec_len, All, IfOk, OnOk};
 ghost use Rattle.xsk_umem.specs.Geometry.{IsGeometry};
 ghost use Rattle.xsk_model.specs.Config.{IsLawful, map_of};
 ghost use Rattle.xsk_model.specs.Marks.{mark_places_of};
@@ -106,6 +106,10 @@ pub(crate) fn open_marks(alloc: Global, config: &Config) -> Result<Vec<u64>, Out
     for port in 0..config.ports() {
         add_cells(&mut marks, config, port)?;
     }
+    add_zeros(
+        &mut marks,
+        2 * config.sockets().len() + config.pairs().len(),
+    )?;
     Ok(marks)
 }
 
@@ -118,7 +122,14 @@ fn add_cells(marks: &mut Vec<u64>, config: &Config, port: u32) -> Result<(), Out
     for index in 0..cells {
         marks.push(config.cell(port, index))?;
     }
-    for _blank in cells..CELLS {
+    add_zeros(marks, (CELLS - cells) as usize)
+}
+
+/// Appends so many zeros.
+fn add_zeros(marks: &mut Vec<u64>, count: usize) -> Result<(), OutOfMemory>
+    ensures { OnOk result (marks.new.items ≡ marks.old.items ++ replicate count 0) }
+{
+    for _ in 0..count {
         marks.push(0)?;
     }
     Ok(())

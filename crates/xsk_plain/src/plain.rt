@@ -36,7 +36,6 @@ pub struct Plain {
     object: Object,
     log: Log,
     home: Frames,
-    alloc: Global,
 }
 
 impl Model for Plain {
@@ -75,7 +74,6 @@ impl Plain {
             object,
             log: Log::new(alloc),
             home,
-            alloc,
         })
     }
 
@@ -131,7 +129,7 @@ impl Plain {
         ensures entries { self.new.spare_entries + 1 ≡ self.old.spare_entries }
         ensures bytes { self.new.spare_bytes + payload_bytes self.old.config call ≡ self.old.spare_bytes }
     {
-        let mut items = Batch::new(self.alloc);
+        let mut items = Batch::new();
         let ask = call.split(&mut items);
         let answer = self.serve(who, ask, &mut items);
         answer.joined(items)

@@ -1,5 +1,5 @@
 //! The rows of the log. One whose numbers are small is a number itself, and any other one stands apart.
-ghost use Rattle.std.specs.Prelude.{◌≡◌, ℕ, ◌+◌, ◌<◌, ◌≤◌, ◌^◌, [], ◌∷◌, ◌++◌, Some, length, slice_get, vec_len, vec_capacity, IfSome, OnOk};
+ghost use Rattle.std.specs.Prelude.{◌≡◌, ◌≢◌, ℕ, ◌+◌, ◌<◌, ◌≤◌, ◌^◌, [], ◌∷◌, ◌++◌, Some, length, slice_get, vec_len, vec_capacity, IfSome, OnOk};
 ghost use Rattle.xsk_plain.specs.RowCodes.{ring_at, mark_at, items_at, event_at, row_with, row_at, small_row};
 ghost use Rattle.xsk_plain.specs.Repeats.{KeepsValues};
 
@@ -214,10 +214,10 @@ fn of_ring(kind: u32, ring: Ring, first: u32, second: u64) -> Digits
     }
 }
 
-/// Those of a mark that isn't a cell. For a cell the second number is large.
+/// Those of a mark that isn't a cell, Acked or Bounced. For these the second number is large.
 fn of_mark(kind: u32, mark: Mark, first: u64, second: u64) -> Digits
     ensures kind { result.kind ≡ kind }
-    ensures side { result.side < 6 }
+    ensures side { (result.side < 8) × (result.side ≢ 6) }
     ensures first { result.first ≡ first }
     ensures second { result.second < 64 → ((index : ℕ) → mark_at result.side result.place index ≡ mark) × (result.second ≡ second) }
 {
@@ -228,11 +228,12 @@ fn of_mark(kind: u32, mark: Mark, first: u64, second: u64) -> Digits
         Mark::RxDone(pair) => (3, pair),
         Mark::Gone(pair) => (4, pair),
         Mark::TxDone(app) => (5, app),
-        Mark::Cell(port, _) => {
+        Mark::Closing(socket) => (7, socket),
+        Mark::Cell(_, _) | Mark::Acked(_) | Mark::Bounced(_) => {
             return Digits {
                 kind,
                 side: 0,
-                place: port,
+                place: 0,
                 first,
                 second: LARGE,
             };
@@ -319,6 +320,7 @@ fn mark_of(side: u32, place: u32, index: u32) -> Mark
         3 => Mark::RxDone(place),
         4 => Mark::Gone(place),
         5 => Mark::TxDone(place),
-        _ => Mark::Cell(place, index),
+        6 => Mark::Cell(place, index),
+        _ => Mark::Closing(place),
     }
 }

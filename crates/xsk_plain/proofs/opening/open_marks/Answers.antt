@@ -1,8 +1,13 @@
-use Rattle.std.proofs.Common.{◌≤◌, arith, ◌∙◌}
-use Rattle.xsk_plain.proofs.Openings.{marks_count}
+use Rattle.std.proofs.Common.{rules, ◌≡◌, ◌+◌, ◌*◌, ◌≤◌, ◌++◌, [], length, replicate, ap, ◌∙◌, arith}
+use Rattle.xsk_model.proofs.Opened.{opening-marks}
+use Rattle.xsk_plain.proofs.Openings.{marks_open}
 use Rattle.xsk_plain.proofs.opening.open_marks.Goals as goal
 
 pub returns-clause-len : goal.returns-clause-len
 returns-clause-len c =
-    let end : c.args.config.now.ports ≤ c.loop-port.port = omega arith in
-    c.loop-port.marks.ok.0 ∙ marks_count c.args.config.now c.loop-port.marks.items c.loop-port.port c.ports-port-end.ensures.lawful c.loop-port.invariant end
+    let config = c.args.config.now in
+    let end : config.ports ≤ c.loop-port.port = omega arith in
+    let added : c.add_zeros.new.marks.items ≡ c.loop-port.marks.items ++ replicate (2 * length config.sockets + length config.pairs) 0 = search rules in
+    c.add_zeros.new.marks.ok.0
+    ∙ ap length (marks_open config c.loop-port.marks.items c.add_zeros.new.marks.items c.loop-port.port c.sockets.ensures.lawful c.loop-port.invariant end added)
+    ∙ opening-marks config [] c.sockets.ensures.lawful

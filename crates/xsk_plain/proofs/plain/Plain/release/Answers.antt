@@ -18,5 +18,5 @@ invariant_of-self c = record {
 
 pub returns-clause-follows : goal.returns-clause-follows
 returns-clause-follows c =
-    subst (λ (old : Engine). FollowsObject old (engine_of (record { object = c.release.new.self; log = c.enter.new.self; home = c.self.inside.home; alloc = c.self.inside.alloc })) c.args.who (Release c.args.ring c.args.count) Released) c.self.view_is
+    subst (λ (old : Engine). FollowsObject old (engine_of (record { object = c.release.new.self; log = c.enter.new.self; home = c.self.inside.home })) c.args.who (Release c.args.ring c.args.count) Released) c.self.view_is
     (follows (engine_of c.self.inside) _ c.args.who (Release c.args.ring c.args.count) Released c.release.ensures.changes.rings c.release.ensures.changes.marks refl)

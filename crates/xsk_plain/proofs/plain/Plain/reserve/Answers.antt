@@ -28,14 +28,14 @@ invariant_of-self-in-Err c = record {
 
 pub returns-in-Ok-clause-follows : goal.returns-in-Ok-clause-follows
 returns-in-Ok-clause-follows c =
-    subst (λ (old : Engine). FollowsObject old (engine_of (record { object = c.reserve.new.self; log = c.enter.new.self; home = c.self.inside.home; alloc = c.self.inside.alloc })) c.args.who (Reserve c.args.ring c.args.count) Granted) c.self.view_is
+    subst (λ (old : Engine). FollowsObject old (engine_of (record { object = c.reserve.new.self; log = c.enter.new.self; home = c.self.inside.home })) c.args.who (Reserve c.args.ring c.args.count) Granted) c.self.view_is
     (follows (engine_of c.self.inside) _ c.args.who (Reserve c.args.ring c.args.count) Granted c.reserve.ensures.changes.rings c.reserve.ensures.changes.marks
     (reply_granted c.args.count (free_in (size_of c.self.inside.object.config c.args.ring) (part_in c.self.inside.object.config (parts_of c.self.inside.object.rings.items) c.args.ring))
     (c.in-Ok.ensures.granted.0 refl)))
 
 pub returns-in-Err-clause-follows : goal.returns-in-Err-clause-follows
 returns-in-Err-clause-follows c =
-    subst (λ (old : Engine). FollowsObject old (engine_of (record { object = c.reserve.new.self; log = c.enter-in-Err.new.self; home = c.self.inside.home; alloc = c.self.inside.alloc })) c.args.who (Reserve c.args.ring c.args.count) (Full c.in-Err.free)) c.self.view_is
+    subst (λ (old : Engine). FollowsObject old (engine_of (record { object = c.reserve.new.self; log = c.enter-in-Err.new.self; home = c.self.inside.home })) c.args.who (Reserve c.args.ring c.args.count) (Full c.in-Err.free)) c.self.view_is
     (follows (engine_of c.self.inside) _ c.args.who (Reserve c.args.ring c.args.count) (Full c.in-Err.free) c.reserve.ensures.changes.rings c.reserve.ensures.changes.marks
     (reply_full c.args.count (free_in (size_of c.self.inside.object.config c.args.ring) (part_in c.self.inside.object.config (parts_of c.self.inside.object.rings.items) c.args.ring)) c.in-Err.free
     (λ h. let no = c.in-Err.ensures.granted.1 h in cc) c.in-Err.ensures.full))

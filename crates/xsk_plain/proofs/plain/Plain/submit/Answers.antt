@@ -9,5 +9,5 @@ use Rattle.xsk_plain.proofs.plain.Plain.submit.Goals as goal
 
 pub returns-clause-follows : goal.returns-clause-follows
 returns-clause-follows c =
-    subst (λ (old : Engine). FollowsObject old (engine_of (record { object = c.submit.new.self; log = c.enter.new.self; home = c.self.inside.home; alloc = c.self.inside.alloc })) c.args.who (Submit c.args.ring c.args.items.now) Submitted) c.self.view_is
+    subst (λ (old : Engine). FollowsObject old (engine_of (record { object = c.submit.new.self; log = c.enter.new.self; home = c.self.inside.home })) c.args.who (Submit c.args.ring c.args.items.now) Submitted) c.self.view_is
     (follows (engine_of c.self.inside) _ c.args.who (Submit c.args.ring c.args.items.now) Submitted c.submit.ensures.changes.rings c.submit.ensures.changes.marks refl)
