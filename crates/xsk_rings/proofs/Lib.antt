@@ -1,3 +1,4 @@
 pub mod Looping
 pub mod Telling
 pub mod Rounds
+pub mod Checking

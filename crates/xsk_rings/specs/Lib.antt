@@ -1,3 +1,3 @@
 pub mod Serving
-pub mod TwoPairs
 pub mod Rounds
+pub mod Checked

@@ -112,7 +112,7 @@ impl RingCalls for Pass {
         call: Call,
         steps: &mut Steps<L>,
     ) -> Reply {
-        let mut items = self.empty_batch();
+        let mut items = Batch::new();
         let ask = call.split(&mut items);
         let answer = self.serve_counted(shared, ask, &mut items, steps);
         answer.joined(items)
@@ -120,7 +120,7 @@ impl RingCalls for Pass {
 
     #[inline(always)]
     fn perform(&mut self, shared: &Shared, call: Call) -> Reply {
-        let mut items = self.empty_batch();
+        let mut items = Batch::new();
         let ask = call.split(&mut items);
         let answer = self.serve(shared, ask, &mut items);
         answer.joined(items)

@@ -2,7 +2,9 @@
 #![tactic(auto)]
 
 mod calls;
+mod checked;
 pub mod laws;
 mod serving;
 
 pub use calls::RingCalls;
+pub use checked::CheckedPass;

@@ -4,11 +4,12 @@ ghost use Rattle.xsk_umem.specs.declared.batch.Item.{Item as Thing};
 ghost use Rattle.xsk_model.specs.Asks.{joined_reply, HasAnswered};
 ghost use Rattle.xsk_model.specs.declared.call.Call.TheVariants.{Reserve, Submit, Peek, Release, Swap, Look};
 ghost use Rattle.xsk_table.specs.Plays.{Extends, still, items_reply};
-ghost use Rattle.xsk_table.specs.Held.{is_covered};
-ghost use Rattle.xsk_rings.specs.Serving.{MayAsk, Tells, known_after, looks_of};
+ghost use Rattle.xsk_table.specs.Known.{free_after};
+ghost use Rattle.xsk_table.specs.Held.{IsAt, is_covered, with_known};
+ghost use Rattle.xsk_rings.specs.Serving.{MayAsk, Served, Tells, known_after, looks_of};
 
 use std::sync::ledger::Ledger;
-use xsk_model::{Answer, Call, Mark, Reply, Ring};
+use xsk_model::{Answer, Mark, Reply, Ring};
 use xsk_table::{Pass, Shared, Steps};
 use xsk_umem::Batch;
 
@@ -25,11 +26,31 @@ pub(crate) fn reserve<L: Ledger>(
     ensures answered { HasAnswered result [] }
     ensures counted { steps.new ≡ steps.old + looks_of pass.old (Reserve ring count) }
 {
-    if pass.covers(shared, &Call::Reserve(ring, count)) {
-        pass.reserve_covered(shared, ring, count);
+    let at = shared.ring_place(ring);
+    if pass.knows(shared, ring, at, count) {
+        pass.reserve_covered(shared, ring, at, count);
         return Answer::Granted;
     }
-    match pass.reserve_step(shared, ring, count, steps) {
+    reserve_anew(pass, shared, ring, at, count, steps)
+}
+
+/// Reserves so many places of a ring by a look at the consumer's count. `at` is the ring's place.
+pub(crate) fn reserve_anew<L: Ledger>(
+    pass: &mut Pass,
+    shared: &Shared,
+    ring: Ring,
+    at: usize,
+    count: u32,
+    steps: &mut Steps<L>,
+) -> Answer
+    requires may { MayAsk shared.now pass.old (Reserve ring count) }
+    requires at { IsAt shared.now.setup.config ring at }
+    ensures served { Served pass.old pass.new (Reserve ring count) (joined_reply result []) }
+    ensures answered { HasAnswered result [] }
+    ensures known { pass.new.known ≡ with_known pass.old ring (free_after pass.old.view.setup pass.new.view.seen ring) }
+    ensures counted { steps.new ≡ steps.old + 1 }
+{
+    match pass.reserve_step(shared, ring, at, count, steps) {
         Reply::Granted => Answer::Granted,
         Reply::Full(free) => Answer::Full(free),
         Reply::Submitted | Reply::Items(_) | Reply::Empty | Reply::Released | Reply::Old(_) => {
@@ -44,10 +65,11 @@ pub(crate) fn submit(pass: &mut Pass, shared: &Shared, ring: Ring, items: &mut B
     ensures told { Tells pass.old pass.new (Submit ring items.old) (joined_reply result items.new) }
     ensures answered { HasAnswered result items.new }
 {
+    let at = shared.ring_place(ring);
     'items: while !items.is_empty() {
-        pass.place(shared, ring, items);
+        pass.place(shared, ring, at, items);
     }
-    pass.raise_producer(shared, ring);
+    pass.raise_producer(shared, ring, at);
     Answer::Submitted
 }
 
@@ -57,21 +79,23 @@ fn look_for_items<L: Ledger>(
     pass: &mut Pass,
     shared: &Shared,
     ring: Ring,
+    at: usize,
     count: u32,
     steps: &mut Steps<L>,
 ) -> u32
     requires may { MayAsk shared.now pass.old (Peek ring count) }
+    requires at { IsAt shared.now.setup.config ring at }
     ensures same { (pass.new.table ≡ pass.old.table) × (pass.new.who ≡ pass.old.who) }
     ensures history { (items : List Thing) × (length items ≡ result) × (pass.new.view.flight ≡ still ring items) × Extends pass.old.view.setup pass.old.who (Peek ring count) (items_reply items) pass.old.view pass.new.view }
     ensures covered { is_covered pass.old (Peek ring count) ≡ true → result ≡ count }
     ensures known { pass.new.known ≡ known_after pass.old pass.new.view (Peek ring count) }
     ensures counted { steps.new ≡ steps.old + looks_of pass.old (Peek ring count) }
 {
-    if pass.covers(shared, &Call::Peek(ring, count)) {
-        pass.peek_covered(shared, ring, count);
+    if pass.knows(shared, ring, at, count) {
+        pass.peek_covered(shared, ring, at, count);
         return count;
     }
-    pass.peek_step(shared, ring, count, steps)
+    pass.peek_step(shared, ring, at, count, steps)
 }
 
 /// Takes at most so many items from a ring into an empty batch, by one look.
@@ -89,12 +113,13 @@ pub(crate) fn peek<L: Ledger>(
     ensures answered { HasAnswered result items.new }
     ensures counted { steps.new ≡ steps.old + looks_of pass.old (Peek ring count) }
 {
-    let found = look_for_items(pass, shared, ring, count, steps);
+    let at = shared.ring_place(ring);
+    let found = look_for_items(pass, shared, ring, at, count, steps);
     if found == 0 {
         return Answer::Empty;
     }
     'items: while items.len() < found {
-        items.push(pass.fetch(shared, ring));
+        items.push(pass.fetch(shared, ring, at));
     }
     Answer::Items
 }
@@ -105,7 +130,8 @@ pub(crate) fn release(pass: &mut Pass, shared: &Shared, ring: Ring, count: u32) 
     ensures told { Tells pass.old pass.new (Release ring count) (joined_reply result []) }
     ensures answered { HasAnswered result [] }
 {
-    pass.raise_consumer(shared, ring, count);
+    let at = shared.ring_place(ring);
+    pass.raise_consumer(shared, ring, at, count);
     Answer::Released
 }
 

@@ -15,11 +15,12 @@ use Rattle.xsk_model.specs.Object.{submitted}
 use Rattle.xsk_model.specs.Entry.{Told, own, with_told}
 use Rattle.xsk_model.specs.Own.{had_of, granted, is_on, room_step, room_of, held_step, held_of, fill_step, is_from_fill}
 use Rattle.xsk_model.specs.History.{IsHistory, AreFresh}
+use Rattle.xsk_model.specs.Swaps.{IsFed}
 use Rattle.xsk_model.specs.Legal.{IsItemOn, IsPlainOn, ArePackets, AreReceived}
 use Rattle.xsk_model.specs.OtherWords.{NamesItsData, IsShaped}
 use Rattle.xsk_model.specs.Packets.{IsLayout}
 use Rattle.xsk_model.specs.declared.call.Ring.{Ring}
-use Rattle.xsk_model.specs.declared.call.Ring.TheVariants.{Fill, Rx}
+use Rattle.xsk_model.specs.declared.call.Ring.TheVariants.{Fill, Comp, Rx, Tx}
 use Rattle.xsk_model.specs.declared.call.Call.{Call}
 use Rattle.xsk_model.specs.declared.call.Call.TheVariants.{Reserve, Submit, Peek, Release}
 use Rattle.xsk_model.specs.declared.call.Reply.{Reply}
@@ -39,14 +40,24 @@ use Rattle.xsk_rings_bench.specs.Moving.{moving, geometry, Took, IsWhole, IsMove
 
 -- ---- calls without items
 
+no_socket : (s : ℕ) → Some s ≡ None → ⊥
+no_socket s e = cc
+
+-- where no socket is to be closed no ring is ended
+fed : (c : Config) (mine : List Told) (r : Ring) → c.closing ≡ None → IsFed c mine r
+fed c mine (Fill d) none = tt
+fed c mine (Comp d) none = tt
+fed c mine (Rx s) none = λ is. absurd (no_socket s (sym is ∙ none))
+fed c mine (Tx s) none = λ is. absurd (no_socket s (sym is ∙ none))
+
 pub may_reserve : (b : Board) (p : Holder) (r : Ring) (n : ℕ) → Rests b p → IsProducer b.setup.config p.who r → 1 ≤ n → n ≤ most_items → MayAsk b p (Reserve r n)
-may_reserve b p r n rests h some few = may_ask b p (Reserve r n) rests record { caller = h.0; known = h.1; role = h.2; counted = (some, few); frames = λ k. omega arith; items = tt; packets = tt }
+may_reserve b p r n rests h some few = may_ask b p (Reserve r n) rests record { caller = h.0; known = h.1; role = h.2; counted = (some, few); frames = λ k. omega arith; items = tt; packets = tt; feeds = fed b.setup.config (mine_of p) r h.3 }
 
 pub may_peek : (b : Board) (p : Holder) (r : Ring) (n : ℕ) → Rests b p → IsConsumer b.setup.config p.who r → 1 ≤ n → n ≤ most_items → MayAsk b p (Peek r n)
-may_peek b p r n rests h some few = may_ask b p (Peek r n) rests record { caller = h.0; known = h.1; role = h.2; counted = (some, few); frames = λ k. omega arith; items = tt; packets = tt }
+may_peek b p r n rests h some few = may_ask b p (Peek r n) rests record { caller = h.0; known = h.1; role = h.2; counted = (some, few); frames = λ k. omega arith; items = tt; packets = tt; feeds = tt }
 
 pub may_release : (b : Board) (p : Holder) (r : Ring) (n : ℕ) → Rests b p → IsConsumer b.setup.config p.who r → 1 ≤ n → n ≤ most_items → n ≤ held_of r (mine_of p) → MayAsk b p (Release r n)
-may_release b p r n rests h some few held = may_ask b p (Release r n) rests record { caller = h.0; known = h.1; role = h.2; counted = (some, few, held); frames = λ k. omega arith; items = tt; packets = tt }
+may_release b p r n rests h some few held = may_ask b p (Release r n) rests record { caller = h.0; known = h.1; role = h.2; counted = (some, few, held); frames = λ k. omega arith; items = tt; packets = tt; feeds = tt }
 
 -- ---- what a call leaves of the room and of what is held
 
@@ -212,16 +223,17 @@ may_submit b p source sink offset len most xs ys rests h t m few room lawful pac
       omega arith;
   items = lawful;
   packets = packets;
+  feeds = fed b.setup.config (mine_of p) sink h.3;
 }
 
 driver_sink : IsProducer moving 0 (Rx 0)
-driver_sink = (lit< tt, (lit< tt, refl), refl)
+driver_sink = (lit< tt, (lit< tt, refl), refl, refl)
 
 driver_source : IsConsumer moving 0 (Fill 0)
 driver_source = (lit< tt, lit< tt, refl)
 
 application_sink : IsProducer moving 2 (Fill 0)
-application_sink = (lit< tt, lit< tt, refl)
+application_sink = (lit< tt, lit< tt, refl, refl)
 
 application_source : IsConsumer moving 2 (Rx 0)
 application_source = (lit< tt, (lit< tt, refl), refl)

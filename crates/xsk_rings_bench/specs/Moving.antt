@@ -32,6 +32,7 @@ moving_on g = record {
   cells = (1 ∷ []) ∷ (2 ∷ []) ∷ [];
   sg = false;
   wakeup = false;
+  closing = None;
 }
 
 abbrev pub geometry : Geometry

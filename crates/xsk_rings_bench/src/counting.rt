@@ -3,8 +3,8 @@ ghost use Rattle.xsk_rings.specs.Rounds.{Rests};
 
 use std::thread;
 use xsk_model::{Call, Reply, Ring};
-use xsk_rings::RingCalls;
-use xsk_table::{Pass, Shared};
+use xsk_rings::{CheckedPass, RingCalls};
+use xsk_table::Shared;
 use xsk_umem::{Batch, Item, XdpDesc};
 
 /// How often a call is made again that found a ring full or empty.
@@ -59,7 +59,7 @@ pub(crate) const BACK: Way = Way {
 };
 
 /// Makes a legal call. It is `None` for one that isn't legal.
-fn makes(shared: &Shared, pass: &mut Pass, call: Call, counts: &mut Counts) -> Option<Reply>
+fn makes(shared: &Shared, pass: &mut CheckedPass, call: Call, counts: &mut Counts) -> Option<Reply>
     requires { Rests shared.now pass.old }
     ensures { Rests shared.now pass.new }
 {
@@ -76,7 +76,12 @@ fn makes(shared: &Shared, pass: &mut Pass, call: Call, counts: &mut Counts) -> O
 }
 
 /// Reserves a place, and waits until one is free.
-fn gets_place(shared: &Shared, pass: &mut Pass, ring: Ring, counts: &mut Counts) -> Option<()>
+fn gets_place(
+    shared: &Shared,
+    pass: &mut CheckedPass,
+    ring: Ring,
+    counts: &mut Counts,
+) -> Option<()>
     requires { Rests shared.now pass.old }
     ensures { Rests shared.now pass.new }
 {
@@ -90,7 +95,12 @@ fn gets_place(shared: &Shared, pass: &mut Pass, ring: Ring, counts: &mut Counts)
 }
 
 /// Takes an item, and waits until there is one.
-fn gets_item(shared: &Shared, pass: &mut Pass, ring: Ring, counts: &mut Counts) -> Option<Batch>
+fn gets_item(
+    shared: &Shared,
+    pass: &mut CheckedPass,
+    ring: Ring,
+    counts: &mut Counts,
+) -> Option<Batch>
     requires { Rests shared.now pass.old }
     ensures { Rests shared.now pass.new }
 {
@@ -123,7 +133,7 @@ fn moved(items: Batch, way: Way) -> Option<Batch> {
     Some(items)
 }
 
-fn moves_one(shared: &Shared, pass: &mut Pass, way: Way, counts: &mut Counts) -> Option<()>
+fn moves_one(shared: &Shared, pass: &mut CheckedPass, way: Way, counts: &mut Counts) -> Option<()>
     requires { Rests shared.now pass.old }
     ensures { Rests shared.now pass.new }
 {
@@ -136,7 +146,12 @@ fn moves_one(shared: &Shared, pass: &mut Pass, way: Way, counts: &mut Counts) ->
 }
 
 /// Moves so many descriptors, one at a time, and tells what it counted.
-pub(crate) fn counts_moves(shared: &Shared, pass: Pass, way: Way, count: u32) -> Option<Counts>
+pub(crate) fn counts_moves(
+    shared: &Shared,
+    pass: CheckedPass,
+    way: Way,
+    count: u32,
+) -> Option<Counts>
     requires { Rests shared.now pass }
 {
     let mut pass = pass;

@@ -24,6 +24,7 @@ use std::rt::Env;
 use std::thread::Threads;
 use std::{env, thread};
 use xsk_args::parse_number;
+use xsk_rings::CheckedPass;
 use xsk_table::{Pass, Shared};
 
 /// What is timed.
@@ -90,7 +91,7 @@ fn runs<R: Threads + Print + Sync>(rt: &R, alloc: Global, count: u32, work: Work
         }
         Work::Swaps => marking::swaps(&shared, driver, count),
         Work::Looks => marking::looks(&shared, driver, count),
-        Work::Counts => both_count(rt, &shared, driver, app, count),
+        Work::Counts => both_count(rt, &shared, alloc, driver, app, count),
     }
 }
 
@@ -128,13 +129,20 @@ fn both_move<R: Threads + Sync>(
 fn both_count<R: Threads + Print + Sync>(
     rt: &R,
     table: &Shared,
+    alloc: Global,
     driver: Pass,
     app: Pass,
     passes: u32,
 ) -> bool
-    requires driver { Rests table.now driver }
-    requires app { Rests table.now app }
+    requires driver { driver ≡ new_pass table.now 0 }
+    requires app { app ≡ new_pass table.now 2 }
 {
+    let Ok(driver) = CheckedPass::new(alloc, table, driver) else {
+        return false;
+    };
+    let Ok(app) = CheckedPass::new(alloc, table, app) else {
+        return false;
+    };
     let (there, back) = thread::join(
         rt,
         move || -> Option<Counts>

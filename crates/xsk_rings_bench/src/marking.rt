@@ -6,6 +6,7 @@ ghost use Rattle.xsk_rings_bench.specs.Moving.{moving};
 use xsk_model::{Answer, Ask, Mark};
 use xsk_rings::RingCalls;
 use xsk_table::{Pass, Shared};
+use xsk_umem::Batch;
 
 /// Sets a mark of driver 0 so often, to 0 and 1 in turn.
 pub(crate) fn swaps(shared: &Shared, pass: Pass, count: u32) -> bool
@@ -13,7 +14,7 @@ pub(crate) fn swaps(shared: &Shared, pass: Pass, count: u32) -> bool
     requires new { pass ≡ new_pass shared.now 0 }
 {
     let mut pass = pass;
-    let mut items = pass.empty_batch();
+    let mut items = Batch::new();
     'rounds: for round in 0..count {
         let ask = Ask::Swap(Mark::RxDone(0), u64::from(round % 2));
         let Answer::Old(_) = pass.serve(shared, ask, &mut items) else {
@@ -29,7 +30,7 @@ pub(crate) fn looks(shared: &Shared, pass: Pass, count: u32) -> bool
     requires new { pass ≡ new_pass shared.now 0 }
 {
     let mut pass = pass;
-    let mut items = pass.empty_batch();
+    let mut items = Batch::new();
     'rounds: for _ in 0..count {
         let ask = Ask::Look(Mark::RxDone(0));
         let Answer::Old(_) = pass.serve(shared, ask, &mut items) else {

@@ -243,7 +243,7 @@ pub(crate) fn driver_moves(shared: &Shared, pass: Pass, most: u32, passes: u32) 
     requires most { (1 ≤ most) × (most ≤ most_items) }
 {
     let mut pass = pass;
-    let mut items = pass.empty_batch();
+    let mut items = Batch::new();
     if !gets_room(shared, &mut pass, Ring::Rx(0), most, most, &mut items) {
         return false;
     }
@@ -267,7 +267,7 @@ pub(crate) fn application_moves(shared: &Shared, pass: Pass, most: u32, passes: 
     requires most { (1 ≤ most) × (most ≤ most_items) }
 {
     let mut pass = pass;
-    let mut items = pass.empty_batch();
+    let mut items = Batch::new();
     if !gets_room(shared, &mut pass, Ring::Fill(0), most, most, &mut items) {
         return false;
     }

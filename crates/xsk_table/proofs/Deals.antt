@@ -12,12 +12,13 @@ use Rattle.xsk_model.specs.declared.call.Ring.{Ring}
 use Rattle.xsk_model.specs.Opening.{IsOpened}
 use Rattle.xsk_table.specs.View.{Setup, idle, taking, View, newcomer, first_caller, other_callers}
 use Rattle.xsk_model.specs.Rings.{place, places_of}
-use Rattle.xsk_table.specs.Known.{AreSure}
+use Rattle.xsk_table.specs.Known.{AreSure, AllIsLeft}
 use Rattle.xsk_table.specs.Held.{Board, Holder, PassHolds, known_in, new_pass}
 use Rattle.xsk_table.specs.Opening.{AllFirst, AtRest, FirstEnds, list_of, new_passes}
 use Rattle.xsk_table.specs.declared.end.End.{End}
 use Rattle.xsk_umem.specs.declared.batch.Item.{Item}
 use Rattle.xsk_table.proofs.Knowledge.{sure_now}
+use Rattle.xsk_table.proofs.Lefts.{left_new}
 
 abbrev pub slotted : List Frame → List (Option Frame)
 slotted frames = map (λ (f : Frame). Some f) frames
@@ -66,12 +67,13 @@ seat_others k from count some_left = ap (λ l. other_callers (newcomer k l)) (ra
 idle_taking : {r : Ring} {items : List Item} → idle ≡ taking r items → ⊥
 idle_taking e = cc
 
-pub new_holds : (k : Setup) (who : ℕ) (v : View) (slots : List (ℕ × Option Frame)) (ends : List End) → IsOpened k.config k.frames → FirstEnds k.config k.first who ends → v ≡ newcomer k (who ∷ []) → slots ≡ [] → PassHolds v slots who ends 0
-new_holds k who v slots ends opened first is none =
+pub new_holds : (k : Setup) (who : ℕ) (v : View) (slots : List (ℕ × Option Frame)) (ends : List End) → who < callers_of k.config → IsOpened k.config k.frames → FirstEnds k.config k.first who ends → v ≡ newcomer k (who ∷ []) → slots ≡ [] → PassHolds v slots who ends 0
+new_holds k who v slots ends few opened first is none =
     let P : View → Type 0 = λ u. PassHolds u slots who ends 0 in
     subst P (sym is) record {
       one = refl;
       alone = refl;
+      few = few;
       ends_hold = (first k.frames opened).0;
       flying_is = refl;
       slots_are = none;
@@ -91,6 +93,11 @@ new_sure k who v ends opened first is =
     subst P (sym is) (λ r has.
     let none : get_or (known_in ends) (place k.config r) 0 ≡ 0 = ap (λ l. get_or l (place k.config r) 0) (first k.frames opened).1 ∙ all_same (places_of k.config) (place k.config r) 0 in
     sure_now k who [] r (get_or (known_in ends) (place k.config r) 0) (record { opened = opened; legal = tt }) has (λ is. omega arith) (λ is. omega arith))
+
+pub new_left : (k : Setup) (who : ℕ) (v : View) (ends : List End) → IsOpened k.config k.frames → FirstEnds k.config k.first who ends → v ≡ newcomer k (who ∷ []) → AllIsLeft v.setup who v.seen (known_in ends)
+new_left k who v ends opened first is =
+    let P : View → Type 0 = λ u. AllIsLeft u.setup who u.seen (known_in ends) in
+    subst P (sym is) (λ r has. left_new k who r (get_or (known_in ends) (place k.config r) 0) (ap (λ l. get_or l (place k.config r) 0) (first k.frames opened).1 ∙ all_same (places_of k.config) (place k.config r) 0))
 
 pub passes_more : (b : Board) (n : ℕ) (passes : List (Option Holder)) (h : Holder) → passes ≡ map (λ who. Some (new_pass b who)) (range_with_len 0 n) → h ≡ new_pass b n
     → passes ++ (Some h) ∷ [] ≡ map (λ who. Some (new_pass b who)) (range_with_len 0 (n + 1))

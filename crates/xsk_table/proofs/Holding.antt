@@ -4,7 +4,7 @@ use Rattle.std.proofs.lemmas.Bool.{cases_Bool}
 use Rattle.std.proofs.lemmas.List.{length-set}
 use Rattle.xsk_umem.specs.Frame.{Frame}
 use Rattle.xsk_umem.specs.declared.batch.Item.{Item}
-use Rattle.xsk_model.specs.Config.{IsConfig, HasRing}
+use Rattle.xsk_model.specs.Config.{IsConfig, HasRing, callers_of}
 use Rattle.xsk_model.specs.Rings.{is_ring, place, producer, consumer}
 use Rattle.xsk_model.specs.Object.{submitted, taken}
 use Rattle.xsk_model.specs.Entry.{Told, own, with_told}
@@ -143,6 +143,7 @@ module _ (v : View) (slots : List (ℕ × Option Frame)) (who : ℕ) (ends : Lis
       record {
         one = ex.callers ∙ ok.one;
         alone = ex.others ∙ ok.alone;
+        few = subst (λ (t : Setup). who < callers_of t.config) (sym ex.setup) ok.few;
         ends_hold = let P : Setup × List Told × ℕ → Type 0 = λ t. EndsHold t.0 who t.1 (set ends t.2 new) in subst P (λ i. (sym ex.setup i, sym ex.mine i, sym at_place i)) all;
         flying_is = flies;
         slots_are = same ∙ ok.slots_are;

@@ -214,3 +214,7 @@ module _ (v w : View) (who : ℕ) (ends : List End) (call : Call) (reply : Reply
 pub items_had : (items : List Item) (n : ℕ) → length items ≡ n → length (taken (items_reply items)) ≤ n
 items_had [] n len = omega arith
 items_had (x ∷ xs) n len = omega arith
+
+pub items_are : (items : List Item) (n : ℕ) → length items ≡ n → length (taken (items_reply items)) ≡ n
+items_are [] n len = len
+items_are (x ∷ xs) n len = len

@@ -12,7 +12,7 @@ use Rattle.xsk_model.specs.Homes.{first_mark}
 use Rattle.xsk_model.specs.declared.call.Ring.{Ring}
 use Rattle.xsk_model.specs.declared.call.Ring.TheVariants.{Fill, Comp, Rx, Tx}
 use Rattle.xsk_model.specs.declared.call.Mark.{Mark}
-use Rattle.xsk_model.specs.declared.call.Mark.TheVariants.{NeedFill, NeedTx, Kick, RxDone, Gone, TxDone, Cell}
+use Rattle.xsk_model.specs.declared.call.Mark.TheVariants.{NeedFill, NeedTx, Kick, RxDone, Gone, TxDone, Cell, Closing, Acked, Bounced}
 use Rattle.xsk_words.specs.Layout.{width_of, ring_base, marks_base, words_of, Word, producer, consumer, mark, HasWord, word_at}
 use Rattle.xsk_words.proofs.Rows.{base_within, own_words}
 use Rattle.xsk_table.specs.Rule.{at, entry_of}
@@ -196,6 +196,9 @@ module _ (c : Config) (first : ℕ) (blank filled words : List ℕ) (config : Is
   mark_open (Gone d) h = no_cell (Gone d) (λ p i is. cc) h
   mark_open (TxDone a) h = no_cell (TxDone a) (λ p i is. cc) h
   mark_open (Cell port index) h = cells port h.0 index h.1
+  mark_open (Closing s) h = no_cell (Closing s) (λ p i is. cc) h
+  mark_open (Acked s) h = no_cell (Acked s) (λ p i is. cc) h
+  mark_open (Bounced d) h = no_cell (Bounced d) (λ p i is. cc) h
 
   pub words_open : WordsOpen c first words
   words_open = record {

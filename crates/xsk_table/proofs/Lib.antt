@@ -16,6 +16,7 @@ pub mod Fetching
 pub mod Moving
 pub mod Holding
 pub mod Knowledge
+pub mod Lefts
 pub mod Marking
 pub mod Meeting
 pub mod Ending
@@ -25,6 +26,4 @@ pub mod Laying
 pub mod NewTable
 pub mod FirstEnds
 pub mod Deals
-pub mod Noting
-pub mod NewNotes
 pub mod FreshFrames

@@ -1,5 +1,5 @@
 -- The swap of a mark's word and the look at it keep the rule.
-use Rattle.std.proofs.Common.{◌≡◌, ◌≢◌, ℕ, ◌+◌, false, List, [], ◌∷◌, ◌++◌, length, get_or, set, refl, ap, sym, ◌∙◌, subst, ⊎_elim}
+use Rattle.std.proofs.Common.{◌≡◌, ◌≢◌, ℕ, ◌+◌, ◌<◌, false, List, [], ◌∷◌, ◌++◌, length, get_or, set, refl, ap, sym, ◌∙◌, subst, ⊎_elim}
 use Rattle.std.specs.Prelude.{Option, slice_index}
 use mathlib.Core.Option.{none}
 use lib.Seq.{set-get_or}
@@ -7,7 +7,7 @@ use Rattle.std.proofs.lemmas.Bool.{cases_eq}
 use Rattle.std.proofs.lemmas.List.{length-set}
 use Rattle.atomic_table.specs.Table.{State, step, keeps, Allows}
 use Rattle.xsk_umem.specs.Frame.{Frame}
-use Rattle.xsk_model.specs.Config.{HasRing}
+use Rattle.xsk_model.specs.Config.{HasRing, callers_of}
 use Rattle.xsk_model.specs.Numbers.{times, numbers}
 use Rattle.xsk_model.specs.Rings as rings
 use Rattle.xsk_model.specs.Rings.{place}
@@ -162,6 +162,7 @@ pass_marked v w slots slots' who ends flying call reply ok off ex same rests now
     record {
       one = ex.callers ∙ ok.one;
       alone = ex.others ∙ ok.alone;
+      few = subst (λ (t : Setup). who < callers_of t.config) (sym ex.setup) ok.few;
       ends_hold = let P : Setup × List Told → Type 0 = λ t. EndsHold t.0 who t.1 ends in subst P (λ i. (sym ex.setup i, sym ex.mine i)) all;
       flying_is = ok.flying_is ∙ ap (λ (f : Flight). length (lying f)) (rests ∙ sym now_idle);
       slots_are = same ∙ ok.slots_are;

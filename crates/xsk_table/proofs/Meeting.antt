@@ -14,13 +14,14 @@ use Rattle.xsk_model.proofs.Counting.{times-append}
 use Rattle.xsk_table.specs.View.{Setup, Flight, idle, View, note_of, told_of, spent}
 use Rattle.xsk_table.specs.Rule.{Knows, Rule}
 use Rattle.xsk_table.specs.Plays.{Seated, Ask}
-use Rattle.xsk_table.specs.Known.{AreSure}
+use Rattle.xsk_table.specs.Known.{AreSure, AllIsLeft}
 use Rattle.xsk_table.specs.Held.{AreLeft, EndsHold, PassHolds, known_in}
 use Rattle.xsk_table.specs.Meeting.{Met, Meets, meets}
 use Rattle.xsk_table.specs.declared.end.End.{End}
 use Rattle.xsk_table.proofs.Seating.{sole_counts, times_at, times_more, reseated}
 use Rattle.xsk_table.proofs.Knowing.{whole_log}
 use Rattle.xsk_table.proofs.Knowledge.{sure_met}
+use Rattle.xsk_table.proofs.Lefts.{left_met}
 
 -- a note is split off
 pub notes : (k : Setup) (id : ℕ) (v : View) → Splits (Rule k) id v v (note_of v)
@@ -115,6 +116,7 @@ module _ (k : Setup) (v w : View) (u : View) (slots slots' : List (ℕ × Option
       subst P (sym met_view) record {
         one = ok.one;
         alone = ok.alone;
+        few = ok.few;
         ends_hold = subst (λ (l : List Told). EndsHold v.setup who l ends) (sym no_more) ok.ends_hold;
         flying_is = ok.flying_is;
         slots_are = did.slots ∙ ok.slots_are;
@@ -124,3 +126,6 @@ module _ (k : Setup) (v w : View) (u : View) (slots slots' : List (ℕ × Option
 
   pub known_met : AreSure v.setup who v.seen (known_in ends) → AreSure w.setup who w.seen (known_in ends)
   known_met sure = subst (λ (t : Setup). AreSure t who w.seen (known_in ends)) (ap (λ (x : View). x.setup) (sym met_view)) (sure_met v.setup who v.seen w.seen (known_in ends) did.seen no_more sure)
+
+  pub met_left : AllIsLeft v.setup who v.seen (known_in ends) → AllIsLeft w.setup who w.seen (known_in ends)
+  met_left left = subst (λ (t : Setup). AllIsLeft t who w.seen (known_in ends)) (ap (λ (x : View). x.setup) (sym met_view)) (left_met v.setup who v.seen w.seen (known_in ends) did.seen no_more left)

@@ -26,7 +26,8 @@ use Rattle.xsk_model.specs.declared.call.Ring.{Ring}
 use Rattle.xsk_model.specs.declared.call.Ring.TheVariants.{Fill, Comp, Rx, Tx}
 use Rattle.xsk_model.proofs.Counting.{times-append, times-range_within}
 use Rattle.xsk_model.proofs.Opened.{length-frames, numbers-home, all_pools}
-use Rattle.xsk_model.proofs.FirstState.{opening_ring_is, opening_numbers, opening_mark_is, pool_numbers}
+use Rattle.xsk_model.proofs.FirstState.{opening_ring_is, opening_numbers, pool_numbers}
+use Rattle.xsk_model.proofs.MarkNumbers.{opening_mark_is}
 use Rattle.xsk_model.proofs.Replies.{times-row}
 use Rattle.xsk_model.proofs.Theorems.{lawful_items}
 use Rattle.xsk_table.specs.View.{Setup, Flight, idle, View, newcomer}
@@ -180,7 +181,7 @@ opens k words opened_is small w =
       rings = λ r has.
           let P : RingState × Flight → Type 0 = λ t. RingHolds k words r t.0 (opened k r + 0) 0 (written r t.1) in
           subst P (λ i. (sym (opening_ring_is c k.frames r has) i, sym (all_idle (callers_of c) (rings.producer c r)) i)) (ring_open k words opened_is small w r has);
-      marks = λ m has. w.marks m has ∙ sym (opening_mark_is c k.frames m opened_is has);
+      marks = λ m has. w.marks m has ∙ sym (opening_mark_is c k.frames m opened_is.config has);
       outs = λ r has. subst (λ (q : RingState). AllHome homes q.out) (sym (opening_ring_is c k.frames r has)) (all_home homes (first_ring c k.frames r).out (λ j x e. (out_at k words opened_is small w r j x has e).1));
       lie = λ n. subst (λ (f : Flight). AllHome homes (lying f)) (sym (all_idle (callers_of c) n)) tt;
       vacant = λ n lt no_ring no_call.

@@ -61,6 +61,7 @@ pass_placed v w slots slots' who ends flying r x ok did =
     subst P (sym did.view) record {
       one = ok.one;
       alone = ok.alone;
+      few = ok.few;
       ends_hold = ok.ends_hold;
       flying_is = omega (arith, length-append (lying v.flight) (x ∷ []));
       slots_are = did.slots ∙ ok.slots_are;
@@ -96,6 +97,7 @@ pass_fetched v w slots slots' who ends flying r x left ok flies now same =
     subst P (sym now) record {
       one = ok.one;
       alone = ok.alone;
+      few = ok.few;
       ends_hold = ok.ends_hold;
       flying_is = omega arith;
       slots_are = same ∙ ok.slots_are;

@@ -1,10 +1,10 @@
 -- A pass: what its caller knows, and what it keeps at run time.
-use Rattle.std.specs.Prelude.{◌≡◌, ℕ, ◌+◌, ◌≤◌, nat_le, Bool, false, List, [], ◌∷◌, map, length, get_or, replicate, slice_set, Option}
+use Rattle.std.specs.Prelude.{◌≡◌, ℕ, ◌+◌, ◌<◌, ◌≤◌, nat_le, Bool, false, List, [], ◌∷◌, map, length, get_or, replicate, slice_set, Option}
 use Rattle.atomic_table.specs.Seated.{TableId}
 use Rattle.xsk_umem.specs.Frame.{Frame}
 use Rattle.xsk_umem.specs.Frames.{Frames}
 use Rattle.xsk_umem.specs.declared.batch.Item.{Item}
-use Rattle.xsk_model.specs.Config.{Config, HasRing, size_of}
+use Rattle.xsk_model.specs.Config.{Config, HasRing, size_of, callers_of}
 use Rattle.xsk_model.specs.Rings.{place, places_of, producer, consumer}
 use Rattle.xsk_model.specs.Entry.{Told, own}
 use Rattle.xsk_model.specs.Own.{given_of, released_of, room_of, held_of}
@@ -12,7 +12,7 @@ use Rattle.xsk_model.specs.History.{IsHistory}
 use Rattle.xsk_model.specs.declared.call.Ring.{Ring}
 use Rattle.xsk_model.specs.declared.call.Call.{Call}
 use Rattle.xsk_model.specs.declared.call.Call.TheVariants.{Reserve, Submit, Peek, Release, Swap, Look}
-use Rattle.xsk_words.specs.Layout.{ring_base, words_of}
+use Rattle.xsk_words.specs.Layout.{ring_base, marks_base, words_of}
 use Rattle.xsk_table.specs.View.{Setup, taking, View, newcomer}
 use Rattle.xsk_table.specs.Rule.{wrapped, opened, lying}
 use Rattle.xsk_table.specs.declared.end.End.{End}
@@ -37,6 +37,10 @@ none_known c = replicate (places_of c) 0
 -- a pass that no call was made with
 abbrev pub new_pass : Board → ℕ → Holder
 new_pass b who = record { table = b.table; who = who; view = newcomer b.setup (who ∷ []); known = none_known b.setup.config }
+
+-- where a ring stands among all rings
+abbrev pub IsAt : Config → Ring → ℕ → Type 0
+IsAt c r at = (at ≡ place c r) × (at < places_of c)
 
 -- what a pass knows of a ring, and all that it knows with another number for that ring
 abbrev pub known_on : Holder → Ring → ℕ
@@ -89,15 +93,18 @@ AreLeft c who mine r items = HasRing c r × (who ≡ consumer c r) × (length it
 pub record PassHolds (v : View) (slots : List (ℕ × Option Frame)) (who : ℕ) (ends : List End) (flying : ℕ) : Type 0 where
   pub one : v.callers ≡ who ∷ []
   pub alone : v.others ≡ []
+  pub few : who < callers_of v.setup.config
   pub ends_hold : EndsHold v.setup who (own who v.seen) ends
   pub flying_is : flying ≡ length (lying v.flight)
   pub slots_are : slots ≡ []
   pub left : (r : Ring) (items : List Item) → v.flight ≡ taking r items → AreLeft v.setup.config who (own who v.seen) r items
   pub history : IsHistory v.setup.config v.setup.frames v.seen
 
--- what holds of a table: it has a word for each of the layout, and an empty queue with room for all frames
-pub record TableHolds (c : Config) (k : Setup) (table : TableId) (home : Frames) : Type 0 where
+-- what holds of a table: the words before the marks' are counted, it has a word for each of the layout, and an empty queue with room for all frames
+pub record TableHolds (c : Config) (marks : ℕ) (k : Setup) (table : TableId) (home : Frames) : Type 0 where
   pub config_is : c ≡ k.config
+  pub marks_is : marks ≡ marks_base k.config
+  pub marks_few : marks ≤ 1056768
   pub words : table.words ≡ words_of k.config
   pub some : 1 ≤ table.words
   pub home_is : home.items ≡ []

@@ -1,9 +1,9 @@
 pub mod View
 pub mod Rule
 pub mod Known
+pub mod Looks
 pub mod Plays
 pub mod Held
-pub mod Notes
 pub mod Opening
 pub mod Meeting
 pub mod Closing

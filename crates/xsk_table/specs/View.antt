@@ -1,5 +1,5 @@
 -- What a seat of the table knows, and what the table is told once.
-use Rattle.std.specs.Prelude.{ℕ, false, List, [], take, drop}
+use Rattle.std.specs.Prelude.{ℕ, false, None, List, [], take, drop}
 use Rattle.xsk_umem.specs.Frame.{Frame}
 use Rattle.xsk_umem.specs.declared.batch.Item.{Item}
 use Rattle.xsk_model.specs.Config.{Config}
@@ -54,7 +54,7 @@ told_of v u = record v { told = u.seen; others = u.callers }
 -- a setup of nothing
 abbrev pub no_setup : Setup
 no_setup = record {
-  config = record { geometry = record { frames = 0; chunk = 0; headroom = 0 }; ports = 0; queues = 0; sockets = []; pairs = []; cells = []; sg = false; wakeup = false };
+  config = record { geometry = record { frames = 0; chunk = 0; headroom = 0 }; ports = 0; queues = 0; sockets = []; pairs = []; cells = []; sg = false; wakeup = false; closing = None };
   first = 0;
   frames = [];
 }

@@ -9,13 +9,12 @@ ghost use Rattle.xsk_table.specs.Held.{Holder};
 ghost use Rattle.xsk_table.specs.Opening.{list_of};
 ghost use Rattle.xsk_table.specs.Closing.{AreThere, EndsIn, AreFramesOut, Joined, Rests};
 
+use crate::board::{Board, Chair};
 use crate::note::{Note, take_in, take_note};
 use crate::pass::Pass;
 use crate::passes::Passes;
 use crate::shared::{Shared, put_back};
-use crate::steps::{Board, Chair};
-use crate::view::{Key, Law, View};
-use atomic_table::{Closed, Table};
+use atomic_table::Closed;
 use std::alloc::Global;
 use xsk_umem::{Frame, Frames};
 
@@ -45,10 +44,10 @@ fn take_seat(passes: &mut Passes, who: u32) -> Chair
 
 /// One seat of all callers, which has seen all that was done.
 fn join(board: &Board, passes: Passes, callers: u32) -> Chair
-    requires words { 1 ≤ board.now.table_id.words }
-    requires callers { (callers ≡ callers_of board.now.key.config) × (1 ≤ callers) }
-    requires there { AreThere (record { table = board.now.table_id; setup = board.now.key }) passes }
-    ensures table { result.table_id ≡ board.now.table_id }
+    requires words { 1 ≤ board.now.table.words }
+    requires callers { (callers ≡ callers_of board.now.setup.config) × (1 ≤ callers) }
+    requires there { AreThere board.now passes }
+    ensures table { result.table_id ≡ board.now.table }
     ensures joined { Joined passes callers result.me.0 }
 {
     let mut passes = passes;
@@ -61,17 +60,14 @@ fn join(board: &Board, passes: Passes, callers: u32) -> Chair
 }
 
 /// The table without its seats.
-fn finish(
-    table: Table<Option<Frame>, View, Key, Law, Global>,
-    seat: Chair,
-) -> Closed<Option<Frame>, Global>
-    requires table { seat.table_id ≡ table.shared.table_id }
-    requires all { (w : ℕ) → w < callers_of table.shared.key.config → 0 < times w seat.me.0.callers }
+fn finish(board: Board, seat: Chair) -> Closed<Option<Frame>, Global>
+    requires table { seat.table_id ≡ board.table }
+    requires all { (w : ℕ) → w < callers_of board.setup.config → 0 < times w seat.me.0.callers }
     requires rests { seat.me.0.flight ≡ idle }
     ensures full { IsFull result.slots }
-    ensures rests { Rests table.shared.key seat.me.0.seen (slots_items result.slots) }
+    ensures rests { Rests board.setup seat.me.0.seen (slots_items result.slots) }
 {
-    table.close_with(seat)
+    board.close_with(seat)
 }
 
 /// Moves the frames that lie in slots to the queue, by number.
@@ -99,13 +95,14 @@ impl Shared {
         ensures room { self.setup.config.geometry.frames ≤ result.0.limit }
     {
         let Shared {
-            table,
+            board,
             config,
             mut home,
+            ..
         } = self;
-        let mut seat = join(&table.shared, passes, config.callers());
-        let note = take_note(&table.shared, &mut seat);
-        bring_home(finish(table, seat), &mut home);
+        let mut seat = join(&board, passes, config.callers());
+        let note = take_note(&board, &mut seat);
+        bring_home(finish(board, seat), &mut home);
         (home, note)
     }
 }

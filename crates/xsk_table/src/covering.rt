@@ -1,7 +1,6 @@
 //! Calls that the last look at the other side's count covers. Each is one look at the caller's own count.
-ghost use Rattle.std.specs.Prelude.{List, length, ◌≡◌, ◌-◌, ◌<◌, ◌≤◌};
+ghost use Rattle.std.specs.Prelude.{List, length, nat_le, ◌≡◌, ◌-◌, ◌<◌, ◌≤◌};
 ghost use Rattle.xsk_umem.specs.declared.batch.Item.{Item};
-ghost use Rattle.xsk_model.specs.Config.{HasRing};
 ghost use Rattle.xsk_model.specs.Entry.{own};
 ghost use Rattle.xsk_model.specs.Legal.{IsLegal};
 ghost use Rattle.xsk_model.specs.declared.call.Call.TheVariants.{Reserve, Peek};
@@ -9,16 +8,15 @@ ghost use Rattle.xsk_model.specs.declared.call.Reply.TheVariants.{Granted};
 ghost use Rattle.xsk_words.specs.Layout.{producer, consumer, word_at};
 ghost use Rattle.xsk_table.specs.View.{idle};
 ghost use Rattle.xsk_table.specs.Plays.{IsReady, Ended, Extends, HasRoom, HasItems, PeekedAll, ask_for, still, items_reply};
-ghost use Rattle.xsk_table.specs.Held.{Belongs, known_on, with_known, is_covered};
+ghost use Rattle.xsk_table.specs.Held.{Belongs, IsAt, known_on, with_known, is_covered};
 
+use crate::board::{Board, Chair};
 use crate::end::End;
 use crate::pass::Pass;
 use crate::shared::Shared;
-use crate::steps::{Board, Chair};
 use crate::view::{Asking, View};
 use atomic_table::Play;
 use std::marker::{Brand, PhantomData};
-use xsk_model::placement::ring_place;
 use xsk_model::{Call, Ring};
 use xsk_umem::Frame;
 use xsk_words::{CONSUMER, PRODUCER};
@@ -53,27 +51,27 @@ fn look_at_producer<J: Asking>(
     n: u32,
     word: usize,
 )
-    requires table { seat.old.table_id ≡ board.now.table_id }
-    requires ask { J.ask ≡ ask_for board.now.key who ring n }
-    requires word { (word ≡ word_at board.now.key.config (producer ring)) × (word < board.now.table_id.words) }
-    requires room { HasRoom (ask_for board.now.key who ring n) seat.old.me.0 }
-    requires ready { IsReady (ask_for board.now.key who ring n) (Reserve ring n) seat.old.me.0 × (seat.old.me.0.flight ≡ idle) }
+    requires table { seat.old.table_id ≡ board.now.table }
+    requires ask { J.ask ≡ ask_for board.now.setup who ring n }
+    requires word { (word ≡ word_at board.now.setup.config (producer ring)) × (word < board.now.table.words) }
+    requires room { HasRoom (ask_for board.now.setup who ring n) seat.old.me.0 }
+    requires ready { IsReady (ask_for board.now.setup who ring n) (Reserve ring n) seat.old.me.0 × (seat.old.me.0.flight ≡ idle) }
     ensures same { (seat.new.table_id ≡ seat.old.table_id) × (seat.new.id ≡ seat.old.id) }
-    ensures told { Ended (ask_for board.now.key who ring n) (Reserve ring n) Granted seat.old.me seat.new.me }
+    ensures told { Ended (ask_for board.now.setup who ring n) (Reserve ring n) Granted seat.old.me seat.new.me }
 {
-    board.load::<Granting<J>>(seat, word);
+    board.look::<Granting<J>>(seat, word);
 }
 
 /// The look at the producer word, its caller's own, at which a Reserve that is covered is granted.
 fn grant(board: &Board, seat: &mut Chair, who: u32, ring: Ring, n: u32, word: usize)
-    requires table { seat.old.table_id ≡ board.now.table_id }
-    requires word { (word ≡ word_at board.now.key.config (producer ring)) × (word < board.now.table_id.words) }
-    requires room { HasRoom (ask_for board.now.key who ring n) seat.old.me.0 }
-    requires ready { IsReady (ask_for board.now.key who ring n) (Reserve ring n) seat.old.me.0 × (seat.old.me.0.flight ≡ idle) }
+    requires table { seat.old.table_id ≡ board.now.table }
+    requires word { (word ≡ word_at board.now.setup.config (producer ring)) × (word < board.now.table.words) }
+    requires room { HasRoom (ask_for board.now.setup who ring n) seat.old.me.0 }
+    requires ready { IsReady (ask_for board.now.setup who ring n) (Reserve ring n) seat.old.me.0 × (seat.old.me.0.flight ≡ idle) }
     ensures same { (seat.new.table_id ≡ seat.old.table_id) × (seat.new.id ≡ seat.old.id) }
     ensures slots { seat.new.me.1 ≡ seat.old.me.1 }
     ensures flight { seat.new.me.0.flight ≡ idle }
-    ensures history { Extends board.now.key who (Reserve ring n) Granted seat.old.me.0 seat.new.me.0 }
+    ensures history { Extends board.now.setup who (Reserve ring n) Granted seat.old.me.0 seat.new.me.0 }
 {
     look_at_producer::<Brand>(board, seat, who, ring, n, word);
 }
@@ -86,38 +84,39 @@ fn look_at_consumer<J: Asking>(
     n: u32,
     word: usize,
 )
-    requires table { seat.old.table_id ≡ board.now.table_id }
-    requires ask { J.ask ≡ ask_for board.now.key who ring n }
-    requires word { (word ≡ word_at board.now.key.config (consumer ring)) × (word < board.now.table_id.words) }
-    requires items { HasItems (ask_for board.now.key who ring n) seat.old.me.0 }
-    requires ready { IsReady (ask_for board.now.key who ring n) (Peek ring n) seat.old.me.0 × (seat.old.me.0.flight ≡ idle) }
+    requires table { seat.old.table_id ≡ board.now.table }
+    requires ask { J.ask ≡ ask_for board.now.setup who ring n }
+    requires word { (word ≡ word_at board.now.setup.config (consumer ring)) × (word < board.now.table.words) }
+    requires items { HasItems (ask_for board.now.setup who ring n) seat.old.me.0 }
+    requires ready { IsReady (ask_for board.now.setup who ring n) (Peek ring n) seat.old.me.0 × (seat.old.me.0.flight ≡ idle) }
     ensures same { (seat.new.table_id ≡ seat.old.table_id) × (seat.new.id ≡ seat.old.id) }
-    ensures told { PeekedAll (ask_for board.now.key who ring n) seat.old.me seat.new.me }
+    ensures told { PeekedAll (ask_for board.now.setup who ring n) seat.old.me seat.new.me }
 {
-    board.load::<Giving<J>>(seat, word);
+    board.look::<Giving<J>>(seat, word);
 }
 
 /// The look at the consumer word, its caller's own, at which a Peek that is covered gets all that it asks for.
 fn give(board: &Board, seat: &mut Chair, who: u32, ring: Ring, n: u32, word: usize)
-    requires table { seat.old.table_id ≡ board.now.table_id }
-    requires word { (word ≡ word_at board.now.key.config (consumer ring)) × (word < board.now.table_id.words) }
-    requires items { HasItems (ask_for board.now.key who ring n) seat.old.me.0 }
-    requires ready { IsReady (ask_for board.now.key who ring n) (Peek ring n) seat.old.me.0 × (seat.old.me.0.flight ≡ idle) }
+    requires table { seat.old.table_id ≡ board.now.table }
+    requires word { (word ≡ word_at board.now.setup.config (consumer ring)) × (word < board.now.table.words) }
+    requires items { HasItems (ask_for board.now.setup who ring n) seat.old.me.0 }
+    requires ready { IsReady (ask_for board.now.setup who ring n) (Peek ring n) seat.old.me.0 × (seat.old.me.0.flight ≡ idle) }
     ensures same { (seat.new.table_id ≡ seat.old.table_id) × (seat.new.id ≡ seat.old.id) }
     ensures slots { seat.new.me.1 ≡ seat.old.me.1 }
-    ensures history { (items : List Item) × (length items ≡ n) × (seat.new.me.0.flight ≡ still ring items) × Extends board.now.key who (Peek ring n) (items_reply items) seat.old.me.0 seat.new.me.0 }
+    ensures history { (items : List Item) × (length items ≡ n) × (seat.new.me.0.flight ≡ still ring items) × Extends board.now.setup who (Peek ring n) (items_reply items) seat.old.me.0 seat.new.me.0 }
 {
     look_at_consumer::<Brand>(board, seat, who, ring, n, word);
 }
 
 impl Pass {
-    /// What the pass knows of the other side of a ring.
-    fn known(&self, shared: &Shared, ring: Ring) -> u32
+    /// Whether so much is known of the other side of a ring.
+    #[inline(always)]
+    pub fn knows(&self, shared: &Shared, ring: Ring, at: usize, n: u32) -> bool
         requires belongs { Belongs shared.now self.now }
-        requires ring { HasRing self.now.view.setup.config ring }
-        ensures { result ≡ known_on self.now ring }
+        requires at { IsAt shared.now.setup.config ring at }
+        ensures { result ≡ nat_le n (known_on self.now ring) }
     {
-        self.ends[ring_place(&shared.config, ring)].known
+        n <= self.ends[at].known
     }
 
     /// Whether a call is a Reserve or a Peek of no more than what the last look at the other side's count found, less what
@@ -128,15 +127,18 @@ impl Pass {
         ensures { result ≡ is_covered self.now call.now }
     {
         match call {
-            Call::Reserve(ring, n) | Call::Peek(ring, n) => *n <= self.known(shared, *ring),
+            Call::Reserve(ring, n) | Call::Peek(ring, n) => {
+                self.knows(shared, *ring, shared.ring_place(*ring), *n)
+            }
             Call::Submit(..) | Call::Release(..) | Call::Swap(..) | Call::Look(_) => false,
         }
     }
 
     /// The step of a Reserve that is covered: it is granted at a look at the caller's own count. It adds the Reserve to the
     /// history, and lowers what is known by its places.
-    pub fn reserve_covered(&mut self, shared: &Shared, ring: Ring, n: u32)
+    pub fn reserve_covered(&mut self, shared: &Shared, ring: Ring, at: usize, n: u32)
         requires belongs { Belongs shared.now self.old }
+        requires at { IsAt shared.now.setup.config ring at }
         requires legal { IsLegal self.old.view.setup.config (own self.old.who self.old.view.seen) self.old.who (Reserve ring n) }
         requires rests { self.old.view.flight ≡ idle }
         requires covered { n ≤ known_on self.old ring }
@@ -145,10 +147,9 @@ impl Pass {
         ensures history { Extends self.old.view.setup self.old.who (Reserve ring n) Granted self.old.view self.new.view }
         ensures known { self.new.known ≡ with_known self.old ring (known_on self.old ring - n) }
     {
-        let place = ring_place(&shared.config, ring);
-        let end = self.ends[place];
+        let end = self.ends[at];
         grant(
-            &shared.table.shared,
+            &shared.board,
             &mut self.seat,
             self.who,
             ring,
@@ -157,14 +158,14 @@ impl Pass {
         );
         let known = end.known - n;
         let far = end.far.wrapping_add(n);
-        self.ends[place] = End { far, known, ..end };
-        self.standing.granted(&shared.config, ring, n);
+        self.ends[at] = End { far, known, ..end };
     }
 
     /// The step of a Peek that is covered: it gets all that it asks for, at a look at the caller's own count. It adds the
     /// Peek to the history, and lowers what is known by its items, which `fetch` then gives.
-    pub fn peek_covered(&mut self, shared: &Shared, ring: Ring, n: u32)
+    pub fn peek_covered(&mut self, shared: &Shared, ring: Ring, at: usize, n: u32)
         requires belongs { Belongs shared.now self.old }
+        requires at { IsAt shared.now.setup.config ring at }
         requires legal { IsLegal self.old.view.setup.config (own self.old.who self.old.view.seen) self.old.who (Peek ring n) }
         requires rests { self.old.view.flight ≡ idle }
         requires covered { n ≤ known_on self.old ring }
@@ -172,10 +173,9 @@ impl Pass {
         ensures history { (items : List Item) × (length items ≡ n) × (self.new.view.flight ≡ still ring items) × Extends self.old.view.setup self.old.who (Peek ring n) (items_reply items) self.old.view self.new.view }
         ensures known { self.new.known ≡ with_known self.old ring (known_on self.old ring - n) }
     {
-        let place = ring_place(&shared.config, ring);
-        let end = self.ends[place];
+        let end = self.ends[at];
         give(
-            &shared.table.shared,
+            &shared.board,
             &mut self.seat,
             self.who,
             ring,
@@ -183,7 +183,7 @@ impl Pass {
             end.base + CONSUMER,
         );
         let left = end.known - n;
-        self.ends[place] = End {
+        self.ends[at] = End {
             far: end.far.wrapping_add(n),
             known: left,
             ..end

@@ -2,6 +2,7 @@
 //! ties them to one legal history.
 #![tactic(auto)]
 
+mod board;
 mod closing;
 mod counting;
 mod covering;
@@ -10,7 +11,6 @@ pub mod laws;
 mod marks;
 mod moves;
 mod note;
-mod noted;
 mod opening;
 mod pass;
 mod passes;

@@ -9,15 +9,15 @@ ghost use Rattle.xsk_table.specs.View.{idle};
 ghost use Rattle.xsk_table.specs.Plays.{IsReady, Extends, Answered, ask_mark};
 ghost use Rattle.xsk_table.specs.Held.{Belongs};
 
+use crate::board::{Board, Chair};
 use crate::pass::Pass;
 use crate::shared::Shared;
-use crate::steps::{Board, Chair};
 use crate::view::{Asking, View};
 use atomic_table::Play;
 use std::marker::{Brand, PhantomData};
 use xsk_model::Mark;
 use xsk_umem::Frame;
-use xsk_words::mark_word;
+use xsk_words::mark_word_from;
 
 /// The swap of a mark's word.
 pub struct Swapping<J> {
@@ -49,47 +49,47 @@ fn swap_word<J: Asking>(
     value: u64,
     word: usize,
 ) -> u64
-    requires table { seat.old.table_id ≡ board.now.table_id }
-    requires ask { J.ask ≡ ask_mark board.now.key who mark value }
-    requires word { (word ≡ word_at board.now.key.config (word_of_mark mark)) × (word < board.now.table_id.words) }
-    requires ready { IsReady (ask_mark board.now.key who mark value) (Swap mark value) seat.old.me.0 × (seat.old.me.0.flight ≡ idle) }
+    requires table { seat.old.table_id ≡ board.now.table }
+    requires ask { J.ask ≡ ask_mark board.now.setup who mark value }
+    requires word { (word ≡ word_at board.now.setup.config (word_of_mark mark)) × (word < board.now.table.words) }
+    requires ready { IsReady (ask_mark board.now.setup who mark value) (Swap mark value) seat.old.me.0 × (seat.old.me.0.flight ≡ idle) }
     ensures same { (seat.new.table_id ≡ seat.old.table_id) × (seat.new.id ≡ seat.old.id) }
-    ensures told { Answered (ask_mark board.now.key who mark value) (Swap mark value) seat.old.me result seat.new.me }
+    ensures told { Answered (ask_mark board.now.setup who mark value) (Swap mark value) seat.old.me result seat.new.me }
 {
     board.swap::<Swapping<J>>(seat, word, value)
 }
 
 fn swap_mark(board: &Board, seat: &mut Chair, who: u32, mark: Mark, value: u64, word: usize) -> u64
-    requires table { seat.old.table_id ≡ board.now.table_id }
-    requires word { (word ≡ word_at board.now.key.config (word_of_mark mark)) × (word < board.now.table_id.words) }
-    requires ready { IsReady (ask_mark board.now.key who mark value) (Swap mark value) seat.old.me.0 × (seat.old.me.0.flight ≡ idle) }
+    requires table { seat.old.table_id ≡ board.now.table }
+    requires word { (word ≡ word_at board.now.setup.config (word_of_mark mark)) × (word < board.now.table.words) }
+    requires ready { IsReady (ask_mark board.now.setup who mark value) (Swap mark value) seat.old.me.0 × (seat.old.me.0.flight ≡ idle) }
     ensures same { (seat.new.table_id ≡ seat.old.table_id) × (seat.new.id ≡ seat.old.id) }
     ensures slots { seat.new.me.1 ≡ seat.old.me.1 }
     ensures flight { seat.new.me.0.flight ≡ idle }
-    ensures history { Extends board.now.key who (Swap mark value) (Old result) seat.old.me.0 seat.new.me.0 }
+    ensures history { Extends board.now.setup who (Swap mark value) (Old result) seat.old.me.0 seat.new.me.0 }
 {
     swap_word::<Brand>(board, seat, who, mark, value, word)
 }
 
 fn look_word<J: Asking>(board: &Board, seat: &mut Chair, who: u32, mark: Mark, word: usize) -> u64
-    requires table { seat.old.table_id ≡ board.now.table_id }
-    requires ask { J.ask ≡ ask_mark board.now.key who mark 0 }
-    requires word { (word ≡ word_at board.now.key.config (word_of_mark mark)) × (word < board.now.table_id.words) }
-    requires ready { IsReady (ask_mark board.now.key who mark 0) (Look mark) seat.old.me.0 × (seat.old.me.0.flight ≡ idle) }
+    requires table { seat.old.table_id ≡ board.now.table }
+    requires ask { J.ask ≡ ask_mark board.now.setup who mark 0 }
+    requires word { (word ≡ word_at board.now.setup.config (word_of_mark mark)) × (word < board.now.table.words) }
+    requires ready { IsReady (ask_mark board.now.setup who mark 0) (Look mark) seat.old.me.0 × (seat.old.me.0.flight ≡ idle) }
     ensures same { (seat.new.table_id ≡ seat.old.table_id) × (seat.new.id ≡ seat.old.id) }
-    ensures told { Answered (ask_mark board.now.key who mark 0) (Look mark) seat.old.me result seat.new.me }
+    ensures told { Answered (ask_mark board.now.setup who mark 0) (Look mark) seat.old.me result seat.new.me }
 {
-    board.load::<Viewing<J>>(seat, word)
+    board.look::<Viewing<J>>(seat, word)
 }
 
 fn look_at_mark(board: &Board, seat: &mut Chair, who: u32, mark: Mark, word: usize) -> u64
-    requires table { seat.old.table_id ≡ board.now.table_id }
-    requires word { (word ≡ word_at board.now.key.config (word_of_mark mark)) × (word < board.now.table_id.words) }
-    requires ready { IsReady (ask_mark board.now.key who mark 0) (Look mark) seat.old.me.0 × (seat.old.me.0.flight ≡ idle) }
+    requires table { seat.old.table_id ≡ board.now.table }
+    requires word { (word ≡ word_at board.now.setup.config (word_of_mark mark)) × (word < board.now.table.words) }
+    requires ready { IsReady (ask_mark board.now.setup who mark 0) (Look mark) seat.old.me.0 × (seat.old.me.0.flight ≡ idle) }
     ensures same { (seat.new.table_id ≡ seat.old.table_id) × (seat.new.id ≡ seat.old.id) }
     ensures slots { seat.new.me.1 ≡ seat.old.me.1 }
     ensures flight { seat.new.me.0.flight ≡ idle }
-    ensures history { Extends board.now.key who (Look mark) (Old result) seat.old.me.0 seat.new.me.0 }
+    ensures history { Extends board.now.setup who (Look mark) (Old result) seat.old.me.0 seat.new.me.0 }
 {
     look_word::<Brand>(board, seat, who, mark, word)
 }
@@ -105,15 +105,8 @@ impl Pass {
         ensures flight { self.new.view.flight ≡ idle }
         ensures history { Extends self.old.view.setup self.old.who (Swap mark value) (Old result) self.old.view self.new.view }
     {
-        let word = mark_word(&shared.config, mark);
-        swap_mark(
-            &shared.table.shared,
-            &mut self.seat,
-            self.who,
-            mark,
-            value,
-            word,
-        )
+        let word = mark_word_from(&shared.config, shared.marks, mark);
+        swap_mark(&shared.board, &mut self.seat, self.who, mark, value, word)
     }
 
     /// Looks at a mark. It adds the Look to the history, and gives the number of its reply: what the mark is.
@@ -126,7 +119,7 @@ impl Pass {
         ensures flight { self.new.view.flight ≡ idle }
         ensures history { Extends self.old.view.setup self.old.who (Look mark) (Old result) self.old.view self.new.view }
     {
-        let word = mark_word(&shared.config, mark);
-        look_at_mark(&shared.table.shared, &mut self.seat, self.who, mark, word)
+        let word = mark_word_from(&shared.config, shared.marks, mark);
+        look_at_mark(&shared.board, &mut self.seat, self.who, mark, word)
     }
 }

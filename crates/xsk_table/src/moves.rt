@@ -10,12 +10,12 @@ ghost use Rattle.xsk_model.specs.Entry.{own};
 ghost use Rattle.xsk_model.specs.Own.{given_of};
 ghost use Rattle.xsk_model.specs.Legal.{IsItemOn};
 ghost use Rattle.xsk_words.specs.Words.{second_word};
-ghost use Rattle.xsk_words.specs.Layout.{entry_words as words_of_entry, ring_base, word_at};
+ghost use Rattle.xsk_words.specs.Layout.{entry_words as words_of_entry, ring_base, producer, word_at};
 ghost use Rattle.xsk_table.specs.View.{taking, fetching, writing, placing};
 ghost use Rattle.xsk_table.specs.Rule.{wrapped, entry_of, second_of, opened, lying};
 ghost use Rattle.xsk_table.specs.Plays.{Placed, Lifted, PutIn, Fetched, Settled, CanPlace, IsPlacing, IsTaken, IsFirst, Emptied, TakenOut, ask_for, ask_item, emptied};
 
-use crate::steps::{Board, Chair};
+use crate::board::{Board, Chair};
 use crate::view::{Asking, Fetching, Lifting, Placing, Reading, Settling};
 use std::marker::Brand;
 use xsk_model::Ring;
@@ -42,16 +42,16 @@ fn entry_word(base: usize, ring: Ring, count: u32, mask: u32) -> usize
 
 /// A look that takes the empty slot of an item's frame, where nothing stands behind an entry's address.
 fn lift<J: Asking>(board: &Board, seat: &mut Chair, who: u32, ring: Ring, item: &Item, word: usize)
-    requires table { seat.old.table_id ≡ board.now.table_id }
-    requires ask { J.ask ≡ ask_item board.now.key who ring item.now }
-    requires word { word < board.now.table_id.words }
+    requires table { seat.old.table_id ≡ board.now.table }
+    requires ask { J.ask ≡ ask_item board.now.setup who ring item.now }
+    requires word { (word ≡ word_at board.now.setup.config (producer ring)) × (word < board.now.table.words) }
     requires one_word { words_of_entry ring ≡ 1 }
-    requires can { CanPlace (ask_item board.now.key who ring item.now) seat.old.me.0 }
+    requires can { CanPlace (ask_item board.now.setup who ring item.now) seat.old.me.0 }
     requires flight { IsPlacing ring seat.old.me.0.flight }
     ensures same { (seat.new.table_id ≡ seat.old.table_id) × (seat.new.id ≡ seat.old.id) }
-    ensures told { Lifted (ask_item board.now.key who ring item.now) seat.old.me seat.new.me }
+    ensures told { Lifted (ask_item board.now.setup who ring item.now) seat.old.me seat.new.me }
 {
-    board.load::<Lifting<J>>(seat, word);
+    board.look::<Lifting<J>>(seat, word);
 }
 
 /// The write of an entry's second word, which takes the empty slot of the item's frame.
@@ -63,14 +63,14 @@ fn write_second<J: Asking>(
     item: &Item,
     word: usize,
 )
-    requires table { seat.old.table_id ≡ board.now.table_id }
-    requires ask { J.ask ≡ ask_item board.now.key who ring item.now }
-    requires word { (word ≡ word_at board.now.key.config (second_of board.now.key.config ring (board.now.key.first + (opened board.now.key ring + given_of ring (own who seat.old.me.0.seen) + length (lying seat.old.me.0.flight))))) × (word < board.now.table_id.words) }
+    requires table { seat.old.table_id ≡ board.now.table }
+    requires ask { J.ask ≡ ask_item board.now.setup who ring item.now }
+    requires word { (word ≡ word_at board.now.setup.config (second_of board.now.setup.config ring (board.now.setup.first + (opened board.now.setup ring + given_of ring (own who seat.old.me.0.seen) + length (lying seat.old.me.0.flight))))) × (word < board.now.table.words) }
     requires two_words { words_of_entry ring ≡ 2 }
-    requires can { CanPlace (ask_item board.now.key who ring item.now) seat.old.me.0 }
+    requires can { CanPlace (ask_item board.now.setup who ring item.now) seat.old.me.0 }
     requires flight { IsPlacing ring seat.old.me.0.flight }
     ensures same { (seat.new.table_id ≡ seat.old.table_id) × (seat.new.id ≡ seat.old.id) }
-    ensures told { Lifted (ask_item board.now.key who ring item.now) seat.old.me seat.new.me }
+    ensures told { Lifted (ask_item board.now.setup who ring item.now) seat.old.me seat.new.me }
 {
     let (_, second) = pack(item.desc);
     board.store::<Lifting<J>>(seat, word, second);
@@ -88,14 +88,14 @@ fn take_slot(
     base: usize,
     word: usize,
 )
-    requires table { seat.old.table_id ≡ board.now.table_id }
-    requires base { (base + 8 < board.now.table_id.words) × (base ≤ 1056768) }
-    requires word { word ≡ word_at board.now.key.config (entry_of board.now.key.config ring (board.now.key.first + (opened board.now.key ring + given_of ring (own who seat.old.me.0.seen) + length (lying seat.old.me.0.flight)))) }
-    requires within { (word + words_of_entry ring ≤ board.now.table_id.words) × (word ≤ 1060894) }
-    requires can { CanPlace (ask_item board.now.key who ring item.now) seat.old.me.0 }
+    requires table { seat.old.table_id ≡ board.now.table }
+    requires base { (base ≡ ring_base board.now.setup.config ring) × (base + 8 < board.now.table.words) × (base ≤ 1056768) }
+    requires word { word ≡ word_at board.now.setup.config (entry_of board.now.setup.config ring (board.now.setup.first + (opened board.now.setup ring + given_of ring (own who seat.old.me.0.seen) + length (lying seat.old.me.0.flight)))) }
+    requires within { (word + words_of_entry ring ≤ board.now.table.words) × (word ≤ 1060894) }
+    requires can { CanPlace (ask_item board.now.setup who ring item.now) seat.old.me.0 }
     requires flight { IsPlacing ring seat.old.me.0.flight }
     ensures same { (seat.new.table_id ≡ seat.old.table_id) × (seat.new.id ≡ seat.old.id) }
-    ensures told { Lifted (ask_item board.now.key who ring item.now) seat.old.me seat.new.me }
+    ensures told { Lifted (ask_item board.now.setup who ring item.now) seat.old.me seat.new.me }
 {
     if entry_words(ring) == 2 {
         write_second::<Brand>(board, seat, who, ring, item, word + 1);
@@ -112,14 +112,14 @@ fn write_entry<J: Asking>(
     item: Item,
     word: usize,
 )
-    requires table { seat.old.table_id ≡ board.now.table_id }
-    requires ask { J.ask ≡ ask_item board.now.key who ring item }
-    requires word { (word ≡ word_at board.now.key.config (entry_of board.now.key.config ring (board.now.key.first + (opened board.now.key ring + given_of ring (own who seat.old.me.0.seen) + length (lying seat.old.me.0.flight))))) × (word < board.now.table_id.words) }
-    requires can { CanPlace (ask_item board.now.key who ring item) seat.old.me.0 }
+    requires table { seat.old.table_id ≡ board.now.table }
+    requires ask { J.ask ≡ ask_item board.now.setup who ring item }
+    requires word { (word ≡ word_at board.now.setup.config (entry_of board.now.setup.config ring (board.now.setup.first + (opened board.now.setup ring + given_of ring (own who seat.old.me.0.seen) + length (lying seat.old.me.0.flight))))) × (word < board.now.table.words) }
+    requires can { CanPlace (ask_item board.now.setup who ring item) seat.old.me.0 }
     requires flight { seat.old.me.0.flight ≡ writing ring (lying seat.old.me.0.flight) item }
     requires front { IsTaken item.frame seat.old.me.1 }
     ensures same { (seat.new.table_id ≡ seat.old.table_id) × (seat.new.id ≡ seat.old.id) }
-    ensures told { Placed (ask_item board.now.key who ring item) seat.old.me seat.new.me }
+    ensures told { Placed (ask_item board.now.setup who ring item) seat.old.me seat.new.me }
 {
     let Item { frame, desc } = item;
     match frame {
@@ -146,12 +146,12 @@ pub(crate) fn place(
     base: usize,
     mask: u32,
 )
-    requires table { seat.old.table_id ≡ board.now.table_id }
-    requires size { (mask + 1 ≡ size_of board.now.key.config ring) × IsRingSize (mask + 1) }
-    requires base { (base ≡ ring_base board.now.key.config ring) × (base + (32 + words_of_entry ring * (mask + 1)) ≤ board.now.table_id.words) × (base ≤ 1056768) }
-    requires near { near ≡ wrapped board.now.key (opened board.now.key ring + given_of ring (own who seat.old.me.0.seen)) }
+    requires table { seat.old.table_id ≡ board.now.table }
+    requires size { (mask + 1 ≡ size_of board.now.setup.config ring) × IsRingSize (mask + 1) }
+    requires base { (base ≡ ring_base board.now.setup.config ring) × (base + (32 + words_of_entry ring * (mask + 1)) ≤ board.now.table.words) × (base ≤ 1056768) }
+    requires near { near ≡ wrapped board.now.setup (opened board.now.setup ring + given_of ring (own who seat.old.me.0.seen)) }
     requires placed { placed ≡ length (lying seat.old.me.0.flight) }
-    requires can { CanPlace (ask_item board.now.key who ring item) seat.old.me.0 }
+    requires can { CanPlace (ask_item board.now.setup who ring item) seat.old.me.0 }
     requires flight { IsPlacing ring seat.old.me.0.flight }
     ensures same { (seat.new.table_id ≡ seat.old.table_id) × (seat.new.id ≡ seat.old.id) }
     ensures told { PutIn ring item seat.old.me seat.new.me }
@@ -162,45 +162,45 @@ pub(crate) fn place(
 }
 
 fn read_entry<J: Asking>(board: &Board, seat: &mut Chair, who: u32, ring: Ring, word: usize) -> u64
-    requires table { seat.old.table_id ≡ board.now.table_id }
-    requires ask { J.ask ≡ ask_for board.now.key who ring 0 }
-    requires caller { (seat.old.me.0.callers ≡ who ∷ []) × HasRing board.now.key.config ring × (who ≡ consumer board.now.key.config ring) × (who < callers_of board.now.key.config) }
+    requires table { seat.old.table_id ≡ board.now.table }
+    requires ask { J.ask ≡ ask_for board.now.setup who ring 0 }
+    requires caller { (seat.old.me.0.callers ≡ who ∷ []) × HasRing board.now.setup.config ring × (who ≡ consumer board.now.setup.config ring) × (who < callers_of board.now.setup.config) }
     requires alone { seat.old.me.0.others ≡ [] }
     requires flight { (x : Thing) × (left : List Thing) × (seat.old.me.0.flight ≡ taking ring (x ∷ left)) }
-    requires word { (word < board.now.table_id.words) × ((count : ℕ) × (count + length (lying seat.old.me.0.flight) ≡ emptied (ask_for board.now.key who ring 0) seat.old.me.0) × (word ≡ word_at board.now.key.config (entry_of board.now.key.config ring (board.now.key.first + count)))) }
+    requires word { (word < board.now.table.words) × ((count : ℕ) × (count + length (lying seat.old.me.0.flight) ≡ emptied (ask_for board.now.setup who ring 0) seat.old.me.0) × (word ≡ word_at board.now.setup.config (entry_of board.now.setup.config ring (board.now.setup.first + count)))) }
     ensures same { (seat.new.table_id ≡ seat.old.table_id) × (seat.new.id ≡ seat.old.id) }
-    ensures told { (x : Thing) (left : List Thing) → seat.old.me.0.flight ≡ taking ring (x ∷ left) → Fetched (ask_for board.now.key who ring 0) x left seat.old.me result seat.new.me }
+    ensures told { (x : Thing) (left : List Thing) → seat.old.me.0.flight ≡ taking ring (x ∷ left) → Fetched (ask_for board.now.setup who ring 0) x left seat.old.me result seat.new.me }
 {
-    board.load::<Fetching<J>>(seat, word)
+    board.look::<Fetching<J>>(seat, word)
 }
 
 /// A look that gives the slot of the fetched frame home, empty, where nothing stands behind an entry's address.
 fn settle<J: Asking>(board: &Board, seat: &mut Chair, who: u32, ring: Ring, word: usize)
-    requires table { seat.old.table_id ≡ board.now.table_id }
-    requires ask { J.ask ≡ ask_for board.now.key who ring 0 }
-    requires word { word < board.now.table_id.words }
-    requires caller { (seat.old.me.0.callers ≡ who ∷ []) × HasRing board.now.key.config ring × (who ≡ consumer board.now.key.config ring) × (who < callers_of board.now.key.config) }
+    requires table { seat.old.table_id ≡ board.now.table }
+    requires ask { J.ask ≡ ask_for board.now.setup who ring 0 }
+    requires word { (word < board.now.table.words) × ((count : ℕ) × (word ≡ word_at board.now.setup.config (entry_of board.now.setup.config ring count))) }
+    requires caller { (seat.old.me.0.callers ≡ who ∷ []) × HasRing board.now.setup.config ring × (who ≡ consumer board.now.setup.config ring) × (who < callers_of board.now.setup.config) }
     requires alone { seat.old.me.0.others ≡ [] }
     requires flight { (x : Thing) × (left : List Thing) × (seat.old.me.0.flight ≡ fetching ring x left) × IsFirst x.frame None seat.old.me.1 }
     ensures same { (seat.new.table_id ≡ seat.old.table_id) × (seat.new.id ≡ seat.old.id) }
-    ensures told { (x : Thing) (left : List Thing) → seat.old.me.0.flight ≡ fetching ring x left → Settled (ask_for board.now.key who ring 0) x left seat.old.me seat.new.me }
+    ensures told { (x : Thing) (left : List Thing) → seat.old.me.0.flight ≡ fetching ring x left → Settled (ask_for board.now.setup who ring 0) x left seat.old.me seat.new.me }
 {
-    board.load::<Settling<J>>(seat, word);
+    board.look::<Settling<J>>(seat, word);
 }
 
 /// The read of an entry's second word, which gives the slot of the fetched frame home, empty.
 fn read_second<J: Asking>(board: &Board, seat: &mut Chair, who: u32, ring: Ring, word: usize) -> u64
-    requires table { seat.old.table_id ≡ board.now.table_id }
-    requires ask { J.ask ≡ ask_for board.now.key who ring 0 }
+    requires table { seat.old.table_id ≡ board.now.table }
+    requires ask { J.ask ≡ ask_for board.now.setup who ring 0 }
     requires two_words { words_of_entry ring ≡ 2 }
-    requires caller { (seat.old.me.0.callers ≡ who ∷ []) × HasRing board.now.key.config ring × (who ≡ consumer board.now.key.config ring) × (who < callers_of board.now.key.config) }
+    requires caller { (seat.old.me.0.callers ≡ who ∷ []) × HasRing board.now.setup.config ring × (who ≡ consumer board.now.setup.config ring) × (who < callers_of board.now.setup.config) }
     requires alone { seat.old.me.0.others ≡ [] }
-    requires flight { (x : Thing) × (left : List Thing) × (seat.old.me.0.flight ≡ fetching ring x left) × IsFirst x.frame None seat.old.me.1 × ((count : ℕ) × (count + length (x ∷ left) ≡ emptied (ask_for board.now.key who ring 0) seat.old.me.0) × (word ≡ word_at board.now.key.config (second_of board.now.key.config ring (board.now.key.first + count)))) }
-    requires word { word < board.now.table_id.words }
+    requires flight { (x : Thing) × (left : List Thing) × (seat.old.me.0.flight ≡ fetching ring x left) × IsFirst x.frame None seat.old.me.1 × ((count : ℕ) × (count + length (x ∷ left) ≡ emptied (ask_for board.now.setup who ring 0) seat.old.me.0) × (word ≡ word_at board.now.setup.config (second_of board.now.setup.config ring (board.now.setup.first + count)))) }
+    requires word { word < board.now.table.words }
     ensures same { (seat.new.table_id ≡ seat.old.table_id) × (seat.new.id ≡ seat.old.id) }
-    ensures told { (x : Thing) (left : List Thing) → seat.old.me.0.flight ≡ fetching ring x left → Settled (ask_for board.now.key who ring 0) x left seat.old.me seat.new.me × (result ≡ second_word x.desc) }
+    ensures told { (x : Thing) (left : List Thing) → seat.old.me.0.flight ≡ fetching ring x left → Settled (ask_for board.now.setup who ring 0) x left seat.old.me seat.new.me × (result ≡ second_word x.desc) }
 {
-    board.load::<Reading<J>>(seat, word)
+    board.look::<Reading<J>>(seat, word)
 }
 
 /// The descriptor of the item that is being fetched, by its address and what stands behind that in its entry, which
@@ -213,13 +213,13 @@ fn read_desc(
     addr: u64,
     word: usize,
 ) -> XdpDesc
-    requires table { seat.old.table_id ≡ board.now.table_id }
-    requires caller { (seat.old.me.0.callers ≡ who ∷ []) × HasRing board.now.key.config ring × (who ≡ consumer board.now.key.config ring) × (who < callers_of board.now.key.config) }
+    requires table { seat.old.table_id ≡ board.now.table }
+    requires caller { (seat.old.me.0.callers ≡ who ∷ []) × HasRing board.now.setup.config ring × (who ≡ consumer board.now.setup.config ring) × (who < callers_of board.now.setup.config) }
     requires alone { seat.old.me.0.others ≡ [] }
-    requires flight { (x : Thing) × (left : List Thing) × (seat.old.me.0.flight ≡ fetching ring x left) × IsFirst x.frame None seat.old.me.1 × ((count : ℕ) × (count + length (x ∷ left) ≡ emptied (ask_for board.now.key who ring 0) seat.old.me.0) × (word ≡ word_at board.now.key.config (entry_of board.now.key.config ring (board.now.key.first + count)))) }
-    requires within { (word + words_of_entry ring ≤ board.now.table_id.words) × (word ≤ 1060894) }
+    requires flight { (x : Thing) × (left : List Thing) × (seat.old.me.0.flight ≡ fetching ring x left) × IsFirst x.frame None seat.old.me.1 × ((count : ℕ) × (count + length (x ∷ left) ≡ emptied (ask_for board.now.setup who ring 0) seat.old.me.0) × (word ≡ word_at board.now.setup.config (entry_of board.now.setup.config ring (board.now.setup.first + count)))) }
+    requires within { (word + words_of_entry ring ≤ board.now.table.words) × (word ≤ 1060894) }
     ensures same { (seat.new.table_id ≡ seat.old.table_id) × (seat.new.id ≡ seat.old.id) }
-    ensures told { (x : Thing) (left : List Thing) → seat.old.me.0.flight ≡ fetching ring x left → addr ≡ x.desc.addr → IsItemOn board.now.key.config.geometry ring x → Settled (ask_for board.now.key who ring 0) x left seat.old.me seat.new.me × (result ≡ x.desc) }
+    ensures told { (x : Thing) (left : List Thing) → seat.old.me.0.flight ≡ fetching ring x left → addr ≡ x.desc.addr → IsItemOn board.now.setup.config.geometry ring x → Settled (ask_for board.now.setup who ring 0) x left seat.old.me seat.new.me × (result ≡ x.desc) }
 {
     if entry_words(ring) == 2 {
         let second = read_second::<Brand>(board, seat, who, ring, word + 1);
@@ -250,7 +250,7 @@ fn number_of(geometry: &Geometry, addr: u64) -> Option<u32>
 
 /// Takes the frame of an address out of its slot, which was taken last.
 fn empty_slot(board: &Board, seat: &mut Chair, geometry: &Geometry, addr: u64) -> Option<Frame>
-    requires table { seat.old.table_id ≡ board.now.table_id }
+    requires table { seat.old.table_id ≡ board.now.table }
     requires front { (f : Option Body) × (option_map (λ (g : Body). g.number) f ≡ frame_of geometry.now addr) × IsFirst f f seat.old.me.1 }
     ensures same { (seat.new.table_id ≡ seat.old.table_id) × (seat.new.id ≡ seat.old.id) }
     ensures told { (f : Option Body) → option_map (λ (g : Body). g.number) f ≡ frame_of geometry.now addr → IsFirst f f seat.old.me.1 → Emptied f seat.old.me result seat.new.me }
@@ -273,13 +273,13 @@ pub(crate) fn fetch(
     base: usize,
     mask: u32,
 ) -> Item
-    requires table { (seat.old.table_id ≡ board.now.table_id) × (geometry.now ≡ board.now.key.config.geometry) }
-    requires size { (mask + 1 ≡ size_of board.now.key.config ring) × IsRingSize (mask + 1) }
-    requires base { (base ≡ ring_base board.now.key.config ring) × (base + (32 + words_of_entry ring * (mask + 1)) ≤ board.now.table_id.words) × (base ≤ 1056768) }
-    requires caller { (seat.old.me.0.callers ≡ who ∷ []) × HasRing board.now.key.config ring × (who ≡ consumer board.now.key.config ring) × (who < callers_of board.now.key.config) }
+    requires table { (seat.old.table_id ≡ board.now.table) × (geometry.now ≡ board.now.setup.config.geometry) }
+    requires size { (mask + 1 ≡ size_of board.now.setup.config ring) × IsRingSize (mask + 1) }
+    requires base { (base ≡ ring_base board.now.setup.config ring) × (base + (32 + words_of_entry ring * (mask + 1)) ≤ board.now.table.words) × (base ≤ 1056768) }
+    requires caller { (seat.old.me.0.callers ≡ who ∷ []) × HasRing board.now.setup.config ring × (who ≡ consumer board.now.setup.config ring) × (who < callers_of board.now.setup.config) }
     requires alone { seat.old.me.0.others ≡ [] }
     requires flight { (x : Thing) × (left : List Thing) × (seat.old.me.0.flight ≡ taking ring (x ∷ left)) }
-    requires position { (count : ℕ) × (count + length (lying seat.old.me.0.flight) ≡ emptied (ask_for board.now.key who ring 0) seat.old.me.0) × (position ≡ wrapped board.now.key count) }
+    requires position { (count : ℕ) × (count + length (lying seat.old.me.0.flight) ≡ emptied (ask_for board.now.setup who ring 0) seat.old.me.0) × (position ≡ wrapped board.now.setup count) }
     ensures same { (seat.new.table_id ≡ seat.old.table_id) × (seat.new.id ≡ seat.old.id) }
     ensures told { (x : Thing) (left : List Thing) → seat.old.me.0.flight ≡ taking ring (x ∷ left) → TakenOut ring x left result seat.old.me seat.new.me }
 {

@@ -7,9 +7,9 @@ ghost use Rattle.xsk_table.specs.Plays.{ask_for};
 ghost use Rattle.xsk_table.specs.Held.{Belongs};
 ghost use Rattle.xsk_table.specs.Meeting.{Met, Meets, note_by};
 
+use crate::board::{Board, Chair};
 use crate::pass::Pass;
 use crate::shared::Shared;
-use crate::steps::{Board, Chair};
 use crate::view::{Asking, View};
 use atomic_table::{Join, Play, Split};
 use std::marker::{Brand, Model, PhantomData};
@@ -66,22 +66,22 @@ impl<J: Asking> Play<Option<Frame>, View> for Meeting<J> {
 }
 
 fn look<J: Asking>(board: &Board, seat: &mut Chair)
-    requires table { (seat.old.table_id ≡ board.now.table_id) × (1 ≤ board.now.table_id.words) }
-    requires ask { J.ask ≡ ask_for board.now.key 0 (Fill 0) 0 }
+    requires table { (seat.old.table_id ≡ board.now.table) × (1 ≤ board.now.table.words) }
+    requires ask { J.ask ≡ ask_for board.now.setup 0 (Fill 0) 0 }
     requires rests { (w : ℕ) → 0 < times w seat.old.me.0.others → seat.old.me.0.flight ≡ idle }
     ensures same { (seat.new.table_id ≡ seat.old.table_id) × (seat.new.id ≡ seat.old.id) }
-    ensures told { Met board.now.key seat.old.me seat.new.me }
+    ensures told { Met board.now.setup seat.old.me seat.new.me }
 {
-    board.load::<Meeting<J>>(seat, 0);
+    board.look_round::<Meeting<J>>(seat);
 }
 
 /// Puts a seat into another, which then has seen all that was done so far.
 pub(crate) fn take_in(board: &Board, seat: &mut Chair, other: Chair)
-    requires table { (seat.old.table_id ≡ board.now.table_id) × (other.table_id ≡ board.now.table_id) × (1 ≤ board.now.table_id.words) }
+    requires table { (seat.old.table_id ≡ board.now.table) × (other.table_id ≡ board.now.table) × (1 ≤ board.now.table.words) }
     requires alone { (seat.old.me.0.others ≡ []) × (other.me.0.others ≡ []) × (other.me.1 ≡ []) }
     requires rests { (w : ℕ) → 0 < times w other.me.0.callers → (seat.old.me.0.flight ≡ idle) × (other.me.0.flight ≡ idle) }
     ensures same { (seat.new.table_id ≡ seat.old.table_id) × (seat.new.id ≡ seat.old.id) }
-    ensures told { Met board.now.key (told_of seat.old.me.0 other.me.0, seat.old.me.1) seat.new.me }
+    ensures told { Met board.now.setup (told_of seat.old.me.0 other.me.0, seat.old.me.1) seat.new.me }
 {
     board.join_seat::<Telling>(seat, other);
     look::<Brand>(board, seat);
@@ -89,7 +89,7 @@ pub(crate) fn take_in(board: &Board, seat: &mut Chair, other: Chair)
 
 /// A note of what a seat has seen.
 pub(crate) fn take_note(board: &Board, seat: &mut Chair) -> Note
-    requires table { (seat.old.table_id ≡ board.now.table_id) × (1 ≤ board.now.table_id.words) }
+    requires table { (seat.old.table_id ≡ board.now.table) × (1 ≤ board.now.table.words) }
     ensures same { (seat.new.table_id ≡ seat.old.table_id) × (seat.new.id ≡ seat.old.id) × (seat.new.me ≡ seat.old.me) }
     ensures note { result ≡ record { table = seat.old.table_id; seen = seat.old.me.0.seen } }
 {
@@ -105,7 +105,7 @@ impl Pass {
         ensures same { self.new ≡ self.old }
         ensures note { result ≡ note_by self.old }
     {
-        take_note(&shared.table.shared, &mut self.seat)
+        take_note(&shared.board, &mut self.seat)
     }
 
     /// Learns what a note of the same table shows, and all else that was done so far. It adds nothing to the history.
@@ -118,7 +118,7 @@ impl Pass {
         ensures history { Meets self.old.view.setup self.old.who self.old.view.seen note.seen self.new.view.seen }
     {
         let Note { seat } = note;
-        take_in(&shared.table.shared, &mut self.seat, seat);
+        take_in(&shared.board, &mut self.seat, seat);
     }
 }
 

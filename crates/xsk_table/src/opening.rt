@@ -1,5 +1,5 @@
 //! The words of a new table.
-ghost use Rattle.std.specs.Prelude.{◌≡◌, ◌+◌, ◌*◌, ◌%◌, ◌^◌, ◌<◌, ◌≤◌, ℕ, List, ◌++◌, length, replicate, IfOk};
+ghost use Rattle.std.specs.Prelude.{◌≡◌, ◌+◌, ◌*◌, ◌%◌, ◌^◌, ◌<◌, ◌≤◌, ℕ, List, ◌++◌, length, replicate, vec_capacity, IfOk};
 ghost use Rattle.xsk_umem.specs.Frame.{Frame as Body};
 ghost use Rattle.xsk_model.specs.Opening.{IsOpened};
 ghost use Rattle.xsk_model.specs.Config.{IsConfig, IsLawful, HasRing, size_of, map_of};
@@ -119,6 +119,10 @@ fn count_at(config: &Config, first: u32, who: u32, place: usize) -> u32
     first.wrapping_add(config.pool())
 }
 
+/// The places left free behind what a caller keeps of its rings: more than the 64 bytes of a cache line, so that no line
+/// holds what two callers keep.
+const SPARE_ENDS: usize = 3;
+
 /// What a caller's pass keeps of each ring before its first call.
 pub(crate) fn lay_ends(
     alloc: Global,
@@ -126,10 +130,11 @@ pub(crate) fn lay_ends(
     first: u32,
     who: u32,
 ) -> Result<Vec<End>, OutOfMemory>
-    ensures { IfOk result (λ ends. FirstEnds config.now first who ends.items) }
+    ensures ends { IfOk result (λ ends. FirstEnds config.now first who ends.items) }
+    ensures spares { IfOk result (λ ends. length ends.items + 3 ≤ vec_capacity ends) }
 {
     let places = ring_places(config);
-    let mut ends = Vec::with_capacity(alloc, places)?;
+    let mut ends = Vec::with_capacity(alloc, places + SPARE_ENDS)?;
     let mut base = 0;
     for place in 0..places {
         let count = count_at(config, first, who, place);

@@ -1,8 +1,7 @@
 //! A caller's way to the rings: the step calls.
-ghost use Rattle.std.specs.Prelude.{List, [], ◌∷◌, ◌++◌, ℕ, length, ◌≡◌, ◌+◌, ◌<◌, ◌≤◌, ◌↔◌, IsTrue};
+ghost use Rattle.std.specs.Prelude.{List, [], ◌∷◌, ◌++◌, ℕ, length, ◌≡◌, ◌+◌, ◌<◌, ◌≤◌};
 ghost use Rattle.xsk_umem.specs.declared.batch.Item.{Item as Thing};
-ghost use Rattle.xsk_model.specs.Config.{HasRing};
-ghost use Rattle.xsk_model.specs.Rings.{consumer};
+ghost use Rattle.xsk_model.specs.Config.{callers_of};
 ghost use Rattle.xsk_model.specs.Entry.{own};
 ghost use Rattle.xsk_model.specs.Object.{reserve_reply};
 ghost use Rattle.xsk_model.specs.Own.{granted};
@@ -14,24 +13,22 @@ ghost use Rattle.xsk_table.specs.View.{idle, placing, taking};
 ghost use Rattle.xsk_table.specs.Rule.{lying};
 ghost use Rattle.xsk_table.specs.Plays.{Extends, IsPlacing, still, items_reply};
 ghost use Rattle.xsk_table.specs.Known.{free_after, out_after};
-ghost use Rattle.xsk_table.specs.Held.{Belongs, with_known};
+ghost use Rattle.xsk_table.specs.Held.{Belongs, IsAt, with_known};
 
+use crate::board::Chair;
 use crate::counting::Steps;
 use crate::end::End;
-use crate::noted::note_reserved;
 use crate::shared::Shared;
-use crate::steps::Chair;
 use crate::{moves, steps};
-use std::alloc::Global;
 use std::marker::Model;
 use std::sync::ledger::Ledger;
-use xsk_desc::Standing;
-use xsk_model::placement::ring_place;
-use xsk_model::{Call, Reply, Ring};
+use xsk_model::{Reply, Ring};
 use xsk_umem::{Batch, Item};
 use xsk_words::{CONSUMER, PRODUCER};
 
 /// A caller's way to the rings. It knows what its own calls left, and holds no slot between them.
+///
+/// A step on a ring takes the ring's place (`Shared::ring_place`), which is found once for all steps of a call.
 #[derive(Drop)]
 pub struct Pass {
     pub(crate) seat: Chair,
@@ -40,21 +37,17 @@ pub struct Pass {
     pub(crate) ends: Vec<End>,
     /// The items of the call in flight: those that are placed, or those that are left.
     pub(crate) flying: u32,
-    /// What is noted of the caller's own calls and replies.
-    pub(crate) standing: Standing,
-    pub(crate) alloc: Global,
 }
 
 impl Model for Pass {
-    ghost use Rattle.xsk_table.specs.Known.{AreSure};
+    ghost use Rattle.xsk_table.specs.Known.{AreSure, AllIsLeft};
     ghost use Rattle.xsk_table.specs.Held.{Holder, PassHolds, known_in};
-    ghost use Rattle.xsk_table.specs.Notes.{Notes};
 
     ghost Value = { Holder };
 
     ghost view = { λ p. record { table = p.seat.table_id; who = p.who; view = p.seat.me.0; known = known_in p.ends.items } };
 
-    ghost invariant = { λ p. PassHolds p.seat.me.0 p.seat.me.1 p.who p.ends.items p.flying × Notes p.seat.me.0 p.who p.standing × AreSure p.seat.me.0.setup p.who p.seat.me.0.seen (known_in p.ends.items) };
+    ghost invariant = { λ p. PassHolds p.seat.me.0 p.seat.me.1 p.who p.ends.items p.flying × AreSure p.seat.me.0.setup p.who p.seat.me.0.seen (known_in p.ends.items) × AllIsLeft p.seat.me.0.setup p.who p.seat.me.0.seen (known_in p.ends.items) };
 }
 
 /// The reply to a Reserve of `n` where so many places are free.
@@ -81,26 +74,10 @@ fn granted_by(reply: &Reply, n: u32) -> u32
 impl Pass {
     /// The number of the caller.
     pub fn caller(&self) -> u32
-        ensures { result ≡ self.now.who }
+        ensures caller { result ≡ self.now.who }
+        ensures few { result < callers_of self.now.view.setup.config }
     {
         self.who
-    }
-
-    /// An empty batch, for the items of a call. It takes no memory.
-    pub fn empty_batch(&self) -> Batch
-        ensures { result ≡ [] }
-    {
-        Batch::new(self.alloc)
-    }
-
-    /// Whether the call is legal after all calls that the caller has made, and their replies. No call of the pass may be
-    /// in flight. It searches nothing of what was seen.
-    pub fn allows(&self, shared: &Shared, call: &Call) -> bool
-        requires belongs { Belongs shared.now self.now }
-        requires rests { self.now.view.flight ≡ idle }
-        ensures { IsTrue result ↔ IsLegal self.now.view.setup.config (own self.now.who self.now.view.seen) self.now.who call.now }
-    {
-        self.standing.allows(&shared.config, call)
     }
 
     /// The look of a Reserve. It adds the Reserve with its reply to the history, and counts one look. The pass then knows
@@ -109,10 +86,12 @@ impl Pass {
         &mut self,
         shared: &Shared,
         ring: Ring,
+        at: usize,
         n: u32,
         steps: &mut Steps<L>,
     ) -> Reply
         requires belongs { Belongs shared.now self.old }
+        requires at { IsAt shared.now.setup.config ring at }
         requires legal { IsLegal self.old.view.setup.config (own self.old.who self.old.view.seen) self.old.who (Reserve ring n) }
         requires rests { self.old.view.flight ≡ idle }
         ensures same { (self.new.table ≡ self.old.table) × (self.new.who ≡ self.old.who) }
@@ -121,10 +100,9 @@ impl Pass {
         ensures known { self.new.known ≡ with_known self.old ring (free_after self.old.view.setup self.new.view.seen ring) }
         ensures steps { steps.new ≡ steps.old + 1 }
     {
-        let place = ring_place(&shared.config, ring);
-        let end = self.ends[place];
+        let end = self.ends[at];
         let free = steps::reserve_step(
-            &shared.table.shared,
+            &shared.board,
             &mut self.seat,
             self.who,
             ring,
@@ -132,23 +110,23 @@ impl Pass {
             end.far,
             end.mask + 1,
             end.base + CONSUMER,
+            steps,
         );
-        steps.tick();
         let reply = reply_by(n, free);
         let got = granted_by(&reply, n);
-        self.ends[place] = End {
+        self.ends[at] = End {
             far: end.far.wrapping_add(got),
             known: free - got,
             ..end
         };
-        note_reserved(&mut self.standing, &shared.config, ring, n, &reply);
         reply
     }
 
     /// Puts the first item of `rest` into its entry, behind those that are placed, and its frame into its slot. The
     /// placed items and `rest` must make a legal Submit. It adds nothing to the history.
-    pub fn place(&mut self, shared: &Shared, ring: Ring, rest: &mut Batch)
+    pub fn place(&mut self, shared: &Shared, ring: Ring, at: usize, rest: &mut Batch)
         requires belongs { Belongs shared.now self.old }
+        requires at { IsAt shared.now.setup.config ring at }
         requires flight { IsPlacing ring self.old.view.flight }
         requires legal { IsLegal self.old.view.setup.config (own self.old.who self.old.view.seen) self.old.who (Submit ring (lying self.old.view.flight ++ rest.old)) }
         requires some { 1 ≤ length rest.old }
@@ -159,11 +137,9 @@ impl Pass {
         let Some(item) = rest.pop_front() else {
             unreachable!()
         };
-        let place = ring_place(&shared.config, ring);
-        let end = self.ends[place];
-        self.standing.placed(&shared.config, ring, &item);
+        let end = self.ends[at];
         moves::place(
-            &shared.table.shared,
+            &shared.board,
             &mut self.seat,
             self.who,
             ring,
@@ -177,8 +153,9 @@ impl Pass {
     }
 
     /// Raises the producer over the items that are placed. It adds the Submit to the history.
-    pub fn raise_producer(&mut self, shared: &Shared, ring: Ring)
+    pub fn raise_producer(&mut self, shared: &Shared, ring: Ring, at: usize)
         requires belongs { Belongs shared.now self.old }
+        requires at { IsAt shared.now.setup.config ring at }
         requires flight { self.old.view.flight ≡ placing ring (lying self.old.view.flight) }
         requires legal { IsLegal self.old.view.setup.config (own self.old.who self.old.view.seen) self.old.who (Submit ring (lying self.old.view.flight)) }
         ensures same { (self.new.table ≡ self.old.table) × (self.new.who ≡ self.old.who) }
@@ -186,10 +163,9 @@ impl Pass {
         ensures flight { self.new.view.flight ≡ idle }
         ensures history { Extends self.old.view.setup self.old.who (Submit ring (lying self.old.view.flight)) Submitted self.old.view self.new.view }
     {
-        let place = ring_place(&shared.config, ring);
-        let end = self.ends[place];
+        let end = self.ends[at];
         steps::raise_producer(
-            &shared.table.shared,
+            &shared.board,
             &mut self.seat,
             self.who,
             ring,
@@ -198,7 +174,7 @@ impl Pass {
             end.base + PRODUCER,
         );
         let near = end.near.wrapping_add(self.flying);
-        self.ends[place] = End { near, ..end };
+        self.ends[at] = End { near, ..end };
         self.flying = 0;
     }
 
@@ -208,10 +184,12 @@ impl Pass {
         &mut self,
         shared: &Shared,
         ring: Ring,
+        at: usize,
         n: u32,
         steps: &mut Steps<L>,
     ) -> u32
         requires belongs { Belongs shared.now self.old }
+        requires at { IsAt shared.now.setup.config ring at }
         requires legal { IsLegal self.old.view.setup.config (own self.old.who self.old.view.seen) self.old.who (Peek ring n) }
         requires rests { self.old.view.flight ≡ idle }
         ensures same { (self.new.table ≡ self.old.table) × (self.new.who ≡ self.old.who) }
@@ -219,20 +197,19 @@ impl Pass {
         ensures known { self.new.known ≡ with_known self.old ring (out_after self.old.view.setup self.new.view.seen ring) }
         ensures steps { steps.new ≡ steps.old + 1 }
     {
-        let place = ring_place(&shared.config, ring);
-        let end = self.ends[place];
+        let end = self.ends[at];
         let out = steps::peek_step(
-            &shared.table.shared,
+            &shared.board,
             &mut self.seat,
             self.who,
             ring,
             n,
             end.far,
             end.base + PRODUCER,
+            steps,
         );
-        steps.tick();
         let count = n.min(out);
-        self.ends[place] = End {
+        self.ends[at] = End {
             far: end.far.wrapping_add(count),
             known: out - count,
             ..end
@@ -242,19 +219,19 @@ impl Pass {
     }
 
     /// The next item of the last Peek, with its frame. It adds nothing to the history.
-    pub fn fetch(&mut self, shared: &Shared, ring: Ring) -> Item
+    pub fn fetch(&mut self, shared: &Shared, ring: Ring, at: usize) -> Item
         requires belongs { Belongs shared.now self.old }
+        requires at { IsAt shared.now.setup.config ring at }
         requires flight { (x : Thing) × (left : List Thing) × (self.old.view.flight ≡ taking ring (x ∷ left)) }
         ensures same { (self.new.table ≡ self.old.table) × (self.new.who ≡ self.old.who) }
         ensures known { self.new.known ≡ self.old.known }
         ensures taken { (x : Thing) (left : List Thing) → self.old.view.flight ≡ taking ring (x ∷ left) → (result ≡ x) × (self.new.view ≡ record self.old.view { flight = still ring left }) }
     {
         let left = self.flying;
-        let place = ring_place(&shared.config, ring);
-        let end = self.ends[place];
+        let end = self.ends[at];
         let position = end.far.wrapping_sub(left);
         let item = moves::fetch(
-            &shared.table.shared,
+            &shared.board,
             &mut self.seat,
             shared.config.geometry(),
             self.who,
@@ -264,13 +241,13 @@ impl Pass {
             end.mask,
         );
         self.flying = left - 1;
-        self.standing.fetched(&shared.config, ring, &item);
         item
     }
 
     /// Raises the consumer. It adds the Release to the history.
-    pub fn raise_consumer(&mut self, shared: &Shared, ring: Ring, n: u32)
+    pub fn raise_consumer(&mut self, shared: &Shared, ring: Ring, at: usize, n: u32)
         requires belongs { Belongs shared.now self.old }
+        requires at { IsAt shared.now.setup.config ring at }
         requires legal { IsLegal self.old.view.setup.config (own self.old.who self.old.view.seen) self.old.who (Release ring n) }
         requires rests { self.old.view.flight ≡ idle }
         ensures same { (self.new.table ≡ self.old.table) × (self.new.who ≡ self.old.who) }
@@ -278,10 +255,9 @@ impl Pass {
         ensures flight { self.new.view.flight ≡ idle }
         ensures history { Extends self.old.view.setup self.old.who (Release ring n) Released self.old.view self.new.view }
     {
-        let place = ring_place(&shared.config, ring);
-        let end = self.ends[place];
+        let end = self.ends[at];
         steps::raise_consumer(
-            &shared.table.shared,
+            &shared.board,
             &mut self.seat,
             self.who,
             ring,
@@ -290,7 +266,6 @@ impl Pass {
             end.base + CONSUMER,
         );
         let near = end.near.wrapping_add(n);
-        self.ends[place] = End { near, ..end };
-        self.standing.released(&shared.config, ring, n);
+        self.ends[at] = End { near, ..end };
     }
 }

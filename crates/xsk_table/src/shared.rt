@@ -2,29 +2,27 @@
 ghost use Rattle.std.specs.Prelude.{◌≡◌, ◌+◌, ◌<◌, ◌≤◌, ℕ, List, [], ◌++◌, length, map, vec_len, vec_capacity, Option, Some, None, IfOk, IfErr, OnOk};
 ghost use Rattle.std.specs.Vec.{vec_items};
 ghost use Rattle.xsk_umem.specs.Frame.{Frame as Body};
-ghost use Rattle.xsk_model.specs.Config.{IsLawful, callers_of};
+ghost use Rattle.xsk_model.specs.Config.{HasRing, IsLawful, callers_of};
 ghost use Rattle.xsk_model.specs.Opening.{AreFrames, IsOpened};
 ghost use Rattle.xsk_table.specs.View.{newcomer};
 ghost use Rattle.xsk_table.specs.Rule.{all_callers};
-ghost use Rattle.xsk_table.specs.Held.{Board as Face};
-ghost use Rattle.xsk_table.specs.Notes.{AreNewFrom};
+ghost use Rattle.xsk_table.specs.Held.{Board as Face, IsAt};
 ghost use Rattle.xsk_table.specs.Opening.{WordsOpen, AllFirst, list_of, new_passes};
 
+use crate::board::{Board, Chair};
 use crate::end::End;
-use crate::noted::new_standings;
 use crate::opening::{lay_ends, lay_words};
 use crate::pass::Pass;
 use crate::passes::Passes;
-use crate::steps::{Board, Chair};
-use crate::view::{Dealing, Key, Law, View};
-use atomic_table::{Refused, Table};
+use crate::view::{Dealing, Key};
 use std::alloc::Global;
 use std::marker::Model;
 use std::mem;
 use std::snapshot::Snapshot;
-use xsk_desc::Standing;
-use xsk_model::Config;
+use xsk_model::placement::ring_place;
+use xsk_model::{Config, Ring};
 use xsk_umem::{Frame, Frames, OutOfMemory};
+use xsk_words::marks_base;
 
 /// Memory for the table couldn't be had. What was handed in comes back.
 #[derive(Debug, Drop)]
@@ -37,20 +35,22 @@ pub struct SharedRefused {
 /// its opening.
 #[derive(Drop)]
 pub struct Shared {
-    pub(crate) table: Table<Option<Frame>, View, Key, Law, Global>,
+    pub(crate) board: Board,
     pub(crate) config: Config,
+    /// The words before those of the marks.
+    pub(crate) marks: usize,
     /// The queue from which the frames came, empty.
     pub(crate) home: Frames,
 }
 
 impl Model for Shared {
-    ghost use Rattle.xsk_table.specs.Held.{Board, TableHolds};
+    ghost use Rattle.xsk_table.specs.Held.{Board as Face, TableHolds};
 
-    ghost Value = { Board };
+    ghost Value = { Face };
 
-    ghost view = { λ s. record { table = s.table.shared.table_id; setup = s.table.shared.key } };
+    ghost view = { λ s. s.board };
 
-    ghost invariant = { λ s. TableHolds s.config s.table.shared.key s.table.shared.table_id s.home };
+    ghost invariant = { λ s. TableHolds s.config s.marks s.board.setup s.board.table s.home };
 }
 
 /// All memory of a table but its own words and slots.
@@ -59,7 +59,6 @@ struct Room {
     words: Vec<u64>,
     slots: Vec<Option<Frame>>,
     ends: Vec<Vec<End>>,
-    standings: Vec<Option<Standing>>,
     passes: Vec<Option<Pass>>,
 }
 
@@ -68,7 +67,6 @@ fn take_room(alloc: Global, config: &Config, first: u32, frames: u32) -> Result<
     ensures words { IfOk result (λ room. WordsOpen config.now first room.words.items) }
     ensures slots { IfOk result (λ room. (room.slots.items ≡ []) × (frames ≤ vec_capacity room.slots)) }
     ensures ends { IfOk result (λ room. AllFirst config.now first (callers_of config.now) (map vec_items room.ends.items)) }
-    ensures standings { IfOk result (λ room. AreNewFrom config.now 0 (callers_of config.now) room.standings.items) }
     ensures passes { IfOk result (λ room. (room.passes.items ≡ []) × (callers_of config.now ≤ vec_capacity room.passes)) }
 {
     let words = lay_words(alloc, config, first)?;
@@ -78,13 +76,11 @@ fn take_room(alloc: Global, config: &Config, first: u32, frames: u32) -> Result<
     for who in 0..callers {
         ends.push(lay_ends(alloc, config, first, who)?)?;
     }
-    let standings = new_standings(alloc, config)?;
     let passes = Vec::with_capacity(alloc, callers as usize)?;
     Ok(Room {
         words,
         slots,
         ends,
-        standings,
         passes,
     })
 }
@@ -126,36 +122,28 @@ fn deal(
     board: &Board,
     seat: Chair,
     ends: Vec<Vec<End>>,
-    standings: Vec<Option<Standing>>,
     passes: Vec<Option<Pass>>,
     callers: u32,
 ) -> Vec<Option<Pass>>
-    requires table { (seat.table_id ≡ board.now.table_id) × (1 ≤ board.now.table_id.words) }
-    requires opened { IsOpened board.now.key.config board.now.key.frames }
-    requires seat { seat.me ≡ (newcomer board.now.key (all_callers board.now.key), []) }
-    requires callers { callers ≡ callers_of board.now.key.config }
-    requires ends { AllFirst board.now.key.config board.now.key.first callers (map vec_items ends.items) }
-    requires standings { AreNewFrom board.now.key.config 0 callers standings.items }
+    requires table { (seat.table_id ≡ board.now.table) × (1 ≤ board.now.table.words) }
+    requires opened { IsOpened board.now.setup.config board.now.setup.frames }
+    requires seat { seat.me ≡ (newcomer board.now.setup (all_callers board.now.setup), []) }
+    requires callers { callers ≡ callers_of board.now.setup.config }
+    requires ends { AllFirst board.now.setup.config board.now.setup.first callers (map vec_items ends.items) }
     requires passes { (passes.items ≡ []) × (callers ≤ vec_capacity passes) }
-    ensures { result.items ≡ new_passes (record { table = board.now.table_id; setup = board.now.key }) }
+    ensures { result.items ≡ new_passes board.now }
 {
     let mut seat = seat;
     let mut ends = ends;
-    let mut standings = standings;
     let mut passes = passes;
     for who in 0..callers {
         let own = board.split_seat::<Dealing>(&mut seat);
         let list = mem::replace(&mut ends[who as usize], Vec::new(alloc));
-        let Some(standing) = standings[who as usize].take() else {
-            unreachable!()
-        };
         passes.push_reserved(Some(Pass {
             seat: own,
             who,
             ends: list,
             flying: 0,
-            standing,
-            alloc,
         }));
     }
     passes
@@ -184,7 +172,6 @@ impl Shared {
             words,
             mut slots,
             ends,
-            standings,
             passes,
         } = room;
         let key = Key {
@@ -195,19 +182,21 @@ impl Shared {
         let callers = config.callers();
         let _geometry = config.geometry();
         let _ports = config.ports();
+        let marks = marks_base(&config);
         let mut home = frames;
         move_out(&mut home, &mut slots);
-        match Table::new(alloc, words.as_slice(), slots, &key) {
-            Ok((table, seat)) => {
-                let passes = deal(alloc, &table.shared, seat, ends, standings, passes, callers);
+        match Board::open(words.as_slice(), slots, alloc, &key) {
+            Ok((board, seat)) => {
+                let passes = deal(alloc, &board, seat, ends, passes, callers);
                 let shared = Shared {
-                    table,
+                    board,
                     config,
+                    marks,
                     home,
                 };
                 Ok((shared, Passes { passes }))
             }
-            Err(Refused { slots }) => {
+            Err(slots) => {
                 move_back(slots, &mut home);
                 Err(SharedRefused {
                     config,
@@ -222,6 +211,15 @@ impl Shared {
         ensures { result.now ≡ self.now.setup.config }
     {
         &self.config
+    }
+
+    /// The place of a ring among all rings, for the steps of a call. The ring must exist.
+    #[inline(always)]
+    pub fn ring_place(&self, ring: Ring) -> usize
+        requires { HasRing self.now.setup.config ring }
+        ensures { IsAt self.now.setup.config ring result }
+    {
+        ring_place(&self.config, ring)
     }
 }
 

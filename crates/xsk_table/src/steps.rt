@@ -13,40 +13,37 @@ ghost use Rattle.xsk_table.specs.Rule.{wrapped, opened, lying};
 ghost use Rattle.xsk_table.specs.Known.{free_after, out_after};
 ghost use Rattle.xsk_table.specs.Plays.{IsReady, Reserved, Extends, Ended, Peeked, items_reply, still, ask_for, filled as filled_of, emptied};
 
-use crate::view::{Asking, Key, Law, Peeking, Raising, Releasing, Reserving, View};
-use atomic_table::{Seat, Shared};
+use crate::board::{Board, Chair};
+use crate::counting::Steps;
+use crate::view::{Asking, Peeking, Raising, Releasing, Reserving};
 use std::marker::Brand;
+use std::sync::ledger::Ledger;
 use xsk_model::Ring;
-use xsk_umem::Frame;
 use xsk_words::used;
 
-/// The words and slots that all callers share.
-pub(crate) type Board = Shared<Option<Frame>, View, Key, Law>;
-
-/// The seat of a caller.
-pub(crate) type Chair = Seat<Option<Frame>, View>;
-
-fn look_room<J: Asking>(
+fn look_room<J: Asking, L: Ledger>(
     board: &Board,
     seat: &mut Chair,
     who: u32,
     ring: Ring,
     n: u32,
     word: usize,
+    steps: &mut Steps<L>,
 ) -> u64
-    requires table { seat.old.table_id ≡ board.now.table_id }
-    requires ask { J.ask ≡ ask_for board.now.key who ring n }
-    requires word { (word ≡ word_at board.now.key.config (consumer ring)) × (word < board.now.table_id.words) }
-    requires ready { IsReady (ask_for board.now.key who ring n) (Reserve ring n) seat.old.me.0 × (seat.old.me.0.flight ≡ idle) }
+    requires table { seat.old.table_id ≡ board.now.table }
+    requires ask { J.ask ≡ ask_for board.now.setup who ring n }
+    requires word { (word ≡ word_at board.now.setup.config (consumer ring)) × (word < board.now.table.words) }
+    requires ready { IsReady (ask_for board.now.setup who ring n) (Reserve ring n) seat.old.me.0 × (seat.old.me.0.flight ≡ idle) }
     ensures same { (seat.new.table_id ≡ seat.old.table_id) × (seat.new.id ≡ seat.old.id) }
-    ensures told { Reserved (ask_for board.now.key who ring n) seat.old.me result seat.new.me }
+    ensures told { Reserved (ask_for board.now.setup who ring n) seat.old.me result seat.new.me }
+    ensures counted { steps.new ≡ steps.old + 1 }
 {
-    board.load::<Reserving<J>>(seat, word)
+    board.look_counted::<Reserving<J>, L>(seat, word, steps)
 }
 
 /// The look of a Reserve, which tells how many places are free. `filled` counts what was submitted and reserved.
 #[allow(clippy::too_many_arguments)]
-pub(crate) fn reserve_step(
+pub(crate) fn reserve_step<L: Ledger>(
     board: &Board,
     seat: &mut Chair,
     who: u32,
@@ -55,19 +52,21 @@ pub(crate) fn reserve_step(
     filled: u32,
     size: u32,
     word: usize,
+    steps: &mut Steps<L>,
 ) -> u32
-    requires table { seat.old.table_id ≡ board.now.table_id }
-    requires size { size ≡ size_of board.now.key.config ring }
-    requires word { (word ≡ word_at board.now.key.config (consumer ring)) × (word < board.now.table_id.words) }
-    requires filled { filled ≡ wrapped board.now.key (filled_of (ask_for board.now.key who ring n) seat.old.me.0) }
-    requires ready { IsReady (ask_for board.now.key who ring n) (Reserve ring n) seat.old.me.0 × (seat.old.me.0.flight ≡ idle) }
+    requires table { seat.old.table_id ≡ board.now.table }
+    requires size { size ≡ size_of board.now.setup.config ring }
+    requires word { (word ≡ word_at board.now.setup.config (consumer ring)) × (word < board.now.table.words) }
+    requires filled { filled ≡ wrapped board.now.setup (filled_of (ask_for board.now.setup who ring n) seat.old.me.0) }
+    requires ready { IsReady (ask_for board.now.setup who ring n) (Reserve ring n) seat.old.me.0 × (seat.old.me.0.flight ≡ idle) }
     ensures same { (seat.new.table_id ≡ seat.old.table_id) × (seat.new.id ≡ seat.old.id) }
     ensures slots { seat.new.me.1 ≡ seat.old.me.1 }
     ensures flight { seat.new.me.0.flight ≡ idle }
-    ensures history { Extends board.now.key who (Reserve ring n) (reserve_reply n result) seat.old.me.0 seat.new.me.0 }
-    ensures left { result ≡ free_after board.now.key seat.new.me.0.seen ring + granted (Reserve ring n) (reserve_reply n result) }
+    ensures history { Extends board.now.setup who (Reserve ring n) (reserve_reply n result) seat.old.me.0 seat.new.me.0 }
+    ensures left { result ≡ free_after board.now.setup seat.new.me.0.seen ring + granted (Reserve ring n) (reserve_reply n result) }
+    ensures counted { steps.new ≡ steps.old + 1 }
 {
-    let found = look_room::<Brand>(board, seat, who, ring, n, word);
+    let found = look_room::<Brand, L>(board, seat, who, ring, n, word, steps);
     size - used(filled, found as u32)
 }
 
@@ -80,13 +79,13 @@ fn write_consumer<J: Asking>(
     word: usize,
     new: u32,
 )
-    requires table { seat.old.table_id ≡ board.now.table_id }
-    requires ask { J.ask ≡ ask_for board.now.key who ring n }
-    requires word { (word ≡ word_at board.now.key.config (consumer ring)) × (word < board.now.table_id.words) }
-    requires new { new ≡ wrapped board.now.key (released_of ring (own who seat.old.me.0.seen) + n) }
-    requires ready { IsReady (ask_for board.now.key who ring n) (Release ring n) seat.old.me.0 × (seat.old.me.0.flight ≡ idle) }
+    requires table { seat.old.table_id ≡ board.now.table }
+    requires ask { J.ask ≡ ask_for board.now.setup who ring n }
+    requires word { (word ≡ word_at board.now.setup.config (consumer ring)) × (word < board.now.table.words) }
+    requires new { new ≡ wrapped board.now.setup (released_of ring (own who seat.old.me.0.seen) + n) }
+    requires ready { IsReady (ask_for board.now.setup who ring n) (Release ring n) seat.old.me.0 × (seat.old.me.0.flight ≡ idle) }
     ensures same { (seat.new.table_id ≡ seat.old.table_id) × (seat.new.id ≡ seat.old.id) }
-    ensures told { Ended (ask_for board.now.key who ring n) (Release ring n) Released seat.old.me seat.new.me }
+    ensures told { Ended (ask_for board.now.setup who ring n) (Release ring n) Released seat.old.me seat.new.me }
 {
     board.store::<Releasing<J>>(seat, word, new as u64)
 }
@@ -101,14 +100,14 @@ pub(crate) fn raise_consumer(
     near: u32,
     word: usize,
 )
-    requires table { seat.old.table_id ≡ board.now.table_id }
-    requires word { (word ≡ word_at board.now.key.config (consumer ring)) × (word < board.now.table_id.words) }
-    requires near { near ≡ wrapped board.now.key (released_of ring (own who seat.old.me.0.seen)) }
-    requires ready { IsReady (ask_for board.now.key who ring n) (Release ring n) seat.old.me.0 × (seat.old.me.0.flight ≡ idle) }
+    requires table { seat.old.table_id ≡ board.now.table }
+    requires word { (word ≡ word_at board.now.setup.config (consumer ring)) × (word < board.now.table.words) }
+    requires near { near ≡ wrapped board.now.setup (released_of ring (own who seat.old.me.0.seen)) }
+    requires ready { IsReady (ask_for board.now.setup who ring n) (Release ring n) seat.old.me.0 × (seat.old.me.0.flight ≡ idle) }
     ensures same { (seat.new.table_id ≡ seat.old.table_id) × (seat.new.id ≡ seat.old.id) }
     ensures slots { seat.new.me.1 ≡ seat.old.me.1 }
     ensures flight { seat.new.me.0.flight ≡ idle }
-    ensures history { Extends board.now.key who (Release ring n) Released seat.old.me.0 seat.new.me.0 }
+    ensures history { Extends board.now.setup who (Release ring n) Released seat.old.me.0 seat.new.me.0 }
 {
     write_consumer::<Brand>(board, seat, who, ring, n, word, near.wrapping_add(n));
 }
@@ -121,14 +120,14 @@ fn write_producer<J: Asking>(
     word: usize,
     new: u32,
 )
-    requires table { seat.old.table_id ≡ board.now.table_id }
-    requires ask { J.ask ≡ ask_for board.now.key who ring 0 }
-    requires word { (word ≡ word_at board.now.key.config (producer ring)) × (word < board.now.table_id.words) }
+    requires table { seat.old.table_id ≡ board.now.table }
+    requires ask { J.ask ≡ ask_for board.now.setup who ring 0 }
+    requires word { (word ≡ word_at board.now.setup.config (producer ring)) × (word < board.now.table.words) }
     requires flight { seat.old.me.0.flight ≡ placing ring (lying seat.old.me.0.flight) }
-    requires new { new ≡ wrapped board.now.key (opened board.now.key ring + given_of ring (own who seat.old.me.0.seen) + length (lying seat.old.me.0.flight)) }
-    requires ready { IsReady (ask_for board.now.key who ring 0) (Submit ring (lying seat.old.me.0.flight)) seat.old.me.0 }
+    requires new { new ≡ wrapped board.now.setup (opened board.now.setup ring + given_of ring (own who seat.old.me.0.seen) + length (lying seat.old.me.0.flight)) }
+    requires ready { IsReady (ask_for board.now.setup who ring 0) (Submit ring (lying seat.old.me.0.flight)) seat.old.me.0 }
     ensures same { (seat.new.table_id ≡ seat.old.table_id) × (seat.new.id ≡ seat.old.id) }
-    ensures told { Ended (ask_for board.now.key who ring 0) (Submit ring (lying seat.old.me.0.flight)) Submitted seat.old.me seat.new.me }
+    ensures told { Ended (ask_for board.now.setup who ring 0) (Submit ring (lying seat.old.me.0.flight)) Submitted seat.old.me seat.new.me }
 {
     board.store::<Raising<J>>(seat, word, new as u64)
 }
@@ -143,40 +142,43 @@ pub(crate) fn raise_producer(
     placed: u32,
     word: usize,
 )
-    requires table { seat.old.table_id ≡ board.now.table_id }
-    requires word { (word ≡ word_at board.now.key.config (producer ring)) × (word < board.now.table_id.words) }
-    requires near { near ≡ wrapped board.now.key (opened board.now.key ring + given_of ring (own who seat.old.me.0.seen)) }
+    requires table { seat.old.table_id ≡ board.now.table }
+    requires word { (word ≡ word_at board.now.setup.config (producer ring)) × (word < board.now.table.words) }
+    requires near { near ≡ wrapped board.now.setup (opened board.now.setup ring + given_of ring (own who seat.old.me.0.seen)) }
     requires placed { placed ≡ length (lying seat.old.me.0.flight) }
     requires flight { seat.old.me.0.flight ≡ placing ring (lying seat.old.me.0.flight) }
-    requires ready { IsReady (ask_for board.now.key who ring 0) (Submit ring (lying seat.old.me.0.flight)) seat.old.me.0 }
+    requires ready { IsReady (ask_for board.now.setup who ring 0) (Submit ring (lying seat.old.me.0.flight)) seat.old.me.0 }
     ensures same { (seat.new.table_id ≡ seat.old.table_id) × (seat.new.id ≡ seat.old.id) }
     ensures slots { seat.new.me.1 ≡ seat.old.me.1 }
     ensures flight { seat.new.me.0.flight ≡ idle }
-    ensures history { Extends board.now.key who (Submit ring (lying seat.old.me.0.flight)) Submitted seat.old.me.0 seat.new.me.0 }
+    ensures history { Extends board.now.setup who (Submit ring (lying seat.old.me.0.flight)) Submitted seat.old.me.0 seat.new.me.0 }
 {
     write_producer::<Brand>(board, seat, who, ring, word, near.wrapping_add(placed));
 }
 
-fn look_items<J: Asking>(
+fn look_items<J: Asking, L: Ledger>(
     board: &Board,
     seat: &mut Chair,
     who: u32,
     ring: Ring,
     n: u32,
     word: usize,
+    steps: &mut Steps<L>,
 ) -> u64
-    requires table { seat.old.table_id ≡ board.now.table_id }
-    requires ask { J.ask ≡ ask_for board.now.key who ring n }
-    requires word { (word ≡ word_at board.now.key.config (producer ring)) × (word < board.now.table_id.words) }
-    requires ready { IsReady (ask_for board.now.key who ring n) (Peek ring n) seat.old.me.0 × (seat.old.me.0.flight ≡ idle) }
+    requires table { seat.old.table_id ≡ board.now.table }
+    requires ask { J.ask ≡ ask_for board.now.setup who ring n }
+    requires word { (word ≡ word_at board.now.setup.config (producer ring)) × (word < board.now.table.words) }
+    requires ready { IsReady (ask_for board.now.setup who ring n) (Peek ring n) seat.old.me.0 × (seat.old.me.0.flight ≡ idle) }
     ensures same { (seat.new.table_id ≡ seat.old.table_id) × (seat.new.id ≡ seat.old.id) }
-    ensures told { Peeked (ask_for board.now.key who ring n) seat.old.me result seat.new.me }
+    ensures told { Peeked (ask_for board.now.setup who ring n) seat.old.me result seat.new.me }
+    ensures counted { steps.new ≡ steps.old + 1 }
 {
-    board.load::<Peeking<J>>(seat, word)
+    board.look_counted::<Peeking<J>, L>(seat, word, steps)
 }
 
 /// The look of a Peek, which tells how many items are out. `far` counts what was released and is held.
-pub(crate) fn peek_step(
+#[allow(clippy::too_many_arguments)]
+pub(crate) fn peek_step<L: Ledger>(
     board: &Board,
     seat: &mut Chair,
     who: u32,
@@ -184,16 +186,18 @@ pub(crate) fn peek_step(
     n: u32,
     far: u32,
     word: usize,
+    steps: &mut Steps<L>,
 ) -> u32
-    requires table { seat.old.table_id ≡ board.now.table_id }
-    requires word { (word ≡ word_at board.now.key.config (producer ring)) × (word < board.now.table_id.words) }
-    requires far { far ≡ wrapped board.now.key (emptied (ask_for board.now.key who ring n) seat.old.me.0) }
-    requires ready { IsReady (ask_for board.now.key who ring n) (Peek ring n) seat.old.me.0 × (seat.old.me.0.flight ≡ idle) }
+    requires table { seat.old.table_id ≡ board.now.table }
+    requires word { (word ≡ word_at board.now.setup.config (producer ring)) × (word < board.now.table.words) }
+    requires far { far ≡ wrapped board.now.setup (emptied (ask_for board.now.setup who ring n) seat.old.me.0) }
+    requires ready { IsReady (ask_for board.now.setup who ring n) (Peek ring n) seat.old.me.0 × (seat.old.me.0.flight ≡ idle) }
     ensures same { (seat.new.table_id ≡ seat.old.table_id) × (seat.new.id ≡ seat.old.id) }
     ensures slots { seat.new.me.1 ≡ seat.old.me.1 }
-    ensures history { (items : List Item) × (length items ≡ min n result) × (seat.new.me.0.flight ≡ still ring items) × Extends board.now.key who (Peek ring n) (items_reply items) seat.old.me.0 seat.new.me.0 }
-    ensures left { result ≡ min n result + out_after board.now.key seat.new.me.0.seen ring }
+    ensures history { (items : List Item) × (length items ≡ min n result) × (seat.new.me.0.flight ≡ still ring items) × Extends board.now.setup who (Peek ring n) (items_reply items) seat.old.me.0 seat.new.me.0 }
+    ensures left { result ≡ min n result + out_after board.now.setup seat.new.me.0.seen ring }
+    ensures counted { steps.new ≡ steps.old + 1 }
 {
-    let found = look_items::<Brand>(board, seat, who, ring, n, word);
+    let found = look_items::<Brand, L>(board, seat, who, ring, n, word, steps);
     used(found as u32, far)
 }

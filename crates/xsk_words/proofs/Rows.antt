@@ -240,7 +240,7 @@ same_word c (mark m) (entry s j) config h k e = absurd (below_marks c s _ k.0 (w
 same_word c (mark m) (second s j) config h k e = absurd (below_marks c s _ k.0 (within_second c s j k) (offset c (mark m)) (sym e))
 same_word c (mark m) (mark n) config h k e = ap mark (mark_place_injective c m n config h k (omega arith))
 
-pub few_words : (c : Config) → IsConfig c → (places_of c ≤ 256) × (mark_places_of c ≤ 584)
+pub few_words : (c : Config) → IsConfig c → (places_of c ≤ 256) × (mark_places_of c ≤ 776)
 few_words c h = (omega (arith, h.few, h.pairs_few), omega (arith, h.few, h.pairs_few, apps_few c h, ports_few c h))
 
 word_below : (c : Config) (w : Word) → IsConfig c → HasWord c w → word_at c w < words_of c

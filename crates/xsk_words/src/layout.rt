@@ -6,7 +6,7 @@ ghost use Rattle.xsk_model.specs.Rings.{places_of};
 ghost use Rattle.xsk_model.specs.Marks.{HasMark};
 ghost use Rattle.xsk_words.specs.Layout.{mark as word_of_mark, entry_words as words_of_entry, ring_base as base_of_ring, marks_base as base_of_marks, widths_of, width, width_or_none, words_of, word_at};
 
-use xsk_model::placement::{CELLS, first_cell, mark_place, ring_place, ring_places};
+use xsk_model::placement::{mark_place, mark_places, ring_place, ring_places};
 use xsk_model::{Config, Mark, Ring};
 
 /// The producer word of a ring, counted from the ring's first word.
@@ -108,7 +108,19 @@ pub fn mark_word(config: &Config, mark: Mark) -> usize
     ensures value { result ≡ word_at config.now (word_of_mark mark) }
     ensures within { result < words_of config.now }
 {
-    marks_base(config) + MARK * mark_place(config, mark) + (MARK - 1)
+    mark_word_from(config, marks_base(config), mark)
+}
+
+/// The same with the words before those of the marks, which are counted once.
+#[inline(always)]
+pub fn mark_word_from(config: &Config, base: usize, mark: Mark) -> usize
+    requires mark { HasMark config.now mark }
+    requires base { (base ≡ base_of_marks config.now) × (base ≤ 1056768) }
+    ensures value { result ≡ word_at config.now (word_of_mark mark) }
+    ensures within { result < words_of config.now }
+{
+    let _ports = config.ports();
+    base + MARK * mark_place(config, mark) + (MARK - 1)
 }
 
 /// The number of words.
@@ -116,6 +128,5 @@ pub fn word_count(config: &Config) -> usize
     ensures value { result ≡ words_of config.now }
     ensures few { result ≤ 2097152 }
 {
-    let marks = first_cell(config) + (CELLS * config.ports()) as usize;
-    marks_base(config) + MARK * marks
+    marks_base(config) + MARK * mark_places(config)
 }

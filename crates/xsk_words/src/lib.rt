@@ -6,7 +6,7 @@ mod layout;
 mod words;
 
 pub use layout::{
-    CONSUMER, ENTRIES, PRODUCER, entry_words, mark_word, marks_base, place_width, ring_base,
-    word_count,
+    CONSUMER, ENTRIES, PRODUCER, entry_words, mark_word, mark_word_from, marks_base, place_width,
+    ring_base, word_count,
 };
 pub use words::{pack, unpack, used};

@@ -35,6 +35,7 @@ is_config g =
       cells = both (IsMap 2) _ _
           (record { few = lit≤ tt; known = All-cons (λ v. v ≤ 2) 1 [] (lit≤ tt) (All-nil (λ v. v ≤ 2)) })
           (record { few = lit≤ tt; known = All-cons (λ v. v ≤ 2) 2 [] (lit≤ tt) (All-nil (λ v. v ≤ 2)) });
+      closing = tt;
     }
 
 pub of_parts-requires : goal.of_parts-requires

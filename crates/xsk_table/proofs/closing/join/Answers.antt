@@ -8,20 +8,20 @@ use Rattle.xsk_table.proofs.closing.join.Goals as goal
 
 pub take_seat-other-requires : goal.take_seat-other-requires
 take_seat-other-requires c =
-    let lt : c.loop-who.who < callers_of c.args.board.now.key.config = (let t = c.loop-who-test.true in let is = c.requires.callers.0 in omega arith) in
+    let lt : c.loop-who.who < callers_of c.args.board.now.setup.config = (let t = c.loop-who-test.true in let is = c.requires.callers.0 in omega arith) in
     let t = c.requires.there c.loop-who.who lt in
     (t.0, c.loop-who.invariant.left c.loop-who.who (omega arith) ∙ t.1)
 
 pub take_in-requires-clause-table : goal.take_in-requires-clause-table
 take_in-requires-clause-table c =
-    let lt : c.loop-who.who < callers_of c.args.board.now.key.config = (let t = c.loop-who-test.true in let is = c.requires.callers.0 in omega arith) in
+    let lt : c.loop-who.who < callers_of c.args.board.now.setup.config = (let t = c.loop-who-test.true in let is = c.requires.callers.0 in omega arith) in
     let t = c.requires.there c.loop-who.who lt in
     let got = c.take_seat-other.ensures.seat t.0 (c.loop-who.invariant.left c.loop-who.who (omega arith) ∙ t.1) in
     (c.loop-who.invariant.table, got.0 ∙ t.2.table, c.requires.words)
 
 pub take_in-requires-clause-alone : goal.take_in-requires-clause-alone
 take_in-requires-clause-alone c =
-    let lt : c.loop-who.who < callers_of c.args.board.now.key.config = (let t = c.loop-who-test.true in let is = c.requires.callers.0 in omega arith) in
+    let lt : c.loop-who.who < callers_of c.args.board.now.setup.config = (let t = c.loop-who-test.true in let is = c.requires.callers.0 in omega arith) in
     let t = c.requires.there c.loop-who.who lt in
     let at = c.loop-who.invariant.left c.loop-who.who (omega arith) ∙ t.1 in
     let me = (c.take_seat-other.ensures.seat t.0 at).1 in
@@ -29,7 +29,7 @@ take_in-requires-clause-alone c =
 
 pub take_in-requires-clause-rests : goal.take_in-requires-clause-rests
 take_in-requires-clause-rests c w p =
-    let lt : c.loop-who.who < callers_of c.args.board.now.key.config = (let t = c.loop-who-test.true in let is = c.requires.callers.0 in omega arith) in
+    let lt : c.loop-who.who < callers_of c.args.board.now.setup.config = (let t = c.loop-who-test.true in let is = c.requires.callers.0 in omega arith) in
     let t = c.requires.there c.loop-who.who lt in
     let at = c.loop-who.invariant.left c.loop-who.who (omega arith) ∙ t.1 in
     (c.loop-who.invariant.joined.rests, ap (λ (m : Seated). m.0.flight) (c.take_seat-other.ensures.seat t.0 at).1 ∙ (c.take_seat-other.ensures.rests t.0 at).2)
@@ -38,7 +38,7 @@ pub loop-who-preserved : goal.loop-who-preserved
 loop-who-preserved c =
     let inv = c.loop-who.invariant in
     let who = c.loop-who.who in
-    let k = c.args.board.now.key in
+    let k = c.args.board.now.setup in
     let lt : who < callers_of k.config = (let t = c.loop-who-test.true in let is = c.requires.callers.0 in omega arith) in
     let t = c.requires.there who lt in
     let at = inv.left who (omega arith) ∙ t.1 in

@@ -1,9 +1,13 @@
-use Rattle.std.proofs.Common.{rules}
+use Rattle.std.proofs.Common.{ℕ, [], ◌∷◌, ap, ◌∙◌}
+use Rattle.xsk_words.specs.Layout.{producer}
 use Rattle.xsk_table.proofs.Reserving.{grants_keep}
 use Rattle.xsk_table.proofs.covering.look_at_producer.Goals as goal
 
-pub load-requires : goal.load-requires
-load-requires g c = rw c.requires.ask (search rules, search rules, grants_keep _ _ _ _ _ c.requires.ready.0 c.requires.ready.1 c.requires.room)
+pub look-requires-clause-keeps : goal.look-requires-clause-keeps
+look-requires-clause-keeps g c = rw c.requires.ask (grants_keep _ _ _ _ _ c.requires.ready.0 c.requires.ready.1 c.requires.room)
 
 pub returns-clause-told : goal.returns-clause-told
-returns-clause-told g c = rw c.requires.ask at c.load.ensures.2
+returns-clause-told g c = rw c.requires.ask at c.look.ensures.told
+
+pub look-requires-clause-uncounted : goal.look-requires-clause-uncounted
+look-requires-clause-uncounted g c config = let ready = c.requires.ready.0 in (producer c.args.ring, ready.legal.known, c.requires.word.0, ready.one ∙ ap (λ (w : ℕ). w ∷ []) ready.legal.role)

@@ -1,9 +1,12 @@
-use Rattle.std.proofs.Common.{rules}
+use Rattle.xsk_words.specs.Layout.{mark}
 use Rattle.xsk_table.proofs.Marking.{looks_keep}
 use Rattle.xsk_table.proofs.marks.look_word.Goals as goal
 
-pub load-requires : goal.load-requires
-load-requires g c = rw c.requires.ask (search rules, search rules, looks_keep _ _ _ _ _ c.requires.ready.0 c.requires.ready.1 c.requires.word.0)
+pub look-requires-clause-keeps : goal.look-requires-clause-keeps
+look-requires-clause-keeps g c = rw c.requires.ask (looks_keep _ _ _ _ _ c.requires.ready.0 c.requires.ready.1 c.requires.word.0)
 
 pub returns-clause-told : goal.returns-clause-told
-returns-clause-told g c = rw c.requires.ask at c.load.ensures.2
+returns-clause-told g c = rw c.requires.ask at c.look.ensures.told
+
+pub look-requires-clause-uncounted : goal.look-requires-clause-uncounted
+look-requires-clause-uncounted g c config = (mark c.args.mark, c.requires.ready.0.legal.known, c.requires.word.0, tt)

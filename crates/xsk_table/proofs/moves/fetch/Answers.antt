@@ -9,7 +9,7 @@ pub read_entry-addr-requires-clause-word : goal.read_entry-addr-requires-clause-
 read_entry-addr-requires-clause-word c =
     let b = c.requires.base in
     let p = c.requires.position in
-    let k = c.args.board.now.key in (
+    let k = c.args.board.now.setup in (
       some_words c.args.ring c.entry_word-word.result _ (entry_fits c.args.ring c.args.base (c.args.mask + 1) (c.args.position % (c.args.mask + 1)) c.entry_word-word.result _ (place_small c.args.position c.args.mask) c.entry_word-word.ensures.value b.1),
       (
         p.0,
@@ -21,14 +21,14 @@ read_entry-addr-requires-clause-word c =
 pub empty_slot-frame-requires-clause-front : goal.empty_slot-frame-requires-clause-front
 empty_slot-frame-requires-clause-front c =
     let f = c.requires.flight in
-    let t = fetched_front (ask_for c.args.board.now.key c.args.who c.args.ring 0) f.0 f.1 _ _ _ (c.read_entry-addr.ensures.told f.0 f.1 f.2) in
+    let t = fetched_front (ask_for c.args.board.now.setup c.args.who c.args.ring 0) f.0 f.1 _ _ _ (c.read_entry-addr.ensures.told f.0 f.1 f.2) in
     (f.0.frame, t.0 ∙ ap (λ g. frame_of g c.read_entry-addr.result) (sym c.requires.table.1), t.1)
 
 pub read_desc-desc-requires-clause-caller : goal.read_desc-desc-requires-clause-caller
 read_desc-desc-requires-clause-caller c =
     let f = c.requires.flight in
     let did = c.read_entry-addr.ensures.told f.0 f.1 f.2 in
-    let t = fetched_front (ask_for c.args.board.now.key c.args.who c.args.ring 0) f.0 f.1 _ _ _ did in
+    let t = fetched_front (ask_for c.args.board.now.setup c.args.who c.args.ring 0) f.0 f.1 _ _ _ did in
     let e = c.empty_slot-frame.ensures.told f.0.frame (t.0 ∙ ap (λ g. frame_of g c.read_entry-addr.result) (sym c.requires.table.1)) t.1 in
     (ap (λ (v : View). v.callers) (e.view ∙ did.view) ∙ c.requires.caller.0, c.requires.caller.1, c.requires.caller.2, c.requires.caller.3)
 
@@ -36,7 +36,7 @@ pub read_desc-desc-requires-clause-alone : goal.read_desc-desc-requires-clause-a
 read_desc-desc-requires-clause-alone c =
     let f = c.requires.flight in
     let did = c.read_entry-addr.ensures.told f.0 f.1 f.2 in
-    let t = fetched_front (ask_for c.args.board.now.key c.args.who c.args.ring 0) f.0 f.1 _ _ _ did in
+    let t = fetched_front (ask_for c.args.board.now.setup c.args.who c.args.ring 0) f.0 f.1 _ _ _ did in
     let e = c.empty_slot-frame.ensures.told f.0.frame (t.0 ∙ ap (λ g. frame_of g c.read_entry-addr.result) (sym c.requires.table.1)) t.1 in
     ap (λ (v : View). v.others) (e.view ∙ did.view) ∙ c.requires.alone
 
@@ -45,7 +45,7 @@ read_desc-desc-requires-clause-flight c =
     let f = c.requires.flight in
     let b = c.requires.base in
     let p = c.requires.position in
-    let k = c.args.board.now.key in
+    let k = c.args.board.now.setup in
     let did = c.read_entry-addr.ensures.told f.0 f.1 f.2 in
     let t = fetched_front (ask_for k c.args.who c.args.ring 0) f.0 f.1 _ _ _ did in
     let e = c.empty_slot-frame.ensures.told f.0.frame (t.0 ∙ ap (λ g. frame_of g c.read_entry-addr.result) (sym c.requires.table.1)) t.1 in (
@@ -68,7 +68,7 @@ read_desc-desc-requires-clause-within c = (
 
 pub returns-clause-told : goal.returns-clause-told
 returns-clause-told c x left flies =
-    let k = c.args.board.now.key in
+    let k = c.args.board.now.setup in
     let did = c.read_entry-addr.ensures.told x left flies in
     let t = fetched_front (ask_for k c.args.who c.args.ring 0) x left _ _ _ did in
     let e = c.empty_slot-frame.ensures.told x.frame (t.0 ∙ ap (λ g. frame_of g c.read_entry-addr.result) (sym c.requires.table.1)) t.1 in

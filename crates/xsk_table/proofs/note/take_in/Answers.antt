@@ -1,6 +1,5 @@
-use Rattle.std.proofs.Common.{rules}
 use Rattle.xsk_table.proofs.Meeting.{tells}
 use Rattle.xsk_table.proofs.note.take_in.Goals as goal
 
-pub join_seat-requires : goal.join_seat-requires
-join_seat-requires c = (search rules, search rules, search rules, search rules, tells _ _ _ _ _ c.requires.alone.0 c.requires.alone.1 (λ w p. (c.requires.rests w p).1))
+pub join_seat-requires-clause-keeps : goal.join_seat-requires-clause-keeps
+join_seat-requires-clause-keeps c = (tells _ _ _ _ _ c.requires.alone.0 c.requires.alone.1 (λ w p. (c.requires.rests w p).1))

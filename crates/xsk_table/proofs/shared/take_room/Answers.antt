@@ -8,4 +8,4 @@ use Rattle.xsk_table.proofs.shared.take_room.Goals as goal
 pub loop-who-preserved : goal.loop-who-preserved
 loop-who-preserved c =
     subst (AllFirst c.args.config.now c.args.first (c.loop-who.who + 1)) (sym (ap (map vec_items) c.in_ok-push.ensures.items ∙ map_push vec_items c.loop-who.ends.items c.in_ok-lay_ends.field-0))
-    (all_more c.args.config.now c.args.first c.loop-who.who (map vec_items c.loop-who.ends.items) _ c.loop-who.invariant c.in_ok-lay_ends.ensures)
+    (all_more c.args.config.now c.args.first c.loop-who.who (map vec_items c.loop-who.ends.items) _ c.loop-who.invariant c.in_ok-lay_ends.ensures.ends)

@@ -1,9 +1,8 @@
+use Rattle.xsk_table.proofs.Lefts.{left_looked, found_free}
+use Rattle.xsk_model.proofs.Places.{is_ring-self}
 use Rattle.std.proofs.Common.{◌≡◌, set, refl, sym, ap, subst, arith, ◌∙◌}
-use Rattle.xsk_model.specs.Config.{Config}
 use Rattle.xsk_model.specs.Rings.{place}
-use Rattle.xsk_model.specs.Entry.{own, with_told}
-use Rattle.xsk_model.specs.History.{MayGive}
-use Rattle.xsk_desc.specs.Standing.{StandsFor}
+use Rattle.xsk_model.specs.Entry.{own}
 use Rattle.xsk_model.specs.Legal.{IsLegal}
 use Rattle.xsk_model.specs.declared.call.Call.TheVariants.{Reserve}
 use Rattle.xsk_table.specs.View.{Setup}
@@ -14,7 +13,6 @@ use Rattle.xsk_table.specs.Held.{Board, Holder, with_known, known_in}
 use Rattle.xsk_table.proofs.Holding.{pass_reserved}
 use Rattle.xsk_model.proofs.Roles.{two_owners}
 use Rattle.xsk_table.proofs.Knowledge.{in_row, places_left, pass_looked, known_set}
-use Rattle.xsk_table.proofs.Noting.{rest_stands, may_give, notes_ended}
 use Rattle.xsk_table.proofs.pass.Pass.reserve_step.Goals as goal
 
 pub invariant_of-self : goal.invariant_of-self
@@ -23,46 +21,26 @@ invariant_of-self g c =
     let v = c.self.inside.seat.me.0 in
     let L : Holder → Type 0 = λ h. IsLegal h.view.setup.config (own h.who h.view.seen) h.who (Reserve c.args.ring c.args.n) in
     let legal = subst L is c.requires.legal in
-    let setup : v.setup ≡ c.shared.inside.table.shared.key = ap (λ (h : Holder). h.view.setup) (sym is) ∙ c.requires.belongs.setup ∙ ap (λ (b : Board). b.setup) (sym c.shared.view_is) in
-    let at = c.ring_place-place.ensures.value ∙ ap (λ (k : Config). place k c.args.ring) (c.shared.invariant.config_is ∙ ap (λ (k : Setup). k.config) (sym setup)) in
+    let setup : v.setup ≡ c.shared.inside.board.setup = ap (λ (h : Holder). h.view.setup) (sym is) ∙ c.requires.belongs.setup ∙ ap (λ (b : Board). b.setup) (sym c.shared.view_is) in
+    let at = c.requires.at.0 ∙ ap (λ (b : Board). place b.setup.config c.args.ring) (sym c.shared.view_is) ∙ ap (λ (k : Setup). place k.config c.args.ring) (sym setup) in
     let E : Setup → Type 0 = λ k. Extends k c.self.inside.who (Reserve c.args.ring c.args.n) c.reply_by-reply.result v c.reserve_step-free.new.seat.me.0 in
-    let config : v.setup.config ≡ c.shared.inside.config = ap (λ (s : Setup). s.config) setup ∙ sym c.shared.invariant.config_is in
     let rests = ap (λ (h : Holder). h.view.flight) (sym is) ∙ c.requires.rests in
-    let ex = subst E (sym setup) (subst (λ (t : Reply). Extends c.shared.inside.table.shared.key c.self.inside.who (Reserve c.args.ring c.args.n) t v c.reserve_step-free.new.seat.me.0) (sym c.reply_by-reply.ensures) c.reserve_step-free.ensures.history) in
-    let call = Reserve c.args.ring c.args.n in
-    let stands = subst (λ (g : Config). StandsFor g c.self.inside.standing (own c.self.inside.who v.seen)) config (rest_stands v c.self.inside.who c.self.inside.standing c.self.invariant.1 rests) in
-    let gift = subst (λ (g : Config). MayGive g (own c.self.inside.who v.seen) c.self.inside.standing.who call c.reply_by-reply.result) config
-    (may_give v _ c.self.inside.who c.self.inside.standing call c.reply_by-reply.result c.self.invariant.1.caller ex) in (
+    let ex = subst E (sym setup) (subst (λ (t : Reply). Extends c.shared.inside.board.setup c.self.inside.who (Reserve c.args.ring c.args.n) t v c.reserve_step-free.new.seat.me.0) (sym c.reply_by-reply.ensures) c.reserve_step-free.ensures.history) in
+    let call = Reserve c.args.ring c.args.n in (
       pass_reserved v _ _ _ _ c.self.invariant.0 c.args.ring _ c.index-end.result.now legal.known at c.index-end.ensures _ _ c.args.n _ _ c.reply_by-reply.result legal ex c.reserve_step-free.ensures.slots (ap (λ (h : Holder). h.view.flight) (sym is) ∙ c.requires.rests) c.reserve_step-free.ensures.flight (c.granted_by-got.ensures c.args.ring),
-      notes_ended v _ c.self.inside.who c.note_reserved.new.standing call c.reply_by-reply.result (c.note_reserved.ensures.caller ∙ c.self.invariant.1.caller) ex c.reserve_step-free.ensures.flight
-          (subst (λ (g : Config). StandsFor g c.note_reserved.new.standing (with_told (own c.self.inside.who v.seen) call c.reply_by-reply.result)) (sym config) (c.note_reserved.ensures.stands (own c.self.inside.who v.seen) stands gift)),
-      pass_looked v c.reserve_step-free.new.seat.me.0 c.self.inside.who c.self.inside.ends.items call c.reply_by-reply.result ex legal c.self.invariant.2 c.args.ring _ _ legal.known (λ r. refl) at (in_row v.setup c.self.inside.who _ c.self.inside.ends.items c.args.ring _ c.self.invariant.0.ends_hold legal.known at)
-          (λ fills. let n = places_left c.shared.inside.table.shared.key v.setup c.reserve_step-free.new.seat.me.0.seen c.args.ring c.args.n _ _ c.reply_by-reply.result setup c.reserve_step-free.ensures.left c.reply_by-reply.ensures (c.granted_by-got.ensures c.args.ring) in omega arith) (λ empties. absurd ((two_owners v.setup.config c.args.ring c.self.invariant.0.history.opened.config legal.known).2 (sym legal.role ∙ empties))),
+      pass_looked v c.reserve_step-free.new.seat.me.0 c.self.inside.who c.self.inside.ends.items call c.reply_by-reply.result ex legal c.self.invariant.1 c.args.ring _ _ legal.known (λ r. refl) at (in_row v.setup c.self.inside.who _ c.self.inside.ends.items c.args.ring _ c.self.invariant.0.ends_hold legal.known at)
+          (λ fills. let n = places_left c.shared.inside.board.setup v.setup c.reserve_step-free.new.seat.me.0.seen c.args.ring c.args.n _ _ c.reply_by-reply.result setup c.reserve_step-free.ensures.left c.reply_by-reply.ensures (c.granted_by-got.ensures c.args.ring) in omega arith) (λ empties. absurd ((two_owners v.setup.config c.args.ring c.self.invariant.0.history.opened.config legal.known).2 (sym legal.role ∙ empties))),
+      left_looked v c.reserve_step-free.new.seat.me.0 c.self.inside.who c.self.inside.ends.items call c.reply_by-reply.result ex c.self.invariant.2 c.args.ring _ _ legal.known (λ r. refl) at (in_row v.setup c.self.inside.who _ c.self.inside.ends.items c.args.ring _ c.self.invariant.0.ends_hold legal.known at)
+          (is_ring-self c.args.ring)
+          (places_left c.shared.inside.board.setup v.setup c.reserve_step-free.new.seat.me.0.seen c.args.ring c.args.n _ _ c.reply_by-reply.result setup c.reserve_step-free.ensures.left c.reply_by-reply.ensures (c.granted_by-got.ensures c.args.ring)
+          ∙ sym (found_free v.setup c.self.inside.who c.args.ring _ _ c.reserve_step-free.new.seat.me.0.seen ex.seen legal.role)),
     )
-
-pub note_reserved-requires : goal.note_reserved-requires
-note_reserved-requires g c =
-    let is = sym c.self.view_is in
-    let v = c.self.inside.seat.me.0 in
-    let L : Holder → Type 0 = λ h. IsLegal h.view.setup.config (own h.who h.view.seen) h.who (Reserve c.args.ring c.args.n) in
-    let legal = subst L is c.requires.legal in
-    let setup : v.setup ≡ c.shared.inside.table.shared.key = ap (λ (h : Holder). h.view.setup) (sym is) ∙ c.requires.belongs.setup ∙ ap (λ (b : Board). b.setup) (sym c.shared.view_is) in
-    let at = c.ring_place-place.ensures.value ∙ ap (λ (k : Config). place k c.args.ring) (c.shared.invariant.config_is ∙ ap (λ (k : Setup). k.config) (sym setup)) in
-    let E : Setup → Type 0 = λ k. Extends k c.self.inside.who (Reserve c.args.ring c.args.n) c.reply_by-reply.result v c.reserve_step-free.new.seat.me.0 in
-    let config : v.setup.config ≡ c.shared.inside.config = ap (λ (s : Setup). s.config) setup ∙ sym c.shared.invariant.config_is in
-    let rests = ap (λ (h : Holder). h.view.flight) (sym is) ∙ c.requires.rests in
-    let ex = subst E (sym setup) (subst (λ (t : Reply). Extends c.shared.inside.table.shared.key c.self.inside.who (Reserve c.args.ring c.args.n) t v c.reserve_step-free.new.seat.me.0) (sym c.reply_by-reply.ensures) c.reserve_step-free.ensures.history) in
-    let call = Reserve c.args.ring c.args.n in
-    let stands = subst (λ (g : Config). StandsFor g c.self.inside.standing (own c.self.inside.who v.seen)) config (rest_stands v c.self.inside.who c.self.inside.standing c.self.invariant.1 rests) in
-    let gift = subst (λ (g : Config). MayGive g (own c.self.inside.who v.seen) c.self.inside.standing.who call c.reply_by-reply.result) config
-    (may_give v _ c.self.inside.who c.self.inside.standing call c.reply_by-reply.result c.self.invariant.1.caller ex) in
-    record { may = (own c.self.inside.who v.seen, stands, gift) }
 
 pub returns-clause-known : goal.returns-clause-known
 returns-clause-known g c =
     let is = sym c.self.view_is in
     let v = c.self.inside.seat.me.0 in
-    let setup : v.setup ≡ c.shared.inside.table.shared.key = ap (λ (h : Holder). h.view.setup) (sym is) ∙ c.requires.belongs.setup ∙ ap (λ (b : Board). b.setup) (sym c.shared.view_is) in
-    let at = c.ring_place-place.ensures.value ∙ ap (λ (k : Config). place k c.args.ring) (c.shared.invariant.config_is ∙ ap (λ (k : Setup). k.config) (sym setup)) in
-    let left = places_left c.shared.inside.table.shared.key v.setup c.reserve_step-free.new.seat.me.0.seen c.args.ring c.args.n _ _ c.reply_by-reply.result setup c.reserve_step-free.ensures.left c.reply_by-reply.ensures (c.granted_by-got.ensures c.args.ring) in
+    let setup : v.setup ≡ c.shared.inside.board.setup = ap (λ (h : Holder). h.view.setup) (sym is) ∙ c.requires.belongs.setup ∙ ap (λ (b : Board). b.setup) (sym c.shared.view_is) in
+    let at = c.requires.at.0 ∙ ap (λ (b : Board). place b.setup.config c.args.ring) (sym c.shared.view_is) ∙ ap (λ (k : Setup). place k.config c.args.ring) (sym setup) in
+    let left = places_left c.shared.inside.board.setup v.setup c.reserve_step-free.new.seat.me.0.seen c.args.ring c.args.n _ _ c.reply_by-reply.result setup c.reserve_step-free.ensures.left c.reply_by-reply.ensures (c.granted_by-got.ensures c.args.ring) in
     known_set c.self.inside.ends.items _ _ ∙ (λ i. set (known_in c.self.inside.ends.items) (at i) (left i)) ∙ ap (λ (h : Holder). with_known h c.args.ring (free_after h.view.setup c.reserve_step-free.new.seat.me.0.seen c.args.ring)) c.self.view_is

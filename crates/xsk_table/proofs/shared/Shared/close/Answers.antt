@@ -23,7 +23,7 @@ finish-requires-clause-all c w lt =
 
 pub returns-clause-history : goal.returns-clause-history
 returns-clause-history c =
-    let b : Board = record { table = c.self.inside.table.shared.table_id; setup = c.self.inside.table.shared.key } in
+    let b : Board = record { table = c.self.inside.board.table; setup = c.self.inside.board.setup } in
     let v : View = c.join-seat.result.me.0 in
     let is = c.callers.ensures ∙ ap callers_of c.self.invariant.config_is in
     let seen = ap (λ (n : Noted). n.seen) c.take_note-note.ensures.note in
@@ -33,7 +33,7 @@ returns-clause-history c =
 
 pub returns-clause-frames : goal.returns-clause-frames
 returns-clause-frames c =
-    let k : Setup = c.self.inside.table.shared.key in
+    let k : Setup = c.self.inside.board.setup in
     let slots = slots_items c.finish.result.slots in
     let log : c.take_note-note.new.seat.me.0.seen ≡ c.take_note-note.result.seen = ap (λ (m : Seated). m.0.seen) c.take_note-note.ensures.same.2 ∙ sym (ap (λ (n : Noted). n.seen) c.take_note-note.ensures.note) in
     let P : Setup × List Entry × List Frame → Type 0 = λ t. AreFramesOut t.0.config (state_after t.0.config t.0.frames t.1) t.2 in
