@@ -1,6 +1,6 @@
 -- Rules, and the verdicts that meet them. That a program redirects by sums of a packet's first bytes is this project's own;
 -- a real program is BPF code (af_xdp.rst, "XSKMAP / BPF_MAP_TYPE_XSKMAP").
-use Rattle.std.specs.Prelude.{◌≡◌, ℕ, ◌+◌, ◌*◌, ◌<◌, ◌≤◌, ◌==◌, Bool, true, false, if◌then◌else◌, List, length, slice_index}
+use Rattle.std.specs.Prelude.{◌≡◌, ◌≢◌, ◌⊎◌, ℕ, ◌+◌, ◌*◌, ◌<◌, ◌≤◌, ◌==◌, ◌&&◌, Bool, true, false, if◌then◌else◌, List, [], ◌∷◌, length, slice_index}
 use Rattle.xsk_model.specs.Steering.{packet_cell}
 use Rattle.xsk_prog.specs.declared.rule.Rule.{Rule}
 use Rattle.xsk_prog.specs.declared.rule.Rule.TheVariants.{Redirect as ByClass, Drop as DropAll, Pass as PassAll, EtherType, Fixed, AtMost}
@@ -45,6 +45,13 @@ Meets (EtherType kind sockets) packet queue verdict = verdict ≡ (if ether_type
 Meets (Fixed cell) packet queue verdict = verdict ≡ Redirect cell
 Meets (AtMost cells) packet queue verdict = IsBelow cells verdict
 
+-- a verdict meets rules in a chain: there is none and it is Pass, it meets the first and isn't Pass, or Pass meets the first and
+-- it meets the rest
+abbrev pub MeetsChain : List Rule → List ℕ → ℕ → Verdict → Type 0
+MeetsChain [] packet queue verdict = verdict ≡ Pass
+MeetsChain (rule ∷ rules) packet queue verdict =
+    (Meets rule packet queue verdict × (verdict ≢ Pass)) ⊎ (Meets rule packet queue Pass × MeetsChain rules packet queue verdict)
+
 -- the verdict that a rule gives itself: its only one, and of those of AtMost that the packet is dropped
 abbrev pub verdict_of : Rule → List ℕ → ℕ → Verdict
 verdict_of (ByClass sockets) packet queue = Redirect (packet_cell sockets queue packet)
@@ -70,3 +77,24 @@ is_exact (AtMost cells) = false
 
 abbrev pub OneVerdict : Type 0
 OneVerdict = (rule : Rule) (packet : List ℕ) (queue : ℕ) (verdict : Verdict) → is_exact rule ≡ true → Meets rule packet queue verdict → verdict ≡ verdict_of rule packet queue
+
+abbrev pub or_next : Verdict → Verdict → Verdict
+or_next Drop next = Drop
+or_next Pass next = next
+or_next (Redirect cell) next = Redirect cell
+
+-- the verdict that rules in a chain give themselves: the first that isn't Pass
+abbrev pub chain_verdict_of : List Rule → List ℕ → ℕ → Verdict
+chain_verdict_of [] packet queue = Pass
+chain_verdict_of (rule ∷ rules) packet queue = or_next (verdict_of rule packet queue) (chain_verdict_of rules packet queue)
+
+abbrev pub MeetsOwnChain : Type 0
+MeetsOwnChain = (rules : List Rule) (packet : List ℕ) (queue : ℕ) → MeetsChain rules packet queue (chain_verdict_of rules packet queue)
+
+abbrev pub are_exact : List Rule → Bool
+are_exact [] = true
+are_exact (rule ∷ rules) = is_exact rule && are_exact rules
+
+abbrev pub OneChainVerdict : Type 0
+OneChainVerdict = (rules : List Rule) (packet : List ℕ) (queue : ℕ) (verdict : Verdict) → are_exact rules ≡ true → MeetsChain rules packet queue verdict
+    → verdict ≡ chain_verdict_of rules packet queue

@@ -2,9 +2,11 @@
 //! "Overview" and "XSKMAP / BPF_MAP_TYPE_XSKMAP").
 #![tactic(auto)]
 
+mod chain;
 pub mod laws;
 mod program;
 mod rule;
 
+pub use chain::{Chain, ChainError, MOST_PROGRAMS};
 pub use program::XdpProgram;
 pub use rule::{Rule, Verdict};

@@ -1,0 +1,87 @@
+//! Programs in a chain, of which the first that doesn't pass a packet on decides.
+ghost use Rattle.std.specs.Prelude.{◌≡◌, ◌≤◌, ◌<◌, List, [], ◌∷◌, ◌++◌, length, map, OnOk, OnErr, IfErr, IfOk, Err};
+ghost use Rattle.xsk_prog.specs.Rules.{IsRuled, MeetsChain};
+ghost use Rattle.xsk_prog.specs.Chain.{AllObey, ChainAnswers, rules_of};
+ghost use Rattle.xsk_prog.specs.declared.chain.ChainError.TheVariants.{TooLong, OutOfMemory};
+
+use crate::{Verdict, XdpProgram};
+use std::alloc::Global;
+use std::marker::Model;
+use thiserror::Error;
+
+/// The most programs of a chain.
+pub const MOST_PROGRAMS: usize = 8;
+
+/// Why a program isn't taken into a chain.
+#[derive(Clone, Copy, Debug, Error, PartialEq, Eq)]
+pub enum ChainError {
+    #[error("the chain has 8 programs")]
+    TooLong,
+    #[error("memory couldn't be had")]
+    OutOfMemory,
+}
+
+/// At most 8 programs in order, each of which is asked where all before it pass the packet on (as libxdp's dispatcher runs
+/// the programs of a device).
+#[derive(Drop)]
+pub struct Chain<F> {
+    programs: Vec<XdpProgram<F>>,
+}
+
+impl<F> Model for Chain<F> {
+    ghost use Rattle.std.specs.Prelude.{List, length, ◌≤◌};
+    ghost use Rattle.xsk_prog.specs.declared.program.XdpProgram.{XdpProgram};
+
+    ghost Value = { List (XdpProgram F) };
+
+    ghost view = { λ c. c.programs.items };
+
+    ghost invariant = { λ c. length c.programs.items ≤ 8 };
+}
+
+impl<F: Fn(&[u8], u32) -> Verdict> Chain<F> {
+    /// A chain of no program, which passes every packet on. It takes no memory.
+    pub fn new(alloc: Global) -> Chain<F>
+        ensures { result ≡ [] }
+    {
+        Chain {
+            programs: Vec::new(alloc),
+        }
+    }
+
+    /// Puts a program behind those of the chain. It is refused as `TooLong` exactly where 8 stand there, and else for want of
+    /// memory alone; then it comes back, and the chain is as it was.
+    pub fn push(&mut self, program: XdpProgram<F>) -> Result<(), (ChainError, XdpProgram<F>)>
+        ensures pushed { OnOk result ((self.new ≡ self.old ++ program ∷ []) × (length self.old < 8)) }
+        ensures refused { OnErr result (self.new ≡ self.old) }
+        ensures back { IfErr result (λ refusal. refusal.1 ≡ program) }
+        ensures long { IfErr result (λ refusal. refusal.0 ≡ TooLong → length self.old ≡ 8) }
+        ensures short { IfErr result (λ refusal. refusal.0 ≡ OutOfMemory → length self.old < 8) }
+    {
+        if self.programs.len() >= MOST_PROGRAMS {
+            return Err((ChainError::TooLong, program));
+        }
+        if self.programs.reserve(1).is_err() {
+            return Err((ChainError::OutOfMemory, program));
+        }
+        self.programs.push_reserved(program);
+        Ok(())
+    }
+
+    /// What the chain answers of a packet of 14 to 262,144 bytes on a queue below 4: the first answer that isn't Pass, and Pass
+    /// where there is none. No program behind that one is asked.
+    pub fn verdict(&self, packet: &[u8], queue: u32) -> Verdict
+        requires packet { IsRuled packet.now queue }
+        requires obeys { AllObey F.Fn self.now }
+        ensures asked { ChainAnswers F.Fn self.now packet.now queue result }
+        ensures meets { MeetsChain (rules_of self.now) packet.now queue result }
+    {
+        for place in 0..self.programs.len() {
+            let verdict = self.programs[place].verdict(packet, queue);
+            if verdict != Verdict::Pass {
+                return verdict;
+            }
+        }
+        Verdict::Pass
+    }
+}
