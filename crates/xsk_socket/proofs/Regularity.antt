@@ -154,6 +154,7 @@ regular-config l fits =
       served = all_numbered (IsServed c.sockets) (pairs_in l) (pair_in l) (served l fits);
       maps = length-numbered l.ports (map_in l);
       cells = all_numbered (IsMap (length c.sockets)) l.ports (map_in l) (map_is l fits);
+      closing = tt;
     }
 
 -- ---- regular

@@ -175,6 +175,7 @@ pub setup-config : (s : State) → IsSetup s → (0 < length s.sockets) → list
       cells = numbered s.ports (map_on s.sockets s.queues);
       sg = sg;
       wakeup = wakeup;
+      closing = None;
     })
 setup-config s is some bound sg wakeup =
     let each = AllPass-from_list_all is_bound s.sockets bound in
@@ -195,6 +196,7 @@ setup-config s is some bound sg wakeup =
       served = All-weaker (IsPair s.sockets) (IsServed (map info_in s.sockets)) (λ p. served_one s.sockets p) s.pairs is.pairs;
       maps = length-numbered s.ports (map_on s.sockets s.queues);
       cells = all_numbered (IsMap (length (map info_in s.sockets))) s.ports (map_on s.sockets s.queues) (λ port below. map_is s.sockets s.queues port is.few);
+      closing = tt;
     }
   where
     some_pair : (ports queues : ℕ) (pairs : List PairInfo) (x : Socket) (bound : Option Place) → is_some bound ≡ true → IfSome bound (IsPlaced ports queues pairs x) → 1 ≤ length pairs

@@ -39,4 +39,5 @@ regular_of l = record {
   cells = numbered l.ports (map_in l);
   sg = l.sg;
   wakeup = l.wakeup;
+  closing = None;
 }

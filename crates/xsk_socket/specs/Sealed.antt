@@ -48,4 +48,5 @@ sealed g ports queues calls = record {
   cells = numbered ports (on_port calls queues);
   sg = is_set (flags_of calls) 16;
   wakeup = is_set (flags_of calls) 8;
+  closing = None;
 }
