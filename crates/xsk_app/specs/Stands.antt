@@ -8,9 +8,11 @@ use Rattle.xsk_model.specs.declared.call.Act.{Act}
 use Rattle.xsk_model.specs.declared.call.Act.TheVariants.{Call as Calls, Ended as HasEnded}
 use Rattle.xsk_turns.specs.AppTurns.{AppKept, AppNoted, pair_of, tx_of, tx_pair, lanes_of, back_at, kick, wake, wake_both, pass_on, receive_lane, visit_lanes, give_back, complete_side, visit_sides, with_seen, with_gone, look_rx_done, look_gone, end_turn, turn_sides, app_turn}
 use Rattle.xsk_app.specs.declared.machine.Machine.{Machine}
+use Rattle.xsk_app.specs.declared.machine.Next.{Next}
+use Rattle.xsk_app.specs.declared.machine.Next.TheVariants.{Lane, Side, Second, Turn as NextTurn}
 use Rattle.xsk_app.specs.declared.machine.Turn.{Turn}
 use Rattle.xsk_app.specs.declared.machine.Wait.{Wait}
-use Rattle.xsk_app.specs.declared.machine.Wait.TheVariants.{Start, PeekRx, ReleaseRx, ReserveTx, SubmitTx, LookNeedTx, KickTx, PeekComp, ReleaseComp, ReserveFill, SubmitFill, LookNeedFill, KickFill, LookRxDone, TellTxDone, KickFirst, KickSecond, LookGone, Ended}
+use Rattle.xsk_app.specs.declared.machine.Wait.TheVariants.{Start, PeekRx, ReleaseRx, ReserveTx, SubmitTx, PeekComp, ReleaseComp, ReserveFill, SubmitFill, LookNeed, Kick, LookRxDone, TellTxDone, LookGone, Ended}
 
 abbrev pub noted_by : Turn → AppNoted
 noted_by t = record { seen = t.seen; gone = t.gone; lanes_empty = t.lanes_empty; sides_empty = t.sides_empty }
@@ -45,6 +47,13 @@ after_group c app side noted kept = give_back c side zero (back_at kept side) ke
 abbrev pub wake_by : ℕ → AppKept → Script AppKept → ℕ → Script AppKept
 wake_by pair kept next number = if number == 1 then kick pair kept next else next
 
+-- behind a wake
+abbrev pub after : Config → ℕ → Next → AppNoted → AppKept → Script AppKept
+after c app (Lane lane) noted kept = after_full_lane c app lane noted kept
+after c app (Side side) noted kept = after_group c app side noted kept
+after c app Second noted kept = kick (pair_of c app 1) kept (again kept)
+after c app NextTurn noted kept = again kept
+
 -- it sends nothing more
 abbrev pub told_tx_done : AppKept → AppKept
 told_tx_done kept = record kept { tx_done = true }
@@ -63,19 +72,15 @@ left c app (PeekRx lane) noted kept = items_or_empty (receive_lane c app lane ke
 left c app (ReleaseRx lane) noted kept = on_released (pass_on c app lane kept (after_full_lane c app lane noted))
 left c app (ReserveTx lane) noted kept = by_reply (pass_on c app lane kept (after_full_lane c app lane noted))
 left c app (SubmitTx lane) noted kept = on_submitted (wake c (NeedTx (tx_of c app lane)) (tx_pair c app lane) kept (after_full_lane c app lane noted kept))
-left c app (LookNeedTx lane) noted kept = on_old (wake_by (tx_pair c app lane) kept (after_full_lane c app lane noted kept))
-left c app (KickTx lane) noted kept = on_old (λ old. after_full_lane c app lane noted kept)
 left c app (PeekComp side) noted kept = items_or_empty (complete_side c app side kept (after_full_side c app side noted)) (after_side c app side noted kept)
 left c app (ReleaseComp side) noted kept = on_released (after_group c app side noted kept)
 left c app (ReserveFill side home count) noted kept = by_reply (after_group c app side noted kept)
 left c app (SubmitFill side home) noted kept = on_submitted (wake c (NeedFill home) home kept (after_group c app side noted kept))
-left c app (LookNeedFill side home) noted kept = on_old (wake_by home kept (after_group c app side noted kept))
-left c app (KickFill side) noted kept = on_old (λ old. after_group c app side noted kept)
+left c app (LookNeed pair next) noted kept = on_old (wake_by pair kept (after c app next noted kept))
+left c app (Kick next) noted kept = on_old (λ old. after c app next noted kept)
 left c app (LookRxDone side) noted kept =
     on_old (λ done. look_rx_done c app (2 - (side + 1)) (side + 1) (with_seen kept side done))
 left c app TellTxDone noted kept = on_old (λ old. wake_both c app (told_tx_done kept))
-left c app KickFirst noted kept = on_old (λ old. kick (pair_of c app 1) kept (again kept))
-left c app KickSecond noted kept = on_old (λ old. again kept)
 left c app (LookGone side) noted kept =
     on_old (λ gone. look_gone c app (2 - (side + 1)) (side + 1) (with_gone kept side gone))
 left c app Ended noted kept = λ reply. never

@@ -1,7 +1,7 @@
 -- Which kind of reply the application's machine waits for.
 use Rattle.xsk_model.specs.Expected.{Expected, nothing, place, submitted, item, released, number, ended}
 use Rattle.xsk_app.specs.declared.machine.Wait.{Wait}
-use Rattle.xsk_app.specs.declared.machine.Wait.TheVariants.{Start, PeekRx, ReleaseRx, ReserveTx, SubmitTx, LookNeedTx, KickTx, PeekComp, ReleaseComp, ReserveFill, SubmitFill, LookNeedFill, KickFill, LookRxDone, TellTxDone, KickFirst, KickSecond, LookGone, Ended}
+use Rattle.xsk_app.specs.declared.machine.Wait.TheVariants.{Start, PeekRx, ReleaseRx, ReserveTx, SubmitTx, PeekComp, ReleaseComp, ReserveFill, SubmitFill, LookNeed, Kick, LookRxDone, TellTxDone, LookGone, Ended}
 
 abbrev pub expects : Wait → Expected
 expects Start = nothing
@@ -9,18 +9,14 @@ expects (PeekRx lane) = item
 expects (ReleaseRx lane) = released
 expects (ReserveTx lane) = place
 expects (SubmitTx lane) = submitted
-expects (LookNeedTx lane) = number
-expects (KickTx lane) = number
 expects (PeekComp side) = item
 expects (ReleaseComp side) = released
 expects (ReserveFill side home count) = place
 expects (SubmitFill side home) = submitted
-expects (LookNeedFill side home) = number
-expects (KickFill side) = number
+expects (LookNeed pair next) = number
+expects (Kick next) = number
 expects (LookRxDone side) = number
 expects TellTxDone = number
-expects KickFirst = number
-expects KickSecond = number
 expects (LookGone side) = number
 expects Ended = ended
 
@@ -30,7 +26,5 @@ IsBare Start = Unit {0}
 IsBare (ReleaseRx lane) = Unit {0}
 IsBare (LookRxDone side) = Unit {0}
 IsBare TellTxDone = Unit {0}
-IsBare KickFirst = Unit {0}
-IsBare KickSecond = Unit {0}
 IsBare (LookGone side) = Unit {0}
 IsBare _ = ⊥

@@ -8,8 +8,10 @@ use Rattle.xsk_umem.specs.declared.batch.Item.{Item}
 use Rattle.xsk_model.specs.Config.{Config, pool_of, batch_of}
 use Rattle.xsk_turns.specs.AppTurns.{rx_of, tx_of, tx_pair, lanes_of, home_of, group_of, is_set}
 use Rattle.xsk_app.specs.declared.machine.Way.{Way}
+use Rattle.xsk_app.specs.declared.machine.Next.{Next}
+use Rattle.xsk_app.specs.declared.machine.Next.TheVariants.{Lane, Side, Second, Turn}
 use Rattle.xsk_app.specs.declared.machine.Wait.{Wait}
-use Rattle.xsk_app.specs.declared.machine.Wait.TheVariants.{Start, PeekRx, ReleaseRx, ReserveTx, SubmitTx, LookNeedTx, KickTx, PeekComp, ReleaseComp, ReserveFill, SubmitFill, LookNeedFill, KickFill, LookRxDone, TellTxDone, KickFirst, KickSecond, LookGone, Ended}
+use Rattle.xsk_app.specs.declared.machine.Wait.TheVariants.{PeekRx, ReleaseRx, ReserveTx, SubmitTx, PeekComp, ReleaseComp, ReserveFill, SubmitFill, LookNeed, Kick, LookRxDone, LookGone}
 
 -- the way of a lane between the pairs of two sides
 pub record IsWay (pairs : List ℕ) (classes lane : ℕ) (way : Way) : Type 0 where
@@ -29,28 +31,29 @@ abbrev pub IsGroup : ℕ → ℕ → List Frame → ℕ → ℕ → Type 0
 IsGroup pool batch [] home count = ⊥
 IsGroup pool batch (frame ∷ frames) home count = (home ≡ home_of pool frame) × (count ≡ length (group_of pool batch frame frames))
 
+-- where it goes on behind a wake there is such a lane or side
+abbrev pub CanGoOn : List (List Item) → Next → Type 0
+CanGoOn pending (Lane lane) = lane < length pending
+CanGoOn pending (Side side) = side < 2
+CanGoOn pending Second = Unit {0}
+CanGoOn pending Turn = Unit {0}
+
 -- Where it waits there is such a lane or side. It peeks RX where no item of the lane is pending, and COMPLETION where the side
 -- has nothing to give back; and it asks for places on FILL for the frames that the side gives back next.
 abbrev pub IsReady : Config → List (List Item) → List (List Frame) → Wait → Type 0
-IsReady c pending back Start = Unit {0}
 IsReady c pending back (PeekRx lane) = (lane < length pending) × (length (slice_index_or pending lane []) ≡ 0)
 IsReady c pending back (ReleaseRx lane) = lane < length pending
 IsReady c pending back (ReserveTx lane) = lane < length pending
 IsReady c pending back (SubmitTx lane) = lane < length pending
-IsReady c pending back (LookNeedTx lane) = lane < length pending
-IsReady c pending back (KickTx lane) = lane < length pending
 IsReady c pending back (PeekComp side) = (side < 2) × (length (slice_index_or back side []) ≡ 0)
 IsReady c pending back (ReleaseComp side) = side < 2
 IsReady c pending back (ReserveFill side home count) = (side < 2) × IsGroup (pool_of c) (batch_of c) (slice_index_or back side []) home count
 IsReady c pending back (SubmitFill side home) = side < 2
-IsReady c pending back (LookNeedFill side home) = side < 2
-IsReady c pending back (KickFill side) = side < 2
+IsReady c pending back (LookNeed pair next) = CanGoOn pending next
+IsReady c pending back (Kick next) = CanGoOn pending next
 IsReady c pending back (LookRxDone side) = side < 2
-IsReady c pending back TellTxDone = Unit {0}
-IsReady c pending back KickFirst = Unit {0}
-IsReady c pending back KickSecond = Unit {0}
 IsReady c pending back (LookGone side) = side < 2
-IsReady c pending back Ended = Unit {0}
+IsReady c pending back wait = Unit {0}
 
 -- the first of so many more sides, from this one on, that isn't set
 abbrev pub first_unset : List Bool → ℕ → ℕ → Option ℕ
@@ -66,24 +69,24 @@ IsGroup-prop pool batch [] home count = hlevel props
 IsGroup-prop pool batch (frame ∷ frames) home count =
     ×_prop (same_number home (home_of pool frame)) (same_number count (length (group_of pool batch frame frames)))
 
+CanGoOn-prop : (pending : List (List Item)) (next : Next) → IsProp (CanGoOn pending next)
+CanGoOn-prop pending (Lane lane) = le_prop
+CanGoOn-prop pending (Side side) = le_prop
+CanGoOn-prop pending Second = Unit-prop
+CanGoOn-prop pending Turn = Unit-prop
+
 pub IsReady-prop : (c : Config) (pending : List (List Item)) (back : List (List Frame)) (wait : Wait) → IsProp (IsReady c pending back wait)
-IsReady-prop c pending back Start = Unit-prop
 IsReady-prop c pending back (PeekRx lane) = ×_prop le_prop (same_number (length (slice_index_or pending lane [])) 0)
 IsReady-prop c pending back (ReleaseRx lane) = le_prop
 IsReady-prop c pending back (ReserveTx lane) = le_prop
 IsReady-prop c pending back (SubmitTx lane) = le_prop
-IsReady-prop c pending back (LookNeedTx lane) = le_prop
-IsReady-prop c pending back (KickTx lane) = le_prop
 IsReady-prop c pending back (PeekComp side) = ×_prop le_prop (same_number (length (slice_index_or back side [])) 0)
 IsReady-prop c pending back (ReleaseComp side) = le_prop
 IsReady-prop c pending back (ReserveFill side home count) =
     ×_prop le_prop (IsGroup-prop (pool_of c) (batch_of c) (slice_index_or back side []) home count)
 IsReady-prop c pending back (SubmitFill side home) = le_prop
-IsReady-prop c pending back (LookNeedFill side home) = le_prop
-IsReady-prop c pending back (KickFill side) = le_prop
+IsReady-prop c pending back (LookNeed pair next) = CanGoOn-prop pending next
+IsReady-prop c pending back (Kick next) = CanGoOn-prop pending next
 IsReady-prop c pending back (LookRxDone side) = le_prop
-IsReady-prop c pending back TellTxDone = Unit-prop
-IsReady-prop c pending back KickFirst = Unit-prop
-IsReady-prop c pending back KickSecond = Unit-prop
 IsReady-prop c pending back (LookGone side) = le_prop
-IsReady-prop c pending back Ended = Unit-prop
+IsReady-prop c pending back wait = Unit-prop

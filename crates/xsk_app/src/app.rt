@@ -1,7 +1,7 @@
 //! The application, as other crates use it.
 ghost use Rattle.std.specs.Prelude.{◌≡◌, None, Some, List, ℕ, ◌+◌, ◌-◌, ◌*◌, ◌/◌, ◌%◌, ◌<◌, ◌≤◌, IfOk, [], ◌∷◌, length, replicate, vec_len, slice_index};
 ghost use Rattle.std.specs.List.{slice_index_or};
-ghost use Rattle.xsk_model.specs.Config.{IsRegular};
+ghost use Rattle.xsk_turns.specs.Owned.{IsSteady};
 ghost use Rattle.xsk_model.specs.Marks.{apps_of};
 ghost use Rattle.xsk_app.specs.declared.machine.Way.{Way};
 ghost use Rattle.xsk_app.specs.Ways.{IsWay};
@@ -42,9 +42,9 @@ impl<'a> Model for App<'a> {
 impl<'a> App<'a> {
     ghost use Rattle.xsk_app.specs.Runs.{IsNew, Stands, StandsWith, TellsWith};
 
-    /// The application with this number, of a regular configuration that has it.
+    /// The application with this number, of a regular configuration that has it and in which no socket is closed.
     pub fn new(alloc: Global, config: &'a Config, app: u32) -> Result<App<'a>, OutOfMemory>
-        requires regular { IsRegular config.now }
+        requires steady { IsSteady config.now }
         requires app { app < apps_of config.now }
         ensures expected { IfOk result (λ a. a.expected ≡ nothing) }
         ensures new { IfOk result (λ a. IsNew config.now app a) }
@@ -73,7 +73,6 @@ impl<'a> App<'a> {
                 sides_empty: true,
             },
             wait: Wait::Start,
-            alloc,
         };
         Ok(App { machine })
     }
@@ -95,7 +94,7 @@ impl<'a> App<'a> {
         ensures tells { (c : AConfig) (app : ℕ) (l : List Told) (call : ACall) (r : AReply)
             → Stands c app self.old call l → reply ≡ Some r → Fits c l call r → TellsWith c app self.new result (with_told l call r) }
     {
-        let mut items = Batch::new(self.machine.alloc);
+        let mut items = Batch::new();
         let answer = split_reply(reply, &mut items);
         let ask = self.step(answer, &mut items);
         join_ask(ask, items)
@@ -163,7 +162,7 @@ fn new_pending(alloc: Global, lanes: usize) -> Result<Vec<Batch>, OutOfMemory>
 {
     let mut pending = Vec::with_capacity(alloc, lanes)?;
     for _ in 0..lanes {
-        pending.push(Batch::new(alloc))?;
+        pending.push(Batch::new())?;
     }
     Ok(pending)
 }

@@ -14,9 +14,8 @@
 //! With need-wakeup (af_xdp.rst, "XDP_USE_NEED_WAKEUP bind flag") it goes on from a Submit or from its end by
 //!
 //! ```text
-//! SubmitTx ──> LookNeedTx ──> KickTx            the driver of the ring is woken where the ring's flag is set
-//! SubmitFill ──> LookNeedFill ──> KickFill
-//! TellTxDone ──> KickFirst ──> KickSecond       both drivers are woken
+//! SubmitTx, SubmitFill ──> LookNeed ──> Kick    the driver of the ring is woken where the ring's flag is set
+//! TellTxDone ──> Kick ──> Kick                  both drivers are woken
 //! ```
 ghost use Rattle.std.specs.Prelude.{◌≡◌, ◌≢◌, ℕ, ◌+◌, ◌-◌, ◌<◌, ◌≤◌, [], ◌∷◌, IfSome, length, vec_len, map, take, drop};
 ghost use Rattle.xsk_model.specs.Config.{batch_of, pool_of};
@@ -28,15 +27,24 @@ ghost use Rattle.xsk_model.specs.declared.call.Mark.TheVariants as mark;
 ghost use Rattle.xsk_model.specs.declared.call.Reply.TheVariants as reply;
 ghost use Rattle.xsk_turns.specs.AppTurns.{lanes_of, pair_of};
 ghost use Rattle.xsk_turns.specs.Stepping.{joined_ask, joined_answer, IsGivenBack, IsLent};
-ghost use Rattle.xsk_app.specs.Ways.{AreWays, IsGroup, IsReady, IsReady-prop, first_unset};
+ghost use Rattle.xsk_app.specs.Ways.{AreWays, IsGroup, CanGoOn, IsReady, IsReady-prop, first_unset};
 
 use crate::back::Back;
-use std::alloc::Global;
 use xsk_model::{Answer, Ask, Config, Mark, Ring};
 use xsk_umem::Batch;
 
 /// The sides of the application: its two ports.
 pub(crate) const SIDES: usize = 2;
+
+/// Where it goes on behind a wake: behind a lane that had packets, with the next frames of a side, with the wake of the second
+/// driver, or with the next turn.
+#[derive(Clone, Copy)]
+pub(crate) enum Next {
+    Lane { lane: usize },
+    Side { side: usize },
+    Second,
+    Turn,
+}
 
 /// What the machine waits for, each at its lane or its side. `home` is the pair to which `count` frames go back.
 #[derive(Clone, Copy)]
@@ -46,18 +54,15 @@ pub(crate) enum Wait {
     ReleaseRx { lane: usize },
     ReserveTx { lane: usize },
     SubmitTx { lane: usize },
-    LookNeedTx { lane: usize },
-    KickTx { lane: usize },
     PeekComp { side: usize },
     ReleaseComp { side: usize },
     ReserveFill { side: usize, home: u32, count: u32 },
     SubmitFill { side: usize, home: u32 },
-    LookNeedFill { side: usize, home: u32 },
-    KickFill { side: usize },
+    /// The flag of a ring of the pair, whose driver is woken where it is set.
+    LookNeed { pair: u32, next: Next },
+    Kick { next: Next },
     LookRxDone { side: usize },
     TellTxDone,
-    KickFirst,
-    KickSecond,
     LookGone { side: usize },
     Ended,
 }
@@ -96,7 +101,6 @@ pub(crate) struct Machine<'a> {
     pub(crate) tx_done: bool,
     pub(crate) turn: Turn,
     pub(crate) wait: Wait,
-    pub(crate) alloc: Global,
     ghost pooled: { 1 ≤ pool_of config.now },
     ghost classed: { 1 ≤ lanes_of config.now },
     ghost known: { app < apps_of config.now },
@@ -114,7 +118,7 @@ impl<'a> Machine<'a> {
     ghost use Rattle.xsk_app.specs.Waits.{expects, IsBare};
     ghost use Rattle.xsk_app.specs.declared.machine.Wait.TheVariants as wait;
     ghost use Rattle.xsk_turns.specs.AppTurns.{tx_of, tx_pair, kick, wake, wake_both, pass_on, receive_lane, visit_lane, visit_lanes, give_back, complete_side, visit_side, back_at, pending_at, with_back, with_seen, with_gone, look_rx_done, look_gone, tell_tx_done, end_or_look, end_turn, turn_sides};
-    ghost use Rattle.xsk_app.specs.Stands.{GoesOn, to_do, doing, by_reply, IsSame, noted_by, kept_by, from_lane, after_full_lane, from_side, after_full_side, after_group, wake_by, told_tx_done};
+    ghost use Rattle.xsk_app.specs.Stands.{GoesOn, to_do, doing, by_reply, IsSame, noted_by, kept_by, from_lane, after_full_lane, from_side, after_full_side, after_group, after, wake_by, told_tx_done};
     ghost use Rattle.xsk_turns.specs.Script.{again};
 
     /// Goes on with the answer to the last call, whose items stand in the batch, and leaves there the items of the next one.
@@ -130,29 +134,24 @@ impl<'a> Machine<'a> {
         match self.wait {
             Wait::PeekRx { lane } => self.go_on_from_rx(lane, answer, items),
             Wait::ReserveTx { lane } => self.go_on_at_tx(lane, answer, items),
-            Wait::SubmitTx { lane } => self.look_need_tx(lane),
-            Wait::LookNeedTx { lane } => match answer {
-                Some(Answer::Old(need)) => self.learn_need_tx(lane, need),
-                _ => unreachable!(),
-            },
-            Wait::KickTx { lane } => self.go_on_full_lane(lane),
+            Wait::SubmitTx { lane } => self.wake_lane(lane),
             Wait::PeekComp { side } => self.go_on_from_comp(side, answer, items),
             Wait::ReleaseComp { side } => self.give_back(side),
             Wait::ReserveFill { side, home, count } => {
                 self.go_on_at_fill(side, home, count, answer, items)
             }
-            Wait::SubmitFill { side, home } => self.look_need_fill(side, home),
-            Wait::LookNeedFill { side, home } => match answer {
-                Some(Answer::Old(need)) => self.learn_need_fill(side, home, need),
+            Wait::SubmitFill { side, home } => {
+                self.wake(Mark::NeedFill(home), home, Next::Side { side })
+            }
+            Wait::LookNeed { pair, next } => match answer {
+                Some(Answer::Old(need)) => self.learn_need(pair, next, need),
                 _ => unreachable!(),
             },
-            Wait::KickFill { side } => self.give_back(side),
+            Wait::Kick { next } => self.go_on_behind(next),
             Wait::Start
             | Wait::ReleaseRx { .. }
             | Wait::LookRxDone { .. }
             | Wait::TellTxDone
-            | Wait::KickFirst
-            | Wait::KickSecond
             | Wait::LookGone { .. } => Some(self.go_on_bare(answer)),
             Wait::Ended => unreachable!(),
         }
@@ -175,8 +174,6 @@ impl<'a> Machine<'a> {
                 _ => unreachable!(),
             },
             Wait::TellTxDone => self.stop_sending(),
-            Wait::KickFirst => self.kick_second(),
-            Wait::KickSecond => self.begin(),
             Wait::LookGone { side } => match answer {
                 Some(Answer::Old(gone)) => self.learn_gone(side, gone),
                 _ => unreachable!(),
@@ -369,33 +366,69 @@ impl<'a> Machine<'a> {
         Some(Ask::Submit(Ring::Tx(self.ways[lane].tx)))
     }
 
-    /// Looks whether the lane's TX ring needs a wakeup, where the flags are used.
-    fn look_need_tx(&mut self, lane: usize) -> Option<Ask>
+    /// Wakes the driver of the lane's TX ring.
+    fn wake_lane(&mut self, lane: usize) -> Option<Ask>
         requires { lane < vec_len self.old.pending }
         ensures expected { expects self.new.wait ≡ expected_of (joined_ask result []) }
         ensures goes { GoesOn self.old.config.now self.old.app self.new (joined_ask result []) (wake self.old.config.now (mark.NeedTx (tx_of self.old.config.now self.old.app lane)) (tx_pair self.old.config.now self.old.app lane) (kept_by self.old) (after_full_lane self.old.config.now self.old.app lane (noted_by self.old.turn) (kept_by self.old))) }
         ensures same { IsSame self.old self.new }
     {
+        let way = self.ways[lane];
+        self.wake(Mark::NeedTx(way.tx), way.pair, Next::Lane { lane })
+    }
+
+    /// Looks at a ring's flag, where the flags are used, to wake the pair's driver.
+    fn wake(&mut self, need: Mark, pair: u32, next: Next) -> Option<Ask>
+        requires { CanGoOn self.old.pending.items next }
+        ensures expected { expects self.new.wait ≡ expected_of (joined_ask result []) }
+        ensures goes { GoesOn self.old.config.now self.old.app self.new (joined_ask result []) (wake self.old.config.now need pair (kept_by self.old) (after self.old.config.now self.old.app next (noted_by self.old.turn) (kept_by self.old))) }
+        ensures same { IsSame self.old self.new }
+    {
         if self.config.wakeup() {
-            self.wait = Wait::LookNeedTx { lane };
-            Some(Ask::Look(Mark::NeedTx(self.ways[lane].tx)))
+            self.wait = Wait::LookNeed { pair, next };
+            Some(Ask::Look(need))
         } else {
-            self.go_on_full_lane(lane)
+            self.go_on_behind(next)
         }
     }
 
-    /// Wakes the driver of the lane's TX ring where the ring needs it.
-    fn learn_need_tx(&mut self, lane: usize, need: u64) -> Option<Ask>
-        requires { lane < vec_len self.old.pending }
+    /// Wakes the pair's driver where the ring's flag is set.
+    fn learn_need(&mut self, pair: u32, next: Next, need: u64) -> Option<Ask>
+        requires { CanGoOn self.old.pending.items next }
         ensures expected { expects self.new.wait ≡ expected_of (joined_ask result []) }
-        ensures goes { GoesOn self.old.config.now self.old.app self.new (joined_ask result []) (wake_by (tx_pair self.old.config.now self.old.app lane) (kept_by self.old) (after_full_lane self.old.config.now self.old.app lane (noted_by self.old.turn) (kept_by self.old)) need) }
+        ensures goes { GoesOn self.old.config.now self.old.app self.new (joined_ask result []) (wake_by pair (kept_by self.old) (after self.old.config.now self.old.app next (noted_by self.old.turn) (kept_by self.old)) need) }
         ensures same { IsSame self.old self.new }
     {
         if need == 1 {
-            self.wait = Wait::KickTx { lane };
-            Some(Ask::Swap(Mark::Kick(self.ways[lane].pair), 1))
+            Some(self.kick(pair, next))
         } else {
-            self.go_on_full_lane(lane)
+            self.go_on_behind(next)
+        }
+    }
+
+    /// Wakes the pair's driver.
+    fn kick(&mut self, pair: u32, next: Next) -> Ask
+        requires { CanGoOn self.old.pending.items next }
+        ensures expected { expects self.new.wait ≡ expected_by (joined_call result []) }
+        ensures goes { GoesOn self.old.config.now self.old.app self.new (act.Call (joined_call result [])) (kick pair (kept_by self.old) (after self.old.config.now self.old.app next (noted_by self.old.turn) (kept_by self.old))) }
+        ensures same { IsSame self.old self.new }
+    {
+        self.wait = Wait::Kick { next };
+        Ask::Swap(Mark::Kick(pair), 1)
+    }
+
+    /// Goes on behind a wake.
+    fn go_on_behind(&mut self, next: Next) -> Option<Ask>
+        requires { CanGoOn self.old.pending.items next }
+        ensures expected { expects self.new.wait ≡ expected_of (joined_ask result []) }
+        ensures goes { GoesOn self.old.config.now self.old.app self.new (joined_ask result []) (after self.old.config.now self.old.app next (noted_by self.old.turn) (kept_by self.old)) }
+        ensures same { IsSame self.old self.new }
+    {
+        match next {
+            Next::Lane { lane } => self.go_on_full_lane(lane),
+            Next::Side { side } => self.give_back(side),
+            Next::Second => Some(self.kick(self.pairs[1], Next::Turn)),
+            Next::Turn => Some(self.begin()),
         }
     }
 
@@ -492,36 +525,6 @@ impl<'a> Machine<'a> {
         Some(Ask::Submit(Ring::Fill(home)))
     }
 
-    /// Looks whether the home's FILL ring needs a wakeup, where the flags are used.
-    fn look_need_fill(&mut self, side: usize, home: u32) -> Option<Ask>
-        requires { side < 2 }
-        ensures expected { expects self.new.wait ≡ expected_of (joined_ask result []) }
-        ensures goes { GoesOn self.old.config.now self.old.app self.new (joined_ask result []) (wake self.old.config.now (mark.NeedFill home) home (kept_by self.old) (after_group self.old.config.now self.old.app side (noted_by self.old.turn) (kept_by self.old))) }
-        ensures same { IsSame self.old self.new }
-    {
-        if self.config.wakeup() {
-            self.wait = Wait::LookNeedFill { side, home };
-            Some(Ask::Look(Mark::NeedFill(home)))
-        } else {
-            self.give_back(side)
-        }
-    }
-
-    /// Wakes the driver of the home where its FILL ring needs it.
-    fn learn_need_fill(&mut self, side: usize, home: u32, need: u64) -> Option<Ask>
-        requires { side < 2 }
-        ensures expected { expects self.new.wait ≡ expected_of (joined_ask result []) }
-        ensures goes { GoesOn self.old.config.now self.old.app self.new (joined_ask result []) (wake_by home (kept_by self.old) (after_group self.old.config.now self.old.app side (noted_by self.old.turn) (kept_by self.old)) need) }
-        ensures same { IsSame self.old self.new }
-    {
-        if need == 1 {
-            self.wait = Wait::KickFill { side };
-            Some(Ask::Swap(Mark::Kick(home), 1))
-        } else {
-            self.give_back(side)
-        }
-    }
-
     /// Keeps the side's frames, for which the FILL ring of their home has no room.
     fn find_fill_full(&mut self, side: usize) -> Option<Ask>
         requires side { side < 2 }
@@ -598,21 +601,10 @@ impl<'a> Machine<'a> {
     {
         self.tx_done = true;
         if self.config.wakeup() {
-            self.wait = Wait::KickFirst;
-            Ask::Swap(Mark::Kick(self.pairs[0]), 1)
+            self.kick(self.pairs[0], Next::Second)
         } else {
             self.begin()
         }
-    }
-
-    /// Wakes the second driver.
-    fn kick_second(&mut self) -> Ask
-        ensures expected { expects self.new.wait ≡ expected_by (joined_call result []) }
-        ensures goes { GoesOn self.old.config.now self.old.app self.new (act.Call (joined_call result [])) (kick (pair_of self.old.config.now self.old.app 1) (kept_by self.old) (again (kept_by self.old))) }
-        ensures same { IsSame self.old self.new }
-    {
-        self.wait = Wait::KickSecond;
-        Ask::Swap(Mark::Kick(self.pairs[1]), 1)
     }
 
     /// Ends where both drivers had ended as the turn began and nothing is left to give back, and else looks for them.

@@ -21,7 +21,7 @@ use Rattle.xsk_turns.specs.AppTurns.{AppKept, lanes_of, group_of, pending_at, wi
 use Rattle.xsk_turns.specs.AppOwned.{IsApp}
 use Rattle.xsk_turns.proofs.AppGroups.{group_front}
 use Rattle.xsk_turns.proofs.Walks.{Premise, MeetAlong}
-use Rattle.xsk_turns.proofs.AppWalk.{Place, Lanes, Ending, Looking, Waking, Looked, Kicking, TxTold, Family, Said, rx_empty, rx_items, rx_released, tx_granted, tx_full, tx_submitted, comp_empty, comp_items, comp_released, fill_granted, fill_full, fill_submitted, looked_rx_done, told_tx_done, looked_gone, looked_need, kicked, no_lanes, has_items, lanes_done, has_frames, all_given, sides_done, looks, begins, without_need, needs_none, needs_kick, told_quietly, told_both, AtCalls, AtEntries, AtPasses, IsLaw, of_run}
+use Rattle.xsk_turns.proofs.AppWalk.{Place, Lanes, Ending, Looking, Waking, Looked, Kicking, TxTold, Family, Said, rx_empty, rx_items, rx_released, tx_granted, tx_full, tx_submitted, comp_empty, comp_items, comp_released, fill_granted, fill_full, fill_submitted, looked_rx_done, told_tx_done, looked_gone, looked_need, kicked, no_lanes, has_items, lanes_done, has_frames, all_given, sides_done, looks, rests, skips, begins, without_need, needs_none, needs_kick, told_quietly, told_both, AtCalls, AtEntries, AtPasses, IsLaw, of_run}
 use Rattle.xsk_bounds.specs.Totals.{total, put, steps_put, steps_taken, swapped}
 use Rattle.xsk_bounds.proofs.Totals.{total-push}
 use Rattle.xsk_bounds.proofs.Sums.{Applies}
@@ -212,15 +212,17 @@ module _ (c : Config) (a who : ℕ) where
   passes (without_need place need pair) noted kept l = λ h off. go_to (Waking place need pair) place kept l (omega arith) h
   passes (needs_none place need pair n) noted kept l = λ h none. go_to (Looked place need pair n) place kept l (omega arith) h
   passes (needs_kick place need pair n) noted kept l = λ h one. go_to (Looked place need pair n) (Kicking place pair) kept l (omega arith) h
-  passes told_quietly noted kept l = λ h off. go_to TxTold Looking kept l (omega arith) h
+  passes told_quietly noted kept l = λ h off. go_to TxTold (Looking 2) kept l (omega arith) h
   passes told_both noted kept l = λ h on. go_to TxTold _ kept l (omega arith) h
   passes no_lanes noted kept l = λ h e. go_to _ _ kept l (omega arith) h
   passes (has_items lane item items) noted kept l = λ h e. go_to _ _ kept l (omega arith) h
   passes lanes_done noted kept l = λ h e. go_to _ _ kept l (omega arith) h
   passes (has_frames side frame frames) noted kept l = λ h e. go_to _ _ kept l (omega arith) h
-  passes (all_given side) noted kept l = λ h e. go_to _ _ kept l (omega arith) h
+  passes (all_given side) noted kept l = λ h e. go_to _ _ (with_back kept side []) l (omega arith) h
   passes sides_done noted kept l = λ h e. go_to _ _ kept l (omega arith) h
   passes looks noted kept l = λ h e. go_to _ _ kept l (omega arith) h
+  passes rests noted kept l = λ h e. go_to _ _ kept l (omega arith) h
+  passes (skips side) noted kept l = λ h e. go_to _ _ kept l (omega arith) h
   passes begins noted kept l = λ h e. go_to _ _ kept l (omega arith) h
 
   law : IsLaw c a (Lawful c who) At Asked (λ kept l. Applies l)

@@ -18,12 +18,12 @@ few_classes : (c : Config) → IsRegular c → classes_of c ≤ 4
 few_classes c regular = ⊎_elim (λ (e : classes_of c ≡ 1). omega (arith, e)) (λ rest. ⊎_elim (λ (e : classes_of c ≡ 2). omega (arith, e)) (λ (e : classes_of c ≡ 4). omega (arith, e)) rest) regular.classes
 
 pub changes_bounded : FewChanges
-changes_bounded s frames h regular history runs =
+changes_bounded s frames h steady history runs =
     few_changes s.config frames h (λ d. length (input_of s d)) history
-    (λ d lt. driver_drives s.wire s.config d (input_of s d) (own d h) (few_classes s.config regular) (history_own s.config frames h d history) (drivers d lt))
-    (λ a lt. app_applies s.config a (caller_of s.config a) (own (caller_of s.config a) h) (record { config = history.opened.config; regular = regular; known = lt })
+    (λ d lt. driver_drives s.wire s.config d (input_of s d) (own d h) (few_classes s.config steady.regular) (history_own s.config frames h d history) (drivers d lt))
+    (λ a lt. app_applies s.config a (caller_of s.config a) (own (caller_of s.config a) h) (record { config = history.opened.config; steady = steady; known = lt })
     (history_own s.config frames h (caller_of s.config a) history) (apps a lt))
-    (keeps_kicks s.wire s.config frames h (input_of s) regular history drivers apps)
+    (keeps_kicks s.wire s.config frames h (input_of s) steady history drivers apps)
   where
     drivers : (d : ℕ) → d < length s.config.pairs → IsDriverRun s.wire s.config d (input_of s d) (own d h)
     drivers d lt = (runs d (omega (arith, lt))).driver lt

@@ -3,7 +3,7 @@ use Rattle.std.proofs.Common.{◌≡◌, ℕ, ◌<◌, inl, inr, true, false, eq
 use Rattle.std.proofs.lemmas.Bool.{and_from}
 use Rattle.std.proofs.lemmas.List.Sums.{fold_push}
 use Rattle.xsk_umem.specs.Frame.{Frame}
-use Rattle.xsk_model.specs.Config.{Config, IsRegular, classes_of}
+use Rattle.xsk_model.specs.Config.{Config, classes_of}
 use Rattle.xsk_model.specs.Marks.{apps_of}
 use Rattle.xsk_model.specs.Rings.{caller_of, app_of, application_on, port_of, queue_of}
 use Rattle.xsk_model.specs.Opening.{opening}
@@ -22,10 +22,11 @@ use Rattle.xsk_turns.specs.Script.{Script, IsRun, Leaves, Asks}
 use Rattle.xsk_turns.specs.Turns.{Judged, Kept, seat_of, start, turn, IsDriverRun}
 use Rattle.xsk_turns.specs.AppTurns.{AppKept, app_turn, app_start, IsAppRun}
 use Rattle.xsk_turns.specs.AppOwned.{IsApp}
+use Rattle.xsk_turns.specs.Owned.{IsSteady}
 use Rattle.xsk_turns.specs.declared.wire.Wire.{Wire}
 use Rattle.xsk_turns.proofs.ScriptLemmas.{leaves_front, asked_last}
 use Rattle.xsk_turns.proofs.Walks.{Anything, meet_anything}
-use Rattle.xsk_turns.proofs.DriverWalk.{Woken, Family, Said, ClearKick, kicked, untried, none_comes, too_few, waits, drops_full, drops_frameless, visited, idles, arms, looks, finds, parks, disarmed, IsLaw, AtCalls, AtEntries, AtPasses, at_call}
+use Rattle.xsk_turns.proofs.DriverWalk.{Woken, Family, Said, ClearKick, kicked, none_comes, IsLaw, AtCalls, AtEntries, AtPasses, at_call}
 use Rattle.xsk_turns.proofs.AppWalk as walk
 use Rattle.xsk_bounds.specs.Totals.{saw_kick, saw_last}
 use Rattle.xsk_bounds.proofs.Kicks.{KeepsKicks}
@@ -55,19 +56,8 @@ module _ (wire : Wire) (c : Config) (d : ℕ) where
   entries e noted kept l known found h a q = tt
 
   passes : AtPasses (seat_of wire c d) Anything At
-  passes (untried packet later x) noted kept l = λ h e. tt
   passes none_comes noted kept l = λ h e. tt
-  passes (too_few packet s) noted kept l = λ h e. tt
-  passes (waits packet s full) noted kept l = λ h e. tt
-  passes (drops_full packet s) noted kept l = λ h e. tt
-  passes (drops_frameless packet s) noted kept l = λ h e. tt
-  passes visited noted kept l = λ h e. tt
-  passes idles noted kept l = λ h e. tt
-  passes arms noted kept l = λ h e. tt
-  passes looks noted kept l = λ h e. tt
-  passes finds noted kept l = λ h e. tt
-  passes parks noted kept l = λ h e. tt
-  passes disarmed noted kept l = λ h e. tt
+  passes p noted kept l = λ h e. tt
 
   law : IsLaw (seat_of wire c d) Anything At Asked (λ kept l. Unit {0})
   law = record { calls = calls; entries = entries; passes = passes; ends = λ noted kept l n known h a q. tt }
@@ -94,33 +84,11 @@ module _ (c : Config) (a : ℕ) where
 
   app_calls : walk.AtCalls c a AppAt AppAsked
   app_calls (walk.KickDriver place pair) noted kept l known h = refl
-  app_calls (walk.PeekRx lane) noted kept l known h = tt
-  app_calls (walk.ReleaseRx lane n) noted kept l known h = tt
-  app_calls (walk.ReserveTx lane) noted kept l known h = tt
-  app_calls (walk.SubmitTx lane) noted kept l known h = tt
-  app_calls (walk.PeekComp side) noted kept l known h = tt
-  app_calls (walk.ReleaseComp side n) noted kept l known h = tt
-  app_calls (walk.ReserveFill side frame frames) noted kept l known h = tt
-  app_calls (walk.SubmitFill side frame frames) noted kept l known h = tt
-  app_calls (walk.LookRxDone side) noted kept l known h = tt
-  app_calls walk.TellTxDone noted kept l known h = tt
-  app_calls (walk.LookGone side) noted kept l known h = tt
-  app_calls (walk.LookNeed place need pair) noted kept l known h = tt
+  app_calls p noted kept l known h = tt
 
   app_passes : walk.AtPasses c a AppAt
   app_passes walk.no_lanes noted kept l = λ h e. tt
-  app_passes (walk.has_items lane item items) noted kept l = λ h e. tt
-  app_passes walk.lanes_done noted kept l = λ h e. tt
-  app_passes (walk.has_frames side frame frames) noted kept l = λ h e. tt
-  app_passes (walk.all_given side) noted kept l = λ h e. tt
-  app_passes walk.sides_done noted kept l = λ h e. tt
-  app_passes walk.looks noted kept l = λ h e. tt
-  app_passes walk.begins noted kept l = λ h e. tt
-  app_passes (walk.without_need place need pair) noted kept l = λ h e. tt
-  app_passes (walk.needs_none place need pair n) noted kept l = λ h e. tt
-  app_passes (walk.needs_kick place need pair n) noted kept l = λ h e. tt
-  app_passes walk.told_quietly noted kept l = λ h e. tt
-  app_passes walk.told_both noted kept l = λ h e. tt
+  app_passes p noted kept l = λ h e. tt
 
   app_law : walk.IsLaw c a Anything AppAt AppAsked (λ kept l. Unit {0})
   app_law = record { calls = app_calls; entries = λ e noted kept l known h asked q. tt; passes = app_passes; ends = λ noted kept l done h. tt }
@@ -146,7 +114,7 @@ own_split who past later e mine =
     own-append who past (e ∷ later) ∙ ap (λ l. own who past ++ l) (own-append who (e ∷ []) later ∙ ap (λ l. l ++ own who later) (own-push_same who [] e mine))
 
 -- the kicks of a history are swapped so where each caller's own calls are a run
-module _ (wire : Wire) (c : Config) (frames : List Frame) (h : List Entry) (input : ℕ → List Judged) (regular : IsRegular c) (history : IsHistory c frames h)
+module _ (wire : Wire) (c : Config) (frames : List Frame) (h : List Entry) (input : ℕ → List Judged) (steady : IsSteady c) (history : IsHistory c frames h)
     (drivers : (d : ℕ) → d < length c.pairs → IsDriverRun wire c d (input d) (own d h))
     (apps : (a : ℕ) → a < apps_of c → IsAppRun c a (own (caller_of c a) h)) where
   driver_keeps : (d : ℕ) (past later : List Entry) (e : Entry) (value : ℕ) → d < length c.pairs → h ≡ past ++ e ∷ later → e.call ≡ Swap (Kick d) value → e.who ≡ d
@@ -161,7 +129,7 @@ module _ (wire : Wire) (c : Config) (frames : List Frame) (h : List Entry) (inpu
       let who = caller_of c a in
       let run = subst (IsAppRun c a) (ap (own who) split ∙ own_split who past later e mine) (apps a below) in
       let asks = asked_at (app_turn c a) (app_start c) (own who past) (told e) (own who later) run in
-      let one : IsApp c a = record { config = history.opened.config; regular = regular; known = below } in
+      let one : IsApp c a = record { config = history.opened.config; steady = steady; known = below } in
       subst Kicks is (app_kicks c a one (own who past) asks.0 e.call asks.1 asks.2)
 
   pub keeps_kicks : (d : ℕ) → d < length c.pairs → KeepsKicks d h
@@ -173,4 +141,4 @@ module _ (wire : Wire) (c : Config) (frames : List Frame) (h : List Entry) (inpu
       (λ (mine : e.who ≡ d). let cleared = driver_keeps d past later e value below split is mine in inr (cleared.0, mine, cleared.1))
       (λ (other : e.who ≡ app_of c (Fill d)).
       inl (app_keeps d (application_on c (port_of c (Fill d)) (queue_of c (Fill d))) past later e value (omega (arith, swap.caller, other)) split is other))
-      swap.role
+      swap.role.0

@@ -22,7 +22,7 @@ use Rattle.xsk_turns.specs.declared.wire.Wire.{Wire}
 use Rattle.xsk_turns.specs.declared.disposal.Disposal.{Disposal}
 use Rattle.xsk_turns.specs.declared.disposal.Disposal.TheVariants.{Delivered, NoFrames, RxFull, TooLong, Missed}
 use Rattle.xsk_turns.proofs.Walks.{nothing_due, submit_due, release_due}
-use Rattle.xsk_turns.proofs.DriverWalk.{Place, Receiving, Trying, Lacking, Sending, Idling, Arming, Looking, Parked, Woken, Disarming, Family, first_place, Begins, asked, ArmTx, LookFill, DisarmTx, SubmitRx, call_at, told_rx_done, looked_none, looked_long, looked_some, fill_empty, fill_items, fill_released, rx_granted, rx_full, rx_submitted, comp_granted, comp_full, comp_submitted, tx_empty, tx_items, tx_released, looked_tx_done, armed_fill, armed_tx, looked_fill_empty, looked_fill_items, looked_fill_released, looked_tx_empty, looked_tx_items, looked_tx_released, found_end, found_none, kicked, not_kicked, cleared_kick, disarmed_fill, disarmed_tx, untried, none_comes, too_few, waits, drops_full, drops_frameless, visited, idles, arms, looks, finds, parks, disarmed, Said, AtCalls, AtEntries, AtPasses, IsLaw, of_run}
+use Rattle.xsk_turns.proofs.DriverWalk.{Place, Receiving, Trying, Lacking, Sending, Idling, Arming, Which, Turning, Again, Parked, Woken, Disarming, Family, first_place, Begins, asked, PeekFill, ReleaseFill, PeekTx, ReleaseTx, ArmTx, DisarmTx, SubmitRx, call_at, told_rx_done, looked_none, looked_long, looked_some, fill_empty, fill_items, fill_released, rx_granted, rx_full, rx_submitted, comp_granted, comp_full, comp_submitted, tx_empty, tx_items, tx_released, looked_tx_done, armed_fill, armed_tx, found_end, found_none, kicked, not_kicked, cleared_kick, disarmed_fill, disarmed_tx, untried, none_comes, too_few, waits, drops_full, drops_frameless, visited, idles, arms, seeks, sought, misses, looks, finds, parks, disarmed, Said, AtCalls, AtEntries, AtPasses, IsLaw, of_run}
 use Rattle.xsk_bounds.specs.Totals.{total, put, steps_put, steps_taken, swapped, took, kick_swaps}
 use Rattle.xsk_bounds.proofs.Totals.{total-append, total-push}
 use Rattle.xsk_bounds.proofs.Sums.{Spends, Drives}
@@ -77,23 +77,41 @@ abbrev base : ℕ → Bool → Bool → List Told → ℕ
 base d rx_done tx_done l = 11 * (total took l + total (kick_swaps d 0) l + flag tx_done) + flag rx_done
 
 -- at a place there are more Swaps by so many, or fewer by so many
+abbrev more_in : Which → ℕ
+more_in Turning = 0
+more_in Again = 5
+
 abbrev more_at : Place → ℕ
+more_at (Trying look packet s due) = more_in look
+more_at (Lacking look packet s full) = more_in look
+more_at (Sending look k due) = more_in look
 more_at (Arming k) = 1 + k
-more_at (Looking k due) = 5
 more_at (Parked frames) = 5
 more_at (Woken frames) = 5
 more_at (Disarming frames k) = cond frames 0 (1 + k)
 more_at place = 0
 
+abbrev fewer_in : Which → Bool → ℕ
+fewer_in Turning progress = 0
+fewer_in Again progress = eleven progress
+
 abbrev fewer_at : Place → Bool → ℕ
-fewer_at (Looking k due) progress = eleven progress
+fewer_at (Trying look packet s due) progress = fewer_in look progress
+fewer_at (Lacking look packet s full) progress = fewer_in look progress
+fewer_at (Sending look k due) progress = fewer_in look progress
 fewer_at (Disarming frames k) progress = 5
 fewer_at place progress = 0
 
 -- while it sets its flags and looks again nothing has moved, and it isn't at its end
+abbrev QuietIn : Which → Bool → Type 0
+QuietIn Turning tx_done = Unit {0}
+QuietIn Again tx_done = tx_done ≡ false
+
 abbrev IsQuiet : Place → Bool → Bool → Type 0
 IsQuiet (Arming k) progress tx_done = (progress ≡ false) × (tx_done ≡ false)
-IsQuiet (Looking k due) progress tx_done = tx_done ≡ false
+IsQuiet (Trying look packet s due) progress tx_done = QuietIn look tx_done
+IsQuiet (Lacking look packet s full) progress tx_done = QuietIn look tx_done
+IsQuiet (Sending look k due) progress tx_done = QuietIn look tx_done
 IsQuiet place progress tx_done = Unit {0}
 
 pub record Pays (d packets : ℕ) (place : Place) (progress : Bool) (kept : Kept) (l : List Told) : Type 0 where
@@ -102,6 +120,14 @@ pub record Pays (d packets : ℕ) (place : Place) (progress : Bool) (kept : Kept
   pub swaps : total swapped l + fewer_at place progress ≤ base d kept.rx_done kept.tx_done l + more_at place
   pub quiet : IsQuiet place progress kept.tx_done
   pub kicks : (e : ℕ) → total (kick_swaps e 1) l ≡ 0
+
+more_few : (look : Which) → more_in look ≤ 5
+more_few Turning = omega arith
+more_few Again = omega arith
+
+fewer_few : (look : Which) (progress : Bool) → fewer_in look true ≤ fewer_in look progress + 11
+fewer_few Turning progress = omega arith
+fewer_few Again progress = omega arith
 
 flag_few : (b : Bool) → flag b ≤ 1
 flag_few true = omega arith
@@ -227,74 +253,62 @@ module _ (wire : Wire) (c : Config) (d packets : ℕ) (few : classes_of c ≤ 4)
 
   calls : AtCalls seat (Lawful c d) At Asked
   calls (ArmTx k) noted kept l known h = spent (Arming k) noted.progress kept l (omega (arith, known, few)) h
-  calls (LookFill n) noted kept l known h = spent (Arming seat.classes) noted.progress kept l (omega (arith, few)) h
+  calls (PeekFill look packet s) noted kept l known h = spent (Trying look packet s nothing_due) noted.progress kept l (omega (arith, more_few look)) h
+  calls (ReleaseFill look packet s n) noted kept l known h = spent (Trying look packet s (release_due (Fill d) n)) noted.progress kept l (omega (arith, more_few look)) h
+  calls (PeekTx look k) noted kept l known h = spent (Sending look k nothing_due) noted.progress kept l (omega (arith, more_few look)) h
+  calls (ReleaseTx look k n) noted kept l known h = spent (Sending look (k + 1) (release_due (Tx (socket_of seat k)) n)) noted.progress kept l (omega (arith, more_few look)) h
   calls (DisarmTx k) noted kept l known h = spent (Disarming false k) noted.progress kept l (omega arith) h
   calls p noted kept l known h = spent (asked seat p kept).0 noted.progress kept l (omega arith) h
 
   entries : AtEntries seat (Lawful c d) At Asked
   entries (told_rx_done n) noted kept l known found h a q =
-      swaps_mark Receiving (Sending 0 nothing_due) noted.progress true kept (record kept { rx_done = true }) l (RxDone d) 1 n (λ e v. refl) refl refl refl refl (omega (arith, ap flag known.1)) tt h
+      swaps_mark Receiving (Sending Turning 0 nothing_due) noted.progress true kept (record kept { rx_done = true }) l (RxDone d) 1 n (λ e v. refl) refl refl refl refl (omega (arith, ap flag known.1)) tt h
   entries (looked_none packet n) noted kept l known found h a q =
-      settles Receiving (Sending 0 nothing_due) noted.progress true kept (settled kept Missed) l _ (Old n) Missed (refl, refl, refl, λ e. refl) refl refl (one_fewer kept.disposals Missed kept.coming packet known.later known.is) refl refl (omega arith) tt h
+      settles Receiving (Sending Turning 0 nothing_due) noted.progress true kept (settled kept Missed) l _ (Old n) Missed (refl, refl, refl, λ e. refl) refl refl (one_fewer kept.disposals Missed kept.coming packet known.later known.is) refl refl (omega arith) tt h
   entries (looked_long packet n s) noted kept l known found h a q =
-      settles Receiving (Sending 0 nothing_due) noted.progress true kept (dropped kept TooLong) l _ (Old n) TooLong (refl, refl, refl, λ e. refl) refl refl (one_fewer kept.disposals TooLong kept.coming packet known.later known.is) refl refl (omega arith) tt h
+      settles Receiving (Sending Turning 0 nothing_due) noted.progress true kept (dropped kept TooLong) l _ (Old n) TooLong (refl, refl, refl, λ e. refl) refl refl (one_fewer kept.disposals TooLong kept.coming packet known.later known.is) refl refl (omega arith) tt h
   entries (looked_some packet n s) noted kept l known found h a q =
-      still Receiving (Trying packet s nothing_due) noted.progress noted.progress kept kept l _ (Old n) (refl, refl, refl, λ e. refl) refl (omega arith) refl refl (omega arith) (omega arith) tt h
-  entries (fill_empty packet s) noted kept l known found h a q =
-      still (Trying packet s nothing_due) (Lacking packet s false) noted.progress noted.progress kept (with_fill_empty kept) l _ Empty (refl, refl, refl, λ e. refl) refl (omega arith) refl refl (omega arith) (omega arith) tt h
-  entries (fill_items packet s items) noted kept l known found h a q =
-      takes_fill (Trying packet s nothing_due) (Trying packet s (release_due (Fill d) (length items))) noted.progress noted.progress kept l _ items (omega arith) tt h
-  entries (fill_released packet s n) noted kept l known found h a q =
-      still (Trying packet s (release_due (Fill d) n)) (Trying packet s nothing_due) noted.progress true kept kept l _ Released (refl, refl, refl, λ e. refl) refl (omega arith) refl refl (omega arith) (omega arith) tt h
+      still Receiving (Trying Turning packet s nothing_due) noted.progress noted.progress kept kept l _ (Old n) (refl, refl, refl, λ e. refl) refl (omega arith) refl refl (omega arith) (omega arith) tt h
+  entries (fill_empty look packet s) noted kept l known found h a q =
+      still (Trying look packet s nothing_due) (Lacking look packet s false) noted.progress noted.progress kept (with_fill_empty kept) l _ Empty (refl, refl, refl, λ e. refl) refl (omega arith) refl refl (omega arith) (omega arith) h.quiet h
+  entries (fill_items look packet s items) noted kept l known found h a q =
+      takes_fill (Trying look packet s nothing_due) (Trying look packet s (release_due (Fill d) (length items))) noted.progress true kept l _ items (omega (arith, q.1.some, fewer_few look noted.progress)) h.quiet h
+  entries (fill_released look packet s n) noted kept l known found h a q =
+      still (Trying look packet s (release_due (Fill d) n)) (Trying look packet s nothing_due) noted.progress noted.progress kept kept l _ Released (refl, refl, refl, λ e. refl) refl (omega arith) refl refl (omega arith) (omega arith) h.quiet h
+  entries (tx_empty look k) noted kept l known found h a q =
+      still (Sending look k nothing_due) (Sending look (k + 1) nothing_due) noted.progress noted.progress kept (with_tx_empty k kept) l _ Empty (refl, refl, refl, λ e. refl) refl (omega arith) refl refl (omega arith) (omega arith) h.quiet h
+  entries (tx_items look k items) noted kept l known found h a q =
+      takes_tx (Sending look k nothing_due) (Sending look (k + 1) (release_due (Tx (socket_of seat k)) (length items))) noted.progress true kept l k _ _ items (omega (arith, q.1.some, fewer_few look noted.progress)) h.quiet h
+  entries (tx_released look k n) noted kept l known found h a q =
+      still (Sending look (k + 1) (release_due (Tx (socket_of seat k)) n)) (Sending look (k + 1) nothing_due) noted.progress noted.progress kept kept l _ Released (refl, refl, refl, λ e. refl) refl (omega arith) refl refl (omega arith) (omega arith) h.quiet h
   entries (rx_granted packet s) noted kept l known found h a q =
-      still (Trying packet s nothing_due) (Trying packet s (submit_due (Rx s) (pieces_of seat packet.bytes))) noted.progress true kept kept l _ Granted (refl, refl, refl, λ e. refl) refl (omega arith) refl refl (omega arith) (omega arith) tt h
+      still (Trying Turning packet s nothing_due) (Trying Turning packet s (submit_due (Rx s) (pieces_of seat packet.bytes))) noted.progress true kept kept l _ Granted (refl, refl, refl, λ e. refl) refl (omega arith) refl refl (omega arith) (omega arith) tt h
   entries (rx_full packet s free) noted kept l known found h a q =
-      still (Trying packet s nothing_due) (Lacking packet s true) noted.progress noted.progress kept (with_rx_full (s % seat.classes) kept) l _ (Full free) (refl, refl, refl, λ e. refl) refl (omega arith) refl refl (omega arith) (omega arith) tt h
+      still (Trying Turning packet s nothing_due) (Lacking Turning packet s true) noted.progress noted.progress kept (with_rx_full (s % seat.classes) kept) l _ (Full free) (refl, refl, refl, λ e. refl) refl (omega arith) refl refl (omega arith) (omega arith) tt h
   entries (rx_submitted packet s) noted kept l known found h a q =
       let give = call_at seat (SubmitRx packet s) kept in
       let some = q.0.counted in
-      step (Trying packet s (submit_due (Rx s) (pieces_of seat packet.bytes))) (Sending 0 nothing_due) noted.progress true kept _ l give Submitted
+      step (Trying Turning packet s (submit_due (Rx s) (pieces_of seat packet.bytes))) (Sending Turning 0 nothing_due) noted.progress true kept _ l give Submitted
       (omega (arith, some.1, length-append kept.disposals (Delivered s ∷ [])), omega arith, λ e. refl)
       (one_fewer kept.disposals (Delivered s) kept.coming packet known.0.next.later known.0.next.is) tt h
   entries (comp_granted k packet later) noted kept l known found h a q =
-      still (Sending k nothing_due) (Sending k (submit_due (Comp d) (length packet))) noted.progress noted.progress kept kept l _ Granted (refl, refl, refl, λ e. refl) refl (omega arith) refl refl (omega arith) (omega arith) tt h
+      still (Sending Turning k nothing_due) (Sending Turning k (submit_due (Comp d) (length packet))) noted.progress noted.progress kept kept l _ Granted (refl, refl, refl, λ e. refl) refl (omega arith) refl refl (omega arith) (omega arith) tt h
   entries (comp_full k packet later free) noted kept l known found h a q =
-      still (Sending k nothing_due) Idling noted.progress noted.progress kept kept l _ (Full free) (refl, refl, refl, λ e. refl) refl (omega arith) refl refl (omega arith) (omega arith) tt h
+      still (Sending Turning k nothing_due) Idling noted.progress noted.progress kept kept l _ (Full free) (refl, refl, refl, λ e. refl) refl (omega arith) refl refl (omega arith) (omega arith) tt h
   entries (comp_submitted k packet later) noted kept l known found h a q =
-      step (Sending k (submit_due (Comp d) (length packet))) (Sending k nothing_due) noted.progress true kept (record kept { finished = later }) l (Submit (Comp d) (map returned packet)) Submitted
+      step (Sending Turning k (submit_due (Comp d) (length packet))) (Sending Turning k nothing_due) noted.progress true kept (record kept { finished = later }) l (Submit (Comp d) (map returned packet)) Submitted
       (omega (arith, ap all_of known, length-map packet returned), omega arith, λ e. refl) refl tt h
-  entries (tx_empty k) noted kept l known found h a q =
-      still (Sending k nothing_due) (Sending (k + 1) nothing_due) noted.progress noted.progress kept (with_tx_empty k kept) l _ Empty (refl, refl, refl, λ e. refl) refl (omega arith) refl refl (omega arith) (omega arith) tt h
-  entries (tx_items k items) noted kept l known found h a q =
-      takes_tx (Sending k nothing_due) (Sending (k + 1) (release_due (Tx (socket_of seat k)) (length items))) noted.progress true kept l k _ _ items (omega arith) tt h
-  entries (tx_released k n) noted kept l known found h a q =
-      still (Sending (k + 1) (release_due (Tx (socket_of seat k)) n)) (Sending (k + 1) nothing_due) noted.progress noted.progress kept kept l _ Released (refl, refl, refl, λ e. refl) refl (omega arith) refl refl (omega arith) (omega arith) tt h
   entries (looked_tx_done n) noted kept l known found h a q =
       still Idling Receiving noted.progress false kept (record kept { tx_done = kept.tx_done || eqb n 1 }) l _ (Old n) (refl, refl, refl, λ e. refl) refl (omega arith) refl refl (or_more kept.tx_done (eqb n 1)) (omega arith) tt h
   entries (armed_fill n) noted kept l known found h a q =
       swaps_mark Idling (Arming 0) noted.progress noted.progress kept kept l (NeedFill d) 1 n (λ e v. refl) refl refl refl refl (omega arith) (known.3, known.2) h
   entries (armed_tx k n) noted kept l known found h a q =
       swaps_mark (Arming k) (Arming (k + 1)) noted.progress noted.progress kept kept l (NeedTx (socket_of seat k)) 1 n (λ e v. refl) refl refl refl refl (omega arith) h.quiet h
-  entries (looked_fill_empty m) noted kept l known found h a q =
-      still (Arming seat.classes) (Looking 0 nothing_due) noted.progress noted.progress kept (with_fill_empty kept) l _ Empty (refl, refl, refl, λ e. refl) refl (omega arith) refl refl (omega arith)
-      (omega (arith, few, ap eleven h.quiet.0)) h.quiet.1 h
-  entries (looked_fill_items m items) noted kept l known found h a q =
-      let some = q.1.some in
-      takes_fill (Arming seat.classes) (Looking 0 (release_due (Fill d) (length items))) noted.progress true kept l m items (omega (arith, few, some)) h.quiet.1 h
-  entries (looked_fill_released n) noted kept l known found h a q =
-      still (Looking 0 (release_due (Fill d) n)) (Looking 0 nothing_due) noted.progress noted.progress kept kept l _ Released (refl, refl, refl, λ e. refl) refl (omega arith) refl refl (omega arith) (omega arith) h.quiet h
-  entries (looked_tx_empty k) noted kept l known found h a q =
-      still (Looking k nothing_due) (Looking (k + 1) nothing_due) noted.progress noted.progress kept (with_tx_empty k kept) l _ Empty (refl, refl, refl, λ e. refl) refl (omega arith) refl refl (omega arith) (omega arith) h.quiet h
-  entries (looked_tx_items k items) noted kept l known found h a q =
-      let some = q.1.some in
-      takes_tx (Looking k nothing_due) (Looking (k + 1) (release_due (Tx (socket_of seat k)) (length items))) noted.progress true kept l k _ _ items (omega (arith, some)) h.quiet h
-  entries (looked_tx_released k n) noted kept l known found h a q =
-      still (Looking (k + 1) (release_due (Tx (socket_of seat k)) n)) (Looking (k + 1) nothing_due) noted.progress noted.progress kept kept l _ Released (refl, refl, refl, λ e. refl) refl (omega arith) refl refl (omega arith) (omega arith) h.quiet h
   entries (found_end n) noted kept l known found h a q =
-      step (Looking seat.classes nothing_due) (Disarming (awaits noted) 0) noted.progress noted.progress kept (record kept { tx_done = true }) l (Look (TxDone (application_of seat))) (Old n)
+      step (Sending Again seat.classes nothing_due) (Disarming (awaits noted) 0) noted.progress noted.progress kept (record kept { tx_done = true }) l (Look (TxDone (application_of seat))) (Old n)
       (omega arith, omega (arith, ap flag h.quiet), λ e. refl) refl tt h
   entries (found_none n) noted kept l known found h a q =
-      still (Looking seat.classes nothing_due) (Parked (awaits noted)) noted.progress false kept (record kept { parked = Some (awaits noted) }) l _ (Old n) (refl, refl, refl, λ e. refl) refl (omega arith) refl refl (omega arith) (omega arith) tt h
+      still (Sending Again seat.classes nothing_due) (Parked (awaits noted)) noted.progress false kept (record kept { parked = Some (awaits noted) }) l _ (Old n) (refl, refl, refl, λ e. refl) refl (omega arith) refl refl (omega arith) (omega arith) tt h
   entries (kicked frames n) noted kept l known found h a q =
       still (Parked frames) (Woken frames) noted.progress noted.progress kept (woken kept) l _ (Old n) (refl, refl, refl, λ e. refl) refl (omega arith) refl refl (omega arith) (omega arith) tt h
   entries (not_kicked frames n) noted kept l known found h a q =
@@ -328,20 +342,24 @@ module _ (wire : Wire) (c : Config) (d packets : ℕ) (few : classes_of c ≤ 4)
       go_to Receiving Receiving noted.progress true kept (settled kept x) l refl (settles_so kept (settled kept x) x refl) (one_fewer kept.disposals x kept.coming packet later e.0) refl refl (omega arith) tt h
   passes none_comes noted kept l = λ h e. go_to _ _ noted.progress noted.progress kept kept l refl (omega arith) refl refl refl (omega arith) tt h
   passes (too_few packet s) noted kept l = λ h e. go_to _ _ noted.progress noted.progress kept kept l refl (omega arith) refl refl refl (omega arith) tt h
-  passes (waits packet s full) noted kept l = λ h e. go_to (Lacking packet s full) (Sending 0 nothing_due) noted.progress _ kept kept l refl (omega arith) refl refl refl (omega arith) tt h
+  passes (waits packet s full) noted kept l = λ h e. go_to (Lacking Turning packet s full) (Sending Turning 0 nothing_due) noted.progress _ kept kept l refl (omega arith) refl refl refl (omega arith) tt h
   passes (drops_full packet s) noted kept l = λ h e.
-      go_to (Lacking packet s true) (Sending 0 nothing_due) noted.progress true kept (settled kept RxFull) l refl (settles_so kept (settled kept RxFull) RxFull refl) (one_fewer kept.disposals RxFull kept.coming packet e.0.next.later e.0.next.is) refl refl (omega arith) tt h
+      go_to (Lacking Turning packet s true) (Sending Turning 0 nothing_due) noted.progress true kept (settled kept RxFull) l refl (settles_so kept (settled kept RxFull) RxFull refl) (one_fewer kept.disposals RxFull kept.coming packet e.0.next.later e.0.next.is) refl refl (omega arith) tt h
   passes (drops_frameless packet s) noted kept l = λ h e.
-      go_to (Lacking packet s false) (Sending 0 nothing_due) noted.progress true kept (dropped kept NoFrames) l refl (settles_so kept (dropped kept NoFrames) NoFrames refl) (one_fewer kept.disposals NoFrames kept.coming packet e.0.next.later e.0.next.is) refl refl (omega arith) tt h
-  passes visited noted kept l = λ h e. go_to (Sending seat.classes nothing_due) Idling noted.progress noted.progress kept kept l refl (omega arith) refl refl refl (omega arith) tt h
+      go_to (Lacking Turning packet s false) (Sending Turning 0 nothing_due) noted.progress true kept (dropped kept NoFrames) l refl (settles_so kept (dropped kept NoFrames) NoFrames refl) (one_fewer kept.disposals NoFrames kept.coming packet e.0.next.later e.0.next.is) refl refl (omega arith) tt h
+  passes visited noted kept l = λ h e. go_to (Sending Turning seat.classes nothing_due) Idling noted.progress noted.progress kept kept l refl (omega arith) refl refl refl (omega arith) tt h
   passes idles noted kept l = λ h e. go_to Idling Receiving noted.progress false kept kept l refl (omega arith) refl refl refl (omega arith) tt h
   passes arms noted kept l = λ h e. go_to Idling (Arming 0) noted.progress noted.progress kept kept l refl (omega arith) refl refl refl (omega arith) (e.3, e.2) h
+  passes (seeks packet s) noted kept l = λ h e.
+      go_to (Arming seat.classes) (Trying Again packet s nothing_due) noted.progress noted.progress kept kept l refl (omega arith) refl refl refl (omega (arith, few, ap eleven h.quiet.0)) h.quiet.1 h
+  passes (sought packet s) noted kept l = λ h e. go_to (Trying Again packet s nothing_due) (Sending Again 0 nothing_due) noted.progress noted.progress kept kept l refl (omega arith) refl refl refl (omega arith) h.quiet h
+  passes (misses packet s) noted kept l = λ h e. go_to (Lacking Again packet s false) (Sending Again 0 nothing_due) noted.progress noted.progress kept kept l refl (omega arith) refl refl refl (omega arith) h.quiet h
   passes looks noted kept l = λ h e.
-      go_to (Arming seat.classes) (Looking 0 nothing_due) noted.progress noted.progress kept kept l refl (omega arith) refl refl refl (omega (arith, few, ap eleven h.quiet.0)) h.quiet.1 h
+      go_to (Arming seat.classes) (Sending Again 0 nothing_due) noted.progress noted.progress kept kept l refl (omega arith) refl refl refl (omega (arith, few, ap eleven h.quiet.0)) h.quiet.1 h
   passes finds noted kept l = λ h e.
-      go_to (Looking seat.classes nothing_due) (Disarming (awaits noted) 0) noted.progress noted.progress kept kept l refl (omega arith) refl refl refl (omega (arith, ap eleven e)) tt h
+      go_to (Sending Again seat.classes nothing_due) (Disarming (awaits noted) 0) noted.progress noted.progress kept kept l refl (omega arith) refl refl refl (omega (arith, ap eleven e)) tt h
   passes parks noted kept l = λ h e.
-      go_to (Looking seat.classes nothing_due) (Parked (awaits noted)) noted.progress false kept (record kept { parked = Some (awaits noted) }) l refl (omega arith) refl refl refl (omega arith) tt h
+      go_to (Sending Again seat.classes nothing_due) (Parked (awaits noted)) noted.progress false kept (record kept { parked = Some (awaits noted) }) l refl (omega arith) refl refl refl (omega arith) tt h
   passes disarmed noted kept l = λ h e. go_to (Disarming false seat.classes) Receiving noted.progress false kept kept l refl (omega arith) refl refl refl (omega (arith, few)) tt h
 
   law : IsLaw seat (Lawful c d) At Asked (λ kept l. Spent d packets l)

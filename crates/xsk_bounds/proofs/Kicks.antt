@@ -20,7 +20,7 @@ use Rattle.xsk_model.proofs.Changes.{mark_set, mark_stays}
 use Rattle.xsk_model.proofs.Folds.{all_told-append, own-push_same, own-push_other}
 use Rattle.xsk_model.proofs.FrameTheorems.{opening_is}
 use Rattle.xsk_model.proofs.Histories.{IsSound}
-use Rattle.xsk_laws.proofs.Emptied.{is_mark-true, is_mark-self}
+use Rattle.xsk_model.proofs.Closings.{is_mark-true, is_mark-self}
 use Rattle.xsk_bounds.specs.Totals.{total, old_of, looks_at_kick, saw_kick, saw_last, swaps_kick, kick_swaps}
 use Rattle.xsk_bounds.proofs.Totals.{total-push}
 

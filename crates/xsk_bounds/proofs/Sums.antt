@@ -9,7 +9,7 @@ use Rattle.xsk_model.specs.Object.{State, submitted, taken}
 use Rattle.xsk_model.specs.Entry.{Told, Entry, told, own, all_told}
 use Rattle.xsk_model.specs.Legal.{IsKnown}
 use Rattle.xsk_model.specs.History.{IsHistory}
-use Rattle.xsk_model.specs.declared.call.Mark.TheVariants.{NeedFill, NeedTx, Kick, RxDone, Gone, TxDone, Cell}
+use Rattle.xsk_model.specs.declared.call.Mark.TheVariants.{NeedFill, NeedTx, Kick, RxDone, Gone, TxDone, Cell, Closing, Acked, Bounced}
 use Rattle.xsk_model.specs.declared.call.Call.{Call}
 use Rattle.xsk_model.specs.declared.call.Call.TheVariants.{Reserve, Submit, Peek, Release, Swap, Look}
 use Rattle.xsk_model.proofs.Along.{Keeps, along}
@@ -125,6 +125,9 @@ pairs_few n number (Swap (RxDone d) value) = omega (arith, sum-const n 0)
 pairs_few n number (Swap (Gone d) value) = omega (arith, sum-const n 0)
 pairs_few n number (Swap (TxDone a) value) = omega (arith, sum-const n 0)
 pairs_few n number (Swap (Cell port index) value) = omega (arith, sum-const n 0)
+pairs_few n number (Swap (Closing s) value) = omega (arith, sum-const n 0)
+pairs_few n number (Swap (Acked s) value) = omega (arith, sum-const n 0)
+pairs_few n number (Swap (Bounced d) value) = omega (arith, sum-const n 0)
 
 -- all pairs' kicks are set by no more calls than there are Swaps
 kicks_few : (n number : ℕ) (l : List Told) → sum_below n (λ d. total (kick_swaps d number) l) ≤ total swapped l

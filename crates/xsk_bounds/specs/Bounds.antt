@@ -1,12 +1,13 @@
--- How often the object changes in a history in which each caller's own calls and replies are a run: at most so often as the
+-- How often the object changes in a history in which no socket is closed and each caller's own calls and replies are a run: at most so often as the
 -- packets, the frames and the configuration allow, whatever the order of the calls. This is this project's own.
 use Rattle.std.specs.Prelude.{ℕ, ◌+◌, ◌*◌, ◌<◌, ◌≤◌, List, length}
 use Rattle.xsk_umem.specs.Frame.{Frame}
-use Rattle.xsk_model.specs.Config.{Config, IsRegular, callers_of}
+use Rattle.xsk_model.specs.Config.{Config, callers_of}
 use Rattle.xsk_model.specs.Marks.{apps_of}
 use Rattle.xsk_model.specs.Rings.{places_of}
 use Rattle.xsk_model.specs.Entry.{Entry, own, all_told}
 use Rattle.xsk_model.specs.History.{IsHistory}
+use Rattle.xsk_turns.specs.Owned.{IsSteady}
 use Rattle.xsk_turns.specs.Workers.{Setting, input_of, IsWorkerRun}
 use Rattle.xsk_bounds.specs.Totals.{total, sum_below, changed}
 
@@ -19,6 +20,6 @@ abbrev pub most_changes : Config → ℕ → ℕ
 most_changes c packets = 3456 * packets + 13 * c.geometry.frames + 2048 * places_of c + 24 * length c.pairs + 36 * apps_of c
 
 abbrev pub FewChanges : Type 0
-FewChanges = (s : Setting) (frames : List Frame) (h : List Entry) → IsRegular s.config → IsHistory s.config frames h
+FewChanges = (s : Setting) (frames : List Frame) (h : List Entry) → IsSteady s.config → IsHistory s.config frames h
     → ((who : ℕ) → who < callers_of s.config → IsWorkerRun s who (own who h))
     → total changed (all_told h) ≤ most_changes s.config (packets_of s)

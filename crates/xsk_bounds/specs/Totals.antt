@@ -11,7 +11,7 @@ use Rattle.xsk_model.specs.declared.call.Mark.TheVariants.{Kick}
 use Rattle.xsk_model.specs.declared.call.Call.{Call}
 use Rattle.xsk_model.specs.declared.call.Call.TheVariants.{Reserve, Submit, Peek, Release, Swap, Look}
 use Rattle.xsk_model.specs.declared.call.Reply.{Reply}
-use Rattle.xsk_model.specs.declared.call.Reply.TheVariants.{Granted, Full, Submitted, Items, Empty, Released, Old}
+use Rattle.xsk_model.specs.declared.call.Reply.TheVariants.{Old}
 
 -- a measure of elements, summed up; and a number for each of the first so many, summed up
 abbrev pub total : {X : Type 0} → (X → ℕ) → List X → ℕ
@@ -27,24 +27,17 @@ abbrev pub changed : Told → ℕ
 changed t = if changes t.call t.reply then 1 else 0
 
 abbrev pub swap_count : Call → ℕ
-swap_count (Reserve r n) = 0
-swap_count (Submit r items) = 0
-swap_count (Peek r n) = 0
-swap_count (Release r n) = 0
 swap_count (Swap m value) = 1
-swap_count (Look m) = 0
+swap_count call = 0
 
 abbrev pub swapped : Told → ℕ
 swapped t = swap_count t.call
 
 -- a number of items, where the call is one on a ring
 abbrev pub on_ring : Call → ℕ → ℕ
-on_ring (Reserve r n) count = count
-on_ring (Submit r items) count = count
-on_ring (Peek r n) count = count
-on_ring (Release r n) count = count
 on_ring (Swap m value) count = 0
 on_ring (Look m) count = 0
+on_ring call count = count
 
 -- the items that a call puts into a ring, and those that it takes from one
 abbrev pub put : Told → ℕ
@@ -79,22 +72,13 @@ steps_taken t = steps_on t.call (length (taken t.reply))
 
 -- the number that a mark had
 abbrev pub old_of : Reply → ℕ
-old_of Granted = 0
-old_of (Full free) = 0
-old_of Submitted = 0
-old_of (Items items) = 0
-old_of Empty = 0
-old_of Released = 0
 old_of (Old number) = number
+old_of reply = 0
 
 -- whether a call looks at the kick of a pair
 abbrev pub looks_at_kick : ℕ → Call → Bool
-looks_at_kick d (Reserve r n) = false
-looks_at_kick d (Submit r items) = false
-looks_at_kick d (Peek r n) = false
-looks_at_kick d (Release r n) = false
-looks_at_kick d (Swap m value) = false
 looks_at_kick d (Look m) = is_mark (Kick d) m
+looks_at_kick d call = false
 
 -- whether it saw the kick set; and whether the last of a caller's calls did
 abbrev pub saw_kick : ℕ → Told → Bool
@@ -105,12 +89,8 @@ saw_last d l = fold (λ before t. saw_kick d t) false l
 
 -- whether a call sets the kick of a pair to this number
 abbrev pub swaps_kick : ℕ → ℕ → Call → Bool
-swaps_kick d number (Reserve r n) = false
-swaps_kick d number (Submit r items) = false
-swaps_kick d number (Peek r n) = false
-swaps_kick d number (Release r n) = false
 swaps_kick d number (Swap m value) = is_mark (Kick d) m && (value == number)
-swaps_kick d number (Look m) = false
+swaps_kick d number call = false
 
 abbrev pub kick_swaps : ℕ → ℕ → Told → ℕ
 kick_swaps d number t = if swaps_kick d number t.call then 1 else 0

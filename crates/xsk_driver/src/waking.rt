@@ -2,24 +2,18 @@
 //! flags, looks at each ring a second time, and then looks at its kick until it is 1. Whatever the application submits before
 //! the second look is found there, and whatever it submits later it submits under a flag that it sees.
 ghost use Rattle.std.specs.Prelude.{Some, None, true, ◌≡◌, ℕ, List, ◌+◌, ◌*◌, ◌<◌, ◌≤◌, ◌==◌, ◌||◌, [], if◌then◌else◌, length};
-ghost use Rattle.xsk_model.specs.Expected.{CanCome, item};
 
-use crate::disposal::DriverCounters;
-use crate::machine::{Machine, Wait};
-use xsk_model::{Answer, Ask, Mark, Ring};
-use xsk_umem::Batch;
+use crate::machine::{Machine, Next, Wait, Which};
+use xsk_model::{Ask, Mark, Ring};
 
 /// The machine's parking.
 impl<'a> Machine<'a> {
-    ghost use Rattle.xsk_driver.specs.Gives.{Gives, GoesFrom};
-    ghost use Rattle.xsk_turns.specs.Turns.{awaits, moved, woken, gathered, supplied, with_fill_empty, with_tx_empty, flag_from, flag_all, look_again as look_again_script, look_from, settle as settle_script, park as park_script, look_kick as look_kick_script, disarm as disarm_script, socket_of as socket_in};
-    ghost use Rattle.xsk_driver.specs.Stands.{seat_in, kept_in, noted_in, IsArming, IsSeeking, IsLooking, IsLooked, GoesOnAsk};
-    ghost use Rattle.xsk_turns.specs.Stepping.{joined_answer, joined_ask, IsLent};
-    ghost use Rattle.xsk_driver.specs.declared.machine.Wait.TheVariants.{LookFill, LookTx};
-    ghost use Rattle.xsk_turns.specs.Script.{ask, again, on_old, on_released};
-    ghost use Rattle.xsk_model.specs.declared.call.Ring.TheVariants.{Fill, Tx};
+    ghost use Rattle.xsk_driver.specs.Gives.{Gives};
+    ghost use Rattle.xsk_turns.specs.Turns.{awaits, woken, flag_from, flag_all, look_again as look_again_script, look_from, settle as settle_script, park as park_script, look_kick as look_kick_script, disarm as disarm_script};
+    ghost use Rattle.xsk_driver.specs.Stands.{seat_in, kept_in, noted_in, IsArming, IsLooked, GoesOnAsk};
+    ghost use Rattle.xsk_turns.specs.Script.{ask, again, on_old};
     ghost use Rattle.xsk_model.specs.declared.call.Mark.TheVariants.{Kick};
-    ghost use Rattle.xsk_model.specs.declared.call.Call.TheVariants.{Release, Swap};
+    ghost use Rattle.xsk_model.specs.declared.call.Call.TheVariants.{Swap};
 
     /// Sets its flags: FILL's where it waits for frames, and that of each class's TX ring.
     pub(crate) fn arm(&mut self) -> Ask
@@ -54,13 +48,17 @@ impl<'a> Machine<'a> {
         ensures goes { GoesOnAsk (seat_in self.old) self.new result (look_again_script (seat_in self.old) (noted_in self.old) (kept_in self.old)) }
     {
         if self.turn.lacking > 0 {
-            self.wait = Wait::LookFill;
+            let next = Next::Visit {
+                look: Which::Again,
+                class: 0,
+            };
+            self.wait = Wait::PeekFill { next };
             return Ask::Peek(Ring::Fill(self.pair), self.turn.lacking);
         }
         self.look_tx(0)
     }
 
-    /// Looks at the class's TX ring, or goes on after the last one.
+    /// Looks at the class's TX ring, or goes on after the last one. Nothing is completed before the look has ended.
     pub(crate) fn look_tx(&mut self, class: u32) -> Ask
         requires looked { IsLooked (seat_in self.old) (kept_in self.old) class }
         ensures gives { Gives self.old self.new result }
@@ -69,95 +67,7 @@ impl<'a> Machine<'a> {
         if class == self.classes {
             return self.settle_down();
         }
-        self.wait = Wait::LookTx { class };
-        Ask::Peek(Ring::Tx(self.socket_of(class)), self.batch)
-    }
-
-    /// Goes on with what stood on FILL at the second look.
-    pub(crate) fn go_on_from_second_fill(
-        &mut self,
-        answer: Option<Answer>,
-        items: &mut Batch,
-    ) -> Ask
-        requires comes { CanCome item (joined_answer answer items.old) }
-        requires lent { IsLent answer items.old }
-        requires seeking { IsSeeking (kept_in self.old) }
-        ensures emptied { items.new ≡ [] }
-        ensures gives { Gives self.old self.new result }
-        ensures goes { GoesFrom self.old self.new LookFill (joined_answer answer items.old) (joined_ask (Some result) items.new) }
-    {
-        match answer {
-            Some(Answer::Items) => self.find_frames(items),
-            Some(Answer::Empty) => self.find_no_frames(),
-            _ => unreachable!(),
-        }
-    }
-
-    /// Keeps the frames that the second look found.
-    fn find_frames(&mut self, items: &mut Batch) -> Ask
-        requires seeking { IsSeeking (kept_in self.old) }
-        ensures emptied { items.new ≡ [] }
-        ensures gives { Gives self.old self.new result }
-        ensures goes { GoesOnAsk (seat_in self.old) self.new result (ask (supplied (seat_in self.old) (kept_in self.old) items.old) (Release (Fill self.old.pair) (length items.old))
-            (on_released (look_from (seat_in self.old) 0 (moved (noted_in self.old)) (supplied (seat_in self.old) (kept_in self.old) items.old)))) }
-    {
-        let count = items.len();
-        self.supply(items);
-        self.wait = Wait::ReleaseLooked { class: 0 };
-        Ask::Release(Ring::Fill(self.pair), count)
-    }
-
-    fn find_no_frames(&mut self) -> Ask
-        requires seeking { IsSeeking (kept_in self.old) }
-        ensures gives { Gives self.old self.new result }
-        ensures goes { GoesOnAsk (seat_in self.old) self.new result (look_from (seat_in self.old) 0 (noted_in self.old) (with_fill_empty (kept_in self.old))) }
-    {
-        DriverCounters::raise(&mut self.counters.rx_fill_ring_empty_descs, 1);
-        self.look_tx(0)
-    }
-
-    /// Goes on with what stood on the class's TX ring at the second look. Nothing is completed before the look has ended.
-    pub(crate) fn go_on_from_second_tx(
-        &mut self,
-        class: u32,
-        answer: Option<Answer>,
-        items: &mut Batch,
-    ) -> Ask
-        requires comes { CanCome item (joined_answer answer items.old) }
-        requires lent { IsLent answer items.old }
-        requires looking { IsLooking (seat_in self.old) (kept_in self.old) class }
-        ensures emptied { items.new ≡ [] }
-        ensures gives { Gives self.old self.new result }
-        ensures goes { GoesFrom self.old self.new (LookTx class) (joined_answer answer items.old) (joined_ask (Some result) items.new) }
-    {
-        match answer {
-            Some(Answer::Items) => self.find_packets(class, items),
-            Some(Answer::Empty) => self.find_no_packets(class),
-            _ => unreachable!(),
-        }
-    }
-
-    /// Puts the items that the second look found together into packets.
-    fn find_packets(&mut self, class: u32, items: &mut Batch) -> Ask
-        requires looking { IsLooking (seat_in self.old) (kept_in self.old) class }
-        ensures emptied { items.new ≡ [] }
-        ensures gives { Gives self.old self.new result }
-        ensures goes { GoesOnAsk (seat_in self.old) self.new result (ask (gathered (seat_in self.old) class (kept_in self.old) items.old) (Release (Tx (socket_in (seat_in self.old) class)) (length items.old))
-            (on_released (look_from (seat_in self.old) (class + 1) (moved (noted_in self.old)) (gathered (seat_in self.old) class (kept_in self.old) items.old)))) }
-    {
-        let count = items.len();
-        self.gather_all(class, items);
-        self.wait = Wait::ReleaseLooked { class: class + 1 };
-        Ask::Release(Ring::Tx(self.socket_of(class)), count)
-    }
-
-    fn find_no_packets(&mut self, class: u32) -> Ask
-        requires looking { IsLooking (seat_in self.old) (kept_in self.old) class }
-        ensures gives { Gives self.old self.new result }
-        ensures goes { GoesOnAsk (seat_in self.old) self.new result (look_from (seat_in self.old) (class + 1) (noted_in self.old) (with_tx_empty class (kept_in self.old))) }
-    {
-        DriverCounters::raise_class(&mut self.counters.tx_ring_empty_descs, class, 1);
-        self.look_tx(class + 1)
+        self.peek_tx(Which::Again, class)
     }
 
     /// Ends the second look: clears its flags where it gave items, and else parks, once it knows that the application may still

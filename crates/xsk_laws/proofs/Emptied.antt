@@ -8,7 +8,7 @@ use Rattle.xsk_umem.specs.Frame.{Frame}
 use Rattle.xsk_umem.specs.declared.batch.Item.{Item}
 use Rattle.xsk_model.specs.Config.{Config, IsConfig, HasRing, size_of}
 use Rattle.xsk_model.specs.Rings.{is_ring, places_of, producer, consumer}
-use Rattle.xsk_model.specs.Marks.{HasMark, is_mark, MaySwap, mark_place, mark_places_of}
+use Rattle.xsk_model.specs.Marks.{HasMark, is_mark, IsMarkOwner, mark_place, mark_places_of}
 use Rattle.xsk_model.specs.Object.{RingState, State, ring_at, mark_at, free, peek_reply, reply_at, ring_after, after}
 use Rattle.xsk_model.specs.Entry.{Told, Entry, told, own}
 use Rattle.xsk_model.specs.Own.{is_on}
@@ -18,11 +18,11 @@ use Rattle.xsk_model.specs.History.{GoesOn, after_all, IsHistory, state_after}
 use Rattle.xsk_model.specs.Ends.{Draining, are_none, unseen_after, found, looked, draining_after, draining_step, draining_of, Telling, telling_after, telling_step, telling_of}
 use Rattle.xsk_model.specs.declared.call.Ring.{Ring}
 use Rattle.xsk_model.specs.declared.call.Mark.{Mark}
-use Rattle.xsk_model.specs.declared.call.Mark.TheVariants.{NeedFill, NeedTx, Kick, RxDone, Gone, TxDone, Cell}
 use Rattle.xsk_model.specs.declared.call.Call.{Call}
 use Rattle.xsk_model.specs.declared.call.Call.TheVariants.{Reserve, Submit, Peek, Release, Swap, Look}
 use Rattle.xsk_model.specs.declared.call.Reply.{Reply}
 use Rattle.xsk_model.specs.declared.call.Reply.TheVariants.{Granted, Full, Submitted, Items, Empty, Released, Old}
+use Rattle.xsk_model.proofs.Closings.{is_mark-true, is_mark-self}
 use Rattle.xsk_model.proofs.Places.{is_ring-true, place_below}
 use Rattle.xsk_model.proofs.MarkPlaces.{mark_place_below, mark_place_injective}
 use Rattle.xsk_model.proofs.Folds.{own-append, own-push_same, own-push_other}
@@ -30,27 +30,6 @@ use Rattle.xsk_model.proofs.Moves.{ring_at-after_same, ring_at-after_other, cond
 use Rattle.xsk_model.proofs.Histories.{IsSound, sound_step, opening_sound}
 
 -- ---- marks in a list
-
-pub is_mark-true : (m n : Mark) → is_mark m n ≡ true → m ≡ n
-is_mark-true (NeedFill d) (NeedFill e) h = ap NeedFill (eqb-true d e h)
-is_mark-true (NeedTx s) (NeedTx t) h = ap NeedTx (eqb-true s t h)
-is_mark-true (Kick d) (Kick e) h = ap Kick (eqb-true d e h)
-is_mark-true (RxDone d) (RxDone e) h = ap RxDone (eqb-true d e h)
-is_mark-true (Gone d) (Gone e) h = ap Gone (eqb-true d e h)
-is_mark-true (TxDone a) (TxDone b) h = ap TxDone (eqb-true a b h)
-is_mark-true (Cell p i) (Cell q j) h =
-    let both = and_parts (eqb p q) (eqb i j) h in
-    ap (λ k. Cell k i) (eqb-true p q both.0) ∙ ap (Cell q) (eqb-true i j both.1)
-is_mark-true m n h = absurd (cc)
-
-pub is_mark-self : (m : Mark) → is_mark m m ≡ true
-is_mark-self (NeedFill d) = eq-eqb d d refl
-is_mark-self (NeedTx s) = eq-eqb s s refl
-is_mark-self (Kick d) = eq-eqb d d refl
-is_mark-self (RxDone d) = eq-eqb d d refl
-is_mark-self (Gone d) = eq-eqb d d refl
-is_mark-self (TxDone a) = eq-eqb a a refl
-is_mark-self (Cell p i) = ap (λ b. b && eqb i i) (eq-eqb p p refl) ∙ eq-eqb i i refl
 
 abbrev pub has_mark : Mark → List Mark → Bool
 has_mark m [] = false
@@ -195,7 +174,7 @@ own_fold f a who past e = ⊎_elim
     (cases_eq e.who who)
 
 module _ (c : Config) (m : Mark) (r : Ring) (config : IsConfig c) (ring : HasRing c r) (known : HasMark c m)
-    (owned : (mine : List Told) (who value : ℕ) → MaySwap c mine who m value → who ≡ producer c r) where
+    (owned : (who : ℕ) → IsMarkOwner c who m → who ≡ producer c r) where
   -- what is kept over a call by someone: what the producer told, and what the consumer found
   abbrev HoldsAfter : State → ℕ → Call → Reply → Telling → Draining → Type 0
   HoldsAfter s who call reply t d =
@@ -271,7 +250,7 @@ module _ (c : Config) (m : Mark) (r : Ring) (config : IsConfig c) (ring : HasRin
       (⊎_elim
       (λ (e : mark_place c m ≡ mark_place c q) (one : get_or (set s.marks (mark_place c q) value) (mark_place c m) 0 ≡ 1).
       let same : m ≡ q = mark_place_injective c m q config known legal.known e in
-      let by : who ≡ producer c r = owned mine who value (subst (λ x. MaySwap c mine who x value) (sym same) legal.role) in
+      let by : who ≡ producer c r = owned who (subst (IsMarkOwner c who) (sym same) legal.role.0) in
       let within : mark_place c m < length s.marks = omega (arith, marks, mark_place_below c m config known) in
       let now : get_or (set s.marks (mark_place c q) value) (mark_place c m) 0 ≡ value =
       ap (λ k. get_or (set s.marks k value) (mark_place c m) 0) (sym e) ∙ get_or-set_same s.marks (mark_place c m) value 0 within in
@@ -321,7 +300,7 @@ late_before m r who past more h =
     (subst (λ (t : Telling). t.late ≡ false) (ap (telling_of m r) (own-append who past more) ∙ fold-append (telling_step m r) (record { told = false; late = false }) (own who past) (own who more)) h)
 
 module _ (c : Config) (frames : List Frame) (ms : List Mark) (m : Mark) (r : Ring) (config : IsConfig c) (ring : HasRing c r) (known : HasMark c m)
-    (owned : (mine : List Told) (who value : ℕ) → MaySwap c mine who m value → who ≡ producer c r) where
+    (owned : (who : ℕ) → IsMarkOwner c who m → who ≡ producer c r) where
   abbrev HoldsAt : State → List Entry → Type 0
   HoldsAt s past = Holds m (telling_of m r (own (producer c r) past)).told (draining_of ms r (own (consumer c r) past)) (ring_at c s r).out (mark_at c s m)
 

@@ -1,10 +1,12 @@
 -- The packets that are delivered to a socket are those that are expected there: the two filters make the same tests.
-use Rattle.std.proofs.Common.{◌≡◌, ℕ, ◌+◌, ◌-◌, ◌<◌, ◌≤◌, Bool, true, false, cond, eqb, ltb, leb, not, ◌&&◌, Option, Some, None, List, [], ◌∷◌, length, refl, sym, ap, ◌∙◌, ⊎_elim, arith}
-use Rattle.std.specs.Prelude.{slice_index}
+use Rattle.std.proofs.Common.{◌≡◌, ℕ, ◌+◌, ◌-◌, ◌<◌, ◌≤◌, Bool, true, false, cond, eqb, ltb, leb, not, ◌&&◌, ◌||◌, Option, Some, None, List, [], ◌∷◌, length, refl, sym, ap, ◌∙◌, ⊎_elim, arith}
+use Rattle.std.specs.Prelude.{slice_index, Ok, Err}
 use Rattle.std.specs.List.{filter}
-use Rattle.std.proofs.lemmas.Bool.{cases_eq, cases_lt, eq-eqb, ne_eqb, lt-ltb, le-ltb, le-leb, lt-leb, ltb-true}
+use Rattle.std.specs.Result.{result_ok}
+use Rattle.std.proofs.lemmas.Bool.{cases_eq, cases_lt, eq-eqb, ne_eqb, lt-ltb, le-ltb, le-leb, lt-leb, eqb-false}
 use Rattle.xsk_model.specs.Config.{Config, socket_at, classes_of, batch_of, map_of}
 use Rattle.xsk_model.specs.Steering.{packet_limit, socket_on}
+use Rattle.xsk_map.specs.declared.cell.Miss.TheVariants.{EmptyCell, OtherQueue}
 use Rattle.xsk_prog.specs.declared.rule.Verdict.{Verdict}
 use Rattle.xsk_prog.specs.declared.rule.Verdict.TheVariants.{Drop, Pass, Redirect}
 use Rattle.xsk_turns.specs.Turns.{Seat, Judged, settled_or, redirect_to, limit_of}
@@ -57,47 +59,41 @@ pub record IsBoundTo (c : Config) (o q s : ℕ) : Type 0 where
   pub on_port : (socket_at c.sockets s).port ≡ o
   pub on_queue : (socket_at c.sockets s).queue ≡ q
 
+-- where a cell's number leads, by the tests: that it is 0, and above all sockets, and that its socket is bound to the port, and to
+-- the queue
+abbrev led_to : Bool → Bool → Bool → Bool → ℕ → Option ℕ
+led_to none above port queue t = result_ok (cond (none || above) (Err EmptyCell) (cond (not (port && queue)) (Err OtherQueue) (Ok t)))
+
 -- a cell's number names the socket exactly where it is the socket's, counted from 1
 named : (c : Config) (o q s number : ℕ) → IsBoundTo c o q s → names (redirect_to c o q number) s ≡ eqb number (s + 1)
 named c o q s number bound = ⊎_elim
     (λ (e : number ≡ s + 1).
     let less : number - 1 ≡ s = omega arith in
-    let some : ltb 0 number ≡ true = lt-ltb 0 number (omega arith) in
-    let here : ltb (number - 1) (length c.sockets) ≡ true = lt-ltb (number - 1) (length c.sockets) (omega (arith, less, bound.known)) in
+    let some : eqb number 0 ≡ false = ne_eqb number 0 (λ none. omega arith) in
+    let here : ltb (length c.sockets) number ≡ false = le-ltb (length c.sockets) number (omega (arith, bound.known)) in
     let port : eqb (socket_at c.sockets (number - 1)).port o ≡ true = eq-eqb (socket_at c.sockets (number - 1)).port o (ap (λ n. (socket_at c.sockets n).port) less ∙ bound.on_port) in
     let queue : eqb (socket_at c.sockets (number - 1)).queue q ≡ true = eq-eqb (socket_at c.sockets (number - 1)).queue q (ap (λ n. (socket_at c.sockets n).queue) less ∙ bound.on_queue) in
-    kept (ltb 0 number) (ltb (number - 1) (length c.sockets)) (eqb (socket_at c.sockets (number - 1)).port o) (eqb (socket_at c.sockets (number - 1)).queue q) (number - 1) s some here port queue less
+    kept (eqb number 0) (ltb (length c.sockets) number) (eqb (socket_at c.sockets (number - 1)).port o) (eqb (socket_at c.sockets (number - 1)).queue q) (number - 1) s some here port queue less
     ∙ sym (eq-eqb number (s + 1) e))
     (λ (e : number ≡ s + 1 → ⊥).
-    missed (ltb 0 number) (ltb (number - 1) (length c.sockets)) (eqb (socket_at c.sockets (number - 1)).port o) (eqb (socket_at c.sockets (number - 1)).queue q) (number - 1) s
-    (λ f g. e (omega (arith, ltb-true 0 number f, g)))
+    missed (eqb number 0) (ltb (length c.sockets) number) (eqb (socket_at c.sockets (number - 1)).port o) (eqb (socket_at c.sockets (number - 1)).queue q) (number - 1) s
+    (λ f g. e (omega (arith, eqb-false number 0 f, g)))
     ∙ sym (ne_eqb number (s + 1) e))
     (cases_eq number (s + 1))
   where
-    kept : (w x y z : Bool) (t s : ℕ) → w ≡ true → x ≡ true → y ≡ true → z ≡ true → t ≡ s → names (cond (w && x && y && z) (Some t) None) s ≡ true
-    kept true true true true t s a b c d e = eq-eqb t s e
-    kept true true true false t s a b c d e = absurd (cc)
-    kept true true false z t s a b c d e = absurd (cc)
-    kept true false y z t s a b c d e = absurd (cc)
-    kept false x y z t s a b c d e = absurd (cc)
+    kept : (w x y z : Bool) (t s : ℕ) → w ≡ false → x ≡ false → y ≡ true → z ≡ true → t ≡ s → names (led_to w x y z t) s ≡ true
+    kept false false true true t s a b c d e = eq-eqb t s e
+    kept false false true false t s a b c d e = absurd (cc)
+    kept false false false z t s a b c d e = absurd (cc)
+    kept false true y z t s a b c d e = absurd (cc)
+    kept true x y z t s a b c d e = absurd (cc)
 
-    missed : (w x y z : Bool) (t s : ℕ) → (w ≡ true → t ≡ s → ⊥) → names (cond (w && x && y && z) (Some t) None) s ≡ false
-    missed true true true true t s h = ne_eqb t s (h refl)
-    missed true true true false t s h = refl
-    missed true true false true t s h = refl
-    missed true true false false t s h = refl
-    missed true false true true t s h = refl
-    missed true false true false t s h = refl
-    missed true false false true t s h = refl
-    missed true false false false t s h = refl
-    missed false true true true t s h = refl
-    missed false true true false t s h = refl
-    missed false true false true t s h = refl
-    missed false true false false t s h = refl
-    missed false false true true t s h = refl
+    missed : (w x y z : Bool) (t s : ℕ) → (w ≡ false → t ≡ s → ⊥) → names (led_to w x y z t) s ≡ false
+    missed false false true true t s h = ne_eqb t s (h refl)
     missed false false true false t s h = refl
-    missed false false false true t s h = refl
-    missed false false false false t s h = refl
+    missed false false false z t s h = refl
+    missed false true y z t s h = refl
+    missed true x y z t s h = refl
 
 -- ---- one packet
 

@@ -1,6 +1,6 @@
 -- What a driver sent is what the paired port's driver delivered: along the TX ring, the lane and the RX ring. Where the wire
 -- waits, this is what is expected.
-use Rattle.std.proofs.Common.{◌≡◌, ℕ, ◌+◌, ◌*◌, ◌%◌, ◌<◌, ◌≤◌, ◌⊎◌, inl, inr, true, false, All, List, [], ◌∷◌, length, take, map, get_or, sym, ap, subst, ◌∙◌, ⊎_elim, arith}
+use Rattle.std.proofs.Common.{◌≡◌, ℕ, ◌+◌, ◌*◌, ◌%◌, ◌<◌, ◌≤◌, ◌⊎◌, inl, inr, true, false, All, List, [], ◌∷◌, length, take, map, get_or, refl, sym, ap, subst, ◌∙◌, ⊎_elim, arith}
 use Rattle.std.proofs.lemmas.Bool.{cases_eq, or_left, or_right}
 use Rattle.std.proofs.lemmas.List.{take_all}
 use Rattle.std.proofs.lemmas.List.Elements.{All-weaker}
@@ -38,7 +38,8 @@ use Rattle.xsk_turns.specs.AppLaw.{LanesPassedOn, NothingSentLate, DrainsRx}
 use Rattle.xsk_laws.specs.Expected.{received, received_judged, expected}
 use Rattle.xsk_laws.specs.Forwarded.{forwarded}
 use Rattle.xsk_laws.specs.Laws.{received_by, AreWholeRuns, IsPlace}
-use Rattle.xsk_laws.proofs.Emptied.{is_mark-self, has_mark}
+use Rattle.xsk_model.proofs.Closings.{is_mark-self}
+use Rattle.xsk_laws.proofs.Emptied.{has_mark}
 use Rattle.xsk_laws.proofs.Passed.{IsDrained, passed}
 use Rattle.xsk_laws.proofs.Wholes.{wholes}
 use Rattle.xsk_laws.proofs.Filters.{IsBoundTo, seat_at, delivered_is}
@@ -93,19 +94,19 @@ module _ (w : Workers) (wire : Wire) (c : Config) (lists : List PacketList) (ver
   pair = are_paired c.ports p config.ports place.in_ports
 
   at_p : IsAt c p q k d t
-  at_p = is_at c p q k config run.regular place.in_ports place.in_queues place.in_classes
+  at_p = is_at c p q k config run.steady.regular place.in_ports place.in_queues place.in_classes
 
   at_o : IsAt c o q k e s
-  at_o = is_at c o q k config run.regular pair.in_ports place.in_queues place.in_classes
+  at_o = is_at c o q k config run.steady.regular pair.in_ports place.in_queues place.in_classes
 
   seat_d : IsSeat c d
-  seat_d = record { config = config; regular = run.regular; geometry = run.history.opened.geometry; known = at_p.pair_known }
+  seat_d = record { config = config; steady = run.steady; geometry = run.history.opened.geometry; known = at_p.pair_known }
 
   seat_e : IsSeat c e
-  seat_e = record { config = config; regular = run.regular; geometry = run.history.opened.geometry; known = at_o.pair_known }
+  seat_e = record { config = config; steady = run.steady; geometry = run.history.opened.geometry; known = at_o.pair_known }
 
   one : IsApp c a
-  one = record { config = config; regular = run.regular; known = app_below c p q config place.in_ports place.in_queues }
+  one = record { config = config; steady = run.steady; known = app_below c p q config place.in_ports place.in_queues }
 
   fit : (who : ℕ) → AllFit c [] (own who h)
   fit who = all_fit c who [] (own who h) (own_entries c frames h who run.history)
@@ -142,8 +143,8 @@ module _ (w : Workers) (wire : Wire) (c : Config) (lists : List PacketList) (ver
     ring = (at_o.known, at_o.rx);
     later = omega arith;
     mark = at_o.pair_known;
-    flag = (let known = at_o.pair_known in omega (arith, known));
-    owned = λ mine who value may. may ∙ sym at_o.driver;
+    first = refl;
+    owned = λ who is. is ∙ sym at_o.driver;
     listed = listed_rx;
     found = subst (λ n. (draining_of told_rx (Rx s) (own n h)).empty ≡ true) (sym app_at_o)
         (subst (λ n. (draining_of told_rx (Rx n) (own (caller_of c a) h)).empty ≡ true) (lane_rx c p q k o place.in_queues place.in_classes pair.there)
@@ -176,8 +177,8 @@ module _ (w : Workers) (wire : Wire) (c : Config) (lists : List PacketList) (ver
     ring = (at_p.known, at_p.tx);
     later = omega arith;
     mark = one.known;
-    flag = (let known = one.known in omega (arith, known));
-    owned = λ mine who value may. may ∙ sym app_at_p;
+    first = refl;
+    owned = λ who is. is ∙ sym app_at_p;
     listed = or_left (is_mark (TxDone a) (TxDone a)) false (is_mark-self (TxDone a));
     found = subst (λ n. (draining_of (TxDone a ∷ []) (Tx t) (own n h)).empty ≡ true) (sym at_p.driver)
         (subst (λ n. (draining_of (TxDone n ∷ []) (Tx t) (own d h)).empty ≡ true) same_app
@@ -228,7 +229,7 @@ module _ (w : Workers) (wire : Wire) (c : Config) (lists : List PacketList) (ver
   sent_expected waits =
       let bound : IsBoundTo c o q s = record { known = at_o.known; on_port = at_o.on_port; on_queue = at_o.on_queue } in
       sent_forwarded
-      ∙ ap (with_disposal s input) (w.disposed wire c e input (own e h) waits (fit e) whole_e)
+      ∙ ap (with_disposal s input) (w.disposed wire c e input (own e h) waits run.steady.closes (fit e) whole_e)
       ∙ ap (λ (x : Seat). with_disposal s input (map (disposal_in x) input)) (seat_is wire c o q k e s at_o)
       ∙ with_disposal_is (seat_at wire c e o q) s input
       ∙ ap bytes_in (delivered_is wire c e o q k input bound)

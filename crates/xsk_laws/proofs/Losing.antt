@@ -62,7 +62,7 @@ fair_more c pair seat (p ∷ packets) (e ∷ ds) packet d h f = (h.0, fair_more 
 
 -- ---- the law
 
-module _ (wire : Wire) (c : Config) (pair : ℕ) (input : List Judged) where
+module _ (wire : Wire) (c : Config) (pair : ℕ) (input : List Judged) (closes : c.closing ≡ None) where
   abbrev seat : Seat
   seat = seat_of wire c pair
 
@@ -95,14 +95,14 @@ module _ (wire : Wire) (c : Config) (pair : ℕ) (input : List Judged) where
   -- a packet that is tried was to be delivered
   loses : (kept : Kept) (packet : Judged) (t : ℕ) (x : Disposal) (l : List Told) → IsTried seat (Fitting c) kept.coming packet t → is_lost x ≡ true → Fair kept l → Fair (settled kept x) l
   loses kept packet t x l tried e h =
-      settles kept packet tried.next.later x l tried.next.is (inr (record { lost = e; socket = t; here = redirect_here c pair tried.number t tried.target; said = to_tried wire c pair kept.coming packet t tried })) h
+      settles kept packet tried.next.later x l tried.next.is (inr (record { lost = e; socket = t; here = redirect_here c pair tried.number t tried.target; said = to_tried wire c pair kept.coming packet t closes tried })) h
 
   entries : AtEntries seat (Fitting c) At Asked
   entries (told_rx_done n) noted kept l known found h a q = record { done = h.done; parts = h.parts; fair = h.fair; over = record { none = λ x. known.0; first = λ x. refl } }
-  entries (looked_none packet n) noted kept l known found h a q = settles kept packet known.later Missed l known.is (inl (to_none wire c pair kept.coming packet known n q found)) h
-  entries (looked_long packet n t) noted kept l known found h a q = settles kept packet known.later TooLong l known.is (inl (to_some wire c pair kept.coming packet known n q t true found.0 found.1)) h
-  entries (rx_submitted packet t) noted kept l known found h a q = settles kept packet known.0.next.later (Delivered t) l known.0.next.is (inl (to_tried wire c pair kept.coming packet t known.0)) h
-  entries (looked_tx_done n) noted kept l known found h a q = record { done = h.done; parts = h.parts; fair = h.fair; over = record { none = h.over.none; first = λ x. known } }
+  entries (looked_none packet n) noted kept l known found h a q = settles kept packet known.later Missed l known.is (inl (to_none wire c pair kept.coming packet known n closes q found)) h
+  entries (looked_long packet n t) noted kept l known found h a q = settles kept packet known.later TooLong l known.is (inl (to_some wire c pair kept.coming packet known n closes q t true found.0 found.1)) h
+  entries (rx_submitted packet t) noted kept l known found h a q = settles kept packet known.0.next.later (Delivered t) l known.0.next.is (inl (to_tried wire c pair kept.coming packet t closes known.0)) h
+  entries (looked_tx_done n) noted kept l known found h a q = record { done = h.done; parts = h.parts; fair = h.fair; over = record { none = h.over.none; first = λ x. known.0 } }
   entries (found_end n) noted kept l known found h a q = record { done = h.done; parts = h.parts; fair = h.fair; over = record { none = h.over.none; first = λ x. known.1 } }
   entries e noted kept l known found h a q = h
 
@@ -123,13 +123,13 @@ module _ (wire : Wire) (c : Config) (pair : ℕ) (input : List Judged) where
     ends = λ noted kept l n known h a q. all_fair kept l (h.over.none (h.over.first known.2)) h;
   }
 
-pub disposed_fairly : (wire : Wire) (c : Config) (pair : ℕ) (input : List Judged) (l : List Told) → AllFit c [] l → IsWholeDriverRun wire c pair input l
+pub disposed_fairly : (wire : Wire) (c : Config) (pair : ℕ) (input : List Judged) (l : List Told) → c.closing ≡ None → AllFit c [] l → IsWholeDriverRun wire c pair input l
     → AreFair c pair (seat_of wire c pair) input (disposals_of (seat_of wire c pair) input (attempts_of l))
-disposed_fairly wire c pair input l fit whole =
+disposed_fairly wire c pair input l closes fit whole =
     let seat = seat_of wire c pair in
     let begins = start (classes_of c) input in
     subst (AreFair c pair seat input) (disposes_all wire c pair input l whole.0 whole.1).disposals
-    (at_end seat (Fitting c) (At wire c pair input) (Asked wire c pair input) (Ended wire c pair input) (law wire c pair input) begins
+    (at_end seat (Fitting c) (At wire c pair input closes) (Asked wire c pair input closes) (Ended wire c pair input closes) (law wire c pair input closes) begins
     (record { done = []; parts = refl; fair = tt; over = record { none = λ e. absurd (cc); first = λ e. absurd (cc) } }) l (meet_fitting (turn seat) c (turn seat begins) [] l fit) whole.0 whole.1)
 
 -- ---- what was delivered, and what was lost
@@ -212,10 +212,10 @@ module _ (wire : Wire) (c : Config) (lists : List PacketList) (verdicts : List (
   config = run.history.opened.config
 
   some : 0 < classes_of c
-  some = let classes = run.regular.classes in omega (arith, classes)
+  some = let classes = run.steady.regular.classes in omega (arith, classes)
 
   at : IsAt c p q 0 e (socket_on c p q 0)
-  at = is_at c p q 0 config run.regular port queue some
+  at = is_at c p q 0 config run.steady.regular port queue some
 
   whole : IsWholeDriverRun wire c e input (own e h)
   whole = subst (λ (l : List Judged). IsWholeDriverRun wire c e l (own e h)) (input_is c lists verdicts p q 0 e (socket_on c p q 0) at) (run.drivers e at.pair_known)
@@ -223,12 +223,12 @@ module _ (wire : Wire) (c : Config) (lists : List PacketList) (verdicts : List (
   fair : AreFair c e (seat_at wire c e p q) input (disposals_on wire c h lists verdicts p q)
   fair =
       subst (λ (x : Seat). AreFair c e x input (disposals_on wire c h lists verdicts p q)) (seat_is wire c p q 0 e (socket_on c p q 0) at)
-      (disposed_fairly wire c e input (own e h) (all_fit c e [] (own e h) (own_entries c frames h e run.history)) whole)
+      (disposed_fairly wire c e input (own e h) run.steady.closes (all_fit c e [] (own e h) (own_entries c frames h e run.history)) whole)
 
   pub delivered_as_expected : (k : ℕ) → k < classes_of c
       → with_disposal (socket_on c p q k) input (disposals_on wire c h lists verdicts p q) ≡ bytes_in (filter (is_redirected c p q k) (unlost input (disposals_on wire c h lists verdicts p q)))
   delivered_as_expected k class =
-      let here = is_at c p q k config run.regular port queue class in
+      let here = is_at c p q k config run.steady.regular port queue class in
       let bound : IsBoundTo c p q (socket_on c p q k) = record { known = here.known; on_port = here.on_port; on_queue = here.on_queue } in
       delivered_unlost c e (seat_at wire c e p q) (socket_on c p q k) input (disposals_on wire c h lists verdicts p q) fair
       ∙ ap bytes_in (delivered_is wire c e p q k (unlost input (disposals_on wire c h lists verdicts p q)) bound)
@@ -238,7 +238,7 @@ module _ (wire : Wire) (c : Config) (lists : List PacketList) (verdicts : List (
   of_class packet t here said =
       let bound : IsBoundTo c p q t = record { known = here.known; on_port = here.port ∙ at.pair_port; on_queue = here.queue ∙ at.pair_queue } in
       let on = and_from (eqb (socket_at c.sockets t).port p) (eqb (socket_at c.sockets t).queue q) (eq-eqb _ p bound.on_port) (eq-eqb _ q bound.on_queue) in
-      let quotient : t / classes_of c ≡ e = at_pair c p q config run.regular port queue t here.known on in
+      let quotient : t / classes_of c ≡ e = at_pair c p q config run.steady.regular port queue t here.known on in
       let k = t % classes_of c in
       let same : t ≡ socket_on c p q k = sym (div-add-mod' t (classes_of c)) ∙ ap (λ n. n * classes_of c + k) quotient in
       let few : k < classes_of c = let h = some in omega arith in

@@ -40,17 +40,17 @@ module _ (wire : Wire) (c : Config) (lists : List PacketList) (verdicts : List (
   config = run.history.opened.config
 
   some : 0 < classes_of c
-  some = let classes = run.regular.classes in omega (arith, classes)
+  some = let classes = run.steady.regular.classes in omega (arith, classes)
 
   at : IsAt c p q 0 d (socket_on c p q 0)
-  at = is_at c p q 0 config run.regular port queue some
+  at = is_at c p q 0 config run.steady.regular port queue some
 
   all_sent : sent c h d ≡ sent_from c (run_of (d * classes_of c) (classes_of c)) [] (own d h)
   all_sent =
       ap (λ ss. sent_from c ss [] (own d h))
       (ap (λ n. sockets_from 0 c.sockets n (pair_at c.pairs d).queue) at.pair_port
       ∙ ap (λ n. sockets_from 0 c.sockets p n) at.pair_queue
-      ∙ sockets_are c p q config run.regular port queue)
+      ∙ sockets_are c p q config run.steady.regular port queue)
 
   only_sent : classes_of c ≡ 1 → sent c h d ≡ sent_by c h d (socket_on c p q 0)
   only_sent one =

@@ -94,13 +94,7 @@ sent_parts f c s ss past (t ∷ mine) =
 -- whether a disposal is that a packet was delivered to a socket with at least this number
 abbrev pub is_from : ℕ → Disposal → Bool
 is_from n (Delivered socket) = leb n socket
-is_from n NoFrames = false
-is_from n RxFull = false
-is_from n TooLong = false
-is_from n Runt = false
-is_from n Missed = false
-is_from n Passed = false
-is_from n Dropped = false
+is_from n disposal = false
 
 -- the packets with such a disposal, where the disposals are those of the packets
 abbrev pub delivered_from : ℕ → List Judged → List Disposal → List (List ℕ)

@@ -29,7 +29,7 @@ use Rattle.xsk_model.proofs.Along.{Keeps}
 use Rattle.xsk_turns.specs.AppLaw.{SetsKick, SetsKicks}
 use Rattle.xsk_turns.specs.Watching.{Watching, peeked, watching_after, watching_step, watching_of}
 use Rattle.xsk_turns.specs.Wakes.{looked_at, owes_after, owes_step, owes_on}
-use Rattle.xsk_laws.proofs.Emptied.{is_mark-true, is_mark-self}
+use Rattle.xsk_model.proofs.Closings.{is_mark-true, is_mark-self}
 
 -- ---- folds over a caller's own entries
 
@@ -237,7 +237,7 @@ module _ (c : Config) (frames : List Frame) (config : IsConfig c) (s : State) (p
         -- its flag, which only the driver swaps
         at_flag : m ≡ flag → is_mark flag m ≡ true → After (Swap m value) reply
         at_flag same e =
-            let mine = is.owns who (subst (IsMarkOwner c who) same legal.role) in
+            let mine = is.owns who (subst (IsMarkOwner c who) same legal.role.0) in
             let t : Watching = record { set = eqb value 1; watched = false } in
             let now : cond (eqb who d) (watching_after flag r (Kick d) seen (Swap m value) reply) seen ≡ t =
             ap (λ b. cond b (watching_after flag r (Kick d) seen (Swap m value) reply) seen) (eq-eqb who d mine)
@@ -257,7 +257,7 @@ module _ (c : Config) (frames : List Frame) (config : IsConfig c) (s : State) (p
             ∙ ap (λ b. let x : Watching = cond b t seen in x) e in
             unwatched _ _ _ _ _ (ap (λ x. x.watched) now) (left flag m value is.marked legal off ∙ h.set ∙ ap (λ x. cond x.set 1 0) (sym now)))
             (λ (other : who ≡ d → ⊥).
-            let waker = is.wakes who (subst (IsMarkOwner c who) same legal.role) other in
+            let waker = is.wakes who (subst (IsMarkOwner c who) same legal.role.0) other in
             let one : value ≡ 1 = subst (λ p. SetsKick (Swap p value)) same (sets waker) in
             comes seen _ owes _ _ _ _ _ _ _ (ap (λ b. cond b (watching_after flag r (Kick d) seen (Swap m value) reply) seen) (ne_eqb who d other)) (left flag m value is.marked legal off)
             (λ x. inl (ap (λ p. mark_at c (then (Swap p value)) (Kick d)) same ∙ now_set (Kick d) value is.kicked ∙ one)) h)

@@ -18,7 +18,7 @@ use Rattle.xsk_model.proofs.Along.{Keeps}
 use Rattle.xsk_turns.specs.AppLaw.{SetsKick, SetsKicks}
 use Rattle.xsk_turns.specs.Watching.{Watching, ending_after, ending_step, ending_of}
 use Rattle.xsk_turns.specs.Wakes.{owes_end_after, owes_end_step, owes_end}
-use Rattle.xsk_laws.proofs.Emptied.{is_mark-true}
+use Rattle.xsk_model.proofs.Closings.{is_mark-true}
 use Rattle.xsk_laws.proofs.Waking.{own_fold, sets_before, same_both, IsKept, still, unwatched, comes, folded, number_set, left, now_set}
 
 pub record IsEnding (c : Config) (d w a : ℕ) : Type 0 where
@@ -80,7 +80,7 @@ module _ (c : Config) (frames : List Frame) (config : IsConfig c) (s : State) (p
       -- the driver's own mark
       at_told : m ≡ told → is_mark told m ≡ true → After (Swap m value) reply
       at_told same e =
-          let mine : who ≡ d = subst (IsMarkOwner c who) same legal.role in
+          let mine : who ≡ d = subst (IsMarkOwner c who) same legal.role.0 in
           let now : cond (eqb who d) (ending_after told done (Kick d) seen (Swap m value) reply) seen ≡ swapped_told =
           ap (λ b. cond b (ending_after told done (Kick d) seen (Swap m value) reply) seen) (eq-eqb who d mine)
           ∙ ap (λ b. let x : Watching = cond b swapped_told (cond (is_mark (Kick d) m) unwatch seen) in x) e in
@@ -98,7 +98,7 @@ module _ (c : Config) (frames : List Frame) (config : IsConfig c) (s : State) (p
           ∙ ap (λ b. let x : Watching = cond b unwatch seen in x) e in
           unwatched _ _ _ _ _ (ap (λ x. x.watched) now) (left c frames config s past sound who told m value is.received legal off ∙ h.set ∙ ap (λ x. cond x.set 1 0) (sym now)))
           (λ (other : who ≡ d → ⊥).
-          let waker = is.wakes who (subst (IsMarkOwner c who) same legal.role) other in
+          let waker = is.wakes who (subst (IsMarkOwner c who) same legal.role.0) other in
           let one : value ≡ 1 = subst (λ p. SetsKick (Swap p value)) same (sets waker) in
           comes seen _ owes _ _ _ _ _ _ _ (ap (λ b. cond b (ending_after told done (Kick d) seen (Swap m value) reply) seen) (ne_eqb who d other)) (left c frames config s past sound who told m value is.received legal off)
           (λ x. inl (ap (λ p. mark_at c (then (Swap p value)) (Kick d)) same ∙ now_set c frames config s past sound who (Kick d) value is.kicked ∙ one)) h)
@@ -114,7 +114,7 @@ module _ (c : Config) (frames : List Frame) (config : IsConfig c) (s : State) (p
       -- the application's mark: where it is set to 1 a kick is owed
       at_done : m ≡ done → is_mark told m ≡ false → is_mark (Kick d) m ≡ false → is_mark done m ≡ true → After (Swap m value) reply
       at_done same e f g =
-          let mine = is.tells who (subst (IsMarkOwner c who) same legal.role) in
+          let mine = is.tells who (subst (IsMarkOwner c who) same legal.role.0) in
           comes seen _ owes _ _ _ _ _ _ _ (quiet e f) (left c frames config s past sound who told m value is.received legal e)
           (λ over.
           let one : value ≡ 1 = sym (ap (λ p. mark_at c (then (Swap p value)) done) same ∙ now_set c frames config s past sound who done value is.sent) ∙ over in

@@ -2,7 +2,7 @@
 use Rattle.std.proofs.Common.{◌≡◌, ℕ, ◌*◌, ◌/◌, ◌%◌, ◌+◌, ◌<◌, ◌≤◌, ◌⊎◌, Bool, true, false, cond, None, List, [], ◌++◌, length, refl, sym, ap, subst, ◌∙◌, ⊎_elim, arith}
 use Rattle.std.proofs.lemmas.Nat.{div_below, div-add-mod'}
 use Rattle.xsk_umem.specs.Frame.{Frame}
-use Rattle.xsk_model.specs.Config.{Config, IsConfig, IsRegular, IsBound, HasRing, pair_at, socket_at, classes_of}
+use Rattle.xsk_model.specs.Config.{Config, IsConfig, IsBound, HasRing, pair_at, socket_at, classes_of}
 use Rattle.xsk_model.specs.Rings.{port_of, queue_of, driver_of, app_of, caller_of}
 use Rattle.xsk_model.specs.Marks.{apps_of}
 use Rattle.xsk_model.specs.Entry.{Entry, own}
@@ -11,15 +11,15 @@ use Rattle.xsk_model.specs.Opening.{opening}
 use Rattle.xsk_model.specs.declared.call.Ring.TheVariants.{Fill, Tx}
 use Rattle.xsk_model.specs.declared.call.Mark.TheVariants.{NeedFill, NeedTx, Kick, RxDone, TxDone}
 use Rattle.xsk_model.proofs.Along.{along}
-use Rattle.xsk_model.proofs.FirstState.{opening_mark_is}
+use Rattle.xsk_model.proofs.MarkNumbers.{opening_mark_is}
 use Rattle.xsk_model.proofs.Folds.{own-append}
 use Rattle.xsk_model.proofs.Histories.{history_first}
 use Rattle.xsk_model.proofs.Roles.{IsPlaced, app_below, pair_on_found, pair_on_only, ring_placed}
 use Rattle.xsk_turns.specs.AppLaw.{SetsKicks}
 use Rattle.xsk_turns.specs.AppOwned.{IsApp}
 use Rattle.xsk_turns.specs.AppTurns.{app_turn, app_start, IsAppRun}
-use Rattle.xsk_turns.specs.Owned.{socket_at_class}
 use Rattle.xsk_turns.specs.Turns.{Judged, seat_of, start, turn, IsDriverRun}
+use Rattle.xsk_turns.specs.Owned.{IsSteady, socket_at_class}
 use Rattle.xsk_turns.specs.Wakes.{IsParked, IsOwedOn, IsOwedEnd, app_for, owes_on, owes_end, IsWoken, NoWakeIsLost}
 use Rattle.xsk_turns.specs.Watching.{Watching, IsWatched, WatchesAll, watching_of}
 use Rattle.xsk_turns.specs.Workers.{input_of}
@@ -43,7 +43,7 @@ wakes s owes flag kick due watched h set x = h.woken (watched (is_set s.set flag
 none_seen : (owes : Bool) (flag kick : ℕ) (due : Type 0) → flag ≡ 0 → IsKept (record { set = false; watched = false }) owes flag kick due
 none_seen owes flag kick due e = record { set = e; armed = λ watched. absurd (cc); woken = λ watched x. absurd (cc) }
 
-module _ (wire : Wire) (c : Config) (input : List Judged) (frames : List Frame) (h : List Entry) (d : ℕ) (regular : IsRegular c) (history : IsHistory c frames h) (below : d < length c.pairs)
+module _ (wire : Wire) (c : Config) (input : List Judged) (frames : List Frame) (h : List Entry) (d : ℕ) (steady : IsSteady c) (history : IsHistory c frames h) (below : d < length c.pairs)
     (driver : IsDriverRun wire c d input (own d h)) (app : IsAppRun c (app_for c d) (own (app_of c (Fill d)) h)) where
   config : IsConfig c
   config = history.opened.config
@@ -57,7 +57,7 @@ module _ (wire : Wire) (c : Config) (input : List Judged) (frames : List Frame) 
       app_below c.ports c.queues (pair_at c.pairs d).port (pair_at c.pairs d).queue config.ports at.port at.queue
 
   one : IsApp c (app_for c d)
-  one = record { config = config; regular = regular; known = known }
+  one = record { config = config; steady = steady; known = known }
 
   sets : SetsKicks (own w h)
   sets = only_sets_kicks c (app_for c d) (own w h) one app
@@ -87,7 +87,7 @@ module _ (wire : Wire) (c : Config) (input : List Judged) (frames : List Frame) 
   fill : IsOwedOn c (state_after c frames h) (own d h) d (Fill d) (NeedFill d) → IsWoken c (state_after c frames h) d (owes_on d (Fill d) (NeedFill d) (own w h))
   fill owed =
       let first : IsKeptOn c frames config d w (Fill d) (NeedFill d) fill_target (opening c frames) [] =
-      λ k. none_seen _ _ _ _ (opening_mark_is c frames (NeedFill d) history.opened below) in
+      λ k. none_seen _ _ _ _ (opening_mark_is c frames (NeedFill d) history.opened.config below) in
       let kept = along (IsKeptOn c frames config d w (Fill d) (NeedFill d) fill_target) c frames h history (keeps_on c frames config d w (Fill d) (NeedFill d) fill_target) first in
       wakes _ _ _ _ _ (watches owed.parked).fill (kept sets) owed.set owed.waits
 
@@ -100,16 +100,16 @@ module _ (wire : Wire) (c : Config) (input : List Judged) (frames : List Frame) 
     -- it is the TX ring of a class
     of_pair : driver_of c (Tx t) ≡ t / classes_of c
     of_pair =
-        let within : t / classes_of c < length c.pairs = div_below t (classes_of c) (length c.pairs) some (omega (arith, has.0, regular.sockets)) in
-        let seat = regular.seats (t / classes_of c) within in
-        let at = regular.places t has.0 in
+        let within : t / classes_of c < length c.pairs = div_below t (classes_of c) (length c.pairs) some (omega (arith, has.0, steady.regular.sockets)) in
+        let seat = steady.regular.seats (t / classes_of c) within in
+        let at = steady.regular.places t has.0 in
         pair_on_only c.pairs (port_of c (Tx t)) (queue_of c (Tx t)) (t / classes_of c) bound.pair within (seat.0 ∙ sym at.0, seat.1 ∙ sym at.1)
       where
         some : 1 ≤ classes_of c
-        some = omega (arith, regular.classes)
+        some = omega (arith, steady.regular.classes)
 
     class_below : t % classes_of c < classes_of c
-    class_below = let few = regular.classes in omega (arith, few)
+    class_below = let few = steady.regular.classes in omega (arith, few)
 
     socket : socket_at_class c d (t % classes_of c) ≡ t
     socket = ap (λ (n : ℕ). n * classes_of c + t % classes_of c) (sym mine ∙ of_pair) ∙ div-add-mod' t (classes_of c)
@@ -138,7 +138,7 @@ module _ (wire : Wire) (c : Config) (input : List Judged) (frames : List Frame) 
     tx : IsOwedOn c (state_after c frames h) (own d h) d (Tx t) (NeedTx t) → IsWoken c (state_after c frames h) d (owes_on d (Tx t) (NeedTx t) (own w h))
     tx owed =
         let first : IsKeptOn c frames config d w (Tx t) (NeedTx t) tx_target (opening c frames) [] =
-        λ k. none_seen _ _ _ _ (opening_mark_is c frames (NeedTx t) history.opened has) in
+        λ k. none_seen _ _ _ _ (opening_mark_is c frames (NeedTx t) history.opened.config has) in
         let kept = along (IsKeptOn c frames config d w (Tx t) (NeedTx t) tx_target) c frames h history (keeps_on c frames config d w (Tx t) (NeedTx t) tx_target) first in
         let watched : IsWatched (watching_of (NeedTx t) (Tx t) (Kick d) (own d h)) =
         subst (λ n. IsWatched (watching_of (NeedTx n) (Tx n) (Kick d) (own d h))) socket ((watches owed.parked).tx (t % classes_of c) class_below) in
@@ -152,7 +152,7 @@ module _ (wire : Wire) (c : Config) (input : List Judged) (frames : List Frame) 
   at_end : IsOwedEnd c (state_after c frames h) (own d h) d → IsWoken c (state_after c frames h) d (owes_end d (TxDone (app_for c d)) (own w h))
   at_end owed =
       let first : IsKeptAtEnd c frames config d w (app_for c d) ending (opening c frames) [] =
-      λ k. none_seen _ _ _ _ (opening_mark_is c frames (RxDone d) history.opened below) in
+      λ k. none_seen _ _ _ _ (opening_mark_is c frames (RxDone d) history.opened.config below) in
       let kept = along (IsKeptAtEnd c frames config d w (app_for c d) ending) c frames h history (keeps_at_end c frames config d w (app_for c d) ending) first in
       wakes _ _ _ _ _ (watches owed.parked).ends (kept sets) owed.received owed.sent
 
@@ -168,7 +168,7 @@ no_wakes_are_lost s frames h more d are below =
     let known : a < apps_of c = app_below c.ports c.queues (pair_at c.pairs d).port (pair_at c.pairs d).queue config.ports at.port at.queue in
     let driver = (are.runs d (omega (arith, below))).driver below in
     let app = (are.runs (caller_of c a) (omega (arith, known))).app a refl in
-    no_wake_is_lost s.wire c (input_of s d) frames h d are.regular (history_first c frames h more are.history) below
+    no_wake_is_lost s.wire c (input_of s d) frames h d are.steady (history_first c frames h more are.history) below
     (run_front (turn (seat_of s.wire c d)) (start (classes_of c) (input_of s d)) (own d h) (own d more) (subst (IsDriverRun s.wire c d (input_of s d)) (own-append d h more) driver))
     (run_front (app_turn c a) (app_start c) (own (caller_of c a) h) (own (caller_of c a) more) (subst (IsAppRun c a) (own-append (caller_of c a) h more) app))
 
@@ -181,6 +181,6 @@ none_is_lost_in_whole_runs wire c lists verdicts frames h more d are below =
     let input = received_by c lists verdicts d in
     let driver : IsDriverRun wire c d input (own d (h ++ more)) = whole_run (turn (seat_of wire c d)) (start (classes_of c) input) (own d (h ++ more)) (are.drivers d below) in
     let app : IsAppRun c a (own (caller_of c a) (h ++ more)) = whole_run (app_turn c a) (app_start c) (own (caller_of c a) (h ++ more)) (are.apps a known) in
-    no_wake_is_lost wire c input frames h d are.regular (history_first c frames h more are.history) below
+    no_wake_is_lost wire c input frames h d are.steady (history_first c frames h more are.history) below
     (run_front (turn (seat_of wire c d)) (start (classes_of c) input) (own d h) (own d more) (subst (IsDriverRun wire c d input) (own-append d h more) driver))
     (run_front (app_turn c a) (app_start c) (own (caller_of c a) h) (own (caller_of c a) more) (subst (IsAppRun c a) (own-append (caller_of c a) h more) app))

@@ -5,7 +5,7 @@ use Rattle.std.specs.Prelude.{◌≡◌, ℕ, ◌+◌, ◌<◌, ◌≤◌, ◌==
 use Rattle.std.specs.List.{concat, filter, slice_index_or}
 use Rattle.xsk_umem.specs.Frame.{Frame}
 use Rattle.xsk_umem.specs.PacketList.{PacketList}
-use Rattle.xsk_model.specs.Config.{Config, IsConfig, IsRegular, pair_at, map_of, classes_of}
+use Rattle.xsk_model.specs.Config.{Config, IsConfig, pair_at, map_of, classes_of}
 use Rattle.xsk_model.specs.Rings.{caller_of}
 use Rattle.xsk_model.specs.Marks.{apps_of}
 use Rattle.xsk_model.specs.Entry.{Entry, own}
@@ -15,6 +15,7 @@ use Rattle.xsk_model.specs.Steering.{paired_port, driver_on, socket_on}
 use Rattle.xsk_turns.specs.Inputs.{packets_of_port}
 use Rattle.xsk_prog.specs.declared.rule.Rule.TheVariants.{Redirect as ByClass}
 use Rattle.xsk_prog.specs.declared.rule.Verdict.{Verdict}
+use Rattle.xsk_turns.specs.Owned.{IsSteady}
 use Rattle.xsk_turns.specs.Turns.{Judged, IsWholeDriverRun}
 use Rattle.xsk_turns.specs.Verdicts.{judged, MeetRule}
 use Rattle.xsk_turns.specs.AppTurns.{IsWholeAppRun}
@@ -27,10 +28,10 @@ use Rattle.xsk_laws.specs.Forwarded.{forwarded}
 abbrev pub received_by : Config → List PacketList → List (List Verdict) → ℕ → List Judged
 received_by c lists verdicts d = judged (received c lists (pair_at c.pairs d).port (pair_at c.pairs d).queue) (slice_index_or verdicts d [])
 
--- a history of a regular configuration that all workers have run to their ends: the own entries of each driver are a whole
+-- a history of a regular configuration in which no socket is closed, that all workers have run to their ends: the own entries of each driver are a whole
 -- run over what it receives, with this wire, and so are those of each application
 pub record AreWholeRuns (wire : Wire) (c : Config) (lists : List PacketList) (verdicts : List (List Verdict)) (frames : List Frame) (h : List Entry) : Type 0 where
-  pub regular : IsRegular c
+  pub steady : IsSteady c
   pub history : IsHistory c frames h
   pub drivers : (d : ℕ) → d < length c.pairs → IsWholeDriverRun wire c d (received_by c lists verdicts d) (own d h)
   pub apps : (a : ℕ) → a < apps_of c → IsWholeAppRun c a (own (caller_of c a) h)

@@ -21,12 +21,7 @@ use Rattle.xsk_laws.specs.Laws.{AreWholeRuns, IsPlace}
 abbrev pub is_lost : Disposal → Bool
 is_lost NoFrames = true
 is_lost RxFull = true
-is_lost (Delivered socket) = false
-is_lost TooLong = false
-is_lost Runt = false
-is_lost Missed = false
-is_lost Passed = false
-is_lost Dropped = false
+is_lost disposal = false
 
 -- the packets that were lost, and those that weren't, where the disposals are those of the packets
 abbrev pub lost : List Judged → List Disposal → List Judged

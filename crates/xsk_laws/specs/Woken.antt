@@ -3,10 +3,11 @@
 use Rattle.std.specs.Prelude.{ℕ, ◌<◌, List, ◌++◌, length}
 use Rattle.xsk_umem.specs.Frame.{Frame}
 use Rattle.xsk_umem.specs.PacketList.{PacketList}
-use Rattle.xsk_model.specs.Config.{Config, IsRegular, callers_of}
+use Rattle.xsk_model.specs.Config.{Config, callers_of}
 use Rattle.xsk_model.specs.Entry.{Entry, own}
 use Rattle.xsk_model.specs.History.{IsHistory}
 use Rattle.xsk_prog.specs.declared.rule.Verdict.{Verdict}
+use Rattle.xsk_turns.specs.Owned.{IsSteady}
 use Rattle.xsk_turns.specs.Wakes.{NoWakeIsLost}
 use Rattle.xsk_turns.specs.Workers.{Setting, IsWorkerRun}
 use Rattle.xsk_turns.specs.declared.wire.Wire.{Wire}
@@ -14,7 +15,7 @@ use Rattle.xsk_laws.specs.Laws.{AreWholeRuns}
 
 -- a history of a setting's configuration in which all workers' entries are runs, whether or not they have ended
 pub record AreWorkerRuns (s : Setting) (frames : List Frame) (h : List Entry) : Type 0 where
-  pub regular : IsRegular s.config
+  pub steady : IsSteady s.config
   pub history : IsHistory s.config frames h
   pub runs : (who : ℕ) → who < callers_of s.config → IsWorkerRun s who (own who h)
 

@@ -1,5 +1,5 @@
 //! The socket behind a cell, for a packet of a port's queue.
-ghost use Rattle.std.specs.Prelude.{◌≡◌, ◌≤◌, length};
+ghost use Rattle.std.specs.Prelude.{◌≡◌};
 ghost use Rattle.xsk_map.specs.Redirect.{redirect_of};
 
 use xsk_model::Config;
@@ -7,7 +7,7 @@ use xsk_model::Config;
 /// Why a redirect leads to no socket; the packet is then dropped.
 #[derive(Clone, Copy, Debug, PartialEq, Eq)]
 pub enum Miss {
-    /// The cell is empty.
+    /// The cell is empty, or no socket has its number.
     EmptyCell,
     /// Its socket is bound to another port or another queue.
     OtherQueue,
@@ -16,11 +16,10 @@ pub enum Miss {
 /// The socket to which a cell's number leads a packet of this port and queue (af_xdp.rst, "Usage": a socket must be bound
 /// to the queue on which the packet came). The number 0 is an empty cell, and v stands for socket v - 1.
 pub fn redirect(cell: u64, config: &Config, port: u32, queue: u32) -> Result<u32, Miss>
-    requires { cell ≤ length config.now.sockets }
     ensures { result ≡ redirect_of config.now port queue cell }
 {
     let sockets = config.sockets();
-    if cell == 0 {
+    if cell == 0 || cell > sockets.len() as u64 {
         return Err(Miss::EmptyCell);
     }
     let number = (cell - 1) as u32;

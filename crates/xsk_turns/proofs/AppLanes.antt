@@ -19,7 +19,7 @@ use Rattle.xsk_turns.proofs.Draining.{draining_told, same_unseen, when_found, fo
 use Rattle.xsk_turns.proofs.Owned.{peeked_none, none_submitted, other_submitted}
 use Rattle.xsk_turns.proofs.ReceivingLaws.{telling_told, and_off, now_told}
 use Rattle.xsk_turns.proofs.Walks.{Anything, meet_anything}
-use Rattle.xsk_turns.proofs.AppWalk.{Place, Lanes, Lane, Sides, Side, Ending, Looking, Waking, Looked, Kicking, TxTold, Family, is_need, busy_lane, busy_side, PeekRx, ReleaseRx, ReserveTx, SubmitTx, LookRxDone, LookGone, LookNeed, KickDriver, group, call_at, kept_before, rx_empty, rx_items, rx_released, tx_granted, tx_full, tx_submitted, comp_items, fill_submitted, looked_rx_done, told_tx_done, looked_gone, looked_need, kicked, point_of, reply_of, no_lanes, has_items, has_frames, looks, begins, Said, AtCalls, AtEntries, AtPasses, IsLaw, at_end, of_run}
+use Rattle.xsk_turns.proofs.AppWalk.{Place, Lanes, Lane, Sides, Side, Ending, Looking, Waking, Looked, Kicking, TxTold, Family, is_need, busy_lane, busy_side, PeekRx, ReleaseRx, ReserveTx, SubmitTx, LookRxDone, LookGone, LookNeed, KickDriver, group, call_at, kept_before, rx_empty, rx_items, rx_released, tx_granted, tx_full, tx_submitted, comp_items, fill_submitted, looked_rx_done, told_tx_done, looked_gone, looked_need, kicked, point_of, reply_of, no_lanes, has_items, has_frames, looks, rests, begins, Said, AtCalls, AtEntries, AtPasses, IsLaw, at_end, of_run}
 
 -- ---- what an entry leaves of a ring's items
 
@@ -329,7 +329,7 @@ module _ (c : Config) (a : ℕ) (one : IsApp c a) where
   abbrev At : Family
   At (Lanes lane) noted kept l = InOrder c a noted lane kept l
   At (Lane lane due) noted kept l = InOrder c a noted (lane + 1) kept l × (noted.lanes_empty ≡ false)
-  At Looking noted kept l = Begins c a kept l
+  At (Looking side) noted kept l = Begins c a kept l
   At TxTold noted kept l = Begins c a kept l
   At (Waking place need pair) noted kept l = At place noted kept l
   At (Looked place need pair n) noted kept l = At place noted kept l
@@ -349,7 +349,7 @@ module _ (c : Config) (a : ℕ) (one : IsApp c a) where
   lawful_at (Sides side) noted kept l h = lawful c a noted (lanes_of c) kept l h
   lawful_at (Side side due) noted kept l h = lawful c a noted (lanes_of c) kept l h
   lawful_at Ending noted kept l h = lawful c a noted (lanes_of c) kept l h
-  lawful_at Looking noted kept l h = lawful c a none_noted 0 kept l h
+  lawful_at (Looking side) noted kept l h = lawful c a none_noted 0 kept l h
   lawful_at TxTold noted kept l h = lawful c a none_noted 0 kept l h
   lawful_at (Waking place need pair) noted kept l h = lawful_at place noted kept l h
   lawful_at (Looked place need pair n) noted kept l h = lawful_at place noted kept l h
@@ -364,7 +364,7 @@ module _ (c : Config) (a : ℕ) (one : IsApp c a) where
   stays (Sides side) noted kept l m on h = on noted (lanes_of c) kept h
   stays (Side side due) noted kept l m on h = on noted (lanes_of c) kept h
   stays Ending noted kept l m on h = on noted (lanes_of c) kept h
-  stays Looking noted kept l m on h = on none_noted 0 kept h
+  stays (Looking side) noted kept l m on h = on none_noted 0 kept h
   stays TxTold noted kept l m on h = on none_noted 0 kept h
   stays (Waking place need pair) noted kept l m on h = stays place noted kept l m on h
   stays (Looked place need pair n) noted kept l m on h = stays place noted kept l m on h
@@ -410,11 +410,12 @@ module _ (c : Config) (a : ℕ) (one : IsApp c a) where
   passes (has_items lane item items) noted kept l = λ h e. (renoted c a noted lane kept l h (busy_lane noted) (lane + 1) h.known (λ e. absurd (cc)), refl)
   passes (has_frames side frame frames) noted kept l = λ h e. renoted c a noted (lanes_of c) kept l h (busy_side noted) (lanes_of c) h.known h.found
   passes looks noted kept l = λ h e. over_turn c a noted (lanes_of c) kept l h
+  passes rests noted kept l = λ h e. over_turn c a noted (lanes_of c) kept l h
   passes begins noted kept l = λ h e. renoted c a none_noted 0 kept l h (noted_first kept) 0 (λ e. e) (λ e sends j k. absurd (omega arith))
   passes p noted kept l = λ h e. h
 
   law : IsLaw c a Anything At Asked Ended
-  law = record { calls = calls; entries = entries; passes = passes; ends = λ noted kept l done h. at_last c a noted (lanes_of c) kept l done h }
+  law = record { calls = calls; entries = entries; passes = passes; ends = λ noted kept l done h. at_last c a noted (lanes_of c) kept l done.0 h }
 
 -- ---- the laws
 

@@ -9,7 +9,7 @@ use Rattle.xsk_turns.proofs.Object.{Frame, Config, pool_of, batch_of, classes_of
 use Rattle.xsk_turns.proofs.Calls.{Item, Told, with_told, Ring, Fill, Comp, Rx, Tx, RxDone, Gone, TxDone, Call, Peek, Swap, Look, Reply, Granted, Submitted, Items, Released, Old}
 use Rattle.xsk_model.specs.declared.call.Mark.TheVariants.{Kick}
 use Rattle.xsk_model.proofs.Folds.{part_of-push_other}
-use Rattle.xsk_turns.proofs.LegalCalls.{legal_reserve, legal_peek, legal_release, legal_look, legal_swap, had_told, room_told, held_told, IsDue}
+use Rattle.xsk_turns.proofs.LegalCalls.{fed, legal_reserve, legal_peek, legal_release, legal_look, legal_swap, had_told, room_told, held_told, IsDue}
 use Rattle.xsk_turns.specs.Script.{Script, Asks}
 use Rattle.xsk_turns.specs.Turns.{frames_in}
 use Rattle.xsk_turns.specs.Owned.{AllFit, frame_numbers}
@@ -80,7 +80,7 @@ module _ (c : Config) (a : ℕ) (one : IsApp c a) where
   beside_on (Lanes lane) kept l call reply off h = tt
   beside_on (Sides side) kept l call reply off h = tt
   beside_on Ending kept l call reply off h = tt
-  beside_on Looking kept l call reply off h = tt
+  beside_on (Looking side) kept l call reply off h = tt
   beside_on TxTold kept l call reply off h = tt
 
   quiet : (kept : AppKept) (call : Call) (l : List Told) → submitted call ≡ [] → Has kept l → IsLegal c l who call → Asked kept call l
@@ -155,21 +155,21 @@ module _ (c : Config) (a : ℕ) (one : IsApp c a) where
   calls : AtCalls c a At Asked
   calls (PeekRx lane) noted kept l known h = let seat = seats.rx lane known.0 in quiet kept _ l refl h.0 (legal_peek c who l seats.caller (Rx (rx_of c a lane)) (batch_of c) seat.0 seat.1 seats.batch_some seats.batch_few)
   calls (ReleaseRx lane n) noted kept l known h = let seat = seats.rx lane known.0 in quiet kept _ l refl h.0 (legal_release c who l seats.caller (Rx (rx_of c a lane)) n seat.0 seat.1 h.1.1.0 h.1.1.1 h.1.1.2)
-  calls (ReserveTx lane) noted kept l known h = let seat = seats.tx lane known.0 in quiet kept _ l refl h.0 (legal_reserve c who l seats.caller (Tx (tx_of c a lane)) _ seat.0 seat.1 h.1.0 (h.0.few lane))
+  calls (ReserveTx lane) noted kept l known h = let seat = seats.tx lane known.0 in quiet kept _ l refl h.0 (legal_reserve c who l seats.caller (Tx (tx_of c a lane)) _ seat.0 seat.1 h.1.0 (h.0.few lane) (fed c one.steady.closes l (Tx (tx_of c a lane))))
   calls (SubmitTx lane) noted kept l known h =
       let t = tx_of c a lane in
       let seat = seats.tx lane known.0 in
       let out = sends lane kept l known.0 h.0 in
       let lawful = All-weaker (IsItemOn c.geometry (Tx 0)) (IsItemOn c.geometry (Tx t)) (tx_to_tx c.geometry 0 t) (pending_at kept lane) (h.0.items lane) in (
         app_owned c (with_pending kept lane []) (call_at c a (SubmitTx lane) kept) l out,
-        λ own. record { caller = seats.caller; known = seat.0; role = seat.1; counted = (h.1.0, h.0.few lane, h.1.1); frames = λ m. omega (arith, out.counts m); items = lawful; packets = tt },
+        λ own. record { caller = seats.caller; known = seat.0; role = seat.1; counted = (h.1.0, h.0.few lane, h.1.1); frames = λ m. omega (arith, out.counts m); items = lawful; packets = tt; feeds = fed c one.steady.closes l (Tx t) },
       )
   calls (PeekComp side) noted kept l known h = let seat = seats.comp side known.0 in quiet kept _ l refl h.0 (legal_peek c who l seats.caller (Comp (pair_of c a side)) (batch_of c) seat.0 seat.1 seats.batch_some seats.batch_few)
   calls (ReleaseComp side n) noted kept l known h = let seat = seats.comp side known in quiet kept _ l refl h.0 (legal_release c who l seats.caller (Comp (pair_of c a side)) n seat.0 seat.1 h.1.0 h.1.1 h.1.2)
   calls (ReserveFill side frame frames) noted kept l known h =
       let below = home_below side frame frames kept l known h.0 in (
         app_owned c (with_back kept side (frame ∷ frames)) (call_at c a (ReserveFill side frame frames) kept) l h.0,
-        λ own. legal_reserve c who l seats.caller _ _ below (home_seat side frame frames kept l known h.0 own) (some side frame frames kept l known h.0) (few side frame frames kept l known h.0),
+        λ own. legal_reserve c who l seats.caller _ _ below (home_seat side frame frames kept l known h.0 own) (some side frame frames kept l known h.0) (few side frame frames kept l known h.0) tt,
       )
   calls (SubmitFill side frame frames) noted kept l known h =
       let below = home_below side frame frames kept l known h.0 in
@@ -184,14 +184,15 @@ module _ (c : Config) (a : ℕ) (one : IsApp c a) where
           frames = λ m. omega (arith, out.counts m);
           items = lawful side frame frames kept l known h.0;
           packets = tt;
+          feeds = tt;
         },
       )
   calls (LookRxDone side) noted kept l known h = quiet kept _ l refl h.0 (legal_look c who l seats.caller (RxDone (pair_of c a side)) (seats.comp side known.0).0)
-  calls TellTxDone noted kept l known h = quiet kept _ l refl h.0 (legal_swap c who l seats.caller (TxDone a) 1 seats.known refl (omega arith))
-  calls (LookGone side) noted kept l known h = quiet kept _ l refl h.0 (legal_look c who l seats.caller (Gone (pair_of c a side)) (seats.comp side known).0)
+  calls TellTxDone noted kept l known h = quiet kept _ l refl h.0 (legal_swap c who l seats.caller (TxDone a) 1 seats.known (refl, tt) (omega arith))
+  calls (LookGone side) noted kept l known h = quiet kept _ l refl h.0 (legal_look c who l seats.caller (Gone (pair_of c a side)) (seats.comp side known.0).0)
   calls (LookNeed place need pair) noted kept l known h = quiet kept _ l refl h.0 (legal_look c who l seats.caller need h.1.1)
   calls (KickDriver place pair) noted kept l known h =
-      (app_owned c kept (Swap (Kick pair) 1) l h.0, λ own. legal_swap c who l seats.caller (Kick pair) 1 h.1.1.0 (inr (h.1.1.1 own)) (omega arith))
+      (app_owned c kept (Swap (Kick pair) 1) l h.0, λ own. legal_swap c who l seats.caller (Kick pair) 1 h.1.1.0 (inr (h.1.1.1 own), tt) (omega arith))
 
   entries : AtEntries c a Answers At Asked
   entries (rx_items lane items) noted kept l known h asked fresh =

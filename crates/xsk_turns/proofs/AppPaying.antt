@@ -81,7 +81,7 @@ module _ (c : Config) (a : ℕ) (one : IsApp c a) (wakeup : c.wakeup ≡ true) (
   free (Sides side) l e = e
   free (Side side due) l e = e
   free Ending l e = e
-  free Looking l e = e
+  free (Looking side) l e = e
   free TxTold l e = e
 
   nothing : (l : List Told) (call : Call) → owes l ≡ false → Asked (app_start c) call l
@@ -139,7 +139,7 @@ module _ (c : Config) (a : ℕ) (one : IsApp c a) (wakeup : c.wakeup ≡ true) (
       free place l (never_true (owes l) (λ o. absurd (let no : true ≡ false = sym (eq-eqb n 1 (h o).0) ∙ e in cc)))
   passes (needs_kick place need pair n) noted kept l = λ h e o. (h o).1
   passes told_quietly noted kept l = λ h off. h
-  passes told_both noted kept l = λ h e. free (Kicking (Kicking Looking (pair_of c a 1)) (pair_of c a 0)) l h
+  passes told_both noted kept l = λ h e. free (Kicking (Kicking (Looking 2) (pair_of c a 1)) (pair_of c a 0)) l h
   passes p noted kept l = λ h e. h
 
   law : IsLaw c a Answers At Asked (λ kept l. Unit {0})

@@ -1,6 +1,6 @@
 -- The one walk along an application's turns. A law of its runs says what holds at each place of a turn, and what each entry
 -- of the list, a call with its reply, makes of it; then it holds along every run.
-use Rattle.std.proofs.Common.{◌≡◌, ℕ, zero, suc, ◌+◌, ◌-◌, ◌<◌, Bool, true, false, cond, ◌&&◌, eqb, List, [], ◌∷◌, length, drop, map, refl, sym, ap, ◌∙◌, subst, arith}
+use Rattle.std.proofs.Common.{◌≡◌, ◌⊎◌, inl, inr, ℕ, zero, suc, ◌+◌, ◌-◌, ◌<◌, Bool, true, false, cond, ◌&&◌, eqb, List, [], ◌∷◌, length, drop, map, set, refl, sym, ap, ◌∙◌, subst, arith}
 use Rattle.xsk_turns.proofs.Object.{Frame, Config, pool_of, batch_of, home_item}
 use Rattle.xsk_turns.proofs.Calls.{Item, Told, with_told, Fill, Comp, Rx, Tx, Mark, RxDone, Gone, TxDone, Call, Reserve, Submit, Peek, Release, Swap, Look, Reply, Granted, Full, Submitted, Items, Empty, Released, Old}
 use Rattle.xsk_model.specs.declared.call.Mark.TheVariants.{NeedFill, NeedTx, Kick}
@@ -23,7 +23,7 @@ pub data Place : Type 0 where
   Sides : ℕ → Place
   Side : ℕ → Due → Place
   Ending : Place
-  Looking : Place
+  Looking : ℕ → Place
   Waking : Place → Mark → ℕ → Place
   Looked : Place → Mark → ℕ → ℕ → Place
   Kicking : Place → ℕ → Place
@@ -81,9 +81,9 @@ asked c a (PeekComp side) kept = (Sides side, Peek (Comp (pair_of c a side)) (ba
 asked c a (ReleaseComp side n) kept = (Side side (release_due (Comp (pair_of c a side)) n), Release (Comp (pair_of c a side)) n, kept)
 asked c a (ReserveFill side frame frames) kept = (Side side nothing_due, Reserve (Fill (home_of (pool_of c) frame)) (length (group c frame frames)), with_back kept side (frame ∷ frames))
 asked c a (SubmitFill side frame frames) kept = (Side side (submit_due (Fill (home_of (pool_of c) frame)) (length (group c frame frames))), Submit (Fill (home_of (pool_of c) frame)) (map (home_item c.geometry) (group c frame frames)), with_back kept side (drop (length (group c frame frames)) (frame ∷ frames)))
-asked c a (LookRxDone side) kept = (Looking, Look (RxDone (pair_of c a side)), kept)
+asked c a (LookRxDone side) kept = (Looking side, Look (RxDone (pair_of c a side)), kept)
 asked c a TellTxDone kept = (Ending, Swap (TxDone a) 1, kept)
-asked c a (LookGone side) kept = (Looking, Look (Gone (pair_of c a side)), kept)
+asked c a (LookGone side) kept = (Looking side, Look (Gone (pair_of c a side)), kept)
 asked c a (LookNeed place need pair) kept = (Waking place need pair, Look need, kept)
 asked c a (KickDriver place pair) kept = (Kicking place pair, Swap (Kick pair) 1, kept)
 
@@ -106,12 +106,12 @@ Known c (ReleaseRx lane n) noted kept = (lane < lanes_of c) × (kept.tx_done ≡
 Known c (ReserveTx lane) noted kept = (lane < lanes_of c) × (kept.tx_done ≡ false)
 Known c (SubmitTx lane) noted kept = (lane < lanes_of c) × (kept.tx_done ≡ false)
 Known c (PeekComp side) noted kept = (side < 2) × (back_at kept side ≡ [])
-Known c (LookRxDone side) noted kept = (side < 2) × (is_set kept.seen side ≡ false)
+Known c (LookRxDone side) noted kept = (side < 2) × (is_set kept.seen side ≡ false) × (kept.tx_done ≡ false)
 Known c TellTxDone noted kept = (kept.tx_done ≡ false) × ((noted.seen && noted.lanes_empty) ≡ true)
 Known c (ReleaseComp side n) noted kept = side < 2
 Known c (ReserveFill side frame frames) noted kept = side < 2
 Known c (SubmitFill side frame frames) noted kept = side < 2
-Known c (LookGone side) noted kept = side < 2
+Known c (LookGone side) noted kept = (side < 2) × (is_set kept.gone side ≡ false) × (kept.tx_done ≡ true)
 Known c (LookNeed place need pair) noted kept = (c.wakeup ≡ true) × (is_need need ≡ true)
 Known c (KickDriver place pair) noted kept = c.wakeup ≡ true
 
@@ -175,9 +175,9 @@ leads c a (comp_released side n) noted kept = (Side side nothing_due, noted, kep
 leads c a (fill_granted side frame frames) noted kept = (Side side (submit_due (Fill (home_of (pool_of c) frame)) (length (group c frame frames))), noted, with_back kept side (frame ∷ frames))
 leads c a (fill_full side frame frames free) noted kept = (Sides (side + 1), noted, with_back kept side (frame ∷ frames))
 leads c a (fill_submitted side frame frames) noted kept = (fill_filled side (home_of (pool_of c) frame), noted, with_back kept side (drop (length (group c frame frames)) (frame ∷ frames)))
-leads c a (looked_rx_done side n) noted kept = (Looking, noted, with_seen kept side n)
+leads c a (looked_rx_done side n) noted kept = (Looking (side + 1), noted, with_seen kept side n)
 leads c a (told_tx_done n) noted kept = (TxTold, noted, record kept { tx_done = true })
-leads c a (looked_gone side n) noted kept = (Looking, noted, with_gone kept side n)
+leads c a (looked_gone side n) noted kept = (Looking (side + 1), noted, with_gone kept side n)
 leads c a (looked_need place need pair n) noted kept = (Looked place need pair n, noted, kept)
 leads c a (kicked place pair n) noted kept = (place, noted, kept)
 
@@ -191,6 +191,8 @@ pub data Pass : Type 0 where
   all_given : ℕ → Pass
   sides_done : Pass
   looks : Pass
+  rests : Pass
+  skips : ℕ → Pass
   begins : Pass
   without_need : Place → Mark → ℕ → Pass
   needs_none : Place → Mark → ℕ → ℕ → Pass
@@ -198,20 +200,35 @@ pub data Pass : Type 0 where
   told_quietly : Pass
   told_both : Pass
 
+-- whether it has ended, by what it noted and keeps
+abbrev pub is_over : AppNoted → AppKept → Bool
+is_over noted kept = noted.gone && noted.sides_empty && is_none (back_at kept 0) && is_none (back_at kept 1)
+
+-- it looks at marks where a side isn't seen yet, or, once it told that it sends nothing more, where it hasn't ended
+abbrev pub Looks : AppNoted → AppKept → Type 0
+Looks noted kept = ((kept.tx_done ≡ false) × (both kept.seen ≡ false)) ⊎ ((kept.tx_done ≡ true) × (is_over noted kept ≡ false))
+
+-- by these flags
+abbrev pub flags_of : AppKept → List Bool
+flags_of kept = cond kept.tx_done kept.gone kept.seen
+
 abbrev pub Passing : Config → ℕ → Family → Pass → AppNoted → AppKept → List Told → Type 0
 Passing c a At no_lanes noted kept l = At (Lanes 0) noted kept l → kept.tx_done ≡ true → At (Sides 0) noted kept l
 Passing c a At (has_items lane item items) noted kept l = At (Lanes lane) noted kept l → pending_at kept lane ≡ item ∷ items → At (Lane lane nothing_due) (busy_lane noted) kept l
 Passing c a At lanes_done noted kept l = At (Lanes (lanes_of c)) noted kept l → kept.tx_done ≡ false → At (Sides 0) noted kept l
 Passing c a At (has_frames side frame frames) noted kept l = At (Sides side) noted kept l → back_at kept side ≡ frame ∷ frames → At (Side side nothing_due) (busy_side noted) kept l
-Passing c a At (all_given side) noted kept l = At (Side side nothing_due) noted kept l → Unit {0} → At (Sides (side + 1)) noted kept l
+Passing c a At (all_given side) noted kept l = At (Side side nothing_due) noted (with_back kept side []) l → Unit {0} → At (Sides (side + 1)) noted (with_back kept side []) l
 Passing c a At sides_done noted kept l = At (Sides 2) noted kept l → Unit {0} → At Ending noted kept l
-Passing c a At looks noted kept l = At Ending noted kept l → Unit {0} → At Looking noted kept l
-Passing c a At begins noted kept l = At Looking noted kept l → Unit {0} → At (Lanes 0) (noted_first kept) kept l
+Passing c a At looks noted kept l = At Ending noted kept l → Looks noted kept → At (Looking 0) noted kept l
+Passing c a At rests noted kept l =
+    At Ending noted kept l → (kept.tx_done ≡ false) × (both kept.seen ≡ true) × ((noted.seen && noted.lanes_empty) ≡ false) → At (Looking 2) noted kept l
+Passing c a At (skips side) noted kept l = At (Looking side) noted kept l → is_set (flags_of kept) side ≡ true → At (Looking (side + 1)) noted kept l
+Passing c a At begins noted kept l = At (Looking 2) noted kept l → Unit {0} → At (Lanes 0) (noted_first kept) kept l
 Passing c a At (without_need place need pair) noted kept l = At (Waking place need pair) noted kept l → c.wakeup ≡ false → At place noted kept l
 Passing c a At (needs_none place need pair n) noted kept l = At (Looked place need pair n) noted kept l → eqb n 1 ≡ false → At place noted kept l
 Passing c a At (needs_kick place need pair n) noted kept l = At (Looked place need pair n) noted kept l → eqb n 1 ≡ true → At (Kicking place pair) noted kept l
-Passing c a At told_quietly noted kept l = At TxTold noted kept l → c.wakeup ≡ false → At Looking noted kept l
-Passing c a At told_both noted kept l = At TxTold noted kept l → c.wakeup ≡ true → At (Kicking (Kicking Looking (pair_of c a 1)) (pair_of c a 0)) noted kept l
+Passing c a At told_quietly noted kept l = At TxTold noted kept l → c.wakeup ≡ false → At (Looking 2) noted kept l
+Passing c a At told_both noted kept l = At TxTold noted kept l → c.wakeup ≡ true → At (Kicking (Kicking (Looking 2) (pair_of c a 1)) (pair_of c a 0)) noted kept l
 
 -- ---- a law
 
@@ -235,7 +252,7 @@ pub record IsLaw (c : Config) (a : ℕ) (Q : Premise AppKept) (At : Family) (A :
   pub calls : AtCalls c a At A
   pub entries : AtEntries c a Q At A
   pub passes : AtPasses c a At
-  pub ends : (noted : AppNoted) (kept : AppKept) (l : List Told) → kept.tx_done ≡ true → At Ending noted kept l → E kept l
+  pub ends : (noted : AppNoted) (kept : AppKept) (l : List Told) → (kept.tx_done ≡ true) × (is_over noted kept ≡ true) → At Ending noted kept l → E kept l
 
 module _ (c : Config) (a : ℕ) (one : IsApp c a) (Q : Premise AppKept) (At : Family) (A : Said) (E : AppKept → List Told → Type 0) (is : IsLaw c a Q At A E) where
   abbrev law : Law AppKept
@@ -336,8 +353,8 @@ module _ (c : Config) (a : ℕ) (one : IsApp c a) (Q : Premise AppKept) (At : Fa
 
   go_give : (side done : ℕ) (frames : List Frame) (noted : AppNoted) (kept : AppKept) (next : AppNoted → AppKept → Script AppKept) (l : List Told) → side < 2
       → At (Side side nothing_due) noted (with_back kept side (drop done frames)) l → Continues (Sides (side + 1)) next → Along (give_back c side done frames kept (next noted)) l
-  go_give side zero [] noted kept next l below h go = go noted (with_back kept side []) l (is.passes (all_given side) noted (with_back kept side []) l h tt)
-  go_give side (suc done) [] noted kept next l below h go = go noted (with_back kept side []) l (is.passes (all_given side) noted (with_back kept side []) l h tt)
+  go_give side zero [] noted kept next l below h go = go noted (with_back kept side []) l (is.passes (all_given side) noted kept l h tt)
+  go_give side (suc done) [] noted kept next l below h go = go noted (with_back kept side []) l (is.passes (all_given side) noted kept l h tt)
   go_give side (suc done) (frame ∷ frames) noted kept next l below h go = go_give side done frames noted kept next l below h go
   go_give side zero (frame ∷ frames) noted kept next l below h go =
       let n = length (group c frame frames) in
@@ -402,44 +419,59 @@ module _ (c : Config) (a : ℕ) (one : IsApp c a) (Q : Premise AppKept) (At : Fa
 
   -- ---- the end
 
-  go_marks : (flags : AppKept → List Bool) (mark : ℕ → Mark) (with_flag : AppKept → ℕ → ℕ → AppKept) (noted : AppNoted)
-      → ((side : ℕ) (kept : AppKept) (l : List Told) → side < 2 → is_set (flags kept) side ≡ false → At Looking noted kept l
-      → A kept (Look (mark side)) l × ((n : ℕ) → Q kept l (Look (mark side)) (Old n) → At Looking noted (with_flag kept side n) (with_told l (Look (mark side)) (Old n))))
-      → (more side : ℕ) (kept : AppKept) (l : List Told) → side + more ≡ 2 → At Looking noted kept l → Along (look_marks flags mark with_flag more side kept) l
-  go_marks flags mark with_flag noted step zero side kept l e h = is.passes begins noted kept l h tt
-  go_marks flags mark with_flag noted step (suc more) side kept l e h =
-      let on = go_marks flags mark with_flag noted step more (side + 1) in
-      by_case Q law (is_set (flags kept) side) _ _ l (λ f. on kept l (omega (arith, e)) h)
+  go_marks : (flags : AppKept → List Bool) (mark : ℕ → Mark) (with_flag : AppKept → ℕ → ℕ → AppKept) (IsFor : AppKept → Type 0) (noted : AppNoted)
+      → ((side n : ℕ) (kept : AppKept) → IsFor kept → IsFor (with_flag kept side n)) → ((kept : AppKept) → IsFor kept → flags_of kept ≡ flags kept)
+      → ((side : ℕ) (kept : AppKept) (l : List Told) → side < 2 → is_set (flags kept) side ≡ false → IsFor kept → At (Looking side) noted kept l
+      → A kept (Look (mark side)) l × ((n : ℕ) → Q kept l (Look (mark side)) (Old n) → At (Looking (side + 1)) noted (with_flag kept side n) (with_told l (Look (mark side)) (Old n))))
+      → (more side : ℕ) (kept : AppKept) (l : List Told) → side + more ≡ 2 → IsFor kept → At (Looking side) noted kept l → Along (look_marks flags mark with_flag more side kept) l
+  go_marks flags mark with_flag IsFor noted stays same step zero side kept l e is_for h =
+      let all : side ≡ 2 = omega (arith, e) in is.passes begins noted kept l (subst (λ k. At (Looking k) noted kept l) all h) tt
+  go_marks flags mark with_flag IsFor noted stays same step (suc more) side kept l e is_for h =
+      let on = go_marks flags mark with_flag IsFor noted stays same step more (side + 1) in
+      by_case Q law (is_set (flags kept) side) _ _ l (λ f. on kept l (omega (arith, e)) is_for (is.passes (skips side) noted kept l h (ap (λ fs. is_set fs side) (same kept is_for) ∙ f)))
       (λ f.
-      let now = step side kept l (omega (arith, e)) f h in (
+      let now = step side kept l (omega (arith, e)) f is_for h in (
         now.0,
         at_old Q law kept (Look (mark side)) l (λ n. look_marks flags mark with_flag more (side + 1) (with_flag kept side n))
-            (λ n q. on (with_flag kept side n) (with_told l (Look (mark side)) (Old n)) (omega (arith, e)) (now.1 n q)),
+            (λ n q. on (with_flag kept side n) (with_told l (Look (mark side)) (Old n)) (omega (arith, e)) (stays side n kept is_for) (now.1 n q)),
       ))
 
-  go_rx_done : (noted : AppNoted) (kept : AppKept) (l : List Told) → At Looking noted kept l → Along (look_rx_done c a 2 0 kept) l
-  go_rx_done noted kept l h =
-      go_marks (λ (k : AppKept). k.seen) (λ side. RxDone (pair_of c a side)) with_seen noted
-      (λ side kept l below f h. let asked = is.calls (LookRxDone side) noted kept l (below, f) h in (asked, λ n q. is.entries (looked_rx_done side n) noted kept l (below, f) h asked q)) 2 0 kept l refl h
+  seen_for : (side n : ℕ) (kept : AppKept) → kept.tx_done ≡ false → (with_seen kept side n).tx_done ≡ false
+  seen_for side n kept e = by (eqb n 1)
+    where
+      by : (b : Bool) → (let k : AppKept = cond b (record kept { seen = set kept.seen side true }) kept in k.tx_done ≡ false)
+      by true = e
+      by false = e
 
-  go_gone : (noted : AppNoted) (kept : AppKept) (l : List Told) → At Looking noted kept l → Along (look_gone c a 2 0 kept) l
-  go_gone noted kept l h =
-      go_marks (λ (k : AppKept). k.gone) (λ side. Gone (pair_of c a side)) with_gone noted
-      (λ side kept l below f h. let asked = is.calls (LookGone side) noted kept l below h in (asked, λ n q. is.entries (looked_gone side n) noted kept l below h asked q)) 2 0 kept l refl h
+  gone_for : (side n : ℕ) (kept : AppKept) → kept.tx_done ≡ true → (with_gone kept side n).tx_done ≡ true
+  gone_for side n kept e = by (eqb n 1)
+    where
+      by : (b : Bool) → (let k : AppKept = cond b (record kept { gone = set kept.gone side true }) kept in k.tx_done ≡ true)
+      by true = e
+      by false = e
+
+  go_rx_done : (noted : AppNoted) (kept : AppKept) (l : List Told) → kept.tx_done ≡ false → At (Looking 0) noted kept l → Along (look_rx_done c a 2 0 kept) l
+  go_rx_done noted kept l sends h =
+      go_marks (λ (k : AppKept). k.seen) (λ side. RxDone (pair_of c a side)) with_seen (λ k. k.tx_done ≡ false) noted seen_for (λ k e. ap (λ b. cond b k.gone k.seen) e)
+      (λ side kept l below f e h. let asked = is.calls (LookRxDone side) noted kept l (below, f, e) h in (asked, λ n q. is.entries (looked_rx_done side n) noted kept l (below, f, e) h asked q)) 2 0 kept l refl sends h
+
+  go_gone : (noted : AppNoted) (kept : AppKept) (l : List Told) → kept.tx_done ≡ true → At (Looking 0) noted kept l → Along (look_gone c a 2 0 kept) l
+  go_gone noted kept l done h =
+      go_marks (λ (k : AppKept). k.gone) (λ side. Gone (pair_of c a side)) with_gone (λ k. k.tx_done ≡ true) noted gone_for (λ k e. ap (λ b. cond b k.gone k.seen) e)
+      (λ side kept l below f e h. let asked = is.calls (LookGone side) noted kept l (below, f, e) h in (asked, λ n q. is.entries (looked_gone side n) noted kept l (below, f, e) h asked q)) 2 0 kept l refl done h
 
   go_wake_both : (noted : AppNoted) (kept : AppKept) (l : List Told) → At TxTold noted kept l → Along (wake_both c a kept) l
   go_wake_both noted kept l h = by_case Q law c.wakeup _ _ l
-      (λ on. go_kick (Kicking Looking (pair_of c a 1)) (pair_of c a 0) noted kept _ l on (is.passes told_both noted kept l h on)
-      (λ m now. go_kick Looking (pair_of c a 1) noted kept (again kept) m on now (λ k over. is.passes begins noted kept k over tt)))
+      (λ on. go_kick (Kicking (Looking 2) (pair_of c a 1)) (pair_of c a 0) noted kept _ l on (is.passes told_both noted kept l h on)
+      (λ m now. go_kick (Looking 2) (pair_of c a 1) noted kept (again kept) m on now (λ k over. is.passes begins noted kept k over tt)))
       (λ off. is.passes begins noted kept l (is.passes told_quietly noted kept l h off) tt)
 
   go_end : Continues Ending (end_turn c a)
   go_end noted kept l h =
       let call = Swap (TxDone a) 1 in
       let told : AppKept = record kept { tx_done = true } in
-      let looking = is.passes looks noted kept l h tt in
       by_case Q law kept.tx_done _ _ l
-      (λ done. by_case Q law (noted.gone && noted.sides_empty && is_none (back_at kept 0) && is_none (back_at kept 1)) _ _ l (λ e. is.ends noted kept l done h) (λ e. go_gone noted kept l looking))
+      (λ done. by_case Q law (is_over noted kept) _ _ l (λ e. is.ends noted kept l (done, e) h) (λ e. go_gone noted kept l done (is.passes looks noted kept l h (inr (done, e)))))
       (λ sends. by_case Q law (both kept.seen) _ _ l
       (λ e. by_case Q law (noted.seen && noted.lanes_empty) _ _ l
       (λ f.
@@ -448,8 +480,8 @@ module _ (c : Config) (a : ℕ) (one : IsApp c a) (Q : Premise AppKept) (At : Fa
         at_old Q law kept call l (λ old. wake_both c a told)
             (λ n q. go_wake_both noted told (with_told l call (Old n)) (is.entries (told_tx_done n) noted kept l (sends, f) h asked q)),
       ))
-      (λ f. is.passes begins noted kept l looking tt))
-      (λ e. go_rx_done noted kept l looking))
+      (λ f. is.passes begins noted kept l (is.passes rests noted kept l h (sends, e, f)) tt))
+      (λ e. go_rx_done noted kept l sends (is.passes looks noted kept l h (inl (sends, e)))))
 
   go_turn_sides : Continues (Sides 0) (turn_sides c a)
   go_turn_sides noted kept l h = go_sides 2 0 noted kept (end_turn c a) l refl h go_end

@@ -21,7 +21,7 @@ use Rattle.xsk_turns.proofs.Layouts.{layout, one_piece, length-laid_out}
 use Rattle.xsk_turns.proofs.Disposing.{IsOver, over_later, disposes_all}
 use Rattle.xsk_turns.proofs.Saying.{disposed_as_said}
 use Rattle.xsk_turns.proofs.Walks.{Fitting, meet_fitting}
-use Rattle.xsk_turns.proofs.DriverWalk.{Family, Begins, IsTried, call_at, told_rx_done, looked_none, looked_long, fill_items, rx_submitted, comp_submitted, looked_tx_done, looked_fill_items, found_end, point_of, reply_of, untried, drops_full, drops_frameless, parks, untried_has, AtEntries, AtPasses, IsLaw, at_end}
+use Rattle.xsk_turns.proofs.DriverWalk.{Family, Begins, IsTried, call_at, told_rx_done, looked_none, looked_long, fill_items, rx_submitted, comp_submitted, looked_tx_done, found_end, point_of, reply_of, untried, drops_full, drops_frameless, parks, untried_has, AtEntries, AtPasses, IsLaw, at_end}
 
 -- ---- lists of layouts
 
@@ -202,8 +202,7 @@ module _ (wire : Wire) (c : Config) (d s : ℕ) (is : IsSeat c d) (input : List 
   entries (looked_long packet n t) noted kept l known found h a q =
       let now = skips kept packet known.later TooLong _ known.is refl (still kept l _ (Old n) refl h) in
       record { given = now.given; spare = now.spare; over = now.over }
-  entries (fill_items packet t items) noted kept l known found h a q = supplies kept l (pieces_of seat packet.bytes - length kept.spare) items q h
-  entries (looked_fill_items n items) noted kept l known found h a q = supplies kept l n items q h
+  entries (fill_items look packet t items) noted kept l known found h a q = supplies kept l (pieces_of seat packet.bytes - length kept.spare) items q h
   entries (rx_submitted packet t) noted kept l known found h a q = record {
     given = is_delivered kept l packet t known.0 known.1 h;
     spare = All-drop (IsOwnFrame c.geometry) (pieces_of seat packet.bytes) kept.spare h.spare;
@@ -215,7 +214,7 @@ module _ (wire : Wire) (c : Config) (d s : ℕ) (is : IsSeat c d) (input : List 
     over = h.over;
   }
   entries (looked_tx_done n) noted kept l known found h a q =
-      let now = still kept l (Look (TxDone (application_of seat))) (Old n) refl h in record { given = now.given; spare = now.spare; over = record { none = now.over.none; first = λ x. known } }
+      let now = still kept l (Look (TxDone (application_of seat))) (Old n) refl h in record { given = now.given; spare = now.spare; over = record { none = now.over.none; first = λ x. known.0 } }
   entries (found_end n) noted kept l known found h a q =
       let now = still kept l (Look (TxDone (application_of seat))) (Old n) refl h in record { given = now.given; spare = now.spare; over = record { none = now.over.none; first = λ x. known.1 } }
   entries e noted kept l known found h a q =
@@ -277,5 +276,5 @@ with_disposal_is at s (packet ∷ ps) =
 pub delivers_as_said : DeliversAsSaid
 delivers_as_said wire c d s input l waits is fit whole =
     subst (λ ps. IsLaidOut c.geometry c.sg ps (submitted_of (Rx s) l))
-    (ap (with_disposal s input) (disposed_as_said wire c d input l waits fit whole) ∙ with_disposal_is (seat_of wire c d) s input)
+    (ap (with_disposal s input) (disposed_as_said wire c d input l waits is.steady.closes fit whole) ∙ with_disposal_is (seat_of wire c d) s input)
     (delivers_in_order wire c d s input l is fit whole)

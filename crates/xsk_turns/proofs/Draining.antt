@@ -4,12 +4,12 @@ use Rattle.std.proofs.lemmas.Bool.{cases_eq}
 use Rattle.std.proofs.Math.Bool.{or-true, or-false}
 use Rattle.xsk_model.specs.Marks.{is_mark}
 use Rattle.std.proofs.lemmas.List.Sums.{fold_push}
-use Rattle.xsk_turns.proofs.Calls.{Item, Told, with_told, Ring, Tx, Mark, Kick, Gone, TxDone, Cell, Call, Peek, Swap, Look, Reply, Full, Submitted, Items, Empty, Old}
+use Rattle.xsk_turns.proofs.Calls.{Item, Told, with_told, Ring, Tx, Mark, Kick, Gone, TxDone, Cell, Call, Peek, Swap, Look, Reply, Full, Submitted, Items, Empty, Released, Old}
 use Rattle.xsk_turns.proofs.Object.{classes_of, Draining, are_none, unseen_after, draining_after, draining_step, draining_of}
 use Rattle.xsk_turns.specs.Turns.{Seat, Kept, Noted, seat_of, start, turn, socket_of, application_of, cell_of}
 use Rattle.xsk_turns.specs.Law.{DrainsTx}
 use Rattle.xsk_turns.proofs.Walks.{Anything, meet_anything}
-use Rattle.xsk_turns.proofs.DriverWalk.{Place, Sending, Idling, Family, call_at, told_rx_done, looked_none, looked_long, looked_some, rx_submitted, comp_full, comp_submitted, tx_empty, tx_items, looked_tx_done, armed_fill, looked_tx_empty, looked_tx_items, found_end, found_none, kicked, not_kicked, point_of, reply_of, leads, none_comes, waits, drops_full, drops_frameless, visited, idles, arms, AtEntries, AtPasses, IsLaw, at_end}
+use Rattle.xsk_turns.proofs.DriverWalk.{Place, Turning, Again, Sending, Idling, Family, call_at, told_rx_done, looked_none, looked_long, looked_some, rx_submitted, comp_full, comp_submitted, tx_empty, tx_items, tx_released, looked_tx_done, armed_fill, found_end, found_none, kicked, not_kicked, point_of, reply_of, leads, none_comes, waits, drops_full, drops_frameless, visited, idles, arms, AtEntries, AtPasses, IsLaw, at_end}
 
 pub draining_told : (ms : List Mark) (r : Ring) (l : List Told) (call : Call) (reply : Reply)
     → draining_of ms r (with_told l call reply) ≡ draining_after r (draining_of ms r l) call reply
@@ -28,7 +28,7 @@ abbrev Quiet : Noted → Kept → Type 0
 Quiet noted kept = (noted.progress ≡ false) × (noted.full ≡ false) × (kept.tx_done ≡ true)
 
 abbrev Needs : ℕ → Place → Noted → Kept → Type 0
-Needs class (Sending k due) noted kept = (class < k) × Quiet noted kept
+Needs class (Sending Turning k due) noted kept = (class < k) × Quiet noted kept
 Needs class Idling noted kept = Quiet noted kept
 Needs class place noted kept = ⊥
 
@@ -146,12 +146,13 @@ module _ (seat : Seat) (class : ℕ) (below : class < seat.classes) where
   entries (rx_submitted packet s) noted kept l known found h x q = still a t kept.tx_done ⊥ _ l _ Submitted (λ s. refl) (λ x. absurd (omega (arith, x.0))) h
   entries (comp_full k packet later free) noted kept l known found h x q = still a t kept.tx_done _ _ l _ (Full free) (λ s. refl) (λ x. absurd (let no = x.1 in cc)) h
   entries (comp_submitted k packet later) noted kept l known found h x q = still a t kept.tx_done _ _ l _ Submitted (λ s. refl) (λ x. absurd (let no = x.1.0 in cc)) h
-  entries (tx_empty k) noted kept l known found h x q = found_empty a t kept.tx_done class k seat.batch (socket_of seat k) (Quiet noted kept) l (λ x. x.2) (λ e. ap (socket_of seat) e) h
-  entries (tx_items k items) noted kept l known found h x q = peeked a t kept.tx_done _ _ l (socket_of seat k) seat.batch items (λ x. let no = x.1.0 in cc) h
+  entries (tx_empty Turning k) noted kept l known found h x q = found_empty a t kept.tx_done class k seat.batch (socket_of seat k) (Quiet noted kept) l (λ x. x.2) (λ e. ap (socket_of seat) e) h
+  entries (tx_items Turning k items) noted kept l known found h x q = peeked a t kept.tx_done _ _ l (socket_of seat k) seat.batch items (λ x. let no = x.1.0 in cc) h
   entries (looked_tx_done n) noted kept l known found h x q = looked_mark a t kept.tx_done _ ⊥ l n (λ x. x) h
   entries (armed_fill n) noted kept l known found h x q = still a t kept.tx_done _ ⊥ l _ (Old n) (λ s. refl) (λ x. absurd x) h
-  entries (looked_tx_empty k) noted kept l known found h x q = found_once a t kept.tx_done l (socket_of seat k) seat.batch h
-  entries (looked_tx_items k items) noted kept l known found h x q = peeked a t kept.tx_done ⊥ ⊥ l (socket_of seat k) seat.batch items (λ x. x) h
+  entries (tx_empty Again k) noted kept l known found h x q = found_once a t kept.tx_done l (socket_of seat k) seat.batch h
+  entries (tx_items Again k items) noted kept l known found h x q = peeked a t kept.tx_done ⊥ ⊥ l (socket_of seat k) seat.batch items (λ x. x) h
+  entries (tx_released Again k n) noted kept l known found h x q = still a t kept.tx_done ⊥ ⊥ l _ Released (λ s. refl) (λ x. x) h
   entries (found_end n) noted kept l known found h x q =
       subst (λ b. IsDrained a t b ⊥ (with_told l (Look (TxDone a)) (Old n))) (ap (λ b. kept.tx_done || b) found ∙ or-true kept.tx_done) (looked_mark a t kept.tx_done ⊥ ⊥ l n (λ x. x) h)
   entries (found_none n) noted kept l known found h x q =

@@ -1,11 +1,11 @@
 -- The one walk along a driver's turns. A law of its runs says what holds at each place of a turn, and what each entry of the
 -- list, a call with its reply, makes of it; then it holds along every run.
-use Rattle.std.proofs.Common.{◌≡◌, ℕ, zero, suc, ◌+◌, ◌-◌, ◌%◌, ◌<◌, Bool, true, false, cond, ◌||◌, nat_lt, nat_le, eqb, Option, Some, None, List, [], ◌∷◌, length, map, take, drop, refl, sym, ap, ◌∙◌, subst, arith}
+use Rattle.std.proofs.Common.{◌≡◌, ◌⊎◌, inl, inr, ℕ, zero, suc, ◌+◌, ◌-◌, ◌%◌, ◌<◌, Bool, true, false, cond, ◌||◌, nat_lt, nat_le, eqb, Option, Some, None, List, [], ◌∷◌, length, map, take, drop, refl, sym, ap, ◌∙◌, subst, arith}
 use Rattle.std.proofs.lemmas.Bool.{or_parts}
 use Rattle.xsk_turns.proofs.Calls.{Item, Told, with_told, Fill, Comp, Rx, Tx, NeedFill, NeedTx, Kick, RxDone, Gone, TxDone, Cell, Call, Reserve, Submit, Peek, Release, Swap, Look, Reply, Granted, Full, Submitted, Items, Empty, Released, Old}
 use Rattle.xsk_model.specs.Config.{map_of}
 use Rattle.xsk_turns.specs.Script.{Script, ask, again, ended, on_submitted, on_released, on_old, Asks, Ends, IsRun, Leaves}
-use Rattle.xsk_turns.specs.Turns.{Seat, Judged, Kept, Noted, fresh, awaits, drops, moved, stopped, lacks, settled, settled_or, dropped, disposal_by, disposal_untried, supplied, with_rx_full, with_fill_empty, with_tx_empty, no_frames, no_room, visit_from, socket_of, application_of, cell_of, redirect_to, limit_of, pieces_of, laid_out, returned, gathered, flag_tx, flag_from, flag_all, disarm, park, woken, look_kick, settle, look_tx, look_from, look_again, idle, complete, visit, transmit, deliver, reserve, go_on, take_spare, find_spare, direct, receive, turn_by, turn}
+use Rattle.xsk_turns.specs.Turns.{Seat, Judged, Kept, Noted, fresh, awaits, drops, moved, stopped, lacks, settled, settled_or, dropped, disposal_by, disposal_untried, supplied, with_rx_full, with_fill_empty, with_tx_empty, no_frames, no_room, visit_from, socket_of, application_of, cell_of, redirect_to, limit_of, pieces_of, laid_out, returned, gathered, flag_tx, flag_from, flag_all, disarm, park, woken, peek_fill, peek_tx, look_kick, settle, look_tx, look_from, look_again, idle, complete, complete_all, visit, transmit, deliver, reserve, go_on, find_spare, direct, receive, turn_by, turn}
 use Rattle.xsk_turns.specs.declared.disposal.Disposal.{Disposal}
 use Rattle.xsk_turns.specs.declared.disposal.Disposal.TheVariants.{Delivered, NoFrames, RxFull, TooLong, Runt, Missed, Passed, Dropped}
 use Rattle.xsk_prog.specs.declared.rule.Verdict.{Verdict}
@@ -55,17 +55,22 @@ module _ (P : Disposal → Type 0) (runt : P Runt) (missed : P Missed) (passed :
 
 -- ---- the places of a turn, and its calls
 
+-- which look at its rings it is: that of a turn, or the second one, before the driver is parked
+pub data Which : Type 0 where
+  Turning : Which
+  Again : Which
+
 -- a driver receives, tries a packet that goes to a socket, has too few frames for it or no room on RX, sends once so many
--- classes are visited, or is idle; it sets its flags, looks again once so many classes are looked at, is parked, or has seen its kick,
--- each with FILL's flag or without; or it clears its flags, FILL's first, or once those of so many classes are cleared
+-- classes are visited, or is idle; it sets its flags, and then it looks at FILL for the packet and at the classes again; it is
+-- parked, or has seen its kick, each with FILL's flag or without; or it clears its flags, FILL's first, or once those of so
+-- many classes are cleared
 pub data Place : Type 0 where
   Receiving : Place
-  Trying : Judged → ℕ → Due → Place
-  Lacking : Judged → ℕ → Bool → Place
-  Sending : ℕ → Due → Place
+  Trying : Which → Judged → ℕ → Due → Place
+  Lacking : Which → Judged → ℕ → Bool → Place
+  Sending : Which → ℕ → Due → Place
   Idling : Place
   Arming : ℕ → Place
-  Looking : ℕ → Due → Place
   Parked : Bool → Place
   Woken : Bool → Place
   Disarming : Bool → ℕ → Place
@@ -82,26 +87,22 @@ first_place (Some frames) = Parked frames
 abbrev pub Begins : Family → Kept → List Told → Type 0
 Begins At kept l = At (first_place kept.parked) fresh kept l
 
--- a call, by the packet and its socket, by the class and the finished packets, or by the class
+-- a call, by which look it is, by the packet and its socket, by the class and the finished packets, or by the class
 pub data Point : Type 0 where
   TellRxDone : Point
   LookCell : Judged → Point
-  PeekFill : Judged → ℕ → Point
-  ReleaseFill : Judged → ℕ → ℕ → Point
+  PeekFill : Which → Judged → ℕ → Point
+  ReleaseFill : Which → Judged → ℕ → ℕ → Point
   ReserveRx : Judged → ℕ → Point
   SubmitRx : Judged → ℕ → Point
   ReserveComp : ℕ → List Item → List (List Item) → Point
   SubmitComp : ℕ → List Item → List (List Item) → Point
-  PeekTx : ℕ → Point
-  ReleaseTx : ℕ → ℕ → Point
+  PeekTx : Which → ℕ → Point
+  ReleaseTx : Which → ℕ → ℕ → Point
   LookTxDone : Point
   TellGone : Point
   ArmFill : Point
   ArmTx : ℕ → Point
-  LookFill : ℕ → Point
-  ReleaseLooked : ℕ → Point
-  LookTx : ℕ → Point
-  ReleaseLookedTx : ℕ → ℕ → Point
   LookEnd : Point
   LookKick : Bool → Point
   ClearKick : Bool → Point
@@ -112,23 +113,19 @@ pub data Point : Type 0 where
 abbrev pub asked : Seat → Point → Kept → Place × Call × Kept
 asked seat TellRxDone kept = (Receiving, Swap (RxDone seat.pair) 1, kept)
 asked seat (LookCell packet) kept = (Receiving, Look (Cell seat.port (cell_of packet.verdict)), kept)
-asked seat (PeekFill packet s) kept = (Trying packet s nothing_due, Peek (Fill seat.pair) (pieces_of seat packet.bytes - length kept.spare), kept)
-asked seat (ReleaseFill packet s n) kept = (Trying packet s (release_due (Fill seat.pair) n), Release (Fill seat.pair) n, kept)
-asked seat (ReserveRx packet s) kept = (Trying packet s nothing_due, Reserve (Rx s) (pieces_of seat packet.bytes), kept)
-asked seat (SubmitRx packet s) kept = (Trying packet s (submit_due (Rx s) (pieces_of seat packet.bytes)), Submit (Rx s) (laid_out seat.config.geometry packet.bytes (take (pieces_of seat packet.bytes) kept.spare)), record kept { spare = drop (pieces_of seat packet.bytes) kept.spare })
-asked seat (ReserveComp k packet later) kept = (Sending k nothing_due, Reserve (Comp seat.pair) (length packet), kept)
-asked seat (SubmitComp k packet later) kept = (Sending k (submit_due (Comp seat.pair) (length packet)), Submit (Comp seat.pair) (map returned packet), record kept { finished = later })
-asked seat (PeekTx k) kept = (Sending k nothing_due, Peek (Tx (socket_of seat k)) seat.batch, kept)
-asked seat (ReleaseTx k n) kept = (Sending (k + 1) (release_due (Tx (socket_of seat k)) n), Release (Tx (socket_of seat k)) n, kept)
+asked seat (PeekFill look packet s) kept = (Trying look packet s nothing_due, Peek (Fill seat.pair) (pieces_of seat packet.bytes - length kept.spare), kept)
+asked seat (ReleaseFill look packet s n) kept = (Trying look packet s (release_due (Fill seat.pair) n), Release (Fill seat.pair) n, kept)
+asked seat (ReserveRx packet s) kept = (Trying Turning packet s nothing_due, Reserve (Rx s) (pieces_of seat packet.bytes), kept)
+asked seat (SubmitRx packet s) kept = (Trying Turning packet s (submit_due (Rx s) (pieces_of seat packet.bytes)), Submit (Rx s) (laid_out seat.config.geometry packet.bytes (take (pieces_of seat packet.bytes) kept.spare)), record kept { spare = drop (pieces_of seat packet.bytes) kept.spare })
+asked seat (ReserveComp k packet later) kept = (Sending Turning k nothing_due, Reserve (Comp seat.pair) (length packet), kept)
+asked seat (SubmitComp k packet later) kept = (Sending Turning k (submit_due (Comp seat.pair) (length packet)), Submit (Comp seat.pair) (map returned packet), record kept { finished = later })
+asked seat (PeekTx look k) kept = (Sending look k nothing_due, Peek (Tx (socket_of seat k)) seat.batch, kept)
+asked seat (ReleaseTx look k n) kept = (Sending look (k + 1) (release_due (Tx (socket_of seat k)) n), Release (Tx (socket_of seat k)) n, kept)
 asked seat LookTxDone kept = (Idling, Look (TxDone (application_of seat)), kept)
 asked seat TellGone kept = (Idling, Swap (Gone seat.pair) 1, kept)
 asked seat ArmFill kept = (Idling, Swap (NeedFill seat.pair) 1, kept)
 asked seat (ArmTx k) kept = (Arming k, Swap (NeedTx (socket_of seat k)) 1, kept)
-asked seat (LookFill n) kept = (Arming seat.classes, Peek (Fill seat.pair) n, kept)
-asked seat (ReleaseLooked n) kept = (Looking 0 (release_due (Fill seat.pair) n), Release (Fill seat.pair) n, kept)
-asked seat (LookTx k) kept = (Looking k nothing_due, Peek (Tx (socket_of seat k)) seat.batch, kept)
-asked seat (ReleaseLookedTx k n) kept = (Looking (k + 1) (release_due (Tx (socket_of seat k)) n), Release (Tx (socket_of seat k)) n, kept)
-asked seat LookEnd kept = (Looking seat.classes nothing_due, Look (TxDone (application_of seat)), kept)
+asked seat LookEnd kept = (Sending Again seat.classes nothing_due, Look (TxDone (application_of seat)), kept)
 asked seat (LookKick frames) kept = (Parked frames, Look (Kick seat.pair), kept)
 asked seat (ClearKick frames) kept = (Woken frames, Swap (Kick seat.pair) 0, kept)
 asked seat DisarmFill kept = (Disarming true 0, Swap (NeedFill seat.pair) 0, kept)
@@ -167,22 +164,18 @@ pub record IsLacking (seat : Seat) (Q : Premise Kept) (n : ℕ) (coming : List J
 abbrev pub Known : Seat → Premise Kept → Point → Noted → Kept → Type 0
 Known seat Q TellRxDone noted kept = (kept.coming ≡ []) × (kept.rx_done ≡ false)
 Known seat Q (LookCell packet) noted kept = IsNext seat kept.coming packet
-Known seat Q (PeekFill packet s) noted kept = IsTried seat Q kept.coming packet s × (nat_le (pieces_of seat packet.bytes) (length kept.spare) ≡ false)
-Known seat Q (ReleaseFill packet s n) noted kept = IsTried seat Q kept.coming packet s
+Known seat Q (PeekFill look packet s) noted kept = IsTried seat Q kept.coming packet s × (nat_le (pieces_of seat packet.bytes) (length kept.spare) ≡ false)
+Known seat Q (ReleaseFill look packet s n) noted kept = IsTried seat Q kept.coming packet s
 Known seat Q (ReserveRx packet s) noted kept = IsTried seat Q kept.coming packet s × (nat_le (pieces_of seat packet.bytes) (length kept.spare) ≡ true)
 Known seat Q (SubmitRx packet s) noted kept = IsTried seat Q kept.coming packet s × (nat_le (pieces_of seat packet.bytes) (length kept.spare) ≡ true)
 Known seat Q (ReserveComp k packet later) noted kept = kept.finished ≡ packet ∷ later
 Known seat Q (SubmitComp k packet later) noted kept = kept.finished ≡ packet ∷ later
-Known seat Q (PeekTx k) noted kept = (k < seat.classes) × (kept.finished ≡ [])
-Known seat Q (ReleaseTx k n) noted kept = k < seat.classes
-Known seat Q LookTxDone noted kept = kept.rx_done ≡ true
+Known seat Q (PeekTx look k) noted kept = (k < seat.classes) × (look ≡ Turning → kept.finished ≡ [])
+Known seat Q (ReleaseTx look k n) noted kept = k < seat.classes
+Known seat Q LookTxDone noted kept = (kept.rx_done ≡ true) × (kept.tx_done ≡ false)
 Known seat Q TellGone noted kept = (noted.progress ≡ false) × (noted.full ≡ false) × (kept.tx_done ≡ true)
 Known seat Q ArmFill noted kept = (noted.full ≡ false) × (awaits noted ≡ true) × (kept.tx_done ≡ false) × (noted.progress ≡ false)
 Known seat Q (ArmTx k) noted kept = k < seat.classes
-Known seat Q (LookFill n) noted kept = IsLacking seat Q n kept.coming kept.spare × (awaits noted ≡ true)
-Known seat Q (ReleaseLooked n) noted kept = awaits noted ≡ true
-Known seat Q (LookTx k) noted kept = k < seat.classes
-Known seat Q (ReleaseLookedTx k n) noted kept = k < seat.classes
 Known seat Q LookEnd noted kept = (noted.progress ≡ false) × (kept.rx_done ≡ true)
 Known seat Q (LookKick frames) noted kept = kept.parked ≡ Some frames
 Known seat Q (ClearKick frames) noted kept = kept.parked ≡ None
@@ -197,27 +190,21 @@ pub data Entry : Type 0 where
   looked_none : Judged → ℕ → Entry
   looked_long : Judged → ℕ → ℕ → Entry
   looked_some : Judged → ℕ → ℕ → Entry
-  fill_empty : Judged → ℕ → Entry
-  fill_items : Judged → ℕ → List Item → Entry
-  fill_released : Judged → ℕ → ℕ → Entry
+  fill_empty : Which → Judged → ℕ → Entry
+  fill_items : Which → Judged → ℕ → List Item → Entry
+  fill_released : Which → Judged → ℕ → ℕ → Entry
   rx_granted : Judged → ℕ → Entry
   rx_full : Judged → ℕ → ℕ → Entry
   rx_submitted : Judged → ℕ → Entry
   comp_granted : ℕ → List Item → List (List Item) → Entry
   comp_full : ℕ → List Item → List (List Item) → ℕ → Entry
   comp_submitted : ℕ → List Item → List (List Item) → Entry
-  tx_empty : ℕ → Entry
-  tx_items : ℕ → List Item → Entry
-  tx_released : ℕ → ℕ → Entry
+  tx_empty : Which → ℕ → Entry
+  tx_items : Which → ℕ → List Item → Entry
+  tx_released : Which → ℕ → ℕ → Entry
   looked_tx_done : ℕ → Entry
   armed_fill : ℕ → Entry
   armed_tx : ℕ → ℕ → Entry
-  looked_fill_empty : ℕ → Entry
-  looked_fill_items : ℕ → List Item → Entry
-  looked_fill_released : ℕ → Entry
-  looked_tx_empty : ℕ → Entry
-  looked_tx_items : ℕ → List Item → Entry
-  looked_tx_released : ℕ → ℕ → Entry
   found_end : ℕ → Entry
   found_none : ℕ → Entry
   kicked : Bool → ℕ → Entry
@@ -231,27 +218,21 @@ told (told_rx_done n) = (TellRxDone, Old n)
 told (looked_none packet n) = (LookCell packet, Old n)
 told (looked_long packet n s) = (LookCell packet, Old n)
 told (looked_some packet n s) = (LookCell packet, Old n)
-told (fill_empty packet s) = (PeekFill packet s, Empty)
-told (fill_items packet s items) = (PeekFill packet s, Items items)
-told (fill_released packet s n) = (ReleaseFill packet s n, Released)
+told (fill_empty look packet s) = (PeekFill look packet s, Empty)
+told (fill_items look packet s items) = (PeekFill look packet s, Items items)
+told (fill_released look packet s n) = (ReleaseFill look packet s n, Released)
 told (rx_granted packet s) = (ReserveRx packet s, Granted)
 told (rx_full packet s free) = (ReserveRx packet s, Full free)
 told (rx_submitted packet s) = (SubmitRx packet s, Submitted)
 told (comp_granted k packet later) = (ReserveComp k packet later, Granted)
 told (comp_full k packet later free) = (ReserveComp k packet later, Full free)
 told (comp_submitted k packet later) = (SubmitComp k packet later, Submitted)
-told (tx_empty k) = (PeekTx k, Empty)
-told (tx_items k items) = (PeekTx k, Items items)
-told (tx_released k n) = (ReleaseTx k n, Released)
+told (tx_empty look k) = (PeekTx look k, Empty)
+told (tx_items look k items) = (PeekTx look k, Items items)
+told (tx_released look k n) = (ReleaseTx look k n, Released)
 told (looked_tx_done n) = (LookTxDone, Old n)
 told (armed_fill n) = (ArmFill, Old n)
 told (armed_tx k n) = (ArmTx k, Old n)
-told (looked_fill_empty m) = (LookFill m, Empty)
-told (looked_fill_items m items) = (LookFill m, Items items)
-told (looked_fill_released n) = (ReleaseLooked n, Released)
-told (looked_tx_empty k) = (LookTx k, Empty)
-told (looked_tx_items k items) = (LookTx k, Items items)
-told (looked_tx_released k n) = (ReleaseLookedTx k n, Released)
 told (found_end n) = (LookEnd, Old n)
 told (found_none n) = (LookEnd, Old n)
 told (kicked frames n) = (LookKick frames, Old n)
@@ -268,31 +249,25 @@ reply_of e = (told e).1
 
 -- where each leads, with what is noted and kept there
 abbrev pub leads : Seat → Entry → Noted → Kept → Place × Noted × Kept
-leads seat (told_rx_done n) noted kept = (Sending 0 nothing_due, moved noted, record kept { rx_done = true })
-leads seat (looked_none packet n) noted kept = (Sending 0 nothing_due, moved noted, settled kept Missed)
-leads seat (looked_long packet n s) noted kept = (Sending 0 nothing_due, moved noted, dropped kept TooLong)
-leads seat (looked_some packet n s) noted kept = (Trying packet s nothing_due, noted, kept)
-leads seat (fill_empty packet s) noted kept = (Lacking packet s false, noted, with_fill_empty kept)
-leads seat (fill_items packet s items) noted kept = (Trying packet s (release_due (Fill seat.pair) (length items)), noted, supplied seat kept items)
-leads seat (fill_released packet s n) noted kept = (Trying packet s nothing_due, moved noted, kept)
-leads seat (rx_granted packet s) noted kept = (Trying packet s (submit_due (Rx s) (pieces_of seat packet.bytes)), moved noted, kept)
-leads seat (rx_full packet s free) noted kept = (Lacking packet s true, noted, with_rx_full (s % seat.classes) kept)
-leads seat (rx_submitted packet s) noted kept = (Sending 0 nothing_due, moved noted, settled (record kept { spare = drop (pieces_of seat packet.bytes) kept.spare }) (Delivered s))
-leads seat (comp_granted k packet later) noted kept = (Sending k (submit_due (Comp seat.pair) (length packet)), noted, kept)
+leads seat (told_rx_done n) noted kept = (Sending Turning 0 nothing_due, moved noted, record kept { rx_done = true })
+leads seat (looked_none packet n) noted kept = (Sending Turning 0 nothing_due, moved noted, settled kept Missed)
+leads seat (looked_long packet n s) noted kept = (Sending Turning 0 nothing_due, moved noted, dropped kept TooLong)
+leads seat (looked_some packet n s) noted kept = (Trying Turning packet s nothing_due, noted, kept)
+leads seat (fill_empty look packet s) noted kept = (Lacking look packet s false, noted, with_fill_empty kept)
+leads seat (fill_items look packet s items) noted kept = (Trying look packet s (release_due (Fill seat.pair) (length items)), moved noted, supplied seat kept items)
+leads seat (fill_released look packet s n) noted kept = (Trying look packet s nothing_due, noted, kept)
+leads seat (rx_granted packet s) noted kept = (Trying Turning packet s (submit_due (Rx s) (pieces_of seat packet.bytes)), moved noted, kept)
+leads seat (rx_full packet s free) noted kept = (Lacking Turning packet s true, noted, with_rx_full (s % seat.classes) kept)
+leads seat (rx_submitted packet s) noted kept = (Sending Turning 0 nothing_due, moved noted, settled (record kept { spare = drop (pieces_of seat packet.bytes) kept.spare }) (Delivered s))
+leads seat (comp_granted k packet later) noted kept = (Sending Turning k (submit_due (Comp seat.pair) (length packet)), noted, kept)
 leads seat (comp_full k packet later free) noted kept = (Idling, stopped noted, kept)
-leads seat (comp_submitted k packet later) noted kept = (Sending k nothing_due, moved noted, record kept { finished = later })
-leads seat (tx_empty k) noted kept = (Sending (k + 1) nothing_due, noted, with_tx_empty k kept)
-leads seat (tx_items k items) noted kept = (Sending (k + 1) (release_due (Tx (socket_of seat k)) (length items)), moved noted, gathered seat k kept items)
-leads seat (tx_released k n) noted kept = (Sending (k + 1) nothing_due, noted, kept)
+leads seat (comp_submitted k packet later) noted kept = (Sending Turning k nothing_due, moved noted, record kept { finished = later })
+leads seat (tx_empty look k) noted kept = (Sending look (k + 1) nothing_due, noted, with_tx_empty k kept)
+leads seat (tx_items look k items) noted kept = (Sending look (k + 1) (release_due (Tx (socket_of seat k)) (length items)), moved noted, gathered seat k kept items)
+leads seat (tx_released look k n) noted kept = (Sending look (k + 1) nothing_due, noted, kept)
 leads seat (looked_tx_done n) noted kept = (Receiving, fresh, record kept { tx_done = kept.tx_done || eqb n 1 })
 leads seat (armed_fill n) noted kept = (Arming 0, noted, kept)
 leads seat (armed_tx k n) noted kept = (Arming (k + 1), noted, kept)
-leads seat (looked_fill_empty m) noted kept = (Looking 0 nothing_due, noted, with_fill_empty kept)
-leads seat (looked_fill_items m items) noted kept = (Looking 0 (release_due (Fill seat.pair) (length items)), moved noted, supplied seat kept items)
-leads seat (looked_fill_released n) noted kept = (Looking 0 nothing_due, noted, kept)
-leads seat (looked_tx_empty k) noted kept = (Looking (k + 1) nothing_due, noted, with_tx_empty k kept)
-leads seat (looked_tx_items k items) noted kept = (Looking (k + 1) (release_due (Tx (socket_of seat k)) (length items)), moved noted, gathered seat k kept items)
-leads seat (looked_tx_released k n) noted kept = (Looking (k + 1) nothing_due, noted, kept)
 leads seat (found_end n) noted kept = (Disarming (awaits noted) 0, noted, record kept { tx_done = true })
 leads seat (found_none n) noted kept = (Parked (awaits noted), fresh, record kept { parked = Some (awaits noted) })
 leads seat (kicked frames n) noted kept = (Woken frames, noted, woken kept)
@@ -324,29 +299,39 @@ pub data Pass : Type 0 where
   visited : Pass
   idles : Pass
   arms : Pass
+  seeks : Judged → ℕ → Pass
+  sought : Judged → ℕ → Pass
+  misses : Judged → ℕ → Pass
   looks : Pass
   finds : Pass
   parks : Pass
   disarmed : Pass
 
+-- a new turn begins at once: something moved or a ring was full, or there is nothing to wait for
+abbrev pub GoesOnAtOnce : Seat → Noted → Kept → Type 0
+GoesOnAtOnce seat noted kept = ((noted.progress || noted.full) ≡ true) ⊎ ((kept.tx_done ≡ false) × (seat.config.wakeup ≡ false) × (kept.rx_done ≡ false))
+
 abbrev pub Passing : Seat → Premise Kept → Family → Pass → Noted → Kept → List Told → Type 0
 Passing seat Q At (untried packet later disposal) noted kept l =
     At Receiving noted kept l → (kept.coming ≡ packet ∷ later) × (disposal_untried seat packet ≡ Some disposal) → At Receiving (moved noted) (settled kept disposal) l
-Passing seat Q At none_comes noted kept l = At Receiving noted kept l → (kept.coming ≡ []) × (kept.rx_done ≡ true) → At (Sending 0 nothing_due) noted kept l
-Passing seat Q At (too_few packet s) noted kept l = At (Trying packet s nothing_due) noted kept l → IsTried seat Q kept.coming packet s → At (Lacking packet s false) noted kept l
+Passing seat Q At none_comes noted kept l = At Receiving noted kept l → (kept.coming ≡ []) × (kept.rx_done ≡ true) → At (Sending Turning 0 nothing_due) noted kept l
+Passing seat Q At (too_few packet s) noted kept l = At (Trying Turning packet s nothing_due) noted kept l → IsTried seat Q kept.coming packet s × (noted.progress ≡ true) → At (Lacking Turning packet s false) noted kept l
 Passing seat Q At (waits packet s full) noted kept l =
-    At (Lacking packet s full) noted kept l → IsTried seat Q kept.coming packet s × (drops seat.wire ≡ false) → At (Sending 0 nothing_due) (cond full (stopped noted) (lacks (pieces_of seat packet.bytes - length kept.spare) noted)) kept l
+    At (Lacking Turning packet s full) noted kept l → IsTried seat Q kept.coming packet s × (drops seat.wire ≡ false) → At (Sending Turning 0 nothing_due) (cond full (stopped noted) (lacks (pieces_of seat packet.bytes - length kept.spare) noted)) kept l
 Passing seat Q At (drops_full packet s) noted kept l =
-    At (Lacking packet s true) noted kept l → IsTried seat Q kept.coming packet s × (drops seat.wire ≡ true) → At (Sending 0 nothing_due) (moved noted) (settled kept RxFull) l
+    At (Lacking Turning packet s true) noted kept l → IsTried seat Q kept.coming packet s × (drops seat.wire ≡ true) → At (Sending Turning 0 nothing_due) (moved noted) (settled kept RxFull) l
 Passing seat Q At (drops_frameless packet s) noted kept l =
-    At (Lacking packet s false) noted kept l → IsTried seat Q kept.coming packet s × (drops seat.wire ≡ true) → At (Sending 0 nothing_due) (moved noted) (dropped kept NoFrames) l
-Passing seat Q At visited noted kept l = At (Sending seat.classes nothing_due) noted kept l → kept.finished ≡ [] → At Idling noted kept l
-Passing seat Q At idles noted kept l = At Idling noted kept l → Unit {0} → At Receiving fresh kept l
+    At (Lacking Turning packet s false) noted kept l → IsTried seat Q kept.coming packet s × (drops seat.wire ≡ true) → At (Sending Turning 0 nothing_due) (moved noted) (dropped kept NoFrames) l
+Passing seat Q At visited noted kept l = At (Sending Turning seat.classes nothing_due) noted kept l → kept.finished ≡ [] → At Idling noted kept l
+Passing seat Q At idles noted kept l = At Idling noted kept l → GoesOnAtOnce seat noted kept → At Receiving fresh kept l
 Passing seat Q At arms noted kept l = At Idling noted kept l → (noted.full ≡ false) × (awaits noted ≡ false) × (kept.tx_done ≡ false) × (noted.progress ≡ false) → At (Arming 0) noted kept l
-Passing seat Q At looks noted kept l = At (Arming seat.classes) noted kept l → awaits noted ≡ false → At (Looking 0 nothing_due) noted kept l
-Passing seat Q At finds noted kept l = At (Looking seat.classes nothing_due) noted kept l → noted.progress ≡ true → At (Disarming (awaits noted) 0) noted kept l
+Passing seat Q At (seeks packet s) noted kept l = At (Arming seat.classes) noted kept l → IsTried seat Q kept.coming packet s × (awaits noted ≡ true) → At (Trying Again packet s nothing_due) noted kept l
+Passing seat Q At (sought packet s) noted kept l = At (Trying Again packet s nothing_due) noted kept l → (awaits noted ≡ true) × (noted.progress ≡ true) → At (Sending Again 0 nothing_due) noted kept l
+Passing seat Q At (misses packet s) noted kept l = At (Lacking Again packet s false) noted kept l → awaits noted ≡ true → At (Sending Again 0 nothing_due) noted kept l
+Passing seat Q At looks noted kept l = At (Arming seat.classes) noted kept l → awaits noted ≡ false → At (Sending Again 0 nothing_due) noted kept l
+Passing seat Q At finds noted kept l = At (Sending Again seat.classes nothing_due) noted kept l → noted.progress ≡ true → At (Disarming (awaits noted) 0) noted kept l
 Passing seat Q At parks noted kept l =
-    At (Looking seat.classes nothing_due) noted kept l → (noted.progress ≡ false) × (kept.rx_done ≡ false) → At (Parked (awaits noted)) fresh (record kept { parked = Some (awaits noted) }) l
+    At (Sending Again seat.classes nothing_due) noted kept l → (noted.progress ≡ false) × (kept.rx_done ≡ false) → At (Parked (awaits noted)) fresh (record kept { parked = Some (awaits noted) }) l
 Passing seat Q At disarmed noted kept l = At (Disarming false seat.classes) noted kept l → kept.parked ≡ None → At Receiving fresh kept l
 
 -- ---- a law
@@ -448,7 +433,7 @@ module _ (seat : Seat) (Q : Premise Kept) (At : Family) (A : Said) (E : Kept →
             (λ f. begins_parked frames kept looked e (is.entries (not_kicked frames n) fresh kept l e f h asked q))),
       )
 
-  go_settle : (noted : Noted) (kept : Kept) (l : List Told) → kept.parked ≡ None → At (Looking seat.classes nothing_due) noted kept l → Along (settle seat noted kept) l
+  go_settle : (noted : Noted) (kept : Kept) (l : List Told) → kept.parked ≡ None → At (Sending Again seat.classes nothing_due) noted kept l → Along (settle seat noted kept) l
   go_settle noted kept l up h =
       let call = Look (TxDone (application_of seat)) in
       let ending : Kept = record kept { tx_done = true } in
@@ -465,58 +450,82 @@ module _ (seat : Seat) (Q : Premise Kept) (At : Family) (A : Said) (E : Kept →
       ))
       (λ f. is.passes parks noted kept l h (e, f)))
 
-  go_look_tx : (more k : ℕ) (noted : Noted) (kept : Kept) (l : List Told) → k + more ≡ seat.classes → kept.parked ≡ None → At (Looking k nothing_due) noted kept l
+  -- ---- a Peek
+
+  -- wherever it goes on behind a Peek of FILL, and of the TX ring of a class
+  abbrev Follows : Place → (Noted → Kept → Script Kept) → Noted → Kept → List Told → Type 0
+  Follows place next noted kept l = At place noted kept l → Along (next noted kept) l
+
+  module _ (look : Which) (noted : Noted) (kept : Kept) (l : List Told) (next : Noted → Kept → Script Kept) where
+    go_peek_fill : (packet : Judged) (s : ℕ) → IsTried seat Q kept.coming packet s → nat_le (pieces_of seat packet.bytes) (length kept.spare) ≡ false → At (Trying look packet s nothing_due) noted kept l
+        → ((items : List Item) (m : List Told) → Follows (Trying look packet s nothing_due) next (moved noted) (supplied seat kept items) m)
+        → ((m : List Told) → Follows (Lacking look packet s false) next noted (with_fill_empty kept) m)
+        → Along (peek_fill seat (pieces_of seat packet.bytes - length kept.spare) noted kept next) l
+    go_peek_fill packet s tried few h some none =
+        let call = Peek (Fill seat.pair) (pieces_of seat packet.bytes - length kept.spare) in
+        let asked = is.calls (PeekFill look packet s) noted kept l (tried, few) h in (
+          asked,
+          at_peek Q law kept call l (λ items. ask (supplied seat kept items) (Release (Fill seat.pair) (length items)) (on_released (next (moved noted) (supplied seat kept items)))) (next noted (with_fill_empty kept))
+              (λ items q.
+              let peeked = with_told l call (Items items) in
+              let give = Release (Fill seat.pair) (length items) in
+              let more : Kept = supplied seat kept items in
+              let now = is.entries (fill_items look packet s items) noted kept l (tried, few) tt h asked q in
+              let gives = is.calls (ReleaseFill look packet s (length items)) (moved noted) more peeked tried now in (
+                gives,
+                at_release Q law more give peeked (next (moved noted) more)
+                    (λ r. some items (with_told peeked give Released) (is.entries (fill_released look packet s (length items)) (moved noted) more peeked tried tt now gives r)),
+              ))
+              (λ q. none (with_told l call Empty) (is.entries (fill_empty look packet s) noted kept l (tried, few) tt h asked q)),
+        )
+
+    go_peek_tx : (k : ℕ) → (k < seat.classes) × (look ≡ Turning → kept.finished ≡ []) → At (Sending look k nothing_due) noted kept l
+        → ((items : List Item) (m : List Told) → Follows (Sending look (k + 1) nothing_due) next (moved noted) (gathered seat k kept items) m)
+        → ((m : List Told) → Follows (Sending look (k + 1) nothing_due) next noted (with_tx_empty k kept) m)
+        → Along (peek_tx seat k noted kept next) l
+    go_peek_tx k known h some none =
+        let call = Peek (Tx (socket_of seat k)) seat.batch in
+        let asked = is.calls (PeekTx look k) noted kept l known h in (
+          asked,
+          at_peek Q law kept call l (λ items. ask (gathered seat k kept items) (Release (Tx (socket_of seat k)) (length items)) (on_released (next (moved noted) (gathered seat k kept items)))) (next noted (with_tx_empty k kept))
+              (λ items q.
+              let peeked = with_told l call (Items items) in
+              let give = Release (Tx (socket_of seat k)) (length items) in
+              let got = gathered seat k kept items in
+              let now = is.entries (tx_items look k items) noted kept l known tt h asked q in
+              let gives = is.calls (ReleaseTx look k (length items)) (moved noted) got peeked known.0 now in (
+                gives,
+                at_release Q law got give peeked (next (moved noted) got)
+                    (λ r. some items (with_told peeked give Released) (is.entries (tx_released look k (length items)) (moved noted) got peeked known.0 tt now gives r)),
+              ))
+              (λ q. none (with_told l call Empty) (is.entries (tx_empty look k) noted kept l known tt h asked q)),
+        )
+
+  -- ---- the second look
+
+  go_look_tx : (more k : ℕ) (noted : Noted) (kept : Kept) (l : List Told) → k + more ≡ seat.classes → kept.parked ≡ None → At (Sending Again k nothing_due) noted kept l
       → Along (look_tx seat more k noted kept) l
   go_look_tx zero k noted kept l e up h =
-      let all : k ≡ seat.classes = omega arith in go_settle noted kept l up (subst (λ j. At (Looking j nothing_due) noted kept l) all h)
+      let all : k ≡ seat.classes = omega arith in go_settle noted kept l up (subst (λ j. At (Sending Again j nothing_due) noted kept l) all h)
   go_look_tx (suc more) k noted kept l e up h =
-      let call = Peek (Tx (socket_of seat k)) seat.batch in
-      let below : k < seat.classes = omega arith in
       let on : (k + 1) + more ≡ seat.classes = omega arith in
-      let asked = is.calls (LookTx k) noted kept l below h in (
-        asked,
-        at_peek Q law kept call l
-            (λ items. ask (gathered seat k kept items) (Release (Tx (socket_of seat k)) (length items)) (on_released (look_tx seat more (k + 1) (moved noted) (gathered seat k kept items))))
-            (look_tx seat more (k + 1) noted (with_tx_empty k kept))
-            (λ items q.
-            let peeked = with_told l call (Items items) in
-            let give = Release (Tx (socket_of seat k)) (length items) in
-            let got = gathered seat k kept items in
-            let now = is.entries (looked_tx_items k items) noted kept l below tt h asked q in
-            let gives = is.calls (ReleaseLookedTx k (length items)) (moved noted) got peeked below now in (
-              gives,
-              at_release Q law got give peeked (look_tx seat more (k + 1) (moved noted) got)
-                  (λ r. go_look_tx more (k + 1) (moved noted) got (with_told peeked give Released) on up (is.entries (looked_tx_released k (length items)) (moved noted) got peeked below tt now gives r)),
-            ))
-            (λ q. go_look_tx more (k + 1) noted (with_tx_empty k kept) (with_told l call Empty) on up (is.entries (looked_tx_empty k) noted kept l below tt h asked q)),
-      )
+      go_peek_tx Again noted kept l (look_tx seat more (k + 1)) k (omega arith, λ e. absurd (cc)) h
+      (λ items m h. go_look_tx more (k + 1) (moved noted) (gathered seat k kept items) m on up h) (λ m h. go_look_tx more (k + 1) noted (with_tx_empty k kept) m on up h)
 
-  go_look_from : (noted : Noted) (kept : Kept) (l : List Told) → kept.parked ≡ None → At (Looking 0 nothing_due) noted kept l → Along (look_from seat 0 noted kept) l
+  go_look_from : (noted : Noted) (kept : Kept) (l : List Told) → kept.parked ≡ None → At (Sending Again 0 nothing_due) noted kept l → Along (look_from seat 0 noted kept) l
   go_look_from noted kept l up h = go_look_tx (seat.classes - 0) 0 noted kept l (omega arith) up h
 
   go_look_again : (noted : Noted) (kept : Kept) (l : List Told) → Steady noted kept → At (Arming seat.classes) noted kept l → Along (look_again seat noted kept) l
   go_look_again noted kept l st h =
-      let call = Peek (Fill seat.pair) noted.lacking in
       by_case Q law (awaits noted) _ _ l
       (λ e.
-      let known : Known seat Q (LookFill noted.lacking) noted kept = (st.1 e, e) in
-      let asked = is.calls (LookFill noted.lacking) noted kept l known h in (
-        asked,
-        at_peek Q law kept call l
-            (λ items. ask (supplied seat kept items) (Release (Fill seat.pair) (length items)) (on_released (look_from seat 0 (moved noted) (supplied seat kept items))))
-            (look_from seat 0 noted (with_fill_empty kept))
-            (λ items q.
-            let peeked = with_told l call (Items items) in
-            let give = Release (Fill seat.pair) (length items) in
-            let more = supplied seat kept items in
-            let now = is.entries (looked_fill_items noted.lacking items) noted kept l known tt h asked q in
-            let gives = is.calls (ReleaseLooked (length items)) (moved noted) more peeked e now in (
-              gives,
-              at_release Q law more give peeked (look_from seat 0 (moved noted) more)
-                  (λ r. go_look_from (moved noted) more (with_told peeked give Released) st.0 (is.entries (looked_fill_released (length items)) (moved noted) more peeked e tt now gives r)),
-            ))
-            (λ q. go_look_from noted (with_fill_empty kept) (with_told l call Empty) st.0 (is.entries (looked_fill_empty noted.lacking) noted kept l known tt h asked q)),
-      ))
+      let lacking = st.1 e in
+      let packet = lacking.packet in
+      let s = lacking.socket in
+      subst (λ n. Along (peek_fill seat n noted kept (look_from seat 0)) l) (sym lacking.is)
+      (go_peek_fill Again noted kept l (look_from seat 0) packet s lacking.tried lacking.few (is.passes (seeks packet s) noted kept l h (lacking.tried, e))
+      (λ items m h. go_look_from (moved noted) (supplied seat kept items) m st.0 (is.passes (sought packet s) (moved noted) (supplied seat kept items) m h (e, refl)))
+      (λ m h. go_look_from noted (with_fill_empty kept) m st.0 (is.passes (misses packet s) noted (with_fill_empty kept) m h e))))
       (λ e. go_look_from noted kept l st.0 (is.passes looks noted kept l h e))
 
   go_arm_tx : (more k : ℕ) (noted : Noted) (kept : Kept) (l : List Told) → k + more ≡ seat.classes → Steady noted kept → At (Arming k) noted kept l
@@ -549,7 +558,7 @@ module _ (seat : Seat) (Q : Premise Kept) (At : Family) (A : Said) (E : Kept →
   go_idle noted kept l st h =
       let look = Look (TxDone (application_of seat)) in
       let leave = Swap (Gone seat.pair) 1 in
-      by_case Q law (noted.progress || noted.full) _ _ l (λ e. begins_awake kept l st.0 (is.passes idles noted kept l h tt))
+      by_case Q law (noted.progress || noted.full) _ _ l (λ e. begins_awake kept l st.0 (is.passes idles noted kept l h (inl e)))
       (λ e.
       let off = or_parts noted.progress noted.full e in
       by_case Q law kept.tx_done _ _ l
@@ -559,18 +568,18 @@ module _ (seat : Seat) (Q : Premise Kept) (At : Family) (A : Said) (E : Kept →
       (λ f. by_case Q law seat.config.wakeup _ _ l (λ w. go_arm noted kept l st off.1 f off.0 h)
       (λ w. by_case Q law kept.rx_done _ _ l
       (λ done.
-      let gives = is.calls LookTxDone noted kept l done h in
+      let gives = is.calls LookTxDone noted kept l (done, f) h in
       let looked : ℕ → Kept = λ n. record kept { tx_done = kept.tx_done || eqb n 1 } in (
         gives,
-        at_old Q law kept look l (λ n. again (looked n)) (λ n q. begins_awake (looked n) (with_told l look (Old n)) st.0 (is.entries (looked_tx_done n) noted kept l done tt h gives q)),
+        at_old Q law kept look l (λ n. again (looked n)) (λ n q. begins_awake (looked n) (with_told l look (Old n)) st.0 (is.entries (looked_tx_done n) noted kept l (done, f) tt h gives q)),
       ))
-      (λ g. begins_awake kept l st.0 (is.passes idles noted kept l h tt)))))
+      (λ g. begins_awake kept l st.0 (is.passes idles noted kept l h (inr (f, w, g)))))))
 
   -- wherever a class's packets are all completed
   abbrev Visiting : (Noted → Kept → Script Kept) → ℕ → Type 0
-  Visiting next k = (noted : Noted) (kept : Kept) (l : List Told) → Steady noted kept → At (Sending k nothing_due) noted kept l → kept.finished ≡ [] → Along (next noted kept) l
+  Visiting next k = (noted : Noted) (kept : Kept) (l : List Told) → Steady noted kept → At (Sending Turning k nothing_due) noted kept l → kept.finished ≡ [] → Along (next noted kept) l
 
-  go_complete : (k : ℕ) (packets : List (List Item)) (noted : Noted) (kept : Kept) (next : Noted → Kept → Script Kept) (l : List Told) → Steady noted kept → At (Sending k nothing_due) noted kept l
+  go_complete : (k : ℕ) (packets : List (List Item)) (noted : Noted) (kept : Kept) (next : Noted → Kept → Script Kept) (l : List Told) → Steady noted kept → At (Sending Turning k nothing_due) noted kept l
       → kept.finished ≡ packets → Visiting next k → Along (complete seat packets noted kept next) l
   go_complete k [] noted kept next l st h e go = go noted kept l st h e
   go_complete k (packet ∷ later) noted kept next l st h e go =
@@ -591,54 +600,39 @@ module _ (seat : Seat) (Q : Premise Kept) (At : Family) (A : Said) (E : Kept →
             (λ free q. go_idle (stopped noted) kept (with_told l call (Full free)) st (is.entries (comp_full k packet later free) noted kept l e tt h asked q)),
       )
 
-  go_visit : (more k : ℕ) (noted : Noted) (kept : Kept) (l : List Told) → k + more ≡ seat.classes → Steady noted kept → At (Sending k nothing_due) noted kept l → kept.finished ≡ []
+  go_visit : (more k : ℕ) (noted : Noted) (kept : Kept) (l : List Told) → k + more ≡ seat.classes → Steady noted kept → At (Sending Turning k nothing_due) noted kept l → kept.finished ≡ []
       → Along (visit seat more k noted kept) l
   go_visit zero k noted kept l e st h none =
       let all : k ≡ seat.classes = omega arith in
-      go_idle noted kept l st (is.passes visited noted kept l (subst (λ j. At (Sending j nothing_due) noted kept l) all h) none)
+      go_idle noted kept l st (is.passes visited noted kept l (subst (λ j. At (Sending Turning j nothing_due) noted kept l) all h) none)
   go_visit (suc more) k noted kept l e st h none =
-      let call = Peek (Tx (socket_of seat k)) seat.batch in
-      let below : k < seat.classes = omega arith in
       let on : (k + 1) + more ≡ seat.classes = omega arith in
-      let asked = is.calls (PeekTx k) noted kept l (below, none) h in (
-        asked,
-        at_peek Q law kept call l
-            (λ items. ask (gathered seat k kept items) (Release (Tx (socket_of seat k)) (length items)) (on_released (complete seat (gathered seat k kept items).finished (moved noted) (gathered seat k kept items) (visit seat more (k + 1)))))
-            (visit seat more (k + 1) noted (with_tx_empty k kept))
-            (λ items q.
-            let peeked = with_told l call (Items items) in
-            let give = Release (Tx (socket_of seat k)) (length items) in
-            let got = gathered seat k kept items in
-            let now = is.entries (tx_items k items) noted kept l (below, none) tt h asked q in
-            let gives = is.calls (ReleaseTx k (length items)) (moved noted) got peeked below now in (
-              gives,
-              at_release Q law got give peeked (complete seat got.finished (moved noted) got (visit seat more (k + 1)))
-                  (λ r. go_complete (k + 1) got.finished (moved noted) got (visit seat more (k + 1)) (with_told peeked give Released) st
-                  (is.entries (tx_released k (length items)) (moved noted) got peeked below tt now gives r) refl (λ noted kept l st h none. go_visit more (k + 1) noted kept l on st h none)),
-            ))
-            (λ q. go_visit more (k + 1) noted (with_tx_empty k kept) (with_told l call Empty) on st (is.entries (tx_empty k) noted kept l (below, none) tt h asked q) none),
-      )
+      let next = visit seat more (k + 1) in
+      let all = λ (noted : Noted) (kept : Kept) (m : List Told) (st : Steady noted kept) (h : At (Sending Turning (k + 1) nothing_due) noted kept m).
+      go_complete (k + 1) kept.finished noted kept next m st h refl (λ noted kept m st h none. go_visit more (k + 1) noted kept m on st h none) in
+      go_peek_tx Turning noted kept l (complete_all seat next) k (omega arith, λ e. none) h
+      (λ items m h. all (moved noted) (gathered seat k kept items) m st h) (λ m h. all noted (with_tx_empty k kept) m st h)
 
-  go_transmit : (noted : Noted) (kept : Kept) (l : List Told) → Steady noted kept → At (Sending 0 nothing_due) noted kept l → Along (transmit seat noted kept) l
+  go_transmit : (noted : Noted) (kept : Kept) (l : List Told) → Steady noted kept → At (Sending Turning 0 nothing_due) noted kept l → Along (transmit seat noted kept) l
   go_transmit noted kept l st h =
       go_complete 0 kept.finished noted kept (visit_from seat 0) l st h refl (λ noted kept l st h none. go_visit (seat.classes - 0) 0 noted kept l (omega arith) st h none)
 
   -- ---- a packet that is tried
 
   module _ (packet : Judged) (s : ℕ) where
-    go_no_frames : (noted : Noted) (kept : Kept) (l : List Told) → Awake noted kept → At (Lacking packet s false) noted kept l → IsTried seat Q kept.coming packet s
+    go_no_frames : (noted : Noted) (kept : Kept) (l : List Told) → Awake noted kept → At (Lacking Turning packet s false) noted kept l → IsTried seat Q kept.coming packet s
         → nat_le (pieces_of seat packet.bytes) (length kept.spare) ≡ false → Along (no_frames seat packet.bytes noted kept) l
     go_no_frames noted kept l up h tried few =
         by_case Q law (drops seat.wire) _ _ l (λ e. go_transmit (moved noted) (dropped kept NoFrames) l (steady (moved noted) (dropped kept NoFrames) up) (is.passes (drops_frameless packet s) noted kept l h (tried, e)))
         (λ e. go_transmit (lacks (pieces_of seat packet.bytes - length kept.spare) noted) kept l
         (up.0, λ f. record { packet = packet; socket = s; tried = tried; few = few; is = refl }) (is.passes (waits packet s false) noted kept l h (tried, e)))
 
-    go_no_room : (noted : Noted) (kept : Kept) (l : List Told) → Awake noted kept → At (Lacking packet s true) noted kept l → IsTried seat Q kept.coming packet s → Along (no_room seat noted kept) l
+    go_no_room : (noted : Noted) (kept : Kept) (l : List Told) → Awake noted kept → At (Lacking Turning packet s true) noted kept l → IsTried seat Q kept.coming packet s → Along (no_room seat noted kept) l
     go_no_room noted kept l up h tried =
         by_case Q law (drops seat.wire) _ _ l (λ e. go_transmit (moved noted) (settled kept RxFull) l (steady (moved noted) (settled kept RxFull) up) (is.passes (drops_full packet s) noted kept l h (tried, e)))
         (λ e. go_transmit (stopped noted) kept l (steady (stopped noted) kept up) (is.passes (waits packet s true) noted kept l h (tried, e)))
 
-    go_reserve : (noted : Noted) (kept : Kept) (l : List Told) → Awake noted kept → At (Trying packet s nothing_due) noted kept l → IsTried seat Q kept.coming packet s
+    go_reserve : (noted : Noted) (kept : Kept) (l : List Told) → Awake noted kept → At (Trying Turning packet s nothing_due) noted kept l → IsTried seat Q kept.coming packet s
         → nat_le (pieces_of seat packet.bytes) (length kept.spare) ≡ true → Along (reserve seat packet.bytes s noted kept) l
     go_reserve noted kept l up h tried enough =
         let n = pieces_of seat packet.bytes in
@@ -661,30 +655,16 @@ module _ (seat : Seat) (Q : Premise Kept) (At : Family) (A : Said) (E : Kept →
               (λ free q. go_no_room noted full (with_told l call (Full free)) up (is.entries (rx_full packet s free) noted kept l (tried, enough) tt h asked q) tried),
         )
 
-    go_more : (noted : Noted) (kept : Kept) (l : List Told) → Awake noted kept → At (Trying packet s nothing_due) noted kept l → IsTried seat Q kept.coming packet s → Along (go_on seat packet.bytes s noted kept) l
-    go_more noted kept l up h tried =
-        by_case Q law (nat_le (pieces_of seat packet.bytes) (length kept.spare)) _ _ l (go_reserve noted kept l up h tried) (λ e. go_no_frames noted kept l up (is.passes (too_few packet s) noted kept l h tried) tried e)
+    go_more : (noted : Noted) (kept : Kept) (l : List Told) → noted.progress ≡ true → Awake noted kept → At (Trying Turning packet s nothing_due) noted kept l → IsTried seat Q kept.coming packet s → Along (go_on seat packet.bytes s noted kept) l
+    go_more noted kept l on up h tried =
+        by_case Q law (nat_le (pieces_of seat packet.bytes) (length kept.spare)) _ _ l (go_reserve noted kept l up h tried) (λ e. go_no_frames noted kept l up (is.passes (too_few packet s) noted kept l h (tried, on)) tried e)
 
-    go_find : (noted : Noted) (kept : Kept) (l : List Told) → Awake noted kept → At (Trying packet s nothing_due) noted kept l → IsTried seat Q kept.coming packet s → Along (find_spare seat packet.bytes s noted kept) l
+    go_find : (noted : Noted) (kept : Kept) (l : List Told) → Awake noted kept → At (Trying Turning packet s nothing_due) noted kept l → IsTried seat Q kept.coming packet s → Along (find_spare seat packet.bytes s noted kept) l
     go_find noted kept l up h tried =
-        let call = Peek (Fill seat.pair) (pieces_of seat packet.bytes - length kept.spare) in
         by_case Q law (nat_le (pieces_of seat packet.bytes) (length kept.spare)) _ _ l (go_reserve noted kept l up h tried)
-        (λ e.
-        let asked = is.calls (PeekFill packet s) noted kept l (tried, e) h in (
-          asked,
-          at_peek Q law kept call l (take_spare seat packet.bytes s noted kept) (no_frames seat packet.bytes noted (with_fill_empty kept))
-              (λ items q.
-              let peeked = with_told l call (Items items) in
-              let give = Release (Fill seat.pair) (length items) in
-              let more : Kept = supplied seat kept items in
-              let now = is.entries (fill_items packet s items) noted kept l (tried, e) tt h asked q in
-              let gives = is.calls (ReleaseFill packet s (length items)) noted more peeked tried now in (
-                gives,
-                at_release Q law more give peeked (go_on seat packet.bytes s (moved noted) more)
-                    (λ r. go_more (moved noted) more (with_told peeked give Released) up (is.entries (fill_released packet s (length items)) noted more peeked tried tt now gives r) tried),
-              ))
-              (λ q. go_no_frames noted (with_fill_empty kept) (with_told l call Empty) up (is.entries (fill_empty packet s) noted kept l (tried, e) tt h asked q) tried e),
-        ))
+        (λ e. go_peek_fill Turning noted kept l (go_on seat packet.bytes s) packet s tried e h (λ items m h. go_more (moved noted) (supplied seat kept items) m refl up h tried)
+        (λ m h. subst (λ b. Along (cond b (reserve seat packet.bytes s noted (with_fill_empty kept)) (no_frames seat packet.bytes noted (with_fill_empty kept))) m) (sym e)
+        (go_no_frames noted (with_fill_empty kept) m up h tried e)))
 
   -- ---- receiving
 

@@ -1,6 +1,6 @@
 -- A driver has no more than 128 finished packets: it peeks TX once they are completed, but for the second look, which is at
 -- most at four rings.
-use Rattle.std.proofs.Common.{◌≡◌, ℕ, ◌+◌, ◌*◌, ◌≤◌, Bool, false, Option, Some, None, List, [], ◌∷◌, length, option_to_list, ap, arith, length-append}
+use Rattle.std.proofs.Common.{◌≡◌, ℕ, ◌+◌, ◌*◌, ◌<◌, ◌≤◌, Bool, false, Option, Some, None, List, [], ◌∷◌, length, option_to_list, refl, ap, arith, length-append}
 use Rattle.xsk_turns.proofs.Object.{Geometry, Config, classes_of, Packet, whole, bad, ended_by, group_after, whole_packets, packets_from}
 use Rattle.xsk_turns.proofs.Calls.{Item, Told}
 use Rattle.xsk_model.proofs.PacketsLaws.{whole_packets-append}
@@ -10,7 +10,7 @@ use Rattle.xsk_turns.specs.declared.wire.Wire.{Wire}
 use Rattle.xsk_turns.proofs.Places.{batch_few}
 use Rattle.xsk_turns.proofs.Counting.{four_classes}
 use Rattle.xsk_turns.proofs.Walks.{Fitting, meet_fitting}
-use Rattle.xsk_turns.proofs.DriverWalk.{Family, Idling, Arming, Looking, comp_full, comp_submitted, tx_items, looked_tx_done, armed_fill, looked_fill_empty, looked_fill_items, looked_tx_empty, looked_tx_items, found_end, found_none, visited, idles, arms, looks, finds, parks, Said, AtCalls, AtEntries, AtPasses, IsLaw, SubmitComp, LookTxDone, TellGone, ArmFill, ArmTx, LookFill, ReleaseLooked, LookTx, ReleaseLookedTx, LookEnd, at_call}
+use Rattle.xsk_turns.proofs.DriverWalk.{Family, Idling, Arming, Which, Turning, Again, Trying, Lacking, Sending, PeekFill, ReleaseFill, PeekTx, ReleaseTx, comp_full, comp_submitted, tx_empty, tx_items, looked_tx_done, armed_fill, found_end, found_none, visited, idles, arms, seeks, looks, finds, parks, Said, AtCalls, AtEntries, AtPasses, IsLaw, SubmitComp, LookTxDone, TellGone, ArmFill, ArmTx, LookEnd, at_call}
 
 -- each item ends one packet at most
 one_ended : (o : Option Packet) → length (whole_packets (option_to_list o)) ≤ 1
@@ -43,10 +43,17 @@ module _ (wire : Wire) (c : Config) (pair : ℕ) (is : IsSeat c pair) where
   abbrev Few : Kept → Type 0
   Few kept = length kept.finished ≤ 128
 
+  -- and in the second look a batch for each class
+  abbrev FewIn : Which → ℕ → List (List Item) → Type 0
+  FewIn Turning k packets = length packets ≤ 128
+  FewIn Again k packets = (k ≤ classes_of c) × (length packets ≤ 32 * k)
+
   abbrev At : Family
   At Idling noted kept l = (noted.full ≡ false → kept.finished ≡ []) × Few kept
   At (Arming k) noted kept l = kept.finished ≡ []
-  At (Looking k due) noted kept l = (k ≤ classes_of c) × (length kept.finished ≤ 32 * k)
+  At (Trying look packet s due) noted kept l = FewIn look 0 kept.finished
+  At (Lacking look packet s full) noted kept l = FewIn look 0 kept.finished
+  At (Sending look k due) noted kept l = FewIn look k kept.finished
   At place noted kept l = Few kept
 
   abbrev Asked : Said
@@ -55,13 +62,18 @@ module _ (wire : Wire) (c : Config) (pair : ℕ) (is : IsSeat c pair) where
   abbrev Ended : Kept → List Told → Type 0
   Ended kept l = Unit {0}
 
-  few_looked : (k : ℕ) (kept : Kept) → (k ≤ classes_of c) × (length kept.finished ≤ 32 * k) → Few kept
-  few_looked k kept h = omega (arith, h.0, h.1, four_classes c is.regular.classes)
+  few_in : (look : Which) (k : ℕ) (kept : Kept) → FewIn look k kept.finished → Few kept
+  few_in Turning k kept h = h
+  few_in Again k kept h = omega (arith, h.0, h.1, four_classes c is.steady.regular.classes)
+
+  more_in : (look : Which) (k : ℕ) (old new : List (List Item)) → (k < classes_of c) × (look ≡ Turning → old ≡ []) → length new ≤ length old + 32 → FewIn look k old → FewIn look (k + 1) new
+  more_in Turning k old new known more h = omega (arith, ap length (known.1 refl), more)
+  more_in Again k old new known more h = (omega (arith, known.0), omega (arith, h.1, more))
 
   few_none : (kept : Kept) → kept.finished ≡ [] → Few kept
   few_none kept none = omega (arith, ap length none)
 
-  first_look : (kept : Kept) → kept.finished ≡ [] → (0 ≤ classes_of c) × (length kept.finished ≤ 32 * 0)
+  first_look : (kept : Kept) → kept.finished ≡ [] → FewIn Again 0 kept.finished
   first_look kept none = (omega arith, omega (arith, ap length none))
 
   calls : AtCalls seat (Fitting c) At Asked
@@ -69,35 +81,33 @@ module _ (wire : Wire) (c : Config) (pair : ℕ) (is : IsSeat c pair) where
   calls TellGone noted kept l known h = h.1
   calls ArmFill noted kept l known h = h.1
   calls (ArmTx k) noted kept l known h = few_none kept h
-  calls (LookFill n) noted kept l known h = few_none kept h
-  calls (ReleaseLooked n) noted kept l known h = few_looked 0 kept h
-  calls (LookTx k) noted kept l known h = few_looked k kept h
-  calls (ReleaseLookedTx k n) noted kept l known h = few_looked (k + 1) kept h
-  calls LookEnd noted kept l known h = few_looked (classes_of c) kept h
+  calls (PeekFill look packet s) noted kept l known h = few_in look 0 kept h
+  calls (ReleaseFill look packet s n) noted kept l known h = few_in look 0 kept h
+  calls (PeekTx look k) noted kept l known h = few_in look k kept h
+  calls (ReleaseTx look k n) noted kept l known h = few_in look (k + 1) kept h
+  calls LookEnd noted kept l known h = few_in Again (classes_of c) kept h
   calls (SubmitComp k packet later) noted kept l known h = omega (arith, ap length known, h)
   calls p noted kept l known h = h
 
   entries : AtEntries seat (Fitting c) At Asked
-  entries (tx_items k items) noted kept l known found h a q = omega (arith, gathered_few seat k kept items, ap length known.1, q.few, batch_few c)
+  entries (tx_empty look k) noted kept l known found h a q = more_in look k kept.finished kept.finished known (omega arith) h
+  entries (tx_items look k items) noted kept l known found h a q = more_in look k kept.finished (gathered seat k kept items).finished known (omega (arith, gathered_few seat k kept items, q.few, batch_few c)) h
   entries (comp_full k packet later free) noted kept l known found h a q = ((λ e. absurd (cc)), h)
   entries (comp_submitted k packet later) noted kept l known found h a q = omega (arith, ap length known, h)
   entries (looked_tx_done n) noted kept l known found h a q = h.1
   entries (armed_fill n) noted kept l known found h a q = h.0 known.0
-  entries (looked_fill_empty n) noted kept l known found h a q = first_look kept h
-  entries (looked_fill_items n items) noted kept l known found h a q = first_look kept h
-  entries (looked_tx_empty k) noted kept l known found h a q = (omega (arith, known), omega (arith, h.1))
-  entries (looked_tx_items k items) noted kept l known found h a q = (omega (arith, known), omega (arith, h.1, gathered_few seat k kept items, q.few, batch_few c))
-  entries (found_end n) noted kept l known found h a q = few_looked (classes_of c) kept h
-  entries (found_none n) noted kept l known found h a q = few_looked (classes_of c) kept h
+  entries (found_end n) noted kept l known found h a q = few_in Again (classes_of c) kept h
+  entries (found_none n) noted kept l known found h a q = few_in Again (classes_of c) kept h
   entries e noted kept l known found h a q = h
 
   passes : AtPasses seat (Fitting c) At
   passes visited noted kept l = λ h none. ((λ e. none), h)
   passes idles noted kept l = λ h e. h.1
   passes arms noted kept l = λ h e. h.0 e.0
+  passes (seeks packet s) noted kept l = λ h e. first_look kept h
   passes looks noted kept l = λ h e. first_look kept h
-  passes finds noted kept l = λ h e. few_looked (classes_of c) kept h
-  passes parks noted kept l = λ h e. few_looked (classes_of c) kept h
+  passes finds noted kept l = λ h e. few_in Again (classes_of c) kept h
+  passes parks noted kept l = λ h e. few_in Again (classes_of c) kept h
   passes p noted kept l = λ h e. h
 
   law : IsLaw seat (Fitting c) At Asked Ended

@@ -13,6 +13,7 @@ use Rattle.xsk_turns.specs.Turns.{Kept, laid_out, returned}
 use Rattle.xsk_turns.specs.Owned.{IsHere}
 use Rattle.xsk_turns.specs.Owned.{IsSeat, of_class, socket_at_class, frame_numbers, IsSpare, Owned}
 use Rattle.xsk_turns.proofs.Completing.{waiting_whole, whole_some, waiting_lawful, numbers-returned, all_returned, are_completed, completes}
+use Rattle.xsk_turns.proofs.LegalCalls.{fed}
 use Rattle.xsk_turns.proofs.Layouts.{layout, items_on, pieces_some, one_piece, length-laid_out, numbers-laid_out}
 use Rattle.xsk_turns.proofs.Owned.{HasKept, times-kept, sockets_apart}
 use Rattle.xsk_turns.proofs.Places.{class_here, class_among, rx_ring, caller_known}
@@ -138,6 +139,7 @@ module _ (c : Config) (pair socket : ℕ) (seat : IsSeat c pair) (kept : Kept) (
         frames = λ m. omega (arith, items_times m, h.frames m);
         items = items_on c.geometry seat.geometry socket packet (take (pieces c packet) kept.spare) used_own;
         packets = received;
+        feeds = fed c seat.steady.closes l (Rx socket);
       }
 
   pub owned_rx : Owned c pair (record kept { spare = drop (pieces c packet) kept.spare }) (Submit (Rx socket) items) l
@@ -205,6 +207,7 @@ module _ (c : Config) (pair : ℕ) (seat : IsSeat c pair) (kept : Kept) (l : Lis
         frames = λ m. omega (arith, first_times m, h.frames m);
         items = all_returned c.geometry s pair packet (waiting_lawful c pair s l packet later h.own waits);
         packets = are_completed c pair s l packet later seat (class_here c pair seat class (first_known c pair kept l h some)) waits;
+        feeds = tt;
       }
 
   -- the first packet is completed on the ring of its class, and none on another

@@ -6,7 +6,8 @@ pub use Rattle.xsk_model.specs.Config.{Config, pool_of, batch_of, classes_of, Is
 pub use Rattle.xsk_model.specs.declared.config.PairInfo.{PairInfo}
 pub use Rattle.xsk_model.specs.declared.config.SocketInfo.{SocketInfo}
 pub use Rattle.xsk_model.specs.Rings.{caller_of, application_on, app_of, producer, consumer, is_ring, port_of, queue_of}
-pub use Rattle.xsk_model.specs.Marks.{apps_of, HasMark, IsMarkNumber, MaySwap}
+pub use Rattle.xsk_model.specs.Marks.{apps_of, HasMark, IsMarkNumber}
+pub use Rattle.xsk_model.specs.Swaps.{MaySwap, IsFed}
 pub use Rattle.xsk_model.specs.Numbers.{times, numbers, number_of, without}
 pub use Rattle.xsk_model.specs.Descriptor.{is_valid, is_inside, has_bytes, fits_chunk, has_known_options, body_of, payload}
 pub use Rattle.xsk_model.specs.Packets.{IsLayout, IsWhole, packets, whole_packets, rest, packets_from, bad_items, bytes_of, Packet, whole, bad, items_of, rest_from, IsCut, options_before, HoldsPiece, HoldPieces, ended_by, group_after}

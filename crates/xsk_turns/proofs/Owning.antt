@@ -1,11 +1,14 @@
 -- At each of its calls a driver has the frames that it peeked and didn't submit, and the call is legal.
-use Rattle.std.proofs.Common.{◌≡◌, ℕ, zero, suc, ◌+◌, ◌-◌, ◌*◌, ◌<◌, ◌≤◌, Bool, true, false, cond, nat_lt, Some, None, inl, List, [], ◌∷◌, ◌++◌, length, map, drop, get_or, flat_map, replicate, refl, sym, ap, ◌∙◌, subst, arith, append-nil, append_assoc, ◌&&◌, if◌then◌else◌, ◌==◌, leb-true, leb-false, ltb-false}
+use Rattle.std.proofs.Common.{◌≡◌, ℕ, zero, suc, ◌+◌, ◌-◌, ◌*◌, ◌<◌, ◌≤◌, Bool, true, false, cond, nat_lt, Some, inl, List, [], ◌∷◌, ◌++◌, length, map, drop, get_or, flat_map, replicate, refl, sym, ap, ◌∙◌, subst, arith, append-nil, append_assoc, ◌&&◌, if◌then◌else◌, ◌==◌, leb-true, leb-false, ltb-false}
+use Rattle.std.specs.Prelude.{not, ◌||◌, Ok, Err}
+use Rattle.std.specs.Result.{result_ok}
 use Rattle.std.proofs.lemmas.Bool.Decides.{nat_tests}
 use Rattle.std.proofs.lemmas.List.{length-replicate, take_all}
 use Rattle.std.proofs.lemmas.List.Elements.{All-nil}
+use Rattle.xsk_map.specs.declared.cell.Miss.TheVariants.{EmptyCell, OtherQueue}
 use Rattle.xsk_turns.proofs.Object.{payload_of, Frame, packets_from, Config, pair_at, classes_of, socket_at, times, numbers, IsWhole, taken, room_of, IsLegal, Fits, OwnGoesOn}
 use Rattle.xsk_turns.proofs.Calls.{Item, Told, with_told, Fill, Comp, Rx, Tx, NeedFill, NeedTx, Kick, RxDone, Gone, TxDone, Cell, Call, Submit, Peek, Swap, Reply, Granted, Full, Items, Old}
-use Rattle.xsk_turns.proofs.LegalCalls.{had_told, legal_reserve, legal_peek, legal_release, legal_look, legal_swap, room_told, held_told, IsDue}
+use Rattle.xsk_turns.proofs.LegalCalls.{had_told, fed, legal_reserve, legal_peek, legal_release, legal_look, legal_swap, room_told, held_told, IsDue}
 use Rattle.xsk_turns.specs.Script.{Script, Leaves, Ends}
 use Rattle.xsk_turns.specs.Turns.{Seat, Judged, Kept, Noted, seat_of, start, turn, application_of, cell_of, redirect_to, limit_of, pieces_of, returned, frames_in, bad_ones, group_at, supplied, gathered}
 use Rattle.xsk_turns.specs.declared.wire.Wire.{Wire}
@@ -17,22 +20,22 @@ use Rattle.xsk_turns.proofs.Owned.{Has as HasLists, HasKept, IsQuiet, owned_quie
 use Rattle.xsk_turns.proofs.Places.{batch_some, batch_few, class_here, rx_ring, tx_ring, caller_known, port_known, app_known}
 use Rattle.xsk_turns.proofs.Rooms.{fill_frames, all_whole, lost_few}
 use Rattle.xsk_turns.proofs.Walks.{Premise, MeetAlong, release_due, meet_fitting}
-use Rattle.xsk_turns.proofs.DriverWalk.{Place, Trying, Sending, Idling, Looking, Family, TellRxDone, LookCell, PeekFill, ReleaseFill, ReserveRx, SubmitRx, ReserveComp, SubmitComp, PeekTx, ReleaseTx, LookTxDone, TellGone, ArmFill, ArmTx, LookFill, ReleaseLooked, LookTx, ReleaseLookedTx, LookEnd, LookKick, ClearKick, DisarmFill, DisarmTx, call_at, kept_at, IsTried, IsLacking, fill_items, tx_items, looked_fill_items, looked_tx_items, rx_granted, comp_granted, comp_full, point_of, reply_of, visited, idles, arms, looks, finds, parks, disarmed, Said, AtCalls, AtEntries, AtPasses, IsLaw, at_call, at_end, meets_said}
+use Rattle.xsk_turns.proofs.DriverWalk.{Place, Trying, Sending, Idling, Family, TellRxDone, LookCell, PeekFill, ReleaseFill, ReserveRx, SubmitRx, ReserveComp, SubmitComp, PeekTx, ReleaseTx, LookTxDone, TellGone, ArmFill, ArmTx, LookEnd, LookKick, ClearKick, DisarmFill, DisarmTx, call_at, kept_at, IsTried, fill_items, tx_items, rx_granted, comp_granted, comp_full, point_of, reply_of, visited, idles, arms, seeks, misses, looks, finds, parks, disarmed, Said, AtCalls, AtEntries, AtPasses, IsLaw, at_call, at_end, meets_said}
 
 -- ---- a packet that goes to a socket
 
-here_if : (c : Config) (pair number socket : ℕ) (some known port queue : Bool) → (some ≡ true → 0 < number) → (known ≡ true → number - 1 < length c.sockets)
+here_if : (c : Config) (pair number socket : ℕ) (none above port queue : Bool) → (none ≡ false → 0 < number) → (above ≡ false → number ≤ length c.sockets)
     → (port ≡ true → (socket_at c.sockets (number - 1)).port ≡ (pair_at c.pairs pair).port) → (queue ≡ true → (socket_at c.sockets (number - 1)).queue ≡ (pair_at c.pairs pair).queue)
-    → (if some && known && port && queue then Some (number - 1) else None) ≡ Some socket → IsHere c pair socket
-here_if c pair number socket true true true true some known port queue h =
+    → result_ok (if none || above then Err EmptyCell else if not (port && queue) then Err OtherQueue else Ok (number - 1)) ≡ Some socket → IsHere c pair socket
+here_if c pair number socket false false true true some known port queue h =
     let is : number - 1 ≡ socket = cc in
-    subst (IsHere c pair) is (record { known = known refl; port = port refl; queue = queue refl })
-here_if c pair number socket s k p q some known port queue h = cc
+    subst (IsHere c pair) is (record { known = omega (arith, some refl, known refl); port = port refl; queue = queue refl })
+here_if c pair number socket n a p q some known port queue h = cc
 
 pub redirect_here : (c : Config) (pair number socket : ℕ) → redirect_to c (pair_at c.pairs pair).port (pair_at c.pairs pair).queue number ≡ Some socket → IsHere c pair socket
 redirect_here c pair number socket h =
     let is = socket_at c.sockets (number - 1) in
-    here_if c pair number socket (nat_lt 0 number) (nat_lt (number - 1) (length c.sockets)) (is.port == (pair_at c.pairs pair).port) (is.queue == (pair_at c.pairs pair).queue)
+    here_if c pair number socket (number == 0) (nat_lt (length c.sockets) number) (is.port == (pair_at c.pairs pair).port) (is.queue == (pair_at c.pairs pair).queue)
     (λ e. grind (arith, nat_tests)) (λ e. grind (arith, nat_tests)) (λ e. grind (arith, nat_tests)) (λ e. grind (arith, nat_tests)) h
 
 -- ---- the law
@@ -55,9 +58,8 @@ module _ (wire : Wire) (c : Config) (pair : ℕ) (is : IsSeat c pair) where
 
   -- what is due, and that a driver is idle with finished packets only where COMPLETION was full
   abbrev Beside : Place → Noted → Kept → List Told → Type 0
-  Beside (Trying packet s due) noted kept l = IsDue due l
-  Beside (Sending k due) noted kept l = IsDue due l
-  Beside (Looking k due) noted kept l = IsDue due l
+  Beside (Trying look packet s due) noted kept l = IsDue due l
+  Beside (Sending look k due) noted kept l = IsDue due l
   Beside Idling noted kept l = noted.full ≡ false → kept.finished ≡ []
   Beside place noted kept l = Unit {0}
 
@@ -92,35 +94,28 @@ module _ (wire : Wire) (c : Config) (pair : ℕ) (is : IsSeat c pair) where
     here : IsHere c pair s
     here = redirect_here c pair tried.number s tried.target
 
-  -- the frames that it lacks are few
-  lacking_few : (n : ℕ) (kept : Kept) → IsLacking seat Answers n kept.coming kept.spare → (1 ≤ n) × (n + length kept.spare ≤ 18)
-  lacking_few n kept lacking =
-      let below = leb-false (pieces_of seat lacking.packet.bytes) (length kept.spare) lacking.few in
-      let few = few lacking.packet lacking.socket kept.coming lacking.tried in
-      (omega (arith, below, lacking.is), omega (arith, below, few, lacking.is))
-
   -- a flag is swapped
   flags_fill : (kept : Kept) (l : List Told) (value : ℕ) → value ≤ 1 → Has kept l → Asked kept (Swap (NeedFill pair) value) l
-  flags_fill kept l value few h = quiet kept _ l tt h (legal_swap c pair l (caller_known c pair is) (NeedFill pair) value is.known refl few)
+  flags_fill kept l value few h = quiet kept _ l tt h (legal_swap c pair l (caller_known c pair is) (NeedFill pair) value is.known (refl, tt) few)
 
   flags_tx : (k : ℕ) (kept : Kept) (l : List Told) (value : ℕ) → k < classes_of c → value ≤ 1 → Has kept l → Asked kept (Swap (NeedTx (socket_at_class c pair k)) value) l
   flags_tx k kept l value within few h =
       let s = socket_at_class c pair k in
       let ring = tx_ring c pair is s (class_here c pair is k within) in
-      quiet kept _ l tt h (legal_swap c pair l (caller_known c pair is) (NeedTx s) value ring.0 ring.1 few)
+      quiet kept _ l tt h (legal_swap c pair l (caller_known c pair is) (NeedTx s) value ring.0 (ring.1, tt) few)
 
   calls : AtCalls seat Answers At Asked
-  calls TellRxDone noted kept l known h = quiet kept _ l tt h.0 (legal_swap c pair l (caller_known c pair is) (RxDone pair) 1 is.known refl (omega arith))
+  calls TellRxDone noted kept l known h = quiet kept _ l tt h.0 (legal_swap c pair l (caller_known c pair is) (RxDone pair) 1 is.known (refl, tt) (omega arith))
   calls (LookCell packet) noted kept l known h = quiet kept _ l tt h.0 (legal_look c pair l (caller_known c pair is) (Cell seat.port (cell_of packet.verdict)) (port_known c pair is, leb-false _ _ known.cell))
-  calls (PeekFill packet s) noted kept l known h =
+  calls (PeekFill look packet s) noted kept l known h =
       let below = leb-false (pieces_of seat packet.bytes) (length kept.spare) known.1 in
       let few = few packet s kept.coming known.0 in
       quiet kept _ l tt h.0 (legal_peek c pair l (caller_known c pair is) (Fill pair) (pieces_of seat packet.bytes - length kept.spare) is.known refl (omega (arith, below)) (omega (arith, few)))
-  calls (ReleaseFill packet s n) noted kept l known h = quiet kept _ l tt h.0 (legal_release c pair l (caller_known c pair is) (Fill pair) n is.known refl h.1.0 h.1.1 h.1.2)
+  calls (ReleaseFill look packet s n) noted kept l known h = quiet kept _ l tt h.0 (legal_release c pair l (caller_known c pair is) (Fill pair) n is.known refl h.1.0 h.1.1 h.1.2)
   calls (ReserveRx packet s) noted kept l known h =
       let ring = rx_ring c pair is s (here packet s kept.coming known.0) in
       let some = pieces_some c.geometry is.geometry packet.bytes (omega (arith, long packet s kept.coming known.0)) in
-      quiet kept _ l tt h.0 (legal_reserve c pair l (caller_known c pair is) (Rx s) (pieces_of seat packet.bytes) ring.0 ring.1 some (omega (arith, few packet s kept.coming known.0)))
+      quiet kept _ l tt h.0 (legal_reserve c pair l (caller_known c pair is) (Rx s) (pieces_of seat packet.bytes) ring.0 ring.1 some (omega (arith, few packet s kept.coming known.0)) (fed c is.steady.closes l (Rx s)))
   calls (SubmitRx packet s) noted kept l known h =
       let long = long packet s kept.coming known.0 in
       let short = short packet s kept.coming known.0 in
@@ -131,38 +126,27 @@ module _ (wire : Wire) (c : Config) (pair : ℕ) (is : IsSeat c pair) where
   calls (ReserveComp k packet later) noted kept l known h =
       let some : 1 ≤ length kept.finished = omega (arith, ap length known) in
       let whole = subst (λ (ps : List (List Item)). IsWhole c.geometry c.sg (get_or ps 0 [])) known (first_whole c pair kept l h.0 some) in
-      quiet kept _ l tt h.0 (legal_reserve c pair l (caller_known c pair is) (Comp pair) (length packet) is.known refl (whole_some c packet whole) (omega (arith, whole.few)))
+      quiet kept _ l tt h.0 (legal_reserve c pair l (caller_known c pair is) (Comp pair) (length packet) is.known refl (whole_some c packet whole) (omega (arith, whole.few)) tt)
   calls (SubmitComp k packet later) noted kept l known h =
       let some : 1 ≤ length kept.finished = omega (arith, ap length known) in
       let room = subst (λ (ps : List (List Item)). length (get_or ps 0 []) ≤ room_of (Comp pair) l) (sym known) h.1 in
       let legal = legal_comp c pair is kept l h.0 some room in
       subst (λ (ps : List (List Item)). Asked (record kept { finished = drop 1 ps }) (Submit (Comp pair) (map returned (get_or ps 0 []))) l) known (owned_comp c pair is kept l h.0 some legal, legal)
-  calls (PeekTx k) noted kept l known h =
+  calls (PeekTx look k) noted kept l known h =
       let s = socket_at_class c pair k in
       let ring = tx_ring c pair is s (class_here c pair is k known.0) in
       quiet kept _ l tt h.0 (legal_peek c pair l (caller_known c pair is) (Tx s) seat.batch ring.0 ring.1 (batch_some c is.config) (batch_few c))
-  calls (ReleaseTx k n) noted kept l known h =
+  calls (ReleaseTx look k n) noted kept l known h =
       let s = socket_at_class c pair k in
       let ring = tx_ring c pair is s (class_here c pair is k known) in
       quiet kept _ l tt h.0 (legal_release c pair l (caller_known c pair is) (Tx s) n ring.0 ring.1 h.1.0 h.1.1 h.1.2)
   calls LookTxDone noted kept l known h = quiet kept _ l tt h.0 (legal_look c pair l (caller_known c pair is) (TxDone (application_of seat)) (app_known c pair is))
-  calls TellGone noted kept l known h = quiet kept _ l tt h.0 (legal_swap c pair l (caller_known c pair is) (Gone pair) 1 is.known refl (omega arith))
+  calls TellGone noted kept l known h = quiet kept _ l tt h.0 (legal_swap c pair l (caller_known c pair is) (Gone pair) 1 is.known (refl, tt) (omega arith))
   calls ArmFill noted kept l known h = flags_fill kept l 1 (omega arith) h.0
   calls (ArmTx k) noted kept l known h = flags_tx k kept l 1 known (omega arith) h.0
-  calls (LookFill n) noted kept l known h =
-      let enough = lacking_few n kept known.0 in quiet kept _ l tt h.0 (legal_peek c pair l (caller_known c pair is) (Fill pair) n is.known refl enough.0 (omega (arith, enough.1)))
-  calls (ReleaseLooked n) noted kept l known h = quiet kept _ l tt h.0 (legal_release c pair l (caller_known c pair is) (Fill pair) n is.known refl h.1.0 h.1.1 h.1.2)
-  calls (LookTx k) noted kept l known h =
-      let s = socket_at_class c pair k in
-      let ring = tx_ring c pair is s (class_here c pair is k known) in
-      quiet kept _ l tt h.0 (legal_peek c pair l (caller_known c pair is) (Tx s) seat.batch ring.0 ring.1 (batch_some c is.config) (batch_few c))
-  calls (ReleaseLookedTx k n) noted kept l known h =
-      let s = socket_at_class c pair k in
-      let ring = tx_ring c pair is s (class_here c pair is k known) in
-      quiet kept _ l tt h.0 (legal_release c pair l (caller_known c pair is) (Tx s) n ring.0 ring.1 h.1.0 h.1.1 h.1.2)
   calls LookEnd noted kept l known h = quiet kept _ l tt h.0 (legal_look c pair l (caller_known c pair is) (TxDone (application_of seat)) (app_known c pair is))
   calls (LookKick frames) noted kept l known h = quiet kept _ l tt h.0 (legal_look c pair l (caller_known c pair is) (Kick pair) is.known)
-  calls (ClearKick frames) noted kept l known h = quiet kept _ l tt h.0 (legal_swap c pair l (caller_known c pair is) (Kick pair) 0 is.known (inl refl) (omega arith))
+  calls (ClearKick frames) noted kept l known h = quiet kept _ l tt h.0 (legal_swap c pair l (caller_known c pair is) (Kick pair) 0 is.known (inl refl, tt) (omega arith))
   calls DisarmFill noted kept l known h = flags_fill kept l 0 (omega arith) h.0
   calls (DisarmTx k) noted kept l known h = flags_tx k kept l 0 known.1 (omega arith) h.0
 
@@ -189,13 +173,11 @@ module _ (wire : Wire) (c : Config) (pair : ℕ) (is : IsSeat c pair) where
       )
 
   entries : AtEntries seat Answers At Asked
-  entries (fill_items packet s items) noted kept l known found h a q =
+  entries (fill_items look packet s items) noted kept l known found h a q =
       let below = leb-false (pieces_of seat packet.bytes) (length kept.spare) known.1 in
       let few = few packet s kept.coming known.0 in
       fill_comes (pieces_of seat packet.bytes - length kept.spare) kept items l (omega (arith, below, few)) a q
-  entries (tx_items k items) noted kept l known found h a q = tx_comes k kept items l known.0 a q
-  entries (looked_fill_items n items) noted kept l known found h a q = fill_comes n kept items l (lacking_few n kept known.0).1 a q
-  entries (looked_tx_items k items) noted kept l known found h a q = tx_comes k kept items l known a q
+  entries (tx_items look k items) noted kept l known found h a q = tx_comes k kept items l known.0 a q
   entries (rx_granted packet s) noted kept l known found h a q = (told kept _ Granted l refl a q, room_told l (Rx s) (pieces_of seat packet.bytes))
   entries (comp_granted k packet later) noted kept l known found h a q = (told kept _ Granted l refl a q, room_told l (Comp pair) (length packet))
   entries (comp_full k packet later free) noted kept l known found h a q = (told kept _ (Full free) l refl a q, λ f. absurd (cc))
@@ -206,6 +188,8 @@ module _ (wire : Wire) (c : Config) (pair : ℕ) (is : IsSeat c pair) where
   passes idles noted kept l = λ h e. (h.0, tt)
   passes arms noted kept l = λ h e. (h.0, tt)
   passes looks noted kept l = λ h e. (h.0, tt)
+  passes (seeks packet s) noted kept l = λ h e. (h.0, tt)
+  passes (misses packet s) noted kept l = λ h e. (h.0, tt)
   passes finds noted kept l = λ h e. (h.0, tt)
   passes parks noted kept l = λ h e. (h.0, tt)
   passes disarmed noted kept l = λ h e. (h.0, tt)

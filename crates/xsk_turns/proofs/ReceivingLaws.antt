@@ -119,7 +119,7 @@ module _ (wire : Wire) (c : Config) (d s : ℕ) where
       (subst (λ b. IsTold d s b kept.tx_done kept.coming told) (sym off) (submits d s t _ kept.tx_done kept.coming l (subst (λ b. IsTold d s b kept.tx_done kept.coming l) off h)))
   entries (comp_submitted k packet later) noted kept l known found h a q = comp d s kept.rx_done kept.tx_done kept.coming l d (map returned packet) h
   entries (looked_tx_done n) noted kept l known found h a q =
-      let now = still d s kept.rx_done kept.tx_done kept.coming l _ (Old n) (λ u. refl) h in record { told = now.told; late = now.late; none = now.none; first = λ g. known }
+      let now = still d s kept.rx_done kept.tx_done kept.coming l _ (Old n) (λ u. refl) h in record { told = now.told; late = now.late; none = now.none; first = λ g. known.0 }
   entries (found_end n) noted kept l known found h a q =
       let now = still d s kept.rx_done kept.tx_done kept.coming l _ (Old n) (λ u. refl) h in record { told = now.told; late = now.late; none = now.none; first = λ g. known.1 }
   entries (armed_fill n) noted kept l known found h a q = swaps d s kept.rx_done kept.tx_done kept.coming l (NeedFill d) 1 n refl h

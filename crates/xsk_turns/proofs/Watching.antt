@@ -1,18 +1,18 @@
 -- A driver that is parked watches each ring whose flag it has set, and its end; and it keeps that it is parked exactly where it
 -- looks at its kick.
-use Rattle.std.proofs.Common.{◌≡◌, ℕ, ◌<◌, Bool, true, false, cond, not, eqb, ◌&&◌, List, [], ◌∷◌, refl, sym, ap, ◌∙◌, subst, eq-eqb, arith}
+use Rattle.std.proofs.Common.{◌≡◌, ℕ, ◌-◌, ◌<◌, length, Bool, true, false, cond, not, eqb, ◌&&◌, List, [], ◌∷◌, refl, sym, ap, ◌∙◌, subst, eq-eqb, arith}
 use Rattle.std.proofs.lemmas.Bool.{and_from}
 use Rattle.std.proofs.lemmas.List.Sums.{fold_push}
-use Rattle.xsk_turns.proofs.Calls.{Told, with_told, Ring, Fill, Tx, Mark, NeedFill, NeedTx, Kick, RxDone, TxDone, Call, Reserve, Submit, Peek, Release, Swap, Look, Reply, Items, Empty, Released, Old}
+use Rattle.xsk_turns.proofs.Calls.{Told, with_told, Ring, Fill, Tx, Mark, NeedFill, NeedTx, Kick, RxDone, TxDone, Call, Peek, Swap, Look, Reply, Items, Empty, Released, Old}
 use Rattle.xsk_model.specs.Config.{Config, classes_of}
 use Rattle.xsk_model.specs.Marks.{is_mark}
 use Rattle.xsk_turns.specs.Script.{Leaves}
-use Rattle.xsk_turns.specs.Turns.{Seat, Judged, Kept, awaits, seat_of, start, turn, socket_of, application_of, IsDriverRun}
+use Rattle.xsk_turns.specs.Turns.{Seat, Judged, Kept, awaits, pieces_of, seat_of, start, turn, socket_of, application_of, IsDriverRun}
 use Rattle.xsk_turns.specs.Watching.{Watching, peeked, watching_after, watching_step, watching_of, ending_after, ending_step, ending_of, IsWatched, ParkedWatches}
 use Rattle.xsk_turns.specs.declared.wire.Wire.{Wire}
 use Rattle.xsk_turns.proofs.ScriptLemmas.{leaves_front, asked_last}
 use Rattle.xsk_turns.proofs.Walks.{Anything, meet_anything}
-use Rattle.xsk_turns.proofs.DriverWalk.{Family, Begins, Arming, Looking, Parked, Woken, Disarming, LookKick, told_rx_done, armed_fill, armed_tx, looked_fill_empty, looked_fill_items, looked_fill_released, looked_tx_empty, looked_tx_items, looked_tx_released, found_end, found_none, kicked, not_kicked, cleared_kick, disarmed_fill, disarmed_tx, arms, looks, finds, parks, disarmed, call_at, point_of, reply_of, Said, AtCalls, AtEntries, AtPasses, IsLaw, at_call}
+use Rattle.xsk_turns.proofs.DriverWalk.{Family, Begins, Arming, Again, Trying, Lacking, Sending, Parked, Woken, Disarming, LookKick, told_rx_done, fill_empty, fill_items, fill_released, tx_empty, tx_items, tx_released, armed_fill, armed_tx, found_end, found_none, kicked, not_kicked, cleared_kick, disarmed_fill, disarmed_tx, arms, seeks, sought, misses, looks, finds, parks, disarmed, call_at, point_of, reply_of, Said, AtCalls, AtEntries, AtPasses, IsLaw, at_call}
 
 -- ---- the folds
 
@@ -26,12 +26,8 @@ ending_told told done kick l call reply = fold_push (ending_step told done kick)
 
 -- whether a call swaps a flag: no other sets it or clears it
 abbrev swaps : Mark → Call → Bool
-swaps flag (Reserve q n) = false
-swaps flag (Submit q items) = false
-swaps flag (Peek q n) = false
-swaps flag (Release q n) = false
 swaps flag (Swap m value) = is_mark flag m
-swaps flag (Look m) = false
+swaps flag call = false
 
 same_set : (b w : Bool) (s : Watching) → (cond b (record s { watched = w }) s).set ≡ s.set
 same_set true w s = refl
@@ -97,7 +93,9 @@ module _ (seat : Seat) where
 
   abbrev FillAt : Family
   FillAt (Arming k) noted kept l = awaits noted ≡ false → IsClear l
-  FillAt (Looking k due) noted kept l = (awaits noted ≡ false → IsClear l) × (noted.progress ≡ false → IsWatched (fill l))
+  FillAt (Trying Again packet s due) noted kept l = Unit {0}
+  FillAt (Lacking Again packet s full) noted kept l = IsWatched (fill l)
+  FillAt (Sending Again k due) noted kept l = (awaits noted ≡ false → IsClear l) × (noted.progress ≡ false → IsWatched (fill l))
   FillAt (Parked frames) noted kept l = (frames ≡ false → IsClear l) × IsWatched (fill l)
   FillAt (Woken frames) noted kept l = frames ≡ false → IsClear l
   FillAt (Disarming frames k) noted kept l = frames ≡ false → IsClear l
@@ -128,12 +126,12 @@ module _ (seat : Seat) where
   fill_entries : AtEntries seat Anything FillAt FillAsked
   fill_entries (armed_fill n) noted kept l known found h a q = λ e. absurd (is_true (awaits noted) known.1 e)
   fill_entries (armed_tx k n) noted kept l known found h a q = λ e. still_clear l _ (Old n) refl (h e)
-  fill_entries (looked_fill_empty n) noted kept l known found h a q = ((λ e. absurd (is_true (awaits noted) known.1 e)), λ p. fill_empty_now l n)
-  fill_entries (looked_fill_items n items) noted kept l known found h a q = ((λ e. absurd (is_true (awaits noted) known.1 e)), λ p. absurd (cc))
-  fill_entries (looked_fill_released n) noted kept l known found h a q = ((λ e. still_clear l _ Released refl (h.0 e)), λ p. still_fill l _ Released refl (h.1 p))
-  fill_entries (looked_tx_empty k) noted kept l known found h a q = ((λ e. still_clear l _ Empty refl (h.0 e)), λ p. still_fill l _ Empty refl (h.1 p))
-  fill_entries (looked_tx_items k items) noted kept l known found h a q = ((λ e. still_clear l _ (Items items) refl (h.0 e)), λ p. absurd (cc))
-  fill_entries (looked_tx_released k n) noted kept l known found h a q = ((λ e. still_clear l _ Released refl (h.0 e)), λ p. still_fill l _ Released refl (h.1 p))
+  fill_entries (fill_empty Again packet s) noted kept l known found h a q = fill_empty_now l (pieces_of seat packet.bytes - length kept.spare)
+  fill_entries (fill_items Again packet s items) noted kept l known found h a q = tt
+  fill_entries (fill_released Again packet s n) noted kept l known found h a q = tt
+  fill_entries (tx_empty Again k) noted kept l known found h a q = ((λ e. still_clear l _ Empty refl (h.0 e)), λ p. still_fill l _ Empty refl (h.1 p))
+  fill_entries (tx_items Again k items) noted kept l known found h a q = ((λ e. still_clear l _ (Items items) refl (h.0 e)), λ p. absurd (cc))
+  fill_entries (tx_released Again k n) noted kept l known found h a q = ((λ e. still_clear l _ Released refl (h.0 e)), λ p. still_fill l _ Released refl (h.1 p))
   fill_entries (found_end n) noted kept l known found h a q = λ e. still_clear l _ (Old n) refl (h.0 e)
   fill_entries (found_none n) noted kept l known found h a q = ((λ e. still_clear l _ (Old n) refl (h.0 e)), still_fill l _ (Old n) refl (h.1 known.0))
   fill_entries (kicked frames n) noted kept l known found h a q = λ e. still_clear l _ (Old n) refl (h.0 e)
@@ -147,6 +145,9 @@ module _ (seat : Seat) where
 
   fill_passes : AtPasses seat Anything FillAt
   fill_passes arms noted kept l = λ h e f. h
+  fill_passes (seeks packet s) noted kept l = λ h e. tt
+  fill_passes (sought packet s) noted kept l = λ h e. ((λ f. absurd (is_true (awaits noted) e.0 f)), λ f. absurd (is_true noted.progress e.1 f))
+  fill_passes (misses packet s) noted kept l = λ h e. ((λ f. absurd (is_true (awaits noted) e f)), λ f. h)
   fill_passes looks noted kept l = λ h e. (h, λ p f. absurd (is_true (fill l).set f (h e)))
   fill_passes finds noted kept l = λ h e. h.0
   fill_passes parks noted kept l = λ h e. (h.0, h.1 e.0)
@@ -166,7 +167,7 @@ module _ (seat : Seat) (class : ℕ) (below : class < seat.classes) where
   tx l = watching_of (NeedTx socket) (Tx socket) (Kick seat.pair) l
 
   abbrev TxAt : Family
-  TxAt (Looking k due) noted kept l = class < k → noted.progress ≡ false → IsWatched (tx l)
+  TxAt (Sending Again k due) noted kept l = class < k → noted.progress ≡ false → IsWatched (tx l)
   TxAt (Parked frames) noted kept l = IsWatched (tx l)
   TxAt place noted kept l = Unit {0}
 
@@ -188,17 +189,16 @@ module _ (seat : Seat) (class : ℕ) (below : class < seat.classes) where
   tx_calls p noted kept l known h = tt
 
   tx_entries : AtEntries seat Anything TxAt TxAsked
-  tx_entries (looked_fill_empty n) noted kept l known found h a q = λ none p. absurd (omega (arith, none))
-  tx_entries (looked_fill_items n items) noted kept l known found h a q = λ none p. absurd (omega (arith, none))
-  tx_entries (looked_fill_released n) noted kept l known found h a q = λ none p. absurd (omega (arith, none))
-  tx_entries (looked_tx_empty k) noted kept l known found h a q = λ past p. tx_empty_now l k seat.batch (λ apart. h (omega (arith, past, apart)) p)
-  tx_entries (looked_tx_items k items) noted kept l known found h a q = λ past p. absurd (cc)
-  tx_entries (looked_tx_released k n) noted kept l known found h a q = λ past p. still_tx l _ Released refl (h past p)
+  tx_entries (tx_empty Again k) noted kept l known found h a q = λ past p. tx_empty_now l k seat.batch (λ apart. h (omega (arith, past, apart)) p)
+  tx_entries (tx_items Again k items) noted kept l known found h a q = λ past p. absurd (cc)
+  tx_entries (tx_released Again k n) noted kept l known found h a q = λ past p. still_tx l _ Released refl (h past p)
   tx_entries (found_none n) noted kept l known found h a q = still_tx l _ (Old n) refl (h below known.0)
   tx_entries (not_kicked frames n) noted kept l known found h a q = still_tx l _ (Old n) refl h
   tx_entries e noted kept l known found h a q = tt
 
   tx_passes : AtPasses seat Anything TxAt
+  tx_passes (sought packet s) noted kept l = λ h e none p. absurd (omega (arith, none))
+  tx_passes (misses packet s) noted kept l = λ h e none p. absurd (omega (arith, none))
   tx_passes looks noted kept l = λ h e none p. absurd (omega (arith, none))
   tx_passes finds noted kept l = λ h e. tt
   tx_passes parks noted kept l = λ h e. h below e.0

@@ -9,11 +9,11 @@ use Rattle.xsk_model.specs.Ends.{draining_of, telling_of}
 use Rattle.xsk_model.specs.Rings.{driver_of}
 use Rattle.xsk_model.specs.Marks.{is_mark}
 use Rattle.xsk_model.specs.declared.call.Ring.{Ring}
-use Rattle.xsk_model.specs.declared.call.Ring.TheVariants.{Fill, Comp, Rx, Tx}
+use Rattle.xsk_model.specs.declared.call.Ring.TheVariants.{Fill, Rx, Tx}
 use Rattle.xsk_model.specs.declared.call.Mark.{Mark}
 use Rattle.xsk_model.specs.declared.call.Mark.TheVariants.{NeedFill, NeedTx, Kick, RxDone, TxDone}
 use Rattle.xsk_model.specs.declared.call.Call.{Call}
-use Rattle.xsk_model.specs.declared.call.Call.TheVariants.{Reserve, Submit, Peek, Release, Swap, Look}
+use Rattle.xsk_model.specs.declared.call.Call.TheVariants.{Submit, Swap, Look}
 use Rattle.xsk_model.specs.declared.call.Reply.{Reply}
 use Rattle.xsk_model.specs.declared.call.Reply.TheVariants.{Old}
 use Rattle.xsk_turns.specs.Script.{Script, Asks}
@@ -71,15 +71,11 @@ flag_due c (NeedTx t) (Old number) = if number == 1 then kick_of (driver_of c (T
 flag_due c mark reply = []
 
 abbrev pub due_after : Config → ℕ → Call → Reply → List Call
-due_after c app (Reserve r n) reply = []
 due_after c app (Submit (Fill d) items) reply = Look (NeedFill d) ∷ []
-due_after c app (Submit (Comp d) items) reply = []
-due_after c app (Submit (Rx s) items) reply = []
 due_after c app (Submit (Tx t) items) reply = Look (NeedTx t) ∷ []
-due_after c app (Peek r n) reply = []
-due_after c app (Release r n) reply = []
 due_after c app (Swap m value) reply = if is_mark m (TxDone app) && value == 1 then kick_of (pair_of c app 0) ++ kick_of (pair_of c app 1) else []
 due_after c app (Look m) reply = flag_due c m reply
+due_after c app call reply = []
 
 -- each call is the first that is due, where one is, and those after it stay due
 abbrev pub due_step : Config → ℕ → List Call → Told → List Call

@@ -2,7 +2,7 @@
 -- didn't submit, and the call is legal where all frames that it has had are at home with it: it wakes the driver of a home
 -- after it gave the frames back. That they are is a law of the object: in every history frames stay with one application.
 use Rattle.std.specs.Prelude.{◌≡◌, ℕ, ◌+◌, ◌<◌, ◌≤◌, List, [], ◌++◌, flat_map}
-use Rattle.xsk_model.specs.Config.{Config, IsConfig, IsRegular}
+use Rattle.xsk_model.specs.Config.{Config, IsConfig}
 use Rattle.xsk_model.specs.Marks.{apps_of}
 use Rattle.xsk_model.specs.Rings.{caller_of}
 use Rattle.xsk_model.specs.Numbers.{times, numbers}
@@ -15,12 +15,12 @@ use Rattle.xsk_model.specs.declared.call.Call.{Call}
 use Rattle.xsk_model.specs.declared.call.Reply.{Reply}
 use Rattle.xsk_turns.specs.Script.{Script, Asks, Ends}
 use Rattle.xsk_turns.specs.AppTurns.{AppKept, app_turn, app_start}
-use Rattle.xsk_turns.specs.Owned.{AllFit, frame_numbers}
+use Rattle.xsk_turns.specs.Owned.{IsSteady, AllFit, frame_numbers}
 
--- one of a regular configuration's applications
+-- an application of a regular configuration in which no socket is closed
 pub record IsApp (c : Config) (app : ℕ) : Type 0 where
   pub config : IsConfig c
-  pub regular : IsRegular c
+  pub steady : IsSteady c
   pub known : app < apps_of c
 
 -- the numbers of all frames that it keeps

@@ -1,6 +1,6 @@
 -- What holds of every run of a driver, and what of every whole one, by its turns and by what every history gives: that the
 -- replies fit.
-use Rattle.std.specs.Prelude.{◌≡◌, ℕ, ◌<◌, ◌≤◌, All, Bool, true, false, List, [], ◌∷◌, length, map, flat_map}
+use Rattle.std.specs.Prelude.{◌≡◌, ℕ, ◌<◌, ◌≤◌, All, Bool, true, false, List, [], ◌∷◌, length, map, flat_map, None}
 use Rattle.xsk_umem.specs.Geometry.{Geometry}
 use Rattle.xsk_umem.specs.declared.batch.Item.{Item}
 use Rattle.xsk_model.specs.Config.{Config, classes_of}
@@ -24,9 +24,9 @@ abbrev pub EachDisposedOnce : Type 0
 EachDisposedOnce = (wire : Wire) (c : Config) (d : ℕ) (input : List Judged) (l : List Told) → IsWholeDriverRun wire c d input l
     → length (disposals_of (seat_of wire c d) input (attempts_of l)) ≡ length input
 
--- where the wire waits they are those that the configuration and the verdicts say
+-- where the wire waits and no socket is closed they are those that the configuration and the verdicts say
 abbrev pub DisposedAsSaid : Type 0
-DisposedAsSaid = (wire : Wire) (c : Config) (d : ℕ) (input : List Judged) (l : List Told) → wire ≡ Wait → AllFit c [] l → IsWholeDriverRun wire c d input l
+DisposedAsSaid = (wire : Wire) (c : Config) (d : ℕ) (input : List Judged) (l : List Told) → wire ≡ Wait → c.closing ≡ None → AllFit c [] l → IsWholeDriverRun wire c d input l
     → disposals_of (seat_of wire c d) input (attempts_of l) ≡ map (disposal_in (seat_of wire c d)) input
 
 -- items are layouts of packets, one after the other

@@ -1,6 +1,6 @@
 -- What a driver has: the frames that it keeps, with those of the call that it gave, are those that it peeked and didn't
 -- submit, and what it keeps of them is what its own calls and replies leave. Then each call that it gives is legal.
-use Rattle.std.specs.Prelude.{◌≡◌, ℕ, ◌+◌, ◌*◌, ◌<◌, ◌≤◌, ◌==◌, IsTrue, if◌then◌else◌, List, [], ◌∷◌, ◌++◌, length, map, flat_map, All}
+use Rattle.std.specs.Prelude.{◌≡◌, ℕ, ◌+◌, ◌*◌, ◌<◌, ◌≤◌, ◌==◌, IsTrue, if◌then◌else◌, List, [], ◌∷◌, ◌++◌, length, map, flat_map, All, None}
 use Rattle.xsk_umem.specs.Frame.{Frame}
 use Rattle.xsk_umem.specs.Geometry.{IsGeometry}
 use Rattle.xsk_umem.specs.declared.batch.Item.{Item}
@@ -21,10 +21,15 @@ use Rattle.xsk_turns.specs.Turns.{Judged, Kept, seat_of, start, turn, group_at, 
 use Rattle.xsk_turns.specs.declared.wire.Wire.{Wire}
 use Rattle.xsk_turns.specs.Script.{Script, Asks, Ends}
 
--- a pair of a regular configuration
+-- a regular configuration in which no socket is closed
+pub record IsSteady (c : Config) : Type 0 where
+  pub regular : IsRegular c
+  pub closes : c.closing ≡ None
+
+-- a pair of such a configuration
 pub record IsSeat (c : Config) (pair : ℕ) : Type 0 where
   pub config : IsConfig c
-  pub regular : IsRegular c
+  pub steady : IsSteady c
   pub geometry : IsGeometry c.geometry
   pub known : pair < length c.pairs
 

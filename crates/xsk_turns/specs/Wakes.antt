@@ -16,9 +16,9 @@ use Rattle.xsk_model.specs.declared.call.Ring.TheVariants.{Fill, Tx}
 use Rattle.xsk_model.specs.declared.call.Mark.{Mark}
 use Rattle.xsk_model.specs.declared.call.Mark.TheVariants.{NeedFill, NeedTx, Kick, RxDone, TxDone}
 use Rattle.xsk_model.specs.declared.call.Call.{Call}
-use Rattle.xsk_model.specs.declared.call.Call.TheVariants.{Reserve, Submit, Peek, Release, Swap, Look}
+use Rattle.xsk_model.specs.declared.call.Call.TheVariants.{Submit, Swap, Look}
 use Rattle.xsk_model.specs.declared.call.Reply.{Reply}
-use Rattle.xsk_model.specs.declared.call.Reply.TheVariants.{Granted, Full, Submitted, Items, Empty, Released, Old}
+use Rattle.xsk_model.specs.declared.call.Reply.TheVariants.{Old}
 
 -- a driver is parked after its own calls and replies where the last of them is a look at its kick that was answered 0
 abbrev pub IsParked : ℕ → List Told → Type 0
@@ -47,21 +47,14 @@ pub record IsOwedEnd (c : Config) (s : State) (mine : List Told) (d : ℕ) : Typ
 -- Whether it owes a kick for what it submitted on a ring: after the Submit, until a look at the ring's flag was answered 0 or
 -- it has set the kick to 1.
 abbrev pub looked_at : Mark → Bool → Mark → Reply → Bool
-looked_at flag owes m Granted = owes
-looked_at flag owes m (Full free) = owes
-looked_at flag owes m Submitted = owes
-looked_at flag owes m (Items items) = owes
-looked_at flag owes m Empty = owes
-looked_at flag owes m Released = owes
 looked_at flag owes m (Old number) = owes && not (is_mark flag m && number == 0)
+looked_at flag owes m reply = owes
 
 abbrev pub owes_after : Ring → Mark → Mark → Bool → Call → Reply → Bool
-owes_after r flag kick owes (Reserve q n) reply = owes
 owes_after r flag kick owes (Submit q items) reply = owes || is_ring r q
-owes_after r flag kick owes (Peek q n) reply = owes
-owes_after r flag kick owes (Release q n) reply = owes
 owes_after r flag kick owes (Swap m value) reply = owes && not (is_mark kick m && value == 1)
 owes_after r flag kick owes (Look m) reply = looked_at flag owes m reply
+owes_after r flag kick owes call reply = owes
 
 abbrev pub owes_step : Ring → Mark → Mark → Bool → Told → Bool
 owes_step r flag kick owes t = owes_after r flag kick owes t.call t.reply
@@ -71,12 +64,8 @@ owes_on d r flag mine = fold (owes_step r flag (Kick d)) false mine
 
 -- Whether it owes one for the end: after it told that it sends nothing more, until it has set the kick to 1.
 abbrev pub owes_end_after : Mark → Mark → Bool → Call → Bool
-owes_end_after done kick owes (Reserve q n) = owes
-owes_end_after done kick owes (Submit q items) = owes
-owes_end_after done kick owes (Peek q n) = owes
-owes_end_after done kick owes (Release q n) = owes
 owes_end_after done kick owes (Swap m value) = (owes || (is_mark done m && value == 1)) && not (is_mark kick m && value == 1)
-owes_end_after done kick owes (Look m) = owes
+owes_end_after done kick owes call = owes
 
 abbrev pub owes_end_step : Mark → Mark → Bool → Told → Bool
 owes_end_step done kick owes t = owes_end_after done kick owes t.call

@@ -14,9 +14,9 @@ use Rattle.xsk_model.specs.declared.call.Ring.TheVariants.{Fill, Tx}
 use Rattle.xsk_model.specs.declared.call.Mark.{Mark}
 use Rattle.xsk_model.specs.declared.call.Mark.TheVariants.{NeedFill, NeedTx, Kick, RxDone, TxDone}
 use Rattle.xsk_model.specs.declared.call.Call.{Call}
-use Rattle.xsk_model.specs.declared.call.Call.TheVariants.{Reserve, Submit, Peek, Release, Swap, Look}
+use Rattle.xsk_model.specs.declared.call.Call.TheVariants.{Peek, Swap, Look}
 use Rattle.xsk_model.specs.declared.call.Reply.{Reply}
-use Rattle.xsk_model.specs.declared.call.Reply.TheVariants.{Granted, Full, Submitted, Items, Empty, Released, Old}
+use Rattle.xsk_model.specs.declared.call.Reply.TheVariants.{Items, Empty, Old}
 use Rattle.xsk_turns.specs.Script.{Script, Asks, Ends}
 use Rattle.xsk_turns.specs.Turns.{Judged, Kept, seat_of, start, turn, IsDriverRun}
 use Rattle.xsk_turns.specs.Owned.{socket_at_class}
@@ -38,21 +38,14 @@ swapped flag kick s m value =
 
 -- a Peek that found the ring empty while the flag is set begins the watch, and one that gave items ends it
 abbrev pub peeked : Ring → Watching → Ring → Reply → Watching
-peeked r s q Granted = s
-peeked r s q (Full free) = s
-peeked r s q Submitted = s
 peeked r s q (Items items) = if is_ring r q then record s { watched = false } else s
 peeked r s q Empty = if is_ring r q then record s { watched = s.set } else s
-peeked r s q Released = s
-peeked r s q (Old number) = s
+peeked r s q reply = s
 
 abbrev pub watching_after : Mark → Ring → Mark → Watching → Call → Reply → Watching
-watching_after flag r kick s (Reserve q n) reply = s
-watching_after flag r kick s (Submit q items) reply = s
 watching_after flag r kick s (Peek q n) reply = peeked r s q reply
-watching_after flag r kick s (Release q n) reply = s
 watching_after flag r kick s (Swap m value) reply = swapped flag kick s m value
-watching_after flag r kick s (Look m) reply = s
+watching_after flag r kick s call reply = s
 
 abbrev pub watching_step : Mark → Ring → Mark → Watching → Told → Watching
 watching_step flag r kick s t = watching_after flag r kick s t.call t.reply
@@ -64,21 +57,13 @@ watching_of flag r kick l = fold (watching_step flag r kick) (record { set = fal
 
 -- a look that found the application's mark other than 1, once the driver's own is set, begins the watch
 abbrev pub looked : Mark → Watching → Mark → Reply → Watching
-looked done s m Granted = s
-looked done s m (Full free) = s
-looked done s m Submitted = s
-looked done s m (Items items) = s
-looked done s m Empty = s
-looked done s m Released = s
 looked done s m (Old number) = if is_mark done m then record s { watched = s.set && not (number == 1) } else s
+looked done s m reply = s
 
 abbrev pub ending_after : Mark → Mark → Mark → Watching → Call → Reply → Watching
-ending_after told done kick s (Reserve q n) reply = s
-ending_after told done kick s (Submit q items) reply = s
-ending_after told done kick s (Peek q n) reply = s
-ending_after told done kick s (Release q n) reply = s
 ending_after told done kick s (Swap m value) reply = swapped told kick s m value
 ending_after told done kick s (Look m) reply = looked done s m reply
+ending_after told done kick s call reply = s
 
 abbrev pub ending_step : Mark → Mark → Mark → Watching → Told → Watching
 ending_step told done kick s t = ending_after told done kick s t.call t.reply

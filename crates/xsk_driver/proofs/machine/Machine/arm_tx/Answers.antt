@@ -10,4 +10,4 @@ returns-clause-goes c =
     let m = c.args.self.now in
     let next = look_again (seat_in m) (noted_in m) (kept_in m) in
     rw c.socket_of.ensures
-    (record { next = λ items. ap (begun (turn (seat_in m))) (flag_here (seat_in m) 1 c.args.class (kept_in m) next (omega (arith, c.if-class-self.false, c.requires.arming.within))) })
+    (λ items. ap (begun (turn (seat_in m))) (flag_here (seat_in m) 1 c.args.class (kept_in m) next (omega (arith, c.if-class-self.false, c.requires.arming.within))))

@@ -9,4 +9,4 @@ pub returns-clause-goes : goal.returns-clause-goes
 returns-clause-goes c =
     let m = c.args.self.now in
     rw c.socket_of.ensures
-    (record { next = λ items. ap (begun (turn (seat_in m))) (flag_here (seat_in m) 0 c.args.class (kept_in m) (again (kept_in m)) (omega (arith, c.if-class-self.false, c.requires.within))) })
+    (λ items. ap (begun (turn (seat_in m))) (flag_here (seat_in m) 0 c.args.class (kept_in m) (again (kept_in m)) (omega (arith, c.if-class-self.false, c.requires.within))))
