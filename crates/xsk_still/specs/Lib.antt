@@ -1,0 +1,3 @@
+pub mod Still
+pub mod Own
+pub mod Laws
