@@ -79,7 +79,7 @@ module _ (layout : Layout) (program : Program) (wire : Wire) (lists : List (List
   -- all workers have whole runs
   whole_runs : AreWholeRuns (wire_by wire) config (map listed lists) verdicts (frames_of layout) history
   whole_runs = record {
-    regular = regular-regular layout (fits layout accepted);
+    steady = record { regular = regular-regular layout (fits layout accepted); closes = refl };
     history = legal;
     drivers = λ d below. (whole d (omega (arith, below))).driver below;
     apps = λ a below. (whole (caller_of config a) (omega (arith, below))).app a refl;

@@ -4,6 +4,7 @@ ghost use Rattle.std.specs.List.{range_with_len};
 ghost use Rattle.xsk_driver.specs.Sent.{IsShort};
 ghost use Rattle.xsk_machine.specs.Acts.{HasShortPackets};
 ghost use Rattle.xsk_model.specs.Config.{IsRegular};
+ghost use Rattle.xsk_turns.specs.Owned.{IsSteady};
 ghost use Rattle.xsk_model.specs.Opening.{AreFrames};
 ghost use Rattle.xsk_pcap.specs.Written.{IsWritable, written};
 ghost use Rattle.xsk_socket.specs.Layout.{fault_of, geometry_of, pairs_in};
@@ -182,7 +183,7 @@ fn forward_lists<R: Threads + Wait + Sync, G: Gate + Sync>(
 ) -> Result<Outcome, OutOfMemory>
     requires accepted { fault_of layout.now ≡ None }
     requires config { config ≡ regular_of layout.now }
-    requires regular { IsRegular config }
+    requires steady { IsSteady config }
     requires frames { frames.items ≡ frames_of layout.now }
     requires known { AreFrames (geometry_of layout.now) frames.items }
     requires ports { length lists.now ≡ layout.now.ports }

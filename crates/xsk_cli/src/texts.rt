@@ -13,6 +13,7 @@ ghost use Rattle.xsk_cli.specs.Steps.{FailsMaking, FailsRunning, lists_in, writt
 ghost use Rattle.xsk_cli.specs.Words.{fault_in};
 ghost use Rattle.xsk_cli.specs.declared.words.Work.TheVariants.{Generate};
 ghost use Rattle.xsk_model.specs.Config.{IsRegular};
+ghost use Rattle.xsk_turns.specs.Owned.{IsSteady};
 ghost use Rattle.xsk_model.specs.Opening.{AreFrames};
 ghost use Rattle.xsk_socket.specs.Layout.{fault_of, geometry_of, pairs_in};
 ghost use Rattle.xsk_socket.specs.Regular.{regular_of};
@@ -127,7 +128,7 @@ fn run_lists(
 ) -> Result<Run, RunFailure>
     requires accepted { fault_of layout.now ≡ None }
     requires config { config ≡ regular_of layout.now }
-    requires regular { IsRegular config }
+    requires steady { IsSteady config }
     requires frames { frames.items ≡ frames_of layout.now }
     requires known { AreFrames (geometry_of layout.now) frames.items }
     requires ports { length lists.now ≡ layout.now.ports }

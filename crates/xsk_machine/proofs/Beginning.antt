@@ -12,7 +12,7 @@ use Rattle.xsk_model.proofs.Seats.{is_at}
 use Rattle.xsk_turns.proofs.Places.{port_within, queue_known}
 use Rattle.xsk_driver.specs.Stands.{packet_at}
 use Rattle.xsk_driver.specs.Asking.{packets_by}
-use Rattle.xsk_driver.proofs.InputsLemmas.{numbers_known, packets_by_number}
+use Rattle.xsk_driver.proofs.Numbers.{numbers_known, packets_by_number}
 use Rattle.xsk_laws.proofs.Places.{are_paired}
 use Rattle.xsk_turns.specs.Inputs.{numbers_from, numbers_of, inputs_of, packets_of_port, packets_of_queue}
 use Rattle.xsk_driver.specs.Shown.{Shown as DriverShown}

@@ -1,3 +1,7 @@
 pub mod Acts
 pub mod Beginning
+pub mod Figured
+pub mod KindCounts
+pub mod Making
+pub mod Splitting
 pub mod Within

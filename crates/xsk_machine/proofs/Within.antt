@@ -2,7 +2,7 @@
 use Rattle.std.proofs.Common.{◌≡◌, ℕ, ◌+◌, ◌*◌, ◌/◌, ◌<◌, List, length, refl, sym, ap, subst, ◌∙◌, arith}
 use Rattle.std.proofs.lemmas.Nat.{div-add-mod', div_below, mod_below}
 use Rattle.xsk_umem.specs.Frame.{Frame}
-use Rattle.xsk_model.specs.Config.{IsRegular, callers_of, pair_at}
+use Rattle.xsk_model.specs.Config.{callers_of, pair_at}
 use Rattle.xsk_model.specs.Rings.{caller_of}
 use Rattle.xsk_model.specs.Entry.{Entry, own}
 use Rattle.xsk_model.specs.History.{IsHistory}
@@ -10,6 +10,7 @@ use Rattle.xsk_model.specs.Sent.{sent}
 use Rattle.xsk_model.specs.Steering.{driver_on}
 use Rattle.xsk_laws.specs.Laws.{AreWholeRuns}
 use Rattle.xsk_laws.proofs.Theorems.{sent_is_within}
+use Rattle.xsk_turns.specs.Owned.{IsSteady}
 use Rattle.xsk_turns.specs.Workers.{Setting, IsWholeRun}
 use Rattle.xsk_machine.proofs.Acts.{IsWithin}
 
@@ -17,11 +18,11 @@ use Rattle.xsk_machine.proofs.Acts.{IsWithin}
 abbrev pub AreWithin : Setting → List Entry → Type 0
 AreWithin s h = (d : ℕ) → d < length s.config.pairs → IsWithin s d (sent s.config h d)
 
-module _ (s : Setting) (frames : List Frame) (h : List Entry) (regular : IsRegular s.config) (legal : IsHistory s.config frames h)
+module _ (s : Setting) (frames : List Frame) (h : List Entry) (steady : IsSteady s.config) (legal : IsHistory s.config frames h)
     (whole : (who : ℕ) → who < callers_of s.config → IsWholeRun s who (own who h)) where
   pub whole_runs : AreWholeRuns s.wire s.config s.packets s.verdicts frames h
   whole_runs = record {
-    regular = regular;
+    steady = steady;
     history = legal;
     drivers = λ d below. (whole d (omega (arith, below))).driver below;
     apps = λ a below. (whole (caller_of s.config a) (omega (arith, below))).app a refl;
@@ -31,10 +32,10 @@ module _ (s : Setting) (frames : List Frame) (h : List Entry) (regular : IsRegul
   are_within d below =
       let p = (pair_at s.config.pairs d).port in
       let q = (pair_at s.config.pairs d).queue in
-      let seat = regular.seats d below in
+      let seat = steady.regular.seats d below in
       let some : 0 < s.config.queues = omega (arith, legal.opened.config.queues) in
       let here : driver_on s.config p q ≡ d = ap (λ n. n * s.config.queues + q) seat.0 ∙ ap (λ n. (d / s.config.queues) * s.config.queues + n) seat.1 ∙ div-add-mod' d s.config.queues in
-      let port : p < s.config.ports = subst (λ n. n < s.config.ports) (sym seat.0) (div_below d s.config.queues s.config.ports some (omega (arith, below, regular.pairs))) in
+      let port : p < s.config.ports = subst (λ n. n < s.config.ports) (sym seat.0) (div_below d s.config.queues s.config.ports some (omega (arith, below, steady.regular.pairs))) in
       let queue : q < s.config.queues = subst (λ n. n < s.config.queues) (sym seat.1) (mod_below d s.config.queues some) in
       let few = sent_is_within s.wire s.config s.packets s.verdicts frames h p q whole_runs port queue in
       subst (λ k. IsWithin s d (sent s.config h k)) here (record { count = few.0; bytes = few.1 })

@@ -21,6 +21,10 @@ use Rattle.xsk_app.specs.Runs.{IsNew as IsNewApp, StandsWith as AppStandsWith}
 abbrev pub HasShortPackets : PacketList → Type 0
 HasShortPackets list = All IsShort list.packets
 
+-- its packets
+abbrev pub packets_in : PacketList → List (List ℕ)
+packets_in list = list.packets
+
 -- what the paired port of a pair's port received on the pair's queue
 abbrev pub other_of : Setting → ℕ → List (List ℕ)
 other_of s who = received s.config s.packets (paired_port (pair_at s.config.pairs who).port) (pair_at s.config.pairs who).queue

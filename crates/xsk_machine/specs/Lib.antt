@@ -1,1 +1,4 @@
 pub mod Acts
+pub mod Figured
+pub mod Figures
+pub mod Workers

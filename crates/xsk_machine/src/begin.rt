@@ -1,18 +1,22 @@
 //! New drivers of a setting.
 ghost use Rattle.std.specs.Prelude.{◌≡◌, ◌<◌, false, All, List, [], length, IfOk};
 ghost use Rattle.std.specs.List.{slice_index_or};
-ghost use Rattle.xsk_model.specs.Config.{IsRegular, pair_at};
+ghost use Rattle.xsk_model.specs.Config.{pair_at};
 ghost use Rattle.xsk_model.specs.Expected.{nothing};
 ghost use Rattle.xsk_prog.specs.Program.{Obeys};
 ghost use Rattle.xsk_prog.specs.declared.rule.Verdict.{Verdict as AVerdict};
+ghost use Rattle.xsk_turns.specs.Owned.{IsSteady};
 ghost use Rattle.xsk_turns.specs.Inputs.{inputs_of};
+ghost use Rattle.xsk_turns.specs.Owned.{IsSteady};
 ghost use Rattle.xsk_turns.specs.Verdicts.{EachHas, IsGiven};
-ghost use Rattle.xsk_turns.specs.Workers.{packets_to};
+ghost use Rattle.xsk_turns.specs.Workers.{packets_to, AreGiven};
 ghost use Rattle.xsk_driver.specs.Asking.{IsAnswer, verdicts_in};
 ghost use Rattle.xsk_machine.specs.Acts.{IsDriver, HasShortPackets};
+ghost use Rattle.xsk_machine.specs.Workers.{AreNew, kept_in, setting_with};
 
+use crate::Inputs;
 use std::alloc::Global;
-use xsk_driver::{Driver, Inputs, Wire};
+use xsk_driver::{Driver, Wire};
 use xsk_model::Config;
 use xsk_model::steering::{driver_on, paired_port};
 use xsk_prog::{Verdict, XdpProgram};
@@ -30,7 +34,7 @@ pub fn driver_for<'a, F: Fn(&[u8], u32) -> Verdict>(
     wire: Wire,
     pair: u32,
 ) -> Result<Driver<'a>, OutOfMemory>
-    requires regular { IsRegular config.now }
+    requires steady { IsSteady config.now }
     requires lists { length packets.now ≡ config.now.ports }
     requires inputs { inputs.now ≡ inputs_of config.now packets.now }
     requires short { All HasShortPackets packets.now }
@@ -54,11 +58,37 @@ pub fn driver_for<'a, F: Fn(&[u8], u32) -> Verdict>(
         config,
         pair,
         list,
-        inputs,
+        inputs.of_pair(pair),
         program,
         wire,
         room.packets,
         room.bytes,
     )?;
     Ok(driver)
+}
+
+/// A driver for each pair. The program is asked once for each packet.
+pub fn drivers_for<'a, F: Fn(&[u8], u32) -> Verdict>(
+    alloc: Global,
+    config: &'a Config,
+    packets: &'a [PacketList],
+    inputs: &'a Inputs,
+    program: &XdpProgram<F>,
+    wire: Wire,
+) -> Result<Vec<Driver<'a>>, OutOfMemory>
+    requires steady { IsSteady config.now }
+    requires lists { length packets.now ≡ config.now.ports }
+    requires inputs { inputs.now ≡ inputs_of config.now packets.now }
+    requires short { All HasShortPackets packets.now }
+    requires obeys { Obeys F.Fn program.now.rule program.now.decide }
+    ensures new { IfOk result (λ drivers. AreNew (setting_with config.now wire packets.now (kept_in drivers.items)) 0 drivers.items) }
+    ensures asked { IfOk result (λ drivers. AreGiven (IsAnswer F.Fn program.now.rule program.now.decide) (setting_with config.now wire packets.now (kept_in drivers.items))) }
+    ensures count { IfOk result (λ drivers. length drivers.items ≡ length config.now.pairs) }
+{
+    let count = config.pairs().len() as u32;
+    let mut drivers = Vec::with_capacity(alloc, count as usize)?;
+    for pair in 0..count {
+        drivers.push(driver_for(alloc, config, packets, inputs, program, wire, pair)?)?;
+    }
+    Ok(drivers)
 }

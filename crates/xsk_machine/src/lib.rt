@@ -1,8 +1,17 @@
-//! Drivers and applications as machines of one kind, which any engine can run.
+//! What a run is for any engine: drivers and applications as machines of one kind, the packets that each driver gets, and the
+//! figures.
 #![tactic(auto)]
 
 mod begin;
+mod figures;
+mod inputs;
+mod kept;
 mod machine;
+mod worker;
 
-pub use begin::driver_for;
+pub use begin::{driver_for, drivers_for};
+pub use figures::{DriverFigures, FigureList, Figures, figures_at_end, kinds_add_up};
+pub use inputs::{Amount, Inputs};
+pub use kept::Kept;
 pub use machine::Machine;
+pub use worker::{AnyWorker, worker_of};

@@ -1,5 +1,5 @@
 //! Drivers and applications as machines of one kind.
-ghost use Rattle.std.specs.Prelude.{◌≡◌, ℕ, None, Some, List, []};
+ghost use Rattle.std.specs.Prelude.{◌≡◌, ℕ, None, Some, List, [], length};
 ghost use Rattle.xsk_model.specs.Entry.{Told, with_told};
 ghost use Rattle.xsk_model.specs.Expected.{Expected, CanCome, expected_of};
 ghost use Rattle.xsk_model.specs.History.{MayGive};
@@ -21,11 +21,18 @@ pub trait Machine {
     // What it waits for.
     ghost expected: { Self → Expected };
 
+    // How many packets have their disposals.
+    ghost has_settled: { Self → ℕ };
+
     // It is new, as this caller of a setting.
     ghost is_new: { Setting → ℕ → Self → Type 0 };
 
     // As this caller it stands for a list of its calls and replies, and gave this act after it.
     ghost stands: { Setting → ℕ → Self → Act → List Told → Type 0 };
+
+    /// How many packets have their disposals; an application has none.
+    fn settled(&self) -> usize
+        ensures { result ≡ has_settled self.now };
 
     /// Goes on with the answer to the last call (none at first) and gives the next call, or `None` where it has ended. The
     /// batch has items only where some were taken, and is left with items only for a Submit.
@@ -45,9 +52,16 @@ pub trait Machine {
 impl Machine for Driver<'_> {
     ghost expected = { λ d. d.expected };
 
+    ghost has_settled = { λ d. length d.kept.disposals };
+
     ghost is_new = { IsDriver };
 
     ghost stands = { DriverStands };
+
+    #[inline(always)]
+    fn settled(&self) -> usize {
+        self.disposals().len()
+    }
 
     #[inline(always)]
     fn step(&mut self, answer: Option<Answer>, items: &mut Batch) -> Option<Ask> {
@@ -58,9 +72,16 @@ impl Machine for Driver<'_> {
 impl Machine for App<'_> {
     ghost expected = { λ a. a.expected };
 
+    ghost has_settled = { λ _. 0 };
+
     ghost is_new = { IsApp };
 
     ghost stands = { AppStands };
+
+    #[inline(always)]
+    fn settled(&self) -> usize {
+        0
+    }
 
     #[inline(always)]
     fn step(&mut self, answer: Option<Answer>, items: &mut Batch) -> Option<Ask> {

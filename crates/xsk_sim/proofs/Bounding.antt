@@ -192,7 +192,7 @@ module _ (s : Setting) (frames : List Frame) where
       (last_of (own d h)))
 
 pub ends_or_stands_still : EndsOrStandsStill
-ends_or_stands_still s frames order count h who regular is below goes never =
+ends_or_stands_still s frames order count h who steady is below goes never =
     let ran : Ran s frames h = record { legal = is.legal; runs = is.runs } in
     let lasts = rounds_last s frames order count h who is.rounds ran below goes never in
-    omega (arith, lasts.few, lasts.short, changes_bounded s frames h regular is.legal is.runs, settled_all s frames h ran)
+    omega (arith, lasts.few, lasts.short, changes_bounded s frames h steady is.legal is.runs, settled_all s frames h ran)

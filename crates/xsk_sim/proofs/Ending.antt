@@ -1,12 +1,13 @@
 -- How a run ends.
-use Rattle.std.proofs.Common.{◌≡◌, ℕ, map, ◌+◌, ◌<◌, ◌≤◌, List, [], ◌∷◌, ◌++◌, length, take, get_or, ap, sym, subst, ◌∙◌, arith, ⊎_elim}
-use Rattle.std.proofs.lemmas.Bool.{cases_lt}
+use Rattle.std.proofs.Common.{◌≡◌, ℕ, zero, suc, map, ◌+◌, ◌-◌, ◌<◌, ◌≤◌, List, [], ◌∷◌, ◌++◌, length, length-append, append-nil, append_assoc, get_or, ap, sym, subst, refl, ◌∙◌, arith, ⊎_elim}
+use Rattle.std.specs.Prelude.{flat_map}
+use Rattle.xsk_turns.specs.Owned.{IsSteady}
 use Rattle.xsk_turns.specs.Stepping.{joined_ask}
 use Rattle.xsk_umem.specs.Frame.{Frame}
 use Rattle.std.specs.List.{range_with_len}
-use Rattle.std.proofs.lemmas.List.{length-map, map_push, take_more}
-use Rattle.std.proofs.lemmas.List.FromFn.{fill_by_all}
-use Rattle.xsk_model.specs.Config.{IsRegular, callers_of, classes_of}
+use Rattle.std.proofs.lemmas.List.{length-map}
+use Rattle.std.proofs.lemmas.List.FromFn.{get_or-map-range_with_len}
+use Rattle.xsk_model.specs.Config.{callers_of, classes_of}
 use Rattle.xsk_model.specs.Entry.{Entry, Told, own}
 use Rattle.xsk_model.specs.Stored.{stored_entry}
 use Rattle.xsk_model.specs.History.{IsHistory}
@@ -14,13 +15,13 @@ use Rattle.xsk_model.specs.Sent.{sent}
 use Rattle.xsk_model.proofs.Theorems.{one_holder}
 use Rattle.xsk_turns.specs.Counted.{capped}
 use Rattle.xsk_turns.specs.declared.wire.Wire.{Wire}
-use Rattle.xsk_driver.specs.Figures.{figures_in}
-use Rattle.xsk_driver.specs.Figured.{driver_figures_by, driver_figures_of, figures_of}
+use Rattle.xsk_machine.specs.Figures.{figures_in}
+use Rattle.xsk_machine.specs.Figured.{driver_figures_by, driver_figures_of, figures_of}
 use Rattle.xsk_driver.specs.Runs.{StandsWith}
 use Rattle.xsk_driver.specs.Shown.{Shown as DriverShown}
-use Rattle.xsk_driver.specs.declared.figures.DriverFigures.{DriverFigures}
-use Rattle.xsk_driver.specs.declared.figures.Figures.{Figures}
-use Rattle.xsk_driver.proofs.Figured.{figures_at_end}
+use Rattle.xsk_machine.specs.declared.figures.DriverFigures.{DriverFigures}
+use Rattle.xsk_machine.specs.declared.figures.Figures.{Figures}
+use Rattle.xsk_machine.proofs.Figured.{figures_at_end}
 use Rattle.xsk_model.specs.declared.call.Act.{Act}
 use Rattle.xsk_model.specs.declared.call.Act.TheVariants.{Ended as IsEnd}
 use Rattle.xsk_plain.proofs.Parts.{length-entries}
@@ -34,11 +35,14 @@ use Rattle.xsk_turns.specs.Workers.{Setting, IsWorkerRun, IsWholeRun, input_of}
 use Rattle.xsk_sim.specs.Runs.{HasEnded, HasStalled, NeverStill}
 use Rattle.xsk_sim.specs.Stalls.{StandStill}
 use Rattle.xsk_machine.specs.Acts.{IsActAfter, DriverStands}
-use Rattle.xsk_sim.specs.Seats.{EachFrom, own_in, AreSeated, HadRounds, HaveEnded, kept_lists, kept_figures}
+use Rattle.xsk_machine.specs.Workers.{Stands, kept_of, figures_kept}
+use Rattle.xsk_machine.specs.declared.worker.AnyWorker.{AnyWorker}
+use Rattle.xsk_machine.specs.declared.worker.AnyWorker.TheVariants.{Driver, App}
+use Rattle.xsk_sim.specs.Seats.{EachFrom, own_in, Sits, AreSeated, HadRounds, HaveEnded, kept_lists, kept_figures}
 use Rattle.xsk_sim.specs.declared.rounds.Workers.{Workers}
 use Rattle.xsk_machine.proofs.Acts.{worker_run, sent_at}
 use Rattle.xsk_machine.proofs.Within.{AreWithin, are_within}
-use Rattle.xsk_sim.proofs.Seating.{each_at, each_of, each_shows, each_tells, each_change, each_move, all_whole, some_open, IsOpen}
+use Rattle.xsk_sim.proofs.Seating.{each_tells, each_change, each_both, all_whole, some_open, IsOpen}
 
 -- each entry of a log is a call
 pub log_count : (log : Log) → calls_of log ≡ length (entries_of log)
@@ -63,92 +67,139 @@ figures_whole s h wire calls drivers same number fits each =
     ∙ ap (λ (x : Wire). whole_of (capped (length h)) x drivers) same
     ∙ ap (whole_of (capped (length h)) s.wire) each
 
-module _ (s : Setting) (frames : List Frame) (h : List Entry) (w : Workers) (engine : Engine) (seated : AreSeated s frames h w engine) where
-  drivers_after : EachFrom w.drivers.items 0 (λ who seat. IsActAfter s who (joined_ask seat.ask seat.items) (own_in h who))
-  drivers_after = each_change w.drivers.items 0 _ _ seated.drivers (λ k x low high sits. sits.1)
+-- of a worker of a setting one thing is kept where it is a driver, and else none
+pub record IsKept {X : Type 0} (s : Setting) (who : ℕ) (things : List X) : Type 0 where
+  pub driver : who < length s.config.pairs → length things ≡ 1
+  pub app : length s.config.pairs ≤ who → length things ≡ 0
 
-  apps_after : EachFrom w.apps.items (length s.config.pairs) (λ who seat. IsActAfter s who (joined_ask seat.ask seat.items) (own_in h who))
-  apps_after = each_change w.apps.items (length s.config.pairs) _ _ seated.apps (λ k x low high sits. sits.1)
+list_kept : (s : Setting) (who : ℕ) (m : AnyWorker) (act : Act) (l : List Told) → Stands s who m act l → IsKept s who (kept_of m)
+list_kept s who (Driver d) act l stands = let known : who < length s.config.pairs = stands.known in record { driver = λ below. refl; app = λ high. absurd (omega (arith, known, high)) }
+list_kept s who (App a) act l stands = record { driver = λ below. absurd (omega (arith, stands.caller, below)); app = λ high. refl }
+
+figures_are_kept : (s : Setting) (classes who : ℕ) (m : AnyWorker) (act : Act) (l : List Told) → Stands s who m act l → IsKept s who (figures_kept classes m)
+figures_are_kept s classes who (Driver d) act l stands = let known : who < length s.config.pairs = stands.known in record { driver = λ below. refl; app = λ high. absurd (omega (arith, known, high)) }
+figures_are_kept s classes who (App a) act l stands = record { driver = λ below. absurd (omega (arith, stands.caller, below)); app = λ high. refl }
+
+-- so at most one
+pub list_few : (m : AnyWorker) → length (kept_of m) ≤ 1
+list_few (Driver d) = omega arith
+list_few (App a) = omega arith
+
+pub figures_few : (classes : ℕ) (m : AnyWorker) → length (figures_kept classes m) ≤ 1
+figures_few classes (Driver d) = omega arith
+figures_few classes (App a) = omega arith
+
+pub flat_more : {A X : Type 0} (f : A → List X) (xs : List A) (x : A) → flat_map f (xs ++ x ∷ []) ≡ flat_map f xs ++ f x
+flat_more f [] x = append-nil (f x)
+flat_more f (y ∷ xs) x = ap (λ ys. f y ++ ys) (flat_more f xs x) ∙ sym (append_assoc (f y) (flat_map f xs) (f x))
+
+-- what is kept of a worker that has ended, and has sent no more than it has room for
+pub record AreKept {X : Type 0} (s : Setting) (who : ℕ) (things : List X) (thing : X) : Type 0 where
+  pub driver : who < length s.config.pairs → things ≡ thing ∷ []
+  pub app : length s.config.pairs ≤ who → things ≡ []
+
+sent_kept : (s : Setting) (h : List Entry) (who : ℕ) (m : AnyWorker) (act : Act) → AreWithin s h → act ≡ IsEnd → Stands s who m act (own who h) → AreKept s who (kept_of m) (sent s.config h who)
+sent_kept s h who (Driver d) act within is stands =
+    let known : who < length s.config.pairs = stands.known in
+    let same : d.sent.packets ≡ sent s.config h who = sent_at s who d act (own who h) is stands (within who known) in
+    record { driver = λ below. ap (λ (ps : List (List ℕ)). ps ∷ []) same; app = λ high. absurd (omega (arith, known, high)) }
+sent_kept s h who (App a) act within is stands = record { driver = λ below. absurd (omega (arith, stands.caller, below)); app = λ high. refl }
+
+ended_figures : (s : Setting) (h : List Entry) (who : ℕ) (m : AnyWorker) (act : Act) → AreWithin s h → act ≡ IsEnd → Stands s who m act (own who h)
+    → AreKept s who (figures_kept (classes_of s.config) m) (driver_figures_of s h who)
+ended_figures s h who (Driver d) act within is stands =
+    let known : who < length s.config.pairs = stands.known in
+    let same : d.sent.packets ≡ sent s.config h who = sent_at s who d act (own who h) is stands (within who known) in
+    let figures : figures_in (classes_of s.config) d ≡ driver_figures_of s h who = figures_at s who d act (own who h) (sent s.config h who) is stands same in
+    record { driver = λ below. ap (λ (f : DriverFigures). f ∷ []) figures; app = λ high. absurd (omega (arith, known, high)) }
+ended_figures s h who (App a) act within is stands = record { driver = λ below. absurd (omega (arith, stands.caller, below)); app = λ high. refl }
+
+-- so it is a thing for each pair
+kept_as_many : {A X : Type 0} (s : Setting) (f : A → List X) (xs : List A) (n m : ℕ) → m ≡ length s.config.pairs - n → length s.config.pairs ≤ n + length xs → EachFrom xs n (λ who x. IsKept s who (f x)) → length (flat_map f xs) ≡ m
+unfolding EachFrom
+kept_as_many s f [] n m is all each = omega (arith, is, all)
+kept_as_many s f (x ∷ xs) n zero is all each =
+    let high : length s.config.pairs ≤ n = omega (arith, is) in
+    let none : length (f x) ≡ 0 = each.0.app high in
+    let rest : length (flat_map f xs) ≡ 0 = kept_as_many s f xs (n + 1) 0 (omega (arith, high)) (omega (arith, high)) each.1 in
+    length-append (f x) (flat_map f xs) ∙ omega (arith, none, rest)
+kept_as_many s f (x ∷ xs) n (suc m) is all each =
+    let below : n < length s.config.pairs = omega (arith, is) in
+    let one : length (f x) ≡ 1 = each.0.driver below in
+    let rest : length (flat_map f xs) ≡ m = kept_as_many s f xs (n + 1) m (omega (arith, is)) (omega (arith, all)) each.1 in
+    length-append (f x) (flat_map f xs) ∙ omega (arith, one, rest)
+
+kept_by_pair : {A X : Type 0} (s : Setting) (f : A → List X) (g : ℕ → X) (xs : List A) (n m : ℕ) → m ≡ length s.config.pairs - n → length s.config.pairs ≤ n + length xs → EachFrom xs n (λ who x. AreKept s who (f x) (g who))
+    → flat_map f xs ≡ map g (range_with_len n m)
+unfolding EachFrom
+kept_by_pair s f g [] n zero is all each = refl
+kept_by_pair s f g [] n (suc m) is all each = absurd (omega (arith, is, all))
+kept_by_pair s f g (x ∷ xs) n zero is all each =
+    let high : length s.config.pairs ≤ n = omega (arith, is) in
+    ap (λ ys. ys ++ flat_map f xs) (each.0.app high) ∙ kept_by_pair s f g xs (n + 1) 0 (omega (arith, high)) (omega (arith, high)) each.1
+kept_by_pair s f g (x ∷ xs) n (suc m) is all each =
+    let below : n < length s.config.pairs = omega (arith, is) in
+    ap (λ ys. ys ++ flat_map f xs) (each.0.driver below) ∙ ap (λ ys. g n ∷ ys) (kept_by_pair s f g xs (n + 1) m (omega (arith, is)) (omega (arith, all)) each.1)
+
+module _ (s : Setting) (frames : List Frame) (h : List Entry) (w : Workers) (engine : Engine) (seated : AreSeated s frames h w engine) where
+  all_after : EachFrom w.seats.items 0 (λ who seat. IsActAfter s who (joined_ask seat.ask seat.items) (own_in h who))
+  all_after = each_change w.seats.items 0 _ _ seated.seats (λ k x low high sits. sits.1)
+
+  many : length w.seats.items ≡ callers_of s.config
+  many = omega (arith, seated.count, w.seats.ok.0)
 
   -- each worker's own calls and replies are a run
   pub all_runs : (who : ℕ) → who < callers_of s.config → IsWorkerRun s who (own who h)
-  all_runs who below = ⊎_elim
-      (λ (low : who < length s.config.pairs). each_tells w.drivers.items 0 _ (λ k. IsWorkerRun s k (own k h)) drivers_after
-      (λ k seat after. worker_run s k (joined_ask seat.ask seat.items) (own k h) after) who (omega arith) (omega (arith, low, seated.driver_count, w.drivers.ok.0)))
-      (λ (high : length s.config.pairs ≤ who). each_tells w.apps.items (length s.config.pairs) _ (λ k. IsWorkerRun s k (own k h)) apps_after
-      (λ k seat after. worker_run s k (joined_ask seat.ask seat.items) (own k h) after) who high (omega (arith, below, seated.app_count, w.apps.ok.0)))
-      (cases_lt who (length s.config.pairs))
+  all_runs who below = each_tells w.seats.items 0 _ (λ k. IsWorkerRun s k (own k h)) all_after
+      (λ k seat after. worker_run s k (joined_ask seat.ask seat.items) (own k h) after) who (omega arith) (omega (arith, below, many))
 
   -- all have ended, and so each one's own calls and replies are a whole run
   pub whole_runs : HaveEnded w → (who : ℕ) → who < callers_of s.config → IsWholeRun s who (own who h)
-  whole_runs ended who below =
-      let apps_ended : EachFrom w.apps.items (length s.config.pairs) (λ k seat. joined_ask seat.ask seat.items ≡ IsEnd) = each_move w.apps.items 0 (length s.config.pairs) _ ended.1 in
-      ⊎_elim
-      (λ (low : who < length s.config.pairs). all_whole s (own_in h) w.drivers.items _ 0 drivers_after ended.0 who (omega arith) (omega (arith, low, seated.driver_count, w.drivers.ok.0)))
-      (λ (high : length s.config.pairs ≤ who). all_whole s (own_in h) w.apps.items _ (length s.config.pairs) apps_after apps_ended who high (omega (arith, below, seated.app_count, w.apps.ok.0)))
-      (cases_lt who (length s.config.pairs))
+  whole_runs ended who below = all_whole s (own_in h) w.seats.items _ 0 all_after ended who (omega arith) (omega (arith, below, many))
 
   -- or some worker's aren't
   pub open_run : (HaveEnded w → ⊥) → IsOpen s (own_in h) 0 (callers_of s.config)
   open_run going = ⊎_elim
-      (λ (drivers : EachFrom w.drivers.items 0 (λ k seat. joined_ask seat.ask seat.items ≡ IsEnd)). ⊎_elim
-      (λ (apps : EachFrom w.apps.items (length s.config.pairs) (λ k seat. joined_ask seat.ask seat.items ≡ IsEnd)). absurd (going (drivers, each_move w.apps.items (length s.config.pairs) 0 _ apps)))
-      (λ (some : IsOpen s (own_in h) (length s.config.pairs) (length s.config.pairs + length w.apps.items)).
-      record { who = some.who; low = omega arith; high = omega (arith, some.high, seated.app_count, w.apps.ok.0); open_run = some.open_run })
-      (some_open s (own_in h) w.apps.items _ (length s.config.pairs) apps_after))
-      (λ (some : IsOpen s (own_in h) 0 (0 + length w.drivers.items)).
-      record { who = some.who; low = omega arith; high = omega (arith, some.high, seated.driver_count, w.drivers.ok.0); open_run = some.open_run })
-      (some_open s (own_in h) w.drivers.items _ 0 drivers_after)
+      (λ (all : EachFrom w.seats.items 0 (λ k seat. joined_ask seat.ask seat.items ≡ IsEnd)). absurd (going all))
+      (λ (some : IsOpen s (own_in h) 0 (0 + length w.seats.items)).
+      record { who = some.who; low = omega arith; high = omega (arith, some.high, many); open_run = some.open_run })
+      (some_open s (own_in h) w.seats.items _ 0 all_after)
 
-  -- and each driver keeps what it sent
-  driver_lists : HaveEnded w → AreWithin s h → EachFrom w.drivers.items 0 (λ k seat. seat.machine.sent.packets ≡ sent s.config h k)
-  driver_lists ended within = each_of w.drivers.items 0 _
-      (λ i d below at.
-      let e : i ≡ 0 + i = omega arith in
-      let sits = each_at w.drivers.items 0 i i _ d seated.drivers below e at in
-      let act = each_at w.drivers.items 0 i i _ d ended.0 below e at in
-      let known : i < length s.config.pairs = omega (arith, below, seated.driver_count, w.drivers.ok.0) in
-      subst (λ k. d.machine.sent.packets ≡ sent s.config h k) e (sent_at s i d.machine (joined_ask d.ask d.items) (own i h) act sits.0 (within i known)))
+  -- what is kept of the drivers, a list and figures for each
+  pub lists_kept : length (kept_lists w) ≡ length s.config.pairs
+  lists_kept = kept_as_many s (λ seat. kept_of seat.machine) w.seats.items 0 (length s.config.pairs) (omega arith) (omega (arith, many))
+      (each_change w.seats.items 0 _ _ seated.seats (λ k x low high sits. list_kept s k x.machine (joined_ask x.ask x.items) (own_in h k) sits.0))
+
+  pub figures_number : (classes : ℕ) → length (kept_figures classes w) ≡ length s.config.pairs
+  figures_number classes = kept_as_many s (λ seat. figures_kept classes seat.machine) w.seats.items 0 (length s.config.pairs) (omega arith) (omega (arith, many))
+      (each_change w.seats.items 0 _ _ seated.seats (λ k x low high sits. figures_are_kept s classes k x.machine (joined_ask x.ask x.items) (own_in h k) sits.0))
+
+  -- where all have ended, each driver keeps what it sent
+  ended_seats : HaveEnded w → EachFrom w.seats.items 0 (λ who seat. (joined_ask seat.ask seat.items ≡ IsEnd) × Sits s (own_in h) who seat.machine (joined_ask seat.ask seat.items))
+  ended_seats ended = each_both w.seats.items 0 _ _ ended seated.seats
+
+  all_lists : HaveEnded w → AreWithin s h → kept_lists w ≡ map (sent s.config h) (range_with_len 0 (length s.config.pairs))
+  all_lists ended within = kept_by_pair s (λ seat. kept_of seat.machine) (sent s.config h) w.seats.items 0 (length s.config.pairs) (omega arith) (omega (arith, many))
+      (each_change w.seats.items 0 _ _ (ended_seats ended) (λ k x low high both. sent_kept s h k x.machine (joined_ask x.ask x.items) within both.0 both.1.0))
 
   pub all_sent : HaveEnded w → AreWithin s h → (pair : ℕ) → pair < length s.config.pairs → get_or (kept_lists w) pair [] ≡ sent s.config h pair
   all_sent ended within pair below =
-      let e : 0 + pair ≡ pair = omega arith in
-      subst (λ k. get_or (kept_lists w) pair [] ≡ sent s.config h k) e
-      (each_shows w.drivers.items 0 (λ seat. seat.machine.sent.packets) (λ k. sent s.config h k) [] (driver_lists ended within) pair
-      (omega (arith, below, seated.driver_count, w.drivers.ok.0)))
+      ap (λ lists. get_or lists pair []) (all_lists ended within) ∙ get_or-map-range_with_len (sent s.config h) 0 (length s.config.pairs) pair pair [] below (omega arith)
 
   -- and figures
-  driver_figures : HaveEnded w → AreWithin s h → EachFrom w.drivers.items 0 (λ k seat. figures_in (classes_of s.config) seat.machine ≡ driver_figures_of s h k)
-  driver_figures ended within = each_of w.drivers.items 0 _
-      (λ i d below at.
-      let e : i ≡ 0 + i = omega arith in
-      let sits = each_at w.drivers.items 0 i i _ d seated.drivers below e at in
-      let act = each_at w.drivers.items 0 i i _ d ended.0 below e at in
-      let known : i < length s.config.pairs = omega (arith, below, seated.driver_count, w.drivers.ok.0) in
-      let kept : d.machine.sent.packets ≡ sent s.config h i = sent_at s i d.machine (joined_ask d.ask d.items) (own i h) act sits.0 (within i known) in
-      subst (λ k. figures_in (classes_of s.config) d.machine ≡ driver_figures_of s h k) e
-      (figures_at s i d.machine (joined_ask d.ask d.items) (own i h) (sent s.config h i) act sits.0 kept))
-
   pub all_figures : HaveEnded w → AreWithin s h → kept_figures (classes_of s.config) w ≡ map (driver_figures_of s h) (range_with_len 0 (length s.config.pairs))
-  all_figures ended within =
-      let d : DriverFigures = driver_figures_of s h 0 in
-      let count : length w.drivers.items ≡ length s.config.pairs = omega (arith, seated.driver_count, w.drivers.ok.0) in
-      fill_by_all (driver_figures_of s h) (kept_figures (classes_of s.config) w) (length s.config.pairs) d
-      (length-map w.drivers.items (λ seat. figures_in (classes_of s.config) seat.machine) ∙ count)
-      (λ k below.
-      let e : 0 + k ≡ k = omega arith in
-      subst (λ j. get_or (kept_figures (classes_of s.config) w) k d ≡ driver_figures_of s h j) e
-      (each_shows w.drivers.items 0 (λ seat. figures_in (classes_of s.config) seat.machine) (driver_figures_of s h) d (driver_figures ended within) k (omega (arith, below, count))))
+  all_figures ended within = kept_by_pair s (λ seat. figures_kept (classes_of s.config) seat.machine) (driver_figures_of s h) w.seats.items 0 (length s.config.pairs) (omega arith) (omega (arith, many))
+      (each_change w.seats.items 0 _ _ (ended_seats ended) (λ k x low high both. ended_figures s h k x.machine (joined_ask x.ask x.items) within both.0 both.1.0))
 
 -- a run that has ended
-pub ended_run : (s : Setting) (frames : List Frame) (order count : ℕ) (w : Workers) (engine : Engine) (run : Shown) (classes calls : ℕ) (wire : Wire) → IsRegular s.config → (had : HadRounds s frames order count w engine)
+pub ended_run : (s : Setting) (frames : List Frame) (order count : ℕ) (w : Workers) (engine : Engine) (run : Shown) (classes calls : ℕ) (wire : Wire) → IsSteady s.config → (had : HadRounds s frames order count w engine)
     → count ≤ 18446744073709551616 → NeverStill s frames order count → HaveEnded w → run.log ≡ engine.log → run.sent ≡ kept_lists w
     → classes ≡ classes_of s.config → calls ≡ length engine.log → calls ≤ 18446744073709551615 → run.figures ≡ whole_of calls wire (kept_figures classes w) → wire ≡ s.wire
     → HasEnded s frames order run
-ended_run s frames order count w engine run classes calls wire regular had few never ended log kept sockets number fits figures same =
+ended_run s frames order count w engine run classes calls wire steady had few never ended log kept sockets number fits figures same =
     let legal : IsHistory s.config frames had.history = had.seated.run.legal in
     let whole = whole_runs s frames had.history w engine had.seated ended in
-    let within : AreWithin s had.history = are_within s frames had.history regular legal whole in
+    let within : AreWithin s had.history = are_within s frames had.history steady legal whole in
     record {
       history = had.history;
       count = count;
@@ -163,7 +214,7 @@ ended_run s frames order count w engine run classes calls wire regular had few n
       sent = λ pair below. ap (λ lists. get_or lists pair []) kept ∙ all_sent s frames had.history w engine had.seated ended within pair below;
       woken = λ past later pair split below.
           no_wakes_are_lost s frames past later pair
-          (subst (AreWorkerRuns s frames) split (record { regular = regular; history = legal; runs = all_runs s frames had.history w engine had.seated })) below;
+          (subst (AreWorkerRuns s frames) split (record { steady = steady; history = legal; runs = all_runs s frames had.history w engine had.seated })) below;
     }
 
 -- a run that has stalled
@@ -183,10 +234,3 @@ stalled_run s frames order round w engine had going few still first =
       still = still;
       first = first;
     }
-
--- one item more of what a function makes of a list
-pub made_more : {X Y : Type 0} (f : X → Y) (xs : List X) (i : ℕ) (x : X) (ys new : List Y) (y : Y) → i < length xs → x ≡ get_or xs i x → ys ≡ map f (take i xs) → y ≡ f x
-    → new ≡ ys ++ y ∷ [] → new ≡ map f (take (i + 1) xs)
-made_more f xs i x ys new y here at before is pushed =
-    pushed ∙ ap (λ zs. zs ++ y ∷ []) before ∙ ap (λ z. map f (take i xs) ++ z ∷ []) (is ∙ ap f at)
-    ∙ sym (map_push f (take i xs) (get_or xs i x)) ∙ ap (map f) (sym (take_more xs i x here))

@@ -1,31 +1,32 @@
 -- What a run that has ended sent, by the laws of whole runs.
 use Rattle.std.proofs.Common.{ℕ, ◌<◌, List, length, sym, subst, arith}
 use Rattle.xsk_umem.specs.Frame.{Frame}
-use Rattle.xsk_model.specs.Config.{IsRegular, classes_of}
+use Rattle.xsk_model.specs.Config.{classes_of}
 use Rattle.xsk_model.specs.Steering.{driver_on}
 use Rattle.xsk_model.proofs.Seats.{is_at}
 use Rattle.xsk_laws.specs.Laws.{AreWholeRuns, AreForwarded, AreExpected}
 use Rattle.xsk_laws.proofs.Theorems.{all_are_forwarded, nothing_else_is_sent}
+use Rattle.xsk_turns.specs.Owned.{IsSteady}
 use Rattle.xsk_turns.specs.Workers.{Setting}
 use Rattle.xsk_machine.proofs.Within.{whole_runs}
 use Rattle.xsk_sim.specs.Shown.{Shown}
 use Rattle.xsk_sim.specs.Runs.{HasEnded, EndedIsForwarded, EndedIsExpected}
 
-module _ (s : Setting) (frames : List Frame) (order : ℕ) (run : Shown) (port queue : ℕ) (regular : IsRegular s.config) (ended : HasEnded s frames order run) (in_ports : port < s.config.ports) (in_queues : queue < s.config.queues) where
+module _ (s : Setting) (frames : List Frame) (order : ℕ) (run : Shown) (port queue : ℕ) (steady : IsSteady s.config) (ended : HasEnded s frames order run) (in_ports : port < s.config.ports) (in_queues : queue < s.config.queues) where
   are_whole : AreWholeRuns s.wire s.config s.packets s.verdicts frames ended.history
-  are_whole = whole_runs s frames ended.history regular ended.is.legal ended.whole
+  are_whole = whole_runs s frames ended.history steady ended.is.legal ended.whole
 
   known : driver_on s.config port queue < length s.config.pairs
   known =
-      let some : 0 < classes_of s.config = let classes = regular.classes in omega (arith, classes) in
-      (is_at s.config port queue 0 ended.is.legal.opened.config regular in_ports in_queues some).pair_known
+      let some : 0 < classes_of s.config = let classes = steady.regular.classes in omega (arith, classes) in
+      (is_at s.config port queue 0 ended.is.legal.opened.config steady.regular in_ports in_queues some).pair_known
 
 pub ended_is_forwarded : EndedIsForwarded
-ended_is_forwarded s frames order run port queue regular ended in_ports in_queues =
-    subst (AreForwarded s.wire s.config ended.history s.packets s.verdicts port queue) (sym (ended.sent (driver_on s.config port queue) (known s frames order run port queue regular ended in_ports in_queues)))
-    (all_are_forwarded s.wire s.config s.packets s.verdicts frames ended.history port queue (are_whole s frames order run port queue regular ended in_ports in_queues) in_ports in_queues)
+ended_is_forwarded s frames order run port queue steady ended in_ports in_queues =
+    subst (AreForwarded s.wire s.config ended.history s.packets s.verdicts port queue) (sym (ended.sent (driver_on s.config port queue) (known s frames order run port queue steady ended in_ports in_queues)))
+    (all_are_forwarded s.wire s.config s.packets s.verdicts frames ended.history port queue (are_whole s frames order run port queue steady ended in_ports in_queues) in_ports in_queues)
 
 pub ended_is_expected : EndedIsExpected
-ended_is_expected s frames order run port queue waits regular ended in_ports in_queues =
-    subst (AreExpected s.config s.packets s.verdicts port queue) (sym (ended.sent (driver_on s.config port queue) (known s frames order run port queue regular ended in_ports in_queues)))
-    (nothing_else_is_sent s.wire s.config s.packets s.verdicts frames ended.history port queue waits (are_whole s frames order run port queue regular ended in_ports in_queues) in_ports in_queues)
+ended_is_expected s frames order run port queue waits steady ended in_ports in_queues =
+    subst (AreExpected s.config s.packets s.verdicts port queue) (sym (ended.sent (driver_on s.config port queue) (known s frames order run port queue steady ended in_ports in_queues)))
+    (nothing_else_is_sent s.wire s.config s.packets s.verdicts frames ended.history port queue waits (are_whole s frames order run port queue steady ended in_ports in_queues) in_ports in_queues)

@@ -1,5 +1,5 @@
 -- Lists whose elements hold each with its number.
-use Rattle.std.proofs.Common.{◌≡◌, ℕ, zero, suc, ◌+◌, ◌<◌, ◌≤◌, List, [], ◌∷◌, length, ◌++◌, get_or, set, map, refl, sym, subst, arith, ◌⊎◌, inl, inr, ⊎_elim}
+use Rattle.std.proofs.Common.{◌≡◌, ℕ, zero, suc, ◌+◌, ◌<◌, ◌≤◌, List, [], ◌∷◌, length, ◌++◌, get_or, set, refl, sym, subst, arith, ◌⊎◌, inl, inr, ⊎_elim}
 use Rattle.std.proofs.lemmas.Bool.{cases_eq}
 use Rattle.xsk_model.specs.Entry.{Told}
 use Rattle.xsk_model.specs.declared.call.Call.{Call}
@@ -72,11 +72,11 @@ each_tells (x ∷ xs) n P Q each tells who low high = ⊎_elim
     (λ (other : who ≡ n → ⊥). each_tells xs (n + 1) P Q each.1 tells who (omega arith) (omega arith))
     (cases_eq who n)
 
--- what holds whatever the numbers are
-pub each_move : {A : Type 0} (xs : List A) (n m : ℕ) (P : A → Type 0) → EachFrom xs n (λ k x. P x) → EachFrom xs m (λ k x. P x)
+-- what holds by two things
+pub each_both : {A : Type 0} (xs : List A) (n : ℕ) (P Q : ℕ → A → Type 0) → EachFrom xs n P → EachFrom xs n Q → EachFrom xs n (λ k x. P k x × Q k x)
 unfolding EachFrom
-each_move [] n m P each = tt
-each_move (x ∷ xs) n m P each = (each.0, each_move xs (n + 1) (m + 1) P each.1)
+each_both [] n P Q first second = tt
+each_both (x ∷ xs) n P Q first second = ((first.0, second.0), each_both xs (n + 1) P Q first.1 second.1)
 
 pub each_none : {A : Type 0} (n : ℕ) (P : ℕ → A → Type 0) → EachFrom [] n P
 unfolding EachFrom
@@ -117,12 +117,3 @@ some_open s mine (x ∷ xs) act n after = ⊎_elim
     (λ (gave : (call : Call) × (act x ≡ Calls call)).
     inr (record { who = n; low = omega arith; high = omega arith; open_run = (subst (λ a. IsActAfter s n a (mine n)) gave.1 after.0).1 }))
     (act_cases (act x))
-
--- what each element shows, by place
-pub each_shows : {A B : Type 0} (xs : List A) (n : ℕ) (f : A → B) (g : ℕ → B) (d : B) → EachFrom xs n (λ k x. f x ≡ g k) → (i : ℕ) → i < length xs
-    → get_or (map f xs) i d ≡ g (n + i)
-unfolding EachFrom
-each_shows [] n f g d each i h = absurd (omega arith)
-each_shows (x ∷ xs) n f g d each zero h = let e : n ≡ n + 0 = omega arith in subst (λ k. f x ≡ g k) e each.0
-each_shows (x ∷ xs) n f g d each (suc i) h =
-    let e : n + 1 + i ≡ n + suc i = omega arith in subst (λ k. get_or (map f xs) i d ≡ g k) e (each_shows xs (n + 1) f g d each.1 i (omega arith))

@@ -80,18 +80,9 @@ module _ (s : Setting) (d : ℕ) where
 
   passes : walk.AtPasses seat Q At
   passes (walk.untried packet later x) noted kept l = λ h e. omega (arith, h, one_more kept x)
-  passes walk.none_comes noted kept l = λ h e. h
-  passes (walk.too_few packet t) noted kept l = λ h e. h
-  passes (walk.waits packet t full) noted kept l = λ h e. h
   passes (walk.drops_full packet t) noted kept l = λ h e. omega (arith, h, one_more kept RxFull)
   passes (walk.drops_frameless packet t) noted kept l = λ h e. omega (arith, h, one_more kept NoFrames)
-  passes walk.visited noted kept l = λ h e. h
-  passes walk.idles noted kept l = λ h e. h
-  passes walk.arms noted kept l = λ h e. h
-  passes walk.looks noted kept l = λ h e. h
-  passes walk.finds noted kept l = λ h e. h
-  passes walk.parks noted kept l = λ h e. h
-  passes walk.disarmed noted kept l = λ h e. h
+  passes p noted kept l = λ h e. h
 
   law : walk.IsLaw seat Q At Asked (λ kept l. Unit {0})
   law = record { calls = calls; entries = entries; passes = passes; ends = λ noted kept l n known h a q. tt }

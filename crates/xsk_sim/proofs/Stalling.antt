@@ -19,8 +19,12 @@ use Rattle.xsk_driver.specs.Shown.{Shown as DriverShown}
 use Rattle.xsk_driver.specs.Runs.{Stands, StandsWith}
 use Rattle.xsk_driver.specs.Stands.{left}
 use Rattle.xsk_machine.specs.Acts.{DriverStands}
+use Rattle.xsk_machine.specs.Workers.{settled_in, Stands as WorkerStands}
+use Rattle.xsk_machine.specs.declared.worker.AnyWorker.{AnyWorker}
+use Rattle.xsk_machine.specs.declared.worker.AnyWorker.TheVariants.{Driver, App}
 use Rattle.xsk_sim.specs.Rounds.{IsTurn}
 use Rattle.xsk_sim.specs.Turning.{Notes}
+use Rattle.xsk_sim.specs.Seats.{IsNoted}
 use Rattle.xsk_sim.specs.Stalls.{settled_along, settled_of, settled_by, IsQuiet, AreQuiet}
 
 -- ---- how many packets a driver has settled
@@ -117,6 +121,25 @@ module _ (s : Setting) (frames : List Frame) where
       (λ yes. (quiet.0 yes, tt), λ all. quiet.1 all.0)
   app_notes Whole h who (e ∷ f ∷ es) act before noted still turns legal high notes =
       let no : f ∷ es ≡ [] = (turn_who Whole h who e (f ∷ es) turns).1 in cc
+
+  noted_none : (act : Act) (before noted : ℕ) (still : Bool) (es : List Entry) → before ≡ 0 → Notes act before 0 noted still es → noted ≡ 0
+  noted_none act before noted still [] none notes = notes.1 ∙ none
+  noted_none act before noted still (e ∷ es) none notes = notes.1
+
+  -- a worker's
+  pub worker_notes : (Whole : ℕ → List Told → Type 0) (h : List Entry) (who : ℕ) (es : List Entry) (m : AnyWorker) (act : Act) (before noted : ℕ) (still : Bool)
+      → IsTurn Whole h who es → IsHistory s.config frames (h ++ es) → WorkerStands s who m act (own who h) → IsNoted s h who before
+      → Notes act before (settled_in m) noted still es → (IsTrue still ↔ AreQuiet s frames h es) × IsNoted s (h ++ es) who noted
+  worker_notes Whole h who es (Driver d) act before noted still turns legal stands was notes =
+      let known : who < length s.config.pairs = stands.known in
+      let tells = driver_notes Whole h who es d act before noted still turns legal known stands (was.driver known) notes in
+      (tells.0, record { driver = λ below. tells.1; app = λ high. absurd (omega (arith, known, high)) })
+  worker_notes Whole h who es (App a) act before noted still turns legal stands was notes =
+      let high : length s.config.pairs ≤ who = omega (arith, stands.caller) in
+      let none : before ≡ 0 = was.app high in (
+        app_notes Whole h who es act before noted still turns legal high (subst (λ (n : ℕ). Notes act before n noted still es) (sym none) notes),
+        record { driver = λ below. absurd (omega (arith, below, high)); app = λ _. noted_none act before noted still es none notes },
+      )
 
   -- ---- turns after turns
 

@@ -10,13 +10,14 @@ use Rattle.xsk_model.specs.Entry.{Told, Entry, own}
 use Rattle.xsk_model.proofs.Folds.{own-push_other}
 use Rattle.xsk_model.specs.declared.call.Act.{Act}
 use Rattle.xsk_plain.specs.Engine.{Engine}
-use Rattle.xsk_driver.specs.Shown.{Shown as DriverShown}
-use Rattle.xsk_app.specs.Shown.{Shown as AppShown}
 use Rattle.xsk_sim.specs.Order.{rotated}
 use Rattle.xsk_sim.specs.Rounds.{IsTurn, AreTurns}
 use Rattle.xsk_turns.specs.Workers.{Setting, IsWholeRun}
-use Rattle.xsk_machine.specs.Acts.{DriverStands, AppStands, IsActAfter}
-use Rattle.xsk_sim.specs.Seats.{AreGoing, DriverSits, AppSits, own_in, AreSeated, HadTurns}
+use Rattle.xsk_machine.specs.Acts.{IsActAfter}
+use Rattle.xsk_machine.specs.Workers.{Stands}
+use Rattle.xsk_machine.specs.declared.worker.AnyWorker.{AnyWorker}
+use Rattle.xsk_sim.specs.Seats.{AreGoing, Sits, IsNoted, own_in, AreSeated, HadTurns}
+use Rattle.xsk_sim.specs.Stalls.{settled_of}
 use Rattle.xsk_sim.specs.declared.rounds.Workers.{Workers}
 use Rattle.xsk_sim.proofs.RunSteps.{run_same}
 use Rattle.xsk_sim.proofs.Stalling.{told_both}
@@ -50,13 +51,12 @@ turns_both Whole past (w ∷ ws) vs es fs first rest =
     )
 
 -- a worker that stands for its own calls and replies does so after further entries that aren't its own
-pub driver_on : (s : Setting) (h later : List Entry) (who : ℕ) (d : DriverShown) (act : Act) → own who later ≡ own who h → DriverSits s (own_in h) who d act
-    → DriverSits s (own_in later) who d act
-driver_on s h later who d act same sits = subst (λ l. DriverStands s who d act l × IsActAfter s who act l) (sym same) sits
+pub sits_on : (s : Setting) (h later : List Entry) (who : ℕ) (m : AnyWorker) (act : Act) → own who later ≡ own who h → Sits s (own_in h) who m act → Sits s (own_in later) who m act
+sits_on s h later who m act same sits = subst (λ l. Stands s who m act l × IsActAfter s who act l) (sym same) sits
 
-pub app_on : (s : Setting) (h later : List Entry) (who : ℕ) (a : AppShown) (act : Act) → own who later ≡ own who h → AppSits s (own_in h) who a act
-    → AppSits s (own_in later) who a act
-app_on s h later who a act same sits = subst (λ l. AppStands s who a act l × IsActAfter s who act l) (sym same) sits
+-- and as many of a driver's packets have their disposals
+pub noted_on : (s : Setting) (h later : List Entry) (who noted : ℕ) → own who later ≡ own who h → IsNoted s h who noted → IsNoted s later who noted
+noted_on s h later who noted same is = record { driver = λ below. is.driver below ∙ ap (settled_of s who) (sym same); app = is.app }
 
 -- callers who had their turns, and then further ones
 pub had_both : (s : Setting) (frames : List Frame) (h : List Entry) (ws vs : List ℕ) (w v : Workers) (engine later : Engine) (a b c : Bool) → IsTrue c ↔ (IsTrue a × IsTrue b)
@@ -131,11 +131,9 @@ pub seated_same : (s : Setting) (frames : List Frame) (h : List Entry) (w : Work
     → new ≡ record old { spare_entries = new.spare_entries; spare_bytes = new.spare_bytes } → AreSeated s frames h w new
 seated_same s frames h w old new seated same = record {
   run = run_same s frames h old new seated.run same;
-  drivers = seated.drivers;
-  apps = seated.apps;
-  settled = seated.settled;
-  driver_count = seated.driver_count;
-  app_count = seated.app_count;
+  seats = seated.seats;
+  noted = seated.noted;
+  count = seated.count;
 }
 
 -- workers that had turns go on
@@ -143,8 +141,8 @@ pub going_on : {w v : Workers} {before after : Engine} {callers : List ℕ} {sti
 going_on g had = record { setting = g.setting; frames = g.frames; history = g.history ++ had.entries; seated = had.seated }
 
 -- and are 1 at least, and few
-pub going_few : {w : Workers} {engine : Engine} → AreGoing w engine → (vec_len w.drivers + vec_len w.apps ≤ 72) × (0 < vec_len w.drivers + vec_len w.apps)
+pub going_few : {w : Workers} {engine : Engine} → AreGoing w engine → (vec_len w.seats ≤ 72) × (0 < vec_len w.seats)
 going_few g =
     let config = g.seated.run.legal.opened.config in
     let apps = apps_few g.setting.config config in
-    (omega (arith, config.pairs_few, apps, g.seated.driver_count, g.seated.app_count), omega (arith, config.pairs_some, g.seated.driver_count))
+    (omega (arith, config.pairs_few, apps, g.seated.count), omega (arith, config.pairs_some, g.seated.count))

@@ -2,8 +2,9 @@
 -- changes, and packets get their disposals, only so often. This is this project's own.
 use Rattle.std.specs.Prelude.{ℕ, ◌+◌, ◌*◌, ◌<◌, List}
 use Rattle.xsk_umem.specs.Frame.{Frame}
-use Rattle.xsk_model.specs.Config.{IsRegular, callers_of}
+use Rattle.xsk_model.specs.Config.{callers_of}
 use Rattle.xsk_model.specs.Entry.{Entry, own}
+use Rattle.xsk_turns.specs.Owned.{IsSteady}
 use Rattle.xsk_turns.specs.Workers.{Setting, IsWholeRun}
 use Rattle.xsk_bounds.specs.Bounds.{packets_of, most_changes}
 use Rattle.xsk_sim.specs.Runs.{IsRoundHistory, NeverStill}
@@ -14,5 +15,5 @@ most_rounds s = 64 * (most_changes s.config (packets_of s) + packets_of s + 1)
 
 -- a run that stood still at none of its rounds, and in which some worker's own calls and replies aren't whole, has fewer rounds
 abbrev pub EndsOrStandsStill : Type 0
-EndsOrStandsStill = (s : Setting) (frames : List Frame) (order count : ℕ) (h : List Entry) (who : ℕ) → IsRegular s.config → IsRoundHistory s frames order count h
+EndsOrStandsStill = (s : Setting) (frames : List Frame) (order count : ℕ) (h : List Entry) (who : ℕ) → IsSteady s.config → IsRoundHistory s frames order count h
     → who < callers_of s.config → (IsWholeRun s who (own who h) → ⊥) → NeverStill s frames order count → count < most_rounds s

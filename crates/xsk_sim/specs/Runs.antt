@@ -7,7 +7,7 @@ use Rattle.std.specs.Fn.{Shared}
 use denote.Ref.{Bor}
 use Rattle.xsk_umem.specs.Frame.{Frame}
 use Rattle.xsk_umem.specs.PacketList.{PacketList}
-use Rattle.xsk_model.specs.Config.{Config, IsRegular, callers_of}
+use Rattle.xsk_model.specs.Config.{Config, callers_of}
 use Rattle.xsk_model.specs.Steering.{driver_on}
 use Rattle.xsk_model.specs.Entry.{Entry, own}
 use Rattle.xsk_model.specs.History.{IsHistory, state_after}
@@ -17,13 +17,14 @@ use Rattle.xsk_model.specs.Sent.{sent}
 use Rattle.xsk_prog.specs.Rules.{is_exact}
 use Rattle.xsk_prog.specs.declared.rule.Rule.{Rule}
 use Rattle.xsk_prog.specs.declared.rule.Verdict.{Verdict}
+use Rattle.xsk_turns.specs.Owned.{IsSteady}
 use Rattle.xsk_turns.specs.Workers.{Setting, IsWorkerRun, IsWholeRun, AreGiven, IsRuled, ruled}
 use Rattle.xsk_turns.specs.Wakes.{NoWakeIsLost}
 use Rattle.xsk_turns.specs.declared.wire.Wire.{Wire}
 use Rattle.xsk_turns.specs.declared.wire.Wire.TheVariants.{Wait}
 use Rattle.xsk_laws.specs.Laws.{AreForwarded, AreExpected}
 use Rattle.xsk_driver.specs.Asking.{IsAnswer}
-use Rattle.xsk_driver.specs.Figured.{figures_of}
+use Rattle.xsk_machine.specs.Figured.{figures_of}
 use Rattle.xsk_sim.specs.Journal.{rounds_of}
 use Rattle.xsk_sim.specs.Rounds.{AreRounds, AreInRounds}
 use Rattle.xsk_sim.specs.Shown.{Shown}
@@ -101,12 +102,12 @@ StallsAsRuled = (rule : Rule) (s : Setting) (frames : List Frame) (order round :
 -- What the driver of a port and queue sent in a run that has ended is what was forwarded by all classes, whatever the wire
 -- does, and nothing else. Where the wire waits it is what is expected by them.
 abbrev pub EndedIsForwarded : Type 0
-EndedIsForwarded = (s : Setting) (frames : List Frame) (order : ℕ) (run : Shown) (port queue : ℕ) → IsRegular s.config → (ended : HasEnded s frames order run)
+EndedIsForwarded = (s : Setting) (frames : List Frame) (order : ℕ) (run : Shown) (port queue : ℕ) → IsSteady s.config → (ended : HasEnded s frames order run)
     → port < s.config.ports → queue < s.config.queues
     → AreForwarded s.wire s.config ended.history s.packets s.verdicts port queue (slice_index_or run.sent (driver_on s.config port queue) [])
 
 abbrev pub EndedIsExpected : Type 0
-EndedIsExpected = (s : Setting) (frames : List Frame) (order : ℕ) (run : Shown) (port queue : ℕ) → s.wire ≡ Wait → IsRegular s.config → HasEnded s frames order run
+EndedIsExpected = (s : Setting) (frames : List Frame) (order : ℕ) (run : Shown) (port queue : ℕ) → s.wire ≡ Wait → IsSteady s.config → HasEnded s frames order run
     → port < s.config.ports → queue < s.config.queues
     → AreExpected s.config s.packets s.verdicts port queue (slice_index_or run.sent (driver_on s.config port queue) [])
 

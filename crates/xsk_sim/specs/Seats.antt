@@ -1,22 +1,20 @@
 -- The workers in their seats, each with its number among the callers.
-use Rattle.std.specs.Prelude.{◌≡◌, ◌↔◌, ℕ, ◌+◌, ◌<◌, Bool, IsTrue, map, List, [], ◌∷◌, ◌++◌, length, vec_len}
+use Rattle.std.specs.Prelude.{◌≡◌, ◌↔◌, ℕ, ◌+◌, ◌<◌, ◌≤◌, Bool, IsTrue, flat_map, List, [], ◌∷◌, ◌++◌, length, vec_len}
 use Rattle.xsk_turns.specs.Stepping.{joined_ask}
 use Rattle.xsk_umem.specs.Frame.{Frame}
 use Rattle.xsk_model.specs.Config.{callers_of}
-use Rattle.xsk_model.specs.Marks.{apps_of}
 use Rattle.xsk_model.specs.Entry.{Told, Entry, own}
 use Rattle.xsk_model.specs.declared.call.Act.{Act}
 use Rattle.xsk_model.specs.declared.call.Act.TheVariants.{Ended as IsEnd}
 use Rattle.xsk_plain.specs.Engine.{Engine}
-use Rattle.xsk_driver.specs.Shown.{Shown as DriverShown}
-use Rattle.xsk_driver.specs.Figures.{figures_in}
-use Rattle.xsk_driver.specs.declared.figures.DriverFigures.{DriverFigures}
-use Rattle.xsk_app.specs.Shown.{Shown as AppShown}
+use Rattle.xsk_machine.specs.declared.figures.DriverFigures.{DriverFigures}
 use Rattle.xsk_sim.specs.Order.{start_of, rotated, next_number}
 use Rattle.xsk_sim.specs.Rounds.{AreTurns, AreRounds}
 use Rattle.xsk_sim.specs.Stalls.{settled_by, AreQuiet, StandStill}
 use Rattle.xsk_turns.specs.Workers.{Setting, IsWholeRun}
-use Rattle.xsk_machine.specs.Acts.{DriverStands, AppStands, IsActAfter}
+use Rattle.xsk_machine.specs.Acts.{IsActAfter}
+use Rattle.xsk_machine.specs.Workers.{Stands, kept_of, figures_kept}
+use Rattle.xsk_machine.specs.declared.worker.AnyWorker.{AnyWorker}
 use Rattle.xsk_sim.specs.Turning.{HasRun}
 use Rattle.xsk_sim.specs.declared.rounds.Workers.{Workers}
 
@@ -26,11 +24,8 @@ EachFrom [] n P = Unit {0}
 EachFrom (x ∷ xs) n P = P n x × EachFrom xs (n + 1) P
 
 -- a worker stands for its own calls and replies, with the act that it gave then
-abbrev pub DriverSits : Setting → (ℕ → List Told) → ℕ → DriverShown → Act → Type 0
-DriverSits s mine who d act = DriverStands s who d act (mine who) × IsActAfter s who act (mine who)
-
-abbrev pub AppSits : Setting → (ℕ → List Told) → ℕ → AppShown → Act → Type 0
-AppSits s mine who a act = AppStands s who a act (mine who) × IsActAfter s who act (mine who)
+abbrev pub Sits : Setting → (ℕ → List Told) → ℕ → AnyWorker → Act → Type 0
+Sits s mine who w act = Stands s who w act (mine who) × IsActAfter s who act (mine who)
 
 -- a caller's own calls and replies in a history
 abbrev pub own_in : List Entry → ℕ → List Told
@@ -39,15 +34,17 @@ own_in h who = own who h
 abbrev pub new_own : ℕ → List Told
 new_own who = []
 
--- the drivers of all pairs and then the applications stand for their own calls and replies in a history that the engine
--- has run, and at each driver's seat it is noted how many of its packets have their disposals by the history
+-- at a driver's seat it is noted how many of its packets have their disposals by a history, and at an application's none
+pub record IsNoted (s : Setting) (h : List Entry) (who noted : ℕ) : Type 0 where
+  pub driver : who < length s.config.pairs → noted ≡ settled_by s h who
+  pub app : length s.config.pairs ≤ who → noted ≡ 0
+
+-- all callers stand for their own calls and replies in a history that the engine has run, with what is noted at their seats
 pub record AreSeated (s : Setting) (frames : List Frame) (h : List Entry) (w : Workers) (engine : Engine) : Type 0 where
   pub run : HasRun s frames h engine
-  pub drivers : EachFrom w.drivers.items 0 (λ who seat. DriverSits s (own_in h) who seat.machine (joined_ask seat.ask seat.items))
-  pub apps : EachFrom w.apps.items (length s.config.pairs) (λ who seat. AppSits s (own_in h) who seat.machine (joined_ask seat.ask seat.items))
-  pub settled : EachFrom w.drivers.items 0 (λ who seat. seat.settled ≡ settled_by s h who)
-  pub driver_count : vec_len w.drivers ≡ length s.config.pairs
-  pub app_count : vec_len w.apps ≡ apps_of s.config
+  pub seats : EachFrom w.seats.items 0 (λ who seat. Sits s (own_in h) who seat.machine (joined_ask seat.ask seat.items))
+  pub noted : EachFrom w.seats.items 0 (λ who seat. IsNoted s h who seat.settled)
+  pub count : vec_len w.seats ≡ callers_of s.config
 
 -- they are so after some history
 pub record AreGoing (w : Workers) (engine : Engine) : Type 0 where
@@ -87,12 +84,12 @@ pub record HaveStood (s : Setting) (frames : List Frame) (order count still : �
 
 -- all have ended
 abbrev pub HaveEnded : Workers → Type 0
-HaveEnded w = EachFrom w.drivers.items 0 (λ who seat. joined_ask seat.ask seat.items ≡ IsEnd) × EachFrom w.apps.items 0 (λ who seat. joined_ask seat.ask seat.items ≡ IsEnd)
+HaveEnded w = EachFrom w.seats.items 0 (λ who seat. joined_ask seat.ask seat.items ≡ IsEnd)
 
 -- what the drivers keep of the packets that they sent
 abbrev pub kept_lists : Workers → List (List (List ℕ))
-kept_lists w = map (λ seat. seat.machine.sent.packets) w.drivers.items
+kept_lists w = flat_map (λ seat. kept_of seat.machine) w.seats.items
 
 -- and their figures
 abbrev pub kept_figures : ℕ → Workers → List DriverFigures
-kept_figures classes w = map (λ seat. figures_in classes seat.machine) w.drivers.items
+kept_figures classes w = flat_map (λ seat. figures_kept classes seat.machine) w.seats.items

@@ -10,4 +10,5 @@ mod simulation;
 
 pub use journal::{append_journal, journal_text};
 pub use simulation::{Run, SimError, simulate};
-pub use xsk_driver::{Figures, Wire};
+pub use xsk_driver::Wire;
+pub use xsk_machine::Figures;

@@ -9,8 +9,7 @@ ghost use Rattle.xsk_sim.specs.Seats.{AreSeated, AreGoing, HadTurns, HadRound, H
 
 use crate::order::Order;
 use crate::seat::Seat;
-use xsk_app::App;
-use xsk_driver::Driver;
+use xsk_machine::AnyWorker;
 use xsk_plain::Plain;
 use xsk_umem::OutOfMemory;
 
@@ -20,28 +19,22 @@ const MOST_PAYLOAD: u32 = 32 * 4096;
 /// All workers: the drivers by their pairs, then the applications by their numbers.
 #[derive(Drop)]
 pub(crate) struct Workers<'a> {
-    pub(crate) drivers: Vec<Seat<Driver<'a>>>,
-    pub(crate) apps: Vec<Seat<App<'a>>>,
+    pub(crate) seats: Vec<Seat<AnyWorker<'a>>>,
 }
 
 impl Workers<'_> {
     fn count(&self) -> u32
-        requires few { vec_len self.now.drivers + vec_len self.now.apps < 2 ^ 32 }
-        ensures { result ≡ vec_len self.now.drivers + vec_len self.now.apps }
+        requires few { vec_len self.now.seats < 2 ^ 32 }
+        ensures { result ≡ vec_len self.now.seats }
     {
-        (self.drivers.len() + self.apps.len()) as u32
+        self.seats.len() as u32
     }
 
     /// Whether all workers have ended.
     pub(crate) fn have_ended(&self) -> bool
         ensures { IsTrue result ↔ HaveEnded self.now }
     {
-        for seat in &self.drivers {
-            if !seat.has_ended() {
-                return false;
-            }
-        }
-        for seat in &self.apps {
+        for seat in &self.seats {
             if !seat.has_ended() {
                 return false;
             }
@@ -59,7 +52,7 @@ impl Workers<'_> {
         requires geometry { IsGeometry plain.old.config.geometry }
         requires going { AreGoing self.old plain.old }
         ensures config { plain.new.config ≡ plain.old.config }
-        ensures drivers { vec_len self.new.drivers ≡ vec_len self.old.drivers }
+        ensures seats { vec_len self.new.seats ≡ vec_len self.old.seats }
         ensures round { (s : Setting) (frames : List Frame) (h : List Entry) → AreSeated s frames h self.old plain.old
             → IfOk result (HadRound s frames h order.old.number order.new.number self.new plain.new) }
     {
@@ -83,27 +76,16 @@ impl Workers<'_> {
     fn step(&mut self, plain: &mut Plain, who: u32) -> bool
         requires geometry { IsGeometry plain.old.config.geometry }
         requires going { AreGoing self.old plain.old }
-        requires who { who < vec_len self.old.drivers + vec_len self.old.apps }
+        requires who { who < vec_len self.old.seats }
         requires entries { 1 ≤ plain.old.spare_entries }
         requires bytes { most_payload ≤ plain.old.spare_bytes }
         ensures config { plain.new.config ≡ plain.old.config }
         ensures entries { plain.old.spare_entries ≤ plain.new.spare_entries + 1 }
         ensures bytes { plain.old.spare_bytes ≤ plain.new.spare_bytes + most_payload }
-        ensures drivers { vec_len self.new.drivers ≡ vec_len self.old.drivers }
-        ensures apps { vec_len self.new.apps ≡ vec_len self.old.apps }
+        ensures seats { vec_len self.new.seats ≡ vec_len self.old.seats }
         ensures turn { (s : Setting) (frames : List Frame) (h : List Entry) → AreSeated s frames h self.old plain.old
             → HadTurns s frames h (who ∷ []) self.new plain.new result }
     {
-        let place = who as usize;
-        let drivers = self.drivers.len();
-        if place < drivers {
-            let seat = &mut self.drivers[place];
-            let settled = seat.machine().disposals().len();
-            seat.step(plain, who, settled)
-        } else {
-            let seat = &mut self.apps[place - drivers];
-            let settled = seat.settled();
-            seat.step(plain, who, settled)
-        }
+        self.seats[who as usize].step(plain, who)
     }
 }

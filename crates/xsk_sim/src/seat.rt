@@ -17,7 +17,6 @@ ghost use Rattle.xsk_sim.specs.Given.{IsGivenBack-prop};
 ghost use Rattle.xsk_sim.specs.Rooms.{most_payload};
 ghost use Rattle.xsk_sim.specs.Turning.{HasRun, TakesTurn, Notes};
 
-use std::alloc::Global;
 use xsk_machine::Machine;
 use xsk_model::{Answer, Ask};
 use xsk_plain::Plain;
@@ -36,14 +35,14 @@ pub(crate) struct Seat<M: Machine> {
 }
 
 impl<M: Machine> Seat<M> {
-    pub(crate) fn new(alloc: Global, machine: M) -> Seat<M>
+    pub(crate) fn new(machine: M) -> Seat<M>
         requires { M.expected machine ≡ nothing }
         ensures settled { result.settled ≡ 0 }
         ensures stands { (s : Setting) (who : ℕ) → M.is_new s who machine
             → M.stands s who result.machine (joined_ask result.ask result.items) [] × IsActAfter s who (joined_ask result.ask result.items) [] }
     {
         let mut machine = machine;
-        let mut items = Batch::new(alloc);
+        let mut items = Batch::new();
         let ask = machine.step(None, &mut items);
         Seat {
             machine,
@@ -60,12 +59,6 @@ impl<M: Machine> Seat<M> {
         self.ask.is_none()
     }
 
-    pub(crate) fn machine(&self) -> &M
-        ensures { result.now ≡ self.now.machine }
-    {
-        &self.machine
-    }
-
     pub(crate) fn into_machine(self) -> M
         ensures { result ≡ self.machine }
     {
@@ -73,17 +66,10 @@ impl<M: Machine> Seat<M> {
         machine
     }
 
-    /// How many packets had their disposals at the last call.
-    pub(crate) fn settled(&self) -> usize
-        ensures { result ≡ self.now.settled }
-    {
-        self.settled
-    }
-
     /// Makes the worker's next call, if it hasn't ended, and tells whether it changed nothing: neither the object nor the
-    /// number of packets that have their disposals, which is given. It must be a call that can be performed, and the log must
+    /// number of packets that have their disposals. It must be a call that can be performed, and the log must
     /// have room for any call.
-    pub(crate) fn step(&mut self, plain: &mut Plain, who: u32, settled: usize) -> bool
+    pub(crate) fn step(&mut self, plain: &mut Plain, who: u32) -> bool
         requires geometry { IsGeometry plain.old.config.geometry }
         requires can { (call : Call) → joined_ask self.old.ask self.old.items ≡ Calls call → CanPerform plain.old.config plain.old.rings call }
         requires entries { 1 ≤ plain.old.spare_entries }
@@ -95,12 +81,13 @@ impl<M: Machine> Seat<M> {
             → M.stands s who self.old.machine (joined_ask self.old.ask self.old.items) (own who h)
             → IsActAfter s who (joined_ask self.old.ask self.old.items) (own who h)
             → (t : TakesTurn s frames who h (M.stands s who self.new.machine (joined_ask self.new.ask self.new.items)) (joined_ask self.new.ask self.new.items) plain.new)
-            × Notes (joined_ask self.old.ask self.old.items) self.old.settled settled self.new.settled result t.entries }
+            × Notes (joined_ask self.old.ask self.old.items) self.old.settled (M.has_settled self.old.machine) self.new.settled result t.entries }
     {
         let Some(ask) = self.ask else {
             return true;
         };
         let _count = self.items.len();
+        let settled = self.machine.settled();
         let answer = plain.serve(who, ask, &mut self.items);
         let still = is_quiet(ask, answer, self.settled, settled);
         self.settled = settled;

@@ -2,24 +2,21 @@
 ghost use Rattle.std.specs.Prelude.{◌≡◌, ◌<◌, ◌≤◌, ◌+◌, ◌⊎◌, ℕ, IsTrue, false, Err, List, [], All, IfSome, IfOk, OnOk, length, map, vec_len};
 ghost use Rattle.std.specs.List.{concat, slice_index_or};
 ghost use Rattle.xsk_umem.specs.Geometry.{IsGeometry};
-ghost use Rattle.xsk_model.specs.Config.{IsRegular, classes_of};
+ghost use Rattle.xsk_model.specs.Config.{callers_of, classes_of};
 ghost use Rattle.xsk_model.specs.Opening.{AreFrames};
-ghost use Rattle.xsk_model.specs.Marks.{apps_of};
 ghost use Rattle.xsk_umem.specs.Frame.{Frame};
 ghost use Rattle.xsk_plain.specs.Left.{left_of};
 ghost use Rattle.xsk_plain.specs.Log.{calls_of, entries_of};
-ghost use Rattle.xsk_turns.specs.Inputs.{inputs_of};
-ghost use Rattle.xsk_driver.specs.Figures.{figures_in};
+ghost use Rattle.xsk_turns.specs.Owned.{IsSteady};
+ghost use Rattle.xsk_machine.specs.Workers.{AreNew};
 ghost use Rattle.xsk_driver.specs.Sent.{IsShort};
 ghost use Rattle.xsk_sim.specs.Shown.{HasShortPackets, packets_in};
 ghost use Rattle.xsk_turns.specs.Stepping.{joined_ask};
 ghost use Rattle.xsk_prog.specs.Program.{Obeys};
-ghost use Rattle.xsk_prog.specs.declared.rule.Verdict.{Verdict as AVerdict};
-ghost use Rattle.xsk_turns.specs.Workers.{Setting, AreGiven};
-ghost use Rattle.xsk_driver.specs.Asking.{IsAnswer};
+ghost use Rattle.xsk_turns.specs.Workers.{Setting};
 ghost use Rattle.xsk_sim.specs.Runs.{HasEnded, HasStalled, NeverStill, HasEndedUnder, HasStalledUnder};
 ghost use Rattle.xsk_sim.specs.Stalls.{StandStill};
-ghost use Rattle.xsk_sim.specs.Seats.{EachFrom, AreSeated, AreReady, HadRounds, HaveEnded, DriverSits, AppSits, kept_lists, new_own};
+ghost use Rattle.xsk_sim.specs.Seats.{EachFrom, AreSeated, AreReady, HadRounds, HaveEnded, Sits, kept_lists, kept_figures, new_own};
 
 use crate::order::Order;
 use crate::rounds::Workers;
@@ -27,9 +24,8 @@ use crate::seat::Seat;
 use std::alloc::Global;
 use std::marker::Model;
 use thiserror::Error;
-use xsk_app::App;
-use xsk_driver::{Driver, DriverFigures, FigureList, Figures, Inputs, Wire};
-use xsk_machine::driver_for;
+use xsk_driver::{Driver, Wire};
+use xsk_machine::{FigureList, Figures, Inputs, Kept, drivers_for, worker_of};
 use xsk_model::Config;
 use xsk_plain::{Lines, Log, Plain};
 use xsk_prog::{Verdict, XdpProgram};
@@ -123,10 +119,10 @@ impl Run {
 /// A run has stalled after so many rounds in which nothing changed.
 const STILL_ROUNDS: u64 = 64;
 
-/// Runs the drivers and applications of a regular configuration in rounds until all have ended, over one list of
-/// packets for each port, none of which has more than 262,144 bytes. The frames are all frames of its UMEM, the program is
-/// attached to every port, `wire` says what becomes of a packet that finds too few frames or no room on RX, and `order` is the
-/// number of the rounds' order.
+/// Runs the drivers and applications of a regular configuration, in which no socket is closed, in rounds until all have ended,
+/// over one list of packets for each port, none of which has more than 262,144 bytes. The frames are all frames of its UMEM, the
+/// program is attached to every port, `wire` says what becomes of a packet that finds too few frames or no room on RX, and
+/// `order` is the number of the rounds' order.
 ///
 /// Each driver asks the program once for each of its packets, so there is one list of verdicts for each driver, and all that
 /// is said of the run is said of these. Where the program's rule leaves one verdict for each packet, they are the rule's own
@@ -148,7 +144,7 @@ pub fn simulate<F: Fn(&[u8], u32) -> Verdict>(
     wire: Wire,
     order: u32,
 ) -> Result<Run, SimError>
-    requires regular { IsRegular config }
+    requires steady { IsSteady config }
     requires frames { AreFrames config.geometry frames.items }
     requires lists { length packets.now ≡ config.ports }
     requires short { All HasShortPackets packets.now }
@@ -161,10 +157,8 @@ pub fn simulate<F: Fn(&[u8], u32) -> Verdict>(
     let shared = config.copy(alloc)?;
     let inputs = Inputs::split(alloc, &shared, packets)?;
     let classes = shared.classes();
-    let workers = Workers {
-        drivers: seat_drivers(alloc, &shared, packets, &inputs, program, wire)?,
-        apps: seat_apps(alloc, &shared)?,
-    };
+    let drivers = drivers_for(alloc, &shared, packets, &inputs, program, wire)?;
+    let workers = seat_workers(alloc, &shared, drivers)?;
     let _geometry = shared.geometry();
     let Ok(plain) = Plain::open(alloc, config, frames) else {
         return Err(SimError::OutOfMemory);
@@ -183,8 +177,8 @@ fn run_workers(
 ) -> Result<Run, SimError>
     requires geometry { IsGeometry plain.config.geometry }
     requires ready { AreReady workers plain }
-    ensures pairs { IfOk result (λ run. run.pairs ≡ vec_len workers.entry.drivers) }
-    ensures ended { (s : Setting) (frames : List Frame) → IsRegular s.config → AreSeated s frames [] workers.entry plain
+    ensures pairs { (s : Setting) (frames : List Frame) → AreSeated s frames [] workers.entry plain → IfOk result (λ run. run.pairs ≡ length s.config.pairs) }
+    ensures ended { (s : Setting) (frames : List Frame) → IsSteady s.config → AreSeated s frames [] workers.entry plain
         → classes ≡ classes_of s.config → wire ≡ s.wire
         → IfOk result (HasEnded s frames order.number) }
     ensures stalled { (s : Setting) (frames : List Frame) (round : ℕ) → AreSeated s frames [] workers.entry plain
@@ -194,8 +188,9 @@ fn run_workers(
     let mut plain = plain;
     make_rounds(&mut workers, &mut plain, order)?;
     let calls = u64::from(plain.log().len());
-    let drivers = collect_figures(alloc, workers.drivers.as_slice(), classes)?;
-    let sent = collect_sent(alloc, workers)?;
+    let kept = collect(alloc, workers, classes)?;
+    let Kept { figures, sent } = kept;
+    let drivers = FigureList::of(figures);
     let figures = Figures {
         calls,
         wire,
@@ -212,7 +207,6 @@ fn run_workers(
 fn make_rounds(workers: &mut Workers<'_>, plain: &mut Plain, order: Order) -> Result<(), SimError>
     requires geometry { IsGeometry plain.old.config.geometry }
     requires ready { AreReady workers.old plain.old }
-    ensures drivers { vec_len workers.new.drivers ≡ vec_len workers.old.drivers }
     ensures ended { (s : Setting) (frames : List Frame) → AreSeated s frames [] workers.old plain.old
         → OnOk result ((count : ℕ) × (count ≤ 18446744073709551616) × HadRounds s frames order.number count workers.new plain.new × HaveEnded workers.new
         × NeverStill s frames order.number count) }
@@ -246,73 +240,40 @@ fn still_after(still: u64, quiet: bool) -> u64
     if quiet { still + 1 } else { 0 }
 }
 
-/// A driver for each pair, with room for the packets that come from the paired port.
-fn seat_drivers<'a, F: Fn(&[u8], u32) -> Verdict>(
+/// A seat for each caller: the drivers of all pairs, and then the applications.
+fn seat_workers<'a>(
     alloc: Global,
     config: &'a Config,
-    packets: &'a [PacketList],
-    inputs: &'a Inputs,
-    program: &XdpProgram<F>,
-    wire: Wire,
-) -> Result<Vec<Seat<Driver<'a>>>, OutOfMemory>
-    requires regular { IsRegular config.now }
-    requires lists { length packets.now ≡ config.now.ports }
-    requires inputs { inputs.now ≡ inputs_of config.now packets.now }
-    requires short { All HasShortPackets packets.now }
-    requires obeys { Obeys F.Fn program.now.rule program.now.decide }
-    ensures count { IfOk result (λ seats. vec_len seats ≡ length config.now.pairs) }
-    ensures settled { IfOk result (λ seats. EachFrom seats.items 0 (λ who seat. seat.settled ≡ 0)) }
-    ensures seated { IfOk result (λ seats. (verdicts : List (List AVerdict)) × AreGiven (IsAnswer F.Fn program.now.rule program.now.decide) (record { config = config.now; wire = wire; packets = packets.now; verdicts = verdicts })
-        × EachFrom seats.items 0 (λ who seat. DriverSits (record { config = config.now; wire = wire; packets = packets.now; verdicts = verdicts }) new_own who seat.machine (joined_ask seat.ask seat.items))) }
+    drivers: Vec<Driver<'a>>,
+) -> Result<Workers<'a>, OutOfMemory>
+    requires steady { IsSteady config.now }
+    requires count { length drivers.items ≡ length config.now.pairs }
+    requires new { (s : Setting) × (s.config ≡ config.now) × AreNew s 0 drivers.items }
+    ensures count { IfOk result (λ workers. vec_len workers.seats ≡ callers_of config.now) }
+    ensures settled { IfOk result (λ workers. EachFrom workers.seats.items 0 (λ who seat. seat.settled ≡ 0)) }
+    ensures seated { (s : Setting) → s.config ≡ config.now → AreNew s 0 drivers.entry.items
+        → IfOk result (λ workers. EachFrom workers.seats.items 0 (λ who seat. Sits s new_own who seat.machine (joined_ask seat.ask seat.items))) }
 {
-    let mut seats = Vec::with_capacity(alloc, config.pairs().len())?;
-    for pair in 0..config.pairs().len() as u32 {
-        let driver = driver_for(alloc, config, packets, inputs, program, wire, pair)?;
-        seats.push(Seat::new(alloc, driver))?;
+    let callers = config.callers();
+    let mut seats = Vec::with_capacity(alloc, callers as usize)?;
+    let mut drivers = drivers.into_iter();
+    for who in 0..callers {
+        let worker = worker_of(alloc, config, drivers.next(), who)?;
+        seats.push(Seat::new(worker))?;
     }
-    Ok(seats)
+    Ok(Workers { seats })
 }
 
-/// An application for each queue of two paired ports.
-fn seat_apps<'a>(alloc: Global, config: &'a Config) -> Result<Vec<Seat<App<'a>>>, OutOfMemory>
-    requires regular { IsRegular config.now }
-    ensures count { IfOk result (λ seats. vec_len seats ≡ apps_of config.now) }
-    ensures seated { (s : Setting) → s.config ≡ config.now
-        → IfOk result (λ seats. EachFrom seats.items (length config.now.pairs) (λ who seat. AppSits s new_own who seat.machine (joined_ask seat.ask seat.items))) }
+/// What is kept of workers that have ended, each of whose queues has so many sockets.
+fn collect(alloc: Global, workers: Workers<'_>, classes: u32) -> Result<Kept, OutOfMemory>
+    ensures short { IfOk result (λ kept. All HasShortPackets kept.sent.items) }
+    ensures sent { IfOk result (λ kept. map packets_in kept.sent.items ≡ kept_lists workers.entry) }
+    ensures figures { IfOk result (λ kept. kept.figures.items ≡ kept_figures classes workers.entry) }
 {
-    let count = (config.ports() / 2) * config.queues();
-    let mut seats = Vec::with_capacity(alloc, count as usize)?;
-    for app in 0..count {
-        seats.push(Seat::new(alloc, App::new(alloc, config, app)?))?;
+    let Workers { seats } = workers;
+    let mut kept = Kept::with_room(alloc, seats.len())?;
+    for seat in seats {
+        kept.keep(seat.into_machine(), classes);
     }
-    Ok(seats)
-}
-
-/// The figures of drivers that have ended, each of whose queues has so many sockets.
-fn collect_figures(
-    alloc: Global,
-    drivers: &[Seat<Driver<'_>>],
-    classes: u32,
-) -> Result<FigureList, OutOfMemory>
-    ensures { IfOk result (λ figures. figures ≡ map (λ seat. figures_in classes seat.machine) drivers.now) }
-{
-    let mut figures = FigureList::new(alloc);
-    for seat in drivers {
-        figures.push(DriverFigures::of_driver(seat.machine(), classes))?;
-    }
-    Ok(figures)
-}
-
-/// What each driver keeps of the packets that it sent.
-fn collect_sent(alloc: Global, workers: Workers<'_>) -> Result<Vec<PacketList>, OutOfMemory>
-    ensures count { IfOk result (λ sent. vec_len sent ≡ vec_len workers.entry.drivers) }
-    ensures short { IfOk result (λ sent. All HasShortPackets sent.items) }
-    ensures kept { IfOk result (λ sent. map packets_in sent.items ≡ kept_lists workers.entry) }
-{
-    let Workers { drivers, apps: _ } = workers;
-    let mut sent = Vec::with_capacity(alloc, drivers.len())?;
-    for seat in drivers {
-        sent.push(seat.into_machine().into_sent())?;
-    }
-    Ok(sent)
+    Ok(kept)
 }

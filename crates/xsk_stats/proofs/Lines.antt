@@ -5,8 +5,8 @@ use Rattle.std.specs.List.{range_with_len}
 use Rattle.std.proofs.lemmas.List.{flat_map_more}
 use Rattle.xsk_model.specs.Config.{Config, pair_at, classes_of}
 use Rattle.xsk_model.specs.declared.config.PairInfo.{PairInfo}
-use Rattle.xsk_driver.specs.declared.figures.DriverFigures.{DriverFigures}
-use Rattle.xsk_driver.specs.declared.figures.Figures.{Figures}
+use Rattle.xsk_machine.specs.declared.figures.DriverFigures.{DriverFigures}
+use Rattle.xsk_machine.specs.declared.figures.Figures.{Figures}
 use Rattle.xsk_stats.specs.Report.{setting_line, calls_line, driver_line, pair_line, socket_lines, lines_of, total_line, totals_of, figures_at, report_text}
 use Rattle.xsk_stats.specs.declared.totals.Statistics.{Statistics}
 

@@ -13,9 +13,9 @@ use Rattle.xsk_turns.specs.declared.disposal.Disposal.TheVariants.{Delivered, No
 use Rattle.xsk_turns.specs.declared.disposal.DriverCounters.{DriverCounters}
 use Rattle.xsk_turns.specs.declared.wire.Wire.{Wire}
 use Rattle.xsk_turns.specs.declared.wire.Wire.TheVariants.{Wait, Drop}
-use Rattle.xsk_driver.specs.Figures.{kind_of, figures_by}
-use Rattle.xsk_driver.specs.declared.figures.DriverFigures.{DriverFigures}
-use Rattle.xsk_driver.specs.declared.figures.Figures.{Figures}
+use Rattle.xsk_machine.specs.Figures.{kind_of, figures_by}
+use Rattle.xsk_machine.specs.declared.figures.DriverFigures.{DriverFigures}
+use Rattle.xsk_machine.specs.declared.figures.Figures.{Figures}
 use Rattle.xsk_stats.specs.declared.totals.Statistics.{Statistics}
 
 -- ---- words and numbers

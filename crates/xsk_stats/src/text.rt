@@ -7,7 +7,8 @@ ghost use Rattle.xsk_stats.specs.Report.{at_queue, calls_line, driver_line, figu
 use crate::totals::{Statistics, add_up};
 use std::alloc::Global;
 use std::fmt::Write;
-use xsk_driver::{DriverCounters, DriverFigures, FigureList, Figures, Wire};
+use xsk_driver::{DriverCounters, Wire};
+use xsk_machine::{DriverFigures, FigureList, Figures};
 use xsk_model::{Config, PairInfo};
 use xsk_umem::OutOfMemory;
 

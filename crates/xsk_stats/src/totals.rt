@@ -1,10 +1,10 @@
 //! The sums of the statistics of all drivers.
 ghost use Rattle.std.specs.Prelude.{◌≡◌, ◌+◌, ◌≤◌, List, [], ◌∷◌, ◌++◌};
-ghost use Rattle.xsk_driver.specs.declared.figures.DriverFigures.{DriverFigures as AFigures};
+ghost use Rattle.xsk_machine.specs.declared.figures.DriverFigures.{DriverFigures as AFigures};
 ghost use Rattle.xsk_turns.specs.Counted.{capped};
 ghost use Rattle.xsk_stats.specs.Report.{of_sockets, totals_of};
 
-use xsk_driver::{DriverFigures, FigureList};
+use xsk_machine::{DriverFigures, FigureList};
 
 /// The statistics of sockets, in the order of if_xdp.h, `struct xdp_statistics`.
 #[derive(Clone, Copy, Debug, Default, PartialEq, Eq)]

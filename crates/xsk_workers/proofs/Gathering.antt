@@ -9,23 +9,24 @@ use Rattle.xsk_model.specs.Config.{callers_of, classes_of}
 use Rattle.xsk_model.specs.Entry.{Told, own}
 use Rattle.xsk_model.specs.declared.call.Act.TheVariants.{Ended}
 use Rattle.xsk_model.proofs.CallTheorems.{callers_exist}
+use Rattle.xsk_turns.specs.Owned.{IsSteady}
 use Rattle.xsk_turns.specs.Counted.{capped}
 use Rattle.xsk_turns.specs.Workers.{Setting, IsWholeRun, input_of}
 use Rattle.xsk_turns.specs.declared.wire.Wire.{Wire}
-use Rattle.xsk_driver.specs.Figures.{figures_in}
-use Rattle.xsk_driver.specs.Figured.{driver_figures_by, driver_figures_of, figures_of}
+use Rattle.xsk_machine.specs.Figures.{figures_in}
+use Rattle.xsk_machine.specs.Figured.{driver_figures_by, driver_figures_of, figures_of}
 use Rattle.xsk_driver.specs.Shown.{Shown as DriverShown}
-use Rattle.xsk_driver.specs.declared.figures.DriverFigures.{DriverFigures}
-use Rattle.xsk_driver.specs.declared.figures.Figures.{Figures}
-use Rattle.xsk_driver.proofs.Figured.{figures_at_end}
+use Rattle.xsk_machine.specs.declared.figures.DriverFigures.{DriverFigures}
+use Rattle.xsk_machine.specs.declared.figures.Figures.{Figures}
+use Rattle.xsk_machine.proofs.Figured.{figures_at_end}
 use Rattle.xsk_machine.specs.Acts.{DriverStands}
 use Rattle.xsk_machine.proofs.Acts.{sent_at}
 use Rattle.xsk_table.specs.Held.{Board, Holder, new_pass}
 use Rattle.xsk_table.specs.Opening.{new_passes}
 use Rattle.xsk_workers.specs.Shown.{WorkerShown, Seat, seat_of, seat_at, HasRun}
-use Rattle.xsk_workers.specs.Eithers.{Stands, kept_of, figures_kept}
+use Rattle.xsk_machine.specs.Workers.{Stands, kept_of, figures_kept}
 use Rattle.xsk_umem.specs.Frame.{Frame}
-use Rattle.xsk_model.specs.Config.{Config, IsRegular}
+use Rattle.xsk_model.specs.Config.{Config}
 use Rattle.xsk_model.specs.Entry.{Entry}
 use Rattle.xsk_model.specs.History.{IsHistory}
 use Rattle.xsk_model.specs.Sent.{sent as sent_in}
@@ -38,8 +39,8 @@ use Rattle.xsk_workers.specs.Shown.{AreOf}
 use Rattle.xsk_workers.specs.Forwarded.{HasForwarded}
 use Rattle.xsk_workers.specs.Gathering.{HaveRun, HaveRunFrom, AreTaken, AreGiven, AreKept, AreSent, IsSentOf, AreFiguresOf, IsFiguresOf, calls_in}
 use Rattle.xsk_workers.proofs.Calls.{calls_are}
-use Rattle.xsk_workers.specs.declared.either.Either.{Either}
-use Rattle.xsk_workers.specs.declared.either.Either.TheVariants.{Driver, App}
+use Rattle.xsk_machine.specs.declared.worker.AnyWorker.{AnyWorker}
+use Rattle.xsk_machine.specs.declared.worker.AnyWorker.TheVariants.{Driver, App}
 
 -- ---- taken
 
@@ -136,11 +137,11 @@ module _ (b : Board) (s : Setting) (n : ℕ) (passes : List (Option Holder)) (p 
         each = λ w none below. let old = kept.each w none below in (old.0, before w (omega (arith, below, count, past)) ∙ old.1, old.2);
       })
 
-  pub sent_more : (lists : List (List (List ℕ))) (m : Either) → Stands s n m Ended (own n p.view.seen) → AreSent s n passes lists → AreSent s (n + 1) more (lists ++ kept_of m)
+  pub sent_more : (lists : List (List (List ℕ))) (m : AnyWorker) → Stands s n m Ended (own n p.view.seen) → AreSent s n passes lists → AreSent s (n + 1) more (lists ++ kept_of m)
   sent_more lists (Driver d) stands sent = one_kept (IsSentOf s) lists d.sent.packets stands.known (λ within. sent_at s n d Ended (own n p.view.seen) refl stands within) sent
   sent_more lists (App a) stands sent = none_kept (IsSentOf s) lists (omega (arith, stands.caller)) sent
 
-  pub figures_more : (classes : ℕ) (figures : List DriverFigures) (m : Either) → classes ≡ classes_of s.config → Stands s n m Ended (own n p.view.seen) → AreFiguresOf s n passes figures
+  pub figures_more : (classes : ℕ) (figures : List DriverFigures) (m : AnyWorker) → classes ≡ classes_of s.config → Stands s n m Ended (own n p.view.seen) → AreFiguresOf s n passes figures
       → AreFiguresOf s (n + 1) more (figures ++ figures_kept classes m)
   figures_more classes figures (Driver d) is stands kept = one_kept (IsFiguresOf s) figures (figures_in classes d) stands.known (figures_at s n classes d (own n p.view.seen) is stands) kept
   figures_more classes figures (App a) is stands kept = none_kept (IsFiguresOf s) figures (omega (arith, stands.caller)) kept
@@ -188,16 +189,16 @@ module _ (b : Board) (s : Setting) (n : ℕ) (w : WorkerShown) (rest : List Work
   pub whole_here : IsWholeRun s n (own n w.pass.view.seen)
   whole_here = at_seat (λ t k. IsWholeRun t k (own k w.pass.view.seen)) run.1
 
-  pub stands_here : (m : Either) → Stands w.setting w.pass.who m Ended (own w.pass.who w.pass.view.seen) → Stands s n m Ended (own n w.pass.view.seen)
+  pub stands_here : (m : AnyWorker) → Stands w.setting w.pass.who m Ended (own w.pass.who w.pass.view.seen) → Stands s n m Ended (own n w.pass.view.seen)
   stands_here m h = at_seat (λ t k. Stands t k m Ended (own k w.pass.view.seen)) h
 
 -- there is room for what is kept of a driver
-pub kept_few : {X : Type 0} (Is : ℕ → List Told → X → Type 0) (s : Setting) (n : ℕ) (passes : List (Option Holder)) (xs : List X) (m : Either) (l : List Told) → Stands s n m Ended l → AreKept Is s n passes xs
+pub kept_few : {X : Type 0} (Is : ℕ → List Told → X → Type 0) (s : Setting) (n : ℕ) (passes : List (Option Holder)) (xs : List X) (m : AnyWorker) (l : List Told) → Stands s n m Ended l → AreKept Is s n passes xs
     → length xs + length (kept_of m) ≤ length s.config.pairs
 kept_few Is s n passes xs (Driver d) l stands kept = omega (arith, stands.known, kept.first (omega (arith, stands.known)))
 kept_few Is s n passes xs (App a) l stands kept = omega (arith, kept.all (omega (arith, stands.caller)))
 
-pub as_many : (classes : ℕ) (m : Either) → length (figures_kept classes m) ≡ length (kept_of m)
+pub as_many : (classes : ℕ) (m : AnyWorker) → length (figures_kept classes m) ≡ length (kept_of m)
 as_many classes (Driver d) = refl
 as_many classes (App a) = refl
 
@@ -225,7 +226,7 @@ figures_by_parts calls wire drivers = record { calls = calls; wire = wire; drive
 
 -- in the history in which all passes end each caller's own calls and replies are a whole run, and what was kept as sent, as
 -- figures and as the number of calls is what it should be there
-module _ (b : Board) (s : Setting) (frames : List Frame) (passes : List (Option Holder)) (lists : List (List (List ℕ))) (drivers : List DriverFigures) (calls : ℕ) (wire : Wire) (h : List Entry) (regular : IsRegular s.config)
+module _ (b : Board) (s : Setting) (frames : List Frame) (passes : List (Option Holder)) (lists : List (List (List ℕ))) (drivers : List DriverFigures) (calls : ℕ) (wire : Wire) (h : List Entry) (steady : IsSteady s.config)
     (config : s.config ≡ b.setup.config) (opened : b.setup.frames ≡ frames) (given : AreGiven b s (callers_of b.setup.config) passes) (sent : AreSent s (callers_of b.setup.config) passes lists)
     (figured : AreFiguresOf s (callers_of b.setup.config) passes drivers) (counted : calls ≡ capped (calls_in 0 passes)) (same_wire : wire ≡ s.wire) (ends : EndsIn b passes h) where
   legal : IsHistory s.config frames h
@@ -251,12 +252,12 @@ module _ (b : Board) (s : Setting) (frames : List Frame) (passes : List (Option 
       subst (λ l. Is pair l (get_or xs pair none)) (sym mine) at.2
 
   sent_is : (pair : ℕ) → pair < length s.config.pairs → get_or lists pair [] ≡ sent_in s.config h pair
-  sent_is pair below = kept_is (IsSentOf s) lists sent pair [] below (are_within s frames h regular legal whole pair below)
+  sent_is pair below = kept_is (IsSentOf s) lists sent pair [] below (are_within s frames h steady legal whole pair below)
 
   drivers_are : drivers ≡ map (driver_figures_of s h) (range_with_len 0 (length s.config.pairs))
   drivers_are =
       fill_by_all (driver_figures_of s h) drivers (length s.config.pairs) (driver_figures_of s h 0) (figured.all past)
-      (λ k below. kept_is (IsFiguresOf s) drivers figured k (driver_figures_of s h 0) below (are_within s frames h regular legal whole k below))
+      (λ k below. kept_is (IsFiguresOf s) drivers figured k (driver_figures_of s h 0) below (are_within s frames h steady legal whole k below))
 
   calls_is : calls ≡ capped (length h)
   calls_is =
@@ -282,7 +283,7 @@ module _ (b : Board) (s : Setting) (frames : List Frame) (passes : List (Option 
     figures = figures_are;
     woken = λ past later pair split below.
         none_is_lost_in_whole_runs s.wire s.config s.packets s.verdicts frames past later pair
-        (subst (AreWholeRuns s.wire s.config s.packets s.verdicts frames) split (whole_runs s frames h regular legal whole)) below;
+        (subst (AreWholeRuns s.wire s.config s.packets s.verdicts frames) split (whole_runs s frames h steady legal whole)) below;
   }
 
   pub pairs_are : length lists ≡ length s.config.pairs

@@ -1,6 +1,6 @@
 pub mod Going
 pub mod Sleeping
-pub mod Making
+pub mod Ruling
 pub mod Seats
 pub mod Lists
 pub mod Calls

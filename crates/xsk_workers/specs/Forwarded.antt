@@ -5,7 +5,7 @@ use Rattle.std.specs.Fn.{Shared}
 use denote.Ref.{Bor}
 use Rattle.xsk_umem.specs.Frame.{Frame}
 use Rattle.xsk_umem.specs.PacketList.{PacketList}
-use Rattle.xsk_model.specs.Config.{Config, IsRegular, callers_of}
+use Rattle.xsk_model.specs.Config.{Config, callers_of}
 use Rattle.xsk_model.specs.Steering.{driver_on}
 use Rattle.xsk_model.specs.Entry.{Entry, own}
 use Rattle.xsk_model.specs.History.{IsHistory, state_after}
@@ -13,13 +13,16 @@ use Rattle.xsk_model.specs.Holders.{HasOneHolder}
 use Rattle.xsk_model.specs.Sent.{sent}
 use Rattle.xsk_prog.specs.declared.rule.Rule.{Rule}
 use Rattle.xsk_prog.specs.declared.rule.Verdict.{Verdict}
+use Rattle.xsk_turns.specs.Owned.{IsSteady}
 use Rattle.xsk_turns.specs.Wakes.{NoWakeIsLost}
 use Rattle.xsk_turns.specs.Workers.{Setting, IsWholeRun, AreGiven}
 use Rattle.xsk_turns.specs.declared.wire.Wire.{Wire}
 use Rattle.xsk_turns.specs.declared.wire.Wire.TheVariants.{Wait}
 use Rattle.xsk_driver.specs.Asking.{IsAnswer}
-use Rattle.xsk_driver.specs.Figured.{figures_of}
-use Rattle.xsk_driver.specs.declared.figures.Figures.{Figures}
+use Rattle.xsk_machine.specs.Figured.{figures_of}
+use Rattle.xsk_machine.specs.declared.figures.Figures.{Figures}
+pub use Rattle.xsk_machine.specs.Acts.{packets_in}
+pub use Rattle.xsk_machine.specs.Workers.{setting_with}
 use Rattle.xsk_laws.specs.Laws.{AreForwarded, AreExpected}
 
 -- the history that the table's note shows, for each pair the packets that its driver kept as sent, and the figures
@@ -27,9 +30,6 @@ pub record OutcomeShown : Type 0 where
   pub history : List Entry
   pub sent : List (List (List ℕ))
   pub figures : Figures
-
-abbrev pub packets_in : PacketList → List (List ℕ)
-packets_in list = list.packets
 
 -- The history is legal from the opening with these frames. Of each worker it has a whole run of its turns over the packets
 -- that came, and of no one else anything. After each of its prefixes each frame has one holder and no wake is lost, and what each
@@ -42,10 +42,6 @@ pub record HasForwarded (s : Setting) (frames : List Frame) (o : OutcomeShown) :
   pub figures : o.figures ≡ figures_of s o.history
   pub woken : (past later : List Entry) (pair : ℕ) → o.history ≡ past ++ later → pair < length s.config.pairs → NoWakeIsLost s.config frames past pair
 
--- a setting, by its parts
-abbrev pub setting_with : Config → Wire → List PacketList → List (List Verdict) → Setting
-setting_with c wire packets verdicts = record { config = c; wire = wire; packets = packets; verdicts = verdicts }
-
 -- The same under a program: there are verdicts of each driver's packets, each an answer of the program's closure that meets
 -- its rule, with which it has forwarded.
 pub record HasForwardedUnder {F : Type 0} (g : Shared F (Bor (List ℕ) × (ℕ × Unit {0})) Verdict) (rule : Rule) (f : F) (wire : Wire) (c : Config) (packets : List PacketList) (frames : List Frame) (o : OutcomeShown) : Type 0 where
@@ -56,9 +52,9 @@ pub record HasForwardedUnder {F : Type 0} (g : Shared F (Bor (List ℕ) × (ℕ 
 -- What the driver of a port and queue sent is what was forwarded by all classes, whatever the wire does, and nothing else.
 -- Where the wire waits it is what is expected by them.
 abbrev pub AllAreForwarded : Type 0
-AllAreForwarded = (s : Setting) (frames : List Frame) (o : OutcomeShown) (port queue : ℕ) → IsRegular s.config → HasForwarded s frames o → port < s.config.ports → queue < s.config.queues
+AllAreForwarded = (s : Setting) (frames : List Frame) (o : OutcomeShown) (port queue : ℕ) → IsSteady s.config → HasForwarded s frames o → port < s.config.ports → queue < s.config.queues
     → AreForwarded s.wire s.config o.history s.packets s.verdicts port queue (slice_index_or o.sent (driver_on s.config port queue) [])
 
 abbrev pub AllAreExpected : Type 0
-AllAreExpected = (s : Setting) (frames : List Frame) (o : OutcomeShown) (port queue : ℕ) → s.wire ≡ Wait → IsRegular s.config → HasForwarded s frames o → port < s.config.ports → queue < s.config.queues
+AllAreExpected = (s : Setting) (frames : List Frame) (o : OutcomeShown) (port queue : ℕ) → s.wire ≡ Wait → IsSteady s.config → HasForwarded s frames o → port < s.config.ports → queue < s.config.queues
     → AreExpected s.config s.packets s.verdicts port queue (slice_index_or o.sent (driver_on s.config port queue) [])

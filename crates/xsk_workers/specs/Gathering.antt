@@ -4,8 +4,8 @@ use Rattle.xsk_model.specs.Config.{callers_of}
 use Rattle.xsk_model.specs.Entry.{Told, own}
 use Rattle.xsk_model.specs.Sent.{sockets_of, sent_from}
 use Rattle.xsk_turns.specs.Workers.{Setting, IsWholeRun, input_of}
-use Rattle.xsk_driver.specs.Figured.{driver_figures_by}
-use Rattle.xsk_driver.specs.declared.figures.DriverFigures.{DriverFigures}
+use Rattle.xsk_machine.specs.Figured.{driver_figures_by}
+use Rattle.xsk_machine.specs.declared.figures.DriverFigures.{DriverFigures}
 use Rattle.xsk_machine.proofs.Acts.{IsWithin}
 use Rattle.xsk_table.specs.Held.{Board, Holder, new_pass}
 use Rattle.xsk_workers.specs.Shown.{WorkerShown, seat_of, seat_at, HasRun}

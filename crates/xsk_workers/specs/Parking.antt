@@ -14,7 +14,7 @@ use Rattle.xsk_model.specs.Entry.{Told, with_told, own}
 use Rattle.xsk_model.specs.declared.ask.Ask.{Ask}
 use Rattle.xsk_model.specs.declared.ask.Ask.TheVariants.{Reserve, Submit, Peek, Release, Swap, Look}
 use Rattle.xsk_model.specs.declared.call.Mark.{Mark}
-use Rattle.xsk_model.specs.declared.call.Mark.TheVariants.{NeedFill, NeedTx, Kick, RxDone, Gone, TxDone, Cell}
+use Rattle.xsk_model.specs.declared.call.Mark.TheVariants.{Kick}
 use Rattle.xsk_model.specs.declared.call.Reply.{Reply}
 use Rattle.xsk_table.specs.Held.{Holder}
 use Rattle.xsk_turns.specs.Wakes.{IsParked}
@@ -38,13 +38,8 @@ pub record IsAsleep (w : WorkerShown) : Type 0 where
 
 -- the pair whose driver a call kicks: it sets the kick to 1
 abbrev pub kicked_at : Mark → ℕ → Option ℕ
-kicked_at (NeedFill d) value = None
-kicked_at (NeedTx t) value = None
 kicked_at (Kick d) value = if value == 1 then Some d else None
-kicked_at (RxDone d) value = None
-kicked_at (Gone d) value = None
-kicked_at (TxDone a) value = None
-kicked_at (Cell port index) value = None
+kicked_at mark value = None
 
 abbrev pub kicked_by : Ask → Option ℕ
 kicked_by (Reserve r n) = None

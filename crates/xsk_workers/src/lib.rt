@@ -2,8 +2,6 @@
 #![tactic(auto)]
 
 mod crew;
-mod either;
-mod kept;
 pub mod laws;
 mod parking;
 mod place;

@@ -15,7 +15,6 @@ ghost use Rattle.xsk_workers.specs.declared.worker.Pace.TheVariants.{Parked, End
 use crate::place::Place;
 use crossbeam_utils::Backoff;
 use crossbeam_utils::sync::{Parker, Unparker};
-use std::alloc::Global;
 use std::marker::Model;
 use std::sync::Wait;
 use xsk_machine::Machine;
@@ -75,13 +74,7 @@ impl<M: Machine + Drop, P: Place> Worker<M, P> {
     ghost use Rattle.xsk_workers.specs.Shown.{seat_of, HasRun, AreCounted};
 
     /// A new machine of a caller, with the caller's pass, with which no call was made, and its parker.
-    pub(crate) fn new(
-        alloc: Global,
-        place: P,
-        machine: M,
-        pass: Pass,
-        parker: Option<Parker>,
-    ) -> Worker<M, P>
+    pub(crate) fn new(place: P, machine: M, pass: Pass, parker: Option<Parker>) -> Worker<M, P>
         requires expected { M.expected machine ≡ nothing }
         requires pass { (pass.view.flight ≡ idle) × (pass.view.seen ≡ []) × (pass.view.setup.config ≡ (P.setting place).config) }
         requires machine { M.is_new (P.setting place) pass.who machine }
@@ -90,7 +83,7 @@ impl<M: Machine + Drop, P: Place> Worker<M, P> {
         ensures pass { result.pass ≡ pass }
     {
         let mut machine = machine;
-        let mut items = Batch::new(alloc);
+        let mut items = Batch::new();
         let ask = machine.step(None, &mut items);
         Worker {
             machine,

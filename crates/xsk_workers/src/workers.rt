@@ -1,15 +1,14 @@
 //! A run on threads: drivers and applications over one table, from its opening to its end.
-ghost use Rattle.std.specs.Prelude.{◌≡◌, ℕ, ◌≤◌, ◌<◌, List, [], map, false, true, All, length, vec_capacity, IfOk, IfSome, IfNone};
+ghost use Rattle.std.specs.Prelude.{◌≡◌, ℕ, ◌≤◌, ◌<◌, List, [], map, false, true, All, length, vec_capacity, IfOk};
 ghost use Rattle.std.specs.List.{range_with_len};
 ghost use Rattle.xsk_umem.specs.Frame.{Frame as Body};
-ghost use Rattle.xsk_model.specs.Config.{IsRegular, callers_of, classes_of};
-ghost use Rattle.xsk_model.specs.Expected.{nothing};
+ghost use Rattle.xsk_model.specs.Config.{callers_of, classes_of};
 ghost use Rattle.xsk_model.specs.Opening.{AreFrames};
-ghost use Rattle.xsk_turns.specs.Inputs.{inputs_of};
+ghost use Rattle.xsk_turns.specs.Owned.{IsSteady};
 ghost use Rattle.xsk_prog.specs.Program.{Obeys};
 ghost use Rattle.xsk_prog.specs.Rules.{is_exact};
 ghost use Rattle.xsk_turns.specs.Counted.{capped};
-ghost use Rattle.xsk_turns.specs.Workers.{Setting, ruled, AreGiven as HaveVerdicts};
+ghost use Rattle.xsk_turns.specs.Workers.{Setting, ruled};
 ghost use Rattle.xsk_driver.specs.Sent.{IsShort};
 ghost use Rattle.xsk_machine.specs.Acts.{HasShortPackets};
 ghost use Rattle.xsk_table.specs.Held.{Board};
@@ -17,14 +16,10 @@ ghost use Rattle.xsk_table.specs.Opening.{new_passes};
 ghost use Rattle.xsk_workers.specs.Shown.{WorkerShown, seat_of, seat_at, HasRun, AreOf};
 ghost use Rattle.xsk_workers.specs.Parking.{token_of, token_in};
 ghost use Rattle.xsk_workers.specs.Gathering.{HaveRun, AreTaken, AreGiven, AreSent, AreFiguresOf, calls_in};
-ghost use Rattle.xsk_workers.specs.Eithers.{IsNew, awaits};
 ghost use Rattle.xsk_workers.specs.Forwarded.{HasForwarded, HasForwardedUnder, packets_in, setting_with};
-ghost use Rattle.xsk_workers.specs.Drivers.{kept_in, IsFresh, AreNew};
-ghost use Rattle.xsk_driver.specs.Asking.{IsAnswer};
+ghost use Rattle.xsk_machine.specs.Workers.{AreNew};
 
 use crate::crew::{Crew, run_crew};
-use crate::either::Either;
-use crate::kept::Kept;
 use crate::parking::parkers_for;
 use crate::place::{Source, Verdicts};
 use crate::worker::Worker;
@@ -34,10 +29,9 @@ use std::marker::{Brand, Model, PhantomData};
 use std::mem;
 use std::sync::Wait;
 use std::thread::Threads;
-use xsk_app::App;
-use xsk_driver::{Driver, FigureList, Figures, Inputs, Wire};
+use xsk_driver::{Driver, Wire};
 use xsk_io::Gate;
-use xsk_machine::driver_for;
+use xsk_machine::{AnyWorker, FigureList, Figures, Inputs, Kept, drivers_for, worker_of};
 use xsk_model::Config;
 use xsk_prog::{Verdict, XdpProgram};
 use xsk_table::{Note, Passes, Shared};
@@ -100,9 +94,9 @@ impl Outcome {
     }
 }
 
-/// Runs the drivers and applications of a regular configuration, each in a thread of its own where one can be had, until
-/// all have ended, over one list of packets for each port, none of which has more than 262,144 bytes. The frames are all
-/// frames of its UMEM. The program is attached to every port, and asked once for each packet before a worker starts: the run is
+/// Runs the drivers and applications of a regular configuration, in which no socket is closed, each in a thread of its own where
+/// one can be had, until all have ended, over one list of packets for each port, none of which has more than 262,144 bytes. The
+/// frames are all frames of its UMEM. The program is attached to every port, and asked once for each packet before a worker starts: the run is
 /// one under the verdicts that it gave, which are the rule's own where that leaves one for each packet. The wire says what
 /// becomes of a packet that finds too few frames or no room on RX. Each worker passes the gate before each of its turns.
 ///
@@ -121,7 +115,7 @@ pub fn forward<R: Threads + Wait + Sync, F: Fn(&[u8], u32) -> Verdict, G: Gate +
     wire: Wire,
     gate: &G,
 ) -> Result<Outcome, OutOfMemory>
-    requires regular { IsRegular config }
+    requires steady { IsSteady config }
     requires frames { AreFrames config.geometry frames.items }
     requires lists { length packets.now ≡ config.ports }
     requires short { All HasShortPackets packets.now }
@@ -140,31 +134,6 @@ pub fn forward<R: Threads + Wait + Sync, F: Fn(&[u8], u32) -> Verdict, G: Gate +
     Ok(outcome)
 }
 
-/// A driver for each pair. The program is asked once for each packet.
-fn drivers_for<'a, F: Fn(&[u8], u32) -> Verdict>(
-    alloc: Global,
-    config: &'a Config,
-    packets: &'a [PacketList],
-    inputs: &'a Inputs,
-    program: &XdpProgram<F>,
-    wire: Wire,
-) -> Result<Vec<Driver<'a>>, OutOfMemory>
-    requires regular { IsRegular config.now }
-    requires lists { length packets.now ≡ config.now.ports }
-    requires inputs { inputs.now ≡ inputs_of config.now packets.now }
-    requires short { All HasShortPackets packets.now }
-    requires obeys { Obeys F.Fn program.now.rule program.now.decide }
-    ensures new { IfOk result (λ drivers. AreNew (setting_with config.now wire packets.now (kept_in drivers.items)) 0 drivers.items) }
-    ensures asked { IfOk result (λ drivers. HaveVerdicts (IsAnswer F.Fn program.now.rule program.now.decide) (setting_with config.now wire packets.now (kept_in drivers.items))) }
-{
-    let count = config.pairs().len() as u32;
-    let mut drivers = Vec::with_capacity(alloc, count as usize)?;
-    for pair in 0..count {
-        drivers.push(driver_for(alloc, config, packets, inputs, program, wire, pair)?)?;
-    }
-    Ok(drivers)
-}
-
 /// Runs drivers that were made for these packets, and the applications, under the verdicts that the drivers keep.
 fn run_drivers<'a, V: Verdicts + Send, R: Threads + Wait + Sync, G: Gate + Sync>(
     rt: &R,
@@ -178,7 +147,7 @@ fn run_drivers<'a, V: Verdicts + Send, R: Threads + Wait + Sync, G: Gate + Sync>
     drivers: Vec<Driver<'a>>,
 ) -> Result<Outcome, OutOfMemory>
     requires own { own.now ≡ config }
-    requires regular { IsRegular config }
+    requires steady { IsSteady config }
     requires frames { AreFrames config.geometry frames.items }
     requires count { length drivers.items ≡ length config.pairs }
     requires new { AreNew (setting_with config wire packets.now V.verdicts) 0 drivers.items }
@@ -202,13 +171,9 @@ fn run_drivers<'a, V: Verdicts + Send, R: Threads + Wait + Sync, G: Gate + Sync>
     let workers = seat_workers(alloc, &shared, place, drivers, parkers, &mut passes)?;
     let crew = Crew::new(alloc, &shared, place, workers)?;
     let workers = run_crew(rt, &shared, gate, crew);
-    give_back(&shared, workers, classes, &mut passes, &mut kept);
+    let calls = give_back(&shared, workers, classes, &mut passes, &mut kept);
     let (_frames, note) = shared.close(passes);
-    let Kept {
-        calls,
-        figures,
-        sent,
-    } = kept;
+    let Kept { figures, sent } = kept;
     let drivers = FigureList::of(figures);
     Ok(Outcome {
         note,
@@ -230,8 +195,8 @@ fn seat_workers<'a, V: Verdicts>(
     drivers: Vec<Driver<'a>>,
     parkers: Vec<Parker>,
     passes: &mut Passes,
-) -> Result<Vec<Worker<Either<'a>, Source<'a, V>>>, OutOfMemory>
-    requires regular { IsRegular place.config.now }
+) -> Result<Vec<Worker<AnyWorker<'a>, Source<'a, V>>>, OutOfMemory>
+    requires steady { IsSteady place.config.now }
     requires count { length drivers.items ≡ length place.config.now.pairs }
     requires new { AreNew (setting_with place.config.now place.wire place.packets.now V.verdicts) 0 drivers.items }
     requires table { shared.now.setup.config ≡ place.config.now }
@@ -246,60 +211,41 @@ fn seat_workers<'a, V: Verdicts>(
     let mut drivers = drivers.into_iter();
     let mut parkers = parkers.into_iter();
     for who in 0..callers {
-        let machine = machine_of(alloc, place, drivers.next(), who)?;
+        let machine = worker_of(alloc, place.config, drivers.next(), who)?;
         let Some(pass) = passes.take(who) else {
             unreachable!()
         };
-        workers.push(Worker::new(alloc, place, machine, pass, parkers.next()))?;
+        workers.push(Worker::new(place, machine, pass, parkers.next()))?;
     }
     Ok(workers)
 }
 
-/// The machine of a caller: its driver, or where it has none its application.
-fn machine_of<'a, V: Verdicts>(
-    alloc: Global,
-    place: Source<'a, V>,
-    driver: Option<Driver<'a>>,
-    who: u32,
-) -> Result<Either<'a>, OutOfMemory>
-    requires regular { IsRegular place.config.now }
-    requires caller { who < callers_of place.config.now }
-    requires driver { IfSome driver (IsFresh (setting_with place.config.now place.wire place.packets.now V.verdicts) who) }
-    requires app { IfNone driver (length place.config.now.pairs ≤ who) }
-    ensures new { IfOk result (IsNew (setting_with place.entry.config.now place.entry.wire place.entry.packets.now V.verdicts) who) }
-    ensures awaits { IfOk result (λ m. awaits m ≡ nothing) }
-{
-    let config = place.config;
-    if let Some(driver) = driver {
-        return Ok(Either::Driver(driver));
-    }
-    let app = App::new(alloc, config, who - config.pairs().len() as u32)?;
-    Ok(Either::App(app))
-}
-
-/// Gives the passes of workers that have ended back, and keeps what is left of the workers.
+/// Gives the passes of workers that have ended back, and keeps what is left of the workers. Says how many calls they made.
 fn give_back<'a, V: Verdicts>(
     shared: &Shared,
-    workers: Vec<Worker<Either<'a>, Source<'a, V>>>,
+    workers: Vec<Worker<AnyWorker<'a>, Source<'a, V>>>,
     classes: u32,
     passes: &mut Passes,
     kept: &mut Kept,
-)
+) -> u64
     requires run { (s : Setting) × HaveRun shared.now s workers.items }
     requires count { length workers.items ≡ callers_of shared.now.setup.config }
     requires classes { classes ≡ classes_of shared.now.setup.config }
     requires taken { AreTaken shared.now (callers_of shared.now.setup.config) passes.old }
-    requires none { (kept.old.calls ≡ 0) × (kept.old.figures.items ≡ []) × (kept.old.sent.items ≡ []) }
+    requires none { (kept.old.figures.items ≡ []) × (kept.old.sent.items ≡ []) }
     requires room { (length shared.now.setup.config.pairs ≤ vec_capacity kept.old.figures) × (length shared.now.setup.config.pairs ≤ vec_capacity kept.old.sent) }
     ensures given { (s : Setting) → HaveRun shared.now s workers.entry.items → AreGiven shared.now s (callers_of shared.now.setup.config) passes.new }
     ensures sent { (s : Setting) → HaveRun shared.now s workers.entry.items → AreSent s (callers_of shared.now.setup.config) passes.new (map packets_in kept.new.sent.items) }
     ensures figures { (s : Setting) → HaveRun shared.now s workers.entry.items → AreFiguresOf s (callers_of shared.now.setup.config) passes.new kept.new.figures.items }
-    ensures calls { kept.new.calls ≡ capped (calls_in 0 passes.new) }
+    ensures calls { result ≡ capped (calls_in 0 passes.new) }
     ensures short { All HasShortPackets kept.new.sent.items }
 {
+    let mut calls = 0u64;
     for worker in workers {
-        let (machine, pass, calls) = worker.into_parts();
+        let (machine, pass, made) = worker.into_parts();
         passes.give(pass);
-        kept.keep(machine, classes, calls);
+        kept.keep(machine, classes);
+        calls = calls.saturating_add(made);
     }
+    calls
 }

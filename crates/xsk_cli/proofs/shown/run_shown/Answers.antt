@@ -3,7 +3,7 @@ use Rattle.std.proofs.lemmas.List.{length-map}
 use Rattle.std.proofs.lemmas.List.FromFn.{length-map-range_with_len}
 use Rattle.std.proofs.lemmas.Option.{same_Some}
 use Rattle.xsk_model.specs.Config.{Config, IsRegular}
-use Rattle.xsk_driver.specs.declared.figures.Figures.{Figures}
+use Rattle.xsk_machine.specs.declared.figures.Figures.{Figures}
 use Rattle.xsk_stats.specs.Report.{report_text}
 use Rattle.xsk_socket.specs.Regular.{regular_of}
 use Rattle.xsk_workers.specs.Forwarded.{HasForwarded}
@@ -16,7 +16,7 @@ use Rattle.xsk_cli.proofs.Running.{pairs_are, shown_writable, texts_shown}
 use Rattle.xsk_cli.proofs.shown.run_shown.Goals as goal
 
 pub keep_shown-requires-clause-regular : goal.keep_shown-requires-clause-regular
-keep_shown-requires-clause-regular g c = subst IsRegular (sym c.in_ok-shared.ensures) c.in_ok-config.ensures.regular
+keep_shown-requires-clause-regular g c = subst IsRegular (sym c.in_ok-shared.ensures) c.in_ok-config.ensures.steady.regular
 
 pub keep_shown-requires-clause-drivers : goal.keep_shown-requires-clause-drivers
 keep_shown-requires-clause-drivers g c =

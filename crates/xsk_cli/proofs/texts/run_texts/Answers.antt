@@ -4,7 +4,7 @@ use Rattle.std.specs.List.{range_with_len}
 use Rattle.std.proofs.lemmas.List.{length-map}
 use Rattle.std.proofs.lemmas.List.FromFn.{length-map-range_with_len}
 use Rattle.xsk_model.specs.Config.{Config, IsRegular}
-use Rattle.xsk_driver.specs.declared.figures.Figures.{Figures}
+use Rattle.xsk_machine.specs.declared.figures.Figures.{Figures}
 use Rattle.xsk_sim.specs.Journal.{journal_of}
 use Rattle.xsk_stats.specs.Report.{report_text}
 use Rattle.xsk_socket.specs.Regular.{regular_of}
@@ -44,7 +44,7 @@ returns-clause-made c =
     (c.in_ok-report.ensures ∙ ap (λ (k : Config). report_text k run.figures ++ (if c.args.journal then journal_of run.pairs run.log else [])) (c.in_ok-shared.ensures ∙ c.in_ok-config.ensures.config))
 
 pub told_text-requires-clause-regular : goal.told_text-requires-clause-regular
-told_text-requires-clause-regular c = subst IsRegular (sym c.in_ok-shared.ensures) c.in_ok-config.ensures.regular
+told_text-requires-clause-regular c = subst IsRegular (sym c.in_ok-shared.ensures) c.in_ok-config.ensures.steady.regular
 
 pub told_text-requires-clause-drivers : goal.told_text-requires-clause-drivers
 told_text-requires-clause-drivers c =

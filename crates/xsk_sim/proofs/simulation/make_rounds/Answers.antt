@@ -6,7 +6,6 @@ use Rattle.xsk_sim.proofs.simulation.make_rounds.Goals as goal
 pub loop-round-init : goal.loop-round-init
 loop-round-init c = record {
   config = refl;
-  drivers = refl;
   few = omega arith;
   rounds = λ s frames seated. (gone_none s frames c.args.order.number c.args.workers.now c.args.plain.now seated, refl, λ round below still. omega (arith, below));
   going = λ some ended. omega (arith, some);
@@ -37,7 +36,6 @@ loop-round-preserved c =
     (decided c.in_ok-quiet.quiet) in
     record {
       config = c.round.ensures.config ∙ l.invariant.config;
-      drivers = c.round.ensures.drivers ∙ l.invariant.drivers;
       few = few;
       rounds = λ s frames seated.
           let had = l.invariant.rounds s frames seated in

@@ -1,4 +1,4 @@
-use Rattle.std.proofs.Common.{◌≡◌, ◌<◌, List, [], vec_len}
+use Rattle.std.proofs.Common.{◌≡◌, ◌<◌, List, []}
 use Rattle.xsk_umem.specs.Frame.{Frame}
 use Rattle.xsk_sim.specs.Order.{number_at}
 use Rattle.xsk_turns.specs.Workers.{Setting}
@@ -10,7 +10,6 @@ use Rattle.xsk_sim.proofs.simulation.make_rounds.Given as goal
 abbrev pub invariant-loop-round : goal.invariant-loop-round
 invariant-loop-round l = record {
   config : l.plain.config ≡ l.initial.plain.config;
-  drivers : vec_len l.workers.drivers ≡ vec_len l.initial.workers.drivers;
   few : l.still < 64;
   rounds : (s : Setting) (frames : List Frame) → AreSeated s frames [] l.initial.workers l.initial.plain
       → Gone s frames l.initial.order.number l.round l.still l.workers l.plain × (l.order.number ≡ number_at l.initial.order.number l.round)

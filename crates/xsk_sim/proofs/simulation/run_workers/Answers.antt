@@ -1,10 +1,12 @@
-use Rattle.std.proofs.Common.{◌≡◌, ℕ, length, map, ◌+◌, ◌≤◌, Err, sym, ap, ◌∙◌, refl, rules}
+use Rattle.std.proofs.Common.{◌≡◌, ℕ, List, length, map, ◌+◌, ◌≤◌, Err, sym, ap, ◌∙◌, refl, rules, arith}
+use Rattle.std.proofs.lemmas.List.{length-map}
+use Rattle.xsk_machine.specs.declared.figures.DriverFigures.{DriverFigures}
+use Rattle.xsk_sim.specs.Shown.{packets_in}
 use Rattle.xsk_sim.specs.declared.simulation.SimError.TheVariants.{Stalled}
 use Rattle.xsk_sim.specs.Runs.{NeverStill}
-use Rattle.xsk_driver.specs.Figures.{figures_in}
-use Rattle.xsk_sim.specs.Seats.{HadRounds, HaveEnded, kept_figures}
+use Rattle.xsk_sim.specs.Seats.{HadRounds, HaveEnded}
 use Rattle.xsk_sim.specs.Stalls.{StandStill}
-use Rattle.xsk_sim.proofs.Ending.{ended_run, log_count, stalled_run}
+use Rattle.xsk_sim.proofs.Ending.{ended_run, figures_number, lists_kept, log_count, stalled_run}
 use Rattle.xsk_sim.proofs.simulation.run_workers.Goals as goal
 
 pub returns-in_err-make_rounds-clause-stalled : goal.returns-in_err-make_rounds-clause-stalled
@@ -19,13 +21,48 @@ returns-in_err-make_rounds-clause-stalled c s frames round seated is =
     stalled_run s frames c.args.order.number round w engine stalled.0 stalled.1 stalled.2 stalled.3 stalled.4
 
 pub returns-clause-ended : goal.returns-clause-ended
-returns-clause-ended c s frames regular seated classes wire =
+returns-clause-ended c s frames steady seated classes wire =
     let w = c.make_rounds.new.workers in
     let engine = c.make_rounds.new.plain in
     let ended : (count : ℕ) × (count ≤ 18446744073709551616) × HadRounds s frames c.args.order.number count w engine × HaveEnded w × NeverStill s frames c.args.order.number count =
     c.in_ok-make_rounds.ensures.ended s frames seated in
     let had : HadRounds s frames c.args.order.number ended.0 w engine = ended.2 in
     let calls : c.from-calls.result ≡ length engine.log = c.from-calls.ensures ∙ c.len.ensures ∙ log_count c.log.result.now ∙ ap length c.log.ensures.entries in
-    let drivers : c.in_ok-drivers.drivers ≡ kept_figures c.args.classes w = c.in_ok-drivers.ensures ∙ ap (map (λ seat. figures_in c.args.classes seat.machine)) c.as_slice.ensures.value in
-    ended_run s frames c.args.order.number ended.0 w engine _ c.args.classes c.from-calls.result c.args.wire regular had ended.1 ended.4 ended.3 refl c.in_ok-sent.ensures.kept
+    ended_run s frames c.args.order.number ended.0 w engine _ c.args.classes c.from-calls.result c.args.wire steady had ended.1 ended.4 ended.3 refl c.in_ok-kept.ensures.sent
     classes calls (search rules) (search rules) wire
+
+pub returns-clause-pairs : goal.returns-clause-pairs
+returns-clause-pairs c s frames seated =
+    let w = c.make_rounds.new.workers in
+    let engine = c.make_rounds.new.plain in
+    let ended : (count : ℕ) × (count ≤ 18446744073709551616) × HadRounds s frames c.args.order.number count w engine × HaveEnded w × NeverStill s frames c.args.order.number count =
+    c.in_ok-make_rounds.ensures.ended s frames seated in
+    let had : HadRounds s frames c.args.order.number ended.0 w engine = ended.2 in
+    let kept = c.in_ok-kept.kept in
+    let all : length (map packets_in kept.sent.items) ≡ length s.config.pairs = ap (length {A = List (List ℕ)}) c.in_ok-kept.ensures.sent ∙ lists_kept s frames had.history w engine had.seated in
+    omega (arith, all, length-map kept.sent.items packets_in, kept.sent.ok.0)
+
+pub of-drivers-requires : goal.of-drivers-requires
+of-drivers-requires c =
+    let r = c.requires.ready in
+    let s = r.setting in
+    let w = c.make_rounds.new.workers in
+    let engine = c.make_rounds.new.plain in
+    let ended : (count : ℕ) × (count ≤ 18446744073709551616) × HadRounds s r.frames c.args.order.number count w engine × HaveEnded w × NeverStill s r.frames c.args.order.number count =
+    c.in_ok-make_rounds.ensures.ended s r.frames r.seated in
+    let had : HadRounds s r.frames c.args.order.number ended.0 w engine = ended.2 in
+    let all : length c.in_ok-kept.kept.figures.items ≡ length s.config.pairs = ap (length {A = DriverFigures}) c.in_ok-kept.ensures.figures ∙ figures_number s r.frames had.history w engine had.seated c.args.classes in
+    omega (arith, all, had.seated.run.legal.opened.config.pairs_few)
+
+pub invariant_of-result : goal.invariant_of-result
+invariant_of-result c =
+    let r = c.requires.ready in
+    let s = r.setting in
+    let w = c.make_rounds.new.workers in
+    let engine = c.make_rounds.new.plain in
+    let ended : (count : ℕ) × (count ≤ 18446744073709551616) × HadRounds s r.frames c.args.order.number count w engine × HaveEnded w × NeverStill s r.frames c.args.order.number count =
+    c.in_ok-make_rounds.ensures.ended s r.frames r.seated in
+    let had : HadRounds s r.frames c.args.order.number ended.0 w engine = ended.2 in
+    let kept = c.in_ok-kept.kept in
+    let all : length (map packets_in kept.sent.items) ≡ length s.config.pairs = ap (length {A = List (List ℕ)}) c.in_ok-kept.ensures.sent ∙ lists_kept s r.frames had.history w engine had.seated in
+    (c.in_ok-kept.ensures.short, omega (arith, all, length-map kept.sent.items packets_in, kept.sent.ok.0, had.seated.run.legal.opened.config.pairs_few))

@@ -3,6 +3,7 @@ use Rattle.std.specs.Prelude.{IfOk}
 use Rattle.xsk_model.specs.Config.{Config, IsConfig, classes_of}
 use Rattle.xsk_turns.specs.Workers.{Setting, AreGiven}
 use Rattle.xsk_driver.specs.Asking.{IsAnswer}
+use Rattle.xsk_machine.specs.Workers.{kept_in, setting_with}
 use Rattle.xsk_sim.proofs.Verdicts.{if_ok}
 use Rattle.xsk_sim.specs.Runs.{HasEnded, HasStalled}
 use Rattle.xsk_sim.specs.Seats.{AreSeated}
@@ -12,37 +13,45 @@ use Rattle.xsk_sim.proofs.simulation.simulate.Goals as goal
 
 -- the workers are seated as the rounds begin, and were so then
 begins : (g : given.Over) (c : goal.After-new g)
-    → AreSeated (record { config = c.args.config; wire = c.args.wire; packets = c.args.packets.now; verdicts = c.in_ok-seat_drivers.ensures.seated.0 }) c.args.frames.items [] (record { drivers = c.in_ok-seat_drivers.field-0; apps = c.in_ok-seat_apps.field-0 }) c.in-Ok.plain
+    → AreSeated (setting_with c.args.config c.args.wire c.args.packets.now (kept_in c.in_ok-drivers.drivers.items)) c.args.frames.items [] c.in_ok-workers.workers c.in-Ok.plain
 begins g c =
-    seated_opened c.args.wire c.args.config c.in_ok-shared.shared c.args.packets.now c.in_ok-seat_drivers.ensures.seated.0 c.args.frames.items (record { drivers = c.in_ok-seat_drivers.field-0; apps = c.in_ok-seat_apps.field-0 }) c.in-Ok.plain
-    c.in_ok-shared.ensures c.geometry-geometry.ensures.lawful (subst IsConfig c.config.view_is c.config.invariant) c.requires.regular.lawful c.requires.frames
-    c.in-Ok.ensures.config c.in-Ok.ensures.state c.in-Ok.ensures.log.0 c.in_ok-seat_drivers.ensures.seated.2
-    (c.in_ok-seat_apps.ensures.seated (record { config = c.in_ok-shared.shared; wire = c.args.wire; packets = c.args.packets.now; verdicts = c.in_ok-seat_drivers.ensures.seated.0 }) refl) c.in_ok-seat_drivers.ensures.settled c.in_ok-seat_drivers.ensures.count c.in_ok-seat_apps.ensures.count
+    let copy : Setting = setting_with c.in_ok-shared.shared c.args.wire c.args.packets.now (kept_in c.in_ok-drivers.drivers.items) in
+    seated_opened c.args.wire c.args.config c.in_ok-shared.shared c.args.packets.now (kept_in c.in_ok-drivers.drivers.items) c.args.frames.items c.in_ok-workers.workers c.in-Ok.plain
+    c.in_ok-shared.ensures c.geometry-geometry.ensures.lawful (subst IsConfig c.config.view_is c.config.invariant) c.requires.steady.regular.lawful c.requires.frames
+    c.in-Ok.ensures.config c.in-Ok.ensures.state c.in-Ok.ensures.log.0 (c.in_ok-workers.ensures.seated copy refl c.in_ok-drivers.ensures.new) c.in_ok-workers.ensures.settled c.in_ok-workers.ensures.count
 
 seated : (g : given.Over) (c : goal.After-drop-shared-inside-4 g)
-    → AreSeated (record { config = c.args.config; wire = c.args.wire; packets = c.args.packets.now; verdicts = c.in_ok-seat_drivers.ensures.seated.0 }) c.args.frames.items [] (record { drivers = c.in_ok-seat_drivers.field-0; apps = c.in_ok-seat_apps.field-0 }) c.in-Ok.plain
+    → AreSeated (setting_with c.args.config c.args.wire c.args.packets.now (kept_in c.in_ok-drivers.drivers.items)) c.args.frames.items [] c.in_ok-workers.workers c.in-Ok.plain
 seated g c =
-    seated_opened c.args.wire c.args.config c.in_ok-shared.shared c.args.packets.now c.in_ok-seat_drivers.ensures.seated.0 c.args.frames.items (record { drivers = c.in_ok-seat_drivers.field-0; apps = c.in_ok-seat_apps.field-0 }) c.in-Ok.plain
-    c.in_ok-shared.ensures c.geometry-geometry.ensures.lawful (subst IsConfig c.config.view_is c.config.invariant) c.requires.regular.lawful c.requires.frames
-    c.in-Ok.ensures.config c.in-Ok.ensures.state c.in-Ok.ensures.log.0 c.in_ok-seat_drivers.ensures.seated.2
-    (c.in_ok-seat_apps.ensures.seated (record { config = c.in_ok-shared.shared; wire = c.args.wire; packets = c.args.packets.now; verdicts = c.in_ok-seat_drivers.ensures.seated.0 }) refl) c.in_ok-seat_drivers.ensures.settled c.in_ok-seat_drivers.ensures.count c.in_ok-seat_apps.ensures.count
+    let copy : Setting = setting_with c.in_ok-shared.shared c.args.wire c.args.packets.now (kept_in c.in_ok-drivers.drivers.items) in
+    seated_opened c.args.wire c.args.config c.in_ok-shared.shared c.args.packets.now (kept_in c.in_ok-drivers.drivers.items) c.args.frames.items c.in_ok-workers.workers c.in-Ok.plain
+    c.in_ok-shared.ensures c.geometry-geometry.ensures.lawful (subst IsConfig c.config.view_is c.config.invariant) c.requires.steady.regular.lawful c.requires.frames
+    c.in-Ok.ensures.config c.in-Ok.ensures.state c.in-Ok.ensures.log.0 (c.in_ok-workers.ensures.seated copy refl c.in_ok-drivers.ensures.new) c.in_ok-workers.ensures.settled c.in_ok-workers.ensures.count
 
 asked : (g : given.Over) (c : goal.After-drop-shared-inside-4 g)
-    → AreGiven (IsAnswer g.F.Fn c.args.program.now.rule c.args.program.now.decide) (record { config = c.args.config; wire = c.args.wire; packets = c.args.packets.now; verdicts = c.in_ok-seat_drivers.ensures.seated.0 })
+    → AreGiven (IsAnswer g.F.Fn c.args.program.now.rule c.args.program.now.decide) (setting_with c.args.config c.args.wire c.args.packets.now (kept_in c.in_ok-drivers.drivers.items))
 asked g c =
-    subst (λ (k : Config). AreGiven (IsAnswer g.F.Fn c.args.program.now.rule c.args.program.now.decide) (record { config = k; wire = c.args.wire; packets = c.args.packets.now; verdicts = c.in_ok-seat_drivers.ensures.seated.0 }))
-    c.in_ok-shared.ensures c.in_ok-seat_drivers.ensures.seated.1
+    subst (λ (k : Config). AreGiven (IsAnswer g.F.Fn c.args.program.now.rule c.args.program.now.decide) (setting_with k c.args.wire c.args.packets.now (kept_in c.in_ok-drivers.drivers.items)))
+    c.in_ok-shared.ensures c.in_ok-drivers.ensures.asked
+
+pub seat_workers-requires-clause-new : goal.seat_workers-requires-clause-new
+seat_workers-requires-clause-new g c =
+    (setting_with c.in_ok-shared.shared c.args.wire c.args.packets.now (kept_in c.in_ok-drivers.drivers.items), refl, c.in_ok-drivers.ensures.new)
 
 pub returns-clause-ended : goal.returns-clause-ended
 returns-clause-ended g c =
-    let s : Setting = record { config = c.args.config; wire = c.args.wire; packets = c.args.packets.now; verdicts = c.in_ok-seat_drivers.ensures.seated.0 } in
+    let s : Setting = setting_with c.args.config c.args.wire c.args.packets.now (kept_in c.in_ok-drivers.drivers.items) in
     if_ok c.run_workers.result (HasEnded s c.args.frames.items c.args.order) _ (λ run ended. record { verdicts = s.verdicts; asked = asked g c; ended = ended })
     (subst (λ (number : ℕ). IfOk c.run_workers.result (HasEnded s c.args.frames.items number)) c.new.ensures
-    (c.run_workers.ensures.ended s c.args.frames.items c.requires.regular (seated g c) (c.classes-classes.ensures ∙ ap classes_of c.in_ok-shared.ensures) refl))
+    (c.run_workers.ensures.ended s c.args.frames.items c.requires.steady (seated g c) (c.classes-classes.ensures ∙ ap classes_of c.in_ok-shared.ensures) refl))
+
+pub returns-clause-pairs : goal.returns-clause-pairs
+returns-clause-pairs g c =
+    c.run_workers.ensures.pairs (setting_with c.args.config c.args.wire c.args.packets.now (kept_in c.in_ok-drivers.drivers.items)) c.args.frames.items (seated g c)
 
 pub returns-clause-stalled : goal.returns-clause-stalled
 returns-clause-stalled g c round is =
-    let s : Setting = record { config = c.args.config; wire = c.args.wire; packets = c.args.packets.now; verdicts = c.in_ok-seat_drivers.ensures.seated.0 } in
+    let s : Setting = setting_with c.args.config c.args.wire c.args.packets.now (kept_in c.in_ok-drivers.drivers.items) in
     record {
       verdicts = s.verdicts;
       asked = asked g c;
@@ -52,4 +61,4 @@ returns-clause-stalled g c round is =
 
 pub run_workers-requires-clause-ready : goal.run_workers-requires-clause-ready
 run_workers-requires-clause-ready g c =
-    record { setting = record { config = c.args.config; wire = c.args.wire; packets = c.args.packets.now; verdicts = c.in_ok-seat_drivers.ensures.seated.0 }; frames = c.args.frames.items; seated = begins g c }
+    record { setting = setting_with c.args.config c.args.wire c.args.packets.now (kept_in c.in_ok-drivers.drivers.items); frames = c.args.frames.items; seated = begins g c }

@@ -2,9 +2,9 @@ use Rattle.std.proofs.Common.{subst}
 use Rattle.xsk_model.specs.Config.{Config}
 use Rattle.xsk_turns.specs.Workers.{AreGiven}
 use Rattle.xsk_driver.specs.Asking.{IsAnswer}
-use Rattle.xsk_workers.specs.Drivers.{kept_in, AreNew}
+use Rattle.xsk_machine.specs.Workers.{kept_in, AreNew}
 use Rattle.xsk_workers.specs.Forwarded.{setting_with}
-use Rattle.xsk_workers.proofs.Making.{forwards_as_ruled}
+use Rattle.xsk_workers.proofs.Ruling.{forwards_as_ruled}
 use Rattle.xsk_workers.proofs.workers.forward.Given as given
 use Rattle.xsk_workers.proofs.workers.forward.Goals as goal
 

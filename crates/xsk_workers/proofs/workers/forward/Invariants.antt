@@ -1,4 +1,4 @@
-use Rattle.xsk_workers.specs.Drivers.{kept_in}
+use Rattle.xsk_machine.specs.Workers.{kept_in}
 use Rattle.xsk_workers.proofs.workers.forward.Given as goal
 
 -- the verdicts are those that the drivers keep

@@ -21,14 +21,14 @@ loop-worker-init g c =
       λ s have. (
         subst (HaveRunFrom b s 0) (let all : c.args.workers.items ≡ into_iter_items c.into_iter-worker-iterator.result = search rules in all) have.run,
         given_none b s c.args.passes.now taken,
-        subst (AreSent s 0 c.args.passes.now) (sym (ap (map packets_in) c.requires.none.2)) (kept_none (IsSentOf s) s c.args.passes.now),
-        subst (AreFiguresOf s 0 c.args.passes.now) (sym c.requires.none.1) (kept_none (IsFiguresOf s) s c.args.passes.now),
+        subst (AreSent s 0 c.args.passes.now) (sym (ap (map packets_in) c.requires.none.1)) (kept_none (IsSentOf s) s c.args.passes.now),
+        subst (AreFiguresOf s 0 c.args.passes.now) (sym c.requires.none.0) (kept_none (IsFiguresOf s) s c.args.passes.now),
       ),
       search rules,
-      c.requires.none.0 ∙ ap capped (sym (calls_none 0 c.args.passes.now (λ w below. taken.gone w (omega (arith, below, taken.length_is))))),
+      ap capped (sym (calls_none 0 c.args.passes.now (λ w below. taken.gone w (omega (arith, below, taken.length_is))))),
       c.requires.room.0,
       c.requires.room.1,
-      subst (All HasShortPackets) (sym c.requires.none.2) (All-nil HasShortPackets),
+      subst (All HasShortPackets) (sym c.requires.none.1) (All-nil HasShortPackets),
     )
 
 pub keep-requires-clause-sent : goal.keep-requires-clause-sent
@@ -100,7 +100,7 @@ loop-worker-preserved g c =
                 (subst (AreFiguresOf s (n + 1) (set c.loop-worker.passes n (Some w.pass))) (sym c.keep.ensures.figures) figures)),
           ),
       omega (arith, left, count),
-      c.keep.ensures.calls ∙ capped_sum c.loop-worker.kept.calls c.into_parts-machine.result.2 (calls_in 0 c.loop-worker.passes) (length (own w.pass.who w.pass.view.seen)) c.loop-worker.invariant.2 c.into_parts-machine.ensures.calls
+      c.saturating_add-calls.ensures ∙ capped_sum c.loop-worker.calls c.into_parts-machine.result.2 (calls_in 0 c.loop-worker.passes) (length (own w.pass.who w.pass.view.seen)) c.loop-worker.invariant.2 c.into_parts-machine.ensures.calls
           ∙ ap capped (sym (ap (calls_in 0) passes ∙ more)),
       omega (arith, c.loop-worker.invariant.3, c.keep.ensures.room.0),
       omega (arith, c.loop-worker.invariant.4, c.keep.ensures.room.1),

@@ -16,7 +16,7 @@ invariant-loop-worker g l =
     → HaveRunFrom l.shared s n (into_iter_items l.worker-iterator) × AreGiven l.shared s n l.passes × AreSent s n l.passes (map packets_in (vec_items l.kept.sent))
     × AreFiguresOf s n l.passes (vec_items l.kept.figures))
     × (n + length (into_iter_items l.worker-iterator) ≡ callers_of l.shared.setup.config)
-    × (l.kept.calls ≡ capped (calls_in 0 l.passes))
+    × (l.calls ≡ capped (calls_in 0 l.passes))
     × (length l.shared.setup.config.pairs ≤ vec_capacity l.kept.figures)
     × (length l.shared.setup.config.pairs ≤ vec_capacity l.kept.sent)
     × All HasShortPackets (vec_items l.kept.sent)

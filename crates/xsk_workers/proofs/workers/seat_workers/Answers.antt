@@ -1,4 +1,4 @@
-use Rattle.std.proofs.Common.{rules, ◌≡◌, ℕ, ◌+◌, ◌<◌, ◌≤◌, None, List, [], ◌∷◌, ◌++◌, length, map, sym, ap, subst, ◌∙◌, suc, arith}
+use Rattle.std.proofs.Common.{rules, refl, ◌≡◌, ℕ, ◌+◌, ◌<◌, ◌≤◌, None, List, [], ◌∷◌, ◌++◌, length, map, sym, ap, subst, ◌∙◌, suc, arith}
 use Rattle.std.specs.List.{range_with_len}
 use Rattle.std.proofs.lemmas.List.{map-append}
 use Rattle.xsk_model.specs.Config.{callers_of}
@@ -6,7 +6,7 @@ use Rattle.xsk_model.proofs.Counting.{range-push}
 use Rattle.xsk_turns.specs.Workers.{Setting}
 use Rattle.xsk_table.specs.Held.{Holder, new_pass}
 use Rattle.xsk_workers.specs.Shown.{WorkerShown, Seat, seat_of, seat_at}
-use Rattle.xsk_workers.specs.Eithers.{IsNew}
+use Rattle.xsk_machine.specs.Workers.{AreNew, IsNew}
 use Rattle.xsk_workers.specs.Gathering.{AreTaken}
 use Rattle.xsk_workers.proofs.Gathering.{taken_none, taken_more, is_new_pass}
 use Rattle.xsk_workers.proofs.Seats.{seat_with}
@@ -14,9 +14,8 @@ use Rattle.xsk_workers.proofs.Sleeping.{AreParkersFrom, all_parkers, first_parke
 use Rattle.xsk_workers.specs.Parking.{token_of, IsParkerOf}
 use Rattle.std.specs.Vec.Iter.{into_iter_items, into_iter_len, into_iter_steps}
 use Rattle.std.proofs.lemmas.List.{nil_from_length}
-use Rattle.xsk_workers.specs.Drivers.{AreNew}
 use Rattle.xsk_workers.specs.Forwarded.{setting_with}
-use Rattle.xsk_workers.proofs.Making.{next_new, past_all, later_new, fewer_left}
+use Rattle.xsk_machine.proofs.Making.{next_new, past_all, later_new, fewer_left}
 use Rattle.xsk_workers.proofs.workers.seat_workers.Given as given
 use Rattle.xsk_workers.proofs.workers.seat_workers.Goals as goal
 
@@ -34,12 +33,8 @@ none_left : (g : given.Over) (c : goal.After-next g) → c.next.result ≡ None 
 none_left g c none =
     nil_from_length (into_iter_items c.next.new.self) (let zero : into_iter_len c.next.new.self ≡ 0 = (subst (λ next. into_iter_steps c.loop-who.drivers next c.next.new.self) none c.next.ensures.cases).1 in search (rules, zero))
 
-pub machine_of-requires-clause-driver : goal.machine_of-requires-clause-driver
-machine_of-requires-clause-driver g c =
-    next_new (setting_with c.args.place.config.now c.args.place.wire c.args.place.packets.now g.V.Verdicts.verdicts) c.loop-who.who (into_iter_items c.loop-who.drivers) (into_iter_items c.next.new.self) c.next.result c.next.ensures.items c.loop-who.invariant.3
-
-pub machine_of-requires-clause-app : goal.machine_of-requires-clause-app
-machine_of-requires-clause-app g c =
+pub worker_of-requires-clause-app : goal.worker_of-requires-clause-app
+worker_of-requires-clause-app g c =
     past_all c.args.place.config.now c.loop-who.who (into_iter_items c.loop-who.drivers) (into_iter_items c.next.new.self) c.next.result c.next.ensures.items (none_left g c) c.loop-who.invariant.4
 
 pub new-requires-clause-pass : goal.new-requires-clause-pass
@@ -49,13 +44,18 @@ new-requires-clause-pass g c =
     let is : c.in-Some.pass ≡ new_pass b c.loop-who.who = is_new_pass b c.loop-who.who c.loop-who.passes c.in-Some.pass below c.loop-who.invariant.0 (search rules) in
     (ap (λ (p : Holder). p.view.flight) is, ap (λ (p : Holder). p.view.seen) is, ap (λ (p : Holder). p.view.setup.config) is ∙ c.requires.table)
 
+pub new-requires-clause-expected : goal.new-requires-clause-expected
+new-requires-clause-expected g c =
+    let s : Setting = setting_with c.args.place.config.now c.args.place.wire c.args.place.packets.now g.V.Verdicts.verdicts in
+    (c.in_ok-machine.ensures s refl (next_new s c.loop-who.who (into_iter_items c.loop-who.drivers) (into_iter_items c.next.new.self) c.next.result c.next.ensures.items c.loop-who.invariant.3)).expected
+
 pub new-requires-clause-machine : goal.new-requires-clause-machine
 new-requires-clause-machine g c =
     let b = c.args.shared.now in
     let s : Setting = setting_with c.args.place.config.now c.args.place.wire c.args.place.packets.now g.V.Verdicts.verdicts in
     let below : c.loop-who.who < callers_of b.setup.config = search rules in
     let is : c.in-Some.pass ≡ new_pass b c.loop-who.who = is_new_pass b c.loop-who.who c.loop-who.passes c.in-Some.pass below c.loop-who.invariant.0 (search rules) in
-    subst (λ (k : ℕ). IsNew s k c.in_ok-machine.machine) (sym (ap (λ (p : Holder). p.who) is)) c.in_ok-machine.ensures.new
+    subst (λ (k : ℕ). IsNew s k c.in_ok-machine.machine) (sym (ap (λ (p : Holder). p.who) is)) (c.in_ok-machine.ensures s refl (next_new s c.loop-who.who (into_iter_items c.loop-who.drivers) (into_iter_items c.next.new.self) c.next.result c.next.ensures.items c.loop-who.invariant.3)).is
 
 pub loop-who-preserved : goal.loop-who-preserved
 loop-who-preserved g c =

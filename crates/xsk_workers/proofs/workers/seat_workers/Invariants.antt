@@ -2,7 +2,7 @@ use Rattle.std.proofs.Common.{◌≡◌, ◌+◌, ◌≤◌, length, map, vec_it
 use Rattle.std.specs.List.{range_with_len}
 use Rattle.xsk_workers.specs.Shown.{WorkerShown, seat_of, seat_at}
 use Rattle.xsk_workers.specs.Forwarded.{setting_with}
-use Rattle.xsk_workers.specs.Drivers.{AreNew}
+use Rattle.xsk_machine.specs.Workers.{AreNew}
 use Rattle.xsk_workers.specs.Gathering.{AreTaken}
 use Rattle.std.specs.Vec.Iter.{into_iter_items}
 use Rattle.xsk_workers.specs.Parking.{token_of}

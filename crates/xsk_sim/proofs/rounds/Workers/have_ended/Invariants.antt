@@ -4,7 +4,4 @@ use Rattle.xsk_model.specs.declared.call.Act.TheVariants.{Ended as IsEnd}
 use Rattle.xsk_sim.proofs.rounds.Workers.have_ended.Given as goal
 
 abbrev pub invariant-loop-seat : goal.invariant-loop-seat
-invariant-loop-seat l = (i : ℕ) (d : _) → i < l.seat-index → d ≡ get_or l.self.drivers.items i d → joined_ask d.ask d.items ≡ IsEnd
-
-abbrev pub invariant-loop-seat-2 : goal.invariant-loop-seat-2
-invariant-loop-seat-2 l = (i : ℕ) (d : _) → i < l.seat-index → d ≡ get_or l.self.apps.items i d → joined_ask d.ask d.items ≡ IsEnd
+invariant-loop-seat l = (i : ℕ) (d : _) → i < l.seat-index → d ≡ get_or l.self.seats.items i d → joined_ask d.ask d.items ≡ IsEnd

@@ -13,7 +13,7 @@ loop-turn-init c =
     let below : c.start-start.result < c.count-callers.result = omega (arith, c.start-start.ensures.start, c.count-callers.ensures, (going_few c.requires.going).1) in
     record {
       config = ap (λ (e : Engine). e.config) c.reserve_log.ensures.same;
-      drivers = refl;
+      seats = refl;
       count = sym c.count-callers.ensures;
       who = turn_first c.count-callers.result c.start-start.result below;
       entries = omega (arith, c.in_ok-reserve_log.ensures.entries);
@@ -32,8 +32,8 @@ loop-turn-preserved c =
     let below : start < callers = omega (arith, c.start-start.ensures.start, c.count-callers.ensures, (going_few c.requires.going).1) in
     record {
       config = c.step-still.ensures.config ∙ l.invariant.config;
-      drivers = c.step-still.ensures.drivers ∙ l.invariant.drivers;
-      count = omega (arith, c.step-still.ensures.drivers, c.step-still.ensures.apps, l.invariant.count);
+      seats = c.step-still.ensures.seats ∙ l.invariant.seats;
+      count = omega (arith, c.step-still.ensures.seats, l.invariant.count);
       who = elim c.if-who-callers.branch [
         | then-who-callers w ↦ subst (InTurn callers start (l._turn + 1)) (sym w.who-is)
             (turn_round callers start l._turn l.who below c.loop-turn-test.true l.invariant.who w.if-who-callers.true)
@@ -62,7 +62,7 @@ returns-clause-round c s frames h seated =
     let number = c.args.order.now.number in
     let below : start < callers = omega (arith, c.start-start.ensures.start, c.count-callers.ensures, (going_few c.requires.going).1) in
     let all : l._turn ≡ callers = omega (arith, c.loop-turn-test.false, l.auto._turn-end) in
-    let known : callers ≡ callers_of s.config = omega (arith, c.count-callers.ensures, seated.driver_count, seated.app_count) in
+    let known : callers ≡ callers_of s.config = omega (arith, c.count-callers.ensures, seated.count) in
     let turned : take l._turn (rotated callers start) ≡ rotated (callers_of s.config) (start_of (callers_of s.config) number) =
     ap (λ (n : ℕ). take n (rotated callers start)) all ∙ rotated_all callers start below ∙ ap (rotated callers) c.start-start.ensures.start
     ∙ ap (λ (n : ℕ). rotated n (start_of n number)) known in

@@ -11,8 +11,8 @@ use Rattle.xsk_sim.proofs.rounds.Workers.round.Given as goal
 abbrev pub invariant-loop-turn : goal.invariant-loop-turn
 invariant-loop-turn l = record {
   config : l.plain.config ≡ l.fn.plain.config;
-  drivers : vec_len l.self.drivers ≡ vec_len l.initial.self.drivers;
-  count : vec_len l.self.drivers + vec_len l.self.apps ≡ l.callers;
+  seats : vec_len l.self.seats ≡ vec_len l.initial.self.seats;
+  count : vec_len l.self.seats ≡ l.callers;
   who : InTurn l.callers l.start l._turn l.who;
   entries : l.callers ≤ l._turn + l.plain.spare_entries;
   bytes : l.callers * most_payload ≤ l._turn * most_payload + l.plain.spare_bytes;

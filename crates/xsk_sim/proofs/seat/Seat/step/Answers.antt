@@ -1,7 +1,8 @@
-use Rattle.std.proofs.Common.{◌≡◌, Option, ap, subst, refl, rules, arith}
+use Rattle.std.proofs.Common.{◌≡◌, ◌↔◌, ℕ, IsTrue, false, Option, ap, subst, refl, rules, arith}
 use Rattle.xsk_turns.specs.Stepping.{joined_ask}
 use Rattle.xsk_model.specs.Asks.{joined_call, joined_reply}
 use Rattle.xsk_model.specs.Entry.{own}
+use Rattle.xsk_model.specs.OtherWords.{changes}
 use Rattle.xsk_model.specs.declared.ask.Ask.{Ask}
 use Rattle.xsk_model.specs.declared.call.Act.{Act}
 use Rattle.xsk_model.specs.declared.call.Act.TheVariants.{Call as Calls}
@@ -22,12 +23,14 @@ returns-clause-turn g c s frames h run stands after =
       log = c.serve-answer.ensures.log;
       config = c.serve-answer.ensures.config;
     } in
-    turn_made s frames h c.args.plain.now c.serve-answer.new.self c.args.who call reply (joined_ask c.args.self.now.ask c.args.self.now.items) act c.args.self.now.settled c.args.settled c.args.settled c.is_quiet-still.result
+    turn_made s frames h c.args.plain.now c.serve-answer.new.self c.args.who call reply (joined_ask c.args.self.now.ask c.args.self.now.items) act c.args.self.now.settled (g.M.Machine.has_settled c.args.self.now.machine) c.settled-settled.result c.is_quiet-still.result
     (g.M.Machine.stands s c.args.who c.step-self.new.self act) run
     (subst (λ (a : Act). IsActAfter s c.args.who a (own c.args.who h)) is after) performs
     (λ may. c.step-self.ensures.goes_on s c.args.who (own c.args.who h) call reply
     (subst (λ (a : Act). g.M.Machine.stands s c.args.who c.args.self.now.machine a (own c.args.who h)) is stands) refl may)
-    is refl (c.is_quiet-still.ensures c.args.self.now.items c.serve-answer.new.items)
+    is c.settled-settled.ensures
+    (subst (λ (n : ℕ). IsTrue c.is_quiet-still.result ↔ ((changes call reply ≡ false) × (n ≡ c.args.self.now.settled))) c.settled-settled.ensures
+    (c.is_quiet-still.ensures c.args.self.now.items c.serve-answer.new.items))
 
 pub serve-answer-requires-clause-can : goal.serve-answer-requires-clause-can
 serve-answer-requires-clause-can g c =
@@ -45,5 +48,5 @@ returns-clause-bytes g c =
 
 pub returns-in_default-clause-turn : goal.returns-in_default-clause-turn
 returns-in_default-clause-turn g c s frames h run stands after =
-    turn_past s frames h c.args.plain.now c.args.who c.args.self.now.ask c.args.self.now.items c.args.self.now.settled c.args.settled (g.M.Machine.stands s c.args.who c.args.self.now.machine)
+    turn_past s frames h c.args.plain.now c.args.who c.args.self.now.ask c.args.self.now.items c.args.self.now.settled (g.M.Machine.has_settled c.args.self.now.machine) (g.M.Machine.stands s c.args.who c.args.self.now.machine)
     (search rules) run stands after

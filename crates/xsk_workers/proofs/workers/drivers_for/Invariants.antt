@@ -1,9 +1,0 @@
-use Rattle.std.proofs.Common.{◌≡◌, length, vec_items}
-use Rattle.xsk_driver.specs.Asking.{IsAnswer}
-use Rattle.xsk_workers.proofs.Making.{AreMade}
-use Rattle.xsk_workers.proofs.workers.drivers_for.Given as goal
-
-abbrev pub invariant-loop-pair : goal.invariant-loop-pair
-invariant-loop-pair g l =
-    AreMade (IsAnswer g.F.Fn l.program.rule l.program.decide) l.config l.wire l.packets (vec_items l.drivers)
-    × (length (vec_items l.drivers) ≡ l.pair)
