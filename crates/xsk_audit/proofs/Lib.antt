@@ -4,4 +4,14 @@ pub mod Cuts
 pub mod Items
 pub mod Asking
 pub mod Rounds
+pub mod Alike
+pub mod Bodied
+pub mod Again
+pub mod Shelves
+pub mod Stocks
+pub mod Complete
 pub mod Sound
+pub mod Firsts
+pub mod Making
+pub mod Misses
+pub mod OneVerdict

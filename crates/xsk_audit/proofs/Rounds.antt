@@ -2,11 +2,7 @@
 use Rattle.std.proofs.Common.{◌≡◌, ℕ, ◌^◌, ◌<◌, ◌≤◌, List, [], ◌∷◌, ◌++◌, map, refl, sym, ap, ◌∙◌, append_assoc}
 use Rattle.std.proofs.lemmas.List.{map-append}
 use Rattle.xsk_model.specs.Entry.{Entry}
-use Rattle.xsk_audit.specs.Telling.{Timed, entries, journal_line, NeverFalls}
-
-unfoldable pub last_of : ℕ → List Timed → ℕ
-last_of least [] = least
-last_of least (t ∷ timed) = last_of t.round timed
+use Rattle.xsk_audit.specs.Telling.{Timed, entries, journal_line, NeverFalls, last_of}
 
 pub one-later : (least : ℕ) (timed : List Timed) (t : Timed) → NeverFalls least timed → last_of least timed ≤ t.round → t.round < 2 ^ 64 → NeverFalls least (timed ++ t ∷ [])
 unfolding last_of

@@ -18,7 +18,7 @@ use Rattle.xsk_model.proofs.Histories.{history_first}
 use Rattle.xsk_plain.specs.Engine.{Engine}
 use Rattle.xsk_plain.specs.Histories.{IsRun}
 use Rattle.xsk_plain.specs.Line.{who_text, ring_text, item_text, items_text, call_text, reply_text, line_of}
-use Rattle.xsk_audit.specs.Telling.{Timed, entries, journal_line, NeverFalls, TellHistory, AreSame}
+use Rattle.xsk_audit.specs.Telling.{Timed, entries, journal_line, NeverFalls, TellHistory, last_of, AreSame}
 
 module _ (g : Geometry) (sg : Bool) where
   items_stored : (items : List Item) → items_text (map (stored_item g sg) items) ≡ items_text items
@@ -42,21 +42,24 @@ module _ (g : Geometry) (sg : Bool) where
   reply_stored Released = refl
   reply_stored (Old value) = refl
 
-  line_stored : (pairs : ℕ) (e : Entry) → line_of pairs (stored_entry g sg e) ≡ line_of pairs e
+  pub line_stored : (pairs : ℕ) (e : Entry) → line_of pairs (stored_entry g sg e) ≡ line_of pairs e
   line_stored pairs e =
       ap (λ t. who_text pairs e.who ++ codes " " ++ t ++ codes " -> " ++ reply_text (stored_reply g sg e.reply) ++ codes "\n") (call_stored e.call)
       ∙ ap (λ t. who_text pairs e.who ++ codes " " ++ call_text e.call ++ codes " -> " ++ t ++ codes "\n") (reply_stored e.reply)
 
   -- entries of a history in place of those that are stored
-  pub record Again (pairs : ℕ) (timed : List Timed) (h : List Entry) : Type 0 where
+  pub record Again (pairs : ℕ) (timed : List Timed) (h later : List Entry) : Type 0 where
     pub again : List Timed
     pub rest : List Entry
     pub split : h ≡ entries again ++ rest
     pub lines : map (journal_line pairs) again ≡ map (journal_line pairs) timed
     pub falls : (least : ℕ) → NeverFalls least timed → NeverFalls least again
+    pub rest_is : stored g sg rest ≡ later
+    pub lasts : (least : ℕ) → last_of least again ≡ last_of least timed
 
-  unstored : (pairs : ℕ) (timed : List Timed) (h later : List Entry) → stored g sg h ≡ entries timed ++ later → Again pairs timed h
-  unstored pairs [] h later is = record { again = []; rest = h; split = refl; lines = refl; falls = λ least falls. falls }
+  pub unstored : (pairs : ℕ) (timed : List Timed) (h later : List Entry) → stored g sg h ≡ entries timed ++ later → Again pairs timed h later
+  unfolding last_of
+  unstored pairs [] h later is = record { again = []; rest = h; split = refl; lines = refl; falls = λ least falls. falls; rest_is = is; lasts = λ least. refl }
   unstored pairs (t ∷ timed) [] later is = absurd (cc)
   unstored pairs (t ∷ timed) (e ∷ h) later is =
       let one : stored_entry g sg e ≡ t.entry = cc in
@@ -70,6 +73,8 @@ module _ (g : Geometry) (sg : Bool) where
         split = ap (λ (es : List Entry). e ∷ es) next.split;
         lines = ap (λ (l : List ℕ). l ∷ map (journal_line pairs) next.again) line ∙ ap (λ (ls : List (List ℕ)). journal_line pairs t ∷ ls) next.lines;
         falls = λ least falls. (falls.0, falls.1, next.falls t.round falls.2);
+        rest_is = next.rest_is;
+        lasts = λ least. next.lasts t.round;
       }
 
 pub sound-verdict : (c : Config) (engine : Engine) (pairs n : ℕ) (log : List Entry) (lines journal : List (List ℕ)) (whole : Bool)

@@ -3,3 +3,4 @@ pub mod Reading
 pub mod Views
 pub mod Shelf
 pub mod Telling
+pub mod Playing

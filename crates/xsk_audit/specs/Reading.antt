@@ -1,6 +1,6 @@
 -- How a line of a journal is read: its round, its caller and its call. The line's text itself is that of `xsk_plain`, with the
 -- round and a space in front; a reader gives what it read, and the text behind it.
-use Rattle.std.specs.Prelude.{ℕ, zero, suc, ◌+◌, ◌-◌, ◌*◌, ◌^◌, ◌==◌, ◌&&◌, Bool, false, not, nat_le, nat_lt, if◌then◌else◌, Option, None, Some, List, [], ◌∷◌, codes, drop}
+use Rattle.std.specs.Prelude.{ℕ, zero, suc, ◌+◌, ◌-◌, ◌*◌, ◌^◌, ◌==◌, ◌&&◌, Bool, false, not, nat_le, nat_lt, if◌then◌else◌, Option, None, Some, List, [], ◌∷◌, codes, drop, map}
 use Rattle.std.specs.Char.{is_ascii_digit}
 use Rattle.std.specs.Borrow.{Bor}
 use Rattle.xsk_umem.specs.declared.batch.Item.{Item}
@@ -10,7 +10,7 @@ use Rattle.xsk_model.specs.declared.ask.Ask.{Ask}
 use Rattle.xsk_model.specs.declared.call.Ring.{Ring}
 use Rattle.xsk_model.specs.declared.call.Ring.TheVariants.{Fill, Comp, Rx, Tx}
 use Rattle.xsk_model.specs.declared.call.Mark.{Mark}
-use Rattle.xsk_model.specs.declared.call.Mark.TheVariants.{NeedFill, NeedTx, Kick, RxDone, Gone, TxDone, Cell}
+use Rattle.xsk_model.specs.declared.call.Mark.TheVariants.{NeedFill, NeedTx, Kick, RxDone, Gone, TxDone, Cell, Closing, Acked, Bounced}
 use Rattle.xsk_model.specs.declared.call.Call.{Call}
 use Rattle.xsk_model.specs.declared.call.Call.TheVariants.{Reserve, Submit, Peek, Release, Swap, Look}
 
@@ -101,6 +101,14 @@ ring_at xs =
 unfoldable pub cell_at : List ℕ → Reads Mark
 cell_at xs = small_at xs >>= λ port. word_at (codes ".") port.1 >>= λ rest. small_at rest >>= λ index. Some (Cell port.0 index.0, index.1)
 
+-- a cell, and the marks of closing and bouncing
+unfoldable pub other_mark_at : List ℕ → Reads Mark
+other_mark_at xs =
+    choose (word_at (codes "cell.") xs) cell_at
+    (choose (word_at (codes "closing.") xs) (numbered Closing)
+    (choose (word_at (codes "acked.") xs) (numbered Acked)
+    (choose (word_at (codes "bounced.") xs) (numbered Bounced) None)))
+
 unfoldable pub mark_at : List ℕ → Reads Mark
 mark_at xs =
     choose (word_at (codes "need.fill.") xs) (numbered NeedFill)
@@ -108,8 +116,7 @@ mark_at xs =
     (choose (word_at (codes "kick.") xs) (numbered Kick)
     (choose (word_at (codes "rxdone.") xs) (numbered RxDone)
     (choose (word_at (codes "gone.") xs) (numbered Gone)
-    (choose (word_at (codes "txdone.") xs) (numbered TxDone)
-    (choose (word_at (codes "cell.") xs) cell_at None))))))
+    (choose (word_at (codes "txdone.") xs) (numbered TxDone) (other_mark_at xs))))))
 
 -- ---- items
 
@@ -156,6 +163,18 @@ call_at xs =
     (choose (word_at (codes "release ") xs) (λ rest. counted_at rest >>= λ read. Some (Release read.0 read.1))
     (choose (word_at (codes "swap ") xs) swap_at
     (choose (word_at (codes "look ") xs) (λ rest. mark_at rest >>= λ mark. Some (Look mark.0)) None)))))
+
+-- the call as a line tells it: its items have no frames
+abbrev pub read_items : List Item → List Item
+read_items items = map (λ (i : Item). frameless i.desc) items
+
+abbrev pub read_call : Call → Call
+read_call (Reserve r n) = Reserve r n
+read_call (Submit r items) = Submit r (read_items items)
+read_call (Peek r n) = Peek r n
+read_call (Release r n) = Release r n
+read_call (Swap m value) = Swap m value
+read_call (Look m) = Look m
 
 -- what a line tells but for its reply
 pub record Said : Type 0 where

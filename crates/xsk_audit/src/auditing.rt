@@ -1,11 +1,11 @@
 //! The audit of a journal: its calls are made on the object, and the journal that this writes is compared with it.
-ghost use Rattle.std.specs.Prelude.{◌≡◌, ◌+◌, ◌++◌, ◌^◌, ◌<◌, ◌≤◌, IfOk, IfSome, codes, length};
+ghost use Rattle.std.specs.Prelude.{◌≡◌, ◌≢◌, ◌+◌, ◌++◌, ◌^◌, ◌<◌, ◌≤◌, ℕ, IfOk, IfSome, IfNone, codes, length};
 ghost use Rattle.std.specs.Fmt.{decimal};
 ghost use Rattle.xsk_model.specs.Config.{IsLawful};
 ghost use Rattle.xsk_model.specs.Opening.{AreFrames};
 ghost use Rattle.xsk_plain.specs.Log.{entries_of};
 ghost use Rattle.xsk_audit.specs.Lines.{lines_of};
-ghost use Rattle.xsk_audit.specs.Telling.{AreSame, IsPassed, IsSound};
+ghost use Rattle.xsk_audit.specs.Telling.{AreSame, IsMissed, IsPassed, IsVerdict};
 ghost use Rattle.xsk_plain.specs.Left.{left_of};
 
 use crate::cutting::{first_line, pass_report};
@@ -23,7 +23,7 @@ use xsk_umem::{Frames, OutOfMemory};
 pub enum Verdicts {
     /// The journal is that of a legal history with so many entries.
     Legal { entries: u64 },
-    /// This line, counted from 1, can't follow the lines before it in the journal of a legal history.
+    /// This line, counted from 1, is the first that can't follow those before it in the journal of a legal history.
     NotLegal { line: u64 },
 }
 
@@ -37,7 +37,7 @@ pub fn audit(
 ) -> Result<Verdicts, OutOfMemory>
     requires lawful { IsLawful config }
     requires frames { AreFrames config.geometry frames.items }
-    ensures { IfOk result (IsSound config text.now) }
+    ensures { IfOk result (IsVerdict config text.now) }
 {
     let pairs = config.pairs().len() as u32;
     let mut shelf = Shelf::new(alloc, config.geometry().frames())?;
@@ -76,7 +76,7 @@ fn compare(log: &Log, pairs: u32, text: &[u8]) -> Compared
     let mut rest = text;
     let mut least = 0u64;
     let mut same = 0u64;
-    'entries: for _entry in 0..log.len() {
+    'entries: for _line in 0..text.len() {
         let Some((round, later)) = pass_same(&mut lines, &mut buffer, least, rest) else {
             return Compared {
                 same,
@@ -103,6 +103,7 @@ fn pass_same<'a>(
 ) -> Option<(u64, &'a [u8])>
     ensures pairs { lines.new.pairs ≡ lines.old.pairs }
     ensures same { IfSome result (λ passed. IsPassed lines.old.pairs (left_of lines.old) (left_of lines.new) least (lines_of text.now) passed.0 (lines_of passed.1.now)) }
+    ensures missed { IfNone result (IsMissed lines.old.pairs (left_of lines.old) least (lines_of text.now)) }
     ensures shorter { IfSome result (λ passed. length passed.1.now < length text.now) }
 {
     if text.is_empty() {
@@ -120,7 +121,8 @@ fn pass_same<'a>(
 
 /// The round of a line that is a round, a space and this text.
 fn round_before(line: &[u8], text: &[u8]) -> Option<u64>
-    ensures { IfSome result (λ round. (round < 2 ^ 64) × (line.now ≡ decimal round ++ codes " " ++ text.now)) }
+    ensures some { IfSome result (λ round. (round < 2 ^ 64) × (line.now ≡ decimal round ++ codes " " ++ text.now)) }
+    ensures none { IfNone result ((round : ℕ) → round < 2 ^ 64 → line.now ≢ decimal round ++ codes " " ++ text.now) }
 {
     let (round, rest) = number(line)?;
     let rest = word(rest, b" ".as_slice())?;

@@ -3,6 +3,7 @@
 
 mod auditing;
 mod cutting;
+pub mod laws;
 mod number;
 mod playing;
 mod reading;

@@ -1,6 +1,11 @@
 //! The calls of a journal, made on the object.
-ghost use Rattle.std.specs.Prelude.{◌≡◌};
-ghost use Rattle.xsk_model.specs.Asks.{HasAsked};
+ghost use Rattle.std.specs.Prelude.{◌≡◌, List, [], OnOk, IfOk, length};
+ghost use Rattle.xsk_umem.specs.Frame.{Frame as Body};
+ghost use Rattle.xsk_model.specs.Asks.{HasAsked, joined_call};
+ghost use Rattle.xsk_model.specs.Entry.{Entry};
+ghost use Rattle.xsk_audit.specs.Lines.{lines_of};
+ghost use Rattle.xsk_audit.specs.Playing.{IsPlaying, Makes, Plays};
+ghost use Rattle.xsk_audit.specs.Reading.{read_call};
 
 use crate::cutting::first_line;
 use crate::reading::read_line;
@@ -10,14 +15,16 @@ use xsk_model::{Ask, Reply};
 use xsk_plain::{Checked, payload_room};
 use xsk_umem::{Batch, OutOfMemory};
 
-/// Makes the calls of the lines, as long as each can be read and is legal.
+/// Makes the calls of the lines, as long as each can be read and is legal. No call may have been made before.
 pub(crate) fn play(
     alloc: Global,
     checked: &mut Checked,
     shelf: &mut Shelf,
     text: &[u8],
 ) -> Result<(), OutOfMemory>
-    ensures { checked.new.config ≡ checked.old.config }
+    requires opened { (frames : List Body) × IsPlaying checked.old shelf.old frames [] }
+    ensures config { checked.new.config ≡ checked.old.config }
+    ensures played { OnOk result (Plays checked.new (lines_of text.now)) }
 {
     let pairs = checked.config().pairs().len() as u32;
     let mut rest = text;
@@ -26,7 +33,7 @@ pub(crate) fn play(
             return Ok(());
         }
         let (line, later) = first_line(rest);
-        let mut told = Batch::new(alloc);
+        let mut told = Batch::new();
         let Some(reading) = read_line(pairs, line, &mut told) else {
             return Ok(());
         };
@@ -38,7 +45,7 @@ pub(crate) fn play(
     Ok(())
 }
 
-/// Makes a call, if it is legal.
+/// Makes a call, if it is legal. Its items stand beside it without frames, and get those of their addresses.
 fn make(
     alloc: Global,
     checked: &mut Checked,
@@ -47,10 +54,13 @@ fn make(
     ask: Ask,
     told: &Batch,
 ) -> Result<bool, OutOfMemory>
-    requires { HasAsked ask told.now }
-    ensures { checked.new.config ≡ checked.old.config }
+    requires asked { HasAsked ask told.now }
+    requires told { read_call (joined_call ask told.now) ≡ joined_call ask told.now }
+    requires playing { (frames : List Body) × (h : List Entry) × IsPlaying checked.old shelf.old frames h }
+    ensures config { checked.new.config ≡ checked.old.config }
+    ensures made { IfOk result (λ made. (frames : List Body) (h : List Entry) → IsPlaying checked.old shelf.old frames h → Makes checked.new shelf.new frames h who (joined_call ask told.now) made) }
 {
-    let Some(items) = shelf.lend(alloc, checked.config().geometry(), told) else {
+    let Some(items) = shelf.lend(checked.config().geometry(), told) else {
         return Ok(false);
     };
     let call = ask.joined(items);

@@ -1,8 +1,11 @@
 //! The frames that callers have.
-ghost use Rattle.std.specs.Prelude.{◌≡◌, IfNone, IfSome, length};
-ghost use Rattle.xsk_audit.specs.Shelf.{has};
+ghost use Rattle.std.specs.Prelude.{◌≡◌, ◌≤◌, ◌<◌, ℕ, Some, None, replicate, length, IfNone, IfSome, IfOk};
+ghost use Rattle.std.specs.List.{slice_set};
+ghost use Rattle.xsk_umem.specs.Geometry.{frame_of};
+ghost use Rattle.xsk_audit.specs.Shelf.{frame_at, has, AreInPlace, HasItsFrame, IsLent, Lacks, descs_of, with_items, without_frame};
 
 use std::alloc::Global;
+use std::marker::Model;
 use xsk_umem::{Batch, Frame, Geometry, Item, OutOfMemory, XdpDesc};
 
 /// The frames that callers have, each in the place of its number.
@@ -11,9 +14,19 @@ pub(crate) struct Shelf {
     frames: Vec<Option<Frame>>,
 }
 
+impl Model for Shelf {
+    ghost use Rattle.xsk_audit.specs.Shelf.{Places};
+
+    ghost Value = { Places };
+
+    ghost view = { λ s. s.frames.items };
+}
+
 impl Shelf {
     /// One with so many places, all of them empty.
-    pub(crate) fn new(alloc: Global, count: u32) -> Result<Shelf, OutOfMemory> {
+    pub(crate) fn new(alloc: Global, count: u32) -> Result<Shelf, OutOfMemory>
+        ensures { IfOk result (λ shelf. shelf ≡ replicate count None) }
+    {
         let mut frames = Vec::with_capacity(alloc, count as usize)?;
         for _place in 0..count {
             frames.push(None)?;
@@ -23,22 +36,30 @@ impl Shelf {
 
     /// Takes the frame of a number, if it lies there.
     fn take(&mut self, number: u32) -> Option<Frame>
-        ensures none { IfNone result ((has self.old.frames.items number ≡ 0) × (self.new.frames.items ≡ self.old.frames.items)) }
+        ensures frame { result ≡ frame_at self.old number }
+        ensures left { self.new ≡ slice_set self.old number None }
     {
         self.frames.get_mut(number as usize)?.take()
     }
 
     /// Puts a frame in the place of its number.
-    fn put(&mut self, frame: Frame) {
+    fn put(&mut self, frame: Frame)
+        ensures { self.new ≡ slice_set self.old frame.number (Some frame) }
+    {
         let number = frame.number();
         if let Some(place) = self.frames.get_mut(number as usize) {
             *place = Some(frame);
         }
     }
 
-    /// The item of a descriptor, with the frame of its address.
+    /// The item of a descriptor, with the frame of its address, which is taken. It gives none where that isn't there.
     fn item(&mut self, geometry: &Geometry, desc: XdpDesc) -> Option<Item>
-        ensures { IfSome result (λ item. item.desc ≡ desc) }
+        requires { AreInPlace geometry.now self.old }
+        ensures desc { IfSome result (λ item. item.desc ≡ desc) }
+        ensures frame { IfSome result (HasItsFrame geometry.now) }
+        ensures from { IfSome result (λ item. (n : ℕ) → frame_of geometry.now desc.addr ≡ Some n → frame_at self.old n ≡ item.frame) }
+        ensures left { self.new ≡ without_frame self.old (frame_of geometry.now desc.addr) }
+        ensures none { IfNone result ((n : ℕ) × (frame_of geometry.now desc.addr ≡ Some n) × (has self.old n ≡ 0)) }
     {
         let frame = match geometry.frame_of(desc.addr) {
             Some(number) => Some(self.take(number)?),
@@ -48,10 +69,14 @@ impl Shelf {
     }
 
     /// Items with the frames of their addresses, which are taken. It gives none where one isn't there.
-    pub(crate) fn lend(&mut self, alloc: Global, geometry: &Geometry, told: &Batch) -> Option<Batch>
-        ensures { IfSome result (λ items. length items ≡ length told.now) }
+    pub(crate) fn lend(&mut self, geometry: &Geometry, told: &Batch) -> Option<Batch>
+        requires { AreInPlace geometry.now self.old }
+        ensures some { IfSome result (IsLent geometry.now self.old self.new (descs_of told.now)) }
+        ensures none { IfNone result (Lacks geometry.now self.old (descs_of told.now)) }
+        ensures places { AreInPlace geometry.now self.new }
+        ensures count { length self.new ≡ length self.old }
     {
-        let mut items = Batch::new(alloc);
+        let mut items = Batch::new();
         'items: for i in 0..told.len() {
             let item = self.item(geometry, told.desc(i))?;
             items.push(item);
@@ -60,9 +85,11 @@ impl Shelf {
     }
 
     /// Keeps the frames of items.
-    pub(crate) fn keep(&mut self, taken: Batch) {
+    pub(crate) fn keep(&mut self, taken: Batch)
+        ensures { self.new ≡ with_items self.old taken }
+    {
         let mut items = taken;
-        for _item in 0..items.len() {
+        'items: for _item in 0..items.len() {
             if let Some(item) = items.pop_front() {
                 if let Some(frame) = item.frame {
                     self.put(frame);

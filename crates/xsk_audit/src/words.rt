@@ -1,6 +1,6 @@
 //! The words of a journal's line: callers, rings, marks and items.
 ghost use Rattle.std.specs.Prelude.{◌≡◌};
-ghost use Rattle.xsk_audit.specs.Reading.{read_view, text_view, word_at, who_at, ring_at, cell_at, mark_at, desc_at, begins_item};
+ghost use Rattle.xsk_audit.specs.Reading.{read_view, text_view, word_at, who_at, ring_at, cell_at, mark_at, other_mark_at, desc_at, begins_item};
 
 use crate::number::{number, small};
 use xsk_model::{Mark, Ring};
@@ -81,7 +81,28 @@ pub(crate) fn mark(text: &[u8]) -> Option<(Mark, &[u8])>
         let (application, rest) = small(rest)?;
         return Some((Mark::TxDone(application), rest));
     }
-    cell(word(text, b"cell.".as_slice())?)
+    other_mark(text)
+}
+
+/// The other marks: cells, and those of closing and bouncing.
+#[tactic(auto, unfolding(crate::specs::Reading::other_mark_at))]
+fn other_mark(text: &[u8]) -> Option<(Mark, &[u8])>
+    ensures { read_view result ≡ other_mark_at text.now }
+{
+    if let Some(rest) = word(text, b"cell.".as_slice()) {
+        return cell(rest);
+    }
+    if let Some(rest) = word(text, b"closing.".as_slice()) {
+        let (socket, rest) = small(rest)?;
+        return Some((Mark::Closing(socket), rest));
+    }
+    if let Some(rest) = word(text, b"acked.".as_slice()) {
+        let (socket, rest) = small(rest)?;
+        return Some((Mark::Acked(socket), rest));
+    }
+    let rest = word(text, b"bounced.".as_slice())?;
+    let (pair, rest) = small(rest)?;
+    Some((Mark::Bounced(pair), rest))
 }
 
 #[tactic(auto, unfolding(crate::specs::Reading::cell_at))]

@@ -2,8 +2,7 @@ use Rattle.std.proofs.Common.{◌≡◌, ◌+◌, ◌≤◌, ◌++◌, List, len
 use Rattle.xsk_plain.specs.Left.{left_of}
 use Rattle.xsk_plain.specs.Log.{entries_of}
 use Rattle.xsk_audit.specs.Lines.{lines_of}
-use Rattle.xsk_audit.specs.Telling.{Timed, entries, journal_line, NeverFalls}
-use Rattle.xsk_audit.proofs.Rounds.{last_of}
+use Rattle.xsk_audit.specs.Telling.{Timed, entries, journal_line, NeverFalls, last_of}
 use Rattle.xsk_audit.proofs.auditing.compare.Given as goal
 
 abbrev pub invariant-entries : goal.invariant-entries
@@ -15,5 +14,6 @@ invariant-entries l = record {
   rounds : NeverFalls 0 timed;
   last : last_of 0 timed ≡ l.least;
   count : l.same ≡ length timed;
+  passed : l.same ≡ l._line;
   short : l.same + length l.rest ≤ length l.text;
 }
