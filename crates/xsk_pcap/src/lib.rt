@@ -7,4 +7,5 @@ pub mod laws;
 mod reading;
 
 pub use capture::{Capture, GAPS, Laid, write_in_gaps};
+pub use endianness::Endianness;
 pub use reading::{BadCapture, read};

@@ -5,10 +5,10 @@ use Rattle.std.proofs.lemmas.Bool.{le-ltb, ne_eqb}
 use Rattle.std.proofs.lemmas.Bool.Decides.{eqb_tells}
 use Rattle.std.proofs.lemmas.List.{take_at, drop_at, length-append, take-append-le, drop-append-le, length-drop}
 use Rattle.byteorder.specs.Numbers.{big_from-take, little_from-take}
-use Rattle.xsk_pcapng.specs.declared.endianness.Endianness.{Endianness}
-use Rattle.xsk_pcapng.specs.declared.endianness.Endianness.TheVariants.{Little, Big}
+use Rattle.xsk_pcap.specs.declared.endianness.Endianness.{Endianness}
+use Rattle.xsk_pcap.specs.declared.endianness.Endianness.TheVariants.{Little, Big}
 use Rattle.xsk_pcapng.specs.declared.reading.BadPcapng.{BadPcapng}
-use Rattle.xsk_pcapng.specs.Numbers.{number_in}
+use Rattle.xsk_pcap.specs.Numbers.{number_in}
 use Rattle.xsk_pcapng.specs.Blocks.{kind_in, total_in, last_in, link_in, interface_in, captured_in, least, padded, IsBlock, MayStand}
 use Rattle.xsk_pcapng.specs.Pcapng.{length_refusal, interface_refusal, packet_refusal, kind_refusal, content_refusal, block_refusal}
 

@@ -2,7 +2,7 @@
 use Rattle.std.proofs.Common.{◌≡◌, ℕ, ◌+◌, List, [], length, map, Some, sym, ap, subst, ◌∙◌, arith, inl, inr}
 use Rattle.std.specs.List.{concat}
 use Rattle.std.proofs.lemmas.Option.{same_Some}
-use Rattle.xsk_pcapng.specs.declared.endianness.Endianness.{Endianness}
+use Rattle.xsk_pcap.specs.declared.endianness.Endianness.{Endianness}
 use Rattle.xsk_pcapng.specs.declared.reading.BadPcapng.{BadPcapng}
 use Rattle.xsk_pcapng.specs.declared.reading.BadPcapng.TheVariants.{OutOfMemory}
 use Rattle.xsk_pcapng.specs.Blocks.{interfaces_behind, arrivals_in}

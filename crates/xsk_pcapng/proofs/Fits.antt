@@ -4,7 +4,7 @@ use Rattle.std.specs.List.{AllByRecursion}
 use Rattle.std.proofs.lemmas.Bool.Decides.{eqb_tells}
 use Rattle.std.proofs.lemmas.List.{append-nil, length-append, length-take}
 use Rattle.std.proofs.lemmas.List.Concat.{flat_map-append}
-use Rattle.xsk_pcapng.specs.declared.endianness.Endianness.{Endianness}
+use Rattle.xsk_pcap.specs.declared.endianness.Endianness.{Endianness}
 use Rattle.xsk_pcapng.specs.Blocks.{kind_in, captured_in, interfaces_after, MayStand, AreBlocks, Arrival, arrivals_of, arrivals_in, packets_at}
 use Rattle.xsk_pcapng.specs.Pcapng.{lists_of}
 use Rattle.xsk_pcapng.specs.Written.{all_packets, IsShort}

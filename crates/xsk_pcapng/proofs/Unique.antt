@@ -4,7 +4,7 @@ use Rattle.std.specs.List.{concat}
 use Rattle.std.proofs.lemmas.Bool.{le-ltb}
 use Rattle.std.proofs.lemmas.Option.{same_Some}
 use Rattle.std.proofs.lemmas.List.{length-append}
-use Rattle.xsk_pcapng.specs.declared.endianness.Endianness.{Endianness}
+use Rattle.xsk_pcap.specs.declared.endianness.Endianness.{Endianness}
 use Rattle.xsk_pcapng.specs.Blocks.{interfaces_after, interfaces_behind, AreBlocks}
 use Rattle.xsk_pcapng.specs.Pcapng.{header_refusal, PassesHeader, Begins}
 use Rattle.xsk_pcapng.proofs.Blocks.{front_unique, EndsAt}

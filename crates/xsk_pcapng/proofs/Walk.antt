@@ -7,7 +7,7 @@ use Rattle.std.proofs.lemmas.List.{length-append, length-drop, append-nil, map-a
 use Rattle.std.proofs.lemmas.List.Concat.{flat_map-append}
 use Rattle.std.proofs.lemmas.List.Folds.{concat-append}
 use Rattle.std.proofs.lemmas.List.Elements.{All-push}
-use Rattle.xsk_pcapng.specs.declared.endianness.Endianness.{Endianness}
+use Rattle.xsk_pcap.specs.declared.endianness.Endianness.{Endianness}
 use Rattle.xsk_pcapng.specs.declared.reading.BadPcapng.{BadPcapng}
 use Rattle.xsk_pcapng.specs.declared.reading.Content.{Content}
 use Rattle.xsk_pcapng.specs.declared.reading.Content.TheVariants.{Other, Interface, Packet}

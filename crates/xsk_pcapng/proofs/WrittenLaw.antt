@@ -9,7 +9,7 @@ use Rattle.std.proofs.lemmas.List.{append-nil, map-append, take_at, drop_at}
 use Rattle.std.proofs.lemmas.List.Elements.{filter-append}
 use Rattle.byteorder.specs.Endian.{little_bytes, little_number}
 use Rattle.byteorder.specs.Numbers.{little_number-reads_back}
-use Rattle.xsk_pcapng.specs.declared.endianness.Endianness.TheVariants.{Little}
+use Rattle.xsk_pcap.specs.declared.endianness.Endianness.TheVariants.{Little}
 use Rattle.xsk_pcapng.specs.Blocks.{total_in, last_in, interface_in, captured_in, packet_in, padded, IsBlock, MayStand, AreBlocks, Arrival, arrivals_of, arrivals_in, packets_at}
 use Rattle.xsk_pcapng.specs.Pcapng.{PassesHeader, lists_of}
 use Rattle.xsk_pcapng.specs.Written.{block_bytes, section_block, interface_block, padding, packet_block, list_blocks, lists_blocks, written_blocks, written, all_packets, IsShort, IsWritable}

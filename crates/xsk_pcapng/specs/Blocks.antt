@@ -4,9 +4,9 @@
 -- 262,144, is this project's own.
 use Rattle.std.specs.Prelude.{◌≡◌, ◌≢◌, ℕ, ◌+◌, ◌-◌, ◌*◌, ◌/◌, ◌%◌, ◌<◌, ◌≤◌, ◌==◌, if◌then◌else◌, List, [], ◌∷◌, length, take, drop, map}
 use Rattle.std.specs.List.{flat_map, filter}
-use Rattle.xsk_pcapng.specs.declared.endianness.Endianness.{Endianness}
+use Rattle.xsk_pcap.specs.declared.endianness.Endianness.{Endianness}
 use Rattle.xsk_pcapng.specs.Limits.{most_captured}
-use Rattle.xsk_pcapng.specs.Numbers.{number_in}
+use Rattle.xsk_pcap.specs.Numbers.{number_in}
 
 -- ---- the types of blocks
 

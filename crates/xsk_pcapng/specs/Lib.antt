@@ -1,4 +1,3 @@
-pub mod Numbers
 pub mod Limits
 pub mod Blocks
 pub mod Pcapng

@@ -2,12 +2,12 @@
 -- port without an interface has no packets. That there is one section, and which check comes first, is this project's own.
 use Rattle.std.specs.Prelude.{◌≡◌, ℕ, zero, suc, ◌+◌, ◌<◌, ◌≤◌, ◌⊎◌, ◌==◌, ◌%◌, ◌||◌, not, if◌then◌else◌, nat_lt, nat_le, List, [], ◌∷◌, ◌++◌, length, take, drop, Option, Some, None}
 use Rattle.std.specs.List.{concat}
-use Rattle.xsk_pcapng.specs.declared.endianness.Endianness.{Endianness}
-use Rattle.xsk_pcapng.specs.declared.endianness.Endianness.TheVariants.{Little, Big}
+use Rattle.xsk_pcap.specs.declared.endianness.Endianness.{Endianness}
+use Rattle.xsk_pcap.specs.declared.endianness.Endianness.TheVariants.{Little, Big}
 use Rattle.xsk_pcapng.specs.declared.reading.BadPcapng.{BadPcapng}
 use Rattle.xsk_pcapng.specs.declared.reading.BadPcapng.TheVariants.{ShortHeader, BadMagic, BadVersion, Truncated, BadBlock, SecondSection, BadLink, TooManyInterfaces, OtherPacket, NoInterface, RecordTooLong, OutOfMemory}
 use Rattle.xsk_pcapng.specs.Limits.{most_captured}
-use Rattle.xsk_pcapng.specs.Numbers.{number_in}
+use Rattle.xsk_pcap.specs.Numbers.{number_in}
 use Rattle.xsk_pcapng.specs.Blocks.{section_header, interface_description, obsolete_packet, simple_packet, enhanced_packet, kind_in, total_in, last_in, link_in, interface_in, captured_in, least, padded, AreBlocks, interfaces_behind, Arrival, arrivals_in, packets_at}
 
 -- ---- what a file is

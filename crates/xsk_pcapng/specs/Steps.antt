@@ -1,7 +1,7 @@
 -- What the steps of reading a file find.
 use Rattle.std.specs.Prelude.{◌≡◌, ℕ, ◌+◌, ◌%◌, ◌<◌, ◌≤◌, List, [], ◌∷◌, ◌++◌, length, take, drop, map, All}
 use Rattle.xsk_umem.specs.Span.{at_span, IsWithin}
-use Rattle.xsk_pcapng.specs.declared.endianness.Endianness.{Endianness}
+use Rattle.xsk_pcap.specs.declared.endianness.Endianness.{Endianness}
 use Rattle.xsk_pcapng.specs.declared.reading.Content.{Content}
 use Rattle.xsk_pcapng.specs.declared.reading.Content.TheVariants.{Other, Interface, Packet}
 use Rattle.xsk_pcapng.specs.declared.reading.Found.{Found}

@@ -1,7 +1,6 @@
 //! Files of several interfaces (pcapng draft): read into a list of packets for each port, and written from such lists.
 #![tactic(auto)]
 
-mod endianness;
 pub mod laws;
 mod lists;
 mod reading;

@@ -7,10 +7,10 @@ ghost use Rattle.xsk_pcapng.specs.Blocks.{kind_in, least as least_of, padded as 
 ghost use Rattle.xsk_pcapng.specs.Steps.{CutsOff, Holds, HoldsPacket, IsEnds, FitsInterface, Finds};
 ghost use Rattle.xsk_pcapng.specs.Written.{packets_of};
 
-use crate::endianness::Endianness;
 use crate::lists::lists_of;
 use std::alloc::Global;
 use thiserror::Error;
+use xsk_pcap::Endianness;
 use xsk_umem::{PacketList, Span};
 
 const SECTION_HEADER: u32 = 0x0a0d_0d0a;
