@@ -1,7 +1,7 @@
 //! xsk_socket: a layout is judged, and gives the regular configuration. `docs/SOCKETS.md` has the setup socket by socket.
 ghost use Rattle.std.specs.Prelude.{IfOk};
-ghost use Rattle.xsk_model.specs.Config.{IsRegular};
 ghost use Rattle.xsk_model.specs.Opening.{AreFrames};
+ghost use Rattle.xsk_turns.specs.Owned.{IsSteady};
 
 use anyhow::{Result, bail};
 use std::alloc::Global;
@@ -43,7 +43,7 @@ pub fn configure<R: Print>(rt: &R, alloc: Global) -> Result<()> {
 
 /// The regular configuration of a layout, and the frames of its UMEM.
 pub fn opened(alloc: Global, layout: &Layout) -> Result<(Config, Frames)>
-    ensures regular { IfOk result (λ made. IsRegular made.0) }
+    ensures steady { IfOk result (λ made. IsSteady made.0) }
     ensures frames { IfOk result (λ made. AreFrames made.0.geometry made.1.items) }
 {
     if check_layout(layout).is_err() {

@@ -33,7 +33,7 @@ fn hand_over<R: Print>(rt: &R, alloc: Global, frame: Frame, addr: u64) -> Result
         len: 60,
         options: 0,
     };
-    let mut batch = Batch::new(alloc);
+    let mut batch = Batch::new();
     batch.push(Item {
         frame: Some(frame),
         desc,

@@ -1,8 +1,8 @@
 //! xsk_sim: two drivers and an application forward a port's packets in rounds. What was sent has gaps for a capture's headers.
 ghost use Rattle.std.specs.Prelude.{All, IfOk};
-ghost use Rattle.xsk_model.specs.Config.{IsRegular};
 ghost use Rattle.xsk_model.specs.Opening.{AreFrames};
 ghost use Rattle.xsk_sim.specs.Shown.{HasShortPackets};
+ghost use Rattle.xsk_turns.specs.Owned.{IsSteady};
 
 use crate::layouts::opened;
 use anyhow::{Result, bail};
@@ -40,7 +40,7 @@ pub fn forward_a_packet<R: Print>(rt: &R, alloc: Global) -> Result<()> {
 
 /// The run in which port 0 of two receives one packet.
 pub fn forwarded(alloc: Global, config: Config, frames: Frames) -> Result<Run>
-    requires regular { IsRegular config }
+    requires steady { IsSteady config }
     requires frames { AreFrames config.geometry frames.items }
 {
     let received = received(alloc)?;

@@ -1,12 +1,12 @@
 //! Setups and scripts, each a line with a name and the lines behind it.
-use crate::run::run;
+use crate::run::{Makers, run};
 use crate::words::number;
 use std::alloc::{AllocError, Global};
 use std::string::String;
 use xsk_umem::OutOfMemory;
 
-/// A block's first line is `setup NAME`, or `script NAME SETUP` with the starting counts behind it, or with `plain`, where
-/// calls are made that aren't legal.
+/// A block's first line is `setup NAME`, or `script NAME SETUP` with the starting counts behind it, or with `checked` or
+/// `plain`, where calls are made on one object alone, and with `plain` also those that aren't legal.
 #[derive(Drop)]
 pub(crate) struct Block {
     head: String,
@@ -56,6 +56,14 @@ pub(crate) fn told(alloc: Global, blocks: &[Block], block: &Block) -> Result<Str
     Ok(out)
 }
 
+fn makers(word: &str) -> Makers {
+    match word {
+        "checked" => Makers::Checked,
+        "plain" => Makers::Plain,
+        _ => Makers::Both(number(word).unwrap_or(0)),
+    }
+}
+
 /// Runs a script from each starting count. The first run is printed, and each other one where it differs.
 fn all_runs(
     alloc: Global,
@@ -66,8 +74,7 @@ fn all_runs(
 ) -> Result<(), OutOfMemory> {
     let mut told = None;
     for count in counts {
-        let plain = *count == "plain";
-        let text = run(alloc, setup, script, plain, number(count).unwrap_or(0))?;
+        let text = run(alloc, setup, script, makers(count))?;
         let text = match text {
             Some(text) => text,
             None => format!(in alloc; "no configuration\n")?,

@@ -120,7 +120,7 @@ impl Store {
     }
 
     fn batch(&mut self, alloc: Global, known: &Known, things: &[Thing]) -> Batch {
-        let mut batch = Batch::new(alloc);
+        let mut batch = Batch::new();
         for thing in things {
             let frame = match known.frame_of(*thing) {
                 Some(number) => self.take(number),

@@ -64,9 +64,14 @@ impl Noted {
         }
     }
 
-    /// Takes a caller's pass, and gives it back. Tells its number, and whether there was no second one.
-    pub(crate) fn lends_once(&mut self, who: u32) -> Option<(u32, bool)> {
-        self.table.lends_once(who)
+    /// The number of a caller's pass, if there is such a caller.
+    pub(crate) fn caller(&self, who: u32) -> Option<u32> {
+        self.table.caller(who)
+    }
+
+    /// Whether each caller's pass could be taken once, and no other.
+    pub(crate) fn lent_once(&self) -> bool {
+        self.table.lent_once()
     }
 
     /// Ends the table, and gives the frames that stand in rings.

@@ -15,6 +15,17 @@ use xsk_model::Mark;
 use xsk_plain::{Checked, Plain};
 use xsk_umem::OutOfMemory;
 
+/// What makes the calls of a script.
+#[derive(Clone, Copy)]
+pub(crate) enum Makers {
+    /// The object that tells which calls are legal, and a table whose counts start at a number.
+    Both(u32),
+    /// This object alone.
+    Checked,
+    /// The object alone that makes each call that can be made.
+    Plain,
+}
+
 /// The configuration with its frames twice, if the lines of a setup say one.
 fn setup_of(alloc: Global, lines: &[String]) -> Result<Option<Setup>, OutOfMemory> {
     let mut setup = Setup::new(alloc);
@@ -42,11 +53,10 @@ fn checked_of(alloc: Global, setup: Setup) -> Option<Object> {
     }
 }
 
-fn object_of(alloc: Global, setup: Setup, plain: bool) -> Option<Object> {
-    if plain {
-        plain_of(alloc, setup)
-    } else {
-        checked_of(alloc, setup)
+fn object_of(alloc: Global, setup: Setup, makers: Makers) -> Option<Object> {
+    match makers {
+        Makers::Plain => plain_of(alloc, setup),
+        Makers::Both(_) | Makers::Checked => checked_of(alloc, setup),
     }
 }
 
@@ -55,26 +65,23 @@ fn table_of(alloc: Global, setup: Setup, first: u32) -> Option<Noted> {
     Some(Noted::new(Table::open(alloc, config, frames, first)?))
 }
 
-/// Both engines, or the one that makes each call that can be made.
-fn open(
-    alloc: Global,
-    lines: &[String],
-    plain: bool,
-    first: u32,
-) -> Result<Option<Stage>, OutOfMemory> {
+/// Both engines, or one of them.
+fn open(alloc: Global, lines: &[String], makers: Makers) -> Result<Option<Stage>, OutOfMemory> {
     let (Some(mine), Some(theirs)) = (setup_of(alloc, lines)?, setup_of(alloc, lines)?) else {
         return Ok(None);
     };
-    let Some(object) = object_of(alloc, mine, plain) else {
+    let Some(object) = object_of(alloc, mine, makers) else {
         return Ok(None);
+    };
+    let geometry = object.config().geometry();
+    let hand = Hand::new(alloc, geometry.chunk(), geometry.frames())?;
+    let Makers::Both(first) = makers else {
+        return Ok(Some(Stage::new(alloc, object, None, hand)));
     };
     let table = table_of(alloc, theirs, first);
     if table.is_none() {
         return Ok(None);
     }
-    let geometry = object.config().geometry();
-    let hand = Hand::new(alloc, geometry.chunk(), geometry.frames())?;
-    let table = if plain { None } else { table };
     Ok(Some(Stage::new(alloc, object, table, hand)))
 }
 
@@ -83,10 +90,9 @@ pub(crate) fn run(
     alloc: Global,
     setup: &[String],
     script: &[String],
-    plain: bool,
-    first: u32,
+    makers: Makers,
 ) -> Result<Option<String>, OutOfMemory> {
-    let Some(stage) = open(alloc, setup, plain, first)? else {
+    let Some(stage) = open(alloc, setup, makers)? else {
         return Ok(None);
     };
     let mut stage = stage;
@@ -164,14 +170,14 @@ fn count(
     Ok(())
 }
 
-/// Takes each pass and gives it back. Behind the last one there is none.
+/// Tells whether each caller has one pass, with its number, and no other has one.
 fn passes(stage: &mut Stage, line: &str) -> Result<(), OutOfMemory> {
     let callers = stage.object.config().callers();
     let mut right = false;
-    if let Some(table) = &mut stage.table {
-        right = table.lends_once(callers).is_none() && table.lends_once(u32::MAX).is_none();
+    if let Some(table) = &stage.table {
+        right = table.lent_once() && table.caller(callers).is_none();
         for who in 0..callers {
-            right = right && table.lends_once(who) == Some((who, true));
+            right = right && table.caller(who) == Some(who);
         }
     }
     let what = format!(in stage.alloc; "{callers} {}", if right { "once each" } else { "wrong" })?;

@@ -23,6 +23,7 @@ pub(crate) struct Setup {
     cells: Vec<Vec<u64>>,
     sg: bool,
     wakeup: bool,
+    closing: Option<u32>,
 }
 
 /// A line of a setup.
@@ -33,6 +34,7 @@ enum Part {
     Socket(SocketInfo),
     Sg,
     Wakeup,
+    Closing(u32),
 }
 
 impl Setup {
@@ -48,6 +50,7 @@ impl Setup {
             cells: Vec::new(alloc),
             sg: false,
             wakeup: false,
+            closing: None,
         }
     }
 
@@ -90,6 +93,7 @@ impl Setup {
             Part::Socket(socket) => self.sockets.push(socket)?,
             Part::Sg => self.sg = true,
             Part::Wakeup => self.wakeup = true,
+            Part::Closing(socket) => self.closing = Some(socket),
         }
         Ok(())
     }
@@ -104,6 +108,7 @@ fn read_part(words: &[&str]) -> Option<Part> {
         "socket" => read_socket(rest),
         "sg" => Some(Part::Sg),
         "wakeup" => Some(Part::Wakeup),
+        "closing" => read_closing(rest),
         _ => None,
     }
 }
@@ -144,6 +149,13 @@ fn read_socket(words: &[&str]) -> Option<Part> {
         rx: size(rx)?,
         tx: size(tx)?,
     }))
+}
+
+fn read_closing(words: &[&str]) -> Option<Part> {
+    let [socket] = words else {
+        return None;
+    };
+    Some(Part::Closing(number(socket)?))
 }
 
 /// The size of a ring, or `-` where there is none.
@@ -256,6 +268,19 @@ fn has_counts(ports: u32, queues: u32, sockets: usize, pairs: usize, maps: usize
         && maps == ports as usize
 }
 
+/// The configuration with a socket to close, if it is one.
+fn with_closing(config: Config, socket: u32) -> Option<Config>
+    ensures { IfSome result (λ closing. closing.geometry ≡ config.geometry) }
+{
+    let mut config = config;
+    let info = config.sockets().get(socket as usize)?;
+    if info.rx.is_none() || info.tx.is_none() {
+        return None;
+    }
+    config.set_closing(socket);
+    Some(config)
+}
+
 impl Setup {
     /// The configuration, if it is one.
     fn config(self, geometry: Geometry) -> Option<Config>
@@ -269,6 +294,7 @@ impl Setup {
             cells,
             sg,
             wakeup,
+            closing,
             ..
         } = self;
         let counts = has_counts(ports, queues, sockets.len(), pairs.len(), cells.len());
@@ -287,7 +313,11 @@ impl Setup {
         if !maps {
             return None;
         }
-        Some(Config::of_parts(geometry, ports, queues, sockets, pairs, cells, sg, wakeup))
+        let config = Config::of_parts(geometry, ports, queues, sockets, pairs, cells, sg, wakeup);
+        match closing {
+            Some(socket) => with_closing(config, socket),
+            None => Some(config),
+        }
     }
 
     /// The configuration with these frames, if it is lawful.

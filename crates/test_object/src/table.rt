@@ -1,40 +1,47 @@
 //! A table that threads share, with the passes of all its callers between their calls.
-ghost use Rattle.std.specs.Prelude.{◌≡◌, ◌+◌, ◌<◌, ◌≤◌, IfSome, IfNone, IfOk};
-ghost use Rattle.xsk_model.specs.Config.{IsLawful};
+ghost use Rattle.std.specs.Prelude.{◌≡◌, ◌+◌, ◌≤◌, IfOk, IfSome};
+ghost use Rattle.xsk_model.specs.Config.{IsLawful, callers_of};
 ghost use Rattle.xsk_model.specs.Opening.{AreFrames};
 ghost use Rattle.xsk_rings.specs.Serving.{MayAsk, looks_of};
 ghost use Rattle.xsk_rings.specs.Rounds.{Rests};
-ghost use Rattle.test_object.specs.Resting.{AllRest, IsLent};
+ghost use Rattle.xsk_table.specs.Opening.{new_passes};
+ghost use Rattle.xsk_table.specs.Closing.{AreThere};
+ghost use Rattle.test_object.specs.Resting.{AreTaken, AllRest};
 
 use crate::reply::Asked;
 use std::alloc::Global;
 use std::marker::{Brand, Model};
 use std::sync::ledger::{Blank, Ledger};
 use xsk_model::{Call, Config, Reply};
-use xsk_rings::RingCalls;
-use xsk_table::{Note, Pass, Passes, Shared, Steps};
-use xsk_umem::Frames;
+use xsk_rings::{CheckedPass, RingCalls};
+use xsk_table::{Note, Passes, Shared, Steps};
+use xsk_umem::{Batch, Frames, OutOfMemory};
 
-/// A table, and the passes of all its callers. No call is in flight.
+/// A table, and a checked pass for each of its callers, whose passes were taken once. No call is in flight.
 #[derive(Drop)]
 pub(crate) struct Table {
     shared: Shared,
+    /// Those that were taken, which is all.
     passes: Passes,
+    checked: Vec<CheckedPass>,
+    /// Whether there was one pass for each caller, and none for another number.
+    once: bool,
 }
 
 impl Model for Table {
     ghost use Rattle.xsk_table.specs.Held.{Board};
-    ghost use Rattle.test_object.specs.Resting.{AllRest};
+    ghost use Rattle.xsk_model.specs.Config.{callers_of};
+    ghost use Rattle.test_object.specs.Resting.{AreTaken, AllRest};
 
     ghost Value = { Board };
 
     ghost view = { λ t. t.shared };
 
-    ghost invariant = { λ t. AllRest t.shared t.passes };
+    ghost invariant = { λ t. AreTaken t.shared (callers_of t.shared.setup.config) t.passes × AllRest t.shared (callers_of t.shared.setup.config) t.checked.items };
 }
 
 /// The looks at the other side's count that a legal call takes.
-fn looks(shared: &Shared, pass: &Pass, call: &Call) -> u32
+fn looks(shared: &Shared, pass: &CheckedPass, call: &Call) -> u32
     requires may { MayAsk shared.now pass.now call.now }
     ensures { result ≡ looks_of pass.now call.now }
 {
@@ -47,7 +54,7 @@ fn looks(shared: &Shared, pass: &Pass, call: &Call) -> u32
 /// The reply to a call, and the looks at the other side's count that it took.
 fn counted<L: Ledger>(
     shared: &Shared,
-    pass: &mut Pass,
+    pass: &mut CheckedPass,
     call: Call,
     steps: &mut Steps<L>,
 ) -> (Reply, u32)
@@ -63,7 +70,7 @@ fn counted<L: Ledger>(
 /// A Reserve or a Peek that looks at the other side's count, whatever is known of it. Any other call is made as ever.
 fn looking<L: Ledger>(
     shared: &Shared,
-    pass: &mut Pass,
+    pass: &mut CheckedPass,
     call: Call,
     steps: &mut Steps<L>,
 ) -> (Reply, u32)
@@ -73,7 +80,10 @@ fn looking<L: Ledger>(
     ensures counted { steps.new ≡ steps.old + result.1 }
 {
     match call {
-        Call::Reserve(ring, count) => (pass.reserve_step(shared, ring, count, steps), 1),
+        Call::Reserve(ring, count) => {
+            let answer = pass.reserve_anew(shared, ring, count, steps);
+            (answer.joined(Batch::new()), 1)
+        },
         _ => counted(shared, pass, call, steps),
     }
 }
@@ -81,7 +91,7 @@ fn looking<L: Ledger>(
 /// The same for a call that may not be legal, counted in a ledger that is fresh.
 fn asked<L: Ledger>(
     shared: &Shared,
-    pass: &mut Pass,
+    pass: &mut CheckedPass,
     call: Call,
     anew: bool,
     blank: Blank,
@@ -105,7 +115,7 @@ fn asked<L: Ledger>(
 }
 
 /// The same, with a counter that is opened for this call.
-fn asked_anew(shared: &Shared, pass: &mut Pass, call: Call, anew: bool) -> (Asked, u32)
+fn asked_anew(shared: &Shared, pass: &mut CheckedPass, call: Call, anew: bool) -> (Asked, u32)
     requires rests { Rests shared.now pass.old }
     ensures rests { Rests shared.now pass.new }
     ensures caller { pass.new.who ≡ pass.old.who }
@@ -114,28 +124,46 @@ fn asked_anew(shared: &Shared, pass: &mut Pass, call: Call, anew: bool) -> (Aske
     asked::<Brand>(shared, pass, call, anew, blank)
 }
 
-/// Takes the pass of a caller for a call.
-fn lend(shared: &Shared, passes: &mut Passes, who: u32) -> Option<Pass>
-    requires rest { AllRest shared.now passes.old }
-    ensures none { IfNone result (AllRest shared.now passes.new) }
-    ensures rests { IfSome result (λ pass. Rests shared.now pass × (pass.who ≡ who)) }
-    ensures lent { IfSome result (λ pass. IsLent shared.now passes.new who) }
+/// Takes the passes of all callers, and checks each. Tells whether there was one for each, and none for another number.
+fn take_all(
+    alloc: Global,
+    shared: &Shared,
+    passes: &mut Passes,
+) -> Result<(Vec<CheckedPass>, bool), OutOfMemory>
+    requires new { passes.old ≡ new_passes shared.now }
+    ensures taken { IfOk result (λ all. AreTaken shared.now (callers_of shared.now.setup.config) passes.new) }
+    ensures rest { IfOk result (λ all. AllRest shared.now (callers_of shared.now.setup.config) all.0.items) }
 {
-    if who >= shared.config().callers() {
-        return None;
+    let callers = shared.config().callers();
+    let mut checked = Vec::new(alloc);
+    let mut once = true;
+    for who in 0..callers {
+        let Some(pass) = passes.take(who) else {
+            unreachable!()
+        };
+        let again = passes.take(who);
+        once = once && pass.caller() == who && again.is_none();
+        let Ok(one) = CheckedPass::new(alloc, shared, pass) else {
+            return Err(OutOfMemory);
+        };
+        checked.push(one)?;
     }
-    passes.take(who)
+    let next = passes.take(callers);
+    let last = passes.take(u32::MAX);
+    Ok((checked, once && next.is_none() && last.is_none()))
 }
 
-/// Puts it back.
-fn give_back(shared: &Shared, passes: &mut Passes, who: u32, pass: Pass)
-    requires rests { Rests shared.now pass }
-    requires caller { pass.who ≡ who }
-    requires lent { IsLent shared.now passes.old who }
-    ensures { AllRest shared.now passes.new }
+/// Puts all passes back.
+fn give_all(shared: &Shared, passes: &mut Passes, checked: Vec<CheckedPass>)
+    requires taken { AreTaken shared.now (callers_of shared.now.setup.config) passes.old }
+    requires rest { AllRest shared.now (callers_of shared.now.setup.config) checked.items }
+    ensures { AreThere shared.now passes.new }
 {
     let _config = shared.config();
-    passes.give(pass);
+    let mut checked = checked;
+    'passes: while let Some(one) = checked.pop() {
+        passes.give(one.into_pass());
+    }
 }
 
 impl Table {
@@ -147,20 +175,26 @@ impl Table {
         let Ok((shared, passes)) = Shared::open(alloc, config, frames, first) else {
             return None;
         };
-        Some(Table { shared, passes })
+        let mut passes = passes;
+        let Ok((checked, once)) = take_all(alloc, &shared, &mut passes) else {
+            return None;
+        };
+        Some(Table {
+            shared,
+            passes,
+            checked,
+            once,
+        })
     }
 
     /// Makes a call where it is legal, and tells the looks at the other side's count that it took.
     pub(crate) fn ask(&mut self, who: u32, call: Call, anew: bool) -> (Asked, u32)
         ensures { self.new ≡ self.old }
     {
-        let Some(pass) = lend(&self.shared, &mut self.passes, who) else {
+        if who as usize >= self.checked.len() {
             return (Asked::Refused(call), 0);
-        };
-        let mut pass = pass;
-        let made = asked_anew(&self.shared, &mut pass, call, anew);
-        give_back(&self.shared, &mut self.passes, who, pass);
-        made
+        }
+        asked_anew(&self.shared, &mut self.checked[who as usize], call, anew)
     }
 
     /// Takes a note of what a caller has seen, if there is such a caller.
@@ -168,11 +202,10 @@ impl Table {
         ensures same { self.new ≡ self.old }
         ensures table { IfSome result (λ note. note.table ≡ self.old.table) }
     {
-        let pass = lend(&self.shared, &mut self.passes, who)?;
-        let mut pass = pass;
-        let note = pass.note(&self.shared);
-        give_back(&self.shared, &mut self.passes, who, pass);
-        Some(note)
+        if who as usize >= self.checked.len() {
+            return None;
+        }
+        Some(self.checked[who as usize].note(&self.shared))
     }
 
     /// Lets a caller learn what a note of this table shows, and tells whether there is such a caller.
@@ -180,38 +213,33 @@ impl Table {
         requires { note.table ≡ self.old.table }
         ensures { self.new ≡ self.old }
     {
-        let Some(pass) = lend(&self.shared, &mut self.passes, who) else {
+        if who as usize >= self.checked.len() {
             return false;
-        };
-        let mut pass = pass;
-        pass.meet(&self.shared, note);
-        give_back(&self.shared, &mut self.passes, who, pass);
+        }
+        self.checked[who as usize].meet(&self.shared, note);
         true
     }
 
-    /// Takes a caller's pass, and gives it back. Tells its number, and whether there was no second one.
-    pub(crate) fn lends_once(&mut self, who: u32) -> Option<(u32, bool)>
-        ensures { self.new ≡ self.old }
-    {
-        let pass = lend(&self.shared, &mut self.passes, who)?;
-        let caller = pass.caller();
-        let again = lend_again(&self.shared, &mut self.passes, who);
-        give_back(&self.shared, &mut self.passes, who, pass);
-        Some((caller, again))
+    /// The number of a caller's pass, if there is such a caller.
+    pub(crate) fn caller(&self, who: u32) -> Option<u32> {
+        Some(self.checked.get(who as usize)?.caller())
+    }
+
+    /// Whether each caller's pass could be taken once, and no other.
+    pub(crate) fn lent_once(&self) -> bool {
+        self.once
     }
 
     /// Ends the table, and gives the frames that stand in rings.
     pub(crate) fn close(self) -> Frames {
-        let Table { shared, passes } = self;
+        let Table {
+            shared,
+            mut passes,
+            checked,
+            ..
+        } = self;
+        give_all(&shared, &mut passes, checked);
         let (frames, _note) = shared.close(passes);
         frames
     }
-}
-
-/// Whether a pass that was taken can't be taken again.
-fn lend_again(shared: &Shared, passes: &mut Passes, who: u32) -> bool
-    requires lent { IsLent shared.now passes.old who }
-    ensures lent { IsLent shared.now passes.new who }
-{
-    passes.take(who).is_none()
 }

@@ -73,6 +73,9 @@ pub(crate) fn mark(word: &str) -> Option<Mark> {
         "rxdone" => Some(Mark::RxDone(number(rest)?)),
         "gone" => Some(Mark::Gone(number(rest)?)),
         "txdone" => Some(Mark::TxDone(number(rest)?)),
+        "closing" => Some(Mark::Closing(number(rest)?)),
+        "acked" => Some(Mark::Acked(number(rest)?)),
+        "bounced" => Some(Mark::Bounced(number(rest)?)),
         _ => None,
     }
 }

@@ -3,8 +3,8 @@ ghost use Rattle.xsk_rings.specs.Rounds.{Rests};
 
 use std::thread;
 use xsk_model::{Call, Reply, Ring};
-use xsk_rings::RingCalls;
-use xsk_table::{Pass, Shared};
+use xsk_rings::{CheckedPass, RingCalls};
+use xsk_table::Shared;
 use xsk_umem::Item;
 
 /// How often a call is made again that found a ring full or empty.
@@ -34,7 +34,12 @@ impl Tally {
 }
 
 /// Makes a call. None where it isn't legal.
-pub(crate) fn make(shared: &Shared, pass: &mut Pass, call: Call, tally: &mut Tally) -> Option<Reply>
+pub(crate) fn make(
+    shared: &Shared,
+    pass: &mut CheckedPass,
+    call: Call,
+    tally: &mut Tally,
+) -> Option<Reply>
     requires { Rests shared.now pass.old }
     ensures { Rests shared.now pass.new }
 {
@@ -51,7 +56,12 @@ pub(crate) fn make(shared: &Shared, pass: &mut Pass, call: Call, tally: &mut Tal
 }
 
 /// Reserves a place, and waits until one is free.
-pub(crate) fn reserve(shared: &Shared, pass: &mut Pass, ring: Ring, tally: &mut Tally) -> Option<()>
+pub(crate) fn reserve(
+    shared: &Shared,
+    pass: &mut CheckedPass,
+    ring: Ring,
+    tally: &mut Tally,
+) -> Option<()>
     requires { Rests shared.now pass.old }
     ensures { Rests shared.now pass.new }
 {
@@ -65,7 +75,12 @@ pub(crate) fn reserve(shared: &Shared, pass: &mut Pass, ring: Ring, tally: &mut 
 }
 
 /// Takes an item, and waits until there is one.
-pub(crate) fn peek(shared: &Shared, pass: &mut Pass, ring: Ring, tally: &mut Tally) -> Option<Item>
+pub(crate) fn peek(
+    shared: &Shared,
+    pass: &mut CheckedPass,
+    ring: Ring,
+    tally: &mut Tally,
+) -> Option<Item>
     requires { Rests shared.now pass.old }
     ensures { Rests shared.now pass.new }
 {

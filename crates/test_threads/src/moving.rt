@@ -11,7 +11,8 @@ use std::test::Fail;
 use std::thread;
 use std::thread::Threads;
 use xsk_model::{Call, Ring};
-use xsk_table::{Pass, Passes, Shared};
+use xsk_rings::CheckedPass;
+use xsk_table::{Passes, Shared};
 use xsk_umem::{Batch, Frame, Item, XdpDesc};
 
 /// How many frames each of two threads moves.
@@ -109,7 +110,7 @@ fn desc_on(number: u32, offset: u32, len: u32) -> XdpDesc {
 fn move_one(
     alloc: Global,
     shared: &Shared,
-    pass: &mut Pass,
+    pass: &mut CheckedPass,
     way: Way,
     round: u32,
     tally: &mut Tally,
@@ -123,7 +124,7 @@ fn move_one(
         Way::There => received(item, round)?,
         Way::Back => returned(item, round)?,
     };
-    let mut items = Batch::new(alloc);
+    let mut items = Batch::new();
     items.push(item);
     make(shared, pass, Call::Release(way.source(), 1), tally)?;
     make(shared, pass, Call::Submit(way.sink(), items), tally)?;
@@ -134,7 +135,7 @@ fn move_one(
 fn move_all(
     alloc: Global,
     shared: &Shared,
-    pass: &mut Pass,
+    pass: &mut CheckedPass,
     way: Way,
     first: u32,
     count: u32,
@@ -150,7 +151,12 @@ fn move_all(
 }
 
 /// In turn each of two callers moves 32, ten times.
-fn move_in_bursts(alloc: Global, shared: &Shared, driver: Pass, app: Pass) -> Option<(Tally, Tally)>
+fn move_in_bursts(
+    alloc: Global,
+    shared: &Shared,
+    driver: CheckedPass,
+    app: CheckedPass,
+) -> Option<(Tally, Tally)>
     requires { Rests shared.now driver × Rests shared.now app }
 {
     let (mut driver, mut app) = (driver, app);
@@ -171,7 +177,7 @@ fn move_in_bursts(alloc: Global, shared: &Shared, driver: Pass, app: Pass) -> Op
 }
 
 /// What a thread counted that has moved so many.
-fn moves(alloc: Global, shared: &Shared, pass: Pass, way: Way, count: u32) -> Option<Tally>
+fn moves(alloc: Global, shared: &Shared, pass: CheckedPass, way: Way, count: u32) -> Option<Tally>
     requires { Rests shared.now pass }
 {
     let mut pass = pass;
@@ -191,8 +197,8 @@ fn open(alloc: Global, entries: u32, first: u32) -> Result<(Shared, Passes), Fai
     }
 }
 
-/// Takes the passes of the first driver and of the application.
-fn take_both(shared: &Shared, passes: Passes) -> Option<(Pass, Pass)>
+/// Takes the passes of the first driver and of the application, and checks them.
+fn take_both(alloc: Global, shared: &Shared, passes: Passes) -> Option<(CheckedPass, CheckedPass)>
     requires { passes ≡ new_passes shared.now }
     ensures { IfSome result (λ both. Rests shared.now both.0 × Rests shared.now both.1) }
 {
@@ -202,6 +208,12 @@ fn take_both(shared: &Shared, passes: Passes) -> Option<(Pass, Pass)>
     let mut passes = passes;
     let driver = passes.take(0)?;
     let app = passes.take(2)?;
+    let Ok(driver) = CheckedPass::new(alloc, shared, driver) else {
+        return None;
+    };
+    let Ok(app) = CheckedPass::new(alloc, shared, app) else {
+        return None;
+    };
     Some((driver, app))
 }
 
@@ -214,7 +226,7 @@ fn move_at_once<R: Threads + Sync>(
     count: u32,
 ) -> Result<(Option<Tally>, Option<Tally>), Fail> {
     let (shared, passes) = open(alloc, entries, first)?;
-    let Some((driver, app)) = take_both(&shared, passes) else {
+    let Some((driver, app)) = take_both(alloc, &shared, passes) else {
         return Err("no passes")?;
     };
     let table = &shared;
@@ -273,7 +285,7 @@ fn frames_go_round_where_counts_wrap(rt: HostRuntime) -> Result<(), Fail> {
 fn looks_are_one_in_32_on_one_thread(rt: HostRuntime) -> Result<(), Fail> {
     let alloc = rt.alloc();
     let (shared, passes) = open(alloc, 32, 4_294_967_000)?;
-    let Some((driver, app)) = take_both(&shared, passes) else {
+    let Some((driver, app)) = take_both(alloc, &shared, passes) else {
         return Err("no passes")?;
     };
     let few = Tally {

@@ -1,8 +1,10 @@
 //! The types whose values may be sent to another thread, or be shared with one.
 
 use xsk_app::App;
-use xsk_driver::{Driver, Inputs};
+use xsk_driver::Driver;
+use xsk_machine::Inputs;
 use xsk_model::{Act, Call, Config, Reply};
+use xsk_rings::CheckedPass;
 use xsk_table::{Note, Pass, Shared};
 use xsk_umem::{Batch, Frame, Frames, Geometry, Item, PacketList};
 
@@ -32,6 +34,7 @@ fn calls_and_workers_may_be_sent() {
 #[test]
 fn passes_may_be_sent_and_the_table_shared() {
     is_sent::<Pass>();
+    is_sent::<CheckedPass>();
     is_sent::<Note>();
     is_shared::<Shared>();
     is_shared::<Config>();

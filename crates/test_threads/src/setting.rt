@@ -1,11 +1,11 @@
 //! The configurations and the packets of these tests.
 ghost use Rattle.std.specs.Prelude.{◌≡◌, ◌/◌, All, IfOk, None, OnOk};
-ghost use Rattle.xsk_model.specs.Config.{IsRegular};
 ghost use Rattle.xsk_model.specs.Opening.{AreFrames};
 ghost use Rattle.xsk_driver.specs.Sent.{IsShort};
 ghost use Rattle.xsk_machine.specs.Acts.{HasShortPackets};
 ghost use Rattle.xsk_socket.specs.Layout.{fault_of, geometry_of};
 ghost use Rattle.xsk_socket.specs.Regular.{regular_of};
+ghost use Rattle.xsk_turns.specs.Owned.{IsSteady};
 
 use std::alloc::Global;
 use std::test::Fail;
@@ -36,14 +36,15 @@ pub(crate) fn layout(queues: u32, entries: u32) -> Layout {
 
 /// The configuration of a layout, and the frames of its UMEM.
 pub(crate) fn set_up(alloc: Global, layout: &Layout) -> Result<(Config, Frames), Fail>
-    ensures regular { IfOk result (λ made. IsRegular made.0) }
+    ensures steady { IfOk result (λ made. IsSteady made.0) }
     ensures frames { IfOk result (λ made. AreFrames made.0.geometry made.1.items) }
 {
     if check_layout(layout).is_err() {
         return Err("the layout isn't accepted")?;
     }
     let (geometry, frames) = register(alloc, layout)?;
-    Ok((regular(alloc, geometry, layout)?, frames))
+    let config = regular(alloc, geometry, layout)?;
+    Ok((config, frames))
 }
 
 fn register(alloc: Global, layout: &Layout) -> Result<(Geometry, Frames), Fail>

@@ -25,7 +25,7 @@ impl Frames {
             alloc,
             umem: None,
             frame: None,
-            batch: Batch::new(alloc),
+            batch: Batch::new(),
         }
     }
 
@@ -236,7 +236,7 @@ pub fn tell_frame_in(item: &Item, told: &mut Told) {
 }
 
 fn append(alloc: Global, batch: &mut Batch, told: &mut Told) -> Result<(), Fault> {
-    let mut other = Batch::new(alloc);
+    let mut other = Batch::new();
     tell_lengths(batch.len(), other.len(), told);
     told.say(" items, ");
     other.append(batch);

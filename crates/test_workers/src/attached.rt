@@ -3,17 +3,18 @@
 //! cell 0 whose first byte is even, and drops all others. Without one it is `program redirect 1`. And what the wire does where
 //! a packet finds no frame or no room: by `wire drop` it drops it, and else it waits.
 ghost use Rattle.std.specs.Prelude.{◌≡◌, ◌<◌, ◌≤◌, All, IfOk, length};
-ghost use Rattle.xsk_model.specs.Config.{IsRegular};
 ghost use Rattle.xsk_model.specs.Expected.{nothing};
 ghost use Rattle.xsk_model.specs.Opening.{AreFrames};
 ghost use Rattle.xsk_prog.specs.Rules.{HasSockets, IsBelow, IsRuled, Meets};
 ghost use Rattle.xsk_driver.specs.Sent.{IsShort};
 ghost use Rattle.xsk_sim.specs.Shown.{HasShortPackets};
+ghost use Rattle.xsk_turns.specs.Owned.{IsSteady};
 
 use crate::trouble::Trouble;
 use crate::words::{Line, number, two_numbers};
 use std::alloc::Global;
-use xsk_driver::{Driver, Inputs, Wire};
+use xsk_driver::{Driver, Wire};
+use xsk_machine::Inputs;
 use xsk_model::Config;
 use xsk_prog::{Rule, Verdict, XdpProgram};
 use xsk_sim::{Run, simulate};
@@ -135,7 +136,7 @@ pub(crate) fn driver_of<'a>(
     program: Program,
     room: (u32, u32),
 ) -> Result<Driver<'a>, Trouble>
-    requires regular { IsRegular config.now }
+    requires steady { IsSteady config.now }
     requires pair { pair < length config.now.pairs }
     requires short { All IsShort packets.now.packets }
     ensures { IfOk result (λ d. d.expected ≡ nothing) }
@@ -147,7 +148,15 @@ pub(crate) fn driver_of<'a>(
         |packet: &[u8], queue: u32| decided(rule, even, packet, queue),
     );
     Ok(Driver::new(
-        alloc, config, pair, packets, inputs, &program, wire, room.0, room.1,
+        alloc,
+        config,
+        pair,
+        packets,
+        inputs.of_pair(pair),
+        &program,
+        wire,
+        room.0,
+        room.1,
     )?)
 }
 
@@ -160,7 +169,7 @@ pub(crate) fn run_of(
     program: Program,
     order: u32,
 ) -> Result<Run, Trouble>
-    requires regular { IsRegular config }
+    requires steady { IsSteady config }
     requires frames { AreFrames config.geometry frames.items }
     requires lists { length packets.now ≡ config.ports }
     requires short { All HasShortPackets packets.now }

@@ -1,8 +1,8 @@
 //! Workers that are played by hand.
 ghost use Rattle.std.specs.Prelude.{◌≡◌, ◌<◌, All, length};
 ghost use Rattle.xsk_driver.specs.Sent.{IsShort};
-ghost use Rattle.xsk_model.specs.Config.{IsRegular};
 ghost use Rattle.xsk_sim.specs.Shown.{HasShortPackets};
+ghost use Rattle.xsk_turns.specs.Owned.{IsSteady};
 
 use crate::attached::{driver_of, program_of};
 use crate::hand::{Hand, Worker};
@@ -14,7 +14,7 @@ use crate::trouble::Trouble;
 use crate::words::{Line, one_number, three_numbers};
 use std::alloc::Global;
 use xsk_app::App;
-use xsk_driver::Inputs;
+use xsk_machine::Inputs;
 use xsk_model::Config;
 use xsk_umem::{Frames, PacketList};
 
@@ -52,7 +52,7 @@ fn drive(
     shelf: &mut Shelf,
     text: &mut String,
 ) -> Result<(), Trouble>
-    requires { IsRegular config.now }
+    requires { IsSteady config.now }
 {
     let lists = lists_of(alloc, lines, config.ports())?;
     let inputs = Inputs::split(alloc, config, lists.as_slice())?;
@@ -81,7 +81,7 @@ fn drive_on(
     shelf: &mut Shelf,
     text: &mut String,
 ) -> Result<(), Trouble>
-    requires regular { IsRegular config.now }
+    requires steady { IsSteady config.now }
     requires short { All HasShortPackets lists.now }
 {
     let (pair, packets, bytes) = three_numbers(words)?;
@@ -106,7 +106,7 @@ fn pass_on(
     shelf: &mut Shelf,
     text: &mut String,
 ) -> Result<(), Trouble>
-    requires { IsRegular config.now }
+    requires { IsSteady config.now }
 {
     let app = one_number(words)?;
     if app >= (config.ports() / 2) * config.queues() {

@@ -35,7 +35,7 @@ fn long_reply(alloc: Global, line: &str, shelf: &mut Shelf) -> Result<Reply, Tro
 }
 
 fn items_of(alloc: Global, text: &str, shelf: &mut Shelf) -> Result<Batch, Trouble> {
-    let mut items = Batch::new(alloc);
+    let mut items = Batch::new();
     for word in text.split_whitespace() {
         let desc = desc_of(word)?;
         let frame = frame_at(desc.addr, shelf)?;

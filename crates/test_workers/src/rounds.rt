@@ -9,7 +9,7 @@ use crate::trouble::Trouble;
 use crate::words::{Line, one_number};
 use std::alloc::Global;
 use std::str;
-use xsk_driver::DriverFigures;
+use xsk_machine::DriverFigures;
 use xsk_sim::{Run, journal_text};
 
 /// The kinds of disposal, as figures have them.

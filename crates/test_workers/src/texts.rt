@@ -26,6 +26,9 @@ fn mark_parts(mark: Mark) -> (&'static str, u32) {
         Mark::Gone(pair) => (" gone.", pair),
         Mark::TxDone(app) => (" txdone.", app),
         Mark::Cell(port, _) => (" cell.", port),
+        Mark::Closing(socket) => (" closing.", socket),
+        Mark::Acked(socket) => (" acked.", socket),
+        Mark::Bounced(pair) => (" bounced.", pair),
     }
 }
 

@@ -7,8 +7,8 @@ use Rattle.xsk_model.specs.declared.config.SocketInfo.{SocketInfo}
 use Rattle.xsk_model.specs.Config.{IsBound, IsServed, IsMap}
 use Rattle.test_object.proofs.setup.Setup.config.Goals as goal
 
-pub of_parts-requires : goal.of_parts-requires
-of_parts-requires c =
+pub of_parts-config-requires : goal.of_parts-config-requires
+of_parts-config-requires c =
     let counts = c.has_counts-counts.ensures c.if-not-counts.false in
     let bound = c.are_bound-bound.ensures c.if-not-bound.false in
     let served = c.are_served-served.ensures c.if-not-served.false in
@@ -28,4 +28,5 @@ of_parts-requires c =
       maps = length-map c.args.self.cells.items vec_items ∙ sym (ap length c.as_slice-5.ensures.value) ∙ c.as_slice-5.ensures.len ∙ sym c.len-3.ensures ∙ counts.6;
       cells = subst (λ (n : ℕ). All (IsMap n) (map vec_items c.args.self.cells.items)) few
           (subst (λ vs. All (IsMap c.len-4.result) (map vec_items vs)) c.as_slice-5.ensures.value maps);
+      closing = tt;
     }
