@@ -11,7 +11,8 @@ use Rattle.xsk_model.proofs.Counting.{times-append, times-flat_map-set}
 use Rattle.xsk_turns.proofs.LegalCalls.{had_told}
 use Rattle.xsk_turns.specs.Turns.{frame_in, frames_in}
 use Rattle.xsk_turns.specs.Owned.{frame_numbers}
-use Rattle.xsk_turns.specs.AppTurns.{AppKept, lanes_of, pending_at, with_pending, back_at, with_back, app_start}
+use Rattle.xsk_turns.specs.AppTurns.{AppKept, lanes_of, pending_at, with_pending, back_at, with_back, app_start_by}
+use Rattle.xsk_turns.specs.declared.manner.Manner.{Manner}
 use Rattle.xsk_turns.specs.AppOwned.{app_numbers, AppOwned}
 use Rattle.xsk_turns.proofs.Rooms.{IsOwnFrame, own_frame, named, positive}
 
@@ -44,14 +45,17 @@ back_frame g r item frame e h =
     below_all : (n m : ℕ) → n ≤ m → m < 2 ^ 64 → n < 2 ^ 64
     below_all n m h k = omega arith
 
-pub back_frames : (g : Geometry) (r : Ring) (items : List Item) → All (IsItemOn g r) items → All (IsBackFrame g) (frames_in items)
-back_frames g r [] h = All-nil (IsBackFrame g)
-back_frames g r (item ∷ items) h =
-    All-append (IsBackFrame g) (frame_in item.frame) (frames_in items) (here item.frame refl) (back_frames g r items (All-tail (IsItemOn g r) item items h))
+pub back_of : (g : Geometry) (r : Ring) (item : Item) → IsItemOn g r item → All (IsBackFrame g) (frame_in item.frame)
+back_of g r item h = here item.frame refl
   where
     here : (o : Option Frame) → item.frame ≡ o → All (IsBackFrame g) (frame_in o)
     here None e = All-nil (IsBackFrame g)
-    here (Some frame) e = All-cons (IsBackFrame g) frame [] (back_frame g r item frame e (All-head (IsItemOn g r) item items h)) (All-nil (IsBackFrame g))
+    here (Some frame) e = All-cons (IsBackFrame g) frame [] (back_frame g r item frame e h) (All-nil (IsBackFrame g))
+
+pub back_frames : (g : Geometry) (r : Ring) (items : List Item) → All (IsItemOn g r) items → All (IsBackFrame g) (frames_in items)
+back_frames g r [] h = All-nil (IsBackFrame g)
+back_frames g r (item ∷ items) h =
+    All-append (IsBackFrame g) (frame_in item.frame) (frames_in items) (back_of g r item (All-head (IsItemOn g r) item items h)) (back_frames g r items (All-tail (IsItemOn g r) item items h))
 
 -- it may go to FILL
 pub fill_item : (g : Geometry) (home : ℕ) (frame : Frame) → IsBackFrame g frame → IsItemOn g (Fill home) (home_item g frame)
@@ -169,8 +173,8 @@ none_pending zero lane = refl
 none_pending (suc k) zero = refl
 none_pending (suc k) (suc lane) = none_pending k lane
 
-pub has_none : (c : Config) → AppHas c (app_start c) [] []
-has_none c = record {
+pub has_none : (m : Manner) (c : Config) → AppHas c (app_start_by m c) [] []
+has_none m c = record {
   lanes = length-replicate (lanes_of c) [];
   sides = refl;
   items = λ lane. subst (All (IsItemOn c.geometry (Tx 0))) (sym (none_pending (lanes_of c) lane)) (All-nil (IsItemOn c.geometry (Tx 0)));
@@ -179,7 +183,7 @@ has_none c = record {
   counts = λ n. omega (arith, none_times (lanes_of c) n);
 }
   where
-    none_back : (side : ℕ) → All (IsBackFrame c.geometry) (back_at (app_start c) side)
+    none_back : (side : ℕ) → All (IsBackFrame c.geometry) (back_at (app_start_by m c) side)
     none_back zero = All-nil (IsBackFrame c.geometry)
     none_back (suc zero) = All-nil (IsBackFrame c.geometry)
     none_back (suc (suc side)) = All-nil (IsBackFrame c.geometry)

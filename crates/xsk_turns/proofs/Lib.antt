@@ -15,6 +15,7 @@ pub mod Counts
 pub mod Disposing
 pub mod DriverWalk
 pub mod Layouts
+pub mod Mangling
 pub mod LegalCalls
 pub mod Legality
 pub mod Object
@@ -27,6 +28,7 @@ pub mod Verdicts
 pub mod Walks
 pub mod Saying
 pub mod Sending
+pub mod Stranding
 pub mod ReceivingLaws
 pub mod Delivering
 pub mod Draining
