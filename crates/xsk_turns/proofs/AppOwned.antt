@@ -92,6 +92,7 @@ pub record AppHas (c : Config) (kept : AppKept) (out : List ℕ) (l : List Told)
   pub items : (lane : ℕ) → All (IsItemOn c.geometry (Tx 0)) (pending_at kept lane)
   pub few : (lane : ℕ) → length (pending_at kept lane) ≤ 32
   pub frames : (side : ℕ) → All (IsBackFrame c.geometry) (back_at kept side)
+  pub once : (n : ℕ) → times n (had_of l) ≤ 1
   pub counts : (n : ℕ) → times n (flat_map numbers kept.pending) + times n (flat_map frame_numbers kept.back) + times n out ≡ times n (had_of l)
 
 pub times-app_numbers : (n : ℕ) (kept : AppKept) → times n (app_numbers kept) ≡ times n (flat_map numbers kept.pending) + times n (flat_map frame_numbers kept.back)
@@ -109,6 +110,7 @@ app_told c kept call reply l none h = record {
   items = h.items;
   few = h.few;
   frames = h.frames;
+  once = λ n. omega (arith, h.once n, had_told l call reply n, ap (λ (items : List Item). times n (numbers items)) none);
   counts = λ n. omega (arith, h.counts n, had_told l call reply n, ap (λ (items : List Item). times n (numbers items)) none);
 }
 
@@ -122,8 +124,8 @@ at_set P xs i j y h new old = ⊎_elim
 pub has_pending : (c : Config) (kept : AppKept) (out more : List ℕ) (l m : List Told) (lane : ℕ) (items : List Item) → lane < lanes_of c
     → All (IsItemOn c.geometry (Tx 0)) items → length items ≤ 32
     → ((n : ℕ) → times n (numbers (pending_at kept lane)) + times n out + times n (had_of m) ≡ times n (numbers items) + times n more + times n (had_of l))
-    → AppHas c kept out l → AppHas c (with_pending kept lane items) more m
-has_pending c kept out more l m lane items h lawful few counts has =
+    → ((n : ℕ) → times n (had_of m) ≤ 1) → AppHas c kept out l → AppHas c (with_pending kept lane items) more m
+has_pending c kept out more l m lane items h lawful few counts once has =
     let within : lane < length kept.pending = omega (arith, has.lanes) in
     record {
       lanes = length-set kept.pending lane items ∙ has.lanes;
@@ -131,14 +133,15 @@ has_pending c kept out more l m lane items h lawful few counts has =
       items = λ j. at_set (All (IsItemOn c.geometry (Tx 0))) kept.pending lane j items within lawful (has.items j);
       few = λ j. at_set (λ xs. length xs ≤ 32) kept.pending lane j items within few (has.few j);
       frames = has.frames;
+      once = once;
       counts = λ n. omega (arith, times-flat_map-set n numbers kept.pending lane items [] within, counts n, has.counts n);
     }
 
 pub has_back : (c : Config) (kept : AppKept) (out more : List ℕ) (l m : List Told) (side : ℕ) (frames : List Frame) → side < 2
     → All (IsBackFrame c.geometry) frames
     → ((n : ℕ) → times n (frame_numbers (back_at kept side)) + times n out + times n (had_of m) ≡ times n (frame_numbers frames) + times n more + times n (had_of l))
-    → AppHas c kept out l → AppHas c (with_back kept side frames) more m
-has_back c kept out more l m side frames h lawful counts has =
+    → ((n : ℕ) → times n (had_of m) ≤ 1) → AppHas c kept out l → AppHas c (with_back kept side frames) more m
+has_back c kept out more l m side frames h lawful counts once has =
     let within : side < length kept.back = omega (arith, has.sides) in
     record {
       lanes = has.lanes;
@@ -146,6 +149,7 @@ has_back c kept out more l m side frames h lawful counts has =
       items = has.items;
       few = has.few;
       frames = λ j. at_set (All (IsBackFrame c.geometry)) kept.back side j frames within lawful (has.frames j);
+      once = once;
       counts = λ n. omega (arith, times-flat_map-set n frame_numbers kept.back side frames [] within, counts n, has.counts n);
     }
 
@@ -157,6 +161,7 @@ has_flags c kept more l true e f has = record {
   items = λ lane. subst (λ xs. All (IsItemOn c.geometry (Tx 0)) (get_or xs lane [])) (sym e) (has.items lane);
   few = λ lane. subst (λ xs. length (get_or xs lane []) ≤ 32) (sym e) (has.few lane);
   frames = λ side. subst (λ xs. All (IsBackFrame c.geometry) (get_or xs side [])) (sym f) (has.frames side);
+  once = has.once;
   counts = λ n. ap (λ xs. times n (flat_map numbers xs) + times n (flat_map frame_numbers more.back) + 0) e
       ∙ ap (λ xs. times n (flat_map numbers kept.pending) + times n (flat_map frame_numbers xs) + 0) f ∙ has.counts n;
 }
@@ -180,6 +185,7 @@ has_none m c = record {
   items = λ lane. subst (All (IsItemOn c.geometry (Tx 0))) (sym (none_pending (lanes_of c) lane)) (All-nil (IsItemOn c.geometry (Tx 0)));
   few = λ lane. omega (arith, ap length (none_pending (lanes_of c) lane));
   frames = none_back;
+  once = λ n. omega arith;
   counts = λ n. omega (arith, none_times (lanes_of c) n);
 }
   where

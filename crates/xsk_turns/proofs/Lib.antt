@@ -18,6 +18,7 @@ pub mod Layouts
 pub mod Mangling
 pub mod LegalCalls
 pub mod Legality
+pub mod Numbering
 pub mod Object
 pub mod Owned
 pub mod Owning

@@ -1,5 +1,5 @@
 -- What holds of every run of an application, and what of every whole one, by its turns alone.
-use Rattle.std.specs.Prelude.{◌≡◌, ℕ, ◌<◌, ◌≤◌, ◌⊎◌, ◌==◌, ◌&&◌, true, false, if◌then◌else◌, Option, Some, None, List, [], ◌∷◌, ◌++◌, drop}
+use Rattle.std.specs.Prelude.{◌≡◌, ℕ, ◌+◌, ◌%◌, ◌<◌, ◌≤◌, ◌⊎◌, ◌==◌, ◌&&◌, true, false, if◌then◌else◌, Option, Some, None, List, [], ◌∷◌, ◌++◌, length, drop}
 use Rattle.xsk_umem.specs.Geometry.{Geometry}
 use Rattle.std.specs.List.{fold}
 use Rattle.xsk_umem.specs.declared.batch.Item.{Item}
@@ -19,7 +19,7 @@ use Rattle.xsk_model.specs.declared.call.Reply.{Reply}
 use Rattle.xsk_model.specs.declared.call.Reply.TheVariants.{Old}
 use Rattle.xsk_turns.specs.Script.{Script, Asks}
 use Rattle.xsk_turns.specs.AppTurns.{AppKept, lanes_of, pair_of, rx_of, tx_of, app_turn, app_start_by, IsAppRunBy, IsWholeAppRunBy}
-use Rattle.xsk_turns.specs.Mangling.{made_of}
+use Rattle.xsk_turns.specs.Mangling.{change_at, made_of, mangled, round_of}
 use Rattle.xsk_turns.specs.declared.manner.Manner.{Manner}
 use Rattle.xsk_turns.specs.declared.manner.Change.{Change}
 use Rattle.xsk_turns.specs.AppOwned.{IsApp}
@@ -57,6 +57,28 @@ AreAltered g mangle (before ∷ befores) (after ∷ afters) = IsAltered g mangle
 abbrev pub LanesAltered : Type 0
 LanesAltered = (m : Manner) (c : Config) (app : ℕ) (l : List Told) (lane : ℕ) → IsApp c app → IsWholeAppRunBy m c app l → lane < lanes_of c
     → AreAltered c.geometry m.mangle (peeked_of (Rx (rx_of c app lane)) l) (submitted_of (Tx (tx_of c app lane)) l)
+
+-- how many items a call submits on TX, and a list of calls in all
+abbrev pub sends_count : Call → ℕ
+sends_count (Submit (Tx t) items) = length items
+sends_count call = 0
+
+abbrev pub items_sent : List Told → ℕ
+items_sent [] = 0
+items_sent (t ∷ l) = sends_count t.call + items_sent l
+
+-- The items that are submitted are changed by their numbers, which count from 0 over all that was submitted on TX before.
+abbrev pub IsNumbered : Geometry → ℕ → List Told → Call → Type 0
+IsNumbered g every l (Submit (Tx t) items) = (before : List Item) × (items ≡ mangled g every (items_sent l) before)
+IsNumbered g every l call = Unit {0}
+
+abbrev pub ChangesByNumber : Type 0
+ChangesByNumber = (m : Manner) (every : ℕ) (c : Config) (app : ℕ) (l : List Told) (kept : AppKept) (call : Call) (rest : Reply → Script AppKept) → m.mangle ≡ Some every → IsApp c app
+    → Asks (app_turn c app) (app_start_by m c) l kept call rest → IsNumbered c.geometry every l call
+
+-- They are the same again after each 5 times so many items.
+abbrev pub ChangesRepeat : Type 0
+ChangesRepeat = (every number : ℕ) → change_at every (number % round_of every) ≡ change_at every number
 
 -- no Submit on TX stands behind the Swap that tells that nothing more is sent
 abbrev pub NothingSentLate : Type 0

@@ -1,8 +1,9 @@
 -- What an application that misbehaves does to the items that it submits on TX. They have numbers, from 0 on, in the order in
 -- which it submits them, whatever their lanes. A change is a function of an item's number and the item. All of this is this
 -- project's own.
-use Rattle.std.specs.Prelude.{ℕ, ◌+◌, ◌-◌, ◌*◌, ◌/◌, ◌%◌, ◌==◌, min, max, if◌then◌else◌, Option, Some, None, List, [], ◌∷◌, ◌++◌}
+use Rattle.std.specs.Prelude.{ℕ, ◌+◌, ◌-◌, ◌*◌, ◌/◌, ◌%◌, ◌==◌, min, max, if◌then◌else◌, Option, Some, None, List, [], ◌∷◌, ◌++◌, take}
 use Rattle.std.specs.List.{slice_index_or, slice_set}
+use Rattle.xsk_umem.specs.Limits.{most_frames}
 use Rattle.xsk_umem.specs.Frame.{Frame}
 use Rattle.xsk_umem.specs.Geometry.{Geometry, area_of}
 use Rattle.xsk_umem.specs.declared.batch.Item.{Item}
@@ -62,10 +63,11 @@ abbrev pub given_by : Geometry → Option ℕ → ℕ → List Item → List Ite
 given_by g None number items = items
 given_by g (Some every) number items = mangled g every number items
 
--- the frames that sides have to give back, with those that are taken of items that were received on this side
+-- The frames that sides have to give back, with those that are taken of items that were received on this side, as many as a UMEM
+-- may have. Where the replies fit there are no more, and nothing is cut: by the law AppKeepsFrames all frames are kept.
 abbrev pub back_by : Option ℕ → ℕ → List Item → ℕ → List (List Frame) → List (List Frame)
 back_by None number items side back = back
-back_by (Some every) number items side back = slice_set back side (slice_index_or back side [] ++ frames_taken every number items)
+back_by (Some every) number items side back = slice_set back side (take most_frames (slice_index_or back side [] ++ frames_taken every number items))
 
 -- The number of the next item, behind so many. It is counted round, since after each 5 times so many items the changes are the
 -- same again: by the law ChangesRepeat this is no matter.

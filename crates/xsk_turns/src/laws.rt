@@ -2,7 +2,7 @@
 //! for a driver and in `specs/AppLaw.antt` for an application, and those of what each keeps at each call beside the
 //! definitions that they speak of.
 
-ghost use Rattle.xsk_turns.specs.AppLaw.{LanesInOrder, LanesPassedOn, LanesAltered, NothingSentLate, DrainsRx, OnlySetsKicks, WakesAtOnce, PaysAtOnce, PaysEndAtOnce};
+ghost use Rattle.xsk_turns.specs.AppLaw.{LanesInOrder, LanesPassedOn, LanesAltered, ChangesByNumber, ChangesRepeat, NothingSentLate, DrainsRx, OnlySetsKicks, WakesAtOnce, PaysAtOnce, PaysEndAtOnce};
 ghost use Rattle.xsk_turns.specs.AppOwned.{AppKeepsFrames, AppCallsLegal, AppKeepsFramesAtEnd};
 ghost use Rattle.xsk_turns.specs.Counted.{KeepsCounters, KeepsCountersAtEnd};
 ghost use Rattle.xsk_turns.specs.Disposes.{KeepsDisposals, DisposesAll};
@@ -198,6 +198,18 @@ pub fn lanes_passed_on()
 #[tactic(auto, using(crate::proofs::AppLanes::lanes_altered))]
 pub fn lanes_altered()
     ensures { LanesAltered }
+{}
+
+/// Each item that such an application submits on TX is changed by its number among all that it submitted there.
+#[tactic(auto, using(crate::proofs::Numbering::changes_by_number))]
+pub fn changes_by_number()
+    ensures { ChangesByNumber }
+{}
+
+/// The changes are the same again after each 5 times so many items.
+#[tactic(auto, using(crate::proofs::Numbering::changes_repeat))]
+pub fn changes_repeat()
+    ensures { ChangesRepeat }
 {}
 
 /// Nothing is submitted on TX once the application told that it sends nothing more.
