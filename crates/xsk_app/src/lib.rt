@@ -6,6 +6,7 @@
 mod app;
 mod back;
 mod machine;
+mod mangling;
 
 pub use app::App;
 pub use xsk_model::Act;

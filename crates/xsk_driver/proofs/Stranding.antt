@@ -1,0 +1,39 @@
+-- How many items stand in lists of them, and what a driver has of the frames that it took from TX.
+use Rattle.std.proofs.Common.{◌≡◌, ℕ, zero, suc, ◌+◌, ◌-◌, ◌<◌, ◌≤◌, min, List, [], ◌∷◌, ◌++◌, length, sum, take, drop, get_or, sym, ap, ◌∙◌, arith, length-take, length-drop}
+use Rattle.std.specs.Option.{option_to_list}
+use Rattle.xsk_umem.specs.declared.batch.Item.{Item}
+use Rattle.xsk_turns.specs.Counted.{capped}
+use Rattle.xsk_turns.specs.Stranded.{items_in, stranded_in, stranded_of, sent_count, completed_count, frames_completed}
+use Rattle.xsk_turns.specs.Turns.{Judged, seat_of}
+use Rattle.xsk_turns.specs.declared.wire.Wire.{Wire}
+use Rattle.xsk_turns.proofs.Object.{Config}
+use Rattle.xsk_turns.proofs.Calls.{Told, Call}
+use Rattle.xsk_turns.proofs.Stranding.{keeps_stranded, keeps_stranded_at_end}
+use Rattle.xsk_driver.specs.Finished.{cut_by}
+use Rattle.xsk_driver.specs.Runs.{Stands, HasEnded}
+use Rattle.xsk_driver.specs.Shown.{Shown}
+use Rattle.xsk_driver.specs.Stands.{left}
+
+pub items_cut : (lengths : List ℕ) (items : List Item) → sum lengths ≡ length items → items_in (cut_by lengths items) ≡ length items
+items_cut [] items e = omega (arith, e)
+items_cut (n ∷ lengths) items e =
+    omega (arith, e, length-take n items, length-drop n items, items_cut lengths (drop n items) (omega (arith, e, length-drop n items)))
+
+pub capped_items : (lengths : List ℕ) (items : List Item) (n : ℕ) → sum lengths ≡ length items → n ≡ length items → n < 18446744073709551616 → n ≡ capped (items_in (cut_by lengths items))
+capped_items lengths items n e is few = omega (arith, is, few, items_cut lengths items e)
+
+pub capped_sum : (n m k a b c : ℕ) → n ≡ capped a → m ≡ capped b → k ≡ capped c → min (min (n + m) 18446744073709551615 + k) 18446744073709551615 ≡ capped (a + b + c)
+capped_sum n m k a b c e f g = omega (arith, e, f, g)
+
+pub items_push : (xss : List (List Item)) (i : ℕ) (xs : List Item) → i < length xss → get_or xss i xs ≡ xs → items_in (take (i + 1) xss) ≡ items_in (take i xss) + length xs
+items_push [] i xs h e = absurd (omega (arith, h))
+items_push (ys ∷ xss) zero xs h e = omega (arith, ap length e)
+items_push (ys ∷ xss) (suc i) xs h e = omega (arith, items_push xss i xs (omega (arith, h)) e)
+
+pub stands_stranded : (wire : Wire) (c : Config) (pair : ℕ) (input : List Judged) (d : Shown) (call : Call) (l : List Told) → Stands wire c pair input d call l
+    → stranded_in d.kept ≡ sent_count l - completed_count l - frames_completed call
+stands_stranded wire c pair input d call l stands =
+    omega (arith, keeps_stranded wire c pair input l d.kept call (left (seat_of wire c pair) d.wait d.noted d.kept) stands.one stands.fit stands.asks)
+
+pub ended_stranded : (wire : Wire) (c : Config) (pair : ℕ) (input : List Judged) (d : Shown) (l : List Told) → HasEnded wire c pair input d l → stranded_in d.kept ≡ stranded_of l
+ended_stranded wire c pair input d l ended = omega (arith, keeps_stranded_at_end wire c pair input l d.kept ended.one ended.fit ended.ends)
