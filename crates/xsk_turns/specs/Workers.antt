@@ -15,6 +15,7 @@ use Rattle.xsk_prog.specs.Rules.{Meets, is_exact}
 use Rattle.xsk_prog.specs.declared.rule.Rule.{Rule}
 use Rattle.xsk_prog.specs.declared.rule.Verdict.{Verdict}
 use Rattle.xsk_turns.specs.AppTurns.{IsAppRunBy, IsWholeAppRunBy}
+use Rattle.xsk_turns.specs.Mangling.{plain}
 use Rattle.xsk_turns.specs.declared.manner.Manner.{Manner}
 use Rattle.xsk_turns.specs.declared.wire.Wire.{Wire}
 
@@ -50,14 +51,18 @@ IsRuled rule s = AreGiven (λ queue packet verdict. Meets rule packet queue verd
 abbrev pub verdicts_to : Rule → Config → List PacketList → PairInfo → List Verdict
 verdicts_to rule c lists pair = own_verdicts rule pair.queue (packets_to c lists pair)
 
-abbrev pub ruled : Rule → Wire → Manner → Config → List PacketList → Setting
-ruled rule wire manner c lists = record { config = c; wire = wire; manner = manner; packets = lists; verdicts = map (verdicts_to rule c lists) c.pairs }
+abbrev pub ruled_by : Rule → Wire → Manner → Config → List PacketList → Setting
+ruled_by rule wire manner c lists = record { config = c; wire = wire; manner = manner; packets = lists; verdicts = map (verdicts_to rule c lists) c.pairs }
+
+-- and the one whose applications change nothing
+abbrev pub ruled : Rule → Wire → Config → List PacketList → Setting
+ruled rule wire c lists = ruled_by rule wire plain c lists
 
 abbrev pub OwnSetting : Type 0
-OwnSetting = (rule : Rule) (wire : Wire) (manner : Manner) (c : Config) (lists : List PacketList) → IsRuled rule (ruled rule wire manner c lists)
+OwnSetting = (rule : Rule) (wire : Wire) (manner : Manner) (c : Config) (lists : List PacketList) → IsRuled rule (ruled_by rule wire manner c lists)
 
 abbrev pub OneSetting : Type 0
-OneSetting = (rule : Rule) (s : Setting) → is_exact rule ≡ true → IsRuled rule s → s ≡ ruled rule s.wire s.manner s.config s.packets
+OneSetting = (rule : Rule) (s : Setting) → is_exact rule ≡ true → IsRuled rule s → s ≡ ruled_by rule s.wire s.manner s.config s.packets
 
 -- a caller's own calls and replies are a run: of the driver of its pair over the pair's packets, or of its application
 pub record IsWorkerRun (s : Setting) (who : ℕ) (l : List Told) : Type 0 where
