@@ -26,8 +26,8 @@ length-given g (Some every) n items = length-mangled g every n items
 
 -- ---- lawful ones
 
-outside : (g : Geometry) (addr : ℕ) → IsGeometry g → nat_lt (min (area_of g + addr) 18446744073709551615) (area_of g) ≡ false
-outside g addr h = grind (arith, nat_tests, small g.frames g.chunk h.few h.chunk)
+pub outside_umem : (g : Geometry) (addr : ℕ) → IsGeometry g → nat_lt (min (area_of g + addr) 18446744073709551615) (area_of g) ≡ false
+outside_umem g addr h = grind (arith, nat_tests, small g.frames g.chunk h.few h.chunk)
   where
     small : (frames chunk : ℕ) → frames ≤ 4096 → (chunk ≡ 2048) ⊎ (chunk ≡ 4096) → frames * chunk ≤ 18446744073709551615
     small frames chunk h k = ⊎_elim (λ (e : chunk ≡ 2048). grind (arith, e)) (λ (e : chunk ≡ 4096). grind (arith, e)) k
@@ -43,7 +43,7 @@ made_lawful g t Outside item k h = record {
   address = omega arith;
   len = h.len;
   options = h.options;
-  frame = ap (λ (b : Bool). cond b (Some ((min (area_of g + item.desc.addr) 18446744073709551615) / g.chunk)) None) (sym (outside g item.desc.addr k));
+  frame = ap (λ (b : Bool). cond b (Some ((min (area_of g + item.desc.addr) 18446744073709551615) / g.chunk)) None) (sym (outside_umem g item.desc.addr k));
   body = tt;
   plain = tt;
 }
