@@ -48,10 +48,7 @@ figures_at_end wire c pair input d l ended =
     ap (λ (n : ℕ). figures_by (capped n) d.kept.disposals sent (counters_to (classes_of c) d.kept.counters) kept) disposed.each
     ∙ ap (λ (k : DriverCounters). figures_by (capped (length input)) d.kept.disposals sent k kept) counters
     ∙ ap (λ (ds : List Disposal). figures_by (capped (length input)) ds sent (counters_of c pair ds l) kept) disposed.disposals
-    ∙ ap (λ (n : ℕ). driver_with n) (ap capped lost)
-  where
-    abbrev driver_with : ℕ → DriverFigures
-    driver_with n = figures_by (capped (length input)) (disposals_of (seat_of wire c pair) input (attempts_of l)) (capped (length d.sent.packets)) (counters_of c pair (disposals_of (seat_of wire c pair) input (attempts_of l)) l) n
+    ∙ ap (λ (n : ℕ). figures_by (capped (length input)) (disposals_of (seat_of wire c pair) input (attempts_of l)) sent (counters_of c pair (disposals_of (seat_of wire c pair) input (attempts_of l)) l) (capped n)) lost
 
 -- the figures that are made of what a driver shows
 pub shown_figures : (d : Shown) (classes : ℕ) (result : DriverFigures) (n m : ℕ) (ds : List Disposal) (k : DriverCounters) (lost : ℕ) → result ≡ figures_by n ds m k lost
