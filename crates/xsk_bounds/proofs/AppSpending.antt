@@ -112,7 +112,7 @@ owed TxTold = 2
 owed place = 0
 
 pub record Pays (place : Place) (kept : AppKept) (l : List Told) : Type 0 where
-  pub spends : total put l + total steps_put l + 3 * pending kept + back kept ≤ total steps_taken l
+  pub spends : total put l + total steps_put l + 4 * pending kept + back kept ≤ total steps_taken l
   pub swaps : total swapped l + owed place ≤ total put l + done kept.tx_done
   pub sides : length kept.back ≡ 2
 

@@ -20,7 +20,7 @@ few_classes c regular = ⊎_elim (λ (e : classes_of c ≡ 1). omega (arith, e))
 pub changes_bounded : FewChanges
 changes_bounded s frames h steady history runs =
     few_changes s.config frames h (λ d. length (input_of s d)) history
-    (λ d lt. driver_drives s.wire s.config d (input_of s d) (own d h) (few_classes s.config steady.regular) (history_own s.config frames h d history) (drivers d lt))
+    (λ d lt. driver_drives s.wire s.config d (input_of s d) (own d h) (few_classes s.config steady.regular) history.opened.geometry (history_own s.config frames h d history) (drivers d lt))
     (λ a lt. app_applies s.manner s.config a (caller_of s.config a) (own (caller_of s.config a) h) (record { config = history.opened.config; steady = steady; geometry = history.opened.geometry; known = lt })
     (history_own s.config frames h (caller_of s.config a) history) (apps a lt))
     (keeps_kicks s.manner s.wire s.config frames h (input_of s) steady history drivers apps)
