@@ -383,7 +383,7 @@ module _ (c : Config) (a : ℕ) (one : IsApp c a) (x : State) (m : ℕ) where
         },
         now.2,
       )))
-  entries (tx_submitted lane) noted kept l known h said q = (tt, refl, ends_before _ l _ _ refl q, record { back = h.sized.back; seen = h.sized.seen; gone = h.sized.gone })
+  entries (tx_submitted lane) noted kept l known h said q = (tt, refl, ends_before _ l _ _ refl q, record { back = back_sides kept.manner.mangle kept.number (pending_at kept lane) (lane / classes_of c) kept.back ∙ h.sized.back; seen = h.sized.seen; gone = h.sized.gone })
   entries (comp_empty side) noted kept l known h said q = by_stretch l
       (λ lt. first (Sides (side + 1)) noted kept l _ Empty lt h.sized)
       (λ ge. step (Sides side) (Sides (side + 1)) noted kept l _ Empty (omega arith) h
