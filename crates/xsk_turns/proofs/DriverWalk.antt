@@ -704,7 +704,7 @@ module _ (seat : Seat) (Q : Premise Kept) (At : Family) (A : Said) (E : Kept →
   go_by None kept l e h = go_receive kept.coming fresh kept l (e, refl) h refl
   go_by (Some frames) kept l e h = go_parked frames kept l e h
 
-  go_turn : (kept : Kept) (l : List Told) → Begins At kept l → Along (turn seat kept) l
+  pub go_turn : (kept : Kept) (l : List Told) → Begins At kept l → Along (turn seat kept) l
   go_turn kept l h = go_by kept.parked kept l refl h
 
   -- ---- runs
