@@ -133,7 +133,7 @@ SeesGone = (c : Config) (a side : ℕ) (l : List Told) → IsApp c a → IsWhole
 -- what was submitted on an RX ring so far are layouts
 abbrev pub LaysOut : Type 0
 LaysOut = (wire : Wire) (c : Config) (d s : ℕ) (input : List Judged) (l : List Told) (kept : Kept) (call : Call) (rest : Reply → Script Kept) → IsSeat c d → AllFit c [] l
-    → Asks (turn (seat_of wire c d)) (start (classes_of c) input) l kept call rest → IsFree call
+    → Asks (turn (seat_of wire c d)) (start (classes_of c) input) l kept call rest
     → (packets : List (List ℕ)) × IsLaidOut c.geometry c.sg packets (submitted_of (Rx s) l) × All (IsSized c) packets
 
 abbrev pub HasPending : Type 0

@@ -14,7 +14,7 @@ use Rattle.xsk_turns.specs.Script.{Script, Asks}
 use Rattle.xsk_turns.specs.Turns.{frames_in}
 use Rattle.xsk_turns.specs.Owned.{AllFit, frame_numbers}
 use Rattle.xsk_turns.specs.AppTurns.{AppKept, pair_of, rx_of, tx_of, lanes_of, home_of, pending_at, with_pending, back_at, with_back, app_turn, app_start}
-use Rattle.xsk_turns.specs.AppOwned.{IsApp, HasOwnFrames, AppOwned, AppKeepsFrames, AppCallsLegal, AppKeepsFramesAtEnd}
+use Rattle.xsk_turns.specs.AppOwned.{IsApp, HasOwnFrames, AppKeepsFrames, AppCallsLegal, AppKeepsFramesAtEnd}
 use Rattle.xsk_turns.proofs.AppGroups.{with_back-again, group_some, group_front, group_few}
 use Rattle.xsk_turns.proofs.AppOwned.{AppHas, IsBackFrame, rx_to_tx, tx_to_tx, back_frames, fill_item, numbers-home, times-app_numbers, app_owned, app_told, has_pending, has_back, has_flags, has_none}
 use Rattle.xsk_turns.proofs.AppPlaces.{AppSeats, app_seats}
