@@ -103,19 +103,22 @@ module _ (seat : Seat) where
   abbrev SetTo : ℕ → List Told → Type 0
   SetTo k l = (class : ℕ) → class < k → tx class l ≡ true
 
+  abbrev Flagged : ℕ → List Told → Type 0
+  Flagged k l = (seat.config.wakeup ≡ true) × SetTo k l
+
   abbrev TxAt : walk.Family
-  TxAt (walk.Arming k) noted kept l = SetTo k l
-  TxAt (walk.Trying walk.Again packet s due) noted kept l = SetTo seat.classes l
-  TxAt (walk.Lacking walk.Again packet s full) noted kept l = SetTo seat.classes l
-  TxAt (walk.Sending walk.Again k due) noted kept l = SetTo seat.classes l
-  TxAt (walk.Parked frames) noted kept l = SetTo seat.classes l
+  TxAt (walk.Arming k) noted kept l = Flagged k l
+  TxAt (walk.Trying walk.Again packet s due) noted kept l = Flagged seat.classes l
+  TxAt (walk.Lacking walk.Again packet s full) noted kept l = Flagged seat.classes l
+  TxAt (walk.Sending walk.Again k due) noted kept l = Flagged seat.classes l
+  TxAt (walk.Parked frames) noted kept l = Flagged seat.classes l
   TxAt place noted kept l = Unit {0}
 
   abbrev TxAsked : walk.Said
-  TxAsked kept call l = AtKick (SetTo seat.classes l) call
+  TxAsked kept call l = AtKick (Flagged seat.classes l) call
 
-  stay : (k : ℕ) (l : List Told) (call : Call) (reply : Reply) → ((class : ℕ) → swaps (NeedTx (socket_of seat class)) call ≡ false) → SetTo k l → SetTo k (with_told l call reply)
-  stay k l call reply e h class below = set_after (NeedTx (socket_of seat class)) (Tx (socket_of seat class)) (Kick seat.pair) l call reply true (e class) (h class below)
+  stay : (k : ℕ) (l : List Told) (call : Call) (reply : Reply) → ((class : ℕ) → swaps (NeedTx (socket_of seat class)) call ≡ false) → Flagged k l → Flagged k (with_told l call reply)
+  stay k l call reply e h = (h.0, λ class below. set_after (NeedTx (socket_of seat class)) (Tx (socket_of seat class)) (Kick seat.pair) l call reply true (e class) (h.1 class below))
 
   arm : (k : ℕ) (l : List Told) (n : ℕ) → SetTo k l → SetTo (k + 1) (with_told l (Swap (NeedTx (socket_of seat k)) 1) (Old n))
   arm k l n h class below = by (eqb (socket_of seat class) (socket_of seat k)) refl
@@ -136,8 +139,8 @@ module _ (seat : Seat) where
   tx_calls p noted kept l known h = tt
 
   tx_entries : walk.AtEntries seat Anything TxAt TxAsked
-  tx_entries (walk.armed_fill n) noted kept l known found h a q = λ class below. absurd (omega (arith, below))
-  tx_entries (walk.armed_tx k n) noted kept l known found h a q = arm k l n h
+  tx_entries (walk.armed_fill n) noted kept l known found h a q = (known.4, λ class below. absurd (omega (arith, below)))
+  tx_entries (walk.armed_tx k n) noted kept l known found h a q = (h.0, arm k l n h.1)
   tx_entries (walk.fill_empty walk.Again packet s) noted kept l known found h a q = stay seat.classes l _ Empty (λ class. refl) h
   tx_entries (walk.fill_items walk.Again packet s items) noted kept l known found h a q = stay seat.classes l _ (Items items) (λ class. refl) h
   tx_entries (walk.fill_released walk.Again packet s n) noted kept l known found h a q = stay seat.classes l _ _ (λ class. refl) h
@@ -149,7 +152,7 @@ module _ (seat : Seat) where
   tx_entries e noted kept l known found h a q = tt
 
   tx_passes : walk.AtPasses seat Anything TxAt
-  tx_passes walk.arms noted kept l = λ h e class below. absurd (omega (arith, below))
+  tx_passes walk.arms noted kept l = λ h e. (e.4, λ class below. absurd (omega (arith, below)))
   tx_passes walk.finds noted kept l = λ h e. tt
   tx_passes p noted kept l = λ h e. h
 
@@ -260,11 +263,13 @@ parked_rests wire c d input l frames kept call rest is fit asks parked =
     let flag = walk.at_call s Anything (FillAt s) (FillAsked s) (Nothing s) (fill_law s) begins refl l meets kept call rest asks in
     let flags = walk.at_call s Anything (TxAt s) (TxAsked s) (Nothing s) (tx_law s) begins tt l meets kept call rest asks in
     let waits = walk.at_call s Anything (At wire c d is) (Asked wire c d is) (Nothing s) (law wire c d is) begins tt l meets kept call rest asks in
+    let flagged = subst (λ x. AtKick (Flagged s s.classes l) x) kicked flags in
     let now = subst (λ x. AtKick ((b : Bool) → kept.parked ≡ Some b → (kept.finished ≡ []) × (b ≡ false → IsOver wire c d is kept) × (b ≡ true → Lacks wire c d is kept)) x) kicked waits frames parked in
     record {
       sent = now.0;
       none = now.1;
       lacks = now.2;
       fill = subst (λ x. AtKick ((b : Bool) → kept.parked ≡ Some b → fill s l ≡ b) x) kicked flag frames parked;
-      tx = subst (λ x. AtKick (SetTo s s.classes l) x) kicked flags;
+      tx = flagged.1;
+      flagged = flagged.0;
     }

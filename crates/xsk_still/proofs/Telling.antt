@@ -1,5 +1,5 @@
 -- A driver tells that it is gone last of all, and an application that has ended has found both drivers gone.
-use Rattle.std.proofs.Common.{◌≡◌, ◌⊎◌, inl, inr, ℕ, zero, suc, ◌<◌, Bool, true, false, cond, eqb, ◌&&◌, ◌||◌, List, [], ◌∷◌, length, set, refl, sym, ap, ◌∙◌, ⊎_elim, arith, eq-eqb, ne_eqb, length-set, get_or-set_same, get_or-set_other}
+use Rattle.std.proofs.Common.{◌≡◌, ◌⊎◌, inl, inr, subst, ℕ, zero, suc, ◌<◌, Bool, true, false, cond, eqb, ◌&&◌, ◌||◌, List, [], ◌∷◌, length, set, refl, sym, ap, ◌∙◌, ⊎_elim, arith, eq-eqb, ne_eqb, length-set, get_or-set_same, get_or-set_other}
 use Rattle.std.proofs.lemmas.Bool.{cases_eq, and_parts, or_from}
 use Rattle.xsk_turns.proofs.Object.{Config, classes_of, is_ring, Draining, are_none, unseen_after, draining_after, draining_of, Telling, telling_after, telling_of}
 use Rattle.xsk_model.specs.Marks.{is_mark}
@@ -12,6 +12,7 @@ use Rattle.xsk_turns.specs.AppOwned.{IsApp}
 use Rattle.xsk_turns.proofs.AppPlaces.{pairs_apart}
 use Rattle.xsk_turns.proofs.Draining.{draining_told}
 use Rattle.xsk_turns.proofs.ReceivingLaws.{telling_told, now_told, and_off}
+use Rattle.xsk_turns.proofs.ScriptLemmas.{leaves_one}
 use Rattle.xsk_turns.proofs.Walks.{Law, Says, Anything, meet_anything, says_left}
 use Rattle.xsk_turns.proofs.DriverWalk as walk
 use Rattle.xsk_turns.proofs.AppWalk as app
@@ -86,11 +87,20 @@ module _ (seat : Seat) (s : ℕ) where
 pub tells_gone_last : TellsGoneLast
 tells_gone_last wire c d s input l run = by run.0 run.2 run.1
   where
+    IsOpen : Script Kept → Type 0
+    IsOpen (ended kept) = ⊥
+    IsOpen script = Unit {0}
+
+    open_yet : (left : Script Kept) → IsWholeDriverRun wire c d input l → Leaves (turn (seat_of wire c d)) (turn (seat_of wire c d) (start (classes_of c) input)) l left → IsOpen left → ⊥
+    open_yet left whole leaves goes =
+        subst IsOpen (leaves_one (turn (seat_of wire c d)) (turn (seat_of wire c d) (start (classes_of c) input)) l left (ended whole.0) leaves whole.1) goes
+
     by : (left : Script Kept) → IsLive left → Leaves (turn (seat_of wire c d)) (turn (seat_of wire c d) (start (classes_of c) input)) l left
         → ((telling_of (Gone d) (Comp s) l).late ≡ false)
-        × ((IsWholeDriverRun wire c d input l × ((telling_of (Gone d) (Comp s) l).told ≡ true)) ⊎ ((telling_of (Gone d) (Comp s) l).told ≡ false))
-    by (ask kept call rest) live leaves = let h = says (seat_of wire c d) s (start (classes_of c) input) l (ask kept call rest) leaves in (h.1, inr h.0)
-    by (again kept) live leaves = let h = says (seat_of wire c d) s (start (classes_of c) input) l (again kept) leaves in (h.1, inr h.0)
+        × ((IsWholeDriverRun wire c d input l × ((telling_of (Gone d) (Comp s) l).told ≡ true))
+        ⊎ ((IsWholeDriverRun wire c d input l → ⊥) × ((telling_of (Gone d) (Comp s) l).told ≡ false)))
+    by (ask kept call rest) live leaves = let h = says (seat_of wire c d) s (start (classes_of c) input) l (ask kept call rest) leaves in (h.1, inr ((λ whole. open_yet (ask kept call rest) whole leaves tt), h.0))
+    by (again kept) live leaves = let h = says (seat_of wire c d) s (start (classes_of c) input) l (again kept) leaves in (h.1, inr ((λ whole. open_yet (again kept) whole leaves tt), h.0))
     by (ended kept) live leaves = let h = says (seat_of wire c d) s (start (classes_of c) input) l (ended kept) leaves in (h.1, inl ((kept, leaves), h.0))
     by never live leaves = absurd live
 

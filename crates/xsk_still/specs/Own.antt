@@ -92,8 +92,9 @@ AppIsFree = (c : Config) (a : ℕ) (l : List Told) (kept : AppKept) (call : Call
 
 -- ---- a driver that is parked
 
--- it has sent all, its flags are set, and it has no further packet, or its next one lacks frames
+-- the flags are used and set, it has sent all, and it has no further packet, or its next one lacks frames
 pub record Rests (seat : Seat) (frames : Bool) (kept : Kept) (l : List Told) : Type 0 where
+  pub flagged : seat.config.wakeup ≡ true
   pub sent : kept.finished ≡ []
   pub none : frames ≡ false → (kept.coming ≡ []) × (kept.rx_done ≡ true)
   pub lacks : frames ≡ true → (packet : Judged) × (later : List Judged) × (kept.coming ≡ packet ∷ later) × (length kept.spare < 18)
@@ -115,7 +116,8 @@ KeepsRxTold = (wire : Wire) (c : Config) (d s : ℕ) (input : List Judged) (l : 
 abbrev pub TellsGoneLast : Type 0
 TellsGoneLast = (wire : Wire) (c : Config) (d s : ℕ) (input : List Judged) (l : List Told) → IsDriverRun wire c d input l
     → ((telling_of (Gone d) (Comp s) l).late ≡ false)
-    × ((IsWholeDriverRun wire c d input l × ((telling_of (Gone d) (Comp s) l).told ≡ true)) ⊎ ((telling_of (Gone d) (Comp s) l).told ≡ false))
+    × ((IsWholeDriverRun wire c d input l × ((telling_of (Gone d) (Comp s) l).told ≡ true))
+    ⊎ ((IsWholeDriverRun wire c d input l → ⊥) × ((telling_of (Gone d) (Comp s) l).told ≡ false)))
 
 abbrev pub KeepsTxTold : Type 0
 KeepsTxTold = (c : Config) (a t : ℕ) (l : List Told) (kept : AppKept) (call : Call) (rest : Reply → Script AppKept) → IsApp c a
