@@ -8,3 +8,7 @@ pub mod Keeping
 pub mod Resting
 pub mod Telling
 pub mod Losing
+pub mod Asking
+pub mod Pools
+pub mod Laid
+pub mod Holding
