@@ -12,3 +12,4 @@ pub mod Asking
 pub mod Pools
 pub mod Laid
 pub mod Holding
+pub mod Standing
