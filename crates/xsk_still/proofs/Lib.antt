@@ -13,3 +13,4 @@ pub mod Pools
 pub mod Laid
 pub mod Holding
 pub mod Standing
+pub mod Emptying

@@ -55,7 +55,7 @@ in_pool pool d n some =
 below_all : (b x : ℕ) (xs : List ℕ) → ((n : ℕ) → 1 ≤ times n (x ∷ xs) → b ≤ n) → (n : ℕ) → 1 ≤ times n xs → b ≤ n
 below_all b x xs low n h = low n (omega (arith, h))
 
-here_one : (x : ℕ) (xs : List ℕ) → 1 ≤ times x (x ∷ xs)
+pub here_one : (x : ℕ) (xs : List ℕ) → 1 ≤ times x (x ∷ xs)
 here_one x xs = omega (arith, its_own x x refl)
 
 less_here : (b m x : ℕ) → b ≤ x → ◌≡◌ {A = ℕ} (cond (eqb (x - b) m) 1 0) (cond (eqb x (m + b)) 1 0)
