@@ -1,10 +1,10 @@
 -- A worker that hasn't ended asks a call: each turn of it begins with one.
-use Rattle.std.proofs.Common.{◌≡◌, ◌⊎◌, inl, inr, ℕ, zero, suc, ◌-◌, ◌≤◌, Bool, true, false, cond, Option, Some, None, List, [], ◌∷◌, refl, sym, subst, arith}
+use Rattle.std.proofs.Common.{◌≡◌, ◌⊎◌, inl, inr, ℕ, zero, suc, ◌-◌, ◌≤◌, Bool, true, false, cond, Option, Some, None, List, [], ◌∷◌, sym, subst, arith}
 use Rattle.xsk_umem.specs.Frame.{Frame}
 use Rattle.xsk_turns.proofs.Calls.{Item, Told, Call, Reply}
 use Rattle.xsk_turns.specs.Script.{Script, ask, again, ended, never, begun, Leaves, Asks, IsLive, IsRun, IsWhole}
-use Rattle.xsk_turns.specs.Turns.{Seat, Judged, Kept, Noted, fresh, settled, settled_or, disposal_untried, look_kick, visit, complete, transmit, receive, turn_by, turn}
-use Rattle.xsk_turns.specs.AppTurns.{AppKept, AppNoted, pending_at, back_at, lanes_of, visit_lane, visit_lanes, visit_side, visit_sides, turn_sides, noted_first, app_turn}
+use Rattle.xsk_turns.specs.Turns.{Seat, Judged, Kept, Noted, fresh, settled, settled_or, disposal_untried, visit, complete, transmit, receive, turn_by, turn}
+use Rattle.xsk_turns.specs.AppTurns.{AppKept, AppNoted, pending_at, back_at, lanes_of, visit_lane, visit_lanes, visit_side, turn_sides, noted_first, app_turn}
 use Rattle.xsk_turns.proofs.Object.{Config}
 use Rattle.xsk_turns.specs.declared.disposal.Disposal.{Disposal}
 

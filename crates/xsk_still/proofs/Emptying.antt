@@ -1,16 +1,14 @@
 -- An application that stays as it is has given back all frames, so no driver of it is blocked, and each has sent all.
-use Rattle.std.proofs.Common.{◌≡◌, ◌≢◌, ◌⊎◌, inl, inr, ℕ, zero, suc, ◌+◌, ◌-◌, ◌*◌, ◌/◌, ◌%◌, ◌<◌, ◌≤◌, Bool, true, false, is_some, Option, Some, None, All, List, [], ◌∷◌, ◌++◌, length, map, take, get_or, flat_map, refl, sym, ap, ◌∙◌, subst, ⊎_elim, arith, length-append}
+use Rattle.std.proofs.Common.{◌≡◌, ℕ, ◌+◌, ◌/◌, ◌<◌, ◌≤◌, Bool, true, is_some, Option, Some, None, All, List, [], ◌∷◌, ◌++◌, length, map, get_or, flat_map, refl, sym, ap, ◌∙◌, subst, ⊎_elim, arith, length-append}
 use Rattle.std.proofs.lemmas.Bool.{cases_lt}
 use Rattle.std.proofs.lemmas.List.{length-map}
 use Rattle.std.proofs.lemmas.List.Elements.{All-head}
 use Rattle.xsk_umem.specs.Frame.{Frame}
-use Rattle.xsk_turns.proofs.Object.{Config, IsWhole, HasRing, pool_of, batch_of, classes_of, caller_of, app_of, producer, consumer, apps_of, home_item, times, numbers, submitted, had_of}
-use Rattle.xsk_turns.proofs.Calls.{Item, Told, Fill, Comp, Tx, NeedFill, NeedTx, Kick, Call, Submit, Swap, Look, Reply}
+use Rattle.xsk_turns.proofs.Object.{Config, IsWhole, pool_of, batch_of, classes_of, caller_of, app_of, producer, consumer, apps_of, home_item, times, numbers, submitted, had_of}
+use Rattle.xsk_turns.proofs.Calls.{Item, Told, Fill, Comp, Tx, NeedTx, Kick, Call, Submit, Swap, Look}
 use Rattle.xsk_model.specs.Config.{size_of}
 use Rattle.xsk_model.specs.Entry.{Entry, own}
-use Rattle.xsk_model.specs.Homes.{home_app}
 use Rattle.xsk_model.specs.Object.{State, ring_at}
-use Rattle.xsk_model.specs.Rings.{driver_of}
 use Rattle.xsk_model.specs.declared.call.Ring.{Ring}
 use Rattle.xsk_model.specs.declared.call.Mark.{Mark}
 use Rattle.xsk_model.proofs.Counting.{times-append}
@@ -18,7 +16,7 @@ use Rattle.xsk_model.proofs.FrameTheorems.{frames_stay, frames_apart}
 use Rattle.xsk_model.proofs.Replies.{times-piece}
 use Rattle.xsk_model.proofs.Stays.{serves_itself}
 use Rattle.xsk_turns.specs.AppLaw.{IsFlagged}
-use Rattle.xsk_turns.specs.AppTurns.{pair_of, tx_of, home_of, back_at}
+use Rattle.xsk_turns.specs.AppTurns.{pair_of, home_of, back_at}
 use Rattle.xsk_turns.specs.AppOwned.{IsApp}
 use Rattle.xsk_turns.specs.Owned.{IsSeat, Owned, of_class, socket_at_class, frame_numbers}
 use Rattle.xsk_turns.specs.Turns.{seat_of}

@@ -4,12 +4,12 @@ use Rattle.std.proofs.Common.{◌≡◌, ◌⊎◌, inl, inr, ℕ, zero, suc, �
 use Rattle.std.proofs.lemmas.Bool.{cases_lt}
 use Rattle.std.proofs.lemmas.Nat.{div-mul-add, mod-mul-add, div_below, div-add-mod'}
 use Rattle.xsk_umem.specs.Frame.{Frame}
-use Rattle.xsk_turns.proofs.Object.{Config, IsConfig, IsRegular, HasRing, pair_at, classes_of, caller_of, app_of, times, had_of}
+use Rattle.xsk_turns.proofs.Object.{Config, IsRegular, HasRing, pair_at, classes_of, caller_of, app_of, times, had_of}
 use Rattle.xsk_turns.proofs.Calls.{Fill, Comp, Rx, Tx}
 use Rattle.xsk_model.specs.Entry.{Entry, own}
 use Rattle.xsk_model.specs.History.{IsHistory, state_after}
-use Rattle.xsk_model.specs.Holders.{holders, out_numbers}
-use Rattle.xsk_model.specs.Object.{State, RingState, empty_ring, ring_at, had_by}
+use Rattle.xsk_model.specs.Holders.{out_numbers}
+use Rattle.xsk_model.specs.Object.{State, empty_ring, ring_at}
 use Rattle.xsk_model.specs.Rings.{place, places_of, port_of}
 use Rattle.xsk_model.specs.declared.call.Ring.{Ring}
 use Rattle.xsk_model.proofs.Counting.{times-append}
@@ -84,14 +84,17 @@ module _ (c : Config) (a : ℕ) (one : IsApp c a) where
       let is : (port / 2) * c.queues + queue ≡ a = omega (arith, mine) in
       let half : a / c.queues ≡ port / 2 = ap (λ n. n / c.queues) (sym is) ∙ div-mul-add (port / 2) c.queues queue at.queue in
       let rest : a % c.queues ≡ queue = ap (λ n. n % c.queues) (sym is) ∙ mod-mul-add (port / 2) c.queues queue at.queue in
-      let whole : 2 * (port / 2) + port % 2 ≡ port = omega arith in
-      (port % 2, omega arith, sym (
-      ap (λ n. (2 * n + port % 2) * c.queues + a % c.queues) half
-      ∙ ap (λ n. (2 * (port / 2) + port % 2) * c.queues + n) rest
-      ∙ ap (λ n. n * c.queues + queue) whole
-      ∙ ap (λ n. n * c.queues + queue) seat.0
-      ∙ ap (λ n. e / c.queues * c.queues + n) seat.1
-      ∙ div-add-mod' e c.queues))
+      let whole : 2 * (port / 2) + port % 2 ≡ port = omega arith in (
+        port % 2,
+        omega arith,
+        sym (
+            ap (λ n. (2 * n + port % 2) * c.queues + a % c.queues) half
+            ∙ ap (λ n. (2 * (port / 2) + port % 2) * c.queues + n) rest
+            ∙ ap (λ n. n * c.queues + queue) whole
+            ∙ ap (λ n. n * c.queues + queue) seat.0
+            ∙ ap (λ n. e / c.queues * c.queues + n) seat.1
+            ∙ div-add-mod' e c.queues),
+      )
 
   some_class : 1 ≤ classes_of c
   some_class = let classes = one.steady.regular.classes in omega (arith, classes)

@@ -1,8 +1,8 @@
 -- Of layouts that follow one another no packet is bad, and none is unfinished.
-use Rattle.std.proofs.Common.{◌≡◌, ◌≤◌, ℕ, Bool, All, List, [], ◌∷◌, length, map, flat_map, refl, ap, ◌∙◌}
+use Rattle.std.proofs.Common.{◌≡◌, ◌≤◌, ℕ, Bool, All, List, [], ◌∷◌, length, map, refl, ap, ◌∙◌}
 use Rattle.std.proofs.lemmas.List.Elements.{All-nil, All-cons, All-head, All-tail}
 use Rattle.xsk_turns.proofs.Calls.{Item}
-use Rattle.xsk_turns.proofs.Object.{Geometry, IsGeometry, Packet, whole, packets, rest, IsWhole}
+use Rattle.xsk_turns.proofs.Object.{Geometry, IsGeometry, whole, packets, rest, IsWhole}
 use Rattle.xsk_model.proofs.LayoutLaws.{layout_whole}
 use Rattle.xsk_model.proofs.PacketsLaws.{packets-wholes}
 use Rattle.xsk_turns.specs.Turns.{bad_ones}

@@ -14,3 +14,4 @@ pub mod Laid
 pub mod Holding
 pub mod Standing
 pub mod Emptying
+pub mod Ended

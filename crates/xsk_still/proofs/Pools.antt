@@ -1,5 +1,5 @@
 -- On FILL of a pair there are only frames of its pool, so its driver receives into these alone; and how many there are.
-use Rattle.std.proofs.Common.{◌≡◌, ℕ, zero, suc, ◌+◌, ◌-◌, ◌*◌, ◌/◌, ◌%◌, ◌<◌, ◌≤◌, Bool, true, false, cond, eqb, Option, Some, None, All, List, [], ◌∷◌, ◌++◌, length, map, get_or, refl, sym, ap, ◌∙◌, subst, ⊎_elim, arith, eq-eqb, append_assoc}
+use Rattle.std.proofs.Common.{◌≡◌, ℕ, zero, suc, ◌+◌, ◌-◌, ◌*◌, ◌/◌, ◌<◌, ◌≤◌, Bool, true, false, cond, eqb, Option, Some, None, All, List, [], ◌∷◌, ◌++◌, length, map, get_or, refl, sym, ap, ◌∙◌, subst, ⊎_elim, arith, eq-eqb, append_assoc}
 use Rattle.std.specs.List.{range_with_len}
 use Rattle.std.proofs.Math.Nat.{div-eq_of_lt-le}
 use Rattle.std.proofs.lemmas.Nat.{div-add-mod'}
@@ -8,9 +8,8 @@ use Rattle.std.proofs.lemmas.Bool.Decides.{nat_tests}
 use Rattle.std.proofs.lemmas.List.{length-map}
 use Rattle.std.proofs.lemmas.List.Elements.{All-nil, All-cons, All-head, All-tail, All-append, All-map}
 use Rattle.xsk_umem.specs.Frame.{Frame}
-use Rattle.xsk_turns.proofs.Object.{Config, HasRing, pool_of, home_item, caller_of, times, numbers, number_of, taken, is_on, peeked_of, peeked_step, submitted_of, IsLegal, OwnGoesOn}
-use Rattle.xsk_turns.proofs.Calls.{Item, Told, Fill, Peek}
-use Rattle.xsk_model.specs.Rings.{producer, consumer}
+use Rattle.xsk_turns.proofs.Object.{Config, pool_of, home_item, caller_of, times, numbers, number_of, taken, is_on, peeked_of, peeked_step, submitted_of, IsLegal, OwnGoesOn}
+use Rattle.xsk_turns.proofs.Calls.{Item, Told, Fill}
 use Rattle.xsk_model.specs.Entry.{Entry, own, all_told}
 use Rattle.xsk_model.specs.Object.{RingState, ring_at}
 use Rattle.xsk_model.specs.Opening.{opening}
@@ -20,7 +19,7 @@ use Rattle.xsk_model.specs.Own.{part_of}
 use Rattle.xsk_model.specs.Numbers.{without_one}
 use Rattle.xsk_model.specs.declared.call.Ring.{Ring}
 use Rattle.xsk_model.proofs.Completions.{times-numbers-append}
-use Rattle.xsk_model.proofs.Counting.{times-without_one, times-range_below, times-range_past, length-by_times, its_own, not_yet}
+use Rattle.xsk_model.proofs.Counting.{times-without_one, times-range_below, times-range_past, length-by_times, its_own}
 use Rattle.xsk_model.proofs.Folds.{part_of-append}
 use Rattle.xsk_model.proofs.FrameTheorems.{opening_is}
 use Rattle.xsk_model.proofs.Legality.{from_fill_last}

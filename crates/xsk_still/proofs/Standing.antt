@@ -1,18 +1,17 @@
 -- What stands after a stretch of calls that change nothing, of each worker by itself: it has ended, or the reasons for which it
 -- stays are those of the last state; nothing is due; each mark of its end tells what it told; and a parked driver isn't woken.
-use Rattle.std.proofs.Common.{◌≡◌, ◌⊎◌, inl, inr, ℕ, zero, suc, ◌+◌, ◌-◌, ◌*◌, ◌/◌, ◌<◌, ◌≤◌, Bool, true, false, cond, ◌||◌, ◌&&◌, eqb, is_some, Some, None, All, List, [], ◌∷◌, ◌++◌, length, refl, sym, ap, ◌∙◌, subst, ⊎_elim, arith, append-nil, length-append}
+use Rattle.std.proofs.Common.{◌≡◌, ◌⊎◌, inl, inr, ℕ, ◌+◌, ◌<◌, ◌≤◌, Bool, true, false, cond, ◌||◌, ◌&&◌, eqb, is_some, All, List, [], ◌∷◌, ◌++◌, length, refl, sym, ap, ◌∙◌, subst, ⊎_elim, arith, append-nil, length-append}
 use Rattle.std.specs.List.{fold}
 use Rattle.std.proofs.lemmas.List.Sums.{fold-append}
 use Rattle.xsk_umem.specs.Frame.{Frame}
-use Rattle.xsk_umem.specs.declared.batch.Item.{Item}
 use Rattle.xsk_model.specs.Config.{Config, IsConfig, HasRing, size_of, classes_of, callers_of}
-use Rattle.xsk_model.specs.Rings.{place, producer, consumer, driver_of, app_of, caller_of}
-use Rattle.xsk_model.specs.Marks.{HasMark, IsMarkOwner, is_mark, apps_of}
-use Rattle.xsk_model.specs.Object.{RingState, State, ring_at, mark_at, free, reply_at}
-use Rattle.xsk_model.specs.Entry.{Told, Entry, with_told, own, all_told}
-use Rattle.xsk_model.specs.Own.{room_of, held_of, peeked_of, submitted_of}
+use Rattle.xsk_model.specs.Rings.{producer, consumer, app_of, caller_of}
+use Rattle.xsk_model.specs.Marks.{is_mark, apps_of}
+use Rattle.xsk_model.specs.Object.{RingState, State, ring_at, mark_at}
+use Rattle.xsk_model.specs.Entry.{Told, Entry, own, all_told}
+use Rattle.xsk_model.specs.Own.{peeked_of, submitted_of}
 use Rattle.xsk_model.specs.Ends.{Telling, telling_after, telling_step, telling_of}
-use Rattle.xsk_model.specs.Homes.{first_ring, first_mark}
+use Rattle.xsk_model.specs.Homes.{first_ring}
 use Rattle.xsk_model.specs.History.{IsHistory, state_after}
 use Rattle.xsk_model.specs.Opening.{opening}
 use Rattle.xsk_model.specs.declared.call.Ring.{Ring}
@@ -29,11 +28,11 @@ use Rattle.xsk_model.proofs.Histories.{history_first}
 use Rattle.xsk_model.proofs.MarkNumbers.{opening_mark_is}
 use Rattle.xsk_model.proofs.Theorems.{in_order, parts_by_own, items_by_own, own_entries}
 use Rattle.xsk_turns.specs.Script.{Script, Asks}
-use Rattle.xsk_turns.specs.Turns.{Seat, Judged, Kept, seat_of, start, turn, IsDriverRun, IsWholeDriverRun}
+use Rattle.xsk_turns.specs.Turns.{Kept, seat_of, start, turn, IsDriverRun, IsWholeDriverRun}
 use Rattle.xsk_turns.specs.AppTurns.{AppKept, app_turn, app_start, lanes_of, IsAppRun, IsWholeAppRun}
 use Rattle.xsk_turns.specs.AppOwned.{IsApp}
 use Rattle.xsk_turns.specs.Owned.{IsSeat, AllFit, socket_at_class}
-use Rattle.xsk_turns.specs.Wakes.{IsParked, IsOwedOn, IsOwedEnd, IsWoken, NoWakeIsLost, app_for, owes_on, owes_end}
+use Rattle.xsk_turns.specs.Wakes.{IsParked, IsWoken, NoWakeIsLost, app_for, owes_on, owes_end}
 use Rattle.xsk_turns.specs.Watching.{watching_of}
 use Rattle.xsk_turns.specs.Workers.{Setting, input_of, IsWholeRun}
 use Rattle.xsk_turns.proofs.Owning.{all_fit}
@@ -42,7 +41,7 @@ use Rattle.xsk_turns.proofs.ScriptLemmas.{run_front}
 use Rattle.xsk_laws.specs.Woken.{AreWorkerRuns}
 use Rattle.xsk_laws.proofs.Woken.{no_wakes_are_lost, fill_kept, tx_kept}
 use Rattle.xsk_still.specs.Still.{HasAmpleRoom, IsStill, AreStill, LacksRoom, IsEmpty, StaysBy, AppStaysBy}
-use Rattle.xsk_still.specs.Own.{AtEach, HasSettled, KeepsRxMark, KeepsTxMark, IsFree, IsPlain, HasNothingDue, SetsOnes}
+use Rattle.xsk_still.specs.Own.{KeepsRxMark, KeepsTxMark, IsFree, IsPlain, HasNothingDue}
 use Rattle.xsk_still.specs.Laws.{IsStretch}
 use Rattle.xsk_still.proofs.AppStaying.{app_stays, was_number}
 use Rattle.xsk_still.proofs.Asking.{IsAsking, whole_or_asking, turn_asks, app_turn_asks}
@@ -51,7 +50,6 @@ use Rattle.xsk_still.proofs.Dues.{driver_is_free, driver_ends_free, app_is_free}
 use Rattle.xsk_still.proofs.Keeping.{keeps_rx_told, keeps_tx_told}
 use Rattle.xsk_still.proofs.Marks.{mark_is_told, last_of}
 use Rattle.xsk_still.proofs.Meeting.{cut_behind}
-use Rattle.xsk_still.proofs.Resting.{parked_rests}
 use Rattle.xsk_still.proofs.Setting.{ends_set_once, app_sets_once}
 
 -- ---- lists
@@ -80,7 +78,7 @@ if_one : (b : Bool) → ◌≡◌ {A = ℕ} (cond b 1 0) 1 → b ≡ true
 if_one true e = refl
 if_one false e = absurd (omega (arith, e))
 
-one_if : (b : Bool) → b ≡ true → ◌≡◌ {A = ℕ} (cond b 1 0) 1
+pub one_if : (b : Bool) → b ≡ true → ◌≡◌ {A = ℕ} (cond b 1 0) 1
 one_if true e = refl
 one_if false e = absurd (cc)
 
@@ -238,7 +236,7 @@ module _ (s : Setting) (frames : List Frame) (past es : List Entry) (are : AreWo
       (λ (o : OpenDriver d). driver_is_free s.wire c d (input_of s d) (own d h) o.kept o.call o.rest (seat d below) (fit d) o.asks o.free)
       (driver_state d below)
 
-  plain_free : (call : Call) → IsPlain call → IsFree call
+  pub plain_free : (call : Call) → IsPlain call → IsFree call
   plain_free (Submit r items) plain = absurd plain
   plain_free (Release r n) plain = absurd plain
   plain_free call plain = tt
