@@ -10,3 +10,4 @@ mod mangling;
 
 pub use app::App;
 pub use xsk_model::Act;
+pub use xsk_turns::Manner;

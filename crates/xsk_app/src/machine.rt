@@ -416,7 +416,14 @@ impl<'a> Machine<'a> {
         let pending = &mut self.pending[lane];
         let back = &mut self.backs[self.ways[lane].side];
         let count = u64::from(pending.len());
-        mangle(self.config.geometry(), every, self.number, pending, back, items);
+        mangle(
+            self.config.geometry(),
+            every,
+            self.number,
+            pending,
+            back,
+            items,
+        );
         self.number = (self.number + count) % round_of(every);
     }
 

@@ -22,7 +22,7 @@ use Rattle.xsk_turns.specs.Mangling.{change_at, taken_by, frames_taken, back_by}
 use Rattle.xsk_turns.specs.declared.manner.Manner.{Manner}
 use Rattle.xsk_turns.specs.declared.manner.Change.{Change}
 use Rattle.xsk_turns.specs.declared.manner.Change.TheVariants.{NoBytes, WholeChunk, UnknownOption, Outside, GoesOn}
-use Rattle.xsk_turns.proofs.Mangling.{length-given}
+use Rattle.xsk_turns.proofs.Mangling.{length-given, back_sides}
 use Rattle.xsk_turns.specs.AppOwned.{IsApp}
 use Rattle.xsk_turns.proofs.AppGroups.{group_front}
 use Rattle.xsk_turns.proofs.Walks.{Premise, MeetAlong}
@@ -87,10 +87,6 @@ back_put None n items side back = omega arith
 back_put (Some every) n items side back =
     let all = get_or back side [] ++ frames_taken every n items in
     omega (arith, total_put back side (take 4096 all), length-take 4096 all, length-append (get_or back side []) (frames_taken every n items), few_taken every n items)
-
-back_sides : (mangle : Option ℕ) (n : ℕ) (items : List Item) (side : ℕ) (back : List (List Frame)) → length (back_by mangle n items side back) ≡ length back
-back_sides None n items side back = refl
-back_sides (Some every) n items side back = length-set back side (take 4096 (get_or back side [] ++ frames_taken every n items))
 
 -- ---- what is kept
 

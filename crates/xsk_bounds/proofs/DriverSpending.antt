@@ -304,8 +304,12 @@ module _ (wire : Wire) (c : Config) (d packets : ℕ) (few : classes_of c ≤ 4)
   entries (rx_submitted packet s) noted kept l known found h a q =
       let give = call_at seat (SubmitRx packet s) kept in
       let items : length (laid_out c.geometry packet.bytes (take (pieces_of seat packet.bytes) kept.spare)) ≤ 18 =
-      omega (arith, length-laid_out c.geometry packet.bytes (take (pieces_of seat packet.bytes) kept.spare), length-take (pieces_of seat packet.bytes) kept.spare,
-      pieces_few c geometry packet.bytes (ltb-false (limit_of seat) (length packet.bytes) known.0.fits)) in
+      omega (
+        arith,
+        length-laid_out c.geometry packet.bytes (take (pieces_of seat packet.bytes) kept.spare),
+        length-take (pieces_of seat packet.bytes) kept.spare,
+        pieces_few c geometry packet.bytes (ltb-false (limit_of seat) (length packet.bytes) known.0.fits),
+      ) in
       step (Trying Turning packet s (submit_due (Rx s) (pieces_of seat packet.bytes))) (Sending Turning 0 nothing_due) noted.progress true kept _ l give Submitted
       (omega (arith, items, length-append kept.disposals (Delivered s ∷ [])), omega arith, λ e. refl)
       (one_fewer kept.disposals (Delivered s) kept.coming packet known.0.next.later known.0.next.is) tt h

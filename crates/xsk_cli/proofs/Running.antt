@@ -18,6 +18,7 @@ use Rattle.xsk_model.specs.Steering.{paired_port, driver_on}
 use Rattle.xsk_model.proofs.Seats.{below}
 use Rattle.xsk_turns.specs.declared.wire.Wire.{Wire as OwnWire}
 use Rattle.xsk_turns.specs.Inputs.{packets_of_queue}
+use Rattle.xsk_turns.specs.Mangling.{plain}
 use Rattle.xsk_turns.specs.Workers.{IsRuled, IsWholeRun, ruled}
 use Rattle.xsk_prog.specs.declared.rule.Rule.{Rule}
 use Rattle.xsk_prog.specs.declared.rule.Verdict.{Verdict}
@@ -77,7 +78,7 @@ module _ (layout : Layout) (program : Program) (wire : Wire) (lists : List (List
   verdicts = verdicts_by layout program lists
 
   -- all workers have whole runs
-  whole_runs : AreWholeRuns (wire_by wire) config (map listed lists) verdicts (frames_of layout) history
+  whole_runs : AreWholeRuns plain (wire_by wire) config (map listed lists) verdicts (frames_of layout) history
   whole_runs = record {
     steady = record { regular = regular-regular layout (fits layout accepted); closes = refl };
     history = legal;
@@ -105,7 +106,7 @@ module _ (layout : Layout) (program : Program) (wire : Wire) (lists : List (List
     one_sent : wire ≡ Wait → layout.sockets ≡ 1 → (port queue : ℕ) → port < layout.ports → queue < layout.queues → sent config history (driver_on config port queue) ≡ going_on layout program lists (paired_port port) queue 0
     one_sent waits one port queue in_ports in_queues =
         let classes : classes_of config ≡ 1 = classes_are layout (omega (arith, driver_known layout.ports layout.queues port queue in_ports in_queues)) ∙ one in
-        all_is_expected (wire_by wire) config (map listed lists) verdicts (frames_of layout) history port queue (ap wire_by waits) whole_runs in_ports in_queues classes
+        all_is_expected plain (wire_by wire) config (map listed lists) verdicts (frames_of layout) history port queue refl (ap wire_by waits) whole_runs in_ports in_queues classes
         ∙ expected_goes_on layout program lists port queue 0 accepted (record { in_ports = in_ports; in_queues = in_queues; in_classes = omega (arith, classes) })
 
     pub texts_in : (told : List ℕ) (texts : Written)
@@ -117,9 +118,9 @@ module _ (layout : Layout) (program : Program) (wire : Wire) (lists : List (List
         record {
           sent = is;
           forwarded = λ port queue in_ports in_queues.
-              all_are_forwarded (wire_by wire) config (map listed lists) verdicts (frames_of layout) history port queue whole_runs in_ports in_queues;
+              all_are_forwarded plain (wire_by wire) config (map listed lists) verdicts (frames_of layout) history port queue refl whole_runs in_ports in_queues;
           redirected = λ port queue waits in_ports in_queues.
-              nothing_else_is_sent (wire_by wire) config (map listed lists) verdicts (frames_of layout) history port queue (ap wire_by waits) whole_runs in_ports in_queues;
+              nothing_else_is_sent plain (wire_by wire) config (map listed lists) verdicts (frames_of layout) history port queue refl (ap wire_by waits) whole_runs in_ports in_queues;
           one_socket = λ waits one.
               is
               ∙ same_map _ _ 0 layout.ports (λ port h. ap written
@@ -138,7 +139,7 @@ module _ (layout : Layout) (program : Program) (wire : Wire) (lists : List (List
       sent_within port queue in_ports in_queues =
           let pair : ℕ = port * layout.queues + queue in
           let known : pair < length all = omega (arith, driver_known layout.ports layout.queues port queue in_ports in_queues, pairs) in
-          let few = sent_is_within (wire_by wire) config (map listed lists) verdicts (frames_of layout) history port queue whole_runs in_ports in_queues in
+          let few = sent_is_within plain (wire_by wire) config (map listed lists) verdicts (frames_of layout) history port queue whole_runs in_ports in_queues in
           let here : received config (map listed lists) (paired_port port) queue ≡ packets_of_queue layout.queues queue (get_or lists (paired_port port) []) =
           ap (packets_of_queue layout.queues queue) (packets_there lists (paired_port port)) in
           record {
@@ -224,17 +225,17 @@ one_list-writable packets short few small = record {
 
 -- a run of the code's configuration, lists and frames
 pub stalled_as : (layout : Layout) (program : Program) (wire : Wire) (order : ℕ) (c : Config) (own : List PacketList) (fs : List Frame) (lists : List (List (List ℕ))) (round : ℕ) → c ≡ regular_of layout → own ≡ map listed lists
-    → fs ≡ frames_of layout → (own_wire : OwnWire) → own_wire ≡ wire_by wire → (verdicts : List (List Verdict)) → IsRuled (rule_by layout.sockets program) (record { config = c; wire = own_wire; packets = own; verdicts = verdicts })
-    → HasStalled (record { config = c; wire = own_wire; packets = own; verdicts = verdicts }) fs order round → HasStalled (setting_of layout program wire lists) (frames_of layout) order round
+    → fs ≡ frames_of layout → (own_wire : OwnWire) → own_wire ≡ wire_by wire → (verdicts : List (List Verdict)) → IsRuled (rule_by layout.sockets program) (record { config = c; wire = own_wire; manner = plain; packets = own; verdicts = verdicts })
+    → HasStalled (record { config = c; wire = own_wire; manner = plain; packets = own; verdicts = verdicts }) fs order round → HasStalled (setting_of layout program wire lists) (frames_of layout) order round
 stalled_as layout program wire order c own fs lists round is_config is_own is_frames own_wire is_wire verdicts is h =
     subst (λ f. HasStalled (setting_of layout program wire lists) f order round) is_frames
     (subst (λ (l : List PacketList). HasStalled (ruled (rule_by layout.sockets program) (wire_by wire) (regular_of layout) l) fs order round) is_own
-    (subst (λ (k : Config). HasStalled (ruled (rule_by layout.sockets program) (wire_by wire) k own) fs order round) is_config (subst (λ (w : OwnWire). HasStalled (ruled (rule_by layout.sockets program) w c own) fs order round) is_wire (stalls_as_ruled (rule_by layout.sockets program) (record { config = c; wire = own_wire; packets = own; verdicts = verdicts }) fs order round (is_exact_by layout.sockets program) is h))))
+    (subst (λ (k : Config). HasStalled (ruled (rule_by layout.sockets program) (wire_by wire) k own) fs order round) is_config (subst (λ (w : OwnWire). HasStalled (ruled (rule_by layout.sockets program) w c own) fs order round) is_wire (stalls_as_ruled (rule_by layout.sockets program) (record { config = c; wire = own_wire; manner = plain; packets = own; verdicts = verdicts }) fs order round (is_exact_by layout.sockets program) is h))))
 
 pub ended_as : (layout : Layout) (program : Program) (wire : Wire) (order : ℕ) (c : Config) (own : List PacketList) (fs : List Frame) (lists : List (List (List ℕ))) (run : Shown) → c ≡ regular_of layout → own ≡ map listed lists
-    → fs ≡ frames_of layout → (own_wire : OwnWire) → own_wire ≡ wire_by wire → (verdicts : List (List Verdict)) → IsRuled (rule_by layout.sockets program) (record { config = c; wire = own_wire; packets = own; verdicts = verdicts })
-    → HasEnded (record { config = c; wire = own_wire; packets = own; verdicts = verdicts }) fs order run → HasEnded (setting_of layout program wire lists) (frames_of layout) order run
+    → fs ≡ frames_of layout → (own_wire : OwnWire) → own_wire ≡ wire_by wire → (verdicts : List (List Verdict)) → IsRuled (rule_by layout.sockets program) (record { config = c; wire = own_wire; manner = plain; packets = own; verdicts = verdicts })
+    → HasEnded (record { config = c; wire = own_wire; manner = plain; packets = own; verdicts = verdicts }) fs order run → HasEnded (setting_of layout program wire lists) (frames_of layout) order run
 ended_as layout program wire order c own fs lists run is_config is_own is_frames own_wire is_wire verdicts is h =
     subst (λ f. HasEnded (setting_of layout program wire lists) f order run) is_frames
     (subst (λ (l : List PacketList). HasEnded (ruled (rule_by layout.sockets program) (wire_by wire) (regular_of layout) l) fs order run) is_own
-    (subst (λ (k : Config). HasEnded (ruled (rule_by layout.sockets program) (wire_by wire) k own) fs order run) is_config (subst (λ (w : OwnWire). HasEnded (ruled (rule_by layout.sockets program) w c own) fs order run) is_wire (ends_as_ruled (rule_by layout.sockets program) (record { config = c; wire = own_wire; packets = own; verdicts = verdicts }) fs order run (is_exact_by layout.sockets program) is h))))
+    (subst (λ (k : Config). HasEnded (ruled (rule_by layout.sockets program) (wire_by wire) k own) fs order run) is_config (subst (λ (w : OwnWire). HasEnded (ruled (rule_by layout.sockets program) w c own) fs order run) is_wire (ends_as_ruled (rule_by layout.sockets program) (record { config = c; wire = own_wire; manner = plain; packets = own; verdicts = verdicts }) fs order run (is_exact_by layout.sockets program) is h))))

@@ -33,6 +33,7 @@ use xsk_prog::{Rule, XdpProgram};
 use xsk_sim::{Run, SimError, append_journal, simulate};
 use xsk_socket::Layout;
 use xsk_stats::report;
+use xsk_turns::Manner;
 use xsk_umem::{Frames, OutOfMemory, PacketList};
 
 /// What is written: a capture for each port, and the report.
@@ -143,7 +144,7 @@ fn run_lists(
         rule.verdict(packet, queue)
     });
     let wire = wire_of(wire);
-    match simulate(alloc, config, frames, lists, &attached, wire, order) {
+    match simulate(alloc, config, frames, lists, &attached, wire, order, Manner::plain()) {
         Ok(run) => Ok(run),
         Err(SimError::Stalled { round }) => Err(RunFailure::Stalled { round }),
         Err(SimError::OutOfMemory) => Err(RunFailure::OutOfMemory),

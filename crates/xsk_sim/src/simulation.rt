@@ -7,6 +7,7 @@ ghost use Rattle.xsk_model.specs.Opening.{AreFrames};
 ghost use Rattle.xsk_umem.specs.Frame.{Frame};
 ghost use Rattle.xsk_plain.specs.Left.{left_of};
 ghost use Rattle.xsk_plain.specs.Log.{calls_of, entries_of};
+ghost use Rattle.xsk_turns.specs.Mangling.{plain as plain_manner};
 ghost use Rattle.xsk_turns.specs.Owned.{IsSteady};
 ghost use Rattle.xsk_machine.specs.Workers.{AreNew};
 ghost use Rattle.xsk_driver.specs.Sent.{IsShort};
@@ -16,6 +17,7 @@ ghost use Rattle.xsk_prog.specs.Program.{Obeys};
 ghost use Rattle.xsk_turns.specs.Workers.{Setting};
 ghost use Rattle.xsk_sim.specs.Runs.{HasEnded, HasStalled, NeverStill, HasEndedUnder, HasStalledUnder};
 ghost use Rattle.xsk_sim.specs.Stalls.{StandStill};
+ghost use Rattle.xsk_still.specs.Still.{HasAmpleRoom};
 ghost use Rattle.xsk_sim.specs.Seats.{EachFrom, AreSeated, AreReady, HadRounds, HaveEnded, Sits, kept_lists, kept_figures, new_own};
 
 use crate::order::Order;
@@ -135,7 +137,8 @@ const STILL_ROUNDS: u64 = 64;
 /// driver's next call. Rounds are counted from 0. Each run ends or stands still (`laws::ends_or_stands_still`), and where there
 /// is no memory for the log of its calls, it is given up. A run that has ended, with no such round before, is a legal
 /// history in rounds in which each worker's own calls and replies are a whole run of its turns, and one that has stalled is such
-/// a history of all these rounds, in which those of some worker aren't.
+/// a history of all these rounds, in which those of some worker aren't. Where each ring has 32 entries or more, and each pair's pool
+/// 18 frames or more, it never stalls.
 pub fn simulate<F: Fn(&[u8], u32) -> Verdict>(
     alloc: Global,
     config: Config,
@@ -155,6 +158,7 @@ pub fn simulate<F: Fn(&[u8], u32) -> Verdict>(
     ensures ended { IfOk result (HasEndedUnder F.Fn program.now.rule program.now.decide wire manner config packets.now frames.items order) }
     ensures stalled { (round : ℕ) → result ≡ Err (SimError.Stalled round)
         → HasStalledUnder F.Fn program.now.rule program.now.decide wire manner config packets.now frames.items order round }
+    ensures goes_on { HasAmpleRoom config → manner ≡ plain_manner → (round : ℕ) → result ≡ Err (SimError.Stalled round) → ⊥ }
 {
     let shared = config.copy(alloc)?;
     let inputs = Inputs::split(alloc, &shared, packets)?;

@@ -1,6 +1,6 @@
 -- On each lane the items submitted are the first of those peeked, and at the end all of them; and there its RX ring was
 -- found empty, after both drivers had told that they have no further packet.
-use Rattle.std.proofs.Common.{◌≡◌, ℕ, ◌+◌, ◌<◌, Bool, true, false, cond, ◌&&◌, ◌||◌, eqb, Option, List, [], ◌∷◌, ◌++◌, length, map, drop, set, refl, sym, ap, ◌∙◌, subst, ⊎_elim, arith, append-nil, eq-eqb, ne_eqb, get_or-set_same, get_or-set_other, length-set}
+use Rattle.std.proofs.Common.{◌≡◌, ℕ, ◌+◌, ◌<◌, Bool, true, false, cond, ◌&&◌, ◌||◌, eqb, Option, List, [], ◌∷◌, ◌++◌, length, map, drop, set, refl, sym, ap, ◌∙◌, subst, ⊎_elim, arith, append-nil, eq-eqb, ne_eqb, get_or, get_or-set_same, get_or-set_other, length-set}
 use Rattle.std.proofs.Math.Bool.{and-false}
 use Rattle.std.proofs.lemmas.Bool.{cases_eq, and_parts}
 use Rattle.std.proofs.lemmas.List.{length-replicate}
@@ -8,12 +8,14 @@ use Rattle.xsk_turns.proofs.Object.{Geometry, Frame, Config, pool_of, batch_of, 
 use Rattle.xsk_turns.proofs.Calls.{Item, Told, with_told, Ring, Fill, Comp, Rx, Tx, Mark, RxDone, Gone, TxDone, Call, Submit, Peek, Swap, Look, Reply, Granted, Full, Submitted, Items, Empty, Released, Old}
 use Rattle.xsk_model.proofs.Folds.{part_of-push_same, part_of-push_other}
 use Rattle.xsk_model.specs.declared.call.Mark.TheVariants.{Kick}
+use Rattle.xsk_turns.specs.Script.{Script, Asks}
 use Rattle.xsk_turns.specs.Turns.{frames_in}
 use Rattle.xsk_turns.specs.AppLaw.{IsFront, AreAltered, LanesInOrder, LanesPassedOn, LanesAltered, NothingSentLate, DrainsRx}
 use Rattle.xsk_turns.specs.declared.manner.Manner.{Manner}
+use Rattle.xsk_turns.specs.Mangling.{plain}
 use Rattle.xsk_turns.proofs.Mangling.{given_altered, altered_append, altered_same}
 use Rattle.xsk_turns.specs.AppOwned.{IsApp}
-use Rattle.xsk_turns.specs.AppTurns.{AppKept, AppNoted, pair_of, rx_of, tx_of, lanes_of, home_of, both, is_set, pending_at, with_pending, given_on, passed_on, with_back, with_seen, with_gone, noted_first, app_turn, app_start_by, IsAppRunBy, IsWholeAppRunBy}
+use Rattle.xsk_turns.specs.AppTurns.{AppKept, AppNoted, pair_of, rx_of, tx_of, lanes_of, home_of, both, is_set, pending_at, with_pending, given_on, passed_on, with_back, with_seen, with_gone, noted_first, app_turn, app_start, app_start_by, IsAppRunBy, IsWholeAppRunBy}
 use Rattle.xsk_turns.proofs.AppMarks.{side_marks, draining, unseen_sides, none_unseen, other_mark, other_need, side_seen, side_unseen}
 use Rattle.xsk_turns.proofs.AppOwned.{none_pending}
 use Rattle.xsk_turns.proofs.AppPlaces.{rx_lane, tx_lane}
@@ -21,7 +23,7 @@ use Rattle.xsk_turns.proofs.Draining.{draining_told, same_unseen, when_found, fo
 use Rattle.xsk_turns.proofs.Owned.{peeked_none, none_submitted, other_submitted}
 use Rattle.xsk_turns.proofs.ReceivingLaws.{telling_told, and_off, now_told}
 use Rattle.xsk_turns.proofs.Walks.{Anything, meet_anything}
-use Rattle.xsk_turns.proofs.AppWalk.{Place, Lanes, Lane, Sides, Side, Ending, Looking, Waking, Looked, Kicking, TxTold, Family, is_need, busy_lane, busy_side, PeekRx, ReleaseRx, ReserveTx, SubmitTx, LookRxDone, LookGone, LookNeed, KickDriver, group, call_at, kept_before, rx_empty, rx_items, rx_released, tx_granted, tx_full, tx_submitted, comp_items, fill_submitted, looked_rx_done, told_tx_done, looked_gone, looked_need, kicked, point_of, reply_of, no_lanes, has_items, has_frames, looks, rests, begins, Said, AtCalls, AtEntries, AtPasses, IsLaw, at_end, of_run}
+use Rattle.xsk_turns.proofs.AppWalk.{Place, Lanes, Lane, Sides, Side, Ending, Looking, Waking, Looked, Kicking, TxTold, Family, is_need, busy_lane, busy_side, ReleaseRx, ReserveTx, SubmitTx, LookNeed, KickDriver, group, asked, call_at, kept_before, rx_empty, rx_items, rx_released, tx_granted, tx_full, tx_submitted, comp_items, fill_submitted, looked_rx_done, told_tx_done, looked_gone, looked_need, kicked, point_of, reply_of, no_lanes, has_items, has_frames, looks, rests, begins, Said, AtCalls, AtEntries, AtPasses, IsLaw, at_call, at_end, of_run}
 
 -- ---- what an entry leaves of a ring's items
 
@@ -78,8 +80,35 @@ pub record AtEnd (manner : Manner) (c : Config) (a : ℕ) (l : List Told) : Type
   pub all : (lane : ℕ) → lane < lanes_of c → AreAltered c.geometry manner.mangle (peeked_of (Rx (rx_of c a lane)) l) (submitted_of (Tx (tx_of c a lane)) l)
   pub drained : (lane : ℕ) → lane < lanes_of c → (draining c a lane l).empty ≡ true
 
+-- at each call also what was told, and, where it submits nothing, that what is pending is the rest of what was peeked
+abbrev pub SubmitsNone : Call → Type 0
+SubmitsNone (Submit r items) = ⊥
+SubmitsNone call = Unit {0}
+
+record AtCallBy (manner : Manner) (c : Config) (a : ℕ) (pending : List (List Item)) (tx_done : Bool) (call : Call) (l : List Told) : Type 0 where
+  pub lawful : Lawful manner c a l
+  pub told : (t : ℕ) → (telling_of (TxDone a) (Tx t) l).told ≡ tx_done
+  pub drained : tx_done ≡ true → (lane : ℕ) → lane < lanes_of c → (draining c a lane l).empty ≡ true
+  pub order : SubmitsNone call → (lane : ℕ) → lane < lanes_of c
+      → Follows c.geometry manner.mangle (submitted_of (Tx (tx_of c a lane)) l) (get_or pending lane []) (peeked_of (Rx (rx_of c a lane)) l)
+
+-- without changes
+pub record AtCall (c : Config) (a : ℕ) (pending : List (List Item)) (tx_done : Bool) (call : Call) (l : List Told) : Type 0 where
+  pub told : (t : ℕ) → (telling_of (TxDone a) (Tx t) l).told ≡ tx_done
+  pub drained : tx_done ≡ true → (lane : ℕ) → lane < lanes_of c → (draining c a lane l).empty ≡ true
+  pub order : SubmitsNone call → (lane : ℕ) → lane < lanes_of c → submitted_of (Tx (tx_of c a lane)) l ++ get_or pending lane [] ≡ peeked_of (Rx (rx_of c a lane)) l
+
 lawful : (manner : Manner) (c : Config) (a : ℕ) (noted : AppNoted) (upto : ℕ) (kept : AppKept) (l : List Told) → InOrder manner c a noted upto kept l → Lawful manner c a l
 lawful manner c a noted upto kept l h = record { fronts = λ lane k. (pending_at kept lane, h.order lane k); late = λ t. ap (λ s. s.late) (h.telling t) }
+
+at_call_of : (manner : Manner) (c : Config) (a : ℕ) (noted : AppNoted) (upto : ℕ) (kept : AppKept) (call : Call) (l : List Told) → InOrder manner c a noted upto kept l
+    → AtCallBy manner c a kept.pending kept.tx_done call l
+at_call_of manner c a noted upto kept call l h = record {
+  lawful = lawful manner c a noted upto kept l h;
+  told = λ t. ap (λ s. s.told) (h.telling t);
+  drained = λ done lane k. (h.over done lane k).1;
+  order = λ none lane k. h.order lane k;
+}
 
 at_last : (manner : Manner) (c : Config) (a : ℕ) (noted : AppNoted) (upto : ℕ) (kept : AppKept) (l : List Told) → kept.tx_done ≡ true → InOrder manner c a noted upto kept l → AtEnd manner c a l
 at_last manner c a noted upto kept l done h = record {
@@ -363,23 +392,23 @@ module _ (manner : Manner) (c : Config) (a : ℕ) (one : IsApp c a) where
   At place noted kept l = InOrder manner c a noted (lanes_of c) kept l
 
   abbrev Asked : Said
-  Asked kept call l = Lawful manner c a l
+  Asked kept call l = AtCallBy manner c a kept.pending kept.tx_done call l
 
   abbrev Ended : AppKept → List Told → Type 0
   Ended kept l = AtEnd manner c a l
 
   -- so at each place of a turn, and it stays so as drivers are woken
-  lawful_at : (place : Place) (noted : AppNoted) (kept : AppKept) (l : List Told) → At place noted kept l → Lawful manner c a l
-  lawful_at (Lanes lane) noted kept l h = lawful manner c a noted lane kept l h
-  lawful_at (Lane lane due) noted kept l h = lawful manner c a noted (lane + 1) kept l h.0
-  lawful_at (Sides side) noted kept l h = lawful manner c a noted (lanes_of c) kept l h
-  lawful_at (Side side due) noted kept l h = lawful manner c a noted (lanes_of c) kept l h
-  lawful_at Ending noted kept l h = lawful manner c a noted (lanes_of c) kept l h
-  lawful_at (Looking side) noted kept l h = lawful manner c a none_noted 0 kept l h
-  lawful_at TxTold noted kept l h = lawful manner c a none_noted 0 kept l h
-  lawful_at (Waking place need pair) noted kept l h = lawful_at place noted kept l h
-  lawful_at (Looked place need pair n) noted kept l h = lawful_at place noted kept l h
-  lawful_at (Kicking place pair) noted kept l h = lawful_at place noted kept l h
+  asked_at : (place : Place) (noted : AppNoted) (kept : AppKept) (call : Call) (l : List Told) → At place noted kept l → Asked kept call l
+  asked_at (Lanes lane) noted kept call l h = at_call_of manner c a noted lane kept call l h
+  asked_at (Lane lane due) noted kept call l h = at_call_of manner c a noted (lane + 1) kept call l h.0
+  asked_at (Sides side) noted kept call l h = at_call_of manner c a noted (lanes_of c) kept call l h
+  asked_at (Side side due) noted kept call l h = at_call_of manner c a noted (lanes_of c) kept call l h
+  asked_at Ending noted kept call l h = at_call_of manner c a noted (lanes_of c) kept call l h
+  asked_at (Looking side) noted kept call l h = at_call_of manner c a none_noted 0 kept call l h
+  asked_at TxTold noted kept call l h = at_call_of manner c a none_noted 0 kept call l h
+  asked_at (Waking place need pair) noted kept call l h = asked_at place noted kept call l h
+  asked_at (Looked place need pair n) noted kept call l h = asked_at place noted kept call l h
+  asked_at (Kicking place pair) noted kept call l h = asked_at place noted kept call l h
 
   abbrev Stays : List Told → List Told → Type 0
   Stays l m = (noted : AppNoted) (upto : ℕ) (kept : AppKept) → InOrder manner c a noted upto kept l → InOrder manner c a noted upto kept m
@@ -397,15 +426,14 @@ module _ (manner : Manner) (c : Config) (a : ℕ) (one : IsApp c a) where
   stays (Kicking place pair) noted kept l m on h = stays place noted kept l m on h
 
   calls : AtCalls c a At Asked
-  calls (PeekRx lane) noted kept l known h = lawful manner c a noted lane kept l h
-  calls (ReleaseRx lane n) noted kept l known h = lawful manner c a noted (lane + 1) kept l h.0
-  calls (ReserveTx lane) noted kept l known h = lawful manner c a noted (lane + 1) kept l h.0
-  calls (SubmitTx lane) noted kept l known h = lawful manner c a noted (lane + 1) kept l h.0
-  calls (LookRxDone side) noted kept l known h = lawful manner c a none_noted 0 kept l h
-  calls (LookGone side) noted kept l known h = lawful manner c a none_noted 0 kept l h
-  calls (LookNeed place need pair) noted kept l known h = lawful_at place noted kept l h
-  calls (KickDriver place pair) noted kept l known h = lawful_at place noted kept l h
-  calls p noted kept l known h = lawful manner c a noted (lanes_of c) (kept_before p kept) l h
+  calls (ReleaseRx lane n) noted kept l known h = at_call_of manner c a noted (lane + 1) kept _ l h.0
+  calls (ReserveTx lane) noted kept l known h = at_call_of manner c a noted (lane + 1) kept _ l h.0
+  calls (SubmitTx lane) noted kept l known h =
+      let now = at_call_of manner c a noted (lane + 1) kept (call_at c a (SubmitTx lane) kept) l h.0 in
+      record { lawful = now.lawful; told = now.told; drained = now.drained; order = λ none. absurd none }
+  calls (LookNeed place need pair) noted kept l known h = asked_at place noted kept _ l h
+  calls (KickDriver place pair) noted kept l known h = asked_at place noted kept _ l h
+  calls p noted kept l known h = asked_at (asked c a p kept).0 noted (kept_before p kept) (call_at c a p kept) l h
 
   entries : AtEntries c a Anything At Asked
   entries (rx_empty lane) noted kept l known h asked q = found_empty manner c a noted kept l lane (batch_of c) known.1 known.2 h
@@ -462,7 +490,10 @@ module _ (manner : Manner) (c : Config) (a : ℕ) (one : IsApp c a) (l : List To
   along : IsAppRunBy manner c a l → Lawful manner c a l
   along run =
       of_run c a one Anything (At manner c a one) (Asked manner c a one) (Ended manner c a one) (law manner c a one) (app_start_by manner c) first l (meet_anything (app_turn c a) (app_turn c a (app_start_by manner c)) [] l) (Lawful manner c a)
-      (λ kept m h. lawful manner c a (noted_first kept) 0 kept m h) (λ kept call m h. h) (λ kept m h. h.lawful) run
+      (λ kept m h. lawful manner c a (noted_first kept) 0 kept m h) (λ kept call m h. h.lawful) (λ kept m h. h.lawful) run
+
+  at_calls : (kept : AppKept) (call : Call) (rest : Reply → Script AppKept) → Asks (app_turn c a) (app_start_by manner c) l kept call rest → AtCallBy manner c a kept.pending kept.tx_done call l
+  at_calls = at_call c a one Anything (At manner c a one) (Asked manner c a one) (Ended manner c a one) (law manner c a one) (app_start_by manner c) first l (meet_anything (app_turn c a) (app_turn c a (app_start_by manner c)) [] l)
 
   whole : IsWholeAppRunBy manner c a l → AtEnd manner c a l
   whole run = at_end c a one Anything (At manner c a one) (Asked manner c a one) (Ended manner c a one) (law manner c a one) (app_start_by manner c) first l (meet_anything (app_turn c a) (app_turn c a (app_start_by manner c)) [] l) run.0 run.1
@@ -488,3 +519,17 @@ lanes_passed_on manner c a l lane none one run h =
 
 pub drains_rx : DrainsRx
 drains_rx manner c a l lane one run h = (whole manner c a one l run).drained lane h
+
+-- what holds at each call without changes
+pub lanes_at : (c : Config) (a : ℕ) (l : List Told) (kept : AppKept) (call : Call) (rest : Reply → Script AppKept) → IsApp c a
+    → Asks (app_turn c a) (app_start c) l kept call rest → AtCall c a kept.pending kept.tx_done call l
+lanes_at c a l kept call rest one asks =
+    let now = at_calls plain c a one l kept call rest asks in
+    record {
+      told = now.told;
+      drained = now.drained;
+      order = λ none lane k.
+          let order = now.order none lane k in
+          let same : submitted_of (Tx (tx_of c a lane)) l ≡ order.front = altered_same c.geometry order.front (submitted_of (Tx (tx_of c a lane)) l) order.altered in
+          ap (λ xs. xs ++ get_or kept.pending lane []) same ∙ order.whole;
+    }

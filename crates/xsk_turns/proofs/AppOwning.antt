@@ -13,10 +13,10 @@ use Rattle.xsk_turns.proofs.LegalCalls.{fed, legal_reserve, legal_peek, legal_re
 use Rattle.xsk_turns.specs.Script.{Script, Asks}
 use Rattle.xsk_turns.specs.Turns.{frames_in}
 use Rattle.xsk_turns.specs.Owned.{AllFit, frame_numbers}
-use Rattle.xsk_turns.specs.AppTurns.{AppKept, pair_of, rx_of, tx_of, lanes_of, home_of, pending_at, with_pending, given_on, passed_on, back_at, with_back, app_turn, app_start_by}
-use Rattle.xsk_turns.specs.Mangling.{frames_taken, mangled, given_by, back_by, number_by}
+use Rattle.xsk_turns.specs.AppTurns.{AppKept, pair_of, rx_of, tx_of, lanes_of, home_of, pending_at, with_pending, given_on, passed_on, back_at, with_back, app_turn, app_start, app_start_by}
+use Rattle.xsk_turns.specs.Mangling.{plain, frames_taken, mangled, given_by, back_by, number_by}
 use Rattle.xsk_turns.specs.declared.manner.Manner.{Manner}
-use Rattle.xsk_turns.specs.AppOwned.{IsApp, HasOwnFrames, AppOwned, AppKeepsFrames, AppCallsLegal, AppKeepsFramesAtEnd}
+use Rattle.xsk_turns.specs.AppOwned.{IsApp, HasOwnFrames, AppKeepsFrames, AppCallsLegal, AppKeepsFramesAtEnd}
 use Rattle.xsk_turns.proofs.AppGroups.{with_back-again, group_some, group_front, group_few}
 use Rattle.xsk_turns.proofs.AppOwned.{AppHas, IsBackFrame, rx_to_tx, tx_to_tx, back_frames, fill_item, numbers-home, times-app_numbers, app_owned, app_told, has_pending, has_back, has_flags, has_none}
 use Rattle.xsk_turns.proofs.AppPlaces.{AppSeats, app_seats, side_below}
@@ -46,7 +46,7 @@ module _ (c : Config) (a : ℕ) (one : IsApp c a) where
   Answers kept l call reply = Fitting c kept l call reply
 
   abbrev Asked : AppKept → Call → List Told → Type 0
-  Asked kept call l = AppOwned kept call l × (HasOwnFrames c a l → IsLegal c l who call)
+  Asked kept call l = AppHas c kept (numbers (submitted call)) l × (HasOwnFrames c a l → IsLegal c l who call)
 
   -- a driver that it may wake, where all frames that it has had are at home with it
   abbrev MayWake : ℕ → List Told → Type 0
@@ -88,7 +88,7 @@ module _ (c : Config) (a : ℕ) (one : IsApp c a) where
   beside_on TxTold kept l call reply off h = tt
 
   quiet : (kept : AppKept) (call : Call) (l : List Told) → submitted call ≡ [] → Has kept l → IsLegal c l who call → Asked kept call l
-  quiet kept call l none has legal = (app_owned c kept call l (subst (λ xs. AppHas c kept (numbers xs) l) (sym none) has), λ own. legal)
+  quiet kept call l none has legal = (subst (λ xs. AppHas c kept (numbers xs) l) (sym none) has, λ own. legal)
 
   told : (kept : AppKept) (call : Call) (reply : Reply) (l : List Told) → submitted call ≡ [] → taken reply ≡ [] → Has kept l → Has kept (with_told l call reply)
   told kept call reply l none nothing has = app_told c kept call reply l nothing (subst (λ xs. AppHas c kept (numbers xs) l) (sym none) has)
@@ -132,17 +132,17 @@ module _ (c : Config) (a : ℕ) (one : IsApp c a) where
           let counts : (m : ℕ) → times m (frame_numbers all) + times m (numbers out) ≡ times m (frame_numbers old) + times m (numbers items) =
           λ m. omega (arith, times-frames m old taken, times-mangled g m every n items) in
           let few = all_few all back (λ m.
-              omega (
-                arith,
-                counts m,
-                has.counts m,
-                has.once m,
-                times-flat_map-set m frame_numbers kept.back side [] [] (omega (arith, within, has.sides)),
-                times-flat_map-set m numbers kept.pending lane [] [] (omega (arith, below, has.lanes)),
-              )) in
+          omega (
+            arith,
+            counts m,
+            has.counts m,
+            has.once m,
+            times-flat_map-set m frame_numbers kept.back side [] [] (omega (arith, within, has.sides)),
+            times-flat_map-set m numbers kept.pending lane [] [] (omega (arith, below, has.lanes)),
+          )) in
           let whole : take 4096 all ≡ all = take_all 4096 all few in
           let now = has_back c (with_pending kept lane []) (numbers items) (numbers out) l l side (take 4096 all) within (subst (All (IsBackFrame g)) (sym whole) back)
-              (λ m. omega (arith, counts m, ap (λ (fs : List Frame). times m (frame_numbers fs)) whole)) has.once (leaves lane kept l below has) in
+          (λ m. omega (arith, counts m, ap (λ (fs : List Frame). times m (frame_numbers fs)) whole)) has.once (leaves lane kept l below has) in
           record { lanes = now.lanes; sides = now.sides; items = now.items; few = now.few; frames = now.frames; once = now.once; counts = now.counts }
 
   module _ (side : ℕ) (frame : Frame) (frames : List Frame) (kept : AppKept) (l : List Told) (below : side < 2) (has : Has (with_back kept side (frame ∷ frames)) l) where
@@ -214,21 +214,21 @@ module _ (c : Config) (a : ℕ) (one : IsApp c a) where
       let lawful = All-weaker (IsItemOn c.geometry (Tx 0)) (IsItemOn c.geometry (Tx t)) (tx_to_tx c.geometry 0 t) (given_on c lane kept)
       (given_lawful c.geometry 0 kept.manner.mangle kept.number (pending_at kept lane) one.geometry (h.0.items lane)) in
       let count = length-given c.geometry kept.manner.mangle kept.number (pending_at kept lane) in (
-        app_owned c (passed_on c lane kept) (call_at c a (SubmitTx lane) kept) l out,
+        out,
         λ own. record { caller = seats.caller; known = seat.0; role = seat.1; counted = (omega (arith, count, h.1.0), omega (arith, count, h.0.few lane), omega (arith, count, h.1.1)); frames = λ m. omega (arith, out.counts m); items = lawful; packets = tt; feeds = fed c one.steady.closes l (Tx t) },
       )
   calls (PeekComp side) noted kept l known h = let seat = seats.comp side known.0 in quiet kept _ l refl h.0 (legal_peek c who l seats.caller (Comp (pair_of c a side)) (batch_of c) seat.0 seat.1 seats.batch_some seats.batch_few)
   calls (ReleaseComp side n) noted kept l known h = let seat = seats.comp side known in quiet kept _ l refl h.0 (legal_release c who l seats.caller (Comp (pair_of c a side)) n seat.0 seat.1 h.1.0 h.1.1 h.1.2)
   calls (ReserveFill side frame frames) noted kept l known h =
       let below = home_below side frame frames kept l known h.0 in (
-        app_owned c (with_back kept side (frame ∷ frames)) (call_at c a (ReserveFill side frame frames) kept) l h.0,
+        h.0,
         λ own. legal_reserve c who l seats.caller _ _ below (home_seat side frame frames kept l known h.0 own) (some side frame frames kept l known h.0) (few side frame frames kept l known h.0) tt,
       )
   calls (SubmitFill side frame frames) noted kept l known h =
       let below = home_below side frame frames kept l known h.0 in
       let out = gives side frame frames kept l known h.0 in
       let counted = counted side frame frames kept l known h.0 in (
-        app_owned c (with_back kept side (drop (length (group c frame frames)) (frame ∷ frames))) (call_at c a (SubmitFill side frame frames) kept) l out,
+        out,
         λ own. record {
           caller = seats.caller;
           known = below;
@@ -245,7 +245,7 @@ module _ (c : Config) (a : ℕ) (one : IsApp c a) where
   calls (LookGone side) noted kept l known h = quiet kept _ l refl h.0 (legal_look c who l seats.caller (Gone (pair_of c a side)) (seats.comp side known.0).0)
   calls (LookNeed place need pair) noted kept l known h = quiet kept _ l refl h.0 (legal_look c who l seats.caller need h.1.1)
   calls (KickDriver place pair) noted kept l known h =
-      (app_owned c kept (Swap (Kick pair) 1) l h.0, λ own. legal_swap c who l seats.caller (Kick pair) 1 h.1.1.0 (inr (h.1.1.1 own), tt) (omega arith))
+      (h.0, λ own. legal_swap c who l seats.caller (Kick pair) 1 h.1.1.0 (inr (h.1.1.1 own), tt) (omega arith))
 
   entries : AtEntries c a Answers At Asked
   entries (rx_items lane items) noted kept l known h asked fresh =
@@ -307,8 +307,13 @@ module _ (m : Manner) (c : Config) (a : ℕ) (one : IsApp c a) (l : List Told) (
   asked_at : (kept : AppKept) (call : Call) (rest : Reply → Script AppKept) → Asks (app_turn c a) (app_start_by m c) l kept call rest → Asked c a one kept call l
   asked_at = at_call c a one (Answers c a one) (At c a one) (Asked c a one) (Has c a one) (law c a one) (app_start_by m c) (has_none m c, tt) l fits
 
+-- what it has at each call
+pub has_at : (c : Config) (a : ℕ) (l : List Told) (kept : AppKept) (call : Call) (rest : Reply → Script AppKept) → IsApp c a → AllFit c [] l
+    → Asks (app_turn c a) (app_start c) l kept call rest → AppHas c kept (numbers (submitted call)) l
+has_at c a l kept call rest one fit asks = (asked_at plain c a one l fit kept call rest asks).0
+
 pub app_keeps_frames : AppKeepsFrames
-app_keeps_frames m c a l kept call rest one fit asks = (asked_at m c a one l fit kept call rest asks).0
+app_keeps_frames m c a l kept call rest one fit asks = app_owned c kept call l (asked_at m c a one l fit kept call rest asks).0
 
 pub app_calls_legal : AppCallsLegal
 app_calls_legal m c a l kept call rest one own fit asks = (asked_at m c a one l fit kept call rest asks).1 own
