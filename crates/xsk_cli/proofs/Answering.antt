@@ -90,8 +90,8 @@ module _ (plan : Plan) (old new : Moment) (inputs : List (List ℕ)) (told : Are
   -- ---- completeness
 
   not_bad : (work : Work) → AreTaken work inputs → (port : ℕ) (cause : Cause) → IsOutcome work inputs (bad port cause) → ⊥
-  not_bad (Simulate layout program wire order None journal) taken port cause h = bad_not_captures inputs port cause taken.1.0 h.1 taken.1.1
-  not_bad (Simulate layout program wire order (Some number) journal) taken port cause h = omega (arith, h.1.known, ap length taken)
+  not_bad (Simulate layout program wire mangle order None journal) taken port cause h = bad_not_captures inputs port cause taken.1.0 h.1 taken.1.1
+  not_bad (Simulate layout program wire mangle order (Some number) journal) taken port cause h = omega (arith, h.1.known, ap length taken)
   not_bad (Generate number) taken port cause h = omega (arith, h.1.known, ap length taken)
 
   none_passed : (lists : List (List (List ℕ))) (excess : Excess) → excess_of lists ≡ Some excess → excess_of lists ≡ None → ⊥
@@ -101,14 +101,14 @@ module _ (plan : Plan) (old new : Moment) (inputs : List (List ℕ)) (told : Are
   made_not_passed lists number ports excess few are is = none_passed lists excess is (ap excess_of are ∙ made_within number ports few)
 
   not_passed : (work : Work) → fault_in work ≡ None → AreTaken work inputs → (excess : Excess) → IsOutcomeIn work inputs (passed excess) → ⊥
-  not_passed (Simulate layout program wire order None journal) accepted taken excess h =
+  not_passed (Simulate layout program wire mangle order None journal) accepted taken excess h =
       none_passed h.0 excess h.2 (ap excess_of (same_captures inputs h.0 taken.1.0 h.1 taken.1.1) ∙ taken.1.2)
-  not_passed (Simulate layout program wire order (Some number) journal) accepted taken excess h = made_not_passed h.0 number layout.ports excess (few_ports layout accepted) h.1.1 h.2
+  not_passed (Simulate layout program wire mangle order (Some number) journal) accepted taken excess h = made_not_passed h.0 number layout.ports excess (few_ports layout accepted) h.1.1 h.2
   not_passed (Generate number) accepted taken excess h = made_not_passed h.0 number 1 excess (omega arith) h.1.1 h.2
 
   all_short : (work : Work) → AreTaken work inputs → (port : ℕ) → port < length inputs → length (bytes_of inputs port) ≤ 34603032
-  all_short (Simulate layout program wire order None journal) taken port known = taken.0 port known
-  all_short (Simulate layout program wire order (Some number) journal) taken port known = absurd (omega (arith, known, ap length taken))
+  all_short (Simulate layout program wire mangle order None journal) taken port known = taken.0 port known
+  all_short (Simulate layout program wire mangle order (Some number) journal) taken port known = absurd (omega (arith, known, ap length taken))
   all_short (Generate number) taken port known = absurd (omega (arith, known, ap length taken))
 
   mine : (status : Status) (outcome : Outcome) → (ends : Ends plan old new status) → ends.reach.ends ≡ length plan.inputs → IsOutcome plan.work ends.inputs outcome → IsOutcome plan.work inputs outcome

@@ -1,5 +1,5 @@
 -- Packets that are made are within the limits, and may be written.
-use Rattle.std.proofs.Common.{◌≡◌, ℕ, zero, suc, ◌+◌, ◌*◌, ◌≤◌, List, [], ◌∷◌, ◌++◌, get_or, length, map, refl, ap, ◌∙◌, subst, sym, arith, le-ltb, None, Some, Bool}
+use Rattle.std.proofs.Common.{◌≡◌, ℕ, zero, suc, ◌+◌, ◌*◌, ◌≤◌, List, [], ◌∷◌, ◌++◌, get_or, length, map, refl, ap, ◌∙◌, subst, sym, arith, le-ltb, None, Some, Bool, Option}
 use Rattle.std.specs.Prelude.{All, sum_by}
 use Rattle.std.specs.List.{concat, range_with_len}
 use Rattle.std.proofs.lemmas.List.{map-append}
@@ -28,8 +28,8 @@ few_ports layout accepted = omega (arith, (fits layout accepted).ports)
 
 -- a command reads few inputs
 pub few_read : (work : Work) → fault_in work ≡ None → read_by work ≤ 4
-few_read (Simulate layout program wire order None journal) accepted = few_ports layout accepted
-few_read (Simulate layout program wire order (Some number) journal) accepted = omega arith
+few_read (Simulate layout program wire mangle order None journal) accepted = few_ports layout accepted
+few_read (Simulate layout program wire mangle order (Some number) journal) accepted = omega arith
 few_read (Generate number) accepted = omega arith
 
 -- ---- limits
@@ -81,11 +81,11 @@ made_at number (made ∷ others) list at is =
 
 -- ---- the work's packets
 
-pub untaken_makes : (layout : Layout) (program : Program) (wire : Wire) (order : ℕ) (journal : Bool) (inputs : List (List ℕ)) (failure : RunFailure) → AreUntaken inputs failure → MakesNone (Simulate layout program wire order None journal) inputs failure
-untaken_makes layout program wire order journal inputs (Bad port cause) h = h
-untaken_makes layout program wire order journal inputs (Excessive excess) h = h
-untaken_makes layout program wire order journal inputs (Stalls round) h = absurd h
-untaken_makes layout program wire order journal inputs NoMemory h = h
+pub untaken_makes : (layout : Layout) (program : Program) (wire : Wire) (mangle : Option ℕ) (order : ℕ) (journal : Bool) (inputs : List (List ℕ)) (failure : RunFailure) → AreUntaken inputs failure → MakesNone (Simulate layout program wire mangle order None journal) inputs failure
+untaken_makes layout program wire mangle order journal inputs (Bad port cause) h = h
+untaken_makes layout program wire mangle order journal inputs (Excessive excess) h = h
+untaken_makes layout program wire mangle order journal inputs (Stalls round) h = absurd h
+untaken_makes layout program wire mangle order journal inputs NoMemory h = h
 
 pub none_of : {X : Type 0} (xs : List X) → length xs ≡ 0 → xs ≡ []
 none_of [] none = refl

@@ -184,12 +184,12 @@ check_shown plan old new (Some o) port ends = ends.comes
 
 -- there is a text for each port
 pub shown_count : (work : Work) (lists : List (List (List ℕ))) (o : OutcomeShown) (texts : Written) → AreTextsFrom work lists o texts → length texts.outputs ≡ written_by work
-shown_count (Simulate layout program wire order number journal) lists o texts are = ap length are.sent ∙ length-map-range_with_len (λ port. written (sent_from layout o.history port)) 0 layout.ports
+shown_count (Simulate layout program wire mangle order number journal) lists o texts are = ap length are.sent ∙ length-map-range_with_len (λ port. written (sent_from layout o.history port)) 0 layout.ports
 shown_count (Generate number) lists o texts are = absurd are
 
 -- for few ports
 pub few_written : (work : Work) → fault_in work ≡ None → written_by work ≤ 4
-few_written (Simulate layout program wire order number journal) accepted = few_ports layout accepted
+few_written (Simulate layout program wire mangle order number journal) accepted = few_ports layout accepted
 few_written (Generate number) accepted = omega arith
 
 -- no memory for the run, or for its texts

@@ -69,7 +69,7 @@ Answers work outcome status = Unit {0}
 
 -- captures within the limits, where captures are read
 abbrev pub AreTaken : Work → List (List ℕ) → Type 0
-AreTaken (Simulate layout program wire order None journal) inputs = AreShort inputs (length inputs) × ((lists : List (List (List ℕ))) × AreCaptures inputs lists × (excess_of lists ≡ None))
+AreTaken (Simulate layout program wire mangle order None journal) inputs = AreShort inputs (length inputs) × ((lists : List (List (List ℕ))) × AreCaptures inputs lists × (excess_of lists ≡ None))
 AreTaken work inputs = inputs ≡ []
 
 abbrev pub NoneRose : (Kind → Stream → ℕ) → (Kind → Stream → ℕ) → Type 0

@@ -41,12 +41,12 @@ plan_in plan = record { inputs = map (λ name. name.now) plan.inputs.now; output
 
 -- for how many ports captures are read, and for how many they are written
 abbrev pub read_by : Work → ℕ
-read_by (Simulate layout program wire order None journal) = layout.ports
-read_by (Simulate layout program wire order (Some number) journal) = 0
+read_by (Simulate layout program wire mangle order None journal) = layout.ports
+read_by (Simulate layout program wire mangle order (Some number) journal) = 0
 read_by (Generate number) = 0
 
 abbrev pub written_by : Work → ℕ
-written_by (Simulate layout program wire order number journal) = layout.ports
+written_by (Simulate layout program wire mangle order number journal) = layout.ports
 written_by (Generate number) = 1
 
 -- a plan whose work is accepted, with as many files as it wants
@@ -133,10 +133,10 @@ IsRefusal port bytes NoMemory = Unit {0}
 IsRefusal port bytes failure = ⊥
 
 -- why a run of packets gives nothing
-abbrev pub FailsRunning : Layout → Program → Wire → ℕ → List (List (List ℕ)) → RunFailure → Type 0
-FailsRunning layout program wire order lists (Stalls round) = HasStalled (setting_of layout program wire lists) (frames_of layout) order round
-FailsRunning layout program wire order lists NoMemory = Unit {0}
-FailsRunning layout program wire order lists failure = ⊥
+abbrev pub FailsRunning : Layout → Program → Wire → Option ℕ → ℕ → List (List (List ℕ)) → RunFailure → Type 0
+FailsRunning layout program wire mangle order lists (Stalls round) = HasStalled (setting_of layout program wire mangle lists) (frames_of layout) order round
+FailsRunning layout program wire mangle order lists NoMemory = Unit {0}
+FailsRunning layout program wire mangle order lists failure = ⊥
 
 -- no run was made
 abbrev pub IsBeforeRun : RunFailure → Type 0
