@@ -15,3 +15,4 @@ pub mod Outputs
 pub mod Counting
 pub mod Planning
 pub mod Lending
+pub mod Ample
