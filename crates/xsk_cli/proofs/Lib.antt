@@ -15,3 +15,6 @@ pub mod Outputs
 pub mod Counting
 pub mod Planning
 pub mod Lending
+pub mod Auditing
+pub mod Reports
+pub mod Journals

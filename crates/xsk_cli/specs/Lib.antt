@@ -9,3 +9,4 @@ pub mod Ends
 pub mod Steps
 pub mod Forward
 pub mod Lent
+pub mod Journals
