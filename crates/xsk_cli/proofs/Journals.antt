@@ -51,7 +51,7 @@ rounds_rise Whole callers order (suc round) h rounds are =
 
 -- ---- entries with their rounds
 
-timed_from : List Entry → List Entry → List Timed
+abbrev timed_from : List Entry → List Entry → List Timed
 timed_from past [] = []
 timed_from past (e ∷ es) = record { round = round_of past e; entry = e } ∷ timed_from (past ++ e ∷ []) es
 
@@ -70,11 +70,11 @@ falls_from least most past (e ∷ es) few rises = (rises.0, omega (arith, few, r
 -- ---- runs
 
 module _ (s : Setting) (frames : List Frame) (order : ℕ) (run : Shown) (ended : HasEnded s frames order run) where
-  timed : List Timed
+  abbrev timed : List Timed
   timed = timed_from [] ended.history
 
   never_falls : NeverFalls 0 timed
-  never_falls = falls_from 0 ended.count [] ended.history (let few : ended.count ≤ 2 ^ 64 = ended.few in few)
+  never_falls = falls_from 0 ended.count [] ended.history (omega (arith, ended.few))
       (rounds_rise (IsWholeRun s) (callers_of s.config) order ended.count ended.history (rounds_of ended.history) (entries_stand_in_rounds s frames order ended.count ended.history ended.is))
 
   length_timed : length timed ≡ length ended.history

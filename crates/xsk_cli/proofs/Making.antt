@@ -1,6 +1,6 @@
 -- Packets that are made are within the limits, and may be written.
 use Rattle.std.proofs.Common.{◌≡◌, ℕ, zero, suc, ◌+◌, ◌*◌, ◌≤◌, List, [], ◌∷◌, ◌++◌, get_or, length, map, refl, ap, ◌∙◌, subst, sym, arith, le-ltb, None, Some, Bool}
-use Rattle.std.specs.Prelude.{All, sum_by, Result, Err, IfErr}
+use Rattle.std.specs.Prelude.{All, sum_by, Result, Ok, Err, IfErr}
 use Rattle.std.specs.List.{concat, range_with_len}
 use Rattle.std.proofs.lemmas.List.{map-append}
 use Rattle.std.proofs.lemmas.List.FromFn.{sum_by-map-range_with_len_more}
@@ -11,9 +11,9 @@ use Rattle.xsk_gen.proofs.Sizes.{all_first, bytes_first, length-first, length-pa
 use Rattle.xsk_socket.specs.declared.layout.Layout.{Layout}
 use Rattle.xsk_socket.specs.Layout.{fault_of}
 use Rattle.xsk_socket.proofs.Accepted.{fits}
-use Rattle.xsk_cli.specs.Judged.{AreShort, AreWithin, packets_in, bytes_in, excess_of, most_of}
+use Rattle.xsk_cli.specs.Judged.{bytes_of, AreShort, AreWithin, packets_in, bytes_in, excess_of, most_of}
 use Rattle.xsk_cli.specs.Outcome.{listed, made_lists, Written, AreListsOf, AreMadeOf, AreTextsBy, IsOnPackets}
-use Rattle.xsk_cli.specs.Steps.{AreUntaken, FailsMaking, MakesNone, lists_in, read_by}
+use Rattle.xsk_cli.specs.Steps.{AreUntaken, FailsAudit, FailsMaking, MakesNone, lists_in, read_by}
 use Rattle.xsk_cli.specs.Words.{fault_in}
 use Rattle.xsk_cli.specs.declared.failure.RunFailure.{RunFailure}
 use Rattle.xsk_cli.specs.declared.failure.RunFailure.TheVariants.{BadCapture as Bad, TooMuch as Excessive, Stalled as Stalls, OutOfMemory as NoMemory, NotLegal as Breaks}
@@ -132,3 +132,15 @@ packets_made (Audit layout) inputs lists texts are within is = absurd are
 -- an answer with such a failure
 pub answer_makes : {A : Type 0} (answer : Result A RunFailure) (failure : RunFailure) (work : Work) (inputs : List (List ℕ)) → answer ≡ Err failure → MakesNone work inputs failure → IfErr answer (MakesNone work inputs)
 answer_makes answer failure work inputs is makes = subst (λ r. IfErr r (MakesNone work inputs)) (sym is) makes
+
+-- why an audit gives nothing
+audit_fails : (layout : Layout) (inputs : List (List ℕ)) (failure : RunFailure) → AreWithin (most_of (Audit layout)) inputs (length inputs) → FailsAudit layout (bytes_of inputs 0) failure → MakesNone (Audit layout) inputs failure
+audit_fails layout inputs (Bad at cause) within h = absurd h
+audit_fails layout inputs (Excessive excess) within h = absurd h
+audit_fails layout inputs (Stalls round) within h = absurd h
+audit_fails layout inputs NoMemory within h = tt
+audit_fails layout inputs (Breaks line) within h = (within, h)
+
+pub audit_makes : {A : Type 0} (answer : Result A RunFailure) (layout : Layout) (inputs : List (List ℕ)) → AreWithin (most_of (Audit layout)) inputs (length inputs) → IfErr answer (FailsAudit layout (bytes_of inputs 0)) → IfErr answer (MakesNone (Audit layout) inputs)
+audit_makes (Ok made) layout inputs within h = tt
+audit_makes (Err failure) layout inputs within h = audit_fails layout inputs failure within h

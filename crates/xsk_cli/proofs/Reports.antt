@@ -1,5 +1,5 @@
 -- A report is passed over where a journal is looked for: each of its lines begins with a letter.
-use Rattle.std.proofs.Common.{◌≡◌, ℕ, ◌×◌, List, ◌++◌, true, refl, length}
+use Rattle.std.proofs.Common.{◌≡◌, ℕ, List, ◌++◌, true, refl, length}
 use Rattle.std.specs.Prelude.{codes}
 use Rattle.std.specs.Fmt.{decimal}
 use Rattle.std.specs.List.{range_with_len, slice_index_or}
@@ -12,7 +12,6 @@ use Rattle.xsk_turns.specs.declared.wire.Wire.{Wire}
 use Rattle.xsk_turns.specs.declared.wire.Wire.TheVariants.{Wait, Drop}
 use Rattle.xsk_machine.specs.declared.figures.DriverFigures.{DriverFigures}
 use Rattle.xsk_machine.specs.declared.figures.Figures.{Figures}
-use Rattle.xsk_stats.specs.declared.totals.Statistics.{Statistics}
 use Rattle.xsk_stats.specs.Report.{numbered, at_queue, wire_word, setting_line, calls_line, of_kind, driver_line, pair_line, socket_line, socket_lines, totals_of, total_line, figures_at, lines_of, report_text}
 
 -- ---- texts without a line feed
@@ -97,9 +96,10 @@ socket-passed pair counters class =
     let body = with_number invalid (codes " tx_ring_empty_descs ") (slice_index_or counters.tx_ring_empty_descs class 0) refl in
     passed-line body.0 refl body.1
 
-total-passed : (total : Statistics) → IsPassed (total_line total)
+total-passed : (classes : ℕ) (drivers : List DriverFigures) → IsPassed (total_line (totals_of classes drivers))
 unfolding numbered
-total-passed total =
+total-passed classes drivers =
+    let total = totals_of classes drivers in
     let first = begin (codes "total rx_dropped ") total.rx_dropped refl in
     let received = with_number first (codes " rx_invalid_descs ") total.rx_invalid_descs refl in
     let sent = with_number received (codes " tx_invalid_descs ") total.tx_invalid_descs refl in
@@ -132,4 +132,4 @@ report-passed c figures =
     (all-passed driver_line c figures.drivers driver-passed))
     (all-passed (λ pair driver. pair_line pair driver.counters) c figures.drivers (λ pair driver. pair-passed pair driver.counters)))
     (all-passed (λ pair driver. socket_lines (classes_of c) pair driver.counters) c figures.drivers (λ pair driver. sockets-passed (classes_of c) pair driver.counters)))
-    (total-passed (totals_of (classes_of c) figures.drivers))
+    (total-passed (classes_of c) figures.drivers)

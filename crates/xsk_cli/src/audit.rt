@@ -1,6 +1,5 @@
 //! The command `audit`: whether a journal is that of a legal history, for the configuration that the words ask for.
-ghost use Rattle.std.specs.Prelude.{◌≡◌, ◌∷◌, ◌++◌, [], ◌≢◌, None, Some, IfErr, IfOk, IfSome, IfNone, codes, map, string_bytes};
-ghost use Rattle.std.specs.Fmt.{decimal};
+ghost use Rattle.std.specs.Prelude.{◌≡◌, ◌∷◌, [], ◌≢◌, None, Some, IfErr, IfOk, IfSome, IfNone, false, map, string_bytes};
 ghost use Rattle.xsk_args.specs.Meaning.{under};
 ghost use Rattle.xsk_args.specs.Words.{Text};
 ghost use Rattle.xsk_io.specs.declared.bay.Stream.{Stream as AStream};
