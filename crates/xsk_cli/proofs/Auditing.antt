@@ -1,5 +1,5 @@
 -- What the words of an audit ask for.
-use Rattle.std.proofs.Common.{◌≡◌, List, [], ◌∷◌, codes, Option, None, Some, refl, ap, ◌∙◌}
+use Rattle.std.proofs.Common.{◌≡◌, List, [], ◌∷◌, codes, None, Some, refl, ap, ◌∙◌}
 use Rattle.std.specs.Prelude.{option_and_then}
 use Rattle.xsk_args.specs.Meaning.{Meaning, meaning}
 use Rattle.xsk_args.specs.Words.{Text}

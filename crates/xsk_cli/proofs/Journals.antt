@@ -1,29 +1,26 @@
 -- The journal that a run writes is found legal, also behind its report.
-use Rattle.std.proofs.Common.{◌≡◌, ℕ, zero, suc, ◌+◌, ◌^◌, ◌<◌, ◌≤◌, List, [], ◌∷◌, ◌++◌, length, map, refl, sym, ap, ◌∙◌, subst, arith}
-use Rattle.std.specs.Prelude.{flat_map, replicate, true}
+use Rattle.std.proofs.Common.{◌≡◌, ℕ, zero, suc, ◌+◌, ◌^◌, ◌<◌, ◌≤◌, List, [], ◌∷◌, ◌++◌, length, refl, sym, ap, ◌∙◌, subst, arith}
+use Rattle.std.specs.Prelude.{flat_map, replicate}
 use Rattle.std.proofs.lemmas.List.{length-map}
 use Rattle.xsk_umem.specs.Frame.{Frame}
 use Rattle.xsk_model.specs.Config.{callers_of}
 use Rattle.xsk_model.specs.Entry.{Told, Entry}
 use Rattle.xsk_model.specs.History.{IsHistory}
-use Rattle.xsk_model.specs.Stored.{stored, stored_entry}
+use Rattle.xsk_model.specs.Stored.{stored_entry}
 use Rattle.xsk_turns.specs.Workers.{Setting, IsWholeRun}
 use Rattle.xsk_machine.specs.Figured.{figures_of}
 use Rattle.xsk_sim.specs.Journal.{round_of, rounds_from, rounds_of, journal_from, journal_of}
 use Rattle.xsk_sim.specs.Rounds.{AreInRounds}
-use Rattle.xsk_sim.specs.Runs.{HasEnded, IsRoundHistory}
+use Rattle.xsk_sim.specs.Runs.{HasEnded}
 use Rattle.xsk_sim.specs.Shown.{Shown}
 use Rattle.xsk_sim.proofs.InRounds.{entries_stand_in_rounds}
 use Rattle.xsk_sim.proofs.Journaling.{journal_stored}
 use Rattle.xsk_audit.specs.Telling.{Timed, entries, journal_line, NeverFalls, IsVerdict}
 use Rattle.xsk_audit.specs.declared.auditing.Verdicts.TheVariants.{Legal}
 use Rattle.xsk_audit.proofs.Written.{written-legal, behind-legal}
-use Rattle.xsk_args.specs.declared.program.Program.{Program}
-use Rattle.xsk_args.specs.declared.wire.Wire.{Wire}
-use Rattle.xsk_socket.specs.declared.layout.Layout.{Layout}
 use Rattle.xsk_socket.specs.Regular.{regular_of}
 use Rattle.xsk_cli.specs.Judged.{bytes_of}
-use Rattle.xsk_cli.specs.Outcome.{Written, AreTextsOf, frames_of, legal_text, report_of, setting_of}
+use Rattle.xsk_cli.specs.Outcome.{frames_of, report_of, setting_of}
 use Rattle.xsk_cli.specs.Journals.{ReportsAreLegal, RunsAreLegal}
 use Rattle.xsk_cli.proofs.Reports.{report-passed}
 

@@ -160,7 +160,6 @@ audit_plan words = option_and_then (λ said. audit_plan_by said (files_in said))
 
 -- ---- all
 
-
 abbrev pub plan_of : List Text → Option Plan
 plan_of [] = None
 plan_of (first ∷ rest) =

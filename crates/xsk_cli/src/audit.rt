@@ -80,11 +80,7 @@ const AUDIT_OPTIONS: [OptionRow; 13] = [
 ];
 
 /// Does what words say that begin with `audit`.
-pub(crate) fn run_audit<B: Bay>(
-    alloc: Global,
-    words: &[String],
-    bay: &mut B,
-) -> Result<(), Status>
+pub(crate) fn run_audit<B: Bay>(alloc: Global, words: &[String], bay: &mut B) -> Result<(), Status>
     requires { (stream : AStream) → B.is_open bay.old stream ≡ false }
     ensures { Comes (audit_plan (map string_bytes words.now))
         (record { is_open = B.is_open bay.old; asked = B.asked bay.old; left = B.left bay.old; held = B.held bay.old; offers = B.offers bay.old; faults = B.faults bay.old })
@@ -130,11 +126,7 @@ fn audited_layout(args: &Args<'_>) -> Result<Layout, Unlawful>
 }
 
 /// The line that tells a legal journal, or the line from which on it isn't legal.
-pub(crate) fn audit_texts(
-    alloc: Global,
-    layout: &Layout,
-    text: &[u8],
-) -> Result<Texts, RunFailure>
+pub(crate) fn audit_texts(alloc: Global, layout: &Layout, text: &[u8]) -> Result<Texts, RunFailure>
     requires { fault_of layout.now ≡ None }
     ensures made { IfOk result (λ texts. IsAudited layout.now text.now (made (written_in texts))) }
     ensures failed { IfErr result (FailsAudit layout.now text.now) }

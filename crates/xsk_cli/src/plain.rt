@@ -137,7 +137,11 @@ fn run_simulate<B: Bay>(alloc: Global, words: &[String], bay: &mut B) -> Result<
 }
 
 /// Reads the inputs, makes texts of them, and writes the outputs and the report.
-pub(crate) fn run_plan<B: Bay>(alloc: Global, plan: &Plan<'_, '_>, bay: &mut B) -> Result<(), Status>
+pub(crate) fn run_plan<B: Bay>(
+    alloc: Global,
+    plan: &Plan<'_, '_>,
+    bay: &mut B,
+) -> Result<(), Status>
     requires ready { IsReady (plan_in plan.now) }
     requires closed { (stream : AStream) → B.is_open bay.old stream ≡ false }
     ensures begun { IsAtOnce (status_in result) → ⊥ }

@@ -32,11 +32,7 @@ pub(crate) fn work_texts(
 }
 
 /// Makes what is written of the packets that are read or made.
-fn packet_texts(
-    alloc: Global,
-    work: &Work,
-    inputs: Vec<Vec<u8>>,
-) -> Result<Texts, RunFailure>
+fn packet_texts(alloc: Global, work: &Work, inputs: Vec<Vec<u8>>) -> Result<Texts, RunFailure>
     requires accepted { fault_in work.now ≡ None }
     requires packets { IsOnPackets work.now }
     requires count { length inputs.items ≡ read_by work.now }

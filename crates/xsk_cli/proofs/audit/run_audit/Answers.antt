@@ -1,9 +1,9 @@
-use Rattle.std.proofs.Common.{rules, ◌≡◌, [], ◌∷◌, List, map, string_bytes, ap, codes, None, Some, Option, sym, ◌∙◌}
+use Rattle.std.proofs.Common.{rules, ◌≡◌, List, map, string_bytes, ap, codes, None, Some, Option}
 use Rattle.std.specs.Prelude.{option_and_then}
 use Rattle.xsk_args.specs.Words.{Text}
 use Rattle.xsk_args.specs.Meaning.{Meaning, meaning, under}
 use Rattle.xsk_socket.specs.Layout.{fault_of}
-use Rattle.xsk_cli.specs.Steps.{args_status, plan_in}
+use Rattle.xsk_cli.specs.Steps.{args_status}
 use Rattle.xsk_cli.specs.Streams.{Moment}
 use Rattle.xsk_cli.specs.Words.{Plan, audit_options, audit_plan, audit_plan_by, files_in, layout_by, without_files}
 use Rattle.xsk_cli.specs.declared.status.Status.TheVariants.{Refused}

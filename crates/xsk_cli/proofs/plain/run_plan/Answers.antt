@@ -1,8 +1,8 @@
-use Rattle.std.proofs.Common.{rules, ◌≡◌, length, map, sym, ap, ◌∙◌, subst, arith}
+use Rattle.std.proofs.Common.{rules, ◌≡◌, length, map, sym, ◌∙◌, subst, arith}
 use Rattle.std.proofs.lemmas.List.{length-map}
 use Rattle.xsk_cli.specs.Judged.{AreWithin, most_of}
 use Rattle.xsk_cli.specs.Outcome.{made, IsOutcome}
-use Rattle.xsk_cli.specs.Steps.{HaveRead, MakesNone, plan_in, read_status, run_status, write_status, written_by, written_in}
+use Rattle.xsk_cli.specs.Steps.{HaveRead, MakesNone, plan_in, read_status, run_status, write_status, written_in}
 use Rattle.xsk_cli.specs.Streams.{Moment, AreWritten}
 use Rattle.xsk_cli.proofs.Making.{few_read}
 use Rattle.xsk_cli.proofs.Writing.{SameInputs, run_fails, unwritten_ends, done_ends, status_ends}
