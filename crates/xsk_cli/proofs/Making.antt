@@ -1,5 +1,5 @@
 -- Packets that are made are within the limits, and may be written.
-use Rattle.std.proofs.Common.{◌≡◌, ℕ, zero, suc, ◌+◌, ◌*◌, ◌≤◌, List, [], ◌∷◌, ◌++◌, get_or, length, map, refl, ap, ◌∙◌, subst, sym, arith, le-ltb, None, Some, Bool}
+use Rattle.std.proofs.Common.{◌≡◌, ℕ, zero, suc, ◌+◌, ◌*◌, ◌≤◌, List, [], ◌∷◌, ◌++◌, get_or, length, map, refl, ap, ◌∙◌, subst, sym, arith, le-ltb, None, Some, Bool, Option}
 use Rattle.std.specs.Prelude.{All, sum_by, Result, Ok, Err, IfErr}
 use Rattle.std.specs.List.{concat, range_with_len}
 use Rattle.std.proofs.lemmas.List.{map-append}
@@ -28,8 +28,8 @@ few_ports layout accepted = omega (arith, (fits layout accepted).ports)
 
 -- a command reads few inputs
 pub few_read : (work : Work) → fault_in work ≡ None → read_by work ≤ 4
-few_read (Simulate layout program wire order None journal) accepted = few_ports layout accepted
-few_read (Simulate layout program wire order (Some number) journal) accepted = omega arith
+few_read (Simulate layout program wire mangle order None journal) accepted = few_ports layout accepted
+few_read (Simulate layout program wire mangle order (Some number) journal) accepted = omega arith
 few_read (Generate number) accepted = omega arith
 few_read (Audit layout) accepted = omega arith
 
@@ -82,12 +82,12 @@ made_at number (made ∷ others) list at is =
 
 -- ---- the work's packets
 
-pub untaken_makes : (layout : Layout) (program : Program) (wire : Wire) (order : ℕ) (journal : Bool) (inputs : List (List ℕ)) (failure : RunFailure) → AreUntaken inputs failure → MakesNone (Simulate layout program wire order None journal) inputs failure
-untaken_makes layout program wire order journal inputs (Bad port cause) h = (h.0, h.1, tt)
-untaken_makes layout program wire order journal inputs (Excessive excess) h = h
-untaken_makes layout program wire order journal inputs (Stalls round) h = absurd h
-untaken_makes layout program wire order journal inputs NoMemory h = h
-untaken_makes layout program wire order journal inputs (Breaks line) h = absurd h
+pub untaken_makes : (layout : Layout) (program : Program) (wire : Wire) (mangle : Option ℕ) (order : ℕ) (journal : Bool) (inputs : List (List ℕ)) (failure : RunFailure) → AreUntaken inputs failure → MakesNone (Simulate layout program wire mangle order None journal) inputs failure
+untaken_makes layout program wire mangle order journal inputs (Bad port cause) h = (h.0, h.1, tt)
+untaken_makes layout program wire mangle order journal inputs (Excessive excess) h = h
+untaken_makes layout program wire mangle order journal inputs (Stalls round) h = absurd h
+untaken_makes layout program wire mangle order journal inputs NoMemory h = h
+untaken_makes layout program wire mangle order journal inputs (Breaks line) h = absurd h
 
 pub none_of : {X : Type 0} (xs : List X) → length xs ≡ 0 → xs ≡ []
 none_of [] none = refl
@@ -119,13 +119,13 @@ made_more number port lists list all are bare is pushed =
 
 -- where captures are read or packets made, these are the most bytes
 pub packets_within : (work : Work) (inputs : List (List ℕ)) (count : ℕ) → IsOnPackets work → AreShort inputs count → AreWithin (most_of work) inputs count
-packets_within (Simulate layout program wire order number journal) inputs count on short = short
+packets_within (Simulate layout program wire mangle order number journal) inputs count on short = short
 packets_within (Generate number) inputs count on short = short
 packets_within (Audit layout) inputs count on short = absurd on
 
 -- texts of packets are made of the inputs
 pub packets_made : (work : Work) (inputs : List (List ℕ)) (lists : List (List (List ℕ))) (texts : Written) → AreListsOf work inputs lists → excess_of lists ≡ None → AreTextsBy work lists texts → AreMadeOf work inputs texts
-packets_made (Simulate layout program wire order number journal) inputs lists texts are within is = (lists, are, (within, is))
+packets_made (Simulate layout program wire mangle order number journal) inputs lists texts are within is = (lists, are, (within, is))
 packets_made (Generate number) inputs lists texts are within is = (lists, are, (within, is))
 packets_made (Audit layout) inputs lists texts are within is = absurd are
 

@@ -1,9 +1,9 @@
 -- A report is passed over where a journal is looked for: each of its lines begins with a letter.
-use Rattle.std.proofs.Common.{◌≡◌, ℕ, List, ◌++◌, true, refl, length}
+use Rattle.std.proofs.Common.{◌≡◌, ℕ, Bool, List, ◌++◌, true, false, refl, length}
 use Rattle.std.specs.Prelude.{codes}
 use Rattle.std.specs.Fmt.{decimal}
 use Rattle.std.specs.List.{range_with_len, slice_index_or}
-use Rattle.xsk_audit.proofs.Feeds.{has_no_feed, no-feed-both, decimal-no-feed, IsPassed, passed-both, passed-line, passed-flat}
+use Rattle.xsk_audit.proofs.Feeds.{has_no_feed, no-feed-both, decimal-no-feed, IsPassed, passed-none, passed-both, passed-line, passed-flat}
 use Rattle.xsk_model.specs.Config.{Config, classes_of, pair_at}
 use Rattle.xsk_model.specs.declared.config.PairInfo.{PairInfo}
 use Rattle.xsk_turns.specs.declared.disposal.Disposal.TheVariants.{Delivered, NoFrames, RxFull, TooLong, Runt, Missed, Passed, Dropped}
@@ -12,7 +12,7 @@ use Rattle.xsk_turns.specs.declared.wire.Wire.{Wire}
 use Rattle.xsk_turns.specs.declared.wire.Wire.TheVariants.{Wait, Drop}
 use Rattle.xsk_machine.specs.declared.figures.DriverFigures.{DriverFigures}
 use Rattle.xsk_machine.specs.declared.figures.Figures.{Figures}
-use Rattle.xsk_stats.specs.Report.{numbered, at_queue, wire_word, setting_line, calls_line, of_kind, driver_line, pair_line, socket_line, socket_lines, totals_of, total_line, figures_at, lines_of, report_text}
+use Rattle.xsk_stats.specs.Report.{numbered, at_queue, wire_word, setting_line, calls_line, of_kind, driver_line, pair_line, socket_line, socket_lines, totals_of, total_line, stranded_line, figures_at, lines_of, report_text}
 
 -- ---- texts without a line feed
 
@@ -108,6 +108,11 @@ total-passed classes drivers =
     let body = with_number empty (codes " tx_ring_empty_descs ") total.tx_ring_empty_descs refl in
     passed-line body.0 refl body.1
 
+stranded-passed : (mangled : Bool) (stranded : ℕ) → IsPassed (stranded_line mangled stranded)
+unfolding numbered
+stranded-passed true stranded = let body = begin (codes "stranded ") stranded refl in passed-line body.0 refl body.1
+stranded-passed false stranded = passed-none
+
 -- ---- the report
 
 all-passed : (line : PairInfo → DriverFigures → List ℕ) (c : Config) (drivers : List DriverFigures) → ((pair : PairInfo) (figures : DriverFigures) → IsPassed (line pair figures)) → IsPassed (lines_of line c drivers)
@@ -124,7 +129,9 @@ report-passed c figures =
     let pairs = lines_of (λ pair driver. pair_line pair driver.counters) c figures.drivers in
     let sockets = lines_of (λ pair driver. socket_lines (classes_of c) pair driver.counters) c figures.drivers in
     let total = total_line (totals_of (classes_of c) figures.drivers) in
-    passed-both (setting ++ calls ++ drivers ++ pairs ++ sockets) total
+    let stranded = (totals_of (classes_of c) figures.drivers).stranded in
+    passed-both (setting ++ calls ++ drivers ++ pairs ++ sockets ++ total) (stranded_line figures.mangled stranded)
+    (passed-both (setting ++ calls ++ drivers ++ pairs ++ sockets) total
     (passed-both (setting ++ calls ++ drivers ++ pairs) sockets
     (passed-both (setting ++ calls ++ drivers) pairs
     (passed-both (setting ++ calls) drivers
@@ -132,4 +139,5 @@ report-passed c figures =
     (all-passed driver_line c figures.drivers driver-passed))
     (all-passed (λ pair driver. pair_line pair driver.counters) c figures.drivers (λ pair driver. pair-passed pair driver.counters)))
     (all-passed (λ pair driver. socket_lines (classes_of c) pair driver.counters) c figures.drivers (λ pair driver. sockets-passed (classes_of c) pair driver.counters)))
-    (total-passed (classes_of c) figures.drivers)
+    (total-passed (classes_of c) figures.drivers))
+    (stranded-passed figures.mangled stranded)

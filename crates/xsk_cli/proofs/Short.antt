@@ -29,8 +29,8 @@ captured_short : (inputs : List (List ℕ)) (lists : List (List (List ℕ))) →
 captured_short inputs lists are port below = All-from_recursion IsShort (get_or lists port []) (are.each port (omega (arith, below, are.count))).1.records.short
 
 all_short : (work : Work) (inputs : List (List ℕ)) (lists : List (List (List ℕ))) → AreListsOf work inputs lists → AllShort lists
-all_short (Simulate layout program wire order None journal) inputs lists are = captured_short inputs lists are
-all_short (Simulate layout program wire order (Some number) journal) inputs lists are = subst AllShort (sym are.1) (made_short number layout.ports)
+all_short (Simulate layout program wire mangle order None journal) inputs lists are = captured_short inputs lists are
+all_short (Simulate layout program wire mangle order (Some number) journal) inputs lists are = subst AllShort (sym are.1) (made_short number layout.ports)
 all_short (Generate number) inputs lists are = subst AllShort (sym are.1) (made_short number 1)
 all_short (Audit layout) inputs lists are = absurd are
 

@@ -118,18 +118,18 @@ refused_outcome work inputs (illegal line) h = absurd h
 
 -- inputs that have packets may have as many bytes as captures
 within_shown : (work : Work) (inputs : List (List ℕ)) (lists : List (List (List ℕ))) → AreListsOf work inputs lists → AreShort inputs (length inputs) → AreWithin (most_of work) inputs (length inputs)
-within_shown (Simulate layout program wire order number journal) inputs lists are short = short
+within_shown (Simulate layout program wire mangle order number journal) inputs lists are short = short
 within_shown (Generate number) inputs lists are short = short
 within_shown (Audit layout) inputs lists are short = absurd are
 
 -- work that is a run is on packets, of which captures are read
 pub run_packets : (work : Work) → IsRun work → IsOnPackets work
-run_packets (Simulate layout program wire order number journal) runs = tt
+run_packets (Simulate layout program wire mangle order number journal) runs = tt
 run_packets (Generate number) runs = tt
 run_packets (Audit layout) runs = runs
 
 pub run_short : (work : Work) (inputs : List (List ℕ)) (count : ℕ) → IsRun work → AreWithin (most_of work) inputs count → AreShort inputs count
-run_short (Simulate layout program wire order number journal) inputs count runs within = within
+run_short (Simulate layout program wire mangle order number journal) inputs count runs within = within
 run_short (Generate number) inputs count runs within = within
 run_short (Audit layout) inputs count runs within = absurd runs
 
@@ -206,13 +206,13 @@ check_shown plan old new (Some o) port ends = ends.comes
 
 -- there is a text for each port
 pub shown_count : (work : Work) (lists : List (List (List ℕ))) (o : OutcomeShown) (texts : Written) → AreTextsFrom work lists o texts → length texts.outputs ≡ written_by work
-shown_count (Simulate layout program wire order number journal) lists o texts are = ap length are.sent ∙ length-map-range_with_len (λ port. written (sent_from layout o.history port)) 0 layout.ports
+shown_count (Simulate layout program wire mangle order number journal) lists o texts are = ap length are.sent ∙ length-map-range_with_len (λ port. written (sent_from layout o.history port)) 0 layout.ports
 shown_count (Generate number) lists o texts are = absurd are
 shown_count (Audit layout) lists o texts are = absurd are
 
 -- for few ports
 pub few_written : (work : Work) → fault_in work ≡ None → written_by work ≤ 4
-few_written (Simulate layout program wire order number journal) accepted = few_ports layout accepted
+few_written (Simulate layout program wire mangle order number journal) accepted = few_ports layout accepted
 few_written (Generate number) accepted = omega arith
 few_written (Audit layout) accepted = omega arith
 

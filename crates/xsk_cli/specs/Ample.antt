@@ -19,9 +19,9 @@ pub record IsAmple (layout : Layout) : Type 0 where
   pub comp : 32 ≤ layout.comp
   pub pool : 18 ≤ pool_in layout
 
--- with such a layout, or without a run
+-- with such a layout and applications that change nothing, or without a run
 abbrev pub HasAmple : Work → Type 0
-HasAmple (Simulate layout program wire order number journal) = IsAmple layout
+HasAmple (Simulate layout program wire mangle order number journal) = (mangle ≡ None) × IsAmple layout
 HasAmple (Generate number) = Unit {0}
 HasAmple (Audit layout) = Unit {0}
 

@@ -71,7 +71,7 @@ Answers work outcome status = Unit {0}
 
 -- captures within the limits, where captures are read, and so a journal, where one is
 abbrev pub AreTaken : Work → List (List ℕ) → Type 0
-AreTaken (Simulate layout program wire order None journal) inputs = AreShort inputs (length inputs) × ((lists : List (List (List ℕ))) × AreCaptures inputs lists × (excess_of lists ≡ None))
+AreTaken (Simulate layout program wire mangle order None journal) inputs = AreShort inputs (length inputs) × ((lists : List (List (List ℕ))) × AreCaptures inputs lists × (excess_of lists ≡ None))
 AreTaken (Audit layout) inputs = AreWithin (most_of (Audit layout)) inputs (length inputs)
 AreTaken work inputs = inputs ≡ []
 

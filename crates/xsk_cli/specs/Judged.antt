@@ -17,7 +17,7 @@ bytes_of inputs port = slice_index_or inputs port []
 
 -- the most bytes of an input: those of a capture of 65,536 packets with 33,554,432 bytes, or so many of a journal
 abbrev pub most_of : Work → ℕ
-most_of (Simulate layout program wire order number journal) = 34603032
+most_of (Simulate layout program wire mangle order number journal) = 34603032
 most_of (Generate number) = 34603032
 most_of (Audit layout) = 67108864
 

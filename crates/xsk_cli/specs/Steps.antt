@@ -41,13 +41,13 @@ plan_in plan = record { inputs = map (λ name. name.now) plan.inputs.now; output
 
 -- for how many ports captures are read, or one journal, and for how many they are written
 abbrev pub read_by : Work → ℕ
-read_by (Simulate layout program wire order None journal) = layout.ports
-read_by (Simulate layout program wire order (Some number) journal) = 0
+read_by (Simulate layout program wire mangle order None journal) = layout.ports
+read_by (Simulate layout program wire mangle order (Some number) journal) = 0
 read_by (Generate number) = 0
 read_by (Audit layout) = 1
 
 abbrev pub written_by : Work → ℕ
-written_by (Simulate layout program wire order number journal) = layout.ports
+written_by (Simulate layout program wire mangle order number journal) = layout.ports
 written_by (Generate number) = 1
 written_by (Audit layout) = 0
 
@@ -137,10 +137,10 @@ IsRefusal port bytes NoMemory = Unit {0}
 IsRefusal port bytes failure = ⊥
 
 -- why a run of packets gives nothing
-abbrev pub FailsRunning : Layout → Program → Wire → ℕ → List (List (List ℕ)) → RunFailure → Type 0
-FailsRunning layout program wire order lists (Stalls round) = HasStalled (setting_of layout program wire lists) (frames_of layout) order round
-FailsRunning layout program wire order lists NoMemory = Unit {0}
-FailsRunning layout program wire order lists failure = ⊥
+abbrev pub FailsRunning : Layout → Program → Wire → Option ℕ → ℕ → List (List (List ℕ)) → RunFailure → Type 0
+FailsRunning layout program wire mangle order lists (Stalls round) = HasStalled (setting_of layout program wire mangle lists) (frames_of layout) order round
+FailsRunning layout program wire mangle order lists NoMemory = Unit {0}
+FailsRunning layout program wire mangle order lists failure = ⊥
 
 -- why an audit of a text gives nothing to write
 abbrev pub FailsAudit : Layout → List ℕ → RunFailure → Type 0

@@ -46,6 +46,7 @@ options =
     ∷ (codes "prog", TakesProgram)
     ∷ (codes "wire", TakesWire)
     ∷ (codes "empty", Number)
+    ∷ (codes "mangle", Number)
     ∷ (codes "sg", Nothing)
     ∷ (codes "wakeup", Nothing)
     ∷ (codes "journal", Nothing)
@@ -111,7 +112,7 @@ abbrev pub plan_by : Meaning → Plan
 plan_by said = record {
   inputs = take (inputs_named said) (files_in said);
   outputs = drop (inputs_named said) (files_in said);
-  work = Simulate (layout_by said) (program_of said) (wire_of said) (number_or said (codes "order") 0) (number_of said (codes "gen")) (is_some (said (codes "journal")));
+  work = Simulate (layout_by said) (program_of said) (wire_of said) (number_of said (codes "mangle")) (number_or said (codes "order") 0) (number_of said (codes "gen")) (is_some (said (codes "journal")));
 }
 
 abbrev pub simulate_plan : List Text → Option Plan
@@ -169,6 +170,6 @@ plan_of (first ∷ rest) =
 
 -- why the work is refused, where it is
 abbrev pub fault_in : Work → Option Unlawful
-fault_in (Simulate layout program wire order number journal) = fault_of layout
+fault_in (Simulate layout program wire mangle order number journal) = fault_of layout
 fault_in (Generate number) = None
 fault_in (Audit layout) = fault_of layout
