@@ -13,7 +13,7 @@ use Rattle.xsk_cli.specs.Judged.{AreCaptures}
 use Rattle.xsk_cli.specs.Outcome.{made_lists, AreListsOf}
 use Rattle.xsk_cli.specs.Steps.{lists_in}
 use Rattle.xsk_cli.specs.declared.words.Work.{Work}
-use Rattle.xsk_cli.specs.declared.words.Work.TheVariants.{Simulate, Generate}
+use Rattle.xsk_cli.specs.declared.words.Work.TheVariants.{Simulate, Generate, Audit}
 
 abbrev AllShort : List (List (List ℕ)) → Type 0
 AllShort lists = (port : ℕ) → port < length lists → All IsShort (get_or lists port [])
@@ -32,6 +32,7 @@ all_short : (work : Work) (inputs : List (List ℕ)) (lists : List (List (List �
 all_short (Simulate layout program wire mangle order None journal) inputs lists are = captured_short inputs lists are
 all_short (Simulate layout program wire mangle order (Some number) journal) inputs lists are = subst AllShort (sym are.1) (made_short number layout.ports)
 all_short (Generate number) inputs lists are = subst AllShort (sym are.1) (made_short number 1)
+all_short (Audit layout) inputs lists are = absurd are
 
 pub short_lists : (work : Work) (inputs : List (List ℕ)) (lists : List PacketList) → AreListsOf work inputs (lists_in lists) → All HasShortPackets lists
 short_lists work inputs lists are port d below =

@@ -35,9 +35,11 @@ use Rattle.xsk_turns.specs.declared.wire.Wire.TheVariants.{Wait as Waits, Drop a
 use Rattle.xsk_sim.specs.Runs.{HasEnded, HasStalled}
 use Rattle.xsk_pcap.specs.Written.{written}
 use Rattle.xsk_pcap.specs.declared.reading.BadCapture.{BadCapture as Cause}
-use Rattle.xsk_cli.specs.Judged.{AreShort, IsTooLong, AreCaptures, IsBadCapture, excess_of}
+use Rattle.xsk_audit.specs.Telling.{IsVerdict}
+use Rattle.xsk_audit.specs.declared.auditing.Verdicts.TheVariants.{Legal, NotLegal}
+use Rattle.xsk_cli.specs.Judged.{bytes_of, AreWithin, IsTooLong, AreCaptures, IsBadCapture, excess_of, most_of}
 use Rattle.xsk_cli.specs.declared.words.Work.{Work}
-use Rattle.xsk_cli.specs.declared.words.Work.TheVariants.{Simulate, Generate}
+use Rattle.xsk_cli.specs.declared.words.Work.TheVariants.{Simulate, Generate, Audit}
 use Rattle.xsk_cli.specs.declared.status.Excess.{Excess}
 use Rattle.xsk_turns.specs.declared.manner.Manner.{Manner}
 
@@ -46,13 +48,15 @@ pub record Written : Type 0 where
   pub outputs : List (List ℕ)
   pub report : List ℕ
 
--- an input is too long, or no capture; the limits are passed; the run stalls in a round; or there are texts
+-- an input is too long, or no capture; the limits are passed; the run stalls in a round; or there are texts; or a journal isn't
+-- legal from a line on
 pub data Outcome : Type 0 where
   long : ℕ → Outcome
   bad : ℕ → Cause → Outcome
   passed : Excess → Outcome
   stalled : ℕ → Outcome
   made : Written → Outcome
+  illegal : ℕ → Outcome
 
 -- ---- the packets
 
@@ -65,6 +69,7 @@ abbrev pub AreListsOf : Work → List (List ℕ) → List (List (List ℕ)) → 
 AreListsOf (Simulate layout program wire mangle order None journal) inputs lists = AreCaptures inputs lists
 AreListsOf (Simulate layout program wire mangle order (Some number) journal) inputs lists = (inputs ≡ []) × (lists ≡ made_lists number layout.ports)
 AreListsOf (Generate number) inputs lists = (inputs ≡ []) × (lists ≡ made_lists number 1)
+AreListsOf (Audit layout) inputs lists = ⊥
 
 -- ---- the run
 
@@ -180,11 +185,13 @@ abbrev pub AreTextsBy : Work → List (List (List ℕ)) → Written → Type 0
 AreTextsBy (Simulate layout program wire mangle order number journal) lists texts = AreTextsOf layout program wire mangle order lists journal texts
 AreTextsBy (Generate number) lists texts =
     (texts.outputs ≡ map capture_of lists) × (texts.report ≡ report_on (slice_index_or lists 0 []))
+AreTextsBy (Audit layout) lists texts = ⊥
 
 -- the work's run of packets stalls in a round
 abbrev pub IsStalledBy : Work → List (List (List ℕ)) → ℕ → Type 0
 IsStalledBy (Simulate layout program wire mangle order number journal) lists round = HasStalled (setting_of layout program wire mangle lists) (frames_of layout) order round
 IsStalledBy (Generate number) lists round = ⊥
+IsStalledBy (Audit layout) lists round = ⊥
 
 -- ---- the outcome
 
@@ -195,18 +202,48 @@ IsOutcomeOf work lists (bad port cause) = ⊥
 IsOutcomeOf work lists (passed excess) = excess_of lists ≡ Some excess
 IsOutcomeOf work lists (stalled round) = (excess_of lists ≡ None) × IsStalledBy work lists round
 IsOutcomeOf work lists (made texts) = (excess_of lists ≡ None) × AreTextsBy work lists texts
+IsOutcomeOf work lists (illegal line) = ⊥
 
 -- what inputs that have packets come to
 abbrev pub IsOutcomeIn : Work → List (List ℕ) → Outcome → Type 0
 IsOutcomeIn work inputs outcome = (lists : List (List (List ℕ))) × AreListsOf work inputs lists × IsOutcomeOf work lists outcome
 
+-- the one line of a journal that is legal, with so many entries
+abbrev pub legal_text : ℕ → List ℕ
+legal_text entries = codes "legal " ++ decimal entries ++ codes "\n"
+
+-- what a text's journal comes to, for the layout's configuration: it is that of a legal history, or isn't from a line on
+abbrev pub IsAudited : Layout → List ℕ → Outcome → Type 0
+IsAudited layout text (made texts) = (entries : ℕ) × IsVerdict (regular_of layout) text (Legal entries) × (texts ≡ record { outputs = []; report = legal_text entries })
+IsAudited layout text (illegal line) = IsVerdict (regular_of layout) text (NotLegal line)
+IsAudited layout text outcome = ⊥
+
+-- work on packets, which are read or made, and not on a journal
+abbrev pub IsOnPackets : Work → Type 0
+IsOnPackets (Simulate layout program wire mangle order number journal) = Unit {0}
+IsOnPackets (Generate number) = Unit {0}
+IsOnPackets (Audit layout) = ⊥
+
+-- the texts that are made of inputs: of their packets, or of their journal
+abbrev pub AreMadeOf : Work → List (List ℕ) → Written → Type 0
+AreMadeOf (Simulate layout program wire mangle order number journal) inputs texts = IsOutcomeIn (Simulate layout program wire mangle order number journal) inputs (made texts)
+AreMadeOf (Generate number) inputs texts = IsOutcomeIn (Generate number) inputs (made texts)
+AreMadeOf (Audit layout) inputs texts = IsAudited layout (bytes_of inputs 0) (made texts)
+
+-- their journal isn't legal from a line on
+abbrev pub IsIllegalIn : Work → List (List ℕ) → ℕ → Type 0
+IsIllegalIn (Simulate layout program wire mangle order number journal) inputs line = ⊥
+IsIllegalIn (Generate number) inputs line = ⊥
+IsIllegalIn (Audit layout) inputs line = IsAudited layout (bytes_of inputs 0) (illegal line)
+
 -- what inputs come to
 abbrev pub IsOutcome : Work → List (List ℕ) → Outcome → Type 0
-IsOutcome work inputs (long port) = IsTooLong inputs port
-IsOutcome work inputs (bad port cause) = AreShort inputs (length inputs) × IsBadCapture inputs port cause
-IsOutcome work inputs (passed excess) = AreShort inputs (length inputs) × IsOutcomeIn work inputs (passed excess)
-IsOutcome work inputs (stalled round) = AreShort inputs (length inputs) × IsOutcomeIn work inputs (stalled round)
-IsOutcome work inputs (made texts) = AreShort inputs (length inputs) × IsOutcomeIn work inputs (made texts)
+IsOutcome work inputs (long port) = IsTooLong (most_of work) inputs port
+IsOutcome work inputs (bad port cause) = AreWithin (most_of work) inputs (length inputs) × IsBadCapture inputs port cause × IsOnPackets work
+IsOutcome work inputs (passed excess) = AreWithin (most_of work) inputs (length inputs) × IsOutcomeIn work inputs (passed excess)
+IsOutcome work inputs (stalled round) = AreWithin (most_of work) inputs (length inputs) × IsOutcomeIn work inputs (stalled round)
+IsOutcome work inputs (made texts) = AreWithin (most_of work) inputs (length inputs) × AreMadeOf work inputs texts
+IsOutcome work inputs (illegal line) = AreWithin (most_of work) inputs (length inputs) × IsIllegalIn work inputs line
 
 -- it is a function of the work and of their bytes
 abbrev pub OneOutcome : Type 0

@@ -64,7 +64,7 @@ pub(crate) fn make_shown<R: Threads + Wait + Sync, G: Gate + Sync>(
             wire,
             ..
         } => run_shown(rt, alloc, layout, *program, *wire, lists, gate, outcome),
-        Work::Generate { .. } => unreachable!(),
+        Work::Generate { .. } | Work::Audit { .. } => unreachable!(),
     }
 }
 

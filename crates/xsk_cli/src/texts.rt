@@ -8,7 +8,7 @@ ghost use Rattle.xsk_sim.specs.Journal.{journal_of};
 ghost use Rattle.xsk_sim.specs.Runs.{HasEnded};
 ghost use Rattle.xsk_sim.specs.Shown.{HasShortPackets};
 ghost use Rattle.xsk_cli.specs.Judged.{excess_of};
-ghost use Rattle.xsk_cli.specs.Outcome.{AreTextsBy, AreTextsOf, capture_of, frames_of, listed, made_lists, rule_by, setting_of, wire_by};
+ghost use Rattle.xsk_cli.specs.Outcome.{AreTextsBy, AreTextsOf, IsOnPackets, capture_of, frames_of, listed, made_lists, rule_by, setting_of, wire_by};
 ghost use Rattle.xsk_cli.specs.Steps.{FailsMaking, FailsRunning, lists_in, written_by, written_in};
 ghost use Rattle.xsk_cli.specs.Words.{fault_in};
 ghost use Rattle.xsk_cli.specs.declared.words.Work.TheVariants.{Generate};
@@ -50,6 +50,7 @@ pub(crate) fn make_texts(
     lists: &[PacketList],
 ) -> Result<Texts, RunFailure>
     requires accepted { fault_in work.now ≡ None }
+    requires packets { IsOnPackets work.now }
     requires ports { length lists.now ≡ written_by work.now }
     requires within { excess_of (lists_in lists.now) ≡ None }
     requires made { (number : ℕ) → work.now ≡ Generate number → lists_in lists.now ≡ made_lists number 1 }
@@ -69,6 +70,7 @@ pub(crate) fn make_texts(
             ..
         } => run_texts(alloc, layout, *program, *wire, *mangle, *order, *journal, lists),
         Work::Generate { .. } => Ok(made_texts(alloc, &lists[0])?),
+        Work::Audit { .. } => unreachable!(),
     }
 }
 

@@ -28,6 +28,10 @@ pub enum Work {
     Generate {
         number: u32,
     },
+    /// The audit of a journal by the layout's configuration.
+    Audit {
+        layout: Layout,
+    },
 }
 
 /// The files that a command reads, those that it writes, and what it does between.
@@ -77,7 +81,7 @@ impl<'p, 'w> Plan<'p, 'w> {
 }
 
 /// The layout that was asked for.
-fn layout_of(args: &Args<'_>) -> Layout
+pub(crate) fn layout_of(args: &Args<'_>) -> Layout
     ensures { result ≡ layout_by (under args.now) }
 {
     Layout {
