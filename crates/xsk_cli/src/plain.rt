@@ -5,6 +5,7 @@ ghost use Rattle.xsk_io.specs.declared.bay.Kind.{Kind};
 ghost use Rattle.xsk_io.specs.declared.bay.Stream.{Stream as AStream};
 ghost use Rattle.xsk_pcap.specs.declared.reading.BadCapture.TheVariants.{OutOfMemory as NoMemory};
 ghost use Rattle.xsk_socket.specs.declared.layout.Unlawful.{Unlawful as AnUnlawful};
+ghost use Rattle.xsk_cli.specs.Ample.{Finishes, GoesOn};
 ghost use Rattle.xsk_cli.specs.Cause.{IsCaused, IsFault, NeverFalls, NoOthers, Unchanged};
 ghost use Rattle.xsk_cli.specs.Ends.{Answers, AreTaken, AreTold, Ends, IsComplete, NoneRose};
 ghost use Rattle.xsk_cli.specs.Line.{line_of};
@@ -68,6 +69,14 @@ pub fn run_plain<B: Bay>(alloc: Global, words: &[String], bay: &mut B) -> Status
     ensures complete { (plan : APlan) (inputs : List (List ℕ)) → plan_of (map string_bytes words.now) ≡ Some plan → fault_in plan.work ≡ None
         → AreTold plan inputs (record { is_open = B.is_open bay.old; asked = B.asked bay.old; left = B.left bay.old; held = B.held bay.old; offers = B.offers bay.old; faults = B.faults bay.old })
         → AreTaken plan.work inputs → NoneRose (B.faults bay.old) (B.faults bay.new) → IsComplete result }
+
+    // Where each ring of the layout has 32 entries or more, and each pool 18 frames or more, no run stalls: so they come to
+    // texts, where no count of faults has risen and memory can be had.
+    ensures goes_on { GoesOn (plan_of (map string_bytes words.now)) result }
+    ensures finishes { Finishes (plan_of (map string_bytes words.now))
+        (record { is_open = B.is_open bay.old; asked = B.asked bay.old; left = B.left bay.old; held = B.held bay.old; offers = B.offers bay.old; faults = B.faults bay.old })
+        (record { is_open = B.is_open bay.new; asked = B.asked bay.new; left = B.left bay.new; held = B.held bay.new; offers = B.offers bay.new; faults = B.faults bay.new })
+        result }
 {
     let status = status_of(run_words(alloc, words, bay));
     tell(bay, &status);

@@ -16,6 +16,7 @@ ghost use Rattle.xsk_prog.specs.Program.{Obeys};
 ghost use Rattle.xsk_turns.specs.Workers.{Setting};
 ghost use Rattle.xsk_sim.specs.Runs.{HasEnded, HasStalled, NeverStill, HasEndedUnder, HasStalledUnder};
 ghost use Rattle.xsk_sim.specs.Stalls.{StandStill};
+ghost use Rattle.xsk_still.specs.Still.{HasAmpleRoom};
 ghost use Rattle.xsk_sim.specs.Seats.{EachFrom, AreSeated, AreReady, HadRounds, HaveEnded, Sits, kept_lists, kept_figures, new_own};
 
 use crate::order::Order;
@@ -134,7 +135,8 @@ const STILL_ROUNDS: u64 = 64;
 /// driver's next call. Rounds are counted from 0. Each run ends or stands still (`laws::ends_or_stands_still`), and where there
 /// is no memory for the log of its calls, it is given up. A run that has ended, with no such round before, is a legal
 /// history in rounds in which each worker's own calls and replies are a whole run of its turns, and one that has stalled is such
-/// a history of all these rounds, in which those of some worker aren't.
+/// a history of all these rounds, in which those of some worker aren't. Where each ring has 32 entries or more, and each pair's pool
+/// 18 frames or more, it never stalls.
 pub fn simulate<F: Fn(&[u8], u32) -> Verdict>(
     alloc: Global,
     config: Config,
@@ -153,6 +155,7 @@ pub fn simulate<F: Fn(&[u8], u32) -> Verdict>(
     ensures ended { IfOk result (HasEndedUnder F.Fn program.now.rule program.now.decide wire config packets.now frames.items order) }
     ensures stalled { (round : ℕ) → result ≡ Err (SimError.Stalled round)
         → HasStalledUnder F.Fn program.now.rule program.now.decide wire config packets.now frames.items order round }
+    ensures goes_on { HasAmpleRoom config → (round : ℕ) → result ≡ Err (SimError.Stalled round) → ⊥ }
 {
     let shared = config.copy(alloc)?;
     let inputs = Inputs::split(alloc, &shared, packets)?;

@@ -4,3 +4,14 @@ pub mod DriverStaying
 pub mod Dues
 pub mod Setting
 pub mod Marks
+pub mod Keeping
+pub mod Resting
+pub mod Telling
+pub mod Losing
+pub mod Asking
+pub mod Pools
+pub mod Laid
+pub mod Holding
+pub mod Standing
+pub mod Emptying
+pub mod Ended

@@ -1,4 +1,4 @@
-use Rattle.std.proofs.Common.{ℕ, [], subst, refl, ap, ◌∙◌}
+use Rattle.std.proofs.Common.{◌≡◌, ℕ, [], subst, refl, ap, ◌∙◌, Err}
 use Rattle.std.specs.Prelude.{IfOk}
 use Rattle.xsk_model.specs.Config.{Config, IsConfig, classes_of}
 use Rattle.xsk_turns.specs.Workers.{Setting, AreGiven}
@@ -8,6 +8,8 @@ use Rattle.xsk_sim.proofs.Verdicts.{if_ok}
 use Rattle.xsk_sim.specs.Runs.{HasEnded, HasStalled}
 use Rattle.xsk_sim.specs.Seats.{AreSeated}
 use Rattle.xsk_sim.proofs.Beginning.{seated_opened}
+use Rattle.xsk_sim.proofs.Stretch.{none_stands_still}
+use Rattle.xsk_sim.specs.declared.simulation.SimError.TheVariants.{Stalled}
 use Rattle.xsk_sim.proofs.simulation.simulate.Given as given
 use Rattle.xsk_sim.proofs.simulation.simulate.Goals as goal
 
@@ -49,14 +51,25 @@ pub returns-clause-pairs : goal.returns-clause-pairs
 returns-clause-pairs g c =
     c.run_workers.ensures.pairs (setting_with c.args.config c.args.wire c.args.packets.now (kept_in c.in_ok-drivers.drivers.items)) c.args.frames.items (seated g c)
 
+-- a run that has stalled
+stalls : (g : given.Over) (c : goal.After-drop-shared-inside-4 g) (round : ℕ) → c.run_workers.result ≡ Err (Stalled round)
+    → HasStalled (setting_with c.args.config c.args.wire c.args.packets.now (kept_in c.in_ok-drivers.drivers.items)) c.args.frames.items c.args.order round
+stalls g c round is =
+    let s : Setting = setting_with c.args.config c.args.wire c.args.packets.now (kept_in c.in_ok-drivers.drivers.items) in
+    subst (λ (number : ℕ). HasStalled s c.args.frames.items number round) c.new.ensures (c.run_workers.ensures.stalled s c.args.frames.items round (seated g c) is)
+
+pub returns-clause-goes_on : goal.returns-clause-goes_on
+returns-clause-goes_on g c ample round is =
+    let s : Setting = setting_with c.args.config c.args.wire c.args.packets.now (kept_in c.in_ok-drivers.drivers.items) in
+    let stalled = stalls g c round is in
+    none_stands_still s c.args.frames.items c.args.order round c.requires.steady ample (record { past = stalled.past; still = stalled.still })
+
 pub returns-clause-stalled : goal.returns-clause-stalled
 returns-clause-stalled g c round is =
-    let s : Setting = setting_with c.args.config c.args.wire c.args.packets.now (kept_in c.in_ok-drivers.drivers.items) in
     record {
-      verdicts = s.verdicts;
+      verdicts = kept_in c.in_ok-drivers.drivers.items;
       asked = asked g c;
-      stalled = subst (λ (number : ℕ). HasStalled s c.args.frames.items number round) c.new.ensures
-          (c.run_workers.ensures.stalled s c.args.frames.items round (seated g c) is);
+      stalled = stalls g c round is;
     }
 
 pub run_workers-requires-clause-ready : goal.run_workers-requires-clause-ready
