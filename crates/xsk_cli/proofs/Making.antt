@@ -13,10 +13,11 @@ use Rattle.xsk_socket.specs.Layout.{fault_of}
 use Rattle.xsk_socket.proofs.Accepted.{fits}
 use Rattle.xsk_cli.specs.Judged.{AreShort, packets_in, bytes_in, excess_of}
 use Rattle.xsk_cli.specs.Outcome.{listed, made_lists, AreListsOf}
-use Rattle.xsk_cli.specs.Steps.{AreUntaken, FailsMaking, MakesNone, lists_in, read_by}
-use Rattle.xsk_cli.specs.Words.{fault_in}
+use Rattle.xsk_cli.specs.Steps.{AreUntaken, FailsMaking, IsUntaken, MakesNone, lists_in, read_by}
+use Rattle.xsk_cli.specs.Words.{fault_in, most_of}
+use Rattle.xsk_cli.specs.declared.format.Format.TheVariants.{Pcap, Pcapng}
 use Rattle.xsk_cli.specs.declared.failure.RunFailure.{RunFailure}
-use Rattle.xsk_cli.specs.declared.failure.RunFailure.TheVariants.{BadCapture as Bad, TooMuch as Excessive, Stalled as Stalls, OutOfMemory as NoMemory}
+use Rattle.xsk_cli.specs.declared.failure.RunFailure.TheVariants.{BadCapture as Bad, BadPcapng as BadFile, TooMuch as Excessive, Stalled as Stalls, OutOfMemory as NoMemory}
 use Rattle.xsk_cli.proofs.Ports.{more_ports}
 use Rattle.xsk_args.specs.declared.program.Program.{Program}
 use Rattle.xsk_args.specs.declared.wire.Wire.{Wire}
@@ -28,8 +29,9 @@ few_ports layout accepted = omega (arith, (fits layout accepted).ports)
 
 -- a command reads few inputs
 pub few_read : (work : Work) → fault_in work ≡ None → read_by work ≤ 4
-few_read (Simulate layout program wire order None journal) accepted = few_ports layout accepted
-few_read (Simulate layout program wire order (Some number) journal) accepted = omega arith
+few_read (Simulate layout program wire order None journal Pcap) accepted = few_ports layout accepted
+few_read (Simulate layout program wire order None journal Pcapng) accepted = omega arith
+few_read (Simulate layout program wire order (Some number) journal format) accepted = omega arith
 few_read (Generate number) accepted = omega arith
 
 -- ---- limits
@@ -81,11 +83,19 @@ made_at number (made ∷ others) list at is =
 
 -- ---- the work's packets
 
-pub untaken_makes : (layout : Layout) (program : Program) (wire : Wire) (order : ℕ) (journal : Bool) (inputs : List (List ℕ)) (failure : RunFailure) → AreUntaken inputs failure → MakesNone (Simulate layout program wire order None journal) inputs failure
+pub untaken_makes : (layout : Layout) (program : Program) (wire : Wire) (order : ℕ) (journal : Bool) (inputs : List (List ℕ)) (failure : RunFailure) → AreUntaken inputs failure → MakesNone (Simulate layout program wire order None journal Pcap) inputs failure
 untaken_makes layout program wire order journal inputs (Bad port cause) h = h
 untaken_makes layout program wire order journal inputs (Excessive excess) h = h
 untaken_makes layout program wire order journal inputs (Stalls round) h = absurd h
 untaken_makes layout program wire order journal inputs NoMemory h = h
+untaken_makes layout program wire order journal inputs (BadFile cause) h = absurd h
+
+pub file_makes : (layout : Layout) (program : Program) (wire : Wire) (order : ℕ) (journal : Bool) (inputs : List (List ℕ)) (failure : RunFailure) → IsUntaken layout.ports inputs failure → MakesNone (Simulate layout program wire order None journal Pcapng) inputs failure
+file_makes layout program wire order journal inputs (Bad port cause) h = absurd h
+file_makes layout program wire order journal inputs (Excessive excess) h = h
+file_makes layout program wire order journal inputs (Stalls round) h = absurd h
+file_makes layout program wire order journal inputs NoMemory h = h
+file_makes layout program wire order journal inputs (BadFile cause) h = h
 
 pub none_of : {X : Type 0} (xs : List X) → length xs ≡ 0 → xs ≡ []
 none_of [] none = refl
@@ -94,12 +104,13 @@ none_of (x ∷ xs) none = absurd (omega (arith, none))
 pub made_of : (work : Work) (number : ℕ) (inputs : List (List ℕ)) (lists : List (List (List ℕ))) → work ≡ Generate number → AreListsOf work inputs lists → lists ≡ made_lists number 1
 made_of work number inputs lists is are = (subst (λ k. AreListsOf k inputs lists) is are).1
 
-pub making_fails : (work : Work) (inputs : List (List ℕ)) (lists : List (List (List ℕ))) (failure : RunFailure) → AreShort inputs (length inputs) → AreListsOf work inputs lists → excess_of lists ≡ None
+pub making_fails : (work : Work) (inputs : List (List ℕ)) (lists : List (List (List ℕ))) (failure : RunFailure) → AreShort (most_of work) inputs (length inputs) → AreListsOf work inputs lists → excess_of lists ≡ None
     → FailsMaking work lists failure → MakesNone work inputs failure
 making_fails work inputs lists (Bad at cause) short are within h = absurd h
 making_fails work inputs lists (Excessive excess) short are within h = absurd h
 making_fails work inputs lists (Stalls round) short are within h = (short, (lists, are, (within, h)))
 making_fails work inputs lists NoMemory short are within h = tt
+making_fails work inputs lists (BadFile cause) short are within h = absurd h
 
 -- one list more
 pub made_more : (number port : ℕ) (lists : List PacketList) (list : PacketList) (all : List PacketList) → lists_in lists ≡ made_lists number port → lists ≡ map listed (lists_in lists)

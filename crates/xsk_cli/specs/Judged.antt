@@ -13,15 +13,15 @@ use Rattle.xsk_cli.specs.declared.status.Excess.TheVariants.{Packets, Bytes}
 abbrev pub bytes_of : List (List ℕ) → ℕ → List ℕ
 bytes_of inputs port = slice_index_or inputs port []
 
--- so many ports, from 0 on, have inputs with no more bytes than a capture of 65,536 packets with 33,554,432 bytes
-abbrev pub AreShort : List (List ℕ) → ℕ → Type 0
-AreShort inputs count = (port : ℕ) → port < count → length (bytes_of inputs port) ≤ 34603032
+-- so many ports, from 0 on, have inputs with no more bytes than the most
+abbrev pub AreShort : ℕ → List (List ℕ) → ℕ → Type 0
+AreShort most inputs count = (port : ℕ) → port < count → length (bytes_of inputs port) ≤ most
 
 -- the lowest port with a longer one
-pub record IsTooLong (inputs : List (List ℕ)) (port : ℕ) : Type 0 where
+pub record IsTooLong (most : ℕ) (inputs : List (List ℕ)) (port : ℕ) : Type 0 where
   pub known : port < length inputs
-  pub long : 34603032 < length (bytes_of inputs port)
-  pub before : AreShort inputs port
+  pub long : most < length (bytes_of inputs port)
+  pub before : AreShort most inputs port
 
 -- all are captures, with a list of packets each
 pub record AreCaptures (inputs : List (List ℕ)) (lists : List (List (List ℕ))) : Type 0 where

@@ -4,6 +4,7 @@ use crate::{Excess, Status};
 use std::alloc::AllocError;
 use xsk_io::Stream;
 use xsk_pcap::BadCapture;
+use xsk_pcapng::BadPcapng;
 use xsk_umem::OutOfMemory;
 
 /// Why the inputs weren't read.
@@ -25,6 +26,7 @@ pub(crate) enum RunFailure {
     TooMuch(Excess),
     Stalled { round: u64 },
     OutOfMemory,
+    BadPcapng(BadPcapng),
 }
 
 /// Why the texts weren't written.
@@ -98,6 +100,7 @@ impl From<RunFailure> for Status {
             RunFailure::TooMuch(excess) => Status::TooMuch(excess),
             RunFailure::Stalled { round } => Status::Stalled { round },
             RunFailure::OutOfMemory => Status::OutOfMemory,
+            RunFailure::BadPcapng(cause) => Status::BadPcapng(cause),
         }
     }
 }

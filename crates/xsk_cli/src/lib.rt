@@ -3,6 +3,8 @@
 
 mod captures;
 mod failure;
+mod files;
+mod format;
 mod input;
 pub mod laws;
 mod lent;

@@ -2,8 +2,8 @@
 
 use xsk_args::{OptionRow, Takes};
 
-/// Each has a number, but `--prog`, `--wire`, `--sg` and `--journal`. The number that stands where none was said is [`Plan`](crate::words::Plan)'s.
-pub(crate) const OPTIONS: [OptionRow; 18] = [
+/// Each has a number, but `--prog`, `--wire`, and the flags `--sg`, `--wakeup`, `--journal` and `--pcapng`. The number that stands where none was said is [`Plan`](crate::words::Plan)'s.
+pub(crate) const OPTIONS: [OptionRow; 19] = [
     OptionRow {
         name: "ports",
         takes: Takes::Number,
@@ -74,6 +74,10 @@ pub(crate) const OPTIONS: [OptionRow; 18] = [
     },
     OptionRow {
         name: "journal",
+        takes: Takes::Nothing,
+    },
+    OptionRow {
+        name: "pcapng",
         takes: Takes::Nothing,
     },
 ];

@@ -2,13 +2,15 @@ use Rattle.std.proofs.Common.{rules, ◌≡◌, length, map, sym, ap, ◌∙◌,
 use Rattle.std.proofs.lemmas.List.{length-map}
 use Rattle.xsk_cli.specs.Judged.{AreShort}
 use Rattle.xsk_cli.specs.Outcome.{made, AreListsOf, AreTextsBy, IsOutcome}
-use Rattle.xsk_cli.specs.Steps.{FailsMaking, HaveRead, MakesNone, lists_in, plan_in, read_status, run_status, write_status, written_by, written_in}
+use Rattle.xsk_cli.specs.Steps.{FailsMaking, HaveRead, MakesNone, lists_in, plan_in, read_status, run_status, write_status, written_in}
 use Rattle.xsk_cli.specs.Streams.{Moment, AreWritten}
+use Rattle.xsk_cli.specs.Words.{most_of, ports_in}
 use Rattle.xsk_cli.proofs.Making.{few_read, making_fails}
 use Rattle.xsk_cli.proofs.Writing.{SameInputs, run_fails, unwritten_ends, done_ends, status_ends, texts_count}
 use Rattle.std.specs.Prelude.{All}
 use Rattle.xsk_sim.specs.Shown.{HasShortPackets}
 use Rattle.xsk_cli.proofs.Short.{short_lists}
+use Rattle.xsk_cli.proofs.Showing.{few_written}
 use Rattle.xsk_cli.proofs.plain.run_plan.Goals as goal
 
 pub read_inputs-requires-clause-few : goal.read_inputs-requires-clause-few
@@ -21,7 +23,7 @@ returns-in_err-inputs-clause-ends g c =
     let mid : Moment = record { is_open = g.B.Bay.is_open c.read_inputs.new.bay; asked = g.B.Bay.asked c.read_inputs.new.bay; left = g.B.Bay.left c.read_inputs.new.bay; held = g.B.Bay.held c.read_inputs.new.bay; offers = g.B.Bay.offers c.read_inputs.new.bay; faults = g.B.Bay.faults c.read_inputs.new.bay } in
     let plan = plan_in c.args.plan.now in
     let failure = c.in_err-inputs.field-0.0 in
-    status_ends c.from_residual.result (read_status failure) plan old mid (search rules) (c.in_err-inputs.ensures.failed plan (search rules))
+    status_ends c.from_residual.result (read_status failure) plan old mid (search rules) (c.in_err-inputs.ensures.failed plan (search rules) (sym c.most_input.ensures))
 
 pub returns-in_err-lists-clause-ends : goal.returns-in_err-lists-clause-ends
 returns-in_err-lists-clause-ends g c =
@@ -30,7 +32,8 @@ returns-in_err-lists-clause-ends g c =
     let plan = plan_in c.args.plan.now in
     let bytes = map (λ bytes. bytes.items) c.in_ok-inputs.inputs.items in
     let failure = c.in_err-lists.field-0.0 in
-    let have : HaveRead plan.inputs bytes (length plan.inputs) old mid = subst (λ n. HaveRead plan.inputs bytes n old mid) (sym (length-map c.args.plan.now.inputs.now (λ name. name.now))) c.in_ok-inputs.ensures.read in
+    let have : HaveRead (most_of plan.work) plan.inputs bytes (length plan.inputs) old mid = subst (λ n. HaveRead (most_of plan.work) plan.inputs bytes n old mid) (sym (length-map c.args.plan.now.inputs.now (λ name. name.now)))
+    (subst (λ m. HaveRead m plan.inputs bytes (length c.args.plan.now.inputs.now) old mid) c.most_input.ensures c.in_ok-inputs.ensures.read) in
     let makes : MakesNone plan.work bytes failure = c.in_err-lists.ensures.failed in
     status_ends c.from_residual-in_err-lists.result (run_status failure) plan old mid (search rules) (run_fails plan bytes old mid mid have failure makes)
 
@@ -42,17 +45,22 @@ returns-in_err-texts-clause-ends g c =
     let bytes = map (λ bytes. bytes.items) c.in_ok-inputs.inputs.items in
     let lists = lists_in c.in_ok-lists.lists.items in
     let failure = c.in_err-texts.field-0.0 in
-    let have : HaveRead plan.inputs bytes (length plan.inputs) old mid = subst (λ n. HaveRead plan.inputs bytes n old mid) (sym (length-map c.args.plan.now.inputs.now (λ name. name.now))) c.in_ok-inputs.ensures.read in
-    let short : AreShort bytes (length bytes) = subst (AreShort bytes) (sym have.count_is) have.short in
+    let have : HaveRead (most_of plan.work) plan.inputs bytes (length plan.inputs) old mid = subst (λ n. HaveRead (most_of plan.work) plan.inputs bytes n old mid) (sym (length-map c.args.plan.now.inputs.now (λ name. name.now)))
+    (subst (λ m. HaveRead m plan.inputs bytes (length c.args.plan.now.inputs.now) old mid) c.most_input.ensures c.in_ok-inputs.ensures.read) in
+    let short : AreShort (most_of plan.work) bytes (length bytes) = subst (AreShort (most_of plan.work) bytes) (sym have.count_is) have.short in
     let are : AreListsOf plan.work bytes lists = c.in_ok-lists.ensures.taken in
     let fails : FailsMaking plan.work lists failure = subst (λ ls. FailsMaking plan.work (lists_in ls) failure) c.as_slice.ensures.value c.in_err-texts.ensures.failed in
     status_ends c.from_residual-in_err-texts.result (run_status failure) plan old mid (search rules)
     (run_fails plan bytes old mid mid have failure (making_fails plan.work bytes lists failure short are c.in_ok-lists.ensures.within fails))
 
+pub write_texts-requires-clause-few : goal.write_texts-requires-clause-few
+write_texts-requires-clause-few g c =
+    omega (arith, few_written c.args.plan.now.work c.requires.ready.accepted, c.requires.ready.outputs, length-map c.args.plan.now.outputs.now (λ name. name.now))
+
 pub write_texts-requires-clause-texts : goal.write_texts-requires-clause-texts
 write_texts-requires-clause-texts g c =
     let plan = plan_in c.args.plan.now in
-    let count : length (lists_in c.as_slice.result.now) ≡ written_by plan.work =
+    let count : length (lists_in c.as_slice.result.now) ≡ ports_in plan.work =
     length-map c.as_slice.result.now (λ list. list.packets) ∙ ap length c.as_slice.ensures.value ∙ c.in_ok-lists.ensures.count in
     omega (
       arith,
@@ -72,8 +80,9 @@ returns-in_err-write_texts-clause-ends g c =
     let lists = lists_in c.in_ok-lists.lists.items in
     let texts = written_in c.in_ok-texts.texts in
     let failure = c.in_err-write_texts.field-0.0 in
-    let have : HaveRead plan.inputs bytes (length plan.inputs) old mid = subst (λ n. HaveRead plan.inputs bytes n old mid) (sym (length-map c.args.plan.now.inputs.now (λ name. name.now))) c.in_ok-inputs.ensures.read in
-    let short : AreShort bytes (length bytes) = subst (AreShort bytes) (sym have.count_is) have.short in
+    let have : HaveRead (most_of plan.work) plan.inputs bytes (length plan.inputs) old mid = subst (λ n. HaveRead (most_of plan.work) plan.inputs bytes n old mid) (sym (length-map c.args.plan.now.inputs.now (λ name. name.now)))
+    (subst (λ m. HaveRead m plan.inputs bytes (length c.args.plan.now.inputs.now) old mid) c.most_input.ensures c.in_ok-inputs.ensures.read) in
+    let short : AreShort (most_of plan.work) bytes (length bytes) = subst (AreShort (most_of plan.work) bytes) (sym have.count_is) have.short in
     let are : AreListsOf plan.work bytes lists = c.in_ok-lists.ensures.taken in
     let is : AreTextsBy plan.work lists texts = subst (λ ls. AreTextsBy plan.work (lists_in ls) texts) c.as_slice.ensures.value c.in_ok-texts.ensures.made in
     let outcome : IsOutcome plan.work bytes (made texts) = (short, (lists, are, (c.in_ok-lists.ensures.within, is))) in
@@ -90,8 +99,9 @@ returns-clause-ends g c =
     let bytes = map (λ bytes. bytes.items) c.in_ok-inputs.inputs.items in
     let lists = lists_in c.in_ok-lists.lists.items in
     let texts = written_in c.in_ok-texts.texts in
-    let have : HaveRead plan.inputs bytes (length plan.inputs) old mid = subst (λ n. HaveRead plan.inputs bytes n old mid) (sym (length-map c.args.plan.now.inputs.now (λ name. name.now))) c.in_ok-inputs.ensures.read in
-    let short : AreShort bytes (length bytes) = subst (AreShort bytes) (sym have.count_is) have.short in
+    let have : HaveRead (most_of plan.work) plan.inputs bytes (length plan.inputs) old mid = subst (λ n. HaveRead (most_of plan.work) plan.inputs bytes n old mid) (sym (length-map c.args.plan.now.inputs.now (λ name. name.now)))
+    (subst (λ m. HaveRead m plan.inputs bytes (length c.args.plan.now.inputs.now) old mid) c.most_input.ensures c.in_ok-inputs.ensures.read) in
+    let short : AreShort (most_of plan.work) bytes (length bytes) = subst (AreShort (most_of plan.work) bytes) (sym have.count_is) have.short in
     let are : AreListsOf plan.work bytes lists = c.in_ok-lists.ensures.taken in
     let is : AreTextsBy plan.work lists texts = subst (λ ls. AreTextsBy plan.work (lists_in ls) texts) c.as_slice.ensures.value c.in_ok-texts.ensures.made in
     let outcome : IsOutcome plan.work bytes (made texts) = (short, (lists, are, (c.in_ok-lists.ensures.within, is))) in
