@@ -6,19 +6,21 @@ use Rattle.xsk_io.specs.declared.bay.Stream.TheVariants.{Input, Output, Report}
 use Rattle.xsk_pcap.specs.declared.reading.BadCapture.{BadCapture as Cause}
 use Rattle.xsk_cli.specs.Cause.{IsCaused}
 use Rattle.xsk_cli.specs.Ends.{ComesOf, EndsBy, Ends, AreTold, Answers, AreTaken, NoneRose, IsComplete}
-use Rattle.xsk_cli.specs.Judged.{bytes_of, excess_of, most_of}
-use Rattle.xsk_cli.specs.Outcome.{Written, Outcome, long, bad, passed, stalled, made, illegal, made_lists, IsOutcome, IsOutcomeIn}
+use Rattle.xsk_cli.specs.Judged.{bytes_of, excess_of}
+use Rattle.xsk_cli.specs.Outcome.{Written, Outcome, long, bad, passed, stalled, made, illegal, made_lists, IsOutcome, IsOutcomeIn, bad_file}
+use Rattle.xsk_pcapng.specs.declared.reading.BadPcapng.{BadPcapng as FileCause}
 use Rattle.xsk_cli.specs.Streams.{Moment, Reach, IsTold}
-use Rattle.xsk_cli.specs.Words.{Plan, fault_in}
+use Rattle.xsk_cli.specs.Words.{Plan, fault_in, most_of}
 use Rattle.xsk_cli.specs.declared.words.Work.{Work}
 use Rattle.xsk_cli.specs.declared.words.Work.TheVariants.{Simulate, Generate, Audit}
 use Rattle.xsk_cli.specs.declared.status.Excess.{Excess}
 use Rattle.xsk_cli.specs.declared.status.Excess.TheVariants.{Input as TooLong, Packets, Bytes}
 use Rattle.xsk_cli.specs.declared.status.Status.{Status}
-use Rattle.xsk_cli.specs.declared.status.Status.TheVariants.{Done, Usage, BadCapture, ReadFault, WriteFault, OpenFault, Refused, Stalled, TooMuch, OutOfMemory, NotLegal}
+use Rattle.xsk_cli.specs.declared.status.Status.TheVariants.{Done, Usage, BadCapture, ReadFault, WriteFault, OpenFault, Refused, Stalled, TooMuch, OutOfMemory, NotLegal, BadPcapng}
 use Rattle.xsk_cli.proofs.Ports.{same_lists}
 use Rattle.xsk_cli.proofs.Making.{few_ports, made_within}
-use Rattle.xsk_cli.proofs.Unique.{one_outcome, same_captures, bad_not_captures}
+use Rattle.xsk_cli.specs.declared.format.Format.TheVariants.{Pcap}
+use Rattle.xsk_cli.proofs.Unique.{one_outcome, same_files, bad_not_files, bad_file_not_files, none_bad, none_bad_file}
 
 told_is : (left : Option (List ℕ)) (bytes text : List ℕ) → left ≡ Some bytes → IsTold left text → bytes ≡ text
 told_is left bytes text is h = subst (λ l. IsTold l text) is h
@@ -87,14 +89,22 @@ module _ (plan : Plan) (old new : Moment) (inputs : List (List ℕ)) (told : Are
       same_outcome (TooMuch (Bytes n)) (passed (Bytes n)) outcome ends (reached (TooMuch (Bytes n)) _ ends ends.reaches) ends.comes h
   answered OutOfMemory outcome ends words h = tt
   answered (NotLegal line) outcome ends words h = same_outcome (NotLegal line) (illegal line) outcome ends (reached (NotLegal line) _ ends ends.reaches) ends.comes h
+  answered (BadPcapng cause) outcome ends words h =
+      same_outcome (BadPcapng cause) (bad_file cause) outcome ends (reached (BadPcapng cause) _ ends ends.reaches) ends.comes h
 
   -- ---- completeness
 
   not_bad : (work : Work) → AreTaken work inputs → (port : ℕ) (cause : Cause) → IsOutcome work inputs (bad port cause) → ⊥
-  not_bad (Simulate layout program wire mangle order None journal) taken port cause h = bad_not_captures inputs port cause taken.1.0 h.1 taken.1.1
-  not_bad (Simulate layout program wire mangle order (Some number) journal) taken port cause h = omega (arith, h.1.known, ap length taken)
-  not_bad (Generate number) taken port cause h = omega (arith, h.1.known, ap length taken)
+  not_bad (Simulate layout program wire mangle order None journal format) taken port cause h = bad_not_files format layout.ports inputs port cause taken.1.0 h.1 taken.1.1
+  not_bad (Simulate layout program wire mangle order (Some number) journal format) taken port cause h = none_bad format inputs port cause taken h.1
+  not_bad (Generate number) taken port cause h = none_bad Pcap inputs port cause taken h.1
   not_bad (Audit layout) taken port cause h = h.2
+
+  not_bad_file : (work : Work) → AreTaken work inputs → (cause : FileCause) → IsOutcome work inputs (bad_file cause) → ⊥
+  not_bad_file (Simulate layout program wire mangle order None journal format) taken cause h = bad_file_not_files format layout.ports inputs cause taken.1.0 h.1 taken.1.1
+  not_bad_file (Simulate layout program wire mangle order (Some number) journal format) taken cause h = none_bad_file format layout.ports inputs cause taken h.1
+  not_bad_file (Generate number) taken cause h = h.1
+  not_bad_file (Audit layout) taken cause h = h.1
 
   none_passed : (lists : List (List (List ℕ))) (excess : Excess) → excess_of lists ≡ Some excess → excess_of lists ≡ None → ⊥
   none_passed lists excess is none = let no = sym is ∙ none in absurd cc
@@ -103,15 +113,15 @@ module _ (plan : Plan) (old new : Moment) (inputs : List (List ℕ)) (told : Are
   made_not_passed lists number ports excess few are is = none_passed lists excess is (ap excess_of are ∙ made_within number ports few)
 
   not_passed : (work : Work) → fault_in work ≡ None → AreTaken work inputs → (excess : Excess) → IsOutcomeIn work inputs (passed excess) → ⊥
-  not_passed (Simulate layout program wire mangle order None journal) accepted taken excess h =
-      none_passed h.0 excess h.2 (ap excess_of (same_captures inputs h.0 taken.1.0 h.1 taken.1.1) ∙ taken.1.2)
-  not_passed (Simulate layout program wire mangle order (Some number) journal) accepted taken excess h = made_not_passed h.0 number layout.ports excess (few_ports layout accepted) h.1.1 h.2
+  not_passed (Simulate layout program wire mangle order None journal format) accepted taken excess h =
+      none_passed h.0 excess h.2 (ap excess_of (same_files format layout.ports inputs h.0 taken.1.0 h.1 taken.1.1) ∙ taken.1.2)
+  not_passed (Simulate layout program wire mangle order (Some number) journal format) accepted taken excess h = made_not_passed h.0 number layout.ports excess (few_ports layout accepted) h.1.1 h.2
   not_passed (Generate number) accepted taken excess h = made_not_passed h.0 number 1 excess (omega arith) h.1.1 h.2
   not_passed (Audit layout) accepted taken excess h = h.1
 
   all_short : (work : Work) → AreTaken work inputs → (port : ℕ) → port < length inputs → length (bytes_of inputs port) ≤ most_of work
-  all_short (Simulate layout program wire mangle order None journal) taken port known = taken.0 port known
-  all_short (Simulate layout program wire mangle order (Some number) journal) taken port known = absurd (omega (arith, known, ap length taken))
+  all_short (Simulate layout program wire mangle order None journal format) taken port known = taken.0 port known
+  all_short (Simulate layout program wire mangle order (Some number) journal format) taken port known = absurd (omega (arith, known, ap length taken))
   all_short (Generate number) taken port known = absurd (omega (arith, known, ap length taken))
   all_short (Audit layout) taken port known = taken port known
 
@@ -137,3 +147,5 @@ module _ (plan : Plan) (old new : Moment) (inputs : List (List ℕ)) (told : Are
       not_passed plan.work accepted taken (Bytes n) (mine (TooMuch (Bytes n)) (passed (Bytes n)) ends (reached (TooMuch (Bytes n)) _ ends ends.reaches) ends.comes).1
   completes OutOfMemory ends words accepted taken none caused = tt
   completes (NotLegal line) ends words accepted taken none caused = tt
+  completes (BadPcapng cause) ends words accepted taken none caused =
+      not_bad_file plan.work taken cause (mine (BadPcapng cause) (bad_file cause) ends (reached (BadPcapng cause) _ ends ends.reaches) ends.comes)

@@ -10,7 +10,7 @@ use Rattle.xsk_io.specs.declared.bay.Stream.TheVariants.{Input, Output, Report}
 use Rattle.xsk_cli.specs.Cause.{IsFault, NoOthers, Unchanged}
 use Rattle.xsk_cli.specs.Streams.{HasLine, IsOfLine}
 use Rattle.xsk_cli.specs.declared.status.Status.{Status}
-use Rattle.xsk_cli.specs.declared.status.Status.TheVariants.{Done, Usage, BadCapture, ReadFault, WriteFault, OpenFault, Refused, Stalled, TooMuch, OutOfMemory, NotLegal}
+use Rattle.xsk_cli.specs.declared.status.Status.TheVariants.{Done, Usage, BadCapture, ReadFault, WriteFault, OpenFault, Refused, Stalled, TooMuch, OutOfMemory, NotLegal, BadPcapng}
 
 same_stream : (one other : Stream) → (other ≡ one) ⊎ (other ≢ one)
 same_stream (Input n) (Input m) = ⊎_elim (λ (e : m ≡ n). inl (ap Input e)) (λ (ne : m ≡ n → ⊥). inr (λ e. ne (let i : m ≡ n = cc in i))) (cases_eq m n)
@@ -72,6 +72,7 @@ has_line (Stalled round) = inl tt
 has_line (NotLegal line) = inl tt
 has_line (TooMuch excess) = inl tt
 has_line OutOfMemory = inl tt
+has_line (BadPcapng cause) = inl tt
 
 pub told_others : (old mid new : Kind → Stream → ℕ) (status : Status) → NoOthers old mid status → CountsOnly Write Report mid new → ((HasLine status → ⊥) → Unchanged mid new)
     → (kind : Kind) (stream : Stream) → (IsFault status kind stream → ⊥) → (IsOfLine status kind stream → ⊥) → new kind stream ≡ old kind stream

@@ -10,11 +10,13 @@ use Rattle.xsk_umem.specs.PacketList.{PacketList}
 use Rattle.xsk_pcap.specs.Capture.{IsCapture, Record, record_bytes, header_bytes}
 use Rattle.xsk_pcap.specs.declared.endianness.Endianness.{Endianness}
 use Rattle.xsk_pcap.proofs.Unique.{length-record}
+use Rattle.xsk_cli.specs.Format.{most_input}
+use Rattle.xsk_cli.specs.declared.format.Format.TheVariants.{Pcap}
 use Rattle.xsk_cli.specs.Judged.{bytes_of, AreShort, AreCaptures, packets_in, bytes_in, excess_of}
 use Rattle.xsk_cli.specs.Outcome.{listed}
 use Rattle.xsk_cli.specs.Steps.{AreUntaken, IsRefusal, lists_in}
 use Rattle.xsk_cli.specs.declared.failure.RunFailure.{RunFailure}
-use Rattle.xsk_cli.specs.declared.failure.RunFailure.TheVariants.{BadCapture as Bad, TooMuch as Excessive, Stalled as Stalls, OutOfMemory as NoMemory, NotLegal as Breaks}
+use Rattle.xsk_cli.specs.declared.failure.RunFailure.TheVariants.{BadCapture as Bad, TooMuch as Excessive, Stalled as Stalls, OutOfMemory as NoMemory, NotLegal as Breaks, BadPcapng as BadFile}
 use Rattle.xsk_cli.proofs.Ports.{push_each, small_sum}
 
 -- the first inputs are captures, and these are the lists of their packets
@@ -37,7 +39,7 @@ taken_more inputs lists list n have is bare =
           ∙ sym (map-append listed (lists_in lists) (list.packets ∷ [])) ∙ ap (map listed) (sym parts);
     }
 
-pub refusal_makes : (inputs : List (List ℕ)) (lists : List PacketList) (n : ℕ) (failure : RunFailure) → HaveTaken inputs lists n → n < length inputs → AreShort inputs (length inputs)
+pub refusal_makes : (inputs : List (List ℕ)) (lists : List PacketList) (n : ℕ) (failure : RunFailure) → HaveTaken inputs lists n → n < length inputs → AreShort (most_input Pcap) inputs (length inputs)
     → IsRefusal n (bytes_of inputs n) failure → AreUntaken inputs failure
 refusal_makes inputs lists n (Bad at cause) have known short h =
     subst (λ k. AreUntaken inputs (Bad k cause)) (sym h.0)
@@ -46,6 +48,7 @@ refusal_makes inputs lists n (Excessive excess) have known short h = absurd h
 refusal_makes inputs lists n (Stalls round) have known short h = absurd h
 refusal_makes inputs lists n (Breaks line) have known short h = absurd h
 refusal_makes inputs lists n NoMemory have known short h = tt
+refusal_makes inputs lists n (BadFile cause) have known short h = absurd h
 
 -- ---- sizes
 
@@ -71,7 +74,7 @@ length-captured bytes packets h =
     )
 
 -- so all of them have few
-pub bytes_small : (inputs : List (List ℕ)) (lists : List (List (List ℕ))) → AreCaptures inputs lists → AreShort inputs (length inputs) → length inputs ≤ 4 → bytes_in lists ≤ 138412128
+pub bytes_small : (inputs : List (List ℕ)) (lists : List (List (List ℕ))) → AreCaptures inputs lists → AreShort (most_input Pcap) inputs (length inputs) → length inputs ≤ 4 → bytes_in lists ≤ 138412128
 bytes_small inputs lists captures short few =
     let sum = small_sum (λ (packets : List (List ℕ)). length (concat packets)) [] lists
     (λ i h.
@@ -110,8 +113,8 @@ text_next text before x after all port is at =
     let here : x ≡ get_or all port x = sym (get_or-append_seam before x after x) ∙ ap (λ xs. get_or xs (length before) x) is ∙ ap (λ n. get_or all n x) (sym at) in
     (known, text_at text all port x (text x) known (ap text here))
 
-pub short_all : {X : Type 0} (text : X → List ℕ) (xs : List X) → AreShort (map text xs) (length xs) → AreShort (map text xs) (length (map text xs))
-short_all text xs short = subst (AreShort (map text xs)) (sym (length-map xs text)) short
+pub short_all : {X : Type 0} (most : ℕ) (text : X → List ℕ) (xs : List X) → AreShort most (map text xs) (length xs) → AreShort most (map text xs) (length (map text xs))
+short_all most text xs short = subst (AreShort most (map text xs)) (sym (length-map xs text)) short
 
 -- an answer with such a failure
 pub answer_untaken : {A : Type 0} (answer : Result A RunFailure) (failure : RunFailure) (inputs : List (List ℕ)) → answer ≡ Err failure → AreUntaken inputs failure → IfErr answer (AreUntaken inputs)

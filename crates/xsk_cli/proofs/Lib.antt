@@ -2,6 +2,7 @@ pub mod Ports
 pub mod Reading
 pub mod Writing
 pub mod Judging
+pub mod Filing
 pub mod Going
 pub mod Queues
 pub mod Running

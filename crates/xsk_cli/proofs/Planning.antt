@@ -1,6 +1,6 @@
 -- What words ask for.
-use Rattle.std.proofs.Common.{◌≡◌, ℕ, ◌+◌, ◌*◌, ◌<◌, ◌≤◌, Bool, cond, true, false, refl, ap, arith, List, [], ◌∷◌, length, map, codes, Option, None, Some, is_some, take, drop, subst, sym}
-use Rattle.std.specs.Prelude.{unwrap_or}
+use Rattle.std.proofs.Common.{◌≡◌, ℕ, ◌+◌, ◌*◌, ◌<◌, ◌≤◌, Bool, cond, true, false, refl, ap, ◌∙◌, arith, eqb-true, List, [], ◌∷◌, length, map, codes, Option, None, Some, is_some, take, drop, subst, sym}
+use Rattle.std.specs.Prelude.{unwrap_or, option_and_then}
 use Rattle.std.proofs.lemmas.Bool.Decides.{nat_tests}
 use Rattle.xsk_args.specs.Meaning.{Meaning}
 use Rattle.xsk_args.specs.Words.{Text}
@@ -9,7 +9,10 @@ use Rattle.xsk_args.specs.declared.wire.Wire.{Wire}
 use Rattle.xsk_socket.specs.declared.layout.Layout.{Layout}
 use Rattle.xsk_socket.specs.Layout.{fault_of}
 use Rattle.xsk_socket.proofs.Accepted.{files_are, fits}
-use Rattle.xsk_cli.specs.Words.{Plan, are_made, counted, fault_in, files_in, layout_by, inputs_named, number_of, number_or, plan_by, plan_of, ports_of, program_of, wire_of}
+use Rattle.xsk_cli.specs.Format.{files_of}
+use Rattle.xsk_cli.specs.declared.format.Format.{Format}
+use Rattle.xsk_cli.specs.declared.format.Format.TheVariants.{Pcap, Pcapng}
+use Rattle.xsk_cli.specs.Words.{Plan, are_enough, are_made, counted, fault_in, files_counted, files_in, format_of, has_files, layout_by, inputs_named, number_of, number_or, plan_by, plan_of, planned_by, ports_of, program_of, wanted_per_port, wire_of}
 use Rattle.xsk_cli.specs.Steps.{IsReady}
 use Rattle.xsk_cli.proofs.Making.{few_ports}
 use Rattle.xsk_cli.specs.declared.words.Work.TheVariants.{Simulate}
@@ -19,37 +22,53 @@ counted_few : (n m : ℕ) → counted n ≡ m → m < 4294967295 → n ≡ m
 counted_few n m is few = grind (arith, nat_tests)
 
 -- as many files as the plan wants
-pub files_named : (said : Meaning) → fault_of (layout_by said) ≡ None → length (files_in said) ≡ inputs_named said + ports_of said
-files_named said none = go (are_made said) (ports_of said) (few_ports (layout_by said) none) (files_are (layout_by said) none)
+pub files_named : (said : Meaning) → has_files said ≡ true → fault_of (layout_by said) ≡ None → length (files_in said) ≡ inputs_named said + files_of (format_of said) (ports_of said)
+files_named said enough none = go (format_of said) (are_made said) (ports_of said) enough (few_ports (layout_by said) none) (files_are (layout_by said) none)
   where
-    go : (made : Bool) (ports : ℕ) → ports ≤ 4 → counted (length (files_in said)) ≡ cond made 1 2 * ports → length (files_in said) ≡ cond made 0 ports + ports
-    go true ports few is = omega (arith, counted_few (length (files_in said)) (1 * ports) is (omega (arith, few)))
-    go false ports few is = omega (arith, counted_few (length (files_in said)) (2 * ports) is (omega (arith, few)))
+    go : (format : Format) (made : Bool) (ports : ℕ) → are_enough format made (length (files_in said)) ≡ true → ports ≤ 4 → files_counted format (length (files_in said)) ≡ wanted_per_port format made * ports
+        → length (files_in said) ≡ cond made 0 (files_of format ports) + files_of format ports
+    go Pcap true ports enough few is = omega (arith, counted_few (length (files_in said)) (1 * ports) is (omega (arith, few)))
+    go Pcap false ports enough few is = omega (arith, counted_few (length (files_in said)) (2 * ports) is (omega (arith, few)))
+    go Pcapng true ports enough few is = eqb-true (length (files_in said)) 1 enough
+    go Pcapng false ports enough few is = eqb-true (length (files_in said)) 2 enough
+
+some_format : (format : Format) (ports : ℕ) → 0 < ports → 0 < files_of format ports
+some_format Pcap ports some = some
+some_format Pcapng ports some = omega arith
 
 -- so an accepted layout has files
-pub some_files : (said : Meaning) → fault_of (layout_by said) ≡ None → said (codes "FILE") ≡ None → ⊥
-some_files said accepted none =
-    omega (arith, files_named said accepted, ap (λ o. length (unwrap_or o [])) none, (fits (layout_by said) accepted).ports)
+pub some_files : (said : Meaning) → has_files said ≡ true → fault_of (layout_by said) ≡ None → said (codes "FILE") ≡ None → ⊥
+some_files said enough accepted none =
+    let ports : 0 < ports_of said = omega (arith, (fits (layout_by said) accepted).ports) in
+    omega (arith, files_named said enough accepted, ap (λ o. length (unwrap_or o [])) none, some_format (format_of said) (ports_of said) ports)
 
 -- the plan that words ask for wants the files that they name
-ready_by : (layout : Layout) (program : Program) (wire : Wire) (mangle : Option ℕ) (order : ℕ) (number : Option ℕ) (journal : Bool) (files : List Text) → fault_of layout ≡ None → length files ≡ cond (is_some number) 0 layout.ports + layout.ports
-    → IsReady (record { inputs = take (cond (is_some number) 0 layout.ports) files; outputs = drop (cond (is_some number) 0 layout.ports) files; work = Simulate layout program wire mangle order number journal })
-ready_by layout program wire mangle order None journal files accepted count = record {
+ready_by : (layout : Layout) (program : Program) (wire : Wire) (mangle : Option ℕ) (order : ℕ) (number : Option ℕ) (journal : Bool) (format : Format) (files : List Text) → fault_of layout ≡ None
+    → length files ≡ cond (is_some number) 0 (files_of format layout.ports) + files_of format layout.ports
+    → IsReady (record { inputs = take (cond (is_some number) 0 (files_of format layout.ports)) files; outputs = drop (cond (is_some number) 0 (files_of format layout.ports)) files; work = Simulate layout program wire mangle order number journal format })
+ready_by layout program wire mangle order None journal format files accepted count = record {
   accepted = accepted;
-  inputs = length-take-le layout.ports files (omega (arith, count));
-  outputs = omega (arith, length-drop layout.ports files, count);
+  inputs = length-take-le (files_of format layout.ports) files (omega (arith, count));
+  outputs = omega (arith, length-drop (files_of format layout.ports) files, count);
 }
-ready_by layout program wire mangle order (Some n) journal files accepted count = record {
+ready_by layout program wire mangle order (Some n) journal format files accepted count = record {
   accepted = accepted;
   inputs = refl;
   outputs = omega (arith, count);
 }
 
-pub plan_ready : (said : Meaning) (plan : Plan) → plan ≡ plan_by said → fault_in plan.work ≡ None → IsReady plan
-plan_ready said plan is accepted =
+pub plan_ready : (said : Meaning) (plan : Plan) → has_files said ≡ true → plan ≡ plan_by said → fault_in plan.work ≡ None → IsReady plan
+plan_ready said plan enough is accepted =
     let none : fault_of (layout_by said) ≡ None = subst (λ (p : Plan). fault_in p.work ≡ None) is accepted in
     subst IsReady (sym is)
-    (ready_by (layout_by said) (program_of said) (wire_of said) (number_or said (codes "order") 0) (number_of said (codes "gen")) (is_some (said (codes "journal"))) (files_in said) none (files_named said none))
+    (ready_by (layout_by said) (program_of said) (wire_of said) (number_or said (codes "order") 0) (number_of said (codes "gen")) (is_some (said (codes "journal"))) (format_of said) (files_in said) none (files_named said enough none))
+
+-- the plan of words with as many files as they want, and none of others
+pub has_plan : (said : Meaning) (meant : Option Meaning) → meant ≡ Some said → has_files said ≡ true → option_and_then planned_by meant ≡ Some (plan_by said)
+has_plan said meant is enough = ap (option_and_then planned_by) is ∙ ap (λ b. cond b (Some (plan_by said)) None) enough
+
+pub has_no_plan : (said : Meaning) (meant : Option Meaning) → meant ≡ Some said → has_files said ≡ false → option_and_then planned_by meant ≡ None
+has_no_plan said meant is enough = ap (option_and_then planned_by) is ∙ ap (λ b. cond b (Some (plan_by said)) None) enough
 
 pub no_words : {X : Type 0} (text : X → Text) (words : List X) → length words ≡ 0 → plan_of (map text words) ≡ None
 no_words text [] none = refl

@@ -1,6 +1,6 @@
 -- The queues of a port together: what its drivers sent is among the lists of all pairs, and fits one capture.
-use Rattle.std.proofs.Common.{◌≡◌, ℕ, zero, suc, ◌+◌, ◌<◌, ◌≤◌, Bool, true, false, cond, eqb, leb, List, [], ◌∷◌, ◌++◌, length, map, get_or, take, drop, refl, sym, ap, ◌∙◌, arith}
-use Rattle.std.specs.Prelude.{All}
+use Rattle.std.proofs.Common.{◌≡◌, ℕ, zero, suc, ◌+◌, ◌<◌, ◌≤◌, Bool, true, false, cond, eqb, leb, List, [], ◌∷◌, ◌++◌, length, map, get_or, take, drop, refl, sym, ap, ◌∙◌, ⊎_elim, inl, inr, arith}
+use Rattle.std.specs.Prelude.{All, ◌⊎◌, sum_by}
 use Rattle.std.specs.List.{concat, range_with_len}
 use Rattle.std.proofs.lemmas.Bool.Decides.{nat_tests}
 use Rattle.std.proofs.lemmas.List.{drop-map, length-drop, length-take-le, get_or-drop, get_or-take, take_more}
@@ -10,9 +10,11 @@ use Rattle.std.proofs.lemmas.List.FromFn.{length-map-range_with_len, get_or-map-
 use Rattle.xsk_umem.specs.PacketList.{PacketList}
 use Rattle.xsk_pcap.specs.Capture.{IsShort}
 use Rattle.xsk_pcap.specs.Written.{IsWritable, all_packets}
-use Rattle.xsk_model.specs.Steering.{packet_queue}
+use Rattle.xsk_pcapng.specs.Written.{IsWritable as IsWritableFile}
+use Rattle.xsk_model.specs.Steering.{packet_queue, paired_port}
 use Rattle.xsk_turns.specs.Inputs.{packets_of_queue}
 use Rattle.xsk_laws.proofs.Totals.{total, total-one, total-bytes}
+use Rattle.xsk_cli.specs.Judged.{packets_in, bytes_in}
 use Rattle.xsk_cli.specs.Steps.{lists_in}
 use Rattle.xsk_cli.proofs.Ports.{same_lists}
 
@@ -121,26 +123,82 @@ pub record IsWithin (queues : ℕ) (packets : List (List ℕ)) (queue : ℕ) (se
   pub few : length sent ≤ length (packets_of_queue queues queue packets)
   pub small : length (concat sent) ≤ length (concat (packets_of_queue queues queue packets))
 
+-- of all queues together no more than the port received
+pub record FitsIn (packets sent : List (List ℕ)) : Type 0 where
+  pub short : All IsShort sent
+  pub few : length sent ≤ length packets
+  pub small : length (concat sent) ≤ length (concat packets)
+
+pub queues_within : (queues : ℕ) (g : ℕ → List (List ℕ)) (packets : List (List ℕ)) (count : ℕ) → ((queue : ℕ) → queue < count → IsWithin queues packets queue (g queue))
+    → FitsIn packets (all_packets (map g (range_with_len 0 count)))
+queues_within queues g packets count each =
+    let all = all_packets (map g (range_with_len 0 count)) in
+    record {
+      short = all_short g 0 count (λ queue below. (each queue (omega (arith, below))).short);
+      few =
+          omega (
+            arith,
+            total-one all,
+            total-one packets,
+            within_total (λ _. 1) queues g packets count (λ queue below. omega (arith, (each queue below).few, total-one (g queue), total-one (packets_of_queue queues queue packets))),
+          );
+      small =
+          omega (
+            arith,
+            total-bytes all,
+            total-bytes packets,
+            within_total (λ (x : List ℕ). length x) queues g packets count (λ queue below. omega (arith, (each queue below).small, total-bytes (g queue), total-bytes (packets_of_queue queues queue packets))),
+          );
+    }
+
 pub queues_writable : (queues : ℕ) (g : ℕ → List (List ℕ)) (packets : List (List ℕ)) (count : ℕ) → ((queue : ℕ) → queue < count → IsWithin queues packets queue (g queue))
     → length packets ≤ 65536 → length (concat packets) ≤ 33554432 → IsWritable (map g (range_with_len 0 count))
 queues_writable queues g packets count each few small =
-    let all = all_packets (map g (range_with_len 0 count)) in
+    let within = queues_within queues g packets count each in
     record {
-      each = recursion_from_All IsShort all (all_short g 0 count (λ queue below. (each queue (omega (arith, below))).short));
+      each = recursion_from_All IsShort (all_packets (map g (range_with_len 0 count))) within.short;
+      packets = omega (arith, few, within.few);
+      bytes = omega (arith, small, within.small);
+    }
+
+-- ---- all ports together
+
+-- a number of each port that is no more than one of the paired port's list
+paired_sum : (h : ℕ → ℕ) (g : List (List ℕ) → ℕ) (lists : List (List (List ℕ))) → (length lists ≡ 2) ⊎ (length lists ≡ 4) → ((port : ℕ) → port < length lists → h port ≤ g (get_or lists (paired_port port) []))
+    → sum_over h 0 (length lists) ≤ sum_by g lists
+paired_sum h g [] count each = absurd (⊎_elim (λ e. omega (arith, e)) (λ e. omega (arith, e)) count)
+paired_sum h g (a ∷ []) count each = absurd (⊎_elim (λ e. omega (arith, e)) (λ e. omega (arith, e)) count)
+paired_sum h g (a ∷ b ∷ []) count each = omega (arith, each 0 (omega arith), each 1 (omega arith))
+paired_sum h g (a ∷ b ∷ c ∷ []) count each = absurd (⊎_elim (λ e. omega (arith, e)) (λ e. omega (arith, e)) count)
+paired_sum h g (a ∷ b ∷ c ∷ d ∷ []) count each = omega (arith, each 0 (omega arith), each 1 (omega arith), each 2 (omega arith), each 3 (omega arith))
+paired_sum h g (a ∷ b ∷ c ∷ d ∷ e ∷ lists) count each = absurd (⊎_elim (λ e. omega (arith, e)) (λ e. omega (arith, e)) count)
+
+at_most_four : (n : ℕ) → (n ≡ 2) ⊎ (n ≡ 4) → n ≤ 4
+at_most_four n (inl two) = omega (arith, two)
+at_most_four n (inr four) = omega (arith, four)
+
+pub ports_writable : (g : ℕ → List (List (List ℕ))) (lists : List (List (List ℕ))) → (length lists ≡ 2) ⊎ (length lists ≡ 4) → packets_in lists ≤ 65536 → bytes_in lists ≤ 33554432
+    → ((port : ℕ) → port < length lists → FitsIn (get_or lists (paired_port port) []) (all_packets (g port))) → IsWritableFile (map (λ port. all_packets (g port)) (range_with_len 0 (length lists)))
+ports_writable g lists count few small each =
+    let one : ℕ → List (List ℕ) = λ port. all_packets (g port) in
+    let all = all_packets (map one (range_with_len 0 (length lists))) in
+    record {
+      few = omega (arith, length-map-range_with_len one 0 (length lists), at_most_four (length lists) count);
+      each = recursion_from_All IsShort all (all_short one 0 (length lists) (λ port below. (each port (omega (arith, below))).short));
       packets =
           omega (
             arith,
             few,
             total-one all,
-            total-one packets,
-            within_total (λ _. 1) queues g packets count (λ queue below. omega (arith, (each queue below).few, total-one (g queue), total-one (packets_of_queue queues queue packets))),
+            total_all (λ _. 1) one 0 (length lists),
+            paired_sum (λ port. total (λ _. 1) (one port)) (λ (packets : List (List ℕ)). length packets) lists count (λ port below. omega (arith, total-one (one port), (each port below).few)),
           );
       bytes =
           omega (
             arith,
             small,
             total-bytes all,
-            total-bytes packets,
-            within_total (λ (x : List ℕ). length x) queues g packets count (λ queue below. omega (arith, (each queue below).small, total-bytes (g queue), total-bytes (packets_of_queue queues queue packets))),
+            total_all (λ (x : List ℕ). length x) one 0 (length lists),
+            paired_sum (λ port. total (λ (x : List ℕ). length x) (one port)) (λ (packets : List (List ℕ)). length (concat packets)) lists count (λ port below. omega (arith, total-bytes (one port), (each port below).small)),
           );
     }

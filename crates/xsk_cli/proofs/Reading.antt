@@ -11,13 +11,12 @@ use Rattle.xsk_io.specs.declared.bay.Stream.{Stream}
 use Rattle.xsk_io.specs.declared.bay.Stream.TheVariants.{Input, Output, Report}
 use Rattle.xsk_cli.specs.Cause.{IsCaused, NeverFalls}
 use Rattle.xsk_cli.specs.Ends.{ComesOf, Ends}
-use Rattle.xsk_cli.specs.Judged.{most_of}
 use Rattle.xsk_cli.specs.Outcome.{Written}
 use Rattle.xsk_cli.specs.Streams.{Moment, IsTold, at_input, Reaches, AreRead, AreWritten, IsReported, name_of}
 use Rattle.xsk_cli.specs.Steps.{FailsReading, HaveRead, args_status, read_status}
 use Rattle.xsk_args.specs.declared.error.ArgsError.{ArgsError}
 use Rattle.xsk_args.specs.declared.error.ArgsError.TheVariants.{Usage as IsUsage, OutOfMemory as ArgsMemory}
-use Rattle.xsk_cli.specs.Words.{Plan, fault_in}
+use Rattle.xsk_cli.specs.Words.{Plan, fault_in, most_of}
 use Rattle.xsk_socket.specs.declared.layout.Unlawful.{Unlawful}
 use Rattle.xsk_cli.specs.declared.failure.ReadFailure.{ReadFailure}
 use Rattle.xsk_cli.specs.declared.failure.ReadFailure.TheVariants.{Unopened, Unread, TooLong, OutOfMemory as NoRoom}

@@ -1,12 +1,13 @@
 -- What a run of the command sent is what is expected at each port and queue, and fits the captures of the ports.
 use Rattle.std.proofs.Common.{◌≡◌, ℕ, suc, ◌+◌, ◌*◌, ◌<◌, ◌≤◌, List, [], ◌∷◌, length, map, get_or, take, drop, refl, sym, ap, ◌∙◌, subst, arith, None, append-nil, mul-le-mul_right}
-use Rattle.std.specs.Prelude.{All, ◌++◌, Bool, if◌then◌else◌, Option}
+use Rattle.std.specs.Prelude.{All, ◌++◌, Bool, if◌then◌else◌, Option, ◌⊎◌}
 use Rattle.std.specs.List.{concat, range_with_len}
 use Rattle.std.proofs.lemmas.List.{length-map, get_or-map}
 use Rattle.std.proofs.lemmas.List.Elements.{recursion_from_All}
 use Rattle.std.proofs.lemmas.List.Sums.{get_or-le-sum_by}
 use Rattle.xsk_pcap.specs.Capture.{IsShort}
-use Rattle.xsk_pcap.specs.Written.{IsWritable, written}
+use Rattle.xsk_pcap.specs.Written.{IsWritable, all_packets}
+use Rattle.xsk_pcapng.specs.Written.{IsWritable as IsWritableFile}
 use Rattle.xsk_umem.specs.PacketList.{PacketList}
 use Rattle.xsk_umem.specs.Frame.{Frame}
 use Rattle.xsk_model.specs.Config.{Config, classes_of, callers_of}
@@ -42,14 +43,17 @@ use Rattle.xsk_socket.specs.Regular.{pair_in, regular_of}
 use Rattle.xsk_socket.proofs.Accepted.{fits}
 use Rattle.xsk_socket.proofs.Numbered.{length-numbered}
 use Rattle.xsk_socket.proofs.Regularity.{regular-regular}
+use Rattle.xsk_cli.specs.Format.{joined, outputs_of}
 use Rattle.xsk_cli.specs.Judged.{excess_of}
+use Rattle.xsk_cli.specs.declared.format.Format.{Format}
 use Rattle.xsk_stats.specs.Report.{report_text}
-use Rattle.xsk_cli.specs.Outcome.{Written, listed, setting_of, verdicts_by, wire_by, frames_of, sent_from, going_on, rule_by, report_of, told_of, AreTextsIn, AreTextsOf, manner_of}
+use Rattle.xsk_cli.specs.Outcome.{Written, listed, setting_of, verdicts_by, wire_by, frames_of, sent_from, going_on, rule_by, report_of, told_of, AreTextsIn, AreTextsOf, manner_of, sent_on_by}
 use Rattle.xsk_cli.specs.Steps.{lists_in}
 use Rattle.xsk_cli.proofs.Going.{classes_are, expected_goes_on, is_exact_by, packets_there}
 use Rattle.xsk_cli.proofs.Judging.{limits_of}
 use Rattle.xsk_cli.proofs.Ports.{same_map}
-use Rattle.xsk_cli.proofs.Queues.{IsWithin, piece, queues_writable}
+use Rattle.xsk_cli.proofs.Filing.{same_texts}
+use Rattle.xsk_cli.proofs.Queues.{FitsIn, IsWithin, piece, ports_writable, queues_within, queues_writable}
 
 -- ---- the pairs of a layout
 
@@ -112,12 +116,12 @@ module _ (layout : Layout) (program : Program) (wire : Wire) (mangle : Option �
         all_is_expected manner (wire_by wire) config (map listed lists) verdicts (frames_of layout) history port queue none (ap wire_by waits) whole_runs in_ports in_queues classes
         ∙ expected_goes_on layout program lists port queue 0 accepted (record { in_ports = in_ports; in_queues = in_queues; in_classes = omega (arith, classes) })
 
-    pub texts_in : (told : List ℕ) (texts : Written)
-        → texts.outputs ≡ map (λ port. written (take layout.queues (drop (port * layout.queues) all))) (range_with_len 0 layout.ports)
-        → texts.report ≡ told → AreTextsIn layout program wire mangle lists history told texts
-    texts_in told texts outputs report =
-        let is : texts.outputs ≡ map (λ port. written (sent_from layout history port)) (range_with_len 0 layout.ports) =
-        outputs ∙ same_map _ _ 0 layout.ports (λ port h. ap written (all_sent port (omega (arith, h)))) in
+    pub texts_in : (format : Format) (told : List ℕ) (texts : Written)
+        → texts.outputs ≡ outputs_of format (λ port. take layout.queues (drop (port * layout.queues) all)) (range_with_len 0 layout.ports)
+        → texts.report ≡ told → AreTextsIn format layout program wire mangle lists history told texts
+    texts_in format told texts outputs report =
+        let is : texts.outputs ≡ outputs_of format (sent_from layout history) (range_with_len 0 layout.ports) =
+        outputs ∙ same_texts format (λ port. take layout.queues (drop (port * layout.queues) all)) (sent_from layout history) layout.ports all_sent in
         record {
           sent = is;
           forwarded = λ port queue none in_ports in_queues.
@@ -126,8 +130,8 @@ module _ (layout : Layout) (program : Program) (wire : Wire) (mangle : Option �
               nothing_else_is_sent manner (wire_by wire) config (map listed lists) verdicts (frames_of layout) history port queue none (ap wire_by waits) whole_runs in_ports in_queues;
           one_socket = λ none waits one.
               is
-              ∙ same_map _ _ 0 layout.ports (λ port h. ap written
-              (same_map _ _ 0 layout.queues (λ queue k. one_sent none waits one port queue (omega (arith, h)) (omega (arith, k)))));
+              ∙ same_texts format (sent_from layout history) (sent_on_by layout program lists) layout.ports
+              (λ port h. same_map _ _ 0 layout.queues (λ queue k. one_sent none waits one port queue h (omega (arith, k))));
           report = report;
         }
 
@@ -159,21 +163,35 @@ module _ (layout : Layout) (program : Program) (wire : Wire) (mangle : Option �
           (omega (arith, get_or-le-sum_by (λ (packets : List (List ℕ)). length packets) lists (paired_port port) [] (other_known port in_ports), (limits_of lists within).0))
           (omega (arith, get_or-le-sum_by (λ (packets : List (List ℕ)). length (concat packets)) lists (paired_port port) [] (other_known port in_ports), (limits_of lists within).1)))
 
+      -- so all of them go into one file
+      port_within : (port : ℕ) → port < layout.ports → FitsIn (get_or lists (paired_port port) []) (all_packets (take layout.queues (drop (port * layout.queues) all)))
+      port_within port in_ports =
+          let own : List (List ℕ) = get_or lists (paired_port port) [] in
+          subst (λ (ls : List (List (List ℕ))). FitsIn own (all_packets ls)) (sym (all_sent port in_ports))
+          (queues_within layout.queues (λ queue. sent config history (driver_on config port queue)) own layout.queues (λ queue below. sent_within port queue in_ports below))
+
+      pub all_in_file : IsWritableFile (joined layout.ports layout.queues all)
+      all_in_file =
+          let limits = limits_of lists within in
+          subst (λ (n : ℕ). IsWritableFile (joined n layout.queues all)) count_is
+          (ports_writable (λ port. take layout.queues (drop (port * layout.queues) all)) lists (subst (λ (n : ℕ). (n ≡ 2) ⊎ (n ≡ 4)) (sym count_is) (fits layout accepted).ports) limits.0 limits.1
+          (λ port below. port_within port (omega (arith, below, count_is))))
+
 -- ---- a run in rounds that has ended
 
 module _ (layout : Layout) (program : Program) (wire : Wire) (mangle : Option ℕ) (order : ℕ) (lists : List (List (List ℕ))) (accepted : fault_of layout ≡ None) (run : Shown) (ended : HasEnded (setting_of layout program wire mangle lists) (frames_of layout) order run)
     (pairs : length run.sent ≡ pairs_in layout) where
-  pub texts_of : (journal : Bool) (texts : Written)
-      → texts.outputs ≡ map (λ port. written (take layout.queues (drop (port * layout.queues) run.sent))) (range_with_len 0 layout.ports)
+  pub texts_of : (format : Format) (journal : Bool) (texts : Written)
+      → texts.outputs ≡ outputs_of format (λ port. take layout.queues (drop (port * layout.queues) run.sent)) (range_with_len 0 layout.ports)
       → run.pairs ≡ pairs_in layout → texts.report ≡ report_text (regular_of layout) run.figures ++ (if journal then journal_of run.pairs run.log else [])
-      → AreTextsOf layout program wire mangle order lists journal texts
-  texts_of journal texts outputs drivers report =
+      → AreTextsOf format layout program wire mangle order lists journal texts
+  texts_of format journal texts outputs drivers report =
       let config : Config = regular_of layout in
       record {
         run = run;
         ended = ended;
         are =
-            texts_in layout program wire mangle lists accepted ended.history ended.is.legal ended.whole run.sent ended.sent pairs (told_of layout program wire mangle lists journal ended.history) texts outputs
+            texts_in layout program wire mangle lists accepted ended.history ended.is.legal ended.whole run.sent ended.sent pairs format (told_of layout program wire mangle lists journal ended.history) texts outputs
             (report ∙ ap (λ figures. report_text config figures ++ (if journal then journal_of run.pairs run.log else [])) ended.figures
             ∙ ap (λ n. report_of layout program wire mangle lists ended.history ++ (if journal then journal_of n run.log else [])) (drivers ∙ sym (pairs_are layout))
             ∙ ap (λ h. report_of layout program wire mangle lists ended.history ++ (if journal then journal_of (length config.pairs) h else [])) ended.log
@@ -185,19 +203,25 @@ module _ (layout : Layout) (program : Program) (wire : Wire) (mangle : Option �
       → IsWritable (take count (drop (port * layout.queues) run.sent))
   sent_writable count_is within each_short = all_writable layout program wire mangle lists accepted ended.history ended.is.legal ended.whole run.sent ended.sent pairs count_is within each_short
 
+  pub sent_in_file : length lists ≡ layout.ports → excess_of lists ≡ None → ((pair : ℕ) → pair < length run.sent → All IsShort (get_or run.sent pair [])) → IsWritableFile (joined layout.ports layout.queues run.sent)
+  sent_in_file count_is within each_short = all_in_file layout program wire lists accepted ended.history ended.is.legal ended.whole run.sent ended.sent pairs count_is within each_short
+
 -- ---- a run on threads
 
 module _ (layout : Layout) (program : Program) (wire : Wire) (lists : List (List (List ℕ))) (accepted : fault_of layout ≡ None) (o : OutcomeShown) (shown : HasForwarded (setting_of layout program wire lists) (frames_of layout) o)
     (pairs : length o.sent ≡ pairs_in layout) where
-  pub texts_shown : (texts : Written)
-      → texts.outputs ≡ map (λ port. written (take layout.queues (drop (port * layout.queues) o.sent))) (range_with_len 0 layout.ports)
-      → texts.report ≡ report_text (regular_of layout) o.figures → AreTextsIn layout program wire lists o.history (report_of layout program wire lists o.history) texts
-  texts_shown texts outputs report =
-      texts_in layout program wire lists accepted o.history shown.legal shown.whole o.sent shown.sent pairs (report_of layout program wire lists o.history) texts outputs (report ∙ ap (report_text (regular_of layout)) shown.figures)
+  pub texts_shown : (format : Format) (texts : Written)
+      → texts.outputs ≡ outputs_of format (λ port. take layout.queues (drop (port * layout.queues) o.sent)) (range_with_len 0 layout.ports)
+      → texts.report ≡ report_text (regular_of layout) o.figures → AreTextsIn format layout program wire lists o.history (report_of layout program wire lists o.history) texts
+  texts_shown format texts outputs report =
+      texts_in layout program wire lists accepted o.history shown.legal shown.whole o.sent shown.sent pairs format (report_of layout program wire lists o.history) texts outputs (report ∙ ap (report_text (regular_of layout)) shown.figures)
 
   pub shown_writable : length lists ≡ layout.ports → excess_of lists ≡ None → ((pair : ℕ) → pair < length o.sent → All IsShort (get_or o.sent pair [])) → (port count : ℕ) → port < layout.ports → count ≤ layout.queues
       → IsWritable (take count (drop (port * layout.queues) o.sent))
   shown_writable count_is within each_short = all_writable layout program wire lists accepted o.history shown.legal shown.whole o.sent shown.sent pairs count_is within each_short
+
+  pub shown_in_file : length lists ≡ layout.ports → excess_of lists ≡ None → ((pair : ℕ) → pair < length o.sent → All IsShort (get_or o.sent pair [])) → IsWritableFile (joined layout.ports layout.queues o.sent)
+  shown_in_file count_is within each_short = all_in_file layout program wire lists accepted o.history shown.legal shown.whole o.sent shown.sent pairs count_is within each_short
 
 -- so it is one of the command's setting
 pub forwarded_as : (layout : Layout) (program : Program) (wire : Wire) (c : Config) (own : List PacketList) (fs : List Frame) (lists : List (List (List ℕ))) (o : OutcomeShown) → c ≡ regular_of layout → own ≡ map listed lists

@@ -9,7 +9,11 @@ use Rattle.xsk_driver.specs.Sent.{IsShort}
 use Rattle.xsk_gen.specs.Generator.{first, packet}
 use Rattle.xsk_gen.proofs.Sizes.{all_first, length-packet}
 use Rattle.xsk_sim.specs.Shown.{HasShortPackets}
-use Rattle.xsk_cli.specs.Judged.{AreCaptures}
+use Rattle.xsk_pcapng.proofs.Fits.{read_fits}
+use Rattle.xsk_cli.specs.Format.{IsFile}
+use Rattle.xsk_cli.specs.declared.format.Format.TheVariants.{Pcap, Pcapng}
+use Rattle.xsk_cli.specs.Judged.{bytes_of, AreCaptures}
+use Rattle.xsk_cli.proofs.Filing.{each_of_all}
 use Rattle.xsk_cli.specs.Outcome.{made_lists, AreListsOf}
 use Rattle.xsk_cli.specs.Steps.{lists_in}
 use Rattle.xsk_cli.specs.declared.words.Work.{Work}
@@ -28,9 +32,13 @@ made_short number ports port below =
 captured_short : (inputs : List (List ℕ)) (lists : List (List (List ℕ))) → AreCaptures inputs lists → AllShort lists
 captured_short inputs lists are port below = All-from_recursion IsShort (get_or lists port []) (are.each port (omega (arith, below, are.count))).1.records.short
 
+filed_short : (ports : ℕ) (inputs : List (List ℕ)) (lists : List (List (List ℕ))) → IsFile ports inputs lists → AllShort lists
+filed_short ports inputs lists are port below = All-from_recursion IsShort (get_or lists port []) (each_of_all IsShort lists (read_fits ports (bytes_of inputs 0) lists are.is).1 port below)
+
 all_short : (work : Work) (inputs : List (List ℕ)) (lists : List (List (List ℕ))) → AreListsOf work inputs lists → AllShort lists
-all_short (Simulate layout program wire mangle order None journal) inputs lists are = captured_short inputs lists are
-all_short (Simulate layout program wire mangle order (Some number) journal) inputs lists are = subst AllShort (sym are.1) (made_short number layout.ports)
+all_short (Simulate layout program wire mangle order None journal Pcap) inputs lists are = captured_short inputs lists are
+all_short (Simulate layout program wire mangle order None journal Pcapng) inputs lists are = filed_short layout.ports inputs lists are
+all_short (Simulate layout program wire mangle order (Some number) journal format) inputs lists are = subst AllShort (sym are.1) (made_short number layout.ports)
 all_short (Generate number) inputs lists are = subst AllShort (sym are.1) (made_short number 1)
 all_short (Audit layout) inputs lists are = absurd are
 

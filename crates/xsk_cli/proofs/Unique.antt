@@ -3,11 +3,16 @@ use Rattle.std.proofs.Common.{◌≡◌, ℕ, ◌<◌, ◌⊎◌, List, [], leng
 use Rattle.std.proofs.lemmas.Bool.{cases_order}
 use Rattle.std.proofs.lemmas.Option.{same_Some}
 use Rattle.xsk_pcap.specs.declared.reading.BadCapture.{BadCapture as Cause}
-use Rattle.xsk_pcap.specs.Written.{written}
+use Rattle.xsk_pcapng.specs.declared.reading.BadPcapng.{BadPcapng as FileCause}
+use Rattle.xsk_pcapng.proofs.FileLaws.{one_reading as one_file_reading, one_refusal as one_file_refusal, refused_is_no_file}
 use Rattle.xsk_pcap.proofs.CaptureLaws.{one_reading, one_refusal, refused_is_no_capture}
 use Rattle.xsk_sim.proofs.Unique.{one_run, ends_or_stalls, one_stall as one_stalled_round}
-use Rattle.xsk_cli.specs.Judged.{bytes_of, AreWithin, IsTooLong, AreCaptures, IsBadCapture, excess_of, most_of}
-use Rattle.xsk_cli.specs.Outcome.{Written, Outcome, long, bad, passed, stalled, made, illegal, AreListsOf, AreMadeOf, IsAudited, IsIllegalIn, IsOnPackets, legal_text, AreTextsBy, AreTextsOf, IsOutcomeOf, IsOutcomeIn, IsOutcome, IsStalledBy, OneOutcome, setting_of, frames_of, ports_of, told_of, sent_from}
+use Rattle.xsk_cli.specs.Judged.{bytes_of, AreShort, IsTooLong, AreCaptures, IsBadCapture, excess_of}
+use Rattle.xsk_cli.specs.Outcome.{Written, Outcome, long, bad, passed, stalled, made, illegal, AreListsOf, AreMadeOf, IsAudited, IsIllegalIn, IsOnPackets, legal_text, AreTextsBy, AreTextsOf, IsOutcomeOf, IsOutcomeIn, IsOutcome, IsStalledBy, OneOutcome, setting_of, frames_of, ports_of, told_of, sent_from, bad_file}
+use Rattle.xsk_cli.specs.Format.{AreFiles, HasBadCapture, HasBadFile, outputs_of}
+use Rattle.xsk_cli.specs.Words.{format_in, most_of, ports_in}
+use Rattle.xsk_cli.specs.declared.format.Format.{Format}
+use Rattle.xsk_cli.specs.declared.format.Format.TheVariants.{Pcap, Pcapng}
 use Rattle.xsk_args.specs.declared.program.Program.{Program}
 use Rattle.xsk_args.specs.declared.wire.Wire.{Wire}
 use Rattle.xsk_cli.specs.declared.words.Work.{Work}
@@ -38,7 +43,7 @@ one_long most inputs p q a b = ⊎_elim
     other)
     (cases_order p q)
 
-pub long_not_short : (most : ℕ) (inputs : List (List ℕ)) (p : ℕ) → IsTooLong most inputs p → AreWithin most inputs (length inputs) → ⊥
+pub long_not_short : (most : ℕ) (inputs : List (List ℕ)) (p : ℕ) → IsTooLong most inputs p → AreShort most inputs (length inputs) → ⊥
 long_not_short most inputs p a short = omega (arith, a.long, short p a.known)
 
 refused_port : (inputs : List (List ℕ)) (p q : ℕ) (c d : Cause) → IsBadCapture inputs p c → IsBadCapture inputs q d → p < q → ⊥
@@ -57,31 +62,69 @@ one_bad inputs p q c d a b = ⊎_elim
 pub bad_not_captures : (inputs : List (List ℕ)) (p : ℕ) (c : Cause) (lists : List (List (List ℕ))) → IsBadCapture inputs p c → AreCaptures inputs lists → ⊥
 bad_not_captures inputs p c lists a b = refused_is_no_capture (bytes_of inputs p) c (get_or lists p []) a.refused (b.each p a.known)
 
+-- ---- files of a format
+
+pub same_files : (format : Format) (ports : ℕ) (inputs : List (List ℕ)) (some others : List (List (List ℕ))) → AreFiles format ports inputs some → AreFiles format ports inputs others → some ≡ others
+same_files Pcap ports inputs some others a b = same_captures inputs some others a b
+same_files Pcapng ports inputs some others a b = one_file_reading ports (bytes_of inputs 0) some others a.is b.is
+
+one_bad_capture : (format : Format) (inputs : List (List ℕ)) (p q : ℕ) (c d : Cause) → HasBadCapture format inputs p c → HasBadCapture format inputs q d → bad p c ≡ bad q d
+one_bad_capture Pcap inputs p q c d a b = one_bad inputs p q c d a b
+one_bad_capture Pcapng inputs p q c d a b = absurd a
+
+one_bad_file : (format : Format) (ports : ℕ) (inputs : List (List ℕ)) (c d : FileCause) → HasBadFile format ports inputs c → HasBadFile format ports inputs d → bad_file c ≡ bad_file d
+one_bad_file Pcap ports inputs c d a b = absurd a
+one_bad_file Pcapng ports inputs c d a b = ap bad_file (one_file_refusal ports (bytes_of inputs 0) c d a.refused b.refused)
+
+not_both_bad : (format : Format) (ports : ℕ) (inputs : List (List ℕ)) (p : ℕ) (c : Cause) (d : FileCause) → HasBadCapture format inputs p c → HasBadFile format ports inputs d → ⊥
+not_both_bad Pcap ports inputs p c d a b = b
+not_both_bad Pcapng ports inputs p c d a b = a
+
+pub bad_not_files : (format : Format) (ports : ℕ) (inputs : List (List ℕ)) (p : ℕ) (c : Cause) (lists : List (List (List ℕ))) → HasBadCapture format inputs p c → AreFiles format ports inputs lists → ⊥
+bad_not_files Pcap ports inputs p c lists a b = bad_not_captures inputs p c lists a b
+bad_not_files Pcapng ports inputs p c lists a b = a
+
+pub bad_file_not_files : (format : Format) (ports : ℕ) (inputs : List (List ℕ)) (c : FileCause) (lists : List (List (List ℕ))) → HasBadFile format ports inputs c → AreFiles format ports inputs lists → ⊥
+bad_file_not_files Pcap ports inputs c lists a b = a
+bad_file_not_files Pcapng ports inputs c lists a b = refused_is_no_file ports (bytes_of inputs 0) c lists a.refused b.is
+
 -- ---- the packets
 
 pub same_packets : (work : Work) (inputs : List (List ℕ)) (some others : List (List (List ℕ))) → AreListsOf work inputs some → AreListsOf work inputs others → some ≡ others
-same_packets (Simulate layout program wire mangle order None journal) inputs some others a b = same_captures inputs some others a b
-same_packets (Simulate layout program wire mangle order (Some number) journal) inputs some others a b = a.1 ∙ sym b.1
+same_packets (Simulate layout program wire mangle order None journal format) inputs some others a b = same_files format layout.ports inputs some others a b
+same_packets (Simulate layout program wire mangle order (Some number) journal format) inputs some others a b = a.1 ∙ sym b.1
 same_packets (Generate number) inputs some others a b = a.1 ∙ sym b.1
 same_packets (Audit layout) inputs some others a b = absurd a
 
-none_bad : (inputs : List (List ℕ)) (p : ℕ) → inputs ≡ [] → p < length inputs → ⊥
-none_bad inputs p none known = omega (arith, known, ap length none)
+-- where nothing is read nothing is refused
+pub none_bad : (format : Format) (inputs : List (List ℕ)) (p : ℕ) (c : Cause) → inputs ≡ [] → HasBadCapture format inputs p c → ⊥
+none_bad Pcap inputs p c none a = omega (arith, a.known, ap length none)
+none_bad Pcapng inputs p c none a = a
 
-pub bad_not_packets : (work : Work) (inputs : List (List ℕ)) (p : ℕ) (c : Cause) (lists : List (List (List ℕ))) → IsBadCapture inputs p c → AreListsOf work inputs lists → ⊥
-bad_not_packets (Simulate layout program wire mangle order None journal) inputs p c lists a b = bad_not_captures inputs p c lists a b
-bad_not_packets (Simulate layout program wire mangle order (Some number) journal) inputs p c lists a b = none_bad inputs p b.0 a.known
-bad_not_packets (Generate number) inputs p c lists a b = none_bad inputs p b.0 a.known
+pub none_bad_file : (format : Format) (ports : ℕ) (inputs : List (List ℕ)) (c : FileCause) → inputs ≡ [] → HasBadFile format ports inputs c → ⊥
+none_bad_file Pcap ports inputs c none a = a
+none_bad_file Pcapng ports inputs c none a = omega (arith, a.known, ap length none)
+
+pub bad_not_packets : (work : Work) (inputs : List (List ℕ)) (p : ℕ) (c : Cause) (lists : List (List (List ℕ))) → HasBadCapture (format_in work) inputs p c → AreListsOf work inputs lists → ⊥
+bad_not_packets (Simulate layout program wire mangle order None journal format) inputs p c lists a b = bad_not_files format layout.ports inputs p c lists a b
+bad_not_packets (Simulate layout program wire mangle order (Some number) journal format) inputs p c lists a b = none_bad format inputs p c b.0 a
+bad_not_packets (Generate number) inputs p c lists a b = none_bad Pcap inputs p c b.0 a
 bad_not_packets (Audit layout) inputs p c lists a b = b
+
+pub bad_file_not_packets : (work : Work) (inputs : List (List ℕ)) (c : FileCause) (lists : List (List (List ℕ))) → HasBadFile (format_in work) (ports_in work) inputs c → AreListsOf work inputs lists → ⊥
+bad_file_not_packets (Simulate layout program wire mangle order None journal format) inputs c lists a b = bad_file_not_files format layout.ports inputs c lists a b
+bad_file_not_packets (Simulate layout program wire mangle order (Some number) journal format) inputs c lists a b = none_bad_file format layout.ports inputs c b.0 a
+bad_file_not_packets (Generate number) inputs c lists a b = a
+bad_file_not_packets (Audit layout) inputs c lists a b = a
 
 -- ---- runs
 
-module _ (layout : Layout) (program : Program) (wire : Wire) (mangle : Option ℕ) (order : ℕ) (lists : List (List (List ℕ))) (journal : Bool) (a b : Written) (s : AreTextsOf layout program wire mangle order lists journal a) (t : AreTextsOf layout program wire mangle order lists journal b) where
+module _ (format : Format) (layout : Layout) (program : Program) (wire : Wire) (mangle : Option ℕ) (order : ℕ) (lists : List (List (List ℕ))) (journal : Bool) (a b : Written) (s : AreTextsOf format layout program wire mangle order lists journal a) (t : AreTextsOf format layout program wire mangle order lists journal b) where
   same_history : s.ended.history ≡ t.ended.history
   same_history = one_run (setting_of layout program wire mangle lists) (frames_of layout) order s.run t.run s.ended t.ended
 
   same_outputs : a.outputs ≡ b.outputs
-  same_outputs = s.are.sent ∙ ap (λ h. map (λ port. written (sent_from layout h port)) (ports_of layout)) same_history ∙ sym t.are.sent
+  same_outputs = s.are.sent ∙ ap (λ h. outputs_of format (sent_from layout h) (ports_of layout)) same_history ∙ sym t.are.sent
 
   same_report : a.report ≡ b.report
   same_report = s.are.report ∙ ap (told_of layout program wire mangle lists journal) same_history ∙ sym t.are.report
@@ -92,17 +135,17 @@ same_written a b outputs report =
     ∙ ap (λ report. made (record { outputs = b.outputs; report = report })) report
 
 one_made : (work : Work) (lists : List (List (List ℕ))) (a b : Written) → AreTextsBy work lists a → AreTextsBy work lists b → made a ≡ made b
-one_made (Simulate layout program wire mangle order number journal) lists a b s t = same_written a b (same_outputs layout program wire mangle order lists journal a b s t) (same_report layout program wire mangle order lists journal a b s t)
+one_made (Simulate layout program wire mangle order number journal format) lists a b s t = same_written a b (same_outputs format layout program wire mangle order lists journal a b s t) (same_report format layout program wire mangle order lists journal a b s t)
 one_made (Generate number) lists a b s t = same_written a b (s.0 ∙ sym t.0) (s.1 ∙ sym t.1)
 one_made (Audit layout) lists a b s t = absurd s
 
 one_stall : (work : Work) (lists : List (List (List ℕ))) (r s : ℕ) → IsStalledBy work lists r → IsStalledBy work lists s → r ≡ s
-one_stall (Simulate layout program wire mangle order number journal) lists r s x y = one_stalled_round (setting_of layout program wire mangle lists) (frames_of layout) order r s x y
+one_stall (Simulate layout program wire mangle order number journal format) lists r s x y = one_stalled_round (setting_of layout program wire mangle lists) (frames_of layout) order r s x y
 one_stall (Generate number) lists r s x y = absurd x
 one_stall (Audit layout) lists r s x y = absurd x
 
 no_texts_and_stall : (work : Work) (lists : List (List (List ℕ))) (texts : Written) (r : ℕ) → AreTextsBy work lists texts → IsStalledBy work lists r → ⊥
-no_texts_and_stall (Simulate layout program wire mangle order number journal) lists texts r t x = ends_or_stalls (setting_of layout program wire mangle lists) (frames_of layout) order r t.run t.ended x
+no_texts_and_stall (Simulate layout program wire mangle order number journal format) lists texts r t x = ends_or_stalls (setting_of layout program wire mangle lists) (frames_of layout) order r t.run t.ended x
 no_texts_and_stall (Generate number) lists texts r t x = x
 no_texts_and_stall (Audit layout) lists texts r t x = x
 
@@ -113,20 +156,24 @@ module _ (work : Work) where
   one_of : (lists : List (List (List ℕ))) (a b : Outcome) → IsOutcomeOf work lists a → IsOutcomeOf work lists b → a ≡ b
   one_of lists (long p) b x y = absurd x
   one_of lists (bad p c) b x y = absurd x
+  one_of lists (bad_file c) b x y = absurd x
   one_of lists (passed e) (long p) x y = absurd y
   one_of lists (passed e) (bad p c) x y = absurd y
+  one_of lists (passed e) (bad_file c) x y = absurd y
   one_of lists (passed e) (passed f) x y = ap passed (same_Some e f (sym x ∙ y))
   one_of lists (passed e) (stalled r) x y = none_some (excess_of lists) e x y.0
   one_of lists (passed e) (made t) x y = none_some (excess_of lists) e x y.0
   one_of lists (passed e) (illegal l) x y = absurd y
   one_of lists (stalled r) (long p) x y = absurd y
   one_of lists (stalled r) (bad p c) x y = absurd y
+  one_of lists (stalled r) (bad_file c) x y = absurd y
   one_of lists (stalled r) (passed e) x y = none_some (excess_of lists) e y x.0
   one_of lists (stalled r) (stalled s) x y = ap stalled (one_stall work lists r s x.1 y.1)
   one_of lists (stalled r) (made t) x y = absurd (no_texts_and_stall work lists t r y.1 x.1)
   one_of lists (stalled r) (illegal l) x y = absurd y
   one_of lists (made t) (long p) x y = absurd y
   one_of lists (made t) (bad p c) x y = absurd y
+  one_of lists (made t) (bad_file c) x y = absurd y
   one_of lists (made t) (passed e) x y = none_some (excess_of lists) e y x.0
   one_of lists (made t) (stalled r) x y = absurd (no_texts_and_stall work lists t r x.1 y.1)
   one_of lists (made t) (made u) x y = one_made work lists t u x.1 y.1
@@ -170,24 +217,26 @@ one_audited layout text (illegal l) (illegal m) x y = ap illegal (same_line l m 
 
 -- short inputs come to something
 data Later (work : Work) (inputs : List (List ℕ)) (outcome : Outcome) : Type 0 where
-  is_bad : (port : ℕ) (cause : Cause) → outcome ≡ bad port cause → IsBadCapture inputs port cause → IsOnPackets work → Later work inputs outcome
+  is_bad : (port : ℕ) (cause : Cause) → outcome ≡ bad port cause → HasBadCapture (format_in work) inputs port cause → IsOnPackets work → Later work inputs outcome
+  is_bad_file : (cause : FileCause) → outcome ≡ bad_file cause → HasBadFile (format_in work) (ports_in work) inputs cause → Later work inputs outcome
   is_in : IsOutcomeIn work inputs outcome → Later work inputs outcome
   is_found : (layout : Layout) → work ≡ Audit layout → IsAudited layout (bytes_of inputs 0) outcome → Later work inputs outcome
 
 made_later : (work : Work) (inputs : List (List ℕ)) (t : Written) → AreMadeOf work inputs t → Later work inputs (made t)
-made_later (Simulate layout program wire mangle order number journal) inputs t h = is_in h
+made_later (Simulate layout program wire mangle order number journal format) inputs t h = is_in h
 made_later (Generate number) inputs t h = is_in h
 made_later (Audit layout) inputs t h = is_found layout refl h
 
 illegal_later : (work : Work) (inputs : List (List ℕ)) (line : ℕ) → IsIllegalIn work inputs line → Later work inputs (illegal line)
-illegal_later (Simulate layout program wire mangle order number journal) inputs line h = absurd h
+illegal_later (Simulate layout program wire mangle order number journal format) inputs line h = absurd h
 illegal_later (Generate number) inputs line h = absurd h
 illegal_later (Audit layout) inputs line h = is_found layout refl h
 
 later : (work : Work) (inputs : List (List ℕ)) (outcome : Outcome) → IsOutcome work inputs outcome
-    → ((p : ℕ) × (outcome ≡ long p) × IsTooLong (most_of work) inputs p) ⊎ (AreWithin (most_of work) inputs (length inputs) × Later work inputs outcome)
+    → ((p : ℕ) × (outcome ≡ long p) × IsTooLong (most_of work) inputs p) ⊎ (AreShort (most_of work) inputs (length inputs) × Later work inputs outcome)
 later work inputs (long p) h = inl (p, refl, h)
 later work inputs (bad p c) h = inr (h.0, is_bad p c refl h.1 h.2)
+later work inputs (bad_file c) h = inr (h.0, is_bad_file c refl h.1)
 later work inputs (passed e) h = inr (h.0, is_in h.1)
 later work inputs (stalled r) h = inr (h.0, is_in h.1)
 later work inputs (made t) h = inr (h.0, made_later work inputs t h.1)
@@ -201,12 +250,19 @@ same_layout : (layout other : Layout) → Audit layout ≡ Audit other → layou
 same_layout layout other e = cc
 
 one_later : (work : Work) (inputs : List (List ℕ)) (a b : Outcome) → Later work inputs a → Later work inputs b → a ≡ b
-one_later work inputs a b (is_bad p c e x on) (is_bad q d f y too) = e ∙ one_bad inputs p q c d x y ∙ sym f
+one_later work inputs a b (is_bad p c e x on) (is_bad q d f y too) = e ∙ one_bad_capture (format_in work) inputs p q c d x y ∙ sym f
+one_later work inputs a b (is_bad p c e x on) (is_bad_file d f y) = absurd (not_both_bad (format_in work) (ports_in work) inputs p c d x y)
+one_later work inputs a b (is_bad_file c e x) (is_bad q d f y too) = absurd (not_both_bad (format_in work) (ports_in work) inputs q d c y x)
+one_later work inputs a b (is_bad_file c e x) (is_bad_file d f y) = e ∙ one_bad_file (format_in work) (ports_in work) inputs c d x y ∙ sym f
+one_later work inputs a b (is_bad_file c e x) (is_in y) = absurd (bad_file_not_packets work inputs c y.0 x y.1)
+one_later work inputs a b (is_in x) (is_bad_file d f y) = absurd (bad_file_not_packets work inputs d x.0 y x.1)
 one_later work inputs a b (is_bad p c e x on) (is_in y) = absurd (bad_not_packets work inputs p c y.0 x y.1)
 one_later work inputs a b (is_in x) (is_bad q d f y too) = absurd (bad_not_packets work inputs q d x.0 y x.1)
 one_later work inputs a b (is_in x) (is_in y) = one_in work inputs a b x y
 one_later work inputs a b (is_bad p c e x on) (is_found l is y) = absurd (subst IsOnPackets is on)
 one_later work inputs a b (is_found l is x) (is_bad q d f y too) = absurd (subst IsOnPackets is too)
+one_later work inputs a b (is_bad_file c e x) (is_found l is y) = absurd (subst (λ w. HasBadFile (format_in w) (ports_in w) inputs c) is x)
+one_later work inputs a b (is_found l is x) (is_bad_file d f y) = absurd (subst (λ w. HasBadFile (format_in w) (ports_in w) inputs d) is y)
 one_later work inputs a b (is_in x) (is_found l is y) = absurd (found_not_in work inputs l a is x)
 one_later work inputs a b (is_found l is x) (is_in y) = absurd (found_not_in work inputs l b is y)
 one_later work inputs a b (is_found l is x) (is_found m too y) =

@@ -1,6 +1,6 @@
 -- The command `forward`: the run of `simulate` by workers in threads of their own, and not in rounds. What is read, judged,
 -- refused and written is as for `simulate`; the texts are those of the history that the run on threads shows.
-use Rattle.std.specs.Prelude.{◌≡◌, ℕ, ◌⊎◌, codes, Bool, false, List, [], ◌∷◌, length, Option, Some, None, option_map, unwrap_or}
+use Rattle.std.specs.Prelude.{◌≡◌, ℕ, ◌⊎◌, codes, Bool, false, List, [], ◌∷◌, length, Option, Some, None, option_and_then, unwrap_or}
 use Rattle.std.specs.Str.{bytes_eq}
 use Rattle.xsk_args.specs.Words.{Text}
 use Rattle.xsk_args.specs.Meaning.{Key, meaning}
@@ -11,20 +11,21 @@ use Rattle.xsk_io.specs.declared.bay.Kind.TheVariants.{Write}
 use Rattle.xsk_io.specs.declared.bay.Stream.{Stream}
 use Rattle.xsk_io.specs.declared.bay.Stream.TheVariants.{Output, Report}
 use Rattle.xsk_pcap.specs.declared.reading.BadCapture.TheVariants.{OutOfMemory as NoCause}
+use Rattle.xsk_pcapng.specs.declared.reading.BadPcapng.TheVariants.{OutOfMemory as NoFileCause}
 use Rattle.xsk_socket.specs.declared.layout.Unlawful.{Unlawful}
 use Rattle.xsk_workers.specs.Forwarded.{OutcomeShown, HasForwarded}
 use Rattle.xsk_cli.specs.Cause.{IsCaused, IsFault}
 use Rattle.xsk_cli.specs.Ends.{Answers, AreTaken, AreTold, ComesOf, Ends, EndsBy, IsComplete, NoneRose}
 use Rattle.xsk_cli.specs.Judged.{AreShort, excess_of}
 use Rattle.xsk_cli.specs.Line.{line_of}
-use Rattle.xsk_cli.specs.Outcome.{AreListsOf, AreTextsIn, IsOutcome, Outcome, Written, bad, frames_of, long, made, passed, report_of, setting_of, stalled, illegal}
+use Rattle.xsk_cli.specs.Outcome.{AreListsOf, AreTextsIn, IsOutcome, Outcome, Written, bad, frames_of, long, made, passed, report_of, setting_of, stalled, illegal, bad_file}
 use Rattle.xsk_cli.specs.Steps.{written_by}
 use Rattle.xsk_cli.specs.Streams.{GotLine, HasLine, IsAtOnce, IsOfLine, Moment}
-use Rattle.xsk_cli.specs.Words.{Plan, fault_in, no_plan, plan_by}
+use Rattle.xsk_cli.specs.Words.{Plan, fault_in, most_of, no_plan, planned_by, ports_in}
 use Rattle.xsk_cli.specs.declared.words.Work.{Work}
 use Rattle.xsk_cli.specs.declared.words.Work.TheVariants.{Simulate, Generate, Audit}
 use Rattle.xsk_cli.specs.declared.status.Status.{Status}
-use Rattle.xsk_cli.specs.declared.status.Status.TheVariants.{BadCapture, Done, OpenFault, OutOfMemory, Refused, Stalled, Usage, WriteFault}
+use Rattle.xsk_cli.specs.declared.status.Status.TheVariants.{BadCapture, BadPcapng, Done, OpenFault, OutOfMemory, Refused, Stalled, Usage, WriteFault}
 
 -- ---- the words
 
@@ -47,10 +48,11 @@ forward_options =
     ∷ (codes "empty", Number)
     ∷ (codes "sg", Nothing)
     ∷ (codes "wakeup", Nothing)
+    ∷ (codes "pcapng", Nothing)
     ∷ []
 
 abbrev pub forward_plan : List Text → Option Plan
-forward_plan words = option_map plan_by (meaning (codes "forward") forward_options words)
+forward_plan words = option_and_then planned_by (meaning (codes "forward") forward_options words)
 
 abbrev pub is_forward : List Text → Bool
 is_forward [] = false
@@ -60,28 +62,28 @@ is_forward (first ∷ rest) = bytes_eq first (codes "forward")
 
 -- work that is a run
 abbrev pub IsRun : Work → Type 0
-IsRun (Simulate layout program wire mangle order number journal) = Unit {0}
+IsRun (Simulate layout program wire mangle order number journal format) = Unit {0}
 IsRun (Generate number) = ⊥
 IsRun (Audit layout) = ⊥
 
 -- a run on threads of the work's packets shows this
 abbrev pub HasShown : Work → List (List (List ℕ)) → OutcomeShown → Type 0
-HasShown (Simulate layout program wire mangle order number journal) lists o = HasForwarded (setting_of layout program wire None lists) (frames_of layout) o
+HasShown (Simulate layout program wire mangle order number journal format) lists o = HasForwarded (setting_of layout program wire None lists) (frames_of layout) o
 HasShown (Generate number) lists o = ⊥
 HasShown (Audit layout) lists o = ⊥
 
 -- these are the texts of its history
 abbrev pub AreTextsFrom : Work → List (List (List ℕ)) → OutcomeShown → Written → Type 0
-AreTextsFrom (Simulate layout program wire mangle order number journal) lists o texts = AreTextsIn layout program wire None lists o.history (report_of layout program wire None lists o.history) texts
+AreTextsFrom (Simulate layout program wire mangle order number journal format) lists o texts = AreTextsIn format layout program wire None lists o.history (report_of layout program wire None lists o.history) texts
 AreTextsFrom (Generate number) lists o texts = ⊥
 AreTextsFrom (Audit layout) lists o texts = ⊥
 
 -- inputs are taken, and a run on threads of the packets of all ports shows this
 pub record IsShown (work : Work) (inputs : List (List ℕ)) (o : OutcomeShown) : Type 0 where
-  pub short : AreShort inputs (length inputs)
+  pub short : AreShort (most_of work) inputs (length inputs)
   pub lists : List (List (List ℕ))
   pub are : AreListsOf work inputs lists
-  pub ports : length lists ≡ written_by work
+  pub ports : length lists ≡ ports_in work
   pub within : excess_of lists ≡ None
   pub shown : HasShown work lists o
 
@@ -118,6 +120,7 @@ EndsShown shown old new status plan = EndsBy (ComesShown plan.work shown) plan o
 abbrev pub IsRefusedAs : Work → List (List ℕ) → Outcome → Type 0
 IsRefusedAs work inputs (long port) = IsOutcome work inputs (long port)
 IsRefusedAs work inputs (bad port cause) = IsOutcome work inputs (bad port cause)
+IsRefusedAs work inputs (bad_file cause) = IsOutcome work inputs (bad_file cause)
 IsRefusedAs work inputs (passed excess) = IsOutcome work inputs (passed excess)
 IsRefusedAs work inputs (stalled round) = ⊥
 IsRefusedAs work inputs (made texts) = ⊥
@@ -137,6 +140,7 @@ pub record IsAnswer (Ending : Plan → Type 0) (ComesTo : Work → List (List �
   pub ends : Ending (unwrap_or planned no_plan)
   pub line : HasLine status → GotLine (line_of status) old new
   pub check : (port : ℕ) → status ≡ BadCapture port NoCause → ⊥
+  pub check_file : status ≡ BadPcapng NoFileCause → ⊥
   pub answers : (plan : Plan) (inputs : List (List ℕ)) (outcome : Outcome) → planned ≡ Some plan → AreTold plan inputs old → ComesTo plan.work inputs outcome → Answers plan.work outcome status
   pub complete : (plan : Plan) (inputs : List (List ℕ)) → planned ≡ Some plan → fault_in plan.work ≡ None → AreTold plan inputs old → AreTaken plan.work inputs → NoneRose old.faults new.faults → IsComplete status
 

@@ -2,6 +2,7 @@ pub mod Cause
 pub mod ExitStatus
 pub mod Words
 pub mod Judged
+pub mod Format
 pub mod Outcome
 pub mod Streams
 pub mod Line

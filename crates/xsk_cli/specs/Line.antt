@@ -5,12 +5,14 @@ use Rattle.xsk_io.specs.declared.bay.Stream.{Stream}
 use Rattle.xsk_io.specs.declared.bay.Stream.TheVariants.{Input, Output, Report}
 use Rattle.xsk_pcap.specs.declared.reading.BadCapture.{BadCapture as Cause}
 use Rattle.xsk_pcap.specs.declared.reading.BadCapture.TheVariants.{ShortHeader, BadMagic, BadVersion, BadLink, Truncated, RecordTooLong, OutOfMemory as NoMemory}
+use Rattle.xsk_pcapng.specs.declared.reading.BadPcapng.{BadPcapng as FileCause}
+use Rattle.xsk_pcapng.specs.declared.reading.BadPcapng.TheVariants.{ShortHeader as NoHeader, BadMagic as BadFileMagic, BadVersion as BadFileVersion, Truncated as CutShort, BadBlock, SecondSection, BadLink as BadFileLink, TooManyInterfaces, OtherPacket, NoInterface, RecordTooLong as PacketTooLong, OutOfMemory as NoFileMemory}
 use Rattle.xsk_socket.specs.declared.layout.Unlawful.{Unlawful}
 use Rattle.xsk_socket.specs.declared.layout.Unlawful.TheVariants.{Ports, Queues, Sockets, Files, Chunk, Headroom, Frames, Rx, Tx, Fill, Comp, Pool, Empty}
 use Rattle.xsk_cli.specs.declared.status.Excess.{Excess}
 use Rattle.xsk_cli.specs.declared.status.Excess.TheVariants.{Input as TooLong, Packets, Bytes}
 use Rattle.xsk_cli.specs.declared.status.Status.{Status}
-use Rattle.xsk_cli.specs.declared.status.Status.TheVariants.{Done, Usage, BadCapture, ReadFault, WriteFault, OpenFault, Refused, Stalled, TooMuch, OutOfMemory, NotLegal}
+use Rattle.xsk_cli.specs.declared.status.Status.TheVariants.{Done, Usage, BadCapture, ReadFault, WriteFault, OpenFault, Refused, Stalled, TooMuch, OutOfMemory, NotLegal, BadPcapng}
 
 abbrev pub cause_text : Cause → List ℕ
 cause_text ShortHeader = codes "short header"
@@ -20,6 +22,20 @@ cause_text BadLink = codes "bad link"
 cause_text (Truncated at) = codes "truncated " ++ decimal at
 cause_text (RecordTooLong at) = codes "record too long " ++ decimal at
 cause_text NoMemory = codes "out of memory"
+
+abbrev pub file_cause_text : FileCause → List ℕ
+file_cause_text NoHeader = codes "short header"
+file_cause_text BadFileMagic = codes "bad magic"
+file_cause_text BadFileVersion = codes "bad version"
+file_cause_text (CutShort at) = codes "truncated " ++ decimal at
+file_cause_text (BadBlock at) = codes "bad block " ++ decimal at
+file_cause_text (SecondSection at) = codes "second section " ++ decimal at
+file_cause_text (BadFileLink at) = codes "bad link " ++ decimal at
+file_cause_text (TooManyInterfaces at) = codes "too many interfaces " ++ decimal at
+file_cause_text (OtherPacket at) = codes "other packet " ++ decimal at
+file_cause_text (NoInterface at) = codes "no interface " ++ decimal at
+file_cause_text (PacketTooLong at) = codes "record too long " ++ decimal at
+file_cause_text NoFileMemory = codes "out of memory"
 
 abbrev pub stream_text : Stream → List ℕ
 stream_text (Input port) = codes "input " ++ decimal port
@@ -58,6 +74,7 @@ status_text (Stalled round) = codes "stalled " ++ decimal round
 status_text (TooMuch excess) = codes "too much " ++ excess_text excess
 status_text OutOfMemory = codes "out of memory"
 status_text (NotLegal line) = codes "not legal " ++ decimal line
+status_text (BadPcapng cause) = codes "bad pcapng " ++ file_cause_text cause
 
 abbrev pub line_of : Status → List ℕ
 line_of status = status_text status ++ codes "\n"

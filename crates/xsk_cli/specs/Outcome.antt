@@ -37,7 +37,11 @@ use Rattle.xsk_pcap.specs.Written.{written}
 use Rattle.xsk_pcap.specs.declared.reading.BadCapture.{BadCapture as Cause}
 use Rattle.xsk_audit.specs.Telling.{IsVerdict}
 use Rattle.xsk_audit.specs.declared.auditing.Verdicts.TheVariants.{Legal, NotLegal}
-use Rattle.xsk_cli.specs.Judged.{bytes_of, AreWithin, IsTooLong, AreCaptures, IsBadCapture, excess_of, most_of}
+use Rattle.xsk_cli.specs.Judged.{bytes_of, AreShort, IsTooLong, AreCaptures, IsBadCapture, excess_of}
+use Rattle.xsk_pcapng.specs.declared.reading.BadPcapng.{BadPcapng as FileCause}
+use Rattle.xsk_cli.specs.Format.{AreFiles, HasBadCapture, HasBadFile, outputs_of}
+use Rattle.xsk_cli.specs.Words.{format_in, most_of, ports_in}
+use Rattle.xsk_cli.specs.declared.format.Format.{Format}
 use Rattle.xsk_cli.specs.declared.words.Work.{Work}
 use Rattle.xsk_cli.specs.declared.words.Work.TheVariants.{Simulate, Generate, Audit}
 use Rattle.xsk_cli.specs.declared.status.Excess.{Excess}
@@ -48,11 +52,12 @@ pub record Written : Type 0 where
   pub outputs : List (List ℕ)
   pub report : List ℕ
 
--- an input is too long, or no capture; the limits are passed; the run stalls in a round; or there are texts; or a journal isn't
--- legal from a line on
+-- an input is too long, or no capture, or the one input is no pcapng file; the limits are passed; the run stalls in a round; or
+-- there are texts; or a journal isn't legal from a line on
 pub data Outcome : Type 0 where
   long : ℕ → Outcome
   bad : ℕ → Cause → Outcome
+  bad_file : FileCause → Outcome
   passed : Excess → Outcome
   stalled : ℕ → Outcome
   made : Written → Outcome
@@ -64,10 +69,10 @@ pub data Outcome : Type 0 where
 abbrev pub made_lists : ℕ → ℕ → List (List (List ℕ))
 made_lists number ports = map (λ port. first 2000 (packet number port)) (range_with_len 0 ports)
 
--- the packets of all ports: those of the captures, or those that are made, where nothing is read
+-- the packets of all ports: those of the files, or those that are made, where nothing is read
 abbrev pub AreListsOf : Work → List (List ℕ) → List (List (List ℕ)) → Type 0
-AreListsOf (Simulate layout program wire mangle order None journal) inputs lists = AreCaptures inputs lists
-AreListsOf (Simulate layout program wire mangle order (Some number) journal) inputs lists = (inputs ≡ []) × (lists ≡ made_lists number layout.ports)
+AreListsOf (Simulate layout program wire mangle order None journal format) inputs lists = AreFiles format layout.ports inputs lists
+AreListsOf (Simulate layout program wire mangle order (Some number) journal format) inputs lists = (inputs ≡ []) × (lists ≡ made_lists number layout.ports)
 AreListsOf (Generate number) inputs lists = (inputs ≡ []) × (lists ≡ made_lists number 1)
 AreListsOf (Audit layout) inputs lists = ⊥
 
@@ -161,35 +166,35 @@ sent_on_by layout program lists port = map (λ queue. going_on layout program li
 -- change nothing, what the driver of a queue sent is what the paired port's driver delivered to the sockets of all classes,
 -- whatever the wire does, and nothing else. Where the wire waits it is what is expected there of all classes; with one socket on
 -- each queue each text is then that of all that goes on to its port.
-pub record AreTextsIn (layout : Layout) (program : Program) (wire : Wire) (mangle : Option ℕ) (lists : List (List (List ℕ))) (history : List Entry) (told : List ℕ) (texts : Written) : Type 0 where
-  pub sent : texts.outputs ≡ map (λ port. written (sent_from layout history port)) (ports_of layout)
+pub record AreTextsIn (format : Format) (layout : Layout) (program : Program) (wire : Wire) (mangle : Option ℕ) (lists : List (List (List ℕ))) (history : List Entry) (told : List ℕ) (texts : Written) : Type 0 where
+  pub sent : texts.outputs ≡ outputs_of format (sent_from layout history) (ports_of layout)
   pub forwarded : (port queue : ℕ) → mangle ≡ None → port < layout.ports → queue < layout.queues
       → AreForwarded (wire_by wire) (regular_of layout) history (map listed lists) (verdicts_by layout program lists) port queue
       (sent_on layout history port queue)
   pub redirected : (port queue : ℕ) → mangle ≡ None → wire ≡ Wait → port < layout.ports → queue < layout.queues
       → AreExpected (regular_of layout) (map listed lists) (verdicts_by layout program lists) port queue
       (sent_on layout history port queue)
-  pub one_socket : mangle ≡ None → wire ≡ Wait → layout.sockets ≡ 1 → texts.outputs ≡ map (λ port. written (sent_on_by layout program lists port)) (ports_of layout)
+  pub one_socket : mangle ≡ None → wire ≡ Wait → layout.sockets ≡ 1 → texts.outputs ≡ outputs_of format (sent_on_by layout program lists) (ports_of layout)
   pub report : texts.report ≡ told
 
 -- Those of a run in rounds that has ended: its figures are told, and the journal, which tells of each entry the round in which it
 -- stands.
-pub record AreTextsOf (layout : Layout) (program : Program) (wire : Wire) (mangle : Option ℕ) (order : ℕ) (lists : List (List (List ℕ))) (journal : Bool) (texts : Written) : Type 0 where
+pub record AreTextsOf (format : Format) (layout : Layout) (program : Program) (wire : Wire) (mangle : Option ℕ) (order : ℕ) (lists : List (List (List ℕ))) (journal : Bool) (texts : Written) : Type 0 where
   pub run : Shown
   pub ended : HasEnded (setting_of layout program wire mangle lists) (frames_of layout) order run
-  pub are : AreTextsIn layout program wire mangle lists ended.history (told_of layout program wire mangle lists journal ended.history) texts
+  pub are : AreTextsIn format layout program wire mangle lists ended.history (told_of layout program wire mangle lists journal ended.history) texts
   pub rounds : AreInRounds (IsWholeRun (setting_of layout program wire mangle lists)) (callers_of (regular_of layout)) order ended.count ended.history (rounds_of ended.history)
 
 -- the texts that the work makes of packets: of a run, or of the packets themselves
 abbrev pub AreTextsBy : Work → List (List (List ℕ)) → Written → Type 0
-AreTextsBy (Simulate layout program wire mangle order number journal) lists texts = AreTextsOf layout program wire mangle order lists journal texts
+AreTextsBy (Simulate layout program wire mangle order number journal format) lists texts = AreTextsOf format layout program wire mangle order lists journal texts
 AreTextsBy (Generate number) lists texts =
     (texts.outputs ≡ map capture_of lists) × (texts.report ≡ report_on (slice_index_or lists 0 []))
 AreTextsBy (Audit layout) lists texts = ⊥
 
 -- the work's run of packets stalls in a round
 abbrev pub IsStalledBy : Work → List (List (List ℕ)) → ℕ → Type 0
-IsStalledBy (Simulate layout program wire mangle order number journal) lists round = HasStalled (setting_of layout program wire mangle lists) (frames_of layout) order round
+IsStalledBy (Simulate layout program wire mangle order number journal format) lists round = HasStalled (setting_of layout program wire mangle lists) (frames_of layout) order round
 IsStalledBy (Generate number) lists round = ⊥
 IsStalledBy (Audit layout) lists round = ⊥
 
@@ -199,6 +204,7 @@ IsStalledBy (Audit layout) lists round = ⊥
 abbrev pub IsOutcomeOf : Work → List (List (List ℕ)) → Outcome → Type 0
 IsOutcomeOf work lists (long port) = ⊥
 IsOutcomeOf work lists (bad port cause) = ⊥
+IsOutcomeOf work lists (bad_file cause) = ⊥
 IsOutcomeOf work lists (passed excess) = excess_of lists ≡ Some excess
 IsOutcomeOf work lists (stalled round) = (excess_of lists ≡ None) × IsStalledBy work lists round
 IsOutcomeOf work lists (made texts) = (excess_of lists ≡ None) × AreTextsBy work lists texts
@@ -220,30 +226,31 @@ IsAudited layout text outcome = ⊥
 
 -- work on packets, which are read or made, and not on a journal
 abbrev pub IsOnPackets : Work → Type 0
-IsOnPackets (Simulate layout program wire mangle order number journal) = Unit {0}
+IsOnPackets (Simulate layout program wire mangle order number journal format) = Unit {0}
 IsOnPackets (Generate number) = Unit {0}
 IsOnPackets (Audit layout) = ⊥
 
 -- the texts that are made of inputs: of their packets, or of their journal
 abbrev pub AreMadeOf : Work → List (List ℕ) → Written → Type 0
-AreMadeOf (Simulate layout program wire mangle order number journal) inputs texts = IsOutcomeIn (Simulate layout program wire mangle order number journal) inputs (made texts)
+AreMadeOf (Simulate layout program wire mangle order number journal format) inputs texts = IsOutcomeIn (Simulate layout program wire mangle order number journal format) inputs (made texts)
 AreMadeOf (Generate number) inputs texts = IsOutcomeIn (Generate number) inputs (made texts)
 AreMadeOf (Audit layout) inputs texts = IsAudited layout (bytes_of inputs 0) (made texts)
 
 -- their journal isn't legal from a line on
 abbrev pub IsIllegalIn : Work → List (List ℕ) → ℕ → Type 0
-IsIllegalIn (Simulate layout program wire mangle order number journal) inputs line = ⊥
+IsIllegalIn (Simulate layout program wire mangle order number journal format) inputs line = ⊥
 IsIllegalIn (Generate number) inputs line = ⊥
 IsIllegalIn (Audit layout) inputs line = IsAudited layout (bytes_of inputs 0) (illegal line)
 
 -- what inputs come to
 abbrev pub IsOutcome : Work → List (List ℕ) → Outcome → Type 0
 IsOutcome work inputs (long port) = IsTooLong (most_of work) inputs port
-IsOutcome work inputs (bad port cause) = AreWithin (most_of work) inputs (length inputs) × IsBadCapture inputs port cause × IsOnPackets work
-IsOutcome work inputs (passed excess) = AreWithin (most_of work) inputs (length inputs) × IsOutcomeIn work inputs (passed excess)
-IsOutcome work inputs (stalled round) = AreWithin (most_of work) inputs (length inputs) × IsOutcomeIn work inputs (stalled round)
-IsOutcome work inputs (made texts) = AreWithin (most_of work) inputs (length inputs) × AreMadeOf work inputs texts
-IsOutcome work inputs (illegal line) = AreWithin (most_of work) inputs (length inputs) × IsIllegalIn work inputs line
+IsOutcome work inputs (bad port cause) = AreShort (most_of work) inputs (length inputs) × HasBadCapture (format_in work) inputs port cause × IsOnPackets work
+IsOutcome work inputs (bad_file cause) = AreShort (most_of work) inputs (length inputs) × HasBadFile (format_in work) (ports_in work) inputs cause
+IsOutcome work inputs (passed excess) = AreShort (most_of work) inputs (length inputs) × IsOutcomeIn work inputs (passed excess)
+IsOutcome work inputs (stalled round) = AreShort (most_of work) inputs (length inputs) × IsOutcomeIn work inputs (stalled round)
+IsOutcome work inputs (made texts) = AreShort (most_of work) inputs (length inputs) × AreMadeOf work inputs texts
+IsOutcome work inputs (illegal line) = AreShort (most_of work) inputs (length inputs) × IsIllegalIn work inputs line
 
 -- it is a function of the work and of their bytes
 abbrev pub OneOutcome : Type 0

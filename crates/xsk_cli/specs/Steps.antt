@@ -8,9 +8,13 @@ use Rattle.xsk_io.specs.declared.bay.Kind.TheVariants.{Open, Read, Write}
 use Rattle.xsk_io.specs.declared.bay.Stream.TheVariants.{Input, Output, Report}
 use Rattle.xsk_pcap.specs.Capture.{IsRefused}
 use Rattle.xsk_pcap.specs.declared.reading.BadCapture.TheVariants.{OutOfMemory as NoCause}
+use Rattle.xsk_pcapng.specs.Pcapng.{IsRefused as IsRefusedFile}
+use Rattle.xsk_pcapng.specs.declared.reading.BadPcapng.TheVariants.{OutOfMemory as NoFileCause}
 use Rattle.xsk_sim.specs.Runs.{HasStalled}
-use Rattle.xsk_cli.specs.Judged.{AreShort, AreWithin, AreCaptures, IsBadCapture, excess_of}
-use Rattle.xsk_cli.specs.Outcome.{Written, bad, passed, stalled, illegal, IsOutcome, IsAudited, IsStalledBy, setting_of, frames_of}
+use Rattle.xsk_cli.specs.Judged.{AreShort, AreCaptures, IsBadCapture, excess_of, bytes_of}
+use Rattle.xsk_cli.specs.Outcome.{Written, bad, passed, stalled, illegal, IsOutcome, IsAudited, IsStalledBy, setting_of, frames_of, bad_file}
+use Rattle.xsk_cli.specs.Format.{IsBadFile, IsFile, files_of, most_input}
+use Rattle.xsk_cli.specs.declared.format.Format.TheVariants.{Pcap, Pcapng}
 use Rattle.xsk_args.specs.declared.program.Program.{Program}
 use Rattle.xsk_args.specs.declared.wire.Wire.{Wire}
 use Rattle.xsk_args.specs.declared.error.ArgsError.{ArgsError}
@@ -28,26 +32,26 @@ use Rattle.xsk_cli.specs.Streams.{Moment, HasLine, IsAtOnce, IsTold, IsFront, Is
 use Rattle.xsk_cli.specs.declared.failure.ReadFailure.{ReadFailure}
 use Rattle.xsk_cli.specs.declared.failure.ReadFailure.TheVariants.{Unopened as NoInput, Unread, TooLong, OutOfMemory as NoRoom}
 use Rattle.xsk_cli.specs.declared.failure.RunFailure.{RunFailure}
-use Rattle.xsk_cli.specs.declared.failure.RunFailure.TheVariants.{BadCapture as Bad, TooMuch as Excessive, Stalled as Stalls, OutOfMemory as NoMemory, NotLegal as Breaks}
+use Rattle.xsk_cli.specs.declared.failure.RunFailure.TheVariants.{BadCapture as Bad, TooMuch as Excessive, Stalled as Stalls, OutOfMemory as NoMemory, NotLegal as Breaks, BadPcapng as BadFile}
 use Rattle.xsk_cli.specs.declared.failure.WriteFailure.{WriteFailure}
 use Rattle.xsk_cli.specs.declared.failure.WriteFailure.TheVariants.{Unopened, Unwritten}
 use Rattle.xsk_cli.specs.declared.status.Excess.TheVariants.{Input as LongInput}
 use Rattle.xsk_cli.specs.declared.status.Status.{Status}
-use Rattle.xsk_cli.specs.declared.status.Status.TheVariants.{Usage, BadCapture, ReadFault, WriteFault, OpenFault, Refused, Stalled, TooMuch, OutOfMemory, NotLegal}
+use Rattle.xsk_cli.specs.declared.status.Status.TheVariants.{Usage, BadCapture, ReadFault, WriteFault, OpenFault, Refused, Stalled, TooMuch, OutOfMemory, NotLegal, BadPcapng}
 
 -- the plan that the code has
 abbrev pub plan_in : CodePlan → Plan
 plan_in plan = record { inputs = map (λ name. name.now) plan.inputs.now; outputs = map (λ name. name.now) plan.outputs.now; work = plan.work }
 
--- for how many ports captures are read, or one journal, and for how many they are written
+-- how many files are read, captures or one journal, and how many are written
 abbrev pub read_by : Work → ℕ
-read_by (Simulate layout program wire mangle order None journal) = layout.ports
-read_by (Simulate layout program wire mangle order (Some number) journal) = 0
+read_by (Simulate layout program wire mangle order None journal format) = files_of format layout.ports
+read_by (Simulate layout program wire mangle order (Some number) journal format) = 0
 read_by (Generate number) = 0
 read_by (Audit layout) = 1
 
 abbrev pub written_by : Work → ℕ
-written_by (Simulate layout program wire mangle order number journal) = layout.ports
+written_by (Simulate layout program wire mangle order number journal format) = files_of format layout.ports
 written_by (Generate number) = 1
 written_by (Audit layout) = 0
 
@@ -75,6 +79,7 @@ run_status (Excessive excess) = TooMuch excess
 run_status (Stalls round) = Stalled round
 run_status NoMemory = OutOfMemory
 run_status (Breaks line) = NotLegal line
+run_status (BadFile cause) = BadPcapng cause
 
 abbrev pub write_status : WriteFailure → Status
 write_status (Unopened port) = OpenFault (Output port)
@@ -105,10 +110,10 @@ FailsReading most port old new (Unread at) = (at ≡ port) × (new.is_open (Inpu
 FailsReading most port old new (TooLong at) = (at ≡ port) × (new.is_open (Input port) ≡ true) × IfSome (old.left (Input port)) (λ bytes. most < length bytes)
 FailsReading most port old new NoRoom = new.is_open (Input port) ≡ true
 
--- the first inputs were read to their ends, and nothing else was opened or written
+-- the first inputs were read to their ends, none of more bytes than the most, and nothing else was opened or written
 pub record HaveRead (most : ℕ) (names bytes : List (List ℕ)) (count : ℕ) (old new : Moment) : Type 0 where
   pub count_is : length bytes ≡ count
-  pub short : AreWithin most bytes count
+  pub short : AreShort most bytes count
   pub reads : AreRead names bytes count count old new
   pub outputs : (port : ℕ) → new.is_open (Output port) ≡ false
   pub held : (port : ℕ) → new.held (Output port) ≡ old.held (Output port)
@@ -123,12 +128,27 @@ lists_in = map (λ (list : PacketList). list.packets)
 
 -- why the captures of inputs aren't taken
 abbrev pub AreUntaken : List (List ℕ) → RunFailure → Type 0
-AreUntaken inputs (Bad port cause) = AreShort inputs (length inputs) × IsBadCapture inputs port cause
+AreUntaken inputs (Bad port cause) = AreShort (most_input Pcap) inputs (length inputs) × IsBadCapture inputs port cause
 AreUntaken inputs (Excessive excess) =
-    AreShort inputs (length inputs) × ((lists : List (List (List ℕ))) × AreCaptures inputs lists × (excess_of lists ≡ Some excess))
+    AreShort (most_input Pcap) inputs (length inputs) × ((lists : List (List (List ℕ))) × AreCaptures inputs lists × (excess_of lists ≡ Some excess))
 AreUntaken inputs (Stalls round) = ⊥
 AreUntaken inputs NoMemory = Unit {0}
 AreUntaken inputs (Breaks line) = ⊥
+AreUntaken inputs (BadFile cause) = ⊥
+
+-- why the one file of so many ports isn't taken
+abbrev pub IsUntaken : ℕ → List (List ℕ) → RunFailure → Type 0
+IsUntaken ports inputs (BadFile cause) = AreShort (most_input Pcapng) inputs (length inputs) × IsBadFile ports inputs cause
+IsUntaken ports inputs (Excessive excess) =
+    AreShort (most_input Pcapng) inputs (length inputs) × ((lists : List (List (List ℕ))) × IsFile ports inputs lists × (excess_of lists ≡ Some excess))
+IsUntaken ports inputs NoMemory = Unit {0}
+IsUntaken ports inputs failure = ⊥
+
+-- why its bytes give no packets
+abbrev pub IsFileRefusal : ℕ → List ℕ → RunFailure → Type 0
+IsFileRefusal ports bytes (BadFile cause) = IsRefusedFile ports bytes cause × (cause ≢ NoFileCause)
+IsFileRefusal ports bytes NoMemory = Unit {0}
+IsFileRefusal ports bytes failure = ⊥
 
 -- why the bytes of a port's input give no packets
 abbrev pub IsRefusal : ℕ → List ℕ → RunFailure → Type 0
@@ -166,6 +186,7 @@ MakesNone work inputs (Excessive excess) = IsOutcome work inputs (passed excess)
 MakesNone work inputs (Stalls round) = IsOutcome work inputs (stalled round)
 MakesNone work inputs NoMemory = Unit {0}
 MakesNone work inputs (Breaks line) = IsOutcome work inputs (illegal line)
+MakesNone work inputs (BadFile cause) = IsOutcome work inputs (bad_file cause)
 
 abbrev pub written_in : Texts → Written
 written_in texts = record { outputs = map (λ text. text.items) texts.outputs.items; report = texts.report.items }

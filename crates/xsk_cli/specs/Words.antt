@@ -1,5 +1,5 @@
 -- Which words are a command, and what it does. This project's own.
-use Rattle.std.specs.Prelude.{ℕ, codes, Bool, List, [], ◌∷◌, length, take, drop, Option, None, Some, is_some, option_and_then, option_map, if◌then◌else◌, unwrap_or, nat_lt}
+use Rattle.std.specs.Prelude.{ℕ, codes, Bool, List, [], ◌∷◌, length, take, drop, Option, None, Some, is_some, option_and_then, option_map, if◌then◌else◌, unwrap_or, nat_lt, true, ◌==◌}
 use Rattle.std.specs.Str.{bytes_eq}
 use Rattle.xsk_args.specs.Words.{Text, is_dashed}
 use Rattle.xsk_args.specs.Number.{number_in}
@@ -14,6 +14,9 @@ use Rattle.xsk_args.specs.declared.table.Takes.TheVariants.{Nothing, Number, Pro
 use Rattle.xsk_socket.specs.declared.layout.Layout.{Layout}
 use Rattle.xsk_socket.specs.declared.layout.Unlawful.{Unlawful}
 use Rattle.xsk_socket.specs.Layout.{fault_of}
+use Rattle.xsk_cli.specs.Format.{files_of, most_input}
+use Rattle.xsk_cli.specs.declared.format.Format.{Format}
+use Rattle.xsk_cli.specs.declared.format.Format.TheVariants.{Pcap, Pcapng}
 use Rattle.xsk_cli.specs.declared.words.Work.{Work}
 use Rattle.xsk_cli.specs.declared.words.Work.TheVariants.{Simulate, Generate, Audit}
 
@@ -50,6 +53,7 @@ options =
     ∷ (codes "sg", Nothing)
     ∷ (codes "wakeup", Nothing)
     ∷ (codes "journal", Nothing)
+    ∷ (codes "pcapng", Nothing)
     ∷ []
 
 -- the number that was said under a name, or the one that stands where none was said
@@ -74,6 +78,10 @@ files_in said = unwrap_or (said (codes "FILE")) []
 abbrev pub are_made : Meaning → Bool
 are_made said = is_some (number_of said (codes "gen"))
 
+-- the format that was said
+abbrev pub format_of : Meaning → Format
+format_of said = if is_some (said (codes "pcapng")) then Pcapng else Pcap
+
 -- a number of files, where it has 32 bits
 abbrev pub counted : ℕ → ℕ
 counted n = if nat_lt n 4294967296 then n else 4294967295
@@ -81,6 +89,16 @@ counted n = if nat_lt n 4294967296 then n else 4294967295
 -- the ports of a command
 abbrev pub ports_of : Meaning → ℕ
 ports_of said = number_or said (codes "ports") 2
+
+-- how many files are counted for the layout, and how many it wants for each port. The one file of pcapng and its one output
+-- are no port's, so none is wanted
+abbrev pub files_counted : Format → ℕ → ℕ
+files_counted Pcap count = counted count
+files_counted Pcapng count = 0
+
+abbrev pub wanted_per_port : Format → Bool → ℕ
+wanted_per_port Pcap made = if made then 1 else 2
+wanted_per_port Pcapng made = 0
 
 -- what is asked for: its ports, the queues of each and the sockets of each queue, all over one UMEM (af_xdp.rst,
 -- "XDP_SHARED_UMEM bind flag"); with `sg` packets may have several frames ("XDP_USE_SG bind flag"); with `empty` one cell of
@@ -90,8 +108,8 @@ layout_by said = record {
   ports = ports_of said;
   queues = number_or said (codes "queues") 1;
   sockets = number_or said (codes "sockets") 1;
-  files = counted (length (files_in said));
-  files_wanted_per_port = if are_made said then 1 else 2;
+  files = files_counted (format_of said) (length (files_in said));
+  files_wanted_per_port = wanted_per_port (format_of said) (are_made said);
   chunk = number_or said (codes "chunk") 4096;
   headroom = number_or said (codes "headroom") 0;
   frames = number_or said (codes "frames") 256;
@@ -104,19 +122,30 @@ layout_by said = record {
   empty = number_of said (codes "empty");
 }
 
--- the files are an input for each port, but where the packets are made, and then an output for each port
+-- the files are an input for each port, or one of pcapng, but where the packets are made, and then as many outputs
 abbrev pub inputs_named : Meaning → ℕ
-inputs_named said = if are_made said then 0 else ports_of said
+inputs_named said = if are_made said then 0 else files_of (format_of said) (ports_of said)
 
 abbrev pub plan_by : Meaning → Plan
 plan_by said = record {
   inputs = take (inputs_named said) (files_in said);
   outputs = drop (inputs_named said) (files_in said);
-  work = Simulate (layout_by said) (program_of said) (wire_of said) (number_of said (codes "mangle")) (number_or said (codes "order") 0) (number_of said (codes "gen")) (is_some (said (codes "journal")));
+  work = Simulate (layout_by said) (program_of said) (wire_of said) (number_of said (codes "mangle")) (number_or said (codes "order") 0) (number_of said (codes "gen")) (is_some (said (codes "journal"))) (format_of said);
 }
 
+-- with pcapng there are two files, or one where the packets are made
+abbrev pub are_enough : Format → Bool → ℕ → Bool
+are_enough Pcap made count = true
+are_enough Pcapng made count = count == (if made then 1 else 2)
+
+abbrev pub has_files : Meaning → Bool
+has_files said = are_enough (format_of said) (are_made said) (length (files_in said))
+
+abbrev pub planned_by : Meaning → Option Plan
+planned_by said = if has_files said then Some (plan_by said) else None
+
 abbrev pub simulate_plan : List Text → Option Plan
-simulate_plan words = option_map plan_by (meaning (codes "simulate") options words)
+simulate_plan words = option_and_then planned_by (meaning (codes "simulate") options words)
 
 -- ---- `gen`
 
@@ -170,6 +199,24 @@ plan_of (first ∷ rest) =
 
 -- why the work is refused, where it is
 abbrev pub fault_in : Work → Option Unlawful
-fault_in (Simulate layout program wire mangle order number journal) = fault_of layout
+fault_in (Simulate layout program wire mangle order number journal format) = fault_of layout
 fault_in (Generate number) = None
 fault_in (Audit layout) = fault_of layout
+
+-- how many ports have packets
+abbrev pub ports_in : Work → ℕ
+ports_in (Simulate layout program wire mangle order number journal format) = layout.ports
+ports_in (Generate number) = 1
+ports_in (Audit layout) = 0
+
+-- the format of the files of packets
+abbrev pub format_in : Work → Format
+format_in (Simulate layout program wire mangle order number journal format) = format
+format_in (Generate number) = Pcap
+format_in (Audit layout) = Pcap
+
+-- the most bytes of one input: of a file of packets, or of a journal
+abbrev pub most_of : Work → ℕ
+most_of (Simulate layout program wire mangle order number journal format) = most_input format
+most_of (Generate number) = most_input Pcap
+most_of (Audit layout) = 67108864

@@ -3,12 +3,14 @@ ghost use Rattle.std.specs.Prelude.{◌≡◌, ℕ, ◌<◌, ◌≤◌, ◌^◌,
 ghost use Rattle.std.specs.List.{concat};
 ghost use Rattle.xsk_pcap.specs.Capture.{IsCapture, IsRefused};
 ghost use Rattle.xsk_umem.specs.PacketList.{PacketList as Packets};
+ghost use Rattle.xsk_cli.specs.Format.{most_input};
 ghost use Rattle.xsk_cli.specs.Judged.{AreCaptures, AreShort, bytes_in, excess_of, packets_in};
 ghost use Rattle.xsk_cli.specs.Outcome.{listed};
 ghost use Rattle.xsk_cli.specs.Steps.{AreUntaken, IsRefusal, lists_in};
 
 use crate::Excess;
 use crate::failure::RunFailure;
+use crate::format::Format;
 use std::alloc::Global;
 use xsk_pcap::{BadCapture, read};
 use xsk_umem::PacketList;
@@ -24,7 +26,7 @@ pub(crate) fn take_captures(
     inputs: Vec<Vec<u8>>,
 ) -> Result<Vec<PacketList>, RunFailure>
     requires few { length inputs.items ≤ 4 }
-    requires short { AreShort (map (λ bytes. bytes.items) inputs.items) (length inputs.items) }
+    requires short { AreShort (most_input Format.Pcap) (map (λ bytes. bytes.items) inputs.items) (length inputs.items) }
     ensures taken { IfOk result (λ lists. AreCaptures (map (λ bytes. bytes.items) inputs.items) (lists_in lists.items)) }
     ensures within { IfOk result (λ lists. excess_of (lists_in lists.items) ≡ None) }
     ensures listed { IfOk result (λ lists. lists.items ≡ map listed (lists_in lists.items)) }
@@ -40,7 +42,7 @@ pub(crate) fn take_captures(
 /// The packets of each port's capture.
 fn read_captures(alloc: Global, inputs: Vec<Vec<u8>>) -> Result<Vec<PacketList>, RunFailure>
     requires few { length inputs.items ≤ 4 }
-    requires short { AreShort (map (λ bytes. bytes.items) inputs.items) (length inputs.items) }
+    requires short { AreShort (most_input Format.Pcap) (map (λ bytes. bytes.items) inputs.items) (length inputs.items) }
     ensures read { IfOk result (λ lists. AreCaptures (map (λ bytes. bytes.items) inputs.items) (lists_in lists.items)) }
     ensures listed { IfOk result (λ lists. lists.items ≡ map listed (lists_in lists.items)) }
     ensures failed { IfErr result (AreUntaken (map (λ bytes. bytes.items) inputs.items)) }
@@ -78,7 +80,7 @@ pub(crate) fn without_room(list: PacketList) -> PacketList
 }
 
 /// Tests the limits of all lists together: the packets first, then the captured bytes.
-fn check_limits(lists: &[PacketList]) -> Result<(), Excess>
+pub(crate) fn check_limits(lists: &[PacketList]) -> Result<(), Excess>
     requires few { length lists.now ≤ 4 }
     requires small { bytes_in (lists_in lists.now) < 2 ^ 64 }
     ensures within { OnOk result (excess_of (lists_in lists.now) ≡ None) }

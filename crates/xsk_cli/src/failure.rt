@@ -4,6 +4,7 @@ use crate::{Excess, Status};
 use std::alloc::AllocError;
 use xsk_io::Stream;
 use xsk_pcap::BadCapture;
+use xsk_pcapng::BadPcapng;
 use xsk_umem::OutOfMemory;
 
 /// Why the inputs weren't read.
@@ -27,6 +28,7 @@ pub(crate) enum RunFailure {
     OutOfMemory,
     /// The journal isn't legal from this line on.
     NotLegal { line: u64 },
+    BadPcapng(BadPcapng),
 }
 
 /// Why the texts weren't written.
@@ -101,6 +103,7 @@ impl From<RunFailure> for Status {
             RunFailure::Stalled { round } => Status::Stalled { round },
             RunFailure::OutOfMemory => Status::OutOfMemory,
             RunFailure::NotLegal { line } => Status::NotLegal { line },
+            RunFailure::BadPcapng(cause) => Status::BadPcapng(cause),
         }
     }
 }

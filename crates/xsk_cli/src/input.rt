@@ -5,34 +5,15 @@ ghost use Rattle.xsk_io.specs.Bay.{Same, SameBut};
 ghost use Rattle.xsk_io.specs.declared.bay.Stream.{Stream as AStream};
 ghost use Rattle.xsk_cli.specs.Cause.{IsCaused, NeverFalls, NoOthers, Unchanged};
 ghost use Rattle.xsk_cli.specs.Ends.{Ends};
-ghost use Rattle.xsk_cli.specs.Judged.{most_of};
 ghost use Rattle.xsk_cli.specs.Steps.{FailsReading, HaveRead, read_status};
 ghost use Rattle.xsk_cli.specs.Streams.{IsTold};
-ghost use Rattle.xsk_cli.specs.Words.{Plan};
+ghost use Rattle.xsk_cli.specs.Words.{Plan, most_of};
 
 use crate::failure::ReadFailure;
-use crate::words::Work;
 use std::alloc::Global;
 use xsk_io::{Bay, ReadError, Stream, read_whole};
 
-/// The most bytes of a capture: one of 65,536 packets with 33,554,432 captured bytes.
-const MOST_BYTES: usize = 24 + 16 * 65_536 + 33_554_432;
-
-/// The most bytes of a journal.
-const MOST_OF_JOURNAL: usize = 67_108_864;
-
-/// The most bytes of one input.
-pub(crate) fn most_bytes(work: &Work) -> usize
-    ensures most { result ≡ most_of work.now }
-    ensures few { result ≤ 67108864 }
-{
-    match work {
-        Work::Simulate { .. } | Work::Generate { .. } => MOST_BYTES,
-        Work::Audit { .. } => MOST_OF_JOURNAL,
-    }
-}
-
-/// Opens the inputs by their names and reads them to their ends, one after another. None may have more than so many bytes.
+/// Opens the inputs by their names and reads them to their ends, one after another, each of at most so many bytes.
 pub(crate) fn read_inputs<B: Bay>(
     alloc: Global,
     bay: &mut B,
@@ -64,7 +45,7 @@ pub(crate) fn read_inputs<B: Bay>(
     Ok(inputs)
 }
 
-/// Opens the input of a port and reads it to its end, if it has no more than so many bytes.
+/// Opens the input of a port and reads it to its end, where it has at most so many bytes.
 fn read_input<B: Bay>(
     alloc: Global,
     bay: &mut B,

@@ -4,6 +4,8 @@
 mod audit;
 mod captures;
 mod failure;
+mod files;
+mod format;
 mod input;
 pub mod laws;
 mod lent;

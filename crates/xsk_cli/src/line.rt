@@ -2,13 +2,14 @@
 ghost use Rattle.std.specs.Prelude.{◌≡◌, ◌+◌, ◌≤◌, ◌++◌, length};
 ghost use Rattle.std.specs.Fmt.{decimal};
 ghost use Rattle.arrayvec.specs.ArrayString.{array_string_len};
-ghost use Rattle.xsk_cli.specs.Line.{cause_text, excess_text, line_of, status_text, stream_text, unlawful_text};
+ghost use Rattle.xsk_cli.specs.Line.{cause_text, excess_text, file_cause_text, line_of, status_text, stream_text, unlawful_text};
 
 use crate::{Excess, Status};
 use arrayvec::ArrayString;
 use itoa::Buffer;
 use xsk_io::Stream;
 use xsk_pcap::BadCapture;
+use xsk_pcapng::BadPcapng;
 use xsk_socket::Unlawful;
 
 /// The room of a line.
@@ -67,6 +68,10 @@ fn push_status(line: &mut ArrayString<96>, status: &Status)
             line.push_str("not legal ");
             push_u64(line, *at);
         }
+        Status::BadPcapng(cause) => {
+            line.push_str("bad pcapng ");
+            push_file_cause(line, *cause);
+        }
     }
 }
 
@@ -89,6 +94,27 @@ fn push_cause(line: &mut ArrayString<96>, cause: BadCapture)
             push_u64(line, at);
         }
         BadCapture::OutOfMemory => line.push_str("out of memory"),
+    }
+}
+
+fn push_file_cause(line: &mut ArrayString<96>, cause: BadPcapng)
+    requires { array_string_len line.old ≤ 50 }
+    ensures text { line.new.bytes ≡ line.old.bytes ++ file_cause_text cause }
+    ensures room { array_string_len line.new ≤ array_string_len line.old + 40 }
+{
+    match cause {
+        BadPcapng::ShortHeader => line.push_str("short header"),
+        BadPcapng::BadMagic => line.push_str("bad magic"),
+        BadPcapng::BadVersion => line.push_str("bad version"),
+        BadPcapng::Truncated { at } => push_at(line, "truncated ", at),
+        BadPcapng::BadBlock { at } => push_at(line, "bad block ", at),
+        BadPcapng::SecondSection { at } => push_at(line, "second section ", at),
+        BadPcapng::BadLink { at } => push_at(line, "bad link ", at),
+        BadPcapng::TooManyInterfaces { at } => push_at(line, "too many interfaces ", at),
+        BadPcapng::OtherPacket { at } => push_at(line, "other packet ", at),
+        BadPcapng::NoInterface { at } => push_at(line, "no interface ", at),
+        BadPcapng::RecordTooLong { at } => push_at(line, "record too long ", at),
+        BadPcapng::OutOfMemory => line.push_str("out of memory"),
     }
 }
 
@@ -161,6 +187,16 @@ fn push_named(line: &mut ArrayString<96>, name: &str, value: u32)
 {
     line.push_str(name);
     push_u32(line, value);
+}
+
+fn push_at(line: &mut ArrayString<96>, name: &str, at: u64)
+    requires room { array_string_len line.old ≤ 50 }
+    requires name { length name.now ≤ 20 }
+    ensures text { line.new.bytes ≡ line.old.bytes ++ (name.now ++ decimal at) }
+    ensures room { array_string_len line.new ≤ array_string_len line.old + (length name.now + 20) }
+{
+    line.push_str(name);
+    push_u64(line, at);
 }
 
 fn push_u32(line: &mut ArrayString<96>, number: u32)

@@ -2,7 +2,7 @@
 
 use xsk_args::{OptionRow, Takes};
 
-/// Each has a number, but `--prog`, `--wire`, `--sg` and `--journal`. The number that stands where none was said is [`Plan`](crate::words::Plan)'s.
+/// Each has a number, but `--prog`, `--wire`, and the flags `--sg`, `--wakeup`, `--journal` and `--pcapng`. The number that stands where none was said is [`Plan`](crate::words::Plan)'s.
 pub(crate) const OPTIONS: [OptionRow; 19] = [
     OptionRow {
         name: "ports",
@@ -78,6 +78,10 @@ pub(crate) const OPTIONS: [OptionRow; 19] = [
     },
     OptionRow {
         name: "journal",
+        takes: Takes::Nothing,
+    },
+    OptionRow {
+        name: "pcapng",
         takes: Takes::Nothing,
     },
 ];

@@ -4,6 +4,7 @@ ghost use Rattle.xsk_io.specs.Bay.{AddsNoneBut, CountsOnly, Same, SameBut};
 ghost use Rattle.xsk_io.specs.declared.bay.Kind.{Kind};
 ghost use Rattle.xsk_io.specs.declared.bay.Stream.{Stream as AStream};
 ghost use Rattle.xsk_pcap.specs.declared.reading.BadCapture.TheVariants.{OutOfMemory as NoMemory};
+ghost use Rattle.xsk_pcapng.specs.declared.reading.BadPcapng.TheVariants.{OutOfMemory as NoFileMemory};
 ghost use Rattle.xsk_socket.specs.declared.layout.Unlawful.{Unlawful as AnUnlawful};
 ghost use Rattle.xsk_cli.specs.Ample.{Finishes, GoesOn};
 ghost use Rattle.xsk_cli.specs.Cause.{IsCaused, IsFault, NeverFalls, NoOthers, Unchanged};
@@ -16,11 +17,11 @@ ghost use Rattle.xsk_cli.specs.Words.{Plan as APlan, fault_in, gen_plan, no_plan
 
 use crate::Status;
 use crate::audit::run_audit;
-use crate::input::{most_bytes, read_inputs};
+use crate::input::read_inputs;
 use crate::line::line;
 use crate::options::OPTIONS;
 use crate::output::write_texts;
-use crate::words::{Plan, Work, read_gen};
+use crate::words::{Plan, Work, check_files, read_gen};
 use crate::work::work_texts;
 use std::alloc::Global;
 use xsk_args::parse;
@@ -31,9 +32,10 @@ use xsk_io::{Bay, Stream, write_whole};
 /// `simulate [OPTION ..] IN0 IN1 .. OUT0 OUT1 ..` reads a capture for each port, forwards the packets of each port to the paired
 /// one, and writes a capture for each port, with what the drivers of its queues sent, that of queue 0 first; and then
 /// the figures of the run, line by line, to the report. `simulate --gen N [OPTION ..] OUT0 OUT1 ..` makes the packets of a number
-/// instead. `gen N FILE` writes a capture of the packets that are made of a number, and then the line `packets P bytes B`.
-/// `audit [OPTION ..] FILE` reads a journal, and tells by the line `legal N` that it is the journal of a legal history with so
-/// many entries, or by the status the first line that isn't. A refusal is told in one line to the report.
+/// instead. With `--pcapng` one pcapng file is read, whose interfaces are the ports, and one is written. `gen N FILE` writes a
+/// capture of the packets that are made of a number, and then the line `packets P bytes B`. `audit [OPTION ..] FILE` reads a
+/// journal, and tells by the line `legal N` that it is the journal of a legal history with so many entries, or by the status
+/// the first line that isn't. A refusal is told in one line to the report.
 pub fn run_plain<B: Bay>(alloc: Global, words: &[String], bay: &mut B) -> Status
     requires { (stream : AStream) → B.is_open bay.old stream ≡ false }
     ensures usage { result ≡ Status.Usage → plan_of (map string_bytes words.now) ≡ None }
@@ -58,13 +60,14 @@ pub fn run_plain<B: Bay>(alloc: Global, words: &[String], bay: &mut B) -> Status
         (record { is_open = B.is_open bay.old; asked = B.asked bay.old; left = B.left bay.old; held = B.held bay.old; offers = B.offers bay.old; faults = B.faults bay.old })
         (record { is_open = B.is_open bay.new; asked = B.asked bay.new; left = B.left bay.new; held = B.held bay.new; offers = B.offers bay.new; faults = B.faults bay.new }) }
     ensures check { (port : ℕ) → result ≡ Status.BadCapture port NoMemory → ⊥ }
+    ensures check_file { result ≡ Status.BadPcapng NoFileMemory → ⊥ }
 
     // Inputs whose bytes the bay tells are answered with their outcome, of which there is one.
     ensures answers { (plan : APlan) (inputs : List (List ℕ)) (outcome : Outcome) → plan_of (map string_bytes words.now) ≡ Some plan
         → AreTold plan inputs (record { is_open = B.is_open bay.old; asked = B.asked bay.old; left = B.left bay.old; held = B.held bay.old; offers = B.offers bay.old; faults = B.faults bay.old })
         → IsOutcome plan.work inputs outcome → Answers plan.work outcome result }
 
-    // Captures within the limits, and packets that are made, come to texts or stall, and so does a journal to a verdict, where the layout is accepted, no count
+    // Files within the limits, and packets that are made, come to texts or stall, and a journal to its verdict, where the layout is accepted, no count
     // of faults has risen and memory can be had.
     ensures complete { (plan : APlan) (inputs : List (List ℕ)) → plan_of (map string_bytes words.now) ≡ Some plan → fault_in plan.work ≡ None
         → AreTold plan inputs (record { is_open = B.is_open bay.old; asked = B.asked bay.old; left = B.left bay.old; held = B.held bay.old; offers = B.offers bay.old; faults = B.faults bay.old })
@@ -141,6 +144,7 @@ fn run_simulate<B: Bay>(alloc: Global, words: &[String], bay: &mut B) -> Result<
         (status_in result) }
 {
     let args = parse(alloc, "simulate", &OPTIONS, words)?;
+    check_files(&args)?;
     let plan = Plan::of(&args)?;
     run_plan(alloc, &plan, bay)
 }
@@ -165,7 +169,7 @@ pub(crate) fn run_plan<B: Bay>(
     ensures others { NoOthers (B.faults bay.old) (B.faults bay.new) (status_in result) }
     ensures falls { NeverFalls (B.faults bay.old) (B.faults bay.new) }
 {
-    let inputs = read_inputs(alloc, bay, plan.inputs, most_bytes(&plan.work))?;
+    let inputs = read_inputs(alloc, bay, plan.inputs, plan.work.most_input())?;
     let texts = work_texts(alloc, &plan.work, inputs)?;
     write_texts(bay, plan.outputs, &texts)?;
     Ok(())

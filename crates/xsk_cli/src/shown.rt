@@ -1,5 +1,5 @@
 //! The run of a command on threads, and the texts of what it shows.
-ghost use Rattle.std.specs.Prelude.{◌≡◌, ℕ, ◌+◌, ◌*◌, ◌<◌, ◌≤◌, None, Some, All, List, IfErr, IfOk, OnErr, OnOk, drop, false, length, map, take};
+ghost use Rattle.std.specs.Prelude.{◌≡◌, ℕ, ◌∷◌, [], ◌+◌, ◌*◌, ◌<◌, ◌≤◌, None, Some, All, List, IfErr, IfOk, OnErr, OnOk, drop, false, length, map, take};
 ghost use Rattle.std.specs.List.{range_with_len};
 ghost use Rattle.xsk_driver.specs.Sent.{IsShort};
 ghost use Rattle.xsk_machine.specs.Acts.{HasShortPackets};
@@ -7,18 +7,22 @@ ghost use Rattle.xsk_model.specs.Config.{IsRegular};
 ghost use Rattle.xsk_turns.specs.Owned.{IsSteady};
 ghost use Rattle.xsk_model.specs.Opening.{AreFrames};
 ghost use Rattle.xsk_pcap.specs.Written.{IsWritable, written};
+ghost use Rattle.xsk_pcapng.specs.Written.{IsWritable as IsWritableFile, written as written_file};
 ghost use Rattle.xsk_socket.specs.Layout.{fault_of, geometry_of, pairs_in};
 ghost use Rattle.xsk_socket.specs.Regular.{regular_of};
 ghost use Rattle.xsk_stats.specs.Report.{report_text};
 ghost use Rattle.xsk_workers.specs.Forwarded.{HasForwarded, OutcomeShown};
 ghost use Rattle.xsk_cli.specs.Forward.{AreTextsFrom, HasShown, IsRun};
+ghost use Rattle.xsk_cli.specs.Format.{joined, outputs_of};
 ghost use Rattle.xsk_cli.specs.Judged.{excess_of};
 ghost use Rattle.xsk_cli.specs.Lent.{IsLent};
 ghost use Rattle.xsk_cli.specs.Outcome.{AreTextsIn, frames_of, listed, report_of, setting_of};
-ghost use Rattle.xsk_cli.specs.Steps.{lists_in, written_by, written_in};
-ghost use Rattle.xsk_cli.specs.Words.{fault_in};
+ghost use Rattle.xsk_cli.specs.Steps.{lists_in, written_in};
+ghost use Rattle.xsk_cli.specs.Words.{fault_in, ports_in};
 
 use crate::failure::RunFailure;
+use crate::files::file_texts;
+use crate::format::Format;
 use crate::lent::{Lent, lend};
 use crate::setup::set_up;
 use crate::texts::{Texts, rule_of, wire_of};
@@ -48,7 +52,7 @@ pub(crate) fn make_shown<R: Threads + Wait + Sync, G: Gate + Sync>(
 ) -> Result<Lent, RunFailure>
     requires accepted { fault_in work.now ≡ None }
     requires runs { IsRun work.now }
-    requires ports { length lists.now ≡ written_by work.now }
+    requires ports { length lists.now ≡ ports_in work.now }
     requires within { excess_of (lists_in lists.now) ≡ None }
     requires listed { lists.now ≡ map listed (lists_in lists.now) }
     requires short { All HasShortPackets lists.now }
@@ -62,8 +66,11 @@ pub(crate) fn make_shown<R: Threads + Wait + Sync, G: Gate + Sync>(
             layout,
             program,
             wire,
+            format,
             ..
-        } => run_shown(rt, alloc, layout, *program, *wire, lists, gate, outcome),
+        } => run_shown(
+            rt, alloc, *format, layout, *program, *wire, lists, gate, outcome,
+        ),
         Work::Generate { .. } | Work::Audit { .. } => unreachable!(),
     }
 }
@@ -74,6 +81,7 @@ pub(crate) fn make_shown<R: Threads + Wait + Sync, G: Gate + Sync>(
 fn run_shown<R: Threads + Wait + Sync, G: Gate + Sync>(
     rt: &R,
     alloc: Global,
+    format: Format,
     layout: &Layout,
     program: Program,
     wire: Wire,
@@ -88,7 +96,7 @@ fn run_shown<R: Threads + Wait + Sync, G: Gate + Sync>(
     requires short { All HasShortPackets lists.now }
     requires none { outcome.old ≡ None }
     ensures made { IfOk result (λ lent. (o : OutcomeShown) × IsLent lent o × HasForwarded (setting_of layout.now program wire None (lists_in lists.now)) (frames_of layout.now) o
-        × AreTextsIn layout.now program wire None (lists_in lists.now) o.history (report_of layout.now program wire None (lists_in lists.now) o.history) (written_in lent.texts)) }
+        × AreTextsIn format layout.now program wire None (lists_in lists.now) o.history (report_of layout.now program wire None (lists_in lists.now) o.history) (written_in lent.texts)) }
     ensures shown { (o : OutcomeShown) → outcome.new ≡ Some o → HasForwarded (setting_of layout.now program wire None (lists_in lists.now)) (frames_of layout.now) o }
     ensures failed { IfErr result (λ failure. failure ≡ RunFailure.OutOfMemory) }
 {
@@ -97,13 +105,14 @@ fn run_shown<R: Threads + Wait + Sync, G: Gate + Sync>(
     let shown = forward_lists(
         rt, alloc, layout, config, frames, program, wire, lists, gate,
     )?;
-    let lent = keep_shown(alloc, layout, &shared, shown, outcome)?;
+    let lent = keep_shown(alloc, format, layout, &shared, shown, outcome)?;
     Ok(lent)
 }
 
 /// Makes the texts of what a run shows, and keeps that where there is no memory for them.
 fn keep_shown(
     alloc: Global,
+    format: Format,
     layout: &Layout,
     config: &Config,
     shown: Outcome,
@@ -116,18 +125,83 @@ fn keep_shown(
     requires sent { length shown.sent ≡ pairs_in layout.now }
     requires short { All (λ (list : List (List ℕ)). All IsShort list) shown.sent }
     requires writable { (port count : ℕ) → port < layout.now.ports → count ≤ layout.now.queues → IsWritable (take count (drop (port * layout.now.queues) shown.sent)) }
+    requires file { IsWritableFile (joined layout.now.ports layout.now.queues shown.sent) }
     ensures lent { IfOk result (λ lent. IsLent lent shown) }
-    ensures outputs { IfOk result (λ lent. (written_in lent.texts).outputs ≡ map (λ port. written (take layout.now.queues (drop (port * layout.now.queues) shown.sent))) (range_with_len 0 layout.now.ports)) }
+    ensures outputs { IfOk result (λ lent. (written_in lent.texts).outputs ≡ outputs_of format (λ port. take layout.now.queues (drop (port * layout.now.queues) shown.sent)) (range_with_len 0 layout.now.ports)) }
     ensures report { IfOk result (λ lent. (written_in lent.texts).report ≡ report_text config.now shown.figures) }
     ensures kept { OnErr result (outcome.new ≡ Some shown) }
     ensures unkept { OnOk result (outcome.new ≡ outcome.old) }
 {
-    match lend_shown(alloc, layout, config, shown) {
+    match text_shown(alloc, format, layout, config, shown) {
         Ok(lent) => Ok(lent),
         Err(shown) => {
             *outcome = Some(shown);
             Err(OutOfMemory)
         }
+    }
+}
+
+/// Makes the texts of what a run shows: those of the files, and the report.
+#[allow(clippy::result_large_err)]
+fn text_shown(
+    alloc: Global,
+    format: Format,
+    layout: &Layout,
+    config: &Config,
+    shown: Outcome,
+) -> Result<Lent, Outcome>
+    requires regular { IsRegular config.now }
+    requires drivers { length shown.figures.drivers ≡ length config.now.pairs }
+    requires ports { layout.now.ports ≤ 4 }
+    requires few { layout.now.ports * layout.now.queues < 4294967296 }
+    requires sent { length shown.sent ≡ pairs_in layout.now }
+    requires short { All (λ (list : List (List ℕ)). All IsShort list) shown.sent }
+    requires writable { (port count : ℕ) → port < layout.now.ports → count ≤ layout.now.queues → IsWritable (take count (drop (port * layout.now.queues) shown.sent)) }
+    requires file { IsWritableFile (joined layout.now.ports layout.now.queues shown.sent) }
+    ensures lent { IfOk result (λ lent. IsLent lent shown) }
+    ensures outputs { IfOk result (λ lent. (written_in lent.texts).outputs ≡ outputs_of format (λ port. take layout.now.queues (drop (port * layout.now.queues) shown.sent)) (range_with_len 0 layout.now.ports)) }
+    ensures report { IfOk result (λ lent. (written_in lent.texts).report ≡ report_text config.now shown.figures) }
+    ensures refused { IfErr result (λ other. other ≡ shown) }
+{
+    match format {
+        Format::Pcap => lend_shown(alloc, layout, config, shown),
+        Format::Pcapng => file_shown(alloc, layout, config, shown),
+    }
+}
+
+/// Makes the texts of what a run shows: one file of all ports, and the report. The outcome keeps its lists, which are copied.
+#[allow(clippy::result_large_err)]
+fn file_shown(
+    alloc: Global,
+    layout: &Layout,
+    config: &Config,
+    shown: Outcome,
+) -> Result<Lent, Outcome>
+    requires regular { IsRegular config.now }
+    requires drivers { length shown.figures.drivers ≡ length config.now.pairs }
+    requires ports { layout.now.ports ≤ 4 }
+    requires few { layout.now.ports * layout.now.queues < 4294967296 }
+    requires sent { length shown.sent ≡ pairs_in layout.now }
+    requires file { IsWritableFile (joined layout.now.ports layout.now.queues shown.sent) }
+    ensures lent { IfOk result (λ lent. IsLent lent shown) }
+    ensures outputs { IfOk result (λ lent. (written_in lent.texts).outputs ≡ written_file (joined layout.now.ports layout.now.queues shown.sent) ∷ []) }
+    ensures report { IfOk result (λ lent. (written_in lent.texts).report ≡ report_text config.now shown.figures) }
+    ensures refused { IfErr result (λ other. other ≡ shown) }
+{
+    let Ok(report) = report(alloc, config, shown.figures()) else {
+        return Err(shown);
+    };
+    let mut shown = shown;
+    let sent = shown.take_sent(alloc);
+    let outputs = file_texts(alloc, layout.ports, layout.queues, sent.as_slice());
+    shown.put_sent(sent);
+    match outputs {
+        Ok(outputs) => Ok(Lent {
+            texts: Texts { outputs, report },
+            outcome: shown,
+            loan: None,
+        }),
+        Err(OutOfMemory) => Err(shown),
     }
 }
 

@@ -5,13 +5,14 @@ ghost use Rattle.xsk_cli.specs.ExitStatus.{exit_status_of};
 use xsk_args::ArgsError;
 use xsk_io::Stream;
 use xsk_pcap::BadCapture;
+use xsk_pcapng::BadPcapng;
 use xsk_socket::Unlawful;
 use xsk_umem::OutOfMemory;
 
 /// Which limit was passed, and by how much came.
 #[derive(Clone, Copy, Debug, PartialEq, Eq)]
 pub enum Excess {
-    /// An input has more bytes than 65,536 packets with 33,554,432 bytes take, or a journal more than 67,108,864.
+    /// An input has more bytes than 65,536 packets with 33,554,432 bytes take, or a pcapng file or a journal more than 67,108,864.
     Input(u32),
     /// All inputs together have so many packets, more than 65,536.
     Packets(u64),
@@ -42,6 +43,8 @@ pub enum Status {
     TooMuch(Excess),
     /// Memory couldn't be had.
     OutOfMemory,
+    /// The pcapng file was refused.
+    BadPcapng(BadPcapng),
     /// This line of a journal, counted from 1, is the first that can't follow those before it in the journal of a legal history.
     NotLegal { line: u64 },
 }
@@ -62,6 +65,7 @@ impl Status {
             Status::Stalled { .. } => 8,
             Status::TooMuch(_) => 9,
             Status::OutOfMemory => 10,
+            Status::BadPcapng(_) => 12,
             Status::NotLegal { .. } => 13,
         }
     }

@@ -7,10 +7,11 @@ ghost use Rattle.xsk_prog.specs.Rules.{HasSockets, IsSocketCount};
 ghost use Rattle.xsk_sim.specs.Journal.{journal_of};
 ghost use Rattle.xsk_sim.specs.Runs.{HasEnded};
 ghost use Rattle.xsk_sim.specs.Shown.{HasShortPackets};
+ghost use Rattle.xsk_cli.specs.Format.{joined, outputs_of};
 ghost use Rattle.xsk_cli.specs.Judged.{excess_of};
 ghost use Rattle.xsk_cli.specs.Outcome.{AreTextsBy, AreTextsOf, IsOnPackets, capture_of, frames_of, listed, made_lists, rule_by, setting_of, wire_by};
 ghost use Rattle.xsk_cli.specs.Steps.{FailsMaking, FailsRunning, lists_in, written_by, written_in};
-ghost use Rattle.xsk_cli.specs.Words.{fault_in};
+ghost use Rattle.xsk_cli.specs.Words.{fault_in, ports_in};
 ghost use Rattle.xsk_cli.specs.declared.words.Work.TheVariants.{Generate};
 ghost use Rattle.xsk_model.specs.Config.{IsRegular};
 ghost use Rattle.xsk_turns.specs.Owned.{IsSteady};
@@ -18,9 +19,12 @@ ghost use Rattle.xsk_model.specs.Opening.{AreFrames};
 ghost use Rattle.xsk_socket.specs.Layout.{fault_of, geometry_of, pairs_in};
 ghost use Rattle.xsk_socket.specs.Regular.{regular_of};
 ghost use Rattle.xsk_pcap.specs.Written.{IsWritable, written};
+ghost use Rattle.xsk_pcapng.specs.Written.{IsWritable as IsWritableFile};
 ghost use Rattle.xsk_stats.specs.Report.{report_text};
 
 use crate::failure::RunFailure;
+use crate::files::file_texts;
+use crate::format::Format;
 use crate::made::made_texts;
 use crate::setup::set_up;
 use crate::words::Work;
@@ -36,7 +40,7 @@ use xsk_stats::report;
 use xsk_turns::Manner;
 use xsk_umem::{Frames, OutOfMemory, PacketList};
 
-/// What is written: a capture for each port, and the report.
+/// What is written: a text for each output, and the report.
 #[derive(Drop)]
 pub(crate) struct Texts {
     pub(crate) outputs: Vec<Vec<u8>>,
@@ -51,7 +55,7 @@ pub(crate) fn make_texts(
 ) -> Result<Texts, RunFailure>
     requires accepted { fault_in work.now ≡ None }
     requires packets { IsOnPackets work.now }
-    requires ports { length lists.now ≡ written_by work.now }
+    requires ports { length lists.now ≡ ports_in work.now }
     requires within { excess_of (lists_in lists.now) ≡ None }
     requires made { (number : ℕ) → work.now ≡ Generate number → lists_in lists.now ≡ made_lists number 1 }
     requires listed { lists.now ≡ map listed (lists_in lists.now) }
@@ -67,16 +71,21 @@ pub(crate) fn make_texts(
             mangle,
             order,
             journal,
+            format,
             ..
-        } => run_texts(alloc, layout, *program, *wire, *mangle, *order, *journal, lists),
+        } => run_texts(
+            alloc, *format, layout, *program, *wire, *mangle, *order, *journal, lists,
+        ),
         Work::Generate { .. } => Ok(made_texts(alloc, &lists[0])?),
         Work::Audit { .. } => unreachable!(),
     }
 }
 
 /// Runs the packets of all ports, and makes what is written.
+#[allow(clippy::too_many_arguments)]
 fn run_texts(
     alloc: Global,
+    format: Format,
     layout: &Layout,
     program: Program,
     wire: Wire,
@@ -90,14 +99,14 @@ fn run_texts(
     requires within { excess_of (lists_in lists.now) ≡ None }
     requires listed { lists.now ≡ map listed (lists_in lists.now) }
     requires short { All HasShortPackets lists.now }
-    ensures made { IfOk result (λ texts. AreTextsOf layout.now program wire mangle order (lists_in lists.now) journal (written_in texts)) }
+    ensures made { IfOk result (λ texts. AreTextsOf format layout.now program wire mangle order (lists_in lists.now) journal (written_in texts)) }
     ensures failed { IfErr result (FailsRunning layout.now program wire mangle order (lists_in lists.now)) }
 {
     let (config, frames) = set_up(alloc, layout)?;
     let shared = config.copy(alloc)?;
     let run = run_lists(alloc, layout, config, frames, program, wire, mangle, order, lists)?;
     let report = told_text(alloc, &shared, &run, journal)?;
-    let outputs = output_texts(alloc, layout.ports, layout.queues, run.into_sent())?;
+    let outputs = sent_texts(alloc, format, layout.ports, layout.queues, run.into_sent())?;
     Ok(Texts { outputs, report })
 }
 
@@ -179,6 +188,28 @@ pub(crate) fn wire_of(wire: Wire) -> xsk_sim::Wire
     match wire {
         Wire::Wait => xsk_sim::Wire::Wait,
         Wire::Drop => xsk_sim::Wire::Drop,
+    }
+}
+
+/// What is written of what the drivers sent.
+fn sent_texts(
+    alloc: Global,
+    format: Format,
+    ports: u32,
+    queues: u32,
+    sent: Vec<PacketList>,
+) -> Result<Vec<Vec<u8>>, OutOfMemory>
+    requires ports { ports ≤ 4 }
+    requires queues { 1 ≤ queues }
+    requires count { length sent.items ≡ ports * queues }
+    requires few { ports * queues < 4294967296 }
+    requires writable { (port count : ℕ) → port < ports → count ≤ queues → IsWritable (take count (drop (port * queues) (lists_in sent.items))) }
+    requires file { IsWritableFile (joined ports queues (lists_in sent.items)) }
+    ensures { IfOk result (λ texts. map (λ text. text.items) texts.items ≡ outputs_of format (λ port. take queues (drop (port * queues) (lists_in sent.items))) (range_with_len 0 ports)) }
+{
+    match format {
+        Format::Pcap => output_texts(alloc, ports, queues, sent),
+        Format::Pcapng => file_texts(alloc, ports, queues, sent.as_slice()),
     }
 }
 

@@ -4,6 +4,7 @@ ghost use Rattle.xsk_io.specs.Bay.{CountsOnly};
 ghost use Rattle.xsk_io.specs.declared.bay.Kind.{Kind};
 ghost use Rattle.xsk_io.specs.declared.bay.Stream.{Stream as AStream};
 ghost use Rattle.xsk_pcap.specs.declared.reading.BadCapture.TheVariants.{OutOfMemory as NoCause};
+ghost use Rattle.xsk_pcapng.specs.declared.reading.BadPcapng.TheVariants.{OutOfMemory as NoFileCause};
 ghost use Rattle.xsk_socket.specs.declared.layout.Unlawful.{Unlawful as AnUnlawful};
 ghost use Rattle.xsk_cli.specs.Ample.{Finishes, GoesOn};
 ghost use Rattle.xsk_cli.specs.Cause.{IsCaused, IsFault, NeverFalls, NoOthers};
@@ -16,12 +17,12 @@ ghost use Rattle.xsk_cli.specs.Streams.{GotLine, HasLine, IsAtOnce, IsOfLine, Is
 ghost use Rattle.xsk_cli.specs.Words.{Plan as APlan, fault_in, no_plan, plan_of};
 
 use crate::Status;
-use crate::input::{most_bytes, read_inputs};
+use crate::input::read_inputs;
 use crate::lists::take_lists;
 use crate::output::write_texts;
 use crate::plain::{run_plain, status_of, tell};
 use crate::shown::make_shown;
-use crate::words::Plan;
+use crate::words::{Plan, check_files};
 use std::alloc::Global;
 use std::sync::Wait;
 use std::thread::Threads;
@@ -30,7 +31,7 @@ use xsk_io::{Bay, Gate};
 use xsk_workers::Outcome;
 
 /// The options of `forward`: those of `simulate` but `--order`, for there are no rounds.
-const FORWARD_OPTIONS: [OptionRow; 16] = [
+const FORWARD_OPTIONS: [OptionRow; 17] = [
     OptionRow {
         name: "ports",
         takes: Takes::Number,
@@ -93,6 +94,10 @@ const FORWARD_OPTIONS: [OptionRow; 16] = [
     },
     OptionRow {
         name: "wakeup",
+        takes: Takes::Nothing,
+    },
+    OptionRow {
+        name: "pcapng",
         takes: Takes::Nothing,
     },
 ];
@@ -177,6 +182,7 @@ fn run_forward<R: Threads + Wait + Sync, B: Bay, G: Gate + Sync>(
         (record { is_open = B.is_open bay.old; asked = B.asked bay.old; left = B.left bay.old; held = B.held bay.old; offers = B.offers bay.old; faults = B.faults bay.old })
         (record { is_open = B.is_open bay.new; asked = B.asked bay.new; left = B.left bay.new; held = B.held bay.new; offers = B.offers bay.new; faults = B.faults bay.new }) }
     ensures check { (port : ℕ) → result.status ≡ Status.BadCapture port NoCause → ⊥ }
+    ensures check_file { result.status ≡ Status.BadPcapng NoFileCause → ⊥ }
     ensures answers { (plan : APlan) (inputs : List (List ℕ)) (outcome : AnOutcome) → planned_by (map string_bytes words.now) ≡ Some plan
         → AreTold plan inputs (record { is_open = B.is_open bay.old; asked = B.asked bay.old; left = B.left bay.old; held = B.held bay.old; offers = B.offers bay.old; faults = B.faults bay.old })
         → IsRefusedAs plan.work inputs outcome → Answers plan.work outcome result.status }
@@ -211,6 +217,7 @@ fn forward_words<R: Threads + Wait + Sync, B: Bay, G: Gate + Sync>(
         (status_in result) }
 {
     let args = parse(alloc, "forward", &FORWARD_OPTIONS, words)?;
+    check_files(&args)?;
     let plan = Plan::of(&args)?;
     forward_plan(rt, alloc, &plan, bay, gate, outcome)
 }
@@ -240,7 +247,7 @@ fn forward_plan<R: Threads + Wait + Sync, B: Bay, G: Gate + Sync>(
     ensures others { NoOthers (B.faults bay.old) (B.faults bay.new) (status_in result) }
     ensures falls { NeverFalls (B.faults bay.old) (B.faults bay.new) }
 {
-    let inputs = read_inputs(alloc, bay, plan.inputs, most_bytes(&plan.work))?;
+    let inputs = read_inputs(alloc, bay, plan.inputs, plan.work.most_input())?;
     let lists = take_lists(alloc, &plan.work, inputs)?;
     let lent = make_shown(rt, alloc, &plan.work, lists.as_slice(), gate, outcome)?;
     let written = write_texts(bay, plan.outputs, &lent.texts);

@@ -1,20 +1,26 @@
 //! What the words of a command ask for.
-ghost use Rattle.std.specs.Prelude.{◌≡◌, None, Some, [], ◌∷◌, IfErr, IfOk, IfSome, IfNone, IsTrue, ◌↔◌, length, map, string_bytes, true};
+ghost use Rattle.std.specs.Prelude.{◌≡◌, None, Some, [], ◌∷◌, Bool, IfErr, IfOk, IfSome, IfNone, IsTrue, ◌↔◌, OnOk, false, if◌then◌else◌, length, map, string_bytes, true};
 ghost use Rattle.xsk_args.specs.Meaning.{under};
 ghost use Rattle.xsk_args.specs.Words.{is_dashed};
 ghost use Rattle.xsk_socket.specs.Layout.{fault_of};
+ghost use Rattle.xsk_cli.specs.Format.{files_of};
 ghost use Rattle.xsk_cli.specs.Steps.{plan_in};
-ghost use Rattle.xsk_cli.specs.Words.{counted, fault_in, files_in, gen_plan, layout_by, plan_by};
+ghost use Rattle.xsk_cli.specs.Words.{are_enough, are_made, counted, fault_in, files_counted, files_in, format_of, gen_plan, has_files, layout_by, most_of, plan_by, wanted_per_port};
 
-use xsk_args::{Args, Program, Wire, parse_number};
+use crate::format::Format;
+use xsk_args::{Args, ArgsError, Program, Wire, parse_number};
 use xsk_socket::{Layout, Unlawful, check_layout};
+
+/// The most bytes of a journal.
+const MOST_OF_JOURNAL: usize = 67_108_864;
 
 /// What is made of the files that a command reads.
 #[derive(Clone, Copy, Debug, PartialEq, Eq)]
 pub enum Work {
-    /// A run of the layout's workers over the captures of its ports, under a program and with a wire, in rounds with an order
-    /// number. With a number to mangle by, applications change items that they send. With a number of the generator no captures
-    /// are read, and the packets are made. The journal follows the report where that was asked for.
+    /// A run of the layout's workers over the packets of its ports, under a program and with a wire, in rounds with an order
+    /// number. With a number to mangle by, applications change items that they send. With a number of the generator no files are
+    /// read, and the packets are made. The journal follows the report where that was asked for. The packets are read and written
+    /// as files of the format.
     Simulate {
         layout: Layout,
         program: Program,
@@ -23,6 +29,7 @@ pub enum Work {
         order: u32,
         number: Option<u32>,
         journal: bool,
+        format: Format,
     },
     /// A capture of the packets that are made of a number.
     Generate {
@@ -34,6 +41,19 @@ pub enum Work {
     },
 }
 
+impl Work {
+    /// The most bytes of one input.
+    pub(crate) fn most_input(&self) -> usize
+        ensures { result ≡ most_of self.now }
+    {
+        match self {
+            Work::Simulate { format, .. } => format.most_input(),
+            Work::Generate { .. } => Format::Pcap.most_input(),
+            Work::Audit { .. } => MOST_OF_JOURNAL,
+        }
+    }
+}
+
 /// The files that a command reads, those that it writes, and what it does between.
 #[derive(Clone, Copy, Debug)]
 pub(crate) struct Plan<'p, 'w> {
@@ -43,8 +63,9 @@ pub(crate) struct Plan<'p, 'w> {
 }
 
 impl<'p, 'w> Plan<'p, 'w> {
-    /// The plan of parsed words, unless their layout is refused.
+    /// The plan of parsed words that name as many files as their format wants, unless their layout is refused.
     pub(crate) fn of(args: &'p Args<'w>) -> Result<Plan<'p, 'w>, Unlawful>
+        requires { has_files (under args.now) ≡ true }
         ensures plan { IfOk result (λ plan. plan_in plan ≡ plan_by (under args.now)) }
         ensures accepted { IfOk result (λ plan. fault_in plan.work ≡ None) }
         ensures refused { IfErr result (λ unlawful. fault_of (layout_by (under args.now)) ≡ Some unlawful) }
@@ -58,12 +79,9 @@ impl<'p, 'w> Plan<'p, 'w> {
         let wire = args.wire("wire").unwrap_or(Wire::Wait);
         let order = args.number("order").unwrap_or(0);
         let number = args.number("gen");
-        let named = if number.is_some() {
-            0
-        } else {
-            layout.ports as usize
-        };
-        let (inputs, outputs) = files.split_at(named);
+        let format = format_said(args);
+        let named = count_inputs(format, number.is_some(), layout.ports);
+        let (inputs, outputs) = files.split_at(named as usize);
         Ok(Plan {
             inputs,
             outputs,
@@ -75,8 +93,44 @@ impl<'p, 'w> Plan<'p, 'w> {
                 order,
                 number,
                 journal: args.is_said("journal"),
+                format,
             },
         })
+    }
+}
+
+/// The format that was asked for.
+fn format_said(args: &Args<'_>) -> Format
+    ensures { result ≡ format_of (under args.now) }
+{
+    if args.is_said("pcapng") {
+        Format::Pcapng
+    } else {
+        Format::Pcap
+    }
+}
+
+/// Passes words with as many files as their format wants, where it wants a number of its own: with pcapng an input and an output,
+/// or an output where the packets are made.
+pub(crate) fn check_files(args: &Args<'_>) -> Result<(), ArgsError>
+    ensures passed { OnOk result (has_files (under args.now) ≡ true) }
+    ensures usage { IfErr result (λ error. (error ≡ ArgsError.Usage) × (has_files (under args.now) ≡ false)) }
+{
+    let made = args.number("gen").is_some();
+    if is_enough(format_said(args), made, number_of_files(args)) {
+        Ok(())
+    } else {
+        Err(ArgsError::Usage)
+    }
+}
+
+/// Whether so many files are enough for a format.
+fn is_enough(format: Format, made: bool, count: usize) -> bool
+    ensures { result ≡ are_enough format made count }
+{
+    match format {
+        Format::Pcap => true,
+        Format::Pcapng => count == if made { 1 } else { 2 },
     }
 }
 
@@ -84,12 +138,13 @@ impl<'p, 'w> Plan<'p, 'w> {
 pub(crate) fn layout_of(args: &Args<'_>) -> Layout
     ensures { result ≡ layout_by (under args.now) }
 {
+    let format = format_said(args);
     Layout {
         ports: args.number("ports").unwrap_or(2),
         queues: args.number("queues").unwrap_or(1),
         sockets: args.number("sockets").unwrap_or(1),
-        files: count_files(args),
-        files_wanted_per_port: if args.number("gen").is_some() { 1 } else { 2 },
+        files: count_files(format, args),
+        files_wanted_per_port: count_wanted(format, args.number("gen").is_some()),
         chunk: args.number("chunk").unwrap_or(4096),
         headroom: args.number("headroom").unwrap_or(0),
         frames: args.number("frames").unwrap_or(256),
@@ -103,12 +158,40 @@ pub(crate) fn layout_of(args: &Args<'_>) -> Layout
     }
 }
 
+/// The number of files that the layout counts: with pcapng none, for no file is a port's.
+fn count_files(format: Format, args: &Args<'_>) -> u32
+    ensures { result ≡ files_counted format (length (files_in (under args.now))) }
+{
+    match format {
+        Format::Pcap => count_of(number_of_files(args)),
+        Format::Pcapng => 0,
+    }
+}
+
+/// The number of files that the layout wants for each port.
+fn count_wanted(format: Format, made: bool) -> u32
+    ensures { result ≡ wanted_per_port format made }
+{
+    match format {
+        Format::Pcap if made => 1,
+        Format::Pcap => 2,
+        Format::Pcapng => 0,
+    }
+}
+
+/// The number of files that are read: none where the packets are made.
+fn count_inputs(format: Format, made: bool, ports: u32) -> u32
+    ensures { result ≡ (if made then 0 else files_of format ports) }
+{
+    if made { 0 } else { format.files(ports) }
+}
+
 /// The number of files that were named.
-fn count_files(args: &Args<'_>) -> u32
-    ensures { result ≡ counted (length (files_in (under args.now))) }
+fn number_of_files(args: &Args<'_>) -> usize
+    ensures { result ≡ length (files_in (under args.now)) }
 {
     match args.files() {
-        Some(files) => count_of(files.len()),
+        Some(files) => files.len(),
         None => 0,
     }
 }

@@ -1,9 +1,9 @@
 //! What is written of the bytes of a command's inputs.
 ghost use Rattle.std.specs.Prelude.{◌≡◌, None, IfErr, IfOk, length, map};
-ghost use Rattle.xsk_cli.specs.Judged.{AreShort, AreWithin, most_of};
+ghost use Rattle.xsk_cli.specs.Judged.{AreShort};
 ghost use Rattle.xsk_cli.specs.Outcome.{IsOnPackets, IsOutcome, made};
 ghost use Rattle.xsk_cli.specs.Steps.{MakesNone, read_by, written_by, written_in};
-ghost use Rattle.xsk_cli.specs.Words.{fault_in};
+ghost use Rattle.xsk_cli.specs.Words.{fault_in, most_of};
 
 use crate::audit::audit_texts;
 use crate::failure::RunFailure;
@@ -20,7 +20,7 @@ pub(crate) fn work_texts(
 ) -> Result<Texts, RunFailure>
     requires accepted { fault_in work.now ≡ None }
     requires count { length inputs.items ≡ read_by work.now }
-    requires within { AreWithin (most_of work.now) (map (λ bytes. bytes.items) inputs.items) (length inputs.items) }
+    requires within { AreShort (most_of work.now) (map (λ bytes. bytes.items) inputs.items) (length inputs.items) }
     ensures made { IfOk result (λ texts. IsOutcome work.now (map (λ bytes. bytes.items) inputs.items) (made (written_in texts))) }
     ensures count { IfOk result (λ texts. length (written_in texts).outputs ≡ written_by work.now) }
     ensures failed { IfErr result (MakesNone work.now (map (λ bytes. bytes.items) inputs.items)) }
@@ -36,7 +36,7 @@ fn packet_texts(alloc: Global, work: &Work, inputs: Vec<Vec<u8>>) -> Result<Text
     requires accepted { fault_in work.now ≡ None }
     requires packets { IsOnPackets work.now }
     requires count { length inputs.items ≡ read_by work.now }
-    requires short { AreShort (map (λ bytes. bytes.items) inputs.items) (length inputs.items) }
+    requires short { AreShort (most_of work.now) (map (λ bytes. bytes.items) inputs.items) (length inputs.items) }
     ensures made { IfOk result (λ texts. IsOutcome work.now (map (λ bytes. bytes.items) inputs.items) (made (written_in texts))) }
     ensures count { IfOk result (λ texts. length (written_in texts).outputs ≡ written_by work.now) }
     ensures failed { IfErr result (MakesNone work.now (map (λ bytes. bytes.items) inputs.items)) }

@@ -17,7 +17,7 @@ returns-in_err-list-clause-failed c =
     let refused : IsRefusal port c.in-Some.bytes.items failure = search rules in
     answer_untaken c.from_residual-in_err-list.result failure inputs (search rules)
     (refusal_makes inputs c.loop-bytes.lists.items port failure c.loop-bytes.invariant.have (known_name (λ bytes. bytes.items) c.args.inputs.items port at.0)
-    (short_all (λ bytes. bytes.items) c.args.inputs.items c.requires.short) (subst (λ b. IsRefusal port b failure) at.1 refused))
+    (short_all 34603032 (λ bytes. bytes.items) c.args.inputs.items c.requires.short) (subst (λ b. IsRefusal port b failure) at.1 refused))
 
 pub loop-bytes-preserved : goal.loop-bytes-preserved
 loop-bytes-preserved c =

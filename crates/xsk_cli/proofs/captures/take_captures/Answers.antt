@@ -10,5 +10,5 @@ check_limits-requires-clause-small c =
     let inputs = map (λ bytes. bytes.items) c.args.inputs.items in
     let few : length inputs ≤ 4 = omega (arith, length-map c.args.inputs.items (λ bytes. bytes.items), c.requires.few) in
     let small : bytes_in (lists_in c.in_ok-lists.lists.items) ≤ 138412128 =
-    bytes_small inputs (lists_in c.in_ok-lists.lists.items) c.in_ok-lists.ensures.read (short_all (λ bytes. bytes.items) c.args.inputs.items c.requires.short) few in
+    bytes_small inputs (lists_in c.in_ok-lists.lists.items) c.in_ok-lists.ensures.read (short_all 34603032 (λ bytes. bytes.items) c.args.inputs.items c.requires.short) few in
     rw c.as_slice.ensures.value (omega (arith, small))

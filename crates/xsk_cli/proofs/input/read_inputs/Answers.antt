@@ -26,8 +26,8 @@ returns-in_err-bytes-clause-failed g c plan e same =
     let told : IsTold (new.asked (Input port)) (get_or names port []) = told_name (λ name. name.now) c.args.names.now port _ (new.asked (Input port)) below c.read_input.ensures.asked in
     let known : port < length names = known_name (λ name. name.now) c.args.names.now port below in
     answer_ends c.from_residual-in_err-bytes.result c.in_err-bytes.field-0.0 plan old new (search rules)
-    (reading_fails plan bytes port old mid new (subst (λ m. HaveRead m plan.inputs bytes port old mid) (sym same) (subst (λ ns. HaveRead c.args.most ns bytes port old mid) (sym e) c.loop-port.invariant.have)) (subst (λ ns. port < length ns) (sym e) known) touched
-    (subst (λ ns. IsTold (new.asked (Input port)) (get_or ns port [])) (sym e) told) c.in_err-bytes.field-0.0 (subst (λ m. FailsReading m port mid new c.in_err-bytes.field-0.0) (sym same) (search rules)))
+    (reading_fails plan bytes port old mid new (subst (λ n. HaveRead n plan.inputs bytes port old mid) (sym same) (subst (λ ns. HaveRead c.args.most ns bytes port old mid) (sym e) c.loop-port.invariant.have)) (subst (λ ns. port < length ns) (sym e) known) touched
+    (subst (λ ns. IsTold (new.asked (Input port)) (get_or ns port [])) (sym e) told) c.in_err-bytes.field-0.0 (subst (λ n. FailsReading n port mid new c.in_err-bytes.field-0.0) (sym same) (search rules)))
 
 pub loop-port-preserved : goal.loop-port-preserved
 loop-port-preserved g c =

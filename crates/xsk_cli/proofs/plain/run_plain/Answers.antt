@@ -1,6 +1,8 @@
 use Rattle.std.proofs.Common.{◌≡◌, map, string_bytes, sym, ap, ◌∙◌, subst}
 use Rattle.std.specs.Prelude.{◌⊎◌, unwrap_or}
-use Rattle.xsk_cli.specs.declared.status.Status.TheVariants.{Refused, OutOfMemory}
+use Rattle.xsk_cli.specs.declared.status.Status.TheVariants.{BadCapture, BadPcapng, Refused, OutOfMemory}
+use Rattle.xsk_pcap.specs.declared.reading.BadCapture.TheVariants.{OutOfMemory as NoCause}
+use Rattle.xsk_pcapng.specs.declared.reading.BadPcapng.TheVariants.{OutOfMemory as NoFileCause}
 use Rattle.xsk_io.proofs.Steps.{Rose-later}
 use Rattle.xsk_cli.specs.Cause.{IsCaused, NoOthers}
 use Rattle.xsk_cli.specs.Ends.{Ends, NoneRose}
@@ -9,6 +11,7 @@ use Rattle.xsk_cli.specs.Words.{no_plan, plan_of}
 use Rattle.xsk_cli.proofs.Ample.{finished, never_illegal, never_stalled}
 use Rattle.xsk_cli.proofs.Answering.{answered, completes}
 use Rattle.xsk_cli.proofs.Counting.{told_others}
+use Rattle.xsk_cli.proofs.Filing.{no_check, no_file_check}
 use Rattle.xsk_cli.proofs.Writing.{told_ends}
 use Rattle.xsk_cli.proofs.plain.run_plain.Goals as goal
 
@@ -24,6 +27,22 @@ returns-clause-ends g c =
     let plan = unwrap_or (plan_of (map string_bytes c.args.words.now)) no_plan in
     let ends : Ends plan old mid c.status_of-status.result = subst (λ s. Ends plan old mid s) (sym c.status_of-status.ensures) c.run_words.ensures.ends in
     told_ends plan old mid new c.status_of-status.result ends c.tell.ensures.opened c.tell.ensures.asked c.tell.ensures.left c.tell.ensures.held c.tell.ensures.offers c.tell.ensures.silent
+
+pub returns-clause-check : goal.returns-clause-check
+returns-clause-check g c port is =
+    let old : Moment = record { is_open = g.B.Bay.is_open c.args.bay.now; asked = g.B.Bay.asked c.args.bay.now; left = g.B.Bay.left c.args.bay.now; held = g.B.Bay.held c.args.bay.now; offers = g.B.Bay.offers c.args.bay.now; faults = g.B.Bay.faults c.args.bay.now } in
+    let mid : Moment = record { is_open = g.B.Bay.is_open c.run_words.new.bay; asked = g.B.Bay.asked c.run_words.new.bay; left = g.B.Bay.left c.run_words.new.bay; held = g.B.Bay.held c.run_words.new.bay; offers = g.B.Bay.offers c.run_words.new.bay; faults = g.B.Bay.faults c.run_words.new.bay } in
+    let plan = unwrap_or (plan_of (map string_bytes c.args.words.now)) no_plan in
+    let ends : Ends plan old mid (BadCapture port NoCause) = subst (λ s. Ends plan old mid s) (sym c.status_of-status.ensures ∙ is) c.run_words.ensures.ends in
+    no_check plan.work ends.inputs port ends.comes.1
+
+pub returns-clause-check_file : goal.returns-clause-check_file
+returns-clause-check_file g c is =
+    let old : Moment = record { is_open = g.B.Bay.is_open c.args.bay.now; asked = g.B.Bay.asked c.args.bay.now; left = g.B.Bay.left c.args.bay.now; held = g.B.Bay.held c.args.bay.now; offers = g.B.Bay.offers c.args.bay.now; faults = g.B.Bay.faults c.args.bay.now } in
+    let mid : Moment = record { is_open = g.B.Bay.is_open c.run_words.new.bay; asked = g.B.Bay.asked c.run_words.new.bay; left = g.B.Bay.left c.run_words.new.bay; held = g.B.Bay.held c.run_words.new.bay; offers = g.B.Bay.offers c.run_words.new.bay; faults = g.B.Bay.faults c.run_words.new.bay } in
+    let plan = unwrap_or (plan_of (map string_bytes c.args.words.now)) no_plan in
+    let ends : Ends plan old mid (BadPcapng NoFileCause) = subst (λ s. Ends plan old mid s) (sym c.status_of-status.ensures ∙ is) c.run_words.ensures.ends in
+    no_file_check plan.work ends.inputs ends.comes.1
 
 pub returns-clause-others : goal.returns-clause-others
 returns-clause-others g c =

@@ -1,14 +1,14 @@
-use Rattle.std.proofs.Common.{rules, ◌≡◌, map, string_bytes, ap, codes, None, Some, Option, List}
-use Rattle.std.specs.Prelude.{option_map}
+use Rattle.std.proofs.Common.{rules, ◌≡◌, map, string_bytes, sym, ap, ◌∙◌, codes, None, Some, Option, List}
+use Rattle.std.specs.Prelude.{option_and_then}
 use Rattle.xsk_args.specs.Words.{Text}
 use Rattle.xsk_args.specs.Meaning.{meaning, under}
 use Rattle.xsk_socket.specs.Layout.{fault_of}
 use Rattle.xsk_cli.specs.Steps.{args_status, plan_in}
-use Rattle.xsk_cli.specs.Streams.{Moment}
-use Rattle.xsk_cli.specs.Words.{Plan, layout_by, options, plan_by, simulate_plan}
+use Rattle.xsk_cli.specs.Streams.{Moment, status_in}
+use Rattle.xsk_cli.specs.Words.{Plan, layout_by, options, plan_by, planned_by, simulate_plan}
 use Rattle.xsk_cli.specs.declared.status.Status.TheVariants.{Refused}
-use Rattle.xsk_cli.proofs.Coming.{args_comes, comes_as, refused_comes}
-use Rattle.xsk_cli.proofs.Planning.{plan_ready}
+use Rattle.xsk_cli.proofs.Coming.{args_comes, comes_as, plan_comes, refused_comes}
+use Rattle.xsk_cli.proofs.Planning.{has_no_plan, has_plan, plan_ready}
 use Rattle.xsk_cli.proofs.plain.run_simulate.Goals as goal
 
 pub returns-in_err-args : goal.returns-in_err-args
@@ -19,10 +19,19 @@ returns-in_err-args g c =
     let error = c.in_err-args.field-0.0 in
     comes_as c.from_residual.result (args_status error) planned now now (search rules)
     (args_comes planned now c.requires error
-    (λ is. let none : meaning (codes "simulate") options words ≡ None = search (rules, is) in ap (option_map plan_by) none))
+    (λ is. let none : meaning (codes "simulate") options words ≡ None = search (rules, is) in ap (option_and_then planned_by) none))
+
+pub returns-in_err-check_files : goal.returns-in_err-check_files
+returns-in_err-check_files g c =
+    let now : Moment = record { is_open = g.B.Bay.is_open c.args.bay.now; asked = g.B.Bay.asked c.args.bay.now; left = g.B.Bay.left c.args.bay.now; held = g.B.Bay.held c.args.bay.now; offers = g.B.Bay.offers c.args.bay.now; faults = g.B.Bay.faults c.args.bay.now } in
+    let words : List Text = map string_bytes c.args.words.now in
+    let planned : Option Plan = simulate_plan words in
+    let error = c.in_err-check_files.field-0.0 in
+    comes_as c.from_residual-in_err-check_files.result (args_status error) planned now now (search rules)
+    (args_comes planned now c.requires error (λ _. has_no_plan (under c.in_ok-args.args) (meaning (codes "simulate") options words) c.in_ok-args.ensures.told c.in_err-check_files.ensures.usage.1))
 
 pub run_plan-requires-clause-ready : goal.run_plan-requires-clause-ready
-run_plan-requires-clause-ready g c = plan_ready (under c.in_ok-args.args) (plan_in c.in_ok-plan.plan) c.in_ok-plan.ensures.plan c.in_ok-plan.ensures.accepted
+run_plan-requires-clause-ready g c = plan_ready (under c.in_ok-args.args) (plan_in c.in_ok-plan.plan) c.in_ok-check_files.ensures.passed c.in_ok-plan.ensures.plan c.in_ok-plan.ensures.accepted
 
 pub returns-in_err-plan : goal.returns-in_err-plan
 returns-in_err-plan g c =
@@ -31,6 +40,18 @@ returns-in_err-plan g c =
     let planned : Option Plan = simulate_plan words in
     let unlawful = c.in_err-plan.field-0.0 in
     let fault : fault_of (layout_by (under c.in_ok-args.args)) ≡ Some unlawful = search rules in
-    let is : planned ≡ Some (plan_by (under c.in_ok-args.args)) = ap (option_map plan_by) c.in_ok-args.ensures.told in
+    let is : planned ≡ Some (plan_by (under c.in_ok-args.args)) = has_plan (under c.in_ok-args.args) (meaning (codes "simulate") options words) c.in_ok-args.ensures.told c.in_ok-check_files.ensures.passed in
     comes_as c.from_residual-in_err-plan.result (Refused unlawful) planned now now (search rules)
     (refused_comes planned now c.requires (plan_by (under c.in_ok-args.args)) unlawful is fault)
+
+pub returns : goal.returns
+returns g c =
+    let old : Moment = record { is_open = g.B.Bay.is_open c.args.bay.now; asked = g.B.Bay.asked c.args.bay.now; left = g.B.Bay.left c.args.bay.now; held = g.B.Bay.held c.args.bay.now; offers = g.B.Bay.offers c.args.bay.now; faults = g.B.Bay.faults c.args.bay.now } in
+    let new : Moment = record { is_open = g.B.Bay.is_open c.run_plan.new.bay; asked = g.B.Bay.asked c.run_plan.new.bay; left = g.B.Bay.left c.run_plan.new.bay; held = g.B.Bay.held c.run_plan.new.bay; offers = g.B.Bay.offers c.run_plan.new.bay; faults = g.B.Bay.faults c.run_plan.new.bay } in
+    let words : List Text = map string_bytes c.args.words.now in
+    let planned : Option Plan = simulate_plan words in
+    let plan : Plan = plan_in c.in_ok-plan.plan in
+    let is : planned ≡ Some plan =
+    has_plan (under c.in_ok-args.args) (meaning (codes "simulate") options words) c.in_ok-args.ensures.told c.in_ok-check_files.ensures.passed ∙ ap Some (sym c.in_ok-plan.ensures.plan) in
+    plan_comes planned plan old new (status_in c.run_plan.result) is c.in_ok-plan.ensures.accepted c.run_plan.ensures.begun
+    c.run_plan.ensures.ends c.run_plan.ensures.silent c.run_plan.ensures.cause c.run_plan.ensures.falls c.run_plan.ensures.others

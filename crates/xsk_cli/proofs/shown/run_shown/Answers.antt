@@ -12,7 +12,7 @@ use Rattle.xsk_cli.specs.Steps.{lists_in, written_in}
 use Rattle.xsk_cli.proofs.Making.{few_ports}
 use Rattle.xsk_socket.proofs.Accepted.{fits}
 use Rattle.xsk_socket.proofs.Regularity.{regular-config}
-use Rattle.xsk_cli.proofs.Running.{pairs_are, shown_writable, texts_shown}
+use Rattle.xsk_cli.proofs.Running.{pairs_are, shown_in_file, shown_writable, texts_shown}
 use Rattle.xsk_cli.proofs.shown.run_shown.Goals as goal
 
 pub keep_shown-requires-clause-regular : goal.keep_shown-requires-clause-regular
@@ -41,13 +41,21 @@ keep_shown-requires-clause-writable g c port count in_ports few =
     shown_writable layout c.args.program c.args.wire lists c.requires.accepted c.in_ok-shown.shown c.in_ok-shown.ensures.forwarded c.in_ok-shown.ensures.pairs known c.requires.within
     (λ pair below. c.in_ok-shown.ensures.short pair [] below) port count in_ports few
 
+pub keep_shown-requires-clause-file : goal.keep_shown-requires-clause-file
+keep_shown-requires-clause-file g c =
+    let layout = c.args.layout.now in
+    let lists : List (List (List ℕ)) = lists_in c.args.lists.now in
+    let known : length lists ≡ layout.ports = length-map c.args.lists.now (λ list. list.packets) ∙ c.requires.ports in
+    shown_in_file layout c.args.program c.args.wire lists c.requires.accepted c.in_ok-shown.shown c.in_ok-shown.ensures.forwarded c.in_ok-shown.ensures.pairs known c.requires.within
+    (λ pair below. c.in_ok-shown.ensures.short pair [] below)
+
 pub returns-clause-made : goal.returns-clause-made
 returns-clause-made g c =
     let layout = c.args.layout.now in (
       c.in_ok-shown.shown,
       c.in_ok-lent.ensures.lent,
       c.in_ok-shown.ensures.forwarded,
-      texts_shown layout c.args.program c.args.wire (lists_in c.args.lists.now) c.requires.accepted c.in_ok-shown.shown c.in_ok-shown.ensures.forwarded c.in_ok-shown.ensures.pairs
+      texts_shown layout c.args.program c.args.wire (lists_in c.args.lists.now) c.requires.accepted c.in_ok-shown.shown c.in_ok-shown.ensures.forwarded c.in_ok-shown.ensures.pairs c.args.format
           (written_in c.in_ok-lent.lent.texts) c.in_ok-lent.ensures.outputs
           (c.in_ok-lent.ensures.report ∙ ap (λ (k : Config). report_text k c.in_ok-shown.shown.figures) (c.in_ok-shared.ensures ∙ c.in_ok-config.ensures.config)),
     )

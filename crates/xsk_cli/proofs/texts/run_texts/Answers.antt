@@ -1,4 +1,4 @@
-use Rattle.std.proofs.Common.{rules, Err, ◌≡◌, ℕ, ◌<◌, ◌*◌, List, [], get_or, length, map, take, drop, sym, ap, subst, ◌∙◌, ◌++◌}
+use Rattle.std.proofs.Common.{rules, Err, ◌≡◌, ℕ, ◌<◌, ◌*◌, List, [], get_or, length, map, take, drop, sym, ap, subst, ◌∙◌, ◌++◌, arith}
 use Rattle.std.specs.Prelude.{All, IfErr, if◌then◌else◌}
 use Rattle.std.specs.List.{range_with_len}
 use Rattle.std.proofs.lemmas.List.{length-map}
@@ -9,14 +9,18 @@ use Rattle.xsk_sim.specs.Journal.{journal_of}
 use Rattle.xsk_stats.specs.Report.{report_text}
 use Rattle.xsk_socket.specs.Regular.{regular_of}
 use Rattle.xsk_pcap.specs.Capture.{IsShort}
-use Rattle.xsk_pcap.specs.Written.{IsWritable, written}
+use Rattle.xsk_pcap.specs.Written.{IsWritable}
+use Rattle.xsk_pcapng.specs.Written.{IsWritable as IsWritableFile}
+use Rattle.xsk_socket.proofs.Accepted.{fits}
+use Rattle.xsk_socket.proofs.Regularity.{regular-config}
+use Rattle.xsk_cli.specs.Format.{joined, outputs_of}
 use Rattle.xsk_cli.specs.Steps.{FailsRunning, lists_in, written_in}
 use Rattle.xsk_cli.specs.declared.failure.RunFailure.TheVariants.{OutOfMemory as NoMemory}
-use Rattle.xsk_cli.proofs.Running.{lists_short, sent_writable, texts_of}
+use Rattle.xsk_cli.proofs.Running.{lists_short, pairs_are, sent_in_file, sent_writable, texts_of}
 use Rattle.xsk_cli.proofs.texts.run_texts.Goals as goal
 
-pub output_texts-requires-clause-writable : goal.output_texts-requires-clause-writable
-output_texts-requires-clause-writable c port count in_ports few =
+pub sent_texts-requires-clause-writable : goal.sent_texts-requires-clause-writable
+sent_texts-requires-clause-writable c port count in_ports few =
     let layout = c.args.layout.now in
     let lists : List (List (List ℕ)) = lists_in c.args.lists.now in
     let run = c.in_ok-run.run' in
@@ -29,6 +33,28 @@ output_texts-requires-clause-writable c port count in_ports few =
     (sent_writable layout c.args.program c.args.wire c.args.mangle c.args.order lists c.requires.accepted run c.in_ok-run.ensures.ended pairs known c.requires.within
     (subst (λ (ls : List (List (List ℕ))). (pair : ℕ) → pair < length ls → All IsShort (get_or ls pair [])) same (lists_short own c.into_sent.ensures.short)) port count in_ports few)
 
+pub sent_texts-requires-clause-count : goal.sent_texts-requires-clause-count
+sent_texts-requires-clause-count c = c.into_sent.ensures.pairs ∙ c.in_ok-run.ensures.pairs
+
+pub sent_texts-requires-clause-few : goal.sent_texts-requires-clause-few
+sent_texts-requires-clause-few c =
+    let layout = c.args.layout.now in
+    omega (arith, (regular-config layout (fits layout c.requires.accepted)).pairs_few, pairs_are layout)
+
+pub sent_texts-requires-clause-file : goal.sent_texts-requires-clause-file
+sent_texts-requires-clause-file c =
+    let layout = c.args.layout.now in
+    let lists : List (List (List ℕ)) = lists_in c.args.lists.now in
+    let run = c.in_ok-run.run' in
+    let own = c.into_sent.result.items in
+    let same : lists_in own ≡ run.sent = c.into_sent.ensures.sent in
+    let known : length lists ≡ layout.ports = length-map c.args.lists.now (λ list. list.packets) ∙ c.requires.ports in
+    let pairs : length run.sent ≡ layout.ports * layout.queues =
+    ap length (sym same) ∙ length-map own (λ list. list.packets) ∙ c.into_sent.ensures.pairs ∙ c.in_ok-run.ensures.pairs in
+    subst (λ (ls : List (List (List ℕ))). IsWritableFile (joined layout.ports layout.queues ls)) (sym same)
+    (sent_in_file layout c.args.program c.args.wire c.args.order lists c.requires.accepted run c.in_ok-run.ensures.ended pairs known c.requires.within
+    (subst (λ (ls : List (List (List ℕ))). (pair : ℕ) → pair < length ls → All IsShort (get_or ls pair [])) same (lists_short own c.into_sent.ensures.short)))
+
 pub returns-clause-made : goal.returns-clause-made
 returns-clause-made c =
     let layout = c.args.layout.now in
@@ -37,9 +63,9 @@ returns-clause-made c =
     let same : lists_in own ≡ run.sent = c.into_sent.ensures.sent in
     let pairs : length run.sent ≡ layout.ports * layout.queues =
     ap length (sym same) ∙ length-map own (λ list. list.packets) ∙ c.into_sent.ensures.pairs ∙ c.in_ok-run.ensures.pairs in
-    texts_of layout c.args.program c.args.wire c.args.mangle c.args.order (lists_in c.args.lists.now) c.requires.accepted run c.in_ok-run.ensures.ended pairs c.args.journal
+    texts_of layout c.args.program c.args.wire c.args.mangle c.args.order (lists_in c.args.lists.now) c.requires.accepted run c.in_ok-run.ensures.ended pairs c.args.format c.args.journal
     (written_in (record { outputs = c.in_ok-outputs.outputs; report = c.in_ok-report.report }))
-    (c.in_ok-outputs.ensures ∙ ap (λ (ls : List (List (List ℕ))). map (λ port. written (take layout.queues (drop (port * layout.queues) ls))) (range_with_len 0 layout.ports)) same)
+    (c.in_ok-outputs.ensures ∙ ap (λ (ls : List (List (List ℕ))). outputs_of c.args.format (λ port. take layout.queues (drop (port * layout.queues) ls)) (range_with_len 0 layout.ports)) same)
     c.in_ok-run.ensures.pairs
     (c.in_ok-report.ensures ∙ ap (λ (k : Config). report_text k run.figures ++ (if c.args.journal then journal_of run.pairs run.log else [])) (c.in_ok-shared.ensures ∙ c.in_ok-config.ensures.config))
 

@@ -4,10 +4,11 @@ use Rattle.std.proofs.lemmas.List.{length-map}
 use Rattle.xsk_sim.specs.Shown.{HasShortPackets}
 use Rattle.xsk_workers.specs.Forwarded.{OutcomeShown}
 use Rattle.xsk_cli.specs.Forward.{AreTextsFrom, ComesShown, EndsShown, HasShown, IsShown, IsWritten}
-use Rattle.xsk_cli.specs.Judged.{AreShort, AreWithin, most_of}
+use Rattle.xsk_cli.specs.Judged.{AreShort}
 use Rattle.xsk_cli.specs.Outcome.{AreListsOf}
-use Rattle.xsk_cli.specs.Steps.{HaveRead, MakesNone, lists_in, plan_in, read_status, run_status, write_status, written_by, written_in}
+use Rattle.xsk_cli.specs.Steps.{HaveRead, MakesNone, lists_in, plan_in, read_status, run_status, write_status, written_in}
 use Rattle.xsk_cli.specs.Streams.{Moment, AreWritten}
+use Rattle.xsk_cli.specs.Words.{most_of, ports_in}
 use Rattle.xsk_cli.specs.declared.status.Status.TheVariants.{Done}
 use Rattle.xsk_cli.proofs.Making.{few_read}
 use Rattle.xsk_cli.proofs.Short.{short_lists}
@@ -26,7 +27,7 @@ returns-in_err-inputs-clause-ends g c =
     let plan = plan_in c.args.plan.now in
     let failure = c.in_err-inputs.field-0.0 in
     status_shown c.from_residual.result (read_status failure) None _ plan old mid (search rules) c.requires.none
-    (shown_none plan old mid (read_status failure) (c.in_err-inputs.ensures.failed plan (search rules) (sym c.most_bytes.ensures.most)) (read_before failure))
+    (shown_none plan old mid (read_status failure) (c.in_err-inputs.ensures.failed plan (search rules) (sym c.most_input.ensures)) (read_before failure))
 
 pub returns-in_err-lists-clause-ends : goal.returns-in_err-lists-clause-ends
 returns-in_err-lists-clause-ends g c =
@@ -35,9 +36,8 @@ returns-in_err-lists-clause-ends g c =
     let plan = plan_in c.args.plan.now in
     let bytes = map (λ bytes. bytes.items) c.in_ok-inputs.inputs.items in
     let failure = c.in_err-lists.field-0.0 in
-    let have : HaveRead (most_of plan.work) plan.inputs bytes (length plan.inputs) old mid =
-    subst (λ m. HaveRead m plan.inputs bytes (length plan.inputs) old mid) c.most_bytes.ensures.most
-    (subst (λ n. HaveRead c.most_bytes.result plan.inputs bytes n old mid) (sym (length-map c.args.plan.now.inputs.now (λ name. name.now))) c.in_ok-inputs.ensures.read) in
+    let have : HaveRead (most_of plan.work) plan.inputs bytes (length plan.inputs) old mid = subst (λ n. HaveRead (most_of plan.work) plan.inputs bytes n old mid) (sym (length-map c.args.plan.now.inputs.now (λ name. name.now)))
+    (subst (λ m. HaveRead m plan.inputs bytes (length c.args.plan.now.inputs.now) old mid) c.most_input.ensures c.in_ok-inputs.ensures.read) in
     let makes : MakesNone plan.work bytes failure = c.in_err-lists.ensures.failed in
     status_shown c.from_residual-in_err-lists.result (run_status failure) None _ plan old mid (search rules) c.requires.none
     (shown_none plan old mid (run_status failure) (run_fails plan bytes old mid mid have failure makes) (run_before failure c.in_err-lists.ensures.no_run))
@@ -54,13 +54,12 @@ returns-in_err-lent-clause-ends g c =
     let plan = plan_in c.args.plan.now in
     let bytes = map (λ bytes. bytes.items) c.in_ok-inputs.inputs.items in
     let lists = lists_in c.in_ok-lists.lists.items in
-    let have : HaveRead (most_of plan.work) plan.inputs bytes (length plan.inputs) old mid =
-    subst (λ m. HaveRead m plan.inputs bytes (length plan.inputs) old mid) c.most_bytes.ensures.most
-    (subst (λ n. HaveRead c.most_bytes.result plan.inputs bytes n old mid) (sym (length-map c.args.plan.now.inputs.now (λ name. name.now))) c.in_ok-inputs.ensures.read) in
-    let short : AreShort bytes (length bytes) = run_short plan.work bytes (length bytes) c.requires.runs (subst (AreWithin (most_of plan.work) bytes) (sym have.count_is) have.short) in
+    let have : HaveRead (most_of plan.work) plan.inputs bytes (length plan.inputs) old mid = subst (λ n. HaveRead (most_of plan.work) plan.inputs bytes n old mid) (sym (length-map c.args.plan.now.inputs.now (λ name. name.now)))
+    (subst (λ m. HaveRead m plan.inputs bytes (length c.args.plan.now.inputs.now) old mid) c.most_input.ensures c.in_ok-inputs.ensures.read) in
+    let short : AreShort (most_of plan.work) bytes (length bytes) = subst (AreShort (most_of plan.work) bytes) (sym have.count_is) have.short in
     let are : AreListsOf plan.work bytes lists = c.in_ok-lists.ensures.taken in
     let same_lists : lists_in c.as_slice.result.now ≡ lists = ap lists_in c.as_slice.ensures.value in
-    let ports : length lists ≡ written_by plan.work = length-map c.in_ok-lists.lists.items (λ list. list.packets) ∙ c.in_ok-lists.ensures.count in
+    let ports : length lists ≡ ports_in plan.work = length-map c.in_ok-lists.lists.items (λ list. list.packets) ∙ c.in_ok-lists.ensures.count in
     let shown : Option OutcomeShown = c.make_shown.new.outcome in
     let each : (o : OutcomeShown) → shown ≡ Some o → IsShown plan.work bytes o = λ o is. record {
       short = short;
@@ -101,13 +100,12 @@ returns-in_err-written-clause-ends g c =
     let texts = written_in c.in_ok-lent.lent.texts in
     let failure = c.in_err-written.field-0.0 in
     let gave : c.write_texts-written.result ≡ Err failure = search rules in
-    let have : HaveRead (most_of plan.work) plan.inputs bytes (length plan.inputs) old mid =
-    subst (λ m. HaveRead m plan.inputs bytes (length plan.inputs) old mid) c.most_bytes.ensures.most
-    (subst (λ n. HaveRead c.most_bytes.result plan.inputs bytes n old mid) (sym (length-map c.args.plan.now.inputs.now (λ name. name.now))) c.in_ok-inputs.ensures.read) in
-    let short : AreShort bytes (length bytes) = run_short plan.work bytes (length bytes) c.requires.runs (subst (AreWithin (most_of plan.work) bytes) (sym have.count_is) have.short) in
+    let have : HaveRead (most_of plan.work) plan.inputs bytes (length plan.inputs) old mid = subst (λ n. HaveRead (most_of plan.work) plan.inputs bytes n old mid) (sym (length-map c.args.plan.now.inputs.now (λ name. name.now)))
+    (subst (λ m. HaveRead m plan.inputs bytes (length c.args.plan.now.inputs.now) old mid) c.most_input.ensures c.in_ok-inputs.ensures.read) in
+    let short : AreShort (most_of plan.work) bytes (length bytes) = subst (AreShort (most_of plan.work) bytes) (sym have.count_is) have.short in
     let are : AreListsOf plan.work bytes lists = c.in_ok-lists.ensures.taken in
     let same_lists : lists_in c.as_slice.result.now ≡ lists = ap lists_in c.as_slice.ensures.value in
-    let ports : length lists ≡ written_by plan.work = length-map c.in_ok-lists.lists.items (λ list. list.packets) ∙ c.in_ok-lists.ensures.count in
+    let ports : length lists ≡ ports_in plan.work = length-map c.in_ok-lists.lists.items (λ list. list.packets) ∙ c.in_ok-lists.ensures.count in
     let o = c.in_ok-lent.ensures.made.0 in
     let is_some : Some c.give_back.result ≡ Some o = ap Some (c.give_back.ensures o c.in_ok-lent.ensures.made.1) in
     let shown : IsShown plan.work bytes o = record {
@@ -133,13 +131,12 @@ returns-clause-ends g c =
     let bytes = map (λ bytes. bytes.items) c.in_ok-inputs.inputs.items in
     let lists = lists_in c.in_ok-lists.lists.items in
     let texts = written_in c.in_ok-lent.lent.texts in
-    let have : HaveRead (most_of plan.work) plan.inputs bytes (length plan.inputs) old mid =
-    subst (λ m. HaveRead m plan.inputs bytes (length plan.inputs) old mid) c.most_bytes.ensures.most
-    (subst (λ n. HaveRead c.most_bytes.result plan.inputs bytes n old mid) (sym (length-map c.args.plan.now.inputs.now (λ name. name.now))) c.in_ok-inputs.ensures.read) in
-    let short : AreShort bytes (length bytes) = run_short plan.work bytes (length bytes) c.requires.runs (subst (AreWithin (most_of plan.work) bytes) (sym have.count_is) have.short) in
+    let have : HaveRead (most_of plan.work) plan.inputs bytes (length plan.inputs) old mid = subst (λ n. HaveRead (most_of plan.work) plan.inputs bytes n old mid) (sym (length-map c.args.plan.now.inputs.now (λ name. name.now)))
+    (subst (λ m. HaveRead m plan.inputs bytes (length c.args.plan.now.inputs.now) old mid) c.most_input.ensures c.in_ok-inputs.ensures.read) in
+    let short : AreShort (most_of plan.work) bytes (length bytes) = subst (AreShort (most_of plan.work) bytes) (sym have.count_is) have.short in
     let are : AreListsOf plan.work bytes lists = c.in_ok-lists.ensures.taken in
     let same_lists : lists_in c.as_slice.result.now ≡ lists = ap lists_in c.as_slice.ensures.value in
-    let ports : length lists ≡ written_by plan.work = length-map c.in_ok-lists.lists.items (λ list. list.packets) ∙ c.in_ok-lists.ensures.count in
+    let ports : length lists ≡ ports_in plan.work = length-map c.in_ok-lists.lists.items (λ list. list.packets) ∙ c.in_ok-lists.ensures.count in
     let o = c.in_ok-lent.ensures.made.0 in
     let is_some : Some c.give_back.result ≡ Some o = ap Some (c.give_back.ensures o c.in_ok-lent.ensures.made.1) in
     let shown : IsShown plan.work bytes o = record {
@@ -170,4 +167,4 @@ take_lists-requires-clause-short g c =
     let have : HaveRead (most_of plan.work) plan.inputs bytes (length plan.inputs) old mid =
     subst (λ m. HaveRead m plan.inputs bytes (length plan.inputs) old mid) c.most_bytes.ensures.most
     (subst (λ n. HaveRead c.most_bytes.result plan.inputs bytes n old mid) (sym (length-map c.args.plan.now.inputs.now (λ name. name.now))) c.in_ok-inputs.ensures.read) in
-    run_short plan.work bytes (length c.in_ok-inputs.inputs.items) c.requires.runs (subst (AreWithin (most_of plan.work) bytes) (sym have.count_is ∙ length-map c.in_ok-inputs.inputs.items (λ bytes. bytes.items)) have.short)
+    run_short plan.work bytes (length c.in_ok-inputs.inputs.items) c.requires.runs (subst (AreShort (most_of plan.work) bytes) (sym have.count_is ∙ length-map c.in_ok-inputs.inputs.items (λ bytes. bytes.items)) have.short)

@@ -1,16 +1,16 @@
 use Rattle.std.proofs.Common.{rules, ◌≡◌, map, string_bytes, ap, codes, None, Some, Option, List, sym, ◌∙◌}
-use Rattle.std.specs.Prelude.{option_map}
+use Rattle.std.specs.Prelude.{option_map, option_and_then}
 use Rattle.xsk_args.specs.Words.{Text}
 use Rattle.xsk_args.specs.Meaning.{meaning, under}
 use Rattle.xsk_socket.specs.Layout.{fault_of}
 use Rattle.xsk_cli.specs.Forward.{EndsShown, forward_options, forward_plan}
 use Rattle.xsk_cli.specs.Steps.{args_status, plan_in}
 use Rattle.xsk_cli.specs.Streams.{Moment, status_in}
-use Rattle.xsk_cli.specs.Words.{Plan, layout_by, plan_by}
+use Rattle.xsk_cli.specs.Words.{Plan, layout_by, plan_by, planned_by}
 use Rattle.xsk_cli.specs.declared.status.Status.TheVariants.{Refused}
 use Rattle.xsk_cli.proofs.Coming.{args_comes, plan_comes_to, refused_comes}
 use Rattle.xsk_cli.proofs.Showing.{args_before, comes_shown}
-use Rattle.xsk_cli.proofs.Planning.{plan_ready}
+use Rattle.xsk_cli.proofs.Planning.{has_no_plan, has_plan, plan_ready}
 use Rattle.xsk_cli.proofs.threads.forward_words.Goals as goal
 
 pub returns-in_err-args : goal.returns-in_err-args
@@ -21,10 +21,20 @@ returns-in_err-args g c =
     let error = c.in_err-args.field-0.0 in
     comes_shown c.from_residual.result (args_status error) _ planned now now (search rules) c.requires.none
     (args_comes planned now c.requires.closed error
-    (λ is. let none : meaning (codes "forward") forward_options words ≡ None = search (rules, is) in ap (option_map plan_by) none)) (args_before error)
+    (λ is. let none : meaning (codes "forward") forward_options words ≡ None = search (rules, is) in ap (option_and_then planned_by) none)) (args_before error)
+
+pub returns-in_err-check_files : goal.returns-in_err-check_files
+returns-in_err-check_files g c =
+    let now : Moment = record { is_open = g.B.Bay.is_open c.args.bay.now; asked = g.B.Bay.asked c.args.bay.now; left = g.B.Bay.left c.args.bay.now; held = g.B.Bay.held c.args.bay.now; offers = g.B.Bay.offers c.args.bay.now; faults = g.B.Bay.faults c.args.bay.now } in
+    let words : List Text = map string_bytes c.args.words.now in
+    let planned : Option Plan = forward_plan words in
+    let error = c.in_err-check_files.field-0.0 in
+    comes_shown c.from_residual-in_err-check_files.result (args_status error) _ planned now now (search rules) c.requires.none
+    (args_comes planned now c.requires.closed error
+    (λ _. has_no_plan (under c.in_ok-args.args) (meaning (codes "forward") forward_options words) c.in_ok-args.ensures.told c.in_err-check_files.ensures.usage.1)) (args_before error)
 
 pub forward_plan-requires-clause-ready : goal.forward_plan-requires-clause-ready
-forward_plan-requires-clause-ready g c κs within = plan_ready (under c.in_ok-args.args) (plan_in c.in_ok-plan.plan) c.in_ok-plan.ensures.plan c.in_ok-plan.ensures.accepted
+forward_plan-requires-clause-ready g c κs within = plan_ready (under c.in_ok-args.args) (plan_in c.in_ok-plan.plan) c.in_ok-check_files.ensures.passed c.in_ok-plan.ensures.plan c.in_ok-plan.ensures.accepted
 
 pub returns-in_err-plan : goal.returns-in_err-plan
 returns-in_err-plan g c =
@@ -33,7 +43,7 @@ returns-in_err-plan g c =
     let planned : Option Plan = forward_plan words in
     let unlawful = c.in_err-plan.field-0.0 in
     let fault : fault_of (layout_by (under c.in_ok-args.args)) ≡ Some unlawful = search rules in
-    let is : planned ≡ Some (plan_by (under c.in_ok-args.args)) = ap (option_map plan_by) c.in_ok-args.ensures.told in
+    let is : planned ≡ Some (plan_by (under c.in_ok-args.args)) = has_plan (under c.in_ok-args.args) (meaning (codes "forward") forward_options words) c.in_ok-args.ensures.told c.in_ok-check_files.ensures.passed in
     comes_shown c.from_residual-in_err-plan.result (Refused unlawful) _ planned now now (search rules) c.requires.none
     (refused_comes planned now c.requires.closed (plan_by (under c.in_ok-args.args)) unlawful is fault) (λ no. no)
 
@@ -42,8 +52,9 @@ returns g c =
     let old : Moment = record { is_open = g.B.Bay.is_open c.args.bay.now; asked = g.B.Bay.asked c.args.bay.now; left = g.B.Bay.left c.args.bay.now; held = g.B.Bay.held c.args.bay.now; offers = g.B.Bay.offers c.args.bay.now; faults = g.B.Bay.faults c.args.bay.now } in
     let new : Moment = record { is_open = g.B.Bay.is_open c.forward_plan.new.bay; asked = g.B.Bay.asked c.forward_plan.new.bay; left = g.B.Bay.left c.forward_plan.new.bay; held = g.B.Bay.held c.forward_plan.new.bay; offers = g.B.Bay.offers c.forward_plan.new.bay; faults = g.B.Bay.faults c.forward_plan.new.bay } in
     let words : List Text = map string_bytes c.args.words.now in
-    let plan = plan_in c.in_ok-plan.plan in
-    let status = status_in c.forward_plan.result in
-    let is : forward_plan words ≡ Some plan = ap (option_map plan_by) c.in_ok-args.ensures.told ∙ ap Some (sym c.in_ok-plan.ensures.plan) in
-    let went = c.forward_plan.ensures in
-    plan_comes_to (EndsShown c.forward_plan.new.outcome old new status) (forward_plan words) plan old new status is c.in_ok-plan.ensures.accepted went.begun went.ends went.silent went.cause went.falls went.others
+    let planned : Option Plan = forward_plan words in
+    let plan : Plan = plan_in c.in_ok-plan.plan in
+    let is : planned ≡ Some plan =
+    has_plan (under c.in_ok-args.args) (meaning (codes "forward") forward_options words) c.in_ok-args.ensures.told c.in_ok-check_files.ensures.passed ∙ ap Some (sym c.in_ok-plan.ensures.plan) in
+    plan_comes_to (EndsShown c.forward_plan.new.outcome old new (status_in c.forward_plan.result)) planned plan old new (status_in c.forward_plan.result) is c.in_ok-plan.ensures.accepted c.forward_plan.ensures.begun
+    c.forward_plan.ensures.ends c.forward_plan.ensures.silent c.forward_plan.ensures.cause c.forward_plan.ensures.falls c.forward_plan.ensures.others

@@ -12,6 +12,7 @@ returns-then-is_forward-clause-threads g c is = record {
   ends = c.run_forward.ensures.ends;
   line = c.run_forward.ensures.line;
   check = c.run_forward.ensures.check;
+  check_file = c.run_forward.ensures.check_file;
   answers = c.run_forward.ensures.answers;
   complete = c.run_forward.ensures.complete;
 }
@@ -28,6 +29,7 @@ returns-clause-plain g c is = record {
   ends = c.run_plain.ensures.ends;
   line = c.run_plain.ensures.line;
   check = c.run_plain.ensures.check;
+  check_file = c.run_plain.ensures.check_file;
   answers = c.run_plain.ensures.answers;
   complete = c.run_plain.ensures.complete;
 }

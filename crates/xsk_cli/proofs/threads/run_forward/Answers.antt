@@ -8,7 +8,7 @@ use Rattle.xsk_cli.specs.Streams.{Moment}
 use Rattle.xsk_cli.specs.Words.{no_plan}
 use Rattle.xsk_cli.specs.declared.status.Status.TheVariants.{Refused, OutOfMemory}
 use Rattle.xsk_cli.proofs.Counting.{told_others}
-use Rattle.xsk_cli.proofs.Showing.{answered_shown, check_shown, completes_shown, refusal_shown}
+use Rattle.xsk_cli.proofs.Showing.{answered_shown, check_file_shown, check_shown, completes_shown, refusal_shown}
 use Rattle.xsk_cli.proofs.Writing.{told_by}
 use Rattle.xsk_cli.proofs.threads.run_forward.Goals as goal
 
@@ -29,6 +29,13 @@ returns-clause-check g c port is =
     let mid : Moment = record { is_open = g.B.Bay.is_open c.forward_words.new.bay; asked = g.B.Bay.asked c.forward_words.new.bay; left = g.B.Bay.left c.forward_words.new.bay; held = g.B.Bay.held c.forward_words.new.bay; offers = g.B.Bay.offers c.forward_words.new.bay; faults = g.B.Bay.faults c.forward_words.new.bay } in
     let plan = unwrap_or (forward_plan (map string_bytes c.args.words.now)) no_plan in
     check_shown plan old mid c.forward_words.new.outcome port (subst (λ s. EndsShown c.forward_words.new.outcome old mid s plan) (sym c.status_of-status.ensures ∙ is) c.forward_words.ensures.ends)
+
+pub returns-clause-check_file : goal.returns-clause-check_file
+returns-clause-check_file g c is =
+    let old : Moment = record { is_open = g.B.Bay.is_open c.args.bay.now; asked = g.B.Bay.asked c.args.bay.now; left = g.B.Bay.left c.args.bay.now; held = g.B.Bay.held c.args.bay.now; offers = g.B.Bay.offers c.args.bay.now; faults = g.B.Bay.faults c.args.bay.now } in
+    let mid : Moment = record { is_open = g.B.Bay.is_open c.forward_words.new.bay; asked = g.B.Bay.asked c.forward_words.new.bay; left = g.B.Bay.left c.forward_words.new.bay; held = g.B.Bay.held c.forward_words.new.bay; offers = g.B.Bay.offers c.forward_words.new.bay; faults = g.B.Bay.faults c.forward_words.new.bay } in
+    let plan = unwrap_or (forward_plan (map string_bytes c.args.words.now)) no_plan in
+    check_file_shown plan old mid c.forward_words.new.outcome (subst (λ s. EndsShown c.forward_words.new.outcome old mid s plan) (sym c.status_of-status.ensures ∙ is) c.forward_words.ensures.ends)
 
 pub returns-clause-ends : goal.returns-clause-ends
 returns-clause-ends g c =
