@@ -52,7 +52,16 @@ pub fn forwarded(alloc: Global, config: Config, frames: Frames) -> Result<Run>
     let program = XdpProgram::attach(rule, |bytes: &[u8], queue: u32| rule.verdict(bytes, queue));
     let lists = received.as_slice();
     let manner = Manner::plain();
-    Ok(simulate(alloc, config, frames, lists, &program, Wire::Wait, 0, manner)?)
+    Ok(simulate(
+        alloc,
+        config,
+        frames,
+        lists,
+        &program,
+        Wire::Wait,
+        0,
+        manner,
+    )?)
 }
 
 /// A list of one packet for port 0, and one of none for port 1.

@@ -30,7 +30,16 @@ fn sent_in_rounds<F: Fn(&[u8], u32) -> Verdict>(
     if lists.len() != config.ports() as usize {
         return Err("there is no list for each port")?;
     }
-    match simulate(alloc, config, frames, lists, program, Wire::Wait, 0, Manner::plain()) {
+    match simulate(
+        alloc,
+        config,
+        frames,
+        lists,
+        program,
+        Wire::Wait,
+        0,
+        Manner::plain(),
+    ) {
         Ok(run) => Ok(run.into_sent()),
         Err(_) => Err("the run didn't end")?,
     }

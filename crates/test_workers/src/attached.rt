@@ -156,7 +156,10 @@ pub(crate) fn driver_of<'a>(
     ensures { IfOk result (λ d. d.expected ≡ nothing) }
 {
     let Program {
-        rule, even, wire, ..
+        rule,
+        even,
+        wire,
+        ..
     } = program;
     let rule = attachable(rule)?;
     let program = XdpProgram::attach(
@@ -202,5 +205,7 @@ pub(crate) fn run_of(
         rule,
         |packet: &[u8], queue: u32| decided(rule, even, packet, queue),
     );
-    Ok(simulate(alloc, config, frames, packets, &program, wire, order, manner)?)
+    Ok(simulate(
+        alloc, config, frames, packets, &program, wire, order, manner,
+    )?)
 }

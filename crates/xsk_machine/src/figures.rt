@@ -61,13 +61,7 @@ impl DriverFigures {
         let counters = keep_classes(driver.counters(), classes);
         let sent = u64::from(driver.sent().len());
         let stranded = driver.stranded();
-        DriverFigures::of(
-            disposals.len() as u64,
-            disposals,
-            sent,
-            counters,
-            stranded,
-        )
+        DriverFigures::of(disposals.len() as u64, disposals, sent, counters, stranded)
     }
 }
 

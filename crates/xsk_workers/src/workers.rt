@@ -34,8 +34,8 @@ use xsk_io::Gate;
 use xsk_machine::{AnyWorker, FigureList, Figures, Inputs, Kept, drivers_for, worker_of};
 use xsk_model::Config;
 use xsk_prog::{Verdict, XdpProgram};
-use xsk_turns::Manner;
 use xsk_table::{Note, Passes, Shared};
+use xsk_turns::Manner;
 use xsk_umem::{Frames, OutOfMemory, PacketList};
 
 /// What a run on threads shows. Contracts see the history of its table, the packets that each driver sent, and the figures.
