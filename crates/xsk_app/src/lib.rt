@@ -6,6 +6,8 @@
 mod app;
 mod back;
 mod machine;
+mod mangling;
 
 pub use app::App;
 pub use xsk_model::Act;
+pub use xsk_turns::Manner;

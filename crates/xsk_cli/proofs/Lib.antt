@@ -16,3 +16,6 @@ pub mod Counting
 pub mod Planning
 pub mod Lending
 pub mod Ample
+pub mod Auditing
+pub mod Reports
+pub mod Journals

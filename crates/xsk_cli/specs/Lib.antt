@@ -10,3 +10,4 @@ pub mod Steps
 pub mod Forward
 pub mod Lent
 pub mod Ample
+pub mod Journals

@@ -16,7 +16,7 @@ ghost use Rattle.xsk_cli.specs.Streams.{GotLine, HasLine, IsAtOnce, IsOfLine, Is
 ghost use Rattle.xsk_cli.specs.Words.{Plan as APlan, fault_in, no_plan, plan_of};
 
 use crate::Status;
-use crate::input::read_inputs;
+use crate::input::{most_bytes, read_inputs};
 use crate::lists::take_lists;
 use crate::output::write_texts;
 use crate::plain::{run_plain, status_of, tell};
@@ -240,7 +240,7 @@ fn forward_plan<R: Threads + Wait + Sync, B: Bay, G: Gate + Sync>(
     ensures others { NoOthers (B.faults bay.old) (B.faults bay.new) (status_in result) }
     ensures falls { NeverFalls (B.faults bay.old) (B.faults bay.new) }
 {
-    let inputs = read_inputs(alloc, bay, plan.inputs)?;
+    let inputs = read_inputs(alloc, bay, plan.inputs, most_bytes(&plan.work))?;
     let lists = take_lists(alloc, &plan.work, inputs)?;
     let lent = make_shown(rt, alloc, &plan.work, lists.as_slice(), gate, outcome)?;
     let written = write_texts(bay, plan.outputs, &lent.texts);

@@ -107,7 +107,7 @@ module _ (s : Setting) (frames : List Frame) where
 -- ---- the law
 
 pub none_stands_still : NoneStandsStill
-none_stands_still s frames order round steady ample stands =
+none_stands_still s frames order round steady ample unchanged stands =
     let past = stands.past in
     let last = last_rounds s frames order 64 (round + 1) past.history stands.still in
     let is = last.is in
@@ -119,6 +119,7 @@ none_stands_still s frames order round steady ample stands =
       runs = subst (λ l. (who : ℕ) → who < callers_of s.config → IsWorkerRun s who (own who l)) is past.is.runs;
     } in
     let stretch : IsStretch s frames last.past last.es = record {
+      unchanged = unchanged;
       same = still.1;
       still = λ who known. still.0 who;
       long = λ who known. ⊎_elim

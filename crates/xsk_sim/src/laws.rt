@@ -35,7 +35,8 @@ pub fn ends_or_stands_still()
     ensures { EndsOrStandsStill }
 {}
 
-/// Where each ring has 32 entries or more and each pool 18 frames or more, no run stands still, whatever the wire does.
+/// Where each ring has 32 entries or more and each pool 18 frames or more, and applications change nothing, no run stands still,
+/// whatever the wire does.
 pub fn none_stands_still()
     ensures { NoneStandsStill }
 {}

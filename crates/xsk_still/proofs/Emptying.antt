@@ -21,6 +21,7 @@ use Rattle.xsk_turns.specs.AppOwned.{IsApp}
 use Rattle.xsk_turns.specs.Owned.{IsSeat, Owned, of_class, socket_at_class, frame_numbers}
 use Rattle.xsk_turns.specs.Turns.{seat_of}
 use Rattle.xsk_turns.specs.Wakes.{IsParked, app_for, owes_on}
+use Rattle.xsk_turns.specs.Mangling.{plain}
 use Rattle.xsk_turns.specs.Workers.{Setting, input_of}
 use Rattle.xsk_turns.proofs.AppGroups.{group_front}
 use Rattle.xsk_turns.proofs.AppOwned.{AppHas, IsBackFrame, numbers-home}
@@ -42,8 +43,8 @@ use Rattle.xsk_still.proofs.Setting.{group_homes}
 use Rattle.xsk_still.proofs.Standing as stand
 
 plain_none : (call : Call) → IsPlain call → submitted call ≡ []
-plain_none (Submit r items) plain = absurd plain
-plain_none call plain = refl
+plain_none (Submit r items) calls = absurd calls
+plain_none call calls = refl
 
 pub free_quiet : (call : Call) → IsFree call → IsQuiet call
 free_quiet (Submit r items) free = absurd free
@@ -148,7 +149,7 @@ module _ (s : Setting) (frames : List Frame) (past es : List Entry) (are : AreWo
       let is = ap (λ (fs : List Frame). times n (frame_numbers fs)) (group_front (pool_of c) (batch_of c) frame full.others) in
       omega (arith, had n, front, is) in
       let out = (ring_at c x (Fill home)).out in
-      let homes = only_homes s frames h home are within in
+      let homes = only_homes s frames h home st.unchanged are within in
       let numbered : List ℕ = numbers out ++ frame_numbers some in
       let apart = (frames_apart c frames h are.history).1 who (Fill home) in
       let once : (n : ℕ) → times n numbered ≤ 1 = λ n. omega (arith, times-append n (numbers out) (frame_numbers some), apart n, grouped n) in
@@ -214,7 +215,7 @@ module _ (s : Setting) (frames : List Frame) (past es : List Entry) (are : AreWo
     not_owed r flag on flagged other owes = ⊎_elim
         (λ (looks : w.call ≡ Look flag). other looks)
         (λ (kicks : w.call ≡ Swap (Kick (d i)) 1). let kick : IsPlain (Swap (Kick (d i)) 1) = subst IsPlain kicks w.plain in kick)
-        (pays_at_once c a mine w.kept w.call w.rest (d i) r flag one on (stand.fit s frames past es are ample st who) w.asks flagged (subst (λ n. owes_on (d i) r flag (own n h) ≡ true) (served i side) owes))
+        (pays_at_once plain c a mine w.kept w.call w.rest (d i) r flag one on (stand.fit s frames past es are ample st who) w.asks flagged (subst (λ n. owes_on (d i) r flag (own n h) ≡ true) (served i side) owes))
 
     pub sent : (o.kept.finished ≡ []) × ((class : ℕ) → class < classes_of c → IsEmpty c x (Tx (socket_at_class c (d i) class)))
     sent = ⊎_elim

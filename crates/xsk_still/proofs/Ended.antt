@@ -22,12 +22,13 @@ use Rattle.xsk_model.specs.declared.call.Ring.{Ring}
 use Rattle.xsk_model.proofs.Closings.{is_mark-self}
 use Rattle.xsk_model.proofs.FrameTheorems.{frames_stay}
 use Rattle.xsk_model.proofs.MarkNumbers.{opening_mark_is}
-use Rattle.xsk_turns.specs.AppTurns.{pair_of, side_socket, rx_of, tx_of, lanes_of, pending_at, IsWholeAppRun}
+use Rattle.xsk_turns.specs.AppTurns.{pair_of, side_socket, rx_of, tx_of, lanes_of, pending_at, IsWholeAppRun, IsWholeAppRunBy}
 use Rattle.xsk_turns.specs.AppOwned.{IsApp}
 use Rattle.xsk_turns.specs.Law.{IsSized}
 use Rattle.xsk_turns.specs.Owned.{IsSeat, IsSpare, IsHere, socket_at_class, frame_numbers}
 use Rattle.xsk_turns.specs.Turns.{seat_of, pieces_of, bad_ones, IsWholeDriverRun}
 use Rattle.xsk_turns.specs.Wakes.{IsParked, app_for, owes_end}
+use Rattle.xsk_turns.specs.Mangling.{plain}
 use Rattle.xsk_turns.specs.Workers.{Setting, input_of}
 use Rattle.xsk_turns.proofs.AppLanes.{nothing_sent_late}
 use Rattle.xsk_turns.proofs.AppPaying.{pays_end_at_once}
@@ -75,7 +76,7 @@ module _ (s : Setting) (frames : List Frame) (past es : List Entry) (are : AreWo
   spare_homes : (d n : ℕ) (fs : List Frame) → d < length s.config.pairs → All (IsSpare s.config (own d (past ++ es))) fs → 1 ≤ times n (frame_numbers fs) → n / pool_of s.config ≡ d
   spare_homes d n [] below all some = absurd (omega (arith, some))
   spare_homes d n (frame ∷ fs) below all some = ⊎_elim
-      (λ (e : frame.number ≡ n). subst (λ k. k / pool_of s.config ≡ d) e (spare_home s frames (past ++ es) d frame are below (All-head (IsSpare s.config (own d (past ++ es))) frame fs all)))
+      (λ (e : frame.number ≡ n). subst (λ k. k / pool_of s.config ≡ d) e (spare_home s frames (past ++ es) d frame st.unchanged are below (All-head (IsSpare s.config (own d (past ++ es))) frame fs all)))
       (λ (e : frame.number ≡ n → ⊥). spare_homes d n fs below (All-tail (IsSpare s.config (own d (past ++ es))) frame fs all) (omega (arith, some, off frame.number n e)))
       (cases_eq frame.number n)
     where
@@ -188,7 +189,7 @@ module _ (s : Setting) (frames : List Frame) (past es : List Entry) (are : AreWo
         (λ (p : IsParked (d i) (own (d i) h) × (is_some o.kept.parked ≡ true)).
         let r = (empty.rests s frames past es are ample st a known w i side o p.0 p.1).1 in
         let owed = stand.end_owed s frames past es are ample st (d i) (below i side) o p.0 (stand.rx_marked s frames past es are ample st (d i) (side_socket c a i 0) (below i side) ∙ one_if _ told) marked in
-        let pays = pays_end_at_once c a (own who h) w.kept w.call w.rest i one r.flagged side w.asks
+        let pays = pays_end_at_once plain c a (own who h) w.kept w.call w.rest i one r.flagged side w.asks
         (subst (λ n. owes_end (d i) (TxDone n) (own who h) ≡ true) (app_is i side) (subst (λ n. owes_end (d i) (TxDone (app_for c (d i))) (own n h) ≡ true) (served i side) owed)) in
         let kick : IsPlain (Swap (Kick (d pays.0)) 1) = subst IsPlain pays.2 w.plain in
         absurd kick)
@@ -219,7 +220,7 @@ module _ (s : Setting) (frames : List Frame) (past es : List Entry) (are : AreWo
           let ring = tx_ring c (d i) (seat i side) t (class_here c (d i) (seat i side) 0 some_class) in
           let fed : who ≡ producer c (Tx t) = subst (λ n. who ≡ producer c (Tx n)) same (tx_has lane.0 lane.1).1 in
           let drained = drains_tx s.wire c (d i) 0 (input_of s (d i)) (own (d i) h) whole some_class in
-          let late = nothing_sent_late c a t (own who h) one (stand.app_run s frames past es are ample st a known) in
+          let late = nothing_sent_late plain c a t (own who h) one (stand.app_run s frames past es are ample st a known) in
           let holds = holds_after c frames (TxDone a ∷ []) (TxDone a) (Tx t) (stand.config s frames past es are ample st) ring.0 known (λ k e. e ∙ fed) h are.history
           (or_left (is_mark (TxDone a) (TxDone a)) false (is_mark-self (TxDone a)))
           (opening_mark_is c frames (TxDone a) (stand.config s frames past es are ample st) known)
@@ -327,7 +328,7 @@ module _ (s : Setting) (frames : List Frame) (past es : List Entry) (are : AreWo
       -- nor is one in a ring but FILL
       none_out : (n : ℕ) (r : Ring) → HasRing c r → app_of c r ≡ who → 1 ≤ times n (out_numbers (ring_at c x r)) → (r ≡ Fill (n / pool_of c))
       none_out n (Fill e) ring mine some =
-          let home = home_numbers c e n (ring_at c x (Fill e)).out (only_homes s frames h e are ring) some in ap Fill (sym home)
+          let home = home_numbers c e n (ring_at c x (Fill e)).out (only_homes s frames h e st.unchanged are ring) some in ap Fill (sym home)
       none_out n (Comp e) ring mine some =
           let side = pair_side c a one e ring mine in
           let none = (empty.back_none s frames past es are ample st a known w side.0 side.1).1 in
@@ -469,5 +470,7 @@ module _ (s : Setting) (frames : List Frame) (past es : List Entry) (are : AreWo
 pub no_stretch : NoStretch
 no_stretch s frames past es are ample st who known = record {
   driver = λ low. driver_whole s frames past es are ample st who low;
-  app = λ a e. subst (λ k. IsWholeAppRun s.config a (own k (past ++ es))) (sym e) (app_whole s frames past es are ample st a (omega (arith, e, known)));
+  app = λ a e.
+      subst (λ m. IsWholeAppRunBy m s.config a (own who (past ++ es))) (sym st.unchanged)
+      (subst (λ k. IsWholeAppRun s.config a (own k (past ++ es))) (sym e) (app_whole s frames past es are ample st a (omega (arith, e, known))));
 }

@@ -31,6 +31,8 @@ use Rattle.xsk_turns.proofs.AppOwned.{numbers-home}
 use Rattle.xsk_turns.proofs.Owned.{times-at}
 use Rattle.xsk_laws.specs.Woken.{AreWorkerRuns}
 use Rattle.xsk_turns.specs.Workers.{Setting}
+use Rattle.xsk_turns.specs.Mangling.{plain}
+use Rattle.xsk_turns.specs.AppTurns.{IsAppRun, IsAppRunBy}
 use Rattle.xsk_turns.proofs.Places.{app_known}
 use Rattle.xsk_still.specs.Own.{IsHomeItem}
 use Rattle.xsk_still.specs.Laws.{OnlyHomes}
@@ -147,7 +149,7 @@ all_left P (x ∷ xs) ys h = All-cons P x xs (All-head P x (xs ++ ys) h) (all_le
 
 -- ---- along a history
 
-module _ (s : Setting) (frames : List Frame) (h : List Entry) (d : ℕ) (are : AreWorkerRuns s frames h) (below : d < length s.config.pairs) where
+module _ (s : Setting) (frames : List Frame) (h : List Entry) (d : ℕ) (unchanged : s.manner ≡ plain) (are : AreWorkerRuns s frames h) (below : d < length s.config.pairs) where
   abbrev c : Config
   c = s.config
 
@@ -174,8 +176,8 @@ module _ (s : Setting) (frames : List Frame) (h : List Entry) (d : ℕ) (are : A
   all_homes =
       let mine = items_by_own c frames h (Fill d) are.history below in
       let known = app_known c d seat in
-      let run = (are.runs (caller_of c a) (omega (arith, known))).app a refl in
-      let given = fills_homes c a d (own (caller_of c a) h) (record { config = are.history.opened.config; steady = are.steady; known = known }) run in
+      let run : IsAppRun c a (own (caller_of c a) h) = subst (λ m. IsAppRunBy m c a (own (caller_of c a) h)) unchanged ((are.runs (caller_of c a) (omega (arith, known))).app a refl) in
+      let given = fills_homes c a d (own (caller_of c a) h) (record { config = are.history.opened.config; steady = are.steady; geometry = are.history.opened.geometry; known = known }) run in
       subst (All (IsHomeItem c d)) (sym (in_order c frames h (Fill d) are.history below))
       (All-append (IsHomeItem c d) (ring_at c (opening c frames) (Fill d)).out (submitted_of (Fill d) (all_told h)) opened (subst (All (IsHomeItem c d)) (sym mine.1) given))
 
@@ -186,7 +188,7 @@ module _ (s : Setting) (frames : List Frame) (h : List Entry) (d : ℕ) (are : A
   peeked_homes = subst (All (IsHomeItem c d)) (items_by_own c frames h (Fill d) are.history below).0 (all_left (IsHomeItem c d) (peeked_of (Fill d) (all_told h)) _ all_homes)
 
 pub only_homes : OnlyHomes
-only_homes s frames h d are below = out_homes s frames h d are below
+only_homes s frames h d unchanged are below = out_homes s frames h d unchanged are below
 
 -- ---- a driver's spare frames
 
@@ -218,9 +220,9 @@ taken_stays n r before later t on =
     omega (arith, ap (λ xs. times n (numbers xs)) step, grows n r later (earlier ++ taken t.reply), times-numbers-append n earlier (taken t.reply))
 
 -- so each is of its pair's pool
-pub spare_home : (s : Setting) (frames : List Frame) (h : List Entry) (d : ℕ) (frame : Frame) → AreWorkerRuns s frames h → d < length s.config.pairs → IsSpare s.config (own d h) frame
+pub spare_home : (s : Setting) (frames : List Frame) (h : List Entry) (d : ℕ) (frame : Frame) → s.manner ≡ plain → AreWorkerRuns s frames h → d < length s.config.pairs → IsSpare s.config (own d h) frame
     → frame.number / pool_of s.config ≡ d
-spare_home s frames h d frame are below spare =
+spare_home s frames h d frame unchanged are below spare =
     let c = s.config in
     let last = from_fill_last frame.number (own d h) spare.from_fill in
     let goes = subst (OwnGoesOn c d []) last.split (own_entries c frames h d are.history) in
@@ -228,5 +230,5 @@ spare_home s frames h d frame are below spare =
     let mine : d ≡ last.peek.0 = legal.role in
     let on : is_on (Fill d) last.t.call ≡ true = ap (is_on (Fill d)) last.peek.2 ∙ eq-eqb d last.peek.0 mine in
     let some = taken_stays frame.number (Fill d) last.before last.later last.t on in
-    home_numbers c d frame.number (peeked_of (Fill d) (own d h)) (peeked_homes s frames h d are below)
+    home_numbers c d frame.number (peeked_of (Fill d) (own d h)) (peeked_homes s frames h d unchanged are below)
     (subst (λ l. 1 ≤ times frame.number (numbers (peeked_of (Fill d) l))) (sym last.split) (omega (arith, some, last.took)))

@@ -29,7 +29,8 @@ use Rattle.xsk_model.proofs.MarkNumbers.{opening_mark_is}
 use Rattle.xsk_model.proofs.Theorems.{in_order, parts_by_own, items_by_own, own_entries}
 use Rattle.xsk_turns.specs.Script.{Script, Asks}
 use Rattle.xsk_turns.specs.Turns.{Kept, seat_of, start, turn, IsDriverRun, IsWholeDriverRun}
-use Rattle.xsk_turns.specs.AppTurns.{AppKept, app_turn, app_start, lanes_of, IsAppRun, IsWholeAppRun}
+use Rattle.xsk_turns.specs.Mangling.{plain}
+use Rattle.xsk_turns.specs.AppTurns.{AppKept, app_turn, app_start, lanes_of, IsAppRun, IsAppRunBy, IsWholeAppRun, IsWholeAppRunBy}
 use Rattle.xsk_turns.specs.AppOwned.{IsApp}
 use Rattle.xsk_turns.specs.Owned.{IsSeat, AllFit, socket_at_class}
 use Rattle.xsk_turns.specs.Wakes.{IsParked, IsWoken, NoWakeIsLost, app_for, owes_on, owes_end}
@@ -108,7 +109,7 @@ module _ (s : Setting) (frames : List Frame) (past es : List Entry) (are : AreWo
   seat d below = record { config = config; steady = are.steady; geometry = are.history.opened.geometry; known = below }
 
   pub one_app : (a : ℕ) → a < apps_of c → IsApp c a
-  one_app a known = record { config = config; steady = are.steady; known = known }
+  one_app a known = record { config = config; steady = are.steady; geometry = are.history.opened.geometry; known = known }
 
   pub fit : (who : ℕ) → AllFit c [] (own who h)
   fit who = all_fit c who [] (own who h) (own_entries c frames h who are.history)
@@ -117,7 +118,7 @@ module _ (s : Setting) (frames : List Frame) (past es : List Entry) (are : AreWo
   driver_run d below = (are.runs d (omega (arith, below))).driver below
 
   pub app_run : (a : ℕ) → a < apps_of c → IsAppRun c a (own (caller_of c a) h)
-  app_run a known = (are.runs (caller_of c a) (omega (arith, known))).app a refl
+  app_run a known = subst (λ m. IsAppRunBy m c a (own (caller_of c a) h)) st.unchanged ((are.runs (caller_of c a) (omega (arith, known))).app a refl)
 
   still_at : (who : ℕ) → who < callers_of c → AreStill c x (own who es)
   still_at who known = subst (λ y. AreStill c y (own who es)) (sym st.same) (st.still who known)
@@ -212,7 +213,7 @@ module _ (s : Setting) (frames : List Frame) (past es : List Entry) (are : AreWo
 
   pub app_state : (a : ℕ) → a < apps_of c → IsWholeAppRun c a (own (caller_of c a) h) ⊎ OpenApp a
   app_state a known = ⊎_elim
-      (λ (whole : IsWholeRun s (caller_of c a) (own (caller_of c a) h)). inl (whole.app a refl))
+      (λ (whole : IsWholeRun s (caller_of c a) (own (caller_of c a) h)). inl (subst (λ m. IsWholeAppRunBy m c a (own (caller_of c a) h)) st.unchanged (whole.app a refl)))
       (λ (long : 64 ≤ length (own (caller_of c a) es)). ⊎_elim
       (λ (whole : IsWholeAppRun c a (own (caller_of c a) h)). inl whole)
       (λ (asking : IsAsking (app_turn c a) (app_start c) (own (caller_of c a) h)).
@@ -237,9 +238,9 @@ module _ (s : Setting) (frames : List Frame) (past es : List Entry) (are : AreWo
       (driver_state d below)
 
   pub plain_free : (call : Call) → IsPlain call → IsFree call
-  plain_free (Submit r items) plain = absurd plain
-  plain_free (Release r n) plain = absurd plain
-  plain_free call plain = tt
+  plain_free (Submit r items) calls = absurd calls
+  plain_free (Release r n) calls = absurd calls
+  plain_free call calls = tt
 
   pub app_due : (a : ℕ) → a < apps_of c → OpenApp a → HasNothingDue (own (caller_of c a) h)
   app_due a known w = app_is_free c a (own (caller_of c a) h) w.kept w.call w.rest (one_app a known) (fit (caller_of c a)) w.asks (plain_free w.call w.plain)
@@ -290,14 +291,14 @@ module _ (s : Setting) (frames : List Frame) (past es : List Entry) (are : AreWo
     -- a flag that is set has its mark
     pub fill_flag : (watching_of (NeedFill d) (Fill d) (Kick d) (own d h)).set ≡ true → mark_at c x (NeedFill d) ≡ 1
     fill_flag set =
-        (fill_kept s.wire c (input_of s d) frames h d are.steady are.history below (driver_run d below) app_mine).set ∙ one_if _ set
+        (fill_kept plain s.wire c (input_of s d) frames h d are.steady are.history below (driver_run d below) app_mine).set ∙ one_if _ set
 
     pub tx_flag : (class : ℕ) → class < classes_of c
         → (watching_of (NeedTx (socket_at_class c d class)) (Tx (socket_at_class c d class)) (Kick d) (own d h)).set ≡ true → mark_at c x (NeedTx (socket_at_class c d class)) ≡ 1
     tx_flag class within set =
         let t = socket_at_class c d class in
         let ring = tx_ring c d (seat d below) t (class_here c d (seat d below) class within) in
-        (tx_kept s.wire c (input_of s d) frames h d are.steady are.history below (driver_run d below) app_mine t ring.0 (sym ring.1)).set ∙ one_if _ set
+        (tx_kept plain s.wire c (input_of s d) frames h d are.steady are.history below (driver_run d below) app_mine t ring.0 (sym ring.1)).set ∙ one_if _ set
 
     -- a ring that isn't empty owes it a wake
     pub fill_owed : (watching_of (NeedFill d) (Fill d) (Kick d) (own d h)).set ≡ true → 1 ≤ length (ring_at c x (Fill d)).out → owes_on d (Fill d) (NeedFill d) (own (app_of c (Fill d)) h) ≡ true

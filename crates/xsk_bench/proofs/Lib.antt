@@ -1,0 +1,5 @@
+pub mod Beginning
+pub mod Rounds
+pub mod Seats
+pub mod Serving
+pub mod Telling
