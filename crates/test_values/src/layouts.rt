@@ -1,7 +1,8 @@
 //! Layouts: the first refusal with its value, or the regular configuration.
 //!
-//! `check [NAME VALUE]..` judges the least layout with these changes, `also [NAME VALUE]..` the last one with them, and
-//! `regular` makes the configuration of the last, about which there are then the questions.
+//! `check [NAME VALUE]..` judges the least layout with these changes, `usual [NAME VALUE]..` the default one and `also
+//! [NAME VALUE]..` the last one with them; `says` tells what is wrong with the last in words, and `regular` makes the
+//! configuration of the last, about which there are then the questions.
 ghost use Rattle.std.specs.Prelude.{◌≡◌, None, IfOk, OnOk};
 ghost use Rattle.xsk_model.specs.Config.{IsRegular};
 
@@ -66,7 +67,12 @@ impl Case for Layouts {
     fn answer(&mut self, word: &str, line: &mut Line<'_>, told: &mut Told) -> Result<(), Fault> {
         match word {
             "check" => self.change(LEAST, line, told),
+            "usual" => self.change(Layout::default(), line, told),
             "also" => self.change(self.layout, line, told),
+            "says" => {
+                say(&self.layout, told);
+                Ok(())
+            }
             "regular" => self.configure(told),
             _ => match &self.config {
                 Some(config) => configs::answer(config, word, line, told),
@@ -81,6 +87,14 @@ fn tell(layout: &Layout, told: &mut Told) {
     match check_layout(layout) {
         Ok(()) => told.say("accepted"),
         Err(refusal) => told.name(&refusal),
+    }
+}
+
+/// What is wrong with a layout.
+fn say(layout: &Layout, told: &mut Told) {
+    match check_layout(layout) {
+        Ok(()) => told.say("nothing"),
+        Err(refusal) => told.message(&refusal),
     }
 }
 

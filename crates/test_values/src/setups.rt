@@ -9,8 +9,8 @@ use crate::told::Told;
 use std::alloc::Global;
 use xsk_model::Config;
 use xsk_socket::{
-    RingKind, Setup, SetupError, XDP_COPY, XDP_SHARED_UMEM, XDP_USE_NEED_WAKEUP, XDP_USE_SG,
-    XDP_ZEROCOPY,
+    RingKind, SealRefused, Setup, SetupError, XDP_COPY, XDP_SHARED_UMEM, XDP_USE_NEED_WAKEUP,
+    XDP_USE_SG, XDP_ZEROCOPY,
 };
 use xsk_umem::Geometry;
 
@@ -63,7 +63,7 @@ impl Setups {
                 self.config = Some(config);
                 told.say("ok");
             }
-            Err((error, setup)) => {
+            Err(SealRefused { error, setup }) => {
                 self.setup = Some(setup);
                 told.name(&error);
             }

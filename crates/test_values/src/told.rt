@@ -1,6 +1,6 @@
 //! What is told of a case.
 use std::alloc::{AllocError, Global};
-use std::fmt::{Debug, Write};
+use std::fmt::{Debug, Display, Write};
 
 /// A text that grows. Where memory fails, what was told since is lost, and this shows at the end.
 #[derive(Drop)]
@@ -48,6 +48,13 @@ impl Told {
     /// A byte as two digits.
     pub fn hex(&mut self, byte: u8) {
         if write!(self.text, "{byte:02x}").is_err() {
+            self.is_lost = true;
+        }
+    }
+
+    /// A value in its own words.
+    pub fn message<T: Display>(&mut self, value: &T) {
+        if write!(self.text, "{value}").is_err() {
             self.is_lost = true;
         }
     }

@@ -1,5 +1,6 @@
 -- What holds of an accepted layout.
 use Rattle.std.specs.Prelude.{◌≡◌, ℕ, ◌%◌, ◌<◌, ◌≤◌, ◌⊎◌}
+use Rattle.xsk_umem.specs.Limits.{most_frames}
 use Rattle.xsk_model.specs.Config.{IsRingSize}
 use Rattle.xsk_socket.specs.declared.layout.Layout.{Layout}
 use Rattle.xsk_socket.specs.Layout.{pairs_in, pool_in}
@@ -17,7 +18,7 @@ pub record Fits (l : Layout) : Type 0 where
   pub queues : IsCount l.queues
   pub sockets : IsCount l.sockets
   pub some : 0 < l.frames
-  pub few : l.frames ≤ 4096
+  pub few : l.frames ≤ most_frames
   pub divides : l.frames % pairs_in l ≡ 0
   pub rx : IsRingSize l.rx
   pub tx : IsRingSize l.tx

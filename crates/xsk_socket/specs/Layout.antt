@@ -1,8 +1,9 @@
 -- What a command can ask for, and why it is refused. A ring has a power of two of entries (af_xdp.rst, "Rings"); the
 -- other limits, their order and their names are this project's own.
-use Rattle.std.specs.Prelude.{ℕ, ◌-◌, ◌*◌, ◌/◌, ◌%◌, ◌^◌, ◌==◌, ◌&&◌, ◌||◌, nat_lt, nat_le, Bool, List, [], ◌∷◌, ◌++◌, Option, Some, None, if◌then◌else◌}
+use Rattle.std.specs.Prelude.{ℕ, ◌-◌, ◌*◌, ◌/◌, ◌%◌, ◌^◌, ◌==◌, ◌&&◌, ◌||◌, nat_lt, nat_le, Bool, false, List, [], ◌∷◌, ◌++◌, Option, Some, None, if◌then◌else◌}
 use Rattle.std.specs.List.{list_any, range_with_len}
 use Rattle.xsk_umem.specs.Geometry.{Geometry}
+use Rattle.xsk_umem.specs.Limits.{reserved_bytes, most_frames}
 use Rattle.xsk_socket.specs.declared.layout.Layout.{Layout}
 use Rattle.xsk_socket.specs.declared.layout.Unlawful.{Unlawful}
 use Rattle.xsk_socket.specs.declared.layout.Unlawful.TheVariants.{Ports, Queues, Sockets, Files, Chunk, Headroom, Frames, Rx, Tx, Fill, Comp, Pool, Empty}
@@ -42,8 +43,8 @@ on_counts l =
 abbrev pub on_umem : Layout → List Demand
 on_umem l =
     (l.chunk == 2048 || l.chunk == 4096, Chunk l.chunk)
-    ∷ (nat_lt l.headroom (l.chunk - 256), Headroom l.headroom)
-    ∷ (nat_lt 0 l.frames && nat_le l.frames 4096 && (l.frames % pairs_in l == 0), Frames l.frames)
+    ∷ (nat_lt l.headroom (l.chunk - reserved_bytes), Headroom l.headroom)
+    ∷ (nat_lt 0 l.frames && nat_le l.frames most_frames && (l.frames % pairs_in l == 0), Frames l.frames)
     ∷ []
 
 abbrev pub on_rings : Layout → List Demand
@@ -74,3 +75,23 @@ fault_of l = first_unmet (demands l)
 -- the geometry of its UMEM
 abbrev pub geometry_of : Layout → Geometry
 geometry_of l = record { frames = l.frames; chunk = l.chunk; headroom = l.headroom }
+
+-- the layout of a command that says nothing of it
+abbrev pub usual : Layout
+usual = record {
+  ports = 2;
+  queues = 1;
+  sockets = 1;
+  files = 0;
+  files_wanted_per_port = 0;
+  chunk = 4096;
+  headroom = 0;
+  frames = 256;
+  rx = 2048;
+  tx = 2048;
+  fill = 2048;
+  comp = 2048;
+  sg = false;
+  wakeup = false;
+  empty = None;
+}

@@ -4,6 +4,8 @@ ghost use Rattle.std.specs.Result.{result_err};
 ghost use Rattle.xsk_socket.specs.Fits.{HasCounts};
 ghost use Rattle.xsk_socket.specs.Layout.{fault_of, first_unmet, is_count, is_port_count, is_ring_size, on_counts, on_rings, on_umem};
 
+use thiserror::Error;
+
 /// The bytes at the start of each chunk that never hold a packet's data.
 const RESERVED: u32 = 256;
 
@@ -48,34 +50,76 @@ pub struct Layout {
     pub empty: Option<u32>,
 }
 
+/// The layout of a command that says nothing of it: two ports with a queue and a socket each, 256 frames of 4,096 bytes, and
+/// rings of 2,048 entries. It is accepted.
+impl Default for Layout {
+    ghost use Rattle.std.specs.Prelude.{◌≡◌, None};
+    ghost use Rattle.xsk_socket.specs.Layout.{fault_of, usual};
+
+    ghost is_default = { λ l. (l ≡ usual) × (fault_of l ≡ None) };
+
+    fn default() -> Layout {
+        Layout {
+            ports: 2,
+            queues: 1,
+            sockets: 1,
+            files: 0,
+            files_wanted_per_port: 0,
+            chunk: 4096,
+            headroom: 0,
+            frames: 256,
+            rx: 2048,
+            tx: 2048,
+            fill: 2048,
+            comp: 2048,
+            sg: false,
+            wakeup: false,
+            empty: None,
+        }
+    }
+}
+
 /// Why a layout is refused: what is wrong, with its value.
-#[derive(Clone, Copy, Debug, PartialEq, Eq)]
+#[derive(Clone, Copy, Debug, PartialEq, Eq, Error)]
 pub enum Unlawful {
     /// There are neither 2 nor 4 ports.
+    #[error("{0} ports: there must be 2 or 4")]
     Ports(u32),
     /// A port has no 1, 2 or 4 queues.
+    #[error("{0} queues: a port must have 1, 2 or 4")]
     Queues(u32),
     /// A queue has no 1, 2 or 4 sockets.
+    #[error("{0} sockets: a queue must have 1, 2 or 4")]
     Sockets(u32),
     /// There aren't as many files as all ports together want.
+    #[error("{0} files: each port must have as many as it wants")]
     Files(u32),
     /// The chunk has neither 2,048 nor 4,096 bytes.
+    #[error("a chunk of {0} bytes: it must have 2048 or 4096")]
     Chunk(u32),
     /// The headroom leaves no room for data.
+    #[error("a headroom of {0} bytes leaves no room for data")]
     Headroom(u32),
     /// There are no frames, more than 4,096, or not the same number for each queue of each port.
+    #[error("{0} frames: there must be 1 to 4096, the same number for each queue")]
     Frames(u32),
     /// The size of the RX rings is no power of two from 2 to 2,048.
+    #[error("an RX ring of {0} entries: it must be a power of two from 2 to 2048")]
     Rx(u32),
     /// The size of the TX rings is none.
+    #[error("a TX ring of {0} entries: it must be a power of two from 2 to 2048")]
     Tx(u32),
     /// The size of the FILL rings is none.
+    #[error("a FILL ring of {0} entries: it must be a power of two from 2 to 2048")]
     Fill(u32),
     /// The size of the COMPLETION rings is none.
+    #[error("a COMPLETION ring of {0} entries: it must be a power of two from 2 to 2048")]
     Comp(u32),
     /// The frames of a queue, of which there are so many, don't fit its FILL ring.
+    #[error("the {0} frames of a queue don't fit its FILL ring")]
     Pool(u32),
     /// There is no such cell.
+    #[error("there is no cell {0}")]
     Empty(u32),
 }
 

@@ -11,5 +11,7 @@ mod socket;
 pub use error::SetupError;
 pub use layout::{Layout, Unlawful, check_layout};
 pub use numbering::regular;
-pub use setup::{Setup, XDP_COPY, XDP_SHARED_UMEM, XDP_USE_NEED_WAKEUP, XDP_USE_SG, XDP_ZEROCOPY};
+pub use setup::{
+    SealRefused, Setup, XDP_COPY, XDP_SHARED_UMEM, XDP_USE_NEED_WAKEUP, XDP_USE_SG, XDP_ZEROCOPY,
+};
 pub use socket::RingKind;

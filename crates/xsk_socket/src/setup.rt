@@ -14,6 +14,7 @@ use crate::socket::{Place, Socket};
 use crate::{RingKind, SetupError};
 use std::alloc::Global;
 use std::marker::Model;
+use thiserror::Error;
 use xsk_model::{Config, PairInfo};
 use xsk_umem::Geometry;
 
@@ -33,6 +34,14 @@ pub const XDP_USE_SG: u32 = 16;
 
 /// All bind flags together.
 const ALL_FLAGS: u32 = 31;
+
+/// A setup gave no configuration. It comes back.
+#[derive(Debug, Drop, Error)]
+#[error("{error}")]
+pub struct SealRefused {
+    pub error: SetupError,
+    pub setup: Setup,
+}
 
 /// The setup of the sockets of one UMEM.
 #[derive(Debug, Drop)]
@@ -158,20 +167,29 @@ impl Setup {
     ///
     /// It is refused with `NotBoundYet` exactly where there is no socket or one isn't bound, and else for want of memory
     /// alone. The setup comes back with a refusal.
-    pub fn seal(self) -> Result<Config, (SetupError, Setup)>
-        ensures refused { (e : _) → seal_refusal self ≡ Some e → result ≡ Err (e, self) }
-        ensures accepted { seal_refusal self ≡ None → (IsOk result ⊎ (result ≡ Err (SetupError.OutOfMemory, self))) }
+    pub fn seal(self) -> Result<Config, SealRefused>
+        ensures refused { (e : _) → seal_refusal self ≡ Some e → result ≡ Err (record { error = e; setup = self }) }
+        ensures accepted { seal_refusal self ≡ None → (IsOk result ⊎ (result ≡ Err (record { error = SetupError.OutOfMemory; setup = self }))) }
         ensures over { IfOk result (λ config. (config.geometry ≡ self.geometry) × (config.ports ≡ self.ports) × (config.queues ≡ self.queues)) }
         ensures config { IfOk result (λ config. (calls : _) → StandsFor calls self → config ≡ sealed self.geometry self.ports self.queues calls) }
     {
         if self.sockets.is_empty() || !all_bound(self.sockets.as_slice()) {
-            return Err((SetupError::NotBoundYet, self));
+            return Err(SealRefused {
+                error: SetupError::NotBoundYet,
+                setup: self,
+            });
         }
         let Ok(sockets) = infos(self.alloc, self.sockets.as_slice()) else {
-            return Err((SetupError::OutOfMemory, self));
+            return Err(SealRefused {
+                error: SetupError::OutOfMemory,
+                setup: self,
+            });
         };
         let Ok(cells) = maps(self.alloc, self.sockets.as_slice(), self.ports, self.queues) else {
-            return Err((SetupError::OutOfMemory, self));
+            return Err(SealRefused {
+                error: SetupError::OutOfMemory,
+                setup: self,
+            });
         };
         let Setup {
             alloc: _,
