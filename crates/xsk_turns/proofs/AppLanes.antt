@@ -34,7 +34,7 @@ now_peeked s n l items = part_of-push_same peeked_step (Rx s) [] l (record { cal
 
 -- ---- what holds all along
 
-abbrev IsTelling : ℕ → Bool → List Told → Type 0
+abbrev pub IsTelling : ℕ → Bool → List Told → Type 0
 IsTelling a told l = (t : ℕ) → telling_of (TxDone a) (Tx t) l ≡ (let s : Telling = record { told = told; late = false } in s)
 
 -- What is submitted on a lane and what is pending is what was peeked. The lanes before one were found empty in this turn,
@@ -50,10 +50,10 @@ pub record InOrder (c : Config) (a : ℕ) (noted : AppNoted) (upto : ℕ) (kept 
   pub over : kept.tx_done ≡ true → (j : ℕ) → j < lanes_of c → (pending_at kept j ≡ []) × ((draining c a j l).empty ≡ true)
 
 -- between two turns nothing is noted
-abbrev none_noted : AppNoted
+abbrev pub none_noted : AppNoted
 none_noted = record { seen = false; gone = false; lanes_empty = false; sides_empty = false }
 
-abbrev Begins : Config → ℕ → AppKept → List Told → Type 0
+abbrev pub Begins : Config → ℕ → AppKept → List Told → Type 0
 Begins c a kept l = InOrder c a none_noted 0 kept l
 
 -- what holds at each call, and at the end
@@ -150,12 +150,12 @@ module _ (c : Config) (a : ℕ) (noted : AppNoted) (upto : ℕ) (kept : AppKept)
   beside back gone =
       record { lanes = h.lanes; order = h.order; telling = h.telling; sides = h.sides; known = h.known; unseen = h.unseen; found = h.found; over = h.over }
 
-  renoted : (more : AppNoted) (k : ℕ) → (more.seen ≡ true → both kept.seen ≡ true)
+  pub renoted : (more : AppNoted) (k : ℕ) → (more.seen ≡ true → both kept.seen ≡ true)
       → (more.lanes_empty ≡ true → kept.tx_done ≡ false → (j : ℕ) → j < k → (pending_at kept j ≡ []) × (more.seen ≡ true → (draining c a j l).empty ≡ true)) → InOrder c a more k kept l
   renoted more k known found =
       record { lanes = h.lanes; order = h.order; telling = h.telling; sides = h.sides; known = known; unseen = h.unseen; found = found; over = h.over }
 
-  over_turn : Begins c a kept l
+  pub over_turn : Begins c a kept l
   over_turn = renoted none_noted 0 (λ e. absurd (cc)) (λ e. absurd (cc))
 
 -- ---- a lane's entries
@@ -326,7 +326,7 @@ looked_gone_mark c a kept l side n h = by (eqb n 1)
 -- ---- along the turns
 
 module _ (c : Config) (a : ℕ) (one : IsApp c a) where
-  abbrev At : Family
+  abbrev pub At : Family
   At (Lanes lane) noted kept l = InOrder c a noted lane kept l
   At (Lane lane due) noted kept l = InOrder c a noted (lane + 1) kept l × (noted.lanes_empty ≡ false)
   At (Looking side) noted kept l = Begins c a kept l
@@ -336,10 +336,10 @@ module _ (c : Config) (a : ℕ) (one : IsApp c a) where
   At (Kicking place pair) noted kept l = At place noted kept l
   At place noted kept l = InOrder c a noted (lanes_of c) kept l
 
-  abbrev Asked : Said
+  abbrev pub Asked : Said
   Asked kept call l = Lawful c a l
 
-  abbrev Ended : AppKept → List Told → Type 0
+  abbrev pub Ended : AppKept → List Told → Type 0
   Ended kept l = AtEnd c a l
 
   -- so at each place of a turn, and it stays so as drivers are woken
@@ -414,13 +414,13 @@ module _ (c : Config) (a : ℕ) (one : IsApp c a) where
   passes begins noted kept l = λ h e. renoted c a none_noted 0 kept l h (noted_first kept) 0 (λ e. e) (λ e sends j k. absurd (omega arith))
   passes p noted kept l = λ h e. h
 
-  law : IsLaw c a Anything At Asked Ended
+  pub law : IsLaw c a Anything At Asked Ended
   law = record { calls = calls; entries = entries; passes = passes; ends = λ noted kept l done h. at_last c a noted (lanes_of c) kept l done.0 h }
 
 -- ---- the laws
 
 module _ (c : Config) (a : ℕ) (one : IsApp c a) (l : List Told) where
-  first : At c a one (Lanes 0) (noted_first (app_start c)) (app_start c) []
+  pub first : At c a one (Lanes 0) (noted_first (app_start c)) (app_start c) []
   first = record {
     lanes = length-replicate (lanes_of c) [];
     order = λ lane h. none_pending (lanes_of c) lane;
