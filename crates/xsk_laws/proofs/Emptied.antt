@@ -326,11 +326,15 @@ module _ (c : Config) (frames : List Frame) (ms : List Mark) (m : Mark) (r : Rin
       (all_hold (after c s e.who e.call) (past ++ e ∷ []) es (sound_step c frames s past e config sound goes.0 goes.1) goes.2 later
       (entry_holds s past e sound goes.0 goes.1 (late_before m r (producer c r) (past ++ e ∷ []) es later) holds))
 
+  -- what is kept of it after a history
+  pub holds_after : (h : List Entry) → IsHistory c frames h → has_mark m ms ≡ true → mark_at c (opening c frames) m ≡ 0 → (telling_of m r (own (producer c r) h)).late ≡ false
+      → HoldsAt (state_after c frames h) h
+  holds_after h history listed unset late =
+      let first : HoldsAt (opening c frames) [] = record { marked = λ e. absurd (omega (arith, e, unset)); seen = inl listed; found_empty = λ e. absurd (cc) } in
+      all_hold (opening c frames) [] h (opening_sound c frames history.opened) history.legal late first
+
   -- the ring is empty at the end
   pub emptied : (h : List Entry) → IsHistory c frames h → has_mark m ms ≡ true → mark_at c (opening c frames) m ≡ 0
       → (draining_of ms r (own (consumer c r) h)).empty ≡ true → (telling_of m r (own (producer c r) h)).late ≡ false
       → (ring_at c (state_after c frames h) r).out ≡ []
-  emptied h history listed unset empty late =
-      let first : HoldsAt (opening c frames) [] = record { marked = λ e. absurd (omega (arith, e, unset)); seen = inl listed; found_empty = λ e. absurd (cc) } in
-      let last = all_hold (opening c frames) [] h (opening_sound c frames history.opened) history.legal late first in
-      (last.found_empty empty).0
+  emptied h history listed unset empty late = ((holds_after h history listed unset late).found_empty empty).0

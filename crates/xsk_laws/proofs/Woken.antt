@@ -8,6 +8,7 @@ use Rattle.xsk_model.specs.Marks.{apps_of}
 use Rattle.xsk_model.specs.Entry.{Entry, own}
 use Rattle.xsk_model.specs.History.{IsHistory, state_after}
 use Rattle.xsk_model.specs.Opening.{opening}
+use Rattle.xsk_model.specs.Object.{ring_at, mark_at}
 use Rattle.xsk_model.specs.declared.call.Ring.TheVariants.{Fill, Tx}
 use Rattle.xsk_model.specs.declared.call.Mark.TheVariants.{NeedFill, NeedTx, Kick, RxDone, TxDone}
 use Rattle.xsk_model.proofs.Along.{along}
@@ -84,12 +85,15 @@ module _ (wire : Wire) (c : Config) (input : List Judged) (frames : List Frame) 
     apart = refl;
   }
 
-  fill : IsOwedOn c (state_after c frames h) (own d h) d (Fill d) (NeedFill d) → IsWoken c (state_after c frames h) d (owes_on d (Fill d) (NeedFill d) (own w h))
-  fill owed =
+  -- what the flag of FILL tells
+  pub fill_kept : IsKept (watching_of (NeedFill d) (Fill d) (Kick d) (own d h)) (owes_on d (Fill d) (NeedFill d) (own w h)) (mark_at c (state_after c frames h) (NeedFill d)) (mark_at c (state_after c frames h) (Kick d)) (1 ≤ length (ring_at c (state_after c frames h) (Fill d)).out)
+  fill_kept =
       let first : IsKeptOn c frames config d w (Fill d) (NeedFill d) fill_target (opening c frames) [] =
       λ k. none_seen _ _ _ _ (opening_mark_is c frames (NeedFill d) history.opened.config below) in
-      let kept = along (IsKeptOn c frames config d w (Fill d) (NeedFill d) fill_target) c frames h history (keeps_on c frames config d w (Fill d) (NeedFill d) fill_target) first in
-      wakes _ _ _ _ _ (watches owed.parked).fill (kept sets) owed.set owed.waits
+      along (IsKeptOn c frames config d w (Fill d) (NeedFill d) fill_target) c frames h history (keeps_on c frames config d w (Fill d) (NeedFill d) fill_target) first sets
+
+  fill : IsOwedOn c (state_after c frames h) (own d h) d (Fill d) (NeedFill d) → IsWoken c (state_after c frames h) d (owes_on d (Fill d) (NeedFill d) (own w h))
+  fill owed = wakes _ _ _ _ _ (watches owed.parked).fill fill_kept owed.set owed.waits
 
   -- ---- a TX ring
 
@@ -135,14 +139,18 @@ module _ (wire : Wire) (c : Config) (input : List Judged) (frames : List Frame) 
       apart = refl;
     }
 
-    tx : IsOwedOn c (state_after c frames h) (own d h) d (Tx t) (NeedTx t) → IsWoken c (state_after c frames h) d (owes_on d (Tx t) (NeedTx t) (own w h))
-    tx owed =
+    -- what its flag tells
+    pub tx_kept : IsKept (watching_of (NeedTx t) (Tx t) (Kick d) (own d h)) (owes_on d (Tx t) (NeedTx t) (own w h)) (mark_at c (state_after c frames h) (NeedTx t)) (mark_at c (state_after c frames h) (Kick d)) (1 ≤ length (ring_at c (state_after c frames h) (Tx t)).out)
+    tx_kept =
         let first : IsKeptOn c frames config d w (Tx t) (NeedTx t) tx_target (opening c frames) [] =
         λ k. none_seen _ _ _ _ (opening_mark_is c frames (NeedTx t) history.opened.config has) in
-        let kept = along (IsKeptOn c frames config d w (Tx t) (NeedTx t) tx_target) c frames h history (keeps_on c frames config d w (Tx t) (NeedTx t) tx_target) first in
+        along (IsKeptOn c frames config d w (Tx t) (NeedTx t) tx_target) c frames h history (keeps_on c frames config d w (Tx t) (NeedTx t) tx_target) first sets
+
+    tx : IsOwedOn c (state_after c frames h) (own d h) d (Tx t) (NeedTx t) → IsWoken c (state_after c frames h) d (owes_on d (Tx t) (NeedTx t) (own w h))
+    tx owed =
         let watched : IsWatched (watching_of (NeedTx t) (Tx t) (Kick d) (own d h)) =
         subst (λ n. IsWatched (watching_of (NeedTx n) (Tx n) (Kick d) (own d h))) socket ((watches owed.parked).tx (t % classes_of c) class_below) in
-        wakes _ _ _ _ _ watched (kept sets) owed.set owed.waits
+        wakes _ _ _ _ _ watched tx_kept owed.set owed.waits
 
   -- ---- the end
 

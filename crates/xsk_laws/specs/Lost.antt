@@ -12,7 +12,7 @@ use Rattle.xsk_turns.specs.Turns.{Judged, seat_of}
 use Rattle.xsk_turns.specs.Disposals.{attempts_of, disposals_of, bytes_in}
 use Rattle.xsk_turns.specs.declared.wire.Wire.{Wire}
 use Rattle.xsk_turns.specs.declared.disposal.Disposal.{Disposal}
-use Rattle.xsk_turns.specs.declared.disposal.Disposal.TheVariants.{Delivered, NoFrames, RxFull, TooLong, Runt, Missed, Passed, Dropped}
+use Rattle.xsk_turns.specs.declared.disposal.Disposal.TheVariants.{NoFrames, RxFull}
 use Rattle.xsk_laws.specs.Expected.{received_judged, is_redirected}
 use Rattle.xsk_laws.specs.Forwarded.{forwarded}
 use Rattle.xsk_laws.specs.Laws.{AreWholeRuns, IsPlace}

@@ -4,3 +4,7 @@ pub mod DriverStaying
 pub mod Dues
 pub mod Setting
 pub mod Marks
+pub mod Keeping
+pub mod Resting
+pub mod Telling
+pub mod Losing

@@ -92,8 +92,9 @@ AppIsFree = (c : Config) (a : ℕ) (l : List Told) (kept : AppKept) (call : Call
 
 -- ---- a driver that is parked
 
--- it has sent all, its flags are set, and it has no further packet, or its next one lacks frames
+-- the flags are used and set, it has sent all, and it has no further packet, or its next one lacks frames
 pub record Rests (seat : Seat) (frames : Bool) (kept : Kept) (l : List Told) : Type 0 where
+  pub flagged : seat.config.wakeup ≡ true
   pub sent : kept.finished ≡ []
   pub none : frames ≡ false → (kept.coming ≡ []) × (kept.rx_done ≡ true)
   pub lacks : frames ≡ true → (packet : Judged) × (later : List Judged) × (kept.coming ≡ packet ∷ later) × (length kept.spare < 18)
@@ -115,7 +116,8 @@ KeepsRxTold = (wire : Wire) (c : Config) (d s : ℕ) (input : List Judged) (l : 
 abbrev pub TellsGoneLast : Type 0
 TellsGoneLast = (wire : Wire) (c : Config) (d s : ℕ) (input : List Judged) (l : List Told) → IsDriverRun wire c d input l
     → ((telling_of (Gone d) (Comp s) l).late ≡ false)
-    × ((IsWholeDriverRun wire c d input l × ((telling_of (Gone d) (Comp s) l).told ≡ true)) ⊎ ((telling_of (Gone d) (Comp s) l).told ≡ false))
+    × ((IsWholeDriverRun wire c d input l × ((telling_of (Gone d) (Comp s) l).told ≡ true))
+    ⊎ ((IsWholeDriverRun wire c d input l → ⊥) × ((telling_of (Gone d) (Comp s) l).told ≡ false)))
 
 abbrev pub KeepsTxTold : Type 0
 KeepsTxTold = (c : Config) (a t : ℕ) (l : List Told) (kept : AppKept) (call : Call) (rest : Reply → Script AppKept) → IsApp c a
@@ -133,7 +135,7 @@ SeesGone = (c : Config) (a side : ℕ) (l : List Told) → IsApp c a → IsWhole
 -- what was submitted on an RX ring so far are layouts
 abbrev pub LaysOut : Type 0
 LaysOut = (wire : Wire) (c : Config) (d s : ℕ) (input : List Judged) (l : List Told) (kept : Kept) (call : Call) (rest : Reply → Script Kept) → IsSeat c d → AllFit c [] l
-    → Asks (turn (seat_of wire c d)) (start (classes_of c) input) l kept call rest → IsFree call
+    → Asks (turn (seat_of wire c d)) (start (classes_of c) input) l kept call rest
     → (packets : List (List ℕ)) × IsLaidOut c.geometry c.sg packets (submitted_of (Rx s) l) × All (IsSized c) packets
 
 abbrev pub HasPending : Type 0

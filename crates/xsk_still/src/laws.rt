@@ -2,7 +2,7 @@
 //! in `specs/Own.antt`.
 
 ghost use Rattle.xsk_still.specs.Laws.{MarkIsTold};
-ghost use Rattle.xsk_still.specs.Own.{DriverStays, AppStays, DriverIsFree, DriverEndsFree, AppIsFree, EndsSetOnce, AppSetsOnce, FillsHomes};
+ghost use Rattle.xsk_still.specs.Own.{DriverStays, AppStays, DriverIsFree, DriverEndsFree, AppIsFree, ParkedRests, KeepsRxTold, TellsGoneLast, KeepsTxTold, SeesGone, LaysOut, HasPending, PendingFew, LosesNone, EndsSetOnce, AppSetsOnce, FillsHomes};
 
 /// A driver in whose stretch nothing changes is parked, or stays as it is for want of room, of frames, or of the application's
 /// mark.
@@ -28,6 +28,55 @@ pub fn driver_ends_free()
 /// Nor has an application at such a call.
 pub fn app_is_free()
     ensures { AppIsFree }
+{}
+
+/// A driver that is parked has sent all, its flags are set, and it has no further packet, or its next one lacks frames.
+pub fn parked_rests()
+    ensures { ParkedRests }
+{}
+
+/// At each call a driver keeps whether it told that no further packet comes, and none comes where it did.
+pub fn keeps_rx_told()
+    ensures { KeepsRxTold }
+{}
+
+/// It tells that it has ended exactly as it ends, and gives back nothing after that.
+pub fn tells_gone_last()
+    ensures { TellsGoneLast }
+{}
+
+/// At each call an application keeps whether it told that it sends nothing more, and its RX rings were empty where it did.
+pub fn keeps_tx_told()
+    ensures { KeepsTxTold }
+{}
+
+/// An application that has ended has found both drivers' marks of their end to be 1.
+#[tactic(auto, using(crate::proofs::Telling::sees_gone))]
+pub fn sees_gone()
+    ensures { SeesGone }
+{}
+
+/// What a driver has submitted on an RX ring are layouts of packets, at each call.
+pub fn lays_out()
+    ensures { LaysOut }
+{}
+
+/// What an application keeps of a lane is the rest of what it peeked there, at each call that isn't a Submit or a Release.
+#[tactic(auto, using(crate::proofs::Keeping::has_pending))]
+pub fn has_pending()
+    ensures { HasPending }
+{}
+
+/// It keeps no more than 32 items of a lane.
+#[tactic(auto, using(crate::proofs::Keeping::pending_few))]
+pub fn pending_few()
+    ensures { PendingFew }
+{}
+
+/// A driver that got no bad packet has lost no frame.
+#[tactic(auto, using(crate::proofs::Losing::loses_none))]
+pub fn loses_none()
+    ensures { LosesNone }
 {}
 
 /// A driver sets the marks that tell of its end to 1 alone.

@@ -1,6 +1,6 @@
 -- On each lane the items submitted are the first of those peeked, and at the end all of them; and there its RX ring was
 -- found empty, after both drivers had told that they have no further packet.
-use Rattle.std.proofs.Common.{◌≡◌, ℕ, ◌+◌, ◌<◌, Bool, true, false, cond, ◌&&◌, ◌||◌, eqb, List, [], ◌∷◌, ◌++◌, length, map, drop, set, refl, sym, ap, ◌∙◌, subst, ⊎_elim, arith, append-nil, eq-eqb, ne_eqb, get_or-set_same, get_or-set_other, length-set}
+use Rattle.std.proofs.Common.{◌≡◌, ℕ, ◌+◌, ◌<◌, Bool, true, false, cond, ◌&&◌, ◌||◌, eqb, List, [], ◌∷◌, ◌++◌, length, map, drop, set, refl, sym, ap, ◌∙◌, subst, ⊎_elim, arith, append-nil, eq-eqb, ne_eqb, get_or, get_or-set_same, get_or-set_other, length-set}
 use Rattle.std.proofs.Math.Bool.{and-false}
 use Rattle.std.proofs.lemmas.Bool.{cases_eq, and_parts}
 use Rattle.std.proofs.lemmas.List.{length-replicate}
@@ -8,6 +8,7 @@ use Rattle.xsk_turns.proofs.Object.{Frame, Config, pool_of, batch_of, submitted,
 use Rattle.xsk_turns.proofs.Calls.{Item, Told, with_told, Ring, Fill, Comp, Rx, Tx, Mark, RxDone, Gone, TxDone, Call, Submit, Peek, Swap, Look, Reply, Granted, Full, Submitted, Items, Empty, Released, Old}
 use Rattle.xsk_model.proofs.Folds.{part_of-push_same, part_of-push_other}
 use Rattle.xsk_model.specs.declared.call.Mark.TheVariants.{Kick}
+use Rattle.xsk_turns.specs.Script.{Script, Asks}
 use Rattle.xsk_turns.specs.Turns.{frames_in}
 use Rattle.xsk_turns.specs.AppLaw.{IsFront, LanesInOrder, LanesPassedOn, NothingSentLate, DrainsRx}
 use Rattle.xsk_turns.specs.AppOwned.{IsApp}
@@ -19,7 +20,7 @@ use Rattle.xsk_turns.proofs.Draining.{draining_told, same_unseen, when_found, fo
 use Rattle.xsk_turns.proofs.Owned.{peeked_none, none_submitted, other_submitted}
 use Rattle.xsk_turns.proofs.ReceivingLaws.{telling_told, and_off, now_told}
 use Rattle.xsk_turns.proofs.Walks.{Anything, meet_anything}
-use Rattle.xsk_turns.proofs.AppWalk.{Place, Lanes, Lane, Sides, Side, Ending, Looking, Waking, Looked, Kicking, TxTold, Family, is_need, busy_lane, busy_side, PeekRx, ReleaseRx, ReserveTx, SubmitTx, LookRxDone, LookGone, LookNeed, KickDriver, group, call_at, kept_before, rx_empty, rx_items, rx_released, tx_granted, tx_full, tx_submitted, comp_items, fill_submitted, looked_rx_done, told_tx_done, looked_gone, looked_need, kicked, point_of, reply_of, no_lanes, has_items, has_frames, looks, rests, begins, Said, AtCalls, AtEntries, AtPasses, IsLaw, at_end, of_run}
+use Rattle.xsk_turns.proofs.AppWalk.{Place, Lanes, Lane, Sides, Side, Ending, Looking, Waking, Looked, Kicking, TxTold, Family, is_need, busy_lane, busy_side, ReleaseRx, ReserveTx, SubmitTx, LookNeed, KickDriver, group, asked, call_at, kept_before, rx_empty, rx_items, rx_released, tx_granted, tx_full, tx_submitted, comp_items, fill_submitted, looked_rx_done, told_tx_done, looked_gone, looked_need, kicked, point_of, reply_of, no_lanes, has_items, has_frames, looks, rests, begins, Said, AtCalls, AtEntries, AtPasses, IsLaw, at_call, at_end, of_run}
 
 -- ---- what an entry leaves of a ring's items
 
@@ -66,8 +67,27 @@ pub record AtEnd (c : Config) (a : ℕ) (l : List Told) : Type 0 where
   pub all : (lane : ℕ) → lane < lanes_of c → submitted_of (Tx (tx_of c a lane)) l ≡ peeked_of (Rx (rx_of c a lane)) l
   pub drained : (lane : ℕ) → lane < lanes_of c → (draining c a lane l).empty ≡ true
 
+-- at each call also what was told, and, where it submits nothing, that what is pending is the rest of what was peeked
+abbrev pub SubmitsNone : Call → Type 0
+SubmitsNone (Submit r items) = ⊥
+SubmitsNone call = Unit {0}
+
+pub record AtCall (c : Config) (a : ℕ) (pending : List (List Item)) (tx_done : Bool) (call : Call) (l : List Told) : Type 0 where
+  pub lawful : Lawful c a l
+  pub told : (t : ℕ) → (telling_of (TxDone a) (Tx t) l).told ≡ tx_done
+  pub drained : tx_done ≡ true → (lane : ℕ) → lane < lanes_of c → (draining c a lane l).empty ≡ true
+  pub order : SubmitsNone call → (lane : ℕ) → lane < lanes_of c → submitted_of (Tx (tx_of c a lane)) l ++ get_or pending lane [] ≡ peeked_of (Rx (rx_of c a lane)) l
+
 lawful : (c : Config) (a : ℕ) (noted : AppNoted) (upto : ℕ) (kept : AppKept) (l : List Told) → InOrder c a noted upto kept l → Lawful c a l
 lawful c a noted upto kept l h = record { fronts = λ lane k. (pending_at kept lane, h.order lane k); late = λ t. ap (λ s. s.late) (h.telling t) }
+
+at_call_of : (c : Config) (a : ℕ) (noted : AppNoted) (upto : ℕ) (kept : AppKept) (call : Call) (l : List Told) → InOrder c a noted upto kept l → AtCall c a kept.pending kept.tx_done call l
+at_call_of c a noted upto kept call l h = record {
+  lawful = lawful c a noted upto kept l h;
+  told = λ t. ap (λ s. s.told) (h.telling t);
+  drained = λ done lane k. (h.over done lane k).1;
+  order = λ none lane k. h.order lane k;
+}
 
 at_last : (c : Config) (a : ℕ) (noted : AppNoted) (upto : ℕ) (kept : AppKept) (l : List Told) → kept.tx_done ≡ true → InOrder c a noted upto kept l → AtEnd c a l
 at_last c a noted upto kept l done h = record {
@@ -337,23 +357,23 @@ module _ (c : Config) (a : ℕ) (one : IsApp c a) where
   At place noted kept l = InOrder c a noted (lanes_of c) kept l
 
   abbrev pub Asked : Said
-  Asked kept call l = Lawful c a l
+  Asked kept call l = AtCall c a kept.pending kept.tx_done call l
 
   abbrev pub Ended : AppKept → List Told → Type 0
   Ended kept l = AtEnd c a l
 
   -- so at each place of a turn, and it stays so as drivers are woken
-  lawful_at : (place : Place) (noted : AppNoted) (kept : AppKept) (l : List Told) → At place noted kept l → Lawful c a l
-  lawful_at (Lanes lane) noted kept l h = lawful c a noted lane kept l h
-  lawful_at (Lane lane due) noted kept l h = lawful c a noted (lane + 1) kept l h.0
-  lawful_at (Sides side) noted kept l h = lawful c a noted (lanes_of c) kept l h
-  lawful_at (Side side due) noted kept l h = lawful c a noted (lanes_of c) kept l h
-  lawful_at Ending noted kept l h = lawful c a noted (lanes_of c) kept l h
-  lawful_at (Looking side) noted kept l h = lawful c a none_noted 0 kept l h
-  lawful_at TxTold noted kept l h = lawful c a none_noted 0 kept l h
-  lawful_at (Waking place need pair) noted kept l h = lawful_at place noted kept l h
-  lawful_at (Looked place need pair n) noted kept l h = lawful_at place noted kept l h
-  lawful_at (Kicking place pair) noted kept l h = lawful_at place noted kept l h
+  asked_at : (place : Place) (noted : AppNoted) (kept : AppKept) (call : Call) (l : List Told) → At place noted kept l → Asked kept call l
+  asked_at (Lanes lane) noted kept call l h = at_call_of c a noted lane kept call l h
+  asked_at (Lane lane due) noted kept call l h = at_call_of c a noted (lane + 1) kept call l h.0
+  asked_at (Sides side) noted kept call l h = at_call_of c a noted (lanes_of c) kept call l h
+  asked_at (Side side due) noted kept call l h = at_call_of c a noted (lanes_of c) kept call l h
+  asked_at Ending noted kept call l h = at_call_of c a noted (lanes_of c) kept call l h
+  asked_at (Looking side) noted kept call l h = at_call_of c a none_noted 0 kept call l h
+  asked_at TxTold noted kept call l h = at_call_of c a none_noted 0 kept call l h
+  asked_at (Waking place need pair) noted kept call l h = asked_at place noted kept call l h
+  asked_at (Looked place need pair n) noted kept call l h = asked_at place noted kept call l h
+  asked_at (Kicking place pair) noted kept call l h = asked_at place noted kept call l h
 
   abbrev Stays : List Told → List Told → Type 0
   Stays l m = (noted : AppNoted) (upto : ℕ) (kept : AppKept) → InOrder c a noted upto kept l → InOrder c a noted upto kept m
@@ -371,15 +391,14 @@ module _ (c : Config) (a : ℕ) (one : IsApp c a) where
   stays (Kicking place pair) noted kept l m on h = stays place noted kept l m on h
 
   calls : AtCalls c a At Asked
-  calls (PeekRx lane) noted kept l known h = lawful c a noted lane kept l h
-  calls (ReleaseRx lane n) noted kept l known h = lawful c a noted (lane + 1) kept l h.0
-  calls (ReserveTx lane) noted kept l known h = lawful c a noted (lane + 1) kept l h.0
-  calls (SubmitTx lane) noted kept l known h = lawful c a noted (lane + 1) kept l h.0
-  calls (LookRxDone side) noted kept l known h = lawful c a none_noted 0 kept l h
-  calls (LookGone side) noted kept l known h = lawful c a none_noted 0 kept l h
-  calls (LookNeed place need pair) noted kept l known h = lawful_at place noted kept l h
-  calls (KickDriver place pair) noted kept l known h = lawful_at place noted kept l h
-  calls p noted kept l known h = lawful c a noted (lanes_of c) (kept_before p kept) l h
+  calls (ReleaseRx lane n) noted kept l known h = at_call_of c a noted (lane + 1) kept _ l h.0
+  calls (ReserveTx lane) noted kept l known h = at_call_of c a noted (lane + 1) kept _ l h.0
+  calls (SubmitTx lane) noted kept l known h =
+      let now = at_call_of c a noted (lane + 1) kept (call_at c a (SubmitTx lane) kept) l h.0 in
+      record { lawful = now.lawful; told = now.told; drained = now.drained; order = λ none. absurd none }
+  calls (LookNeed place need pair) noted kept l known h = asked_at place noted kept _ l h
+  calls (KickDriver place pair) noted kept l known h = asked_at place noted kept _ l h
+  calls p noted kept l known h = asked_at (asked c a p kept).0 noted (kept_before p kept) (call_at c a p kept) l h
 
   entries : AtEntries c a Anything At Asked
   entries (rx_empty lane) noted kept l known h asked q = found_empty c a noted kept l lane (batch_of c) known.1 known.2 h
@@ -435,7 +454,10 @@ module _ (c : Config) (a : ℕ) (one : IsApp c a) (l : List Told) where
   along : IsAppRun c a l → Lawful c a l
   along run =
       of_run c a one Anything (At c a one) (Asked c a one) (Ended c a one) (law c a one) (app_start c) first l (meet_anything (app_turn c a) (app_turn c a (app_start c)) [] l) (Lawful c a)
-      (λ kept m h. lawful c a (noted_first kept) 0 kept m h) (λ kept call m h. h) (λ kept m h. h.lawful) run
+      (λ kept m h. lawful c a (noted_first kept) 0 kept m h) (λ kept call m h. h.lawful) (λ kept m h. h.lawful) run
+
+  at_calls : (kept : AppKept) (call : Call) (rest : Reply → Script AppKept) → Asks (app_turn c a) (app_start c) l kept call rest → AtCall c a kept.pending kept.tx_done call l
+  at_calls = at_call c a one Anything (At c a one) (Asked c a one) (Ended c a one) (law c a one) (app_start c) first l (meet_anything (app_turn c a) (app_turn c a (app_start c)) [] l)
 
   whole : IsWholeAppRun c a l → AtEnd c a l
   whole run = at_end c a one Anything (At c a one) (Asked c a one) (Ended c a one) (law c a one) (app_start c) first l (meet_anything (app_turn c a) (app_turn c a (app_start c)) [] l) run.0 run.1
@@ -451,3 +473,8 @@ lanes_passed_on c a l lane one run h = (whole c a one l run).all lane h
 
 pub drains_rx : DrainsRx
 drains_rx c a l lane one run h = (whole c a one l run).drained lane h
+
+-- what holds at each call
+pub lanes_at : (c : Config) (a : ℕ) (l : List Told) (kept : AppKept) (call : Call) (rest : Reply → Script AppKept) → IsApp c a
+    → Asks (app_turn c a) (app_start c) l kept call rest → AtCall c a kept.pending kept.tx_done call l
+lanes_at c a l kept call rest one asks = at_calls c a one l kept call rest asks

@@ -14,7 +14,7 @@ use Rattle.xsk_turns.specs.Script.{Script, Asks}
 use Rattle.xsk_turns.specs.Turns.{frames_in}
 use Rattle.xsk_turns.specs.Owned.{AllFit, frame_numbers}
 use Rattle.xsk_turns.specs.AppTurns.{AppKept, pair_of, rx_of, tx_of, lanes_of, home_of, pending_at, with_pending, back_at, with_back, app_turn, app_start}
-use Rattle.xsk_turns.specs.AppOwned.{IsApp, HasOwnFrames, AppOwned, AppKeepsFrames, AppCallsLegal, AppKeepsFramesAtEnd}
+use Rattle.xsk_turns.specs.AppOwned.{IsApp, HasOwnFrames, AppKeepsFrames, AppCallsLegal, AppKeepsFramesAtEnd}
 use Rattle.xsk_turns.proofs.AppGroups.{with_back-again, group_some, group_front, group_few}
 use Rattle.xsk_turns.proofs.AppOwned.{AppHas, IsBackFrame, rx_to_tx, tx_to_tx, back_frames, fill_item, numbers-home, times-app_numbers, app_owned, app_told, has_pending, has_back, has_flags, has_none}
 use Rattle.xsk_turns.proofs.AppPlaces.{AppSeats, app_seats}
@@ -42,7 +42,7 @@ module _ (c : Config) (a : ℕ) (one : IsApp c a) where
   Answers kept l call reply = Fitting c kept l call reply
 
   abbrev pub Asked : AppKept → Call → List Told → Type 0
-  Asked kept call l = AppOwned kept call l × (HasOwnFrames c a l → IsLegal c l who call)
+  Asked kept call l = AppHas c kept (numbers (submitted call)) l × (HasOwnFrames c a l → IsLegal c l who call)
 
   -- a driver that it may wake, where all frames that it has had are at home with it
   abbrev pub MayWake : ℕ → List Told → Type 0
@@ -84,7 +84,7 @@ module _ (c : Config) (a : ℕ) (one : IsApp c a) where
   beside_on TxTold kept l call reply off h = tt
 
   quiet : (kept : AppKept) (call : Call) (l : List Told) → submitted call ≡ [] → Has kept l → IsLegal c l who call → Asked kept call l
-  quiet kept call l none has legal = (app_owned c kept call l (subst (λ xs. AppHas c kept (numbers xs) l) (sym none) has), λ own. legal)
+  quiet kept call l none has legal = (subst (λ xs. AppHas c kept (numbers xs) l) (sym none) has, λ own. legal)
 
   told : (kept : AppKept) (call : Call) (reply : Reply) (l : List Told) → submitted call ≡ [] → taken reply ≡ [] → Has kept l → Has kept (with_told l call reply)
   told kept call reply l none nothing has = app_told c kept call reply l nothing (subst (λ xs. AppHas c kept (numbers xs) l) (sym none) has)
@@ -161,21 +161,21 @@ module _ (c : Config) (a : ℕ) (one : IsApp c a) where
       let seat = seats.tx lane known.0 in
       let out = sends lane kept l known.0 h.0 in
       let lawful = All-weaker (IsItemOn c.geometry (Tx 0)) (IsItemOn c.geometry (Tx t)) (tx_to_tx c.geometry 0 t) (pending_at kept lane) (h.0.items lane) in (
-        app_owned c (with_pending kept lane []) (call_at c a (SubmitTx lane) kept) l out,
+        out,
         λ own. record { caller = seats.caller; known = seat.0; role = seat.1; counted = (h.1.0, h.0.few lane, h.1.1); frames = λ m. omega (arith, out.counts m); items = lawful; packets = tt; feeds = fed c one.steady.closes l (Tx t) },
       )
   calls (PeekComp side) noted kept l known h = let seat = seats.comp side known.0 in quiet kept _ l refl h.0 (legal_peek c who l seats.caller (Comp (pair_of c a side)) (batch_of c) seat.0 seat.1 seats.batch_some seats.batch_few)
   calls (ReleaseComp side n) noted kept l known h = let seat = seats.comp side known in quiet kept _ l refl h.0 (legal_release c who l seats.caller (Comp (pair_of c a side)) n seat.0 seat.1 h.1.0 h.1.1 h.1.2)
   calls (ReserveFill side frame frames) noted kept l known h =
       let below = home_below side frame frames kept l known h.0 in (
-        app_owned c (with_back kept side (frame ∷ frames)) (call_at c a (ReserveFill side frame frames) kept) l h.0,
+        h.0,
         λ own. legal_reserve c who l seats.caller _ _ below (home_seat side frame frames kept l known h.0 own) (some side frame frames kept l known h.0) (few side frame frames kept l known h.0) tt,
       )
   calls (SubmitFill side frame frames) noted kept l known h =
       let below = home_below side frame frames kept l known h.0 in
       let out = gives side frame frames kept l known h.0 in
       let counted = counted side frame frames kept l known h.0 in (
-        app_owned c (with_back kept side (drop (length (group c frame frames)) (frame ∷ frames))) (call_at c a (SubmitFill side frame frames) kept) l out,
+        out,
         λ own. record {
           caller = seats.caller;
           known = below;
@@ -192,7 +192,7 @@ module _ (c : Config) (a : ℕ) (one : IsApp c a) where
   calls (LookGone side) noted kept l known h = quiet kept _ l refl h.0 (legal_look c who l seats.caller (Gone (pair_of c a side)) (seats.comp side known.0).0)
   calls (LookNeed place need pair) noted kept l known h = quiet kept _ l refl h.0 (legal_look c who l seats.caller need h.1.1)
   calls (KickDriver place pair) noted kept l known h =
-      (app_owned c kept (Swap (Kick pair) 1) l h.0, λ own. legal_swap c who l seats.caller (Kick pair) 1 h.1.1.0 (inr (h.1.1.1 own), tt) (omega arith))
+      (h.0, λ own. legal_swap c who l seats.caller (Kick pair) 1 h.1.1.0 (inr (h.1.1.1 own), tt) (omega arith))
 
   entries : AtEntries c a Answers At Asked
   entries (rx_items lane items) noted kept l known h asked fresh =
@@ -254,8 +254,13 @@ module _ (c : Config) (a : ℕ) (one : IsApp c a) (l : List Told) (fit : AllFit 
   asked_at : (kept : AppKept) (call : Call) (rest : Reply → Script AppKept) → Asks (app_turn c a) (app_start c) l kept call rest → Asked c a one kept call l
   asked_at = at_call c a one (Answers c a one) (At c a one) (Asked c a one) (Has c a one) (law c a one) (app_start c) (has_none c, tt) l fits
 
+-- what it has at each call
+pub has_at : (c : Config) (a : ℕ) (l : List Told) (kept : AppKept) (call : Call) (rest : Reply → Script AppKept) → IsApp c a → AllFit c [] l
+    → Asks (app_turn c a) (app_start c) l kept call rest → AppHas c kept (numbers (submitted call)) l
+has_at c a l kept call rest one fit asks = (asked_at c a one l fit kept call rest asks).0
+
 pub app_keeps_frames : AppKeepsFrames
-app_keeps_frames c a l kept call rest one fit asks = (asked_at c a one l fit kept call rest asks).0
+app_keeps_frames c a l kept call rest one fit asks = app_owned c kept call l (has_at c a l kept call rest one fit asks)
 
 pub app_calls_legal : AppCallsLegal
 app_calls_legal c a l kept call rest one own fit asks = (asked_at c a one l fit kept call rest asks).1 own

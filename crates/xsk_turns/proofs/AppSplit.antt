@@ -5,13 +5,13 @@ use Rattle.std.proofs.lemmas.List.Elements.{All-nil, All-cons, All-head, All-wea
 use Rattle.xsk_turns.proofs.Object.{Frame, Config, Geometry, pool_of, batch_of, home_item, times, had_of, submitted_of, peeked_of, IsItemOn}
 use Rattle.xsk_turns.proofs.Calls.{Item, Told, with_told, Fill, Comp, Rx, Tx, Mark, RxDone, Call, Reserve, Submit, Peek, Release, Swap, Look, Reply}
 use Rattle.xsk_model.specs.declared.call.Mark.TheVariants.{NeedFill, NeedTx, Kick}
-use Rattle.xsk_turns.specs.Script.{Script, ask, again, on_submitted, Asks}
+use Rattle.xsk_turns.specs.Script.{Script, ask, again, ended, on_submitted, Leaves, Asks, Ends}
 use Rattle.xsk_turns.specs.Turns.{frames_in}
 use Rattle.xsk_turns.specs.Owned.{AllFit}
 use Rattle.xsk_turns.specs.AppTurns.{AppKept, AppNoted, pair_of, rx_of, tx_of, tx_pair, lanes_of, home_of, group_of, is_set, pending_at, with_pending, back_at, with_back, kick, wake, pass_on, receive_lane, visit_lane, give_back, complete_side, visit_side, with_seen, look_marks, noted_first, app_turn, app_start}
 use Rattle.xsk_turns.specs.AppOwned.{IsApp, AppOwned, HasOwnFrames}
-use Rattle.xsk_turns.specs.AppSplit.{SplitStep, AtLane, AtSide, AtMarks, HasPlace, no_note, piece, LeavesOf, IsStep, AreSteps, IsSplit, MayPass, MayGoBack, HasLeft, SplitKeepsLanes, SplitKeepsFrames, StepCallsLegal, LaterCallsLegal}
-use Rattle.xsk_turns.proofs.AppOwned.{AppHas, IsBackFrame, back_frames, fill_item, times-app_numbers, has_none}
+use Rattle.xsk_turns.specs.AppSplit.{SplitStep, AtLane, AtSide, AtMarks, HasPlace, no_note, piece, LeavesOf, IsStep, AreSteps, IsSplit, MayPass, MayGoBack, HasLeft, SplitKeepsLanes, SplitKeepsFrames, StepCallsLegal, LaterCallsLegal, LaterFramesAtEnd}
+use Rattle.xsk_turns.proofs.AppOwned.{AppHas, IsBackFrame, back_frames, fill_item, times-app_numbers, app_owned, has_none}
 use Rattle.xsk_turns.proofs.Walks.{Premise, Law, Holds, Says, MeetAlong, Fitting, Anything, meet_fitting, meet_anything, along, at_reserve, at_submit, at_peek, at_release, at_old, by_case}
 use Rattle.xsk_turns.proofs.AppWalk.{Family, Said, Lanes, Sides, Looking, IsLaw, go_lane, go_side, go_rx_done, go_turn}
 use Rattle.xsk_turns.proofs.AppWalk as walk
@@ -207,11 +207,11 @@ module _ (c : Config) (a : ℕ) (one : IsApp c a) (At : Family) (A : Said) (E : 
       (after_steps steps next (past ++ first) later now (step_sends c a step start first next sends step_is) on parts.1 is.5)
 
   -- and along a run behind them
-  pub says_in_run : (start : AppKept) (past l : List Told) (kept : AppKept) (call : Call) (rest : Reply → Script AppKept) → Between start past → AllFit c past l
-      → Asks (app_turn c a) start l kept call rest → A kept call (past ++ l)
-  says_in_run start past l kept call rest h fit asks =
-      along (Fitting c) law (app_turn c a) (go_turn c a one (Fitting c) At A E is) (app_turn c a start) past l (ask kept call rest) (go_turn c a one (Fitting c) At A E is start past h)
-      (meet_fitting (app_turn c a) c (app_turn c a start) past l fit) asks
+  pub says_in_run : (start : AppKept) (past l : List Told) (left : Script AppKept) → Between start past → AllFit c past l → Leaves (app_turn c a) (app_turn c a start) l left
+      → Says law left (past ++ l)
+  says_in_run start past l left h fit leaves =
+      along (Fitting c) law (app_turn c a) (go_turn c a one (Fitting c) At A E is) (app_turn c a start) past l left (go_turn c a one (Fitting c) At A E is start past h)
+      (meet_fitting (app_turn c a) c (app_turn c a start) past l fit) leaves
 
 -- ---- the frames
 
@@ -266,7 +266,11 @@ module _ (c : Config) (a : ℕ) (one : IsApp c a) where
   owned_in_run : (start : AppKept) (past l : List Told) (kept : AppKept) (call : Call) (rest : Reply → Script AppKept) → AppHas c start [] past → AllFit c past l
       → Asks (app_turn c a) start l kept call rest → owning.Asked c a one kept call (past ++ l)
   owned_in_run start past l kept call rest has fit asks =
-      says_in_run c a one (owning.At c a one) (owning.Asked c a one) (owning.Has c a one) (owning.law c a one) has_jumps start past l kept call rest (has, tt) fit asks
+      says_in_run c a one (owning.At c a one) (owning.Asked c a one) (owning.Has c a one) (owning.law c a one) has_jumps start past l (ask kept call rest) (has, tt) fit asks
+
+  has_at_end : (start : AppKept) (past l : List Told) (kept : AppKept) → AppHas c start [] past → AllFit c past l → Ends (app_turn c a) start l kept → AppHas c kept [] (past ++ l)
+  has_at_end start past l kept has fit ends =
+      says_in_run c a one (owning.At c a one) (owning.Asked c a one) (owning.Has c a one) (owning.law c a one) has_jumps start past l (ended kept) (has, tt) fit ends
 
 pub split_keeps_frames : SplitKeepsFrames
 split_keeps_frames c a l kept one fit split = left_of_has c kept l (has_after_steps c a one split.0 l kept fit split.1)
@@ -276,7 +280,12 @@ step_calls_legal c a past step start l kept call rest one sends left place fit l
     (owned_in_step c a one step start past l kept call rest place sends (has_of_left c start past left) fit leaves).1 own
 
 pub later_calls_legal : LaterCallsLegal
-later_calls_legal c a past start l kept call rest one left fit asks = owned_in_run c a one start past l kept call rest (has_of_left c start past left) fit asks
+later_calls_legal c a past start l kept call rest one left fit asks =
+    let at = owned_in_run c a one start past l kept call rest (has_of_left c start past left) fit asks in (app_owned c kept call (past ++ l) at.0, at.1)
+
+pub later_frames_at_end : LaterFramesAtEnd
+later_frames_at_end c a past start l kept one left fit ends =
+    let has = has_at_end c a one start past l kept (has_of_left c start past left) fit ends in λ n. omega (arith, has.counts n, times-app_numbers n kept)
 
 -- ---- the lanes
 

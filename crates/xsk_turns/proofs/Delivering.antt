@@ -8,6 +8,7 @@ use Rattle.std.proofs.lemmas.List.Elements.{All-nil, All-cons, All-append, All-t
 use Rattle.xsk_turns.proofs.Object.{Geometry, Frame, payload_of, Config, classes_of, IsLayout, submitted, submitted_step, submitted_of, Fits}
 use Rattle.xsk_turns.proofs.Calls.{Item, Told, with_told, Fill, Comp, Rx, RxDone, Gone, TxDone, Call, Submit, Peek, Swap, Look, Reply, Submitted, Items, Old}
 use Rattle.xsk_model.proofs.Folds.{part_of-push}
+use Rattle.xsk_turns.specs.Script.{Script, Asks}
 use Rattle.xsk_turns.specs.Turns.{Seat, Judged, Kept, IsWholeDriverRun, seat_of, start, turn, settled, application_of, limit_of, pieces_of, laid_out, frames_in, returned, supplied}
 use Rattle.xsk_turns.specs.Disposals.{attempts_of, disposals_of, disposal_in, is_to, with_disposal, delivered_to, bytes_in}
 use Rattle.xsk_turns.specs.Owned.{IsSeat, AllFit}
@@ -21,7 +22,7 @@ use Rattle.xsk_turns.proofs.Layouts.{layout, one_piece, length-laid_out}
 use Rattle.xsk_turns.proofs.Disposing.{IsOver, over_later, disposes_all}
 use Rattle.xsk_turns.proofs.Saying.{disposed_as_said}
 use Rattle.xsk_turns.proofs.Walks.{Fitting, meet_fitting}
-use Rattle.xsk_turns.proofs.DriverWalk.{Family, Begins, IsTried, call_at, told_rx_done, looked_none, looked_long, fill_items, rx_submitted, comp_submitted, looked_tx_done, found_end, point_of, reply_of, untried, drops_full, drops_frameless, parks, untried_has, AtEntries, AtPasses, IsLaw, at_end}
+use Rattle.xsk_turns.proofs.DriverWalk.{Family, Begins, IsTried, call_at, told_rx_done, looked_none, looked_long, fill_items, rx_submitted, comp_submitted, looked_tx_done, found_end, point_of, reply_of, untried, drops_full, drops_frameless, parks, untried_has, AtEntries, AtPasses, IsLaw, at_call, at_end}
 
 -- ---- lists of layouts
 
@@ -132,7 +133,7 @@ module _ (wire : Wire) (c : Config) (d s : ℕ) (is : IsSeat c d) (input : List 
   At place noted kept l = IsSettled kept l
 
   abbrev Asked : Kept → Call → List Told → Type 0
-  Asked kept call l = Unit {0}
+  Asked kept call l = (packets : List (List ℕ)) × IsLaidOut c.geometry c.sg packets (submitted_of (Rx s) l) × All (IsSized c) packets
 
   abbrev Ended : Kept → List Told → Type 0
   Ended kept l = IsLaidOut c.geometry c.sg (with_disposal s input kept.disposals) (submitted_of (Rx s) l) × All (IsSized c) (with_disposal s input kept.disposals)
@@ -230,7 +231,7 @@ module _ (wire : Wire) (c : Config) (d s : ℕ) (is : IsSeat c d) (input : List 
 
   law : IsLaw seat (Fitting c) At Asked Ended
   law = record {
-    calls = λ p noted kept l known h. tt;
+    calls = λ p noted kept l known h. (with_disposal s h.given.done kept.disposals, h.given.laid, h.given.sized);
     entries = entries;
     passes = passes;
     ends = λ noted kept l n known h a q. all_given kept (with_told l (Swap (Gone d) 1) (Old n)) known.2 (still kept l (Swap (Gone d) 1) (Old n) refl h);
@@ -242,6 +243,15 @@ module _ (wire : Wire) (c : Config) (d s : ℕ) (is : IsSeat c d) (input : List 
     spare = All-nil (IsOwnFrame c.geometry);
     over = record { none = λ e. absurd (cc); first = λ e. absurd (cc) };
   }
+
+-- so what was submitted so far are layouts at each call
+pub laid_at : (wire : Wire) (c : Config) (d s : ℕ) (input : List Judged) (l : List Told) (kept : Kept) (call : Call) (rest : Reply → Script Kept) → IsSeat c d → AllFit c [] l
+    → Asks (turn (seat_of wire c d)) (start (classes_of c) input) l kept call rest
+    → (packets : List (List ℕ)) × IsLaidOut c.geometry c.sg packets (submitted_of (Rx s) l) × All (IsSized c) packets
+laid_at wire c d s input l kept call rest is fit asks =
+    let at = seat_of wire c d in
+    at_call at (Fitting c) (At wire c d s is input) (Asked wire c d s is input) (Ended wire c d s is input) (law wire c d s is input) (start (classes_of c) input) (at_first wire c d s is input) l
+    (meet_fitting (turn at) c _ [] l fit) kept call rest asks
 
 module _ (wire : Wire) (c : Config) (d s : ℕ) (input : List Judged) (l : List Told) (is : IsSeat c d) (fit : AllFit c [] l) (whole : IsWholeDriverRun wire c d input l) where
   abbrev all_delivered : List (List ℕ)

@@ -174,7 +174,7 @@ Known seat Q (PeekTx look k) noted kept = (k < seat.classes) × (look ≡ Turnin
 Known seat Q (ReleaseTx look k n) noted kept = k < seat.classes
 Known seat Q LookTxDone noted kept = (kept.rx_done ≡ true) × (kept.tx_done ≡ false)
 Known seat Q TellGone noted kept = (noted.progress ≡ false) × (noted.full ≡ false) × (kept.tx_done ≡ true)
-Known seat Q ArmFill noted kept = (noted.full ≡ false) × (awaits noted ≡ true) × (kept.tx_done ≡ false) × (noted.progress ≡ false)
+Known seat Q ArmFill noted kept = (noted.full ≡ false) × (awaits noted ≡ true) × (kept.tx_done ≡ false) × (noted.progress ≡ false) × (seat.config.wakeup ≡ true)
 Known seat Q (ArmTx k) noted kept = k < seat.classes
 Known seat Q LookEnd noted kept = (noted.progress ≡ false) × (kept.rx_done ≡ true)
 Known seat Q (LookKick frames) noted kept = kept.parked ≡ Some frames
@@ -324,7 +324,7 @@ Passing seat Q At (drops_frameless packet s) noted kept l =
     At (Lacking Turning packet s false) noted kept l → IsTried seat Q kept.coming packet s × (drops seat.wire ≡ true) → At (Sending Turning 0 nothing_due) (moved noted) (dropped kept NoFrames) l
 Passing seat Q At visited noted kept l = At (Sending Turning seat.classes nothing_due) noted kept l → kept.finished ≡ [] → At Idling noted kept l
 Passing seat Q At idles noted kept l = At Idling noted kept l → GoesOnAtOnce seat noted kept → At Receiving fresh kept l
-Passing seat Q At arms noted kept l = At Idling noted kept l → (noted.full ≡ false) × (awaits noted ≡ false) × (kept.tx_done ≡ false) × (noted.progress ≡ false) → At (Arming 0) noted kept l
+Passing seat Q At arms noted kept l = At Idling noted kept l → (noted.full ≡ false) × (awaits noted ≡ false) × (kept.tx_done ≡ false) × (noted.progress ≡ false) × (seat.config.wakeup ≡ true) → At (Arming 0) noted kept l
 Passing seat Q At (seeks packet s) noted kept l = At (Arming seat.classes) noted kept l → IsTried seat Q kept.coming packet s × (awaits noted ≡ true) → At (Trying Again packet s nothing_due) noted kept l
 Passing seat Q At (sought packet s) noted kept l = At (Trying Again packet s nothing_due) noted kept l → (awaits noted ≡ true) × (noted.progress ≡ true) → At (Sending Again 0 nothing_due) noted kept l
 Passing seat Q At (misses packet s) noted kept l = At (Lacking Again packet s false) noted kept l → awaits noted ≡ true → At (Sending Again 0 nothing_due) noted kept l
@@ -542,17 +542,17 @@ module _ (seat : Seat) (Q : Premise Kept) (At : Family) (A : Said) (E : Kept →
             (λ n q. go_arm_tx more (k + 1) noted kept (with_told l call (Old n)) on st (is.entries (armed_tx k n) noted kept l below tt h asked q)),
       )
 
-  go_arm : (noted : Noted) (kept : Kept) (l : List Told) → Steady noted kept → noted.full ≡ false → kept.tx_done ≡ false → noted.progress ≡ false → At Idling noted kept l → Along (flag_all seat (awaits noted) 1 kept (look_again seat noted kept)) l
-  go_arm noted kept l st full sends none h =
+  go_arm : (noted : Noted) (kept : Kept) (l : List Told) → Steady noted kept → noted.full ≡ false → kept.tx_done ≡ false → noted.progress ≡ false → seat.config.wakeup ≡ true → At Idling noted kept l → Along (flag_all seat (awaits noted) 1 kept (look_again seat noted kept)) l
+  go_arm noted kept l st full sends none on h =
       let call = Swap (NeedFill seat.pair) 1 in
       let all = λ (m : List Told). go_arm_tx (seat.classes - 0) 0 noted kept m (omega arith) st in
       by_case Q law (awaits noted) _ _ l
       (λ e.
-      let asked = is.calls ArmFill noted kept l (full, e, sends, none) h in (
+      let asked = is.calls ArmFill noted kept l (full, e, sends, none, on) h in (
         asked,
-        at_old Q law kept call l (λ _. flag_from seat 1 0 kept (look_again seat noted kept)) (λ n q. all (with_told l call (Old n)) (is.entries (armed_fill n) noted kept l (full, e, sends, none) tt h asked q)),
+        at_old Q law kept call l (λ _. flag_from seat 1 0 kept (look_again seat noted kept)) (λ n q. all (with_told l call (Old n)) (is.entries (armed_fill n) noted kept l (full, e, sends, none, on) tt h asked q)),
       ))
-      (λ e. all l (is.passes arms noted kept l h (full, e, sends, none)))
+      (λ e. all l (is.passes arms noted kept l h (full, e, sends, none, on)))
 
   go_idle : (noted : Noted) (kept : Kept) (l : List Told) → Steady noted kept → At Idling noted kept l → Along (idle seat noted kept) l
   go_idle noted kept l st h =
@@ -565,7 +565,7 @@ module _ (seat : Seat) (Q : Premise Kept) (At : Family) (A : Said) (E : Kept →
       (λ done.
       let gives = is.calls TellGone noted kept l (off.0, off.1, done) h in
       (gives, at_old Q law kept leave l (λ n. ended kept) (λ n q. is.ends noted kept l n (off.0, off.1, done) h gives q)))
-      (λ f. by_case Q law seat.config.wakeup _ _ l (λ w. go_arm noted kept l st off.1 f off.0 h)
+      (λ f. by_case Q law seat.config.wakeup _ _ l (λ w. go_arm noted kept l st off.1 f off.0 w h)
       (λ w. by_case Q law kept.rx_done _ _ l
       (λ done.
       let gives = is.calls LookTxDone noted kept l (done, f) h in
@@ -704,7 +704,7 @@ module _ (seat : Seat) (Q : Premise Kept) (At : Family) (A : Said) (E : Kept →
   go_by None kept l e h = go_receive kept.coming fresh kept l (e, refl) h refl
   go_by (Some frames) kept l e h = go_parked frames kept l e h
 
-  go_turn : (kept : Kept) (l : List Told) → Begins At kept l → Along (turn seat kept) l
+  pub go_turn : (kept : Kept) (l : List Told) → Begins At kept l → Along (turn seat kept) l
   go_turn kept l h = go_by kept.parked kept l refl h
 
   -- ---- runs

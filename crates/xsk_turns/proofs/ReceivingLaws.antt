@@ -3,6 +3,7 @@ use Rattle.std.proofs.Common.{◌≡◌, ℕ, Bool, true, false, ◌||◌, ◌&&
 use Rattle.std.proofs.lemmas.Bool.{or_from}
 use Rattle.std.proofs.Math.Bool.{or-false, and-false}
 use Rattle.std.proofs.lemmas.List.Sums.{fold_push}
+use Rattle.xsk_turns.specs.Script.{Script, Asks}
 use Rattle.xsk_turns.proofs.Calls.{Item, Told, with_told, Ring, Comp, Rx, Mark, NeedFill, NeedTx, Kick, RxDone, Gone, Call, Submit, Swap, Reply, Submitted, Old}
 use Rattle.xsk_model.specs.Marks.{is_mark}
 use Rattle.xsk_turns.proofs.Object.{Config, classes_of, Telling, telling_after, telling_step, telling_of}
@@ -10,7 +11,7 @@ use Rattle.xsk_turns.specs.Turns.{Seat, Judged, Kept, seat_of, start, turn, retu
 use Rattle.xsk_turns.specs.declared.wire.Wire.{Wire}
 use Rattle.xsk_turns.specs.Law.{NothingReceivedLate, TellsRxDone}
 use Rattle.xsk_turns.proofs.Walks.{Anything, meet_anything}
-use Rattle.xsk_turns.proofs.DriverWalk.{Family, Begins, TellRxDone, SubmitRx, call_at, told_rx_done, looked_none, looked_long, rx_submitted, comp_submitted, looked_tx_done, armed_fill, armed_tx, found_end, cleared_kick, disarmed_fill, disarmed_tx, point_of, reply_of, untried, drops_full, drops_frameless, Said, AtCalls, AtEntries, AtPasses, IsLaw, at_end, of_run}
+use Rattle.xsk_turns.proofs.DriverWalk.{Family, Begins, TellRxDone, SubmitRx, call_at, told_rx_done, looked_none, looked_long, rx_submitted, comp_submitted, looked_tx_done, armed_fill, armed_tx, found_end, cleared_kick, disarmed_fill, disarmed_tx, point_of, reply_of, untried, drops_full, drops_frameless, Said, AtCalls, AtEntries, AtPasses, IsLaw, at_call, at_end, of_run}
 
 pub telling_told : (m : Mark) (r : Ring) (l : List Told) (call : Call) (reply : Reply) → telling_of m r (with_told l call reply) ≡ telling_after m r (telling_of m r l) call
 telling_told m r l call reply = fold_push (telling_step m r) (record { told = false; late = false }) l (record { call = call; reply = reply })
@@ -94,7 +95,7 @@ module _ (d s : ℕ) where
   At place noted kept l = IsTold d s kept.rx_done kept.tx_done kept.coming l
 
   abbrev OnTime : Said
-  OnTime kept call l = (telling_of (RxDone d) (Rx s) l).late ≡ false
+  OnTime kept call l = IsTold d s kept.rx_done kept.tx_done kept.coming l
 
   abbrev Over : Kept → List Told → Type 0
   Over kept l = ((telling_of (RxDone d) (Rx s) l).late ≡ false) × ((telling_of (RxDone d) (Rx s) l).told ≡ true)
@@ -104,8 +105,8 @@ module _ (wire : Wire) (c : Config) (d s : ℕ) where
   seat = seat_of wire c d
 
   calls : AtCalls seat Anything (At d s) (OnTime d s)
-  calls TellRxDone noted kept l known h = h.late
-  calls p noted kept l known h = h.late
+  calls TellRxDone noted kept l known h = h
+  calls p noted kept l known h = h
 
   entries : AtEntries seat Anything (At d s) (OnTime d s)
   entries (told_rx_done n) noted kept l known found h a q = tells d s kept.rx_done kept.tx_done kept.coming l n known.0 h
@@ -149,8 +150,14 @@ module _ (wire : Wire) (c : Config) (d s : ℕ) where
 pub nothing_received_late : NothingReceivedLate
 nothing_received_late wire c d s input l run =
     of_run (seat_of wire c d) Anything (At d s) (OnTime d s) (Over d s) (law wire c d s) (start (classes_of c) input) (first wire c d s input) l (meet_anything (turn (seat_of wire c d)) _ [] l)
-    (λ m. (telling_of (RxDone d) (Rx s) m).late ≡ false) (λ kept m h. h.late) (λ kept call m h. h) (λ kept m h. h.0) run
+    (λ m. (telling_of (RxDone d) (Rx s) m).late ≡ false) (λ kept m h. h.late) (λ kept call m h. h.late) (λ kept m h. h.0) run
 
 pub tells_rx_done : TellsRxDone
 tells_rx_done wire c d s input l whole =
     (at_end (seat_of wire c d) Anything (At d s) (OnTime d s) (Over d s) (law wire c d s) (start (classes_of c) input) (first wire c d s input) l (meet_anything (turn (seat_of wire c d)) _ [] l) whole.0 whole.1).1
+
+-- so it is at each call
+pub told_at : (wire : Wire) (c : Config) (d s : ℕ) (input : List Judged) (l : List Told) (kept : Kept) (call : Call) (rest : Reply → Script Kept)
+    → Asks (turn (seat_of wire c d)) (start (classes_of c) input) l kept call rest → IsTold d s kept.rx_done kept.tx_done kept.coming l
+told_at wire c d s input l kept call rest asks =
+    at_call (seat_of wire c d) Anything (At d s) (OnTime d s) (Over d s) (law wire c d s) (start (classes_of c) input) (first wire c d s input) l (meet_anything (turn (seat_of wire c d)) _ [] l) kept call rest asks

@@ -16,7 +16,7 @@ use Rattle.xsk_turns.proofs.DriverWalk.{Family, Begins, Arming, Again, Trying, L
 
 -- ---- the folds
 
-watching_told : (flag : Mark) (r : Ring) (kick : Mark) (l : List Told) (call : Call) (reply : Reply)
+pub watching_told : (flag : Mark) (r : Ring) (kick : Mark) (l : List Told) (call : Call) (reply : Reply)
     → watching_of flag r kick (with_told l call reply) ≡ watching_after flag r kick (watching_of flag r kick l) call reply
 watching_told flag r kick l call reply = fold_push (watching_step flag r kick) (record { set = false; watched = false }) l (record { call = call; reply = reply })
 
@@ -25,7 +25,7 @@ ending_told : (told done kick : Mark) (l : List Told) (call : Call) (reply : Rep
 ending_told told done kick l call reply = fold_push (ending_step told done kick) (record { set = false; watched = false }) l (record { call = call; reply = reply })
 
 -- whether a call swaps a flag: no other sets it or clears it
-abbrev swaps : Mark → Call → Bool
+abbrev pub swaps : Mark → Call → Bool
 swaps flag (Swap m value) = is_mark flag m
 swaps flag call = false
 
@@ -42,7 +42,7 @@ peek_set b r s q (Items items) = same_set _ false s
 peek_set b r s q Empty = same_set _ s.set s
 peek_set b r s q reply = refl
 
-set_stays : (flag : Mark) (r : Ring) (kick : Mark) (s : Watching) (call : Call) (reply : Reply) → swaps flag call ≡ false → (watching_after flag r kick s call reply).set ≡ s.set
+pub set_stays : (flag : Mark) (r : Ring) (kick : Mark) (s : Watching) (call : Call) (reply : Reply) → swaps flag call ≡ false → (watching_after flag r kick s call reply).set ≡ s.set
 set_stays flag r kick s (Peek q n) reply e = peek_set true r s q reply
 set_stays flag r kick s (Swap m value) reply e = other_swap (is_mark flag m) (is_mark kick m) s _ e
 set_stays flag r kick s call reply e = refl
@@ -57,7 +57,7 @@ end_stays told done kick s (Look m) reply e = look_set done s m reply
 end_stays told done kick s call reply e = refl
 
 -- a swap of the flag
-set_now : (b : Bool) (s t : Watching) → b ≡ true → (cond b s t).set ≡ s.set
+pub set_now : (b : Bool) (s t : Watching) → b ≡ true → (cond b s t).set ≡ s.set
 set_now true s t e = refl
 set_now false s t e = absurd (cc)
 
@@ -66,7 +66,7 @@ found_empty : (b : Bool) (s : Watching) → (b ≡ false → IsWatched s) → Is
 found_empty true s h = λ e. e
 found_empty false s h = h refl
 
-is_true : (b : Bool) → b ≡ true → b ≡ false → ⊥
+pub is_true : (b : Bool) → b ≡ true → b ≡ false → ⊥
 is_true true e f = absurd (cc)
 is_true false e f = absurd (cc)
 

@@ -18,7 +18,7 @@ use Rattle.xsk_model.specs.declared.call.Call.{Call}
 use Rattle.xsk_model.specs.declared.call.Mark.TheVariants.{RxDone}
 use Rattle.xsk_model.specs.declared.call.Reply.{Reply}
 use Rattle.xsk_model.specs.declared.call.Ring.TheVariants.{Fill, Rx, Tx}
-use Rattle.xsk_turns.specs.Script.{Script, ask, again, Leaves, Asks, IsRun, IsWhole}
+use Rattle.xsk_turns.specs.Script.{Script, ask, again, Leaves, Asks, Ends, IsRun, IsWhole}
 use Rattle.xsk_turns.specs.AppTurns.{AppKept, AppNoted, pair_of, rx_of, tx_of, lanes_of, pending_at, back_at, visit_lane, visit_side, look_rx_done, app_turn, app_start}
 use Rattle.xsk_turns.specs.AppOwned.{IsApp, HasOwnFrames, app_numbers, AppOwned}
 use Rattle.xsk_turns.specs.Owned.{AllFit}
@@ -128,3 +128,8 @@ abbrev pub LaterCallsLegal : Type 0
 LaterCallsLegal = (c : Config) (app : ℕ) (past : List Told) (start : AppKept) (l : List Told) (kept : AppKept) (call : Call) (rest : Reply → Script AppKept) → IsApp c app
     → HasLeft c start past → AllFit c past l → Asks (app_turn c app) start l kept call rest
     → AppOwned kept call (past ++ l) × (HasOwnFrames c app (past ++ l) → IsLegal c (past ++ l) (caller_of c app) call)
+
+-- at its end its frames are those that it keeps
+abbrev pub LaterFramesAtEnd : Type 0
+LaterFramesAtEnd = (c : Config) (app : ℕ) (past : List Told) (start : AppKept) (l : List Told) (kept : AppKept) → IsApp c app → HasLeft c start past → AllFit c past l
+    → Ends (app_turn c app) start l kept → (n : ℕ) → times n (app_numbers kept) ≡ times n (had_of (past ++ l))

@@ -4,7 +4,7 @@
 
 ghost use Rattle.xsk_turns.specs.AppLaw.{LanesInOrder, LanesPassedOn, NothingSentLate, DrainsRx, OnlySetsKicks, WakesAtOnce, PaysAtOnce, PaysEndAtOnce};
 ghost use Rattle.xsk_turns.specs.AppOwned.{AppKeepsFrames, AppCallsLegal, AppKeepsFramesAtEnd};
-ghost use Rattle.xsk_turns.specs.AppSplit.{SplitKeepsLanes, SplitKeepsFrames, StepCallsLegal, LaterCallsLegal};
+ghost use Rattle.xsk_turns.specs.AppSplit.{SplitKeepsLanes, SplitKeepsFrames, StepCallsLegal, LaterCallsLegal, LaterFramesAtEnd};
 ghost use Rattle.xsk_turns.specs.Counted.{KeepsCounters, KeepsCountersAtEnd};
 ghost use Rattle.xsk_turns.specs.Disposes.{KeepsDisposals, DisposesAll};
 ghost use Rattle.xsk_turns.specs.Law.{EachDisposedOnce, DisposedAsSaid, DeliversInOrder, DeliversSized, DeliversAsSaid, NothingReceivedLate, TellsRxDone, DrainsTx, CompletesAll};
@@ -235,4 +235,10 @@ pub fn step_calls_legal()
 #[tactic(auto, using(crate::proofs::AppSplit::later_calls_legal))]
 pub fn later_calls_legal()
     ensures { LaterCallsLegal }
+{}
+
+/// At its end its frames are those that it keeps.
+#[tactic(auto, using(crate::proofs::AppSplit::later_frames_at_end))]
+pub fn later_frames_at_end()
+    ensures { LaterFramesAtEnd }
 {}
