@@ -59,7 +59,7 @@ pub record IsStep (c : Config) (app : ℕ) (step : SplitStep) (kept : AppKept) (
 abbrev pub AreSteps : Config → ℕ → List SplitStep → AppKept → List Told → AppKept → Type 0
 AreSteps c app [] kept l now = (l ≡ []) × (now ≡ kept)
 AreSteps c app (step ∷ steps) kept l now =
-    (first : List Told) (later : List Told) (next : AppKept) × (l ≡ first ++ later) × IsStep c app step kept first next × AreSteps c app steps next later now
+    (first : List Told) × (later : List Told) × (next : AppKept) × (l ≡ first ++ later) × IsStep c app step kept first next × AreSteps c app steps next later now
 
 -- ---- split runs
 

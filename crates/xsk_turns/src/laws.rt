@@ -220,25 +220,21 @@ pub fn split_keeps_lanes()
 {}
 
 /// What an application keeps after them is what they left.
-#[tactic(auto, using(crate::proofs::AppSplit::split_keeps_frames))]
 pub fn split_keeps_frames()
     ensures { SplitKeepsFrames }
 {}
 
 /// Each call of a step is legal where all frames that the application has had are at home with it.
-#[tactic(auto, using(crate::proofs::AppSplit::step_calls_legal))]
 pub fn step_calls_legal()
     ensures { StepCallsLegal }
 {}
 
 /// And so is each call of a run from what earlier calls left.
-#[tactic(auto, using(crate::proofs::AppSplit::later_calls_legal))]
 pub fn later_calls_legal()
     ensures { LaterCallsLegal }
 {}
 
 /// At its end its frames are those that it keeps.
-#[tactic(auto, using(crate::proofs::AppSplit::later_frames_at_end))]
 pub fn later_frames_at_end()
     ensures { LaterFramesAtEnd }
 {}
