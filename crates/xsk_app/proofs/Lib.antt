@@ -2,3 +2,4 @@ pub mod Fresh
 pub mod Steps
 pub mod TurnLemmas
 pub mod Runs
+pub mod Resumed

@@ -3,7 +3,7 @@ ghost use Rattle.std.specs.Prelude.{◌≡◌, ◌+◌, ◌*◌, ◌<◌, ◌≤
 ghost use Rattle.std.specs.List.{slice_index_or};
 ghost use Rattle.xsk_model.specs.Entry.{Told};
 ghost use Rattle.xsk_model.specs.Marks.{apps_of};
-ghost use Rattle.xsk_turns.specs.AppTurns.{app_start, lanes_of};
+ghost use Rattle.xsk_turns.specs.AppTurns.{app_start, lanes_of, pair_of, rx_of, tx_of, tx_pair};
 ghost use Rattle.xsk_turns.specs.AppSplit.{HasLeft};
 ghost use Rattle.xsk_turns.specs.Owned.{IsSteady};
 ghost use Rattle.xsk_app.specs.Resumed.{IsResumed, ResumedTells, kept_in};
@@ -12,13 +12,11 @@ ghost use Rattle.xsk_app.specs.Ways.{IsWay};
 use crate::app::{App, new_pending, way_of};
 use crate::back::Back;
 use crate::machine::{Machine, Turn, Wait, Way};
+use crate::room::Room;
 use std::alloc::Global;
 use xsk_model::Config;
 use xsk_model::steering::{driver_on, port_on, queue_on};
 use xsk_umem::{Batch, OutOfMemory};
-
-/// The most lanes of an application: two sides of four classes each.
-const MOST_LANES: usize = 8;
 
 /// What an application keeps between its steps: for each lane the items that it has yet to pass on, for each side the frames
 /// that it has yet to give back, and whether the side's driver told that it has no further packet. It has all memory that its
@@ -33,34 +31,19 @@ pub struct Kept {
     room: Room,
 }
 
-/// Room for what the machine has besides.
-#[derive(Drop)]
-struct Room {
-    ways: Vec<Way>,
-    backs: Vec<Back>,
-    ghost no_way: { ways.items ≡ [] },
-    ghost for_ways: { 8 ≤ vec_capacity ways },
-    ghost no_back: { backs.items ≡ [] },
-    ghost for_backs: { 2 ≤ vec_capacity backs },
-}
-
 impl Kept {
     /// What a new application keeps: one empty batch for each lane, no frame, and neither side has told. It takes all memory.
     pub fn new(alloc: Global, config: &Config) -> Result<Kept, OutOfMemory>
         ensures { IfOk result (λ kept. kept_in kept ≡ app_start config.now) }
     {
         let classes = config.sockets().len() / config.pairs().len();
-        let room = Room {
-            ways: Vec::with_capacity(alloc, MOST_LANES)?,
-            backs: Vec::with_capacity(alloc, 2)?,
-        };
         Ok(Kept {
             pending: new_pending(alloc, 2 * classes)?,
             back0: Back::new(alloc)?,
             back1: Back::new(alloc)?,
             seen0: false,
             seen1: false,
-            room,
+            room: Room::new(alloc)?,
         })
     }
 }
@@ -76,10 +59,7 @@ impl<'a> App<'a> {
         ensures { (past : List Told) → HasLeft config.now (kept_in kept) past → IsResumed config.now app (kept_in kept) past result }
     {
         let _queues = config.queues();
-        let queue = queue_on(config, app);
-        let first = driver_on(config, port_on(config, app, 0), queue);
-        let second = driver_on(config, port_on(config, app, 1), queue);
-        let pairs = [first, second];
+        let pairs = [side_pair(config, app, 0), side_pair(config, app, 1)];
         let Kept {
             pending,
             back0,
@@ -112,6 +92,35 @@ impl<'a> App<'a> {
         };
         App { machine }
     }
+}
+
+/// The sockets of an application's lane. The configuration is a regular one that has it.
+pub fn lane_way(config: &Config, app: u32, lane: u32) -> Way
+    requires steady { IsSteady config.now }
+    requires app { app < apps_of config.now }
+    requires lane { lane < lanes_of config.now }
+    ensures rx { result.rx ≡ rx_of config.now app lane }
+    ensures tx { result.tx ≡ tx_of config.now app lane }
+    ensures pair { result.pair ≡ tx_pair config.now app lane }
+{
+    let classes = config.classes();
+    let side = lane / classes;
+    let other = side_pair(config, app, 1 - side);
+    Way {
+        rx: side_pair(config, app, side) * classes + lane % classes,
+        tx: other * classes + lane % classes,
+        pair: other,
+    }
+}
+
+/// The pair of an application's side. The configuration is a regular one that has it.
+pub fn side_pair(config: &Config, app: u32, side: u32) -> u32
+    requires app { app < apps_of config.now }
+    requires side { side < 2 }
+    ensures pair { result ≡ pair_of config.now app side }
+    ensures few { result < 16 }
+{
+    driver_on(config, port_on(config, app, side), queue_on(config, app))
 }
 
 /// The lanes, by side and class, in an empty list with room for all.

@@ -5,7 +5,12 @@
 
 mod app;
 mod back;
+mod kept;
 mod machine;
+mod room;
 
 pub use app::App;
+pub use back::Back;
+pub use kept::{Kept, lane_way, resumed_tells, side_pair};
+pub use machine::Way;
 pub use xsk_model::Act;

@@ -70,10 +70,10 @@ pub(crate) enum Wait {
 /// The sockets of a lane: it goes from the RX ring of one side's class to the TX ring of the other side's. `pair` is the
 /// other side's, whose driver sends what stands on that TX ring.
 #[derive(Clone, Copy)]
-pub(crate) struct Way {
-    pub(crate) rx: u32,
-    pub(crate) tx: u32,
-    pub(crate) pair: u32,
+pub struct Way {
+    pub rx: u32,
+    pub tx: u32,
+    pub pair: u32,
 }
 
 /// What was so as the turn began, and whether each lane and each side visited so far had an empty peek in it.
