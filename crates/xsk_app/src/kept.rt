@@ -1,5 +1,5 @@
 //! An application that goes on from what its own earlier calls left.
-ghost use Rattle.std.specs.Prelude.{◌≡◌, ◌+◌, ◌*◌, ◌<◌, ◌≤◌, ℕ, List, [], IfOk, vec_len, vec_capacity, slice_index};
+ghost use Rattle.std.specs.Prelude.{◌≡◌, ◌+◌, ◌*◌, ◌<◌, ◌≤◌, ℕ, List, [], IfOk, length, vec_len, vec_capacity, slice_index};
 ghost use Rattle.std.specs.List.{slice_index_or};
 ghost use Rattle.xsk_model.specs.Entry.{Told};
 ghost use Rattle.xsk_model.specs.Marks.{apps_of};
@@ -55,7 +55,7 @@ impl<'a> App<'a> {
     pub fn resume(config: &'a Config, app: u32, kept: Kept) -> App<'a>
         requires steady { IsSteady config.now }
         requires app { app < apps_of config.now }
-        requires lanes { vec_len kept.pending ≡ lanes_of config.now }
+        requires lanes { length kept.pending.items ≡ lanes_of config.now }
         ensures { (past : List Told) → HasLeft config.now (kept_in kept) past → IsResumed config.now app (kept_in kept) past result }
     {
         let _queues = config.queues();

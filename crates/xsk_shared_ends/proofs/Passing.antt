@@ -1,17 +1,18 @@
 -- A visit to a lane, call by call.
-use Rattle.std.proofs.Common.{◌≡◌, ℕ, ◌<◌, ◌≢◌, List, [], ◌∷◌, ◌++◌, length, set, refl, sym, ap, ◌∙◌, subst}
+use Rattle.std.proofs.Common.{◌≡◌, ℕ, ◌<◌, List, [], ◌∷◌, length, refl, sym, ap, ◌∙◌, subst, arith, get_or-set_same, length-set}
 use Rattle.std.proofs.lemmas.List.{set-set, set-get_or}
 use Rattle.xsk_umem.specs.declared.batch.Item.{Item}
 use Rattle.xsk_model.specs.Config.{Config, batch_of}
 use Rattle.xsk_model.specs.declared.call.Call.TheVariants.{Reserve, Submit, Peek, Release}
 use Rattle.xsk_model.specs.declared.call.Mark.TheVariants.{NeedTx}
 use Rattle.xsk_model.specs.declared.call.Reply.{Reply}
+use Rattle.xsk_model.specs.declared.call.Reply.TheVariants.{Granted}
 use Rattle.xsk_model.specs.declared.call.Ring.TheVariants.{Rx, Tx}
 use Rattle.xsk_turns.specs.Script.{Script, ask, again, granted_or_full, on_submitted, items_or_empty, on_released}
 use Rattle.xsk_turns.specs.AppTurns.{AppKept, tx_of, rx_of, tx_pair, pending_at, with_pending, wake, pass_on, receive_lane}
 use Rattle.xsk_table.specs.Held.{Holder}
 use Rattle.xsk_app.specs.declared.machine.Way.{Way}
-use Rattle.xsk_shared_ends.specs.Standing.{Origin, At, IsWayOf, VisitsLane, PassesOn, next}
+use Rattle.xsk_shared_ends.specs.Standing.{Origin, At, IsWayOf, VisitsLane, PassesOn, Wakes, next}
 use Rattle.xsk_shared_ends.specs.declared.visiting.Step.{Step}
 use Rattle.xsk_shared_ends.specs.declared.visiting.Step.TheVariants.{Moved}
 
@@ -63,3 +64,53 @@ module _ (o : Origin) (lane : ℕ) (k : AppKept) where
   releases_rx p rx n items e f at =
       subst (λ (t : ℕ). At o p (ask (with_pending k lane items) (Release (Rx t) n) (on_released (pass_on o.config o.app lane (with_pending k lane items) next))) Moved) (sym e)
       (subst (λ (m : ℕ). At o p (ask (with_pending k lane items) (Release (Rx (rx_of o.config o.app lane)) m) (on_released (pass_on o.config o.app lane (with_pending k lane items) next))) Moved) (sym f) at)
+
+module _ (c : Config) (way : Way) (o : Origin) (lane : ℕ) (k : AppKept) where
+  -- a visit where items are pending, and where none is
+  pub lane_full : (items : List Item) (p : Holder) → (items ≡ [] → ⊥) → VisitsLane c way o lane k items p → PassesOn c way o lane k items p
+  lane_full [] p some v = absurd (some refl)
+  lane_full (item ∷ items) p some v = record { config = v.config; way_is = v.way_is; items_are = v.items_are; lanes = v.lanes; at = v.at }
+
+  pub lane_peeks : (items : List Item) (p : Holder) (batch : ℕ) → items ≡ [] → batch ≡ batch_of c → VisitsLane c way o lane k items p
+      → At o p (ask k (Peek (Rx way.rx) batch) (on_rx o lane k)) Moved
+  lane_peeks [] p batch none few v = asks_rx o lane k p way.rx batch v.way_is.rx (few ∙ ap batch_of v.config) v.at
+  lane_peeks (item ∷ items) p batch none few v = absurd (cc)
+
+  pub lane_releases : (items got : List Item) (p q : Holder) (n : ℕ) → n ≡ length got → VisitsLane c way o lane k items p → At o q (receive_lane o.config o.app lane k next got) Moved
+      → At o q (ask (with_pending k lane got) (Release (Rx way.rx) n) (on_released (pass_on o.config o.app lane (with_pending k lane got) next))) Moved
+  lane_releases items got p q n count v at = releases_rx o lane k q way.rx n got v.way_is.rx count at
+
+  pub lane_passes : (items got now : List Item) (p q : Holder) → now ≡ got → VisitsLane c way o lane k items p → At o q (pass_on o.config o.app lane (with_pending k lane got) next) Moved
+      → PassesOn c way o lane (with_pending k lane got) now q
+  lane_passes items got now p q same v at = record {
+    config = v.config;
+    way_is = v.way_is;
+    items_are = same ∙ sym (get_or-set_same k.pending lane got [] v.lanes);
+    lanes = omega (arith, v.lanes, length-set k.pending lane got);
+    at = at;
+  }
+
+  pub lane_stays : (items : List Item) (p q : Holder) (came : Step) → VisitsLane c way o lane k items p → At o q (again k) came → At o q (again (with_pending k lane items)) came
+  lane_stays items p q came v at = stays_pending o lane k q items came v.items_are at
+
+  -- its items go on
+  pub asks_places : (items : List Item) (p : Holder) (n : ℕ) → n ≡ length items → PassesOn c way o lane k items p → At o p (ask k (Reserve (Tx way.tx) n) (on_tx o lane k)) Moved
+  asks_places items p n count h = asks_tx o lane k p way.tx n h.way_is.tx (count ∙ ap length h.items_are) h.at
+
+  pub puts_items : (items put : List Item) (p q : Holder) → put ≡ items → PassesOn c way o lane k items p → At o q (on_tx o lane k Granted) Moved
+      → At o q (ask (with_pending k lane []) (Submit (Tx way.tx) put) (on_submitted (sent o lane k))) Moved
+  puts_items items put p q same h at = submits_tx o lane k q way.tx put h.way_is.tx (same ∙ h.items_are) at
+
+  pub wakes_lane : (items : List Item) (p q : Holder) → PassesOn c way o lane k items p → At o q (sent o lane k) Moved
+      → Wakes c o (NeedTx way.tx) way.pair (with_pending k lane []) (again (with_pending k lane [])) Moved q
+  wakes_lane items p q h at = record {
+    config = h.config;
+    at = subst (λ (t : ℕ). At o q (wake o.config (NeedTx t) way.pair (with_pending k lane []) (again (with_pending k lane []))) Moved) (sym h.way_is.tx)
+        (subst (λ (d : ℕ). At o q (wake o.config (NeedTx (tx_of o.config o.app lane)) d (with_pending k lane []) (again (with_pending k lane []))) Moved) (sym h.way_is.pair) at);
+  }
+
+pub pending_now : (o : Origin) (lane : ℕ) (k : AppKept) (xs ys : List Item) (q : Holder) (came : Step) → xs ≡ ys → At o q (again (with_pending k lane ys)) came → At o q (again (with_pending k lane xs)) came
+pending_now o lane k xs ys q came e at = subst (λ zs. At o q (again (with_pending k lane zs)) came) (sym e) at
+
+pub pending_again : (o : Origin) (lane : ℕ) (k : AppKept) (xs ys : List Item) (q : Holder) (came : Step) → At o q (again (with_pending (with_pending k lane xs) lane ys)) came → At o q (again (with_pending k lane ys)) came
+pending_again o lane k xs ys q came at = subst (λ kept. At o q (again kept) came) (with_pending-again k lane xs ys) at

@@ -1,10 +1,10 @@
 -- A pass goes on in a step by each of its calls.
-use Rattle.std.proofs.Common.{◌≡◌, ℕ, Bool, true, false, cond, eqb, List, [], ◌∷◌, ◌++◌, append_assoc, refl, sym, ap, ◌∙◌, subst}
+use Rattle.std.proofs.Common.{◌≡◌, ℕ, Bool, true, false, cond, eqb, List, [], ◌∷◌, ◌++◌, append_assoc, refl, sym, ap, ◌∙◌, subst, eq-eqb, ne_eqb}
 use Rattle.std.specs.List.{fold}
 use Rattle.xsk_umem.specs.declared.batch.Item.{Item}
 use Rattle.xsk_model.specs.Config.{Config}
 use Rattle.xsk_model.specs.Entry.{Told, with_told, own}
-use Rattle.xsk_model.specs.Expected.{IsReplyTo}
+use Rattle.xsk_model.specs.Expected.{IsReplyTo, IsOld}
 use Rattle.xsk_model.specs.History.{Fits, MayGive}
 use Rattle.xsk_model.specs.Legal.{IsLegal}
 use Rattle.xsk_model.specs.Rings.{caller_of}
@@ -14,9 +14,9 @@ use Rattle.xsk_model.specs.declared.call.Mark.{Mark}
 use Rattle.xsk_model.specs.declared.call.Reply.{Reply}
 use Rattle.xsk_model.specs.declared.call.Reply.TheVariants.{Granted, Full, Submitted, Items, Empty, Released, Old}
 use Rattle.xsk_model.proofs.Replies.{gift_fits}
-use Rattle.xsk_turns.specs.Script.{Script, ask, again, ended, never, begun, on_old}
+use Rattle.xsk_turns.specs.Script.{Script, ask, again, ended, never, begun, on_submitted, on_released, on_old}
 use Rattle.xsk_turns.specs.Owned.{AllFit}
-use Rattle.xsk_turns.specs.AppTurns.{AppKept, kick, wake}
+use Rattle.xsk_turns.specs.AppTurns.{AppKept, kick}
 use Rattle.xsk_turns.specs.AppOwned.{HasOwnFrames}
 use Rattle.xsk_turns.specs.AppSplit.{piece}
 use Rattle.xsk_turns.proofs.AppHomes.{own_frames}
@@ -26,9 +26,10 @@ use Rattle.xsk_table.specs.Held.{Board, Holder, Belongs}
 use Rattle.xsk_rings.specs.Rounds.{mine_of}
 use Rattle.xsk_rings.specs.Serving.{MayAsk, Served}
 use Rattle.xsk_rings.proofs.Telling.{may_give_served}
-use Rattle.xsk_shared_ends.specs.Standing.{Origin, At, Asks, IsSamePass}
+use Rattle.xsk_shared_ends.specs.Standing.{Origin, At, Asks, IsSamePass, Wakes, Looks, HasLooked}
 use Rattle.xsk_shared_ends.specs.Steps.{came_by, came_step, came_of}
 use Rattle.xsk_shared_ends.specs.declared.visiting.Step.{Step}
+use Rattle.xsk_shared_ends.specs.declared.visiting.Step.TheVariants.{Moved}
 
 -- what came of one call more
 came_push : (came : Step) (l : List Told) (t : Told) → fold came_step came (l ++ t ∷ []) ≡ came_by (fold came_step came l) t.reply
@@ -97,22 +98,56 @@ goes_on p q call reply served o k rest came at =
       mine = given.1 ∙ ap (λ l. l ++ t ∷ []) at.mine ∙ append_assoc o.past at.part (t ∷ []);
       fit = fit_join o.config o.past at.part (t ∷ []) at.fit (fits, tt);
       leaves = leaves_on pieces (piece o.config o.app o.step o.start) at.part (t ∷ []) (ask k call rest) (rest reply) at.leaves (refl, sym (begun_same (rest reply)));
-      came = ap (λ s. came_by s reply) at.came ∙ sym (came_push _ at.part t);
+      came_is = ap (λ s. came_by s reply) at.came_is ∙ sym (came_push _ at.part t);
     }
+
+-- ---- by the reply
+
+pub after_submitted : (o : Origin) (q : Holder) (next : Script AppKept) (reply : Reply) (came : Step) → reply ≡ Submitted → At o q (on_submitted next reply) (came_by came reply) → At o q next came
+after_submitted o q next reply came e at = subst (λ r. At o q (on_submitted next r) (came_by came r)) e at
+
+pub after_released : (o : Origin) (q : Holder) (next : Script AppKept) (reply : Reply) (came : Step) → reply ≡ Released → At o q (on_released next reply) (came_by came reply) → At o q next came
+after_released o q next reply came e at = subst (λ r. At o q (on_released next r) (came_by came r)) e at
+
+pub after_old : (o : Origin) (q : Holder) (next : Script AppKept) (reply : Reply) (came : Step) → IsOld reply → At o q (on_old (λ old. next) reply) (came_by came reply) → At o q next came
+after_old o q next Granted came is at = absurd is
+after_old o q next (Full free) came is at = absurd is
+after_old o q next Submitted came is at = absurd is
+after_old o q next (Items items) came is at = absurd is
+after_old o q next Empty came is at = absurd is
+after_old o q next Released came is at = absurd is
+after_old o q next (Old n) came is at = at
 
 -- ---- marks
 
 -- what a look at a ring's flag leads to
-pub wakes_on : (c : Config) (o : Origin) (p : Holder) (need : Mark) (pair : ℕ) (k : AppKept) (later : Script AppKept) (came : Step) → c ≡ o.config → c.wakeup ≡ true → At o p (wake o.config need pair k later) came
-    → At o p (ask k (Look need) (on_old (λ number. cond (eqb number 1) (kick pair k later) later))) came
-wakes_on c o p need pair k later came same on at =
-    subst (λ b. At o p (cond b (ask k (Look need) (on_old (λ number. cond (eqb number 1) (kick pair k later) later))) later) came) (ap (λ k. k.wakeup) (sym same) ∙ on) at
+abbrev pub by_flag : ℕ → AppKept → Script AppKept → ℕ → Script AppKept
+by_flag pair k later number = cond (eqb number 1) (kick pair k later) later
 
-pub wakes_off : (c : Config) (o : Origin) (p : Holder) (need : Mark) (pair : ℕ) (k : AppKept) (later : Script AppKept) (came : Step) → c ≡ o.config → c.wakeup ≡ false → At o p (wake o.config need pair k later) came
+pub wakes_on : (c : Config) (o : Origin) (p : Holder) (need : Mark) (pair : ℕ) (k : AppKept) (later : Script AppKept) (came : Step) → c.wakeup ≡ true → Wakes c o need pair k later came p
+    → At o p (ask k (Look need) (on_old (by_flag pair k later))) came
+wakes_on c o p need pair k later came on w = subst (λ b. At o p (cond b (ask k (Look need) (on_old (by_flag pair k later))) later) came) (ap (λ k. k.wakeup) (sym w.config) ∙ on) w.at
+
+pub wakes_off : (c : Config) (o : Origin) (p : Holder) (need : Mark) (pair : ℕ) (k : AppKept) (later : Script AppKept) (came : Step) → c.wakeup ≡ false → Wakes c o need pair k later came p
     → At o p later came
-wakes_off c o p need pair k later came same off at =
-    subst (λ b. At o p (cond b (ask k (Look need) (on_old (λ number. cond (eqb number 1) (kick pair k later) later))) later) came) (ap (λ k. k.wakeup) (sym same) ∙ off) at
+wakes_off c o p need pair k later came off w = subst (λ b. At o p (cond b (ask k (Look need) (on_old (by_flag pair k later))) later) came) (ap (λ k. k.wakeup) (sym w.config) ∙ off) w.at
 
-pub flag_is : (o : Origin) (p : Holder) (pair n : ℕ) (k : AppKept) (later : Script AppKept) (came : Step) (b : Bool) → eqb n 1 ≡ b → At o p (cond (eqb n 1) (kick pair k later) later) came
-    → At o p (cond b (kick pair k later) later) came
-flag_is o p pair n k later came b e at = subst (λ x. At o p (cond x (kick pair k later) later) came) e at
+pub is_needed : (o : Origin) (p : Holder) (pair n : ℕ) (k : AppKept) (later : Script AppKept) (came : Step) → n ≡ 1 → At o p (by_flag pair k later n) came → At o p (kick pair k later) came
+is_needed o p pair n k later came e at = subst (λ x. At o p (cond x (kick pair k later) later) came) (eq-eqb n 1 e) at
+
+pub is_not_needed : (o : Origin) (p : Holder) (pair n : ℕ) (k : AppKept) (later : Script AppKept) (came : Step) → (n ≡ 1 → ⊥) → At o p (by_flag pair k later n) came → At o p later came
+is_not_needed o p pair n k later came e at = subst (λ x. At o p (cond x (kick pair k later) later) came) (ne_eqb n 1 e) at
+
+-- and one at the mark of a side that isn't seen
+pub looks_now : (o : Origin) (p : Holder) (mark : Mark) (seen : Bool) (k : AppKept) (done : Script AppKept) (later : ℕ → Script AppKept) → seen ≡ false → Looks o mark seen k done later p
+    → At o p (ask k (Look mark) (on_old later)) Moved
+looks_now o p mark seen k done later e l = subst (λ b. At o p (cond b done (ask k (Look mark) (on_old later))) Moved) e l.at
+
+pub looked_now : (o : Origin) (q : Holder) (seen now : Bool) (n : ℕ) (done : Script AppKept) (later : ℕ → Script AppKept) → seen ≡ false → now ≡ eqb n 1 → At o q (later n) Moved → HasLooked o seen now done later q
+looked_now o q true now n done later e is at = absurd (cc)
+looked_now o q false now n done later e is at = (n, is, at)
+
+pub looked_before : (o : Origin) (q : Holder) (mark : Mark) (seen now : Bool) (k : AppKept) (done : Script AppKept) (later : ℕ → Script AppKept) → seen ≡ true → now ≡ true → Looks o mark seen k done later q
+    → HasLooked o seen now done later q
+looked_before o q mark true now k done later e is l = (is, l.at)
+looked_before o q mark false now k done later e is l = absurd (cc)

@@ -54,8 +54,8 @@ KeepsLanes e = (lane : ℕ) → lane < lanes_of e.config
 pub record Makes (step : SplitStep) (old new : EndsShown) (came : Step) : Type 0 where
   pub part : List Told
   pub mine : mine_of new.pass ≡ mine_of old.pass ++ part
-  pub step : IsStep old.config old.app step old.kept part new.kept
-  pub came : came ≡ came_of part
+  pub is_step : IsStep old.config old.app step old.kept part new.kept
+  pub came_is : came ≡ came_of part
 
 -- the ends stay those of their application
 pub record AreSame (old new : EndsShown) : Type 0 where

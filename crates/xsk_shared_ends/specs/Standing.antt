@@ -48,7 +48,7 @@ pub record At (o : Origin) (p : Holder) (script : Script AppKept) (came : Step) 
   pub mine : mine_of p ≡ o.past ++ part
   pub fit : AllFit o.config o.past part
   pub leaves : LeavesOf (piece o.config o.app o.step o.start) part script
-  pub came : came ≡ came_of part
+  pub came_is : came ≡ came_of part
 
 -- it stands at this call
 abbrev pub Asks : Holder → Call → Type 0
@@ -82,23 +82,23 @@ after noted kept = again kept
 -- at the start of a visit to a lane with these items pending, and where they go on
 pub record VisitsLane (c : Config) (way : Way) (o : Origin) (lane : ℕ) (k : AppKept) (items : List Item) (p : Holder) : Type 0 where
   pub config : c ≡ o.config
-  pub way : IsWayOf o.config o.app lane way
-  pub items : items ≡ pending_at k lane
+  pub way_is : IsWayOf o.config o.app lane way
+  pub items_are : items ≡ pending_at k lane
   pub lanes : lane < length k.pending
   pub at : At o p (visit_lane o.config o.app lane items no_note k after) Moved
 
 pub record PassesOn (c : Config) (way : Way) (o : Origin) (lane : ℕ) (k : AppKept) (items : List Item) (p : Holder) : Type 0 where
   pub config : c ≡ o.config
-  pub way : IsWayOf o.config o.app lane way
-  pub items : items ≡ pending_at k lane
+  pub way_is : IsWayOf o.config o.app lane way
+  pub items_are : items ≡ pending_at k lane
   pub lanes : lane < length k.pending
   pub at : At o p (pass_on o.config o.app lane k next) Moved
 
 -- at the start of a visit to a side with these frames to give back, and where they go back
 pub record VisitsSide (c : Config) (pair : ℕ) (o : Origin) (side : ℕ) (k : AppKept) (frames : List Frame) (p : Holder) : Type 0 where
   pub config : c ≡ o.config
-  pub pair : pair ≡ pair_of o.config o.app side
-  pub frames : frames ≡ back_at k side
+  pub pair_is : pair ≡ pair_of o.config o.app side
+  pub frames_are : frames ≡ back_at k side
   pub at : At o p (visit_side o.config o.app side frames no_note k after) Moved
 
 pub record GivesBack (c : Config) (o : Origin) (side : ℕ) (k : AppKept) (frames : List Frame) (p : Holder) : Type 0 where
@@ -111,9 +111,9 @@ pub record Wakes (c : Config) (o : Origin) (need : Mark) (pair : ℕ) (k : AppKe
   pub at : At o p (wake o.config need pair k later) came
 
 -- where a mark is looked at if its side isn't seen, and where the look led, by the number that it found
-pub record Looks (o : Origin) (mark : Mark) (seen : Bool) (k : AppKept) (done : Script AppKept) (then : ℕ → Script AppKept) (p : Holder) : Type 0 where
-  pub at : At o p (if seen then done else ask k (Look mark) (on_old then)) Moved
+pub record Looks (o : Origin) (mark : Mark) (seen : Bool) (k : AppKept) (done : Script AppKept) (later : ℕ → Script AppKept) (p : Holder) : Type 0 where
+  pub at : At o p (if seen then done else ask k (Look mark) (on_old later)) Moved
 
 abbrev pub HasLooked : Origin → Bool → Bool → Script AppKept → (ℕ → Script AppKept) → Holder → Type 0
-HasLooked o true now done then p = (now ≡ true) × At o p done Moved
-HasLooked o false now done then p = (number : ℕ) × (now ≡ (number == 1)) × At o p (then number) Moved
+HasLooked o true now done later p = (now ≡ true) × At o p done Moved
+HasLooked o false now done later p = (number : ℕ) × (now ≡ (number == 1)) × At o p (later number) Moved

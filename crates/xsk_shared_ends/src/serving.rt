@@ -62,7 +62,7 @@ fn look_at(pass: &mut Pass, shared: &Shared, mark: Mark, items: &mut Batch) -> u
     requires at { Asks pass.old (Look mark) }
     ensures same { IsSamePass pass.old pass.new }
     ensures empty { items.new ≡ [] }
-    ensures goes_on { (o : Origin) (k : AppKept) (then : ℕ → Script AppKept) (came : AStep) → At o pass.old (asks k (Look mark) (on_old then)) came → At o pass.new (then result) came }
+    ensures goes_on { (o : Origin) (k : AppKept) (later : ℕ → Script AppKept) (came : AStep) → At o pass.old (asks k (Look mark) (on_old later)) came → At o pass.new (later result) came }
 {
     match serve(pass, shared, Ask::Look(mark), items) {
         Answer::Old(number) => number,
@@ -86,7 +86,10 @@ pub(crate) fn wake(
     ensures empty { items.new ≡ [] }
     ensures goes_on { (o : Origin) (k : AppKept) (later : Script AppKept) (came : AStep) → Wakes config.now o need pair k later came pass.old → At o pass.new later came }
 {
-    if config.wakeup() && look_at(pass, shared, need, items) == 1 {
+    if !config.wakeup() {
+        return;
+    }
+    if look_at(pass, shared, need, items) == 1 {
         serve(pass, shared, Ask::Swap(Mark::Kick(pair), 1), items);
     }
 }
@@ -95,11 +98,11 @@ pub(crate) fn wake(
 pub(crate) fn look(pass: &mut Pass, shared: &Shared, mark: Mark, seen: &mut bool, items: &mut Batch)
     requires belongs { Belongs shared.now pass.old }
     requires empty { items.old ≡ [] }
-    requires at { (o : Origin) × (k : AppKept) × (done : Script AppKept) × (then : ℕ → Script AppKept) × Looks o mark seen.old k done then pass.old }
+    requires at { (o : Origin) × (k : AppKept) × (done : Script AppKept) × (later : ℕ → Script AppKept) × Looks o mark seen.old k done later pass.old }
     ensures same { IsSamePass pass.old pass.new }
     ensures empty { items.new ≡ [] }
-    ensures goes_on { (o : Origin) (k : AppKept) (done : Script AppKept) (then : ℕ → Script AppKept) → Looks o mark seen.old k done then pass.old
-        → HasLooked o seen.old seen.new done then pass.new }
+    ensures goes_on { (o : Origin) (k : AppKept) (done : Script AppKept) (later : ℕ → Script AppKept) → Looks o mark seen.old k done later pass.old
+        → HasLooked o seen.old seen.new done later pass.new }
 {
     if !*seen {
         *seen = look_at(pass, shared, mark, items) == 1;
