@@ -2,6 +2,7 @@
 ghost use Rattle.std.specs.Prelude.{◌≡◌, ◌+◌, ◌*◌, ◌<◌, ◌≤◌, ℕ, List, [], IfOk, length, vec_len, vec_capacity, slice_index};
 ghost use Rattle.std.specs.List.{slice_index_or};
 ghost use Rattle.xsk_model.specs.Entry.{Told};
+ghost use Rattle.xsk_model.specs.Expected.{nothing};
 ghost use Rattle.xsk_model.specs.Marks.{apps_of};
 ghost use Rattle.xsk_turns.specs.AppTurns.{app_start, lanes_of, pair_of, rx_of, tx_of, tx_pair};
 ghost use Rattle.xsk_turns.specs.AppSplit.{HasLeft};
@@ -56,7 +57,8 @@ impl<'a> App<'a> {
         requires steady { IsSteady config.now }
         requires app { app < apps_of config.now }
         requires lanes { length kept.pending.items ≡ lanes_of config.now }
-        ensures { (past : List Told) → HasLeft config.now (kept_in kept) past → IsResumed config.now app (kept_in kept) past result }
+        ensures expected { result.expected ≡ nothing }
+        ensures resumed { (past : List Told) → HasLeft config.now (kept_in kept) past → IsResumed config.now app (kept_in kept) past result }
     {
         let _queues = config.queues();
         let pairs = [side_pair(config, app, 0), side_pair(config, app, 1)];

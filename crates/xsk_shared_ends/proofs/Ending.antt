@@ -5,7 +5,6 @@ use Rattle.xsk_umem.specs.declared.batch.Item.{Item}
 use Rattle.xsk_model.specs.Config.{Config, IsConfig}
 use Rattle.xsk_model.specs.Marks.{apps_of}
 use Rattle.xsk_model.specs.Rings.{caller_of}
-use Rattle.xsk_model.specs.Entry.{Told}
 use Rattle.xsk_turns.specs.Owned.{AllFit, IsSteady}
 use Rattle.xsk_model.specs.declared.call.Call.TheVariants.{Look}
 use Rattle.xsk_model.specs.declared.call.Mark.TheVariants.{RxDone}
@@ -18,9 +17,9 @@ use Rattle.xsk_turns.proofs.AppHomes.{had_none}
 use Rattle.xsk_table.specs.View.{idle}
 use Rattle.xsk_table.specs.Held.{Holder}
 use Rattle.xsk_rings.specs.Rounds.{mine_of}
-use Rattle.xsk_shared_ends.specs.Shown.{EndsShown, AreEnds, AreSame, KeepsLanes, Makes, name_of}
+use Rattle.xsk_shared_ends.specs.Shown.{EndsShown, AreEnds, AreSame, KeepsLanes, Makes}
 use Rattle.xsk_app.specs.declared.machine.Way.{Way}
-use Rattle.xsk_shared_ends.specs.Standing.{Origin, Begins, At, IsSamePass, Over, VisitsLane, VisitsSide, Looks, HasLooked, after}
+use Rattle.xsk_shared_ends.specs.Standing.{Origin, At, IsSamePass, Over, VisitsLane, VisitsSide, Looks, HasLooked, after}
 use Rattle.xsk_shared_ends.specs.declared.visiting.Step.{Step}
 use Rattle.xsk_shared_ends.specs.declared.visiting.Step.TheVariants.{Moved}
 

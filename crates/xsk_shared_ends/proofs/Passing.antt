@@ -1,5 +1,5 @@
 -- A visit to a lane, call by call.
-use Rattle.std.proofs.Common.{◌≡◌, ℕ, ◌<◌, List, [], ◌∷◌, length, refl, sym, ap, ◌∙◌, subst, arith, get_or-set_same, length-set}
+use Rattle.std.proofs.Common.{◌≡◌, ℕ, List, [], ◌∷◌, length, refl, sym, ap, ◌∙◌, subst, arith, get_or-set_same, length-set}
 use Rattle.std.proofs.lemmas.List.{set-set, set-get_or}
 use Rattle.xsk_umem.specs.declared.batch.Item.{Item}
 use Rattle.xsk_model.specs.Config.{Config, batch_of}
@@ -12,7 +12,7 @@ use Rattle.xsk_turns.specs.Script.{Script, ask, again, granted_or_full, on_submi
 use Rattle.xsk_turns.specs.AppTurns.{AppKept, tx_of, rx_of, tx_pair, pending_at, with_pending, wake, pass_on, receive_lane}
 use Rattle.xsk_table.specs.Held.{Holder}
 use Rattle.xsk_app.specs.declared.machine.Way.{Way}
-use Rattle.xsk_shared_ends.specs.Standing.{Origin, At, IsWayOf, VisitsLane, PassesOn, Wakes, next}
+use Rattle.xsk_shared_ends.specs.Standing.{Origin, At, VisitsLane, PassesOn, Wakes, next}
 use Rattle.xsk_shared_ends.specs.declared.visiting.Step.{Step}
 use Rattle.xsk_shared_ends.specs.declared.visiting.Step.TheVariants.{Moved}
 

@@ -1,7 +1,6 @@
 -- A pass goes on in a step by each of its calls.
 use Rattle.std.proofs.Common.{◌≡◌, ℕ, Bool, true, false, cond, eqb, List, [], ◌∷◌, ◌++◌, append_assoc, refl, sym, ap, ◌∙◌, subst, eq-eqb, ne_eqb}
 use Rattle.std.specs.List.{fold}
-use Rattle.xsk_umem.specs.declared.batch.Item.{Item}
 use Rattle.xsk_model.specs.Config.{Config}
 use Rattle.xsk_model.specs.Entry.{Told, with_told, own}
 use Rattle.xsk_model.specs.Expected.{IsReplyTo, IsOld}
@@ -15,7 +14,6 @@ use Rattle.xsk_model.specs.declared.call.Reply.{Reply}
 use Rattle.xsk_model.specs.declared.call.Reply.TheVariants.{Granted, Full, Submitted, Items, Empty, Released, Old}
 use Rattle.xsk_model.proofs.Replies.{gift_fits}
 use Rattle.xsk_turns.specs.Script.{Script, ask, again, ended, never, begun, on_submitted, on_released, on_old}
-use Rattle.xsk_turns.specs.Owned.{AllFit}
 use Rattle.xsk_turns.specs.AppTurns.{AppKept, kick}
 use Rattle.xsk_turns.specs.AppOwned.{HasOwnFrames}
 use Rattle.xsk_turns.specs.AppSplit.{piece}
@@ -27,7 +25,7 @@ use Rattle.xsk_rings.specs.Rounds.{mine_of}
 use Rattle.xsk_rings.specs.Serving.{MayAsk, Served}
 use Rattle.xsk_rings.proofs.Telling.{may_give_served}
 use Rattle.xsk_shared_ends.specs.Standing.{Origin, At, Asks, IsSamePass, Wakes, Looks, HasLooked}
-use Rattle.xsk_shared_ends.specs.Steps.{came_by, came_step, came_of}
+use Rattle.xsk_shared_ends.specs.Steps.{came_by, came_step}
 use Rattle.xsk_shared_ends.specs.declared.visiting.Step.{Step}
 use Rattle.xsk_shared_ends.specs.declared.visiting.Step.TheVariants.{Moved}
 

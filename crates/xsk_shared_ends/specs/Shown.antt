@@ -7,7 +7,7 @@ use Rattle.xsk_model.specs.Rings.{caller_of}
 use Rattle.xsk_model.specs.declared.call.Ring.TheVariants.{Rx, Tx}
 use Rattle.xsk_turns.specs.AppTurns.{AppKept, rx_of, tx_of, lanes_of, pending_at}
 use Rattle.xsk_turns.specs.AppOwned.{IsApp, HasOwnFrames}
-use Rattle.xsk_turns.specs.AppSplit.{SplitStep, IsStep, IsSplit, HasLeft}
+use Rattle.xsk_turns.specs.AppSplit.{SplitStep, IsStep, IsSplit}
 use Rattle.xsk_turns.specs.Owned.{AllFit}
 use Rattle.xsk_table.specs.View.{idle, no_setup}
 use Rattle.xsk_table.specs.Held.{Board, Holder}

@@ -1,5 +1,5 @@
 -- Where an application's pass stands in a step.
-use Rattle.std.specs.Prelude.{◌≡◌, ℕ, ◌<◌, ◌==◌, Bool, true, false, if◌then◌else◌, List, [], ◌++◌, length}
+use Rattle.std.specs.Prelude.{◌≡◌, ℕ, ◌<◌, ◌==◌, Bool, true, false, if◌then◌else◌, List, ◌++◌, length}
 use Rattle.xsk_umem.specs.declared.batch.Item.{Item}
 use Rattle.xsk_umem.specs.Frame.{Frame}
 use Rattle.xsk_model.specs.Config.{Config}
@@ -10,7 +10,7 @@ use Rattle.xsk_model.specs.declared.call.Call.TheVariants.{Look}
 use Rattle.xsk_model.specs.declared.call.Mark.{Mark}
 use Rattle.xsk_model.specs.declared.call.Reply.{Reply}
 use Rattle.xsk_turns.specs.Script.{Script, ask, again, on_old}
-use Rattle.xsk_turns.specs.AppTurns.{AppKept, pair_of, rx_of, tx_of, tx_pair, lanes_of, pending_at, with_pending, back_at, with_back, wake, pass_on, visit_lane, visit_side, give_back}
+use Rattle.xsk_turns.specs.AppTurns.{AppKept, pair_of, rx_of, tx_of, tx_pair, lanes_of, pending_at, back_at, wake, pass_on, visit_lane, visit_side, give_back}
 use Rattle.xsk_turns.specs.AppOwned.{IsApp, HasOwnFrames}
 use Rattle.xsk_turns.specs.AppSplit.{SplitStep, HasPlace, HasLeft, piece, LeavesOf, no_note}
 use Rattle.xsk_turns.specs.Owned.{AllFit}

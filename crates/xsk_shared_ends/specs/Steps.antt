@@ -1,5 +1,5 @@
 -- What a step tells.
-use Rattle.std.specs.Prelude.{ℕ, List, []}
+use Rattle.std.specs.Prelude.{List}
 use Rattle.std.specs.List.{fold}
 use Rattle.xsk_model.specs.Entry.{Told}
 use Rattle.xsk_model.specs.declared.call.Reply.{Reply}

@@ -1,5 +1,6 @@
 //! The ends of one application's rings.
 ghost use Rattle.std.specs.Prelude.{◌≡◌, ◌+◌, ◌<◌, ◌≤◌, [], length, IfOk, IfErr, true};
+ghost use Rattle.xsk_model.specs.Expected.{nothing};
 ghost use Rattle.xsk_model.specs.Rings.{caller_of};
 ghost use Rattle.xsk_table.specs.View.{idle};
 ghost use Rattle.xsk_table.specs.Held.{Belongs};
@@ -166,6 +167,7 @@ impl<'a> Ends<'a> {
 
     /// The application that goes on from here by its turns, and its pass. It takes no memory.
     pub fn finish(self) -> (App<'a>, Pass)
+        ensures expected { result.0.expected ≡ nothing }
         ensures app { IsResumed self.entry.config self.entry.app self.entry.kept (mine_of self.entry.pass) result.0 }
         ensures pass { result.1 ≡ self.entry.pass }
         ensures ends { AreEnds self.entry }

@@ -1,18 +1,18 @@
 -- Steps of an application: each law of its turns goes along the piece of a turn that a step is, so it holds after any steps, and of
 -- the turns behind them.
-use Rattle.std.proofs.Common.{◌≡◌, ℕ, zero, suc, ◌+◌, ◌-◌, ◌<◌, Bool, true, false, cond, eqb, List, [], ◌∷◌, ◌++◌, append_assoc, append-nil, length, drop, map, set, All, refl, sym, ap, ◌∙◌, subst, arith}
+use Rattle.std.proofs.Common.{◌≡◌, ℕ, zero, suc, ◌+◌, ◌-◌, Bool, true, false, cond, eqb, List, [], ◌∷◌, ◌++◌, append_assoc, append-nil, length, drop, map, set, refl, sym, ap, ◌∙◌, subst, arith}
 use Rattle.std.proofs.lemmas.List.Elements.{All-nil, All-cons, All-head, All-weaker}
-use Rattle.xsk_turns.proofs.Object.{Frame, Config, Geometry, pool_of, batch_of, home_item, times, had_of, submitted_of, peeked_of, IsItemOn}
-use Rattle.xsk_turns.proofs.Calls.{Item, Told, with_told, Fill, Comp, Rx, Tx, Mark, RxDone, Call, Reserve, Submit, Peek, Release, Swap, Look, Reply}
+use Rattle.xsk_turns.proofs.Object.{Frame, Config, Geometry, pool_of, batch_of, home_item, IsItemOn}
+use Rattle.xsk_turns.proofs.Calls.{Item, Told, Fill, Comp, Rx, Tx, Mark, RxDone, Call, Reserve, Submit, Peek, Release, Swap, Look, Reply}
 use Rattle.xsk_model.specs.declared.call.Mark.TheVariants.{NeedFill, NeedTx, Kick}
 use Rattle.xsk_turns.specs.Script.{Script, ask, again, ended, on_submitted, Leaves, Asks, Ends}
 use Rattle.xsk_turns.specs.Turns.{frames_in}
 use Rattle.xsk_turns.specs.Owned.{AllFit}
 use Rattle.xsk_turns.specs.AppTurns.{AppKept, AppNoted, pair_of, rx_of, tx_of, tx_pair, lanes_of, home_of, group_of, is_set, pending_at, with_pending, back_at, with_back, kick, wake, pass_on, receive_lane, visit_lane, give_back, complete_side, visit_side, with_seen, look_marks, noted_first, app_turn, app_start}
-use Rattle.xsk_turns.specs.AppOwned.{IsApp, AppOwned, HasOwnFrames}
-use Rattle.xsk_turns.specs.AppSplit.{SplitStep, AtLane, AtSide, AtMarks, HasPlace, no_note, piece, LeavesOf, IsStep, AreSteps, IsSplit, MayPass, MayGoBack, HasLeft, SplitKeepsLanes, SplitKeepsFrames, StepCallsLegal, LaterCallsLegal, LaterFramesAtEnd}
+use Rattle.xsk_turns.specs.AppOwned.{IsApp}
+use Rattle.xsk_turns.specs.AppSplit.{SplitStep, AtLane, AtSide, AtMarks, HasPlace, no_note, piece, LeavesOf, IsStep, AreSteps, IsSplit, MayGoBack, HasLeft, SplitKeepsLanes, SplitKeepsFrames, StepCallsLegal, LaterCallsLegal, LaterFramesAtEnd}
 use Rattle.xsk_turns.proofs.AppOwned.{AppHas, IsBackFrame, back_frames, fill_item, times-app_numbers, app_owned, has_none}
-use Rattle.xsk_turns.proofs.Walks.{Premise, Law, Holds, Says, MeetAlong, Fitting, Anything, meet_fitting, meet_anything, along, at_reserve, at_submit, at_peek, at_release, at_old, by_case}
+use Rattle.xsk_turns.proofs.Walks.{Law, Holds, Says, Fitting, Anything, meet_fitting, meet_anything, along, at_reserve, at_submit, at_peek, at_release, at_old, by_case}
 use Rattle.xsk_turns.proofs.AppWalk.{Family, Said, Lanes, Sides, Looking, IsLaw, go_lane, go_side, go_rx_done, go_turn}
 use Rattle.xsk_turns.proofs.AppWalk as walk
 use Rattle.xsk_turns.proofs.AppOwning as owning

@@ -2,7 +2,7 @@
 -- a lane, a visit to a side, or the looks at the marks by which the drivers tell that they have no further packet. Each is the
 -- piece of a turn that it is, cut at its start, from what the steps before it left. Then the application goes on from there by
 -- its turns. All of this is this project's own.
-use Rattle.std.specs.Prelude.{◌≡◌, ℕ, ◌+◌, ◌<◌, ◌≤◌, true, false, List, [], ◌∷◌, ◌++◌, length, All}
+use Rattle.std.specs.Prelude.{◌≡◌, ℕ, ◌<◌, ◌≤◌, true, false, List, [], ◌∷◌, ◌++◌, length, All}
 use Rattle.xsk_umem.specs.Frame.{Frame}
 use Rattle.xsk_umem.specs.Limits.{most_items}
 use Rattle.xsk_umem.specs.declared.batch.Item.{Item}

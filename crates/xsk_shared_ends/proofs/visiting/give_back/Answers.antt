@@ -1,4 +1,4 @@
-use Rattle.std.proofs.Common.{◌≡◌, ◌<◌, ℕ, List, length, drop, sym, subst, arith}
+use Rattle.std.proofs.Common.{◌<◌, ℕ, List, length, drop, sym, subst, arith}
 use Rattle.xsk_umem.specs.Frame.{Frame}
 use Rattle.xsk_turns.specs.Script.{on_submitted}
 use Rattle.xsk_turns.specs.AppTurns.{AppKept, with_back, give_back}
@@ -57,7 +57,7 @@ wake-requires-clause-at c =
     let granted = c.in_default-reserve.ensures.goes_on o (with_back k side back) (on_fill o side k back) Moved asks in
     let left = with_back k side (drop count back) in
     let put = c.serve.ensures.goes_on o left (on_submitted (given o side k back home count)) Moved
-        (puts_group c.args.config.now o side k back home count group _ c.give.new.items _ h.config c.geometry.ensures.value c.give.ensures.items granted) in
+    (puts_group c.args.config.now o side k back home count group _ c.give.new.items _ h.config c.geometry.ensures.value c.give.ensures.items granted) in
     (o, left, give_back o.config side 0 (drop count back) left next, Moved, wakes_group c.args.config.now o side k back home count group _ h.config (after_submitted o _ (given o side k back home count) _ Moved c.serve.ensures.kind put))
 
 pub groups-smaller : goal.groups-smaller
@@ -82,8 +82,8 @@ groups-preserved c =
     let granted = c.in_default-reserve.ensures.goes_on o (with_back k side back) (on_fill o side k back) Moved asks in
     let left = with_back k side (drop count back) in
     let put = c.serve.ensures.goes_on o left (on_submitted (given o side k back home count)) Moved
-        (puts_group c.args.config.now o side k back home count group _ c.give.new.items _ h.config c.geometry.ensures.value c.give.ensures.items granted) in
+    (puts_group c.args.config.now o side k back home count group _ c.give.new.items _ h.config c.geometry.ensures.value c.give.ensures.items granted) in
     let woken = c.wake.ensures.goes_on o left (give_back o.config side 0 (drop count back) left next) Moved
-        (wakes_group c.args.config.now o side k back home count group _ h.config (after_submitted o _ (given o side k back home count) _ Moved c.serve.ensures.kind put)) in
+    (wakes_group c.args.config.now o side k back home count group _ h.config (after_submitted o _ (given o side k back home count) _ Moved c.serve.ensures.kind put)) in
     subst (λ (xs : List Frame). GivesBack c.args.config.now o side k xs c.wake.new.pass) (sym c.give.ensures.left) (gives_left c.args.config.now o side k (drop count back) _ h.config woken) in
     record { same = same; empty = c.wake.ensures.empty; goes_on = goes }

@@ -9,7 +9,7 @@ pub resume-requires-clause-lanes : goal.resume-requires-clause-lanes
 resume-requires-clause-lanes c = (left _ c.self.invariant).lanes
 
 pub returns-clause-app : goal.returns-clause-app
-returns-clause-app c = subst (λ (e : EndsShown). IsResumed e.config e.app e.kept (mine_of e.pass) c.resume.result) c.self.view_is (c.resume.ensures (mine_of c.self.inside.pass) (left _ c.self.invariant))
+returns-clause-app c = subst (λ (e : EndsShown). IsResumed e.config e.app e.kept (mine_of e.pass) c.resume.result) c.self.view_is (c.resume.ensures.resumed (mine_of c.self.inside.pass) (left _ c.self.invariant))
 
 pub returns-clause-lanes : goal.returns-clause-lanes
 returns-clause-lanes c = subst KeepsLanes c.self.view_is (lanes _ c.self.invariant)
