@@ -12,6 +12,7 @@ use xsk_pcap::GAPS;
 use xsk_prog::{Rule, XdpProgram};
 use xsk_sim::{Run, Wire, simulate};
 use xsk_socket::Layout;
+use xsk_turns::Manner;
 use xsk_umem::{Frames, PacketList};
 
 /// Two ports with one queue each, and one socket on each queue.
@@ -50,7 +51,8 @@ pub fn forwarded(alloc: Global, config: Config, frames: Frames) -> Result<Run>
     let rule = Rule::Redirect { sockets: 1 };
     let program = XdpProgram::attach(rule, |bytes: &[u8], queue: u32| rule.verdict(bytes, queue));
     let lists = received.as_slice();
-    Ok(simulate(alloc, config, frames, lists, &program, Wire::Wait, 0)?)
+    let manner = Manner::plain();
+    Ok(simulate(alloc, config, frames, lists, &program, Wire::Wait, 0, manner)?)
 }
 
 /// A list of one packet for port 0, and one of none for port 1.

@@ -1,14 +1,15 @@
 //! Calls that a thread makes until they go on, each of them legal, with its looks at the other side's count counted.
+ghost use Rattle.std.specs.Prelude.{◌≡◌};
 ghost use Rattle.xsk_rings.specs.Rounds.{Rests};
 
 use std::thread;
-use xsk_model::{Call, Reply, Ring};
+use xsk_model::{Call, Mark, Reply, Ring};
 use xsk_rings::{CheckedPass, RingCalls};
 use xsk_table::Shared;
 use xsk_umem::Item;
 
 /// How often a call is made again that found a ring full or empty.
-const PATIENCE: u64 = 10_000_000_000;
+pub(crate) const PATIENCE: u64 = 10_000_000_000;
 
 /// What a caller did: its Reserves and Peeks, how many of them found a ring full or empty, and its looks at the other side's
 /// count.
@@ -41,7 +42,8 @@ pub(crate) fn make(
     tally: &mut Tally,
 ) -> Option<Reply>
     requires { Rests shared.now pass.old }
-    ensures { Rests shared.now pass.new }
+    ensures rests { Rests shared.now pass.new }
+    ensures caller { pass.new.who ≡ pass.old.who }
 {
     if !pass.allows(shared, &call) {
         return None;
@@ -63,7 +65,8 @@ pub(crate) fn reserve(
     tally: &mut Tally,
 ) -> Option<()>
     requires { Rests shared.now pass.old }
-    ensures { Rests shared.now pass.new }
+    ensures rests { Rests shared.now pass.new }
+    ensures caller { pass.new.who ≡ pass.old.who }
 {
     'tries: for _ in 0..PATIENCE {
         if let Reply::Granted = make(shared, pass, Call::Reserve(ring, 1), tally)? {
@@ -82,12 +85,33 @@ pub(crate) fn peek(
     tally: &mut Tally,
 ) -> Option<Item>
     requires { Rests shared.now pass.old }
-    ensures { Rests shared.now pass.new }
+    ensures rests { Rests shared.now pass.new }
+    ensures caller { pass.new.who ≡ pass.old.who }
 {
     'tries: for _ in 0..PATIENCE {
         if let Reply::Items(items) = make(shared, pass, Call::Peek(ring, 1), tally)? {
             let mut items = items;
             return items.pop_front();
+        }
+        thread::yield_now();
+    }
+    None
+}
+
+/// Waits until a mark is 1.
+pub(crate) fn see(
+    shared: &Shared,
+    pass: &mut CheckedPass,
+    mark: Mark,
+    tally: &mut Tally,
+) -> Option<()>
+    requires { Rests shared.now pass.old }
+    ensures rests { Rests shared.now pass.new }
+    ensures caller { pass.new.who ≡ pass.old.who }
+{
+    'tries: for _ in 0..PATIENCE {
+        if let Reply::Old(1) = make(shared, pass, Call::Look(mark), tally)? {
+            return Some(());
         }
         thread::yield_now();
     }

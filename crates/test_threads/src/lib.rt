@@ -3,7 +3,11 @@
 #![tactic(auto)]
 
 #[cfg(test)]
+mod circling;
+#[cfg(test)]
 mod going;
+#[cfg(test)]
+mod handing;
 #[cfg(test)]
 mod moving;
 #[cfg(test)]

@@ -22,26 +22,36 @@ const MOVES: u32 = 10_000;
 const CHUNK: u32 = 2048;
 
 /// Which way a caller moves frames.
-#[derive(Clone, Copy)]
-enum Way {
-    /// The driver's: from FILL to RX.
+#[derive(Clone, Copy, PartialEq, Eq)]
+pub(crate) enum Way {
+    /// The receiving driver's: from FILL to RX.
     There,
     /// The application's: from RX to FILL.
     Back,
+    /// The application's: from RX to the other port's TX.
+    Over,
+    /// The sending driver's: from TX to COMPLETION.
+    Out,
+    /// The application's: from COMPLETION to FILL.
+    Home,
 }
 
 impl Way {
     fn source(self) -> Ring {
         match self {
             Way::There => Ring::Fill(0),
-            Way::Back => Ring::Rx(0),
+            Way::Back | Way::Over => Ring::Rx(0),
+            Way::Out => Ring::Tx(1),
+            Way::Home => Ring::Comp(1),
         }
     }
 
     fn sink(self) -> Ring {
         match self {
             Way::There => Ring::Rx(0),
-            Way::Back => Ring::Fill(0),
+            Way::Back | Way::Home => Ring::Fill(0),
+            Way::Over => Ring::Tx(1),
+            Way::Out => Ring::Comp(1),
         }
     }
 }
@@ -67,16 +77,27 @@ fn received(item: Item, round: u32) -> Option<Item> {
     Some(item_on(frame, 256, 60))
 }
 
-/// The frame of a packet that was received in the round, on its way back. All bytes must be as they were received.
-fn returned(item: Item, round: u32) -> Option<Item> {
+/// The frame of a packet that was received in the round, as an address so far behind its start. All bytes must be as they
+/// were received.
+fn returned(item: Item, round: u32, offset: u32) -> Option<Item> {
     let frame = item.frame?;
     if item.desc != desc_on(frame.number(), 256, 60) || !is_written(&frame, round) {
         return None;
     }
-    Some(item_on(frame, 0, 0))
+    Some(item_on(frame, offset, 0))
 }
 
-fn is_written(frame: &Frame, round: u32) -> bool {
+/// What goes on, of an item that was taken in a round.
+fn turned(way: Way, item: Item, round: u32) -> Option<Item> {
+    match way {
+        Way::There => received(item, round),
+        Way::Back => returned(item, round, 0),
+        Way::Out => returned(item, round, 256),
+        Way::Over | Way::Home => Some(item),
+    }
+}
+
+pub(crate) fn is_written(frame: &Frame, round: u32) -> bool {
     let number = frame.number();
     let bytes = frame.bytes();
     if bytes.len() != 2048 {
@@ -107,7 +128,7 @@ fn desc_on(number: u32, offset: u32, len: u32) -> XdpDesc {
 }
 
 /// Moves one frame in a round.
-fn move_one(
+pub(crate) fn move_one(
     alloc: Global,
     shared: &Shared,
     pass: &mut CheckedPass,
@@ -116,14 +137,12 @@ fn move_one(
     tally: &mut Tally,
 ) -> Option<()>
     requires { Rests shared.now pass.old }
-    ensures { Rests shared.now pass.new }
+    ensures rests { Rests shared.now pass.new }
+    ensures caller { pass.new.who ≡ pass.old.who }
 {
     reserve(shared, pass, way.sink(), tally)?;
     let item = peek(shared, pass, way.source(), tally)?;
-    let item = match way {
-        Way::There => received(item, round)?,
-        Way::Back => returned(item, round)?,
-    };
+    let item = turned(way, item, round)?;
     let mut items = Batch::new();
     items.push(item);
     make(shared, pass, Call::Release(way.source(), 1), tally)?;
@@ -132,7 +151,7 @@ fn move_one(
 }
 
 /// Moves so many frames, in rounds from this one on.
-fn move_all(
+pub(crate) fn move_all(
     alloc: Global,
     shared: &Shared,
     pass: &mut CheckedPass,
@@ -142,7 +161,8 @@ fn move_all(
     tally: &mut Tally,
 ) -> Option<()>
     requires { Rests shared.now pass.old }
-    ensures { Rests shared.now pass.new }
+    ensures rests { Rests shared.now pass.new }
+    ensures caller { pass.new.who ≡ pass.old.who }
 {
     'rounds: for round in 0..count {
         move_one(alloc, shared, pass, way, first.wrapping_add(round), tally)?;
@@ -187,7 +207,7 @@ fn moves(alloc: Global, shared: &Shared, pass: CheckedPass, way: Way, count: u32
 }
 
 /// A table whose rings have so many entries and whose counts start at a number, with the passes of its callers.
-fn open(alloc: Global, entries: u32, first: u32) -> Result<(Shared, Passes), Fail>
+pub(crate) fn open(alloc: Global, entries: u32, first: u32) -> Result<(Shared, Passes), Fail>
     ensures { IfOk result (λ made. made.1 ≡ new_passes made.0) }
 {
     let (config, frames) = set_up(alloc, &layout(1, entries))?;
@@ -198,7 +218,11 @@ fn open(alloc: Global, entries: u32, first: u32) -> Result<(Shared, Passes), Fai
 }
 
 /// Takes the passes of the first driver and of the application, and checks them.
-fn take_both(alloc: Global, shared: &Shared, passes: Passes) -> Option<(CheckedPass, CheckedPass)>
+pub(crate) fn take_both(
+    alloc: Global,
+    shared: &Shared,
+    passes: Passes,
+) -> Option<(CheckedPass, CheckedPass)>
     requires { passes ≡ new_passes shared.now }
     ensures { IfSome result (λ both. Rests shared.now both.0 × Rests shared.now both.1) }
 {

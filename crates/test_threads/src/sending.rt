@@ -12,6 +12,7 @@ use xsk_io::{Gate, Open, PairGate};
 use xsk_prog::{Rule, Verdict, XdpProgram};
 use xsk_sim::{Wire, simulate};
 use xsk_socket::Layout;
+use xsk_turns::Manner;
 use xsk_umem::PacketList;
 use xsk_workers::forward;
 
@@ -29,7 +30,7 @@ fn sent_in_rounds<F: Fn(&[u8], u32) -> Verdict>(
     if lists.len() != config.ports() as usize {
         return Err("there is no list for each port")?;
     }
-    match simulate(alloc, config, frames, lists, program, Wire::Wait, 0) {
+    match simulate(alloc, config, frames, lists, program, Wire::Wait, 0, Manner::plain()) {
         Ok(run) => Ok(run.into_sent()),
         Err(_) => Err("the run didn't end")?,
     }

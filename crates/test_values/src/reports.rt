@@ -2,13 +2,14 @@
 //!
 //! `layout [NAME VALUE]..` (the least layout with these changes), `wire wait|drop`, `calls NUMBER`, `driver` and 25 numbers: the packets
 //! that came in, eight kinds of disposals, the packets sent, and then the counters: rx_dropped, rx_invalid_descs,
-//! rx_fill_ring_empty_descs, and by class rx_ring_full, tx_invalid_descs and tx_ring_empty_descs. `report` tells the text.
+//! rx_fill_ring_empty_descs, and by class rx_ring_full, tx_invalid_descs and tx_ring_empty_descs. A further number is that of
+//! stranded frames. `mangled` says that applications changed items. `report` tells the text.
 ghost use Rattle.std.specs.Prelude.{◌≡◌, length};
 ghost use Rattle.xsk_model.specs.Config.{IsRegular};
 
 use crate::case::Case;
 use crate::layouts::{LEAST, changed, configure};
-use crate::line::{Fault, Line};
+use crate::line::{Fault, Line, number_in};
 use crate::told::Told;
 use std::alloc::Global;
 use xsk_driver::{DriverCounters, Wire};
@@ -32,6 +33,7 @@ impl Reports {
             layout: LEAST,
             figures: Figures {
                 calls: 0,
+                mangled: false,
                 wire: Wire::Wait,
                 drivers,
             },
@@ -42,6 +44,7 @@ impl Reports {
         match word {
             "layout" => self.layout = changed(LEAST, line)?,
             "wire" => self.figures.wire = wire_in(line.word()?)?,
+            "mangled" => self.figures.mangled = true,
             "calls" => self.figures.calls = line.long()?,
             "driver" => self.figures.drivers.push(driver_in(line)?)?,
             _ => return Err(Fault::BadLine),
@@ -75,11 +78,16 @@ fn driver_in(line: &mut Line<'_>) -> Result<DriverFigures, Fault> {
     take_numbers(&mut kinds, line)?;
     let sent = line.long()?;
     let counters = counters_in(line)?;
+    let stranded = match line.next() {
+        Some(word) => u64::from(number_in(word)?),
+        None => 0,
+    };
     Ok(DriverFigures {
         packets_in,
         kinds,
         sent,
         counters,
+        stranded,
     })
 }
 

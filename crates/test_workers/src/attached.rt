@@ -1,7 +1,7 @@
 //! The program of a script, by one of these lines: `program redirect SOCKETS`, `program drop`, `program pass`,
 //! `program ether KIND SOCKETS`, `program fixed CELL`, `program atmost CELLS`, or `program even`, which redirects packets to
 //! cell 0 whose first byte is even, and drops all others. Without one it is `program redirect 1`. And what the wire does where
-//! a packet finds no frame or no room: by `wire drop` it drops it, and else it waits.
+//! a packet finds no frame or no room: by `wire drop` it drops it, and else it waits. By `mangle K` applications change items.
 ghost use Rattle.std.specs.Prelude.{◌≡◌, ◌<◌, ◌≤◌, All, IfOk, length};
 ghost use Rattle.xsk_model.specs.Expected.{nothing};
 ghost use Rattle.xsk_model.specs.Opening.{AreFrames};
@@ -11,13 +11,14 @@ ghost use Rattle.xsk_sim.specs.Shown.{HasShortPackets};
 ghost use Rattle.xsk_turns.specs.Owned.{IsSteady};
 
 use crate::trouble::Trouble;
-use crate::words::{Line, number, two_numbers};
+use crate::words::{Line, number, one_number, two_numbers};
 use std::alloc::Global;
 use xsk_driver::{Driver, Wire};
 use xsk_machine::Inputs;
 use xsk_model::Config;
 use xsk_prog::{Rule, Verdict, XdpProgram};
 use xsk_sim::{Run, simulate};
+use xsk_turns::Manner;
 use xsk_umem::{Frames, PacketList};
 
 #[derive(Clone, Copy)]
@@ -26,6 +27,7 @@ pub(crate) struct Program {
     /// Whether it redirects packets whose first byte is even, as far as the rule lets it.
     even: bool,
     wire: Wire,
+    manner: Manner,
 }
 
 /// The program of a script.
@@ -34,6 +36,7 @@ pub(crate) fn program_of(lines: &[Line<'_>]) -> Result<Program, Trouble> {
         rule: Rule::Redirect { sockets: 1 },
         even: false,
         wire: Wire::Wait,
+        manner: manner_of(lines)?,
     };
     for line in lines {
         if let Some(words) = line.behind("program") {
@@ -44,6 +47,17 @@ pub(crate) fn program_of(lines: &[Line<'_>]) -> Result<Program, Trouble> {
         }
     }
     Ok(program)
+}
+
+/// The manner of a script's applications.
+pub(crate) fn manner_of(lines: &[Line<'_>]) -> Result<Manner, Trouble> {
+    let mut manner = Manner::plain();
+    for line in lines {
+        if let Some(words) = line.behind("mangle") {
+            manner.mangle = Some(one_number(words)?);
+        }
+    }
+    Ok(manner)
 }
 
 fn set_program(program: &mut Program, words: &[&str]) -> Result<(), Trouble> {
@@ -141,7 +155,9 @@ pub(crate) fn driver_of<'a>(
     requires short { All IsShort packets.now.packets }
     ensures { IfOk result (λ d. d.expected ≡ nothing) }
 {
-    let Program { rule, even, wire } = program;
+    let Program {
+        rule, even, wire, ..
+    } = program;
     let rule = attachable(rule)?;
     let program = XdpProgram::attach(
         rule,
@@ -175,11 +191,16 @@ pub(crate) fn run_of(
     requires short { All HasShortPackets packets.now }
     ensures { IfOk result (λ run. run.pairs ≡ length config.pairs) }
 {
-    let Program { rule, even, wire } = program;
+    let Program {
+        rule,
+        even,
+        wire,
+        manner,
+    } = program;
     let rule = attachable(rule)?;
     let program = XdpProgram::attach(
         rule,
         |packet: &[u8], queue: u32| decided(rule, even, packet, queue),
     );
-    Ok(simulate(alloc, config, frames, packets, &program, wire, order)?)
+    Ok(simulate(alloc, config, frames, packets, &program, wire, order, manner)?)
 }

@@ -4,7 +4,7 @@ ghost use Rattle.xsk_driver.specs.Sent.{IsShort};
 ghost use Rattle.xsk_sim.specs.Shown.{HasShortPackets};
 ghost use Rattle.xsk_turns.specs.Owned.{IsSteady};
 
-use crate::attached::{driver_of, program_of};
+use crate::attached::{driver_of, manner_of, program_of};
 use crate::hand::{Hand, Worker};
 use crate::made::set_up;
 use crate::packets::lists_of;
@@ -16,6 +16,7 @@ use std::alloc::Global;
 use xsk_app::App;
 use xsk_machine::Inputs;
 use xsk_model::Config;
+use xsk_turns::Manner;
 use xsk_umem::{Frames, PacketList};
 
 /// Plays a driver, by `driver PAIR PACKETS BYTES`, with room for so many packets and bytes that it sends, or an application,
@@ -34,7 +35,8 @@ pub(crate) fn play_hand(
     if driver {
         drive(alloc, &config, lines, words, rest, &mut shelf, text)
     } else {
-        pass_on(alloc, &config, words, rest, &mut shelf, text)
+        let manner = manner_of(lines)?;
+        pass_on(alloc, &config, manner, words, rest, &mut shelf, text)
     }
 }
 
@@ -101,6 +103,7 @@ fn drive_on(
 fn pass_on(
     alloc: Global,
     config: &Config,
+    manner: Manner,
     words: &[&str],
     rest: &[Line<'_>],
     shelf: &mut Shelf,
@@ -112,7 +115,7 @@ fn pass_on(
     if app >= (config.ports() / 2) * config.queues() {
         return Err(Trouble::NoWorker);
     }
-    let mut hand = Hand::new("a", app, App::new(alloc, config, app)?);
+    let mut hand = Hand::new("a", app, App::new(alloc, config, app, manner)?);
     play(alloc, &mut hand, rest, shelf, text)
 }
 

@@ -67,6 +67,9 @@ fn tell_figures(run: &Run, text: &mut String) -> Result<(), Trouble> {
     let figures = run.figures();
     for pair in 0..figures.drivers.len() {
         tell_driver(pair, figures.drivers.get(pair), text)?;
+        if figures.mangled {
+            tell_stranded(pair, figures.drivers.get(pair), text)?;
+        }
     }
     Ok(())
 }
@@ -79,6 +82,12 @@ fn tell_driver(pair: u32, figures: &DriverFigures, text: &mut String) -> Result<
         tell_number(name, *count, text)?;
     }
     tell_last(" sent ", figures.sent, text)
+}
+
+/// The frames that a driver peeked on TX rings and hasn't put on COMPLETION.
+fn tell_stranded(pair: u32, figures: &DriverFigures, text: &mut String) -> Result<(), Trouble> {
+    tell_number("d", u64::from(pair), text)?;
+    tell_last(" stranded ", figures.stranded, text)
 }
 
 fn tell_sent(run: &Run, pairs: u32, text: &mut String) -> Result<(), Trouble>

@@ -36,6 +36,8 @@ ways_from c app first second classes ways e f same few count each =
       pair = λ lane d h.
           (each lane d h).pair ∙ pair_at_side c app first second (1 - lane / classes) e f (omega arith)
           ∙ ap (λ (s : ℕ). pair_of c app (1 - lane / s)) same;
+      side = λ lane d h. (each lane d h).side ∙ ap (λ (s : ℕ). lane / s) same;
+      below = λ lane h. subst (λ (s : ℕ). lane / s < 2) same (at lane h);
     }
 
 -- one more

@@ -3,3 +3,4 @@ pub mod Steps
 pub mod TurnLemmas
 pub mod Runs
 pub mod Resumed
+pub mod Taking

@@ -1,16 +1,16 @@
 -- What each call of an application's machine and its wait come to, in the machine's own terms.
 use Rattle.std.proofs.Common.{◌≡◌, ℕ, zero, ◌++◌, ◌<◌, ◌≤◌, Option, Some, None, List, [], length, map, take, drop, sym, ap, ◌∙◌, get_or-set_same}
 use Rattle.xsk_turns.proofs.Object.{Frame, Config, pool_of, batch_of, home_item}
-use Rattle.xsk_turns.proofs.Calls.{Item, Fill, Comp, Rx, Reserve, Submit, Peek, Release, Reply, Granted, Submitted}
+use Rattle.xsk_turns.proofs.Calls.{Item, Fill, Comp, Rx, Tx, Reserve, Submit, Peek, Release, Reply, Granted, Submitted}
 use Rattle.xsk_model.specs.Expected.{CanCome, submitted}
 use Rattle.xsk_model.specs.declared.ask.Answer.{Answer}
 use Rattle.xsk_model.specs.declared.ask.Answer.TheVariants.{Granted as Allowed, Full as IsFull, Submitted as Taken, Items as HasItems, Empty as IsEmpty, Released as Freed, Old as Was}
 use Rattle.xsk_turns.specs.Stepping.{joined_answer, IsLent}
 use Rattle.xsk_turns.specs.Script.{ask}
-use Rattle.xsk_turns.specs.AppTurns.{AppKept, AppNoted, rx_of, lanes_of, pair_of, pending_at, with_pending, back_at, with_back, receive_lane, give_back}
+use Rattle.xsk_turns.specs.AppTurns.{AppKept, AppNoted, rx_of, tx_of, lanes_of, pair_of, pending_at, with_pending, given_on, passed_on, back_at, with_back, pass_on, receive_lane, give_back}
 use Rattle.xsk_app.specs.Ways.{IsGroup}
 use Rattle.xsk_app.specs.Stands.{from_lane, after_full_lane, from_side, after_full_side, by_reply, left}
-use Rattle.xsk_app.specs.declared.machine.Wait.TheVariants.{PeekRx, ReleaseRx, PeekComp, ReserveFill, SubmitFill}
+use Rattle.xsk_app.specs.declared.machine.Wait.TheVariants.{PeekRx, ReleaseRx, SubmitTx, PeekComp, ReserveFill, SubmitFill}
 use Rattle.xsk_turns.proofs.AppGroups.{with_back-same}
 use Rattle.xsk_app.proofs.TurnLemmas.{submit_home, lane_empty, side_empty, give_back_some, give_back_granted}
 
@@ -61,6 +61,14 @@ submit_group c app side noted kept home count items rest h group some e f =
     ∙ ap (λ (fs : List Frame). submit_home c home (with_back kept side rest) (take count back) (give_back c side zero fs (with_back kept side rest) next)) here
     ∙ ap (λ (fs : List Frame). submit_home c home (with_back kept side fs) (take count back) (give_back c side zero fs (with_back kept side fs) next)) f
     ∙ sym (give_back_granted c side back kept next home count group some)
+
+pub submit_lane : (c : Config) (app lane : ℕ) (noted : AppNoted) (kept now : AppKept) (items : List Item) (tx : ℕ) → now ≡ passed_on c lane kept → items ≡ given_on c lane kept
+    → tx ≡ tx_of c app lane
+    → ask now (Submit (Tx tx) items) (left c app (SubmitTx lane) noted now) ≡ by_reply (pass_on c app lane kept (after_full_lane c app lane noted)) Granted
+submit_lane c app lane noted kept now items tx e f g =
+    ap (λ (k : AppKept). ask k (Submit (Tx tx) items) (left c app (SubmitTx lane) noted k)) e
+    ∙ ap (λ (xs : List Item). ask (passed_on c lane kept) (Submit (Tx tx) xs) (left c app (SubmitTx lane) noted (passed_on c lane kept))) f
+    ∙ ap (λ (t : ℕ). ask (passed_on c lane kept) (Submit (Tx t) (given_on c lane kept)) (left c app (SubmitTx lane) noted (passed_on c lane kept))) g
 
 -- the reply to a Submit
 pub submitted_came : (reply : Option Reply) → CanCome submitted reply → reply ≡ Some Submitted

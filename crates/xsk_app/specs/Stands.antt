@@ -18,7 +18,7 @@ abbrev pub noted_by : Turn → AppNoted
 noted_by t = record { seen = t.seen; gone = t.gone; lanes_empty = t.lanes_empty; sides_empty = t.sides_empty }
 
 abbrev pub kept_by : Machine → AppKept
-kept_by m = record { pending = m.pending.items; back = m.backs.items; seen = m.seen; gone = m.gone; tx_done = m.tx_done }
+kept_by m = record { pending = m.pending.items; back = m.backs.items; seen = m.seen; gone = m.gone; tx_done = m.tx_done; manner = m.manner; number = m.number }
 
 -- the lanes and the sides from one on, those after one, and the same where this one wasn't empty
 abbrev pub from_lane : Config → ℕ → ℕ → AppNoted → AppKept → Script AppKept
@@ -104,3 +104,9 @@ to_do c app m (Some reply) = left c app m.wait (noted_by m.turn) (kept_by m) rep
 pub record IsSame (old new : Machine) : Type 0 where
   pub config : new.config ≡ old.config
   pub app : new.app ≡ old.app
+
+-- and so does where it is in its turns
+pub record HasSameRest (old new : Machine) : Type 0 where
+  pub same : IsSame old new
+  pub wait : new.wait ≡ old.wait
+  pub turn : new.turn ≡ old.turn

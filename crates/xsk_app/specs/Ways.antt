@@ -5,7 +5,7 @@ use Rattle.std.specs.Coded.{×_prop, Unit-prop, le_prop}
 use Rattle.std.proofs.Props.{props}
 use Rattle.xsk_umem.specs.Frame.{Frame}
 use Rattle.xsk_umem.specs.declared.batch.Item.{Item}
-use Rattle.xsk_model.specs.Config.{Config, pool_of, batch_of}
+use Rattle.xsk_model.specs.Config.{Config, pool_of, batch_of, classes_of}
 use Rattle.xsk_turns.specs.AppTurns.{rx_of, tx_of, tx_pair, lanes_of, home_of, group_of, is_set}
 use Rattle.xsk_app.specs.declared.machine.Way.{Way}
 use Rattle.xsk_app.specs.declared.machine.Next.{Next}
@@ -18,13 +18,16 @@ pub record IsWay (pairs : List ℕ) (classes lane : ℕ) (way : Way) : Type 0 wh
   pub rx : way.rx ≡ slice_index pairs (lane / classes) * classes + lane % classes
   pub tx : way.tx ≡ slice_index pairs (1 - lane / classes) * classes + lane % classes
   pub pair : way.pair ≡ slice_index pairs (1 - lane / classes)
+  pub side : way.side ≡ lane / classes
 
--- each lane has its sockets, and the pair of its TX ring
+-- each lane has its sockets, the pair of its TX ring and the side that receives
 pub record AreWays (c : Config) (app : ℕ) (ways : List Way) : Type 0 where
   pub count : length ways ≡ lanes_of c
   pub rx : (lane : ℕ) (d : Way) → lane < length ways → (slice_index_or ways lane d).rx ≡ rx_of c app lane
   pub tx : (lane : ℕ) (d : Way) → lane < length ways → (slice_index_or ways lane d).tx ≡ tx_of c app lane
   pub pair : (lane : ℕ) (d : Way) → lane < length ways → (slice_index_or ways lane d).pair ≡ tx_pair c app lane
+  pub side : (lane : ℕ) (d : Way) → lane < length ways → (slice_index_or ways lane d).side ≡ lane / classes_of c
+  pub below : (lane : ℕ) → lane < length ways → lane / classes_of c < 2
 
 -- the home and the number of the frames that a side gives back next
 abbrev pub IsGroup : ℕ → ℕ → List Frame → ℕ → ℕ → Type 0

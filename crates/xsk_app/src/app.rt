@@ -12,6 +12,7 @@ ghost use Rattle.xsk_model.specs.History.{Fits};
 ghost use Rattle.xsk_model.specs.declared.call.Call.{Call as ACall};
 ghost use Rattle.xsk_model.specs.declared.call.Reply.{Reply as AReply};
 ghost use Rattle.xsk_model.specs.Expected.{CanCome, nothing, expected_of};
+ghost use Rattle.xsk_turns.specs.declared.manner.Manner.{Manner as AManner};
 ghost use Rattle.xsk_turns.specs.Stepping.{joined_ask, joined_answer, IsGivenBack, IsLent};
 
 use crate::back::Back;
@@ -21,6 +22,7 @@ use std::alloc::Global;
 use std::marker::Model;
 use xsk_model::steering::{driver_on, port_on, queue_on};
 use xsk_model::{Act, Answer, Ask, Config, Reply};
+use xsk_turns::Manner;
 use xsk_turns::stepping::{join_ask, split_reply};
 use xsk_umem::{Batch, OutOfMemory};
 
@@ -45,13 +47,20 @@ impl<'a> App<'a> {
     ghost use Rattle.xsk_app.specs.Runs.{IsNew, Stands, StandsWith, TellsWith};
     ghost use Rattle.xsk_app.specs.Resumed.{IsResumed, StandsFrom, StandsFromWith};
 
-    /// The application with this number, of a regular configuration that has it and in which no socket is closed.
-    pub fn new(alloc: Global, config: &'a Config, app: u32) -> Result<App<'a>, OutOfMemory>
+    /// The application with this number, of a regular configuration that has it and in which no socket is closed. By its manner
+    /// it changes items that it submits on TX, or none.
+    pub fn new(
+        alloc: Global,
+        config: &'a Config,
+        app: u32,
+        manner: Manner,
+    ) -> Result<App<'a>, OutOfMemory>
         requires steady { IsSteady config.now }
         requires app { app < apps_of config.now }
         ensures expected { IfOk result (λ a. a.expected ≡ nothing) }
-        ensures new { IfOk result (λ a. IsNew config.now app a) }
+        ensures new { IfOk result (λ a. IsNew manner config.now app a) }
     {
+        let _geometry = config.geometry();
         let _queues = config.queues();
         let queue = queue_on(config, app);
         let first = driver_on(config, port_on(config, app, 0), queue);
@@ -69,6 +78,8 @@ impl<'a> App<'a> {
             seen: [false; 2],
             gone: [false; 2],
             tx_done: false,
+            manner,
+            number: 0,
             turn: Turn {
                 seen: false,
                 gone: false,
@@ -88,14 +99,14 @@ impl<'a> App<'a> {
 
         // The application stands for its calls and replies: where its turns stand after them it keeps what they keep, and
         // gives the call that they ask for, or has ended as they have.
-        ensures begins { (c : AConfig) (app : ℕ) → IsNew c app self.old → reply ≡ None → StandsWith c app self.new result [] }
-        ensures goes_on { (c : AConfig) (app : ℕ) (l : List Told) (call : ACall) (r : AReply)
-            → Stands c app self.old call l → reply ≡ Some r → Fits c l call r → StandsWith c app self.new result (with_told l call r) }
+        ensures begins { (m : AManner) (c : AConfig) (app : ℕ) → IsNew m c app self.old → reply ≡ None → StandsWith m c app self.new result [] }
+        ensures goes_on { (m : AManner) (c : AConfig) (app : ℕ) (l : List Told) (call : ACall) (r : AReply)
+            → Stands m c app self.old call l → reply ≡ Some r → Fits c l call r → StandsWith m c app self.new result (with_told l call r) }
 
         // So by the laws of its turns it tells what its own calls and replies leave.
-        ensures tells_first { (c : AConfig) (app : ℕ) → IsNew c app self.old → reply ≡ None → TellsWith c app self.new result [] }
-        ensures tells { (c : AConfig) (app : ℕ) (l : List Told) (call : ACall) (r : AReply)
-            → Stands c app self.old call l → reply ≡ Some r → Fits c l call r → TellsWith c app self.new result (with_told l call r) }
+        ensures tells_first { (m : AManner) (c : AConfig) (app : ℕ) → IsNew m c app self.old → reply ≡ None → TellsWith m c app self.new result [] }
+        ensures tells { (m : AManner) (c : AConfig) (app : ℕ) (l : List Told) (call : ACall) (r : AReply)
+            → Stands m c app self.old call l → reply ≡ Some r → Fits c l call r → TellsWith m c app self.new result (with_told l call r) }
 
         // One that goes on from what earlier calls left stands for its calls since then, and their replies.
         ensures resumes { (c : AConfig) (app : ℕ) (start : AppKept) (past : List Told) → IsResumed c app start past self.old → reply ≡ None → StandsFromWith c app start past self.new result [] }
@@ -118,15 +129,15 @@ impl<'a> App<'a> {
         ensures expected { self.new.expected ≡ expected_of (joined_ask result items.new) }
         ensures given_back { IsGivenBack result items.new }
         ensures same { (self.new.config ≡ self.old.config) × (self.new.app ≡ self.old.app) }
-        ensures begins { (c : AConfig) (app : ℕ) → IsNew c app self.old → joined_answer answer items.old ≡ None → StandsWith c app self.new (joined_ask result items.new) [] }
-        ensures goes_on { (c : AConfig) (app : ℕ) (l : List Told) (call : ACall) (r : AReply)
-            → Stands c app self.old call l → joined_answer answer items.old ≡ Some r → Fits c l call r
-            → StandsWith c app self.new (joined_ask result items.new) (with_told l call r) }
-        ensures tells_first { (c : AConfig) (app : ℕ) → IsNew c app self.old → joined_answer answer items.old ≡ None
-            → TellsWith c app self.new (joined_ask result items.new) [] }
-        ensures tells { (c : AConfig) (app : ℕ) (l : List Told) (call : ACall) (r : AReply)
-            → Stands c app self.old call l → joined_answer answer items.old ≡ Some r → Fits c l call r
-            → TellsWith c app self.new (joined_ask result items.new) (with_told l call r) }
+        ensures begins { (m : AManner) (c : AConfig) (app : ℕ) → IsNew m c app self.old → joined_answer answer items.old ≡ None → StandsWith m c app self.new (joined_ask result items.new) [] }
+        ensures goes_on { (m : AManner) (c : AConfig) (app : ℕ) (l : List Told) (call : ACall) (r : AReply)
+            → Stands m c app self.old call l → joined_answer answer items.old ≡ Some r → Fits c l call r
+            → StandsWith m c app self.new (joined_ask result items.new) (with_told l call r) }
+        ensures tells_first { (m : AManner) (c : AConfig) (app : ℕ) → IsNew m c app self.old → joined_answer answer items.old ≡ None
+            → TellsWith m c app self.new (joined_ask result items.new) [] }
+        ensures tells { (m : AManner) (c : AConfig) (app : ℕ) (l : List Told) (call : ACall) (r : AReply)
+            → Stands m c app self.old call l → joined_answer answer items.old ≡ Some r → Fits c l call r
+            → TellsWith m c app self.new (joined_ask result items.new) (with_told l call r) }
         ensures resumes { (c : AConfig) (app : ℕ) (start : AppKept) (past : List Told) → IsResumed c app start past self.old → joined_answer answer items.old ≡ None
             → StandsFromWith c app start past self.new (joined_ask result items.new) [] }
         ensures goes_on_from { (c : AConfig) (app : ℕ) (start : AppKept) (past l : List Told) (call : ACall) (r : AReply)
@@ -163,6 +174,7 @@ pub(crate) fn way_of(pairs: [u32; 2], classes: u32, lane: u32) -> Way
         rx: pairs[side] * classes + lane % classes,
         tx: pairs[1 - side] * classes + lane % classes,
         pair: pairs[1 - side],
+        side,
     }
 }
 

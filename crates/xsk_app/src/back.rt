@@ -1,6 +1,7 @@
 //! The frames that an application has to give back to FILL.
-ghost use Rattle.std.specs.Prelude.{◌≡◌, ◌==◌, ◌<◌, ◌≤◌, [], ◌↔◌, IsTrue, IfOk, IsNone, IfSome, length, map, take, drop};
+ghost use Rattle.std.specs.Prelude.{◌≡◌, ◌==◌, ◌<◌, ◌≤◌, [], ◌++◌, ◌↔◌, IsTrue, IfOk, IsNone, IfSome, length, map, take, drop};
 ghost use Rattle.std.specs.List.{take_while};
+ghost use Rattle.xsk_umem.specs.Limits.{most_frames};
 ghost use Rattle.xsk_model.specs.Opening.{home_item as item_at_home};
 ghost use Rattle.xsk_turns.specs.AppTurns.{home_of};
 
@@ -10,8 +11,8 @@ use std::marker::Model;
 use xsk_model::home_item;
 use xsk_umem::{Batch, Frame, Geometry, OutOfMemory};
 
-/// The most frames that a side has to give back: those of one batch.
-const MOST_BACK: usize = 32;
+/// The most frames that a side has to give back: as many as a UMEM may have.
+const MOST_BACK: usize = 4096;
 
 /// The frames that a side has yet to give back, in order. There is room for those of one batch.
 #[derive(Drop)]
@@ -20,7 +21,7 @@ pub struct Back {
 }
 
 impl Model for Back {
-    ghost use Rattle.std.specs.Prelude.{◌≤◌, List};
+    ghost use Rattle.std.specs.Prelude.{◌≤◌, List, length};
     ghost use Rattle.std.specs.VecDeque.{deque_capacity};
     ghost use Rattle.xsk_umem.specs.Frame.{Frame};
 
@@ -28,11 +29,11 @@ impl Model for Back {
 
     ghost view = { λ b. b.frames.items };
 
-    ghost invariant = { λ b. 32 ≤ deque_capacity b.frames };
+    ghost invariant = { λ b. (length b.frames.items ≤ 4096) × (4096 ≤ deque_capacity b.frames) };
 }
 
 impl Back {
-    ghost use Rattle.xsk_turns.specs.Turns.{frames_in};
+    ghost use Rattle.xsk_turns.specs.Turns.{frame_in, frames_in};
     ghost use Rattle.xsk_app.specs.Ways.{IsGroup};
 
     /// None, with room for a batch.
@@ -63,6 +64,25 @@ impl Back {
                 self.frames.push_back_reserved(frame);
             }
         }
+    }
+
+    /// Keeps a frame, where there is one, behind the others, unless it has as many as a UMEM may have.
+    pub(crate) fn add(&mut self, frame: Option<Frame>)
+        ensures { self.new ≡ take most_frames (self.old ++ frame_in frame) }
+    {
+        if self.frames.len() < MOST_BACK {
+            if let Some(frame) = frame {
+                self.frames.push_back_reserved(frame);
+            }
+        }
+    }
+
+    /// How many frames it has.
+    pub(crate) fn len(&self) -> usize
+        ensures value { result ≡ length self.now }
+        ensures few { length self.now ≤ most_frames }
+    {
+        self.frames.len()
     }
 
     /// The home of the first frame, and how many frames from the front have it, at most a batch.

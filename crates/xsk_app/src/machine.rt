@@ -17,7 +17,7 @@
 //! SubmitTx, SubmitFill ──> LookNeed ──> Kick    the driver of the ring is woken where the ring's flag is set
 //! TellTxDone ──> Kick ──> Kick                  both drivers are woken
 //! ```
-ghost use Rattle.std.specs.Prelude.{◌≡◌, ◌≢◌, ℕ, ◌+◌, ◌-◌, ◌<◌, ◌≤◌, [], ◌∷◌, IfSome, length, vec_len, map, take, drop};
+ghost use Rattle.std.specs.Prelude.{Some, None, ◌≡◌, ◌≢◌, ℕ, ◌+◌, ◌-◌, ◌<◌, ◌≤◌, [], ◌∷◌, IfSome, length, vec_len, map, take, drop};
 ghost use Rattle.xsk_model.specs.Config.{batch_of, pool_of};
 ghost use Rattle.xsk_model.specs.Marks.{apps_of};
 ghost use Rattle.xsk_model.specs.Asks.{joined_call, HasAsked};
@@ -30,7 +30,9 @@ ghost use Rattle.xsk_turns.specs.Stepping.{joined_ask, joined_answer, IsGivenBac
 ghost use Rattle.xsk_app.specs.Ways.{AreWays, IsGroup, CanGoOn, IsReady, IsReady-prop, first_unset};
 
 use crate::back::Back;
+use crate::mangling::{mangle, round_of};
 use xsk_model::{Answer, Ask, Config, Mark, Ring};
+use xsk_turns::Manner;
 use xsk_umem::Batch;
 
 /// The sides of the application: its two ports.
@@ -68,12 +70,13 @@ pub(crate) enum Wait {
 }
 
 /// The sockets of a lane: it goes from the RX ring of one side's class to the TX ring of the other side's. `pair` is the
-/// other side's, whose driver sends what stands on that TX ring.
+/// other side's, whose driver sends what stands on that TX ring, and `side` is the one that receives.
 #[derive(Clone, Copy)]
 pub struct Way {
     pub rx: u32,
     pub tx: u32,
     pub pair: u32,
+    pub side: usize,
 }
 
 /// What was so as the turn began, and whether each lane and each side visited so far had an empty peek in it.
@@ -99,6 +102,9 @@ pub(crate) struct Machine<'a> {
     pub(crate) seen: [bool; 2],
     pub(crate) gone: [bool; 2],
     pub(crate) tx_done: bool,
+    pub(crate) manner: Manner,
+    /// That of the next item that it submits on TX, counted round, where it changes items.
+    pub(crate) number: u64,
     pub(crate) turn: Turn,
     pub(crate) wait: Wait,
     ghost pooled: { 1 ≤ pool_of config.now },
@@ -111,14 +117,15 @@ pub(crate) struct Machine<'a> {
     ghost pairs_are: { pairs ≡ pair_of config.now app 0 ∷ pair_of config.now app 1 ∷ [] },
     ghost lanes: { length pending.items ≡ lanes_of config.now },
     ghost sides: { length backs.items ≡ 2 },
+    ghost numbered: { number < 1099511627776 },
     ghost ready: { IsReady config.now pending.items backs.items wait } by { IsReady-prop config.now pending.items backs.items wait },
 }
 
 impl<'a> Machine<'a> {
     ghost use Rattle.xsk_app.specs.Waits.{expects, IsBare};
     ghost use Rattle.xsk_app.specs.declared.machine.Wait.TheVariants as wait;
-    ghost use Rattle.xsk_turns.specs.AppTurns.{tx_of, tx_pair, kick, wake, wake_both, pass_on, receive_lane, visit_lane, visit_lanes, give_back, complete_side, visit_side, back_at, pending_at, with_back, with_seen, with_gone, look_rx_done, look_gone, tell_tx_done, end_or_look, end_turn, turn_sides};
-    ghost use Rattle.xsk_app.specs.Stands.{GoesOn, to_do, doing, by_reply, IsSame, noted_by, kept_by, from_lane, after_full_lane, from_side, after_full_side, after_group, after, wake_by, told_tx_done};
+    ghost use Rattle.xsk_turns.specs.AppTurns.{tx_of, tx_pair, given_on, passed_on, kick, wake, wake_both, pass_on, receive_lane, visit_lane, visit_lanes, give_back, complete_side, visit_side, back_at, pending_at, with_back, with_seen, with_gone, look_rx_done, look_gone, tell_tx_done, end_or_look, end_turn, turn_sides};
+    ghost use Rattle.xsk_app.specs.Stands.{GoesOn, to_do, doing, by_reply, IsSame, HasSameRest, noted_by, kept_by, from_lane, after_full_lane, from_side, after_full_side, after_group, after, wake_by, told_tx_done};
     ghost use Rattle.xsk_turns.specs.Script.{again};
 
     /// Goes on with the answer to the last call, whose items stand in the batch, and leaves there the items of the next one.
@@ -350,7 +357,7 @@ impl<'a> Machine<'a> {
         Ask::Reserve(Ring::Tx(self.ways[lane].tx), self.pending[lane].len())
     }
 
-    /// Puts the lane's pending items on its TX ring as they are.
+    /// Puts the lane's pending items on its TX ring as they are, or as its manner changes them.
     fn send_on(&mut self, lane: usize, items: &mut Batch) -> Option<Ask>
         requires lane { lane < vec_len self.old.pending }
         requires empty { items.old ≡ [] }
@@ -359,11 +366,65 @@ impl<'a> Machine<'a> {
         ensures same { IsSame self.old self.new }
         ensures given_back { IsGivenBack result items.new }
     {
+        let tx = self.ways[lane].tx;
         self.wait = Wait::SubmitTx { lane };
+        self.put_out(lane, items);
+        Some(Ask::Submit(Ring::Tx(tx)))
+    }
+
+    /// Moves the lane's pending items to the batch, by its manner.
+    fn put_out(&mut self, lane: usize, items: &mut Batch)
+        requires lane { lane < vec_len self.old.pending }
+        requires at { self.old.wait ≡ wait.SubmitTx lane }
+        requires empty { items.old ≡ [] }
+        ensures items { items.new ≡ given_on self.old.config.now lane (kept_by self.old) }
+        ensures kept { kept_by self.new ≡ passed_on self.old.config.now lane (kept_by self.old) }
+        ensures rest { HasSameRest self.old self.new }
+    {
+        match self.manner.mangle {
+            None => self.move_on(lane, items),
+            Some(every) => self.mangle(lane, every, items),
+        }
+    }
+
+    /// Moves the lane's pending items to the batch as they are.
+    fn move_on(&mut self, lane: usize, items: &mut Batch)
+        requires lane { lane < vec_len self.old.pending }
+        requires at { self.old.wait ≡ wait.SubmitTx lane }
+        requires plain { self.old.manner.mangle ≡ None }
+        requires empty { items.old ≡ [] }
+        ensures items { items.new ≡ given_on self.old.config.now lane (kept_by self.old) }
+        ensures kept { kept_by self.new ≡ passed_on self.old.config.now lane (kept_by self.old) }
+        ensures rest { HasSameRest self.old self.new }
+    {
         let pending = &mut self.pending[lane];
         let _count = pending.len();
         items.append(pending);
-        Some(Ask::Submit(Ring::Tx(self.ways[lane].tx)))
+    }
+
+    /// Moves them there as the manner changes them, and keeps the frames that are taken from them with the side that received
+    /// them.
+    fn mangle(&mut self, lane: usize, every: u32, items: &mut Batch)
+        requires lane { lane < vec_len self.old.pending }
+        requires at { self.old.wait ≡ wait.SubmitTx lane }
+        requires manner { self.old.manner.mangle ≡ Some every }
+        requires empty { items.old ≡ [] }
+        ensures items { items.new ≡ given_on self.old.config.now lane (kept_by self.old) }
+        ensures kept { kept_by self.new ≡ passed_on self.old.config.now lane (kept_by self.old) }
+        ensures rest { HasSameRest self.old self.new }
+    {
+        let pending = &mut self.pending[lane];
+        let back = &mut self.backs[self.ways[lane].side];
+        let count = u64::from(pending.len());
+        mangle(
+            self.config.geometry(),
+            every,
+            self.number,
+            pending,
+            back,
+            items,
+        );
+        self.number = (self.number + count) % round_of(every);
     }
 
     /// Wakes the driver of the lane's TX ring.

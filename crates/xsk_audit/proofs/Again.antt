@@ -56,7 +56,7 @@ FitsCall (Look m) = FitsMark m
 abbrev BeginsDigit : ℕ → List ℕ → Type 0
 BeginsDigit n ds = (rest : List ℕ) → begins_digit (ds ++ rest) ≡ true
 
-digit-front : (n : ℕ) → n < 2 ^ 64 → (rest : List ℕ) → begins_digit (decimal n ++ rest) ≡ true
+pub digit-front : (n : ℕ) → n < 2 ^ 64 → (rest : List ℕ) → begins_digit (decimal n ++ rest) ≡ true
 digit-front n fits rest = decimal_by_steps BeginsDigit
     (λ k low r. let d : is_ascii_digit (48 + k) ≡ true = grind arith in d)
     (λ k ds big ih r. ap begins_digit (append_assoc ds ((48 + k % 10) ∷ []) r) ∙ ih ((48 + k % 10) ∷ r))

@@ -15,3 +15,5 @@ pub mod Firsts
 pub mod Making
 pub mod Misses
 pub mod OneVerdict
+pub mod Feeds
+pub mod Written

@@ -1,10 +1,10 @@
 -- What an application puts into rings it took from rings that come before them, and it swaps no more marks than it puts items,
 -- but for three at its end.
-use Rattle.std.proofs.Common.{◌≡◌, ℕ, zero, suc, ◌+◌, ◌*◌, ◌<◌, ◌≤◌, Bool, true, false, cond, eqb, Option, Some, None, List, [], ◌∷◌, ◌++◌, length, get_or, set, drop, map, replicate, refl, sym, ap, ◌∙◌, arith, length-append, length-take, length-drop, length-set}
+use Rattle.std.proofs.Common.{◌≡◌, ℕ, zero, suc, ◌+◌, ◌*◌, ◌/◌, ◌<◌, ◌≤◌, Bool, true, false, cond, eqb, Option, Some, None, List, [], ◌∷◌, ◌++◌, length, get_or, set, take, drop, map, replicate, refl, sym, ap, ◌∙◌, arith, length-append, length-take, length-drop, length-set}
 use Rattle.std.proofs.lemmas.List.{length-map}
 use Rattle.xsk_umem.specs.Frame.{Frame}
 use Rattle.xsk_umem.specs.declared.batch.Item.{Item}
-use Rattle.xsk_model.specs.Config.{Config, pool_of, batch_of}
+use Rattle.xsk_model.specs.Config.{Config, pool_of, batch_of, classes_of}
 use Rattle.xsk_model.specs.Opening.{home_item}
 use Rattle.xsk_model.specs.Entry.{Told, with_told}
 use Rattle.xsk_model.specs.Legal.{IsLegal}
@@ -17,7 +17,12 @@ use Rattle.xsk_model.specs.declared.call.Reply.{Reply}
 use Rattle.xsk_model.specs.declared.call.Reply.TheVariants.{Granted, Full, Submitted, Items, Empty, Released, Old}
 use Rattle.xsk_turns.specs.Script.{Script, ask, begun}
 use Rattle.xsk_turns.specs.Turns.{frame_in, frames_in}
-use Rattle.xsk_turns.specs.AppTurns.{AppKept, lanes_of, group_of, pending_at, with_pending, with_back, app_turn, app_start, IsAppRun}
+use Rattle.xsk_turns.specs.AppTurns.{AppKept, lanes_of, group_of, pending_at, with_pending, given_on, passed_on, with_back, app_turn, app_start_by, IsAppRunBy}
+use Rattle.xsk_turns.specs.Mangling.{change_at, taken_by, frames_taken, back_by}
+use Rattle.xsk_turns.specs.declared.manner.Manner.{Manner}
+use Rattle.xsk_turns.specs.declared.manner.Change.{Change}
+use Rattle.xsk_turns.specs.declared.manner.Change.TheVariants.{NoBytes, WholeChunk, UnknownOption, Outside, GoesOn}
+use Rattle.xsk_turns.proofs.Mangling.{length-given, back_sides}
 use Rattle.xsk_turns.specs.AppOwned.{IsApp}
 use Rattle.xsk_turns.proofs.AppGroups.{group_front}
 use Rattle.xsk_turns.proofs.Walks.{Premise, MeetAlong}
@@ -58,6 +63,31 @@ few_in (item ∷ items) = omega (arith, length-append (frame_in item.frame) (fra
     one (Some frame) = omega arith
     one None = omega arith
 
+-- frames that are taken from items are no more than the items
+few_by : (change : Option Change) (item : Item) → length (taken_by change item) ≤ 1
+few_by None item = omega arith
+few_by (Some NoBytes) item = omega arith
+few_by (Some WholeChunk) item = omega arith
+few_by (Some UnknownOption) item = omega arith
+few_by (Some Outside) item = one item.frame
+  where
+    one : (frame : Option Frame) → length (frame_in frame) ≤ 1
+    one (Some frame) = omega arith
+    one None = omega arith
+few_by (Some GoesOn) item = omega arith
+
+few_taken : (every n : ℕ) (items : List Item) → length (frames_taken every n items) ≤ length items
+few_taken every n [] = omega arith
+few_taken every n (item ∷ items) =
+    omega (arith, few_by (change_at every n) item, few_taken every (n + 1) items, length-append (taken_by (change_at every n) item) (frames_taken every (n + 1) items))
+
+back_put : (mangle : Option ℕ) (n : ℕ) (items : List Item) (side : ℕ) (back : List (List Frame))
+    → total (λ (frames : List Frame). length frames) (back_by mangle n items side back) ≤ total (λ (frames : List Frame). length frames) back + length items
+back_put None n items side back = omega arith
+back_put (Some every) n items side back =
+    let all = get_or back side [] ++ frames_taken every n items in
+    omega (arith, total_put back side (take 4096 all), length-take 4096 all, length-append (get_or back side []) (frames_taken every n items), few_taken every n items)
+
 -- ---- what is kept
 
 abbrev pending : AppKept → ℕ
@@ -78,7 +108,7 @@ owed TxTold = 2
 owed place = 0
 
 pub record Pays (place : Place) (kept : AppKept) (l : List Told) : Type 0 where
-  pub spends : total put l + total steps_put l + 3 * pending kept + back kept ≤ total steps_taken l
+  pub spends : total put l + total steps_put l + 4 * pending kept + back kept ≤ total steps_taken l
   pub swaps : total swapped l + owed place ≤ total put l + done kept.tx_done
   pub sides : length kept.back ≡ 2
 
@@ -134,13 +164,14 @@ module _ (c : Config) (a who : ℕ) where
       }
 
   tx_put : (lane : ℕ) (r : ℕ) (kept : AppKept) (l : List Told) (place next : Place) → owed next ≤ owed place + length (pending_at kept lane)
-      → Pays place kept l → Pays next (with_pending kept lane []) (with_told l (Submit (Tx r) (pending_at kept lane)) Submitted)
+      → Pays place kept l → Pays next (passed_on c lane kept) (with_told l (Submit (Tx r) (given_on c lane kept)) Submitted)
   tx_put lane r kept l place next some h =
-      let t : Told = record { call = Submit (Tx r) (pending_at kept lane); reply = Submitted } in
+      let t : Told = record { call = Submit (Tx r) (given_on c lane kept); reply = Submitted } in
+      let count = length-given c.geometry kept.manner.mangle kept.number (pending_at kept lane) in
       record {
-        spends = omega (arith, h.spends, total_put kept.pending lane [], total-push put l t, total-push steps_put l t, total-push steps_taken l t);
-        swaps = omega (arith, h.swaps, some, total-push put l t, total-push swapped l t);
-        sides = h.sides;
+        spends = omega (arith, h.spends, total_put kept.pending lane [], back_put kept.manner.mangle kept.number (pending_at kept lane) (lane / classes_of c) kept.back, count, total-push put l t, total-push steps_put l t, total-push steps_taken l t);
+        swaps = omega (arith, h.swaps, some, count, total-push put l t, total-push swapped l t);
+        sides = back_sides kept.manner.mangle kept.number (pending_at kept lane) (lane / classes_of c) kept.back ∙ h.sides;
       }
 
   fill_put : (side : ℕ) (r n : ℕ) (kept : AppKept) (l : List Told) (items : List Item) (frames : List Frame) (place next : Place) → side < 2 → length items ≤ length frames → n ≡ length items
@@ -168,7 +199,7 @@ module _ (c : Config) (a who : ℕ) where
   entries (rx_released lane n) noted kept l known h asked q = still _ _ kept kept l _ Released refl refl refl refl refl (refl, refl, refl) h
   entries (tx_granted lane) noted kept l known h asked q = still _ _ kept kept l _ Granted refl refl refl refl refl (refl, refl, refl) h
   entries (tx_full lane free) noted kept l known h asked q = still _ _ kept kept l _ (Full free) refl refl refl refl refl (refl, refl, refl) h
-  entries (tx_submitted lane) noted kept l known h asked q = tx_put lane _ kept l _ _ (let some = q.0.counted.0 in omega (arith, some)) h
+  entries (tx_submitted lane) noted kept l known h asked q = tx_put lane _ kept l _ _ (let some = q.0.counted.0 in omega (arith, some, length-given c.geometry kept.manner.mangle kept.number (pending_at kept lane))) h
   entries (comp_empty side) noted kept l known h asked q = still _ _ kept kept l _ Empty refl refl refl refl refl (refl, refl, refl) h
   entries (comp_items side items) noted kept l known h asked q = comp_taken side _ _ kept l items _ _ refl h
   entries (comp_released side n) noted kept l known h asked q = still _ _ kept kept l _ Released refl refl refl refl refl (refl, refl, refl) h
@@ -228,12 +259,12 @@ module _ (c : Config) (a who : ℕ) where
   law : IsLaw c a (Lawful c who) At Asked (λ kept l. Applies l)
   law = record { calls = calls; entries = entries; passes = passes; ends = λ noted kept l done h. applies Ending kept l h }
 
-pub app_applies : (c : Config) (a who : ℕ) (l : List Told) → IsApp c a → OwnGoesOn c who [] l → IsAppRun c a l → Applies l
-app_applies c a who l one legal run =
-    of_run c a one (Lawful c who) (At c a who) (Asked c a who) (λ kept l. Applies l) (law c a who) (app_start c) first l (meet_lawful (app_turn c a) c who (app_turn c a (app_start c)) [] l legal)
+pub app_applies : (m : Manner) (c : Config) (a who : ℕ) (l : List Told) → IsApp c a → OwnGoesOn c who [] l → IsAppRunBy m c a l → Applies l
+app_applies m c a who l one legal run =
+    of_run c a one (Lawful c who) (At c a who) (Asked c a who) (λ kept l. Applies l) (law c a who) (app_start_by m c) first l (meet_lawful (app_turn c a) c who (app_turn c a (app_start_by m c)) [] l legal)
     Applies (λ kept m h. applies (Lanes 0) kept m h) (λ kept call m h. h) (λ kept m h. h) run
   where
-    first : Pays (Lanes 0) (app_start c) []
+    first : Pays (Lanes 0) (app_start_by m c) []
     first = record { spends = omega (arith, none (lanes_of c)); swaps = omega arith; sides = refl }
       where
         none : (n : ℕ) → total (λ (items : List Item). length items) (replicate n []) ≡ 0

@@ -20,9 +20,10 @@ use Rattle.xsk_model.proofs.Folds.{own-append, own-push_same}
 use Rattle.xsk_model.proofs.Histories.{goes_rest}
 use Rattle.xsk_turns.specs.Script.{Script, IsRun, Leaves, Asks}
 use Rattle.xsk_turns.specs.Turns.{Judged, Kept, seat_of, start, turn, IsDriverRun}
-use Rattle.xsk_turns.specs.AppTurns.{AppKept, app_turn, app_start, IsAppRun}
+use Rattle.xsk_turns.specs.AppTurns.{AppKept, app_turn, app_start_by, IsAppRunBy}
 use Rattle.xsk_turns.specs.AppOwned.{IsApp}
 use Rattle.xsk_turns.specs.Owned.{IsSteady}
+use Rattle.xsk_turns.specs.declared.manner.Manner.{Manner}
 use Rattle.xsk_turns.specs.declared.wire.Wire.{Wire}
 use Rattle.xsk_turns.proofs.ScriptLemmas.{leaves_front, asked_last}
 use Rattle.xsk_turns.proofs.Walks.{Anything, meet_anything}
@@ -93,10 +94,10 @@ module _ (c : Config) (a : ℕ) where
   app_law : walk.IsLaw c a Anything AppAt AppAsked (λ kept l. Unit {0})
   app_law = record { calls = app_calls; entries = λ e noted kept l known h asked q. tt; passes = app_passes; ends = λ noted kept l done h. tt }
 
-app_kicks : (c : Config) (a : ℕ) (one : IsApp c a) (l : List Told) (kept : AppKept) (call : Call) (rest : Reply → Script AppKept)
-    → Asks (app_turn c a) (app_start c) l kept call rest → Kicks call
-app_kicks c a one l kept call rest asks =
-    walk.at_call c a one Anything (AppAt c a) (AppAsked c a) (λ kept l. Unit {0}) (app_law c a) (app_start c) tt l
+app_kicks : (m : Manner) (c : Config) (a : ℕ) (one : IsApp c a) (l : List Told) (kept : AppKept) (call : Call) (rest : Reply → Script AppKept)
+    → Asks (app_turn c a) (app_start_by m c) l kept call rest → Kicks call
+app_kicks m c a one l kept call rest asks =
+    walk.at_call c a one Anything (AppAt c a) (AppAsked c a) (λ kept l. Unit {0}) (app_law c a) (app_start_by m c) tt l
     (meet_anything (app_turn c a) _ [] l) kept call rest asks
 
 -- ---- in a history
@@ -114,9 +115,9 @@ own_split who past later e mine =
     own-append who past (e ∷ later) ∙ ap (λ l. own who past ++ l) (own-append who (e ∷ []) later ∙ ap (λ l. l ++ own who later) (own-push_same who [] e mine))
 
 -- the kicks of a history are swapped so where each caller's own calls are a run
-module _ (wire : Wire) (c : Config) (frames : List Frame) (h : List Entry) (input : ℕ → List Judged) (steady : IsSteady c) (history : IsHistory c frames h)
+module _ (m : Manner) (wire : Wire) (c : Config) (frames : List Frame) (h : List Entry) (input : ℕ → List Judged) (steady : IsSteady c) (history : IsHistory c frames h)
     (drivers : (d : ℕ) → d < length c.pairs → IsDriverRun wire c d (input d) (own d h))
-    (apps : (a : ℕ) → a < apps_of c → IsAppRun c a (own (caller_of c a) h)) where
+    (apps : (a : ℕ) → a < apps_of c → IsAppRunBy m c a (own (caller_of c a) h)) where
   driver_keeps : (d : ℕ) (past later : List Entry) (e : Entry) (value : ℕ) → d < length c.pairs → h ≡ past ++ e ∷ later → e.call ≡ Swap (Kick d) value → e.who ≡ d
       → (value ≡ 0) × (saw_last d (own d past) ≡ true)
   driver_keeps d past later e value below split is mine =
@@ -127,10 +128,10 @@ module _ (wire : Wire) (c : Config) (frames : List Frame) (h : List Entry) (inpu
   app_keeps : (d a : ℕ) (past later : List Entry) (e : Entry) (value : ℕ) → a < apps_of c → h ≡ past ++ e ∷ later → e.call ≡ Swap (Kick d) value → e.who ≡ caller_of c a → value ≡ 1
   app_keeps d a past later e value below split is mine =
       let who = caller_of c a in
-      let run = subst (IsAppRun c a) (ap (own who) split ∙ own_split who past later e mine) (apps a below) in
-      let asks = asked_at (app_turn c a) (app_start c) (own who past) (told e) (own who later) run in
-      let one : IsApp c a = record { config = history.opened.config; steady = steady; known = below } in
-      subst Kicks is (app_kicks c a one (own who past) asks.0 e.call asks.1 asks.2)
+      let run = subst (IsAppRunBy m c a) (ap (own who) split ∙ own_split who past later e mine) (apps a below) in
+      let asks = asked_at (app_turn c a) (app_start_by m c) (own who past) (told e) (own who later) run in
+      let one : IsApp c a = record { config = history.opened.config; steady = steady; geometry = history.opened.geometry; known = below } in
+      subst Kicks is (app_kicks m c a one (own who past) asks.0 e.call asks.1 asks.2)
 
   pub keeps_kicks : (d : ℕ) → d < length c.pairs → KeepsKicks d h
   keeps_kicks d below past later e value split is =

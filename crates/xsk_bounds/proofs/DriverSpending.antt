@@ -1,13 +1,16 @@
 -- What a driver puts into rings is paid by its packets and by what it took from TX, and it swaps marks no more often than it
 -- finds items, or its kick set, or its end, lets it.
-use Rattle.std.proofs.Common.{◌≡◌, ℕ, zero, suc, ◌+◌, ◌*◌, ◌%◌, ◌≤◌, Bool, true, false, cond, not, ◌||◌, ◌&&◌, eqb, nat_le, Option, Some, None, is_some, option_to_list, List, [], ◌∷◌, ◌++◌, length, drop, map, replicate, refl, ap, ◌∙◌, arith, length-append, length-drop, eq-eqb}
+use Rattle.std.proofs.Common.{◌≡◌, ℕ, zero, suc, ◌+◌, ◌*◌, ◌%◌, ◌≤◌, Bool, true, false, cond, not, ◌||◌, ◌&&◌, eqb, nat_le, Option, Some, None, is_some, option_to_list, List, [], ◌∷◌, ◌++◌, length, take, drop, map, replicate, refl, ap, subst, ◌∙◌, arith, length-append, length-take, length-drop, eq-eqb, ltb-false}
+use Rattle.std.specs.Int.{div_ceil}
 use Rattle.std.proofs.lemmas.List.{length-map}
-use Rattle.xsk_umem.specs.Geometry.{Geometry}
+use Rattle.xsk_umem.specs.Frame.{Frame}
+use Rattle.xsk_umem.specs.Geometry.{Geometry, IsGeometry, payload_of}
 use Rattle.xsk_umem.specs.declared.batch.Item.{Item}
 use Rattle.xsk_model.specs.Limits.{most_fragments}
 use Rattle.xsk_model.specs.Descriptor.{is_valid}
 use Rattle.xsk_model.specs.Packets.{Packet, whole, bad, ended_by, group_after, packets_from, rest_from, whole_packets}
 use Rattle.xsk_model.specs.Config.{Config, classes_of}
+use Rattle.xsk_model.specs.Steering.{packet_limit}
 use Rattle.xsk_model.specs.Entry.{Told, with_told}
 use Rattle.xsk_model.specs.History.{OwnGoesOn}
 use Rattle.xsk_model.specs.declared.call.Ring.TheVariants.{Fill, Comp, Rx, Tx}
@@ -17,10 +20,11 @@ use Rattle.xsk_model.specs.declared.call.Call.{Call}
 use Rattle.xsk_model.specs.declared.call.Call.TheVariants.{Submit, Peek, Swap, Look}
 use Rattle.xsk_model.specs.declared.call.Reply.{Reply}
 use Rattle.xsk_model.specs.declared.call.Reply.TheVariants.{Granted, Full, Submitted, Items, Empty, Released, Old}
-use Rattle.xsk_turns.specs.Turns.{Seat, Judged, Kept, fresh, awaits, settled, dropped, supplied, with_rx_full, with_fill_empty, with_tx_empty, gathered, woken, pieces_of, application_of, group_at, returned, seat_of, socket_of, start, turn, IsDriverRun}
+use Rattle.xsk_turns.specs.Turns.{Seat, Judged, Kept, fresh, awaits, settled, dropped, supplied, with_rx_full, with_fill_empty, with_tx_empty, gathered, woken, pieces_of, limit_of, laid_out, application_of, group_at, returned, seat_of, socket_of, start, turn, IsDriverRun}
 use Rattle.xsk_turns.specs.declared.wire.Wire.{Wire}
 use Rattle.xsk_turns.specs.declared.disposal.Disposal.{Disposal}
 use Rattle.xsk_turns.specs.declared.disposal.Disposal.TheVariants.{Delivered, NoFrames, RxFull, TooLong, Missed}
+use Rattle.xsk_turns.proofs.Layouts.{few_pieces}
 use Rattle.xsk_turns.proofs.Walks.{nothing_due, submit_due, release_due}
 use Rattle.xsk_turns.proofs.DriverWalk.{Place, Receiving, Trying, Lacking, Sending, Idling, Arming, Which, Turning, Again, Parked, Woken, Disarming, Family, first_place, Begins, asked, PeekFill, ReleaseFill, PeekTx, ReleaseTx, ArmTx, DisarmTx, SubmitRx, call_at, told_rx_done, looked_none, looked_long, looked_some, fill_empty, fill_items, fill_released, rx_granted, rx_full, rx_submitted, comp_granted, comp_full, comp_submitted, tx_empty, tx_items, tx_released, looked_tx_done, armed_fill, armed_tx, found_end, found_none, kicked, not_kicked, cleared_kick, disarmed_fill, disarmed_tx, untried, none_comes, too_few, waits, drops_full, drops_frameless, visited, idles, arms, seeks, sought, misses, looks, finds, parks, disarmed, Said, AtCalls, AtEntries, AtPasses, IsLaw, of_run}
 use Rattle.xsk_bounds.specs.Totals.{total, put, steps_put, steps_taken, swapped, took, kick_swaps}
@@ -139,7 +143,19 @@ pub record Spent (d packets : ℕ) (l : List Told) : Type 0 where
   pub swaps : total swapped l ≤ 11 * (total took l + total (kick_swaps d 0) l + 2) + 2
   pub kicks : (e : ℕ) → total (kick_swaps e 1) l ≡ 0
 
-module _ (wire : Wire) (c : Config) (d packets : ℕ) (few : classes_of c ≤ 4) where
+-- a packet has no more pieces than 18
+length-laid_out : (g : Geometry) (packet : List ℕ) (frames : List Frame) → length (laid_out g packet frames) ≡ length frames
+length-laid_out g packet [] = refl
+length-laid_out g packet (frame ∷ frames) = omega (arith, length-laid_out g (drop (payload_of g) packet) frames)
+
+pieces_few : (c : Config) → IsGeometry c.geometry → (packet : List ℕ) → length packet ≤ packet_limit c → div_ceil (length packet) (payload_of c.geometry) ≤ 18
+pieces_few c geometry packet short = by c.sg refl
+  where
+    by : (b : Bool) → c.sg ≡ b → div_ceil (length packet) (payload_of c.geometry) ≤ 18
+    by true e = few_pieces c.geometry geometry 18 packet (subst (λ (x : Bool). length packet ≤ cond x 18 1 * payload_of c.geometry) e short)
+    by false e = let one = few_pieces c.geometry geometry 1 packet (subst (λ (x : Bool). length packet ≤ cond x 18 1 * payload_of c.geometry) e short) in omega (arith, one)
+
+module _ (wire : Wire) (c : Config) (d packets : ℕ) (few : classes_of c ≤ 4) (geometry : IsGeometry c.geometry) where
   abbrev seat : Seat
   seat = seat_of wire c d
 
@@ -287,9 +303,15 @@ module _ (wire : Wire) (c : Config) (d packets : ℕ) (few : classes_of c ≤ 4)
       still (Trying Turning packet s nothing_due) (Lacking Turning packet s true) noted.progress noted.progress kept (with_rx_full (s % seat.classes) kept) l _ (Full free) (refl, refl, refl, λ e. refl) refl (omega arith) refl refl (omega arith) (omega arith) tt h
   entries (rx_submitted packet s) noted kept l known found h a q =
       let give = call_at seat (SubmitRx packet s) kept in
-      let some = q.0.counted in
+      let items : length (laid_out c.geometry packet.bytes (take (pieces_of seat packet.bytes) kept.spare)) ≤ 18 =
+      omega (
+        arith,
+        length-laid_out c.geometry packet.bytes (take (pieces_of seat packet.bytes) kept.spare),
+        length-take (pieces_of seat packet.bytes) kept.spare,
+        pieces_few c geometry packet.bytes (ltb-false (limit_of seat) (length packet.bytes) known.0.fits),
+      ) in
       step (Trying Turning packet s (submit_due (Rx s) (pieces_of seat packet.bytes))) (Sending Turning 0 nothing_due) noted.progress true kept _ l give Submitted
-      (omega (arith, some.1, length-append kept.disposals (Delivered s ∷ [])), omega arith, λ e. refl)
+      (omega (arith, items, length-append kept.disposals (Delivered s ∷ [])), omega arith, λ e. refl)
       (one_fewer kept.disposals (Delivered s) kept.coming packet known.0.next.later known.0.next.is) tt h
   entries (comp_granted k packet later) noted kept l known found h a q =
       still (Sending Turning k nothing_due) (Sending Turning k (submit_due (Comp d) (length packet))) noted.progress noted.progress kept kept l _ Granted (refl, refl, refl, λ e. refl) refl (omega arith) refl refl (omega arith) (omega arith) tt h
@@ -376,11 +398,11 @@ module _ (wire : Wire) (c : Config) (d packets : ℕ) (few : classes_of c ≤ 4)
         };
   }
 
-pub driver_drives : (wire : Wire) (c : Config) (d : ℕ) (input : List Judged) (l : List Told) → classes_of c ≤ 4 → OwnGoesOn c d [] l → IsDriverRun wire c d input l
+pub driver_drives : (wire : Wire) (c : Config) (d : ℕ) (input : List Judged) (l : List Told) → classes_of c ≤ 4 → IsGeometry c.geometry → OwnGoesOn c d [] l → IsDriverRun wire c d input l
     → Drives d (length input) l
-driver_drives wire c d input l few legal run =
+driver_drives wire c d input l few geometry legal run =
     let is : Spent d (length input) l =
-    of_run (seat_of wire c d) (Lawful c d) (At wire c d (length input) few) (Asked wire c d (length input) few) (λ kept l. Spent d (length input) l) (law wire c d (length input) few) (start (classes_of c) input) first l
+    of_run (seat_of wire c d) (Lawful c d) (At wire c d (length input) few geometry) (Asked wire c d (length input) few geometry) (λ kept l. Spent d (length input) l) (law wire c d (length input) few geometry) (start (classes_of c) input) first l
     (meet_lawful (turn (seat_of wire c d)) c d (turn (seat_of wire c d) (start (classes_of c) input)) [] l legal)
     (Spent d (length input)) begun (λ kept call m h. h) (λ kept m h. h) run in
     record { spends = is.spends; swaps = is.swaps; kicks = is.kicks }
@@ -389,12 +411,12 @@ driver_drives wire c d input l few legal run =
     none zero = refl
     none (suc n) = omega (arith, none n)
 
-    first : Begins (At wire c d (length input) few) (start (classes_of c) input) []
+    first : Begins (At wire c d (length input) few geometry) (start (classes_of c) input) []
     first = record { spends = omega (arith, none (classes_of c)); count = omega arith; swaps = omega arith; quiet = tt; kicks = λ e. refl }
 
-    begun_by : (o : Option Bool) (kept : Kept) (m : List Told) → At wire c d (length input) few (first_place o) fresh kept m → Spent d (length input) m
-    begun_by None kept m h = spent wire c d (length input) few Receiving false kept m (omega arith) h
-    begun_by (Some frames) kept m h = spent wire c d (length input) few (Parked frames) false kept m (omega arith) h
+    begun_by : (o : Option Bool) (kept : Kept) (m : List Told) → At wire c d (length input) few geometry (first_place o) fresh kept m → Spent d (length input) m
+    begun_by None kept m h = spent wire c d (length input) few geometry Receiving false kept m (omega arith) h
+    begun_by (Some frames) kept m h = spent wire c d (length input) few geometry (Parked frames) false kept m (omega arith) h
 
-    begun : (kept : Kept) (m : List Told) → Begins (At wire c d (length input) few) kept m → Spent d (length input) m
+    begun : (kept : Kept) (m : List Told) → Begins (At wire c d (length input) few geometry) kept m → Spent d (length input) m
     begun kept m h = begun_by kept.parked kept m h

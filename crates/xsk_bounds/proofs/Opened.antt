@@ -67,16 +67,16 @@ opening_out c frames opened = omega (arith, half_out 0 (opening c frames).rings,
 abbrev pub steps_at : Config → ℕ → ℕ
 steps_at c p =
     cond (nat_lt p (length c.pairs)) 0
-    (cond (nat_lt p (length c.pairs + length c.pairs)) 1 (cond (nat_lt p (2 * length c.pairs + length c.sockets)) 3 2))
+    (cond (nat_lt p (length c.pairs + length c.pairs)) 1 (cond (nat_lt p (2 * length c.pairs + length c.sockets)) 4 2))
 
 abbrev pick : Bool → Bool → Bool → ℕ
-pick a b d = cond a 0 (cond b 1 (cond d 3 2))
+pick a b d = cond a 0 (cond b 1 (cond d 4 2))
 
 tests : (a b d p q x : Bool) → p ≡ a → q ≡ b → x ≡ d → pick p q x ≡ pick a b d
 tests a b d p q x e f g = ap (λ y. pick y q x) e ∙ ap (λ y. pick a y x) f ∙ ap (λ y. pick a b y) g
 
 pub steps_at_place : (c : Config) (r : Ring) → HasRing c r → steps_at c (place c r) ≡ steps_left r
-steps_at_place c (Fill d) has = ap (λ b. cond b 0 (cond (nat_lt d (length c.pairs + length c.pairs)) 1 (cond (nat_lt d (2 * length c.pairs + length c.sockets)) 3 2))) (lt-ltb d (length c.pairs) has)
+steps_at_place c (Fill d) has = ap (λ b. cond b 0 (cond (nat_lt d (length c.pairs + length c.pairs)) 1 (cond (nat_lt d (2 * length c.pairs + length c.sockets)) 4 2))) (lt-ltb d (length c.pairs) has)
 steps_at_place c (Comp d) has =
     let p = length c.pairs + d in
     tests false true true (nat_lt p (length c.pairs)) (nat_lt p (length c.pairs + length c.pairs)) (nat_lt p (2 * length c.pairs + length c.sockets))
@@ -109,7 +109,7 @@ opening_steps c frames = out_none (steps_at c) 0 (opening c frames).rings each
     each : (k : ℕ) → k < length (opening c frames).rings → length (get_or (opening c frames).rings k empty_ring).out * steps_at c (0 + k) ≡ 0
     each k lt = ⊎_elim
         (λ (fill : k < length c.pairs).
-        let none : steps_at c (0 + k) ≡ 0 = ap (λ b. cond b 0 (cond (nat_lt (0 + k) (length c.pairs + length c.pairs)) 1 (cond (nat_lt (0 + k) (2 * length c.pairs + length c.sockets)) 3 2))) (lt-ltb (0 + k) (length c.pairs) (omega (arith, fill))) in
+        let none : steps_at c (0 + k) ≡ 0 = ap (λ b. cond b 0 (cond (nat_lt (0 + k) (length c.pairs + length c.pairs)) 1 (cond (nat_lt (0 + k) (2 * length c.pairs + length c.sockets)) 4 2))) (lt-ltb (0 + k) (length c.pairs) (omega (arith, fill))) in
         ap (λ n. length (get_or (opening c frames).rings k empty_ring).out * n) none ∙ omega arith)
         (λ (other : length c.pairs ≤ k).
         let blank : get_or (opening c frames).rings k empty_ring ≡ empty_ring =

@@ -46,11 +46,12 @@ put t = length (submitted t.call)
 abbrev pub took : Told → ℕ
 took t = on_ring t.call (length (taken t.reply))
 
--- the rings that a frame still comes to: from RX it goes over TX and COMPLETION to FILL
+-- The rings that an item and its frame still come to: from RX they go over TX and COMPLETION to FILL. On RX it is one more, since
+-- an application may take the frame from an item, and then the item goes to TX and the frame to FILL.
 abbrev pub steps_left : Ring → ℕ
 steps_left (Fill d) = 0
 steps_left (Comp d) = 1
-steps_left (Rx s) = 3
+steps_left (Rx s) = 4
 steps_left (Tx s) = 2
 
 -- a number of items on the ring of a call, each counted with the steps that it has left there

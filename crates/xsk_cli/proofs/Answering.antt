@@ -6,16 +6,16 @@ use Rattle.xsk_io.specs.declared.bay.Stream.TheVariants.{Input, Output, Report}
 use Rattle.xsk_pcap.specs.declared.reading.BadCapture.{BadCapture as Cause}
 use Rattle.xsk_cli.specs.Cause.{IsCaused}
 use Rattle.xsk_cli.specs.Ends.{ComesOf, EndsBy, Ends, AreTold, Answers, AreTaken, NoneRose, IsComplete}
-use Rattle.xsk_cli.specs.Judged.{bytes_of, excess_of}
-use Rattle.xsk_cli.specs.Outcome.{Written, Outcome, long, bad, passed, stalled, made, made_lists, IsOutcome, IsOutcomeIn}
+use Rattle.xsk_cli.specs.Judged.{bytes_of, excess_of, most_of}
+use Rattle.xsk_cli.specs.Outcome.{Written, Outcome, long, bad, passed, stalled, made, illegal, made_lists, IsOutcome, IsOutcomeIn}
 use Rattle.xsk_cli.specs.Streams.{Moment, Reach, IsTold}
 use Rattle.xsk_cli.specs.Words.{Plan, fault_in}
 use Rattle.xsk_cli.specs.declared.words.Work.{Work}
-use Rattle.xsk_cli.specs.declared.words.Work.TheVariants.{Simulate, Generate}
+use Rattle.xsk_cli.specs.declared.words.Work.TheVariants.{Simulate, Generate, Audit}
 use Rattle.xsk_cli.specs.declared.status.Excess.{Excess}
 use Rattle.xsk_cli.specs.declared.status.Excess.TheVariants.{Input as TooLong, Packets, Bytes}
 use Rattle.xsk_cli.specs.declared.status.Status.{Status}
-use Rattle.xsk_cli.specs.declared.status.Status.TheVariants.{Done, Usage, BadCapture, ReadFault, WriteFault, OpenFault, Refused, Stalled, TooMuch, OutOfMemory}
+use Rattle.xsk_cli.specs.declared.status.Status.TheVariants.{Done, Usage, BadCapture, ReadFault, WriteFault, OpenFault, Refused, Stalled, TooMuch, OutOfMemory, NotLegal}
 use Rattle.xsk_cli.proofs.Ports.{same_lists}
 use Rattle.xsk_cli.proofs.Making.{few_ports, made_within}
 use Rattle.xsk_cli.proofs.Unique.{one_outcome, same_captures, bad_not_captures}
@@ -41,7 +41,7 @@ module _ (plan : Plan) (old new : Moment) (inputs : List (List ℕ)) (told : Are
       one_outcome plan.work inputs outcome mine other (subst (λ i. IsOutcome plan.work i mine) (same_inputs status ends all) is)
 
   -- an input before the one that is too long
-  read_short : (port : ℕ) → (ends : Ends plan old new (TooMuch (TooLong port))) → (i : ℕ) → i < port → length (bytes_of inputs i) ≤ 34603032
+  read_short : (port : ℕ) → (ends : Ends plan old new (TooMuch (TooLong port))) → (i : ℕ) → i < port → length (bytes_of inputs i) ≤ most_of plan.work
   read_short port ends i h =
       let below : i < ends.reach.ends = omega (arith, h, ap (λ (r : Reach). r.ends) ends.reaches.1) in
       let known : i < length inputs = omega (arith, h, ends.reaches.0, told.count) in
@@ -56,7 +56,7 @@ module _ (plan : Plan) (old new : Moment) (inputs : List (List ℕ)) (told : Are
       let known : port < length inputs = omega (arith, ends.reaches.0, told.count) in
       record {
         known = known;
-        long = subst (λ l. IfSome l (λ b. 34603032 < length b)) (told.each port known) ends.comes;
+        long = subst (λ l. IfSome l (λ b. most_of plan.work < length b)) (told.each port known) ends.comes;
         before = read_short port ends;
       }
 
@@ -86,13 +86,15 @@ module _ (plan : Plan) (old new : Moment) (inputs : List (List ℕ)) (told : Are
   answered (TooMuch (Bytes n)) outcome ends words h =
       same_outcome (TooMuch (Bytes n)) (passed (Bytes n)) outcome ends (reached (TooMuch (Bytes n)) _ ends ends.reaches) ends.comes h
   answered OutOfMemory outcome ends words h = tt
+  answered (NotLegal line) outcome ends words h = same_outcome (NotLegal line) (illegal line) outcome ends (reached (NotLegal line) _ ends ends.reaches) ends.comes h
 
   -- ---- completeness
 
   not_bad : (work : Work) → AreTaken work inputs → (port : ℕ) (cause : Cause) → IsOutcome work inputs (bad port cause) → ⊥
-  not_bad (Simulate layout program wire order None journal) taken port cause h = bad_not_captures inputs port cause taken.1.0 h.1 taken.1.1
-  not_bad (Simulate layout program wire order (Some number) journal) taken port cause h = omega (arith, h.1.known, ap length taken)
+  not_bad (Simulate layout program wire mangle order None journal) taken port cause h = bad_not_captures inputs port cause taken.1.0 h.1 taken.1.1
+  not_bad (Simulate layout program wire mangle order (Some number) journal) taken port cause h = omega (arith, h.1.known, ap length taken)
   not_bad (Generate number) taken port cause h = omega (arith, h.1.known, ap length taken)
+  not_bad (Audit layout) taken port cause h = h.2
 
   none_passed : (lists : List (List (List ℕ))) (excess : Excess) → excess_of lists ≡ Some excess → excess_of lists ≡ None → ⊥
   none_passed lists excess is none = let no = sym is ∙ none in absurd cc
@@ -101,15 +103,17 @@ module _ (plan : Plan) (old new : Moment) (inputs : List (List ℕ)) (told : Are
   made_not_passed lists number ports excess few are is = none_passed lists excess is (ap excess_of are ∙ made_within number ports few)
 
   not_passed : (work : Work) → fault_in work ≡ None → AreTaken work inputs → (excess : Excess) → IsOutcomeIn work inputs (passed excess) → ⊥
-  not_passed (Simulate layout program wire order None journal) accepted taken excess h =
+  not_passed (Simulate layout program wire mangle order None journal) accepted taken excess h =
       none_passed h.0 excess h.2 (ap excess_of (same_captures inputs h.0 taken.1.0 h.1 taken.1.1) ∙ taken.1.2)
-  not_passed (Simulate layout program wire order (Some number) journal) accepted taken excess h = made_not_passed h.0 number layout.ports excess (few_ports layout accepted) h.1.1 h.2
+  not_passed (Simulate layout program wire mangle order (Some number) journal) accepted taken excess h = made_not_passed h.0 number layout.ports excess (few_ports layout accepted) h.1.1 h.2
   not_passed (Generate number) accepted taken excess h = made_not_passed h.0 number 1 excess (omega arith) h.1.1 h.2
+  not_passed (Audit layout) accepted taken excess h = h.1
 
-  all_short : (work : Work) → AreTaken work inputs → (port : ℕ) → port < length inputs → length (bytes_of inputs port) ≤ 34603032
-  all_short (Simulate layout program wire order None journal) taken port known = taken.0 port known
-  all_short (Simulate layout program wire order (Some number) journal) taken port known = absurd (omega (arith, known, ap length taken))
+  all_short : (work : Work) → AreTaken work inputs → (port : ℕ) → port < length inputs → length (bytes_of inputs port) ≤ most_of work
+  all_short (Simulate layout program wire mangle order None journal) taken port known = taken.0 port known
+  all_short (Simulate layout program wire mangle order (Some number) journal) taken port known = absurd (omega (arith, known, ap length taken))
   all_short (Generate number) taken port known = absurd (omega (arith, known, ap length taken))
+  all_short (Audit layout) taken port known = taken port known
 
   mine : (status : Status) (outcome : Outcome) → (ends : Ends plan old new status) → ends.reach.ends ≡ length plan.inputs → IsOutcome plan.work ends.inputs outcome → IsOutcome plan.work inputs outcome
   mine status outcome ends all is = subst (λ i. IsOutcome plan.work i outcome) (same_inputs status ends all) is
@@ -132,3 +136,4 @@ module _ (plan : Plan) (old new : Moment) (inputs : List (List ℕ)) (told : Are
   completes (TooMuch (Bytes n)) ends words accepted taken none caused =
       not_passed plan.work accepted taken (Bytes n) (mine (TooMuch (Bytes n)) (passed (Bytes n)) ends (reached (TooMuch (Bytes n)) _ ends ends.reaches) ends.comes).1
   completes OutOfMemory ends words accepted taken none caused = tt
+  completes (NotLegal line) ends words accepted taken none caused = tt

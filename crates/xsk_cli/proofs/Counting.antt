@@ -10,7 +10,7 @@ use Rattle.xsk_io.specs.declared.bay.Stream.TheVariants.{Input, Output, Report}
 use Rattle.xsk_cli.specs.Cause.{IsFault, NoOthers, Unchanged}
 use Rattle.xsk_cli.specs.Streams.{HasLine, IsOfLine}
 use Rattle.xsk_cli.specs.declared.status.Status.{Status}
-use Rattle.xsk_cli.specs.declared.status.Status.TheVariants.{Done, Usage, BadCapture, ReadFault, WriteFault, OpenFault, Refused, Stalled, TooMuch, OutOfMemory}
+use Rattle.xsk_cli.specs.declared.status.Status.TheVariants.{Done, Usage, BadCapture, ReadFault, WriteFault, OpenFault, Refused, Stalled, TooMuch, OutOfMemory, NotLegal}
 
 same_stream : (one other : Stream) → (other ≡ one) ⊎ (other ≢ one)
 same_stream (Input n) (Input m) = ⊎_elim (λ (e : m ≡ n). inl (ap Input e)) (λ (ne : m ≡ n → ⊥). inr (λ e. ne (let i : m ≡ n = cc in i))) (cases_eq m n)
@@ -69,6 +69,7 @@ has_line (ReadFault port) = inl tt
 has_line (OpenFault stream) = inl tt
 has_line (Refused unlawful) = inl tt
 has_line (Stalled round) = inl tt
+has_line (NotLegal line) = inl tt
 has_line (TooMuch excess) = inl tt
 has_line OutOfMemory = inl tt
 

@@ -15,3 +15,7 @@ pub mod Outputs
 pub mod Counting
 pub mod Planning
 pub mod Lending
+pub mod Ample
+pub mod Auditing
+pub mod Reports
+pub mod Journals

@@ -1,6 +1,6 @@
 -- Packets that are made are within the limits, and may be written.
-use Rattle.std.proofs.Common.{◌≡◌, ℕ, zero, suc, ◌+◌, ◌*◌, ◌≤◌, List, [], ◌∷◌, ◌++◌, get_or, length, map, refl, ap, ◌∙◌, subst, sym, arith, le-ltb, None, Some, Bool}
-use Rattle.std.specs.Prelude.{All, sum_by}
+use Rattle.std.proofs.Common.{◌≡◌, ℕ, zero, suc, ◌+◌, ◌*◌, ◌≤◌, List, [], ◌∷◌, ◌++◌, get_or, length, map, refl, ap, ◌∙◌, subst, sym, arith, le-ltb, None, Some, Bool, Option}
+use Rattle.std.specs.Prelude.{All, sum_by, Result, Ok, Err, IfErr}
 use Rattle.std.specs.List.{concat, range_with_len}
 use Rattle.std.proofs.lemmas.List.{map-append}
 use Rattle.std.proofs.lemmas.List.FromFn.{sum_by-map-range_with_len_more}
@@ -11,26 +11,27 @@ use Rattle.xsk_gen.proofs.Sizes.{all_first, bytes_first, length-first, length-pa
 use Rattle.xsk_socket.specs.declared.layout.Layout.{Layout}
 use Rattle.xsk_socket.specs.Layout.{fault_of}
 use Rattle.xsk_socket.proofs.Accepted.{fits}
-use Rattle.xsk_cli.specs.Judged.{AreShort, packets_in, bytes_in, excess_of}
-use Rattle.xsk_cli.specs.Outcome.{listed, made_lists, AreListsOf}
-use Rattle.xsk_cli.specs.Steps.{AreUntaken, FailsMaking, MakesNone, lists_in, read_by}
+use Rattle.xsk_cli.specs.Judged.{bytes_of, AreShort, AreWithin, packets_in, bytes_in, excess_of, most_of}
+use Rattle.xsk_cli.specs.Outcome.{listed, made_lists, Written, AreListsOf, AreMadeOf, AreTextsBy, IsOnPackets}
+use Rattle.xsk_cli.specs.Steps.{AreUntaken, FailsAudit, FailsMaking, MakesNone, lists_in, read_by}
 use Rattle.xsk_cli.specs.Words.{fault_in}
 use Rattle.xsk_cli.specs.declared.failure.RunFailure.{RunFailure}
-use Rattle.xsk_cli.specs.declared.failure.RunFailure.TheVariants.{BadCapture as Bad, TooMuch as Excessive, Stalled as Stalls, OutOfMemory as NoMemory}
+use Rattle.xsk_cli.specs.declared.failure.RunFailure.TheVariants.{BadCapture as Bad, TooMuch as Excessive, Stalled as Stalls, OutOfMemory as NoMemory, NotLegal as Breaks}
 use Rattle.xsk_cli.proofs.Ports.{more_ports}
 use Rattle.xsk_args.specs.declared.program.Program.{Program}
 use Rattle.xsk_args.specs.declared.wire.Wire.{Wire}
 use Rattle.xsk_cli.specs.declared.words.Work.{Work}
-use Rattle.xsk_cli.specs.declared.words.Work.TheVariants.{Simulate, Generate}
+use Rattle.xsk_cli.specs.declared.words.Work.TheVariants.{Simulate, Generate, Audit}
 
 pub few_ports : (layout : Layout) → fault_of layout ≡ None → layout.ports ≤ 4
 few_ports layout accepted = omega (arith, (fits layout accepted).ports)
 
 -- a command reads few inputs
 pub few_read : (work : Work) → fault_in work ≡ None → read_by work ≤ 4
-few_read (Simulate layout program wire order None journal) accepted = few_ports layout accepted
-few_read (Simulate layout program wire order (Some number) journal) accepted = omega arith
+few_read (Simulate layout program wire mangle order None journal) accepted = few_ports layout accepted
+few_read (Simulate layout program wire mangle order (Some number) journal) accepted = omega arith
 few_read (Generate number) accepted = omega arith
+few_read (Audit layout) accepted = omega arith
 
 -- ---- limits
 
@@ -81,11 +82,12 @@ made_at number (made ∷ others) list at is =
 
 -- ---- the work's packets
 
-pub untaken_makes : (layout : Layout) (program : Program) (wire : Wire) (order : ℕ) (journal : Bool) (inputs : List (List ℕ)) (failure : RunFailure) → AreUntaken inputs failure → MakesNone (Simulate layout program wire order None journal) inputs failure
-untaken_makes layout program wire order journal inputs (Bad port cause) h = h
-untaken_makes layout program wire order journal inputs (Excessive excess) h = h
-untaken_makes layout program wire order journal inputs (Stalls round) h = absurd h
-untaken_makes layout program wire order journal inputs NoMemory h = h
+pub untaken_makes : (layout : Layout) (program : Program) (wire : Wire) (mangle : Option ℕ) (order : ℕ) (journal : Bool) (inputs : List (List ℕ)) (failure : RunFailure) → AreUntaken inputs failure → MakesNone (Simulate layout program wire mangle order None journal) inputs failure
+untaken_makes layout program wire mangle order journal inputs (Bad port cause) h = (h.0, h.1, tt)
+untaken_makes layout program wire mangle order journal inputs (Excessive excess) h = h
+untaken_makes layout program wire mangle order journal inputs (Stalls round) h = absurd h
+untaken_makes layout program wire mangle order journal inputs NoMemory h = h
+untaken_makes layout program wire mangle order journal inputs (Breaks line) h = absurd h
 
 pub none_of : {X : Type 0} (xs : List X) → length xs ≡ 0 → xs ≡ []
 none_of [] none = refl
@@ -94,12 +96,13 @@ none_of (x ∷ xs) none = absurd (omega (arith, none))
 pub made_of : (work : Work) (number : ℕ) (inputs : List (List ℕ)) (lists : List (List (List ℕ))) → work ≡ Generate number → AreListsOf work inputs lists → lists ≡ made_lists number 1
 made_of work number inputs lists is are = (subst (λ k. AreListsOf k inputs lists) is are).1
 
-pub making_fails : (work : Work) (inputs : List (List ℕ)) (lists : List (List (List ℕ))) (failure : RunFailure) → AreShort inputs (length inputs) → AreListsOf work inputs lists → excess_of lists ≡ None
+pub making_fails : (work : Work) (inputs : List (List ℕ)) (lists : List (List (List ℕ))) (failure : RunFailure) → AreWithin (most_of work) inputs (length inputs) → AreListsOf work inputs lists → excess_of lists ≡ None
     → FailsMaking work lists failure → MakesNone work inputs failure
 making_fails work inputs lists (Bad at cause) short are within h = absurd h
 making_fails work inputs lists (Excessive excess) short are within h = absurd h
 making_fails work inputs lists (Stalls round) short are within h = (short, (lists, are, (within, h)))
 making_fails work inputs lists NoMemory short are within h = tt
+making_fails work inputs lists (Breaks line) short are within h = absurd h
 
 -- one list more
 pub made_more : (number port : ℕ) (lists : List PacketList) (list : PacketList) (all : List PacketList) → lists_in lists ≡ made_lists number port → lists ≡ map listed (lists_in lists)
@@ -111,3 +114,33 @@ made_more number port lists list all are bare is pushed =
       parts ∙ ap (λ ls. ls ++ list.packets ∷ []) are ∙ ap (λ (l : PacketList). made_lists number port ++ l.packets ∷ []) is ∙ sym (more_ports (λ port. first 2000 (packet number port)) port),
       pushed ∙ ap (λ ls. ls ++ list ∷ []) bare ∙ ap (λ l. map listed (lists_in lists) ++ l ∷ []) one ∙ sym (map-append listed (lists_in lists) (list.packets ∷ [])) ∙ ap (map listed) (sym parts),
     )
+
+-- ---- what is made of packets
+
+-- where captures are read or packets made, these are the most bytes
+pub packets_within : (work : Work) (inputs : List (List ℕ)) (count : ℕ) → IsOnPackets work → AreShort inputs count → AreWithin (most_of work) inputs count
+packets_within (Simulate layout program wire mangle order number journal) inputs count on short = short
+packets_within (Generate number) inputs count on short = short
+packets_within (Audit layout) inputs count on short = absurd on
+
+-- texts of packets are made of the inputs
+pub packets_made : (work : Work) (inputs : List (List ℕ)) (lists : List (List (List ℕ))) (texts : Written) → AreListsOf work inputs lists → excess_of lists ≡ None → AreTextsBy work lists texts → AreMadeOf work inputs texts
+packets_made (Simulate layout program wire mangle order number journal) inputs lists texts are within is = (lists, are, (within, is))
+packets_made (Generate number) inputs lists texts are within is = (lists, are, (within, is))
+packets_made (Audit layout) inputs lists texts are within is = absurd are
+
+-- an answer with such a failure
+pub answer_makes : {A : Type 0} (answer : Result A RunFailure) (failure : RunFailure) (work : Work) (inputs : List (List ℕ)) → answer ≡ Err failure → MakesNone work inputs failure → IfErr answer (MakesNone work inputs)
+answer_makes answer failure work inputs is makes = subst (λ r. IfErr r (MakesNone work inputs)) (sym is) makes
+
+-- why an audit gives nothing
+audit_fails : (layout : Layout) (inputs : List (List ℕ)) (failure : RunFailure) → AreWithin (most_of (Audit layout)) inputs (length inputs) → FailsAudit layout (bytes_of inputs 0) failure → MakesNone (Audit layout) inputs failure
+audit_fails layout inputs (Bad at cause) within h = absurd h
+audit_fails layout inputs (Excessive excess) within h = absurd h
+audit_fails layout inputs (Stalls round) within h = absurd h
+audit_fails layout inputs NoMemory within h = tt
+audit_fails layout inputs (Breaks line) within h = (within, h)
+
+pub audit_makes : {A : Type 0} (answer : Result A RunFailure) (layout : Layout) (inputs : List (List ℕ)) → AreWithin (most_of (Audit layout)) inputs (length inputs) → IfErr answer (FailsAudit layout (bytes_of inputs 0)) → IfErr answer (MakesNone (Audit layout) inputs)
+audit_makes (Ok made) layout inputs within h = tt
+audit_makes (Err failure) layout inputs within h = audit_fails layout inputs failure within h

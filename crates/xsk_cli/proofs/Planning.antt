@@ -32,14 +32,14 @@ some_files said accepted none =
     omega (arith, files_named said accepted, ap (λ o. length (unwrap_or o [])) none, (fits (layout_by said) accepted).ports)
 
 -- the plan that words ask for wants the files that they name
-ready_by : (layout : Layout) (program : Program) (wire : Wire) (order : ℕ) (number : Option ℕ) (journal : Bool) (files : List Text) → fault_of layout ≡ None → length files ≡ cond (is_some number) 0 layout.ports + layout.ports
-    → IsReady (record { inputs = take (cond (is_some number) 0 layout.ports) files; outputs = drop (cond (is_some number) 0 layout.ports) files; work = Simulate layout program wire order number journal })
-ready_by layout program wire order None journal files accepted count = record {
+ready_by : (layout : Layout) (program : Program) (wire : Wire) (mangle : Option ℕ) (order : ℕ) (number : Option ℕ) (journal : Bool) (files : List Text) → fault_of layout ≡ None → length files ≡ cond (is_some number) 0 layout.ports + layout.ports
+    → IsReady (record { inputs = take (cond (is_some number) 0 layout.ports) files; outputs = drop (cond (is_some number) 0 layout.ports) files; work = Simulate layout program wire mangle order number journal })
+ready_by layout program wire mangle order None journal files accepted count = record {
   accepted = accepted;
   inputs = length-take-le layout.ports files (omega (arith, count));
   outputs = omega (arith, length-drop layout.ports files, count);
 }
-ready_by layout program wire order (Some n) journal files accepted count = record {
+ready_by layout program wire mangle order (Some n) journal files accepted count = record {
   accepted = accepted;
   inputs = refl;
   outputs = omega (arith, count);

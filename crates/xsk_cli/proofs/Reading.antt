@@ -11,6 +11,7 @@ use Rattle.xsk_io.specs.declared.bay.Stream.{Stream}
 use Rattle.xsk_io.specs.declared.bay.Stream.TheVariants.{Input, Output, Report}
 use Rattle.xsk_cli.specs.Cause.{IsCaused, NeverFalls}
 use Rattle.xsk_cli.specs.Ends.{ComesOf, Ends}
+use Rattle.xsk_cli.specs.Judged.{most_of}
 use Rattle.xsk_cli.specs.Outcome.{Written}
 use Rattle.xsk_cli.specs.Streams.{Moment, IsTold, at_input, Reaches, AreRead, AreWritten, IsReported, name_of}
 use Rattle.xsk_cli.specs.Steps.{FailsReading, HaveRead, args_status, read_status}
@@ -49,7 +50,7 @@ report_is_no_input n e = cc
 
 -- ---- one more input
 
-module _ (names bytes : List (List ℕ)) (n : ℕ) (old mid new : Moment) (have : HaveRead names bytes n old mid) (touched : Touched (Input n) mid new) (told : IsTold (new.asked (Input n)) (get_or names n [])) where
+module _ (most : ℕ) (names bytes : List (List ℕ)) (n : ℕ) (old mid new : Moment) (have : HaveRead most names bytes n old mid) (touched : Touched (Input n) mid new) (told : IsTold (new.asked (Input n)) (get_or names n [])) where
   open_more : new.is_open (Input n) ≡ true → (port : ℕ) → new.is_open (Input port) ≡ ltb port (n + 1)
   open_more is_open port = ⊎_elim
       (λ (e : port ≡ n). subst (λ k. new.is_open (Input k) ≡ true) (sym e) is_open ∙ below_next n port e)
@@ -83,11 +84,11 @@ module _ (names bytes : List (List ℕ)) (n : ℕ) (old mid new : Moment) (have 
   outputs_offers : Same old.offers new.offers
   outputs_offers stream = touched.offers stream ∙ have.offers stream
 
-  pub read_more : (text : List ℕ) → new.is_open (Input n) ≡ true → IsTold (mid.left (Input n)) text → length text ≤ 34603032 → IsAtEnd (new.left (Input n))
-      → HaveRead names (bytes ++ text ∷ []) (n + 1) old new
+  pub read_more : (text : List ℕ) → new.is_open (Input n) ≡ true → IsTold (mid.left (Input n)) text → length text ≤ most → IsAtEnd (new.left (Input n))
+      → HaveRead most names (bytes ++ text ∷ []) (n + 1) old new
   read_more text is_open is short at_end = record {
     count_is = length-append bytes (text ∷ []) ∙ ap (λ k. k + 1) have.count_is;
-    short = push_each (λ port b. length b ≤ 34603032) [] bytes text n have.count_is have.short short;
+    short = push_each (λ port b. length b ≤ most) [] bytes text n have.count_is have.short short;
     reads = record {
       open_now = open_more is_open;
       asked = asked_more;
@@ -132,11 +133,11 @@ none_written names texts old new closed held offers = record {
 
 -- ---- how it ends
 
-module _ (plan : Plan) (bytes : List (List ℕ)) (n : ℕ) (old mid new : Moment) (have : HaveRead plan.inputs bytes n old mid) (known : n < length plan.inputs) (touched : Touched (Input n) mid new)
+module _ (plan : Plan) (bytes : List (List ℕ)) (n : ℕ) (old mid new : Moment) (have : HaveRead (most_of plan.work) plan.inputs bytes n old mid) (known : n < length plan.inputs) (touched : Touched (Input n) mid new)
     (told : IsTold (new.asked (Input n)) (get_or plan.inputs n [])) where
   writes : AreWritten plan.outputs [] 0 0 old new
-  writes = none_written plan.outputs [] old new (outputs_closed plan.inputs bytes n old mid new have touched told) (outputs_held plan.inputs bytes n old mid new have touched told)
-      (outputs_offers plan.inputs bytes n old mid new have touched told)
+  writes = none_written plan.outputs [] old new (outputs_closed (most_of plan.work) plan.inputs bytes n old mid new have touched told) (outputs_held (most_of plan.work) plan.inputs bytes n old mid new have touched told)
+      (outputs_offers (most_of plan.work) plan.inputs bytes n old mid new have touched told)
 
   ends_unopened : new.is_open (Input n) ≡ false → new.left (Input n) ≡ mid.left (Input n) → Ends plan old new (OpenFault (Input n))
   ends_unopened closed left = record {
@@ -146,7 +147,7 @@ module _ (plan : Plan) (bytes : List (List ℕ)) (n : ℕ) (old mid new : Moment
     reaches = (known, refl);
     count = have.count_is;
     short = have.short;
-    reads = unopened plan.inputs bytes n old mid new have touched told closed left;
+    reads = unopened (most_of plan.work) plan.inputs bytes n old mid new have touched told closed left;
     writes = writes;
     reported = tt;
     asked = λ stream e. subst (λ s. IsTold (new.asked s) (name_of plan s)) (let i : Input n ≡ stream = cc in i) told;
@@ -162,21 +163,21 @@ module _ (plan : Plan) (bytes : List (List ℕ)) (n : ℕ) (old mid new : Moment
     reaches = reaches;
     count = have.count_is;
     short = have.short;
-    reads = unread plan.inputs bytes n old mid new have touched told is_open;
+    reads = unread (most_of plan.work) plan.inputs bytes n old mid new have touched told is_open;
     writes = writes;
     reported = reported;
     asked = λ stream e. absurd (other stream e);
     comes = comes;
   }
 
-  pub reading_fails : (failure : ReadFailure) → FailsReading n mid new failure → Ends plan old new (read_status failure)
+  pub reading_fails : (failure : ReadFailure) → FailsReading (most_of plan.work) n mid new failure → Ends plan old new (read_status failure)
   reading_fails (Unopened at) h = subst (λ k. Ends plan old new (OpenFault (Input k))) (sym h.0) (ends_unopened h.1 h.2)
   reading_fails (Unread at) h = subst (λ k. Ends plan old new (ReadFault k)) (sym h.0) (ends_unread (ReadFault n) h.1 (known, refl) (λ stream e. cc) tt tt)
   reading_fails (TooLong at) h = subst (λ k. Ends plan old new (TooMuch (LongInput k))) (sym h.0)
-      (ends_unread (TooMuch (LongInput n)) h.1 (known, refl) (λ stream e. cc) (subst (λ l. IfSome l (λ b. 34603032 < length b)) (have.reads.later n (omega arith)) h.2) tt)
+      (ends_unread (TooMuch (LongInput n)) h.1 (known, refl) (λ stream e. cc) (subst (λ l. IfSome l (λ b. most_of plan.work < length b)) (have.reads.later n (omega arith)) h.2) tt)
   reading_fails NoRoom h = ends_unread OutOfMemory h (record { known = omega (arith, known); ends = omega arith; last = omega arith; outputs = refl; wholes = refl }) (λ stream e. cc) tt tt
 
-  pub reading_caused : (failure : ReadFailure) → NeverFalls old.faults mid.faults → FailsReading n mid new failure → IsCaused old.faults new.faults (read_status failure)
+  pub reading_caused : (failure : ReadFailure) → NeverFalls old.faults mid.faults → FailsReading (most_of plan.work) n mid new failure → IsCaused old.faults new.faults (read_status failure)
   reading_caused (Unopened at) falls h =
       subst (λ k. Rose (old.faults Open (Input k)) (new.faults Open (Input k))) (sym h.0) (Rose-earlier _ _ _ (falls Open (Input n)) h.3)
   reading_caused (Unread at) falls h =
@@ -185,8 +186,8 @@ module _ (plan : Plan) (bytes : List (List ℕ)) (n : ℕ) (old mid new : Moment
   reading_caused NoRoom falls h = tt
 
 -- nothing was done
-pub nothing_read : (names : List (List ℕ)) (old : Moment) → ((stream : Stream) → old.is_open stream ≡ false) → HaveRead names [] 0 old old
-nothing_read names old closed = record {
+pub nothing_read : (most : ℕ) (names : List (List ℕ)) (old : Moment) → ((stream : Stream) → old.is_open stream ≡ false) → HaveRead most names [] 0 old old
+nothing_read most names old closed = record {
   count_is = refl;
   short = λ port h. absurd (omega (arith, h));
   reads = record {
@@ -205,7 +206,7 @@ nothing_read names old closed = record {
 nothing_ends : (plan : Plan) (old : Moment) (status : Status) → ((stream : Stream) → old.is_open stream ≡ false) → Reaches (length plan.inputs) (length plan.outputs) status (at_input 0 0)
     → ((stream : Stream) → status ≡ OpenFault stream → ⊥) → ComesOf plan.work [] no_texts old status → IsReported [] status old old → Ends plan old old status
 nothing_ends plan old status closed reaches other comes reported =
-    let none = nothing_read plan.inputs old closed in
+    let none = nothing_read (most_of plan.work) plan.inputs old closed in
     record {
       inputs = [];
       texts = no_texts;

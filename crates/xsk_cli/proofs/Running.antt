@@ -1,6 +1,6 @@
 -- What a run of the command sent is what is expected at each port and queue, and fits the captures of the ports.
 use Rattle.std.proofs.Common.{◌≡◌, ℕ, suc, ◌+◌, ◌*◌, ◌<◌, ◌≤◌, List, [], ◌∷◌, length, map, get_or, take, drop, refl, sym, ap, ◌∙◌, subst, arith, None, append-nil, mul-le-mul_right}
-use Rattle.std.specs.Prelude.{All, ◌++◌, Bool, if◌then◌else◌}
+use Rattle.std.specs.Prelude.{All, ◌++◌, Bool, if◌then◌else◌, Option}
 use Rattle.std.specs.List.{concat, range_with_len}
 use Rattle.std.proofs.lemmas.List.{length-map, get_or-map}
 use Rattle.std.proofs.lemmas.List.Elements.{recursion_from_All}
@@ -18,7 +18,8 @@ use Rattle.xsk_model.specs.Steering.{paired_port, driver_on}
 use Rattle.xsk_model.proofs.Seats.{below}
 use Rattle.xsk_turns.specs.declared.wire.Wire.{Wire as OwnWire}
 use Rattle.xsk_turns.specs.Inputs.{packets_of_queue}
-use Rattle.xsk_turns.specs.Workers.{IsRuled, IsWholeRun, ruled}
+use Rattle.xsk_turns.specs.declared.manner.Manner.{Manner}
+use Rattle.xsk_turns.specs.Workers.{IsRuled, IsWholeRun, ruled, ruled_by}
 use Rattle.xsk_prog.specs.declared.rule.Rule.{Rule}
 use Rattle.xsk_prog.specs.declared.rule.Verdict.{Verdict}
 use Rattle.xsk_args.specs.declared.program.Program.{Program}
@@ -43,7 +44,7 @@ use Rattle.xsk_socket.proofs.Numbered.{length-numbered}
 use Rattle.xsk_socket.proofs.Regularity.{regular-regular}
 use Rattle.xsk_cli.specs.Judged.{excess_of}
 use Rattle.xsk_stats.specs.Report.{report_text}
-use Rattle.xsk_cli.specs.Outcome.{Written, listed, setting_of, verdicts_by, wire_by, frames_of, sent_from, going_on, rule_by, report_of, told_of, AreTextsIn, AreTextsOf}
+use Rattle.xsk_cli.specs.Outcome.{Written, listed, setting_of, verdicts_by, wire_by, frames_of, sent_from, going_on, rule_by, report_of, told_of, AreTextsIn, AreTextsOf, manner_of}
 use Rattle.xsk_cli.specs.Steps.{lists_in}
 use Rattle.xsk_cli.proofs.Going.{classes_are, expected_goes_on, is_exact_by, packets_there}
 use Rattle.xsk_cli.proofs.Judging.{limits_of}
@@ -67,8 +68,8 @@ driver_known ports queues port queue in_ports in_queues = below port queues queu
 
 -- ---- a history in which all runs are whole, and the lists that are shown of it
 
-module _ (layout : Layout) (program : Program) (wire : Wire) (lists : List (List (List ℕ))) (accepted : fault_of layout ≡ None) (history : List Entry) (legal : IsHistory (regular_of layout) (frames_of layout) history)
-    (whole : (who : ℕ) → who < callers_of (regular_of layout) → IsWholeRun (setting_of layout program wire lists) who (own who history)) (all : List (List (List ℕ)))
+module _ (layout : Layout) (program : Program) (wire : Wire) (mangle : Option ℕ) (lists : List (List (List ℕ))) (accepted : fault_of layout ≡ None) (history : List Entry) (legal : IsHistory (regular_of layout) (frames_of layout) history)
+    (whole : (who : ℕ) → who < callers_of (regular_of layout) → IsWholeRun (setting_of layout program wire mangle lists) who (own who history)) (all : List (List (List ℕ)))
     (each : (pair : ℕ) → pair < length (regular_of layout).pairs → get_or all pair [] ≡ sent (regular_of layout) history pair) where
   abbrev config : Config
   config = regular_of layout
@@ -76,8 +77,11 @@ module _ (layout : Layout) (program : Program) (wire : Wire) (lists : List (List
   abbrev verdicts : List (List Verdict)
   verdicts = verdicts_by layout program lists
 
+  abbrev manner : Manner
+  manner = manner_of mangle
+
   -- all workers have whole runs
-  whole_runs : AreWholeRuns (wire_by wire) config (map listed lists) verdicts (frames_of layout) history
+  whole_runs : AreWholeRuns manner (wire_by wire) config (map listed lists) verdicts (frames_of layout) history
   whole_runs = record {
     steady = record { regular = regular-regular layout (fits layout accepted); closes = refl };
     history = legal;
@@ -102,28 +106,28 @@ module _ (layout : Layout) (program : Program) (wire : Wire) (lists : List (List
     all_sent port in_ports = sent_piece port layout.queues in_ports (omega arith)
 
     -- with one socket on each queue each driver sent what goes on to its queue
-    one_sent : wire ≡ Wait → layout.sockets ≡ 1 → (port queue : ℕ) → port < layout.ports → queue < layout.queues → sent config history (driver_on config port queue) ≡ going_on layout program lists (paired_port port) queue 0
-    one_sent waits one port queue in_ports in_queues =
+    one_sent : mangle ≡ None → wire ≡ Wait → layout.sockets ≡ 1 → (port queue : ℕ) → port < layout.ports → queue < layout.queues → sent config history (driver_on config port queue) ≡ going_on layout program lists (paired_port port) queue 0
+    one_sent none waits one port queue in_ports in_queues =
         let classes : classes_of config ≡ 1 = classes_are layout (omega (arith, driver_known layout.ports layout.queues port queue in_ports in_queues)) ∙ one in
-        all_is_expected (wire_by wire) config (map listed lists) verdicts (frames_of layout) history port queue (ap wire_by waits) whole_runs in_ports in_queues classes
+        all_is_expected manner (wire_by wire) config (map listed lists) verdicts (frames_of layout) history port queue none (ap wire_by waits) whole_runs in_ports in_queues classes
         ∙ expected_goes_on layout program lists port queue 0 accepted (record { in_ports = in_ports; in_queues = in_queues; in_classes = omega (arith, classes) })
 
     pub texts_in : (told : List ℕ) (texts : Written)
         → texts.outputs ≡ map (λ port. written (take layout.queues (drop (port * layout.queues) all))) (range_with_len 0 layout.ports)
-        → texts.report ≡ told → AreTextsIn layout program wire lists history told texts
+        → texts.report ≡ told → AreTextsIn layout program wire mangle lists history told texts
     texts_in told texts outputs report =
         let is : texts.outputs ≡ map (λ port. written (sent_from layout history port)) (range_with_len 0 layout.ports) =
         outputs ∙ same_map _ _ 0 layout.ports (λ port h. ap written (all_sent port (omega (arith, h)))) in
         record {
           sent = is;
-          forwarded = λ port queue in_ports in_queues.
-              all_are_forwarded (wire_by wire) config (map listed lists) verdicts (frames_of layout) history port queue whole_runs in_ports in_queues;
-          redirected = λ port queue waits in_ports in_queues.
-              nothing_else_is_sent (wire_by wire) config (map listed lists) verdicts (frames_of layout) history port queue (ap wire_by waits) whole_runs in_ports in_queues;
-          one_socket = λ waits one.
+          forwarded = λ port queue none in_ports in_queues.
+              all_are_forwarded manner (wire_by wire) config (map listed lists) verdicts (frames_of layout) history port queue none whole_runs in_ports in_queues;
+          redirected = λ port queue none waits in_ports in_queues.
+              nothing_else_is_sent manner (wire_by wire) config (map listed lists) verdicts (frames_of layout) history port queue none (ap wire_by waits) whole_runs in_ports in_queues;
+          one_socket = λ none waits one.
               is
               ∙ same_map _ _ 0 layout.ports (λ port h. ap written
-              (same_map _ _ 0 layout.queues (λ queue k. one_sent waits one port queue (omega (arith, h)) (omega (arith, k)))));
+              (same_map _ _ 0 layout.queues (λ queue k. one_sent none waits one port queue (omega (arith, h)) (omega (arith, k)))));
           report = report;
         }
 
@@ -138,7 +142,7 @@ module _ (layout : Layout) (program : Program) (wire : Wire) (lists : List (List
       sent_within port queue in_ports in_queues =
           let pair : ℕ = port * layout.queues + queue in
           let known : pair < length all = omega (arith, driver_known layout.ports layout.queues port queue in_ports in_queues, pairs) in
-          let few = sent_is_within (wire_by wire) config (map listed lists) verdicts (frames_of layout) history port queue whole_runs in_ports in_queues in
+          let few = sent_is_within manner (wire_by wire) config (map listed lists) verdicts (frames_of layout) history port queue whole_runs in_ports in_queues in
           let here : received config (map listed lists) (paired_port port) queue ≡ packets_of_queue layout.queues queue (get_or lists (paired_port port) []) =
           ap (packets_of_queue layout.queues queue) (packets_there lists (paired_port port)) in
           record {
@@ -157,29 +161,29 @@ module _ (layout : Layout) (program : Program) (wire : Wire) (lists : List (List
 
 -- ---- a run in rounds that has ended
 
-module _ (layout : Layout) (program : Program) (wire : Wire) (order : ℕ) (lists : List (List (List ℕ))) (accepted : fault_of layout ≡ None) (run : Shown) (ended : HasEnded (setting_of layout program wire lists) (frames_of layout) order run)
+module _ (layout : Layout) (program : Program) (wire : Wire) (mangle : Option ℕ) (order : ℕ) (lists : List (List (List ℕ))) (accepted : fault_of layout ≡ None) (run : Shown) (ended : HasEnded (setting_of layout program wire mangle lists) (frames_of layout) order run)
     (pairs : length run.sent ≡ pairs_in layout) where
   pub texts_of : (journal : Bool) (texts : Written)
       → texts.outputs ≡ map (λ port. written (take layout.queues (drop (port * layout.queues) run.sent))) (range_with_len 0 layout.ports)
       → run.pairs ≡ pairs_in layout → texts.report ≡ report_text (regular_of layout) run.figures ++ (if journal then journal_of run.pairs run.log else [])
-      → AreTextsOf layout program wire order lists journal texts
+      → AreTextsOf layout program wire mangle order lists journal texts
   texts_of journal texts outputs drivers report =
       let config : Config = regular_of layout in
       record {
         run = run;
         ended = ended;
         are =
-            texts_in layout program wire lists accepted ended.history ended.is.legal ended.whole run.sent ended.sent pairs (told_of layout program wire lists journal ended.history) texts outputs
+            texts_in layout program wire mangle lists accepted ended.history ended.is.legal ended.whole run.sent ended.sent pairs (told_of layout program wire mangle lists journal ended.history) texts outputs
             (report ∙ ap (λ figures. report_text config figures ++ (if journal then journal_of run.pairs run.log else [])) ended.figures
-            ∙ ap (λ n. report_of layout program wire lists ended.history ++ (if journal then journal_of n run.log else [])) (drivers ∙ sym (pairs_are layout))
-            ∙ ap (λ h. report_of layout program wire lists ended.history ++ (if journal then journal_of (length config.pairs) h else [])) ended.log
-            ∙ ap (λ t. report_of layout program wire lists ended.history ++ (if journal then t else [])) (journal_stored config.geometry config.sg (length config.pairs) ended.history));
-        rounds = entries_stand_in_rounds (setting_of layout program wire lists) (frames_of layout) order ended.count ended.history ended.is;
+            ∙ ap (λ n. report_of layout program wire mangle lists ended.history ++ (if journal then journal_of n run.log else [])) (drivers ∙ sym (pairs_are layout))
+            ∙ ap (λ h. report_of layout program wire mangle lists ended.history ++ (if journal then journal_of (length config.pairs) h else [])) ended.log
+            ∙ ap (λ t. report_of layout program wire mangle lists ended.history ++ (if journal then t else [])) (journal_stored config.geometry config.sg (length config.pairs) ended.history));
+        rounds = entries_stand_in_rounds (setting_of layout program wire mangle lists) (frames_of layout) order ended.count ended.history ended.is;
       }
 
   pub sent_writable : length lists ≡ layout.ports → excess_of lists ≡ None → ((pair : ℕ) → pair < length run.sent → All IsShort (get_or run.sent pair [])) → (port count : ℕ) → port < layout.ports → count ≤ layout.queues
       → IsWritable (take count (drop (port * layout.queues) run.sent))
-  sent_writable count_is within each_short = all_writable layout program wire lists accepted ended.history ended.is.legal ended.whole run.sent ended.sent pairs count_is within each_short
+  sent_writable count_is within each_short = all_writable layout program wire mangle lists accepted ended.history ended.is.legal ended.whole run.sent ended.sent pairs count_is within each_short
 
 -- ---- a run on threads
 
@@ -223,18 +227,18 @@ one_list-writable packets short few small = record {
 }
 
 -- a run of the code's configuration, lists and frames
-pub stalled_as : (layout : Layout) (program : Program) (wire : Wire) (order : ℕ) (c : Config) (own : List PacketList) (fs : List Frame) (lists : List (List (List ℕ))) (round : ℕ) → c ≡ regular_of layout → own ≡ map listed lists
-    → fs ≡ frames_of layout → (own_wire : OwnWire) → own_wire ≡ wire_by wire → (verdicts : List (List Verdict)) → IsRuled (rule_by layout.sockets program) (record { config = c; wire = own_wire; packets = own; verdicts = verdicts })
-    → HasStalled (record { config = c; wire = own_wire; packets = own; verdicts = verdicts }) fs order round → HasStalled (setting_of layout program wire lists) (frames_of layout) order round
-stalled_as layout program wire order c own fs lists round is_config is_own is_frames own_wire is_wire verdicts is h =
-    subst (λ f. HasStalled (setting_of layout program wire lists) f order round) is_frames
-    (subst (λ (l : List PacketList). HasStalled (ruled (rule_by layout.sockets program) (wire_by wire) (regular_of layout) l) fs order round) is_own
-    (subst (λ (k : Config). HasStalled (ruled (rule_by layout.sockets program) (wire_by wire) k own) fs order round) is_config (subst (λ (w : OwnWire). HasStalled (ruled (rule_by layout.sockets program) w c own) fs order round) is_wire (stalls_as_ruled (rule_by layout.sockets program) (record { config = c; wire = own_wire; packets = own; verdicts = verdicts }) fs order round (is_exact_by layout.sockets program) is h))))
+pub stalled_as : (layout : Layout) (program : Program) (wire : Wire) (mangle : Option ℕ) (order : ℕ) (c : Config) (own : List PacketList) (fs : List Frame) (lists : List (List (List ℕ))) (round : ℕ) → c ≡ regular_of layout → own ≡ map listed lists
+    → fs ≡ frames_of layout → (own_wire : OwnWire) → own_wire ≡ wire_by wire → (verdicts : List (List Verdict)) → IsRuled (rule_by layout.sockets program) (record { config = c; wire = own_wire; manner = manner_of mangle; packets = own; verdicts = verdicts })
+    → HasStalled (record { config = c; wire = own_wire; manner = manner_of mangle; packets = own; verdicts = verdicts }) fs order round → HasStalled (setting_of layout program wire mangle lists) (frames_of layout) order round
+stalled_as layout program wire mangle order c own fs lists round is_config is_own is_frames own_wire is_wire verdicts is h =
+    subst (λ f. HasStalled (setting_of layout program wire mangle lists) f order round) is_frames
+    (subst (λ (l : List PacketList). HasStalled (ruled_by (rule_by layout.sockets program) (wire_by wire) (manner_of mangle) (regular_of layout) l) fs order round) is_own
+    (subst (λ (k : Config). HasStalled (ruled_by (rule_by layout.sockets program) (wire_by wire) (manner_of mangle) k own) fs order round) is_config (subst (λ (w : OwnWire). HasStalled (ruled_by (rule_by layout.sockets program) w (manner_of mangle) c own) fs order round) is_wire (stalls_as_ruled (rule_by layout.sockets program) (record { config = c; wire = own_wire; manner = manner_of mangle; packets = own; verdicts = verdicts }) fs order round (is_exact_by layout.sockets program) is h))))
 
-pub ended_as : (layout : Layout) (program : Program) (wire : Wire) (order : ℕ) (c : Config) (own : List PacketList) (fs : List Frame) (lists : List (List (List ℕ))) (run : Shown) → c ≡ regular_of layout → own ≡ map listed lists
-    → fs ≡ frames_of layout → (own_wire : OwnWire) → own_wire ≡ wire_by wire → (verdicts : List (List Verdict)) → IsRuled (rule_by layout.sockets program) (record { config = c; wire = own_wire; packets = own; verdicts = verdicts })
-    → HasEnded (record { config = c; wire = own_wire; packets = own; verdicts = verdicts }) fs order run → HasEnded (setting_of layout program wire lists) (frames_of layout) order run
-ended_as layout program wire order c own fs lists run is_config is_own is_frames own_wire is_wire verdicts is h =
-    subst (λ f. HasEnded (setting_of layout program wire lists) f order run) is_frames
-    (subst (λ (l : List PacketList). HasEnded (ruled (rule_by layout.sockets program) (wire_by wire) (regular_of layout) l) fs order run) is_own
-    (subst (λ (k : Config). HasEnded (ruled (rule_by layout.sockets program) (wire_by wire) k own) fs order run) is_config (subst (λ (w : OwnWire). HasEnded (ruled (rule_by layout.sockets program) w c own) fs order run) is_wire (ends_as_ruled (rule_by layout.sockets program) (record { config = c; wire = own_wire; packets = own; verdicts = verdicts }) fs order run (is_exact_by layout.sockets program) is h))))
+pub ended_as : (layout : Layout) (program : Program) (wire : Wire) (mangle : Option ℕ) (order : ℕ) (c : Config) (own : List PacketList) (fs : List Frame) (lists : List (List (List ℕ))) (run : Shown) → c ≡ regular_of layout → own ≡ map listed lists
+    → fs ≡ frames_of layout → (own_wire : OwnWire) → own_wire ≡ wire_by wire → (verdicts : List (List Verdict)) → IsRuled (rule_by layout.sockets program) (record { config = c; wire = own_wire; manner = manner_of mangle; packets = own; verdicts = verdicts })
+    → HasEnded (record { config = c; wire = own_wire; manner = manner_of mangle; packets = own; verdicts = verdicts }) fs order run → HasEnded (setting_of layout program wire mangle lists) (frames_of layout) order run
+ended_as layout program wire mangle order c own fs lists run is_config is_own is_frames own_wire is_wire verdicts is h =
+    subst (λ f. HasEnded (setting_of layout program wire mangle lists) f order run) is_frames
+    (subst (λ (l : List PacketList). HasEnded (ruled_by (rule_by layout.sockets program) (wire_by wire) (manner_of mangle) (regular_of layout) l) fs order run) is_own
+    (subst (λ (k : Config). HasEnded (ruled_by (rule_by layout.sockets program) (wire_by wire) (manner_of mangle) k own) fs order run) is_config (subst (λ (w : OwnWire). HasEnded (ruled_by (rule_by layout.sockets program) w (manner_of mangle) c own) fs order run) is_wire (ends_as_ruled (rule_by layout.sockets program) (record { config = c; wire = own_wire; manner = manner_of mangle; packets = own; verdicts = verdicts }) fs order run (is_exact_by layout.sockets program) is h))))

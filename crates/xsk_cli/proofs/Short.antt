@@ -13,7 +13,7 @@ use Rattle.xsk_cli.specs.Judged.{AreCaptures}
 use Rattle.xsk_cli.specs.Outcome.{made_lists, AreListsOf}
 use Rattle.xsk_cli.specs.Steps.{lists_in}
 use Rattle.xsk_cli.specs.declared.words.Work.{Work}
-use Rattle.xsk_cli.specs.declared.words.Work.TheVariants.{Simulate, Generate}
+use Rattle.xsk_cli.specs.declared.words.Work.TheVariants.{Simulate, Generate, Audit}
 
 abbrev AllShort : List (List (List ℕ)) → Type 0
 AllShort lists = (port : ℕ) → port < length lists → All IsShort (get_or lists port [])
@@ -29,9 +29,10 @@ captured_short : (inputs : List (List ℕ)) (lists : List (List (List ℕ))) →
 captured_short inputs lists are port below = All-from_recursion IsShort (get_or lists port []) (are.each port (omega (arith, below, are.count))).1.records.short
 
 all_short : (work : Work) (inputs : List (List ℕ)) (lists : List (List (List ℕ))) → AreListsOf work inputs lists → AllShort lists
-all_short (Simulate layout program wire order None journal) inputs lists are = captured_short inputs lists are
-all_short (Simulate layout program wire order (Some number) journal) inputs lists are = subst AllShort (sym are.1) (made_short number layout.ports)
+all_short (Simulate layout program wire mangle order None journal) inputs lists are = captured_short inputs lists are
+all_short (Simulate layout program wire mangle order (Some number) journal) inputs lists are = subst AllShort (sym are.1) (made_short number layout.ports)
 all_short (Generate number) inputs lists are = subst AllShort (sym are.1) (made_short number 1)
+all_short (Audit layout) inputs lists are = absurd are
 
 pub short_lists : (work : Work) (inputs : List (List ℕ)) (lists : List PacketList) → AreListsOf work inputs (lists_in lists) → All HasShortPackets lists
 short_lists work inputs lists are port d below =

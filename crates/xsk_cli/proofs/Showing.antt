@@ -12,20 +12,20 @@ use Rattle.xsk_cli.specs.Cause.{IsCaused}
 use Rattle.xsk_cli.specs.Ends.{Answers, AreTaken, AreTold, Ends, IsComplete, NoneRose}
 use Rattle.std.proofs.lemmas.List.FromFn.{length-map-range_with_len}
 use Rattle.xsk_pcap.specs.Written.{written}
-use Rattle.xsk_cli.specs.Forward.{AreTextsFrom, ComesShown, EndsShown, IsAfterRun, IsRefusedAs, IsShown}
-use Rattle.xsk_cli.specs.Judged.{excess_of}
-use Rattle.xsk_cli.specs.Outcome.{IsOutcome, Outcome, Written, sent_from, bad, long, made, passed, stalled}
+use Rattle.xsk_cli.specs.Forward.{AreTextsFrom, ComesShown, EndsShown, IsAfterRun, IsRefusedAs, IsRun, IsShown}
+use Rattle.xsk_cli.specs.Judged.{AreShort, AreWithin, excess_of, most_of}
+use Rattle.xsk_cli.specs.Outcome.{AreListsOf, IsOnPackets, IsOutcome, Outcome, Written, sent_from, bad, long, made, passed, stalled, illegal}
 use Rattle.xsk_cli.specs.Steps.{Comes, ComesTo, HaveRead, IsBeforeRun, args_status, read_status, run_status, written_by}
 use Rattle.xsk_cli.specs.Streams.{Moment, Reach, status_in}
 use Rattle.xsk_cli.specs.Words.{Plan, fault_in, no_plan}
 use Rattle.xsk_cli.specs.declared.failure.ReadFailure.{ReadFailure}
 use Rattle.xsk_cli.specs.declared.failure.ReadFailure.TheVariants.{Unopened as NoInput, Unread, TooLong, OutOfMemory as NoRoom}
 use Rattle.xsk_cli.specs.declared.failure.RunFailure.{RunFailure}
-use Rattle.xsk_cli.specs.declared.failure.RunFailure.TheVariants.{BadCapture as Bad, TooMuch as Excessive, Stalled as Stalls, OutOfMemory as NoMemory}
+use Rattle.xsk_cli.specs.declared.failure.RunFailure.TheVariants.{BadCapture as Bad, TooMuch as Excessive, Stalled as Stalls, OutOfMemory as NoMemory, NotLegal as Breaks}
 use Rattle.xsk_cli.specs.declared.words.Work.{Work}
-use Rattle.xsk_cli.specs.declared.words.Work.TheVariants.{Simulate, Generate}
+use Rattle.xsk_cli.specs.declared.words.Work.TheVariants.{Simulate, Generate, Audit}
 use Rattle.xsk_cli.specs.declared.status.Status.{Status}
-use Rattle.xsk_cli.specs.declared.status.Status.TheVariants.{Done, Usage, BadCapture, ReadFault, WriteFault, OpenFault, Refused, Stalled, TooMuch, OutOfMemory}
+use Rattle.xsk_cli.specs.declared.status.Status.TheVariants.{Done, Usage, BadCapture, ReadFault, WriteFault, OpenFault, Refused, Stalled, TooMuch, OutOfMemory, NotLegal}
 use Rattle.xsk_cli.proofs.Answering.{answered, completes, same_inputs_by}
 use Rattle.xsk_cli.proofs.Making.{few_ports}
 use Rattle.xsk_cli.proofs.Writing.{ran_out_by}
@@ -92,6 +92,7 @@ run_before (Bad port cause) before wrong = wrong
 run_before (Excessive excess) before wrong = wrong
 run_before (Stalls round) before wrong = before
 run_before NoMemory before wrong = wrong
+run_before (Breaks line) before wrong = wrong
 
 -- an answer with such a status, where this was shown
 pub status_shown : (answer : Result Unit Status) (status : Status) (shown other : Option OutcomeShown) (plan : Plan) (old new : Moment) → answer ≡ Err status → other ≡ shown → EndsShown shown old new status plan
@@ -113,14 +114,33 @@ refused_outcome work inputs (bad port cause) h = h
 refused_outcome work inputs (passed excess) h = h
 refused_outcome work inputs (stalled round) h = absurd h
 refused_outcome work inputs (made texts) h = absurd h
+refused_outcome work inputs (illegal line) h = absurd h
+
+-- inputs that have packets may have as many bytes as captures
+within_shown : (work : Work) (inputs : List (List ℕ)) (lists : List (List (List ℕ))) → AreListsOf work inputs lists → AreShort inputs (length inputs) → AreWithin (most_of work) inputs (length inputs)
+within_shown (Simulate layout program wire mangle order number journal) inputs lists are short = short
+within_shown (Generate number) inputs lists are short = short
+within_shown (Audit layout) inputs lists are short = absurd are
+
+-- work that is a run is on packets, of which captures are read
+pub run_packets : (work : Work) → IsRun work → IsOnPackets work
+run_packets (Simulate layout program wire mangle order number journal) runs = tt
+run_packets (Generate number) runs = tt
+run_packets (Audit layout) runs = runs
+
+pub run_short : (work : Work) (inputs : List (List ℕ)) (count : ℕ) → IsRun work → AreWithin (most_of work) inputs count → AreShort inputs count
+run_short (Simulate layout program wire mangle order number journal) inputs count runs within = within
+run_short (Generate number) inputs count runs within = within
+run_short (Audit layout) inputs count runs within = absurd runs
 
 -- inputs whose packets were run aren't refused
 shown_not_refused : (work : Work) (inputs : List (List ℕ)) (o : OutcomeShown) (outcome : Outcome) → IsShown work inputs o → IsRefusedAs work inputs outcome → ⊥
-shown_not_refused work inputs o (long port) is h = long_not_short inputs port h is.short
+shown_not_refused work inputs o (long port) is h = long_not_short (most_of work) inputs port h (within_shown work inputs is.lists is.are is.short)
 shown_not_refused work inputs o (bad port cause) is h = bad_not_packets work inputs port cause is.lists h.1 is.are
 shown_not_refused work inputs o (passed excess) is h = none_some (excess_of h.1.0) excess h.1.2 (ap excess_of (same_packets work inputs h.1.0 is.lists h.1.1 is.are) ∙ is.within)
 shown_not_refused work inputs o (stalled round) is h = h
 shown_not_refused work inputs o (made texts) is h = h
+shown_not_refused work inputs o (illegal line) is h = h
 
 module _ (plan : Plan) (old new : Moment) (inputs : List (List ℕ)) (told : AreTold plan inputs old) (o : OutcomeShown) (outcome : Outcome) (refused : IsRefusedAs plan.work inputs outcome) where
   none_refused : {X : Type 0} (status : Status) → (ends : EndsShown (Some o) old new status plan) → ends.reach.ends ≡ length plan.inputs → IsShown plan.work ends.inputs o → X
@@ -145,6 +165,7 @@ module _ (plan : Plan) (old new : Moment) (inputs : List (List ℕ)) (told : Are
   answered_some (Stalled round) ends = absurd ends.comes
   answered_some (TooMuch excess) ends = absurd ends.comes
   answered_some OutOfMemory ends = tt
+  answered_some (NotLegal line) ends = absurd ends.comes
 
 pub answered_shown : (plan : Plan) (old new : Moment) (inputs : List (List ℕ)) → AreTold plan inputs old → (shown : Option OutcomeShown) (status : Status) (outcome : Outcome) → EndsShown shown old new status plan → (status ≡ Usage → ⊥)
     → IsRefusedAs plan.work inputs outcome → Answers plan.work outcome status
@@ -164,6 +185,7 @@ completes_some plan old new o (Refused unlawful) ends none caused = absurd ends.
 completes_some plan old new o (Stalled round) ends none caused = absurd ends.comes
 completes_some plan old new o (TooMuch excess) ends none caused = absurd ends.comes
 completes_some plan old new o OutOfMemory ends none caused = tt
+completes_some plan old new o (NotLegal line) ends none caused = absurd ends.comes
 
 pub completes_shown : (plan : Plan) (old new : Moment) (inputs : List (List ℕ)) → AreTold plan inputs old → (shown : Option OutcomeShown) (status : Status) → EndsShown shown old new status plan → (status ≡ Usage → ⊥) → fault_in plan.work ≡ None
     → AreTaken plan.work inputs → NoneRose old.faults new.faults → IsCaused old.faults new.faults status → IsComplete status
@@ -184,16 +206,18 @@ check_shown plan old new (Some o) port ends = ends.comes
 
 -- there is a text for each port
 pub shown_count : (work : Work) (lists : List (List (List ℕ))) (o : OutcomeShown) (texts : Written) → AreTextsFrom work lists o texts → length texts.outputs ≡ written_by work
-shown_count (Simulate layout program wire order number journal) lists o texts are = ap length are.sent ∙ length-map-range_with_len (λ port. written (sent_from layout o.history port)) 0 layout.ports
+shown_count (Simulate layout program wire mangle order number journal) lists o texts are = ap length are.sent ∙ length-map-range_with_len (λ port. written (sent_from layout o.history port)) 0 layout.ports
 shown_count (Generate number) lists o texts are = absurd are
+shown_count (Audit layout) lists o texts are = absurd are
 
 -- for few ports
 pub few_written : (work : Work) → fault_in work ≡ None → written_by work ≤ 4
-few_written (Simulate layout program wire order number journal) accepted = few_ports layout accepted
+few_written (Simulate layout program wire mangle order number journal) accepted = few_ports layout accepted
 few_written (Generate number) accepted = omega arith
+few_written (Audit layout) accepted = omega arith
 
 -- no memory for the run, or for its texts
-module _ (answer : Result Unit Status) (plan : Plan) (bytes : List (List ℕ)) (old mid new : Moment) (have : HaveRead plan.inputs bytes (length plan.inputs) old mid) where
+module _ (answer : Result Unit Status) (plan : Plan) (bytes : List (List ℕ)) (old mid new : Moment) (have : HaveRead (most_of plan.work) plan.inputs bytes (length plan.inputs) old mid) where
   ran_out_of : (shown : Option OutcomeShown) → ((o : OutcomeShown) → shown ≡ Some o → IsShown plan.work bytes o) → EndsShown shown old mid OutOfMemory plan
   ran_out_of None each = ran_out_by plan bytes old mid new have (ComesShown plan.work None) ((λ no. no), tt)
   ran_out_of (Some o) each = ran_out_by plan bytes old mid new have (ComesShown plan.work (Some o)) (each o refl)

@@ -6,13 +6,17 @@ use Rattle.xsk_pcap.specs.declared.reading.BadCapture.{BadCapture as Cause}
 use Rattle.xsk_pcap.specs.Written.{written}
 use Rattle.xsk_pcap.proofs.CaptureLaws.{one_reading, one_refusal, refused_is_no_capture}
 use Rattle.xsk_sim.proofs.Unique.{one_run, ends_or_stalls, one_stall as one_stalled_round}
-use Rattle.xsk_cli.specs.Judged.{bytes_of, AreShort, IsTooLong, AreCaptures, IsBadCapture, excess_of}
-use Rattle.xsk_cli.specs.Outcome.{Written, Outcome, long, bad, passed, stalled, made, AreListsOf, AreTextsBy, AreTextsOf, IsOutcomeOf, IsOutcomeIn, IsOutcome, IsStalledBy, OneOutcome, setting_of, frames_of, ports_of, told_of, sent_from}
+use Rattle.xsk_cli.specs.Judged.{bytes_of, AreWithin, IsTooLong, AreCaptures, IsBadCapture, excess_of, most_of}
+use Rattle.xsk_cli.specs.Outcome.{Written, Outcome, long, bad, passed, stalled, made, illegal, AreListsOf, AreMadeOf, IsAudited, IsIllegalIn, IsOnPackets, legal_text, AreTextsBy, AreTextsOf, IsOutcomeOf, IsOutcomeIn, IsOutcome, IsStalledBy, OneOutcome, setting_of, frames_of, ports_of, told_of, sent_from}
 use Rattle.xsk_args.specs.declared.program.Program.{Program}
 use Rattle.xsk_args.specs.declared.wire.Wire.{Wire}
 use Rattle.xsk_cli.specs.declared.words.Work.{Work}
-use Rattle.xsk_cli.specs.declared.words.Work.TheVariants.{Simulate, Generate}
+use Rattle.xsk_cli.specs.declared.words.Work.TheVariants.{Simulate, Generate, Audit}
 use Rattle.xsk_socket.specs.declared.layout.Layout.{Layout}
+use Rattle.xsk_socket.specs.Regular.{regular_of}
+use Rattle.xsk_audit.specs.declared.auditing.Verdicts.{Verdicts}
+use Rattle.xsk_audit.specs.declared.auditing.Verdicts.TheVariants.{Legal, NotLegal}
+use Rattle.xsk_audit.proofs.OneVerdict.{one-verdict}
 use Rattle.xsk_cli.specs.declared.status.Excess.{Excess}
 use Rattle.xsk_cli.proofs.Ports.{same_lists}
 
@@ -25,8 +29,8 @@ same_captures inputs some others a b =
     let known : i < length inputs = omega (arith, h, a.count) in
     one_reading (bytes_of inputs i) (get_or some i []) (get_or others i []) (a.each i known) (b.each i known))
 
-one_long : (inputs : List (List ℕ)) (p q : ℕ) → IsTooLong inputs p → IsTooLong inputs q → p ≡ q
-one_long inputs p q a b = ⊎_elim
+one_long : (most : ℕ) (inputs : List (List ℕ)) (p q : ℕ) → IsTooLong most inputs p → IsTooLong most inputs q → p ≡ q
+one_long most inputs p q a b = ⊎_elim
     (λ (e : p ≡ q). e)
     (λ other. ⊎_elim
     (λ (l : p < q). absurd (omega (arith, a.long, b.before p l)))
@@ -34,8 +38,8 @@ one_long inputs p q a b = ⊎_elim
     other)
     (cases_order p q)
 
-pub long_not_short : (inputs : List (List ℕ)) (p : ℕ) → IsTooLong inputs p → AreShort inputs (length inputs) → ⊥
-long_not_short inputs p a short = omega (arith, a.long, short p a.known)
+pub long_not_short : (most : ℕ) (inputs : List (List ℕ)) (p : ℕ) → IsTooLong most inputs p → AreWithin most inputs (length inputs) → ⊥
+long_not_short most inputs p a short = omega (arith, a.long, short p a.known)
 
 refused_port : (inputs : List (List ℕ)) (p q : ℕ) (c d : Cause) → IsBadCapture inputs p c → IsBadCapture inputs q d → p < q → ⊥
 refused_port inputs p q c d a b l = let before = b.before p l in refused_is_no_capture (bytes_of inputs p) c before.0 a.refused before.1
@@ -56,29 +60,31 @@ bad_not_captures inputs p c lists a b = refused_is_no_capture (bytes_of inputs p
 -- ---- the packets
 
 pub same_packets : (work : Work) (inputs : List (List ℕ)) (some others : List (List (List ℕ))) → AreListsOf work inputs some → AreListsOf work inputs others → some ≡ others
-same_packets (Simulate layout program wire order None journal) inputs some others a b = same_captures inputs some others a b
-same_packets (Simulate layout program wire order (Some number) journal) inputs some others a b = a.1 ∙ sym b.1
+same_packets (Simulate layout program wire mangle order None journal) inputs some others a b = same_captures inputs some others a b
+same_packets (Simulate layout program wire mangle order (Some number) journal) inputs some others a b = a.1 ∙ sym b.1
 same_packets (Generate number) inputs some others a b = a.1 ∙ sym b.1
+same_packets (Audit layout) inputs some others a b = absurd a
 
 none_bad : (inputs : List (List ℕ)) (p : ℕ) → inputs ≡ [] → p < length inputs → ⊥
 none_bad inputs p none known = omega (arith, known, ap length none)
 
 pub bad_not_packets : (work : Work) (inputs : List (List ℕ)) (p : ℕ) (c : Cause) (lists : List (List (List ℕ))) → IsBadCapture inputs p c → AreListsOf work inputs lists → ⊥
-bad_not_packets (Simulate layout program wire order None journal) inputs p c lists a b = bad_not_captures inputs p c lists a b
-bad_not_packets (Simulate layout program wire order (Some number) journal) inputs p c lists a b = none_bad inputs p b.0 a.known
+bad_not_packets (Simulate layout program wire mangle order None journal) inputs p c lists a b = bad_not_captures inputs p c lists a b
+bad_not_packets (Simulate layout program wire mangle order (Some number) journal) inputs p c lists a b = none_bad inputs p b.0 a.known
 bad_not_packets (Generate number) inputs p c lists a b = none_bad inputs p b.0 a.known
+bad_not_packets (Audit layout) inputs p c lists a b = b
 
 -- ---- runs
 
-module _ (layout : Layout) (program : Program) (wire : Wire) (order : ℕ) (lists : List (List (List ℕ))) (journal : Bool) (a b : Written) (s : AreTextsOf layout program wire order lists journal a) (t : AreTextsOf layout program wire order lists journal b) where
+module _ (layout : Layout) (program : Program) (wire : Wire) (mangle : Option ℕ) (order : ℕ) (lists : List (List (List ℕ))) (journal : Bool) (a b : Written) (s : AreTextsOf layout program wire mangle order lists journal a) (t : AreTextsOf layout program wire mangle order lists journal b) where
   same_history : s.ended.history ≡ t.ended.history
-  same_history = one_run (setting_of layout program wire lists) (frames_of layout) order s.run t.run s.ended t.ended
+  same_history = one_run (setting_of layout program wire mangle lists) (frames_of layout) order s.run t.run s.ended t.ended
 
   same_outputs : a.outputs ≡ b.outputs
   same_outputs = s.are.sent ∙ ap (λ h. map (λ port. written (sent_from layout h port)) (ports_of layout)) same_history ∙ sym t.are.sent
 
   same_report : a.report ≡ b.report
-  same_report = s.are.report ∙ ap (told_of layout program wire lists journal) same_history ∙ sym t.are.report
+  same_report = s.are.report ∙ ap (told_of layout program wire mangle lists journal) same_history ∙ sym t.are.report
 
 same_written : (a b : Written) → a.outputs ≡ b.outputs → a.report ≡ b.report → made a ≡ made b
 same_written a b outputs report =
@@ -86,16 +92,19 @@ same_written a b outputs report =
     ∙ ap (λ report. made (record { outputs = b.outputs; report = report })) report
 
 one_made : (work : Work) (lists : List (List (List ℕ))) (a b : Written) → AreTextsBy work lists a → AreTextsBy work lists b → made a ≡ made b
-one_made (Simulate layout program wire order number journal) lists a b s t = same_written a b (same_outputs layout program wire order lists journal a b s t) (same_report layout program wire order lists journal a b s t)
+one_made (Simulate layout program wire mangle order number journal) lists a b s t = same_written a b (same_outputs layout program wire mangle order lists journal a b s t) (same_report layout program wire mangle order lists journal a b s t)
 one_made (Generate number) lists a b s t = same_written a b (s.0 ∙ sym t.0) (s.1 ∙ sym t.1)
+one_made (Audit layout) lists a b s t = absurd s
 
 one_stall : (work : Work) (lists : List (List (List ℕ))) (r s : ℕ) → IsStalledBy work lists r → IsStalledBy work lists s → r ≡ s
-one_stall (Simulate layout program wire order number journal) lists r s x y = one_stalled_round (setting_of layout program wire lists) (frames_of layout) order r s x y
+one_stall (Simulate layout program wire mangle order number journal) lists r s x y = one_stalled_round (setting_of layout program wire mangle lists) (frames_of layout) order r s x y
 one_stall (Generate number) lists r s x y = absurd x
+one_stall (Audit layout) lists r s x y = absurd x
 
 no_texts_and_stall : (work : Work) (lists : List (List (List ℕ))) (texts : Written) (r : ℕ) → AreTextsBy work lists texts → IsStalledBy work lists r → ⊥
-no_texts_and_stall (Simulate layout program wire order number journal) lists texts r t x = ends_or_stalls (setting_of layout program wire lists) (frames_of layout) order r t.run t.ended x
+no_texts_and_stall (Simulate layout program wire mangle order number journal) lists texts r t x = ends_or_stalls (setting_of layout program wire mangle lists) (frames_of layout) order r t.run t.ended x
 no_texts_and_stall (Generate number) lists texts r t x = x
+no_texts_and_stall (Audit layout) lists texts r t x = x
 
 pub none_some : {A : Type 0} (excess : Option Excess) (e : Excess) → excess ≡ Some e → excess ≡ None → A
 none_some excess e is none = let no = sym is ∙ none in absurd cc
@@ -109,48 +118,108 @@ module _ (work : Work) where
   one_of lists (passed e) (passed f) x y = ap passed (same_Some e f (sym x ∙ y))
   one_of lists (passed e) (stalled r) x y = none_some (excess_of lists) e x y.0
   one_of lists (passed e) (made t) x y = none_some (excess_of lists) e x y.0
+  one_of lists (passed e) (illegal l) x y = absurd y
   one_of lists (stalled r) (long p) x y = absurd y
   one_of lists (stalled r) (bad p c) x y = absurd y
   one_of lists (stalled r) (passed e) x y = none_some (excess_of lists) e y x.0
   one_of lists (stalled r) (stalled s) x y = ap stalled (one_stall work lists r s x.1 y.1)
   one_of lists (stalled r) (made t) x y = absurd (no_texts_and_stall work lists t r y.1 x.1)
+  one_of lists (stalled r) (illegal l) x y = absurd y
   one_of lists (made t) (long p) x y = absurd y
   one_of lists (made t) (bad p c) x y = absurd y
   one_of lists (made t) (passed e) x y = none_some (excess_of lists) e y x.0
   one_of lists (made t) (stalled r) x y = absurd (no_texts_and_stall work lists t r x.1 y.1)
   one_of lists (made t) (made u) x y = one_made work lists t u x.1 y.1
+  one_of lists (made t) (illegal l) x y = absurd y
+  one_of lists (illegal l) b x y = absurd x
 
   one_in : (inputs : List (List ℕ)) (a b : Outcome) → IsOutcomeIn work inputs a → IsOutcomeIn work inputs b → a ≡ b
   one_in inputs a b x y = one_of y.0 a b (subst (λ lists. IsOutcomeOf work lists a) (same_packets work inputs x.0 y.0 x.1 y.1) x.2) y.2
 
 -- ---- the outcome
 
+-- a journal's verdict comes to one thing
+same_entries : (n m : ℕ) → ◌≡◌ {A = Verdicts} (Legal n) (Legal m) → n ≡ m
+same_entries n m e = cc
+
+same_line : (n m : ℕ) → ◌≡◌ {A = Verdicts} (NotLegal n) (NotLegal m) → n ≡ m
+same_line n m e = cc
+
+not_both : (n m : ℕ) → ◌≡◌ {A = Verdicts} (Legal n) (NotLegal m) → ⊥
+not_both n m e = cc
+
+one_audited : (layout : Layout) (text : List ℕ) (a b : Outcome) → IsAudited layout text a → IsAudited layout text b → a ≡ b
+one_audited layout text (long p) b x y = absurd x
+one_audited layout text (bad p c) b x y = absurd x
+one_audited layout text (passed e) b x y = absurd x
+one_audited layout text (stalled r) b x y = absurd x
+one_audited layout text (made t) (long p) x y = absurd y
+one_audited layout text (made t) (bad p c) x y = absurd y
+one_audited layout text (made t) (passed e) x y = absurd y
+one_audited layout text (made t) (stalled r) x y = absurd y
+one_audited layout text (made t) (made u) x y =
+    let counts : x.0 ≡ y.0 = same_entries x.0 y.0 (one-verdict (regular_of layout) text (Legal x.0) (Legal y.0) x.1 y.1) in
+    ap made (x.2 ∙ ap (λ n. record { outputs = []; report = legal_text n }) counts ∙ sym y.2)
+one_audited layout text (made t) (illegal l) x y = absurd (not_both x.0 l (one-verdict (regular_of layout) text (Legal x.0) (NotLegal l) x.1 y))
+one_audited layout text (illegal l) (long p) x y = absurd y
+one_audited layout text (illegal l) (bad p c) x y = absurd y
+one_audited layout text (illegal l) (passed e) x y = absurd y
+one_audited layout text (illegal l) (stalled r) x y = absurd y
+one_audited layout text (illegal l) (made t) x y = absurd (not_both y.0 l (one-verdict (regular_of layout) text (Legal y.0) (NotLegal l) y.1 x))
+one_audited layout text (illegal l) (illegal m) x y = ap illegal (same_line l m (one-verdict (regular_of layout) text (NotLegal l) (NotLegal m) x y))
+
 -- short inputs come to something
 data Later (work : Work) (inputs : List (List ℕ)) (outcome : Outcome) : Type 0 where
-  is_bad : (port : ℕ) (cause : Cause) → outcome ≡ bad port cause → IsBadCapture inputs port cause → Later work inputs outcome
+  is_bad : (port : ℕ) (cause : Cause) → outcome ≡ bad port cause → IsBadCapture inputs port cause → IsOnPackets work → Later work inputs outcome
   is_in : IsOutcomeIn work inputs outcome → Later work inputs outcome
+  is_found : (layout : Layout) → work ≡ Audit layout → IsAudited layout (bytes_of inputs 0) outcome → Later work inputs outcome
 
-later : (work : Work) (inputs : List (List ℕ)) (outcome : Outcome) → IsOutcome work inputs outcome → ((p : ℕ) × (outcome ≡ long p) × IsTooLong inputs p) ⊎ (AreShort inputs (length inputs) × Later work inputs outcome)
+made_later : (work : Work) (inputs : List (List ℕ)) (t : Written) → AreMadeOf work inputs t → Later work inputs (made t)
+made_later (Simulate layout program wire mangle order number journal) inputs t h = is_in h
+made_later (Generate number) inputs t h = is_in h
+made_later (Audit layout) inputs t h = is_found layout refl h
+
+illegal_later : (work : Work) (inputs : List (List ℕ)) (line : ℕ) → IsIllegalIn work inputs line → Later work inputs (illegal line)
+illegal_later (Simulate layout program wire mangle order number journal) inputs line h = absurd h
+illegal_later (Generate number) inputs line h = absurd h
+illegal_later (Audit layout) inputs line h = is_found layout refl h
+
+later : (work : Work) (inputs : List (List ℕ)) (outcome : Outcome) → IsOutcome work inputs outcome
+    → ((p : ℕ) × (outcome ≡ long p) × IsTooLong (most_of work) inputs p) ⊎ (AreWithin (most_of work) inputs (length inputs) × Later work inputs outcome)
 later work inputs (long p) h = inl (p, refl, h)
-later work inputs (bad p c) h = inr (h.0, is_bad p c refl h.1)
+later work inputs (bad p c) h = inr (h.0, is_bad p c refl h.1 h.2)
 later work inputs (passed e) h = inr (h.0, is_in h.1)
 later work inputs (stalled r) h = inr (h.0, is_in h.1)
-later work inputs (made t) h = inr (h.0, is_in h.1)
+later work inputs (made t) h = inr (h.0, made_later work inputs t h.1)
+later work inputs (illegal l) h = inr (h.0, illegal_later work inputs l h.1)
+
+-- what is told of a journal isn't told of packets
+found_not_in : (work : Work) (inputs : List (List ℕ)) (layout : Layout) (outcome : Outcome) → work ≡ Audit layout → IsOutcomeIn work inputs outcome → ⊥
+found_not_in work inputs layout outcome is h = subst (λ w. AreListsOf w inputs h.0) is h.1
+
+same_layout : (layout other : Layout) → Audit layout ≡ Audit other → layout ≡ other
+same_layout layout other e = cc
 
 one_later : (work : Work) (inputs : List (List ℕ)) (a b : Outcome) → Later work inputs a → Later work inputs b → a ≡ b
-one_later work inputs a b (is_bad p c e x) (is_bad q d f y) = e ∙ one_bad inputs p q c d x y ∙ sym f
-one_later work inputs a b (is_bad p c e x) (is_in y) = absurd (bad_not_packets work inputs p c y.0 x y.1)
-one_later work inputs a b (is_in x) (is_bad q d f y) = absurd (bad_not_packets work inputs q d x.0 y x.1)
+one_later work inputs a b (is_bad p c e x on) (is_bad q d f y too) = e ∙ one_bad inputs p q c d x y ∙ sym f
+one_later work inputs a b (is_bad p c e x on) (is_in y) = absurd (bad_not_packets work inputs p c y.0 x y.1)
+one_later work inputs a b (is_in x) (is_bad q d f y too) = absurd (bad_not_packets work inputs q d x.0 y x.1)
 one_later work inputs a b (is_in x) (is_in y) = one_in work inputs a b x y
+one_later work inputs a b (is_bad p c e x on) (is_found l is y) = absurd (subst IsOnPackets is on)
+one_later work inputs a b (is_found l is x) (is_bad q d f y too) = absurd (subst IsOnPackets is too)
+one_later work inputs a b (is_in x) (is_found l is y) = absurd (found_not_in work inputs l a is x)
+one_later work inputs a b (is_found l is x) (is_in y) = absurd (found_not_in work inputs l b is y)
+one_later work inputs a b (is_found l is x) (is_found m too y) =
+    one_audited m (bytes_of inputs 0) a b (subst (λ k. IsAudited k (bytes_of inputs 0) a) (same_layout l m (sym is ∙ too)) x) y
 
 pub one_outcome : OneOutcome
 one_outcome work inputs a b x y = ⊎_elim
     (λ xl. ⊎_elim
-    (λ yl. xl.1 ∙ ap long (one_long inputs xl.0 yl.0 xl.2 yl.2) ∙ sym yl.1)
-    (λ ys. absurd (long_not_short inputs xl.0 xl.2 ys.0))
+    (λ yl. xl.1 ∙ ap long (one_long (most_of work) inputs xl.0 yl.0 xl.2 yl.2) ∙ sym yl.1)
+    (λ ys. absurd (long_not_short (most_of work) inputs xl.0 xl.2 ys.0))
     (later work inputs b y))
     (λ xs. ⊎_elim
-    (λ yl. absurd (long_not_short inputs yl.0 yl.2 xs.0))
+    (λ yl. absurd (long_not_short (most_of work) inputs yl.0 yl.2 xs.0))
     (λ ys. one_later work inputs a b xs.1 ys.1)
     (later work inputs b y))
     (later work inputs a x)

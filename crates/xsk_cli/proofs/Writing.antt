@@ -7,7 +7,7 @@ use Rattle.xsk_io.specs.declared.bay.Stream.{Stream}
 use Rattle.xsk_io.specs.declared.bay.Stream.TheVariants.{Input, Output, Report}
 use Rattle.xsk_io.proofs.Steps.{Adds-then, IsOffered-later}
 use Rattle.xsk_cli.specs.Ends.{ComesOf, EndsBy, Ends}
-use Rattle.xsk_cli.specs.Judged.{packets_in, bytes_in, excess_of}
+use Rattle.xsk_cli.specs.Judged.{packets_in, bytes_in, excess_of, most_of}
 use Rattle.xsk_cli.specs.declared.status.Excess.{Excess}
 use Rattle.std.proofs.lemmas.List.FromFn.{length-map-range_with_len}
 use Rattle.xsk_cli.specs.Outcome.{Written, made, IsOutcome, AreTextsBy, capture_of, sent_from}
@@ -15,16 +15,16 @@ use Rattle.xsk_pcap.specs.Written.{written}
 use Rattle.xsk_cli.specs.Streams.{Moment, IsTold, IsFront, at_output, at_input, Reaches, AreRead, AreWritten, HasLine, IsReported, IsSilent, name_of, status_in}
 use Rattle.xsk_cli.specs.Steps.{FailsWriting, HaveRead, MakesNone, run_status, write_status, written_by}
 use Rattle.xsk_cli.specs.declared.words.Work.{Work}
-use Rattle.xsk_cli.specs.declared.words.Work.TheVariants.{Simulate, Generate}
+use Rattle.xsk_cli.specs.declared.words.Work.TheVariants.{Simulate, Generate, Audit}
 use Rattle.std.proofs.lemmas.List.{length-map}
 use Rattle.xsk_cli.specs.Words.{Plan}
 use Rattle.xsk_cli.specs.declared.failure.RunFailure.{RunFailure}
-use Rattle.xsk_cli.specs.declared.failure.RunFailure.TheVariants.{BadCapture as Bad, TooMuch as Excessive, Stalled as Stalls, OutOfMemory as NoMemory}
+use Rattle.xsk_cli.specs.declared.failure.RunFailure.TheVariants.{BadCapture as Bad, TooMuch as Excessive, Stalled as Stalls, OutOfMemory as NoMemory, NotLegal as Breaks}
 use Rattle.xsk_cli.specs.declared.failure.WriteFailure.{WriteFailure}
 use Rattle.xsk_cli.specs.declared.failure.WriteFailure.TheVariants.{Unopened, Unwritten}
 use Rattle.xsk_cli.specs.declared.status.Excess.TheVariants.{Input as LongInput, Packets, Bytes}
 use Rattle.xsk_cli.specs.declared.status.Status.{Status}
-use Rattle.xsk_cli.specs.declared.status.Status.TheVariants.{Done, Usage, BadCapture, ReadFault, WriteFault, OpenFault, Refused, Stalled, TooMuch, OutOfMemory}
+use Rattle.xsk_cli.specs.declared.status.Status.TheVariants.{Done, Usage, BadCapture, ReadFault, WriteFault, OpenFault, Refused, Stalled, TooMuch, OutOfMemory, NotLegal}
 use Rattle.xsk_cli.proofs.Reading.{none_written}
 
 -- the outputs are as they were
@@ -78,7 +78,7 @@ no_long_in false false n m port e = cc
 no_long : (lists : List (List (List ℕ))) (port : ℕ) → excess_of lists ≡ Some (LongInput port) → ⊥
 no_long lists port h = no_long_in (ltb 65536 (packets_in lists)) (ltb 33554432 (bytes_in lists)) (packets_in lists) (bytes_in lists) port h
 
-module _ (plan : Plan) (bytes : List (List ℕ)) (old mid new : Moment) (have : HaveRead plan.inputs bytes (length plan.inputs) old mid) where
+module _ (plan : Plan) (bytes : List (List ℕ)) (old mid new : Moment) (have : HaveRead (most_of plan.work) plan.inputs bytes (length plan.inputs) old mid) where
   abbrev no_texts : Written
   no_texts = record { outputs = []; report = [] }
 
@@ -112,6 +112,7 @@ module _ (plan : Plan) (bytes : List (List ℕ)) (old mid new : Moment) (have : 
   run_fails (Excessive (Packets n)) h = refused (TooMuch (Packets n)) refl tt (λ stream e. cc) h
   run_fails (Excessive (Bytes n)) h = refused (TooMuch (Bytes n)) refl tt (λ stream e. cc) h
   run_fails (Stalls round) h = refused (Stalled round) refl tt (λ stream e. cc) h
+  run_fails (Breaks line) h = refused (NotLegal line) refl tt (λ stream e. cc) h
   run_fails NoMemory h = refused OutOfMemory (record { known = omega arith; ends = omega arith; last = omega arith; outputs = refl; wholes = refl }) tt (λ stream e. cc) tt
 
   -- whatever it comes of
@@ -177,6 +178,7 @@ reported_still text old mid new (ReadFault port) is silent = tt
 reported_still text old mid new (OpenFault stream) is silent = tt
 reported_still text old mid new (Refused unlawful) is silent = tt
 reported_still text old mid new (Stalled round) is silent = tt
+reported_still text old mid new (NotLegal line) is silent = tt
 reported_still text old mid new (TooMuch excess) is silent = tt
 reported_still text old mid new OutOfMemory is silent = tt
 
@@ -211,6 +213,7 @@ status_ends answer status plan old new is ends = subst (λ r. Ends plan old new 
 
 -- there is a text for each port
 pub texts_count : (work : Work) (lists : List (List (List ℕ))) (texts : Written) → AreTextsBy work lists texts → length lists ≡ written_by work → length texts.outputs ≡ written_by work
-texts_count (Simulate layout program wire order number journal) lists texts are count =
+texts_count (Simulate layout program wire mangle order number journal) lists texts are count =
     ap length are.are.sent ∙ length-map-range_with_len (λ port. written (sent_from layout are.ended.history port)) 0 layout.ports
 texts_count (Generate number) lists texts are count = ap length are.0 ∙ length-map lists capture_of ∙ count
+texts_count (Audit layout) lists texts are count = absurd are

@@ -6,25 +6,26 @@ use Rattle.xsk_io.specs.declared.bay.Stream.{Stream}
 use Rattle.xsk_io.specs.declared.bay.Stream.TheVariants.{Input, Output}
 use Rattle.xsk_cli.specs.Words.{Plan, fault_in}
 use Rattle.xsk_cli.specs.declared.words.Work.{Work}
-use Rattle.xsk_cli.specs.declared.words.Work.TheVariants.{Simulate}
-use Rattle.xsk_cli.specs.Judged.{bytes_of, AreShort, AreCaptures, excess_of}
-use Rattle.xsk_cli.specs.Outcome.{Written, Outcome, long, bad, passed, stalled, made, IsOutcome}
+use Rattle.xsk_cli.specs.declared.words.Work.TheVariants.{Simulate, Audit}
+use Rattle.xsk_cli.specs.Judged.{bytes_of, AreShort, AreWithin, AreCaptures, excess_of, most_of}
+use Rattle.xsk_cli.specs.Outcome.{Written, Outcome, long, bad, passed, stalled, made, illegal, IsOutcome}
 use Rattle.xsk_cli.specs.Streams.{Moment, IsTold, Reach, Reaches, AreRead, AreWritten, IsReported, name_of}
 use Rattle.xsk_cli.specs.declared.status.Excess.TheVariants.{Input as TooLong}
 use Rattle.xsk_cli.specs.declared.status.Status.{Status}
-use Rattle.xsk_cli.specs.declared.status.Status.TheVariants.{Done, Usage, BadCapture, WriteFault, OpenFault, Refused, Stalled, TooMuch, OutOfMemory}
+use Rattle.xsk_cli.specs.declared.status.Status.TheVariants.{Done, Usage, BadCapture, WriteFault, OpenFault, Refused, Stalled, TooMuch, OutOfMemory, NotLegal}
 
--- the status comes of this work and these inputs: its layout is refused, they were too long or refused, their run stalled, or
--- these are its texts
+-- the status comes of this work and these inputs: its layout is refused, they were too long or refused, their run stalled, their
+-- journal isn't legal, or these are its texts
 abbrev pub ComesOf : Work → List (List ℕ) → Written → Moment → Status → Type 0
 ComesOf work inputs texts old Done = IsOutcome work inputs (made texts)
 ComesOf work inputs texts old (BadCapture port cause) = IsOutcome work inputs (bad port cause)
 ComesOf work inputs texts old (WriteFault stream) = IsOutcome work inputs (made texts)
 ComesOf work inputs texts old (OpenFault (Output port)) = IsOutcome work inputs (made texts)
 ComesOf work inputs texts old (Stalled round) = IsOutcome work inputs (stalled round)
-ComesOf work inputs texts old (TooMuch (TooLong port)) = IfSome (old.left (Input port)) (λ bytes. 34603032 < length bytes)
+ComesOf work inputs texts old (TooMuch (TooLong port)) = IfSome (old.left (Input port)) (λ bytes. most_of work < length bytes)
 ComesOf work inputs texts old (TooMuch excess) = IsOutcome work inputs (passed excess)
 ComesOf work inputs texts old (Refused unlawful) = fault_in work ≡ Some unlawful
+ComesOf work inputs texts old (NotLegal line) = IsOutcome work inputs (illegal line)
 ComesOf work inputs texts old status = Unit {0}
 
 -- how a command with this plan ends, where its status comes so of the bytes of its inputs and of its texts
@@ -35,7 +36,7 @@ pub record EndsBy (Comes : List (List ℕ) → Written → Moment → Status →
   pub reach : Reach
   pub reaches : Reaches (length plan.inputs) (length plan.outputs) status reach
   pub count : length inputs ≡ reach.ends
-  pub short : AreShort inputs reach.ends
+  pub short : AreWithin (most_of plan.work) inputs reach.ends
   pub reads : AreRead plan.inputs inputs reach.inputs reach.ends old new
   pub writes : AreWritten plan.outputs texts.outputs reach.outputs reach.wholes old new
   pub reported : IsReported texts.report status old new
@@ -63,13 +64,15 @@ Answers work outcome (Stalled round) = outcome ≡ stalled round
 Answers work outcome (TooMuch (TooLong port)) = outcome ≡ long port
 Answers work outcome (TooMuch excess) = outcome ≡ passed excess
 Answers work outcome (Refused unlawful) = fault_in work ≡ Some unlawful
+Answers work outcome (NotLegal line) = outcome ≡ illegal line
 Answers work outcome status = Unit {0}
 
 -- ---- completeness
 
--- captures within the limits, where captures are read
+-- captures within the limits, where captures are read, and so a journal, where one is
 abbrev pub AreTaken : Work → List (List ℕ) → Type 0
-AreTaken (Simulate layout program wire order None journal) inputs = AreShort inputs (length inputs) × ((lists : List (List (List ℕ))) × AreCaptures inputs lists × (excess_of lists ≡ None))
+AreTaken (Simulate layout program wire mangle order None journal) inputs = AreShort inputs (length inputs) × ((lists : List (List (List ℕ))) × AreCaptures inputs lists × (excess_of lists ≡ None))
+AreTaken (Audit layout) inputs = AreWithin (most_of (Audit layout)) inputs (length inputs)
 AreTaken work inputs = inputs ≡ []
 
 abbrev pub NoneRose : (Kind → Stream → ℕ) → (Kind → Stream → ℕ) → Type 0
@@ -79,5 +82,6 @@ NoneRose old new = (kind : Kind) (stream : Stream) → Rose (old kind stream) (n
 abbrev pub IsComplete : Status → Type 0
 IsComplete Done = Unit {0}
 IsComplete (Stalled round) = Unit {0}
+IsComplete (NotLegal line) = Unit {0}
 IsComplete OutOfMemory = Unit {0}
 IsComplete status = ⊥

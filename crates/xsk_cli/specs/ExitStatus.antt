@@ -1,7 +1,7 @@
 -- The exit statuses of the program: this project's own.
 use Rattle.std.specs.Prelude.{ℕ}
 use Rattle.xsk_cli.specs.declared.status.Status.{Status}
-use Rattle.xsk_cli.specs.declared.status.Status.TheVariants.{Done, Usage, BadCapture, ReadFault, WriteFault, OpenFault, Refused, Stalled, TooMuch, OutOfMemory}
+use Rattle.xsk_cli.specs.declared.status.Status.TheVariants.{Done, Usage, BadCapture, ReadFault, WriteFault, OpenFault, Refused, Stalled, TooMuch, OutOfMemory, NotLegal}
 
 abbrev pub exit_status_of : Status → ℕ
 exit_status_of Done = 0
@@ -14,3 +14,4 @@ exit_status_of (Refused unlawful) = 7
 exit_status_of (Stalled round) = 8
 exit_status_of (TooMuch excess) = 9
 exit_status_of OutOfMemory = 10
+exit_status_of (NotLegal line) = 13

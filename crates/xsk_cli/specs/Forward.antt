@@ -17,12 +17,12 @@ use Rattle.xsk_cli.specs.Cause.{IsCaused, IsFault}
 use Rattle.xsk_cli.specs.Ends.{Answers, AreTaken, AreTold, ComesOf, Ends, EndsBy, IsComplete, NoneRose}
 use Rattle.xsk_cli.specs.Judged.{AreShort, excess_of}
 use Rattle.xsk_cli.specs.Line.{line_of}
-use Rattle.xsk_cli.specs.Outcome.{AreListsOf, AreTextsIn, IsOutcome, Outcome, Written, bad, frames_of, long, made, passed, report_of, setting_of, stalled}
+use Rattle.xsk_cli.specs.Outcome.{AreListsOf, AreTextsIn, IsOutcome, Outcome, Written, bad, frames_of, long, made, passed, report_of, setting_of, stalled, illegal}
 use Rattle.xsk_cli.specs.Steps.{written_by}
 use Rattle.xsk_cli.specs.Streams.{GotLine, HasLine, IsAtOnce, IsOfLine, Moment}
 use Rattle.xsk_cli.specs.Words.{Plan, fault_in, no_plan, plan_by}
 use Rattle.xsk_cli.specs.declared.words.Work.{Work}
-use Rattle.xsk_cli.specs.declared.words.Work.TheVariants.{Simulate, Generate}
+use Rattle.xsk_cli.specs.declared.words.Work.TheVariants.{Simulate, Generate, Audit}
 use Rattle.xsk_cli.specs.declared.status.Status.{Status}
 use Rattle.xsk_cli.specs.declared.status.Status.TheVariants.{BadCapture, Done, OpenFault, OutOfMemory, Refused, Stalled, Usage, WriteFault}
 
@@ -60,18 +60,21 @@ is_forward (first ∷ rest) = bytes_eq first (codes "forward")
 
 -- work that is a run
 abbrev pub IsRun : Work → Type 0
-IsRun (Simulate layout program wire order number journal) = Unit {0}
+IsRun (Simulate layout program wire mangle order number journal) = Unit {0}
 IsRun (Generate number) = ⊥
+IsRun (Audit layout) = ⊥
 
 -- a run on threads of the work's packets shows this
 abbrev pub HasShown : Work → List (List (List ℕ)) → OutcomeShown → Type 0
-HasShown (Simulate layout program wire order number journal) lists o = HasForwarded (setting_of layout program wire lists) (frames_of layout) o
+HasShown (Simulate layout program wire mangle order number journal) lists o = HasForwarded (setting_of layout program wire None lists) (frames_of layout) o
 HasShown (Generate number) lists o = ⊥
+HasShown (Audit layout) lists o = ⊥
 
 -- these are the texts of its history
 abbrev pub AreTextsFrom : Work → List (List (List ℕ)) → OutcomeShown → Written → Type 0
-AreTextsFrom (Simulate layout program wire order number journal) lists o texts = AreTextsIn layout program wire lists o.history (report_of layout program wire lists o.history) texts
+AreTextsFrom (Simulate layout program wire mangle order number journal) lists o texts = AreTextsIn layout program wire None lists o.history (report_of layout program wire None lists o.history) texts
 AreTextsFrom (Generate number) lists o texts = ⊥
+AreTextsFrom (Audit layout) lists o texts = ⊥
 
 -- inputs are taken, and a run on threads of the packets of all ports shows this
 pub record IsShown (work : Work) (inputs : List (List ℕ)) (o : OutcomeShown) : Type 0 where
@@ -118,6 +121,7 @@ IsRefusedAs work inputs (bad port cause) = IsOutcome work inputs (bad port cause
 IsRefusedAs work inputs (passed excess) = IsOutcome work inputs (passed excess)
 IsRefusedAs work inputs (stalled round) = ⊥
 IsRefusedAs work inputs (made texts) = ⊥
+IsRefusedAs work inputs (illegal line) = ⊥
 
 -- ---- the answer
 

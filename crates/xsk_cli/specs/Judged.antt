@@ -6,6 +6,8 @@ use Rattle.std.specs.List.{concat, slice_index_or}
 use Rattle.xsk_pcap.specs.Capture.{IsCapture, IsRefused}
 use Rattle.xsk_pcap.specs.declared.reading.BadCapture.{BadCapture as Cause}
 use Rattle.xsk_pcap.specs.declared.reading.BadCapture.TheVariants.{OutOfMemory as NoMemory}
+use Rattle.xsk_cli.specs.declared.words.Work.{Work}
+use Rattle.xsk_cli.specs.declared.words.Work.TheVariants.{Simulate, Generate, Audit}
 use Rattle.xsk_cli.specs.declared.status.Excess.{Excess}
 use Rattle.xsk_cli.specs.declared.status.Excess.TheVariants.{Packets, Bytes}
 
@@ -13,15 +15,25 @@ use Rattle.xsk_cli.specs.declared.status.Excess.TheVariants.{Packets, Bytes}
 abbrev pub bytes_of : List (List ℕ) → ℕ → List ℕ
 bytes_of inputs port = slice_index_or inputs port []
 
--- so many ports, from 0 on, have inputs with no more bytes than a capture of 65,536 packets with 33,554,432 bytes
+-- the most bytes of an input: those of a capture of 65,536 packets with 33,554,432 bytes, or so many of a journal
+abbrev pub most_of : Work → ℕ
+most_of (Simulate layout program wire mangle order number journal) = 34603032
+most_of (Generate number) = 34603032
+most_of (Audit layout) = 67108864
+
+-- so many ports, from 0 on, have inputs with no more bytes than these
+abbrev pub AreWithin : ℕ → List (List ℕ) → ℕ → Type 0
+AreWithin most inputs count = (port : ℕ) → port < count → length (bytes_of inputs port) ≤ most
+
+-- with no more than such a capture
 abbrev pub AreShort : List (List ℕ) → ℕ → Type 0
-AreShort inputs count = (port : ℕ) → port < count → length (bytes_of inputs port) ≤ 34603032
+AreShort inputs count = AreWithin 34603032 inputs count
 
 -- the lowest port with a longer one
-pub record IsTooLong (inputs : List (List ℕ)) (port : ℕ) : Type 0 where
+pub record IsTooLong (most : ℕ) (inputs : List (List ℕ)) (port : ℕ) : Type 0 where
   pub known : port < length inputs
-  pub long : 34603032 < length (bytes_of inputs port)
-  pub before : AreShort inputs port
+  pub long : most < length (bytes_of inputs port)
+  pub before : AreWithin most inputs port
 
 -- all are captures, with a list of packets each
 pub record AreCaptures (inputs : List (List ℕ)) (lists : List (List (List ℕ))) : Type 0 where

@@ -9,3 +9,5 @@ pub mod Ends
 pub mod Steps
 pub mod Forward
 pub mod Lent
+pub mod Ample
+pub mod Journals

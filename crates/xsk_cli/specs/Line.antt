@@ -10,7 +10,7 @@ use Rattle.xsk_socket.specs.declared.layout.Unlawful.TheVariants.{Ports, Queues,
 use Rattle.xsk_cli.specs.declared.status.Excess.{Excess}
 use Rattle.xsk_cli.specs.declared.status.Excess.TheVariants.{Input as TooLong, Packets, Bytes}
 use Rattle.xsk_cli.specs.declared.status.Status.{Status}
-use Rattle.xsk_cli.specs.declared.status.Status.TheVariants.{Done, Usage, BadCapture, ReadFault, WriteFault, OpenFault, Refused, Stalled, TooMuch, OutOfMemory}
+use Rattle.xsk_cli.specs.declared.status.Status.TheVariants.{Done, Usage, BadCapture, ReadFault, WriteFault, OpenFault, Refused, Stalled, TooMuch, OutOfMemory, NotLegal}
 
 abbrev pub cause_text : Cause → List ℕ
 cause_text ShortHeader = codes "short header"
@@ -57,6 +57,7 @@ status_text (Refused unlawful) = codes "refused " ++ unlawful_text unlawful
 status_text (Stalled round) = codes "stalled " ++ decimal round
 status_text (TooMuch excess) = codes "too much " ++ excess_text excess
 status_text OutOfMemory = codes "out of memory"
+status_text (NotLegal line) = codes "not legal " ++ decimal line
 
 abbrev pub line_of : Status → List ℕ
 line_of status = status_text status ++ codes "\n"

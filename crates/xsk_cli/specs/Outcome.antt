@@ -1,5 +1,5 @@
 -- What a command's work makes of the bytes of its inputs. There is one outcome of them.
-use Rattle.std.specs.Prelude.{◌≡◌, ◌&&◌, ◌==◌, ℕ, ◌<◌, Bool, List, [], ◌∷◌, ◌++◌, length, map, filter, codes, None, Some, if◌then◌else◌}
+use Rattle.std.specs.Prelude.{◌≡◌, ◌&&◌, ◌==◌, ℕ, ◌<◌, Bool, List, [], ◌∷◌, ◌++◌, length, map, filter, codes, None, Some, if◌then◌else◌, Option}
 use Rattle.std.specs.Fmt.{decimal}
 use Rattle.std.specs.List.{concat, range_with_len, slice_index_or}
 use Rattle.xsk_umem.specs.PacketList.{PacketList}
@@ -29,29 +29,34 @@ use Rattle.xsk_prog.specs.declared.rule.Rule.{Rule}
 use Rattle.xsk_prog.specs.declared.rule.Rule.TheVariants.{Redirect as ByClass, Pass as PassAll, Drop as DropAll, EtherType as TypeByClass, Fixed as ByCell}
 use Rattle.xsk_turns.specs.Inputs.{packets_of_queue}
 use Rattle.xsk_prog.specs.declared.rule.Verdict.{Verdict}
-use Rattle.xsk_turns.specs.Workers.{Setting, IsWholeRun, ruled, verdicts_to}
+use Rattle.xsk_turns.specs.Workers.{Setting, IsWholeRun, ruled_by, verdicts_to}
 use Rattle.xsk_turns.specs.declared.wire.Wire.{Wire as OwnWire}
 use Rattle.xsk_turns.specs.declared.wire.Wire.TheVariants.{Wait as Waits, Drop as DropsNow}
 use Rattle.xsk_sim.specs.Runs.{HasEnded, HasStalled}
 use Rattle.xsk_pcap.specs.Written.{written}
 use Rattle.xsk_pcap.specs.declared.reading.BadCapture.{BadCapture as Cause}
-use Rattle.xsk_cli.specs.Judged.{AreShort, IsTooLong, AreCaptures, IsBadCapture, excess_of}
+use Rattle.xsk_audit.specs.Telling.{IsVerdict}
+use Rattle.xsk_audit.specs.declared.auditing.Verdicts.TheVariants.{Legal, NotLegal}
+use Rattle.xsk_cli.specs.Judged.{bytes_of, AreWithin, IsTooLong, AreCaptures, IsBadCapture, excess_of, most_of}
 use Rattle.xsk_cli.specs.declared.words.Work.{Work}
-use Rattle.xsk_cli.specs.declared.words.Work.TheVariants.{Simulate, Generate}
+use Rattle.xsk_cli.specs.declared.words.Work.TheVariants.{Simulate, Generate, Audit}
 use Rattle.xsk_cli.specs.declared.status.Excess.{Excess}
+use Rattle.xsk_turns.specs.declared.manner.Manner.{Manner}
 
 -- what is written: a text for each output, and one for the report
 pub record Written : Type 0 where
   pub outputs : List (List ℕ)
   pub report : List ℕ
 
--- an input is too long, or no capture; the limits are passed; the run stalls in a round; or there are texts
+-- an input is too long, or no capture; the limits are passed; the run stalls in a round; or there are texts; or a journal isn't
+-- legal from a line on
 pub data Outcome : Type 0 where
   long : ℕ → Outcome
   bad : ℕ → Cause → Outcome
   passed : Excess → Outcome
   stalled : ℕ → Outcome
   made : Written → Outcome
+  illegal : ℕ → Outcome
 
 -- ---- the packets
 
@@ -61,9 +66,10 @@ made_lists number ports = map (λ port. first 2000 (packet number port)) (range_
 
 -- the packets of all ports: those of the captures, or those that are made, where nothing is read
 abbrev pub AreListsOf : Work → List (List ℕ) → List (List (List ℕ)) → Type 0
-AreListsOf (Simulate layout program wire order None journal) inputs lists = AreCaptures inputs lists
-AreListsOf (Simulate layout program wire order (Some number) journal) inputs lists = (inputs ≡ []) × (lists ≡ made_lists number layout.ports)
+AreListsOf (Simulate layout program wire mangle order None journal) inputs lists = AreCaptures inputs lists
+AreListsOf (Simulate layout program wire mangle order (Some number) journal) inputs lists = (inputs ≡ []) × (lists ≡ made_lists number layout.ports)
 AreListsOf (Generate number) inputs lists = (inputs ≡ []) × (lists ≡ made_lists number 1)
+AreListsOf (Audit layout) inputs lists = ⊥
 
 -- ---- the run
 
@@ -85,10 +91,14 @@ abbrev pub wire_by : Wire → OwnWire
 wire_by Wait = Waits
 wire_by Drops = DropsNow
 
+-- what the applications change of what they send: this project's own
+abbrev pub manner_of : Option ℕ → Manner
+manner_of mangle = record { mangle = mangle; after = 0 }
+
 -- what is run: the layout's configuration and the wire over the packets of all ports, each with the verdict that the program's
 -- rule gives it, with frames of zero bytes, in order
-abbrev pub setting_of : Layout → Program → Wire → List (List (List ℕ)) → Setting
-setting_of layout program wire lists = ruled (rule_by layout.sockets program) (wire_by wire) (regular_of layout) (map listed lists)
+abbrev pub setting_of : Layout → Program → Wire → Option ℕ → List (List (List ℕ)) → Setting
+setting_of layout program wire mangle lists = ruled_by (rule_by layout.sockets program) (wire_by wire) (manner_of mangle) (regular_of layout) (map listed lists)
 
 -- the verdicts, for each pair those of its packets
 abbrev pub verdicts_by : Layout → Program → List (List (List ℕ)) → List (List Verdict)
@@ -100,13 +110,13 @@ frames_of layout = fresh layout.chunk layout.frames
 -- ---- the texts
 
 -- the report of a run: its figures, each a count over its history
-abbrev pub report_of : Layout → Program → Wire → List (List (List ℕ)) → List Entry → List ℕ
-report_of layout program wire lists history = report_text (regular_of layout) (figures_of (setting_of layout program wire lists) history)
+abbrev pub report_of : Layout → Program → Wire → Option ℕ → List (List (List ℕ)) → List Entry → List ℕ
+report_of layout program wire mangle lists history = report_text (regular_of layout) (figures_of (setting_of layout program wire mangle lists) history)
 
 -- and behind it the journal of its history, where that was asked for
-abbrev pub told_of : Layout → Program → Wire → List (List (List ℕ)) → Bool → List Entry → List ℕ
-told_of layout program wire lists journal history =
-    report_of layout program wire lists history ++ (if journal then journal_of (length (regular_of layout).pairs) history else [])
+abbrev pub told_of : Layout → Program → Wire → Option ℕ → List (List (List ℕ)) → Bool → List Entry → List ℕ
+told_of layout program wire mangle lists journal history =
+    report_of layout program wire mangle lists history ++ (if journal then journal_of (length (regular_of layout).pairs) history else [])
 
 -- the one line of packets that were made
 abbrev pub report_on : List (List ℕ) → List ℕ
@@ -147,39 +157,41 @@ going_on layout program lists port queue class = filter (goes_on layout program 
 abbrev pub sent_on_by : Layout → Program → List (List (List ℕ)) → ℕ → List (List (List ℕ))
 sent_on_by layout program lists port = map (λ queue. going_on layout program lists (paired_port port) queue 0) (queues_of layout)
 
--- The texts of a history of these packets: what the drivers of each port sent in it, and what is told of it. What the driver of a
--- queue sent is what the paired port's driver delivered to the sockets of all classes, whatever the wire does, and nothing
--- else. Where the wire waits it is what is expected there of all classes; with one socket on each queue each text is then that
--- of all that goes on to its port.
-pub record AreTextsIn (layout : Layout) (program : Program) (wire : Wire) (lists : List (List (List ℕ))) (history : List Entry) (told : List ℕ) (texts : Written) : Type 0 where
+-- The texts of a history of these packets: what the drivers of each port sent in it, and what is told of it. Where applications
+-- change nothing, what the driver of a queue sent is what the paired port's driver delivered to the sockets of all classes,
+-- whatever the wire does, and nothing else. Where the wire waits it is what is expected there of all classes; with one socket on
+-- each queue each text is then that of all that goes on to its port.
+pub record AreTextsIn (layout : Layout) (program : Program) (wire : Wire) (mangle : Option ℕ) (lists : List (List (List ℕ))) (history : List Entry) (told : List ℕ) (texts : Written) : Type 0 where
   pub sent : texts.outputs ≡ map (λ port. written (sent_from layout history port)) (ports_of layout)
-  pub forwarded : (port queue : ℕ) → port < layout.ports → queue < layout.queues
+  pub forwarded : (port queue : ℕ) → mangle ≡ None → port < layout.ports → queue < layout.queues
       → AreForwarded (wire_by wire) (regular_of layout) history (map listed lists) (verdicts_by layout program lists) port queue
       (sent_on layout history port queue)
-  pub redirected : (port queue : ℕ) → wire ≡ Wait → port < layout.ports → queue < layout.queues
+  pub redirected : (port queue : ℕ) → mangle ≡ None → wire ≡ Wait → port < layout.ports → queue < layout.queues
       → AreExpected (regular_of layout) (map listed lists) (verdicts_by layout program lists) port queue
       (sent_on layout history port queue)
-  pub one_socket : wire ≡ Wait → layout.sockets ≡ 1 → texts.outputs ≡ map (λ port. written (sent_on_by layout program lists port)) (ports_of layout)
+  pub one_socket : mangle ≡ None → wire ≡ Wait → layout.sockets ≡ 1 → texts.outputs ≡ map (λ port. written (sent_on_by layout program lists port)) (ports_of layout)
   pub report : texts.report ≡ told
 
 -- Those of a run in rounds that has ended: its figures are told, and the journal, which tells of each entry the round in which it
 -- stands.
-pub record AreTextsOf (layout : Layout) (program : Program) (wire : Wire) (order : ℕ) (lists : List (List (List ℕ))) (journal : Bool) (texts : Written) : Type 0 where
+pub record AreTextsOf (layout : Layout) (program : Program) (wire : Wire) (mangle : Option ℕ) (order : ℕ) (lists : List (List (List ℕ))) (journal : Bool) (texts : Written) : Type 0 where
   pub run : Shown
-  pub ended : HasEnded (setting_of layout program wire lists) (frames_of layout) order run
-  pub are : AreTextsIn layout program wire lists ended.history (told_of layout program wire lists journal ended.history) texts
-  pub rounds : AreInRounds (IsWholeRun (setting_of layout program wire lists)) (callers_of (regular_of layout)) order ended.count ended.history (rounds_of ended.history)
+  pub ended : HasEnded (setting_of layout program wire mangle lists) (frames_of layout) order run
+  pub are : AreTextsIn layout program wire mangle lists ended.history (told_of layout program wire mangle lists journal ended.history) texts
+  pub rounds : AreInRounds (IsWholeRun (setting_of layout program wire mangle lists)) (callers_of (regular_of layout)) order ended.count ended.history (rounds_of ended.history)
 
 -- the texts that the work makes of packets: of a run, or of the packets themselves
 abbrev pub AreTextsBy : Work → List (List (List ℕ)) → Written → Type 0
-AreTextsBy (Simulate layout program wire order number journal) lists texts = AreTextsOf layout program wire order lists journal texts
+AreTextsBy (Simulate layout program wire mangle order number journal) lists texts = AreTextsOf layout program wire mangle order lists journal texts
 AreTextsBy (Generate number) lists texts =
     (texts.outputs ≡ map capture_of lists) × (texts.report ≡ report_on (slice_index_or lists 0 []))
+AreTextsBy (Audit layout) lists texts = ⊥
 
 -- the work's run of packets stalls in a round
 abbrev pub IsStalledBy : Work → List (List (List ℕ)) → ℕ → Type 0
-IsStalledBy (Simulate layout program wire order number journal) lists round = HasStalled (setting_of layout program wire lists) (frames_of layout) order round
+IsStalledBy (Simulate layout program wire mangle order number journal) lists round = HasStalled (setting_of layout program wire mangle lists) (frames_of layout) order round
 IsStalledBy (Generate number) lists round = ⊥
+IsStalledBy (Audit layout) lists round = ⊥
 
 -- ---- the outcome
 
@@ -190,18 +202,48 @@ IsOutcomeOf work lists (bad port cause) = ⊥
 IsOutcomeOf work lists (passed excess) = excess_of lists ≡ Some excess
 IsOutcomeOf work lists (stalled round) = (excess_of lists ≡ None) × IsStalledBy work lists round
 IsOutcomeOf work lists (made texts) = (excess_of lists ≡ None) × AreTextsBy work lists texts
+IsOutcomeOf work lists (illegal line) = ⊥
 
 -- what inputs that have packets come to
 abbrev pub IsOutcomeIn : Work → List (List ℕ) → Outcome → Type 0
 IsOutcomeIn work inputs outcome = (lists : List (List (List ℕ))) × AreListsOf work inputs lists × IsOutcomeOf work lists outcome
 
+-- the one line of a journal that is legal, with so many entries
+abbrev pub legal_text : ℕ → List ℕ
+legal_text entries = codes "legal " ++ decimal entries ++ codes "\n"
+
+-- what a text's journal comes to, for the layout's configuration: it is that of a legal history, or isn't from a line on
+abbrev pub IsAudited : Layout → List ℕ → Outcome → Type 0
+IsAudited layout text (made texts) = (entries : ℕ) × IsVerdict (regular_of layout) text (Legal entries) × (texts ≡ record { outputs = []; report = legal_text entries })
+IsAudited layout text (illegal line) = IsVerdict (regular_of layout) text (NotLegal line)
+IsAudited layout text outcome = ⊥
+
+-- work on packets, which are read or made, and not on a journal
+abbrev pub IsOnPackets : Work → Type 0
+IsOnPackets (Simulate layout program wire mangle order number journal) = Unit {0}
+IsOnPackets (Generate number) = Unit {0}
+IsOnPackets (Audit layout) = ⊥
+
+-- the texts that are made of inputs: of their packets, or of their journal
+abbrev pub AreMadeOf : Work → List (List ℕ) → Written → Type 0
+AreMadeOf (Simulate layout program wire mangle order number journal) inputs texts = IsOutcomeIn (Simulate layout program wire mangle order number journal) inputs (made texts)
+AreMadeOf (Generate number) inputs texts = IsOutcomeIn (Generate number) inputs (made texts)
+AreMadeOf (Audit layout) inputs texts = IsAudited layout (bytes_of inputs 0) (made texts)
+
+-- their journal isn't legal from a line on
+abbrev pub IsIllegalIn : Work → List (List ℕ) → ℕ → Type 0
+IsIllegalIn (Simulate layout program wire mangle order number journal) inputs line = ⊥
+IsIllegalIn (Generate number) inputs line = ⊥
+IsIllegalIn (Audit layout) inputs line = IsAudited layout (bytes_of inputs 0) (illegal line)
+
 -- what inputs come to
 abbrev pub IsOutcome : Work → List (List ℕ) → Outcome → Type 0
-IsOutcome work inputs (long port) = IsTooLong inputs port
-IsOutcome work inputs (bad port cause) = AreShort inputs (length inputs) × IsBadCapture inputs port cause
-IsOutcome work inputs (passed excess) = AreShort inputs (length inputs) × IsOutcomeIn work inputs (passed excess)
-IsOutcome work inputs (stalled round) = AreShort inputs (length inputs) × IsOutcomeIn work inputs (stalled round)
-IsOutcome work inputs (made texts) = AreShort inputs (length inputs) × IsOutcomeIn work inputs (made texts)
+IsOutcome work inputs (long port) = IsTooLong (most_of work) inputs port
+IsOutcome work inputs (bad port cause) = AreWithin (most_of work) inputs (length inputs) × IsBadCapture inputs port cause × IsOnPackets work
+IsOutcome work inputs (passed excess) = AreWithin (most_of work) inputs (length inputs) × IsOutcomeIn work inputs (passed excess)
+IsOutcome work inputs (stalled round) = AreWithin (most_of work) inputs (length inputs) × IsOutcomeIn work inputs (stalled round)
+IsOutcome work inputs (made texts) = AreWithin (most_of work) inputs (length inputs) × AreMadeOf work inputs texts
+IsOutcome work inputs (illegal line) = AreWithin (most_of work) inputs (length inputs) × IsIllegalIn work inputs line
 
 -- it is a function of the work and of their bytes
 abbrev pub OneOutcome : Type 0

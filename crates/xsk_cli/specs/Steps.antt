@@ -9,8 +9,8 @@ use Rattle.xsk_io.specs.declared.bay.Stream.TheVariants.{Input, Output, Report}
 use Rattle.xsk_pcap.specs.Capture.{IsRefused}
 use Rattle.xsk_pcap.specs.declared.reading.BadCapture.TheVariants.{OutOfMemory as NoCause}
 use Rattle.xsk_sim.specs.Runs.{HasStalled}
-use Rattle.xsk_cli.specs.Judged.{AreShort, AreCaptures, IsBadCapture, excess_of}
-use Rattle.xsk_cli.specs.Outcome.{Written, bad, passed, stalled, IsOutcome, IsStalledBy, setting_of, frames_of}
+use Rattle.xsk_cli.specs.Judged.{AreShort, AreWithin, AreCaptures, IsBadCapture, excess_of}
+use Rattle.xsk_cli.specs.Outcome.{Written, bad, passed, stalled, illegal, IsOutcome, IsAudited, IsStalledBy, setting_of, frames_of}
 use Rattle.xsk_args.specs.declared.program.Program.{Program}
 use Rattle.xsk_args.specs.declared.wire.Wire.{Wire}
 use Rattle.xsk_args.specs.declared.error.ArgsError.{ArgsError}
@@ -21,33 +21,35 @@ use Rattle.xsk_cli.specs.Words.{Plan, fault_in, no_plan}
 use Rattle.xsk_cli.specs.Cause.{IsCaused, NeverFalls, NoOthers}
 use Rattle.xsk_cli.specs.Ends.{Ends}
 use Rattle.xsk_cli.specs.declared.words.Work.{Work}
-use Rattle.xsk_cli.specs.declared.words.Work.TheVariants.{Simulate, Generate}
+use Rattle.xsk_cli.specs.declared.words.Work.TheVariants.{Simulate, Generate, Audit}
 use Rattle.xsk_socket.specs.declared.layout.Layout.{Layout}
 use Rattle.xsk_socket.specs.declared.layout.Unlawful.{Unlawful}
 use Rattle.xsk_cli.specs.Streams.{Moment, HasLine, IsAtOnce, IsTold, IsFront, IsSilent, AreRead, AreWritten}
 use Rattle.xsk_cli.specs.declared.failure.ReadFailure.{ReadFailure}
 use Rattle.xsk_cli.specs.declared.failure.ReadFailure.TheVariants.{Unopened as NoInput, Unread, TooLong, OutOfMemory as NoRoom}
 use Rattle.xsk_cli.specs.declared.failure.RunFailure.{RunFailure}
-use Rattle.xsk_cli.specs.declared.failure.RunFailure.TheVariants.{BadCapture as Bad, TooMuch as Excessive, Stalled as Stalls, OutOfMemory as NoMemory}
+use Rattle.xsk_cli.specs.declared.failure.RunFailure.TheVariants.{BadCapture as Bad, TooMuch as Excessive, Stalled as Stalls, OutOfMemory as NoMemory, NotLegal as Breaks}
 use Rattle.xsk_cli.specs.declared.failure.WriteFailure.{WriteFailure}
 use Rattle.xsk_cli.specs.declared.failure.WriteFailure.TheVariants.{Unopened, Unwritten}
 use Rattle.xsk_cli.specs.declared.status.Excess.TheVariants.{Input as LongInput}
 use Rattle.xsk_cli.specs.declared.status.Status.{Status}
-use Rattle.xsk_cli.specs.declared.status.Status.TheVariants.{Usage, BadCapture, ReadFault, WriteFault, OpenFault, Refused, Stalled, TooMuch, OutOfMemory}
+use Rattle.xsk_cli.specs.declared.status.Status.TheVariants.{Usage, BadCapture, ReadFault, WriteFault, OpenFault, Refused, Stalled, TooMuch, OutOfMemory, NotLegal}
 
 -- the plan that the code has
 abbrev pub plan_in : CodePlan → Plan
 plan_in plan = record { inputs = map (λ name. name.now) plan.inputs.now; outputs = map (λ name. name.now) plan.outputs.now; work = plan.work }
 
--- for how many ports captures are read, and for how many they are written
+-- for how many ports captures are read, or one journal, and for how many they are written
 abbrev pub read_by : Work → ℕ
-read_by (Simulate layout program wire order None journal) = layout.ports
-read_by (Simulate layout program wire order (Some number) journal) = 0
+read_by (Simulate layout program wire mangle order None journal) = layout.ports
+read_by (Simulate layout program wire mangle order (Some number) journal) = 0
 read_by (Generate number) = 0
+read_by (Audit layout) = 1
 
 abbrev pub written_by : Work → ℕ
-written_by (Simulate layout program wire order number journal) = layout.ports
+written_by (Simulate layout program wire mangle order number journal) = layout.ports
 written_by (Generate number) = 1
+written_by (Audit layout) = 0
 
 -- a plan whose work is accepted, with as many files as it wants
 pub record IsReady (plan : Plan) : Type 0 where
@@ -72,6 +74,7 @@ run_status (Bad port cause) = BadCapture port cause
 run_status (Excessive excess) = TooMuch excess
 run_status (Stalls round) = Stalled round
 run_status NoMemory = OutOfMemory
+run_status (Breaks line) = NotLegal line
 
 abbrev pub write_status : WriteFailure → Status
 write_status (Unopened port) = OpenFault (Output port)
@@ -94,18 +97,18 @@ Comes planned old new status = ComesTo (λ plan. Ends plan old new status) plann
 
 -- ---- reading
 
--- how reading the input of a port fails
-abbrev pub FailsReading : ℕ → Moment → Moment → ReadFailure → Type 0
-FailsReading port old new (NoInput at) = (at ≡ port) × (new.is_open (Input port) ≡ false) × (new.left (Input port) ≡ old.left (Input port))
+-- how reading the input of a port fails, where it may have so many bytes
+abbrev pub FailsReading : ℕ → ℕ → Moment → Moment → ReadFailure → Type 0
+FailsReading most port old new (NoInput at) = (at ≡ port) × (new.is_open (Input port) ≡ false) × (new.left (Input port) ≡ old.left (Input port))
     × Rose (old.faults Open (Input port)) (new.faults Open (Input port))
-FailsReading port old new (Unread at) = (at ≡ port) × (new.is_open (Input port) ≡ true) × Rose (old.faults Read (Input port)) (new.faults Read (Input port))
-FailsReading port old new (TooLong at) = (at ≡ port) × (new.is_open (Input port) ≡ true) × IfSome (old.left (Input port)) (λ bytes. 34603032 < length bytes)
-FailsReading port old new NoRoom = new.is_open (Input port) ≡ true
+FailsReading most port old new (Unread at) = (at ≡ port) × (new.is_open (Input port) ≡ true) × Rose (old.faults Read (Input port)) (new.faults Read (Input port))
+FailsReading most port old new (TooLong at) = (at ≡ port) × (new.is_open (Input port) ≡ true) × IfSome (old.left (Input port)) (λ bytes. most < length bytes)
+FailsReading most port old new NoRoom = new.is_open (Input port) ≡ true
 
 -- the first inputs were read to their ends, and nothing else was opened or written
-pub record HaveRead (names bytes : List (List ℕ)) (count : ℕ) (old new : Moment) : Type 0 where
+pub record HaveRead (most : ℕ) (names bytes : List (List ℕ)) (count : ℕ) (old new : Moment) : Type 0 where
   pub count_is : length bytes ≡ count
-  pub short : AreShort bytes count
+  pub short : AreWithin most bytes count
   pub reads : AreRead names bytes count count old new
   pub outputs : (port : ℕ) → new.is_open (Output port) ≡ false
   pub held : (port : ℕ) → new.held (Output port) ≡ old.held (Output port)
@@ -125,6 +128,7 @@ AreUntaken inputs (Excessive excess) =
     AreShort inputs (length inputs) × ((lists : List (List (List ℕ))) × AreCaptures inputs lists × (excess_of lists ≡ Some excess))
 AreUntaken inputs (Stalls round) = ⊥
 AreUntaken inputs NoMemory = Unit {0}
+AreUntaken inputs (Breaks line) = ⊥
 
 -- why the bytes of a port's input give no packets
 abbrev pub IsRefusal : ℕ → List ℕ → RunFailure → Type 0
@@ -133,10 +137,16 @@ IsRefusal port bytes NoMemory = Unit {0}
 IsRefusal port bytes failure = ⊥
 
 -- why a run of packets gives nothing
-abbrev pub FailsRunning : Layout → Program → Wire → ℕ → List (List (List ℕ)) → RunFailure → Type 0
-FailsRunning layout program wire order lists (Stalls round) = HasStalled (setting_of layout program wire lists) (frames_of layout) order round
-FailsRunning layout program wire order lists NoMemory = Unit {0}
-FailsRunning layout program wire order lists failure = ⊥
+abbrev pub FailsRunning : Layout → Program → Wire → Option ℕ → ℕ → List (List (List ℕ)) → RunFailure → Type 0
+FailsRunning layout program wire mangle order lists (Stalls round) = HasStalled (setting_of layout program wire mangle lists) (frames_of layout) order round
+FailsRunning layout program wire mangle order lists NoMemory = Unit {0}
+FailsRunning layout program wire mangle order lists failure = ⊥
+
+-- why an audit of a text gives nothing to write
+abbrev pub FailsAudit : Layout → List ℕ → RunFailure → Type 0
+FailsAudit layout text (Breaks line) = IsAudited layout text (illegal line)
+FailsAudit layout text NoMemory = Unit {0}
+FailsAudit layout text failure = ⊥
 
 -- no run was made
 abbrev pub IsBeforeRun : RunFailure → Type 0
@@ -155,6 +165,7 @@ MakesNone work inputs (Bad port cause) = IsOutcome work inputs (bad port cause)
 MakesNone work inputs (Excessive excess) = IsOutcome work inputs (passed excess)
 MakesNone work inputs (Stalls round) = IsOutcome work inputs (stalled round)
 MakesNone work inputs NoMemory = Unit {0}
+MakesNone work inputs (Breaks line) = IsOutcome work inputs (illegal line)
 
 abbrev pub written_in : Texts → Written
 written_in texts = record { outputs = map (λ text. text.items) texts.outputs.items; report = texts.report.items }

@@ -12,7 +12,7 @@ use Rattle.xsk_io.specs.declared.bay.Stream.{Stream}
 use Rattle.xsk_io.specs.declared.bay.Stream.TheVariants.{Input, Output, Report}
 use Rattle.xsk_cli.specs.declared.status.Excess.TheVariants.{Input as TooLong}
 use Rattle.xsk_cli.specs.declared.status.Status.{Status}
-use Rattle.xsk_cli.specs.declared.status.Status.TheVariants.{Done, Usage, BadCapture, ReadFault, WriteFault, OpenFault, Refused, Stalled, TooMuch, OutOfMemory}
+use Rattle.xsk_cli.specs.declared.status.Status.TheVariants.{Done, Usage, BadCapture, ReadFault, WriteFault, OpenFault, Refused, Stalled, TooMuch, OutOfMemory, NotLegal}
 use Rattle.xsk_cli.specs.Words.{Plan}
 
 -- what a bay tells of its streams at a moment
@@ -73,6 +73,7 @@ Reaches inputs outputs (Stalled round) reach = reach ≡ at_input inputs inputs
 Reaches inputs outputs (TooMuch (TooLong port)) reach = (port < inputs) × (reach ≡ at_input (port + 1) port)
 Reaches inputs outputs (TooMuch excess) reach = reach ≡ at_input inputs inputs
 Reaches inputs outputs OutOfMemory reach = RanOut inputs reach
+Reaches inputs outputs (NotLegal line) reach = reach ≡ at_input inputs inputs
 
 -- ---- what the streams tell then
 

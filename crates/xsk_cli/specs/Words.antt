@@ -1,5 +1,5 @@
 -- Which words are a command, and what it does. This project's own.
-use Rattle.std.specs.Prelude.{ℕ, codes, Bool, List, [], ◌∷◌, length, take, drop, Option, None, is_some, option_and_then, option_map, if◌then◌else◌, unwrap_or, nat_lt}
+use Rattle.std.specs.Prelude.{ℕ, codes, Bool, List, [], ◌∷◌, length, take, drop, Option, None, Some, is_some, option_and_then, option_map, if◌then◌else◌, unwrap_or, nat_lt}
 use Rattle.std.specs.Str.{bytes_eq}
 use Rattle.xsk_args.specs.Words.{Text, is_dashed}
 use Rattle.xsk_args.specs.Number.{number_in}
@@ -15,7 +15,7 @@ use Rattle.xsk_socket.specs.declared.layout.Layout.{Layout}
 use Rattle.xsk_socket.specs.declared.layout.Unlawful.{Unlawful}
 use Rattle.xsk_socket.specs.Layout.{fault_of}
 use Rattle.xsk_cli.specs.declared.words.Work.{Work}
-use Rattle.xsk_cli.specs.declared.words.Work.TheVariants.{Simulate, Generate}
+use Rattle.xsk_cli.specs.declared.words.Work.TheVariants.{Simulate, Generate, Audit}
 
 -- the files that a command reads and those that it writes, and what it does between
 pub record Plan : Type 0 where
@@ -46,6 +46,7 @@ options =
     ∷ (codes "prog", TakesProgram)
     ∷ (codes "wire", TakesWire)
     ∷ (codes "empty", Number)
+    ∷ (codes "mangle", Number)
     ∷ (codes "sg", Nothing)
     ∷ (codes "wakeup", Nothing)
     ∷ (codes "journal", Nothing)
@@ -111,7 +112,7 @@ abbrev pub plan_by : Meaning → Plan
 plan_by said = record {
   inputs = take (inputs_named said) (files_in said);
   outputs = drop (inputs_named said) (files_in said);
-  work = Simulate (layout_by said) (program_of said) (wire_of said) (number_or said (codes "order") 0) (number_of said (codes "gen")) (is_some (said (codes "journal")));
+  work = Simulate (layout_by said) (program_of said) (wire_of said) (number_of said (codes "mangle")) (number_or said (codes "order") 0) (number_of said (codes "gen")) (is_some (said (codes "journal")));
 }
 
 abbrev pub simulate_plan : List Text → Option Plan
@@ -126,13 +127,49 @@ gen_plan (number ∷ file ∷ []) =
     else option_map (λ n. record { inputs = []; outputs = file ∷ []; work = Generate n }) (number_in number)
 gen_plan _ = None
 
--- ---- both
+-- ---- `audit`
+
+-- the options of `audit`: those of `simulate` that make the configuration
+abbrev pub audit_options : List Key
+audit_options =
+    (codes "ports", Number)
+    ∷ (codes "queues", Number)
+    ∷ (codes "sockets", Number)
+    ∷ (codes "frames", Number)
+    ∷ (codes "chunk", Number)
+    ∷ (codes "headroom", Number)
+    ∷ (codes "rx", Number)
+    ∷ (codes "tx", Number)
+    ∷ (codes "fill", Number)
+    ∷ (codes "comp", Number)
+    ∷ (codes "empty", Number)
+    ∷ (codes "sg", Nothing)
+    ∷ (codes "wakeup", Nothing)
+    ∷ []
+
+-- a layout that wants no files of its ports
+abbrev pub without_files : Layout → Layout
+without_files layout = record layout { files = 0; files_wanted_per_port = 0 }
+
+-- the one file is the journal
+abbrev pub audit_plan_by : Meaning → List Text → Option Plan
+audit_plan_by said (file ∷ []) = Some (record { inputs = file ∷ []; outputs = []; work = Audit (without_files (layout_by said)) })
+audit_plan_by said _ = None
+
+abbrev pub audit_plan : List Text → Option Plan
+audit_plan words = option_and_then (λ said. audit_plan_by said (files_in said)) (meaning (codes "audit") audit_options words)
+
+-- ---- all
 
 abbrev pub plan_of : List Text → Option Plan
 plan_of [] = None
-plan_of (first ∷ rest) = if bytes_eq first (codes "gen") then gen_plan rest else simulate_plan (first ∷ rest)
+plan_of (first ∷ rest) =
+    if bytes_eq first (codes "gen") then gen_plan rest
+    else if bytes_eq first (codes "audit") then audit_plan (first ∷ rest)
+    else simulate_plan (first ∷ rest)
 
 -- why the work is refused, where it is
 abbrev pub fault_in : Work → Option Unlawful
-fault_in (Simulate layout program wire order number journal) = fault_of layout
+fault_in (Simulate layout program wire mangle order number journal) = fault_of layout
 fault_in (Generate number) = None
+fault_in (Audit layout) = fault_of layout

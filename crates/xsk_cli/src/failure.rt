@@ -25,6 +25,8 @@ pub(crate) enum RunFailure {
     TooMuch(Excess),
     Stalled { round: u64 },
     OutOfMemory,
+    /// The journal isn't legal from this line on.
+    NotLegal { line: u64 },
 }
 
 /// Why the texts weren't written.
@@ -98,6 +100,7 @@ impl From<RunFailure> for Status {
             RunFailure::TooMuch(excess) => Status::TooMuch(excess),
             RunFailure::Stalled { round } => Status::Stalled { round },
             RunFailure::OutOfMemory => Status::OutOfMemory,
+            RunFailure::NotLegal { line } => Status::NotLegal { line },
         }
     }
 }

@@ -1,6 +1,7 @@
 //! The commands: the words of a command line, and what is read, run and written for them over any bay.
 #![tactic(auto)]
 
+mod audit;
 mod captures;
 mod failure;
 mod input;
@@ -18,6 +19,7 @@ mod status;
 mod texts;
 mod threads;
 mod words;
+mod work;
 
 pub use plain::run_plain;
 pub use status::{Excess, Status};

@@ -63,6 +63,10 @@ fn push_status(line: &mut ArrayString<96>, status: &Status)
             push_excess(line, *excess);
         }
         Status::OutOfMemory => line.push_str("out of memory"),
+        Status::NotLegal { line: at } => {
+            line.push_str("not legal ");
+            push_u64(line, *at);
+        }
     }
 }
 

@@ -1,7 +1,7 @@
 //! The packets of all ports, from captures or made.
 ghost use Rattle.std.specs.Prelude.{◌≡◌, ◌≤◌, None, IfErr, IfOk, length, map};
 ghost use Rattle.xsk_cli.specs.Judged.{AreShort, excess_of};
-ghost use Rattle.xsk_cli.specs.Outcome.{AreListsOf, listed};
+ghost use Rattle.xsk_cli.specs.Outcome.{AreListsOf, IsOnPackets, listed};
 ghost use Rattle.xsk_cli.specs.Steps.{IsBeforeRun, MakesNone, lists_in, read_by, written_by};
 ghost use Rattle.xsk_cli.specs.Words.{fault_in};
 
@@ -19,6 +19,7 @@ pub(crate) fn take_lists(
     inputs: Vec<Vec<u8>>,
 ) -> Result<Vec<PacketList>, RunFailure>
     requires accepted { fault_in work.now ≡ None }
+    requires packets { IsOnPackets work.now }
     requires count { length inputs.items ≡ read_by work.now }
     requires short { AreShort (map (λ bytes. bytes.items) inputs.items) (length inputs.items) }
     ensures taken { IfOk result (λ lists. AreListsOf work.now (map (λ bytes. bytes.items) inputs.items) (lists_in lists.items)) }
@@ -36,5 +37,6 @@ pub(crate) fn take_lists(
             ..
         } => Ok(make_lists(alloc, *number, layout.ports)?),
         Work::Generate { number } => Ok(make_lists(alloc, *number, 1)?),
+        Work::Audit { .. } => unreachable!(),
     }
 }

@@ -3,7 +3,7 @@
 use xsk_args::{OptionRow, Takes};
 
 /// Each has a number, but `--prog`, `--wire`, `--sg` and `--journal`. The number that stands where none was said is [`Plan`](crate::words::Plan)'s.
-pub(crate) const OPTIONS: [OptionRow; 18] = [
+pub(crate) const OPTIONS: [OptionRow; 19] = [
     OptionRow {
         name: "ports",
         takes: Takes::Number,
@@ -62,6 +62,10 @@ pub(crate) const OPTIONS: [OptionRow; 18] = [
     },
     OptionRow {
         name: "empty",
+        takes: Takes::Number,
+    },
+    OptionRow {
+        name: "mangle",
         takes: Takes::Number,
     },
     OptionRow {

@@ -5,6 +5,7 @@ ghost use Rattle.xsk_io.specs.declared.bay.Kind.{Kind};
 ghost use Rattle.xsk_io.specs.declared.bay.Stream.{Stream as AStream};
 ghost use Rattle.xsk_pcap.specs.declared.reading.BadCapture.TheVariants.{OutOfMemory as NoMemory};
 ghost use Rattle.xsk_socket.specs.declared.layout.Unlawful.{Unlawful as AnUnlawful};
+ghost use Rattle.xsk_cli.specs.Ample.{Finishes, GoesOn};
 ghost use Rattle.xsk_cli.specs.Cause.{IsCaused, IsFault, NeverFalls, NoOthers, Unchanged};
 ghost use Rattle.xsk_cli.specs.Ends.{Answers, AreTaken, AreTold, Ends, IsComplete, NoneRose};
 ghost use Rattle.xsk_cli.specs.Line.{line_of};
@@ -14,13 +15,13 @@ ghost use Rattle.xsk_cli.specs.Streams.{GotLine, HasLine, IsAtOnce, IsOfLine, Is
 ghost use Rattle.xsk_cli.specs.Words.{Plan as APlan, fault_in, gen_plan, no_plan, plan_of, simulate_plan};
 
 use crate::Status;
-use crate::input::read_inputs;
+use crate::audit::run_audit;
+use crate::input::{most_bytes, read_inputs};
 use crate::line::line;
-use crate::lists::take_lists;
 use crate::options::OPTIONS;
 use crate::output::write_texts;
-use crate::texts::make_texts;
 use crate::words::{Plan, Work, read_gen};
+use crate::work::work_texts;
 use std::alloc::Global;
 use xsk_args::parse;
 use xsk_io::{Bay, Stream, write_whole};
@@ -30,8 +31,9 @@ use xsk_io::{Bay, Stream, write_whole};
 /// `simulate [OPTION ..] IN0 IN1 .. OUT0 OUT1 ..` reads a capture for each port, forwards the packets of each port to the paired
 /// one, and writes a capture for each port, with what the drivers of its queues sent, that of queue 0 first; and then
 /// the figures of the run, line by line, to the report. `simulate --gen N [OPTION ..] OUT0 OUT1 ..` makes the packets of a number
-/// instead. `gen N FILE` writes a capture of the packets that are made of a number, and then the line `packets P bytes B`. A
-/// refusal is told in one line to the report.
+/// instead. `gen N FILE` writes a capture of the packets that are made of a number, and then the line `packets P bytes B`.
+/// `audit [OPTION ..] FILE` reads a journal, and tells by the line `legal N` that it is the journal of a legal history with so
+/// many entries, or by the status the first line that isn't. A refusal is told in one line to the report.
 pub fn run_plain<B: Bay>(alloc: Global, words: &[String], bay: &mut B) -> Status
     requires { (stream : AStream) → B.is_open bay.old stream ≡ false }
     ensures usage { result ≡ Status.Usage → plan_of (map string_bytes words.now) ≡ None }
@@ -62,11 +64,19 @@ pub fn run_plain<B: Bay>(alloc: Global, words: &[String], bay: &mut B) -> Status
         → AreTold plan inputs (record { is_open = B.is_open bay.old; asked = B.asked bay.old; left = B.left bay.old; held = B.held bay.old; offers = B.offers bay.old; faults = B.faults bay.old })
         → IsOutcome plan.work inputs outcome → Answers plan.work outcome result }
 
-    // Captures within the limits, and packets that are made, come to texts or stall, where the layout is accepted, no count
+    // Captures within the limits, and packets that are made, come to texts or stall, and so does a journal to a verdict, where the layout is accepted, no count
     // of faults has risen and memory can be had.
     ensures complete { (plan : APlan) (inputs : List (List ℕ)) → plan_of (map string_bytes words.now) ≡ Some plan → fault_in plan.work ≡ None
         → AreTold plan inputs (record { is_open = B.is_open bay.old; asked = B.asked bay.old; left = B.left bay.old; held = B.held bay.old; offers = B.offers bay.old; faults = B.faults bay.old })
         → AreTaken plan.work inputs → NoneRose (B.faults bay.old) (B.faults bay.new) → IsComplete result }
+
+    // Where each ring of the layout has 32 entries or more, and each pool 18 frames or more, no run stalls: so they come to
+    // texts, where no count of faults has risen and memory can be had.
+    ensures goes_on { GoesOn (plan_of (map string_bytes words.now)) result }
+    ensures finishes { Finishes (plan_of (map string_bytes words.now))
+        (record { is_open = B.is_open bay.old; asked = B.asked bay.old; left = B.left bay.old; held = B.held bay.old; offers = B.offers bay.old; faults = B.faults bay.old })
+        (record { is_open = B.is_open bay.new; asked = B.asked bay.new; left = B.left bay.new; held = B.held bay.new; offers = B.offers bay.new; faults = B.faults bay.new })
+        result }
 {
     let status = status_of(run_words(alloc, words, bay));
     tell(bay, &status);
@@ -95,6 +105,8 @@ fn run_words<B: Bay>(alloc: Global, words: &[String], bay: &mut B) -> Result<(),
     };
     if first.as_str() == "gen" {
         run_gen(alloc, rest, bay)
+    } else if first.as_str() == "audit" {
+        run_audit(alloc, words, bay)
     } else {
         run_simulate(alloc, words, bay)
     }
@@ -134,7 +146,11 @@ fn run_simulate<B: Bay>(alloc: Global, words: &[String], bay: &mut B) -> Result<
 }
 
 /// Reads the inputs, makes texts of them, and writes the outputs and the report.
-fn run_plan<B: Bay>(alloc: Global, plan: &Plan<'_, '_>, bay: &mut B) -> Result<(), Status>
+pub(crate) fn run_plan<B: Bay>(
+    alloc: Global,
+    plan: &Plan<'_, '_>,
+    bay: &mut B,
+) -> Result<(), Status>
     requires ready { IsReady (plan_in plan.now) }
     requires closed { (stream : AStream) → B.is_open bay.old stream ≡ false }
     ensures begun { IsAtOnce (status_in result) → ⊥ }
@@ -149,9 +165,8 @@ fn run_plan<B: Bay>(alloc: Global, plan: &Plan<'_, '_>, bay: &mut B) -> Result<(
     ensures others { NoOthers (B.faults bay.old) (B.faults bay.new) (status_in result) }
     ensures falls { NeverFalls (B.faults bay.old) (B.faults bay.new) }
 {
-    let inputs = read_inputs(alloc, bay, plan.inputs)?;
-    let lists = take_lists(alloc, &plan.work, inputs)?;
-    let texts = make_texts(alloc, &plan.work, lists.as_slice())?;
+    let inputs = read_inputs(alloc, bay, plan.inputs, most_bytes(&plan.work))?;
+    let texts = work_texts(alloc, &plan.work, inputs)?;
     write_texts(bay, plan.outputs, &texts)?;
     Ok(())
 }

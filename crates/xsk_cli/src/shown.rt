@@ -64,7 +64,7 @@ pub(crate) fn make_shown<R: Threads + Wait + Sync, G: Gate + Sync>(
             wire,
             ..
         } => run_shown(rt, alloc, layout, *program, *wire, lists, gate, outcome),
-        Work::Generate { .. } => unreachable!(),
+        Work::Generate { .. } | Work::Audit { .. } => unreachable!(),
     }
 }
 
@@ -87,9 +87,9 @@ fn run_shown<R: Threads + Wait + Sync, G: Gate + Sync>(
     requires listed { lists.now ≡ map listed (lists_in lists.now) }
     requires short { All HasShortPackets lists.now }
     requires none { outcome.old ≡ None }
-    ensures made { IfOk result (λ lent. (o : OutcomeShown) × IsLent lent o × HasForwarded (setting_of layout.now program wire (lists_in lists.now)) (frames_of layout.now) o
-        × AreTextsIn layout.now program wire (lists_in lists.now) o.history (report_of layout.now program wire (lists_in lists.now) o.history) (written_in lent.texts)) }
-    ensures shown { (o : OutcomeShown) → outcome.new ≡ Some o → HasForwarded (setting_of layout.now program wire (lists_in lists.now)) (frames_of layout.now) o }
+    ensures made { IfOk result (λ lent. (o : OutcomeShown) × IsLent lent o × HasForwarded (setting_of layout.now program wire None (lists_in lists.now)) (frames_of layout.now) o
+        × AreTextsIn layout.now program wire None (lists_in lists.now) o.history (report_of layout.now program wire None (lists_in lists.now) o.history) (written_in lent.texts)) }
+    ensures shown { (o : OutcomeShown) → outcome.new ≡ Some o → HasForwarded (setting_of layout.now program wire None (lists_in lists.now)) (frames_of layout.now) o }
     ensures failed { IfErr result (λ failure. failure ≡ RunFailure.OutOfMemory) }
 {
     let (config, frames) = set_up(alloc, layout)?;
@@ -191,7 +191,7 @@ fn forward_lists<R: Threads + Wait + Sync, G: Gate + Sync>(
     requires short { All HasShortPackets lists.now }
     ensures pairs { IfOk result (λ o. length o.sent ≡ pairs_in layout.now) }
     ensures short { IfOk result (λ o. All (λ (list : List (List ℕ)). All IsShort list) o.sent) }
-    ensures forwarded { IfOk result (HasForwarded (setting_of layout.now program wire (lists_in lists.now)) (frames_of layout.now)) }
+    ensures forwarded { IfOk result (HasForwarded (setting_of layout.now program wire None (lists_in lists.now)) (frames_of layout.now)) }
 {
     let rule = rule_of(program, layout.sockets);
     let attached = XdpProgram::attach(rule, |packet: &[u8], queue: u32| {

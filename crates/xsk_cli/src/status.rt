@@ -11,7 +11,7 @@ use xsk_umem::OutOfMemory;
 /// Which limit was passed, and by how much came.
 #[derive(Clone, Copy, Debug, PartialEq, Eq)]
 pub enum Excess {
-    /// An input has more bytes than 65,536 packets with 33,554,432 bytes take.
+    /// An input has more bytes than 65,536 packets with 33,554,432 bytes take, or a journal more than 67,108,864.
     Input(u32),
     /// All inputs together have so many packets, more than 65,536.
     Packets(u64),
@@ -42,6 +42,8 @@ pub enum Status {
     TooMuch(Excess),
     /// Memory couldn't be had.
     OutOfMemory,
+    /// This line of a journal, counted from 1, is the first that can't follow those before it in the journal of a legal history.
+    NotLegal { line: u64 },
 }
 
 impl Status {
@@ -60,6 +62,7 @@ impl Status {
             Status::Stalled { .. } => 8,
             Status::TooMuch(_) => 9,
             Status::OutOfMemory => 10,
+            Status::NotLegal { .. } => 13,
         }
     }
 }

@@ -8,7 +8,7 @@ ghost use Rattle.xsk_sim.specs.Journal.{journal_of};
 ghost use Rattle.xsk_sim.specs.Runs.{HasEnded};
 ghost use Rattle.xsk_sim.specs.Shown.{HasShortPackets};
 ghost use Rattle.xsk_cli.specs.Judged.{excess_of};
-ghost use Rattle.xsk_cli.specs.Outcome.{AreTextsBy, AreTextsOf, capture_of, frames_of, listed, made_lists, rule_by, setting_of, wire_by};
+ghost use Rattle.xsk_cli.specs.Outcome.{AreTextsBy, AreTextsOf, IsOnPackets, capture_of, frames_of, listed, made_lists, rule_by, setting_of, wire_by};
 ghost use Rattle.xsk_cli.specs.Steps.{FailsMaking, FailsRunning, lists_in, written_by, written_in};
 ghost use Rattle.xsk_cli.specs.Words.{fault_in};
 ghost use Rattle.xsk_cli.specs.declared.words.Work.TheVariants.{Generate};
@@ -33,6 +33,7 @@ use xsk_prog::{Rule, XdpProgram};
 use xsk_sim::{Run, SimError, append_journal, simulate};
 use xsk_socket::Layout;
 use xsk_stats::report;
+use xsk_turns::Manner;
 use xsk_umem::{Frames, OutOfMemory, PacketList};
 
 /// What is written: a capture for each port, and the report.
@@ -49,6 +50,7 @@ pub(crate) fn make_texts(
     lists: &[PacketList],
 ) -> Result<Texts, RunFailure>
     requires accepted { fault_in work.now ≡ None }
+    requires packets { IsOnPackets work.now }
     requires ports { length lists.now ≡ written_by work.now }
     requires within { excess_of (lists_in lists.now) ≡ None }
     requires made { (number : ℕ) → work.now ≡ Generate number → lists_in lists.now ≡ made_lists number 1 }
@@ -62,11 +64,13 @@ pub(crate) fn make_texts(
             layout,
             program,
             wire,
+            mangle,
             order,
             journal,
             ..
-        } => run_texts(alloc, layout, *program, *wire, *order, *journal, lists),
+        } => run_texts(alloc, layout, *program, *wire, *mangle, *order, *journal, lists),
         Work::Generate { .. } => Ok(made_texts(alloc, &lists[0])?),
+        Work::Audit { .. } => unreachable!(),
     }
 }
 
@@ -76,6 +80,7 @@ fn run_texts(
     layout: &Layout,
     program: Program,
     wire: Wire,
+    mangle: Option<u32>,
     order: u32,
     journal: bool,
     lists: &[PacketList],
@@ -85,12 +90,12 @@ fn run_texts(
     requires within { excess_of (lists_in lists.now) ≡ None }
     requires listed { lists.now ≡ map listed (lists_in lists.now) }
     requires short { All HasShortPackets lists.now }
-    ensures made { IfOk result (λ texts. AreTextsOf layout.now program wire order (lists_in lists.now) journal (written_in texts)) }
-    ensures failed { IfErr result (FailsRunning layout.now program wire order (lists_in lists.now)) }
+    ensures made { IfOk result (λ texts. AreTextsOf layout.now program wire mangle order (lists_in lists.now) journal (written_in texts)) }
+    ensures failed { IfErr result (FailsRunning layout.now program wire mangle order (lists_in lists.now)) }
 {
     let (config, frames) = set_up(alloc, layout)?;
     let shared = config.copy(alloc)?;
-    let run = run_lists(alloc, layout, config, frames, program, wire, order, lists)?;
+    let run = run_lists(alloc, layout, config, frames, program, wire, mangle, order, lists)?;
     let report = told_text(alloc, &shared, &run, journal)?;
     let outputs = output_texts(alloc, layout.ports, layout.queues, run.into_sent())?;
     Ok(Texts { outputs, report })
@@ -123,6 +128,7 @@ fn run_lists(
     frames: Frames,
     program: Program,
     wire: Wire,
+    mangle: Option<u32>,
     order: u32,
     lists: &[PacketList],
 ) -> Result<Run, RunFailure>
@@ -135,15 +141,16 @@ fn run_lists(
     requires listed { lists.now ≡ map listed (lists_in lists.now) }
     requires short { All HasShortPackets lists.now }
     ensures pairs { IfOk result (λ run. run.pairs ≡ pairs_in layout.now) }
-    ensures ended { IfOk result (HasEnded (setting_of layout.now program wire (lists_in lists.now)) (frames_of layout.now) order) }
-    ensures failed { IfErr result (FailsRunning layout.now program wire order (lists_in lists.now)) }
+    ensures ended { IfOk result (HasEnded (setting_of layout.now program wire mangle (lists_in lists.now)) (frames_of layout.now) order) }
+    ensures failed { IfErr result (FailsRunning layout.now program wire mangle order (lists_in lists.now)) }
 {
     let rule = rule_of(program, layout.sockets);
     let attached = XdpProgram::attach(rule, |packet: &[u8], queue: u32| {
         rule.verdict(packet, queue)
     });
     let wire = wire_of(wire);
-    match simulate(alloc, config, frames, lists, &attached, wire, order) {
+    let manner = Manner { mangle, after: 0 };
+    match simulate(alloc, config, frames, lists, &attached, wire, order, manner) {
         Ok(run) => Ok(run),
         Err(SimError::Stalled { round }) => Err(RunFailure::Stalled { round }),
         Err(SimError::OutOfMemory) => Err(RunFailure::OutOfMemory),

@@ -5,6 +5,7 @@ ghost use Rattle.xsk_io.specs.declared.bay.Kind.{Kind};
 ghost use Rattle.xsk_io.specs.declared.bay.Stream.{Stream as AStream};
 ghost use Rattle.xsk_pcap.specs.declared.reading.BadCapture.TheVariants.{OutOfMemory as NoCause};
 ghost use Rattle.xsk_socket.specs.declared.layout.Unlawful.{Unlawful as AnUnlawful};
+ghost use Rattle.xsk_cli.specs.Ample.{Finishes, GoesOn};
 ghost use Rattle.xsk_cli.specs.Cause.{IsCaused, IsFault, NeverFalls, NoOthers};
 ghost use Rattle.xsk_cli.specs.Ends.{Answers, AreTaken, AreTold, IsComplete, NoneRose};
 ghost use Rattle.xsk_cli.specs.Forward.{EndsShown, IsPlainAnswer, IsRefusedAs, IsRun, IsShownAnswer, forward_plan as planned_by, is_forward as are_forward};
@@ -15,7 +16,7 @@ ghost use Rattle.xsk_cli.specs.Streams.{GotLine, HasLine, IsAtOnce, IsOfLine, Is
 ghost use Rattle.xsk_cli.specs.Words.{Plan as APlan, fault_in, no_plan, plan_of};
 
 use crate::Status;
-use crate::input::read_inputs;
+use crate::input::{most_bytes, read_inputs};
 use crate::lists::take_lists;
 use crate::output::write_texts;
 use crate::plain::{run_plain, status_of, tell};
@@ -118,6 +119,11 @@ pub fn run<R: Threads + Wait + Sync, B: Bay, G: Gate + Sync>(
 ) -> Ended
     requires { (stream : AStream) → B.is_open bay.old stream ≡ false }
     ensures plain { are_forward (map string_bytes words.now) ≡ false → IsPlainAnswer (plan_of (map string_bytes words.now))
+        (record { is_open = B.is_open bay.old; asked = B.asked bay.old; left = B.left bay.old; held = B.held bay.old; offers = B.offers bay.old; faults = B.faults bay.old })
+        (record { is_open = B.is_open bay.new; asked = B.asked bay.new; left = B.left bay.new; held = B.held bay.new; offers = B.offers bay.new; faults = B.faults bay.new })
+        result.status }
+    ensures goes_on { are_forward (map string_bytes words.now) ≡ false → GoesOn (plan_of (map string_bytes words.now)) result.status }
+    ensures finishes { are_forward (map string_bytes words.now) ≡ false → Finishes (plan_of (map string_bytes words.now))
         (record { is_open = B.is_open bay.old; asked = B.asked bay.old; left = B.left bay.old; held = B.held bay.old; offers = B.offers bay.old; faults = B.faults bay.old })
         (record { is_open = B.is_open bay.new; asked = B.asked bay.new; left = B.left bay.new; held = B.held bay.new; offers = B.offers bay.new; faults = B.faults bay.new })
         result.status }
@@ -234,7 +240,7 @@ fn forward_plan<R: Threads + Wait + Sync, B: Bay, G: Gate + Sync>(
     ensures others { NoOthers (B.faults bay.old) (B.faults bay.new) (status_in result) }
     ensures falls { NeverFalls (B.faults bay.old) (B.faults bay.new) }
 {
-    let inputs = read_inputs(alloc, bay, plan.inputs)?;
+    let inputs = read_inputs(alloc, bay, plan.inputs, most_bytes(&plan.work))?;
     let lists = take_lists(alloc, &plan.work, inputs)?;
     let lent = make_shown(rt, alloc, &plan.work, lists.as_slice(), gate, outcome)?;
     let written = write_texts(bay, plan.outputs, &lent.texts);

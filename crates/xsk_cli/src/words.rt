@@ -13,12 +13,13 @@ use xsk_socket::{Layout, Unlawful, check_layout};
 #[derive(Clone, Copy, Debug, PartialEq, Eq)]
 pub enum Work {
     /// A run of the layout's workers over the captures of its ports, under a program and with a wire, in rounds with an order
-    /// number. With a number of the generator no captures are read, and the packets are made. The journal follows the report
-    /// where that was asked for.
+    /// number. With a number to mangle by, applications change items that they send. With a number of the generator no captures
+    /// are read, and the packets are made. The journal follows the report where that was asked for.
     Simulate {
         layout: Layout,
         program: Program,
         wire: Wire,
+        mangle: Option<u32>,
         order: u32,
         number: Option<u32>,
         journal: bool,
@@ -26,6 +27,10 @@ pub enum Work {
     /// A capture of the packets that are made of a number.
     Generate {
         number: u32,
+    },
+    /// The audit of a journal by the layout's configuration.
+    Audit {
+        layout: Layout,
     },
 }
 
@@ -66,6 +71,7 @@ impl<'p, 'w> Plan<'p, 'w> {
                 layout,
                 program,
                 wire,
+                mangle: args.number("mangle"),
                 order,
                 number,
                 journal: args.is_said("journal"),
@@ -75,7 +81,7 @@ impl<'p, 'w> Plan<'p, 'w> {
 }
 
 /// The layout that was asked for.
-fn layout_of(args: &Args<'_>) -> Layout
+pub(crate) fn layout_of(args: &Args<'_>) -> Layout
     ensures { result ≡ layout_by (under args.now) }
 {
     Layout {

@@ -4,6 +4,8 @@ ghost use Rattle.std.specs.List.{slice_index_or};
 ghost use Rattle.std.specs.VecDeque.{deque_capacity};
 ghost use Rattle.xsk_umem.specs.Geometry.{IsGeometry};
 ghost use Rattle.xsk_model.specs.Packets.{bytes_of};
+ghost use Rattle.xsk_turns.specs.Counted.{capped};
+ghost use Rattle.xsk_turns.specs.Stranded.{items_in};
 ghost use Rattle.xsk_turns.specs.Turns.{returned as item_returned};
 ghost use Rattle.xsk_driver.specs.Sent.{Sends, last_length};
 ghost use Rattle.xsk_driver.specs.Sendings.{sendings_of};
@@ -58,6 +60,13 @@ impl Finished {
         ensures { MatchOption result (self.now ≡ []) (λ n. (1 ≤ length self.now) × (n ≡ length (slice_index_or self.now 0 []))) }
     {
         self.lengths.front().copied()
+    }
+
+    /// How many items its packets have in all.
+    pub(crate) fn item_count(&self) -> u64
+        ensures { result ≡ capped (items_in self.now) }
+    {
+        self.items.len() as u64
     }
 
     /// Appends a packet of the batch's items and its last one, and leaves the batch empty.

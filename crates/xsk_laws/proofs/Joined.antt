@@ -1,6 +1,6 @@
 -- What a driver sent is what the paired port's driver delivered: along the TX ring, the lane and the RX ring. Where the wire
 -- waits, this is what is expected.
-use Rattle.std.proofs.Common.{◌≡◌, ℕ, ◌+◌, ◌*◌, ◌%◌, ◌<◌, ◌≤◌, ◌⊎◌, inl, inr, true, false, All, List, [], ◌∷◌, length, take, map, get_or, refl, sym, ap, subst, ◌∙◌, ⊎_elim, arith}
+use Rattle.std.proofs.Common.{◌≡◌, ℕ, ◌+◌, ◌*◌, ◌%◌, ◌<◌, ◌≤◌, ◌⊎◌, inl, inr, true, false, All, None, List, [], ◌∷◌, length, take, map, get_or, refl, sym, ap, subst, ◌∙◌, ⊎_elim, arith}
 use Rattle.std.proofs.lemmas.Bool.{cases_eq, or_left, or_right}
 use Rattle.std.proofs.lemmas.List.{take_all}
 use Rattle.std.proofs.lemmas.List.Elements.{All-weaker}
@@ -28,19 +28,23 @@ use Rattle.xsk_prog.specs.declared.rule.Verdict.{Verdict}
 use Rattle.xsk_turns.specs.Verdicts.{judged}
 use Rattle.xsk_turns.specs.Disposals.{disposal_in, disposals_of, attempts_of, with_disposal, bytes_in}
 use Rattle.xsk_turns.specs.declared.disposal.Disposal.{Disposal}
+use Rattle.xsk_turns.specs.declared.manner.Manner.{Manner}
 use Rattle.xsk_turns.specs.declared.wire.Wire.{Wire}
 use Rattle.xsk_turns.specs.declared.wire.Wire.TheVariants.{Wait}
 use Rattle.xsk_turns.proofs.Delivering.{with_disposal_is}
 use Rattle.xsk_turns.specs.Law.{IsLaidOut, IsSized, DisposedAsSaid, DeliversInOrder, DeliversSized, NothingReceivedLate, DrainsTx, CompletesAll}
 use Rattle.xsk_turns.specs.AppOwned.{IsApp}
-use Rattle.xsk_turns.specs.AppTurns.{pair_of, app_start, app_turn}
-use Rattle.xsk_turns.specs.AppLaw.{LanesPassedOn, NothingSentLate, DrainsRx}
+use Rattle.xsk_turns.specs.AppTurns.{pair_of, rx_of, app_start_by, app_turn}
+use Rattle.xsk_turns.specs.AppLaw.{AreAltered, LanesAltered, NothingSentLate, DrainsRx}
+use Rattle.xsk_turns.proofs.Mangling.{altered_same}
 use Rattle.xsk_laws.specs.Expected.{received, received_judged, expected}
 use Rattle.xsk_laws.specs.Forwarded.{forwarded}
 use Rattle.xsk_laws.specs.Laws.{received_by, AreWholeRuns, IsPlace}
 use Rattle.xsk_model.proofs.Closings.{is_mark-self}
 use Rattle.xsk_laws.proofs.Emptied.{has_mark}
 use Rattle.xsk_laws.proofs.Passed.{IsDrained, passed}
+use Rattle.xsk_laws.proofs.Altered.{IsMeasured, altered_few}
+use Rattle.xsk_laws.proofs.Totals.{total}
 use Rattle.xsk_laws.proofs.Wholes.{wholes}
 use Rattle.xsk_laws.proofs.Filters.{IsBoundTo, seat_at, delivered_is}
 use Rattle.xsk_model.proofs.Seats.{IsAt, is_at}
@@ -54,7 +58,7 @@ pub record Workers : Type 0 where
   pub none_received_late : NothingReceivedLate
   pub drains_tx : DrainsTx
   pub completes : CompletesAll
-  pub passed_on : LanesPassedOn
+  pub altered : LanesAltered
   pub none_sent_late : NothingSentLate
   pub drains_rx : DrainsRx
 
@@ -67,7 +71,7 @@ pub input_is : (c : Config) (lists : List PacketList) (verdicts : List (List Ver
 input_is c lists verdicts p q k d s at =
     ap (λ n. judged (received c lists n (pair_at c.pairs d).queue) (get_or verdicts d [])) at.pair_port ∙ ap (λ n. judged (received c lists p n) (get_or verdicts d [])) at.pair_queue
 
-module _ (w : Workers) (wire : Wire) (c : Config) (lists : List PacketList) (verdicts : List (List Verdict)) (frames : List Frame) (h : List Entry) (p q k : ℕ) (run : AreWholeRuns wire c lists verdicts frames h) (place : IsPlace c p q k) where
+module _ (w : Workers) (manner : Manner) (wire : Wire) (c : Config) (lists : List PacketList) (verdicts : List (List Verdict)) (frames : List Frame) (h : List Entry) (p q k : ℕ) (run : AreWholeRuns manner wire c lists verdicts frames h) (place : IsPlace c p q k) where
   abbrev o : ℕ
   o = paired_port p
 
@@ -106,7 +110,7 @@ module _ (w : Workers) (wire : Wire) (c : Config) (lists : List PacketList) (ver
   seat_e = record { config = config; steady = run.steady; geometry = run.history.opened.geometry; known = at_o.pair_known }
 
   one : IsApp c a
-  one = record { config = config; steady = run.steady; known = app_below c p q config place.in_ports place.in_queues }
+  one = record { config = config; steady = run.steady; geometry = run.history.opened.geometry; known = app_below c p q config place.in_ports place.in_queues }
 
   fit : (who : ℕ) → AllFit c [] (own who h)
   fit who = all_fit c who [] (own who h) (own_entries c frames h who run.history)
@@ -148,7 +152,7 @@ module _ (w : Workers) (wire : Wire) (c : Config) (lists : List PacketList) (ver
     listed = listed_rx;
     found = subst (λ n. (draining_of told_rx (Rx s) (own n h)).empty ≡ true) (sym app_at_o)
         (subst (λ n. (draining_of told_rx (Rx n) (own (caller_of c a) h)).empty ≡ true) (lane_rx c p q k o place.in_queues place.in_classes pair.there)
-        (w.drains_rx c a (own (caller_of c a) h) (lane_on c o k) one (run.apps a one.known) (lane_below c o k place.in_classes)));
+        (w.drains_rx manner c a (own (caller_of c a) h) (lane_on c o k) one (run.apps a one.known) (lane_below c o k place.in_classes)));
     none_late = subst (λ n. (telling_of (RxDone e) (Rx s) (own n h)).late ≡ false) (sym at_o.driver)
         (w.none_received_late wire c e s (received_by c lists verdicts e) (own e h) (whole_run (turn (seat_of wire c e)) (start (classes_of c) (received_by c lists verdicts e)) (own e h) (run.drivers e at_o.pair_known)));
   }
@@ -161,11 +165,11 @@ module _ (w : Workers) (wire : Wire) (c : Config) (lists : List PacketList) (ver
 
   -- ---- the lane
 
-  lane_all : submitted_of (Tx t) (own (caller_of c a) h) ≡ peeked_of (Rx s) (own (caller_of c a) h)
+  lane_all : AreAltered c.geometry manner.mangle (peeked_of (Rx s) (own (caller_of c a) h)) (submitted_of (Tx t) (own (caller_of c a) h))
   lane_all =
-      ap (λ n. submitted_of (Tx n) (own (caller_of c a) h)) (sym (lane_tx c p q k o place.in_queues place.in_classes pair.here))
-      ∙ w.passed_on c a (own (caller_of c a) h) (lane_on c o k) one (run.apps a one.known) (lane_below c o k place.in_classes)
-      ∙ ap (λ n. peeked_of (Rx n) (own (caller_of c a) h)) (lane_rx c p q k o place.in_queues place.in_classes pair.there)
+      subst (λ n. AreAltered c.geometry manner.mangle (peeked_of (Rx n) (own (caller_of c a) h)) (submitted_of (Tx t) (own (caller_of c a) h))) (lane_rx c p q k o place.in_queues place.in_classes pair.there)
+      (subst (λ n. AreAltered c.geometry manner.mangle (peeked_of (Rx (rx_of c a (lane_on c o k))) (own (caller_of c a) h)) (submitted_of (Tx n) (own (caller_of c a) h))) (lane_tx c p q k o place.in_queues place.in_classes pair.here)
+      (w.altered manner c a (own (caller_of c a) h) (lane_on c o k) one (run.apps a one.known) (lane_below c o k place.in_classes)))
 
   -- ---- the TX ring
 
@@ -184,16 +188,23 @@ module _ (w : Workers) (wire : Wire) (c : Config) (lists : List PacketList) (ver
         (subst (λ n. (draining_of (TxDone n ∷ []) (Tx t) (own d h)).empty ≡ true) same_app
         (w.drains_tx wire c d k (received_by c lists verdicts d) (own d h) (run.drivers d at_p.pair_known) place.in_classes));
     none_late = subst (λ n. (telling_of (TxDone a) (Tx t) (own n h)).late ≡ false) (sym app_at_p)
-        (w.none_sent_late c a t (own (caller_of c a) h) one (whole_run (app_turn c a) (app_start c) (own (caller_of c a) h) (run.apps a one.known)));
+        (w.none_sent_late manner c a t (own (caller_of c a) h) one (whole_run (app_turn c a) (app_start_by manner c) (own (caller_of c a) h) (run.apps a one.known)));
   }
 
-  peeked_all : peeked_of (Tx t) (own d h) ≡ submitted_of (Rx s) (own e h)
-  peeked_all =
+  peeked_altered : AreAltered c.geometry manner.mangle (submitted_of (Rx s) (own e h)) (peeked_of (Tx t) (own d h))
+  peeked_altered =
+      let sent : peeked_of (Tx t) (own d h) ≡ submitted_of (Tx t) (own (caller_of c a) h) =
       ap (λ n. peeked_of (Tx t) (own n h)) (sym at_p.driver)
       ∙ passed c frames h (TxDone a ∷ []) (TxDone a) (Tx t) run.history drained_tx
-      ∙ ap (λ n. submitted_of (Tx t) (own n h)) app_at_p
-      ∙ lane_all
-      ∙ received_all
+      ∙ ap (λ n. submitted_of (Tx t) (own n h)) app_at_p in
+      subst (λ xs. AreAltered c.geometry manner.mangle xs (peeked_of (Tx t) (own d h))) received_all
+      (subst (AreAltered c.geometry manner.mangle (peeked_of (Rx s) (own (caller_of c a) h))) (sym sent) lane_all)
+
+  peeked_all : manner.mangle ≡ None → peeked_of (Tx t) (own d h) ≡ submitted_of (Rx s) (own e h)
+  peeked_all none =
+      let xs = submitted_of (Rx s) (own e h) in
+      let ys = peeked_of (Tx t) (own d h) in
+      altered_same c.geometry xs ys (subst (λ mangle. AreAltered c.geometry mangle xs ys) none peeked_altered)
 
   -- ---- the packets
 
@@ -213,22 +224,36 @@ module _ (w : Workers) (wire : Wire) (c : Config) (lists : List PacketList) (ver
   few : All (λ (packet : List ℕ). length packet ≤ packet_limit c) (with_disposal s input ds)
   few = All-weaker (IsSized c) (λ (packet : List ℕ). length packet ≤ packet_limit c) (λ packet sized. sized.few) (with_disposal s input ds) (w.sized wire c e s input (own e h) seat_e (fit e) whole_e)
 
-  pub sent_forwarded : sent_by c h d t ≡ forwarded wire c h lists verdicts p q k
-  sent_forwarded =
+  -- all whole packets are sent
+  sent_wholes : sent_by c h d t ≡ map (bytes_of c.geometry c.sg) (whole_packets (packets c.geometry c.sg (peeked_of (Tx t) (own d h))))
+  sent_wholes =
       let whole : List (List Item) = whole_packets (packets c.geometry c.sg (peeked_of (Tx t) (own d h))) in
       let done : (sending_of c t (own d h)).completed ≡ length whole =
       w.completes wire c d k (received_by c lists verdicts d) (own d h) seat_d (fit d) (run.drivers d at_p.pair_known) place.in_classes in
       sent_in_order c frames h d t run.history
       ∙ ap (λ n. map (bytes_of c.geometry c.sg) (take n whole)) done
       ∙ ap (map (bytes_of c.geometry c.sg)) (take_all (length whole) whole (omega arith))
-      ∙ ap (λ (l : List Item). map (bytes_of c.geometry c.sg) (whole_packets (packets c.geometry c.sg l))) peeked_all
+
+  pub sent_forwarded : manner.mangle ≡ None → sent_by c h d t ≡ forwarded wire c h lists verdicts p q k
+  sent_forwarded none =
+      sent_wholes
+      ∙ ap (λ (l : List Item). map (bytes_of c.geometry c.sg) (whole_packets (packets c.geometry c.sg l))) (peeked_all none)
       ∙ wholes c.geometry c.sg (with_disposal s input ds) (submitted_of (Rx s) (own e h)) run.history.opened.geometry laid few
 
+  -- and they are no more than what was delivered, whatever is changed
+  pub sent_fewer : (f : List ℕ → ℕ) → IsMeasured f → total f (sent_by c h d t) ≤ total f (forwarded wire c h lists verdicts p q k)
+  sent_fewer f is =
+      omega (
+        arith,
+        ap (total f) sent_wholes,
+        altered_few c.geometry c.sg manner.mangle run.history.opened.geometry f is (with_disposal s input ds) (submitted_of (Rx s) (own e h)) (peeked_of (Tx t) (own d h)) laid peeked_altered,
+      )
+
   -- where the wire waits, what was delivered is what is expected
-  pub sent_expected : wire ≡ Wait → sent_by c h d t ≡ expected c lists verdicts p q k
-  sent_expected waits =
+  pub sent_expected : manner.mangle ≡ None → wire ≡ Wait → sent_by c h d t ≡ expected c lists verdicts p q k
+  sent_expected none waits =
       let bound : IsBoundTo c o q s = record { known = at_o.known; on_port = at_o.on_port; on_queue = at_o.on_queue } in
-      sent_forwarded
+      sent_forwarded none
       ∙ ap (with_disposal s input) (w.disposed wire c e input (own e h) waits run.steady.closes (fit e) whole_e)
       ∙ ap (λ (x : Seat). with_disposal s input (map (disposal_in x) input)) (seat_is wire c o q k e s at_o)
       ∙ with_disposal_is (seat_at wire c e o q) s input

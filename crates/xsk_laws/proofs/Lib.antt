@@ -14,3 +14,4 @@ pub mod Losing
 pub mod Waking
 pub mod WakingEnd
 pub mod Woken
+pub mod Altered

@@ -15,6 +15,7 @@ use Rattle.xsk_turns.proofs.Calls.{Told, Call}
 use Rattle.xsk_turns.specs.Owned.{AllFit, IsHere}
 use Rattle.xsk_turns.specs.Turns.{Seat, Judged, Kept, seat_of, start, turn, settled, settled_or, disposal_untried, cell_of, redirect_to, limit_of, IsWholeDriverRun}
 use Rattle.xsk_turns.specs.Disposals.{disposal_to, disposal_in, disposals_of, attempts_of, with_disposal, is_to, bytes_in}
+use Rattle.xsk_turns.specs.declared.manner.Manner.{Manner}
 use Rattle.xsk_turns.specs.declared.wire.Wire.{Wire}
 use Rattle.xsk_turns.specs.declared.disposal.Disposal.{Disposal}
 use Rattle.xsk_turns.specs.declared.disposal.Disposal.TheVariants.{Delivered, NoFrames, RxFull, TooLong, Runt, Missed, Passed, Dropped}
@@ -201,7 +202,7 @@ module _ (c : Config) (pair : ℕ) (seat : Seat) where
 
 -- ---- in a history of whole runs
 
-module _ (wire : Wire) (c : Config) (lists : List PacketList) (verdicts : List (List Verdict)) (frames : List Frame) (h : List Entry) (p q : ℕ) (run : AreWholeRuns wire c lists verdicts frames h) (port : p < c.ports) (queue : q < c.queues) where
+module _ (manner : Manner) (wire : Wire) (c : Config) (lists : List PacketList) (verdicts : List (List Verdict)) (frames : List Frame) (h : List Entry) (p q : ℕ) (run : AreWholeRuns manner wire c lists verdicts frames h) (port : p < c.ports) (queue : q < c.queues) where
   abbrev e : ℕ
   e = driver_on c p q
 
@@ -249,9 +250,9 @@ module _ (wire : Wire) (c : Config) (lists : List PacketList) (verdicts : List (
   only_redirected = lost_were c e (seat_at wire c e p q) (IsToSomeClass c p q) of_class input (disposals_on wire c h lists verdicts p q) fair
 
 pub forwarded_is_unlost : ForwardedIsUnlost
-forwarded_is_unlost wire c lists verdicts frames h p q k run place =
+forwarded_is_unlost manner wire c lists verdicts frames h p q k run place =
     let pair = are_paired c.ports p run.history.opened.config.ports place.in_ports in
-    delivered_as_expected wire c lists verdicts frames h (paired_port p) q run pair.in_ports place.in_queues k place.in_classes
+    delivered_as_expected manner wire c lists verdicts frames h (paired_port p) q run pair.in_ports place.in_queues k place.in_classes
 
 pub only_redirected_are_lost : OnlyRedirectedAreLost
-only_redirected_are_lost wire c lists verdicts frames h p q run port queue = only_redirected wire c lists verdicts frames h p q run port queue
+only_redirected_are_lost manner wire c lists verdicts frames h p q run port queue = only_redirected manner wire c lists verdicts frames h p q run port queue

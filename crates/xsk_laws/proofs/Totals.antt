@@ -25,7 +25,7 @@ abbrev pub total : {X : Type 0} → (X → ℕ) → List X → ℕ
 total f [] = 0
 total f (x ∷ xs) = f x + total f xs
 
-total-append : {X : Type 0} (f : X → ℕ) (xs ys : List X) → total f (xs ++ ys) ≡ total f xs + total f ys
+pub total-append : {X : Type 0} (f : X → ℕ) (xs ys : List X) → total f (xs ++ ys) ≡ total f xs + total f ys
 total-append f [] ys = omega arith
 total-append f (x ∷ xs) ys = omega (arith, total-append f xs ys)
 
@@ -165,13 +165,13 @@ judged_within f [] verdicts = omega arith
 judged_within f (packet ∷ packets) [] = omega arith
 judged_within f (packet ∷ packets) (verdict ∷ verdicts) = omega (arith, judged_within f packets verdicts)
 
--- where each of so many sockets sent what is delivered to its own, all sent no more than what is delivered
+-- where each of so many sockets sent no more than what is delivered to its own, all sent no more than what is delivered
 pub sent_few : (f : List ℕ → ℕ) (c : Config) (mine : List Told) (input : List Judged) (disposals : List Disposal) (t s classes i m : ℕ) → i + m ≡ classes
-    → ((k : ℕ) → k < classes → sent_from c ((t + k) ∷ []) [] mine ≡ with_disposal (s + k) input disposals)
+    → ((k : ℕ) → k < classes → total f (sent_from c ((t + k) ∷ []) [] mine) ≤ total f (with_disposal (s + k) input disposals))
     → total f (sent_from c (run_of (t + i) m) [] mine) ≤ total f (delivered_from (s + i) input disposals)
 sent_few f c mine input disposals t s classes i zero e h = omega (arith, sent_none f c [] mine)
 sent_few f c mine input disposals t s classes i (suc m) e h =
-    let here : total f (sent_from c ((t + i) ∷ []) [] mine) ≡ total f (with_disposal (s + i) input disposals) = ap (total f) (h i (omega (arith, e))) in
+    let here : total f (sent_from c ((t + i) ∷ []) [] mine) ≤ total f (with_disposal (s + i) input disposals) = h i (omega (arith, e)) in
     let next : t + (i + 1) ≡ t + i + 1 = omega arith in
     let after : s + (i + 1) ≡ s + i + 1 = omega arith in
     let later : total f (sent_from c (run_of (t + (i + 1)) m) [] mine) ≤ total f (delivered_from (s + (i + 1)) input disposals) =

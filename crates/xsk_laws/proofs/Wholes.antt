@@ -43,7 +43,7 @@ few_pieces n size bytes h k = ⊎_elim
     cases_le : (n : ℕ) → (n ≤ 18) ⊎ (19 ≤ n)
     cases_le n = elim (cases_lt 18 n) [ inl h ↦ inr (omega (arith, h)) | inr h ↦ inl h ]
 
-layout_few : (g : Geometry) (sg : Bool) (packet : List ℕ) (items : List Item) → IsLayout g sg packet items → length packet ≤ most_of g sg → length items ≤ 18
+pub layout_few : (g : Geometry) (sg : Bool) (packet : List ℕ) (items : List Item) → IsLayout g sg packet items → length packet ≤ most_of g sg → length items ≤ 18
 layout_few g true packet items h few =
     let count = held_length g items h.pieces h.held in
     let many = pieces_length (payload_of g) h.pieces h.cut.lengths in

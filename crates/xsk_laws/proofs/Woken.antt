@@ -18,12 +18,13 @@ use Rattle.xsk_model.proofs.Histories.{history_first}
 use Rattle.xsk_model.proofs.Roles.{IsPlaced, app_below, pair_on_found, pair_on_only, ring_placed}
 use Rattle.xsk_turns.specs.AppLaw.{SetsKicks}
 use Rattle.xsk_turns.specs.AppOwned.{IsApp}
-use Rattle.xsk_turns.specs.AppTurns.{app_turn, app_start, IsAppRun}
+use Rattle.xsk_turns.specs.AppTurns.{app_turn, app_start_by, IsAppRunBy}
 use Rattle.xsk_turns.specs.Turns.{Judged, seat_of, start, turn, IsDriverRun}
 use Rattle.xsk_turns.specs.Owned.{IsSteady, socket_at_class}
 use Rattle.xsk_turns.specs.Wakes.{IsParked, IsOwedOn, IsOwedEnd, app_for, owes_on, owes_end, IsWoken, NoWakeIsLost}
 use Rattle.xsk_turns.specs.Watching.{Watching, IsWatched, WatchesAll, watching_of}
 use Rattle.xsk_turns.specs.Workers.{input_of}
+use Rattle.xsk_turns.specs.declared.manner.Manner.{Manner}
 use Rattle.xsk_turns.specs.declared.wire.Wire.{Wire}
 use Rattle.xsk_turns.proofs.AppWaking.{only_sets_kicks}
 use Rattle.xsk_turns.proofs.ScriptLemmas.{run_front, whole_run}
@@ -44,8 +45,8 @@ wakes s owes flag kick due watched h set x = h.woken (watched (is_set s.set flag
 none_seen : (owes : Bool) (flag kick : ℕ) (due : Type 0) → flag ≡ 0 → IsKept (record { set = false; watched = false }) owes flag kick due
 none_seen owes flag kick due e = record { set = e; armed = λ watched. absurd (cc); woken = λ watched x. absurd (cc) }
 
-module _ (wire : Wire) (c : Config) (input : List Judged) (frames : List Frame) (h : List Entry) (d : ℕ) (steady : IsSteady c) (history : IsHistory c frames h) (below : d < length c.pairs)
-    (driver : IsDriverRun wire c d input (own d h)) (app : IsAppRun c (app_for c d) (own (app_of c (Fill d)) h)) where
+module _ (manner : Manner) (wire : Wire) (c : Config) (input : List Judged) (frames : List Frame) (h : List Entry) (d : ℕ) (steady : IsSteady c) (history : IsHistory c frames h) (below : d < length c.pairs)
+    (driver : IsDriverRun wire c d input (own d h)) (app : IsAppRunBy manner c (app_for c d) (own (app_of c (Fill d)) h)) where
   config : IsConfig c
   config = history.opened.config
 
@@ -58,10 +59,10 @@ module _ (wire : Wire) (c : Config) (input : List Judged) (frames : List Frame) 
       app_below c.ports c.queues (pair_at c.pairs d).port (pair_at c.pairs d).queue config.ports at.port at.queue
 
   one : IsApp c (app_for c d)
-  one = record { config = config; steady = steady; known = known }
+  one = record { config = config; steady = steady; geometry = history.opened.geometry; known = known }
 
   sets : SetsKicks (own w h)
-  sets = only_sets_kicks c (app_for c d) (own w h) one app
+  sets = only_sets_kicks manner c (app_for c d) (own w h) one app
 
   waker : (who : ℕ) → (who ≡ d) ⊎ (who ≡ w) → (who ≡ d → ⊥) → who ≡ w
   waker who either other = ⊎_elim (λ (e : who ≡ d). absurd (other e)) (λ (e : who ≡ w). e) either
@@ -176,19 +177,19 @@ no_wakes_are_lost s frames h more d are below =
     let known : a < apps_of c = app_below c.ports c.queues (pair_at c.pairs d).port (pair_at c.pairs d).queue config.ports at.port at.queue in
     let driver = (are.runs d (omega (arith, below))).driver below in
     let app = (are.runs (caller_of c a) (omega (arith, known))).app a refl in
-    no_wake_is_lost s.wire c (input_of s d) frames h d are.steady (history_first c frames h more are.history) below
+    no_wake_is_lost s.manner s.wire c (input_of s d) frames h d are.steady (history_first c frames h more are.history) below
     (run_front (turn (seat_of s.wire c d)) (start (classes_of c) (input_of s d)) (own d h) (own d more) (subst (IsDriverRun s.wire c d (input_of s d)) (own-append d h more) driver))
-    (run_front (app_turn c a) (app_start c) (own (caller_of c a) h) (own (caller_of c a) more) (subst (IsAppRun c a) (own-append (caller_of c a) h more) app))
+    (run_front (app_turn c a) (app_start_by s.manner c) (own (caller_of c a) h) (own (caller_of c a) more) (subst (IsAppRunBy s.manner c a) (own-append (caller_of c a) h more) app))
 
 pub none_is_lost_in_whole_runs : NoneIsLostInWholeRuns
-none_is_lost_in_whole_runs wire c lists verdicts frames h more d are below =
+none_is_lost_in_whole_runs manner wire c lists verdicts frames h more d are below =
     let config = are.history.opened.config in
     let a = app_for c d in
     let at : IsPlaced c (Fill d) = ring_placed c (Fill d) config below in
     let known : a < apps_of c = app_below c.ports c.queues (pair_at c.pairs d).port (pair_at c.pairs d).queue config.ports at.port at.queue in
     let input = received_by c lists verdicts d in
     let driver : IsDriverRun wire c d input (own d (h ++ more)) = whole_run (turn (seat_of wire c d)) (start (classes_of c) input) (own d (h ++ more)) (are.drivers d below) in
-    let app : IsAppRun c a (own (caller_of c a) (h ++ more)) = whole_run (app_turn c a) (app_start c) (own (caller_of c a) (h ++ more)) (are.apps a known) in
-    no_wake_is_lost wire c input frames h d are.steady (history_first c frames h more are.history) below
+    let app : IsAppRunBy manner c a (own (caller_of c a) (h ++ more)) = whole_run (app_turn c a) (app_start_by manner c) (own (caller_of c a) (h ++ more)) (are.apps a known) in
+    no_wake_is_lost manner wire c input frames h d are.steady (history_first c frames h more are.history) below
     (run_front (turn (seat_of wire c d)) (start (classes_of c) input) (own d h) (own d more) (subst (IsDriverRun wire c d input) (own-append d h more) driver))
-    (run_front (app_turn c a) (app_start c) (own (caller_of c a) h) (own (caller_of c a) more) (subst (IsAppRun c a) (own-append (caller_of c a) h more) app))
+    (run_front (app_turn c a) (app_start_by manner c) (own (caller_of c a) h) (own (caller_of c a) more) (subst (IsAppRunBy manner c a) (own-append (caller_of c a) h more) app))

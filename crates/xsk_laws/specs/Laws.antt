@@ -1,7 +1,7 @@
 -- What is sent is what was delivered, and where the wire waits exactly the redirected input: laws of every history in which
 -- each worker's own entries are a whole run, whatever object and whatever order of the workers made it, and whatever the
 -- programs' verdicts are.
-use Rattle.std.specs.Prelude.{◌≡◌, ℕ, ◌+◌, ◌<◌, ◌≤◌, ◌==◌, List, [], ◌∷◌, length, map, All}
+use Rattle.std.specs.Prelude.{◌≡◌, ℕ, ◌+◌, ◌<◌, ◌≤◌, ◌==◌, None, List, [], ◌∷◌, length, map, All}
 use Rattle.std.specs.List.{concat, filter, slice_index_or}
 use Rattle.xsk_umem.specs.Frame.{Frame}
 use Rattle.xsk_umem.specs.PacketList.{PacketList}
@@ -18,7 +18,8 @@ use Rattle.xsk_prog.specs.declared.rule.Verdict.{Verdict}
 use Rattle.xsk_turns.specs.Owned.{IsSteady}
 use Rattle.xsk_turns.specs.Turns.{Judged, IsWholeDriverRun}
 use Rattle.xsk_turns.specs.Verdicts.{judged, MeetRule}
-use Rattle.xsk_turns.specs.AppTurns.{IsWholeAppRun}
+use Rattle.xsk_turns.specs.AppTurns.{IsWholeAppRunBy}
+use Rattle.xsk_turns.specs.declared.manner.Manner.{Manner}
 use Rattle.xsk_turns.specs.declared.wire.Wire.{Wire}
 use Rattle.xsk_turns.specs.declared.wire.Wire.TheVariants.{Wait}
 use Rattle.xsk_laws.specs.Expected.{received, expected, has_length}
@@ -29,12 +30,12 @@ abbrev pub received_by : Config → List PacketList → List (List Verdict) → 
 received_by c lists verdicts d = judged (received c lists (pair_at c.pairs d).port (pair_at c.pairs d).queue) (slice_index_or verdicts d [])
 
 -- a history of a regular configuration in which no socket is closed, that all workers have run to their ends: the own entries of each driver are a whole
--- run over what it receives, with this wire, and so are those of each application
-pub record AreWholeRuns (wire : Wire) (c : Config) (lists : List PacketList) (verdicts : List (List Verdict)) (frames : List Frame) (h : List Entry) : Type 0 where
+-- run over what it receives, with this wire, and so are those of each application, with this manner
+pub record AreWholeRuns (manner : Manner) (wire : Wire) (c : Config) (lists : List PacketList) (verdicts : List (List Verdict)) (frames : List Frame) (h : List Entry) : Type 0 where
   pub steady : IsSteady c
   pub history : IsHistory c frames h
   pub drivers : (d : ℕ) → d < length c.pairs → IsWholeDriverRun wire c d (received_by c lists verdicts d) (own d h)
-  pub apps : (a : ℕ) → a < apps_of c → IsWholeAppRun c a (own (caller_of c a) h)
+  pub apps : (a : ℕ) → a < apps_of c → IsWholeAppRunBy manner c a (own (caller_of c a) h)
 
 -- a port, a queue and a class of the configuration
 pub record IsPlace (c : Config) (port queue class : ℕ) : Type 0 where
@@ -42,17 +43,17 @@ pub record IsPlace (c : Config) (port queue class : ℕ) : Type 0 where
   pub in_queues : queue < c.queues
   pub in_classes : class < classes_of c
 
--- what a driver sent by the socket of a class is what the driver of the paired port delivered to the paired socket: these
+-- where no item is changed, what a driver sent by the socket of a class is what the driver of the paired port delivered to the paired socket: these
 -- packets, each whole and in order, and no others
 abbrev pub SentIsForwarded : Type 0
-SentIsForwarded = (wire : Wire) (c : Config) (lists : List PacketList) (verdicts : List (List Verdict)) (frames : List Frame) (h : List Entry) (port queue class : ℕ)
-    → AreWholeRuns wire c lists verdicts frames h → IsPlace c port queue class
+SentIsForwarded = (manner : Manner) (wire : Wire) (c : Config) (lists : List PacketList) (verdicts : List (List Verdict)) (frames : List Frame) (h : List Entry) (port queue class : ℕ)
+    → manner.mangle ≡ None → AreWholeRuns manner wire c lists verdicts frames h → IsPlace c port queue class
     → sent_by c h (driver_on c port queue) (socket_on c port queue class) ≡ forwarded wire c h lists verdicts port queue class
 
 -- where the wire waits it is what is expected there: the packets of the paired port that go to the paired socket
 abbrev pub SentIsExpected : Type 0
-SentIsExpected = (wire : Wire) (c : Config) (lists : List PacketList) (verdicts : List (List Verdict)) (frames : List Frame) (h : List Entry) (port queue class : ℕ)
-    → wire ≡ Wait → AreWholeRuns wire c lists verdicts frames h → IsPlace c port queue class
+SentIsExpected = (manner : Manner) (wire : Wire) (c : Config) (lists : List PacketList) (verdicts : List (List Verdict)) (frames : List Frame) (h : List Entry) (port queue class : ℕ)
+    → manner.mangle ≡ None → wire ≡ Wait → AreWholeRuns manner wire c lists verdicts frames h → IsPlace c port queue class
     → sent_by c h (driver_on c port queue) (socket_on c port queue class) ≡ expected c lists verdicts port queue class
 
 -- a packet that is sent, and the class by whose socket
@@ -80,32 +81,33 @@ AreForwarded wire c h lists verdicts port queue packets = AreOfClasses c (forwar
 
 -- so all that a driver sent is what was forwarded by all classes, and nothing else
 abbrev pub AllAreForwarded : Type 0
-AllAreForwarded = (wire : Wire) (c : Config) (lists : List PacketList) (verdicts : List (List Verdict)) (frames : List Frame) (h : List Entry) (port queue : ℕ)
-    → AreWholeRuns wire c lists verdicts frames h → port < c.ports → queue < c.queues
+AllAreForwarded = (manner : Manner) (wire : Wire) (c : Config) (lists : List PacketList) (verdicts : List (List Verdict)) (frames : List Frame) (h : List Entry) (port queue : ℕ)
+    → manner.mangle ≡ None → AreWholeRuns manner wire c lists verdicts frames h → port < c.ports → queue < c.queues
     → AreForwarded wire c h lists verdicts port queue (sent c h (driver_on c port queue))
 
 -- where the wire waits it is what is expected by all classes, and nothing else
 abbrev pub NothingElseIsSent : Type 0
-NothingElseIsSent = (wire : Wire) (c : Config) (lists : List PacketList) (verdicts : List (List Verdict)) (frames : List Frame) (h : List Entry) (port queue : ℕ)
-    → wire ≡ Wait → AreWholeRuns wire c lists verdicts frames h → port < c.ports → queue < c.queues
+NothingElseIsSent = (manner : Manner) (wire : Wire) (c : Config) (lists : List PacketList) (verdicts : List (List Verdict)) (frames : List Frame) (h : List Entry) (port queue : ℕ)
+    → manner.mangle ≡ None → wire ≡ Wait → AreWholeRuns manner wire c lists verdicts frames h → port < c.ports → queue < c.queues
     → AreExpected c lists verdicts port queue (sent c h (driver_on c port queue))
 
 -- where each queue has one socket, all that a driver sent is what was forwarded by this one
 abbrev pub AllIsForwarded : Type 0
-AllIsForwarded = (wire : Wire) (c : Config) (lists : List PacketList) (verdicts : List (List Verdict)) (frames : List Frame) (h : List Entry) (port queue : ℕ)
-    → AreWholeRuns wire c lists verdicts frames h → port < c.ports → queue < c.queues → classes_of c ≡ 1
+AllIsForwarded = (manner : Manner) (wire : Wire) (c : Config) (lists : List PacketList) (verdicts : List (List Verdict)) (frames : List Frame) (h : List Entry) (port queue : ℕ)
+    → manner.mangle ≡ None → AreWholeRuns manner wire c lists verdicts frames h → port < c.ports → queue < c.queues → classes_of c ≡ 1
     → sent c h (driver_on c port queue) ≡ forwarded wire c h lists verdicts port queue 0
 
 -- and where the wire waits too, what is expected by it
 abbrev pub AllIsExpected : Type 0
-AllIsExpected = (wire : Wire) (c : Config) (lists : List PacketList) (verdicts : List (List Verdict)) (frames : List Frame) (h : List Entry) (port queue : ℕ)
-    → wire ≡ Wait → AreWholeRuns wire c lists verdicts frames h → port < c.ports → queue < c.queues → classes_of c ≡ 1
+AllIsExpected = (manner : Manner) (wire : Wire) (c : Config) (lists : List PacketList) (verdicts : List (List Verdict)) (frames : List Frame) (h : List Entry) (port queue : ℕ)
+    → manner.mangle ≡ None → wire ≡ Wait → AreWholeRuns manner wire c lists verdicts frames h → port < c.ports → queue < c.queues → classes_of c ≡ 1
     → sent c h (driver_on c port queue) ≡ expected c lists verdicts port queue 0
 
--- all that a driver sent is no more than what the paired port received on the queue, in packets and in bytes
+-- all that a driver sent is no more than what the paired port received on the queue, in packets and in bytes, whatever the
+-- applications change
 abbrev pub SentIsWithin : Type 0
-SentIsWithin = (wire : Wire) (c : Config) (lists : List PacketList) (verdicts : List (List Verdict)) (frames : List Frame) (h : List Entry) (port queue : ℕ)
-    → AreWholeRuns wire c lists verdicts frames h → port < c.ports → queue < c.queues
+SentIsWithin = (manner : Manner) (wire : Wire) (c : Config) (lists : List PacketList) (verdicts : List (List Verdict)) (frames : List Frame) (h : List Entry) (port queue : ℕ)
+    → AreWholeRuns manner wire c lists verdicts frames h → port < c.ports → queue < c.queues
     → (length (sent c h (driver_on c port queue)) ≤ length (received c lists (paired_port port) queue))
     × (length (concat (sent c h (driver_on c port queue))) ≤ length (concat (received c lists (paired_port port) queue)))
 

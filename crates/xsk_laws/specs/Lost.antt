@@ -10,6 +10,7 @@ use Rattle.xsk_model.specs.Steering.{paired_port, driver_on}
 use Rattle.xsk_prog.specs.declared.rule.Verdict.{Verdict}
 use Rattle.xsk_turns.specs.Turns.{Judged, seat_of}
 use Rattle.xsk_turns.specs.Disposals.{attempts_of, disposals_of, bytes_in}
+use Rattle.xsk_turns.specs.declared.manner.Manner.{Manner}
 use Rattle.xsk_turns.specs.declared.wire.Wire.{Wire}
 use Rattle.xsk_turns.specs.declared.disposal.Disposal.{Disposal}
 use Rattle.xsk_turns.specs.declared.disposal.Disposal.TheVariants.{NoFrames, RxFull}
@@ -47,8 +48,8 @@ expected_of_unlost wire c h lists verdicts port queue class =
 
 -- what was forwarded by the socket of a class is exactly that, in order, whatever the wire does
 abbrev pub ForwardedIsUnlost : Type 0
-ForwardedIsUnlost = (wire : Wire) (c : Config) (lists : List PacketList) (verdicts : List (List Verdict)) (frames : List Frame) (h : List Entry) (port queue class : ℕ)
-    → AreWholeRuns wire c lists verdicts frames h → IsPlace c port queue class
+ForwardedIsUnlost = (manner : Manner) (wire : Wire) (c : Config) (lists : List PacketList) (verdicts : List (List Verdict)) (frames : List Frame) (h : List Entry) (port queue class : ℕ)
+    → AreWholeRuns manner wire c lists verdicts frames h → IsPlace c port queue class
     → forwarded wire c h lists verdicts port queue class ≡ expected_of_unlost wire c h lists verdicts port queue class
 
 -- a packet that goes to the socket of some class
@@ -57,6 +58,6 @@ IsToSomeClass c port queue packet = (class : ℕ) × (class < classes_of c) × (
 
 -- and each packet that was lost is one that was to be delivered
 abbrev pub OnlyRedirectedAreLost : Type 0
-OnlyRedirectedAreLost = (wire : Wire) (c : Config) (lists : List PacketList) (verdicts : List (List Verdict)) (frames : List Frame) (h : List Entry) (port queue : ℕ)
-    → AreWholeRuns wire c lists verdicts frames h → port < c.ports → queue < c.queues
+OnlyRedirectedAreLost = (manner : Manner) (wire : Wire) (c : Config) (lists : List PacketList) (verdicts : List (List Verdict)) (frames : List Frame) (h : List Entry) (port queue : ℕ)
+    → AreWholeRuns manner wire c lists verdicts frames h → port < c.ports → queue < c.queues
     → All (IsToSomeClass c port queue) (lost (received_judged c lists verdicts port queue) (disposals_on wire c h lists verdicts port queue))

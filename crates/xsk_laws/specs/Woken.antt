@@ -10,6 +10,7 @@ use Rattle.xsk_prog.specs.declared.rule.Verdict.{Verdict}
 use Rattle.xsk_turns.specs.Owned.{IsSteady}
 use Rattle.xsk_turns.specs.Wakes.{NoWakeIsLost}
 use Rattle.xsk_turns.specs.Workers.{Setting, IsWorkerRun}
+use Rattle.xsk_turns.specs.declared.manner.Manner.{Manner}
 use Rattle.xsk_turns.specs.declared.wire.Wire.{Wire}
 use Rattle.xsk_laws.specs.Laws.{AreWholeRuns}
 
@@ -26,5 +27,5 @@ NoWakesAreLost = (s : Setting) (frames : List Frame) (h more : List Entry) (d : 
 
 -- so it is where all workers have run to their ends
 abbrev pub NoneIsLostInWholeRuns : Type 0
-NoneIsLostInWholeRuns = (wire : Wire) (c : Config) (lists : List PacketList) (verdicts : List (List Verdict)) (frames : List Frame) (h more : List Entry) (d : ℕ)
-    → AreWholeRuns wire c lists verdicts frames (h ++ more) → d < length c.pairs → NoWakeIsLost c frames h d
+NoneIsLostInWholeRuns = (manner : Manner) (wire : Wire) (c : Config) (lists : List PacketList) (verdicts : List (List Verdict)) (frames : List Frame) (h more : List Entry) (d : ℕ)
+    → AreWholeRuns manner wire c lists verdicts frames (h ++ more) → d < length c.pairs → NoWakeIsLost c frames h d

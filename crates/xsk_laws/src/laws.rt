@@ -27,7 +27,6 @@ pub fn sent_is_expected()
 {}
 
 /// All that a driver sent is what was forwarded by all classes together, and nothing else.
-#[tactic(auto, using(crate::proofs::Theorems::all_are_forwarded))]
 pub fn all_are_forwarded()
     ensures { AllAreForwarded }
 {}
@@ -38,7 +37,6 @@ pub fn nothing_else_is_sent()
 {}
 
 /// With one socket for each queue, what was forwarded by it is all that the driver sent.
-#[tactic(auto, using(crate::proofs::Theorems::all_is_forwarded))]
 pub fn all_is_forwarded()
     ensures { AllIsForwarded }
 {}
@@ -48,7 +46,7 @@ pub fn all_is_expected()
     ensures { AllIsExpected }
 {}
 
-/// All that a driver sent is no more than what the paired port received, in packets and in bytes.
+/// All that a driver sent is no more than what the paired port received, in packets and in bytes, whatever applications change.
 pub fn sent_is_within()
     ensures { SentIsWithin }
 {}

@@ -17,7 +17,7 @@ use Rattle.xsk_driver.specs.Runs.{StandsWith}
 use Rattle.xsk_driver.proofs.Runs.{tells_with}
 use Rattle.xsk_app.specs.Shown.{Shown as AppShown}
 use Rattle.xsk_turns.specs.Turns.{seat_of, start, turn as driver_turn}
-use Rattle.xsk_turns.specs.AppTurns.{app_start, app_turn, IsAppRun, IsWholeAppRun}
+use Rattle.xsk_turns.specs.AppTurns.{app_start_by, app_turn, IsAppRunBy, IsWholeAppRunBy}
 use Rattle.xsk_model.specs.Config.{classes_of}
 use Rattle.xsk_turns.proofs.ScriptLemmas.{whole_run}
 use Rattle.xsk_app.specs.Runs.{StandsWith as AppStandsWith}
@@ -75,28 +75,28 @@ app_own s who a l call r is may = own_frames s.config a.app may.frames may.histo
 pub app_has_none : (s : Setting) (a : AppShown) → HasOwnFrames s.config a.app []
 app_has_none s a = had_none s.config a.app
 
-app_acts : (s : Setting) (a : AppShown) (act : Act) (l : List Told) → HasOwnFrames s.config a.app l → AppStandsWith s.config a.app a act l → IsActAfter s (caller_of s.config a.app) act l
+app_acts : (s : Setting) (a : AppShown) (act : Act) (l : List Told) → HasOwnFrames s.config a.app l → AppStandsWith s.manner s.config a.app a act l → IsActAfter s (caller_of s.config a.app) act l
 app_acts s a (Calls call) l own stands =
-    let tells = app_tells_with s.config a.app a (Calls call) l stands in (
+    let tells = app_tells_with s.manner s.config a.app a (Calls call) l stands in (
       tells.legal own,
       λ whole. tells.more (whole.app a.app refl),
       record {
         driver = λ below. absurd (omega arith);
-        app = λ b is. subst (λ k. IsAppRun s.config k l) (let e : a.app ≡ b = omega arith in e) tells.run;
+        app = λ b is. subst (λ k. IsAppRunBy s.manner s.config k l) (let e : a.app ≡ b = omega arith in e) tells.run;
       },
     )
 app_acts s a IsEnd l own stands =
-    let tells = app_tells_with s.config a.app a IsEnd l stands in
+    let tells = app_tells_with s.manner s.config a.app a IsEnd l stands in
     record {
       driver = λ below. absurd (omega arith);
-      app = λ b is. subst (λ k. IsWholeAppRun s.config k l) (let e : a.app ≡ b = omega arith in e) tells.whole;
+      app = λ b is. subst (λ k. IsWholeAppRunBy s.manner s.config k l) (let e : a.app ≡ b = omega arith in e) tells.whole;
     }
 
 pub app_after : (s : Setting) (who : ℕ) (old new : AppShown) (act : Act) (l : List Told) → old.config ≡ s.config → who ≡ caller_of s.config old.app
-    → HasOwnFrames s.config old.app l → (new.config ≡ old.config) × (new.app ≡ old.app) → AppStandsWith s.config old.app new act l → AppStands s who new act l × IsActAfter s who act l
+    → HasOwnFrames s.config old.app l → (new.config ≡ old.config) × (new.app ≡ old.app) → AppStandsWith s.manner s.config old.app new act l → AppStands s who new act l × IsActAfter s who act l
 app_after s who old new act l config caller own same stands =
     let mine : who ≡ caller_of s.config new.app = caller ∙ ap (caller_of s.config) (sym same.1) in
-    let now : AppStandsWith s.config new.app new act l = subst (λ (n : ℕ). AppStandsWith s.config n new act l) (sym same.1) stands in
+    let now : AppStandsWith s.manner s.config new.app new act l = subst (λ (n : ℕ). AppStandsWith s.manner s.config n new act l) (sym same.1) stands in
     (record { config = same.0 ∙ config; caller = mine; stands = now }, subst (λ w. IsActAfter s w act l) (sym mine) (app_acts s new act l (subst (λ (n : ℕ). HasOwnFrames s.config n l) (sym same.1) own) now))
 
 -- a whole run is a run
@@ -104,5 +104,5 @@ pub worker_run : (s : Setting) (who : ℕ) (act : Act) (l : List Told) → IsAct
 worker_run s who (Calls call) l after = after.2
 worker_run s who IsEnd l after = record {
   driver = λ below. whole_run (driver_turn (seat_of s.wire s.config who)) (start (classes_of s.config) (input_of s who)) l (after.driver below);
-  app = λ a is. whole_run (app_turn s.config a) (app_start s.config) l (after.app a is);
+  app = λ a is. whole_run (app_turn s.config a) (app_start_by s.manner s.config) l (after.app a is);
 }

@@ -22,6 +22,7 @@ use Rattle.xsk_app.specs.Runs.{IsNew as IsNewApp}
 use Rattle.xsk_prog.specs.declared.rule.Verdict.{Verdict}
 use Rattle.xsk_turns.specs.Verdicts.{judged}
 use Rattle.xsk_turns.specs.Workers.{Setting}
+use Rattle.xsk_turns.specs.declared.manner.Manner.{Manner}
 use Rattle.xsk_machine.specs.Acts.{other_of, HasRoomToSend, IsDriver, IsApp}
 
 -- the inputs of a pair's driver are the numbers of its packets
@@ -103,12 +104,12 @@ new_driver s pair list verdicts d known room at given new = record {
       (subst (λ (l : List (List ℕ)). IsNewDriver s.wire s.config pair (judged (packets_of_queue s.config.queues (pair_at s.config.pairs pair).queue l) verdicts) d) at new);
 }
 
-pub new_app : (s : Setting) (who : ℕ) (c : Config) (app : ℕ) (a : AppShown) → s.config ≡ c → who ≡ caller_of c app → IsNewApp c app a → IsApp s who a
-new_app s who c app a is caller new =
+pub new_app : (s : Setting) (who : ℕ) (m : Manner) (c : Config) (app : ℕ) (a : AppShown) → s.manner ≡ m → s.config ≡ c → who ≡ caller_of c app → IsNewApp m c app a → IsApp s who a
+new_app s who m c app a manner is caller new =
     let number : app ≡ a.app = sym new.app in
     let config : c ≡ s.config = sym is in
     record {
       config = new.config ∙ config;
       caller = caller ∙ ap (λ (k : ℕ). caller_of c k) number ∙ ap (λ (k : Config). caller_of k a.app) config;
-      is = subst (λ (k : Config). IsNewApp k a.app a) config (subst (λ (n : ℕ). IsNewApp c n a) number new);
+      is = subst (λ (x : Manner). IsNewApp x s.config a.app a) (sym manner) (subst (λ (k : Config). IsNewApp m k a.app a) config (subst (λ (n : ℕ). IsNewApp m c n a) number new));
     }

@@ -4,7 +4,9 @@ use Rattle.std.proofs.lemmas.Bool.Decides.{nat_tests}
 use Rattle.xsk_model.specs.Config.{Config, classes_of}
 use Rattle.xsk_model.specs.Entry.{Told}
 use Rattle.xsk_turns.specs.Counted.{capped, IsCounted}
-use Rattle.xsk_turns.specs.Disposals.{attempts_of}
+use Rattle.xsk_turns.specs.Disposals.{attempts_of, disposals_of}
+use Rattle.xsk_turns.specs.Stranded.{stranded_in}
+use Rattle.xsk_driver.proofs.Stranding.{ended_stranded}
 use Rattle.xsk_turns.specs.Disposes.{HasDisposedAll}
 use Rattle.xsk_turns.specs.Turns.{seat_of}
 use Rattle.xsk_turns.specs.declared.disposal.Disposal.{Disposal}
@@ -41,18 +43,22 @@ figures_at_end wire c pair input d l ended =
     let counted : IsCounted c pair d.kept.disposals d.kept.counters l = keeps_counters_at_end wire c pair input l d.kept ended.one ended.fit ended.ends in
     let counters = same_counters c pair d.kept.disposals d.kept.counters l counted in
     let sent = capped (length d.sent.packets) in
-    ap (λ (n : ℕ). figures_by (capped n) d.kept.disposals sent (counters_to (classes_of c) d.kept.counters)) disposed.each
-    ∙ ap (λ (k : DriverCounters). figures_by (capped (length input)) d.kept.disposals sent k) counters
-    ∙ ap (λ (ds : List Disposal). figures_by (capped (length input)) ds sent (counters_of c pair ds l)) disposed.disposals
+    let lost = ended_stranded wire c pair input d l ended in
+    let kept = capped (stranded_in d.kept) in
+    ap (λ (n : ℕ). figures_by (capped n) d.kept.disposals sent (counters_to (classes_of c) d.kept.counters) kept) disposed.each
+    ∙ ap (λ (k : DriverCounters). figures_by (capped (length input)) d.kept.disposals sent k kept) counters
+    ∙ ap (λ (ds : List Disposal). figures_by (capped (length input)) ds sent (counters_of c pair ds l) kept) disposed.disposals
+    ∙ ap (λ (n : ℕ). figures_by (capped (length input)) (disposals_of (seat_of wire c pair) input (attempts_of l)) sent (counters_of c pair (disposals_of (seat_of wire c pair) input (attempts_of l)) l) (capped n)) lost
 
 -- the figures that are made of what a driver shows
-pub shown_figures : (d : Shown) (classes : ℕ) (result : DriverFigures) (n m : ℕ) (ds : List Disposal) (k : DriverCounters) → result ≡ figures_by n ds m k
+pub shown_figures : (d : Shown) (classes : ℕ) (result : DriverFigures) (n m : ℕ) (ds : List Disposal) (k : DriverCounters) (lost : ℕ) → result ≡ figures_by n ds m k lost
     → n ≡ length ds → n ≤ 18446744073709551615 → ds ≡ d.kept.disposals → m ≡ length d.sent.packets → m ≤ 18446744073709551615 → k ≡ counters_to classes d.kept.counters
-    → result ≡ figures_in classes d
-shown_figures d classes result n m ds k is count few same sent fits counters =
+    → lost ≡ capped (stranded_in d.kept) → result ≡ figures_in classes d
+shown_figures d classes result n m ds k lost is count few same sent fits counters stranded =
     let n_fits : n ≡ capped n = omega arith in
     let m_fits : m ≡ capped m = omega arith in
-    is ∙ ap (λ (x : ℕ). figures_by x ds m k) (n_fits ∙ ap capped count)
-    ∙ ap (λ (x : ℕ). figures_by (capped (length ds)) ds x k) (m_fits ∙ ap capped sent)
-    ∙ ap (λ (x : DriverCounters). figures_by (capped (length ds)) ds (capped (length d.sent.packets)) x) counters
-    ∙ ap (λ (xs : List Disposal). figures_by (capped (length xs)) xs (capped (length d.sent.packets)) (counters_to classes d.kept.counters)) same
+    is ∙ ap (λ (x : ℕ). figures_by x ds m k lost) (n_fits ∙ ap capped count)
+    ∙ ap (λ (x : ℕ). figures_by (capped (length ds)) ds x k lost) (m_fits ∙ ap capped sent)
+    ∙ ap (λ (x : DriverCounters). figures_by (capped (length ds)) ds (capped (length d.sent.packets)) x lost) counters
+    ∙ ap (λ (xs : List Disposal). figures_by (capped (length xs)) xs (capped (length d.sent.packets)) (counters_to classes d.kept.counters) lost) same
+    ∙ ap (figures_by (capped (length d.kept.disposals)) d.kept.disposals (capped (length d.sent.packets)) (counters_to classes d.kept.counters)) stranded

@@ -11,15 +11,16 @@ use Rattle.xsk_model.specs.Expected.{nothing}
 use Rattle.xsk_prog.specs.declared.rule.Verdict.{Verdict}
 use Rattle.xsk_turns.specs.Verdicts.{EachHas, IsGiven}
 use Rattle.xsk_turns.specs.Workers.{Setting, AreGiven, packets_to}
+use Rattle.xsk_turns.specs.declared.manner.Manner.{Manner}
 use Rattle.xsk_turns.specs.declared.wire.Wire.{Wire}
 use Rattle.xsk_driver.specs.Asking.{verdicts_in}
 use Rattle.xsk_driver.specs.Shown.{Shown}
 use Rattle.xsk_machine.specs.Acts.{IsDriver}
-use Rattle.xsk_machine.specs.Workers.{kept_in, IsFreshDriver, AreNew, setting_with}
+use Rattle.xsk_machine.specs.Workers.{kept_in, IsFreshDriver, AreNew, setting_by}
 
 -- what is known of one driver that was made: it is that of each setting with its verdicts
 pub record IsMade (By : ℕ → List ℕ → Verdict → Type 0) (c : Config) (wire : Wire) (packets : List PacketList) (pair : ℕ) (d : Shown) : Type 0 where
-  pub new : (verdicts : List (List Verdict)) → slice_index_or verdicts pair [] ≡ verdicts_in d.kept → IsDriver (setting_with c wire packets verdicts) pair d
+  pub new : (manner : Manner) (verdicts : List (List Verdict)) → slice_index_or verdicts pair [] ≡ verdicts_in d.kept → IsDriver (setting_by c wire manner packets verdicts) pair d
   pub asked : EachHas (IsGiven (By (pair_at c.pairs pair).queue)) (packets_to c packets (pair_at c.pairs pair)) (verdicts_in d.kept)
   pub expected : d.expected ≡ nothing
 
@@ -45,14 +46,14 @@ module _ (By : ℕ → List ℕ → Verdict → Type 0) (c : Config) (wire : Wir
         get_or-map (λ (x : Shown). verdicts_in x.kept) drivers k d [] (slice_get_within drivers k d at)
         ∙ ap (λ (x : Shown). verdicts_in x.kept) (get_or_from_slice_get drivers k d d at)
 
-    pub all_new : AreNew (setting_with c wire packets (kept_in drivers)) 0 drivers
-    all_new k d at =
+    pub all_new : (manner : Manner) → AreNew (setting_by c wire manner packets (kept_in drivers)) 0 drivers
+    all_new manner k d at =
         let m = made k d at in
         let here : k ≡ 0 + k = omega arith in
-        subst (λ n. IsFreshDriver (setting_with c wire packets (kept_in drivers)) n d) here (record { is = m.new (kept_in drivers) (kept_at k d at); expected = m.expected })
+        subst (λ n. IsFreshDriver (setting_by c wire manner packets (kept_in drivers)) n d) here (record { is = m.new manner (kept_in drivers) (kept_at k d at); expected = m.expected })
 
-    pub all_asked : length drivers ≡ length c.pairs → AreGiven By (setting_with c wire packets (kept_in drivers))
-    all_asked count = record {
+    pub all_asked : (manner : Manner) → length drivers ≡ length c.pairs → AreGiven By (setting_by c wire manner packets (kept_in drivers))
+    all_asked manner count = record {
       count = length-map drivers (λ (x : Shown). verdicts_in x.kept) ∙ count;
       each = λ pair below. ⊎_elim
           (λ (found : (d : Shown) × (pair < length drivers) × (slice_get drivers pair ≡ Some d) × (slice_index_or drivers pair d ≡ d)).

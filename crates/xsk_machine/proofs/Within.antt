@@ -20,7 +20,7 @@ AreWithin s h = (d : ℕ) → d < length s.config.pairs → IsWithin s d (sent s
 
 module _ (s : Setting) (frames : List Frame) (h : List Entry) (steady : IsSteady s.config) (legal : IsHistory s.config frames h)
     (whole : (who : ℕ) → who < callers_of s.config → IsWholeRun s who (own who h)) where
-  pub whole_runs : AreWholeRuns s.wire s.config s.packets s.verdicts frames h
+  pub whole_runs : AreWholeRuns s.manner s.wire s.config s.packets s.verdicts frames h
   whole_runs = record {
     steady = steady;
     history = legal;
@@ -37,5 +37,5 @@ module _ (s : Setting) (frames : List Frame) (h : List Entry) (steady : IsSteady
       let here : driver_on s.config p q ≡ d = ap (λ n. n * s.config.queues + q) seat.0 ∙ ap (λ n. (d / s.config.queues) * s.config.queues + n) seat.1 ∙ div-add-mod' d s.config.queues in
       let port : p < s.config.ports = subst (λ n. n < s.config.ports) (sym seat.0) (div_below d s.config.queues s.config.ports some (omega (arith, below, steady.regular.pairs))) in
       let queue : q < s.config.queues = subst (λ n. n < s.config.queues) (sym seat.1) (mod_below d s.config.queues some) in
-      let few = sent_is_within s.wire s.config s.packets s.verdicts frames h p q whole_runs port queue in
+      let few = sent_is_within s.manner s.wire s.config s.packets s.verdicts frames h p q whole_runs port queue in
       subst (λ k. IsWithin s d (sent s.config h k)) here (record { count = few.0; bytes = few.1 })

@@ -50,13 +50,13 @@ pub record DriverStands (s : Setting) (who : ℕ) (d : DriverShown) (act : Act) 
 pub record IsApp (s : Setting) (who : ℕ) (a : AppShown) : Type 0 where
   pub config : a.config ≡ s.config
   pub caller : who ≡ caller_of s.config a.app
-  pub is : IsNewApp s.config a.app a
+  pub is : IsNewApp s.manner s.config a.app a
 
 -- an application stands for a list, and gave this act after it
 pub record AppStands (s : Setting) (who : ℕ) (a : AppShown) (act : Act) (l : List Told) : Type 0 where
   pub config : a.config ≡ s.config
   pub caller : who ≡ caller_of s.config a.app
-  pub stands : AppStandsWith s.config a.app a act l
+  pub stands : AppStandsWith s.manner s.config a.app a act l
 
 -- what a worker gave after a list: a legal call, where the list is a run and no whole one, or its end, where it is a whole one
 abbrev pub IsActAfter : Setting → ℕ → Act → List Told → Type 0

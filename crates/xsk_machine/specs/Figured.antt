@@ -1,6 +1,6 @@
 -- The figures of a history, as counts over it: of all its calls, and of each driver over its own calls and replies. The
 -- counters have the names of af_xdp.rst, "XDP_STATISTICS getsockopt".
-use Rattle.std.specs.Prelude.{◌≡◌, ℕ, nat_lt, if◌then◌else◌, List, [], ◌∷◌, length, map}
+use Rattle.std.specs.Prelude.{◌≡◌, ℕ, is_some, nat_lt, if◌then◌else◌, List, [], ◌∷◌, length, map}
 use Rattle.std.specs.List.{range_with_len}
 use Rattle.xsk_model.specs.Config.{Config, classes_of}
 use Rattle.xsk_model.specs.Packets.{packets, bad_items}
@@ -12,6 +12,7 @@ use Rattle.xsk_turns.specs.Counters.{frameless}
 use Rattle.xsk_turns.specs.Counted.{capped, fulls_of, empties_of, drops_of}
 use Rattle.xsk_turns.specs.Disposals.{attempts_of, disposals_of}
 use Rattle.xsk_turns.specs.Owned.{socket_at_class}
+use Rattle.xsk_turns.specs.Stranded.{stranded_of}
 use Rattle.xsk_turns.specs.Turns.{Judged, seat_of}
 use Rattle.xsk_turns.specs.Workers.{Setting, input_of}
 use Rattle.xsk_turns.specs.declared.disposal.Disposal.{Disposal}
@@ -42,7 +43,7 @@ counters_of c pair disposals l = record {
 abbrev pub driver_figures_by : Wire → Config → ℕ → List Judged → ℕ → List Told → DriverFigures
 driver_figures_by wire c pair input sent_packets l =
     let disposals = disposals_of (seat_of wire c pair) input (attempts_of l) in
-    figures_by (capped (length input)) disposals (capped sent_packets) (counters_of c pair disposals l)
+    figures_by (capped (length input)) disposals (capped sent_packets) (counters_of c pair disposals l) (capped (stranded_of l))
 
 -- they are what a driver that has ended keeps
 abbrev pub FiguresAtEnd : Type 0
@@ -54,4 +55,4 @@ abbrev pub driver_figures_of : Setting → List Entry → ℕ → DriverFigures
 driver_figures_of s h pair = driver_figures_by s.wire s.config pair (input_of s pair) (length (sent s.config h pair)) (own pair h)
 
 abbrev pub figures_of : Setting → List Entry → Figures
-figures_of s h = record { calls = capped (length h); wire = s.wire; drivers = map (driver_figures_of s h) (range_with_len 0 (length s.config.pairs)) }
+figures_of s h = record { calls = capped (length h); wire = s.wire; drivers = map (driver_figures_of s h) (range_with_len 0 (length s.config.pairs)); mangled = is_some s.manner.mangle }

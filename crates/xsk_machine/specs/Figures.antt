@@ -2,6 +2,7 @@
 -- the disposals are declared, and that no number goes beyond 2 ^ 64 - 1, is this project's own.
 use Rattle.std.specs.Prelude.{◌≡◌, ℕ, ◌==◌, nat_lt, if◌then◌else◌, List, [], ◌∷◌, length, map, count_by, sum}
 use Rattle.xsk_turns.specs.Counted.{capped}
+use Rattle.xsk_turns.specs.Stranded.{stranded_in}
 use Rattle.xsk_turns.specs.declared.disposal.Disposal.{Disposal}
 use Rattle.xsk_turns.specs.declared.disposal.Disposal.TheVariants.{Delivered, NoFrames, RxFull, TooLong, Runt, Missed, Passed, Dropped}
 use Rattle.xsk_turns.specs.declared.disposal.DriverCounters.{DriverCounters}
@@ -30,9 +31,9 @@ all_kinds = 0 ∷ 1 ∷ 2 ∷ 3 ∷ 4 ∷ 5 ∷ 6 ∷ 7 ∷ []
 abbrev pub kinds_of : List Disposal → List ℕ
 kinds_of disposals = map (λ kind. capped (count_of_kind kind disposals)) all_kinds
 
--- the figures of a driver, of whose packets so many have these disposals
-abbrev pub figures_by : ℕ → List Disposal → ℕ → DriverCounters → DriverFigures
-figures_by packets_in disposals sent counters = record { packets_in = packets_in; kinds = kinds_of disposals; sent = sent; counters = counters }
+-- the figures of a driver, of whose packets so many have these disposals, and of whose frames so many are stranded
+abbrev pub figures_by : ℕ → List Disposal → ℕ → DriverCounters → ℕ → DriverFigures
+figures_by packets_in disposals sent counters stranded = record { packets_in = packets_in; kinds = kinds_of disposals; sent = sent; counters = counters; stranded = stranded }
 
 -- counters of the sockets that a queue has, and 0 for others
 abbrev pub counter_to : ℕ → List ℕ → List ℕ
@@ -47,7 +48,7 @@ counters_to classes counters = record counters {
 
 -- the figures of a driver that has ended, from what it keeps
 abbrev pub figures_in : ℕ → Shown → DriverFigures
-figures_in classes d = figures_by (capped (length d.kept.disposals)) d.kept.disposals (capped (length d.sent.packets)) (counters_to classes d.kept.counters)
+figures_in classes d = figures_by (capped (length d.kept.disposals)) d.kept.disposals (capped (length d.sent.packets)) (counters_to classes d.kept.counters) (capped (stranded_in d.kept))
 
 -- each packet that has a disposal is counted in one kind
 abbrev pub KindsAddUp : Type 0

@@ -8,6 +8,8 @@ use Rattle.xsk_model.specs.Expected.{Expected, nothing}
 use Rattle.xsk_model.specs.declared.call.Act.{Act}
 use Rattle.xsk_prog.specs.declared.rule.Verdict.{Verdict}
 use Rattle.xsk_turns.specs.Workers.{Setting}
+use Rattle.xsk_turns.specs.Mangling.{plain}
+use Rattle.xsk_turns.specs.declared.manner.Manner.{Manner}
 use Rattle.xsk_turns.specs.declared.wire.Wire.{Wire}
 use Rattle.xsk_driver.specs.Asking.{verdicts_in}
 use Rattle.xsk_driver.specs.Shown.{Shown as DriverShown}
@@ -47,8 +49,12 @@ figures_kept classes (App a) = []
 -- ---- new ones, in the order of their numbers
 
 -- a setting, by its parts
+abbrev pub setting_by : Config → Wire → Manner → List PacketList → List (List Verdict) → Setting
+setting_by c wire manner packets verdicts = record { config = c; wire = wire; manner = manner; packets = packets; verdicts = verdicts }
+
+-- and one whose applications change nothing
 abbrev pub setting_with : Config → Wire → List PacketList → List (List Verdict) → Setting
-setting_with c wire packets verdicts = record { config = c; wire = wire; packets = packets; verdicts = verdicts }
+setting_with c wire packets verdicts = setting_by c wire plain packets verdicts
 
 -- a worker of a setting that has made no call
 pub record IsFresh (s : Setting) (who : ℕ) (w : AnyWorker) : Type 0 where

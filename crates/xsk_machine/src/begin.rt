@@ -12,7 +12,8 @@ ghost use Rattle.xsk_turns.specs.Verdicts.{EachHas, IsGiven};
 ghost use Rattle.xsk_turns.specs.Workers.{packets_to, AreGiven};
 ghost use Rattle.xsk_driver.specs.Asking.{IsAnswer, verdicts_in};
 ghost use Rattle.xsk_machine.specs.Acts.{IsDriver, HasShortPackets};
-ghost use Rattle.xsk_machine.specs.Workers.{AreNew, kept_in, setting_with};
+ghost use Rattle.xsk_machine.specs.Workers.{AreNew, kept_in, setting_by};
+ghost use Rattle.xsk_turns.specs.declared.manner.Manner.{Manner as AManner};
 
 use crate::Inputs;
 use std::alloc::Global;
@@ -40,8 +41,8 @@ pub fn driver_for<'a, F: Fn(&[u8], u32) -> Verdict>(
     requires short { All HasShortPackets packets.now }
     requires obeys { Obeys F.Fn program.now.rule program.now.decide }
     requires pair { pair < length config.now.pairs }
-    ensures new { IfOk result (λ d. (verdicts : List (List AVerdict)) → slice_index_or verdicts pair [] ≡ verdicts_in d.kept
-        → IsDriver (record { config = config.now; wire = wire; packets = packets.now; verdicts = verdicts }) pair d) }
+    ensures new { IfOk result (λ d. (manner : AManner) (verdicts : List (List AVerdict)) → slice_index_or verdicts pair [] ≡ verdicts_in d.kept
+        → IsDriver (setting_by config.now wire manner packets.now verdicts) pair d) }
     ensures asked { IfOk result (λ d. EachHas (IsGiven (IsAnswer F.Fn program.now.rule program.now.decide (pair_at config.now.pairs pair).queue))
         (packets_to config.now packets.now (pair_at config.now.pairs pair)) (verdicts_in d.kept)) }
     ensures expected { IfOk result (λ d. d.expected ≡ nothing) }
@@ -81,8 +82,8 @@ pub fn drivers_for<'a, F: Fn(&[u8], u32) -> Verdict>(
     requires inputs { inputs.now ≡ inputs_of config.now packets.now }
     requires short { All HasShortPackets packets.now }
     requires obeys { Obeys F.Fn program.now.rule program.now.decide }
-    ensures new { IfOk result (λ drivers. AreNew (setting_with config.now wire packets.now (kept_in drivers.items)) 0 drivers.items) }
-    ensures asked { IfOk result (λ drivers. AreGiven (IsAnswer F.Fn program.now.rule program.now.decide) (setting_with config.now wire packets.now (kept_in drivers.items))) }
+    ensures new { IfOk result (λ drivers. (manner : AManner) → AreNew (setting_by config.now wire manner packets.now (kept_in drivers.items)) 0 drivers.items) }
+    ensures asked { IfOk result (λ drivers. (manner : AManner) → AreGiven (IsAnswer F.Fn program.now.rule program.now.decide) (setting_by config.now wire manner packets.now (kept_in drivers.items))) }
     ensures count { IfOk result (λ drivers. length drivers.items ≡ length config.now.pairs) }
 {
     let count = config.pairs().len() as u32;

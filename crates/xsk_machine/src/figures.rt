@@ -23,17 +23,20 @@ pub struct DriverFigures {
     pub sent: u64,
     /// Its counters.
     pub counters: DriverCounters,
+    /// The frames that it took from TX and didn't give to COMPLETION.
+    pub stranded: u64,
 }
 
 impl DriverFigures {
-    /// The figures of a driver, of whose packets so many have these disposals.
+    /// The figures of a driver, of whose packets so many have these disposals, and of whose frames so many are stranded.
     pub fn of(
         packets_in: u64,
         disposals: &[Disposal],
         sent: u64,
         counters: DriverCounters,
+        stranded: u64,
     ) -> DriverFigures
-        ensures figures { result ≡ figures_by packets_in disposals.now sent counters }
+        ensures figures { result ≡ figures_by packets_in disposals.now sent counters stranded }
         ensures each_once { sum result.kinds ≡ length disposals.now }
     {
         let _count = disposals.len();
@@ -46,6 +49,7 @@ impl DriverFigures {
             kinds,
             sent,
             counters,
+            stranded,
         }
     }
 
@@ -56,7 +60,14 @@ impl DriverFigures {
         let disposals = driver.disposals();
         let counters = keep_classes(driver.counters(), classes);
         let sent = u64::from(driver.sent().len());
-        DriverFigures::of(disposals.len() as u64, disposals, sent, counters)
+        let stranded = driver.stranded();
+        DriverFigures::of(
+            disposals.len() as u64,
+            disposals,
+            sent,
+            counters,
+            stranded,
+        )
     }
 }
 
@@ -187,6 +198,8 @@ pub struct Figures {
     pub wire: Wire,
     /// The figures of each driver, by its pair.
     pub drivers: FigureList,
+    /// Whether the applications changed items that they submitted on TX.
+    pub mangled: bool,
 }
 
 /// Each packet that has a disposal is counted in one kind.

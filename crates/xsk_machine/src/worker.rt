@@ -10,6 +10,7 @@ use std::alloc::Global;
 use xsk_app::App;
 use xsk_driver::Driver;
 use xsk_model::{Answer, Ask, Config};
+use xsk_turns::Manner;
 use xsk_umem::{Batch, OutOfMemory};
 
 /// A driver or an application.
@@ -47,21 +48,22 @@ impl Machine for AnyWorker<'_> {
     }
 }
 
-/// The worker that is a caller: its driver, or where it has none its application.
+/// The worker that is a caller: its driver, or where it has none its application, with this manner.
 pub fn worker_of<'a>(
     alloc: Global,
     config: &'a Config,
     driver: Option<Driver<'a>>,
     who: u32,
+    manner: Manner,
 ) -> Result<AnyWorker<'a>, OutOfMemory>
     requires steady { IsSteady config.now }
     requires caller { who < callers_of config.now }
     requires app { IfNone driver (length config.now.pairs ≤ who) }
-    ensures { (s : Setting) → s.config ≡ config.now → IfSome driver.entry (IsFreshDriver s who) → IfOk result (IsFresh s who) }
+    ensures { (s : Setting) → s.config ≡ config.now → s.manner ≡ manner → IfSome driver.entry (IsFreshDriver s who) → IfOk result (IsFresh s who) }
 {
     if let Some(driver) = driver {
         return Ok(AnyWorker::Driver(driver));
     }
-    let app = App::new(alloc, config, who - config.pairs().len() as u32)?;
+    let app = App::new(alloc, config, who - config.pairs().len() as u32, manner)?;
     Ok(AnyWorker::App(app))
 }

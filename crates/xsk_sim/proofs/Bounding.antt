@@ -9,7 +9,7 @@ use Rattle.xsk_model.specs.OtherWords.{changes}
 use Rattle.xsk_model.proofs.CallTheorems.{leaves_state}
 use Rattle.xsk_model.proofs.Folds.{own-append, own-push_same, own-push_other, all_told-append}
 use Rattle.xsk_turns.specs.Turns.{seat_of, start, turn as driver_turn}
-use Rattle.xsk_turns.specs.AppTurns.{app_start, app_turn}
+use Rattle.xsk_turns.specs.AppTurns.{app_start_by, app_turn}
 use Rattle.xsk_turns.specs.Workers.{Setting, input_of, IsWorkerRun, IsWholeRun}
 use Rattle.xsk_turns.proofs.ScriptLemmas.{whole_ends}
 use Rattle.xsk_bounds.specs.Totals.{total, sum_below, changed}
@@ -51,7 +51,7 @@ whole_stops s who l (t ∷ more) whole run = ⊎_elim
     (λ (high : length s.config.pairs ≤ who).
     let a : ℕ = who - length s.config.pairs in
     let is : who ≡ caller_of s.config a = omega arith in
-    absurd (whole_ends (app_turn s.config a) (app_start s.config) l t more (whole.app a is) (run.app a is)))
+    absurd (whole_ends (app_turn s.config a) (app_start_by s.manner s.config) l t more (whole.app a is) (run.app a is)))
     (cases_lt who (length s.config.pairs))
 
 module _ (s : Setting) (frames : List Frame) where

@@ -1,6 +1,6 @@
 -- How a run ends.
 use Rattle.std.proofs.Common.{◌≡◌, ℕ, zero, suc, map, ◌+◌, ◌-◌, ◌<◌, ◌≤◌, List, [], ◌∷◌, ◌++◌, length, length-append, append-nil, append_assoc, get_or, ap, sym, subst, refl, ◌∙◌, arith, ⊎_elim}
-use Rattle.std.specs.Prelude.{flat_map}
+use Rattle.std.specs.Prelude.{flat_map, is_some, Bool}
 use Rattle.xsk_turns.specs.Owned.{IsSteady}
 use Rattle.xsk_turns.specs.Stepping.{joined_ask}
 use Rattle.xsk_umem.specs.Frame.{Frame}
@@ -48,8 +48,8 @@ use Rattle.xsk_sim.proofs.Seating.{each_tells, each_change, each_both, all_whole
 pub log_count : (log : Log) → calls_of log ≡ length (entries_of log)
 log_count log = sym (length-entries log.rows.items (map (item_of log.bytes.items) log.pieces.items))
 
-abbrev pub whole_of : ℕ → Wire → List DriverFigures → Figures
-whole_of calls wire drivers = record { calls = calls; wire = wire; drivers = drivers }
+abbrev pub whole_of : ℕ → Wire → List DriverFigures → Bool → Figures
+whole_of calls wire drivers mangled = record { calls = calls; wire = wire; drivers = drivers; mangled = mangled }
 
 -- the figures of a driver that has ended
 figures_at : (s : Setting) (who : ℕ) (d : DriverShown) (act : Act) (l : List Told) (packets : List (List ℕ)) → act ≡ IsEnd → DriverStands s who d act l → d.sent.packets ≡ packets
@@ -59,13 +59,14 @@ figures_at s who d act l packets is stands kept =
     figures_at_end s.wire s.config who (input_of s who) d l ended ∙ ap (λ (ps : List (List ℕ)). driver_figures_by s.wire s.config who (input_of s who) (length ps) l) kept
 
 -- the figures of all
-figures_whole : (s : Setting) (h : List Entry) (wire : Wire) (calls : ℕ) (drivers : List DriverFigures) → wire ≡ s.wire → calls ≡ length h → calls ≤ 18446744073709551615
-    → drivers ≡ map (driver_figures_of s h) (range_with_len 0 (length s.config.pairs)) → whole_of calls wire drivers ≡ figures_of s h
-figures_whole s h wire calls drivers same number fits each =
+figures_whole : (s : Setting) (h : List Entry) (wire : Wire) (mangled : Bool) (calls : ℕ) (drivers : List DriverFigures) → wire ≡ s.wire → mangled ≡ is_some s.manner.mangle → calls ≡ length h → calls ≤ 18446744073709551615
+    → drivers ≡ map (driver_figures_of s h) (range_with_len 0 (length s.config.pairs)) → whole_of calls wire drivers mangled ≡ figures_of s h
+figures_whole s h wire mangled calls drivers same manner number fits each =
     let capped_calls : calls ≡ capped calls = omega arith in
-    ap (λ (n : ℕ). whole_of n wire drivers) (capped_calls ∙ ap capped number)
-    ∙ ap (λ (x : Wire). whole_of (capped (length h)) x drivers) same
-    ∙ ap (whole_of (capped (length h)) s.wire) each
+    ap (λ (n : ℕ). whole_of n wire drivers mangled) (capped_calls ∙ ap capped number)
+    ∙ ap (λ (x : Wire). whole_of (capped (length h)) x drivers mangled) same
+    ∙ ap (λ (ds : List DriverFigures). whole_of (capped (length h)) s.wire ds mangled) each
+    ∙ ap (whole_of (capped (length h)) s.wire (map (driver_figures_of s h) (range_with_len 0 (length s.config.pairs)))) manner
 
 -- of a worker of a setting one thing is kept where it is a driver, and else none
 pub record IsKept {X : Type 0} (s : Setting) (who : ℕ) (things : List X) : Type 0 where
@@ -192,11 +193,11 @@ module _ (s : Setting) (frames : List Frame) (h : List Entry) (w : Workers) (eng
       (each_change w.seats.items 0 _ _ (ended_seats ended) (λ k x low high both. ended_figures s h k x.machine (joined_ask x.ask x.items) within both.0 both.1.0))
 
 -- a run that has ended
-pub ended_run : (s : Setting) (frames : List Frame) (order count : ℕ) (w : Workers) (engine : Engine) (run : Shown) (classes calls : ℕ) (wire : Wire) → IsSteady s.config → (had : HadRounds s frames order count w engine)
+pub ended_run : (s : Setting) (frames : List Frame) (order count : ℕ) (w : Workers) (engine : Engine) (run : Shown) (classes calls : ℕ) (wire : Wire) (mangled : Bool) → IsSteady s.config → (had : HadRounds s frames order count w engine)
     → count ≤ 18446744073709551616 → NeverStill s frames order count → HaveEnded w → run.log ≡ engine.log → run.sent ≡ kept_lists w
-    → classes ≡ classes_of s.config → calls ≡ length engine.log → calls ≤ 18446744073709551615 → run.figures ≡ whole_of calls wire (kept_figures classes w) → wire ≡ s.wire
+    → classes ≡ classes_of s.config → calls ≡ length engine.log → calls ≤ 18446744073709551615 → run.figures ≡ whole_of calls wire (kept_figures classes w) mangled → wire ≡ s.wire → mangled ≡ is_some s.manner.mangle
     → HasEnded s frames order run
-ended_run s frames order count w engine run classes calls wire steady had few never ended log kept sockets number fits figures same =
+ended_run s frames order count w engine run classes calls wire mangled steady had few never ended log kept sockets number fits figures same manner =
     let legal : IsHistory s.config frames had.history = had.seated.run.legal in
     let whole = whole_runs s frames had.history w engine had.seated ended in
     let within : AreWithin s had.history = are_within s frames had.history steady legal whole in
@@ -209,7 +210,7 @@ ended_run s frames order count w engine run classes calls wire steady had few ne
       whole = whole;
       log = log ∙ had.seated.run.log;
       holders = λ past later split. one_holder s.config frames past later (subst (IsHistory s.config frames) split legal);
-      figures = figures ∙ figures_whole s had.history wire calls (kept_figures classes w) same (number ∙ ap length had.seated.run.log ∙ length-map had.history (stored_entry s.config.geometry s.config.sg)) fits
+      figures = figures ∙ figures_whole s had.history wire mangled calls (kept_figures classes w) same manner (number ∙ ap length had.seated.run.log ∙ length-map had.history (stored_entry s.config.geometry s.config.sg)) fits
           (ap (λ (n : ℕ). kept_figures n w) sockets ∙ all_figures s frames had.history w engine had.seated ended within);
       sent = λ pair below. ap (λ lists. get_or lists pair []) kept ∙ all_sent s frames had.history w engine had.seated ended within pair below;
       woken = λ past later pair split below.

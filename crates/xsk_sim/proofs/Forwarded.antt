@@ -13,7 +13,7 @@ use Rattle.xsk_sim.specs.Shown.{Shown}
 use Rattle.xsk_sim.specs.Runs.{HasEnded, EndedIsForwarded, EndedIsExpected}
 
 module _ (s : Setting) (frames : List Frame) (order : ℕ) (run : Shown) (port queue : ℕ) (steady : IsSteady s.config) (ended : HasEnded s frames order run) (in_ports : port < s.config.ports) (in_queues : queue < s.config.queues) where
-  are_whole : AreWholeRuns s.wire s.config s.packets s.verdicts frames ended.history
+  are_whole : AreWholeRuns s.manner s.wire s.config s.packets s.verdicts frames ended.history
   are_whole = whole_runs s frames ended.history steady ended.is.legal ended.whole
 
   known : driver_on s.config port queue < length s.config.pairs
@@ -22,11 +22,11 @@ module _ (s : Setting) (frames : List Frame) (order : ℕ) (run : Shown) (port q
       (is_at s.config port queue 0 ended.is.legal.opened.config steady.regular in_ports in_queues some).pair_known
 
 pub ended_is_forwarded : EndedIsForwarded
-ended_is_forwarded s frames order run port queue steady ended in_ports in_queues =
+ended_is_forwarded s frames order run port queue none steady ended in_ports in_queues =
     subst (AreForwarded s.wire s.config ended.history s.packets s.verdicts port queue) (sym (ended.sent (driver_on s.config port queue) (known s frames order run port queue steady ended in_ports in_queues)))
-    (all_are_forwarded s.wire s.config s.packets s.verdicts frames ended.history port queue (are_whole s frames order run port queue steady ended in_ports in_queues) in_ports in_queues)
+    (all_are_forwarded s.manner s.wire s.config s.packets s.verdicts frames ended.history port queue none (are_whole s frames order run port queue steady ended in_ports in_queues) in_ports in_queues)
 
 pub ended_is_expected : EndedIsExpected
-ended_is_expected s frames order run port queue waits steady ended in_ports in_queues =
+ended_is_expected s frames order run port queue none waits steady ended in_ports in_queues =
     subst (AreExpected s.config s.packets s.verdicts port queue) (sym (ended.sent (driver_on s.config port queue) (known s frames order run port queue steady ended in_ports in_queues)))
-    (nothing_else_is_sent s.wire s.config s.packets s.verdicts frames ended.history port queue waits (are_whole s frames order run port queue steady ended in_ports in_queues) in_ports in_queues)
+    (nothing_else_is_sent s.manner s.wire s.config s.packets s.verdicts frames ended.history port queue none waits (are_whole s frames order run port queue steady ended in_ports in_queues) in_ports in_queues)

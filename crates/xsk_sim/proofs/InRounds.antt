@@ -17,15 +17,15 @@ use Rattle.xsk_sim.proofs.Turning.{own_turn}
 
 -- ---- numbers of which none comes twice
 
-abbrev AwayFrom : ℕ → List ℕ → Type 0
+abbrev pub AwayFrom : ℕ → List ℕ → Type 0
 AwayFrom who [] = Unit {0}
 AwayFrom who (w ∷ ws) = (w ≡ who → ⊥) × AwayFrom who ws
 
-abbrev Among : ℕ → List ℕ → Type 0
+abbrev pub Among : ℕ → List ℕ → Type 0
 Among who [] = ⊥
 Among who (w ∷ ws) = (w ≡ who) ⊎ Among who ws
 
-abbrev Apart : List ℕ → Type 0
+abbrev pub Apart : List ℕ → Type 0
 Apart [] = Unit {0}
 Apart (w ∷ ws) = AwayFrom w ws × Apart ws
 
@@ -85,11 +85,11 @@ range_bounds who a (suc n) (inr more) = let both = range_bounds who (a + 1) n mo
 
 -- ---- all callers in turn
 
-apart_rotated : (callers start : ℕ) → Apart (rotated callers start)
+pub apart_rotated : (callers start : ℕ) → Apart (rotated callers start)
 apart_rotated callers start = apart_both (range_with_len start (callers - start)) (range_with_len 0 start) (apart_range start (callers - start)) (apart_range 0 start)
     (λ who among. let low = (range_bounds who start (callers - start) among).0 in away_high who 0 start (omega (arith, low)))
 
-among_rotated : (who callers start : ℕ) → who < callers → Among who (rotated callers start)
+pub among_rotated : (who callers start : ℕ) → who < callers → Among who (rotated callers start)
 among_rotated who callers start below = ⊎_elim
     (λ (low : who < start). among_last who (range_with_len start (callers - start)) (range_with_len 0 start) (among_range who 0 start (omega arith) (omega (arith, low))))
     (λ (high : start ≤ who). among_first who (range_with_len start (callers - start)) (range_with_len 0 start) (among_range who start (callers - start) high (omega (arith, below, high))))
@@ -126,7 +126,7 @@ module _ (Whole : ℕ → List Told → Type 0) where
       ∙ own_turn Whole past w who turns.0 turns.3 (λ is. none.0 (sym is))
 
   -- what a caller made before and after its turn
-  abbrev Went : ℕ → List Told → List Told → Type 0
+  abbrev pub Went : ℕ → List Told → List Told → Type 0
   Went who before after = (Whole who before × (after ≡ before)) ⊎ ((Whole who before → ⊥) × (length after ≡ suc (length before)))
 
   went_turn : (who : ℕ) (past es : List Entry) → IsTurn Whole past who es → Went who (own who past) (own who (past ++ es))
@@ -138,7 +138,7 @@ module _ (Whole : ℕ → List Told → Type 0) where
             ∙ length-append (own who past) (told made.1.0 ∷ []) ∙ (let e : length (own who past) + 1 ≡ suc (length (own who past)) = omega arith in e),
       )
 
-  went : (who : ℕ) (ws : List ℕ) (past es : List Entry) → AreTurns Whole past ws es → Apart ws → Among who ws → Went who (own who past) (own who (past ++ es))
+  pub went : (who : ℕ) (ws : List ℕ) (past es : List Entry) → AreTurns Whole past ws es → Apart ws → Among who ws → Went who (own who past) (own who (past ++ es))
   went who [] past es turns apart among = absurd among
   went who (w ∷ ws) past es turns apart (inl here) =
       let all : own who ((past ++ turns.0) ++ turns.1) ≡ own who (past ++ es) = ap (own who) (append_assoc past turns.0 turns.1) ∙ ap (λ l. own who (past ++ l)) (sym turns.2) in

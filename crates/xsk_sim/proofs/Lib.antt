@@ -13,3 +13,4 @@ pub mod Settling
 pub mod Bounding
 pub mod InRounds
 pub mod Journaling
+pub mod Stretch

@@ -61,7 +61,7 @@ module _ (s : Setting) (frames : List Frame) where
     others_settled : (pair : ℕ) → (pair ≡ who → ⊥) → settled_by s (h ++ e ∷ []) pair ≡ settled_by s h pair
     others_settled pair differs = ap (settled_of s pair) (own-push_other pair h e (λ is. differs (sym is ∙ mine)))
 
-    changes_none : IsQuiet s frames h e → changes e.call e.reply ≡ false
+    pub changes_none : IsQuiet s frames h e → changes e.call e.reply ≡ false
     changes_none quiet = ⊎_elim
         (λ (yes : changes e.call e.reply ≡ true). absurd (changes_state s.config frames h e legal yes quiet.object))
         (λ (no : changes e.call e.reply ≡ false). no)

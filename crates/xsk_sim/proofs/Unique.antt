@@ -12,7 +12,7 @@ use Rattle.xsk_model.proofs.Histories.{history_first}
 use Rattle.xsk_model.proofs.Replies.{history_entry}
 use Rattle.xsk_turns.proofs.ScriptLemmas.{run_front, run_next}
 use Rattle.xsk_turns.specs.Turns.{seat_of, start, turn as driver_turn}
-use Rattle.xsk_turns.specs.AppTurns.{app_start, app_turn}
+use Rattle.xsk_turns.specs.AppTurns.{app_start_by, app_turn}
 use Rattle.xsk_sim.specs.Order.{number_at, start_of, rotated}
 use Rattle.xsk_sim.specs.Rounds.{IsTurn, AreTurns, AreRounds}
 use Rattle.xsk_turns.specs.Workers.{Setting, input_of, IsWorkerRun, IsWholeRun}
@@ -26,7 +26,7 @@ use Rattle.xsk_model.specs.Stored.{stored}
 worker_first : (s : Setting) (who : ℕ) (l more : List Told) → IsWorkerRun s who (l ++ more) → IsWorkerRun s who l
 worker_first s who l more run = record {
   driver = λ below. run_front (driver_turn (seat_of s.wire s.config who)) (start (classes_of s.config) (input_of s who)) l more (run.driver below);
-  app = λ a is. run_front (app_turn s.config a) (app_start s.config) l more (run.app a is);
+  app = λ a is. run_front (app_turn s.config a) (app_start_by s.manner s.config) l more (run.app a is);
 }
 
 -- two runs of a worker with the same list before them make the same call next
@@ -37,7 +37,7 @@ worker_next s who l t u first second = ⊎_elim
     (λ (high : length s.config.pairs ≤ who).
     let a : ℕ = who - length s.config.pairs in
     let is : who ≡ caller_of s.config a = omega arith in
-    run_next (app_turn s.config a) (app_start s.config) l t u (first.app a is) (second.app a is))
+    run_next (app_turn s.config a) (app_start_by s.manner s.config) l t u (first.app a is) (second.app a is))
     (cases_lt who (length s.config.pairs))
 
 -- ---- one history

@@ -1,7 +1,7 @@
 -- Runs of a configuration over lists of packets, one for each port: histories in rounds, in which each worker's own calls
 -- and replies are a run of its turns. A run has ended where all of these are whole, and it has stalled where one isn't and
 -- nothing has changed for 64 rounds.
-use Rattle.std.specs.Prelude.{◌≡◌, true, ℕ, ◌+◌, ◌<◌, ◌≤◌, List, [], ◌++◌, length}
+use Rattle.std.specs.Prelude.{◌≡◌, true, None, ℕ, ◌+◌, ◌<◌, ◌≤◌, List, [], ◌++◌, length}
 use Rattle.std.specs.List.{slice_index_or}
 use Rattle.std.specs.Fn.{Shared}
 use denote.Ref.{Bor}
@@ -18,12 +18,14 @@ use Rattle.xsk_prog.specs.Rules.{is_exact}
 use Rattle.xsk_prog.specs.declared.rule.Rule.{Rule}
 use Rattle.xsk_prog.specs.declared.rule.Verdict.{Verdict}
 use Rattle.xsk_turns.specs.Owned.{IsSteady}
-use Rattle.xsk_turns.specs.Workers.{Setting, IsWorkerRun, IsWholeRun, AreGiven, IsRuled, ruled}
+use Rattle.xsk_turns.specs.Workers.{Setting, IsWorkerRun, IsWholeRun, AreGiven, IsRuled, ruled_by}
 use Rattle.xsk_turns.specs.Wakes.{NoWakeIsLost}
+use Rattle.xsk_turns.specs.declared.manner.Manner.{Manner}
 use Rattle.xsk_turns.specs.declared.wire.Wire.{Wire}
 use Rattle.xsk_turns.specs.declared.wire.Wire.TheVariants.{Wait}
 use Rattle.xsk_laws.specs.Laws.{AreForwarded, AreExpected}
 use Rattle.xsk_driver.specs.Asking.{IsAnswer}
+use Rattle.xsk_machine.specs.Workers.{setting_by}
 use Rattle.xsk_machine.specs.Figured.{figures_of}
 use Rattle.xsk_sim.specs.Journal.{rounds_of}
 use Rattle.xsk_sim.specs.Rounds.{AreRounds, AreInRounds}
@@ -80,34 +82,34 @@ pub record HasStalled (s : Setting) (frames : List Frame) (order round : ℕ) : 
 
 -- The same under a program: there are verdicts of each driver's packets, each an answer of the program's closure that meets
 -- its rule, with which the run has ended, or stalled.
-pub record HasEndedUnder {F : Type 0} (g : Shared F (Bor (List ℕ) × (ℕ × Unit {0})) Verdict) (rule : Rule) (f : F) (wire : Wire) (c : Config) (packets : List PacketList) (frames : List Frame) (order : ℕ) (run : Shown) : Type 0 where
+pub record HasEndedUnder {F : Type 0} (g : Shared F (Bor (List ℕ) × (ℕ × Unit {0})) Verdict) (rule : Rule) (f : F) (wire : Wire) (manner : Manner) (c : Config) (packets : List PacketList) (frames : List Frame) (order : ℕ) (run : Shown) : Type 0 where
   pub verdicts : List (List Verdict)
-  pub asked : AreGiven (IsAnswer g rule f) (record { config = c; wire = wire; packets = packets; verdicts = verdicts })
-  pub ended : HasEnded (record { config = c; wire = wire; packets = packets; verdicts = verdicts }) frames order run
+  pub asked : AreGiven (IsAnswer g rule f) (setting_by c wire manner packets verdicts)
+  pub ended : HasEnded (setting_by c wire manner packets verdicts) frames order run
 
-pub record HasStalledUnder {F : Type 0} (g : Shared F (Bor (List ℕ) × (ℕ × Unit {0})) Verdict) (rule : Rule) (f : F) (wire : Wire) (c : Config) (packets : List PacketList) (frames : List Frame) (order round : ℕ) : Type 0 where
+pub record HasStalledUnder {F : Type 0} (g : Shared F (Bor (List ℕ) × (ℕ × Unit {0})) Verdict) (rule : Rule) (f : F) (wire : Wire) (manner : Manner) (c : Config) (packets : List PacketList) (frames : List Frame) (order round : ℕ) : Type 0 where
   pub verdicts : List (List Verdict)
-  pub asked : AreGiven (IsAnswer g rule f) (record { config = c; wire = wire; packets = packets; verdicts = verdicts })
-  pub stalled : HasStalled (record { config = c; wire = wire; packets = packets; verdicts = verdicts }) frames order round
+  pub asked : AreGiven (IsAnswer g rule f) (setting_by c wire manner packets verdicts)
+  pub stalled : HasStalled (setting_by c wire manner packets verdicts) frames order round
 
 -- where the rule leaves one verdict for each packet, they are those that the rule gives itself
 abbrev pub EndsAsRuled : Type 0
 EndsAsRuled = (rule : Rule) (s : Setting) (frames : List Frame) (order : ℕ) (run : Shown) → is_exact rule ≡ true → IsRuled rule s
-    → HasEnded s frames order run → HasEnded (ruled rule s.wire s.config s.packets) frames order run
+    → HasEnded s frames order run → HasEnded (ruled_by rule s.wire s.manner s.config s.packets) frames order run
 
 abbrev pub StallsAsRuled : Type 0
 StallsAsRuled = (rule : Rule) (s : Setting) (frames : List Frame) (order round : ℕ) → is_exact rule ≡ true → IsRuled rule s
-    → HasStalled s frames order round → HasStalled (ruled rule s.wire s.config s.packets) frames order round
+    → HasStalled s frames order round → HasStalled (ruled_by rule s.wire s.manner s.config s.packets) frames order round
 
--- What the driver of a port and queue sent in a run that has ended is what was forwarded by all classes, whatever the wire
+-- Where no item is changed, what the driver of a port and queue sent in a run that has ended is what was forwarded by all classes, whatever the wire
 -- does, and nothing else. Where the wire waits it is what is expected by them.
 abbrev pub EndedIsForwarded : Type 0
-EndedIsForwarded = (s : Setting) (frames : List Frame) (order : ℕ) (run : Shown) (port queue : ℕ) → IsSteady s.config → (ended : HasEnded s frames order run)
+EndedIsForwarded = (s : Setting) (frames : List Frame) (order : ℕ) (run : Shown) (port queue : ℕ) → s.manner.mangle ≡ None → IsSteady s.config → (ended : HasEnded s frames order run)
     → port < s.config.ports → queue < s.config.queues
     → AreForwarded s.wire s.config ended.history s.packets s.verdicts port queue (slice_index_or run.sent (driver_on s.config port queue) [])
 
 abbrev pub EndedIsExpected : Type 0
-EndedIsExpected = (s : Setting) (frames : List Frame) (order : ℕ) (run : Shown) (port queue : ℕ) → s.wire ≡ Wait → IsSteady s.config → HasEnded s frames order run
+EndedIsExpected = (s : Setting) (frames : List Frame) (order : ℕ) (run : Shown) (port queue : ℕ) → s.manner.mangle ≡ None → s.wire ≡ Wait → IsSteady s.config → HasEnded s frames order run
     → port < s.config.ports → queue < s.config.queues
     → AreExpected s.config s.packets s.verdicts port queue (slice_index_or run.sent (driver_on s.config port queue) [])
 

@@ -1,6 +1,6 @@
 //! The laws of runs, each the contract of a function that does nothing. They are stated in `specs/Runs.antt`.
 
-ghost use Rattle.xsk_sim.specs.Bounds.{EndsOrStandsStill};
+ghost use Rattle.xsk_sim.specs.Bounds.{EndsOrStandsStill, NoneStandsStill};
 ghost use Rattle.xsk_sim.specs.Runs.{OneHistory, OneLog, OneFigures, EndsOrStalls, OneStall, EndsAsRuled, StallsAsRuled, EndedIsForwarded, EndedIsExpected, EntriesStandInRounds};
 
 /// For each number of rounds there is one history in rounds of the workers of a configuration over packets with verdicts.
@@ -33,6 +33,12 @@ pub fn one_stall()
 #[tactic(auto, using(crate::proofs::Bounding::ends_or_stands_still))]
 pub fn ends_or_stands_still()
     ensures { EndsOrStandsStill }
+{}
+
+/// Where each ring has 32 entries or more and each pool 18 frames or more, and applications change nothing, no run stands still,
+/// whatever the wire does.
+pub fn none_stands_still()
+    ensures { NoneStandsStill }
 {}
 
 /// Under a rule that leaves one verdict for each packet, a run has ended with the verdicts that the rule gives itself.

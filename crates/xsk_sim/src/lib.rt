@@ -12,3 +12,4 @@ pub use journal::{append_journal, journal_text};
 pub use simulation::{Run, SimError, simulate};
 pub use xsk_driver::Wire;
 pub use xsk_machine::Figures;
+pub use xsk_turns::Manner;

@@ -7,6 +7,7 @@ ghost use Rattle.xsk_model.specs.Opening.{AreFrames};
 ghost use Rattle.xsk_umem.specs.Frame.{Frame};
 ghost use Rattle.xsk_plain.specs.Left.{left_of};
 ghost use Rattle.xsk_plain.specs.Log.{calls_of, entries_of};
+ghost use Rattle.xsk_turns.specs.Mangling.{plain as plain_manner};
 ghost use Rattle.xsk_turns.specs.Owned.{IsSteady};
 ghost use Rattle.xsk_machine.specs.Workers.{AreNew};
 ghost use Rattle.xsk_driver.specs.Sent.{IsShort};
@@ -16,6 +17,7 @@ ghost use Rattle.xsk_prog.specs.Program.{Obeys};
 ghost use Rattle.xsk_turns.specs.Workers.{Setting};
 ghost use Rattle.xsk_sim.specs.Runs.{HasEnded, HasStalled, NeverStill, HasEndedUnder, HasStalledUnder};
 ghost use Rattle.xsk_sim.specs.Stalls.{StandStill};
+ghost use Rattle.xsk_still.specs.Still.{HasAmpleRoom};
 ghost use Rattle.xsk_sim.specs.Seats.{EachFrom, AreSeated, AreReady, HadRounds, HaveEnded, Sits, kept_lists, kept_figures, new_own};
 
 use crate::order::Order;
@@ -29,6 +31,7 @@ use xsk_machine::{FigureList, Figures, Inputs, Kept, drivers_for, worker_of};
 use xsk_model::Config;
 use xsk_plain::{Lines, Log, Plain};
 use xsk_prog::{Verdict, XdpProgram};
+use xsk_turns::Manner;
 use xsk_umem::{Frames, OutOfMemory, PacketList};
 
 /// Why a simulation gave no run.
@@ -121,12 +124,12 @@ const STILL_ROUNDS: u64 = 64;
 
 /// Runs the drivers and applications of a regular configuration, in which no socket is closed, in rounds until all have ended,
 /// over one list of packets for each port, none of which has more than 262,144 bytes. The frames are all frames of its UMEM, the
-/// program is attached to every port, `wire` says what becomes of a packet that finds too few frames or no room on RX, and
-/// `order` is the number of the rounds' order.
+/// program is attached to every port, `wire` says what becomes of a packet that finds too few frames or no room on RX,
+/// `order` is the number of the rounds' order, and `manner` says which items each application changes.
 ///
 /// Each driver asks the program once for each of its packets, so there is one list of verdicts for each driver, and all that
 /// is said of the run is said of these. Where the program's rule leaves one verdict for each packet, they are the rule's own
-/// (`laws::ends_as_ruled`). What a run that has ended sent is what was delivered to the paired sockets
+/// (`laws::ends_as_ruled`). Where no items are changed, what a run that has ended sent is what was delivered to the paired sockets
 /// (`laws::ended_is_forwarded`), and where the wire waits what is expected there (`laws::ended_is_expected`).
 ///
 /// It stalls exactly in the first round at which some worker hasn't ended and nothing has changed for 64 rounds, this one among
@@ -134,7 +137,8 @@ const STILL_ROUNDS: u64 = 64;
 /// driver's next call. Rounds are counted from 0. Each run ends or stands still (`laws::ends_or_stands_still`), and where there
 /// is no memory for the log of its calls, it is given up. A run that has ended, with no such round before, is a legal
 /// history in rounds in which each worker's own calls and replies are a whole run of its turns, and one that has stalled is such
-/// a history of all these rounds, in which those of some worker aren't.
+/// a history of all these rounds, in which those of some worker aren't. Where each ring has 32 entries or more, and each pair's pool
+/// 18 frames or more, it never stalls.
 pub fn simulate<F: Fn(&[u8], u32) -> Verdict>(
     alloc: Global,
     config: Config,
@@ -143,6 +147,7 @@ pub fn simulate<F: Fn(&[u8], u32) -> Verdict>(
     program: &XdpProgram<F>,
     wire: Wire,
     order: u32,
+    manner: Manner,
 ) -> Result<Run, SimError>
     requires steady { IsSteady config }
     requires frames { AreFrames config.geometry frames.items }
@@ -150,20 +155,29 @@ pub fn simulate<F: Fn(&[u8], u32) -> Verdict>(
     requires short { All HasShortPackets packets.now }
     requires obeys { Obeys F.Fn program.now.rule program.now.decide }
     ensures pairs { IfOk result (λ run. run.pairs ≡ length config.pairs) }
-    ensures ended { IfOk result (HasEndedUnder F.Fn program.now.rule program.now.decide wire config packets.now frames.items order) }
+    ensures ended { IfOk result (HasEndedUnder F.Fn program.now.rule program.now.decide wire manner config packets.now frames.items order) }
     ensures stalled { (round : ℕ) → result ≡ Err (SimError.Stalled round)
-        → HasStalledUnder F.Fn program.now.rule program.now.decide wire config packets.now frames.items order round }
+        → HasStalledUnder F.Fn program.now.rule program.now.decide wire manner config packets.now frames.items order round }
+    ensures goes_on { HasAmpleRoom config → manner ≡ plain_manner → (round : ℕ) → result ≡ Err (SimError.Stalled round) → ⊥ }
 {
     let shared = config.copy(alloc)?;
     let inputs = Inputs::split(alloc, &shared, packets)?;
     let classes = shared.classes();
     let drivers = drivers_for(alloc, &shared, packets, &inputs, program, wire)?;
-    let workers = seat_workers(alloc, &shared, drivers)?;
+    let workers = seat_workers(alloc, &shared, drivers, manner)?;
     let _geometry = shared.geometry();
     let Ok(plain) = Plain::open(alloc, config, frames) else {
         return Err(SimError::OutOfMemory);
     };
-    run_workers(alloc, workers, plain, classes, wire, Order::new(order))
+    run_workers(
+        alloc,
+        workers,
+        plain,
+        classes,
+        wire,
+        manner,
+        Order::new(order),
+    )
 }
 
 /// Makes rounds until all workers have ended, and collects what the drivers sent and their figures.
@@ -173,13 +187,14 @@ fn run_workers(
     plain: Plain,
     classes: u32,
     wire: Wire,
+    manner: Manner,
     order: Order,
 ) -> Result<Run, SimError>
     requires geometry { IsGeometry plain.config.geometry }
     requires ready { AreReady workers plain }
     ensures pairs { (s : Setting) (frames : List Frame) → AreSeated s frames [] workers.entry plain → IfOk result (λ run. run.pairs ≡ length s.config.pairs) }
     ensures ended { (s : Setting) (frames : List Frame) → IsSteady s.config → AreSeated s frames [] workers.entry plain
-        → classes ≡ classes_of s.config → wire ≡ s.wire
+        → classes ≡ classes_of s.config → wire ≡ s.wire → manner ≡ s.manner
         → IfOk result (HasEnded s frames order.number) }
     ensures stalled { (s : Setting) (frames : List Frame) (round : ℕ) → AreSeated s frames [] workers.entry plain
         → result ≡ Err (SimError.Stalled round) → HasStalled s frames order.number round }
@@ -195,6 +210,7 @@ fn run_workers(
         calls,
         wire,
         drivers,
+        mangled: manner.mangle.is_some(),
     };
     Ok(Run {
         plain,
@@ -245,20 +261,21 @@ fn seat_workers<'a>(
     alloc: Global,
     config: &'a Config,
     drivers: Vec<Driver<'a>>,
+    manner: Manner,
 ) -> Result<Workers<'a>, OutOfMemory>
     requires steady { IsSteady config.now }
     requires count { length drivers.items ≡ length config.now.pairs }
-    requires new { (s : Setting) × (s.config ≡ config.now) × AreNew s 0 drivers.items }
+    requires new { (s : Setting) × (s.config ≡ config.now) × (s.manner ≡ manner) × AreNew s 0 drivers.items }
     ensures count { IfOk result (λ workers. vec_len workers.seats ≡ callers_of config.now) }
     ensures settled { IfOk result (λ workers. EachFrom workers.seats.items 0 (λ who seat. seat.settled ≡ 0)) }
-    ensures seated { (s : Setting) → s.config ≡ config.now → AreNew s 0 drivers.entry.items
+    ensures seated { (s : Setting) → s.config ≡ config.now → s.manner ≡ manner → AreNew s 0 drivers.entry.items
         → IfOk result (λ workers. EachFrom workers.seats.items 0 (λ who seat. Sits s new_own who seat.machine (joined_ask seat.ask seat.items))) }
 {
     let callers = config.callers();
     let mut seats = Vec::with_capacity(alloc, callers as usize)?;
     let mut drivers = drivers.into_iter();
     for who in 0..callers {
-        let worker = worker_of(alloc, config, drivers.next(), who)?;
+        let worker = worker_of(alloc, config, drivers.next(), who, manner)?;
         seats.push(Seat::new(worker))?;
     }
     Ok(Workers { seats })

@@ -7,7 +7,7 @@ use Rattle.xsk_model.specs.Config.{Config, pair_at, classes_of}
 use Rattle.xsk_model.specs.declared.config.PairInfo.{PairInfo}
 use Rattle.xsk_machine.specs.declared.figures.DriverFigures.{DriverFigures}
 use Rattle.xsk_machine.specs.declared.figures.Figures.{Figures}
-use Rattle.xsk_stats.specs.Report.{setting_line, calls_line, driver_line, pair_line, socket_lines, lines_of, total_line, totals_of, figures_at, report_text}
+use Rattle.xsk_stats.specs.Report.{setting_line, calls_line, driver_line, pair_line, socket_lines, lines_of, total_line, stranded_line, totals_of, figures_at, report_text}
 use Rattle.xsk_stats.specs.declared.totals.Statistics.{Statistics}
 
 -- one piece after another
@@ -37,11 +37,11 @@ pair_more line c drivers n p d t u v one of e h =
     (h ∙ ap (λ (x : PairInfo). u ++ line x d) one ∙ ap (λ (x : DriverFigures). u ++ line (pair_at c.pairs n) x) of)
 
 -- all parts, from an empty text on
-pub whole : (c : Config) (figures : Figures) (classes : ℕ) (total : Statistics) (t0 t1 t2 t3 t4 t5 t6 : List ℕ) → classes ≡ classes_of c → total ≡ totals_of classes figures.drivers
+pub whole : (c : Config) (figures : Figures) (classes : ℕ) (total : Statistics) (t0 t1 t2 t3 t4 t5 t6 t7 : List ℕ) → classes ≡ classes_of c → total ≡ totals_of classes figures.drivers
     → t0 ≡ [] → t1 ≡ t0 ++ setting_line c figures.wire → t2 ≡ t1 ++ calls_line figures.calls → t3 ≡ t2 ++ lines_of driver_line c figures.drivers
     → t4 ≡ t3 ++ lines_of (λ pair driver. pair_line pair driver.counters) c figures.drivers → t5 ≡ t4 ++ lines_of (λ pair driver. socket_lines classes pair driver.counters) c figures.drivers
-    → t6 ≡ t5 ++ total_line total → t6 ≡ report_text c figures
-whole c figures classes total t0 t1 t2 t3 t4 t5 t6 same sum none e1 e2 e3 e4 e5 e6 =
+    → t6 ≡ t5 ++ total_line total → t7 ≡ t6 ++ stranded_line figures.mangled total.stranded → t7 ≡ report_text c figures
+whole c figures classes total t0 t1 t2 t3 t4 t5 t6 t7 same sum none e1 e2 e3 e4 e5 e6 e7 =
     let a = setting_line c figures.wire in
     let b = calls_line figures.calls in
     let d = lines_of driver_line c figures.drivers in
@@ -52,6 +52,11 @@ whole c figures classes total t0 t1 t2 t3 t4 t5 t6 same sum none e1 e2 e3 e4 e5 
     let four = after t0 (a ++ b ++ d) p t3 t4 three e4 in
     let five = after t0 (a ++ b ++ d ++ p) (s classes) t4 t5 four e5 in
     let six = after t0 (a ++ b ++ d ++ p ++ s classes) (total_line total) t5 t6 five e6 in
-    six ∙ ap (λ (t : List ℕ). t ++ (a ++ b ++ d ++ p ++ s classes ++ total_line total)) none
-    ∙ ap (λ (x : Statistics). a ++ b ++ d ++ p ++ s classes ++ total_line x) sum
-    ∙ ap (λ (n : ℕ). a ++ b ++ d ++ p ++ s n ++ total_line (totals_of n figures.drivers)) same
+    let seven = after t0 (a ++ b ++ d ++ p ++ s classes ++ total_line total) (stranded_line figures.mangled total.stranded) t6 t7 six e7 in
+    let ends : Statistics → List ℕ = λ x. total_line x ++ stranded_line figures.mangled x.stranded in
+    let front : ℕ → List ℕ = λ n. a ++ b ++ d ++ p ++ s n in
+    let joined : a ++ b ++ d ++ p ++ s classes ++ total_line total ++ stranded_line figures.mangled total.stranded ≡ front classes ++ ends total = append_assoc (front classes) (total_line total) (stranded_line figures.mangled total.stranded) in
+    let parted : front (classes_of c) ++ ends (totals_of (classes_of c) figures.drivers) ≡ report_text c figures = sym (append_assoc (front (classes_of c)) (total_line (totals_of (classes_of c) figures.drivers)) (stranded_line figures.mangled (totals_of (classes_of c) figures.drivers).stranded)) in
+    seven ∙ ap (λ (t : List ℕ). t ++ (a ++ b ++ d ++ p ++ s classes ++ total_line total ++ stranded_line figures.mangled total.stranded)) none ∙ joined
+    ∙ ap (λ (x : Statistics). front classes ++ ends x) sum
+    ∙ ap (λ (n : ℕ). front n ++ ends (totals_of n figures.drivers)) same ∙ parted

@@ -1,7 +1,7 @@
 -- The text of a report: the configuration that was run, what became of each driver's packets, and the statistics by their
 -- names in if_xdp.h, `struct xdp_statistics` (af_xdp.rst, "XDP_STATISTICS getsockopt"). That three of them are told of a
 -- pair of FILL and COMPLETION, since its sockets share these rings, and the form of the lines are this project's own.
-use Rattle.std.specs.Prelude.{ℕ, List, [], ◌++◌, length, take, sum, sum_by, flat_map, codes}
+use Rattle.std.specs.Prelude.{ℕ, Bool, if◌then◌else◌, List, [], ◌++◌, length, take, sum, sum_by, flat_map, codes}
 use Rattle.std.specs.Fmt.{decimal}
 use Rattle.std.specs.List.{range_with_len, slice_index_or}
 use Rattle.xsk_model.specs.Config.{Config, pair_at, classes_of}
@@ -105,6 +105,7 @@ totals_of classes drivers = record {
   rx_ring_full = total_of (λ driver. of_sockets classes driver.counters.rx_ring_full) drivers;
   rx_fill_ring_empty_descs = total_of (λ driver. driver.counters.rx_fill_ring_empty_descs) drivers;
   tx_ring_empty_descs = total_of (λ driver. of_sockets classes driver.counters.tx_ring_empty_descs) drivers;
+  stranded = total_of (λ driver. driver.stranded) drivers;
 }
 
 abbrev pub total_line : Statistics → List ℕ
@@ -117,11 +118,15 @@ total_line total =
     ++ numbered (codes " tx_ring_empty_descs ") total.tx_ring_empty_descs
     ++ codes "\n"
 
+-- the frames that the drivers took from TX and didn't give to COMPLETION, where the applications changed items
+abbrev pub stranded_line : Bool → ℕ → List ℕ
+stranded_line mangled stranded = if mangled then numbered (codes "stranded ") stranded ++ codes "\n" else []
+
 -- ---- the text
 
 -- the figures of the driver of a pair
 abbrev pub figures_at : List DriverFigures → ℕ → DriverFigures
-figures_at drivers pair = slice_index_or drivers pair (figures_by 0 [] 0 no_counters)
+figures_at drivers pair = slice_index_or drivers pair (figures_by 0 [] 0 no_counters 0)
 
 -- the lines of all pairs, in order
 abbrev pub lines_of : (PairInfo → DriverFigures → List ℕ) → Config → List DriverFigures → List ℕ
@@ -135,3 +140,4 @@ report_text c figures =
     ++ lines_of (λ pair driver. pair_line pair driver.counters) c figures.drivers
     ++ lines_of (λ pair driver. socket_lines (classes_of c) pair driver.counters) c figures.drivers
     ++ total_line (totals_of (classes_of c) figures.drivers)
+    ++ stranded_line figures.mangled (totals_of (classes_of c) figures.drivers).stranded

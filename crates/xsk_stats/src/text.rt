@@ -2,7 +2,7 @@
 ghost use Rattle.std.specs.Prelude.{◌≡◌, ◌++◌, ◌<◌, ◌≤◌, IfOk, OnOk, flat_map, length, string_bytes};
 ghost use Rattle.std.specs.List.{range_with_len};
 ghost use Rattle.xsk_model.specs.Config.{IsRegular, pair_at};
-ghost use Rattle.xsk_stats.specs.Report.{at_queue, calls_line, driver_line, figures_at, lines_of, numbered, pair_line, report_text, setting_line, socket_line, socket_lines, total_line, totals_of, wire_word};
+ghost use Rattle.xsk_stats.specs.Report.{at_queue, calls_line, driver_line, figures_at, lines_of, numbered, pair_line, report_text, setting_line, socket_line, socket_lines, stranded_line, total_line, totals_of, wire_word};
 
 use crate::totals::{Statistics, add_up};
 use std::alloc::Global;
@@ -15,7 +15,8 @@ use xsk_umem::OutOfMemory;
 /// The report of a run of a regular configuration, whose figures are those of each of its drivers.
 ///
 /// It has a line for the configuration and one for the calls, a line for each driver, each pair and each socket, and one for
-/// the sums. No number has a leading zero.
+/// the sums; and where the applications changed items that they sent, one for the frames that the drivers took from TX and didn't
+/// give to COMPLETION. No number has a leading zero.
 pub fn report(alloc: Global, config: &Config, figures: &Figures) -> Result<Vec<u8>, OutOfMemory>
     requires regular { IsRegular config.now }
     requires drivers { length figures.now.drivers ≡ length config.now.pairs }
@@ -28,7 +29,9 @@ pub fn report(alloc: Global, config: &Config, figures: &Figures) -> Result<Vec<u
     push_pairs(&mut text, config, &figures.drivers)?;
     let classes = config.classes();
     push_all_sockets(&mut text, config, &figures.drivers, classes)?;
-    push_totals(&mut text, &add_up(&figures.drivers, classes))?;
+    let totals = add_up(&figures.drivers, classes);
+    push_totals(&mut text, &totals)?;
+    push_stranded(&mut text, figures.mangled, totals.stranded)?;
     Ok(text.into_bytes())
 }
 
@@ -208,6 +211,16 @@ fn push_totals(text: &mut String, total: &Statistics) -> Result<(), OutOfMemory>
     )?;
     push_u64(text, " tx_ring_empty_descs ", total.tx_ring_empty_descs)?;
     text.push_str("\n")?;
+    Ok(())
+}
+
+fn push_stranded(text: &mut String, mangled: bool, stranded: u64) -> Result<(), OutOfMemory>
+    ensures { OnOk result (string_bytes text.new ≡ string_bytes text.old ++ stranded_line mangled stranded) }
+{
+    if mangled {
+        push_u64(text, "stranded ", stranded)?;
+        text.push_str("\n")?;
+    }
     Ok(())
 }
 

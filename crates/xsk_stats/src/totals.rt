@@ -15,6 +15,8 @@ pub(crate) struct Statistics {
     pub(crate) rx_ring_full: u64,
     pub(crate) rx_fill_ring_empty_descs: u64,
     pub(crate) tx_ring_empty_descs: u64,
+    /// The frames that drivers took from TX and didn't give to COMPLETION, which isn't one of these statistics.
+    pub(crate) stranded: u64,
 }
 
 /// The sums over all drivers, each of which has so many sockets.
@@ -53,6 +55,7 @@ fn add_driver(total: &mut Statistics, driver: &DriverFigures, classes: u32)
         &mut total.tx_ring_empty_descs,
         sum_of(&counters.tx_ring_empty_descs, classes),
     );
+    add(&mut total.stranded, driver.stranded);
 }
 
 /// Adds to a sum, which stays at its last value.

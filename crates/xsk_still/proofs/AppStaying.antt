@@ -1,11 +1,11 @@
 -- Why an application whose calls change nothing stays as it is: in each turn of them every lane and every side is empty or lacks
 -- room, the second turn knows what the drivers told, and the third would tell or end.
-use Rattle.std.proofs.Common.{◌≡◌, ◌≢◌, ◌⊎◌, inl, inr, ℕ, zero, suc, ◌+◌, ◌*◌, ◌<◌, ◌≤◌, Bool, true, false, cond, not, eqb, nat_le, ◌&&◌, List, [], ◌∷◌, ◌++◌, length, set, refl, sym, ap, ◌∙◌, subst, ⊎_elim, arith, length-append, length-set, get_or-set_same, get_or-set_other, All, leb-false, eq-eqb}
+use Rattle.std.proofs.Common.{◌≡◌, ◌≢◌, ◌⊎◌, inl, inr, ℕ, zero, suc, ◌+◌, ◌*◌, ◌/◌, ◌<◌, ◌≤◌, Bool, true, false, cond, not, eqb, nat_le, ◌&&◌, List, [], ◌∷◌, ◌++◌, length, set, refl, sym, ap, ◌∙◌, subst, ⊎_elim, arith, length-append, length-set, get_or-set_same, get_or-set_other, All, leb-false, eq-eqb}
 use Rattle.std.proofs.lemmas.Bool.{cases_lt, cases_eq, and_parts, eqb-true}
 use Rattle.std.proofs.lemmas.List.{get_or_past}
 use Rattle.std.proofs.lemmas.List.Elements.{All-head, All-tail}
 use Rattle.xsk_umem.specs.Frame.{Frame}
-use Rattle.xsk_turns.proofs.Object.{Config, pool_of}
+use Rattle.xsk_turns.proofs.Object.{Config, classes_of, pool_of}
 use Rattle.xsk_model.specs.Object.{State, mark_at, reserve_reply, peek_reply, reply_at}
 use Rattle.xsk_model.specs.OtherWords.{changes}
 use Rattle.xsk_turns.proofs.Calls.{Item, Told, with_told, Fill, Comp, Rx, Tx, Mark, RxDone, Gone, Kick, TxDone, Call, Swap, Look, Reply, Granted, Full, Items, Empty, Old}
@@ -13,6 +13,7 @@ use Rattle.xsk_turns.specs.AppTurns.{AppKept, AppNoted, pair_of, rx_of, tx_of, l
 use Rattle.xsk_turns.specs.AppOwned.{IsApp}
 use Rattle.xsk_turns.specs.Script.{Script, ask, Asks}
 use Rattle.xsk_turns.proofs.Counting.{four_classes}
+use Rattle.xsk_turns.proofs.Mangling.{back_sides}
 use Rattle.xsk_turns.proofs.Walks.{Premise, nothing_due, submit_due, release_due}
 use Rattle.xsk_turns.proofs.AppWalk.{Place, Lanes, Lane, Sides, Side, Ending, Looking, Waking, Looked, Kicking, TxTold, Family, PeekRx, ReleaseRx, ReserveTx, SubmitTx, PeekComp, ReleaseComp, ReserveFill, SubmitFill, LookRxDone, TellTxDone, LookGone, LookNeed, KickDriver, group, rx_empty, rx_items, rx_released, tx_granted, tx_full, tx_submitted, comp_empty, comp_items, comp_released, fill_granted, fill_full, fill_submitted, looked_rx_done, told_tx_done, looked_gone, looked_need, kicked, flags_of, is_over, no_lanes, has_items, lanes_done, has_frames, all_given, sides_done, looks, rests, skips, begins, without_need, needs_none, needs_kick, told_quietly, told_both, Said, AtCalls, AtEntries, AtPasses, IsLaw, at_call}
 use Rattle.xsk_still.specs.Still.{LaneStays, SideStays, AppStaysBy}
@@ -383,7 +384,7 @@ module _ (c : Config) (a : ℕ) (one : IsApp c a) (x : State) (m : ℕ) where
         },
         now.2,
       )))
-  entries (tx_submitted lane) noted kept l known h said q = (tt, refl, ends_before _ l _ _ refl q, record { back = h.sized.back; seen = h.sized.seen; gone = h.sized.gone })
+  entries (tx_submitted lane) noted kept l known h said q = (tt, refl, ends_before _ l _ _ refl q, record { back = back_sides kept.manner.mangle kept.number (pending_at kept lane) (lane / classes_of c) kept.back ∙ h.sized.back; seen = h.sized.seen; gone = h.sized.gone })
   entries (comp_empty side) noted kept l known h said q = by_stretch l
       (λ lt. first (Sides (side + 1)) noted kept l _ Empty lt h.sized)
       (λ ge. step (Sides side) (Sides (side + 1)) noted kept l _ Empty (omega arith) h

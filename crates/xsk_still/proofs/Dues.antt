@@ -7,7 +7,8 @@ use Rattle.xsk_model.proofs.Folds.{part_of-push}
 use Rattle.xsk_model.specs.declared.call.Mark.TheVariants.{Kick}
 use Rattle.xsk_turns.proofs.Calls.{Item, Told, with_told, Ring, Call, Reserve, Submit, Peek, Release, Swap, Reply, Granted, Submitted, Items, Released, Old}
 use Rattle.xsk_turns.specs.Turns.{Seat, seat_of, start, turn, pieces_of, returned}
-use Rattle.xsk_turns.specs.AppTurns.{AppKept, AppNoted, app_turn, app_start}
+use Rattle.xsk_turns.proofs.Mangling.{length-given}
+use Rattle.xsk_turns.specs.AppTurns.{AppKept, AppNoted, pending_at, app_turn, app_start}
 use Rattle.xsk_turns.proofs.Layouts.{length-laid_out}
 use Rattle.xsk_turns.proofs.Walks.{Due, nothing_due, submit_due, release_due, Anything, meet_anything}
 use Rattle.xsk_turns.proofs.DriverWalk as walk
@@ -190,7 +191,8 @@ module _ (c : Config) (a : ℕ) where
   app_entries (app.rx_items lane items) noted kept l known h said q = peeked_due l _ _ items h
   app_entries (app.rx_released lane n) noted kept l known h said q = released_due l _ n h
   app_entries (app.tx_granted lane) noted kept l known h said q = granted_due l _ _ h
-  app_entries (app.tx_submitted lane) noted kept l known h said q = (submitted_due l _ _ _ refl h, tt)
+  app_entries (app.tx_submitted lane) noted kept l known h said q =
+      (submitted_due l _ _ _ (length-given c.geometry kept.manner.mangle kept.number (pending_at kept lane)) h, tt)
   app_entries (app.comp_items side items) noted kept l known h said q = peeked_due l _ _ items h
   app_entries (app.comp_released side n) noted kept l known h said q = released_due l _ n h
   app_entries (app.fill_granted side frame frames) noted kept l known h said q = granted_due l _ _ h

@@ -8,3 +8,10 @@ pub mod Keeping
 pub mod Resting
 pub mod Telling
 pub mod Losing
+pub mod Asking
+pub mod Pools
+pub mod Laid
+pub mod Holding
+pub mod Standing
+pub mod Emptying
+pub mod Ended

@@ -192,15 +192,16 @@ module _ (wire : Wire) (c : Config) (pair : ℕ) (is : IsSeat c pair) where
   not_both : {A : Type 0} (b : Bool) → b ≡ true → b ≡ false → A
   not_both b e f = absurd (is_true b e f)
 
-  pieces_few : (packet : List ℕ) → nat_lt (limit_of here) (length packet) ≡ false → pieces_of here packet ≤ 18
-  pieces_few packet fits = by c.sg refl
+  -- a packet within the limit needs 18 frames at most
+  pub pieces_within : (packet : List ℕ) → length packet ≤ limit_of here → pieces_of here packet ≤ 18
+  pieces_within packet short = by c.sg refl
     where
-      short : length packet ≤ limit_of here
-      short = ltb-false (limit_of here) (length packet) fits
-
       by : (b : Bool) → c.sg ≡ b → pieces_of here packet ≤ 18
       by true e = few_pieces c.geometry is.geometry 18 packet (subst (λ (b : Bool). length packet ≤ cond b 18 1 * payload_of c.geometry) e short)
       by false e = let one = few_pieces c.geometry is.geometry 1 packet (subst (λ (b : Bool). length packet ≤ cond b 18 1 * payload_of c.geometry) e short) in omega (arith, one)
+
+  pieces_few : (packet : List ℕ) → nat_lt (limit_of here) (length packet) ≡ false → pieces_of here packet ≤ 18
+  pieces_few packet fits = pieces_within packet (ltb-false (limit_of here) (length packet) fits)
 
   calls : walk.AtCalls here Anything At Asked
   calls (walk.LookKick frames) noted kept l known h = λ other e. subst (λ b. (kept.finished ≡ []) × (b ≡ false → IsOver kept) × (b ≡ true → Lacks kept)) (same_frames frames other (sym known ∙ e)) h

@@ -108,7 +108,7 @@ module _ (c : Config) (h : ℕ) where
   Homes l = All (IsHomeItem c h) (submitted_of (Fill h) l)
 
   -- the frames that go back together
-  group_homes : (frame : Frame) (frames : List Frame) → h ≡ home_of (pool_of c) frame → All (IsHomeItem c h) (map (home_item c.geometry) (app.group c frame frames))
+  pub group_homes : (frame : Frame) (frames : List Frame) → h ≡ home_of (pool_of c) frame → All (IsHomeItem c h) (map (home_item c.geometry) (app.group c frame frames))
   group_homes frame frames e =
       let test : Frame → Bool = λ (f : Frame). eqb (home_of (pool_of c) f) (home_of (pool_of c) frame) in
       All-map (IsHomeItem c h) (home_item c.geometry) (app.group c frame frames)

@@ -1,7 +1,7 @@
 //! The laws, each the contract of a function that does nothing. They are stated in `specs/Laws.antt`, and those of single workers
 //! in `specs/Own.antt`.
 
-ghost use Rattle.xsk_still.specs.Laws.{MarkIsTold};
+ghost use Rattle.xsk_still.specs.Laws.{MarkIsTold, OnlyHomes, NoStretch};
 ghost use Rattle.xsk_still.specs.Own.{DriverStays, AppStays, DriverIsFree, DriverEndsFree, AppIsFree, ParkedRests, KeepsRxTold, TellsGoneLast, KeepsTxTold, SeesGone, LaysOut, HasPending, PendingFew, LosesNone, EndsSetOnce, AppSetsOnce, FillsHomes};
 
 /// A driver in whose stretch nothing changes is parked, or stays as it is for want of room, of frames, or of the application's
@@ -97,4 +97,16 @@ pub fn fills_homes()
 /// A mark that its owner sets to 1 alone is 1 exactly where it did so.
 pub fn mark_is_told()
     ensures { MarkIsTold }
+{}
+
+/// On FILL of a pair there are only frames of its pool.
+#[tactic(auto, using(crate::proofs::Pools::only_homes))]
+pub fn only_homes()
+    ensures { OnlyHomes }
+{}
+
+/// Where each ring has 32 entries or more and each pool 18 frames or more, and further calls change nothing, all workers have
+/// ended.
+pub fn no_stretch()
+    ensures { NoStretch }
 {}

@@ -11,7 +11,8 @@ use Rattle.xsk_model.proofs.Counting.{times-append, times-flat_map-set}
 use Rattle.xsk_turns.proofs.LegalCalls.{had_told}
 use Rattle.xsk_turns.specs.Turns.{frame_in, frames_in}
 use Rattle.xsk_turns.specs.Owned.{frame_numbers}
-use Rattle.xsk_turns.specs.AppTurns.{AppKept, lanes_of, pending_at, with_pending, back_at, with_back, app_start}
+use Rattle.xsk_turns.specs.AppTurns.{AppKept, lanes_of, pending_at, with_pending, back_at, with_back, app_start_by}
+use Rattle.xsk_turns.specs.declared.manner.Manner.{Manner}
 use Rattle.xsk_turns.specs.AppOwned.{app_numbers, AppOwned}
 use Rattle.xsk_turns.proofs.Rooms.{IsOwnFrame, own_frame, named, positive}
 
@@ -44,14 +45,17 @@ back_frame g r item frame e h =
     below_all : (n m : ℕ) → n ≤ m → m < 2 ^ 64 → n < 2 ^ 64
     below_all n m h k = omega arith
 
-pub back_frames : (g : Geometry) (r : Ring) (items : List Item) → All (IsItemOn g r) items → All (IsBackFrame g) (frames_in items)
-back_frames g r [] h = All-nil (IsBackFrame g)
-back_frames g r (item ∷ items) h =
-    All-append (IsBackFrame g) (frame_in item.frame) (frames_in items) (here item.frame refl) (back_frames g r items (All-tail (IsItemOn g r) item items h))
+pub back_of : (g : Geometry) (r : Ring) (item : Item) → IsItemOn g r item → All (IsBackFrame g) (frame_in item.frame)
+back_of g r item h = here item.frame refl
   where
     here : (o : Option Frame) → item.frame ≡ o → All (IsBackFrame g) (frame_in o)
     here None e = All-nil (IsBackFrame g)
-    here (Some frame) e = All-cons (IsBackFrame g) frame [] (back_frame g r item frame e (All-head (IsItemOn g r) item items h)) (All-nil (IsBackFrame g))
+    here (Some frame) e = All-cons (IsBackFrame g) frame [] (back_frame g r item frame e h) (All-nil (IsBackFrame g))
+
+pub back_frames : (g : Geometry) (r : Ring) (items : List Item) → All (IsItemOn g r) items → All (IsBackFrame g) (frames_in items)
+back_frames g r [] h = All-nil (IsBackFrame g)
+back_frames g r (item ∷ items) h =
+    All-append (IsBackFrame g) (frame_in item.frame) (frames_in items) (back_of g r item (All-head (IsItemOn g r) item items h)) (back_frames g r items (All-tail (IsItemOn g r) item items h))
 
 -- it may go to FILL
 pub fill_item : (g : Geometry) (home : ℕ) (frame : Frame) → IsBackFrame g frame → IsItemOn g (Fill home) (home_item g frame)
@@ -88,6 +92,7 @@ pub record AppHas (c : Config) (kept : AppKept) (out : List ℕ) (l : List Told)
   pub items : (lane : ℕ) → All (IsItemOn c.geometry (Tx 0)) (pending_at kept lane)
   pub few : (lane : ℕ) → length (pending_at kept lane) ≤ 32
   pub frames : (side : ℕ) → All (IsBackFrame c.geometry) (back_at kept side)
+  pub once : (n : ℕ) → times n (had_of l) ≤ 1
   pub counts : (n : ℕ) → times n (flat_map numbers kept.pending) + times n (flat_map frame_numbers kept.back) + times n out ≡ times n (had_of l)
 
 pub times-app_numbers : (n : ℕ) (kept : AppKept) → times n (app_numbers kept) ≡ times n (flat_map numbers kept.pending) + times n (flat_map frame_numbers kept.back)
@@ -105,6 +110,7 @@ app_told c kept call reply l none h = record {
   items = h.items;
   few = h.few;
   frames = h.frames;
+  once = λ n. omega (arith, h.once n, had_told l call reply n, ap (λ (items : List Item). times n (numbers items)) none);
   counts = λ n. omega (arith, h.counts n, had_told l call reply n, ap (λ (items : List Item). times n (numbers items)) none);
 }
 
@@ -118,8 +124,8 @@ at_set P xs i j y h new old = ⊎_elim
 pub has_pending : (c : Config) (kept : AppKept) (out more : List ℕ) (l m : List Told) (lane : ℕ) (items : List Item) → lane < lanes_of c
     → All (IsItemOn c.geometry (Tx 0)) items → length items ≤ 32
     → ((n : ℕ) → times n (numbers (pending_at kept lane)) + times n out + times n (had_of m) ≡ times n (numbers items) + times n more + times n (had_of l))
-    → AppHas c kept out l → AppHas c (with_pending kept lane items) more m
-has_pending c kept out more l m lane items h lawful few counts has =
+    → ((n : ℕ) → times n (had_of m) ≤ 1) → AppHas c kept out l → AppHas c (with_pending kept lane items) more m
+has_pending c kept out more l m lane items h lawful few counts once has =
     let within : lane < length kept.pending = omega (arith, has.lanes) in
     record {
       lanes = length-set kept.pending lane items ∙ has.lanes;
@@ -127,14 +133,15 @@ has_pending c kept out more l m lane items h lawful few counts has =
       items = λ j. at_set (All (IsItemOn c.geometry (Tx 0))) kept.pending lane j items within lawful (has.items j);
       few = λ j. at_set (λ xs. length xs ≤ 32) kept.pending lane j items within few (has.few j);
       frames = has.frames;
+      once = once;
       counts = λ n. omega (arith, times-flat_map-set n numbers kept.pending lane items [] within, counts n, has.counts n);
     }
 
 pub has_back : (c : Config) (kept : AppKept) (out more : List ℕ) (l m : List Told) (side : ℕ) (frames : List Frame) → side < 2
     → All (IsBackFrame c.geometry) frames
     → ((n : ℕ) → times n (frame_numbers (back_at kept side)) + times n out + times n (had_of m) ≡ times n (frame_numbers frames) + times n more + times n (had_of l))
-    → AppHas c kept out l → AppHas c (with_back kept side frames) more m
-has_back c kept out more l m side frames h lawful counts has =
+    → ((n : ℕ) → times n (had_of m) ≤ 1) → AppHas c kept out l → AppHas c (with_back kept side frames) more m
+has_back c kept out more l m side frames h lawful counts once has =
     let within : side < length kept.back = omega (arith, has.sides) in
     record {
       lanes = has.lanes;
@@ -142,6 +149,7 @@ has_back c kept out more l m side frames h lawful counts has =
       items = has.items;
       few = has.few;
       frames = λ j. at_set (All (IsBackFrame c.geometry)) kept.back side j frames within lawful (has.frames j);
+      once = once;
       counts = λ n. omega (arith, times-flat_map-set n frame_numbers kept.back side frames [] within, counts n, has.counts n);
     }
 
@@ -153,6 +161,7 @@ has_flags c kept more l true e f has = record {
   items = λ lane. subst (λ xs. All (IsItemOn c.geometry (Tx 0)) (get_or xs lane [])) (sym e) (has.items lane);
   few = λ lane. subst (λ xs. length (get_or xs lane []) ≤ 32) (sym e) (has.few lane);
   frames = λ side. subst (λ xs. All (IsBackFrame c.geometry) (get_or xs side [])) (sym f) (has.frames side);
+  once = has.once;
   counts = λ n. ap (λ xs. times n (flat_map numbers xs) + times n (flat_map frame_numbers more.back) + 0) e
       ∙ ap (λ xs. times n (flat_map numbers kept.pending) + times n (flat_map frame_numbers xs) + 0) f ∙ has.counts n;
 }
@@ -169,17 +178,18 @@ none_pending zero lane = refl
 none_pending (suc k) zero = refl
 none_pending (suc k) (suc lane) = none_pending k lane
 
-pub has_none : (c : Config) → AppHas c (app_start c) [] []
-has_none c = record {
+pub has_none : (m : Manner) (c : Config) → AppHas c (app_start_by m c) [] []
+has_none m c = record {
   lanes = length-replicate (lanes_of c) [];
   sides = refl;
   items = λ lane. subst (All (IsItemOn c.geometry (Tx 0))) (sym (none_pending (lanes_of c) lane)) (All-nil (IsItemOn c.geometry (Tx 0)));
   few = λ lane. omega (arith, ap length (none_pending (lanes_of c) lane));
   frames = none_back;
+  once = λ n. omega arith;
   counts = λ n. omega (arith, none_times (lanes_of c) n);
 }
   where
-    none_back : (side : ℕ) → All (IsBackFrame c.geometry) (back_at (app_start c) side)
+    none_back : (side : ℕ) → All (IsBackFrame c.geometry) (back_at (app_start_by m c) side)
     none_back zero = All-nil (IsBackFrame c.geometry)
     none_back (suc zero) = All-nil (IsBackFrame c.geometry)
     none_back (suc (suc side)) = All-nil (IsBackFrame c.geometry)

@@ -1,10 +1,10 @@
 -- At each of its calls an application has the frames that it peeked and didn't submit, and the call is legal where they are
 -- at home with it.
-use Rattle.std.proofs.Common.{◌≡◌, ℕ, ◌-◌, ◌/◌, ◌<◌, ◌≤◌, true, false, eqb, inr, List, [], ◌∷◌, ◌++◌, append_assoc, append-nil, length, set, take, drop, map, All, refl, sym, ap, ◌∙◌, subst, arith, get_or-set_same, length-set, take_while}
+use Rattle.std.proofs.Common.{◌≡◌, ℕ, ◌+◌, ◌-◌, ◌/◌, ◌<◌, ◌≤◌, true, false, eqb, inr, Option, Some, None, List, [], ◌∷◌, ◌++◌, append_assoc, append-nil, length, set, take, drop, map, All, refl, sym, ap, ◌∙◌, subst, arith, get_or-set_same, length-set, take_while}
 use Rattle.std.proofs.lemmas.Bool.Decides.{nat_tests}
-use Rattle.std.proofs.lemmas.List.{length-map}
-use Rattle.std.proofs.lemmas.List.Elements.{All-nil, All-map, All-take, All-drop, All-weaker}
-use Rattle.xsk_model.proofs.Counting.{times-flat_map-set}
+use Rattle.std.proofs.lemmas.List.{length-map, take_all}
+use Rattle.std.proofs.lemmas.List.Elements.{All-nil, All-append, All-map, All-take, All-drop, All-weaker}
+use Rattle.xsk_model.proofs.Counting.{times-flat_map-set, length-by_times}
 use Rattle.xsk_turns.proofs.Object.{Frame, Config, pool_of, batch_of, classes_of, caller_of, app_of, producer, HasMark, is_on, room_step, held_step, times, numbers, submitted, taken, had_of, home_item, IsLegal, IsItemOn}
 use Rattle.xsk_turns.proofs.Calls.{Item, Told, with_told, Ring, Fill, Comp, Rx, Tx, RxDone, Gone, TxDone, Call, Peek, Swap, Look, Reply, Granted, Submitted, Items, Released, Old}
 use Rattle.xsk_model.specs.declared.call.Mark.TheVariants.{Kick}
@@ -13,13 +13,17 @@ use Rattle.xsk_turns.proofs.LegalCalls.{fed, legal_reserve, legal_peek, legal_re
 use Rattle.xsk_turns.specs.Script.{Script, Asks}
 use Rattle.xsk_turns.specs.Turns.{frames_in}
 use Rattle.xsk_turns.specs.Owned.{AllFit, frame_numbers}
-use Rattle.xsk_turns.specs.AppTurns.{AppKept, pair_of, rx_of, tx_of, lanes_of, home_of, pending_at, with_pending, back_at, with_back, app_turn, app_start}
+use Rattle.xsk_turns.specs.AppTurns.{AppKept, pair_of, rx_of, tx_of, lanes_of, home_of, pending_at, with_pending, given_on, passed_on, back_at, with_back, app_turn, app_start, app_start_by}
+use Rattle.xsk_turns.specs.Mangling.{plain, frames_taken, mangled, given_by, back_by, number_by}
+use Rattle.xsk_turns.specs.declared.manner.Manner.{Manner}
 use Rattle.xsk_turns.specs.AppOwned.{IsApp, HasOwnFrames, AppKeepsFrames, AppCallsLegal, AppKeepsFramesAtEnd}
 use Rattle.xsk_turns.proofs.AppGroups.{with_back-again, group_some, group_front, group_few}
 use Rattle.xsk_turns.proofs.AppOwned.{AppHas, IsBackFrame, rx_to_tx, tx_to_tx, back_frames, fill_item, numbers-home, times-app_numbers, app_owned, app_told, has_pending, has_back, has_flags, has_none}
-use Rattle.xsk_turns.proofs.AppPlaces.{AppSeats, app_seats}
+use Rattle.xsk_turns.proofs.AppPlaces.{AppSeats, app_seats, side_below}
+use Rattle.xsk_turns.proofs.Mangling.{length-given, given_lawful, taken_frames, times-frames, times-mangled}
 use Rattle.xsk_turns.proofs.Legality.{times-front}
 use Rattle.xsk_turns.proofs.Owned.{frame_numbers-in}
+use Rattle.xsk_turns.proofs.Rooms.{IsOwnFrame, below-frames}
 use Rattle.xsk_turns.proofs.Walks.{Premise, Due, nothing_due, submit_due, release_due, MeetAlong, Fitting, meet_fitting}
 use Rattle.xsk_turns.proofs.AppWalk.{Place, Lanes, Lane, Sides, Side, Ending, Looking, Waking, Looked, Kicking, TxTold, Family, PeekRx, ReleaseRx, ReserveTx, SubmitTx, PeekComp, ReleaseComp, ReserveFill, SubmitFill, LookRxDone, TellTxDone, LookGone, LookNeed, KickDriver, group, call_at, kept_before, rx_items, rx_released, tx_granted, tx_submitted, comp_items, fill_granted, fill_submitted, looked_rx_done, told_tx_done, looked_gone, looked_need, kicked, point_of, reply_of, has_items, without_need, needs_none, needs_kick, told_both, AtCalls, AtEntries, AtPasses, IsLaw, at_call, at_end}
 
@@ -90,9 +94,56 @@ module _ (c : Config) (a : ℕ) (one : IsApp c a) where
   told kept call reply l none nothing has = app_told c kept call reply l nothing (subst (λ xs. AppHas c kept (numbers xs) l) (sym none) has)
 
   -- the items of a lane that are submitted, and the frames of a side
-  sends : (lane : ℕ) (kept : AppKept) (l : List Told) → lane < lanes_of c → Has kept l → AppHas c (with_pending kept lane []) (numbers (pending_at kept lane)) l
-  sends lane kept l below has =
-      has_pending c kept [] (numbers (pending_at kept lane)) l l lane [] below (All-nil (IsItemOn c.geometry (Tx 0))) (omega arith) (λ m. omega arith) has
+  leaves : (lane : ℕ) (kept : AppKept) (l : List Told) → lane < lanes_of c → Has kept l → AppHas c (with_pending kept lane []) (numbers (pending_at kept lane)) l
+  leaves lane kept l below has =
+      has_pending c kept [] (numbers (pending_at kept lane)) l l lane [] below (All-nil (IsItemOn c.geometry (Tx 0))) (omega arith) (λ m. omega arith) has.once has
+
+  -- distinct frames of the UMEM are no more than it has
+  all_few : (frames : List Frame) → All (IsBackFrame c.geometry) frames → ((m : ℕ) → times m (frame_numbers frames) ≤ 1) → length frames ≤ 4096
+  all_few frames own once =
+      let mine = All-weaker (IsBackFrame c.geometry) (IsOwnFrame c.geometry) (λ f b. b.own) frames own in
+      let few : length (frame_numbers frames) ≤ c.geometry.frames =
+      length-by_times c.geometry.frames (frame_numbers frames) once (λ m beyond. below-frames c.geometry m frames beyond mine) in
+      omega (arith, few, one.geometry.few, length-map frames (λ (f : Frame). f.number))
+
+  -- they are as they are, or changed, and then the frames that are taken stay with the side
+  sends : (lane : ℕ) (kept : AppKept) (l : List Told) → lane < lanes_of c → Has kept l → AppHas c (passed_on c lane kept) (numbers (given_on c lane kept)) l
+  sends lane kept l below has = by kept.manner.mangle
+    where
+      items : List Item
+      items = pending_at kept lane
+
+      side : ℕ
+      side = lane / classes_of c
+
+      n : ℕ
+      n = kept.number
+
+      by : (mangle : Option ℕ) → AppHas c (record kept { pending = set kept.pending lane []; back = back_by mangle n items side kept.back; number = number_by mangle n (length items) }) (numbers (given_by c.geometry mangle n items)) l
+      by None = leaves lane kept l below has
+      by (Some every) =
+          let g = c.geometry in
+          let out = mangled g every n items in
+          let taken = frames_taken every n items in
+          let old = back_at kept side in
+          let all = old ++ taken in
+          let within : side < 2 = side_below (classes_of c) lane one.steady.regular.classes below in
+          let back : All (IsBackFrame g) all = All-append (IsBackFrame g) old taken (has.frames side) (taken_frames g 0 every n items (has.items lane)) in
+          let counts : (m : ℕ) → times m (frame_numbers all) + times m (numbers out) ≡ times m (frame_numbers old) + times m (numbers items) =
+          λ m. omega (arith, times-frames m old taken, times-mangled g m every n items) in
+          let few = all_few all back (λ m.
+          omega (
+            arith,
+            counts m,
+            has.counts m,
+            has.once m,
+            times-flat_map-set m frame_numbers kept.back side [] [] (omega (arith, within, has.sides)),
+            times-flat_map-set m numbers kept.pending lane [] [] (omega (arith, below, has.lanes)),
+          )) in
+          let whole : take 4096 all ≡ all = take_all 4096 all few in
+          let now = has_back c (with_pending kept lane []) (numbers items) (numbers out) l l side (take 4096 all) within (subst (All (IsBackFrame g)) (sym whole) back)
+          (λ m. omega (arith, counts m, ap (λ (fs : List Frame). times m (frame_numbers fs)) whole)) has.once (leaves lane kept l below has) in
+          record { lanes = now.lanes; sides = now.sides; items = now.items; few = now.few; frames = now.frames; once = now.once; counts = now.counts }
 
   module _ (side : ℕ) (frame : Frame) (frames : List Frame) (kept : AppKept) (l : List Told) (below : side < 2) (has : Has (with_back kept side (frame ∷ frames)) l) where
     abbrev now : AppKept
@@ -150,7 +201,7 @@ module _ (c : Config) (a : ℕ) (one : IsApp c a) where
         let numbered : (m : ℕ) → times m (numbers items) ≡ times m (frame_numbers (take n all)) = λ m. ap (times m) (numbers-home c.geometry (group c frame frames) ∙ ap frame_numbers (sym front)) in
         let whole : (m : ℕ) → times m (frame_numbers (back_at now side)) ≡ times m (frame_numbers all) = λ m. ap (λ fs. times m (frame_numbers fs)) here in
         subst (λ k. AppHas c k (numbers items) l) (with_back-again kept side all (drop n all))
-        (has_back c now [] (numbers items) l l side (drop n all) below (All-drop (IsBackFrame c.geometry) n all own) (λ m. omega (arith, numbered m, whole m, times-front m n all)) has)
+        (has_back c now [] (numbers items) l l side (drop n all) below (All-drop (IsBackFrame c.geometry) n all own) (λ m. omega (arith, numbered m, whole m, times-front m n all)) has.once has)
 
   calls : AtCalls c a At Asked
   calls (PeekRx lane) noted kept l known h = let seat = seats.rx lane known.0 in quiet kept _ l refl h.0 (legal_peek c who l seats.caller (Rx (rx_of c a lane)) (batch_of c) seat.0 seat.1 seats.batch_some seats.batch_few)
@@ -160,9 +211,11 @@ module _ (c : Config) (a : ℕ) (one : IsApp c a) where
       let t = tx_of c a lane in
       let seat = seats.tx lane known.0 in
       let out = sends lane kept l known.0 h.0 in
-      let lawful = All-weaker (IsItemOn c.geometry (Tx 0)) (IsItemOn c.geometry (Tx t)) (tx_to_tx c.geometry 0 t) (pending_at kept lane) (h.0.items lane) in (
+      let lawful = All-weaker (IsItemOn c.geometry (Tx 0)) (IsItemOn c.geometry (Tx t)) (tx_to_tx c.geometry 0 t) (given_on c lane kept)
+      (given_lawful c.geometry 0 kept.manner.mangle kept.number (pending_at kept lane) one.geometry (h.0.items lane)) in
+      let count = length-given c.geometry kept.manner.mangle kept.number (pending_at kept lane) in (
         out,
-        λ own. record { caller = seats.caller; known = seat.0; role = seat.1; counted = (h.1.0, h.0.few lane, h.1.1); frames = λ m. omega (arith, out.counts m); items = lawful; packets = tt; feeds = fed c one.steady.closes l (Tx t) },
+        λ own. record { caller = seats.caller; known = seat.0; role = seat.1; counted = (omega (arith, count, h.1.0), omega (arith, count, h.0.few lane), omega (arith, count, h.1.1)); frames = λ m. omega (arith, out.counts m); items = lawful; packets = tt; feeds = fed c one.steady.closes l (Tx t) },
       )
   calls (PeekComp side) noted kept l known h = let seat = seats.comp side known.0 in quiet kept _ l refl h.0 (legal_peek c who l seats.caller (Comp (pair_of c a side)) (batch_of c) seat.0 seat.1 seats.batch_some seats.batch_few)
   calls (ReleaseComp side n) noted kept l known h = let seat = seats.comp side known in quiet kept _ l refl h.0 (legal_release c who l seats.caller (Comp (pair_of c a side)) n seat.0 seat.1 h.1.0 h.1.1 h.1.2)
@@ -201,20 +254,20 @@ module _ (c : Config) (a : ℕ) (one : IsApp c a) where
       let lawful = All-weaker (IsItemOn c.geometry r) (IsItemOn c.geometry (Tx 0)) (rx_to_tx c.geometry (rx_of c a lane) 0) items fresh.lawful in
       let none : (m : ℕ) → times m (numbers (pending_at kept lane)) ≡ 0 = λ m. ap (λ xs. times m (numbers xs)) known.2 in
       let here : pending_at (with_pending kept lane items) lane ≡ items = get_or-set_same kept.pending lane items [] (omega (arith, h.0.lanes, known.0)) in (
-        has_pending c kept [] [] l _ lane items known.0 lawful few (λ m. omega (arith, had_told l (Peek r (batch_of c)) (Items items) m, none m)) h.0,
+        has_pending c kept [] [] l _ lane items known.0 lawful few (λ m. omega (arith, had_told l (Peek r (batch_of c)) (Items items) m, none m)) (λ m. omega (arith, had_told l (Peek r (batch_of c)) (Items items) m, fresh.fresh m)) h.0,
         (omega (arith, ap length here, fresh.some), (fresh.some, few, held_told l r (batch_of c) items)),
       )
   entries (rx_released lane n) noted kept l known h asked q = (told kept _ Released l refl refl h.0, (h.1.0, tt))
   entries (tx_granted lane) noted kept l known h asked q = (told kept _ Granted l refl refl h.0, (h.1.0, room_told l (Tx (tx_of c a lane)) (length (pending_at kept lane))))
   entries (tx_submitted lane) noted kept l known h asked q =
       let pair = seats.comp (1 - lane / classes_of c) (omega arith) in
-      (app_told c (with_pending kept lane []) _ Submitted l refl (sends lane kept l known.0 h.0), (tt, (seats.tx lane known.0).0, (pair.0, λ own. pair.1)))
+      (app_told c (passed_on c lane kept) _ Submitted l refl (sends lane kept l known.0 h.0), (tt, (seats.tx lane known.0).0, (pair.0, λ own. pair.1)))
   entries (comp_items side items) noted kept l known h asked fresh =
       let r = Comp (pair_of c a side) in
       let few : length items ≤ 32 = omega (arith, fresh.few, seats.batch_few) in
       let none : (m : ℕ) → times m (frame_numbers (back_at kept side)) ≡ 0 = λ m. ap (λ fs. times m (frame_numbers fs)) known.1 in
       let same : (m : ℕ) → times m (frame_numbers (frames_in items)) ≡ times m (numbers items) = λ m. ap (times m) (frame_numbers-in items) in (
-        has_back c kept [] [] l _ side (frames_in items) known.0 (back_frames c.geometry r items fresh.lawful) (λ m. omega (arith, had_told l (Peek r (batch_of c)) (Items items) m, none m, same m)) h.0,
+        has_back c kept [] [] l _ side (frames_in items) known.0 (back_frames c.geometry r items fresh.lawful) (λ m. omega (arith, had_told l (Peek r (batch_of c)) (Items items) m, none m, same m)) (λ m. omega (arith, had_told l (Peek r (batch_of c)) (Items items) m, fresh.fresh m)) h.0,
         (fresh.some, few, held_told l r (batch_of c) items),
       )
   entries (fill_granted side frame frames) noted kept l known h asked q = (told (with_back kept side (frame ∷ frames)) _ Granted l refl refl h.0, room_told l (Fill (home_of (pool_of c) frame)) (length (group c frame frames)))
@@ -247,25 +300,25 @@ module _ (c : Config) (a : ℕ) (one : IsApp c a) where
 
 -- ---- the laws
 
-module _ (c : Config) (a : ℕ) (one : IsApp c a) (l : List Told) (fit : AllFit c [] l) where
-  fits : MeetAlong (app_turn c a) (Answers c a one) (app_turn c a (app_start c)) [] l
-  fits = meet_fitting (app_turn c a) c (app_turn c a (app_start c)) [] l fit
+module _ (m : Manner) (c : Config) (a : ℕ) (one : IsApp c a) (l : List Told) (fit : AllFit c [] l) where
+  fits : MeetAlong (app_turn c a) (Answers c a one) (app_turn c a (app_start_by m c)) [] l
+  fits = meet_fitting (app_turn c a) c (app_turn c a (app_start_by m c)) [] l fit
 
-  asked_at : (kept : AppKept) (call : Call) (rest : Reply → Script AppKept) → Asks (app_turn c a) (app_start c) l kept call rest → Asked c a one kept call l
-  asked_at = at_call c a one (Answers c a one) (At c a one) (Asked c a one) (Has c a one) (law c a one) (app_start c) (has_none c, tt) l fits
+  asked_at : (kept : AppKept) (call : Call) (rest : Reply → Script AppKept) → Asks (app_turn c a) (app_start_by m c) l kept call rest → Asked c a one kept call l
+  asked_at = at_call c a one (Answers c a one) (At c a one) (Asked c a one) (Has c a one) (law c a one) (app_start_by m c) (has_none m c, tt) l fits
 
 -- what it has at each call
 pub has_at : (c : Config) (a : ℕ) (l : List Told) (kept : AppKept) (call : Call) (rest : Reply → Script AppKept) → IsApp c a → AllFit c [] l
     → Asks (app_turn c a) (app_start c) l kept call rest → AppHas c kept (numbers (submitted call)) l
-has_at c a l kept call rest one fit asks = (asked_at c a one l fit kept call rest asks).0
+has_at c a l kept call rest one fit asks = (asked_at plain c a one l fit kept call rest asks).0
 
 pub app_keeps_frames : AppKeepsFrames
-app_keeps_frames c a l kept call rest one fit asks = app_owned c kept call l (has_at c a l kept call rest one fit asks)
+app_keeps_frames m c a l kept call rest one fit asks = app_owned c kept call l (asked_at m c a one l fit kept call rest asks).0
 
 pub app_calls_legal : AppCallsLegal
-app_calls_legal c a l kept call rest one own fit asks = (asked_at c a one l fit kept call rest asks).1 own
+app_calls_legal m c a l kept call rest one own fit asks = (asked_at m c a one l fit kept call rest asks).1 own
 
 pub app_keeps_frames_at_end : AppKeepsFramesAtEnd
-app_keeps_frames_at_end c a l kept one fit ends =
-    let has = at_end c a one (Answers c a one) (At c a one) (Asked c a one) (Has c a one) (law c a one) (app_start c) (has_none c, tt) l (fits c a one l fit) kept ends in
+app_keeps_frames_at_end m c a l kept one fit ends =
+    let has = at_end c a one (Answers c a one) (At c a one) (Asked c a one) (Has c a one) (law c a one) (app_start_by m c) (has_none m c, tt) l (fits m c a one l fit) kept ends in
     λ n. omega (arith, has.counts n, times-app_numbers n kept)

@@ -10,7 +10,8 @@ use Rattle.xsk_model.proofs.Places.{is_ring-true}
 use Rattle.xsk_turns.specs.AppLaw.{IsFlagged, PaysAtOnce, PaysEndAtOnce}
 use Rattle.xsk_turns.specs.AppOwned.{IsApp}
 use Rattle.xsk_turns.specs.Wakes.{owes_after, owes_step, owes_on, owes_end_after, owes_end_step, owes_end}
-use Rattle.xsk_turns.specs.AppTurns.{AppKept, pair_of, tx_of, tx_pair, home_of, app_turn, app_start}
+use Rattle.xsk_turns.specs.AppTurns.{AppKept, pair_of, tx_of, tx_pair, home_of, app_turn, app_start_by}
+use Rattle.xsk_turns.specs.declared.manner.Manner.{Manner}
 use Rattle.xsk_turns.proofs.AppPlaces.{class_below, socket_driver}
 use Rattle.xsk_turns.proofs.Walks.{Premise, Anything, Fitting, meet_anything, meet_fitting}
 use Rattle.xsk_turns.proofs.AppWalk.{Place, Lanes, Lane, Sides, Side, Ending, Looking, Waking, Looked, Kicking, TxTold, Family, LookNeed, KickDriver, is_need, call_at, tx_submitted, fill_submitted, told_tx_done, looked_need, kicked, point_of, reply_of, without_need, needs_none, needs_kick, told_quietly, told_both, AtCalls, AtEntries, AtPasses, Said, IsLaw, at_call}
@@ -84,13 +85,13 @@ module _ (c : Config) (a : ℕ) (one : IsApp c a) (wakeup : c.wakeup ≡ true) (
   free (Looking side) l e = e
   free TxTold l e = e
 
-  nothing : (l : List Told) (call : Call) → owes l ≡ false → Asked (app_start c) call l
-  nothing l call e = λ o. absurd (let no : false ≡ true = sym e ∙ o in cc)
+  nothing : (kept : AppKept) (l : List Told) (call : Call) → owes l ≡ false → Asked kept call l
+  nothing kept l call e = λ o. absurd (let no : false ≡ true = sym e ∙ o in cc)
 
   calls : AtCalls c a At Asked
   calls (LookNeed place need pair) noted kept l known h = λ o. inl (ap (λ m. Look m) (h o).0)
   calls (KickDriver place pair) noted kept l known h = λ o. inr (ap (λ p. Swap (Kick p) 1) (h o))
-  calls p noted kept l known h = nothing l (call_at c a p kept) h
+  calls p noted kept l known h = nothing kept l (call_at c a p kept) h
 
   -- what it owes where it owed nothing before
   stays : (l : List Told) (call : Call) (reply : Reply) → owes l ≡ false → owes_after r flag (Kick d) false call reply ≡ false → owes (with_told l call reply) ≡ false
@@ -146,9 +147,9 @@ module _ (c : Config) (a : ℕ) (one : IsApp c a) (wakeup : c.wakeup ≡ true) (
   law = record { calls = calls; entries = entries; passes = passes; ends = λ noted kept l done h. tt }
 
 pub pays_at_once : PaysAtOnce
-pays_at_once c a l kept call rest d r flag one wakeup fit asks is owes =
-    at_call c a one (Answers c a one wakeup d r flag is) (At c a one wakeup d r flag is) (Asked c a one wakeup d r flag is) (λ kept l. Unit {0}) (law c a one wakeup d r flag is) (app_start c) refl l
-    (meet_fitting (app_turn c a) c (app_turn c a (app_start c)) [] l fit) kept call rest asks owes
+pays_at_once m c a l kept call rest d r flag one wakeup fit asks is owes =
+    at_call c a one (Answers c a one wakeup d r flag is) (At c a one wakeup d r flag is) (Asked c a one wakeup d r flag is) (λ kept l. Unit {0}) (law c a one wakeup d r flag is) (app_start_by m c) refl l
+    (meet_fitting (app_turn c a) c (app_turn c a (app_start_by m c)) [] l fit) kept call rest asks owes
 
 -- ---- what it owes for the end
 
@@ -220,6 +221,6 @@ module _ (c : Config) (a : ℕ) (one : IsApp c a) (wakeup : c.wakeup ≡ true) (
   told_law = record { calls = told_calls; entries = told_entries; passes = told_passes; ends = λ noted kept l done h. tt }
 
 pub pays_end_at_once : PaysEndAtOnce
-pays_end_at_once c a l kept call rest side one wakeup below asks owes =
-    at_call c a one Anything (AtTold c a one wakeup side below) (AskedTold c a one wakeup side below) (λ kept l. Unit {0}) (told_law c a one wakeup side below) (app_start c) (λ o. absurd (cc)) l
-    (meet_anything (app_turn c a) (app_turn c a (app_start c)) [] l) kept call rest asks owes
+pays_end_at_once m c a l kept call rest side one wakeup below asks owes =
+    at_call c a one Anything (AtTold c a one wakeup side below) (AskedTold c a one wakeup side below) (λ kept l. Unit {0}) (told_law c a one wakeup side below) (app_start_by m c) (λ o. absurd (cc)) l
+    (meet_anything (app_turn c a) (app_turn c a (app_start_by m c)) [] l) kept call rest asks owes

@@ -6,7 +6,8 @@ use Rattle.xsk_turns.proofs.Calls.{Told, with_told, Mark, TxDone, Call, Swap, Lo
 use Rattle.xsk_model.specs.declared.call.Mark.TheVariants.{Kick}
 use Rattle.xsk_turns.specs.AppLaw.{SetsKick, SetsKicks, OnlySetsKicks, kick_of, flag_due, due_after, due_step, due_of, IsFirstDue, WakesAtOnce}
 use Rattle.xsk_turns.specs.AppOwned.{IsApp}
-use Rattle.xsk_turns.specs.AppTurns.{AppKept, pair_of, app_turn, app_start}
+use Rattle.xsk_turns.specs.AppTurns.{AppKept, pair_of, app_turn, app_start_by}
+use Rattle.xsk_turns.specs.declared.manner.Manner.{Manner}
 use Rattle.xsk_turns.proofs.AppPlaces.{class_below, socket_driver}
 use Rattle.xsk_turns.proofs.Walks.{Anything, meet_anything}
 use Rattle.xsk_turns.proofs.AppWalk.{Place, Waking, Looked, Kicking, TxTold, Family, Point, LookNeed, KickDriver, call_at, tx_submitted, fill_submitted, told_tx_done, looked_need, kicked, point_of, reply_of, begins, without_need, needs_none, needs_kick, told_quietly, told_both, AtCalls, AtEntries, AtPasses, Said, IsLaw, at_call, of_run}
@@ -44,8 +45,8 @@ module _ (c : Config) (a : ℕ) where
       sets_passes p noted kept l = λ h e. h
 
 pub only_sets_kicks : OnlySetsKicks
-only_sets_kicks c a l one run =
-    of_run c a one Anything (Sets c a) (SetsSaid c a) (SetsAtEnd c a) (sets c a) (app_start c) tt l (meet_anything (app_turn c a) (app_turn c a (app_start c)) [] l) (λ m. SetsKicks m)
+only_sets_kicks m c a l one run =
+    of_run c a one Anything (Sets c a) (SetsSaid c a) (SetsAtEnd c a) (sets c a) (app_start_by m c) tt l (meet_anything (app_turn c a) (app_turn c a (app_start_by m c)) [] l) (λ m. SetsKicks m)
     (λ kept m h. h) (λ kept call m h. h) (λ kept m h. h) run
 
 -- ---- it wakes drivers at once
@@ -117,6 +118,6 @@ module _ (c : Config) (a : ℕ) (one : IsApp c a) (wakeup : c.wakeup ≡ true) w
   law = record { calls = calls; entries = entries; passes = passes; ends = λ noted kept l done h. tt }
 
 pub wakes_at_once : WakesAtOnce
-wakes_at_once c a l kept call rest one wakeup asks =
-    at_call c a one Anything (At c a one wakeup) (Asked c a one wakeup) (Ended c a one wakeup) (law c a one wakeup) (app_start c) (refl, tt) l (meet_anything (app_turn c a) (app_turn c a (app_start c)) [] l)
+wakes_at_once m c a l kept call rest one wakeup asks =
+    at_call c a one Anything (At c a one wakeup) (Asked c a one wakeup) (Ended c a one wakeup) (law c a one wakeup) (app_start_by m c) (refl, tt) l (meet_anything (app_turn c a) (app_turn c a (app_start_by m c)) [] l)
     kept call rest asks

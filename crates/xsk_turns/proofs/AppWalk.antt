@@ -6,7 +6,7 @@ use Rattle.xsk_turns.proofs.Calls.{Item, Told, with_told, Fill, Comp, Rx, Tx, Ma
 use Rattle.xsk_model.specs.declared.call.Mark.TheVariants.{NeedFill, NeedTx, Kick}
 use Rattle.xsk_turns.specs.Script.{Script, ask, again, ended, on_submitted, Asks, Ends, IsRun}
 use Rattle.xsk_turns.specs.Turns.{frames_in}
-use Rattle.xsk_turns.specs.AppTurns.{AppKept, AppNoted, pair_of, rx_of, tx_of, tx_pair, lanes_of, home_of, group_of, both, is_set, is_none, pending_at, with_pending, back_at, with_back, kick, wake, wake_both, pass_on, receive_lane, visit_lane, visit_lanes, give_back, complete_side, visit_side, visit_sides, with_seen, with_gone, look_marks, look_rx_done, look_gone, end_turn, turn_sides, noted_first, app_turn}
+use Rattle.xsk_turns.specs.AppTurns.{AppKept, AppNoted, pair_of, rx_of, tx_of, tx_pair, lanes_of, home_of, group_of, both, is_set, is_none, pending_at, with_pending, back_at, with_back, kick, wake, wake_both, given_on, passed_on, pass_on, receive_lane, visit_lane, visit_lanes, give_back, complete_side, visit_side, visit_sides, with_seen, with_gone, look_marks, look_rx_done, look_gone, end_turn, turn_sides, noted_first, app_turn}
 use Rattle.xsk_turns.specs.AppOwned.{IsApp}
 use Rattle.xsk_turns.proofs.AppGroups.{with_back-again, with_back-same, group_some, shorter}
 use Rattle.xsk_turns.proofs.Places.{batch_some}
@@ -76,7 +76,7 @@ abbrev pub asked : Config → ℕ → Point → AppKept → Place × Call × App
 asked c a (PeekRx lane) kept = (Lanes lane, Peek (Rx (rx_of c a lane)) (batch_of c), kept)
 asked c a (ReleaseRx lane n) kept = (Lane lane (release_due (Rx (rx_of c a lane)) n), Release (Rx (rx_of c a lane)) n, kept)
 asked c a (ReserveTx lane) kept = (Lane lane nothing_due, Reserve (Tx (tx_of c a lane)) (length (pending_at kept lane)), kept)
-asked c a (SubmitTx lane) kept = (Lane lane (submit_due (Tx (tx_of c a lane)) (length (pending_at kept lane))), Submit (Tx (tx_of c a lane)) (pending_at kept lane), with_pending kept lane [])
+asked c a (SubmitTx lane) kept = (Lane lane (submit_due (Tx (tx_of c a lane)) (length (pending_at kept lane))), Submit (Tx (tx_of c a lane)) (given_on c lane kept), passed_on c lane kept)
 asked c a (PeekComp side) kept = (Sides side, Peek (Comp (pair_of c a side)) (batch_of c), kept)
 asked c a (ReleaseComp side n) kept = (Side side (release_due (Comp (pair_of c a side)) n), Release (Comp (pair_of c a side)) n, kept)
 asked c a (ReserveFill side frame frames) kept = (Side side nothing_due, Reserve (Fill (home_of (pool_of c) frame)) (length (group c frame frames)), with_back kept side (frame ∷ frames))
@@ -168,7 +168,7 @@ leads c a (rx_items lane items) noted kept = (Lane lane (release_due (Rx (rx_of 
 leads c a (rx_released lane n) noted kept = (Lane lane nothing_due, noted, kept)
 leads c a (tx_granted lane) noted kept = (Lane lane (submit_due (Tx (tx_of c a lane)) (length (pending_at kept lane))), noted, kept)
 leads c a (tx_full lane free) noted kept = (Lanes (lane + 1), noted, kept)
-leads c a (tx_submitted lane) noted kept = (tx_filled c a lane, noted, with_pending kept lane [])
+leads c a (tx_submitted lane) noted kept = (tx_filled c a lane, noted, passed_on c lane kept)
 leads c a (comp_empty side) noted kept = (Sides (side + 1), noted, kept)
 leads c a (comp_items side items) noted kept = (Side side (release_due (Comp (pair_of c a side)) (length items)), busy_side noted, with_back kept side (frames_in items))
 leads c a (comp_released side n) noted kept = (Side side nothing_due, noted, kept)
@@ -300,9 +300,9 @@ module _ (c : Config) (a : ℕ) (one : IsApp c a) (Q : Premise AppKept) (At : Fa
   go_pass_on lane noted kept next l known h go =
       let items = pending_at kept lane in
       let call = Reserve (Tx (tx_of c a lane)) (length items) in
-      let give = Submit (Tx (tx_of c a lane)) items in
+      let give = Submit (Tx (tx_of c a lane)) (given_on c lane kept) in
       let granted = with_told l call Granted in
-      let left = with_pending kept lane [] in
+      let left = passed_on c lane kept in
       let asked = is.calls (ReserveTx lane) noted kept l known h in (
         asked,
         at_reserve Q law kept call l (ask left give (on_submitted (wake c (NeedTx (tx_of c a lane)) (tx_pair c a lane) left (next left)))) (next kept)

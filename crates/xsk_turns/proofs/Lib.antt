@@ -16,8 +16,10 @@ pub mod Counts
 pub mod Disposing
 pub mod DriverWalk
 pub mod Layouts
+pub mod Mangling
 pub mod LegalCalls
 pub mod Legality
+pub mod Numbering
 pub mod Object
 pub mod Owned
 pub mod Owning
@@ -28,6 +30,7 @@ pub mod Verdicts
 pub mod Walks
 pub mod Saying
 pub mod Sending
+pub mod Stranding
 pub mod ReceivingLaws
 pub mod Delivering
 pub mod Draining

@@ -204,7 +204,7 @@ no_items : (k n : ℕ) → times n (flat_map numbers (replicate k [])) ≡ 0
 no_items zero n = refl
 no_items (suc k) n = no_items k n
 
-no_group : (k class : ℕ) → ◌≡◌ {A = List Item} (get_or (replicate k []) class []) []
+pub no_group : (k class : ℕ) → ◌≡◌ {A = List Item} (get_or (replicate k []) class []) []
 no_group zero class = refl
 no_group (suc k) zero = refl
 no_group (suc k) (suc class) = no_group k class

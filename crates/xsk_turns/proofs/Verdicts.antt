@@ -80,7 +80,7 @@ own_meet rule queue [] = tt
 own_meet rule queue (packet ∷ packets) = (own_given rule queue packet, own_meet rule queue packets)
 
 pub own_setting : OwnSetting
-own_setting rule wire c lists =
+own_setting rule wire manner c lists =
     let none : PairInfo = record { port = 0; queue = 0; fill = 0; comp = 0 } in
     let own : PairInfo → List Verdict = verdicts_to rule c lists in
     record {

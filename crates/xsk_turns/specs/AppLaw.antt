@@ -1,5 +1,6 @@
 -- What holds of every run of an application, and what of every whole one, by its turns alone.
-use Rattle.std.specs.Prelude.{◌≡◌, ℕ, ◌<◌, ◌≤◌, ◌⊎◌, ◌==◌, ◌&&◌, true, false, if◌then◌else◌, List, [], ◌∷◌, ◌++◌, drop}
+use Rattle.std.specs.Prelude.{◌≡◌, ℕ, ◌+◌, ◌%◌, ◌<◌, ◌≤◌, ◌⊎◌, ◌==◌, ◌&&◌, true, false, if◌then◌else◌, Option, Some, None, List, [], ◌∷◌, ◌++◌, length, drop}
+use Rattle.xsk_umem.specs.Geometry.{Geometry}
 use Rattle.std.specs.List.{fold}
 use Rattle.xsk_umem.specs.declared.batch.Item.{Item}
 use Rattle.xsk_model.specs.Config.{Config}
@@ -17,7 +18,10 @@ use Rattle.xsk_model.specs.declared.call.Call.TheVariants.{Submit, Swap, Look}
 use Rattle.xsk_model.specs.declared.call.Reply.{Reply}
 use Rattle.xsk_model.specs.declared.call.Reply.TheVariants.{Old}
 use Rattle.xsk_turns.specs.Script.{Script, Asks}
-use Rattle.xsk_turns.specs.AppTurns.{AppKept, lanes_of, pair_of, rx_of, tx_of, app_turn, app_start, IsAppRun, IsWholeAppRun}
+use Rattle.xsk_turns.specs.AppTurns.{AppKept, lanes_of, pair_of, rx_of, tx_of, app_turn, app_start_by, IsAppRunBy, IsWholeAppRunBy}
+use Rattle.xsk_turns.specs.Mangling.{change_at, made_of, mangled, round_of}
+use Rattle.xsk_turns.specs.declared.manner.Manner.{Manner}
+use Rattle.xsk_turns.specs.declared.manner.Change.{Change}
 use Rattle.xsk_turns.specs.AppOwned.{IsApp}
 use Rattle.xsk_turns.specs.Owned.{AllFit}
 use Rattle.xsk_turns.specs.Wakes.{owes_on, owes_end}
@@ -26,23 +30,63 @@ use Rattle.xsk_turns.specs.Wakes.{owes_on, owes_end}
 abbrev pub IsFront : List Item → List Item → Type 0
 IsFront front all = (rest : List Item) × (front ++ rest ≡ all)
 
--- on each lane the items submitted on TX are the first of those peeked on RX, in order and as they were
+-- on each lane of an application that changes nothing the items submitted on TX are the first of those peeked on RX, in order
+-- and as they were
 abbrev pub LanesInOrder : Type 0
-LanesInOrder = (c : Config) (app : ℕ) (l : List Told) (lane : ℕ) → IsApp c app → IsAppRun c app l → lane < lanes_of c
+LanesInOrder = (m : Manner) (c : Config) (app : ℕ) (l : List Told) (lane : ℕ) → m.mangle ≡ None → IsApp c app → IsAppRunBy m c app l → lane < lanes_of c
     → IsFront (submitted_of (Tx (tx_of c app lane)) l) (peeked_of (Rx (rx_of c app lane)) l)
 
 -- at the end they are all of those
 abbrev pub LanesPassedOn : Type 0
-LanesPassedOn = (c : Config) (app : ℕ) (l : List Told) (lane : ℕ) → IsApp c app → IsWholeAppRun c app l → lane < lanes_of c
+LanesPassedOn = (m : Manner) (c : Config) (app : ℕ) (l : List Told) (lane : ℕ) → m.mangle ≡ None → IsApp c app → IsWholeAppRunBy m c app l → lane < lanes_of c
     → submitted_of (Tx (tx_of c app lane)) l ≡ peeked_of (Rx (rx_of c app lane)) l
+
+-- Where items are changed, each item that is submitted on a lane is the one that was peeked in its place, as it was or with one
+-- of the changes; where none are, it is as it was.
+abbrev pub IsAltered : Geometry → Option ℕ → Item → Item → Type 0
+IsAltered g None before after = after ≡ before
+IsAltered g (Some every) before after = (after ≡ before) ⊎ ((change : Change) × (after ≡ made_of g change before))
+
+abbrev pub AreAltered : Geometry → Option ℕ → List Item → List Item → Type 0
+AreAltered g mangle [] [] = Unit {0}
+AreAltered g mangle [] (after ∷ afters) = ⊥
+AreAltered g mangle (before ∷ befores) [] = ⊥
+AreAltered g mangle (before ∷ befores) (after ∷ afters) = IsAltered g mangle before after × AreAltered g mangle befores afters
+
+-- so in a whole run of an application of any manner
+abbrev pub LanesAltered : Type 0
+LanesAltered = (m : Manner) (c : Config) (app : ℕ) (l : List Told) (lane : ℕ) → IsApp c app → IsWholeAppRunBy m c app l → lane < lanes_of c
+    → AreAltered c.geometry m.mangle (peeked_of (Rx (rx_of c app lane)) l) (submitted_of (Tx (tx_of c app lane)) l)
+
+-- how many items a call submits on TX, and a list of calls in all
+abbrev pub sends_count : Call → ℕ
+sends_count (Submit (Tx t) items) = length items
+sends_count call = 0
+
+abbrev pub items_sent : List Told → ℕ
+items_sent [] = 0
+items_sent (t ∷ l) = sends_count t.call + items_sent l
+
+-- The items that are submitted are changed by their numbers, which count from 0 over all that was submitted on TX before.
+abbrev pub IsNumbered : Geometry → ℕ → List Told → Call → Type 0
+IsNumbered g every l (Submit (Tx t) items) = (before : List Item) × (items ≡ mangled g every (items_sent l) before)
+IsNumbered g every l call = Unit {0}
+
+abbrev pub ChangesByNumber : Type 0
+ChangesByNumber = (m : Manner) (every : ℕ) (c : Config) (app : ℕ) (l : List Told) (kept : AppKept) (call : Call) (rest : Reply → Script AppKept) → m.mangle ≡ Some every → IsApp c app
+    → Asks (app_turn c app) (app_start_by m c) l kept call rest → IsNumbered c.geometry every l call
+
+-- They are the same again after each 5 times so many items.
+abbrev pub ChangesRepeat : Type 0
+ChangesRepeat = (every number : ℕ) → change_at every (number % round_of every) ≡ change_at every number
 
 -- no Submit on TX stands behind the Swap that tells that nothing more is sent
 abbrev pub NothingSentLate : Type 0
-NothingSentLate = (c : Config) (app t : ℕ) (l : List Told) → IsApp c app → IsAppRun c app l → (telling_of (TxDone app) (Tx t) l).late ≡ false
+NothingSentLate = (m : Manner) (c : Config) (app t : ℕ) (l : List Told) → IsApp c app → IsAppRunBy m c app l → (telling_of (TxDone app) (Tx t) l).late ≡ false
 
 -- at the end each lane's RX ring was found empty, after both drivers had told that they have no further packet
 abbrev pub DrainsRx : Type 0
-DrainsRx = (c : Config) (app : ℕ) (l : List Told) (lane : ℕ) → IsApp c app → IsWholeAppRun c app l → lane < lanes_of c
+DrainsRx = (m : Manner) (c : Config) (app : ℕ) (l : List Told) (lane : ℕ) → IsApp c app → IsWholeAppRunBy m c app l → lane < lanes_of c
     → (draining_of (RxDone (pair_of c app 0) ∷ RxDone (pair_of c app 1) ∷ []) (Rx (rx_of c app lane)) l).empty ≡ true
 
 -- ---- need-wakeup
@@ -57,7 +101,7 @@ SetsKicks [] = Unit {0}
 SetsKicks (t ∷ l) = SetsKick t.call × SetsKicks l
 
 abbrev pub OnlySetsKicks : Type 0
-OnlySetsKicks = (c : Config) (app : ℕ) (l : List Told) → IsApp c app → IsAppRun c app l → SetsKicks l
+OnlySetsKicks = (m : Manner) (c : Config) (app : ℕ) (l : List Told) → IsApp c app → IsAppRunBy m c app l → SetsKicks l
 
 -- The calls that are due where the need-wakeup flags are used: after a Submit on FILL or TX a look at that ring's flag (af_xdp.rst,
 -- "XDP_USE_NEED_WAKEUP bind flag"); where it was answered 1, a swap of the kick of the ring's driver to 1; and after it told that
@@ -90,8 +134,8 @@ IsFirstDue call [] = Unit {0}
 IsFirstDue call (first ∷ later) = call ≡ first
 
 abbrev pub WakesAtOnce : Type 0
-WakesAtOnce = (c : Config) (app : ℕ) (l : List Told) (kept : AppKept) (call : Call) (rest : Reply → Script AppKept) → IsApp c app → c.wakeup ≡ true
-    → Asks (app_turn c app) (app_start c) l kept call rest → IsFirstDue call (due_of c app l)
+WakesAtOnce = (m : Manner) (c : Config) (app : ℕ) (l : List Told) (kept : AppKept) (call : Call) (rest : Reply → Script AppKept) → IsApp c app → c.wakeup ≡ true
+    → Asks (app_turn c app) (app_start_by m c) l kept call rest → IsFirstDue call (due_of c app l)
 
 -- a ring that a driver consumes, with its flag
 abbrev pub IsFlagged : Config → ℕ → Ring → Mark → Type 0
@@ -102,11 +146,11 @@ IsFlagged c d r flag = ⊥
 -- So what it owes it pays at once: where it owes a driver a kick for what it submitted on a ring, its next call is the look at
 -- the ring's flag, or the kick;
 abbrev pub PaysAtOnce : Type 0
-PaysAtOnce = (c : Config) (app : ℕ) (l : List Told) (kept : AppKept) (call : Call) (rest : Reply → Script AppKept) (d : ℕ) (r : Ring) (flag : Mark) → IsApp c app → c.wakeup ≡ true
-    → AllFit c [] l → Asks (app_turn c app) (app_start c) l kept call rest → IsFlagged c d r flag → owes_on d r flag l ≡ true → (call ≡ Look flag) ⊎ (call ≡ Swap (Kick d) 1)
+PaysAtOnce = (m : Manner) (c : Config) (app : ℕ) (l : List Told) (kept : AppKept) (call : Call) (rest : Reply → Script AppKept) (d : ℕ) (r : Ring) (flag : Mark) → IsApp c app → c.wakeup ≡ true
+    → AllFit c [] l → Asks (app_turn c app) (app_start_by m c) l kept call rest → IsFlagged c d r flag → owes_on d r flag l ≡ true → (call ≡ Look flag) ⊎ (call ≡ Swap (Kick d) 1)
 
 -- and where it owes one for the end to the driver of a side, its next call is that kick, or that of the side before it.
 abbrev pub PaysEndAtOnce : Type 0
-PaysEndAtOnce = (c : Config) (app : ℕ) (l : List Told) (kept : AppKept) (call : Call) (rest : Reply → Script AppKept) (side : ℕ) → IsApp c app → c.wakeup ≡ true → side < 2
-    → Asks (app_turn c app) (app_start c) l kept call rest → owes_end (pair_of c app side) (TxDone app) l ≡ true
+PaysEndAtOnce = (m : Manner) (c : Config) (app : ℕ) (l : List Told) (kept : AppKept) (call : Call) (rest : Reply → Script AppKept) (side : ℕ) → IsApp c app → c.wakeup ≡ true → side < 2
+    → Asks (app_turn c app) (app_start_by m c) l kept call rest → owes_end (pair_of c app side) (TxDone app) l ≡ true
     → (other : ℕ) × (other ≤ side) × (call ≡ Swap (Kick (pair_of c app other)) 1)

@@ -2,6 +2,7 @@
 -- didn't submit, and the call is legal where all frames that it has had are at home with it: it wakes the driver of a home
 -- after it gave the frames back. That they are is a law of the object: in every history frames stay with one application.
 use Rattle.std.specs.Prelude.{◌≡◌, ℕ, ◌+◌, ◌<◌, ◌≤◌, List, [], ◌++◌, flat_map}
+use Rattle.xsk_umem.specs.Geometry.{IsGeometry}
 use Rattle.xsk_model.specs.Config.{Config, IsConfig}
 use Rattle.xsk_model.specs.Marks.{apps_of}
 use Rattle.xsk_model.specs.Rings.{caller_of}
@@ -14,13 +15,15 @@ use Rattle.xsk_model.specs.Legal.{IsLegal}
 use Rattle.xsk_model.specs.declared.call.Call.{Call}
 use Rattle.xsk_model.specs.declared.call.Reply.{Reply}
 use Rattle.xsk_turns.specs.Script.{Script, Asks, Ends}
-use Rattle.xsk_turns.specs.AppTurns.{AppKept, app_turn, app_start}
+use Rattle.xsk_turns.specs.AppTurns.{AppKept, app_turn, app_start_by}
+use Rattle.xsk_turns.specs.declared.manner.Manner.{Manner}
 use Rattle.xsk_turns.specs.Owned.{IsSteady, AllFit, frame_numbers}
 
 -- an application of a regular configuration in which no socket is closed
 pub record IsApp (c : Config) (app : ℕ) : Type 0 where
   pub config : IsConfig c
   pub steady : IsSteady c
+  pub geometry : IsGeometry c.geometry
   pub known : app < apps_of c
 
 -- the numbers of all frames that it keeps
@@ -39,14 +42,14 @@ AppOwned kept call l = (n : ℕ) → times n (app_numbers kept) + times n (numbe
 
 -- so it is at each call that an application makes, and there the call is legal where its frames are its own
 abbrev pub AppKeepsFrames : Type 0
-AppKeepsFrames = (c : Config) (app : ℕ) (l : List Told) (kept : AppKept) (call : Call) (rest : Reply → Script AppKept) → IsApp c app → AllFit c [] l
-    → Asks (app_turn c app) (app_start c) l kept call rest → AppOwned kept call l
+AppKeepsFrames = (m : Manner) (c : Config) (app : ℕ) (l : List Told) (kept : AppKept) (call : Call) (rest : Reply → Script AppKept) → IsApp c app → AllFit c [] l
+    → Asks (app_turn c app) (app_start_by m c) l kept call rest → AppOwned kept call l
 
 abbrev pub AppCallsLegal : Type 0
-AppCallsLegal = (c : Config) (app : ℕ) (l : List Told) (kept : AppKept) (call : Call) (rest : Reply → Script AppKept) → IsApp c app → HasOwnFrames c app l → AllFit c [] l
-    → Asks (app_turn c app) (app_start c) l kept call rest → IsLegal c l (caller_of c app) call
+AppCallsLegal = (m : Manner) (c : Config) (app : ℕ) (l : List Told) (kept : AppKept) (call : Call) (rest : Reply → Script AppKept) → IsApp c app → HasOwnFrames c app l → AllFit c [] l
+    → Asks (app_turn c app) (app_start_by m c) l kept call rest → IsLegal c l (caller_of c app) call
 
 -- at its end its frames are those that it keeps
 abbrev pub AppKeepsFramesAtEnd : Type 0
-AppKeepsFramesAtEnd = (c : Config) (app : ℕ) (l : List Told) (kept : AppKept) → IsApp c app → AllFit c [] l
-    → Ends (app_turn c app) (app_start c) l kept → (n : ℕ) → times n (app_numbers kept) ≡ times n (had_of l)
+AppKeepsFramesAtEnd = (m : Manner) (c : Config) (app : ℕ) (l : List Told) (kept : AppKept) → IsApp c app → AllFit c [] l
+    → Ends (app_turn c app) (app_start_by m c) l kept → (n : ℕ) → times n (app_numbers kept) ≡ times n (had_of l)

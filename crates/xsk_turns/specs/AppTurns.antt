@@ -14,17 +14,22 @@ use Rattle.xsk_model.specs.declared.call.Ring.TheVariants.{Fill, Comp, Rx, Tx}
 use Rattle.xsk_model.specs.declared.call.Mark.{Mark}
 use Rattle.xsk_model.specs.declared.call.Mark.TheVariants.{NeedFill, NeedTx, Kick, RxDone, Gone, TxDone}
 use Rattle.xsk_model.specs.declared.call.Call.TheVariants.{Reserve, Submit, Peek, Release, Swap, Look}
+use Rattle.xsk_turns.specs.Mangling.{plain, given_by, back_by, number_by}
 use Rattle.xsk_turns.specs.Turns.{frames_in}
+use Rattle.xsk_turns.specs.declared.manner.Manner.{Manner}
 
 -- what an application keeps: for each lane the items that it has yet to pass on, for each side the frames that it has yet
 -- to give back, whether the side's driver told that it has no further packet, and whether it told that it has ended; and
--- whether the application told that it sends nothing more
+-- whether the application told that it sends nothing more. Its manner stays as it is, and where it changes items, the number
+-- of the next one that it submits on TX is kept.
 pub record AppKept : Type 0 where
   pub pending : List (List Item)
   pub back : List (List Frame)
   pub seen : List Bool
   pub gone : List Bool
   pub tx_done : Bool
+  pub manner : Manner
+  pub number : ℕ
 
 -- what it notes in a turn: whether both drivers had told each as the turn began, and whether each lane and each side that
 -- was visited so far made a Peek that was Empty
@@ -99,13 +104,25 @@ wake c need pair kept next =
 
 -- ---- the lanes
 
--- a lane's items go on to its TX ring as they are, where it has room for all
+-- the items that a lane submits: those that are pending as they are, or as its manner changes them; and what is kept then: a
+-- frame that is taken from an item stays with the side that received it
+abbrev pub given_on : Config → ℕ → AppKept → List Item
+given_on c lane kept = given_by c.geometry kept.manner.mangle kept.number (pending_at kept lane)
+
+abbrev pub passed_on : Config → ℕ → AppKept → AppKept
+passed_on c lane kept = record kept {
+  pending = slice_set kept.pending lane [];
+  back = back_by kept.manner.mangle kept.number (pending_at kept lane) (lane / classes_of c) kept.back;
+  number = number_by kept.manner.mangle kept.number (length (pending_at kept lane));
+}
+
+-- a lane's items go on to its TX ring, where it has room for all
 abbrev pub pass_on : Config → ℕ → ℕ → AppKept → (AppKept → Script AppKept) → Script AppKept
 pass_on c app lane kept next =
     ask kept (Reserve (Tx (tx_of c app lane)) (length (pending_at kept lane)))
     (granted_or_full
-    (ask (with_pending kept lane []) (Submit (Tx (tx_of c app lane)) (pending_at kept lane))
-    (on_submitted (wake c (NeedTx (tx_of c app lane)) (tx_pair c app lane) (with_pending kept lane []) (next (with_pending kept lane [])))))
+    (ask (passed_on c lane kept) (Submit (Tx (tx_of c app lane)) (given_on c lane kept))
+    (on_submitted (wake c (NeedTx (tx_of c app lane)) (tx_pair c app lane) (passed_on c lane kept) (next (passed_on c lane kept)))))
     (next kept))
 
 -- the items that a lane received are released and kept, and then passed on
@@ -229,19 +246,31 @@ app_turn c app kept =
 
 -- ---- runs
 
--- a new application keeps nothing
-abbrev pub app_start : Config → AppKept
-app_start c = record {
+-- a new application with a manner keeps nothing
+abbrev pub app_start_by : Manner → Config → AppKept
+app_start_by m c = record {
   pending = replicate (lanes_of c) [];
   back = [] ∷ [] ∷ [];
   seen = false ∷ false ∷ [];
   gone = false ∷ false ∷ [];
   tx_done = false;
+  manner = m;
+  number = 0;
 }
 
--- a list of calls and replies is a run of the application, and a whole one
+-- a list of calls and replies is a run of the application with this manner, and a whole one
+abbrev pub IsAppRunBy : Manner → Config → ℕ → List Told → Type 0
+IsAppRunBy m c app l = IsRun (app_turn c app) (app_start_by m c) l
+
+abbrev pub IsWholeAppRunBy : Manner → Config → ℕ → List Told → Type 0
+IsWholeAppRunBy m c app l = IsWhole (app_turn c app) (app_start_by m c) l
+
+-- and of one that changes nothing
+abbrev pub app_start : Config → AppKept
+app_start c = app_start_by plain c
+
 abbrev pub IsAppRun : Config → ℕ → List Told → Type 0
-IsAppRun c app l = IsRun (app_turn c app) (app_start c) l
+IsAppRun c app l = IsAppRunBy plain c app l
 
 abbrev pub IsWholeAppRun : Config → ℕ → List Told → Type 0
-IsWholeAppRun c app l = IsWhole (app_turn c app) (app_start c) l
+IsWholeAppRun c app l = IsWholeAppRunBy plain c app l

@@ -14,13 +14,17 @@ use Rattle.xsk_turns.specs.Verdicts.{judged, EachHas, IsGiven, own_verdicts}
 use Rattle.xsk_prog.specs.Rules.{Meets, is_exact}
 use Rattle.xsk_prog.specs.declared.rule.Rule.{Rule}
 use Rattle.xsk_prog.specs.declared.rule.Verdict.{Verdict}
-use Rattle.xsk_turns.specs.AppTurns.{IsAppRun, IsWholeAppRun}
+use Rattle.xsk_turns.specs.AppTurns.{IsAppRunBy, IsWholeAppRunBy}
+use Rattle.xsk_turns.specs.Mangling.{plain}
+use Rattle.xsk_turns.specs.declared.manner.Manner.{Manner}
 use Rattle.xsk_turns.specs.declared.wire.Wire.{Wire}
 
--- what is run: a configuration and a wire over the packets of each port, and the verdicts of each pair's packets
+-- what is run: a configuration, a wire and the manner of all applications over the packets of each port, and the verdicts of each
+-- pair's packets
 pub record Setting : Type 0 where
   pub config : Config
   pub wire : Wire
+  pub manner : Manner
   pub packets : List PacketList
   pub verdicts : List (List Verdict)
 
@@ -47,21 +51,25 @@ IsRuled rule s = AreGiven (λ queue packet verdict. Meets rule packet queue verd
 abbrev pub verdicts_to : Rule → Config → List PacketList → PairInfo → List Verdict
 verdicts_to rule c lists pair = own_verdicts rule pair.queue (packets_to c lists pair)
 
+abbrev pub ruled_by : Rule → Wire → Manner → Config → List PacketList → Setting
+ruled_by rule wire manner c lists = record { config = c; wire = wire; manner = manner; packets = lists; verdicts = map (verdicts_to rule c lists) c.pairs }
+
+-- and the one whose applications change nothing
 abbrev pub ruled : Rule → Wire → Config → List PacketList → Setting
-ruled rule wire c lists = record { config = c; wire = wire; packets = lists; verdicts = map (verdicts_to rule c lists) c.pairs }
+ruled rule wire c lists = ruled_by rule wire plain c lists
 
 abbrev pub OwnSetting : Type 0
-OwnSetting = (rule : Rule) (wire : Wire) (c : Config) (lists : List PacketList) → IsRuled rule (ruled rule wire c lists)
+OwnSetting = (rule : Rule) (wire : Wire) (manner : Manner) (c : Config) (lists : List PacketList) → IsRuled rule (ruled_by rule wire manner c lists)
 
 abbrev pub OneSetting : Type 0
-OneSetting = (rule : Rule) (s : Setting) → is_exact rule ≡ true → IsRuled rule s → s ≡ ruled rule s.wire s.config s.packets
+OneSetting = (rule : Rule) (s : Setting) → is_exact rule ≡ true → IsRuled rule s → s ≡ ruled_by rule s.wire s.manner s.config s.packets
 
 -- a caller's own calls and replies are a run: of the driver of its pair over the pair's packets, or of its application
 pub record IsWorkerRun (s : Setting) (who : ℕ) (l : List Told) : Type 0 where
   pub driver : who < length s.config.pairs → IsDriverRun s.wire s.config who (input_of s who) l
-  pub app : (a : ℕ) → who ≡ caller_of s.config a → IsAppRun s.config a l
+  pub app : (a : ℕ) → who ≡ caller_of s.config a → IsAppRunBy s.manner s.config a l
 
 -- they are a whole run
 pub record IsWholeRun (s : Setting) (who : ℕ) (l : List Told) : Type 0 where
   pub driver : who < length s.config.pairs → IsWholeDriverRun s.wire s.config who (input_of s who) l
-  pub app : (a : ℕ) → who ≡ caller_of s.config a → IsWholeAppRun s.config a l
+  pub app : (a : ℕ) → who ≡ caller_of s.config a → IsWholeAppRunBy s.manner s.config a l

@@ -2,13 +2,14 @@
 //! for a driver and in `specs/AppLaw.antt` for an application, and those of what each keeps at each call beside the
 //! definitions that they speak of.
 
-ghost use Rattle.xsk_turns.specs.AppLaw.{LanesInOrder, LanesPassedOn, NothingSentLate, DrainsRx, OnlySetsKicks, WakesAtOnce, PaysAtOnce, PaysEndAtOnce};
+ghost use Rattle.xsk_turns.specs.AppLaw.{LanesInOrder, LanesPassedOn, LanesAltered, ChangesByNumber, ChangesRepeat, NothingSentLate, DrainsRx, OnlySetsKicks, WakesAtOnce, PaysAtOnce, PaysEndAtOnce};
 ghost use Rattle.xsk_turns.specs.AppOwned.{AppKeepsFrames, AppCallsLegal, AppKeepsFramesAtEnd};
 ghost use Rattle.xsk_turns.specs.AppSplit.{SplitKeepsLanes, SplitKeepsFrames, StepCallsLegal, LaterCallsLegal, LaterFramesAtEnd};
 ghost use Rattle.xsk_turns.specs.Counted.{KeepsCounters, KeepsCountersAtEnd};
 ghost use Rattle.xsk_turns.specs.Disposes.{KeepsDisposals, DisposesAll};
 ghost use Rattle.xsk_turns.specs.Law.{EachDisposedOnce, DisposedAsSaid, DeliversInOrder, DeliversSized, DeliversAsSaid, NothingReceivedLate, TellsRxDone, DrainsTx, CompletesAll};
 ghost use Rattle.xsk_turns.specs.Owned.{KeepsFrames, KeepsFramesAtEnd, LeavesRoom, FinishedFew};
+ghost use Rattle.xsk_turns.specs.Stranded.{KeepsStranded, KeepsStrandedAtEnd, NoneStranded};
 ghost use Rattle.xsk_turns.specs.Verdicts.{OneVerdicts};
 ghost use Rattle.xsk_turns.specs.Watching.{ParkedWatches, ParkedLooks, EndsAwake};
 ghost use Rattle.xsk_turns.specs.Workers.{OwnSetting, OneSetting};
@@ -46,6 +47,24 @@ pub fn keeps_counters()
 #[tactic(auto, using(crate::proofs::Counting::keeps_counters_at_end))]
 pub fn keeps_counters_at_end()
     ensures { KeepsCountersAtEnd }
+{}
+
+/// At each call what is kept of the frames that were peeked on TX are those that weren't submitted on COMPLETION.
+#[tactic(auto, using(crate::proofs::Stranding::keeps_stranded))]
+pub fn keeps_stranded()
+    ensures { KeepsStranded }
+{}
+
+/// So it is at its end.
+#[tactic(auto, using(crate::proofs::Stranding::keeps_stranded_at_end))]
+pub fn keeps_stranded_at_end()
+    ensures { KeepsStrandedAtEnd }
+{}
+
+/// And there is none at its end where each item that it peeked on TX stands in a whole packet.
+#[tactic(auto, using(crate::proofs::Stranding::none_stranded))]
+pub fn none_stranded()
+    ensures { NoneStranded }
 {}
 
 /// At each call the disposals are those that the driver's attempts leave.
@@ -164,26 +183,42 @@ pub fn app_calls_legal()
     ensures { AppCallsLegal }
 {}
 
-/// On each lane of an application the items submitted are the first of those peeked, in order and as they were.
-#[tactic(auto, using(crate::proofs::AppLanes::lanes_in_order))]
+/// On each lane of an application that changes nothing the items submitted are the first of those peeked, in order and as they
+/// were.
 pub fn lanes_in_order()
     ensures { LanesInOrder }
 {}
 
 /// In a whole run they are all of those.
-#[tactic(auto, using(crate::proofs::AppLanes::lanes_passed_on))]
 pub fn lanes_passed_on()
     ensures { LanesPassedOn }
 {}
 
+/// In a whole run of an application of any manner each item submitted on a lane is the one peeked in its place, as it was or with
+/// one of the changes.
+#[tactic(auto, using(crate::proofs::AppLanes::lanes_altered))]
+pub fn lanes_altered()
+    ensures { LanesAltered }
+{}
+
+/// Each item that such an application submits on TX is changed by its number among all that it submitted there.
+#[tactic(auto, using(crate::proofs::Numbering::changes_by_number))]
+pub fn changes_by_number()
+    ensures { ChangesByNumber }
+{}
+
+/// The changes are the same again after each 5 times so many items.
+#[tactic(auto, using(crate::proofs::Numbering::changes_repeat))]
+pub fn changes_repeat()
+    ensures { ChangesRepeat }
+{}
+
 /// Nothing is submitted on TX once the application told that it sends nothing more.
-#[tactic(auto, using(crate::proofs::AppLanes::nothing_sent_late))]
 pub fn nothing_sent_late()
     ensures { NothingSentLate }
 {}
 
 /// In a whole run each lane's RX ring was found empty after both drivers had told that they have no further packet.
-#[tactic(auto, using(crate::proofs::AppLanes::drains_rx))]
 pub fn drains_rx()
     ensures { DrainsRx }
 {}

@@ -3,8 +3,10 @@
 
 mod disposal;
 pub mod laws;
+mod manner;
 pub mod stepping;
 mod wire;
 
 pub use disposal::{Disposal, DriverCounters};
+pub use manner::{Change, Manner};
 pub use wire::Wire;

@@ -12,7 +12,7 @@ use Rattle.xsk_machine.proofs.Within.{whole_runs}
 use Rattle.xsk_workers.specs.Forwarded.{OutcomeShown, HasForwarded, AllAreForwarded, AllAreExpected}
 
 module _ (s : Setting) (frames : List Frame) (o : OutcomeShown) (port queue : â„•) (steady : IsSteady s.config) (forwarded : HasForwarded s frames o) (in_ports : port < s.config.ports) (in_queues : queue < s.config.queues) where
-  are_whole : AreWholeRuns s.wire s.config s.packets s.verdicts frames o.history
+  are_whole : AreWholeRuns s.manner s.wire s.config s.packets s.verdicts frames o.history
   are_whole = whole_runs s frames o.history steady forwarded.legal forwarded.whole
 
   known : driver_on s.config port queue < length s.config.pairs
@@ -21,11 +21,11 @@ module _ (s : Setting) (frames : List Frame) (o : OutcomeShown) (port queue : â„
       (is_at s.config port queue 0 forwarded.legal.opened.config steady.regular in_ports in_queues some).pair_known
 
 pub all_forwarded : AllAreForwarded
-all_forwarded s frames o port queue steady forwarded in_ports in_queues =
+all_forwarded s frames o port queue none steady forwarded in_ports in_queues =
     subst (AreForwarded s.wire s.config o.history s.packets s.verdicts port queue) (sym (forwarded.sent (driver_on s.config port queue) (known s frames o port queue steady forwarded in_ports in_queues)))
-    (all_are_forwarded s.wire s.config s.packets s.verdicts frames o.history port queue (are_whole s frames o port queue steady forwarded in_ports in_queues) in_ports in_queues)
+    (all_are_forwarded s.manner s.wire s.config s.packets s.verdicts frames o.history port queue none (are_whole s frames o port queue steady forwarded in_ports in_queues) in_ports in_queues)
 
 pub all_expected : AllAreExpected
-all_expected s frames o port queue waits steady forwarded in_ports in_queues =
+all_expected s frames o port queue none waits steady forwarded in_ports in_queues =
     subst (AreExpected s.config s.packets s.verdicts port queue) (sym (forwarded.sent (driver_on s.config port queue) (known s frames o port queue steady forwarded in_ports in_queues)))
-    (nothing_else_is_sent s.wire s.config s.packets s.verdicts frames o.history port queue waits (are_whole s frames o port queue steady forwarded in_ports in_queues) in_ports in_queues)
+    (nothing_else_is_sent s.manner s.wire s.config s.packets s.verdicts frames o.history port queue none waits (are_whole s frames o port queue steady forwarded in_ports in_queues) in_ports in_queues)

@@ -1,5 +1,6 @@
 -- Passes are taken, and given back once their workers have ended.
-use Rattle.std.proofs.Common.{◌≡◌, ℕ, ◌+◌, ◌<◌, ◌≤◌, Option, Some, None, List, [], ◌∷◌, ◌++◌, length, get_or, set, map, All, refl, sym, ap, subst, ◌∙◌, arith, ⊎_elim, get_or-set_same, get_or-set_other, length-set, length-append, append-nil, drop}
+use Rattle.std.proofs.Common.{◌≡◌, ℕ, ◌+◌, ◌<◌, ◌≤◌, Option, Some, None, List, [], ◌∷◌, ◌++◌, length, get_or, set, map, All, refl, sym, ap, subst, ◌∙◌, arith, ⊎_elim, get_or-set_same, get_or-set_other, length-set, length-append, append-nil, drop, Bool, false}
+use Rattle.std.specs.Prelude.{is_some}
 use Rattle.std.specs.List.{range_with_len}
 use Rattle.std.proofs.lemmas.Bool.{cases_eq}
 use Rattle.std.proofs.lemmas.List.{get_or-map, length-map, get_or_append_left, get_or_push}
@@ -221,14 +222,14 @@ are_there b s passes h = λ w below. let at = h.there w below in (at.0, at.1, re
 
 -- ---- the history of them all
 
-abbrev figures_by_parts : ℕ → Wire → List DriverFigures → Figures
-figures_by_parts calls wire drivers = record { calls = calls; wire = wire; drivers = drivers }
+abbrev figures_by_parts : ℕ → Wire → Bool → List DriverFigures → Figures
+figures_by_parts calls wire mangled drivers = record { calls = calls; wire = wire; drivers = drivers; mangled = mangled }
 
 -- in the history in which all passes end each caller's own calls and replies are a whole run, and what was kept as sent, as
 -- figures and as the number of calls is what it should be there
 module _ (b : Board) (s : Setting) (frames : List Frame) (passes : List (Option Holder)) (lists : List (List (List ℕ))) (drivers : List DriverFigures) (calls : ℕ) (wire : Wire) (h : List Entry) (steady : IsSteady s.config)
     (config : s.config ≡ b.setup.config) (opened : b.setup.frames ≡ frames) (given : AreGiven b s (callers_of b.setup.config) passes) (sent : AreSent s (callers_of b.setup.config) passes lists)
-    (figured : AreFiguresOf s (callers_of b.setup.config) passes drivers) (counted : calls ≡ capped (calls_in 0 passes)) (same_wire : wire ≡ s.wire) (ends : EndsIn b passes h) where
+    (figured : AreFiguresOf s (callers_of b.setup.config) passes drivers) (counted : calls ≡ capped (calls_in 0 passes)) (same_wire : wire ≡ s.wire) (none_changed : is_some s.manner.mangle ≡ false) (ends : EndsIn b passes h) where
   legal : IsHistory s.config frames h
   legal = subst (λ f. IsHistory s.config f h) opened (subst (λ c. IsHistory c b.setup.frames h) (sym config) ends.legal)
 
@@ -267,12 +268,12 @@ module _ (b : Board) (s : Setting) (frames : List Frame) (passes : List (Option 
       (callers_exist b.setup.config b.setup.frames h ends.legal))
 
   abbrev figures : Figures
-  figures = record { calls = calls; wire = wire; drivers = drivers }
+  figures = record { calls = calls; wire = wire; drivers = drivers; mangled = false }
 
   figures_are : figures ≡ figures_of s h
   figures_are =
-      ap (λ (n : ℕ). figures_by_parts n wire drivers) calls_is ∙ ap (λ (x : Wire). figures_by_parts (capped (length h)) x drivers) same_wire
-      ∙ ap (figures_by_parts (capped (length h)) s.wire) drivers_are
+      ap (λ (n : ℕ). figures_by_parts n wire false drivers) calls_is ∙ ap (λ (x : Wire). figures_by_parts (capped (length h)) x false drivers) same_wire
+      ∙ ap (λ (b : Bool). figures_by_parts (capped (length h)) s.wire b drivers) (sym none_changed) ∙ ap (figures_by_parts (capped (length h)) s.wire (is_some s.manner.mangle)) drivers_are
 
   pub has_forwarded : HasForwarded s frames (record { history = h; sent = lists; figures = figures })
   has_forwarded = record {
@@ -282,8 +283,8 @@ module _ (b : Board) (s : Setting) (frames : List Frame) (passes : List (Option 
     sent = sent_is;
     figures = figures_are;
     woken = λ past later pair split below.
-        none_is_lost_in_whole_runs s.wire s.config s.packets s.verdicts frames past later pair
-        (subst (AreWholeRuns s.wire s.config s.packets s.verdicts frames) split (whole_runs s frames h steady legal whole)) below;
+        none_is_lost_in_whole_runs s.manner s.wire s.config s.packets s.verdicts frames past later pair
+        (subst (AreWholeRuns s.manner s.wire s.config s.packets s.verdicts frames) split (whole_runs s frames h steady legal whole)) below;
   }
 
   pub pairs_are : length lists ≡ length s.config.pairs

@@ -9,7 +9,7 @@ use Rattle.xsk_prog.specs.Rules.{is_exact}
 use Rattle.xsk_prog.specs.declared.rule.Rule.{Rule}
 use Rattle.xsk_prog.specs.declared.rule.Verdict.{Verdict}
 use Rattle.xsk_turns.proofs.Verdicts.{one_setting}
-use Rattle.xsk_turns.specs.Workers.{Setting, AreGiven, IsRuled, ruled, packets_to}
+use Rattle.xsk_turns.specs.Workers.{Setting, AreGiven, IsRuled, ruled_by, packets_to}
 use Rattle.xsk_driver.proofs.Asking.{all_meet}
 use Rattle.xsk_driver.specs.Asking.{IsAnswer}
 use Rattle.xsk_workers.specs.Forwarded.{HasForwarded, OutcomeShown}
@@ -22,5 +22,5 @@ asked_ruled g rule f s asked = record {
 }
 
 pub forwards_as_ruled : {F : Type 0} (g : Shared F (Bor (List ℕ) × (ℕ × Unit {0})) Verdict) (rule : Rule) (f : F) (s : Setting) (frames : List Frame) (o : OutcomeShown) → is_exact rule ≡ true
-    → AreGiven (IsAnswer g rule f) s → HasForwarded s frames o → HasForwarded (ruled rule s.wire s.config s.packets) frames o
+    → AreGiven (IsAnswer g rule f) s → HasForwarded s frames o → HasForwarded (ruled_by rule s.wire s.manner s.config s.packets) frames o
 forwards_as_ruled g rule f s frames o exact asked h = subst (λ t. HasForwarded t frames o) (one_setting rule s exact (asked_ruled g rule f s asked)) h

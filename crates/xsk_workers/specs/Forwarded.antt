@@ -1,5 +1,5 @@
 -- What a run on threads shows. All workers' calls stand in one legal history, whatever threads did when.
-use Rattle.std.specs.Prelude.{◌≡◌, ℕ, ◌<◌, List, [], ◌++◌, length}
+use Rattle.std.specs.Prelude.{◌≡◌, ℕ, ◌<◌, None, List, [], ◌++◌, length}
 use Rattle.std.specs.List.{slice_index_or}
 use Rattle.std.specs.Fn.{Shared}
 use denote.Ref.{Bor}
@@ -49,12 +49,13 @@ pub record HasForwardedUnder {F : Type 0} (g : Shared F (Bor (List ℕ) × (ℕ 
   pub asked : AreGiven (IsAnswer g rule f) (setting_with c wire packets verdicts)
   pub forwarded : HasForwarded (setting_with c wire packets verdicts) frames o
 
--- What the driver of a port and queue sent is what was forwarded by all classes, whatever the wire does, and nothing else.
+-- Where no item is changed, as in each run that `forward` makes, what the driver of a port and queue sent is what was forwarded by
+-- all classes, whatever the wire does, and nothing else.
 -- Where the wire waits it is what is expected by them.
 abbrev pub AllAreForwarded : Type 0
-AllAreForwarded = (s : Setting) (frames : List Frame) (o : OutcomeShown) (port queue : ℕ) → IsSteady s.config → HasForwarded s frames o → port < s.config.ports → queue < s.config.queues
+AllAreForwarded = (s : Setting) (frames : List Frame) (o : OutcomeShown) (port queue : ℕ) → s.manner.mangle ≡ None → IsSteady s.config → HasForwarded s frames o → port < s.config.ports → queue < s.config.queues
     → AreForwarded s.wire s.config o.history s.packets s.verdicts port queue (slice_index_or o.sent (driver_on s.config port queue) [])
 
 abbrev pub AllAreExpected : Type 0
-AllAreExpected = (s : Setting) (frames : List Frame) (o : OutcomeShown) (port queue : ℕ) → s.wire ≡ Wait → IsSteady s.config → HasForwarded s frames o → port < s.config.ports → queue < s.config.queues
+AllAreExpected = (s : Setting) (frames : List Frame) (o : OutcomeShown) (port queue : ℕ) → s.manner.mangle ≡ None → s.wire ≡ Wait → IsSteady s.config → HasForwarded s frames o → port < s.config.ports → queue < s.config.queues
     → AreExpected s.config s.packets s.verdicts port queue (slice_index_or o.sent (driver_on s.config port queue) [])

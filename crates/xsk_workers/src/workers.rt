@@ -34,6 +34,7 @@ use xsk_io::Gate;
 use xsk_machine::{AnyWorker, FigureList, Figures, Inputs, Kept, drivers_for, worker_of};
 use xsk_model::Config;
 use xsk_prog::{Verdict, XdpProgram};
+use xsk_turns::Manner;
 use xsk_table::{Note, Passes, Shared};
 use xsk_umem::{Frames, OutOfMemory, PacketList};
 
@@ -98,7 +99,8 @@ impl Outcome {
 /// one can be had, until all have ended, over one list of packets for each port, none of which has more than 262,144 bytes. The
 /// frames are all frames of its UMEM. The program is attached to every port, and asked once for each packet before a worker starts: the run is
 /// one under the verdicts that it gave, which are the rule's own where that leaves one for each packet. The wire says what
-/// becomes of a packet that finds too few frames or no room on RX. Each worker passes the gate before each of its turns.
+/// becomes of a packet that finds too few frames or no room on RX. Each worker passes the gate before each of its turns. The
+/// applications change no item.
 ///
 /// What the drivers sent is what was delivered to the paired sockets (`laws::all_are_forwarded`), and where the wire waits what
 /// is expected there (`laws::all_are_expected`).
@@ -182,6 +184,7 @@ fn run_drivers<'a, V: Verdicts + Send, R: Threads + Wait + Sync, G: Gate + Sync>
             calls,
             wire,
             drivers,
+            mangled: false,
         },
     })
 }
@@ -211,7 +214,7 @@ fn seat_workers<'a, V: Verdicts>(
     let mut drivers = drivers.into_iter();
     let mut parkers = parkers.into_iter();
     for who in 0..callers {
-        let machine = worker_of(alloc, place.config, drivers.next(), who)?;
+        let machine = worker_of(alloc, place.config, drivers.next(), who, Manner::plain())?;
         let Some(pass) = passes.take(who) else {
             unreachable!()
         };

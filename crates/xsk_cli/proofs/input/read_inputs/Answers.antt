@@ -1,7 +1,7 @@
 use Rattle.std.proofs.Common.{rules, ◌<◌, ◌+◌, length, map, [], ◌∷◌, get_or, sym, ap, ◌∙◌, subst}
 use Rattle.std.proofs.lemmas.List.{map-append}
 use Rattle.xsk_io.specs.declared.bay.Stream.TheVariants.{Input}
-use Rattle.xsk_cli.specs.Steps.{HaveRead}
+use Rattle.xsk_cli.specs.Steps.{FailsReading, HaveRead}
 use Rattle.xsk_cli.specs.Streams.{Moment, IsTold}
 use Rattle.xsk_cli.specs.declared.failure.ReadFailure.TheVariants.{OutOfMemory}
 use Rattle.xsk_cli.proofs.Counting.{unchanged_then}
@@ -9,12 +9,12 @@ use Rattle.xsk_cli.proofs.Reading.{Touched, read_more, reading_fails, ends_at_on
 use Rattle.xsk_cli.proofs.input.read_inputs.Goals as goal
 
 pub returns-in_err-inputs-clause-failed : goal.returns-in_err-inputs-clause-failed
-returns-in_err-inputs-clause-failed g c plan e =
+returns-in_err-inputs-clause-failed g c plan e same =
     let now : Moment = record { is_open = g.B.Bay.is_open c.args.bay.now; asked = g.B.Bay.asked c.args.bay.now; left = g.B.Bay.left c.args.bay.now; held = g.B.Bay.held c.args.bay.now; offers = g.B.Bay.offers c.args.bay.now; faults = g.B.Bay.faults c.args.bay.now } in
     answer_ends c.from_residual.result OutOfMemory plan now now (search rules) (ends_at_once plan now c.requires.closed)
 
 pub returns-in_err-bytes-clause-failed : goal.returns-in_err-bytes-clause-failed
-returns-in_err-bytes-clause-failed g c plan e =
+returns-in_err-bytes-clause-failed g c plan e same =
     let old : Moment = record { is_open = g.B.Bay.is_open c.args.bay.now; asked = g.B.Bay.asked c.args.bay.now; left = g.B.Bay.left c.args.bay.now; held = g.B.Bay.held c.args.bay.now; offers = g.B.Bay.offers c.args.bay.now; faults = g.B.Bay.faults c.args.bay.now } in
     let mid : Moment = record { is_open = g.B.Bay.is_open c.loop-port.bay; asked = g.B.Bay.asked c.loop-port.bay; left = g.B.Bay.left c.loop-port.bay; held = g.B.Bay.held c.loop-port.bay; offers = g.B.Bay.offers c.loop-port.bay; faults = g.B.Bay.faults c.loop-port.bay } in
     let new : Moment = record { is_open = g.B.Bay.is_open c.read_input.new.bay; asked = g.B.Bay.asked c.read_input.new.bay; left = g.B.Bay.left c.read_input.new.bay; held = g.B.Bay.held c.read_input.new.bay; offers = g.B.Bay.offers c.read_input.new.bay; faults = g.B.Bay.faults c.read_input.new.bay } in
@@ -26,8 +26,8 @@ returns-in_err-bytes-clause-failed g c plan e =
     let told : IsTold (new.asked (Input port)) (get_or names port []) = told_name (λ name. name.now) c.args.names.now port _ (new.asked (Input port)) below c.read_input.ensures.asked in
     let known : port < length names = known_name (λ name. name.now) c.args.names.now port below in
     answer_ends c.from_residual-in_err-bytes.result c.in_err-bytes.field-0.0 plan old new (search rules)
-    (reading_fails plan bytes port old mid new (subst (λ ns. HaveRead ns bytes port old mid) (sym e) c.loop-port.invariant.have) (subst (λ ns. port < length ns) (sym e) known) touched
-    (subst (λ ns. IsTold (new.asked (Input port)) (get_or ns port [])) (sym e) told) c.in_err-bytes.field-0.0 (search rules))
+    (reading_fails plan bytes port old mid new (subst (λ m. HaveRead m plan.inputs bytes port old mid) (sym same) (subst (λ ns. HaveRead c.args.most ns bytes port old mid) (sym e) c.loop-port.invariant.have)) (subst (λ ns. port < length ns) (sym e) known) touched
+    (subst (λ ns. IsTold (new.asked (Input port)) (get_or ns port [])) (sym e) told) c.in_err-bytes.field-0.0 (subst (λ m. FailsReading m port mid new c.in_err-bytes.field-0.0) (sym same) (search rules)))
 
 pub loop-port-preserved : goal.loop-port-preserved
 loop-port-preserved g c =
@@ -41,9 +41,9 @@ loop-port-preserved g c =
     let below : port < length c.args.names.now = search rules in
     let told : IsTold (new.asked (Input port)) (get_or names port []) = told_name (λ name. name.now) c.args.names.now port _ (new.asked (Input port)) below c.read_input.ensures.asked in
     record {
-      have = subst (λ bs. HaveRead names bs (port + 1) old new)
+      have = subst (λ bs. HaveRead c.args.most names bs (port + 1) old new)
           (sym (ap (map (λ bytes. bytes.items)) c.push_reserved.ensures.items ∙ map-append (λ bytes. bytes.items) c.loop-port.inputs.items (c.in_ok-bytes.bytes ∷ [])))
-          (read_more names bytes port old mid new c.loop-port.invariant.have touched told c.in_ok-bytes.bytes.items
+          (read_more c.args.most names bytes port old mid new c.loop-port.invariant.have touched told c.in_ok-bytes.bytes.items
           c.in_ok-bytes.ensures.open c.in_ok-bytes.ensures.bytes c.in_ok-bytes.ensures.short c.in_ok-bytes.ensures.end);
       unchanged = unchanged_then _ _ _ c.loop-port.invariant.unchanged c.in_ok-bytes.ensures.unchanged;
       falls = search rules;

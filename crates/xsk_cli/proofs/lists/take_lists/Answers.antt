@@ -5,11 +5,11 @@ use Rattle.xsk_cli.specs.Words.{fault_in}
 use Rattle.xsk_cli.proofs.Making.{few_ports, made_within}
 use Rattle.xsk_cli.proofs.lists.take_lists.Goals as goal
 
-pub returns-in_ok-make_lists-in-Simulate-default-default-default-default-Some-default-clause-within : goal.returns-in_ok-make_lists-in-Simulate-default-default-default-default-Some-default-clause-within
-returns-in_ok-make_lists-in-Simulate-default-default-default-default-Some-default-clause-within c =
-    let made = c.in-Simulate-default-default-default-default-Some-default in
+pub returns-in_ok-make_lists-in-Simulate-default-default-default-default-default-Some-default-clause-within : goal.returns-in_ok-make_lists-in-Simulate-default-default-default-default-default-Some-default-clause-within
+returns-in_ok-make_lists-in-Simulate-default-default-default-default-default-Some-default-clause-within c =
+    let made = c.in-Simulate-default-default-default-default-default-Some-default in
     let accepted : fault_of made.layout ≡ None = ap fault_in (sym made.is) ∙ c.requires.accepted in
-    ap excess_of (c.in_ok-make_lists-in-Simulate-default-default-default-default-Some-default.ensures.lists) ∙ made_within _ made.layout.ports (few_ports made.layout accepted)
+    ap excess_of (c.in_ok-make_lists-in-Simulate-default-default-default-default-default-Some-default.ensures.lists) ∙ made_within _ made.layout.ports (few_ports made.layout accepted)
 
 pub returns-in_ok-make_lists-in-Generate-clause-within : goal.returns-in_ok-make_lists-in-Generate-clause-within
 returns-in_ok-make_lists-in-Generate-clause-within c =

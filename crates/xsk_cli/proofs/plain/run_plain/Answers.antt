@@ -6,6 +6,7 @@ use Rattle.xsk_cli.specs.Cause.{IsCaused, NoOthers}
 use Rattle.xsk_cli.specs.Ends.{Ends, NoneRose}
 use Rattle.xsk_cli.specs.Streams.{Moment}
 use Rattle.xsk_cli.specs.Words.{no_plan, plan_of}
+use Rattle.xsk_cli.proofs.Ample.{finished, never_illegal, never_stalled}
 use Rattle.xsk_cli.proofs.Answering.{answered, completes}
 use Rattle.xsk_cli.proofs.Counting.{told_others}
 use Rattle.xsk_cli.proofs.Writing.{told_ends}
@@ -48,3 +49,22 @@ returns-clause-complete g c plan inputs is accepted told taken none =
     let caused : IsCaused old.faults mid.faults c.status_of-status.result = subst (IsCaused old.faults mid.faults) (sym c.status_of-status.ensures) c.run_words.ensures.cause in
     let quiet : NoneRose old.faults mid.faults = λ kind stream rose. none kind stream (Rose-later _ _ _ (c.run_words.ensures.falls kind stream) rose (c.tell.ensures.falls kind stream)) in
     completes plan old mid inputs told c.status_of-status.result ends (λ u. let no_words = sym is ∙ c.run_words.ensures.usage (sym c.status_of-status.ensures ∙ u) in cc) accepted taken quiet caused
+
+pub returns-clause-goes_on : goal.returns-clause-goes_on
+returns-clause-goes_on g c plan round is accepted ample stalled =
+    let old : Moment = record { is_open = g.B.Bay.is_open c.args.bay.now; asked = g.B.Bay.asked c.args.bay.now; left = g.B.Bay.left c.args.bay.now; held = g.B.Bay.held c.args.bay.now; offers = g.B.Bay.offers c.args.bay.now; faults = g.B.Bay.faults c.args.bay.now } in
+    let mid : Moment = record { is_open = g.B.Bay.is_open c.run_words.new.bay; asked = g.B.Bay.asked c.run_words.new.bay; left = g.B.Bay.left c.run_words.new.bay; held = g.B.Bay.held c.run_words.new.bay; offers = g.B.Bay.offers c.run_words.new.bay; faults = g.B.Bay.faults c.run_words.new.bay } in
+    let planned : unwrap_or (plan_of (map string_bytes c.args.words.now)) no_plan ≡ plan = ap (λ o. unwrap_or o no_plan) is in
+    let ends : Ends plan old mid c.status_of-status.result =
+    subst (λ p. Ends p old mid c.status_of-status.result) planned (subst (λ s. Ends (unwrap_or (plan_of (map string_bytes c.args.words.now)) no_plan) old mid s) (sym c.status_of-status.ensures) c.run_words.ensures.ends) in
+    never_stalled plan old mid c.status_of-status.result round ends accepted ample stalled
+
+pub returns-clause-finishes : goal.returns-clause-finishes
+returns-clause-finishes g c plan inputs is accepted ample told taken none =
+    let old : Moment = record { is_open = g.B.Bay.is_open c.args.bay.now; asked = g.B.Bay.asked c.args.bay.now; left = g.B.Bay.left c.args.bay.now; held = g.B.Bay.held c.args.bay.now; offers = g.B.Bay.offers c.args.bay.now; faults = g.B.Bay.faults c.args.bay.now } in
+    let mid : Moment = record { is_open = g.B.Bay.is_open c.run_words.new.bay; asked = g.B.Bay.asked c.run_words.new.bay; left = g.B.Bay.left c.run_words.new.bay; held = g.B.Bay.held c.run_words.new.bay; offers = g.B.Bay.offers c.run_words.new.bay; faults = g.B.Bay.faults c.run_words.new.bay } in
+    let planned : unwrap_or (plan_of (map string_bytes c.args.words.now)) no_plan ≡ plan = ap (λ o. unwrap_or o no_plan) is in
+    let ends : Ends plan old mid c.status_of-status.result =
+    subst (λ p. Ends p old mid c.status_of-status.result) planned (subst (λ s. Ends (unwrap_or (plan_of (map string_bytes c.args.words.now)) no_plan) old mid s) (sym c.status_of-status.ensures) c.run_words.ensures.ends) in
+    finished plan.work c.status_of-status.result (returns-clause-complete g c plan inputs is accepted told taken none) (λ round. returns-clause-goes_on g c plan round is accepted ample)
+    (λ line. never_illegal plan old mid c.status_of-status.result line ends)

@@ -1,14 +1,11 @@
-use Rattle.std.proofs.Common.{rules, ◌≡◌, length, map, sym, ap, ◌∙◌, subst, arith}
+use Rattle.std.proofs.Common.{rules, ◌≡◌, length, map, sym, ◌∙◌, subst, arith}
 use Rattle.std.proofs.lemmas.List.{length-map}
-use Rattle.xsk_cli.specs.Judged.{AreShort}
-use Rattle.xsk_cli.specs.Outcome.{made, AreListsOf, AreTextsBy, IsOutcome}
-use Rattle.xsk_cli.specs.Steps.{FailsMaking, HaveRead, MakesNone, lists_in, plan_in, read_status, run_status, write_status, written_by, written_in}
+use Rattle.xsk_cli.specs.Judged.{AreWithin, most_of}
+use Rattle.xsk_cli.specs.Outcome.{made, IsOutcome}
+use Rattle.xsk_cli.specs.Steps.{HaveRead, MakesNone, plan_in, read_status, run_status, write_status, written_in}
 use Rattle.xsk_cli.specs.Streams.{Moment, AreWritten}
-use Rattle.xsk_cli.proofs.Making.{few_read, making_fails}
-use Rattle.xsk_cli.proofs.Writing.{SameInputs, run_fails, unwritten_ends, done_ends, status_ends, texts_count}
-use Rattle.std.specs.Prelude.{All}
-use Rattle.xsk_sim.specs.Shown.{HasShortPackets}
-use Rattle.xsk_cli.proofs.Short.{short_lists}
+use Rattle.xsk_cli.proofs.Making.{few_read}
+use Rattle.xsk_cli.proofs.Writing.{SameInputs, run_fails, unwritten_ends, done_ends, status_ends}
 use Rattle.xsk_cli.proofs.plain.run_plan.Goals as goal
 
 pub read_inputs-requires-clause-few : goal.read_inputs-requires-clause-few
@@ -21,18 +18,18 @@ returns-in_err-inputs-clause-ends g c =
     let mid : Moment = record { is_open = g.B.Bay.is_open c.read_inputs.new.bay; asked = g.B.Bay.asked c.read_inputs.new.bay; left = g.B.Bay.left c.read_inputs.new.bay; held = g.B.Bay.held c.read_inputs.new.bay; offers = g.B.Bay.offers c.read_inputs.new.bay; faults = g.B.Bay.faults c.read_inputs.new.bay } in
     let plan = plan_in c.args.plan.now in
     let failure = c.in_err-inputs.field-0.0 in
-    status_ends c.from_residual.result (read_status failure) plan old mid (search rules) (c.in_err-inputs.ensures.failed plan (search rules))
+    status_ends c.from_residual.result (read_status failure) plan old mid (search rules) (c.in_err-inputs.ensures.failed plan (search rules) (sym c.most_bytes.ensures.most))
 
-pub returns-in_err-lists-clause-ends : goal.returns-in_err-lists-clause-ends
-returns-in_err-lists-clause-ends g c =
+pub work_texts-requires-clause-within : goal.work_texts-requires-clause-within
+work_texts-requires-clause-within g c =
     let old : Moment = record { is_open = g.B.Bay.is_open c.args.bay.now; asked = g.B.Bay.asked c.args.bay.now; left = g.B.Bay.left c.args.bay.now; held = g.B.Bay.held c.args.bay.now; offers = g.B.Bay.offers c.args.bay.now; faults = g.B.Bay.faults c.args.bay.now } in
     let mid : Moment = record { is_open = g.B.Bay.is_open c.read_inputs.new.bay; asked = g.B.Bay.asked c.read_inputs.new.bay; left = g.B.Bay.left c.read_inputs.new.bay; held = g.B.Bay.held c.read_inputs.new.bay; offers = g.B.Bay.offers c.read_inputs.new.bay; faults = g.B.Bay.faults c.read_inputs.new.bay } in
     let plan = plan_in c.args.plan.now in
     let bytes = map (λ bytes. bytes.items) c.in_ok-inputs.inputs.items in
-    let failure = c.in_err-lists.field-0.0 in
-    let have : HaveRead plan.inputs bytes (length plan.inputs) old mid = subst (λ n. HaveRead plan.inputs bytes n old mid) (sym (length-map c.args.plan.now.inputs.now (λ name. name.now))) c.in_ok-inputs.ensures.read in
-    let makes : MakesNone plan.work bytes failure = c.in_err-lists.ensures.failed in
-    status_ends c.from_residual-in_err-lists.result (run_status failure) plan old mid (search rules) (run_fails plan bytes old mid mid have failure makes)
+    let have : HaveRead (most_of plan.work) plan.inputs bytes (length plan.inputs) old mid =
+    subst (λ m. HaveRead m plan.inputs bytes (length plan.inputs) old mid) c.most_bytes.ensures.most
+    (subst (λ n. HaveRead c.most_bytes.result plan.inputs bytes n old mid) (sym (length-map c.args.plan.now.inputs.now (λ name. name.now))) c.in_ok-inputs.ensures.read) in
+    subst (AreWithin (most_of plan.work) bytes) (sym have.count_is ∙ length-map c.in_ok-inputs.inputs.items (λ bytes. bytes.items)) have.short
 
 pub returns-in_err-texts-clause-ends : goal.returns-in_err-texts-clause-ends
 returns-in_err-texts-clause-ends g c =
@@ -40,23 +37,18 @@ returns-in_err-texts-clause-ends g c =
     let mid : Moment = record { is_open = g.B.Bay.is_open c.read_inputs.new.bay; asked = g.B.Bay.asked c.read_inputs.new.bay; left = g.B.Bay.left c.read_inputs.new.bay; held = g.B.Bay.held c.read_inputs.new.bay; offers = g.B.Bay.offers c.read_inputs.new.bay; faults = g.B.Bay.faults c.read_inputs.new.bay } in
     let plan = plan_in c.args.plan.now in
     let bytes = map (λ bytes. bytes.items) c.in_ok-inputs.inputs.items in
-    let lists = lists_in c.in_ok-lists.lists.items in
     let failure = c.in_err-texts.field-0.0 in
-    let have : HaveRead plan.inputs bytes (length plan.inputs) old mid = subst (λ n. HaveRead plan.inputs bytes n old mid) (sym (length-map c.args.plan.now.inputs.now (λ name. name.now))) c.in_ok-inputs.ensures.read in
-    let short : AreShort bytes (length bytes) = subst (AreShort bytes) (sym have.count_is) have.short in
-    let are : AreListsOf plan.work bytes lists = c.in_ok-lists.ensures.taken in
-    let fails : FailsMaking plan.work lists failure = subst (λ ls. FailsMaking plan.work (lists_in ls) failure) c.as_slice.ensures.value c.in_err-texts.ensures.failed in
-    status_ends c.from_residual-in_err-texts.result (run_status failure) plan old mid (search rules)
-    (run_fails plan bytes old mid mid have failure (making_fails plan.work bytes lists failure short are c.in_ok-lists.ensures.within fails))
+    let have : HaveRead (most_of plan.work) plan.inputs bytes (length plan.inputs) old mid =
+    subst (λ m. HaveRead m plan.inputs bytes (length plan.inputs) old mid) c.most_bytes.ensures.most
+    (subst (λ n. HaveRead c.most_bytes.result plan.inputs bytes n old mid) (sym (length-map c.args.plan.now.inputs.now (λ name. name.now))) c.in_ok-inputs.ensures.read) in
+    let makes : MakesNone plan.work bytes failure = c.in_err-texts.ensures.failed in
+    status_ends c.from_residual-in_err-texts.result (run_status failure) plan old mid (search rules) (run_fails plan bytes old mid mid have failure makes)
 
 pub write_texts-requires-clause-texts : goal.write_texts-requires-clause-texts
 write_texts-requires-clause-texts g c =
-    let plan = plan_in c.args.plan.now in
-    let count : length (lists_in c.as_slice.result.now) ≡ written_by plan.work =
-    length-map c.as_slice.result.now (λ list. list.packets) ∙ ap length c.as_slice.ensures.value ∙ c.in_ok-lists.ensures.count in
     omega (
       arith,
-      texts_count plan.work (lists_in c.as_slice.result.now) (written_in c.in_ok-texts.texts) c.in_ok-texts.ensures.made count,
+      c.in_ok-texts.ensures.count,
       length-map c.in_ok-texts.texts.outputs.items (λ text. text.items),
       length-map c.args.plan.now.outputs.now (λ name. name.now),
       c.requires.ready.outputs,
@@ -69,14 +61,12 @@ returns-in_err-write_texts-clause-ends g c =
     let new : Moment = record { is_open = g.B.Bay.is_open c.write_texts.new.bay; asked = g.B.Bay.asked c.write_texts.new.bay; left = g.B.Bay.left c.write_texts.new.bay; held = g.B.Bay.held c.write_texts.new.bay; offers = g.B.Bay.offers c.write_texts.new.bay; faults = g.B.Bay.faults c.write_texts.new.bay } in
     let plan = plan_in c.args.plan.now in
     let bytes = map (λ bytes. bytes.items) c.in_ok-inputs.inputs.items in
-    let lists = lists_in c.in_ok-lists.lists.items in
     let texts = written_in c.in_ok-texts.texts in
     let failure = c.in_err-write_texts.field-0.0 in
-    let have : HaveRead plan.inputs bytes (length plan.inputs) old mid = subst (λ n. HaveRead plan.inputs bytes n old mid) (sym (length-map c.args.plan.now.inputs.now (λ name. name.now))) c.in_ok-inputs.ensures.read in
-    let short : AreShort bytes (length bytes) = subst (AreShort bytes) (sym have.count_is) have.short in
-    let are : AreListsOf plan.work bytes lists = c.in_ok-lists.ensures.taken in
-    let is : AreTextsBy plan.work lists texts = subst (λ ls. AreTextsBy plan.work (lists_in ls) texts) c.as_slice.ensures.value c.in_ok-texts.ensures.made in
-    let outcome : IsOutcome plan.work bytes (made texts) = (short, (lists, are, (c.in_ok-lists.ensures.within, is))) in
+    let have : HaveRead (most_of plan.work) plan.inputs bytes (length plan.inputs) old mid =
+    subst (λ m. HaveRead m plan.inputs bytes (length plan.inputs) old mid) c.most_bytes.ensures.most
+    (subst (λ n. HaveRead c.most_bytes.result plan.inputs bytes n old mid) (sym (length-map c.args.plan.now.inputs.now (λ name. name.now))) c.in_ok-inputs.ensures.read) in
+    let outcome : IsOutcome plan.work bytes (made texts) = c.in_ok-texts.ensures.made in
     let same : SameInputs mid new = record { opened = c.write_texts.ensures.opened; asked = c.write_texts.ensures.asked; left = λ port. c.write_texts.ensures.left _ } in
     status_ends c.from_residual-in_err-write_texts.result (write_status failure) plan old new (search rules)
     (unwritten_ends plan bytes old mid new have texts outcome same failure c.in_err-write_texts.ensures.failed)
@@ -88,20 +78,13 @@ returns-clause-ends g c =
     let new : Moment = record { is_open = g.B.Bay.is_open c.write_texts.new.bay; asked = g.B.Bay.asked c.write_texts.new.bay; left = g.B.Bay.left c.write_texts.new.bay; held = g.B.Bay.held c.write_texts.new.bay; offers = g.B.Bay.offers c.write_texts.new.bay; faults = g.B.Bay.faults c.write_texts.new.bay } in
     let plan = plan_in c.args.plan.now in
     let bytes = map (λ bytes. bytes.items) c.in_ok-inputs.inputs.items in
-    let lists = lists_in c.in_ok-lists.lists.items in
     let texts = written_in c.in_ok-texts.texts in
-    let have : HaveRead plan.inputs bytes (length plan.inputs) old mid = subst (λ n. HaveRead plan.inputs bytes n old mid) (sym (length-map c.args.plan.now.inputs.now (λ name. name.now))) c.in_ok-inputs.ensures.read in
-    let short : AreShort bytes (length bytes) = subst (AreShort bytes) (sym have.count_is) have.short in
-    let are : AreListsOf plan.work bytes lists = c.in_ok-lists.ensures.taken in
-    let is : AreTextsBy plan.work lists texts = subst (λ ls. AreTextsBy plan.work (lists_in ls) texts) c.as_slice.ensures.value c.in_ok-texts.ensures.made in
-    let outcome : IsOutcome plan.work bytes (made texts) = (short, (lists, are, (c.in_ok-lists.ensures.within, is))) in
+    let have : HaveRead (most_of plan.work) plan.inputs bytes (length plan.inputs) old mid =
+    subst (λ m. HaveRead m plan.inputs bytes (length plan.inputs) old mid) c.most_bytes.ensures.most
+    (subst (λ n. HaveRead c.most_bytes.result plan.inputs bytes n old mid) (sym (length-map c.args.plan.now.inputs.now (λ name. name.now))) c.in_ok-inputs.ensures.read) in
+    let outcome : IsOutcome plan.work bytes (made texts) = c.in_ok-texts.ensures.made in
     let same : SameInputs mid new = record { opened = c.write_texts.ensures.opened; asked = c.write_texts.ensures.asked; left = λ port. c.write_texts.ensures.left _ } in
     let count : length plan.outputs ≡ length c.args.plan.now.outputs.now = length-map c.args.plan.now.outputs.now (λ name. name.now) in
     let writes : AreWritten plan.outputs texts.outputs (length plan.outputs) (length plan.outputs) mid new =
     subst (λ n. AreWritten plan.outputs texts.outputs n n mid new) (sym count) c.in_ok-write_texts.ensures.written in
     done_ends plan bytes old mid new have texts outcome same writes c.in_ok-write_texts.ensures.report c.in_ok-write_texts.ensures.offered
-
-pub make_texts-requires-clause-short : goal.make_texts-requires-clause-short
-make_texts-requires-clause-short g c =
-    subst (All HasShortPackets) (sym c.as_slice.ensures.value)
-    (short_lists (plan_in c.args.plan.now).work (map (λ bytes. bytes.items) c.in_ok-inputs.inputs.items) c.in_ok-lists.lists.items c.in_ok-lists.ensures.taken)

@@ -1,4 +1,4 @@
-use Rattle.std.proofs.Common.{arith, ◌≡◌, ℕ, List, [], length, sym, ap, subst, ◌∙◌}
+use Rattle.std.proofs.Common.{arith, ◌≡◌, ℕ, List, [], length, sym, ap, subst, ◌∙◌, None}
 use Rattle.std.proofs.lemmas.List.{length-map}
 use Rattle.std.proofs.lemmas.List.FromFn.{length-map-range_with_len}
 use Rattle.std.proofs.lemmas.Option.{same_Some}
@@ -54,4 +54,4 @@ returns-clause-made g c =
 
 pub returns-in_err-lent-clause-shown : goal.returns-in_err-lent-clause-shown
 returns-in_err-lent-clause-shown g c o is =
-    subst (HasForwarded (setting_of c.args.layout.now c.args.program c.args.wire (lists_in c.args.lists.now)) (frames_of c.args.layout.now)) (same_Some c.in_ok-shown.shown o (sym c.in_err-lent.ensures.kept ∙ is)) c.in_ok-shown.ensures.forwarded
+    subst (HasForwarded (setting_of c.args.layout.now c.args.program c.args.wire None (lists_in c.args.lists.now)) (frames_of c.args.layout.now)) (same_Some c.in_ok-shown.shown o (sym c.in_err-lent.ensures.kept ∙ is)) c.in_ok-shown.ensures.forwarded

@@ -4,14 +4,14 @@ use Rattle.std.proofs.lemmas.List.{length-map}
 use Rattle.xsk_sim.specs.Shown.{HasShortPackets}
 use Rattle.xsk_workers.specs.Forwarded.{OutcomeShown}
 use Rattle.xsk_cli.specs.Forward.{AreTextsFrom, ComesShown, EndsShown, HasShown, IsShown, IsWritten}
-use Rattle.xsk_cli.specs.Judged.{AreShort}
+use Rattle.xsk_cli.specs.Judged.{AreShort, AreWithin, most_of}
 use Rattle.xsk_cli.specs.Outcome.{AreListsOf}
 use Rattle.xsk_cli.specs.Steps.{HaveRead, MakesNone, lists_in, plan_in, read_status, run_status, write_status, written_by, written_in}
 use Rattle.xsk_cli.specs.Streams.{Moment, AreWritten}
 use Rattle.xsk_cli.specs.declared.status.Status.TheVariants.{Done}
 use Rattle.xsk_cli.proofs.Making.{few_read}
 use Rattle.xsk_cli.proofs.Short.{short_lists}
-use Rattle.xsk_cli.proofs.Showing.{read_before, run_before, shown_none, status_shown, shown_count, ran_out_shown, few_written}
+use Rattle.xsk_cli.proofs.Showing.{read_before, run_before, run_packets, run_short, shown_none, status_shown, shown_count, ran_out_shown, few_written}
 use Rattle.xsk_cli.proofs.Writing.{SameInputs, done_by, run_fails, unwritten_by}
 use Rattle.xsk_cli.proofs.threads.forward_plan.Goals as goal
 
@@ -26,7 +26,7 @@ returns-in_err-inputs-clause-ends g c =
     let plan = plan_in c.args.plan.now in
     let failure = c.in_err-inputs.field-0.0 in
     status_shown c.from_residual.result (read_status failure) None _ plan old mid (search rules) c.requires.none
-    (shown_none plan old mid (read_status failure) (c.in_err-inputs.ensures.failed plan (search rules)) (read_before failure))
+    (shown_none plan old mid (read_status failure) (c.in_err-inputs.ensures.failed plan (search rules) (sym c.most_bytes.ensures.most)) (read_before failure))
 
 pub returns-in_err-lists-clause-ends : goal.returns-in_err-lists-clause-ends
 returns-in_err-lists-clause-ends g c =
@@ -35,7 +35,9 @@ returns-in_err-lists-clause-ends g c =
     let plan = plan_in c.args.plan.now in
     let bytes = map (λ bytes. bytes.items) c.in_ok-inputs.inputs.items in
     let failure = c.in_err-lists.field-0.0 in
-    let have : HaveRead plan.inputs bytes (length plan.inputs) old mid = subst (λ n. HaveRead plan.inputs bytes n old mid) (sym (length-map c.args.plan.now.inputs.now (λ name. name.now))) c.in_ok-inputs.ensures.read in
+    let have : HaveRead (most_of plan.work) plan.inputs bytes (length plan.inputs) old mid =
+    subst (λ m. HaveRead m plan.inputs bytes (length plan.inputs) old mid) c.most_bytes.ensures.most
+    (subst (λ n. HaveRead c.most_bytes.result plan.inputs bytes n old mid) (sym (length-map c.args.plan.now.inputs.now (λ name. name.now))) c.in_ok-inputs.ensures.read) in
     let makes : MakesNone plan.work bytes failure = c.in_err-lists.ensures.failed in
     status_shown c.from_residual-in_err-lists.result (run_status failure) None _ plan old mid (search rules) c.requires.none
     (shown_none plan old mid (run_status failure) (run_fails plan bytes old mid mid have failure makes) (run_before failure c.in_err-lists.ensures.no_run))
@@ -52,8 +54,10 @@ returns-in_err-lent-clause-ends g c =
     let plan = plan_in c.args.plan.now in
     let bytes = map (λ bytes. bytes.items) c.in_ok-inputs.inputs.items in
     let lists = lists_in c.in_ok-lists.lists.items in
-    let have : HaveRead plan.inputs bytes (length plan.inputs) old mid = subst (λ n. HaveRead plan.inputs bytes n old mid) (sym (length-map c.args.plan.now.inputs.now (λ name. name.now))) c.in_ok-inputs.ensures.read in
-    let short : AreShort bytes (length bytes) = subst (AreShort bytes) (sym have.count_is) have.short in
+    let have : HaveRead (most_of plan.work) plan.inputs bytes (length plan.inputs) old mid =
+    subst (λ m. HaveRead m plan.inputs bytes (length plan.inputs) old mid) c.most_bytes.ensures.most
+    (subst (λ n. HaveRead c.most_bytes.result plan.inputs bytes n old mid) (sym (length-map c.args.plan.now.inputs.now (λ name. name.now))) c.in_ok-inputs.ensures.read) in
+    let short : AreShort bytes (length bytes) = run_short plan.work bytes (length bytes) c.requires.runs (subst (AreWithin (most_of plan.work) bytes) (sym have.count_is) have.short) in
     let are : AreListsOf plan.work bytes lists = c.in_ok-lists.ensures.taken in
     let same_lists : lists_in c.as_slice.result.now ≡ lists = ap lists_in c.as_slice.ensures.value in
     let ports : length lists ≡ written_by plan.work = length-map c.in_ok-lists.lists.items (λ list. list.packets) ∙ c.in_ok-lists.ensures.count in
@@ -97,8 +101,10 @@ returns-in_err-written-clause-ends g c =
     let texts = written_in c.in_ok-lent.lent.texts in
     let failure = c.in_err-written.field-0.0 in
     let gave : c.write_texts-written.result ≡ Err failure = search rules in
-    let have : HaveRead plan.inputs bytes (length plan.inputs) old mid = subst (λ n. HaveRead plan.inputs bytes n old mid) (sym (length-map c.args.plan.now.inputs.now (λ name. name.now))) c.in_ok-inputs.ensures.read in
-    let short : AreShort bytes (length bytes) = subst (AreShort bytes) (sym have.count_is) have.short in
+    let have : HaveRead (most_of plan.work) plan.inputs bytes (length plan.inputs) old mid =
+    subst (λ m. HaveRead m plan.inputs bytes (length plan.inputs) old mid) c.most_bytes.ensures.most
+    (subst (λ n. HaveRead c.most_bytes.result plan.inputs bytes n old mid) (sym (length-map c.args.plan.now.inputs.now (λ name. name.now))) c.in_ok-inputs.ensures.read) in
+    let short : AreShort bytes (length bytes) = run_short plan.work bytes (length bytes) c.requires.runs (subst (AreWithin (most_of plan.work) bytes) (sym have.count_is) have.short) in
     let are : AreListsOf plan.work bytes lists = c.in_ok-lists.ensures.taken in
     let same_lists : lists_in c.as_slice.result.now ≡ lists = ap lists_in c.as_slice.ensures.value in
     let ports : length lists ≡ written_by plan.work = length-map c.in_ok-lists.lists.items (λ list. list.packets) ∙ c.in_ok-lists.ensures.count in
@@ -127,8 +133,10 @@ returns-clause-ends g c =
     let bytes = map (λ bytes. bytes.items) c.in_ok-inputs.inputs.items in
     let lists = lists_in c.in_ok-lists.lists.items in
     let texts = written_in c.in_ok-lent.lent.texts in
-    let have : HaveRead plan.inputs bytes (length plan.inputs) old mid = subst (λ n. HaveRead plan.inputs bytes n old mid) (sym (length-map c.args.plan.now.inputs.now (λ name. name.now))) c.in_ok-inputs.ensures.read in
-    let short : AreShort bytes (length bytes) = subst (AreShort bytes) (sym have.count_is) have.short in
+    let have : HaveRead (most_of plan.work) plan.inputs bytes (length plan.inputs) old mid =
+    subst (λ m. HaveRead m plan.inputs bytes (length plan.inputs) old mid) c.most_bytes.ensures.most
+    (subst (λ n. HaveRead c.most_bytes.result plan.inputs bytes n old mid) (sym (length-map c.args.plan.now.inputs.now (λ name. name.now))) c.in_ok-inputs.ensures.read) in
+    let short : AreShort bytes (length bytes) = run_short plan.work bytes (length bytes) c.requires.runs (subst (AreWithin (most_of plan.work) bytes) (sym have.count_is) have.short) in
     let are : AreListsOf plan.work bytes lists = c.in_ok-lists.ensures.taken in
     let same_lists : lists_in c.as_slice.result.now ≡ lists = ap lists_in c.as_slice.ensures.value in
     let ports : length lists ≡ written_by plan.work = length-map c.in_ok-lists.lists.items (λ list. list.packets) ∙ c.in_ok-lists.ensures.count in
@@ -149,3 +157,17 @@ returns-clause-ends g c =
     subst (λ n. AreWritten plan.outputs texts.outputs n n mid new) (sym count) (rw gave at c.write_texts-written.ensures.written) in
     subst (λ x. EndsShown x old new Done plan) (sym is_some)
     (done_by plan bytes old mid new have (ComesShown plan.work (Some o)) texts same is writes (rw gave at c.write_texts-written.ensures.report) (rw gave at c.write_texts-written.ensures.offered))
+
+pub take_lists-requires-clause-packets : goal.take_lists-requires-clause-packets
+take_lists-requires-clause-packets g c = run_packets c.args.plan.now.work c.requires.runs
+
+pub take_lists-requires-clause-short : goal.take_lists-requires-clause-short
+take_lists-requires-clause-short g c =
+    let old : Moment = record { is_open = g.B.Bay.is_open c.args.bay.now; asked = g.B.Bay.asked c.args.bay.now; left = g.B.Bay.left c.args.bay.now; held = g.B.Bay.held c.args.bay.now; offers = g.B.Bay.offers c.args.bay.now; faults = g.B.Bay.faults c.args.bay.now } in
+    let mid : Moment = record { is_open = g.B.Bay.is_open c.read_inputs.new.bay; asked = g.B.Bay.asked c.read_inputs.new.bay; left = g.B.Bay.left c.read_inputs.new.bay; held = g.B.Bay.held c.read_inputs.new.bay; offers = g.B.Bay.offers c.read_inputs.new.bay; faults = g.B.Bay.faults c.read_inputs.new.bay } in
+    let plan = plan_in c.args.plan.now in
+    let bytes = map (λ bytes. bytes.items) c.in_ok-inputs.inputs.items in
+    let have : HaveRead (most_of plan.work) plan.inputs bytes (length plan.inputs) old mid =
+    subst (λ m. HaveRead m plan.inputs bytes (length plan.inputs) old mid) c.most_bytes.ensures.most
+    (subst (λ n. HaveRead c.most_bytes.result plan.inputs bytes n old mid) (sym (length-map c.args.plan.now.inputs.now (λ name. name.now))) c.in_ok-inputs.ensures.read) in
+    run_short plan.work bytes (length c.in_ok-inputs.inputs.items) c.requires.runs (subst (AreWithin (most_of plan.work) bytes) (sym have.count_is ∙ length-map c.in_ok-inputs.inputs.items (λ bytes. bytes.items)) have.short)

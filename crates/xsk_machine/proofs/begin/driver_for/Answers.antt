@@ -5,6 +5,7 @@ use Rattle.xsk_model.specs.Config.{pair_at}
 use Rattle.xsk_model.specs.declared.config.PairInfo.{PairInfo}
 use Rattle.xsk_turns.specs.Inputs.{packets_of_port, packets_of_queue}
 use Rattle.xsk_turns.specs.Verdicts.{EachHas, IsGiven}
+use Rattle.xsk_turns.specs.Mangling.{plain}
 use Rattle.xsk_turns.specs.Workers.{Setting}
 use Rattle.xsk_driver.specs.Asking.{IsAnswer, verdicts_in}
 use Rattle.xsk_machine.specs.Acts.{HasRoomToSend}
@@ -13,15 +14,15 @@ use Rattle.xsk_machine.proofs.begin.driver_for.Goals as goal
 
 pub amount_of-requires : goal.amount_of-requires
 amount_of-requires g c =
-    let s : Setting = record { config = c.args.config.now; wire = c.args.wire; packets = c.args.packets.now; verdicts = [] } in
+    let s : Setting = record { config = c.args.config.now; wire = c.args.wire; manner = plain; packets = c.args.packets.now; verdicts = [] } in
     record {
       known = (other_found s c.args.pair c.args.inputs.now c.pairs.result.now c.paired_port-port.result c.driver_on-other.result c.index-packets-port.result c.pairs.ensures.lawful c.requires.steady.regular
           c.requires.inputs c.requires.pair c.requires.lists c.pairs.ensures.value c.paired_port-port.ensures c.driver_on-other.ensures.value c.index-packets-port.is).known;
     }
 
 pub returns-clause-new : goal.returns-clause-new
-returns-clause-new g c verdicts given =
-    let s : Setting = record { config = c.args.config.now; wire = c.args.wire; packets = c.args.packets.now; verdicts = verdicts } in
+returns-clause-new g c manner verdicts given =
+    let s : Setting = record { config = c.args.config.now; wire = c.args.wire; manner = manner; packets = c.args.packets.now; verdicts = verdicts } in
     let pair = c.args.pair in
     let known : pair < length s.config.pairs = c.requires.pair in
     let below : pair < length c.pairs.result.now = omega (arith, known, ap (length {A = PairInfo}) c.pairs.ensures.value) in

@@ -20,4 +20,4 @@ returns-clause-new g c =
 pub returns-clause-asked : goal.returns-clause-asked
 returns-clause-asked g c =
     let count : length c.loop-pair.drivers.items ≡ length c.args.config.now.pairs = search rules in
-    all_asked (IsAnswer g.F.Fn c.args.program.now.rule c.args.program.now.decide) c.args.config.now c.args.wire c.args.packets.now c.loop-pair.drivers.items c.loop-pair.invariant.0 count
+    λ manner. all_asked (IsAnswer g.F.Fn c.args.program.now.rule c.args.program.now.decide) c.args.config.now c.args.wire c.args.packets.now c.loop-pair.drivers.items c.loop-pair.invariant.0 manner count

@@ -11,7 +11,7 @@ loop-who-init c = record {
   count = c.in_ok-seats.ensures.len;
   left = subst (λ l. length c.args.config.now.pairs ≤ 0 + length l) (sym c.into_iter-drivers.ensures.rest) (omega (arith, c.requires.count));
   settled = rw c.in_ok-seats.ensures.items (each_none 0 _);
-  seated = λ s is new. (subst (AreNew s 0) (sym c.into_iter-drivers.ensures.rest) new, rw c.in_ok-seats.ensures.items (each_none 0 _));
+  seated = λ s is manner new. (subst (AreNew s 0) (sym c.into_iter-drivers.ensures.rest) new, rw c.in_ok-seats.ensures.items (each_none 0 _));
 }
 
 -- where no driver is next, none is left
@@ -26,8 +26,8 @@ worker_of-requires-clause-app c =
 pub new-requires : goal.new-requires
 new-requires c =
     let n = c.requires.new in
-    let new = c.loop-who.invariant.seated n.0 n.1 n.2 in
-    (c.in_ok-worker.ensures n.0 n.1 (next_new n.0 c.loop-who.who (into_iter_items c.loop-who.drivers) (into_iter_items c.next.new.self) c.next.result c.next.ensures.items new.0)).expected
+    let new = c.loop-who.invariant.seated n.0 n.1 n.2 n.3 in
+    (c.in_ok-worker.ensures n.0 n.1 n.2 (next_new n.0 c.loop-who.who (into_iter_items c.loop-who.drivers) (into_iter_items c.next.new.self) c.next.result c.next.ensures.items new.0)).expected
 
 pub loop-who-preserved : goal.loop-who-preserved
 loop-who-preserved c =
@@ -40,10 +40,10 @@ loop-who-preserved c =
       count = omega (arith, c.in_ok-push.ensures.len, count);
       left = fewer_left c.args.config.now who (into_iter_items c.loop-who.drivers) (into_iter_items c.next.new.self) c.next.result c.next.ensures.items left c.loop-who.invariant.left;
       settled = rw c.in_ok-push.ensures.items (each_push c.loop-who.seats.items 0 who _ c.new.result c.loop-who.invariant.settled (omega (arith, count, items)) c.new.ensures.settled);
-      seated = λ s is all.
-          let was = c.loop-who.invariant.seated s is all in
+      seated = λ s is manner all.
+          let was = c.loop-who.invariant.seated s is manner all in
           let fresh : IsFresh s who c.in_ok-worker.worker =
-          c.in_ok-worker.ensures s is (next_new s who (into_iter_items c.loop-who.drivers) (into_iter_items c.next.new.self) c.next.result c.next.ensures.items was.0) in (
+          c.in_ok-worker.ensures s is manner (next_new s who (into_iter_items c.loop-who.drivers) (into_iter_items c.next.new.self) c.next.result c.next.ensures.items was.0) in (
             later_new s who (into_iter_items c.loop-who.drivers) (into_iter_items c.next.new.self) c.next.result c.next.ensures.items left was.0,
             rw c.in_ok-push.ensures.items (each_push c.loop-who.seats.items 0 who _ c.new.result was.1 (omega (arith, count, items)) (c.new.ensures.stands s who fresh.is)),
           );

@@ -12,6 +12,6 @@ invariant-loop-who l = record {
   count : vec_len l.seats ≡ l.who;
   left : length l.config.pairs ≤ l.who + length (into_iter_items l.drivers);
   settled : EachFrom l.seats.items 0 (λ who seat. seat.settled ≡ 0);
-  seated : (s : Setting) → s.config ≡ l.config → AreNew s 0 (vec_items l.fn.drivers)
+  seated : (s : Setting) → s.config ≡ l.config → s.manner ≡ l.manner → AreNew s 0 (vec_items l.fn.drivers)
       → AreNew s l.who (into_iter_items l.drivers) × EachFrom l.seats.items 0 (λ who seat. Sits s new_own who seat.machine (joined_ask seat.ask seat.items));
 }

@@ -1,5 +1,6 @@
 use Rattle.std.proofs.Common.{subst}
 use Rattle.xsk_model.specs.Config.{Config}
+use Rattle.xsk_turns.specs.Mangling.{plain}
 use Rattle.xsk_turns.specs.Workers.{AreGiven}
 use Rattle.xsk_driver.specs.Asking.{IsAnswer}
 use Rattle.xsk_machine.specs.Workers.{kept_in, AreNew}
@@ -10,13 +11,13 @@ use Rattle.xsk_workers.proofs.workers.forward.Goals as goal
 
 pub run_drivers-requires-clause-new : goal.run_drivers-requires-clause-new
 run_drivers-requires-clause-new g c κs within =
-    subst (λ (k : Config). AreNew (setting_with k c.args.wire c.args.packets.now (kept_in c.in_ok-drivers.drivers.items)) 0 c.in_ok-drivers.drivers.items) c.in_ok-own.ensures c.in_ok-drivers.ensures.new
+    subst (λ (k : Config). AreNew (setting_with k c.args.wire c.args.packets.now (kept_in c.in_ok-drivers.drivers.items)) 0 c.in_ok-drivers.drivers.items) c.in_ok-own.ensures (c.in_ok-drivers.ensures.new plain)
 
 asked : (g : given.Over) (c : goal.After-drop-own-inside-4 g)
     → AreGiven (IsAnswer g.F.Fn c.args.program.now.rule c.args.program.now.decide) (setting_with c.args.config c.args.wire c.args.packets.now (kept_in c.in_ok-drivers.drivers.items))
 asked g c =
     subst (λ (k : Config). AreGiven (IsAnswer g.F.Fn c.args.program.now.rule c.args.program.now.decide) (setting_with k c.args.wire c.args.packets.now (kept_in c.in_ok-drivers.drivers.items)))
-    c.in_ok-own.ensures c.in_ok-drivers.ensures.asked
+    c.in_ok-own.ensures (c.in_ok-drivers.ensures.asked plain)
 
 pub returns-clause-under : goal.returns-clause-under
 returns-clause-under g c = record { verdicts = kept_in c.in_ok-drivers.drivers.items; asked = asked g c; forwarded = c.in_ok-outcome.ensures.forwarded }

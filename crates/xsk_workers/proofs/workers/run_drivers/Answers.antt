@@ -1,4 +1,4 @@
-use Rattle.std.proofs.Common.{rules, arith, ◌≡◌, ◌≤◌, ℕ, List, length, map, refl, sym, ap, subst, ◌∙◌}
+use Rattle.std.proofs.Common.{rules, arith, ◌≡◌, ◌≤◌, ℕ, List, length, map, refl, sym, ap, subst, ◌∙◌, false}
 use Rattle.std.specs.Prelude.{All}
 use Rattle.std.specs.List.{range_with_len}
 use Rattle.std.proofs.lemmas.List.Elements.{All-map}
@@ -54,7 +54,7 @@ returns-clause-pairs g c =
     let steady : IsSteady s.config = subst IsSteady (sym is) c.requires.steady in
     let frames : c.in-Ok.shared.setup.frames ≡ c.args.frames.items = search rules in
     pairs_are c.in-Ok.shared s c.args.frames.items c.give_back-calls.new.passes (map packets_in c.give_back-calls.new.kept.sent.items) c.give_back-calls.new.kept.figures.items c.give_back-calls.result c.args.wire c.close-frames.result.1.seen steady config frames
-    (c.give_back-calls.ensures.given s have) (c.give_back-calls.ensures.sent s have) (c.give_back-calls.ensures.figures s have) c.give_back-calls.ensures.calls refl c.close-frames.ensures.history
+    (c.give_back-calls.ensures.given s have) (c.give_back-calls.ensures.sent s have) (c.give_back-calls.ensures.figures s have) c.give_back-calls.ensures.calls refl refl c.close-frames.ensures.history
     ∙ ap (λ (k : Config). length k.pairs) is
 
 pub returns-clause-forwarded : goal.returns-clause-forwarded
@@ -71,12 +71,12 @@ returns-clause-forwarded g c =
     let outcome : OutcomeShown = record {
       history = c.close-frames.result.1.seen;
       sent = map packets_in kept.sent.items;
-      figures = record { calls = c.give_back-calls.result; wire = c.args.wire; drivers = c.of-drivers.result };
+      figures = record { calls = c.give_back-calls.result; wire = c.args.wire; drivers = c.of-drivers.result; mangled = false };
     } in
     subst (λ (k : Config). HasForwarded (setting_with k c.args.wire c.args.packets.now g.V.Verdicts.verdicts) c.args.frames.items outcome) is
-    (subst (λ ds. HasForwarded s c.args.frames.items (record { history = c.close-frames.result.1.seen; sent = map packets_in kept.sent.items; figures = record { calls = c.give_back-calls.result; wire = c.args.wire; drivers = ds } })) (sym c.of-drivers.ensures)
+    (subst (λ ds. HasForwarded s c.args.frames.items (record { history = c.close-frames.result.1.seen; sent = map packets_in kept.sent.items; figures = record { calls = c.give_back-calls.result; wire = c.args.wire; drivers = ds; mangled = false } })) (sym c.of-drivers.ensures)
     (has_forwarded c.in-Ok.shared s c.args.frames.items c.give_back-calls.new.passes (map packets_in kept.sent.items) kept.figures.items c.give_back-calls.result c.args.wire c.close-frames.result.1.seen steady config frames
-    (c.give_back-calls.ensures.given s have) (c.give_back-calls.ensures.sent s have) (c.give_back-calls.ensures.figures s have) c.give_back-calls.ensures.calls refl c.close-frames.ensures.history))
+    (c.give_back-calls.ensures.given s have) (c.give_back-calls.ensures.sent s have) (c.give_back-calls.ensures.figures s have) c.give_back-calls.ensures.calls refl refl c.close-frames.ensures.history))
 
 pub returns-clause-short : goal.returns-clause-short
 returns-clause-short g c = All-map (λ (list : List (List ℕ)). All IsShort list) packets_in c.give_back-calls.new.kept.sent.items c.give_back-calls.ensures.short

@@ -47,7 +47,7 @@ new-requires-clause-pass g c =
 pub new-requires-clause-expected : goal.new-requires-clause-expected
 new-requires-clause-expected g c =
     let s : Setting = setting_with c.args.place.config.now c.args.place.wire c.args.place.packets.now g.V.Verdicts.verdicts in
-    (c.in_ok-machine.ensures s refl (next_new s c.loop-who.who (into_iter_items c.loop-who.drivers) (into_iter_items c.next.new.self) c.next.result c.next.ensures.items c.loop-who.invariant.3)).expected
+    (c.in_ok-machine.ensures s refl (sym c.plain.ensures) (next_new s c.loop-who.who (into_iter_items c.loop-who.drivers) (into_iter_items c.next.new.self) c.next.result c.next.ensures.items c.loop-who.invariant.3)).expected
 
 pub new-requires-clause-machine : goal.new-requires-clause-machine
 new-requires-clause-machine g c =
@@ -55,7 +55,7 @@ new-requires-clause-machine g c =
     let s : Setting = setting_with c.args.place.config.now c.args.place.wire c.args.place.packets.now g.V.Verdicts.verdicts in
     let below : c.loop-who.who < callers_of b.setup.config = search rules in
     let is : c.in-Some.pass ≡ new_pass b c.loop-who.who = is_new_pass b c.loop-who.who c.loop-who.passes c.in-Some.pass below c.loop-who.invariant.0 (search rules) in
-    subst (λ (k : ℕ). IsNew s k c.in_ok-machine.machine) (sym (ap (λ (p : Holder). p.who) is)) (c.in_ok-machine.ensures s refl (next_new s c.loop-who.who (into_iter_items c.loop-who.drivers) (into_iter_items c.next.new.self) c.next.result c.next.ensures.items c.loop-who.invariant.3)).is
+    subst (λ (k : ℕ). IsNew s k c.in_ok-machine.machine) (sym (ap (λ (p : Holder). p.who) is)) (c.in_ok-machine.ensures s refl (sym c.plain.ensures) (next_new s c.loop-who.who (into_iter_items c.loop-who.drivers) (into_iter_items c.next.new.self) c.next.result c.next.ensures.items c.loop-who.invariant.3)).is
 
 pub loop-who-preserved : goal.loop-who-preserved
 loop-who-preserved g c =

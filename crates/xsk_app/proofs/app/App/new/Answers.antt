@@ -31,5 +31,6 @@ invariant_of-machine c =
       pairs_are = both_pairs d0 d1 (pair_of k c.args.app 0) (pair_of k c.args.app 1) first second;
       lanes = lanes;
       sides = sides;
+      numbered = omega arith;
       ready = tt;
     }

@@ -1,0 +1,6 @@
+use Rattle.std.proofs.Common.{◌≡◌}
+use Rattle.xsk_rings.specs.Rounds.{Rests}
+use Rattle.test_threads.proofs.circling.serve_all.Given as goal
+
+abbrev pub invariant-rounds : goal.invariant-rounds
+invariant-rounds l = Rests l.shared l.pass × (l.pass.who ≡ l.initial.pass.who)

@@ -1,0 +1,4 @@
+pub mod Beginning
+pub mod Rounds
+pub mod Seats
+pub mod Serving

@@ -1,0 +1,5 @@
+pub mod Drives
+pub mod Played
+pub mod Playing
+pub mod Serving
+pub mod Traffic

@@ -1,0 +1,47 @@
+use Rattle.std.proofs.Common.{rules, ◌≡◌, List, ℕ, length, map, sym, ◌∙◌, subst}
+use Rattle.std.specs.Prelude.{All}
+use Rattle.std.proofs.lemmas.List.{length-map}
+use Rattle.xsk_sim.specs.Shown.{HasShortPackets}
+use Rattle.xsk_cli.specs.Judged.{AreWithin, most_of}
+use Rattle.xsk_cli.specs.Outcome.{AreTextsBy}
+use Rattle.xsk_cli.specs.Steps.{FailsMaking, lists_in, written_by, written_in}
+use Rattle.xsk_cli.proofs.Judging.{short_all}
+use Rattle.xsk_cli.proofs.Making.{answer_makes, making_fails, packets_made, packets_within}
+use Rattle.xsk_cli.proofs.Short.{short_lists}
+use Rattle.xsk_cli.proofs.Writing.{texts_count}
+use Rattle.xsk_cli.proofs.work.packet_texts.Goals as goal
+
+pub make_texts-requires-clause-short : goal.make_texts-requires-clause-short
+make_texts-requires-clause-short c =
+    subst (All HasShortPackets) (sym c.as_slice.ensures.value)
+    (short_lists c.args.work.now (map (λ bytes. bytes.items) c.args.inputs.items) c.in_ok-lists.lists.items c.in_ok-lists.ensures.taken)
+
+pub returns-in_err-texts-clause-failed : goal.returns-in_err-texts-clause-failed
+returns-in_err-texts-clause-failed c =
+    let work = c.args.work.now in
+    let bytes : List (List ℕ) = map (λ bytes. bytes.items) c.args.inputs.items in
+    let lists = lists_in c.in_ok-lists.lists.items in
+    let failure = c.in_err-texts.field-0.0 in
+    let within : AreWithin (most_of work) bytes (length bytes) = packets_within work bytes (length bytes) c.requires.packets (short_all (λ bytes. bytes.items) c.args.inputs.items c.requires.short) in
+    let fails : FailsMaking work lists failure = subst (λ ls. FailsMaking work (lists_in ls) failure) c.as_slice.ensures.value c.in_err-texts.ensures.failed in
+    answer_makes c.from_residual-in_err-texts.result failure work bytes (search rules) (making_fails work bytes lists failure within c.in_ok-lists.ensures.taken c.in_ok-lists.ensures.within fails)
+
+pub returns-clause-made : goal.returns-clause-made
+returns-clause-made c =
+    let work = c.args.work.now in
+    let bytes : List (List ℕ) = map (λ bytes. bytes.items) c.args.inputs.items in
+    let lists = lists_in c.in_ok-lists.lists.items in
+    let texts = written_in c.in_ok-texts.texts in
+    let is : AreTextsBy work lists texts = subst (λ ls. AreTextsBy work (lists_in ls) texts) c.as_slice.ensures.value c.in_ok-texts.ensures.made in (
+      packets_within work bytes (length bytes) c.requires.packets (short_all (λ bytes. bytes.items) c.args.inputs.items c.requires.short),
+      packets_made work bytes lists texts c.in_ok-lists.ensures.taken c.in_ok-lists.ensures.within is,
+    )
+
+pub returns-clause-count : goal.returns-clause-count
+returns-clause-count c =
+    let work = c.args.work.now in
+    let lists = lists_in c.in_ok-lists.lists.items in
+    let texts = written_in c.in_ok-texts.texts in
+    let is : AreTextsBy work lists texts = subst (λ ls. AreTextsBy work (lists_in ls) texts) c.as_slice.ensures.value c.in_ok-texts.ensures.made in
+    let count : length lists ≡ written_by work = length-map c.in_ok-lists.lists.items (λ list. list.packets) ∙ c.in_ok-lists.ensures.count in
+    texts_count work lists texts is count

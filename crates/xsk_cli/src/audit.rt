@@ -1,0 +1,151 @@
+//! The command `audit`: whether a journal is that of a legal history, for the configuration that the words ask for.
+ghost use Rattle.std.specs.Prelude.{◌≡◌, ◌∷◌, [], ◌≢◌, None, Some, IfErr, IfOk, IfSome, IfNone, false, map, string_bytes};
+ghost use Rattle.xsk_args.specs.Meaning.{under};
+ghost use Rattle.xsk_args.specs.Words.{Text};
+ghost use Rattle.xsk_io.specs.declared.bay.Stream.{Stream as AStream};
+ghost use Rattle.xsk_socket.specs.Layout.{fault_of};
+ghost use Rattle.xsk_cli.specs.Outcome.{IsAudited, legal_text, made};
+ghost use Rattle.xsk_cli.specs.Steps.{Comes, FailsAudit, written_in};
+ghost use Rattle.xsk_cli.specs.Streams.{status_in};
+ghost use Rattle.xsk_cli.specs.Words.{audit_plan, files_in, layout_by, without_files};
+
+use crate::Status;
+use crate::failure::RunFailure;
+use crate::plain::run_plan;
+use crate::setup::set_up;
+use crate::texts::Texts;
+use crate::words::{Plan, Work, layout_of};
+use std::alloc::Global;
+use std::fmt::Write;
+use xsk_args::{Args, OptionRow, Takes, parse};
+use xsk_audit::{Verdicts, audit};
+use xsk_io::Bay;
+use xsk_socket::{Layout, Unlawful, check_layout};
+use xsk_umem::OutOfMemory;
+
+/// The options of `audit`: those of `simulate` that make the configuration.
+const AUDIT_OPTIONS: [OptionRow; 13] = [
+    OptionRow {
+        name: "ports",
+        takes: Takes::Number,
+    },
+    OptionRow {
+        name: "queues",
+        takes: Takes::Number,
+    },
+    OptionRow {
+        name: "sockets",
+        takes: Takes::Number,
+    },
+    OptionRow {
+        name: "frames",
+        takes: Takes::Number,
+    },
+    OptionRow {
+        name: "chunk",
+        takes: Takes::Number,
+    },
+    OptionRow {
+        name: "headroom",
+        takes: Takes::Number,
+    },
+    OptionRow {
+        name: "rx",
+        takes: Takes::Number,
+    },
+    OptionRow {
+        name: "tx",
+        takes: Takes::Number,
+    },
+    OptionRow {
+        name: "fill",
+        takes: Takes::Number,
+    },
+    OptionRow {
+        name: "comp",
+        takes: Takes::Number,
+    },
+    OptionRow {
+        name: "empty",
+        takes: Takes::Number,
+    },
+    OptionRow {
+        name: "sg",
+        takes: Takes::Nothing,
+    },
+    OptionRow {
+        name: "wakeup",
+        takes: Takes::Nothing,
+    },
+];
+
+/// Does what words say that begin with `audit`.
+pub(crate) fn run_audit<B: Bay>(alloc: Global, words: &[String], bay: &mut B) -> Result<(), Status>
+    requires { (stream : AStream) → B.is_open bay.old stream ≡ false }
+    ensures { Comes (audit_plan (map string_bytes words.now))
+        (record { is_open = B.is_open bay.old; asked = B.asked bay.old; left = B.left bay.old; held = B.held bay.old; offers = B.offers bay.old; faults = B.faults bay.old })
+        (record { is_open = B.is_open bay.new; asked = B.asked bay.new; left = B.left bay.new; held = B.held bay.new; offers = B.offers bay.new; faults = B.faults bay.new })
+        (status_in result) }
+{
+    let args = parse(alloc, "audit", &AUDIT_OPTIONS, words)?;
+    let Some(file) = one_file(&args) else {
+        return Err(Status::Usage);
+    };
+    let layout = audited_layout(&args)?;
+    let inputs = [file];
+    let plan = Plan {
+        inputs: &inputs,
+        outputs: &[],
+        work: Work::Audit { layout },
+    };
+    run_plan(alloc, &plan, bay)
+}
+
+/// The file, where exactly one was named.
+fn one_file<'w>(args: &Args<'w>) -> Option<&'w str>
+    ensures one { IfSome result (λ file. files_in (under args.now) ≡ file.now ∷ []) }
+    ensures none { IfNone result ((file : Text) → files_in (under args.now) ≢ file ∷ []) }
+{
+    match args.files()? {
+        [file] => Some(*file),
+        _ => None,
+    }
+}
+
+/// The layout that was asked for, unless it is refused. It wants no files.
+fn audited_layout(args: &Args<'_>) -> Result<Layout, Unlawful>
+    ensures layout { IfOk result (λ layout. layout ≡ without_files (layout_by (under args.now))) }
+    ensures accepted { IfOk result (λ layout. fault_of layout ≡ None) }
+    ensures refused { IfErr result (λ unlawful. fault_of (without_files (layout_by (under args.now))) ≡ Some unlawful) }
+{
+    let mut layout = layout_of(args);
+    layout.files = 0;
+    layout.files_wanted_per_port = 0;
+    check_layout(&layout)?;
+    Ok(layout)
+}
+
+/// The line that tells a legal journal, or the line from which on it isn't legal.
+pub(crate) fn audit_texts(alloc: Global, layout: &Layout, text: &[u8]) -> Result<Texts, RunFailure>
+    requires { fault_of layout.now ≡ None }
+    ensures made { IfOk result (λ texts. IsAudited layout.now text.now (made (written_in texts))) }
+    ensures failed { IfErr result (FailsAudit layout.now text.now) }
+{
+    let (config, frames) = set_up(alloc, layout)?;
+    match audit(alloc, config, frames, text)? {
+        Verdicts::Legal { entries } => Ok(legal_texts(alloc, entries)?),
+        Verdicts::NotLegal { line } => Err(RunFailure::NotLegal { line }),
+    }
+}
+
+/// The one line of a journal that is legal, with so many entries.
+fn legal_texts(alloc: Global, entries: u64) -> Result<Texts, OutOfMemory>
+    ensures { IfOk result (λ texts. written_in texts ≡ record { outputs = []; report = legal_text entries }) }
+{
+    let mut report = String::new(alloc);
+    writeln!(report, "legal {entries}")?;
+    Ok(Texts {
+        outputs: Vec::new(alloc),
+        report: report.into_bytes(),
+    })
+}
