@@ -14,12 +14,13 @@ use Rattle.xsk_turns.specs.Owned.{AllFit}
 use Rattle.xsk_turns.specs.AppTurns.{AppKept, app_turn}
 use Rattle.xsk_turns.specs.AppOwned.{IsApp, HasOwnFrames, app_numbers, AppOwned}
 use Rattle.xsk_turns.specs.AppSplit.{HasLeft}
+use Rattle.xsk_turns.specs.Mangling.{plain}
 use Rattle.xsk_app.specs.Shown.{Shown}
 use Rattle.xsk_app.specs.Stands.{left}
 use Rattle.xsk_app.specs.declared.kept.Kept.{Kept}
 use Rattle.xsk_app.specs.declared.machine.Wait.TheVariants.{Start}
 
--- what it keeps between steps, where it hasn't told that it sends nothing more
+-- what it keeps between steps, where it hasn't told that it sends nothing more, and changes nothing
 abbrev pub kept_in : Kept → AppKept
 kept_in k = record {
   pending = k.pending.items;
@@ -27,6 +28,8 @@ kept_in k = record {
   seen = k.seen0 ∷ k.seen1 ∷ [];
   gone = false ∷ false ∷ [];
   tx_done = false;
+  manner = plain;
+  number = 0;
 }
 
 -- an application at the start of a turn, with what its earlier calls and replies left it

@@ -14,7 +14,7 @@ use xsk_umem::{Batch, Frame, Geometry, OutOfMemory};
 /// The most frames that a side has to give back: as many as a UMEM may have.
 const MOST_BACK: usize = 4096;
 
-/// The frames that a side has yet to give back, in order. There is room for those of one batch.
+/// The frames that a side has yet to give back, in order. There is room for all frames of a UMEM.
 #[derive(Drop)]
 pub struct Back {
     frames: VecDeque<Frame>,
@@ -36,7 +36,7 @@ impl Back {
     ghost use Rattle.xsk_turns.specs.Turns.{frame_in, frames_in};
     ghost use Rattle.xsk_app.specs.Ways.{IsGroup};
 
-    /// None, with room for a batch.
+    /// None, with room for all frames of a UMEM.
     pub fn new(alloc: Global) -> Result<Back, OutOfMemory>
         ensures { IfOk result (λ back. back ≡ []) }
     {

@@ -17,6 +17,7 @@ use crate::room::Room;
 use std::alloc::Global;
 use xsk_model::Config;
 use xsk_model::steering::{driver_on, port_on, queue_on};
+use xsk_turns::Manner;
 use xsk_umem::{Batch, OutOfMemory};
 
 /// What an application keeps between its steps: for each lane the items that it has yet to pass on, for each side the frames
@@ -51,7 +52,7 @@ impl Kept {
 
 impl<'a> App<'a> {
     /// The application that goes on from what its earlier calls left it, at the start of a turn: with these items and frames, and
-    /// what it has seen of its drivers. The configuration is a regular one that has it and in which no socket is closed, and there
+    /// what it has seen of its drivers. It changes no item. The configuration is a regular one that has it and in which no socket is closed, and there
     /// is one batch for each lane. It takes no memory.
     pub fn resume(config: &'a Config, app: u32, kept: Kept) -> App<'a>
         requires steady { IsSteady config.now }
@@ -60,6 +61,7 @@ impl<'a> App<'a> {
         ensures expected { result.expected ≡ nothing }
         ensures resumed { (past : List Told) → HasLeft config.now (kept_in kept) past → IsResumed config.now app (kept_in kept) past result }
     {
+        let _geometry = config.geometry();
         let _queues = config.queues();
         let pairs = [side_pair(config, app, 0), side_pair(config, app, 1)];
         let Kept {
@@ -84,6 +86,8 @@ impl<'a> App<'a> {
             seen: [seen0, seen1],
             gone: [false; 2],
             tx_done: false,
+            manner: Manner::plain(),
+            number: 0,
             turn: Turn {
                 seen: false,
                 gone: false,
@@ -112,6 +116,7 @@ pub fn lane_way(config: &Config, app: u32, lane: u32) -> Way
         rx: side_pair(config, app, side) * classes + lane % classes,
         tx: other * classes + lane % classes,
         pair: other,
+        side: side as usize,
     }
 }
 

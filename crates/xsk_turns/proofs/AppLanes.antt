@@ -85,7 +85,7 @@ abbrev pub SubmitsNone : Call → Type 0
 SubmitsNone (Submit r items) = ⊥
 SubmitsNone call = Unit {0}
 
-record AtCallBy (manner : Manner) (c : Config) (a : ℕ) (pending : List (List Item)) (tx_done : Bool) (call : Call) (l : List Told) : Type 0 where
+pub record AtCallBy (manner : Manner) (c : Config) (a : ℕ) (pending : List (List Item)) (tx_done : Bool) (call : Call) (l : List Told) : Type 0 where
   pub lawful : Lawful manner c a l
   pub told : (t : ℕ) → (telling_of (TxDone a) (Tx t) l).told ≡ tx_done
   pub drained : tx_done ≡ true → (lane : ℕ) → lane < lanes_of c → (draining c a lane l).empty ≡ true

@@ -2,14 +2,16 @@
 -- the turns behind them.
 use Rattle.std.proofs.Common.{◌≡◌, ℕ, zero, suc, ◌+◌, ◌-◌, Bool, true, false, cond, eqb, List, [], ◌∷◌, ◌++◌, append_assoc, append-nil, length, drop, map, set, refl, sym, ap, ◌∙◌, subst, arith}
 use Rattle.std.proofs.lemmas.List.Elements.{All-nil, All-cons, All-head, All-weaker}
-use Rattle.xsk_turns.proofs.Object.{Frame, Config, Geometry, pool_of, batch_of, home_item, IsItemOn}
+use Rattle.xsk_turns.proofs.Object.{Frame, Config, Geometry, pool_of, batch_of, home_item, IsItemOn, submitted_of}
 use Rattle.xsk_turns.proofs.Calls.{Item, Told, Fill, Comp, Rx, Tx, Mark, RxDone, Call, Reserve, Submit, Peek, Release, Swap, Look, Reply}
 use Rattle.xsk_model.specs.declared.call.Mark.TheVariants.{NeedFill, NeedTx, Kick}
 use Rattle.xsk_turns.specs.Script.{Script, ask, again, ended, on_submitted, Leaves, Asks, Ends}
 use Rattle.xsk_turns.specs.Turns.{frames_in}
 use Rattle.xsk_turns.specs.Owned.{AllFit}
-use Rattle.xsk_turns.specs.AppTurns.{AppKept, AppNoted, pair_of, rx_of, tx_of, tx_pair, lanes_of, home_of, group_of, is_set, pending_at, with_pending, back_at, with_back, kick, wake, pass_on, receive_lane, visit_lane, give_back, complete_side, visit_side, with_seen, look_marks, noted_first, app_turn, app_start}
+use Rattle.xsk_turns.specs.AppTurns.{AppKept, AppNoted, pair_of, rx_of, tx_of, tx_pair, lanes_of, home_of, group_of, is_set, pending_at, with_pending, given_on, passed_on, back_at, with_back, kick, wake, pass_on, receive_lane, visit_lane, give_back, complete_side, visit_side, with_seen, look_marks, noted_first, app_turn, app_start}
 use Rattle.xsk_turns.specs.AppOwned.{IsApp}
+use Rattle.xsk_turns.specs.Mangling.{plain}
+use Rattle.xsk_turns.proofs.Mangling.{altered_same}
 use Rattle.xsk_turns.specs.AppSplit.{SplitStep, AtLane, AtSide, AtMarks, HasPlace, no_note, piece, LeavesOf, IsStep, AreSteps, IsSplit, MayGoBack, HasLeft, SplitKeepsLanes, SplitKeepsFrames, StepCallsLegal, LaterCallsLegal, LaterFramesAtEnd}
 use Rattle.xsk_turns.proofs.AppOwned.{AppHas, IsBackFrame, back_frames, fill_item, times-app_numbers, app_owned, has_none}
 use Rattle.xsk_turns.proofs.Walks.{Law, Holds, Says, Fitting, Anything, meet_fitting, meet_anything, along, at_reserve, at_submit, at_peek, at_release, at_old, by_case}
@@ -61,10 +63,9 @@ module _ (c : Config) (a : ℕ) where
 
   stays_pass_on : (lane : ℕ) (kept : AppKept) (next : AppKept → Script AppKept) (l : List Told) → kept.tx_done ≡ false → Goes next → Stays (pass_on c a lane kept next) l
   stays_pass_on lane kept next l sends go =
-      let items = pending_at kept lane in
-      let call = Reserve (Tx (tx_of c a lane)) (length items) in
-      let give = Submit (Tx (tx_of c a lane)) items in
-      let left = with_pending kept lane [] in (
+      let call = Reserve (Tx (tx_of c a lane)) (length (pending_at kept lane)) in
+      let give = Submit (Tx (tx_of c a lane)) (given_on c lane kept) in
+      let left = passed_on c lane kept in (
         tt,
         at_reserve Anything Sending kept call l (ask left give (on_submitted (wake c (NeedTx (tx_of c a lane)) (tx_pair c a lane) left (next left)))) (next kept)
             (λ q. (
@@ -226,6 +227,7 @@ has_of_left c kept past h = record {
   items = h.items;
   few = h.few;
   frames = λ side. All-weaker (MayGoBack c) (IsBackFrame c.geometry) (left_back c.geometry) (back_at kept side) (h.frames side);
+  once = h.once;
   counts = λ n. omega (arith, h.counts n, times-app_numbers n kept);
 }
 
@@ -236,6 +238,7 @@ left_of_has c kept past h = record {
   items = h.items;
   few = h.few;
   frames = λ side. All-weaker (IsBackFrame c.geometry) (MayGoBack c) (fill_item c.geometry 0) (back_at kept side) (h.frames side);
+  once = h.once;
   counts = λ n. omega (arith, h.counts n, times-app_numbers n kept);
 }
 
@@ -261,7 +264,7 @@ module _ (c : Config) (a : ℕ) (one : IsApp c a) where
 
   has_after_steps : (steps : List SplitStep) (l : List Told) (now : AppKept) → AllFit c [] l → AreSteps c a steps (app_start c) l now → AppHas c now [] l
   has_after_steps steps l now fit is =
-      (after_steps c a one (owning.At c a one) (owning.Asked c a one) (owning.Has c a one) (owning.law c a one) has_jumps steps (app_start c) [] l now refl (has_none c, tt) fit is).0
+      (after_steps c a one (owning.At c a one) (owning.Asked c a one) (owning.Has c a one) (owning.law c a one) has_jumps steps (app_start c) [] l now refl (has_none plain c, tt) fit is).0
 
   owned_in_run : (start : AppKept) (past l : List Told) (kept : AppKept) (call : Call) (rest : Reply → Script AppKept) → AppHas c start [] past → AllFit c past l
       → Asks (app_turn c a) start l kept call rest → owning.Asked c a one kept call (past ++ l)
@@ -290,27 +293,31 @@ later_frames_at_end c a past start l kept one left fit ends =
 -- ---- the lanes
 
 module _ (c : Config) (a : ℕ) (one : IsApp c a) where
-  lanes_law : IsLaw c a (Fitting c) (lanes.At c a one) (lanes.Asked c a one) (lanes.Ended c a one)
+  lanes_law : IsLaw c a (Fitting c) (lanes.At plain c a one) (lanes.Asked plain c a one) (lanes.Ended plain c a one)
   lanes_law =
-      let on = lanes.law c a one in
+      let on = lanes.law plain c a one in
       record { calls = on.calls; entries = λ e noted kept l known h asked q. on.entries e noted kept l known h asked tt; passes = on.passes; ends = on.ends }
 
-  lanes_jumps : Jumps (lanes.At c a one)
+  lanes_jumps : Jumps (lanes.At plain c a one)
   lanes_jumps = record {
-    to_lane = λ lane kept l h. lanes.renoted c a (noted_first kept) 0 kept l h no_note lane (λ e. absurd (cc)) (λ e. absurd (cc));
-    from_lane = λ lane noted kept l h. lanes.renoted c a noted lane kept l h (noted_first kept) 0 (λ e. e) (λ e sends j k. absurd (omega arith));
-    to_side = λ side kept l h. lanes.renoted c a (noted_first kept) 0 kept l h no_note (lanes_of c) (λ e. absurd (cc)) (λ e. absurd (cc));
-    from_side = λ side noted kept l h. lanes.renoted c a noted (lanes_of c) kept l h (noted_first kept) 0 (λ e. e) (λ e sends j k. absurd (omega arith));
-    to_marks = λ kept l h. lanes.over_turn c a (noted_first kept) 0 kept l h;
+    to_lane = λ lane kept l h. lanes.renoted plain c a (noted_first kept) 0 kept l h no_note lane (λ e. absurd (cc)) (λ e. absurd (cc));
+    from_lane = λ lane noted kept l h. lanes.renoted plain c a noted lane kept l h (noted_first kept) 0 (λ e. e) (λ e sends j k. absurd (omega arith));
+    to_side = λ side kept l h. lanes.renoted plain c a (noted_first kept) 0 kept l h no_note (lanes_of c) (λ e. absurd (cc)) (λ e. absurd (cc));
+    from_side = λ side noted kept l h. lanes.renoted plain c a noted (lanes_of c) kept l h (noted_first kept) 0 (λ e. e) (λ e sends j k. absurd (omega arith));
+    to_marks = λ kept l h. lanes.over_turn plain c a (noted_first kept) 0 kept l h;
   }
 
   pub lanes_after_steps : (steps : List SplitStep) (l : List Told) (now : AppKept) → AllFit c [] l → AreSteps c a steps (app_start c) l now
-      → lanes.InOrder c a (noted_first now) 0 now l
+      → lanes.InOrder plain c a (noted_first now) 0 now l
   lanes_after_steps steps l now fit is =
-      after_steps c a one (lanes.At c a one) (lanes.Asked c a one) (lanes.Ended c a one) lanes_law lanes_jumps steps (app_start c) [] l now refl (lanes.first c a one l) fit is
+      after_steps c a one (lanes.At plain c a one) (lanes.Asked plain c a one) (lanes.Ended plain c a one) lanes_law lanes_jumps steps (app_start c) [] l now refl (lanes.first plain c a one l) fit is
 
 pub split_keeps_lanes : SplitKeepsLanes
-split_keeps_lanes c a l kept lane one fit split below = sym ((lanes_after_steps c a one split.0 l kept fit split.1).order lane below)
+split_keeps_lanes c a l kept lane one fit split below =
+    let out = submitted_of (Tx (tx_of c a lane)) l in
+    let order = (lanes_after_steps c a one split.0 l kept fit split.1).order lane below in
+    let same : out ≡ order.front = altered_same c.geometry order.front out order.altered in
+    sym (ap (λ xs. xs ++ pending_at kept lane) same ∙ order.whole)
 
 -- ---- one step more
 

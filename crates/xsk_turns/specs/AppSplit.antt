@@ -96,13 +96,14 @@ MayPass c item = IsItemOn c.geometry (Tx 0) item
 abbrev pub MayGoBack : Config → Frame → Type 0
 MayGoBack c frame = IsItemOn c.geometry (Fill 0) (home_item c.geometry frame)
 
--- what an application keeps is what its earlier calls and replies left it: it has these frames and no other
+-- what an application keeps is what its earlier calls and replies left it: it has these frames and no other, each once
 pub record HasLeft (c : Config) (kept : AppKept) (past : List Told) : Type 0 where
   pub lanes : length kept.pending ≡ lanes_of c
   pub sides : length kept.back ≡ 2
   pub items : (lane : ℕ) → All (MayPass c) (pending_at kept lane)
   pub few : (lane : ℕ) → length (pending_at kept lane) ≤ most_items
   pub frames : (side : ℕ) → All (MayGoBack c) (back_at kept side)
+  pub once : (n : ℕ) → times n (had_of past) ≤ 1
   pub counts : (n : ℕ) → times n (app_numbers kept) ≡ times n (had_of past)
 
 -- ---- laws

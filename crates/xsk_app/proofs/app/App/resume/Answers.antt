@@ -30,5 +30,6 @@ invariant_of-machine c =
       pairs_are = both_pairs d0 d1 (pair_of k app 0) (pair_of k app 1) c.side_pair.ensures.pair c.side_pair-2.ensures.pair;
       lanes = lanes;
       sides = sides;
+      numbered = omega arith;
       ready = tt;
     }
