@@ -1,6 +1,7 @@
 -- From ends to a step and back.
 use Rattle.std.proofs.Common.{◌≡◌, ℕ, ◌<◌, Bool, true, false, cond, eqb, List, [], ◌∷◌, refl, sym, ap, subst, append-nil, arith}
 use Rattle.xsk_umem.specs.Frame.{Frame}
+use Rattle.xsk_umem.specs.Geometry.{IsGeometry}
 use Rattle.xsk_umem.specs.declared.batch.Item.{Item}
 use Rattle.xsk_model.specs.Config.{Config, IsConfig}
 use Rattle.xsk_model.specs.Marks.{apps_of}
@@ -12,7 +13,8 @@ use Rattle.xsk_turns.specs.Script.{Script, ask, again, on_old}
 use Rattle.xsk_turns.specs.AppTurns.{AppKept, pair_of, rx_of, tx_of, tx_pair, lanes_of, pending_at, back_at, visit_lane, visit_side, with_seen, look_rx_done, app_start}
 use Rattle.xsk_turns.specs.AppOwned.{HasOwnFrames}
 use Rattle.xsk_turns.specs.AppSplit.{SplitStep, AtLane, AtSide, HasPlace, no_note, HasLeft, IsStep, IsSplit, piece}
-use Rattle.xsk_turns.proofs.AppSplit.{fit_join, split_push, split_keeps_frames, split_keeps_lanes, split_none, step_sends}
+use Rattle.xsk_turns.specs.Mangling.{plain}
+use Rattle.xsk_turns.proofs.AppSplit.{fit_join, split_push, split_keeps_frames, split_keeps_lanes, split_none, step_sends, lanes_after_steps}
 use Rattle.xsk_turns.proofs.AppHomes.{had_none}
 use Rattle.xsk_table.specs.View.{idle}
 use Rattle.xsk_table.specs.Held.{Holder}
@@ -33,6 +35,10 @@ left e is = split_keeps_frames e.config e.app (mine_of e.pass) e.kept is.one is.
 
 pub lanes : (e : EndsShown) → AreEnds e → KeepsLanes e
 lanes e is lane below = split_keeps_lanes e.config e.app (mine_of e.pass) e.kept lane is.one is.fit is.split below
+
+-- it changes nothing
+pub is_plain : (e : EndsShown) → AreEnds e → e.kept.manner ≡ plain
+is_plain e is = (lanes_after_steps e.config e.app is.one is.split.0 (mine_of e.pass) e.kept is.fit is.split.1).keeps
 
 -- a step begins
 pub begins : (e : EndsShown) (step : SplitStep) → AreEnds e → HasPlace e.config step → At (origin e step) e.pass (piece e.config e.app step e.kept) Moved
@@ -80,10 +86,10 @@ same e f pass config app = record {
 }
 
 -- the ends of an application that has made no call
-pub new_ends : (c : Config) (app : ℕ) (p : Holder) (kept : AppKept) → IsConfig c → IsSteady c → app < apps_of c → p.view.setup.config ≡ c → p.who ≡ caller_of c app → p.view.flight ≡ idle → mine_of p ≡ []
+pub new_ends : (c : Config) (app : ℕ) (p : Holder) (kept : AppKept) → IsConfig c → IsSteady c → IsGeometry c.geometry → app < apps_of c → p.view.setup.config ≡ c → p.who ≡ caller_of c app → p.view.flight ≡ idle → mine_of p ≡ []
     → kept ≡ app_start c → AreEnds (record { config = c; app = app; pass = p; kept = kept })
-new_ends c app p kept lawful steady known config caller rests none is = record {
-  one = record { config = lawful; steady = steady; known = known };
+new_ends c app p kept lawful steady geometry known config caller rests none is = record {
+  one = record { config = lawful; steady = steady; geometry = geometry; known = known };
   config = config;
   caller = caller;
   rests = rests;
@@ -102,6 +108,7 @@ lane_begins e lane way items is below rx tx pair same = record {
   way_is = record { below = below; rx = rx; tx = tx; pair = pair };
   items_are = same;
   lanes = omega (arith, below, (left e is).lanes);
+  plain = ap (λ m. m.mangle) (is_plain e is);
   at = subst (λ xs. At (origin e (AtLane lane)) e.pass (visit_lane e.config e.app lane xs no_note e.kept after) Moved) (sym same) (begins e (AtLane lane) is below);
 }
 

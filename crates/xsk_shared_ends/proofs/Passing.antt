@@ -1,13 +1,14 @@
 -- A visit to a lane, call by call.
-use Rattle.std.proofs.Common.{◌≡◌, ℕ, List, [], ◌∷◌, length, refl, sym, ap, ◌∙◌, subst, arith, get_or-set_same, length-set}
+use Rattle.std.proofs.Common.{◌≡◌, ℕ, List, [], ◌∷◌, length, refl, sym, ap, ◌∙◌, subst, arith, get_or-set_same, length-set, Option, None, set, ◌/◌}
 use Rattle.std.proofs.lemmas.List.{set-set, set-get_or}
 use Rattle.xsk_umem.specs.declared.batch.Item.{Item}
-use Rattle.xsk_model.specs.Config.{Config, batch_of}
+use Rattle.xsk_model.specs.Config.{Config, batch_of, classes_of}
 use Rattle.xsk_model.specs.declared.call.Call.TheVariants.{Reserve, Submit, Peek, Release}
 use Rattle.xsk_model.specs.declared.call.Mark.TheVariants.{NeedTx}
 use Rattle.xsk_model.specs.declared.call.Reply.{Reply}
 use Rattle.xsk_model.specs.declared.call.Reply.TheVariants.{Granted}
 use Rattle.xsk_model.specs.declared.call.Ring.TheVariants.{Rx, Tx}
+use Rattle.xsk_turns.specs.Mangling.{given_by, back_by, number_by}
 use Rattle.xsk_turns.specs.Script.{Script, ask, again, granted_or_full, on_submitted, items_or_empty, on_released}
 use Rattle.xsk_turns.specs.AppTurns.{AppKept, tx_of, rx_of, tx_pair, pending_at, with_pending, wake, pass_on, receive_lane}
 use Rattle.xsk_table.specs.Held.{Holder}
@@ -34,10 +35,30 @@ module _ (o : Origin) (lane : ℕ) (k : AppKept) where
   abbrev pub on_tx : Reply → Script AppKept
   on_tx = granted_or_full (ask (with_pending k lane []) (Submit (Tx (tx_of o.config o.app lane)) (pending_at k lane)) (on_submitted sent)) (again k)
 
-  pub asks_tx : (p : Holder) (tx n : ℕ) → tx ≡ tx_of o.config o.app lane → n ≡ length (pending_at k lane) → At o p (pass_on o.config o.app lane k next) Moved
+  -- nothing is changed
+  as_they_are : k.manner.mangle ≡ None → pass_on o.config o.app lane k next ≡ ask k (Reserve (Tx (tx_of o.config o.app lane)) (length (pending_at k lane))) on_tx
+  as_they_are e = ap (λ m. by_manner m) e
+    where
+      kept_by : Option ℕ → AppKept
+      kept_by m = record k {
+        pending = set k.pending lane [];
+        back = back_by m k.number (pending_at k lane) (lane / classes_of o.config) k.back;
+        number = number_by m k.number (length (pending_at k lane));
+      }
+
+      by_manner : Option ℕ → Script AppKept
+      by_manner m =
+          ask k (Reserve (Tx (tx_of o.config o.app lane)) (length (pending_at k lane)))
+          (granted_or_full
+          (ask (kept_by m) (Submit (Tx (tx_of o.config o.app lane)) (given_by o.config.geometry m k.number (pending_at k lane)))
+          (on_submitted (wake o.config (NeedTx (tx_of o.config o.app lane)) (tx_pair o.config o.app lane) (kept_by m) (again (kept_by m)))))
+          (again k))
+
+  pub asks_tx : (p : Holder) (tx n : ℕ) → k.manner.mangle ≡ None → tx ≡ tx_of o.config o.app lane → n ≡ length (pending_at k lane) → At o p (pass_on o.config o.app lane k next) Moved
       → At o p (ask k (Reserve (Tx tx) n) on_tx) Moved
-  asks_tx p tx n e f at =
-      subst (λ (t : ℕ). At o p (ask k (Reserve (Tx t) n) on_tx) Moved) (sym e) (subst (λ (m : ℕ). At o p (ask k (Reserve (Tx (tx_of o.config o.app lane)) m) on_tx) Moved) (sym f) at)
+  asks_tx p tx n plain e f at =
+      let there = subst (λ s. At o p s Moved) (as_they_are plain) at in
+      subst (λ (t : ℕ). At o p (ask k (Reserve (Tx t) n) on_tx) Moved) (sym e) (subst (λ (m : ℕ). At o p (ask k (Reserve (Tx (tx_of o.config o.app lane)) m) on_tx) Moved) (sym f) there)
 
   pub submits_tx : (p : Holder) (tx : ℕ) (items : List Item) → tx ≡ tx_of o.config o.app lane → items ≡ pending_at k lane
       → At o p (ask (with_pending k lane []) (Submit (Tx (tx_of o.config o.app lane)) (pending_at k lane)) (on_submitted sent)) Moved
@@ -69,7 +90,7 @@ module _ (c : Config) (way : Way) (o : Origin) (lane : ℕ) (k : AppKept) where
   -- a visit where items are pending, and where none is
   pub lane_full : (items : List Item) (p : Holder) → (items ≡ [] → ⊥) → VisitsLane c way o lane k items p → PassesOn c way o lane k items p
   lane_full [] p some v = absurd (some refl)
-  lane_full (item ∷ items) p some v = record { config = v.config; way_is = v.way_is; items_are = v.items_are; lanes = v.lanes; at = v.at }
+  lane_full (item ∷ items) p some v = record { config = v.config; way_is = v.way_is; items_are = v.items_are; lanes = v.lanes; plain = v.plain; at = v.at }
 
   pub lane_peeks : (items : List Item) (p : Holder) (batch : ℕ) → items ≡ [] → batch ≡ batch_of c → VisitsLane c way o lane k items p
       → At o p (ask k (Peek (Rx way.rx) batch) (on_rx o lane k)) Moved
@@ -87,6 +108,7 @@ module _ (c : Config) (way : Way) (o : Origin) (lane : ℕ) (k : AppKept) where
     way_is = v.way_is;
     items_are = same ∙ sym (get_or-set_same k.pending lane got [] v.lanes);
     lanes = omega (arith, v.lanes, length-set k.pending lane got);
+    plain = v.plain;
     at = at;
   }
 
@@ -95,7 +117,7 @@ module _ (c : Config) (way : Way) (o : Origin) (lane : ℕ) (k : AppKept) where
 
   -- its items go on
   pub asks_places : (items : List Item) (p : Holder) (n : ℕ) → n ≡ length items → PassesOn c way o lane k items p → At o p (ask k (Reserve (Tx way.tx) n) (on_tx o lane k)) Moved
-  asks_places items p n count h = asks_tx o lane k p way.tx n h.way_is.tx (count ∙ ap length h.items_are) h.at
+  asks_places items p n count h = asks_tx o lane k p way.tx n h.plain h.way_is.tx (count ∙ ap length h.items_are) h.at
 
   pub puts_items : (items put : List Item) (p q : Holder) → put ≡ items → PassesOn c way o lane k items p → At o q (on_tx o lane k Granted) Moved
       → At o q (ask (with_pending k lane []) (Submit (Tx way.tx) put) (on_submitted (sent o lane k))) Moved

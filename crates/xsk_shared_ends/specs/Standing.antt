@@ -1,5 +1,5 @@
 -- Where an application's pass stands in a step.
-use Rattle.std.specs.Prelude.{◌≡◌, ℕ, ◌<◌, ◌==◌, Bool, true, false, if◌then◌else◌, List, ◌++◌, length}
+use Rattle.std.specs.Prelude.{◌≡◌, ℕ, ◌<◌, ◌==◌, Bool, true, false, if◌then◌else◌, None, List, ◌++◌, length}
 use Rattle.xsk_umem.specs.declared.batch.Item.{Item}
 use Rattle.xsk_umem.specs.Frame.{Frame}
 use Rattle.xsk_model.specs.Config.{Config}
@@ -85,6 +85,7 @@ pub record VisitsLane (c : Config) (way : Way) (o : Origin) (lane : ℕ) (k : Ap
   pub way_is : IsWayOf o.config o.app lane way
   pub items_are : items ≡ pending_at k lane
   pub lanes : lane < length k.pending
+  pub plain : k.manner.mangle ≡ None
   pub at : At o p (visit_lane o.config o.app lane items no_note k after) Moved
 
 pub record PassesOn (c : Config) (way : Way) (o : Origin) (lane : ℕ) (k : AppKept) (items : List Item) (p : Holder) : Type 0 where
@@ -92,6 +93,7 @@ pub record PassesOn (c : Config) (way : Way) (o : Origin) (lane : ℕ) (k : AppK
   pub way_is : IsWayOf o.config o.app lane way
   pub items_are : items ≡ pending_at k lane
   pub lanes : lane < length k.pending
+  pub plain : k.manner.mangle ≡ None
   pub at : At o p (pass_on o.config o.app lane k next) Moved
 
 -- at the start of a visit to a side with these frames to give back, and where they go back

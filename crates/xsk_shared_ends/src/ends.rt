@@ -80,6 +80,7 @@ impl<'a> Ends<'a> {
         ensures ok { IfOk result (λ ends. (ends.pass ≡ pass) × (ends.config ≡ config.now) × (caller_of config.now ends.app ≡ pass.who) × (ends.kept ≡ app_start config.now)) }
         ensures refused { IfErr result (λ back. back.pass ≡ pass) }
     {
+        let _geometry = config.geometry();
         let app = pass.caller() - config.pairs().len() as u32;
         match Kept::new(alloc, config) {
             Ok(kept) => Ok(Ends {

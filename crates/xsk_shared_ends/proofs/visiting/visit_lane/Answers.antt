@@ -7,6 +7,11 @@ use Rattle.xsk_shared_ends.proofs.Standing.{after_released}
 use Rattle.xsk_shared_ends.proofs.Passing.{on_rx, lane_full, lane_peeks, lane_releases, lane_passes, lane_stays, pending_again}
 use Rattle.xsk_shared_ends.proofs.visiting.visit_lane.Goals as goal
 
+pub pass_on-requires-clause-at : goal.pass_on-requires-clause-at
+pass_on-requires-clause-at c =
+    let at = c.requires.at in
+    let some : c.args.pending.now ≡ [] → ⊥ = search rules in (at.0, at.1, at.2, lane_full _ _ at.0 at.1 at.2 _ _ some at.3)
+
 pub returns-then-not-is_empty-clause-over : goal.returns-then-not-is_empty-clause-over
 returns-then-not-is_empty-clause-over c o lane k v =
     let some : c.args.pending.now ≡ [] → ⊥ = search rules in c.pass_on.ensures.over o lane k (lane_full _ _ o lane k _ _ some v)

@@ -1,4 +1,5 @@
-use Rattle.std.proofs.Common.{arith, ◌≡◌, ◌<◌, ◌-◌, length, ap, subst}
+use Rattle.std.proofs.Common.{rules, arith, ◌≡◌, ◌<◌, ◌-◌, length, ap, subst}
+use Rattle.xsk_umem.specs.Geometry.{IsGeometry}
 use Rattle.xsk_model.specs.Config.{Config, callers_of}
 use Rattle.xsk_model.specs.Marks.{apps_of}
 use Rattle.xsk_model.specs.Rings.{caller_of}
@@ -14,4 +15,5 @@ invariant_of-result c =
     let few : c.caller.result < callers_of k = subst (λ (x : Config). c.caller.result < callers_of x) c.requires.config c.caller.ensures.few in
     let known : app < apps_of k = omega (arith, few, pairs) in
     let who : c.args.pass.who ≡ caller_of k app = omega (arith, pairs, c.caller.ensures.caller, c.requires.app) in
-    new_ends k app c.args.pass (kept_in c.in-Ok.kept) c.pairs.ensures.lawful c.requires.steady known c.requires.config who c.requires.rests c.requires.unused c.in-Ok.ensures
+    let geometry : IsGeometry k.geometry = search rules in
+    new_ends k app c.args.pass (kept_in c.in-Ok.kept) c.pairs.ensures.lawful c.requires.steady geometry known c.requires.config who c.requires.rests c.requires.unused c.in-Ok.ensures
