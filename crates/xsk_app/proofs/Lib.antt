@@ -2,4 +2,5 @@ pub mod Fresh
 pub mod Steps
 pub mod TurnLemmas
 pub mod Runs
+pub mod Resumed
 pub mod Taking

@@ -98,7 +98,7 @@ begun_side c app side noted kept h =
 abbrev pub submit_home : Config → ℕ → AppKept → List Frame → Script AppKept → Script AppKept
 submit_home c home kept frames next = ask kept (Submit (Fill home) (map (home_item c.geometry) frames)) (on_submitted (wake c (NeedFill home) home kept next))
 
-give_back_kept : (c : Config) (side done : ℕ) (frames : List Frame) (kept : AppKept) (xs : List Frame) (next : AppKept → Script AppKept)
+pub give_back_kept : (c : Config) (side done : ℕ) (frames : List Frame) (kept : AppKept) (xs : List Frame) (next : AppKept → Script AppKept)
     → give_back c side done frames (with_back kept side xs) next ≡ give_back c side done frames kept next
 give_back_kept c side done [] kept xs next = ap next (with_back-again kept side xs [])
 give_back_kept c side (suc done) (frame ∷ frames) kept xs next = give_back_kept c side done frames kept xs next

@@ -1,3 +1,4 @@
+pub mod Resumed
 pub mod Runs
 pub mod Shown
 pub mod Stands

@@ -1,6 +1,7 @@
 //! The application, as other crates use it.
-ghost use Rattle.std.specs.Prelude.{◌≡◌, None, Some, List, ℕ, ◌+◌, ◌-◌, ◌*◌, ◌/◌, ◌%◌, ◌<◌, ◌≤◌, IfOk, [], ◌∷◌, length, replicate, vec_len, slice_index};
+ghost use Rattle.std.specs.Prelude.{◌≡◌, None, Some, List, ℕ, ◌+◌, ◌++◌, ◌-◌, ◌*◌, ◌/◌, ◌%◌, ◌<◌, ◌≤◌, IfOk, [], ◌∷◌, length, replicate, vec_len, slice_index};
 ghost use Rattle.std.specs.List.{slice_index_or};
+ghost use Rattle.xsk_turns.specs.AppTurns.{AppKept};
 ghost use Rattle.xsk_turns.specs.Owned.{IsSteady};
 ghost use Rattle.xsk_model.specs.Marks.{apps_of};
 ghost use Rattle.xsk_app.specs.declared.machine.Way.{Way};
@@ -15,6 +16,7 @@ ghost use Rattle.xsk_turns.specs.declared.manner.Manner.{Manner as AManner};
 ghost use Rattle.xsk_turns.specs.Stepping.{joined_ask, joined_answer, IsGivenBack, IsLent};
 
 use crate::back::Back;
+use crate::kept::fill_ways;
 use crate::machine::{Machine, Turn, Wait, Way};
 use std::alloc::Global;
 use std::marker::Model;
@@ -27,7 +29,7 @@ use xsk_umem::{Batch, OutOfMemory};
 /// The application of one queue of two paired ports, as a worker that makes one call at a time.
 #[derive(Drop)]
 pub struct App<'a> {
-    machine: Machine<'a>,
+    pub(crate) machine: Machine<'a>,
 }
 
 impl<'a> Model for App<'a> {
@@ -43,6 +45,7 @@ impl<'a> Model for App<'a> {
 
 impl<'a> App<'a> {
     ghost use Rattle.xsk_app.specs.Runs.{IsNew, Stands, StandsWith, TellsWith};
+    ghost use Rattle.xsk_app.specs.Resumed.{IsResumed, StandsFrom, StandsFromWith};
 
     /// The application with this number, of a regular configuration that has it and in which no socket is closed. By its manner
     /// it changes items that it submits on TX, or none.
@@ -104,6 +107,11 @@ impl<'a> App<'a> {
         ensures tells_first { (m : AManner) (c : AConfig) (app : ℕ) → IsNew m c app self.old → reply ≡ None → TellsWith m c app self.new result [] }
         ensures tells { (m : AManner) (c : AConfig) (app : ℕ) (l : List Told) (call : ACall) (r : AReply)
             → Stands m c app self.old call l → reply ≡ Some r → Fits c l call r → TellsWith m c app self.new result (with_told l call r) }
+
+        // One that goes on from what earlier calls left stands for its calls since then, and their replies.
+        ensures resumes { (c : AConfig) (app : ℕ) (start : AppKept) (past : List Told) → IsResumed c app start past self.old → reply ≡ None → StandsFromWith c app start past self.new result [] }
+        ensures goes_on_from { (c : AConfig) (app : ℕ) (start : AppKept) (past l : List Told) (call : ACall) (r : AReply)
+            → StandsFrom c app start past self.old call l → reply ≡ Some r → Fits c (past ++ l) call r → StandsFromWith c app start past self.new result (with_told l call r) }
     {
         let mut items = Batch::new();
         let answer = split_reply(reply, &mut items);
@@ -130,6 +138,11 @@ impl<'a> App<'a> {
         ensures tells { (m : AManner) (c : AConfig) (app : ℕ) (l : List Told) (call : ACall) (r : AReply)
             → Stands m c app self.old call l → joined_answer answer items.old ≡ Some r → Fits c l call r
             → TellsWith m c app self.new (joined_ask result items.new) (with_told l call r) }
+        ensures resumes { (c : AConfig) (app : ℕ) (start : AppKept) (past : List Told) → IsResumed c app start past self.old → joined_answer answer items.old ≡ None
+            → StandsFromWith c app start past self.new (joined_ask result items.new) [] }
+        ensures goes_on_from { (c : AConfig) (app : ℕ) (start : AppKept) (past l : List Told) (call : ACall) (r : AReply)
+            → StandsFrom c app start past self.old call l → joined_answer answer items.old ≡ Some r → Fits c (past ++ l) call r
+            → StandsFromWith c app start past self.new (joined_ask result items.new) (with_told l call r) }
     {
         self.machine.step(answer, items)
     }
@@ -144,14 +157,11 @@ fn new_ways(alloc: Global, pairs: [u32; 2], classes: u32) -> Result<Vec<Way>, Ou
     ensures count { IfOk result (λ ways. vec_len ways ≡ 2 * classes) }
     ensures ways { IfOk result (λ ways. (lane : ℕ) (d : Way) → lane < vec_len ways → IsWay pairs classes lane (slice_index_or ways.items lane d)) }
 {
-    let mut ways = Vec::with_capacity(alloc, 2 * classes as usize)?;
-    for lane in 0..2 * classes {
-        ways.push(way_of(pairs, classes, lane))?;
-    }
-    Ok(ways)
+    let ways = Vec::with_capacity(alloc, 2 * classes as usize)?;
+    Ok(fill_ways(ways, pairs, classes))
 }
 
-fn way_of(pairs: [u32; 2], classes: u32, lane: u32) -> Way
+pub(crate) fn way_of(pairs: [u32; 2], classes: u32, lane: u32) -> Way
     requires some { 1 ≤ classes }
     requires few { classes ≤ 4 }
     requires first { slice_index pairs 0 < 64 }
@@ -169,7 +179,7 @@ fn way_of(pairs: [u32; 2], classes: u32, lane: u32) -> Way
 }
 
 /// No item for each of so many lanes.
-fn new_pending(alloc: Global, lanes: usize) -> Result<Vec<Batch>, OutOfMemory>
+pub(crate) fn new_pending(alloc: Global, lanes: usize) -> Result<Vec<Batch>, OutOfMemory>
     ensures { IfOk result (λ pending. pending.items ≡ replicate lanes []) }
 {
     let mut pending = Vec::with_capacity(alloc, lanes)?;

@@ -14,9 +14,9 @@ use xsk_umem::{Batch, Frame, Geometry, OutOfMemory};
 /// The most frames that a side has to give back: as many as a UMEM may have.
 const MOST_BACK: usize = 4096;
 
-/// The frames that a side has yet to give back, in order.
+/// The frames that a side has yet to give back, in order. There is room for all frames of a UMEM.
 #[derive(Drop)]
-pub(crate) struct Back {
+pub struct Back {
     frames: VecDeque<Frame>,
 }
 
@@ -36,7 +36,8 @@ impl Back {
     ghost use Rattle.xsk_turns.specs.Turns.{frame_in, frames_in};
     ghost use Rattle.xsk_app.specs.Ways.{IsGroup};
 
-    pub(crate) fn new(alloc: Global) -> Result<Back, OutOfMemory>
+    /// None, with room for all frames of a UMEM.
+    pub fn new(alloc: Global) -> Result<Back, OutOfMemory>
         ensures { IfOk result (λ back. back ≡ []) }
     {
         Ok(Back {
@@ -44,14 +45,15 @@ impl Back {
         })
     }
 
-    pub(crate) fn is_empty(&self) -> bool
+    /// Whether there is none.
+    pub fn is_empty(&self) -> bool
         ensures { IsTrue result ↔ (self.now ≡ []) }
     {
         self.frames.is_empty()
     }
 
     /// Takes the items out of a batch, and keeps their frames. None may stand here before.
-    pub(crate) fn keep(&mut self, items: &mut Batch)
+    pub fn keep(&mut self, items: &mut Batch)
         requires { self.old ≡ [] }
         ensures frames { self.new ≡ frames_in items.old }
         ensures items { items.new ≡ [] }
@@ -84,7 +86,7 @@ impl Back {
     }
 
     /// The home of the first frame, and how many frames from the front have it, at most a batch.
-    pub(crate) fn first_group(&self, pool: u32, batch: u32) -> Option<(u32, u32)>
+    pub fn first_group(&self, pool: u32, batch: u32) -> Option<(u32, u32)>
         requires pool { 0 < pool }
         requires batch { batch ≤ 32 }
         ensures none { IsNone result ↔ (self.now ≡ []) }
@@ -96,7 +98,7 @@ impl Back {
     }
 
     /// Puts so many of the first frames into an empty batch, as items for FILL. So many must stand here.
-    pub(crate) fn give(&mut self, geometry: &Geometry, count: u32, items: &mut Batch)
+    pub fn give(&mut self, geometry: &Geometry, count: u32, items: &mut Batch)
         requires few { count ≤ 32 }
         requires here { count ≤ length self.old }
         requires empty { items.old ≡ [] }

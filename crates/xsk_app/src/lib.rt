@@ -5,9 +5,14 @@
 
 mod app;
 mod back;
+mod kept;
 mod machine;
 mod mangling;
+mod room;
 
 pub use app::App;
+pub use back::Back;
+pub use kept::{Kept, lane_way, resumed_tells, side_pair};
+pub use machine::Way;
 pub use xsk_model::Act;
 pub use xsk_turns::Manner;

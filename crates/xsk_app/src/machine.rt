@@ -72,11 +72,11 @@ pub(crate) enum Wait {
 /// The sockets of a lane: it goes from the RX ring of one side's class to the TX ring of the other side's. `pair` is the
 /// other side's, whose driver sends what stands on that TX ring, and `side` is the one that receives.
 #[derive(Clone, Copy)]
-pub(crate) struct Way {
-    pub(crate) rx: u32,
-    pub(crate) tx: u32,
-    pub(crate) pair: u32,
-    pub(crate) side: usize,
+pub struct Way {
+    pub rx: u32,
+    pub tx: u32,
+    pub pair: u32,
+    pub side: usize,
 }
 
 /// What was so as the turn began, and whether each lane and each side visited so far had an empty peek in it.

@@ -38,7 +38,7 @@ now_peeked s n l items = part_of-push_same peeked_step (Rx s) [] l (record { cal
 
 -- ---- what holds all along
 
-abbrev IsTelling : ℕ → Bool → List Told → Type 0
+abbrev pub IsTelling : ℕ → Bool → List Told → Type 0
 IsTelling a told l = (t : ℕ) → telling_of (TxDone a) (Tx t) l ≡ (let s : Telling = record { told = told; late = false } in s)
 
 -- what was submitted on a lane is what was peeked there, but for what is pending, each item as it was or changed
@@ -64,10 +64,10 @@ pub record InOrder (manner : Manner) (c : Config) (a : ℕ) (noted : AppNoted) (
   pub over : kept.tx_done ≡ true → (j : ℕ) → j < lanes_of c → (pending_at kept j ≡ []) × ((draining c a j l).empty ≡ true)
 
 -- between two turns nothing is noted
-abbrev none_noted : AppNoted
+abbrev pub none_noted : AppNoted
 none_noted = record { seen = false; gone = false; lanes_empty = false; sides_empty = false }
 
-abbrev Begins : Manner → Config → ℕ → AppKept → List Told → Type 0
+abbrev pub Begins : Manner → Config → ℕ → AppKept → List Told → Type 0
 Begins manner c a kept l = InOrder manner c a none_noted 0 kept l
 
 -- what holds at each call, and at the end
@@ -85,7 +85,7 @@ abbrev pub SubmitsNone : Call → Type 0
 SubmitsNone (Submit r items) = ⊥
 SubmitsNone call = Unit {0}
 
-record AtCallBy (manner : Manner) (c : Config) (a : ℕ) (pending : List (List Item)) (tx_done : Bool) (call : Call) (l : List Told) : Type 0 where
+pub record AtCallBy (manner : Manner) (c : Config) (a : ℕ) (pending : List (List Item)) (tx_done : Bool) (call : Call) (l : List Told) : Type 0 where
   pub lawful : Lawful manner c a l
   pub told : (t : ℕ) → (telling_of (TxDone a) (Tx t) l).told ≡ tx_done
   pub drained : tx_done ≡ true → (lane : ℕ) → lane < lanes_of c → (draining c a lane l).empty ≡ true
@@ -193,12 +193,12 @@ module _ (manner : Manner) (c : Config) (a : ℕ) (noted : AppNoted) (upto : ℕ
   beside back gone =
       record { keeps = h.keeps; lanes = h.lanes; order = h.order; telling = h.telling; sides = h.sides; known = h.known; unseen = h.unseen; found = h.found; over = h.over }
 
-  renoted : (more : AppNoted) (k : ℕ) → (more.seen ≡ true → both kept.seen ≡ true)
+  pub renoted : (more : AppNoted) (k : ℕ) → (more.seen ≡ true → both kept.seen ≡ true)
       → (more.lanes_empty ≡ true → kept.tx_done ≡ false → (j : ℕ) → j < k → (pending_at kept j ≡ []) × (more.seen ≡ true → (draining c a j l).empty ≡ true)) → InOrder manner c a more k kept l
   renoted more k known found =
       record { keeps = h.keeps; lanes = h.lanes; order = h.order; telling = h.telling; sides = h.sides; known = known; unseen = h.unseen; found = found; over = h.over }
 
-  over_turn : Begins manner c a kept l
+  pub over_turn : Begins manner c a kept l
   over_turn = renoted none_noted 0 (λ e. absurd (cc)) (λ e. absurd (cc))
 
 -- ---- a lane's entries
@@ -381,7 +381,7 @@ looked_gone_mark manner c a kept l side n h = by (eqb n 1)
 -- ---- along the turns
 
 module _ (manner : Manner) (c : Config) (a : ℕ) (one : IsApp c a) where
-  abbrev At : Family
+  abbrev pub At : Family
   At (Lanes lane) noted kept l = InOrder manner c a noted lane kept l
   At (Lane lane due) noted kept l = InOrder manner c a noted (lane + 1) kept l × (noted.lanes_empty ≡ false)
   At (Looking side) noted kept l = Begins manner c a kept l
@@ -391,10 +391,10 @@ module _ (manner : Manner) (c : Config) (a : ℕ) (one : IsApp c a) where
   At (Kicking place pair) noted kept l = At place noted kept l
   At place noted kept l = InOrder manner c a noted (lanes_of c) kept l
 
-  abbrev Asked : Said
+  abbrev pub Asked : Said
   Asked kept call l = AtCallBy manner c a kept.pending kept.tx_done call l
 
-  abbrev Ended : AppKept → List Told → Type 0
+  abbrev pub Ended : AppKept → List Told → Type 0
   Ended kept l = AtEnd manner c a l
 
   -- so at each place of a turn, and it stays so as drivers are woken
@@ -468,13 +468,13 @@ module _ (manner : Manner) (c : Config) (a : ℕ) (one : IsApp c a) where
   passes begins noted kept l = λ h e. renoted manner c a none_noted 0 kept l h (noted_first kept) 0 (λ e. e) (λ e sends j k. absurd (omega arith))
   passes p noted kept l = λ h e. h
 
-  law : IsLaw c a Anything At Asked Ended
+  pub law : IsLaw c a Anything At Asked Ended
   law = record { calls = calls; entries = entries; passes = passes; ends = λ noted kept l done h. at_last manner c a noted (lanes_of c) kept l done.0 h }
 
 -- ---- the laws
 
 module _ (manner : Manner) (c : Config) (a : ℕ) (one : IsApp c a) (l : List Told) where
-  first : At manner c a one (Lanes 0) (noted_first (app_start_by manner c)) (app_start_by manner c) []
+  pub first : At manner c a one (Lanes 0) (noted_first (app_start_by manner c)) (app_start_by manner c) []
   first = record {
     keeps = refl;
     lanes = length-replicate (lanes_of c) [];

@@ -33,27 +33,27 @@ times-here n xs = grind (arith, nat_tests)
 -- ---- the law
 
 module _ (c : Config) (a : ℕ) (one : IsApp c a) where
-  abbrev who : ℕ
+  abbrev pub who : ℕ
   who = caller_of c a
 
   seats : AppSeats c a
   seats = app_seats c a one
 
-  abbrev Has : AppKept → List Told → Type 0
+  abbrev pub Has : AppKept → List Told → Type 0
   Has kept l = AppHas c kept [] l
 
-  abbrev Answers : Premise AppKept
+  abbrev pub Answers : Premise AppKept
   Answers kept l call reply = Fitting c kept l call reply
 
-  abbrev Asked : AppKept → Call → List Told → Type 0
+  abbrev pub Asked : AppKept → Call → List Told → Type 0
   Asked kept call l = AppHas c kept (numbers (submitted call)) l × (HasOwnFrames c a l → IsLegal c l who call)
 
   -- a driver that it may wake, where all frames that it has had are at home with it
-  abbrev MayWake : ℕ → List Told → Type 0
+  abbrev pub MayWake : ℕ → List Told → Type 0
   MayWake pair l = (pair < length c.pairs) × (HasOwnFrames c a l → who ≡ app_of c (Fill pair))
 
   -- what is due, that a lane has items to pass on, and that the flag is one that there is
-  abbrev Beside : Place → AppKept → List Told → Type 0
+  abbrev pub Beside : Place → AppKept → List Told → Type 0
   Beside (Lane lane due) kept l = (1 ≤ length (pending_at kept lane)) × IsDue due l
   Beside (Side side due) kept l = IsDue due l
   Beside (Waking place need pair) kept l = Beside place kept l × HasMark c need × MayWake pair l
@@ -61,7 +61,7 @@ module _ (c : Config) (a : ℕ) (one : IsApp c a) where
   Beside (Kicking place pair) kept l = Beside place kept l × MayWake pair l
   Beside place kept l = Unit {0}
 
-  abbrev At : Family
+  abbrev pub At : Family
   At place noted kept l = Has kept l × Beside place kept l
 
   own_first : (l m : List Told) → HasOwnFrames c a (l ++ m) → HasOwnFrames c a l
@@ -295,7 +295,7 @@ module _ (c : Config) (a : ℕ) (one : IsApp c a) where
       (h.0, ((tt, (second.0, λ own. second.1)), (first.0, λ own. first.1)))
   passes p noted kept l = λ h e. (h.0, tt)
 
-  law : IsLaw c a Answers At Asked Has
+  pub law : IsLaw c a Answers At Asked Has
   law = record { calls = calls; entries = entries; passes = passes; ends = λ noted kept l done h. h.0 }
 
 -- ---- the laws

@@ -255,17 +255,17 @@ pub record IsLaw (c : Config) (a : ℕ) (Q : Premise AppKept) (At : Family) (A :
   pub ends : (noted : AppNoted) (kept : AppKept) (l : List Told) → (kept.tx_done ≡ true) × (is_over noted kept ≡ true) → At Ending noted kept l → E kept l
 
 module _ (c : Config) (a : ℕ) (one : IsApp c a) (Q : Premise AppKept) (At : Family) (A : Said) (E : AppKept → List Told → Type 0) (is : IsLaw c a Q At A E) where
-  abbrev law : Law AppKept
+  abbrev pub law : Law AppKept
   law = record { begins = λ kept l. At (Lanes 0) (noted_first kept) kept l; asks = A; ends = E }
 
-  abbrev Along : Script AppKept → List Told → Type 0
+  abbrev pub Along : Script AppKept → List Told → Type 0
   Along s l = Holds Q law s l
 
-  abbrev Continues : Place → (AppNoted → AppKept → Script AppKept) → Type 0
+  abbrev pub Continues : Place → (AppNoted → AppKept → Script AppKept) → Type 0
   Continues place next = (noted : AppNoted) (kept : AppKept) (l : List Told) → At place noted kept l → Along (next noted kept) l
 
   -- while it still sends
-  abbrev Sends : ℕ → AppNoted → (AppKept → Script AppKept) → Type 0
+  abbrev pub Sends : ℕ → AppNoted → (AppKept → Script AppKept) → Type 0
   Sends lane noted next = (kept : AppKept) (l : List Told) → kept.tx_done ≡ false → At (Lanes lane) noted kept l → Along (next kept) l
 
   -- ---- need-wakeup
@@ -317,7 +317,7 @@ module _ (c : Config) (a : ℕ) (one : IsApp c a) (Q : Premise AppKept) (At : Fa
             (λ free q. go kept (with_told l call (Full free)) known.1 (is.entries (tx_full lane free) noted kept l known h asked q)),
       )
 
-  go_lane : (lane : ℕ) (items : List Item) (noted : AppNoted) (kept : AppKept) (next : AppNoted → AppKept → Script AppKept) (l : List Told) → (lane < lanes_of c) × (kept.tx_done ≡ false)
+  pub go_lane : (lane : ℕ) (items : List Item) (noted : AppNoted) (kept : AppKept) (next : AppNoted → AppKept → Script AppKept) (l : List Told) → (lane < lanes_of c) × (kept.tx_done ≡ false)
       → pending_at kept lane ≡ items → At (Lanes lane) noted kept l → ((noted : AppNoted) → Sends (lane + 1) noted (next noted)) → Along (visit_lane c a lane items noted kept next) l
   go_lane lane [] noted kept next l known e h go =
       let r = Rx (rx_of c a lane) in
@@ -380,7 +380,7 @@ module _ (c : Config) (a : ℕ) (one : IsApp c a) (Q : Premise AppKept) (At : Fa
             (λ free q. go noted now (with_told l call (Full free)) (is.entries (fill_full side frame frames free) noted kept l below h asked q)),
       )
 
-  go_side : (side : ℕ) (frames : List Frame) (noted : AppNoted) (kept : AppKept) (next : AppNoted → AppKept → Script AppKept) (l : List Told) → side < 2
+  pub go_side : (side : ℕ) (frames : List Frame) (noted : AppNoted) (kept : AppKept) (next : AppNoted → AppKept → Script AppKept) (l : List Told) → side < 2
       → back_at kept side ≡ frames → At (Sides side) noted kept l → Continues (Sides (side + 1)) next → Along (visit_side c a side frames noted kept next) l
   go_side side [] noted kept next l below e h go =
       let r = Comp (pair_of c a side) in
@@ -450,7 +450,7 @@ module _ (c : Config) (a : ℕ) (one : IsApp c a) (Q : Premise AppKept) (At : Fa
       by true = e
       by false = e
 
-  go_rx_done : (noted : AppNoted) (kept : AppKept) (l : List Told) → kept.tx_done ≡ false → At (Looking 0) noted kept l → Along (look_rx_done c a 2 0 kept) l
+  pub go_rx_done : (noted : AppNoted) (kept : AppKept) (l : List Told) → kept.tx_done ≡ false → At (Looking 0) noted kept l → Along (look_rx_done c a 2 0 kept) l
   go_rx_done noted kept l sends h =
       go_marks (λ (k : AppKept). k.seen) (λ side. RxDone (pair_of c a side)) with_seen (λ k. k.tx_done ≡ false) noted seen_for (λ k e. ap (λ b. cond b k.gone k.seen) e)
       (λ side kept l below f e h. let asked = is.calls (LookRxDone side) noted kept l (below, f, e) h in (asked, λ n q. is.entries (looked_rx_done side n) noted kept l (below, f, e) h asked q)) 2 0 kept l refl sends h
@@ -486,7 +486,7 @@ module _ (c : Config) (a : ℕ) (one : IsApp c a) (Q : Premise AppKept) (At : Fa
   go_turn_sides : Continues (Sides 0) (turn_sides c a)
   go_turn_sides noted kept l h = go_sides 2 0 noted kept (end_turn c a) l refl h go_end
 
-  go_turn : (kept : AppKept) (l : List Told) → At (Lanes 0) (noted_first kept) kept l → Along (app_turn c a kept) l
+  pub go_turn : (kept : AppKept) (l : List Told) → At (Lanes 0) (noted_first kept) kept l → Along (app_turn c a kept) l
   go_turn kept l h =
       by_case Q law kept.tx_done _ _ l (λ done. go_turn_sides (noted_first kept) kept l (is.passes no_lanes (noted_first kept) kept l h done))
       (λ sends. go_lanes (lanes_of c) 0 (noted_first kept) kept (turn_sides c a) l (omega arith) sends h go_turn_sides)

@@ -6,6 +6,7 @@ pub mod AppOwned
 pub mod AppOwning
 pub mod AppPaying
 pub mod AppPlaces
+pub mod AppSplit
 pub mod AppWaking
 pub mod AppWalk
 pub mod Calls

@@ -4,6 +4,7 @@
 
 ghost use Rattle.xsk_turns.specs.AppLaw.{LanesInOrder, LanesPassedOn, LanesAltered, ChangesByNumber, ChangesRepeat, NothingSentLate, DrainsRx, OnlySetsKicks, WakesAtOnce, PaysAtOnce, PaysEndAtOnce};
 ghost use Rattle.xsk_turns.specs.AppOwned.{AppKeepsFrames, AppCallsLegal, AppKeepsFramesAtEnd};
+ghost use Rattle.xsk_turns.specs.AppSplit.{SplitKeepsLanes, SplitKeepsFrames, StepCallsLegal, LaterCallsLegal, LaterFramesAtEnd};
 ghost use Rattle.xsk_turns.specs.Counted.{KeepsCounters, KeepsCountersAtEnd};
 ghost use Rattle.xsk_turns.specs.Disposes.{KeepsDisposals, DisposesAll};
 ghost use Rattle.xsk_turns.specs.Law.{EachDisposedOnce, DisposedAsSaid, DeliversInOrder, DeliversSized, DeliversAsSaid, NothingReceivedLate, TellsRxDone, DrainsTx, CompletesAll};
@@ -244,4 +245,31 @@ pub fn pays_at_once()
 #[tactic(auto, using(crate::proofs::AppPaying::pays_end_at_once))]
 pub fn pays_end_at_once()
     ensures { PaysEndAtOnce }
+{}
+
+/// After the steps of a split run, for each lane the items that were peeked are those that were submitted, followed by those that
+/// are pending.
+#[tactic(auto, using(crate::proofs::AppSplit::split_keeps_lanes))]
+pub fn split_keeps_lanes()
+    ensures { SplitKeepsLanes }
+{}
+
+/// What an application keeps after them is what they left.
+pub fn split_keeps_frames()
+    ensures { SplitKeepsFrames }
+{}
+
+/// Each call of a step is legal where all frames that the application has had are at home with it.
+pub fn step_calls_legal()
+    ensures { StepCallsLegal }
+{}
+
+/// And so is each call of a run from what earlier calls left.
+pub fn later_calls_legal()
+    ensures { LaterCallsLegal }
+{}
+
+/// At its end its frames are those that it keeps.
+pub fn later_frames_at_end()
+    ensures { LaterFramesAtEnd }
 {}

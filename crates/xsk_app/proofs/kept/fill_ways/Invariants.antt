@@ -1,7 +1,7 @@
 use Rattle.std.proofs.Common.{◌≡◌, ℕ, ◌<◌, List, length, get_or}
 use Rattle.xsk_app.specs.Ways.{IsWay}
 use Rattle.xsk_app.specs.declared.machine.Way.{Way}
-use Rattle.xsk_app.proofs.app.new_ways.Given as goal
+use Rattle.xsk_app.proofs.kept.fill_ways.Given as goal
 
 pub record IsSoFar (pairs : List ℕ) (classes lanes : ℕ) (ways : List Way) : Type 0 where
   pub count : length ways ≡ lanes

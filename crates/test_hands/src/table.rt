@@ -1,0 +1,245 @@
+//! A table with its drivers and the ends of its application.
+ghost use Rattle.std.specs.Prelude.{◌≡◌, IfSome};
+ghost use Rattle.xsk_rings.specs.Rounds.{Rests};
+ghost use Rattle.xsk_table.specs.Held.{Belongs};
+ghost use Rattle.xsk_table.specs.Opening.{new_passes};
+ghost use Rattle.xsk_turns.specs.Owned.{IsSteady};
+
+use crate::driver::{free, receive, send, swap};
+use crate::setting::take;
+use crate::turn::calls_of;
+use std::alloc::{AllocError, Global};
+use std::fmt::Write;
+use std::marker::Model;
+use std::string::String;
+use xsk_model::Mark;
+use xsk_rings::CheckedPass;
+use xsk_shared_ends::{Ends, Step};
+use xsk_table::{Passes, Shared};
+
+/// The drivers of both pairs, and the ends until they are finished.
+#[derive(Drop)]
+pub(crate) struct Callers<'a> {
+    shared: &'a Shared,
+    first: CheckedPass,
+    second: CheckedPass,
+    ends: Option<Ends<'a>>,
+    /// The length of the next packet.
+    len: u32,
+}
+
+impl<'a> Model for Callers<'a> {
+    ghost use Rattle.std.specs.Prelude.{IfSome, ℕ};
+    ghost use Rattle.xsk_rings.specs.Rounds.{Rests};
+    ghost use Rattle.xsk_table.specs.Held.{Belongs};
+    ghost use Rattle.xsk_turns.specs.Owned.{IsSteady};
+
+    ghost Value = { ℕ };
+
+    ghost view = { λ c. c.len };
+
+    ghost invariant = { λ c. IsSteady c.shared.now.setup.config × Rests c.shared.now c.first × Rests c.shared.now c.second × IfSome c.ends (λ e. Belongs c.shared.now e.pass) };
+}
+
+/// A number from 0 to 31.
+fn number(word: &str) -> Option<u32> {
+    match word.parse::<u32>() {
+        Ok(number) if number < 32 => Some(number),
+        _ => None,
+    }
+}
+
+fn step_in_words(alloc: Global, step: Step) -> Result<String, AllocError> {
+    match step {
+        Step::Idle => String::from_str(alloc, "idle"),
+        Step::Full(free) => format!(in alloc; "full {free}"),
+        Step::Moved => String::from_str(alloc, "moved"),
+    }
+}
+
+/// A visit to a lane, if there is such a lane.
+fn lane(shared: &Shared, ends: &mut Ends<'_>, lane: u32) -> Option<Step>
+    requires belongs { Belongs shared.now ends.old.pass }
+    requires steady { IsSteady shared.now.setup.config }
+    ensures { Belongs shared.now ends.new.pass }
+{
+    ends.keeps();
+    if lane >= 2 * shared.config().classes() {
+        return None;
+    }
+    Some(ends.lane(shared, lane))
+}
+
+/// Receives so many packets, each a byte longer than the one before, and tells how many could be.
+fn receive_all(shared: &Shared, pass: &mut CheckedPass, pair: u32, count: u32, len: &mut u32) -> u32
+    requires { Rests shared.now pass.old }
+    ensures { Rests shared.now pass.new }
+{
+    let mut got = 0u32;
+    'packets: for _ in 0..count {
+        if receive(shared, pass, pair, *len).is_none() {
+            break;
+        }
+        *len = len.saturating_add(1);
+        got = got.saturating_add(1);
+    }
+    got
+}
+
+fn or_none(alloc: Global, number: Option<u64>) -> Result<String, AllocError> {
+    match number {
+        Some(number) => format!(in alloc; "{number}"),
+        None => String::from_str(alloc, "none"),
+    }
+}
+
+/// What the driver of a pair does.
+fn drive(
+    alloc: Global,
+    shared: &Shared,
+    pass: &mut CheckedPass,
+    pair: u32,
+    word: &str,
+    count: u32,
+    len: &mut u32,
+) -> Result<String, AllocError>
+    requires { Rests shared.now pass.old }
+    ensures { Rests shared.now pass.new }
+{
+    match word {
+        "rx" => {
+            let got = receive_all(shared, pass, pair, count, len);
+            format!(in alloc; "{got}")
+        }
+        "free" => {
+            let freed = free(shared, pass, pair, count).is_some();
+            format!(in alloc; "{freed}")
+        }
+        "tx" => {
+            let mut text = String::new(alloc);
+            for len in send(alloc, shared, pass, pair)? {
+                let gap = if text.is_empty() { "" } else { " " };
+                write!(text, "{gap}{len}")?;
+            }
+            Ok(text)
+        }
+        "done" => or_none(alloc, swap(shared, pass, Mark::RxDone(pair), 1)),
+        "need" => {
+            swap(shared, pass, Mark::NeedFill(pair), 1);
+            or_none(alloc, swap(shared, pass, Mark::NeedTx(pair), 1))
+        }
+        "kick" => or_none(alloc, swap(shared, pass, Mark::Kick(pair), 0)),
+        _ => String::from_str(alloc, "no such call"),
+    }
+}
+
+/// A step of the ends.
+fn make_step(
+    alloc: Global,
+    shared: &Shared,
+    ends: &mut Ends<'_>,
+    word: &str,
+    place: u32,
+) -> Result<String, AllocError>
+    requires belongs { Belongs shared.now ends.old.pass }
+    requires steady { IsSteady shared.now.setup.config }
+    ensures { Belongs shared.now ends.new.pass }
+{
+    match word {
+        "lane" => match lane(shared, ends, place) {
+            Some(step) => step_in_words(alloc, step),
+            None => String::from_str(alloc, "no such lane"),
+        },
+        "recycle" if place < 2 => {
+            let step = ends.recycle(shared, place);
+            step_in_words(alloc, step)
+        }
+        "inputs" => {
+            let done = ends.inputs_done(shared);
+            format!(in alloc; "{done}")
+        }
+        _ => String::from_str(alloc, "no such step"),
+    }
+}
+
+impl<'a> Callers<'a> {
+    /// The callers of a table, with which no call was made.
+    pub(crate) fn new(alloc: Global, shared: &'a Shared, passes: Passes) -> Option<Callers<'a>>
+        requires passes { passes ≡ new_passes shared.now }
+        requires steady { IsSteady shared.now.setup.config }
+    {
+        let mut passes = passes;
+        let first = take(shared, &mut passes, 0)?;
+        let second = take(shared, &mut passes, 1)?;
+        let app = take(shared, &mut passes, 2)?;
+        let Ok(first) = CheckedPass::new(alloc, shared, first) else {
+            return None;
+        };
+        let Ok(second) = CheckedPass::new(alloc, shared, second) else {
+            return None;
+        };
+        let config = shared.config();
+        if app.caller() < config.pairs().len() as u32 {
+            return None;
+        }
+        let Ok(ends) = Ends::new(alloc, config, app) else {
+            return None;
+        };
+        Some(Callers {
+            shared,
+            first,
+            second,
+            ends: Some(ends),
+            len: 60,
+        })
+    }
+
+    /// Does what a line says: a step of the ends, or what a driver does.
+    pub(crate) fn answer(&mut self, alloc: Global, words: &[&str]) -> Result<String, AllocError> {
+        let (word, place, count) = match words {
+            [word] => (*word, Some(0), Some(0)),
+            [word, place] => (*word, number(place), Some(0)),
+            [word, place, count] => (*word, number(place), number(count)),
+            _ => return String::from_str(alloc, "no such line"),
+        };
+        let (Some(place), Some(count)) = (place, count) else {
+            return String::from_str(alloc, "no such number");
+        };
+        match word {
+            "finish" => self.finish(alloc),
+            "lane" | "recycle" | "inputs" => match &mut self.ends {
+                Some(ends) => make_step(alloc, self.shared, ends, word, place),
+                None => String::from_str(alloc, "finished"),
+            },
+            _ if place == 0 => drive(
+                alloc,
+                self.shared,
+                &mut self.first,
+                0,
+                word,
+                count,
+                &mut self.len,
+            ),
+            _ => drive(
+                alloc,
+                self.shared,
+                &mut self.second,
+                1,
+                word,
+                count,
+                &mut self.len,
+            ),
+        }
+    }
+
+    /// Ends the ends, and tells the calls of the application's next turn.
+    fn finish(&mut self, alloc: Global) -> Result<String, AllocError> {
+        match self.ends.take() {
+            Some(ends) => {
+                let (app, _pass) = ends.finish();
+                calls_of(alloc, app)
+            }
+            None => String::from_str(alloc, "finished"),
+        }
+    }
+}

@@ -1,0 +1,4 @@
+pub mod Standing
+pub mod Passing
+pub mod Giving
+pub mod Ending
