@@ -49,7 +49,7 @@ pub plan_ready : (said : Meaning) (plan : Plan) → plan ≡ plan_by said → fa
 plan_ready said plan is accepted =
     let none : fault_of (layout_by said) ≡ None = subst (λ (p : Plan). fault_in p.work ≡ None) is accepted in
     subst IsReady (sym is)
-    (ready_by (layout_by said) (program_of said) (wire_of said) (number_or said (codes "order") 0) (number_of said (codes "gen")) (is_some (said (codes "journal"))) (files_in said) none (files_named said none))
+    (ready_by (layout_by said) (program_of said) (wire_of said) (number_of said (codes "mangle")) (number_or said (codes "order") 0) (number_of said (codes "gen")) (is_some (said (codes "journal"))) (files_in said) none (files_named said none))
 
 pub no_words : {X : Type 0} (text : X → Text) (words : List X) → length words ≡ 0 → plan_of (map text words) ≡ None
 no_words text [] none = refl
