@@ -68,7 +68,9 @@ pub(crate) fn make_texts(
             order,
             journal,
             ..
-        } => run_texts(alloc, layout, *program, *wire, *mangle, *order, *journal, lists),
+        } => run_texts(
+            alloc, layout, *program, *wire, *mangle, *order, *journal, lists,
+        ),
         Work::Generate { .. } => Ok(made_texts(alloc, &lists[0])?),
         Work::Audit { .. } => unreachable!(),
     }
@@ -95,7 +97,9 @@ fn run_texts(
 {
     let (config, frames) = set_up(alloc, layout)?;
     let shared = config.copy(alloc)?;
-    let run = run_lists(alloc, layout, config, frames, program, wire, mangle, order, lists)?;
+    let run = run_lists(
+        alloc, layout, config, frames, program, wire, mangle, order, lists,
+    )?;
     let report = told_text(alloc, &shared, &run, journal)?;
     let outputs = output_texts(alloc, layout.ports, layout.queues, run.into_sent())?;
     Ok(Texts { outputs, report })
