@@ -14,6 +14,7 @@ use Rattle.xsk_prog.specs.Rules.{Meets, is_exact, verdict_of}
 use Rattle.xsk_prog.specs.declared.rule.Verdict.{Verdict}
 use Rattle.xsk_args.specs.declared.program.Program.{Program}
 use Rattle.xsk_args.specs.declared.program.Program.TheVariants.{Redirect, Pass, Drop, EtherType, Fixed}
+use Rattle.xsk_turns.specs.Mangling.{plain}
 use Rattle.xsk_turns.specs.declared.wire.Wire.TheVariants.{Wait}
 use Rattle.xsk_turns.specs.Inputs.{packets_of_port, packets_of_queue}
 use Rattle.xsk_turns.specs.Verdicts.{EachHas, IsGiven, MeetRule, judged}
@@ -100,7 +101,7 @@ expected_goes_on layout program lists port queue class accepted place =
     let met : MeetRule rule queue (received c (map listed lists) o queue) (get_or verdicts d []) =
     subst (λ q. MeetRule rule q (received c (map listed lists) o q) (get_or verdicts d [])) at.pair_queue
     (subst (λ p. MeetRule rule (pair_at c.pairs d).queue (received c (map listed lists) p (pair_at c.pairs d).queue) (get_or verdicts d [])) at.pair_port
-    ((own_setting rule Wait c (map listed lists)).each d at.pair_known)) in
+    ((own_setting rule Wait plain c (map listed lists)).each d at.pair_known)) in
     all_go layout program o queue class (received c (map listed lists) o queue) (get_or verdicts d []) met
     ∙ ap (λ ps. filter (goes_on layout program o queue class) (packets_of_queue layout.queues queue ps)) (packets_there lists o)
 

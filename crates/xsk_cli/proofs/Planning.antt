@@ -61,7 +61,7 @@ pub plan_ready : (said : Meaning) (plan : Plan) → has_files said ≡ true → 
 plan_ready said plan enough is accepted =
     let none : fault_of (layout_by said) ≡ None = subst (λ (p : Plan). fault_in p.work ≡ None) is accepted in
     subst IsReady (sym is)
-    (ready_by (layout_by said) (program_of said) (wire_of said) (number_or said (codes "order") 0) (number_of said (codes "gen")) (is_some (said (codes "journal"))) (format_of said) (files_in said) none (files_named said enough none))
+    (ready_by (layout_by said) (program_of said) (wire_of said) (number_of said (codes "mangle")) (number_or said (codes "order") 0) (number_of said (codes "gen")) (is_some (said (codes "journal"))) (format_of said) (files_in said) none (files_named said enough none))
 
 -- the plan of words with as many files as they want, and none of others
 pub has_plan : (said : Meaning) (meant : Option Meaning) → meant ≡ Some said → has_files said ≡ true → option_and_then planned_by meant ≡ Some (plan_by said)

@@ -204,31 +204,31 @@ module _ (layout : Layout) (program : Program) (wire : Wire) (mangle : Option �
   sent_writable count_is within each_short = all_writable layout program wire mangle lists accepted ended.history ended.is.legal ended.whole run.sent ended.sent pairs count_is within each_short
 
   pub sent_in_file : length lists ≡ layout.ports → excess_of lists ≡ None → ((pair : ℕ) → pair < length run.sent → All IsShort (get_or run.sent pair [])) → IsWritableFile (joined layout.ports layout.queues run.sent)
-  sent_in_file count_is within each_short = all_in_file layout program wire lists accepted ended.history ended.is.legal ended.whole run.sent ended.sent pairs count_is within each_short
+  sent_in_file count_is within each_short = all_in_file layout program wire mangle lists accepted ended.history ended.is.legal ended.whole run.sent ended.sent pairs count_is within each_short
 
 -- ---- a run on threads
 
-module _ (layout : Layout) (program : Program) (wire : Wire) (lists : List (List (List ℕ))) (accepted : fault_of layout ≡ None) (o : OutcomeShown) (shown : HasForwarded (setting_of layout program wire lists) (frames_of layout) o)
+module _ (layout : Layout) (program : Program) (wire : Wire) (lists : List (List (List ℕ))) (accepted : fault_of layout ≡ None) (o : OutcomeShown) (shown : HasForwarded (setting_of layout program wire None lists) (frames_of layout) o)
     (pairs : length o.sent ≡ pairs_in layout) where
   pub texts_shown : (format : Format) (texts : Written)
       → texts.outputs ≡ outputs_of format (λ port. take layout.queues (drop (port * layout.queues) o.sent)) (range_with_len 0 layout.ports)
-      → texts.report ≡ report_text (regular_of layout) o.figures → AreTextsIn format layout program wire lists o.history (report_of layout program wire lists o.history) texts
+      → texts.report ≡ report_text (regular_of layout) o.figures → AreTextsIn format layout program wire None lists o.history (report_of layout program wire None lists o.history) texts
   texts_shown format texts outputs report =
-      texts_in layout program wire lists accepted o.history shown.legal shown.whole o.sent shown.sent pairs format (report_of layout program wire lists o.history) texts outputs (report ∙ ap (report_text (regular_of layout)) shown.figures)
+      texts_in layout program wire None lists accepted o.history shown.legal shown.whole o.sent shown.sent pairs format (report_of layout program wire None lists o.history) texts outputs (report ∙ ap (report_text (regular_of layout)) shown.figures)
 
   pub shown_writable : length lists ≡ layout.ports → excess_of lists ≡ None → ((pair : ℕ) → pair < length o.sent → All IsShort (get_or o.sent pair [])) → (port count : ℕ) → port < layout.ports → count ≤ layout.queues
       → IsWritable (take count (drop (port * layout.queues) o.sent))
-  shown_writable count_is within each_short = all_writable layout program wire lists accepted o.history shown.legal shown.whole o.sent shown.sent pairs count_is within each_short
+  shown_writable count_is within each_short = all_writable layout program wire None lists accepted o.history shown.legal shown.whole o.sent shown.sent pairs count_is within each_short
 
   pub shown_in_file : length lists ≡ layout.ports → excess_of lists ≡ None → ((pair : ℕ) → pair < length o.sent → All IsShort (get_or o.sent pair [])) → IsWritableFile (joined layout.ports layout.queues o.sent)
-  shown_in_file count_is within each_short = all_in_file layout program wire lists accepted o.history shown.legal shown.whole o.sent shown.sent pairs count_is within each_short
+  shown_in_file count_is within each_short = all_in_file layout program wire None lists accepted o.history shown.legal shown.whole o.sent shown.sent pairs count_is within each_short
 
 -- so it is one of the command's setting
 pub forwarded_as : (layout : Layout) (program : Program) (wire : Wire) (c : Config) (own : List PacketList) (fs : List Frame) (lists : List (List (List ℕ))) (o : OutcomeShown) → c ≡ regular_of layout → own ≡ map listed lists
     → fs ≡ frames_of layout → (own_wire : OwnWire) → own_wire ≡ wire_by wire → (rule : Rule) → rule ≡ rule_by layout.sockets program
-    → HasForwarded (ruled rule own_wire c own) fs o → HasForwarded (setting_of layout program wire lists) (frames_of layout) o
+    → HasForwarded (ruled rule own_wire c own) fs o → HasForwarded (setting_of layout program wire None lists) (frames_of layout) o
 forwarded_as layout program wire c own fs lists o is_config is_own is_frames own_wire is_wire rule is_rule h =
-    subst (λ f. HasForwarded (setting_of layout program wire lists) f o) is_frames
+    subst (λ f. HasForwarded (setting_of layout program wire None lists) f o) is_frames
     (subst (λ (l : List PacketList). HasForwarded (ruled (rule_by layout.sockets program) (wire_by wire) (regular_of layout) l) fs o) is_own
     (subst (λ (k : Config). HasForwarded (ruled (rule_by layout.sockets program) (wire_by wire) k own) fs o) is_config
     (subst (λ (w : OwnWire). HasForwarded (ruled (rule_by layout.sockets program) w c own) fs o) is_wire

@@ -104,7 +104,9 @@ fn run_texts(
 {
     let (config, frames) = set_up(alloc, layout)?;
     let shared = config.copy(alloc)?;
-    let run = run_lists(alloc, layout, config, frames, program, wire, mangle, order, lists)?;
+    let run = run_lists(
+        alloc, layout, config, frames, program, wire, mangle, order, lists,
+    )?;
     let report = told_text(alloc, &shared, &run, journal)?;
     let outputs = sent_texts(alloc, format, layout.ports, layout.queues, run.into_sent())?;
     Ok(Texts { outputs, report })
