@@ -22,7 +22,7 @@ use Rattle.xsk_cli.specs.Words.{Plan, fault_in}
 use Rattle.xsk_cli.specs.declared.words.Work.{Work}
 use Rattle.xsk_cli.specs.declared.words.Work.TheVariants.{Simulate, Generate, Audit}
 use Rattle.xsk_cli.specs.declared.status.Status.{Status}
-use Rattle.xsk_cli.specs.declared.status.Status.TheVariants.{Done, Usage, BadCapture, ReadFault, WriteFault, OpenFault, Refused, Stalled, TooMuch, OutOfMemory, NotLegal}
+use Rattle.xsk_cli.specs.declared.status.Status.TheVariants.{Done, Usage, BadCapture, ReadFault, WriteFault, OpenFault, Refused, Stalled, TooMuch, OutOfMemory, NotLegal, BadPcapng}
 
 ample_room : (l : Layout) → IsAmple l → HasAmpleRoom (regular_of l)
 ample_room l ample = record {
@@ -76,6 +76,7 @@ finished work (NotLegal line) complete goes legal = legal line refl
 finished work OutOfMemory complete goes legal = tt
 finished work Usage complete goes legal = complete
 finished work (BadCapture port cause) complete goes legal = complete
+finished work (BadPcapng cause) complete goes legal = complete
 finished work (ReadFault port) complete goes legal = complete
 finished work (WriteFault stream) complete goes legal = complete
 finished work (OpenFault stream) complete goes legal = complete

@@ -97,7 +97,7 @@ reports_within text zero below short = short
 reports_within text (suc port) below short = absurd (omega (arith, below))
 
 pub reports_are_legal : ReportsAreLegal
-reports_are_legal layout program wire mangle order lists texts are short =
+reports_are_legal format layout program wire mangle order lists texts are short =
     let s = setting_of layout program wire mangle lists in
     let c = regular_of layout in
     let n = length are.ended.history in

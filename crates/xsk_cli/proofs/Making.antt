@@ -142,6 +142,7 @@ answer_makes answer failure work inputs is makes = subst (λ r. IfErr r (MakesNo
 -- why an audit gives nothing
 audit_fails : (layout : Layout) (inputs : List (List ℕ)) (failure : RunFailure) → AreShort (most_of (Audit layout)) inputs (length inputs) → FailsAudit layout (bytes_of inputs 0) failure → MakesNone (Audit layout) inputs failure
 audit_fails layout inputs (Bad at cause) within h = absurd h
+audit_fails layout inputs (BadFile cause) within h = absurd h
 audit_fails layout inputs (Excessive excess) within h = absurd h
 audit_fails layout inputs (Stalls round) within h = absurd h
 audit_fails layout inputs NoMemory within h = tt

@@ -52,7 +52,7 @@ sent_texts-requires-clause-file c =
     let pairs : length run.sent ≡ layout.ports * layout.queues =
     ap length (sym same) ∙ length-map own (λ list. list.packets) ∙ c.into_sent.ensures.pairs ∙ c.in_ok-run.ensures.pairs in
     subst (λ (ls : List (List (List ℕ))). IsWritableFile (joined layout.ports layout.queues ls)) (sym same)
-    (sent_in_file layout c.args.program c.args.wire c.args.order lists c.requires.accepted run c.in_ok-run.ensures.ended pairs known c.requires.within
+    (sent_in_file layout c.args.program c.args.wire c.args.mangle c.args.order lists c.requires.accepted run c.in_ok-run.ensures.ended pairs known c.requires.within
     (subst (λ (ls : List (List (List ℕ))). (pair : ℕ) → pair < length ls → All IsShort (get_or ls pair [])) same (lists_short own c.into_sent.ensures.short)))
 
 pub returns-clause-made : goal.returns-clause-made

@@ -12,7 +12,7 @@ use Rattle.xsk_cli.specs.Words.{most_of, ports_in}
 use Rattle.xsk_cli.specs.declared.status.Status.TheVariants.{Done}
 use Rattle.xsk_cli.proofs.Making.{few_read}
 use Rattle.xsk_cli.proofs.Short.{short_lists}
-use Rattle.xsk_cli.proofs.Showing.{read_before, run_before, run_packets, run_short, shown_none, status_shown, shown_count, ran_out_shown, few_written}
+use Rattle.xsk_cli.proofs.Showing.{read_before, run_before, run_packets, shown_none, status_shown, shown_count, ran_out_shown, few_written}
 use Rattle.xsk_cli.proofs.Writing.{SameInputs, done_by, run_fails, unwritten_by}
 use Rattle.xsk_cli.proofs.threads.forward_plan.Goals as goal
 
@@ -165,6 +165,6 @@ take_lists-requires-clause-short g c =
     let plan = plan_in c.args.plan.now in
     let bytes = map (λ bytes. bytes.items) c.in_ok-inputs.inputs.items in
     let have : HaveRead (most_of plan.work) plan.inputs bytes (length plan.inputs) old mid =
-    subst (λ m. HaveRead m plan.inputs bytes (length plan.inputs) old mid) c.most_bytes.ensures.most
-    (subst (λ n. HaveRead c.most_bytes.result plan.inputs bytes n old mid) (sym (length-map c.args.plan.now.inputs.now (λ name. name.now))) c.in_ok-inputs.ensures.read) in
-    run_short plan.work bytes (length c.in_ok-inputs.inputs.items) c.requires.runs (subst (AreShort (most_of plan.work) bytes) (sym have.count_is ∙ length-map c.in_ok-inputs.inputs.items (λ bytes. bytes.items)) have.short)
+    subst (λ m. HaveRead m plan.inputs bytes (length plan.inputs) old mid) c.most_input.ensures
+    (subst (λ n. HaveRead c.most_input.result plan.inputs bytes n old mid) (sym (length-map c.args.plan.now.inputs.now (λ name. name.now))) c.in_ok-inputs.ensures.read) in
+    subst (AreShort (most_of plan.work) bytes) (sym have.count_is ∙ length-map c.in_ok-inputs.inputs.items (λ bytes. bytes.items)) have.short
