@@ -1,8 +1,9 @@
 /* The floor of a ring pass: the words and slots of one FILL and one RX ring, moved by two threads without the rule that
    ties them to a history. Prints the nanoseconds of one descriptor's pass through one ring (put in and taken out).
 
-     floor PASSES BATCH     counts 128 bytes apart, every word sequentially consistent, one exchange of a pointer a side;
-                            a thread that finds its ring empty or full yields, as those of the program do */
+     floor PASSES BATCH     counts 128 bytes apart, every word sequentially consistent, a plain read and a plain write of a
+                            slot a side, as the program has them (the words order them); a thread that finds its ring
+                            empty or full yields, as those of the program do */
 #include <pthread.h>
 #include <sched.h>
 #include <stdatomic.h>
@@ -17,7 +18,7 @@ struct count { _Atomic uint32_t n; char pad[124]; };
 struct ring { struct count produced, consumed; _Atomic uint64_t words[2 * SIZE]; };
 
 static struct ring fill, rx;
-static _Atomic(void *) slots[FRAMES];
+static void *slots[FRAMES];
 static uint32_t passes, batch;
 
 /* Puts frames in, so many as are free, at most n. An RX entry has two words, of which the address is written last. */
@@ -28,7 +29,7 @@ static uint32_t put(struct ring *r, int two, void **frames, uint32_t *numbers, u
     for (uint32_t i = 0; i < n; i++) {
         uint32_t place = (at + i) & (SIZE - 1);
         if (two) atomic_store(&r->words[2 * place + 1], 60);
-        atomic_exchange(&slots[numbers[i]], frames[i]);
+        slots[numbers[i]] = frames[i];
         atomic_store(&r->words[two ? 2 * place : place], (uint64_t)numbers[i] * CHUNK);
     }
     atomic_store(&r->produced.n, at + n);
@@ -42,7 +43,8 @@ static uint32_t take(struct ring *r, int two, void **frames, uint32_t *numbers, 
     for (uint32_t i = 0; i < n; i++) {
         uint32_t place = (at + i) & (SIZE - 1);
         numbers[i] = (uint32_t)(atomic_load(&r->words[two ? 2 * place : place]) / CHUNK);
-        frames[i] = atomic_exchange(&slots[numbers[i]], NULL);
+        frames[i] = slots[numbers[i]];
+        slots[numbers[i]] = NULL;
         if (two) (void)atomic_load(&r->words[2 * place + 1]);
     }
     if (n) atomic_store(&r->consumed.n, at + n);

@@ -1,9 +1,10 @@
-//! Examples of the libraries: memory, descriptors, captures, layouts of sockets, a run, and its report. Each is a function that
-//! prints what it shows.
+//! Examples of the libraries: memory, descriptors, captures, layouts of sockets, a run, a forwarder of one's own, and a run's
+//! report. Each is a function that prints what it shows.
 #![tactic(auto)]
 
 mod captures;
 mod descriptors;
+mod forwarder;
 mod layouts;
 mod memory;
 mod reports;
@@ -19,5 +20,7 @@ fn main(rt: HostRuntime) -> Result<()> {
     captures::write_in_gaps(&rt, alloc)?;
     layouts::configure(&rt, alloc)?;
     runs::forward_a_packet(&rt, alloc)?;
+    forwarder::forward_by_hand(&rt, alloc, true)?;
+    forwarder::forward_by_hand(&rt, alloc, false)?;
     reports::report_a_run(&rt, alloc)
 }

@@ -1,5 +1,5 @@
 -- New drivers in their seats, each with the verdicts that it keeps.
-use Rattle.std.proofs.Common.{◌≡◌, ℕ, ◌+◌, ◌<◌, List, [], ◌∷◌, ◌++◌, length, length-append, refl, sym, ap, subst, ◌∙◌, arith, ⊎_elim, vec_len}
+use Rattle.std.proofs.Common.{◌≡◌, ℕ, ◌+◌, ◌<◌, List, [], ◌∷◌, ◌++◌, length, length-append, refl, sym, subst, ◌∙◌, arith, ⊎_elim, vec_len}
 use Rattle.std.specs.List.{slice_index_or}
 use Rattle.std.proofs.lemmas.Bool.{cases_eq}
 use Rattle.std.proofs.lemmas.List.{get_or_push, get_or_append_left}
@@ -12,7 +12,7 @@ use Rattle.xsk_plain.specs.Engine.{Shows}
 use Rattle.xsk_prog.specs.declared.rule.Verdict.{Verdict}
 use Rattle.xsk_turns.specs.Stepping.{IsGivenBack}
 use Rattle.xsk_turns.specs.Verdicts.{judged, EachHas, IsGiven}
-use Rattle.xsk_turns.specs.Workers.{Setting, AreGiven, packets_to}
+use Rattle.xsk_turns.specs.Workers.{AreGiven, packets_to}
 use Rattle.xsk_turns.specs.declared.wire.Wire.{Wire}
 use Rattle.xsk_driver.specs.Runs.{StandsWith}
 use Rattle.xsk_machine.specs.Workers.{setting_with}

@@ -2,3 +2,4 @@ pub mod Beginning
 pub mod Rounds
 pub mod Seats
 pub mod Serving
+pub mod Telling

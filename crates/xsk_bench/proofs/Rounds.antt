@@ -5,11 +5,9 @@ use Rattle.xsk_umem.specs.Frame.{Frame}
 use Rattle.xsk_umem.specs.declared.memory.OutOfMemory.{OutOfMemory}
 use Rattle.xsk_model.specs.Entry.{Entry, own}
 use Rattle.xsk_turns.specs.Workers.{Setting, IsWholeRun}
-use Rattle.xsk_plain.specs.Engine.{Engine}
-use Rattle.xsk_sim.specs.Rounds.{AreTurns}
 use Rattle.xsk_sim.specs.Stalls.{settled_of, AreQuiet}
 use Rattle.xsk_sim.proofs.RunSteps.{run_same}
-use Rattle.xsk_sim.proofs.Stalling.{told_both, both_true}
+use Rattle.xsk_sim.proofs.Stalling.{told_both}
 use Rattle.xsk_sim.proofs.Standing.{decided}
 use Rattle.xsk_sim.proofs.Turning.{turns_both}
 use Rattle.xsk_machine.specs.declared.inputs.Amount.{Amount}

@@ -13,7 +13,7 @@ use Rattle.xsk_model.specs.declared.call.Act.TheVariants.{Call as Calls, Ended a
 use Rattle.xsk_model.proofs.Folds.{own-push_same, own-push_other}
 use Rattle.xsk_model.proofs.CallTheorems.{leaves_state, changes_state}
 use Rattle.xsk_turns.specs.Turns.{seat_of, start, turn}
-use Rattle.xsk_turns.specs.Workers.{Setting, input_of, IsWholeRun}
+use Rattle.xsk_turns.specs.Workers.{Setting, input_of}
 use Rattle.xsk_turns.specs.Sending.{sent_by_act}
 use Rattle.xsk_driver.specs.Sent.{Sends}
 use Rattle.xsk_driver.specs.Shown.{Shown as DriverShown}

@@ -1,9 +1,9 @@
 -- A call that is served.
-use Rattle.std.proofs.Common.{◌≡◌, ◌↔◌, ℕ, ◌+◌, ◌<◌, ◌≤◌, List, [], ◌∷◌, ◌++◌, length, sym, subst, ap, ◌∙◌, arith}
+use Rattle.std.proofs.Common.{◌≡◌, ◌↔◌, ℕ, List, [], ◌∷◌, ◌++◌, sym, subst, arith}
 use Rattle.xsk_umem.specs.Frame.{Frame}
 use Rattle.xsk_model.specs.Config.{Config}
 use Rattle.xsk_model.specs.Rings.{caller_of}
-use Rattle.xsk_model.specs.Entry.{Told, Entry, own}
+use Rattle.xsk_model.specs.Entry.{Entry, own}
 use Rattle.xsk_model.specs.Legal.{IsLegal}
 use Rattle.xsk_model.specs.History.{state_after}
 use Rattle.xsk_model.specs.Object.{reply_at}
@@ -16,7 +16,7 @@ use Rattle.xsk_turns.specs.Workers.{Setting}
 use Rattle.xsk_sim.specs.Turning.{HasRun}
 use Rattle.xsk_sim.proofs.RunSteps.{Performs, run_step}
 use Rattle.xsk_sim.proofs.Seating.{each_change}
-use Rattle.xsk_bench.specs.Played.{IsSeated, HasPlayed}
+use Rattle.xsk_bench.specs.Played.{HasPlayed}
 use Rattle.xsk_bench.specs.Serving.{entry_by}
 use Rattle.xsk_bench.specs.declared.play.Play.{Play}
 use Rattle.xsk_bench.proofs.Rounds.{seated_on}

@@ -1,4 +1,5 @@
 pub mod Drives
+pub mod Laws
 pub mod Played
 pub mod Playing
 pub mod Serving

@@ -1,7 +1,7 @@
 -- Histories in which drivers make their calls in rounds, and an application makes calls of its own between them: each driver's
 -- own calls and replies are a run of its turns, and the application's are whatever legal calls it made. All of this is this
 -- project's own.
-use Rattle.std.specs.Prelude.{◌≡◌, ◌⊎◌, ℕ, zero, suc, ◌+◌, ◌<◌, List, [], ◌∷◌, ◌++◌, length, vec_len}
+use Rattle.std.specs.Prelude.{◌≡◌, ◌⊎◌, ℕ, zero, suc, ◌+◌, ◌<◌, List, [], ◌++◌, length, vec_len}
 use Rattle.std.specs.List.{range_with_len}
 use Rattle.xsk_umem.specs.Frame.{Frame}
 use Rattle.xsk_model.specs.Config.{Config}

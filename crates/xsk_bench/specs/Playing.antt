@@ -1,12 +1,12 @@
 -- What rounds of the drivers add to a history.
-use Rattle.std.specs.Prelude.{◌≡◌, ◌↔◌, ℕ, ◌<◌, ◌≤◌, Bool, true, false, IsTrue, Result, Ok, Err, List, [], ◌∷◌, ◌++◌}
+use Rattle.std.specs.Prelude.{◌≡◌, ◌↔◌, ℕ, ◌<◌, ◌≤◌, Bool, true, false, IsTrue, Result, Ok, Err, List, ◌++◌}
 use Rattle.xsk_umem.specs.Frame.{Frame}
 use Rattle.xsk_umem.specs.declared.memory.OutOfMemory.{OutOfMemory}
 use Rattle.xsk_model.specs.Entry.{Entry}
 use Rattle.xsk_turns.specs.Workers.{Setting, IsWholeRun}
 use Rattle.xsk_sim.specs.Rounds.{AreTurns}
 use Rattle.xsk_sim.specs.Stalls.{AreQuiet}
-use Rattle.xsk_bench.specs.Played.{HasPlayed, IsDriversRound, AreDriversRounds, drivers_of}
+use Rattle.xsk_bench.specs.Played.{HasPlayed, AreDriversRounds, drivers_of}
 use Rattle.xsk_bench.specs.declared.play.Play.{Play}
 
 -- after a history these callers had their turns, and it is told whether they changed nothing

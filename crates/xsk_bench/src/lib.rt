@@ -4,6 +4,7 @@
 
 mod begin;
 mod bench;
+pub mod laws;
 mod play;
 mod seat;
 mod traffic;

@@ -1,5 +1,5 @@
--- Where no run stalls: each ring has 32 entries or more, and each pool 18 frames or more. A batch has 32 items, and a packet 18
--- frames, at most. The numbers are this project's own.
+-- Where no run stalls: each ring has 32 entries or more, each pool 18 frames or more, and applications change nothing. A batch has 32
+-- items, and a packet 18 frames, at most. The numbers are this project's own.
 use Rattle.std.specs.Prelude.{◌≡◌, ℕ, ◌≤◌, List, Option, Some, None}
 use Rattle.xsk_socket.specs.Layout.{pool_in}
 use Rattle.xsk_socket.specs.declared.layout.Layout.{Layout}

@@ -59,6 +59,7 @@ fn look_at_producer<J: Asking>(
     ensures same { (seat.new.table_id ≡ seat.old.table_id) × (seat.new.id ≡ seat.old.id) }
     ensures told { Ended (ask_for board.now.setup who ring n) (Reserve ring n) Granted seat.old.me seat.new.me }
 {
+    // No barrier: the count is the caller's own, and the (A) that found this room has paired with its (D).
     board.look::<Granting<J>>(seat, word);
 }
 
@@ -92,6 +93,7 @@ fn look_at_consumer<J: Asking>(
     ensures same { (seat.new.table_id ≡ seat.old.table_id) × (seat.new.id ≡ seat.old.id) }
     ensures told { PeekedAll (ask_for board.now.setup who ring n) seat.old.me seat.new.me }
 {
+    // No barrier: the count is the caller's own, and the (C) that found these items has paired with its (B).
     board.look::<Giving<J>>(seat, word);
 }
 

@@ -56,6 +56,7 @@ fn swap_word<J: Asking>(
     ensures same { (seat.new.table_id ≡ seat.old.table_id) × (seat.new.id ≡ seat.old.id) }
     ensures told { Answered (ask_mark board.now.setup who mark value) (Swap mark value) seat.old.me result seat.new.me }
 {
+    // A full barrier: a Look that finds the number comes behind all that its caller did before the Swap.
     board.swap::<Swapping<J>>(seat, word, value)
 }
 
@@ -79,6 +80,7 @@ fn look_word<J: Asking>(board: &Board, seat: &mut Chair, who: u32, mark: Mark, w
     ensures same { (seat.new.table_id ≡ seat.old.table_id) × (seat.new.id ≡ seat.old.id) }
     ensures told { Answered (ask_mark board.now.setup who mark 0) (Look mark) seat.old.me result seat.new.me }
 {
+    // Pairs with the Swap whose number it finds.
     board.look::<Viewing<J>>(seat, word)
 }
 

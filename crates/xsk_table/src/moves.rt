@@ -51,6 +51,7 @@ fn lift<J: Asking>(board: &Board, seat: &mut Chair, who: u32, ring: Ring, item: 
     ensures same { (seat.new.table_id ≡ seat.old.table_id) × (seat.new.id ≡ seat.old.id) }
     ensures told { Lifted (ask_item board.now.setup who ring item.now) seat.old.me seat.new.me }
 {
+    // Between (A) and (B), at the producer's own count: no barrier, the slot alone moves.
     board.look::<Lifting<J>>(seat, word);
 }
 
@@ -73,6 +74,7 @@ fn write_second<J: Asking>(
     ensures told { Lifted (ask_item board.now.setup who ring item.now) seat.old.me seat.new.me }
 {
     let (_, second) = pack(item.desc);
+    // Data, between (A) and (B).
     board.store::<Lifting<J>>(seat, word, second);
 }
 
@@ -126,6 +128,7 @@ fn write_entry<J: Asking>(
         Some(frame) => {
             let number = frame.number() as usize;
             drop(board.exchange(seat, number, Some(frame)));
+            // Data, between (A) and (B): the address last, behind the frame.
             board.store::<Placing<J>>(seat, word, desc.addr);
         }
         None => board.store::<Placing<J>>(seat, word, desc.addr),
@@ -171,6 +174,7 @@ fn read_entry<J: Asking>(board: &Board, seat: &mut Chair, who: u32, ring: Ring, 
     ensures same { (seat.new.table_id ≡ seat.old.table_id) × (seat.new.id ≡ seat.old.id) }
     ensures told { (x : Thing) (left : List Thing) → seat.old.me.0.flight ≡ taking ring (x ∷ left) → Fetched (ask_for board.now.setup who ring 0) x left seat.old.me result seat.new.me }
 {
+    // Data, between (C) and (D).
     board.look::<Fetching<J>>(seat, word)
 }
 
@@ -185,6 +189,7 @@ fn settle<J: Asking>(board: &Board, seat: &mut Chair, who: u32, ring: Ring, word
     ensures same { (seat.new.table_id ≡ seat.old.table_id) × (seat.new.id ≡ seat.old.id) }
     ensures told { (x : Thing) (left : List Thing) → seat.old.me.0.flight ≡ fetching ring x left → Settled (ask_for board.now.setup who ring 0) x left seat.old.me seat.new.me }
 {
+    // Between (C) and (D), at the address once more: no barrier, the slot alone moves.
     board.look::<Settling<J>>(seat, word);
 }
 
@@ -200,6 +205,7 @@ fn read_second<J: Asking>(board: &Board, seat: &mut Chair, who: u32, ring: Ring,
     ensures same { (seat.new.table_id ≡ seat.old.table_id) × (seat.new.id ≡ seat.old.id) }
     ensures told { (x : Thing) (left : List Thing) → seat.old.me.0.flight ≡ fetching ring x left → Settled (ask_for board.now.setup who ring 0) x left seat.old.me seat.new.me × (result ≡ second_word x.desc) }
 {
+    // Data, between (C) and (D).
     board.look::<Reading<J>>(seat, word)
 }
 

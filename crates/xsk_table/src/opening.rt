@@ -96,6 +96,7 @@ fn mask_at(config: &Config, place: usize) -> u32
     requires { place < places_of config.now }
     ensures { (r : Line) → HasRing config.now r → place_of config.now r ≡ place → result + 1 ≡ size_of config.now r }
 {
+    // For the proof: it is a configuration (IsConfig).
     let _pairs = config.pairs();
     let ring = ring_at(config, place);
     if has_ring(config, ring) {

@@ -19,13 +19,15 @@ use std::alloc::Global;
 use std::marker::Model;
 use std::mem;
 use std::snapshot::Snapshot;
+use thiserror::Error;
 use xsk_model::placement::ring_place;
 use xsk_model::{Config, Ring};
 use xsk_umem::{Frame, Frames, OutOfMemory};
 use xsk_words::marks_base;
 
 /// Memory for the table couldn't be had. What was handed in comes back.
-#[derive(Debug, Drop)]
+#[derive(Debug, Drop, Error)]
+#[error("out of memory")]
 pub struct SharedRefused {
     pub config: Config,
     pub frames: Frames,
@@ -180,6 +182,7 @@ impl Shared {
             frames: Snapshot::of(&frames),
         };
         let callers = config.callers();
+        // For the proof: its geometry is one (IsGeometry), and it is a configuration (IsConfig).
         let _geometry = config.geometry();
         let _ports = config.ports();
         let marks = marks_base(&config);

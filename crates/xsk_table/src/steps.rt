@@ -1,4 +1,5 @@
-//! The steps on words: each is one load or one store, with the arithmetic around it.
+//! The steps on words: each is one load or one store, with the arithmetic around it. The letters are those of
+//! net/xdp/xsk_queue.h, which `docs/THREADS.md` goes through; here each step is sequentially consistent.
 ghost use Rattle.std.specs.Prelude.{List, [], ◌∷◌, length, ◌≡◌, ◌+◌, ◌%◌, ◌^◌, ◌<◌, min};
 ghost use Rattle.xsk_umem.specs.declared.batch.Item.{Item};
 ghost use Rattle.xsk_model.specs.Config.{size_of};
@@ -38,6 +39,7 @@ fn look_room<J: Asking, L: Ledger>(
     ensures told { Reserved (ask_for board.now.setup who ring n) seat.old.me result seat.new.me }
     ensures counted { steps.new ≡ steps.old + 1 }
 {
+    // (A), pairs with (D): what the consumer read is read before its place is written again. In the kernel a control dependency.
     board.look_counted::<Reserving<J>, L>(seat, word, steps)
 }
 
@@ -87,6 +89,7 @@ fn write_consumer<J: Asking>(
     ensures same { (seat.new.table_id ≡ seat.old.table_id) × (seat.new.id ≡ seat.old.id) }
     ensures told { Ended (ask_for board.now.setup who ring n) (Release ring n) Released seat.old.me seat.new.me }
 {
+    // (D), pairs with (A): it stands behind the loads of the entries. In the kernel a store-release.
     board.store::<Releasing<J>>(seat, word, new as u64)
 }
 
@@ -129,6 +132,7 @@ fn write_producer<J: Asking>(
     ensures same { (seat.new.table_id ≡ seat.old.table_id) × (seat.new.id ≡ seat.old.id) }
     ensures told { Ended (ask_for board.now.setup who ring 0) (Submit ring (lying seat.old.me.0.flight)) Submitted seat.old.me seat.new.me }
 {
+    // (B), pairs with (C): it stands behind the stores of the entries. In the kernel a store-release.
     board.store::<Raising<J>>(seat, word, new as u64)
 }
 
@@ -173,6 +177,7 @@ fn look_items<J: Asking, L: Ledger>(
     ensures told { Peeked (ask_for board.now.setup who ring n) seat.old.me result seat.new.me }
     ensures counted { steps.new ≡ steps.old + 1 }
 {
+    // (C), pairs with (B): the entries that it finds are whole. In the kernel a load-acquire.
     board.look_counted::<Peeking<J>, L>(seat, word, steps)
 }
 

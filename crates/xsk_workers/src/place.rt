@@ -3,6 +3,7 @@ ghost use Rattle.std.specs.Prelude.{◌≡◌, ℕ, List, [], map, option_map};
 ghost use Rattle.std.specs.List.{slice_get};
 ghost use Rattle.atomic_table.specs.Seated.{TableId};
 ghost use Rattle.xsk_prog.specs.declared.rule.Verdict.{Verdict as AVerdict};
+ghost use Rattle.xsk_turns.specs.Mangling.{plain};
 ghost use Rattle.xsk_turns.specs.Workers.{Setting};
 ghost use Rattle.xsk_workers.specs.Parking.{token_of};
 
@@ -53,7 +54,7 @@ impl<V: Verdicts> Clone for Source<'_, V> {
 impl<V: Verdicts> Copy for Source<'_, V> {}
 
 impl<V: Verdicts> Place for Source<'_, V> {
-    ghost setting = { λ s. record { config = s.config.now; wire = s.wire; packets = s.packets.now; verdicts = V.verdicts } };
+    ghost setting = { λ s. record { config = s.config.now; wire = s.wire; manner = plain; packets = s.packets.now; verdicts = V.verdicts } };
 
     ghost tokens = { λ s. map token_of s.wakers.now };
 

@@ -1,6 +1,5 @@
-use Rattle.std.proofs.Common.{rules, ◌≡◌, ◌+◌, ℕ, List, [], ◌∷◌, ◌++◌, length, length-append, sym, ap, subst, ◌∙◌, refl, arith}
+use Rattle.std.proofs.Common.{rules, ◌≡◌, ◌+◌, ℕ, [], ◌∷◌, length, length-append, sym, ap, subst, ◌∙◌}
 use Rattle.xsk_driver.specs.Asking.{IsAnswer, verdicts_in}
-use Rattle.xsk_bench.specs.declared.seat.Seat.{Seat}
 use Rattle.xsk_bench.proofs.Beginning.{Begun, begun_none, begun_more, all_begun}
 use Rattle.xsk_bench.proofs.begin.seat_drivers.Goals as goal
 

@@ -29,7 +29,7 @@ loop-who-init g c = (
 )
 
 -- where no driver is next, none is left
-none_left : (g : given.Over) (c : goal.After-next g) → c.next.result ≡ None → into_iter_items c.next.new.self ≡ []
+none_left : (g : given.Over) (c : goal.After-plain g) → c.next.result ≡ None → into_iter_items c.next.new.self ≡ []
 none_left g c none =
     nil_from_length (into_iter_items c.next.new.self) (let zero : into_iter_len c.next.new.self ≡ 0 = (subst (λ next. into_iter_steps c.loop-who.drivers next c.next.new.self) none c.next.ensures.cases).1 in search (rules, zero))
 

@@ -1,7 +1,7 @@
-use Rattle.std.proofs.Common.{rules, ◌≡◌, ◌<◌, ◌/◌, ℕ, Some, List, length, refl, sym, ap, subst, ◌∙◌, arith, true, false}
+use Rattle.std.proofs.Common.{◌≡◌, ◌/◌, ℕ, Some, List, length, sym, ap, subst, ◌∙◌, arith}
 use Rattle.std.specs.List.{slice_get}
 use Rattle.std.proofs.lemmas.Option.{slice_get_within, get_or_from_slice_get}
-use Rattle.xsk_model.specs.Config.{Config, classes_of}
+use Rattle.xsk_model.specs.Config.{classes_of}
 use Rattle.xsk_model.specs.declared.config.PairInfo.{PairInfo}
 use Rattle.xsk_model.specs.declared.config.SocketInfo.{SocketInfo}
 use Rattle.xsk_machine.specs.Figures.{figures_in}

@@ -1,13 +1,9 @@
-use Rattle.std.proofs.Common.{◌≡◌, ℕ, List, [], refl, sym, subst, ◌∙◌}
-use Rattle.xsk_umem.specs.PacketList.{PacketList}
+use Rattle.std.proofs.Common.{[], sym, subst}
 use Rattle.xsk_model.specs.Config.{Config}
 use Rattle.xsk_model.specs.Opening.{AreFrames}
 use Rattle.xsk_model.specs.Config.{IsLawful}
-use Rattle.xsk_prog.specs.declared.rule.Verdict.{Verdict}
-use Rattle.xsk_turns.specs.Workers.{AreGiven}
 use Rattle.xsk_driver.specs.Asking.{IsAnswer}
 use Rattle.xsk_machine.specs.Workers.{setting_with}
-use Rattle.xsk_bench.specs.Played.{HasPlayed}
 use Rattle.xsk_bench.proofs.Beginning.{bench_opened}
 use Rattle.xsk_bench.proofs.bench.Bench.open.Goals as goal
 

@@ -1,11 +1,6 @@
-use Rattle.std.proofs.Common.{rules, ◌≡◌, ◌<◌, ◌/◌, ℕ, Some, List, length, refl, sym, ap, subst, ◌∙◌, arith, true, false}
+use Rattle.std.proofs.Common.{rules, ◌≡◌, Some, sym, ap, subst, ◌∙◌, arith, false}
 use Rattle.std.specs.List.{slice_get}
 use Rattle.std.proofs.lemmas.Option.{slice_get_within, get_or_from_slice_get}
-use Rattle.xsk_driver.specs.Sent.{Sends}
-use Rattle.xsk_model.specs.Entry.{own}
-use Rattle.xsk_turns.specs.Sending.{sent_by_act}
-use Rattle.xsk_sim.proofs.Seating.{each_at}
-use Rattle.xsk_bench.specs.Played.{act_of, IsSeated}
 use Rattle.xsk_bench.specs.declared.play.Play.{Play}
 use Rattle.xsk_bench.specs.declared.seat.Seat.{Seat}
 use Rattle.xsk_bench.proofs.Seats.{sent_at}

@@ -1,11 +1,10 @@
-use Rattle.std.proofs.Common.{rules, ◌≡◌, ◌&&◌, ◌++◌, ◌∷◌, [], ℕ, length, refl, sym, ap, subst, ◌∙◌, arith}
+use Rattle.std.proofs.Common.{rules, ◌≡◌, ◌++◌, ℕ, length, refl, sym, subst, ◌∙◌, arith}
 use Rattle.std.specs.List.{range_with_len}
 use Rattle.xsk_umem.specs.Geometry.{IsGeometry}
 use Rattle.xsk_model.specs.Config.{Config}
-use Rattle.xsk_plain.specs.Engine.{Engine}
 use Rattle.xsk_sim.proofs.Stalling.{both_true}
 use Rattle.xsk_bench.specs.Playing.{HadTurns}
-use Rattle.xsk_bench.proofs.Rounds.{had_none, had_more, going_on, going_few, played_same}
+use Rattle.xsk_bench.proofs.Rounds.{had_none, had_more, going_on, played_same}
 use Rattle.xsk_bench.proofs.play.Play.round.Goals as goal
 
 pub loop-who-init : goal.loop-who-init

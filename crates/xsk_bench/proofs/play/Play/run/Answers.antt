@@ -1,9 +1,5 @@
-use Rattle.std.proofs.Common.{rules, ◌≡◌, ◌++◌, ◌+◌, ◌<◌, ◌≤◌, ℕ, List, refl, sym, ap, subst, ◌∙◌, arith}
-use Rattle.xsk_umem.specs.Frame.{Frame}
-use Rattle.xsk_model.specs.Entry.{Entry}
-use Rattle.xsk_turns.specs.Workers.{Setting}
-use Rattle.xsk_bench.specs.Played.{HasPlayed}
-use Rattle.xsk_bench.proofs.Rounds.{few_still, Gone, gone_none, gone_more, gone_going, ends_still, ends_going, ends_short}
+use Rattle.std.proofs.Common.{◌++◌, ◌+◌, arith}
+use Rattle.xsk_bench.proofs.Rounds.{few_still, gone_none, gone_more, gone_going, ends_still}
 use Rattle.xsk_bench.proofs.play.Play.run.Goals as goal
 
 pub loop-round-init : goal.loop-round-init

@@ -1,4 +1,4 @@
-use Rattle.std.proofs.Common.{◌≡◌, ◌<◌, List}
+use Rattle.std.proofs.Common.{◌<◌, List}
 use Rattle.xsk_umem.specs.Frame.{Frame}
 use Rattle.xsk_model.specs.Entry.{Entry}
 use Rattle.xsk_turns.specs.Workers.{Setting}

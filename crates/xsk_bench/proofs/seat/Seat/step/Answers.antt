@@ -1,7 +1,7 @@
-use Rattle.std.proofs.Common.{◌≡◌, ◌↔◌, ℕ, IsTrue, false, Option, Some, length, ap, sym, subst, refl, rules, arith, ◌∙◌, ◌≤◌}
+use Rattle.std.proofs.Common.{◌≡◌, ◌↔◌, IsTrue, false, Option, Some, length, ap, sym, subst, rules, arith, ◌∙◌, ◌≤◌}
 use Rattle.xsk_turns.specs.Stepping.{joined_ask}
 use Rattle.xsk_turns.specs.Workers.{input_of}
-use Rattle.xsk_model.specs.Asks.{joined_call, joined_reply}
+use Rattle.xsk_model.specs.Asks.{joined_call}
 use Rattle.xsk_model.specs.Entry.{own, with_told}
 use Rattle.xsk_model.specs.OtherWords.{changes}
 use Rattle.xsk_model.specs.declared.ask.Ask.{Ask}
@@ -10,7 +10,6 @@ use Rattle.xsk_model.specs.declared.call.Call.{Call}
 use Rattle.xsk_model.specs.declared.call.Reply.{Reply}
 use Rattle.xsk_model.specs.declared.call.Act.TheVariants.{Call as Calls}
 use Rattle.xsk_model.proofs.Replies.{gift_fits}
-use Rattle.xsk_machine.specs.Acts.{IsActAfter}
 use Rattle.xsk_plain.specs.Rooms.{payload_bytes}
 use Rattle.xsk_sim.specs.Rooms.{most_payload}
 use Rattle.xsk_sim.proofs.RunSteps.{Performs, turn_made, turn_past}

@@ -1,0 +1,119 @@
+//! xsk_bench: a forwarder of one's own beside the library's drivers. What port 0 receives goes out on port 1 where it is IPv4, and
+//! each frame comes home. The same is run with a mistake: it reserves no place on TX before it submits there.
+ghost use Rattle.std.specs.Prelude.{All, IfOk};
+ghost use Rattle.xsk_sim.specs.Shown.{HasShortPackets};
+
+use crate::layouts::opened;
+use crate::runs::LAYOUT;
+use anyhow::{Context, Result, bail};
+use std::alloc::Global;
+use xsk_bench::{Amount, Bench, Traffic, Wire};
+use xsk_model::{Answer, Ask, Ring};
+use xsk_plain::LineBuffer;
+use xsk_prog::{Rule, XdpProgram};
+use xsk_umem::{Batch, Item, PacketList};
+
+/// Room for what a driver sends.
+const ROOM: Amount = Amount {
+    packets: 16,
+    bytes: 4096,
+};
+
+pub fn forward_by_hand<R: Print>(rt: &R, alloc: Global, reserves: bool) -> Result<()> {
+    let (config, frames) = opened(alloc, &LAYOUT)?;
+    let packets = received(alloc)?;
+    if packets.len() != config.ports() as usize {
+        bail!("there is a list for each port");
+    }
+    let traffic = Traffic::new(alloc, config, packets)?;
+    let rule = Rule::Redirect { sockets: 1 };
+    let program = XdpProgram::attach(rule, |bytes: &[u8], queue: u32| rule.verdict(bytes, queue));
+    let mut bench = Bench::open(alloc, &traffic, frames, &program, Wire::Wait, ROOM)?;
+    if let Err(error) = forward(&mut bench, reserves) {
+        println!(rt; "told: {error}")?;
+    }
+    tell(rt, &bench)
+}
+
+/// An IPv4 packet and an ARP packet for port 0, and none for port 1.
+fn received(alloc: Global) -> Result<Vec<PacketList>>
+    ensures { IfOk result (λ lists. All HasShortPackets lists.items) }
+{
+    let mut first = PacketList::new(alloc);
+    first.push(&[2, 0, 0, 0, 0, 1, 2, 0, 0, 0, 0, 2, 8, 0, 69, 0])?;
+    first.push(&[2, 0, 0, 0, 0, 1, 2, 0, 0, 0, 0, 2, 8, 6, 0, 1])?;
+    Ok(vec![in alloc; first, PacketList::new(alloc)]?)
+}
+
+/// The forwarder: the drivers run until they wait; then a packet on RX goes its way, or a frame on COMPLETION goes back to FILL.
+fn forward(bench: &mut Bench<'_>, reserves: bool) -> Result<()> {
+    for _ in 0..1_000 {
+        bench.run_drivers(1_000)?;
+        if let Some(item) = take(bench, Ring::Rx(0))? {
+            if is_ipv4(&item) {
+                put(bench, Ring::Tx(1), item, reserves)?;
+            } else {
+                put(bench, Ring::Fill(0), bare(item), true)?;
+            }
+        } else if let Some(item) = take(bench, Ring::Comp(1))? {
+            put(bench, Ring::Fill(0), item, true)?;
+        } else {
+            return Ok(());
+        }
+    }
+    bail!("it goes on and on")
+}
+
+/// Takes an item from a ring, if there is one.
+fn take(bench: &mut Bench<'_>, ring: Ring) -> Result<Option<Item>> {
+    let mut items = Batch::new();
+    bench.serve(0, Ask::Peek(ring, 1), &mut items)?;
+    let item = items.pop_front();
+    if item.is_some() {
+        bench.serve(0, Ask::Release(ring, 1), &mut items)?;
+    }
+    Ok(item)
+}
+
+/// Puts an item into a ring.
+fn put(bench: &mut Bench<'_>, ring: Ring, item: Item, reserves: bool) -> Result<()> {
+    let reserve = Ask::Reserve(ring, 1);
+    if reserves && bench.serve(0, reserve, &mut Batch::new())? != Answer::Granted {
+        bail!("the ring is full");
+    }
+    let mut items = Batch::new();
+    items.push(item);
+    bench.serve(0, Ask::Submit(ring), &mut items)?;
+    Ok(())
+}
+
+/// The item for FILL: its address alone.
+fn bare(item: Item) -> Item {
+    let Item { frame, mut desc } = item;
+    desc.len = 0;
+    desc.options = 0;
+    Item { frame, desc }
+}
+
+/// Whether the Ethernet header says IPv4.
+fn is_ipv4(item: &Item) -> bool {
+    let start = (item.desc.addr % 4096) as usize;
+    match &item.frame {
+        Some(frame) => frame.bytes().get(start + 12..start + 14) == Some(&[8, 0]),
+        None => false,
+    }
+}
+
+/// What the application did, and what was sent.
+fn tell<R: Print>(rt: &R, bench: &Bench<'_>) -> Result<()> {
+    let mut lines = bench.lines();
+    let mut line = LineBuffer::new();
+    for _ in 0..bench.log().len() {
+        if lines.write_next(&mut line) == Some(2) {
+            print!(rt; "{}", str::from_utf8(line.bytes())?)?;
+        }
+    }
+    let sent = bench.sent(1).context("there was room for all")?;
+    println!(rt; "port 1 sent {} packets", sent.len())?;
+    Ok(())
+}

@@ -1,0 +1,25 @@
+-- Laws of histories with a bench. Each is the contract of a function of its own.
+use Rattle.std.specs.Prelude.{◌≡◌, ℕ, ◌<◌, Bool, false, List, length}
+use Rattle.xsk_umem.specs.Frame.{Frame}
+use Rattle.xsk_model.specs.Config.{Config}
+use Rattle.xsk_model.specs.Entry.{Entry, own}
+use Rattle.xsk_model.specs.Sent.{sent}
+use Rattle.xsk_model.specs.declared.call.Act.{Act}
+use Rattle.xsk_model.specs.declared.call.Act.TheVariants.{Call as Gave, Ended}
+use Rattle.xsk_turns.specs.Sending.{is_completing, sent_by_act}
+use Rattle.xsk_turns.specs.Workers.{Setting, IsWorkerRun}
+use Rattle.xsk_bench.specs.Played.{HasPlayed}
+use Rattle.xsk_bench.specs.declared.play.Play.{Play}
+
+-- each driver's own calls and replies are a run of its turns over its packets
+abbrev pub DriversRun : Type 0
+DriversRun = (s : Setting) (frames : List Frame) (h : List Entry) (p : Play) (who : ℕ) → HasPlayed s frames h p → who < length s.config.pairs → IsWorkerRun s who (own who h)
+
+-- an act that gives back the frames of a packet that was sent
+abbrev pub gives_back : Act → Bool
+gives_back (Gave call) = is_completing call
+gives_back Ended = false
+
+-- where a driver's next act isn't one, what it sent with this act counted as made is what it sent in the history
+abbrev pub SentSoFar : Type 0
+SentSoFar = (c : Config) (h : List Entry) (pair : ℕ) (act : Act) → gives_back act ≡ false → sent_by_act c pair (own pair h) act ≡ sent c h pair
