@@ -10,7 +10,7 @@ use xsk_umem::{Batch, Frame, Item, XdpDesc};
 /// The bytes of a chunk, and those before a packet's data.
 const CHUNK: u64 = 2048;
 
-const BEFORE: u64 = 256;
+const BEFORE: u32 = 256;
 
 /// Makes a call. None where it isn't legal.
 fn make(shared: &Shared, pass: &mut CheckedPass, call: Call) -> Option<Reply>
@@ -23,8 +23,8 @@ fn make(shared: &Shared, pass: &mut CheckedPass, call: Call) -> Option<Reply>
     Some(pass.perform(shared, call))
 }
 
-fn item_on(frame: Frame, offset: u64, len: u32) -> Item {
-    let addr = u64::from(frame.number()) * CHUNK + offset;
+fn item_on(frame: Frame, offset: u32, len: u32) -> Item {
+    let addr = u64::from(frame.number()) * CHUNK + u64::from(offset);
     Item {
         frame: Some(frame),
         desc: XdpDesc {
