@@ -200,7 +200,7 @@ module _ (w : Workers) (manner : Manner) (wire : Wire) (c : Config) (lists : Lis
       subst (λ xs. AreAltered c.geometry manner.mangle xs (peeked_of (Tx t) (own d h))) received_all
       (subst (AreAltered c.geometry manner.mangle (peeked_of (Rx s) (own (caller_of c a) h))) (sym sent) lane_all)
 
-  peeked_all : manner.mangle ≡ None → peeked_of (Tx t) (own d h) ≡ submitted_of (Rx s) (own e h)
+  pub peeked_all : manner.mangle ≡ None → peeked_of (Tx t) (own d h) ≡ submitted_of (Rx s) (own e h)
   peeked_all none =
       let xs = submitted_of (Rx s) (own e h) in
       let ys = peeked_of (Tx t) (own d h) in
@@ -218,10 +218,10 @@ module _ (w : Workers) (manner : Manner) (wire : Wire) (c : Config) (lists : Lis
   whole_e : IsWholeDriverRun wire c e input (own e h)
   whole_e = subst (λ (l : List Judged). IsWholeDriverRun wire c e l (own e h)) (input_is c lists verdicts o q k e s at_o) (run.drivers e at_o.pair_known)
 
-  laid : IsLaidOut c.geometry c.sg (with_disposal s input ds) (submitted_of (Rx s) (own e h))
+  pub laid : IsLaidOut c.geometry c.sg (with_disposal s input ds) (submitted_of (Rx s) (own e h))
   laid = w.delivers wire c e s input (own e h) seat_e (fit e) whole_e
 
-  few : All (λ (packet : List ℕ). length packet ≤ packet_limit c) (with_disposal s input ds)
+  pub few : All (λ (packet : List ℕ). length packet ≤ packet_limit c) (with_disposal s input ds)
   few = All-weaker (IsSized c) (λ (packet : List ℕ). length packet ≤ packet_limit c) (λ packet sized. sized.few) (with_disposal s input ds) (w.sized wire c e s input (own e h) seat_e (fit e) whole_e)
 
   -- all whole packets are sent

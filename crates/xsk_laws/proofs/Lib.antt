@@ -1,6 +1,8 @@
 pub mod Emptied
 pub mod Passed
 pub mod Wholes
+pub mod Laid
+pub mod Unstranded
 pub mod Filters
 pub mod Places
 pub mod Joined

@@ -16,6 +16,7 @@ use Rattle.xsk_turns.specs.Inputs.{packets_of_port}
 use Rattle.xsk_prog.specs.declared.rule.Rule.TheVariants.{Redirect as ByClass}
 use Rattle.xsk_prog.specs.declared.rule.Verdict.{Verdict}
 use Rattle.xsk_turns.specs.Owned.{IsSteady}
+use Rattle.xsk_turns.specs.Stranded.{stranded_of}
 use Rattle.xsk_turns.specs.Turns.{Judged, IsWholeDriverRun}
 use Rattle.xsk_turns.specs.Verdicts.{judged, MeetRule}
 use Rattle.xsk_turns.specs.AppTurns.{IsWholeAppRunBy}
@@ -102,6 +103,12 @@ abbrev pub AllIsExpected : Type 0
 AllIsExpected = (manner : Manner) (wire : Wire) (c : Config) (lists : List PacketList) (verdicts : List (List Verdict)) (frames : List Frame) (h : List Entry) (port queue : ℕ)
     → manner.mangle ≡ None → wire ≡ Wait → AreWholeRuns manner wire c lists verdicts frames h → port < c.ports → queue < c.queues → classes_of c ≡ 1
     → sent c h (driver_on c port queue) ≡ expected c lists verdicts port queue 0
+
+-- and no frame is stranded: each that a driver peeked on its TX rings it has submitted on COMPLETION
+abbrev pub NoneAreStranded : Type 0
+NoneAreStranded = (manner : Manner) (wire : Wire) (c : Config) (lists : List PacketList) (verdicts : List (List Verdict)) (frames : List Frame) (h : List Entry) (port queue : ℕ)
+    → manner.mangle ≡ None → AreWholeRuns manner wire c lists verdicts frames h → port < c.ports → queue < c.queues
+    → stranded_of (own (driver_on c port queue) h) ≡ 0
 
 -- all that a driver sent is no more than what the paired port received on the queue, in packets and in bytes, whatever the
 -- applications change

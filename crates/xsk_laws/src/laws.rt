@@ -1,7 +1,7 @@
 //! The laws of all workers' runs, each the contract of a function that does nothing. They are stated in `specs/Laws.antt`
 //! and `specs/Lost.antt`, of whole runs, and in `specs/Woken.antt`, of all runs.
 
-ghost use Rattle.xsk_laws.specs.Laws.{SentIsForwarded, SentIsExpected, AllAreForwarded, NothingElseIsSent, AllIsForwarded, AllIsExpected, SentIsWithin, ExpectedIsOther};
+ghost use Rattle.xsk_laws.specs.Laws.{SentIsForwarded, SentIsExpected, AllAreForwarded, NothingElseIsSent, AllIsForwarded, AllIsExpected, NoneAreStranded, SentIsWithin, ExpectedIsOther};
 ghost use Rattle.xsk_laws.specs.Lost.{ForwardedIsUnlost, OnlyRedirectedAreLost};
 ghost use Rattle.xsk_laws.specs.Woken.{NoWakesAreLost, NoneIsLostInWholeRuns};
 
@@ -44,6 +44,11 @@ pub fn all_is_forwarded()
 /// Where the wire waits too, all that the driver sent is what is expected by that socket.
 pub fn all_is_expected()
     ensures { AllIsExpected }
+{}
+
+/// Where no item is changed, no frame is stranded at the end: each that a driver peeked on its TX rings it has submitted on COMPLETION.
+pub fn none_are_stranded()
+    ensures { NoneAreStranded }
 {}
 
 /// All that a driver sent is no more than what the paired port received, in packets and in bytes, whatever applications change.

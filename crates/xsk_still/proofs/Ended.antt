@@ -45,7 +45,7 @@ use Rattle.xsk_still.specs.Own.{IsPlain, HasNothingDue}
 use Rattle.xsk_still.specs.Laws.{IsStretch, NoStretch}
 use Rattle.xsk_still.proofs.Holding.{holder, pair_side, socket_of_side, lane_at}
 use Rattle.xsk_still.proofs.Keeping.{keeps_rx_told, keeps_tx_told, has_pending, pending_few, lays_out}
-use Rattle.xsk_still.proofs.Laid.{laid_packets}
+use Rattle.xsk_laws.proofs.Laid.{laid_packets}
 use Rattle.xsk_still.proofs.Losing.{loses_none}
 use Rattle.xsk_still.proofs.Pools.{many_of_pool, home_numbers, only_homes, spare_home}
 use Rattle.xsk_still.proofs.Resting.{pieces_within}

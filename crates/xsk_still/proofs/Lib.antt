@@ -10,7 +10,6 @@ pub mod Telling
 pub mod Losing
 pub mod Asking
 pub mod Pools
-pub mod Laid
 pub mod Holding
 pub mod Standing
 pub mod Emptying
