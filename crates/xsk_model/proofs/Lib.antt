@@ -36,3 +36,4 @@ pub mod Legality
 pub mod Bodies
 pub mod Shapes
 pub mod CallTheorems
+pub mod RingSizes
