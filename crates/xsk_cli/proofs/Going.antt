@@ -30,6 +30,7 @@ use Rattle.xsk_socket.proofs.Accepted.{fits}
 use Rattle.xsk_socket.proofs.Numbered.{get_or-numbered, length-numbered}
 use Rattle.xsk_socket.proofs.Regularity.{regular-config, regular-regular}
 use Rattle.xsk_cli.specs.Outcome.{listed, rule_by, verdicts_by, received_on, goes_on, going_on, ExpectedGoesOn, ClassGoesOn, AllGoOn}
+use Rattle.xsk_laws.proofs.OneQueue.{bytes_if}
 
 -- ---- verdicts
 
@@ -52,10 +53,6 @@ by_length : (x y z w : Bool) → (x ≡ true → z ≡ w) → ((x && y) && z) �
 by_length true true z w h = h refl
 by_length true false z w h = refl
 by_length false y z w h = refl
-
-bytes_if : (b : Bool) (p : Judged) (ps : List Judged) (qs : List (List ℕ)) → bytes_in ps ≡ qs → bytes_in (cond b (p ∷ ps) ps) ≡ cond b (p.bytes ∷ qs) qs
-bytes_if true p ps qs e = ap (λ rs. p.bytes ∷ rs) e
-bytes_if false p ps qs e = e
 
 -- the packets whose verdicts the rule gives go on where it redirects them so
 module _ (layout : Layout) (program : Program) (o queue class : ℕ) where

@@ -8,6 +8,8 @@ pub mod PacketsLaws
 pub mod Counting
 pub mod Folds
 pub mod Places
+pub mod InRow
+pub mod Sizes
 pub mod Moves
 pub mod Sound
 pub mod Opened

@@ -1,5 +1,5 @@
 use Rattle.std.proofs.Common.{◌∙◌, sym}
-use Rattle.test_object.proofs.Sizes.{ring_size}
+use Rattle.xsk_model.proofs.Sizes.{ring_size}
 use Rattle.test_object.proofs.setup.is_ring_size.Goals as goal
 
 pub returns : goal.returns
