@@ -19,10 +19,10 @@ returns-clause-pairs g c = c.in_ok-outcome.ensures.pairs ∙ ap (λ (k : Config)
 
 pub returns-clause-forwarded : goal.returns-clause-forwarded
 returns-clause-forwarded g c =
-    let is : c.attach-attached.result.rule ≡ rule_by c.args.layout.now.sockets c.args.program = ap (λ attached. attached.rule) c.attach-attached.ensures.parts ∙ c.rule_of-rule.ensures.rule in
-    forwarded_as c.args.layout.now c.args.program c.args.wire c.args.config c.args.lists.now c.args.frames.items (lists_in c.args.lists.now) c.in_ok-outcome.outcome
+    let is : c.attach-attached.result.rule ≡ rule_by c.args.layout.now.sockets c.args.programs.now = ap (λ attached. attached.rule) c.attach-attached.ensures.parts ∙ c.rule_of-rule.ensures.rule in
+    forwarded_as c.args.layout.now c.args.programs.now c.args.wire c.args.config c.args.lists.now c.args.frames.items (lists_in c.args.lists.now) c.in_ok-outcome.outcome
     c.requires.config c.requires.listed c.requires.frames c.wire_of-wire.result c.wire_of-wire.ensures c.attach-attached.result.rule
-    is (c.in_ok-outcome.ensures.forwarded (subst (λ (r : Rule). is_exact r ≡ true) (sym is) (is_exact_by c.args.layout.now.sockets c.args.program)))
+    is (c.in_ok-outcome.ensures.forwarded (subst (λ (r : Rule). is_exact r ≡ true) (sym is) (is_exact_by c.args.layout.now.sockets c.args.programs.now)))
 
 pub returns-clause-short : goal.returns-clause-short
 returns-clause-short g c = c.in_ok-outcome.ensures.short

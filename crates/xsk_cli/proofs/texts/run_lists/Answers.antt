@@ -16,7 +16,7 @@ pub returns-in-Err-Stalled-clause-failed : goal.returns-in-Err-Stalled-clause-fa
 returns-in-Err-Stalled-clause-failed c =
     let under = c.in-Err-Stalled.ensures.stalled c.in-Err-Stalled.round (ap Err c.in-Err-Stalled.field-0-is) in
     let s : Setting = record { config = c.args.config; wire = c.wire_of-wire.result; manner = manner_of c.args.mangle; packets = c.args.lists.now; verdicts = under.verdicts } in
-    stalled_as c.args.layout.now c.args.program c.args.wire c.args.mangle c.args.order c.args.config c.args.lists.now c.args.frames.items (lists_in c.args.lists.now) c.in-Err-Stalled.round
+    stalled_as c.args.layout.now c.args.programs.now c.args.wire c.args.mangle c.args.order c.args.config c.args.lists.now c.args.frames.items (lists_in c.args.lists.now) c.in-Err-Stalled.round
     c.requires.config c.requires.listed c.requires.frames c.wire_of-wire.result c.wire_of-wire.ensures under.verdicts
     (subst (λ rule. IsRuled rule s) (ap (λ attached. attached.rule) c.attach-attached.ensures.parts ∙ c.rule_of-rule.ensures.rule) (asked_ruled _ c.attach-attached.result.rule c.attach-attached.result.decide s under.asked)) under.stalled
 
@@ -24,6 +24,6 @@ pub returns-in-Ok-clause-ended : goal.returns-in-Ok-clause-ended
 returns-in-Ok-clause-ended c =
     let under = c.in-Ok.ensures.ended in
     let s : Setting = record { config = c.args.config; wire = c.wire_of-wire.result; manner = manner_of c.args.mangle; packets = c.args.lists.now; verdicts = under.verdicts } in
-    ended_as c.args.layout.now c.args.program c.args.wire c.args.mangle c.args.order c.args.config c.args.lists.now c.args.frames.items (lists_in c.args.lists.now) c.in-Ok.run'
+    ended_as c.args.layout.now c.args.programs.now c.args.wire c.args.mangle c.args.order c.args.config c.args.lists.now c.args.frames.items (lists_in c.args.lists.now) c.in-Ok.run'
     c.requires.config c.requires.listed c.requires.frames c.wire_of-wire.result c.wire_of-wire.ensures under.verdicts
     (subst (λ rule. IsRuled rule s) (ap (λ attached. attached.rule) c.attach-attached.ensures.parts ∙ c.rule_of-rule.ensures.rule) (asked_ruled _ c.attach-attached.result.rule c.attach-attached.result.decide s under.asked)) under.ended
