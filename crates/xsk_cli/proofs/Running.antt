@@ -47,7 +47,7 @@ use Rattle.xsk_cli.specs.Format.{joined, outputs_of}
 use Rattle.xsk_cli.specs.Judged.{excess_of}
 use Rattle.xsk_cli.specs.declared.format.Format.{Format}
 use Rattle.xsk_stats.specs.Report.{report_text}
-use Rattle.xsk_cli.specs.Outcome.{Written, listed, setting_of, verdicts_by, wire_by, frames_of, sent_from, going_on, rule_by, report_of, told_of, AreTextsIn, AreTextsOf, manner_of, sent_on_by}
+use Rattle.xsk_cli.specs.Outcome.{Written, listed, setting_of, verdicts_by, wire_by, frames_of, sent_from, going_on, rules_by, report_of, told_of, AreTextsIn, AreTextsOf, manner_of, sent_on_by}
 use Rattle.xsk_cli.specs.Steps.{lists_in}
 use Rattle.xsk_cli.proofs.Going.{classes_are, expected_goes_on, are_exact_by, packets_there}
 use Rattle.xsk_cli.proofs.Judging.{limits_of}
