@@ -9,7 +9,6 @@ pub mod Counting
 pub mod Folds
 pub mod Places
 pub mod InRow
-pub mod Sizes
 pub mod Moves
 pub mod Sound
 pub mod Opened

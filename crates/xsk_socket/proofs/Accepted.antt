@@ -10,7 +10,7 @@ use Rattle.xsk_socket.specs.declared.layout.Layout.{Layout}
 use Rattle.xsk_socket.specs.declared.layout.Unlawful.{Unlawful}
 use Rattle.xsk_socket.specs.Fits.{Fits, IsCount}
 use Rattle.xsk_socket.specs.Layout.{Demand, demands, fault_of, first_unmet, is_count, is_port_count, is_ring_size, pairs_in, pool_in}
-use Rattle.xsk_model.proofs.Sizes.{ring_size}
+use Rattle.xsk_model.proofs.RingSizes.{size_of_power}
 
 -- each demand is met
 AreMet : List Demand → Type 0
@@ -68,10 +68,10 @@ fits l none =
       some = of_frames.0;
       few = of_frames.1;
       divides = of_frames.2;
-      rx = ring_size l.rx rest.1.0;
-      tx = ring_size l.tx rest.1.1.0;
-      fill = ring_size l.fill rest.1.1.1.0;
-      comp = ring_size l.comp rest.1.1.1.1.0;
+      rx = size_of_power l.rx rest.1.0;
+      tx = size_of_power l.tx rest.1.1.0;
+      fill = size_of_power l.fill rest.1.1.1.0;
+      comp = size_of_power l.comp rest.1.1.1.1.0;
       pool = pool_fits (pool_in l) l.fill rest.1.1.1.1.1.0;
     }
 
