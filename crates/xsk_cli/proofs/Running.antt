@@ -238,7 +238,7 @@ forwarded_as layout programs wire c own fs lists o is_config is_own is_frames ow
 pub lists_short : (own : List PacketList) → All HasShortPackets own → (pair : ℕ) → pair < length (lists_in own) → All IsShort (get_or (lists_in own) pair [])
 lists_short own short pair known =
     let packets : PacketList → List (List ℕ) = λ list. list.packets in
-    let none : PacketList = record { packets = []; spare_packets = 0; spare_bytes = 0 } in
+    let none : PacketList = record { packets = []; gaps = None; spare_packets = 0; spare_bytes = 0 } in
     let below : pair < length own = subst (λ n. pair < n) (length-map own packets) known in
     subst (All IsShort) (sym (get_or-map packets own pair none [] below)) (short pair none below)
 
