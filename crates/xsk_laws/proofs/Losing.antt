@@ -33,6 +33,7 @@ use Rattle.xsk_laws.proofs.Places.{are_paired}
 use Rattle.xsk_laws.proofs.Sockets.{at_pair}
 use Rattle.xsk_laws.proofs.Joined.{seat_is, input_is}
 use Rattle.xsk_laws.specs.Lost.{is_lost, lost, unlost, disposals_on, IsToSomeClass, ForwardedIsUnlost, OnlyRedirectedAreLost}
+use Rattle.xsk_turns.proofs.Delivering.{bytes_if}
 
 -- ---- one packet
 
@@ -160,10 +161,6 @@ never_said seat packet = by (redirect_to seat.config seat.port seat.queue (slice
     by : (r : Option ℕ) (o : Option Disposal) → disposal_untried seat packet ≡ o → is_lost (settled_or o (λ d. d) (disposal_to seat packet.bytes r)) ≡ false
     by r None e = never_to seat packet.bytes r
     by r (Some d) e = untried_has (λ d. is_lost d ≡ false) refl refl refl refl seat packet d e
-
-bytes_if : (b : Bool) (p : Judged) (l : List Judged) → cond b (p.bytes ∷ bytes_in l) (bytes_in l) ≡ bytes_in (cond b (p ∷ l) l)
-bytes_if true p l = refl
-bytes_if false p l = refl
 
 module _ (c : Config) (pair : ℕ) (seat : Seat) where
   abbrev goes : ℕ → Judged → Bool

@@ -18,7 +18,7 @@ use Rattle.xsk_prog.specs.declared.rule.Verdict.{Verdict}
 use Rattle.xsk_turns.specs.Owned.{IsSteady}
 use Rattle.xsk_turns.specs.Stranded.{stranded_of}
 use Rattle.xsk_turns.specs.Turns.{Judged, IsWholeDriverRun}
-use Rattle.xsk_turns.specs.Verdicts.{judged, MeetRule}
+use Rattle.xsk_turns.specs.Verdicts.{judged, MeetRules}
 use Rattle.xsk_turns.specs.Hands.{IsWholeAppRunOf}
 use Rattle.xsk_turns.specs.declared.manner.Manner.{Manner}
 use Rattle.xsk_turns.specs.declared.wire.Wire.{Wire}
@@ -132,5 +132,5 @@ pub record HasOwnSockets (c : Config) : Type 0 where
 -- have 14 bytes up to the limit
 abbrev pub ExpectedIsOther : Type 0
 ExpectedIsOther = (c : Config) (lists : List PacketList) (verdicts : List (List Verdict)) (port : ℕ) → IsConfig c → HasOwnSockets c → port < c.ports
-    → MeetRule (ByClass 1) 0 (received c lists (paired_port port) 0) (slice_index_or verdicts (driver_on c (paired_port port) 0) [])
+    → MeetRules (ByClass 1 ∷ []) 0 (received c lists (paired_port port) 0) (slice_index_or verdicts (driver_on c (paired_port port) 0) [])
     → expected c lists verdicts port 0 0 ≡ filter (has_length c) (packets_of_port lists (paired_port port))

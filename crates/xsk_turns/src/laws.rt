@@ -148,18 +148,18 @@ pub fn ends_awake()
     ensures { EndsAwake }
 {}
 
-/// A rule with one verdict for each packet leaves one list of verdicts.
+/// Rules of which each has one verdict for each packet leave one list of verdicts.
 #[tactic(auto, using(crate::proofs::Verdicts::one_verdicts))]
 pub fn one_verdicts()
     ensures { OneVerdicts }
 {}
 
-/// The verdicts that a rule gives itself meet it.
+/// The verdicts that rules give themselves meet them.
 pub fn own_setting()
     ensures { OwnSetting }
 {}
 
-/// A rule with one verdict for each packet leaves one setting for a configuration and packets.
+/// Rules of which each has one verdict for each packet leave one setting for a configuration and packets.
 #[tactic(auto, using(crate::proofs::Verdicts::one_setting))]
 pub fn one_setting()
     ensures { OneSetting }
