@@ -1,8 +1,10 @@
 -- Lanes that are found empty one after the other, and the machine's run behind them.
-use Rattle.std.proofs.Common.{◌≡◌, ℕ, ◌+◌, ◌<◌, true, false, Option, Some, None, List, [], ◌∷◌, ◌++◌, append_assoc, append-nil, length, refl, sym, ap, ◌∙◌, subst, arith, length-append}
+use Rattle.std.proofs.Common.{◌≡◌, ◌⊎◌, ℕ, ◌+◌, ◌<◌, true, eqb, Option, Some, None, List, [], ◌∷◌, ◌++◌, append_assoc, append-nil, length, sym, ap, ◌∙◌, subst, ⊎_elim, arith, length-append, eq-eqb}
+use Rattle.std.proofs.lemmas.Bool.{cases_eq}
 use Rattle.xsk_umem.specs.declared.batch.Item.{Item}
 use Rattle.xsk_model.specs.Asks.{joined_call, HasAsked}
-use Rattle.xsk_model.specs.Config.{Config}
+use Rattle.xsk_model.specs.Config.{Config, batch_of}
+use Rattle.xsk_model.specs.Ends.{are_none}
 use Rattle.xsk_model.specs.Entry.{Told, own, with_told}
 use Rattle.xsk_model.specs.Expected.{CanCome, can_come, expected_of}
 use Rattle.xsk_model.specs.History.{Fits, MayGive}
@@ -12,16 +14,19 @@ use Rattle.xsk_model.specs.declared.ask.Ask.{Ask}
 use Rattle.xsk_model.specs.declared.call.Act.{Act}
 use Rattle.xsk_model.specs.declared.call.Act.TheVariants.{Call as Calls}
 use Rattle.xsk_model.specs.declared.call.Call.{Call}
+use Rattle.xsk_model.specs.declared.call.Call.TheVariants.{Peek}
 use Rattle.xsk_model.specs.declared.call.Reply.{Reply}
+use Rattle.xsk_model.specs.declared.call.Reply.TheVariants.{Empty}
+use Rattle.xsk_model.specs.declared.call.Ring.TheVariants.{Rx}
 use Rattle.xsk_model.proofs.Replies.{gift_fits}
 use Rattle.xsk_turns.specs.AppSplit.{IsSplit, IsWholeSplitRun}
-use Rattle.xsk_turns.specs.AppTurns.{AppNoted, both, lanes_of, noted_first}
+use Rattle.xsk_turns.specs.AppTurns.{AppKept, both, is_set, pair_of, rx_of, lanes_of}
 use Rattle.xsk_turns.specs.AppOwned.{HasOwnFrames}
 use Rattle.xsk_turns.specs.Counted.{capped}
-use Rattle.xsk_turns.specs.Mangling.{plain}
 use Rattle.xsk_turns.specs.Stepping.{joined_ask, IsGivenBack}
 use Rattle.xsk_turns.proofs.AppHomes.{own_frames}
-use Rattle.xsk_turns.proofs.AppLanes.{InOrder, renoted, found_empty}
+use Rattle.xsk_turns.proofs.AppMarks.{side_marks, draining, none_unseen}
+use Rattle.xsk_turns.proofs.Draining.{draining_told, same_unseen, when_found, found_here}
 use Rattle.xsk_turns.proofs.AppSplit.{lanes_after_steps}
 use Rattle.xsk_table.specs.Held.{Board, Holder, Belongs}
 use Rattle.xsk_rings.specs.Rounds.{mine_of}
@@ -36,27 +41,48 @@ use Rattle.xsk_shared_ends.proofs.Standing.{fits_kind}
 
 -- ---- lanes that are found empty
 
--- both had told as a turn began, and each lane so far was empty
-abbrev pub all_empty : AppNoted
-all_empty = record { seen = true; gone = false; lanes_empty = true; sides_empty = true }
-
-abbrev pub IsEmptyUpTo : EndsShown → ℕ → Type 0
-IsEmptyUpTo e lane = InOrder plain e.config e.app all_empty lane e.kept (mine_of e.pass)
+-- nothing is unseen of the marks, and each lane so far was found empty
+pub record IsEmptyUpTo (e : EndsShown) (lane : ℕ) : Type 0 where
+  pub unseen : (j : ℕ) → (draining e.config e.app j (mine_of e.pass)).unseen ≡ []
+  pub empty : (j : ℕ) → j < lane → (draining e.config e.app j (mine_of e.pass)).empty ≡ true
 
 pub none_yet : (e : EndsShown) → AreEnds e → both e.kept.seen ≡ true → IsEmptyUpTo e 0
 none_yet e is told =
     let on = lanes_after_steps e.config e.app is.one is.split.0 (mine_of e.pass) e.kept is.fit is.split.1 in
-    renoted plain e.config e.app (noted_first e.kept) 0 e.kept (mine_of e.pass) on all_empty 0 (λ _. told) (λ _ sends j k. absurd (omega arith))
+    record {
+      unseen = λ j. on.unseen j ∙ none_unseen (pair_of e.config e.app 0) (pair_of e.config e.app 1) (is_set e.kept.seen 0) (is_set e.kept.seen 1) told;
+      empty = λ j none. absurd (omega (arith, none));
+    }
 
-pub one_more_empty : (e f : EndsShown) (lane : ℕ) → AreEnds e → f.config ≡ e.config → f.app ≡ e.app → IsFoundEmpty lane e f → IsEmptyUpTo e lane → IsEmptyUpTo f (lane + 1)
-one_more_empty e f lane is config app found before =
-    let now = found_empty plain e.config e.app all_empty e.kept (mine_of e.pass) lane _ is.sends found.none before in
-    subst (λ (c : Config). InOrder plain c f.app all_empty (lane + 1) f.kept (mine_of f.pass)) (sym config)
-    (subst (λ (a : ℕ). InOrder plain e.config a all_empty (lane + 1) f.kept (mine_of f.pass)) (sym app)
-    (subst (λ k. InOrder plain e.config e.app all_empty (lane + 1) k (mine_of f.pass)) (sym found.kept) (subst (InOrder plain e.config e.app all_empty (lane + 1) e.kept) (sym found.mine) now)))
+more_empty : (c : Config) (a : ℕ) (l : List Told) (lane n : ℕ) → ((j : ℕ) → (draining c a j l).unseen ≡ []) → ((j : ℕ) → j < lane → (draining c a j l).empty ≡ true)
+    → ((j : ℕ) → (draining c a j (with_told l (Peek (Rx (rx_of c a lane)) n) Empty)).unseen ≡ [])
+    × ((j : ℕ) → j < lane + 1 → (draining c a j (with_told l (Peek (Rx (rx_of c a lane)) n) Empty)).empty ≡ true)
+more_empty c a l lane n unseen empty =
+    let s = rx_of c a lane in
+    let call = Peek (Rx s) n in
+    let after = λ (j : ℕ). draining_told (side_marks c a) (Rx (rx_of c a j)) l call Empty in (
+      λ j. ap (λ d. d.unseen) (after j) ∙ same_unseen (eqb (rx_of c a j) s) (draining c a j l) (are_none (draining c a j l).unseen) ∙ unseen j,
+      λ j k. ⊎_elim
+          (λ (same : j ≡ lane). ap (λ d. d.empty) (after j) ∙ found_here (eqb (rx_of c a j) s) (draining c a j l) (eq-eqb (rx_of c a j) s (ap (rx_of c a) same)) (unseen j))
+          (λ (other : j ≡ lane → ⊥). ap (λ d. d.empty) (after j) ∙ when_found (eqb (rx_of c a j) s) (draining c a j l) (unseen j) (empty j (before j lane k other)))
+          (cases_eq j lane),
+    )
+  where
+    before : (j lane : ℕ) → j < lane + 1 → (j ≡ lane → ⊥) → j < lane
+    before j lane h k = omega arith
 
-pub all_drained : (e : EndsShown) → AreEnds e → IsEmptyUpTo e (lanes_of e.config) → AreDrained e.config e.app (mine_of e.pass)
-all_drained e is empty lane below = (empty.found refl is.sends lane below).1 refl
+pub one_more_empty : (e f : EndsShown) (lane : ℕ) → f.config ≡ e.config → f.app ≡ e.app → IsFoundEmpty lane e f → IsEmptyUpTo e lane → IsEmptyUpTo f (lane + 1)
+one_more_empty e f lane config app found before =
+    let now = more_empty e.config e.app (mine_of e.pass) lane (batch_of e.config) before.unseen before.empty in
+    let there = subst (λ l. IsEmptyIn e.config e.app l) (sym found.mine) (now.0, now.1) in
+    let moved = subst (λ (c : Config). IsEmptyIn c f.app (mine_of f.pass)) (sym config) (subst (λ (a : ℕ). IsEmptyIn e.config a (mine_of f.pass)) (sym app) there) in
+    record { unseen = moved.0; empty = moved.1 }
+  where
+    abbrev IsEmptyIn : Config → ℕ → List Told → Type 0
+    IsEmptyIn c a l = ((j : ℕ) → (draining c a j l).unseen ≡ []) × ((j : ℕ) → j < lane + 1 → (draining c a j l).empty ≡ true)
+
+pub all_drained : (e : EndsShown) → IsEmptyUpTo e (lanes_of e.config) → AreDrained e.config e.app (mine_of e.pass)
+all_drained e is lane below = is.empty lane below
 
 -- ---- the machine's run behind them
 
