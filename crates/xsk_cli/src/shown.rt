@@ -25,16 +25,17 @@ use crate::files::{file_texts, spare_text};
 use crate::format::Format;
 use crate::lent::{Lent, lend};
 use crate::setup::set_up;
-use crate::texts::{Texts, rule_of, wire_of};
+use crate::programs::chain_of;
+use crate::texts::{Texts, wire_of};
 use crate::words::Work;
 use std::alloc::Global;
 use std::sync::Wait;
 use std::thread::Threads;
-use xsk_args::{Program, Wire};
+use xsk_args::{ProgramList, Wire};
 use xsk_io::Gate;
 use xsk_model::Config;
 use xsk_pcap::Capture;
-use xsk_prog::XdpProgram;
+use xsk_prog::{Rule, XdpProgram};
 use xsk_socket::Layout;
 use xsk_stats::report;
 use xsk_umem::{Frames, OutOfMemory, PacketList};
@@ -64,12 +65,12 @@ pub(crate) fn make_shown<R: Threads + Wait + Sync, G: Gate + Sync>(
     match work {
         Work::Simulate {
             layout,
-            program,
+            programs,
             wire,
             format,
             ..
         } => run_shown(
-            rt, alloc, *format, layout, *program, *wire, lists, gate, outcome,
+            rt, alloc, *format, layout, programs, *wire, lists, gate, outcome,
         ),
         Work::Generate { .. } | Work::Audit { .. } => unreachable!(),
     }
@@ -83,7 +84,7 @@ fn run_shown<R: Threads + Wait + Sync, G: Gate + Sync>(
     alloc: Global,
     format: Format,
     layout: &Layout,
-    program: Program,
+    programs: &ProgramList,
     wire: Wire,
     lists: Vec<PacketList>,
     gate: &G,
@@ -95,15 +96,15 @@ fn run_shown<R: Threads + Wait + Sync, G: Gate + Sync>(
     requires listed { lists.items ≡ map listed (lists_in lists.items) }
     requires short { All HasShortPackets lists.items }
     requires none { outcome.old ≡ None }
-    ensures made { IfOk result (λ lent. (o : OutcomeShown) × IsLent lent o × HasForwarded (setting_of layout.now program wire None (lists_in lists.items)) (frames_of layout.now) o
-        × AreTextsIn format layout.now program wire None (lists_in lists.items) o.history (report_of layout.now program wire None (lists_in lists.items) o.history) (written_in lent.texts)) }
-    ensures shown { (o : OutcomeShown) → outcome.new ≡ Some o → HasForwarded (setting_of layout.now program wire None (lists_in lists.items)) (frames_of layout.now) o }
+    ensures made { IfOk result (λ lent. (o : OutcomeShown) × IsLent lent o × HasForwarded (setting_of layout.now programs.now wire None (lists_in lists.items)) (frames_of layout.now) o
+        × AreTextsIn format layout.now programs.now wire None (lists_in lists.items) o.history (report_of layout.now programs.now wire None (lists_in lists.items) o.history) (written_in lent.texts)) }
+    ensures shown { (o : OutcomeShown) → outcome.new ≡ Some o → HasForwarded (setting_of layout.now programs.now wire None (lists_in lists.items)) (frames_of layout.now) o }
     ensures failed { IfErr result (λ failure. failure ≡ RunFailure.OutOfMemory) }
 {
     let (config, frames) = set_up(alloc, layout)?;
     let shared = config.copy(alloc)?;
     let shown = forward_lists(
-        rt, alloc, layout, config, frames, program, wire, lists.as_slice(), gate,
+        rt, alloc, layout, config, frames, programs, wire, lists.as_slice(), gate,
     )?;
     let spare = spare_text(alloc, lists);
     let lent = keep_shown(alloc, format, layout, &shared, spare, shown, outcome)?;
@@ -252,7 +253,7 @@ fn lend_shown(
     }
 }
 
-/// Runs the lists of all ports on threads under the program's rule, with the wire.
+/// Runs the lists of all ports on threads under the programs' rules, with the wire.
 #[allow(clippy::too_many_arguments)]
 fn forward_lists<R: Threads + Wait + Sync, G: Gate + Sync>(
     rt: &R,
@@ -260,7 +261,7 @@ fn forward_lists<R: Threads + Wait + Sync, G: Gate + Sync>(
     layout: &Layout,
     config: Config,
     frames: Frames,
-    program: Program,
+    programs: &ProgramList,
     wire: Wire,
     lists: &[PacketList],
     gate: &G,
@@ -275,14 +276,13 @@ fn forward_lists<R: Threads + Wait + Sync, G: Gate + Sync>(
     requires short { All HasShortPackets lists.now }
     ensures pairs { IfOk result (λ o. length o.sent ≡ pairs_in layout.now) }
     ensures short { IfOk result (λ o. All (λ (list : List (List ℕ)). All IsShort list) o.sent) }
-    ensures forwarded { IfOk result (HasForwarded (setting_of layout.now program wire None (lists_in lists.now)) (frames_of layout.now)) }
+    ensures forwarded { IfOk result (HasForwarded (setting_of layout.now programs.now wire None (lists_in lists.now)) (frames_of layout.now)) }
 {
-    let rule = rule_of(program, layout.sockets);
-    let attached = XdpProgram::attach(rule, |packet: &[u8], queue: u32| {
-        rule.verdict(packet, queue)
-    });
+    let chain = chain_of(alloc, programs.as_slice(), layout.sockets, |rule: Rule| {
+        XdpProgram::attach(rule, move |packet: &[u8], queue: u32| rule.verdict(packet, queue))
+    })?;
     let wire = wire_of(wire);
-    let outcome = forward(rt, alloc, config, frames, lists, &attached, wire, gate)?;
+    let outcome = forward(rt, alloc, config, frames, lists, &chain, wire, gate)?;
     Ok(outcome)
 }
 

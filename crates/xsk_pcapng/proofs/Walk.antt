@@ -18,6 +18,7 @@ use Rattle.xsk_pcapng.specs.Pcapng.{PassesHeader, Begins, IsPcapng, lists_of, le
 use Rattle.xsk_pcapng.specs.Steps.{CutsOff, IsEnds, Holds, arrival_in, IsFoundIn, Finds, spans_in}
 use Rattle.xsk_pcapng.proofs.Apart.{apart-push, end_of-push}
 use Rattle.xsk_pcapng.proofs.Blocks.{total_in-append, length_none}
+use Rattle.xsk_pcap.proofs.Loops.{rest_none}
 
 -- ---- one block more
 
@@ -220,10 +221,6 @@ Walking-packet order ports bytes rest lacks failed interfaces at interface len f
     }
 
 -- ---- at the end
-
-rest_none : (rest : List ℕ) → length rest ≡ 0 → rest ≡ []
-rest_none [] none = refl
-rest_none (x ∷ rest) none = absurd (omega (arith, none))
 
 -- where nothing is left the bytes are a file of the packets up to there
 pub Walking-file : (order : Endianness) (ports : ℕ) (bytes rest : List ℕ) (lacks : Bool) (interfaces : ℕ) (found : List Found) (w : Walking order ports bytes rest lacks interfaces found) → length rest ≡ 0

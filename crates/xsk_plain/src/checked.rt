@@ -4,14 +4,14 @@ use crate::noting::{new_standings, serve_noted};
 use crate::plain::{OpenRefused, Plain};
 use std::alloc::Global;
 use std::marker::Model;
-use xsk_desc::Standing;
+use xsk_desc::{Illegal, Standing};
 use xsk_model::{Answer, Ask, Call, Config, Reply};
 use xsk_umem::{Batch, Frames, OutOfMemory};
 
 /// The object on one thread, which knows of each caller which of its calls are legal. Its calls were all legal, so its log
 /// is one history from the opening. What it keeps for this costs time at each call: where legality is proved, `Plain` is
 /// the engine to take.
-#[derive(Drop)]
+#[derive(Debug, Drop)]
 pub struct Checked {
     plain: Plain,
     /// By caller.
@@ -31,17 +31,19 @@ impl Model for Checked {
 }
 
 impl Checked {
-    ghost use Rattle.std.specs.Prelude.{◌≡◌, ◌+◌, ◌≤◌, ◌↔◌, [], ◌∷◌, ◌++◌, OnOk, IfOk, IfErr, IsTrue};
+    ghost use Rattle.std.specs.Prelude.{◌≡◌, ◌+◌, ◌≤◌, ◌↔◌, List, [], ◌∷◌, ◌++◌, OnOk, IfOk, IfErr, IsNone, IsTrue, MatchOption};
+    ghost use Rattle.xsk_umem.specs.Frame.{Frame};
     ghost use Rattle.xsk_model.specs.Asks.{joined_call, joined_reply, HasAsked, HasAnswered};
     ghost use Rattle.xsk_model.specs.Config.{IsLawful};
-    ghost use Rattle.xsk_model.specs.Entry.{own};
+    ghost use Rattle.xsk_model.specs.Entry.{Entry, own};
     ghost use Rattle.xsk_model.specs.Expected.{IsReplyTo};
     ghost use Rattle.xsk_model.specs.Legal.{IsLegal};
     ghost use Rattle.xsk_model.specs.Object.{State, reply_at, after};
     ghost use Rattle.xsk_model.specs.Opening.{AreFrames, opening};
     ghost use Rattle.xsk_model.specs.Stored.{stored_entry};
     ghost use Rattle.xsk_plain.specs.Engine.{Shows, frames_out};
-    ghost use Rattle.xsk_plain.specs.Histories.{IsRun};
+    ghost use Rattle.xsk_desc.specs.Why.{Fails};
+    ghost use Rattle.xsk_plain.specs.Histories.{HasRun, IsRun};
     ghost use Rattle.xsk_plain.specs.Log.{calls_of, entries_of};
     ghost use Rattle.xsk_plain.specs.Rooms.{payload_bytes};
 
@@ -96,6 +98,21 @@ impl Checked {
     {
         let place = who as usize;
         place < self.standings.len() && self.standings[place].allows(self.plain.config(), call)
+    }
+
+    /// Why the call isn't legal for the caller after its own calls and replies, and `None` exactly where it is.
+    pub fn why_not(&self, who: u32, call: &Call) -> Option<Illegal>
+        ensures legal { IsNone result ↔ IsLegal self.now.config (own who self.now.log) who call.now }
+
+        // The first condition that fails of the history that the log is, as it is stored.
+        ensures why { (frames : List Frame) × (h : List Entry) × HasRun self.now frames h
+            × MatchOption result (IsLegal self.now.config (own who h) who call.now) (λ why. Fails why self.now.config (own who h) who call.now) }
+    {
+        let place = who as usize;
+        if place >= self.standings.len() {
+            return Some(Illegal::NoCaller);
+        }
+        self.standings[place].why_not(self.plain.config(), call)
     }
 
     /// Whether the call whose items stand in a batch beside it is legal for the caller, as `allows` has it. No batch is moved
