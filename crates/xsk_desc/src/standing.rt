@@ -6,6 +6,7 @@ ghost use Rattle.xsk_umem.specs.Frame.{Frame as Body};
 ghost use Rattle.xsk_umem.specs.Geometry.{IsGeometry};
 ghost use Rattle.xsk_umem.specs.Limits.{most_items};
 ghost use Rattle.xsk_umem.specs.declared.batch.Item.{Item as AnItem};
+ghost use Rattle.xsk_model.specs.Asks.{joined_call};
 ghost use Rattle.xsk_model.specs.Config.{IsConfig, HasRing, callers_of};
 ghost use Rattle.xsk_model.specs.Numbers.{times, numbers};
 ghost use Rattle.xsk_model.specs.Rings.{place, places_of, port_of, queue_of, producer};
@@ -27,7 +28,7 @@ use crate::roles::{consumes, is_closing, may_be, owns, produces, seat_of};
 use std::alloc::Global;
 use std::marker::Model;
 use xsk_model::placement::{has_mark, has_ring, ring_place, ring_places};
-use xsk_model::{Call, Config, Mark, Ring};
+use xsk_model::{Ask, Call, Config, Mark, Ring};
 use xsk_umem::{Batch, Geometry, Item, MOST_ITEMS, OutOfMemory, XDP_PKT_CONTD, XdpDesc};
 
 /// What is reserved and not yet filled of a ring, and what is peeked and not yet released.
@@ -96,6 +97,25 @@ impl Standing {
             }
             Call::Swap(mark, value) => self.may_set(config, *mark, *value),
             Call::Look(mark) => has_mark(config, *mark),
+        }
+    }
+
+    /// Whether the call whose items stand in a batch beside it is legal, as `allows` has it. No batch is moved by it.
+    pub fn permits(&self, config: &Config, ask: Ask, items: &Batch) -> bool
+        requires { IsFor config.now self.now }
+        ensures { (mine : List Told) → StandsFor config.now self.now mine → (IsTrue result ↔ IsLegal config.now mine self.now.who (joined_call ask items.now)) }
+    {
+        match ask {
+            Ask::Reserve(ring, n) => is_few(n) && self.feeds(config, ring),
+            Ask::Submit(ring) => self.feeds(config, ring) && self.may_submit(config, ring, items),
+            Ask::Peek(ring, n) => is_few(n) && consumes(config, self.who, ring),
+            Ask::Release(ring, n) => {
+                is_few(n)
+                    && consumes(config, self.who, ring)
+                    && n <= self.places[ring_place(config, ring)].held
+            }
+            Ask::Swap(mark, value) => self.may_set(config, mark, value),
+            Ask::Look(mark) => has_mark(config, mark),
         }
     }
 
