@@ -31,6 +31,7 @@ use Rattle.xsk_socket.proofs.Accepted.{fits}
 use Rattle.xsk_socket.proofs.Numbered.{get_or-numbered, length-numbered}
 use Rattle.xsk_socket.proofs.Regularity.{regular-config, regular-regular}
 use Rattle.xsk_cli.specs.Outcome.{listed, rule_by, rules_by, verdicts_by, received_on, goes_on, going_on, ExpectedGoesOn, ClassGoesOn, AllGoOn}
+use Rattle.xsk_laws.proofs.OneQueue.{bytes_if}
 
 -- ---- verdicts
 
@@ -54,10 +55,6 @@ by_length : (x y z w : Bool) → (x ≡ true → z ≡ w) → ((x && y) && z) �
 by_length true true z w h = h refl
 by_length true false z w h = refl
 by_length false y z w h = refl
-
-bytes_if : (b : Bool) (p : Judged) (ps : List Judged) (qs : List (List ℕ)) → bytes_in ps ≡ qs → bytes_in (cond b (p ∷ ps) ps) ≡ cond b (p.bytes ∷ qs) qs
-bytes_if true p ps qs e = ap (λ rs. p.bytes ∷ rs) e
-bytes_if false p ps qs e = e
 
 -- the packets whose verdicts the rules give go on where these redirect them so
 module _ (layout : Layout) (programs : List Program) (o queue class : ℕ) where

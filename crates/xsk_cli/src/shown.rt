@@ -21,7 +21,7 @@ ghost use Rattle.xsk_cli.specs.Steps.{lists_in, written_in};
 ghost use Rattle.xsk_cli.specs.Words.{fault_in, ports_in};
 
 use crate::failure::RunFailure;
-use crate::files::file_texts;
+use crate::files::{file_texts, spare_text};
 use crate::format::Format;
 use crate::lent::{Lent, lend};
 use crate::setup::set_up;
@@ -47,19 +47,19 @@ pub(crate) fn make_shown<R: Threads + Wait + Sync, G: Gate + Sync>(
     rt: &R,
     alloc: Global,
     work: &Work,
-    lists: &[PacketList],
+    lists: Vec<PacketList>,
     gate: &G,
     outcome: &mut Option<Outcome>,
 ) -> Result<Lent, RunFailure>
     requires accepted { fault_in work.now ≡ None }
     requires runs { IsRun work.now }
-    requires ports { length lists.now ≡ ports_in work.now }
-    requires within { excess_of (lists_in lists.now) ≡ None }
-    requires listed { lists.now ≡ map listed (lists_in lists.now) }
-    requires short { All HasShortPackets lists.now }
+    requires ports { length lists.items ≡ ports_in work.now }
+    requires within { excess_of (lists_in lists.items) ≡ None }
+    requires listed { lists.items ≡ map listed (lists_in lists.items) }
+    requires short { All HasShortPackets lists.items }
     requires none { outcome.old ≡ None }
-    ensures made { IfOk result (λ lent. (o : OutcomeShown) × IsLent lent o × HasShown work.now (lists_in lists.now) o × AreTextsFrom work.now (lists_in lists.now) o (written_in lent.texts)) }
-    ensures shown { (o : OutcomeShown) → outcome.new ≡ Some o → HasShown work.now (lists_in lists.now) o }
+    ensures made { IfOk result (λ lent. (o : OutcomeShown) × IsLent lent o × HasShown work.now (lists_in lists.items) o × AreTextsFrom work.now (lists_in lists.items) o (written_in lent.texts)) }
+    ensures shown { (o : OutcomeShown) → outcome.new ≡ Some o → HasShown work.now (lists_in lists.items) o }
     ensures failed { IfErr result (λ failure. failure ≡ RunFailure.OutOfMemory) }
 {
     match work {
@@ -86,27 +86,28 @@ fn run_shown<R: Threads + Wait + Sync, G: Gate + Sync>(
     layout: &Layout,
     programs: &ProgramList,
     wire: Wire,
-    lists: &[PacketList],
+    lists: Vec<PacketList>,
     gate: &G,
     outcome: &mut Option<Outcome>,
 ) -> Result<Lent, RunFailure>
     requires accepted { fault_of layout.now ≡ None }
-    requires ports { length lists.now ≡ layout.now.ports }
-    requires within { excess_of (lists_in lists.now) ≡ None }
-    requires listed { lists.now ≡ map listed (lists_in lists.now) }
-    requires short { All HasShortPackets lists.now }
+    requires ports { length lists.items ≡ layout.now.ports }
+    requires within { excess_of (lists_in lists.items) ≡ None }
+    requires listed { lists.items ≡ map listed (lists_in lists.items) }
+    requires short { All HasShortPackets lists.items }
     requires none { outcome.old ≡ None }
-    ensures made { IfOk result (λ lent. (o : OutcomeShown) × IsLent lent o × HasForwarded (setting_of layout.now programs.now wire None (lists_in lists.now)) (frames_of layout.now) o
-        × AreTextsIn format layout.now programs.now wire None (lists_in lists.now) o.history (report_of layout.now programs.now wire None (lists_in lists.now) o.history) (written_in lent.texts)) }
-    ensures shown { (o : OutcomeShown) → outcome.new ≡ Some o → HasForwarded (setting_of layout.now programs.now wire None (lists_in lists.now)) (frames_of layout.now) o }
+    ensures made { IfOk result (λ lent. (o : OutcomeShown) × IsLent lent o × HasForwarded (setting_of layout.now programs.now wire None (lists_in lists.items)) (frames_of layout.now) o
+        × AreTextsIn format layout.now programs.now wire None (lists_in lists.items) o.history (report_of layout.now programs.now wire None (lists_in lists.items) o.history) (written_in lent.texts)) }
+    ensures shown { (o : OutcomeShown) → outcome.new ≡ Some o → HasForwarded (setting_of layout.now programs.now wire None (lists_in lists.items)) (frames_of layout.now) o }
     ensures failed { IfErr result (λ failure. failure ≡ RunFailure.OutOfMemory) }
 {
     let (config, frames) = set_up(alloc, layout)?;
     let shared = config.copy(alloc)?;
     let shown = forward_lists(
-        rt, alloc, layout, config, frames, programs, wire, lists, gate,
+        rt, alloc, layout, config, frames, programs, wire, lists.as_slice(), gate,
     )?;
-    let lent = keep_shown(alloc, format, layout, &shared, shown, outcome)?;
+    let spare = spare_text(alloc, lists);
+    let lent = keep_shown(alloc, format, layout, &shared, spare, shown, outcome)?;
     Ok(lent)
 }
 
@@ -116,6 +117,7 @@ fn keep_shown(
     format: Format,
     layout: &Layout,
     config: &Config,
+    spare: Vec<u8>,
     shown: Outcome,
     outcome: &mut Option<Outcome>,
 ) -> Result<Lent, OutOfMemory>
@@ -133,7 +135,7 @@ fn keep_shown(
     ensures kept { OnErr result (outcome.new ≡ Some shown) }
     ensures unkept { OnOk result (outcome.new ≡ outcome.old) }
 {
-    match text_shown(alloc, format, layout, config, shown) {
+    match text_shown(alloc, format, layout, config, spare, shown) {
         Ok(lent) => Ok(lent),
         Err(shown) => {
             *outcome = Some(shown);
@@ -149,6 +151,7 @@ fn text_shown(
     format: Format,
     layout: &Layout,
     config: &Config,
+    spare: Vec<u8>,
     shown: Outcome,
 ) -> Result<Lent, Outcome>
     requires regular { IsRegular config.now }
@@ -166,7 +169,7 @@ fn text_shown(
 {
     match format {
         Format::Pcap => lend_shown(alloc, layout, config, shown),
-        Format::Pcapng => file_shown(alloc, layout, config, shown),
+        Format::Pcapng => file_shown(alloc, layout, config, spare, shown),
     }
 }
 
@@ -176,6 +179,7 @@ fn file_shown(
     alloc: Global,
     layout: &Layout,
     config: &Config,
+    spare: Vec<u8>,
     shown: Outcome,
 ) -> Result<Lent, Outcome>
     requires regular { IsRegular config.now }
@@ -194,7 +198,13 @@ fn file_shown(
     };
     let mut shown = shown;
     let sent = shown.take_sent(alloc);
-    let outputs = file_texts(alloc, layout.ports, layout.queues, sent.as_slice());
+    let outputs = file_texts(
+        alloc,
+        layout.ports,
+        layout.queues,
+        spare,
+        sent.as_slice(),
+    );
     shown.put_sent(sent);
     match outputs {
         Ok(outputs) => Ok(Lent {

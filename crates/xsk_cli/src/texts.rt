@@ -22,7 +22,7 @@ ghost use Rattle.xsk_pcapng.specs.Written.{IsWritable as IsWritableFile};
 ghost use Rattle.xsk_stats.specs.Report.{report_text};
 
 use crate::failure::RunFailure;
-use crate::files::file_texts;
+use crate::files::{file_texts, spare_text};
 use crate::format::Format;
 use crate::made::made_texts;
 use crate::programs::chain_of;
@@ -51,17 +51,17 @@ pub(crate) struct Texts {
 pub(crate) fn make_texts(
     alloc: Global,
     work: &Work,
-    lists: &[PacketList],
+    lists: Vec<PacketList>,
 ) -> Result<Texts, RunFailure>
     requires accepted { fault_in work.now ≡ None }
     requires packets { IsOnPackets work.now }
-    requires ports { length lists.now ≡ ports_in work.now }
-    requires within { excess_of (lists_in lists.now) ≡ None }
-    requires made { (number : ℕ) → work.now ≡ Generate number → lists_in lists.now ≡ made_lists number 1 }
-    requires listed { lists.now ≡ map listed (lists_in lists.now) }
-    requires short { All HasShortPackets lists.now }
-    ensures made { IfOk result (λ texts. AreTextsBy work.now (lists_in lists.now) (written_in texts)) }
-    ensures failed { IfErr result (FailsMaking work.now (lists_in lists.now)) }
+    requires ports { length lists.items ≡ ports_in work.now }
+    requires within { excess_of (lists_in lists.items) ≡ None }
+    requires made { (number : ℕ) → work.now ≡ Generate number → lists_in lists.items ≡ made_lists number 1 }
+    requires listed { lists.items ≡ map listed (lists_in lists.items) }
+    requires short { All HasShortPackets lists.items }
+    ensures made { IfOk result (λ texts. AreTextsBy work.now (lists_in lists.items) (written_in texts)) }
+    ensures failed { IfErr result (FailsMaking work.now (lists_in lists.items)) }
 {
     match work {
         Work::Simulate {
@@ -92,23 +92,25 @@ fn run_texts(
     mangle: Option<u32>,
     order: u32,
     journal: bool,
-    lists: &[PacketList],
+    lists: Vec<PacketList>,
 ) -> Result<Texts, RunFailure>
     requires accepted { fault_of layout.now ≡ None }
-    requires ports { length lists.now ≡ layout.now.ports }
-    requires within { excess_of (lists_in lists.now) ≡ None }
-    requires listed { lists.now ≡ map listed (lists_in lists.now) }
-    requires short { All HasShortPackets lists.now }
-    ensures made { IfOk result (λ texts. AreTextsOf format layout.now programs.now wire mangle order (lists_in lists.now) journal (written_in texts)) }
-    ensures failed { IfErr result (FailsRunning layout.now programs.now wire mangle order (lists_in lists.now)) }
+    requires ports { length lists.items ≡ layout.now.ports }
+    requires within { excess_of (lists_in lists.items) ≡ None }
+    requires listed { lists.items ≡ map listed (lists_in lists.items) }
+    requires short { All HasShortPackets lists.items }
+    ensures made { IfOk result (λ texts. AreTextsOf format layout.now programs.now wire mangle order (lists_in lists.items) journal (written_in texts)) }
+    ensures failed { IfErr result (FailsRunning layout.now programs.now wire mangle order (lists_in lists.items)) }
 {
     let (config, frames) = set_up(alloc, layout)?;
     let shared = config.copy(alloc)?;
     let run = run_lists(
-        alloc, layout, config, frames, programs, wire, mangle, order, lists,
+        alloc, layout, config, frames, programs, wire, mangle, order, lists.as_slice(),
     )?;
     let report = told_text(alloc, &shared, &run, journal)?;
-    let outputs = sent_texts(alloc, format, layout.ports, layout.queues, run.into_sent())?;
+    let spare = spare_text(alloc, lists);
+    let sent = run.into_sent();
+    let outputs = sent_texts(alloc, format, layout.ports, layout.queues, spare, sent)?;
     Ok(Texts { outputs, report })
 }
 
@@ -177,12 +179,13 @@ pub(crate) fn wire_of(wire: Wire) -> xsk_sim::Wire
     }
 }
 
-/// What is written of what the drivers sent.
+/// What is written of what the drivers sent. A file takes the memory of the spare text.
 fn sent_texts(
     alloc: Global,
     format: Format,
     ports: u32,
     queues: u32,
+    spare: Vec<u8>,
     sent: Vec<PacketList>,
 ) -> Result<Vec<Vec<u8>>, OutOfMemory>
     requires ports { ports ≤ 4 }
@@ -195,7 +198,7 @@ fn sent_texts(
 {
     match format {
         Format::Pcap => output_texts(alloc, ports, queues, sent),
-        Format::Pcapng => file_texts(alloc, ports, queues, sent.as_slice()),
+        Format::Pcapng => file_texts(alloc, ports, queues, spare, sent.as_slice()),
     }
 }
 

@@ -42,7 +42,7 @@ by_length true true z h = h refl
 by_length true false z h = refl
 by_length false y z h = refl
 
-bytes_if : (b : Bool) (p : Judged) (ps : List Judged) (qs : List (List ℕ)) → bytes_in ps ≡ qs → bytes_in (cond b (p ∷ ps) ps) ≡ cond b (p.bytes ∷ qs) qs
+pub bytes_if : (b : Bool) (p : Judged) (ps : List Judged) (qs : List (List ℕ)) → bytes_in ps ≡ qs → bytes_in (cond b (p ∷ ps) ps) ≡ cond b (p.bytes ∷ qs) qs
 bytes_if true p ps qs e = ap (λ rs. p.bytes ∷ rs) e
 bytes_if false p ps qs e = e
 
