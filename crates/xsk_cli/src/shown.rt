@@ -18,7 +18,7 @@ ghost use Rattle.xsk_cli.specs.Judged.{excess_of};
 ghost use Rattle.xsk_cli.specs.Lent.{IsLent};
 ghost use Rattle.xsk_cli.specs.Outcome.{AreTextsIn, frames_of, listed, report_of, setting_of};
 ghost use Rattle.xsk_cli.specs.Steps.{lists_in, written_in};
-ghost use Rattle.xsk_cli.specs.Words.{fault_in, ports_in};
+ghost use Rattle.xsk_cli.specs.Words.{closed_in, fault_in, ports_in};
 
 use crate::failure::RunFailure;
 use crate::files::file_texts;
@@ -51,6 +51,7 @@ pub(crate) fn make_shown<R: Threads + Wait + Sync, G: Gate + Sync>(
     outcome: &mut Option<Outcome>,
 ) -> Result<Lent, RunFailure>
     requires accepted { fault_in work.now ≡ None }
+    requires closes { closed_in work.now ≡ None }
     requires runs { IsRun work.now }
     requires ports { length lists.now ≡ ports_in work.now }
     requires within { excess_of (lists_in lists.now) ≡ None }
@@ -90,6 +91,7 @@ fn run_shown<R: Threads + Wait + Sync, G: Gate + Sync>(
     outcome: &mut Option<Outcome>,
 ) -> Result<Lent, RunFailure>
     requires accepted { fault_of layout.now ≡ None }
+    requires closes { layout.now.close ≡ None }
     requires ports { length lists.now ≡ layout.now.ports }
     requires within { excess_of (lists_in lists.now) ≡ None }
     requires listed { lists.now ≡ map listed (lists_in lists.now) }

@@ -11,7 +11,7 @@ ghost use Rattle.xsk_cli.specs.Format.{joined, outputs_of};
 ghost use Rattle.xsk_cli.specs.Judged.{excess_of};
 ghost use Rattle.xsk_cli.specs.Outcome.{AreTextsBy, AreTextsOf, IsOnPackets, capture_of, frames_of, listed, made_lists, rule_by, setting_of, wire_by};
 ghost use Rattle.xsk_cli.specs.Steps.{FailsMaking, FailsRunning, lists_in, written_by, written_in};
-ghost use Rattle.xsk_cli.specs.Words.{fault_in, ports_in};
+ghost use Rattle.xsk_cli.specs.Words.{closed_in, fault_in, ports_in};
 ghost use Rattle.xsk_cli.specs.declared.words.Work.TheVariants.{Generate};
 ghost use Rattle.xsk_model.specs.Config.{IsRegular};
 ghost use Rattle.xsk_turns.specs.Owned.{IsSteady};
@@ -54,6 +54,7 @@ pub(crate) fn make_texts(
     lists: &[PacketList],
 ) -> Result<Texts, RunFailure>
     requires accepted { fault_in work.now ≡ None }
+    requires closes { closed_in work.now ≡ None }
     requires packets { IsOnPackets work.now }
     requires ports { length lists.now ≡ ports_in work.now }
     requires within { excess_of (lists_in lists.now) ≡ None }
@@ -95,6 +96,7 @@ fn run_texts(
     lists: &[PacketList],
 ) -> Result<Texts, RunFailure>
     requires accepted { fault_of layout.now ≡ None }
+    requires closes { layout.now.close ≡ None }
     requires ports { length lists.now ≡ layout.now.ports }
     requires within { excess_of (lists_in lists.now) ≡ None }
     requires listed { lists.now ≡ map listed (lists_in lists.now) }
