@@ -10,7 +10,7 @@ use std::alloc::Global;
 use xsk_bench::{Amount, Bench, Traffic, Wire};
 use xsk_model::{Answer, Ask, Ring};
 use xsk_plain::LineBuffer;
-use xsk_prog::{Rule, XdpProgram};
+use xsk_prog::{Chain, Rule, XdpProgram};
 use xsk_umem::{Batch, Item, PacketList};
 
 /// Room for what a driver sends.
@@ -28,7 +28,8 @@ pub fn forward_by_hand<R: Print>(rt: &R, alloc: Global, reserves: bool) -> Resul
     let traffic = Traffic::new(alloc, config, packets)?;
     let rule = Rule::Redirect { sockets: 1 };
     let program = XdpProgram::attach(rule, |bytes: &[u8], queue: u32| rule.verdict(bytes, queue));
-    let mut bench = Bench::open(alloc, &traffic, frames, &program, Wire::Wait, ROOM)?;
+    let chain = Chain::of(alloc, program)?;
+    let mut bench = Bench::open(alloc, &traffic, frames, &chain, Wire::Wait, ROOM)?;
     if let Err(error) = forward(&mut bench, reserves) {
         println!(rt; "told: {error}")?;
     }

@@ -9,7 +9,7 @@ use anyhow::{Result, bail};
 use std::alloc::Global;
 use xsk_model::Config;
 use xsk_pcap::GAPS;
-use xsk_prog::{Rule, XdpProgram};
+use xsk_prog::{Chain, Rule, XdpProgram};
 use xsk_sim::{Run, Wire, simulate};
 use xsk_socket::Layout;
 use xsk_turns::Manner;
@@ -52,6 +52,7 @@ pub fn forwarded(alloc: Global, config: Config, frames: Frames) -> Result<Run>
     }
     let rule = Rule::Redirect { sockets: 1 };
     let program = XdpProgram::attach(rule, |bytes: &[u8], queue: u32| rule.verdict(bytes, queue));
+    let chain = Chain::of(alloc, program)?;
     let lists = received.as_slice();
     let manner = Manner::plain();
     Ok(simulate(
@@ -59,7 +60,7 @@ pub fn forwarded(alloc: Global, config: Config, frames: Frames) -> Result<Run>
         config,
         frames,
         lists,
-        &program,
+        &chain,
         Wire::Wait,
         0,
         manner,

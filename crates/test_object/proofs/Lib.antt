@@ -1,3 +1,2 @@
 mod Loops
 mod Resting
-mod Sizes

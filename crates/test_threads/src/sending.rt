@@ -1,7 +1,7 @@
 //! Drivers and applications, each on a thread of its own, send what they send in rounds.
 ghost use Rattle.std.specs.Prelude.{◌≡◌, All, IfOk, length};
 ghost use Rattle.xsk_machine.specs.Acts.{HasShortPackets};
-ghost use Rattle.xsk_prog.specs.Program.{Obeys};
+ghost use Rattle.xsk_prog.specs.Chain.{AllObey};
 
 use crate::setting::{are_alike, layout, packets, set_up};
 use std::alloc::Global;
@@ -9,7 +9,7 @@ use std::sync::Wait;
 use std::test::Fail;
 use std::thread::Threads;
 use xsk_io::{Gate, Open, PairGate};
-use xsk_prog::{Rule, Verdict, XdpProgram};
+use xsk_prog::{Chain, Rule, Verdict, XdpProgram};
 use xsk_sim::{Wire, simulate};
 use xsk_socket::Layout;
 use xsk_turns::Manner;
@@ -21,10 +21,10 @@ fn sent_in_rounds<F: Fn(&[u8], u32) -> Verdict>(
     alloc: Global,
     layout: &Layout,
     lists: &[PacketList],
-    program: &XdpProgram<F>,
+    chain: &Chain<F>,
 ) -> Result<Vec<PacketList>, Fail>
     requires short { All HasShortPackets lists.now }
-    requires obeys { Obeys F.Fn program.now.rule program.now.decide }
+    requires obeys { AllObey F.Fn chain.now }
 {
     let (config, frames) = set_up(alloc, layout)?;
     if lists.len() != config.ports() as usize {
@@ -35,7 +35,7 @@ fn sent_in_rounds<F: Fn(&[u8], u32) -> Verdict>(
         config,
         frames,
         lists,
-        program,
+        chain,
         Wire::Wait,
         0,
         Manner::plain(),
@@ -51,17 +51,17 @@ fn sent_on_threads<R: Threads + Wait + Sync, F: Fn(&[u8], u32) -> Verdict, G: Ga
     alloc: Global,
     layout: &Layout,
     lists: &[PacketList],
-    program: &XdpProgram<F>,
+    chain: &Chain<F>,
     gate: &G,
 ) -> Result<Vec<PacketList>, Fail>
     requires short { All HasShortPackets lists.now }
-    requires obeys { Obeys F.Fn program.now.rule program.now.decide }
+    requires obeys { AllObey F.Fn chain.now }
 {
     let (config, frames) = set_up(alloc, layout)?;
     if lists.len() != config.ports() as usize {
         return Err("there is no list for each port")?;
     }
-    let mut outcome = forward(rt, alloc, config, frames, lists, program, Wire::Wait, gate)?;
+    let mut outcome = forward(rt, alloc, config, frames, lists, chain, Wire::Wait, gate)?;
     Ok(outcome.take_sent(alloc))
 }
 
@@ -71,11 +71,12 @@ fn threads_send_what_rounds_send(rt: HostRuntime) -> Result<(), Fail> {
     let lists = vec![in alloc; packets(alloc, 200)?, packets(alloc, 200)?]?;
     let rule = Rule::Redirect { sockets: 1 };
     let program = XdpProgram::attach(rule, |bytes: &[u8], queue: u32| rule.verdict(bytes, queue));
+    let chain = Chain::of(alloc, program)?;
     let layout = layout(2, 4);
-    let rounds = sent_in_rounds(alloc, &layout, lists.as_slice(), &program)?;
+    let rounds = sent_in_rounds(alloc, &layout, lists.as_slice(), &chain)?;
     assert!(rt; rounds.iter().all(|list| list.len() == 100));
     for _ in 0..2 {
-        let threads = sent_on_threads(&rt, alloc, &layout, lists.as_slice(), &program, &Open)?;
+        let threads = sent_on_threads(&rt, alloc, &layout, lists.as_slice(), &chain, &Open)?;
         assert!(rt; are_alike(threads.as_slice(), rounds.as_slice()));
     }
     Ok(())
@@ -92,9 +93,10 @@ fn threads_send_what_a_closure_of_ones_own_redirects(rt: HostRuntime) -> Result<
             Verdict::Drop
         }
     });
+    let chain = Chain::of(alloc, program)?;
     let layout = layout(1, 4);
-    let rounds = sent_in_rounds(alloc, &layout, lists.as_slice(), &program)?;
-    let threads = sent_on_threads(&rt, alloc, &layout, lists.as_slice(), &program, &Open)?;
+    let rounds = sent_in_rounds(alloc, &layout, lists.as_slice(), &chain)?;
+    let threads = sent_on_threads(&rt, alloc, &layout, lists.as_slice(), &chain, &Open)?;
     assert!(rt; rounds.iter().all(|list| list.len() == 100));
     assert!(rt; are_alike(threads.as_slice(), rounds.as_slice()));
     Ok(())
@@ -108,8 +110,9 @@ fn two_drivers_meet_at_the_gate(rt: HostRuntime) -> Result<(), Fail> {
     let sent = vec![in alloc; packets(alloc, 0)?, packets(alloc, 1)?]?;
     let rule = Rule::Redirect { sockets: 1 };
     let program = XdpProgram::attach(rule, |bytes: &[u8], queue: u32| rule.verdict(bytes, queue));
+    let chain = Chain::of(alloc, program)?;
     let gate = PairGate::new();
-    let threads = sent_on_threads(&rt, alloc, &layout(1, 4), lists.as_slice(), &program, &gate)?;
+    let threads = sent_on_threads(&rt, alloc, &layout(1, 4), lists.as_slice(), &chain, &gate)?;
     assert!(rt; gate.entered(0) && gate.entered(1));
     assert!(rt; !gate.limit_met());
     assert!(rt; are_alike(threads.as_slice(), sent.as_slice()));

@@ -2,7 +2,8 @@
 //!
 //! `rule redirect SOCKETS`, `rule drop`, `rule pass`, `rule ethertype KIND SOCKETS`, `rule fixed CELL`, `rule atmost CELLS`,
 //! `packet BYTES`, `verdict QUEUE` (the rule's own), `attached QUEUE` (of the program that has the rule as its closure), `own QUEUE`
-//! (of a program with a closure of one's own: packets whose first byte is even go to cell 0, and the others are dropped).
+//! (of a program with a closure of one's own: packets whose first byte is even go to cell 0, and the others are dropped),
+//! `fill N` (puts so many programs of the rule into a new chain).
 ghost use Rattle.std.specs.Prelude.{◌≡◌, true};
 ghost use Rattle.xsk_prog.specs.Rules.{HasSockets, IsRuled};
 
@@ -11,7 +12,7 @@ use crate::line::{Fault, Line};
 use crate::runs;
 use crate::told::Told;
 use std::alloc::Global;
-use xsk_prog::{Rule, Verdict, XdpProgram};
+use xsk_prog::{Chain, Rule, Verdict, XdpProgram};
 
 #[derive(Drop)]
 pub struct Programs {
@@ -49,6 +50,7 @@ impl Case for Programs {
         match word {
             "rule" => self.take_rule(line, told),
             "packet" => self.take_packet(line, told),
+            "fill" => fill(self.alloc, self.rule, line.number()?, told),
             _ => {
                 let verdict = ask(word, self.rule, self.packet.as_slice(), line.number()?)?;
                 told.name(&verdict);
@@ -56,6 +58,28 @@ impl Case for Programs {
             }
         }
     }
+}
+
+/// Puts programs of a rule into a new chain, and tells how many it took, and of the first that came back its rule and why.
+fn fill(alloc: Global, rule: Rule, count: u32, told: &mut Told) -> Result<(), Fault> {
+    if !has_sockets(rule) {
+        return Err(Fault::NotLegal);
+    }
+    let mut chain = Chain::new(alloc);
+    for taken in 0..count {
+        let program = XdpProgram::attach(rule, move |bytes: &[u8], queue: u32| rule.verdict(bytes, queue));
+        if let Err((error, program)) = chain.push(program) {
+            told.count(taken as usize);
+            told.say(" taken, ");
+            told.name(&program.rule());
+            told.say(" ");
+            told.name(&error);
+            return Ok(());
+        }
+    }
+    told.count(count as usize);
+    told.say(" taken");
+    Ok(())
 }
 
 fn rule_in(line: &mut Line<'_>) -> Result<Rule, Fault> {

@@ -16,7 +16,7 @@ use std::alloc::Global;
 use xsk_driver::{Driver, Wire};
 use xsk_machine::Inputs;
 use xsk_model::Config;
-use xsk_prog::{Rule, Verdict, XdpProgram};
+use xsk_prog::{Chain, Rule, Verdict, XdpProgram};
 use xsk_sim::{Run, simulate};
 use xsk_turns::Manner;
 use xsk_umem::{Frames, PacketList};
@@ -166,13 +166,14 @@ pub(crate) fn driver_of<'a>(
         rule,
         |packet: &[u8], queue: u32| decided(rule, even, packet, queue),
     );
+    let chain = Chain::of(alloc, program)?;
     Ok(Driver::new(
         alloc,
         config,
         pair,
         packets,
         inputs.of_pair(pair),
-        &program,
+        &chain,
         wire,
         room.0,
         room.1,
@@ -205,7 +206,8 @@ pub(crate) fn run_of(
         rule,
         |packet: &[u8], queue: u32| decided(rule, even, packet, queue),
     );
+    let chain = Chain::of(alloc, program)?;
     Ok(simulate(
-        alloc, config, frames, packets, &program, wire, order, manner,
+        alloc, config, frames, packets, &chain, wire, order, manner,
     )?)
 }

@@ -174,7 +174,7 @@ pub give_back_full : (c : Config) (side : ℕ) (kept : AppKept) (next : AppKept 
     → by_reply (give_back c side zero (back_at kept side) kept next) (Full free) ≡ next kept
 give_back_full c side kept next free some = full_back c side (back_at kept side) kept next free some ∙ ap next (with_back-same kept side)
 
-none_back : (c : Config) (side : ℕ) (back : List Frame) (kept : AppKept) (next : AppKept → Script AppKept) → back ≡ []
+pub none_back : (c : Config) (side : ℕ) (back : List Frame) (kept : AppKept) (next : AppKept → Script AppKept) → back ≡ []
     → give_back c side zero back kept next ≡ next (with_back kept side back)
 none_back c side [] kept next e = refl
 none_back c side (frame ∷ frames) kept next e = absurd (cc)

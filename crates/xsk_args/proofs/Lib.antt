@@ -1,4 +1,5 @@
 pub mod Cutting
+pub mod Listing
 pub mod Spelling
 pub mod Building
 pub mod Reading

@@ -5,7 +5,7 @@ use Rattle.std.specs.Option.{option_map_or}
 use Rattle.std.specs.Str.{bytes_eq}
 use Rattle.xsk_args.specs.Words.{Text, Stated, Said, said_of, spoken}
 use Rattle.xsk_args.specs.Number.{number_in}
-use Rattle.xsk_args.specs.Program.{program_in}
+use Rattle.xsk_args.specs.Program.{programs_in}
 use Rattle.xsk_args.specs.Wire.{wire_in}
 use Rattle.xsk_args.specs.declared.table.OptionRow.{OptionRow}
 use Rattle.xsk_args.specs.declared.table.Takes.{Takes}
@@ -44,7 +44,7 @@ one_value = option_and_then (λ values. slice_get values 0)
 abbrev pub is_taken : Takes → Text → Bool
 is_taken Nothing value = true
 is_taken Number value = is_some (number_in value)
-is_taken Program value = is_some (program_in value)
+is_taken Program value = is_some (programs_in value)
 is_taken Wire value = is_some (wire_in value)
 is_taken AnyText value = true
 

@@ -1,7 +1,7 @@
 -- Programs as the words of a command give them. This project's own.
-use Rattle.std.specs.Prelude.{◌&&◌, ◌==◌, ℕ, codes, drop, length, take, Option, Some, None, option_map, if◌then◌else◌}
+use Rattle.std.specs.Prelude.{◌&&◌, ◌==◌, ℕ, List, [], ◌∷◌, codes, drop, length, nat_le, take, Option, Some, None, option_and_then, option_map, if◌then◌else◌}
 use Rattle.std.specs.Char.{is_digit}
-use Rattle.std.specs.List.{list_all}
+use Rattle.std.specs.List.{list_all, slice_split}
 use Rattle.std.specs.Str.{bytes_eq}
 use Rattle.std.specs.Str.Parse.{digits_value}
 use Rattle.xsk_args.specs.Words.{Text}
@@ -32,3 +32,16 @@ program_in text =
     else if bytes_eq text (codes "pass") then Some Pass
     else if bytes_eq text (codes "drop") then Some Drop
     else valued_in text (behind (codes "type:") text)
+
+-- the texts between the commas of a text: one more than it has commas
+abbrev pub between_commas : Text → List Text
+between_commas text = slice_split (λ code. code == 44) text
+
+-- the programs that texts are, where each is one
+abbrev pub programs_of : List Text → Option (List Program)
+programs_of [] = Some []
+programs_of (text ∷ texts) = option_and_then (λ program. option_map (λ programs. program ∷ programs) (programs_of texts)) (program_in text)
+
+-- one to eight programs with commas between them, in the order in which they are asked
+abbrev pub programs_in : Text → Option (List Program)
+programs_in text = if nat_le (length (between_commas text)) 8 then programs_of (between_commas text) else None

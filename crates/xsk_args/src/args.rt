@@ -4,14 +4,14 @@ ghost use Rattle.std.specs.List.{list_all};
 ghost use Rattle.clap.specs.Words.{all_of, found_of, rows_of};
 ghost use Rattle.xsk_args.specs.Number.{number_in};
 ghost use Rattle.xsk_args.specs.Meaning.{HasNoFileRow, fits, is_taken, key_of, meaning, meant, one_value, under};
-ghost use Rattle.xsk_args.specs.Program.{program_in};
+ghost use Rattle.xsk_args.specs.Program.{programs_in};
 ghost use Rattle.xsk_args.specs.Wire.{wire_in};
 
 use crate::command::{FILES, matches};
 use crate::number::parse_number;
-use crate::program::parse_program;
+use crate::program_list::{ProgramList, parse_programs};
 use crate::wire::parse_wire;
-use crate::{ArgsError, OptionRow, Program, Takes, Wire};
+use crate::{ArgsError, OptionRow, Takes, Wire};
 use clap::ArgMatches;
 use std::alloc::Global;
 use std::marker::Model;
@@ -103,7 +103,7 @@ fn takes_text(takes: Takes, text: &str) -> bool
 {
     match takes {
         Takes::Number => parse_number(text).is_some(),
-        Takes::Program => parse_program(text).is_some(),
+        Takes::Program => parse_programs(text).is_some(),
         Takes::Wire => parse_wire(text).is_some(),
         Takes::Nothing | Takes::AnyText => true,
     }
@@ -117,11 +117,11 @@ impl<'a> Args<'a> {
         parse_number(self.text(name)?)
     }
 
-    /// The program that was said under the name, where one was.
-    pub fn program(&self, name: &str) -> Option<Program>
-        ensures { result ≡ option_and_then program_in (one_value (under self.now name.now)) }
+    /// The programs that were said under the name, where some were.
+    pub fn programs(&self, name: &str) -> Option<ProgramList>
+        ensures { result ≡ option_and_then programs_in (one_value (under self.now name.now)) }
     {
-        parse_program(self.text(name)?)
+        parse_programs(self.text(name)?)
     }
 
     /// The wire that was said under the name, where one was.

@@ -6,6 +6,7 @@ mod command;
 mod error;
 mod number;
 mod program;
+mod program_list;
 mod table;
 mod wire;
 
@@ -13,5 +14,6 @@ pub use args::{Args, parse};
 pub use error::ArgsError;
 pub use number::parse_number;
 pub use program::{Program, parse_program};
+pub use program_list::{ProgramList, parse_programs};
 pub use table::{OptionRow, Takes};
 pub use wire::{Wire, parse_wire};

@@ -7,9 +7,10 @@ ghost use Rattle.xsk_args.specs.Program.{behind, ether_type_in, fixed_in, progra
 use crate::number::parse_number;
 
 /// What decides of each packet, as an option names it.
-#[derive(Clone, Copy, Debug, PartialEq, Eq)]
+#[derive(Clone, Copy, Debug, Default, PartialEq, Eq)]
 pub enum Program {
     /// `redirect`: each packet is redirected.
+    #[default]
     Redirect,
     /// `pass`: each packet passes.
     Pass,

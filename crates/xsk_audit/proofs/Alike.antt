@@ -20,6 +20,7 @@ use Rattle.xsk_model.specs.declared.call.Call.{Call}
 use Rattle.xsk_model.specs.declared.call.Call.TheVariants.{Reserve, Submit, Peek, Release, Swap, Look}
 use Rattle.xsk_model.specs.declared.call.Reply.{Reply}
 use Rattle.xsk_model.specs.declared.call.Reply.TheVariants.{Granted, Full, Submitted, Items, Empty, Released, Old}
+use Rattle.xsk_model.proofs.Bodies.{taken-bare}
 
 abbrev pub bare_items : List Item → List Item
 bare_items items = map bare_item items
@@ -65,15 +66,6 @@ submitted-bare (Peek r n) = refl
 submitted-bare (Release r n) = refl
 submitted-bare (Swap m value) = refl
 submitted-bare (Look m) = refl
-
-taken-bare : (reply : Reply) → taken (bare_reply reply) ≡ bare_items (taken reply)
-taken-bare Granted = refl
-taken-bare (Full places) = refl
-taken-bare Submitted = refl
-taken-bare (Items items) = refl
-taken-bare Empty = refl
-taken-bare Released = refl
-taken-bare (Old number) = refl
 
 -- ---- replies
 

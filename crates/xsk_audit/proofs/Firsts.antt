@@ -28,7 +28,8 @@ use Rattle.xsk_audit.specs.Playing.{Plays}
 use Rattle.xsk_audit.proofs.Numbers.{some-value}
 use Rattle.xsk_audit.proofs.Alike.{bare_items, bare_entry, own-alike, openings-alike, states-alike, replies-alike}
 use Rattle.xsk_audit.proofs.Complete.{SameLines, same-lines, reads, read-alike}
-use Rattle.xsk_audit.proofs.Sound.{Again, unstored, line_stored}
+use Rattle.xsk_audit.proofs.Sound.{Again, unstored}
+use Rattle.xsk_plain.proofs.StoredLines.{line_stored}
 
 -- ---- a line tells no bytes
 

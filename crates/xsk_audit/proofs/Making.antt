@@ -8,7 +8,7 @@ use Rattle.xsk_umem.specs.Frame.{Frame}
 use Rattle.xsk_umem.specs.Geometry.{Geometry}
 use Rattle.xsk_umem.specs.declared.batch.Item.{Item}
 use Rattle.xsk_umem.specs.declared.batch.XdpDesc.{XdpDesc}
-use Rattle.xsk_model.specs.Asks.{joined_call, HasAsked}
+use Rattle.xsk_model.specs.Asks.{joined_call, joined_reply, HasAsked, HasAnswered}
 use Rattle.xsk_model.specs.Config.{Config}
 use Rattle.xsk_model.specs.Numbers.{times, numbers}
 use Rattle.xsk_model.specs.Object.{submitted, taken}
@@ -16,12 +16,14 @@ use Rattle.xsk_model.specs.Entry.{Told, Entry, own}
 use Rattle.xsk_model.specs.Legal.{IsLegal}
 use Rattle.xsk_model.specs.History.{IsHistory, Fits}
 use Rattle.xsk_model.specs.Opening.{IsOpened, opening}
+use Rattle.xsk_model.specs.declared.ask.Answer.{Answer}
 use Rattle.xsk_model.specs.declared.ask.Ask.{Ask}
 use Rattle.xsk_model.specs.declared.ask.Ask.TheVariants as ask
 use Rattle.xsk_model.specs.declared.call.Call.{Call}
 use Rattle.xsk_model.specs.declared.call.Call.TheVariants.{Reserve, Submit, Peek, Release, Swap, Look}
 use Rattle.xsk_model.specs.declared.call.Reply.{Reply}
 use Rattle.xsk_model.specs.declared.call.Reply.TheVariants.{Granted, Full, Submitted, Items, Empty, Released, Old}
+use Rattle.xsk_model.proofs.AskTheorems.{answers_join}
 use Rattle.xsk_model.proofs.Replies.{entry_fits}
 use Rattle.xsk_plain.specs.Engine.{Engine, Shows}
 use Rattle.xsk_plain.specs.Histories.{HasRun}
@@ -208,23 +210,24 @@ made-legal old engine new places mid frames h who form told items reply bytes pl
       told = read-joined form told items lent.descs_are ∙ bare;
     }
 
--- as the call of the code has it, with the frames that its reply brought put on the shelf
-pub made-as : (old engine new : Engine) (places mid after : Places) (frames : List Frame) (h : List Entry) (who : ℕ) (form : Ask) (told items : List Item) (call : Call) (reply : Reply) (bytes : ℕ)
+-- as the answer of the code has it, with the frames that it brought put on the shelf
+pub made-as : (old engine new : Engine) (places mid after : Places) (frames : List Frame) (h : List Entry) (who : ℕ) (form : Ask) (told items : List Item) (answer : Answer) (brought : List Item) (bytes : ℕ)
     → IsPlaying old places frames h → HasAsked form told → read_call (joined_call form told) ≡ joined_call form told → IsLent old.config.geometry places mid (descs_of told) items
     → AreInPlace old.config.geometry mid → length mid ≡ length places → HasAsked form items → engine ≡ record old { spare_entries = engine.spare_entries; spare_bytes = engine.spare_bytes }
-    → call ≡ joined_call form items → IsLegal old.config (own who old.log) who call → Enters engine new who call reply bytes → FollowsObject engine new who call reply
-    → shelf.with_items mid (taken reply) ≡ after → IsMadeBy new after frames h who (joined_call form told)
-made-as old engine new places mid after frames h who form told items call reply bytes playing asked bare lent are kept fitting same is legal enters follows put =
+    → IsLegal old.config (own who old.log) who (joined_call form items) → HasAnswered answer brought
+    → Enters engine new who (joined_call form items) (joined_reply answer brought) bytes → FollowsObject engine new who (joined_call form items) (joined_reply answer brought)
+    → after ≡ shelf.with_items mid brought → IsMadeBy new after frames h who (joined_call form told)
+made-as old engine new places mid after frames h who form told items answer brought bytes playing asked bare lent are kept fitting same legal answered enters follows put =
     let run : HasRun engine frames h = subst (λ (e : Engine). HasRun e frames h) (sym same) (record {
       legal = playing.run.legal;
       shows = record { rings = playing.run.shows.rings; marks = playing.run.shows.marks };
       log = playing.run.log;
     }) in
     let may : IsLegal engine.config (own who engine.log) who (joined_call form items) =
-    subst (λ (e : Engine). IsLegal e.config (own who e.log) who (joined_call form items)) (sym same) (subst (IsLegal old.config (own who old.log) who) is legal) in
-    subst (λ (p : Places). IsMadeBy new p frames h who (joined_call form told)) put
-    (made-legal old engine new places mid frames h who form told items reply bytes playing asked bare lent are kept fitting (ap (λ (e : Engine). e.config) same) run may
-    (subst (λ (k : Call). Enters engine new who k reply bytes) is enters) (subst (λ (k : Call). FollowsObject engine new who k reply) is follows))
+    subst (λ (e : Engine). IsLegal e.config (own who e.log) who (joined_call form items)) (sym same) legal in
+    let all : taken (joined_reply answer brought) ≡ brought = (answers_join answer brought).1.1 answered in
+    subst (λ (p : Places). IsMadeBy new p frames h who (joined_call form told)) (ap (shelf.with_items mid) all ∙ sym put)
+    (made-legal old engine new places mid frames h who form told items (joined_reply answer brought) bytes playing asked bare lent are kept fitting (ap (λ (e : Engine). e.config) same) run may enters follows)
 
 pub not-true : (b : Bool) → b ≡ false → IsTrue b → ⊥
 not-true b is holds = let e : false ≡ true = sym is ∙ holds in absurd (cc)
@@ -239,15 +242,6 @@ pub wasnt-made : (engine : Engine) (places : Places) (frames : List Frame) (h : 
     → HasRun engine frames h × ((other : Call) → read_call other ≡ call → IsLegal engine.config (own who h) who other → ⊥)
 wasnt-made engine places frames h who call true made is = absurd (cc)
 wasnt-made engine places frames h who call false made is = made
-
-pub takes-none : (reply : Reply) → ((items : List Item) → reply ≡ Items items → ⊥) → taken reply ≡ []
-takes-none Granted other = refl
-takes-none (Full free) other = refl
-takes-none Submitted other = refl
-takes-none (Items items) other = absurd (other items refl)
-takes-none Empty other = refl
-takes-none Released other = refl
-takes-none (Old value) other = refl
 
 pub as-many : (told items : List Item) → descs_of items ≡ descs_of told → length items ≡ length told
 as-many told items same = sym (length-map items (λ (i : Item). i.desc)) ∙ ap length same ∙ length-map told (λ (i : Item). i.desc)

@@ -19,34 +19,9 @@ use Rattle.xsk_plain.specs.Engine.{Engine}
 use Rattle.xsk_plain.specs.Histories.{IsRun}
 use Rattle.xsk_plain.specs.Line.{who_text, ring_text, item_text, items_text, call_text, reply_text, line_of}
 use Rattle.xsk_audit.specs.Telling.{Timed, entries, journal_line, NeverFalls, TellHistory, last_of, AreSame}
+use Rattle.xsk_plain.proofs.StoredLines.{line_stored}
 
 module _ (g : Geometry) (sg : Bool) where
-  items_stored : (items : List Item) → items_text (map (stored_item g sg) items) ≡ items_text items
-  items_stored [] = refl
-  items_stored (x ∷ items) = ap (λ t. item_text x ++ t) (items_stored items)
-
-  call_stored : (call : Call) → call_text (stored_call g sg call) ≡ call_text call
-  call_stored (Reserve r n) = refl
-  call_stored (Submit r items) = ap (λ t. codes "submit " ++ ring_text r ++ t) (items_stored items)
-  call_stored (Peek r n) = refl
-  call_stored (Release r n) = refl
-  call_stored (Swap m value) = refl
-  call_stored (Look m) = refl
-
-  reply_stored : (reply : Reply) → reply_text (stored_reply g sg reply) ≡ reply_text reply
-  reply_stored Granted = refl
-  reply_stored (Full places) = refl
-  reply_stored Submitted = refl
-  reply_stored (Items items) = ap (λ t. codes "items" ++ t) (items_stored items)
-  reply_stored Empty = refl
-  reply_stored Released = refl
-  reply_stored (Old value) = refl
-
-  pub line_stored : (pairs : ℕ) (e : Entry) → line_of pairs (stored_entry g sg e) ≡ line_of pairs e
-  line_stored pairs e =
-      ap (λ t. who_text pairs e.who ++ codes " " ++ t ++ codes " -> " ++ reply_text (stored_reply g sg e.reply) ++ codes "\n") (call_stored e.call)
-      ∙ ap (λ t. who_text pairs e.who ++ codes " " ++ call_text e.call ++ codes " -> " ++ t ++ codes "\n") (reply_stored e.reply)
-
   -- entries of a history in place of those that are stored
   pub record Again (pairs : ℕ) (timed : List Timed) (h later : List Entry) : Type 0 where
     pub again : List Timed
@@ -66,7 +41,7 @@ module _ (g : Geometry) (sg : Bool) where
       let more : stored g sg h ≡ entries timed ++ later = cc in
       let next = unstored pairs timed h later more in
       let line : journal_line pairs (record { round = t.round; entry = e }) ≡ journal_line pairs t =
-      ap (λ (l : List ℕ). decimal t.round ++ codes " " ++ l) (sym (line_stored pairs e) ∙ ap (line_of pairs) one) in
+      ap (λ (l : List ℕ). decimal t.round ++ codes " " ++ l) (sym (line_stored g sg pairs e) ∙ ap (line_of pairs) one) in
       record {
         again = record { round = t.round; entry = e } ∷ next.again;
         rest = next.rest;

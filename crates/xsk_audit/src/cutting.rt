@@ -2,18 +2,18 @@
 ghost use Rattle.std.specs.Prelude.{◌≡◌, ◌≢◌, ◌∷◌, [], ◌<◌, ◌≤◌, ◌+◌, length};
 ghost use Rattle.xsk_audit.specs.Lines.{lines_of, journal_of, report_of, begins_digit};
 
+use memchr::memchr;
+
 /// The first line of a text that isn't empty, with its line feed if it has one, and the text behind it.
 pub(crate) fn first_line(text: &[u8]) -> (&[u8], &[u8])
     requires { text.now ≢ [] }
     ensures line { lines_of text.now ≡ result.0.now ∷ lines_of result.1.now }
     ensures shorter { length result.1.now < length text.now }
 {
-    for i in 0..text.len() {
-        if text[i] == b'\n' {
-            return (&text[..i + 1], &text[i + 1..]);
-        }
+    match memchr(b'\n', text) {
+        Some(i) => (&text[..i + 1], &text[i + 1..]),
+        None => (text, &text[text.len()..]),
     }
-    (text, &text[text.len()..])
 }
 
 /// The text from the first line on that begins with a digit, and how many lines stand before it.

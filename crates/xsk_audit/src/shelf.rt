@@ -1,5 +1,5 @@
 //! The frames that callers have.
-ghost use Rattle.std.specs.Prelude.{◌≡◌, ◌≤◌, ◌<◌, ℕ, Some, None, replicate, length, IfNone, IfSome, IfOk};
+ghost use Rattle.std.specs.Prelude.{◌≡◌, ◌≤◌, ◌<◌, ℕ, Some, None, [], true, false, replicate, length, IfNone, IfSome, IfOk};
 ghost use Rattle.std.specs.List.{slice_set};
 ghost use Rattle.xsk_umem.specs.Geometry.{frame_of};
 ghost use Rattle.xsk_audit.specs.Shelf.{frame_at, has, AreInPlace, HasItsFrame, IsLent, Lacks, descs_of, with_items, without_frame};
@@ -68,27 +68,30 @@ impl Shelf {
         Some(Item { frame, desc })
     }
 
-    /// Items with the frames of their addresses, which are taken. It gives none where one isn't there.
-    pub(crate) fn lend(&mut self, geometry: &Geometry, told: &Batch) -> Option<Batch>
-        requires { AreInPlace geometry.now self.old }
-        ensures some { IfSome result (IsLent geometry.now self.old self.new (descs_of told.now)) }
-        ensures none { IfNone result (Lacks geometry.now self.old (descs_of told.now)) }
+    /// Puts items with the frames of their addresses, which are taken, into an empty batch. The answer is whether each frame
+    /// is there.
+    pub(crate) fn lend(&mut self, geometry: &Geometry, told: &Batch, items: &mut Batch) -> bool
+        requires places { AreInPlace geometry.now self.old }
+        requires empty { items.old ≡ [] }
+        ensures lent { result ≡ true → IsLent geometry.now self.old self.new (descs_of told.now) items.new }
+        ensures lacks { result ≡ false → Lacks geometry.now self.old (descs_of told.now) }
         ensures places { AreInPlace geometry.now self.new }
         ensures count { length self.new ≡ length self.old }
     {
-        let mut items = Batch::new();
         'items: for i in 0..told.len() {
-            let item = self.item(geometry, told.desc(i))?;
+            let Some(item) = self.item(geometry, told.desc(i)) else {
+                return false;
+            };
             items.push(item);
         }
-        Some(items)
+        true
     }
 
-    /// Keeps the frames of items.
-    pub(crate) fn keep(&mut self, taken: Batch)
-        ensures { self.new ≡ with_items self.old taken }
+    /// Keeps the frames of items, of which none are left.
+    pub(crate) fn keep(&mut self, items: &mut Batch)
+        ensures kept { self.new ≡ with_items self.old items.old }
+        ensures left { items.new ≡ [] }
     {
-        let mut items = taken;
         'items: for _item in 0..items.len() {
             if let Some(item) = items.pop_front() {
                 if let Some(frame) = item.frame {

@@ -6,11 +6,19 @@ use crate::number::{number, small};
 use xsk_model::{Mark, Ring};
 use xsk_umem::XdpDesc;
 
-/// The text behind a word, if it begins with it.
+/// The text behind a word, if it begins with it. Most words differ in their first letter.
 pub(crate) fn word<'a>(text: &'a [u8], word: &[u8]) -> Option<&'a [u8]>
     ensures { text_view result ≡ word_at word.now text.now }
 {
-    text.strip_prefix(word)
+    let Some((letter, letters)) = word.split_first() else {
+        return Some(text);
+    };
+    let (first, rest) = text.split_first()?;
+    if first == letter {
+        rest.strip_prefix(letters)
+    } else {
+        None
+    }
 }
 
 /// The number of a caller, where there are so many pairs: drivers come first.

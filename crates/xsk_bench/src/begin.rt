@@ -3,7 +3,7 @@ ghost use Rattle.std.specs.Prelude.{◌≡◌, ◌<◌, All, List, [], IfOk, len
 ghost use Rattle.std.specs.List.{slice_index_or};
 ghost use Rattle.xsk_model.specs.Config.{pair_at};
 ghost use Rattle.xsk_model.specs.Expected.{nothing};
-ghost use Rattle.xsk_prog.specs.Program.{Obeys};
+ghost use Rattle.xsk_prog.specs.Chain.{AllObey};
 ghost use Rattle.xsk_prog.specs.declared.rule.Verdict.{Verdict as AVerdict};
 ghost use Rattle.xsk_turns.specs.Inputs.{inputs_of};
 ghost use Rattle.xsk_turns.specs.Owned.{IsSteady};
@@ -21,7 +21,7 @@ use std::alloc::Global;
 use xsk_driver::{Driver, Wire};
 use xsk_machine::{Amount, Inputs};
 use xsk_model::Config;
-use xsk_prog::{Verdict, XdpProgram};
+use xsk_prog::{Chain, Verdict};
 use xsk_umem::{OutOfMemory, PacketList};
 
 /// The driver of a pair, with room for so many sent packets and bytes.
@@ -30,7 +30,7 @@ fn driver_of<'a, F: Fn(&[u8], u32) -> Verdict>(
     config: &'a Config,
     packets: &'a [PacketList],
     inputs: &'a Inputs,
-    program: &XdpProgram<F>,
+    chain: &Chain<F>,
     wire: Wire,
     room: Amount,
     pair: u32,
@@ -39,10 +39,10 @@ fn driver_of<'a, F: Fn(&[u8], u32) -> Verdict>(
     requires lists { length packets.now ≡ config.now.ports }
     requires inputs { inputs.now ≡ inputs_of config.now packets.now }
     requires short { All HasShortPackets packets.now }
-    requires obeys { Obeys F.Fn program.now.rule program.now.decide }
+    requires obeys { AllObey F.Fn chain.now }
     requires pair { pair < length config.now.pairs }
     ensures new { IfOk result (λ d. IsNew wire config.now pair (judged (packets_to config.now packets.now (pair_at config.now.pairs pair)) (verdicts_in d.kept)) d) }
-    ensures asked { IfOk result (λ d. EachHas (IsGiven (IsAnswer F.Fn program.now.rule program.now.decide (pair_at config.now.pairs pair).queue))
+    ensures asked { IfOk result (λ d. EachHas (IsGiven (IsAnswer F.Fn chain.now (pair_at config.now.pairs pair).queue))
         (packets_to config.now packets.now (pair_at config.now.pairs pair)) (verdicts_in d.kept)) }
     ensures expected { IfOk result (λ d. d.expected ≡ nothing) }
     ensures room { IfOk result (λ d. (d.sent.most_packets ≡ room.packets) × (d.sent.most_bytes ≡ room.bytes)) }
@@ -56,7 +56,7 @@ fn driver_of<'a, F: Fn(&[u8], u32) -> Verdict>(
         pair,
         list,
         numbers,
-        program,
+        chain,
         wire,
         room.packets,
         room.bytes,
@@ -64,14 +64,14 @@ fn driver_of<'a, F: Fn(&[u8], u32) -> Verdict>(
     Ok(driver)
 }
 
-/// The drivers of all pairs in their seats, each with room for so many sent packets and bytes. The program is asked once for each
+/// The drivers of all pairs in their seats, each with room for so many sent packets and bytes. The chain is asked once for each
 /// packet.
 pub(crate) fn seat_drivers<'a, F: Fn(&[u8], u32) -> Verdict>(
     alloc: Global,
     config: &'a Config,
     packets: &'a [PacketList],
     inputs: &'a Inputs,
-    program: &XdpProgram<F>,
+    chain: &Chain<F>,
     wire: Wire,
     room: Amount,
 ) -> Result<Vec<Seat<'a>>, OutOfMemory>
@@ -79,16 +79,16 @@ pub(crate) fn seat_drivers<'a, F: Fn(&[u8], u32) -> Verdict>(
     requires lists { length packets.now ≡ config.now.ports }
     requires inputs { inputs.now ≡ inputs_of config.now packets.now }
     requires short { All HasShortPackets packets.now }
-    requires obeys { Obeys F.Fn program.now.rule program.now.decide }
+    requires obeys { AllObey F.Fn chain.now }
     ensures count { IfOk result (λ seats. vec_len seats ≡ length config.now.pairs) }
     ensures seated { IfOk result (λ seats. (verdicts : List (List AVerdict))
-        × AreGiven (IsAnswer F.Fn program.now.rule program.now.decide) (setting_with config.now wire packets.now verdicts)
+        × AreGiven (IsAnswer F.Fn chain.now) (setting_with config.now wire packets.now verdicts)
         × EachFrom seats.items 0 (IsSeated (setting_with config.now wire packets.now verdicts) room [])) }
 {
     let count = config.pairs().len() as u32;
     let mut seats = Vec::with_capacity(alloc, count as usize)?;
     for pair in 0..count {
-        let driver = driver_of(alloc, config, packets, inputs, program, wire, room, pair)?;
+        let driver = driver_of(alloc, config, packets, inputs, chain, wire, room, pair)?;
         seats.push(Seat::new(driver))?;
     }
     Ok(seats)

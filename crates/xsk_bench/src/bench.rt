@@ -9,7 +9,7 @@ use xsk_driver::Wire;
 use xsk_machine::{Amount, DriverFigures};
 use xsk_model::{Answer, Ask, Config};
 use xsk_plain::{Checked, Lines, Log};
-use xsk_prog::{Verdict, XdpProgram};
+use xsk_prog::{Chain, Verdict};
 use xsk_umem::{Batch, Frames, OutOfMemory, PacketList};
 
 /// Why a call wasn't served. It wasn't made, and its batch is as it was.
@@ -54,7 +54,7 @@ impl<'a> Bench<'a> {
     ghost use Rattle.xsk_model.specs.Legal.{IsLegal};
     ghost use Rattle.xsk_model.specs.Opening.{AreFrames};
     ghost use Rattle.xsk_model.specs.Rings.{caller_of};
-    ghost use Rattle.xsk_prog.specs.Program.{Obeys};
+    ghost use Rattle.xsk_prog.specs.Chain.{AllObey};
     ghost use Rattle.xsk_prog.specs.declared.rule.Verdict.{Verdict as AVerdict};
     ghost use Rattle.xsk_turns.specs.Workers.{Setting, AreGiven};
     ghost use Rattle.xsk_turns.specs.Sending.{sent_by_act};
@@ -71,21 +71,21 @@ impl<'a> Bench<'a> {
     ghost use Rattle.xsk_bench.specs.Serving.{Serves};
 
     /// The drivers of all pairs with their packets, over an object in its opening state, in which nobody has made a call. The
-    /// frames are all frames of the configuration's UMEM; the program is attached to every port, and asked here, once for each
+    /// frames are all frames of the configuration's UMEM; the chain of programs is attached to every port, and asked here, once for each
     /// packet; `wire` says what becomes of a packet that finds too few frames or no room on RX; and each driver has room for so
     /// many sent packets and bytes. It is refused for want of memory alone.
     pub fn open<F: Fn(&[u8], u32) -> Verdict>(
         alloc: Global,
         traffic: &'a Traffic,
         frames: Frames,
-        program: &XdpProgram<F>,
+        chain: &Chain<F>,
         wire: Wire,
         room: Amount,
     ) -> Result<Bench<'a>, OutOfMemory>
         requires frames { AreFrames traffic.now.config.geometry frames.items }
-        requires obeys { Obeys F.Fn program.now.rule program.now.decide }
+        requires obeys { AllObey F.Fn chain.now }
         ensures opened { IfOk result (λ bench. (verdicts : List (List AVerdict))
-            × AreGiven (IsAnswer F.Fn program.now.rule program.now.decide) (setting_with traffic.now.config wire traffic.now.packets verdicts)
+            × AreGiven (IsAnswer F.Fn chain.now) (setting_with traffic.now.config wire traffic.now.packets verdicts)
             × HasPlayed (setting_with traffic.now.config wire traffic.now.packets verdicts) frames.items [] bench) }
         ensures room { IfOk result (λ bench. bench.room ≡ room) }
     {
@@ -95,7 +95,7 @@ impl<'a> Bench<'a> {
             config,
             traffic.packets(),
             traffic.inputs(),
-            program,
+            chain,
             wire,
             room,
         )?;

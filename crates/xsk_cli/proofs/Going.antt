@@ -10,14 +10,15 @@ use Rattle.xsk_model.specs.Config.{Config, pair_at, classes_of, map_of}
 use Rattle.xsk_model.specs.Steering.{packet_class, packet_limit, packet_queue, paired_port, driver_on, socket_on}
 use Rattle.xsk_model.proofs.Seats.{IsAt, below, is_at}
 use Rattle.xsk_prog.specs.declared.rule.Rule.{Rule}
-use Rattle.xsk_prog.specs.Rules.{Meets, is_exact, verdict_of}
+use Rattle.xsk_prog.specs.Rules.{MeetsChain, is_exact, are_exact, chain_verdict_of}
+use Rattle.xsk_prog.proofs.Chains.{one_chain_verdict}
 use Rattle.xsk_prog.specs.declared.rule.Verdict.{Verdict}
 use Rattle.xsk_args.specs.declared.program.Program.{Program}
 use Rattle.xsk_args.specs.declared.program.Program.TheVariants.{Redirect, Pass, Drop, EtherType, Fixed}
 use Rattle.xsk_turns.specs.Mangling.{plain}
 use Rattle.xsk_turns.specs.declared.wire.Wire.TheVariants.{Wait}
 use Rattle.xsk_turns.specs.Inputs.{packets_of_port, packets_of_queue}
-use Rattle.xsk_turns.specs.Verdicts.{EachHas, IsGiven, MeetRule, judged}
+use Rattle.xsk_turns.specs.Verdicts.{EachHas, IsGiven, MeetRules, judged}
 use Rattle.xsk_turns.specs.Turns.{Judged}
 use Rattle.xsk_turns.specs.Disposals.{bytes_in}
 use Rattle.xsk_turns.proofs.Verdicts.{own_setting}
@@ -29,7 +30,8 @@ use Rattle.xsk_socket.specs.Regular.{cell_in, is_left_empty, map_in, pair_in, re
 use Rattle.xsk_socket.proofs.Accepted.{fits}
 use Rattle.xsk_socket.proofs.Numbered.{get_or-numbered, length-numbered}
 use Rattle.xsk_socket.proofs.Regularity.{regular-config, regular-regular}
-use Rattle.xsk_cli.specs.Outcome.{listed, rule_by, verdicts_by, received_on, goes_on, going_on, ExpectedGoesOn, ClassGoesOn, AllGoOn}
+use Rattle.xsk_cli.specs.Outcome.{listed, rule_by, rules_by, verdicts_by, received_on, goes_on, going_on, ExpectedGoesOn, ClassGoesOn, AllGoOn}
+use Rattle.xsk_laws.proofs.OneQueue.{bytes_if}
 
 -- ---- verdicts
 
@@ -41,40 +43,37 @@ is_exact_by sockets Drop = refl
 is_exact_by sockets (EtherType kind) = refl
 is_exact_by sockets (Fixed cell) = refl
 
-own_verdict : (sockets : ℕ) (program : Program) (queue : ℕ) (packet : List ℕ) (verdict : Verdict) → Meets (rule_by sockets program) packet queue verdict → verdict ≡ verdict_of (rule_by sockets program) packet queue
-own_verdict sockets Redirect queue packet verdict met = met
-own_verdict sockets Pass queue packet verdict met = met
-own_verdict sockets Drop queue packet verdict met = met
-own_verdict sockets (EtherType kind) queue packet verdict met = met
-own_verdict sockets (Fixed cell) queue packet verdict met = met
+pub are_exact_by : (sockets : ℕ) (programs : List Program) → are_exact (rules_by sockets programs) ≡ true
+are_exact_by sockets [] = refl
+are_exact_by sockets (program ∷ programs) = ap (λ b. b && are_exact (rules_by sockets programs)) (is_exact_by sockets program) ∙ are_exact_by sockets programs
+
+own_verdict : (sockets : ℕ) (programs : List Program) (queue : ℕ) (packet : List ℕ) (verdict : Verdict) → MeetsChain (rules_by sockets programs) packet queue verdict
+    → verdict ≡ chain_verdict_of (rules_by sockets programs) packet queue
+own_verdict sockets programs queue packet verdict met = one_chain_verdict (rules_by sockets programs) packet queue verdict (are_exact_by sockets programs) met
 
 by_length : (x y z w : Bool) → (x ≡ true → z ≡ w) → ((x && y) && z) ≡ ((x && y) && w)
 by_length true true z w h = h refl
 by_length true false z w h = refl
 by_length false y z w h = refl
 
-bytes_if : (b : Bool) (p : Judged) (ps : List Judged) (qs : List (List ℕ)) → bytes_in ps ≡ qs → bytes_in (cond b (p ∷ ps) ps) ≡ cond b (p.bytes ∷ qs) qs
-bytes_if true p ps qs e = ap (λ rs. p.bytes ∷ rs) e
-bytes_if false p ps qs e = e
-
--- the packets whose verdicts the rule gives go on where it redirects them so
-module _ (layout : Layout) (program : Program) (o queue class : ℕ) where
-  abbrev rule : Rule
-  rule = rule_by layout.sockets program
+-- the packets whose verdicts the rules give go on where these redirect them so
+module _ (layout : Layout) (programs : List Program) (o queue class : ℕ) where
+  abbrev rules : List Rule
+  rules = rules_by layout.sockets programs
 
   abbrev c : Config
   c = regular_of layout
 
   abbrev goes : List ℕ → Bool
-  goes = goes_on layout program o queue class
+  goes = goes_on layout programs o queue class
 
-  one_goes : (packet : List ℕ) (verdict : Verdict) → IsGiven (λ p v. Meets rule p queue v) packet verdict
+  one_goes : (packet : List ℕ) (verdict : Verdict) → IsGiven (λ p v. MeetsChain rules p queue v) packet verdict
       → is_redirected c o queue class (record { bytes = packet; verdict = verdict }) ≡ goes packet
   one_goes packet verdict given =
-      by_length (leb 14 (length packet)) (leb (length packet) (packet_limit c)) (leads_to (map_of c o) (socket_on c o queue class) verdict) (leads_to (map_of c o) (socket_on c o queue class) (verdict_of rule packet queue))
-      (λ long. ap (leads_to (map_of c o) (socket_on c o queue class)) (own_verdict layout.sockets program queue packet verdict (given.asked (leb-true 14 (length packet) long))))
+      by_length (leb 14 (length packet)) (leb (length packet) (packet_limit c)) (leads_to (map_of c o) (socket_on c o queue class) verdict) (leads_to (map_of c o) (socket_on c o queue class) (chain_verdict_of rules packet queue))
+      (λ long. ap (leads_to (map_of c o) (socket_on c o queue class)) (own_verdict layout.sockets programs queue packet verdict (given.asked (leb-true 14 (length packet) long))))
 
-  all_go : (packets : List (List ℕ)) (verdicts : List Verdict) → EachHas (IsGiven (λ p v. Meets rule p queue v)) packets verdicts
+  all_go : (packets : List (List ℕ)) (verdicts : List Verdict) → EachHas (IsGiven (λ p v. MeetsChain rules p queue v)) packets verdicts
       → bytes_in (filter (is_redirected c o queue class) (judged packets verdicts)) ≡ filter goes packets
   all_go [] [] h = refl
   all_go [] (verdict ∷ verdicts) h = absurd h
@@ -89,21 +88,21 @@ pub packets_there : (lists : List (List (List ℕ))) (port : ℕ) → packets_of
 packets_there lists port = ap (λ (l : PacketList). l.packets) (get_or-map listed lists port [])
 
 pub expected_goes_on : ExpectedGoesOn
-expected_goes_on layout program lists port queue class accepted place =
+expected_goes_on layout programs lists port queue class accepted place =
     let c : Config = regular_of layout in
-    let rule : Rule = rule_by layout.sockets program in
-    let verdicts : List (List Verdict) = verdicts_by layout program lists in
+    let rules : List Rule = rules_by layout.sockets programs in
+    let verdicts : List (List Verdict) = verdicts_by layout programs lists in
     let o : ℕ = paired_port port in
     let d : ℕ = driver_on c o queue in
     let other : o < layout.ports = (are_paired layout.ports port (fits layout accepted).ports place.in_ports).in_ports in
     let at : IsAt c o queue class d (socket_on c o queue class) =
     is_at c o queue class (regular-config layout (fits layout accepted)) (regular-regular layout (fits layout accepted)) other place.in_queues place.in_classes in
-    let met : MeetRule rule queue (received c (map listed lists) o queue) (get_or verdicts d []) =
-    subst (λ q. MeetRule rule q (received c (map listed lists) o q) (get_or verdicts d [])) at.pair_queue
-    (subst (λ p. MeetRule rule (pair_at c.pairs d).queue (received c (map listed lists) p (pair_at c.pairs d).queue) (get_or verdicts d [])) at.pair_port
-    ((own_setting rule Wait plain c (map listed lists)).each d at.pair_known)) in
-    all_go layout program o queue class (received c (map listed lists) o queue) (get_or verdicts d []) met
-    ∙ ap (λ ps. filter (goes_on layout program o queue class) (packets_of_queue layout.queues queue ps)) (packets_there lists o)
+    let met : MeetRules rules queue (received c (map listed lists) o queue) (get_or verdicts d []) =
+    subst (λ q. MeetRules rules q (received c (map listed lists) o q) (get_or verdicts d [])) at.pair_queue
+    (subst (λ p. MeetRules rules (pair_at c.pairs d).queue (received c (map listed lists) p (pair_at c.pairs d).queue) (get_or verdicts d [])) at.pair_port
+    ((own_setting rules Wait plain c (map listed lists)).each d at.pair_known)) in
+    all_go layout programs o queue class (received c (map listed lists) o queue) (get_or verdicts d []) met
+    ∙ ap (λ ps. filter (goes_on layout programs o queue class) (packets_of_queue layout.queues queue ps)) (packets_there lists o)
 
 -- ---- the program that redirects each packet
 
@@ -144,7 +143,7 @@ module _ (layout : Layout) (port queue class : ℕ) (empty : layout.empty ≡ No
       ∙ ap (λ b. b && eqb (get_or (map_in layout port) cell 0) (socket + 1)) (lt-ltb cell (length (map_in layout port)) (rw (length-numbered (cells_in layout) (cell_in layout port)) within))
       ∙ same_number (port * cells_in layout + queue * layout.sockets) k class (get_or (map_in layout port) cell 0) (socket + 1) (omega (arith, has)) (omega (arith, number, rows_of))
 
-  class_goes : (packet : List ℕ) → goes_on layout Redirect port queue class packet ≡ (has_length config packet && eqb (packet_class layout.sockets packet) class)
+  class_goes : (packet : List ℕ) → goes_on layout (Redirect ∷ []) port queue class packet ≡ (has_length config packet && eqb (packet_class layout.sockets packet) class)
   class_goes packet = ap (λ b. has_length config packet && b) (cell_holds (packet_class layout.sockets packet) (mod-lt (sum (take 14 packet)) (omega (arith, in_sockets))))
 
 pub class_goes_on : ClassGoesOn
@@ -171,9 +170,9 @@ pub all_go_on : AllGoOn
 all_go_on layout lists port queues sockets empty known =
     let o : ℕ = paired_port port in
     let c : Config = regular_of layout in
-    let class : going_on layout Redirect lists o 0 0 ≡ filter (λ packet. has_length c packet && eqb (packet_class layout.sockets packet) 0) (received_on layout lists o 0) =
+    let class : going_on layout (Redirect ∷ []) lists o 0 0 ≡ filter (λ packet. has_length c packet && eqb (packet_class layout.sockets packet) 0) (received_on layout lists o 0) =
     class_goes_on layout lists o 0 0 empty known (omega (arith, queues)) (omega (arith, sockets)) in
-    ap (λ n. map (λ queue. going_on layout Redirect lists o queue 0) (range_with_len 0 n)) queues
+    ap (λ n. map (λ queue. going_on layout (Redirect ∷ []) lists o queue 0) (range_with_len 0 n)) queues
     ∙ ap (λ ps. ps ∷ [])
     (class
     ∙ (λ i. filter (λ packet. keeps (has_length c packet) (eqb (packet_class layout.sockets packet) 0) (eq-eqb (packet_class layout.sockets packet) 0 (of_one_class layout.sockets packet sockets)) i) (received_on layout lists o 0))

@@ -29,9 +29,9 @@ few_ports layout accepted = omega (arith, (fits layout accepted).ports)
 
 -- a command reads few inputs
 pub few_read : (work : Work) → fault_in work ≡ None → read_by work ≤ 4
-few_read (Simulate layout program wire mangle order None journal Pcap) accepted = few_ports layout accepted
-few_read (Simulate layout program wire mangle order None journal Pcapng) accepted = omega arith
-few_read (Simulate layout program wire mangle order (Some number) journal format) accepted = omega arith
+few_read (Simulate layout programs wire mangle order None journal Pcap) accepted = few_ports layout accepted
+few_read (Simulate layout programs wire mangle order None journal Pcapng) accepted = omega arith
+few_read (Simulate layout programs wire mangle order (Some number) journal format) accepted = omega arith
 few_read (Generate number) accepted = omega arith
 few_read (Audit layout) accepted = omega arith
 
@@ -84,21 +84,21 @@ made_at number (made ∷ others) list at is =
 
 -- ---- the work's packets
 
-pub untaken_makes : (layout : Layout) (program : Program) (wire : Wire) (mangle : Option ℕ) (order : ℕ) (journal : Bool) (inputs : List (List ℕ)) (failure : RunFailure) → AreUntaken inputs failure → MakesNone (Simulate layout program wire mangle order None journal Pcap) inputs failure
-untaken_makes layout program wire mangle order journal inputs (Bad port cause) h = (h.0, h.1, tt)
-untaken_makes layout program wire mangle order journal inputs (Excessive excess) h = h
-untaken_makes layout program wire mangle order journal inputs (Stalls round) h = absurd h
-untaken_makes layout program wire mangle order journal inputs NoMemory h = h
-untaken_makes layout program wire mangle order journal inputs (Breaks line) h = absurd h
-untaken_makes layout program wire mangle order journal inputs (BadFile cause) h = absurd h
+pub untaken_makes : (layout : Layout) (programs : List Program) (wire : Wire) (mangle : Option ℕ) (order : ℕ) (journal : Bool) (inputs : List (List ℕ)) (failure : RunFailure) → AreUntaken inputs failure → MakesNone (Simulate layout programs wire mangle order None journal Pcap) inputs failure
+untaken_makes layout programs wire mangle order journal inputs (Bad port cause) h = (h.0, h.1, tt)
+untaken_makes layout programs wire mangle order journal inputs (Excessive excess) h = h
+untaken_makes layout programs wire mangle order journal inputs (Stalls round) h = absurd h
+untaken_makes layout programs wire mangle order journal inputs NoMemory h = h
+untaken_makes layout programs wire mangle order journal inputs (Breaks line) h = absurd h
+untaken_makes layout programs wire mangle order journal inputs (BadFile cause) h = absurd h
 
-pub file_makes : (layout : Layout) (program : Program) (wire : Wire) (mangle : Option ℕ) (order : ℕ) (journal : Bool) (inputs : List (List ℕ)) (failure : RunFailure) → IsUntaken layout.ports inputs failure → MakesNone (Simulate layout program wire mangle order None journal Pcapng) inputs failure
-file_makes layout program wire mangle order journal inputs (Bad port cause) h = absurd h
-file_makes layout program wire mangle order journal inputs (Excessive excess) h = h
-file_makes layout program wire mangle order journal inputs (Stalls round) h = absurd h
-file_makes layout program wire mangle order journal inputs NoMemory h = h
-file_makes layout program wire mangle order journal inputs (Breaks line) h = absurd h
-file_makes layout program wire mangle order journal inputs (BadFile cause) h = h
+pub file_makes : (layout : Layout) (programs : List Program) (wire : Wire) (mangle : Option ℕ) (order : ℕ) (journal : Bool) (inputs : List (List ℕ)) (failure : RunFailure) → IsUntaken layout.ports inputs failure → MakesNone (Simulate layout programs wire mangle order None journal Pcapng) inputs failure
+file_makes layout programs wire mangle order journal inputs (Bad port cause) h = absurd h
+file_makes layout programs wire mangle order journal inputs (Excessive excess) h = h
+file_makes layout programs wire mangle order journal inputs (Stalls round) h = absurd h
+file_makes layout programs wire mangle order journal inputs NoMemory h = h
+file_makes layout programs wire mangle order journal inputs (Breaks line) h = absurd h
+file_makes layout programs wire mangle order journal inputs (BadFile cause) h = h
 
 pub none_of : {X : Type 0} (xs : List X) → length xs ≡ 0 → xs ≡ []
 none_of [] none = refl
@@ -131,7 +131,7 @@ made_more number port lists list all are bare is pushed =
 
 -- texts of packets are made of the inputs
 pub packets_made : (work : Work) (inputs : List (List ℕ)) (lists : List (List (List ℕ))) (texts : Written) → AreListsOf work inputs lists → excess_of lists ≡ None → AreTextsBy work lists texts → AreMadeOf work inputs texts
-packets_made (Simulate layout program wire mangle order number journal format) inputs lists texts are within is = (lists, are, (within, is))
+packets_made (Simulate layout programs wire mangle order number journal format) inputs lists texts are within is = (lists, are, (within, is))
 packets_made (Generate number) inputs lists texts are within is = (lists, are, (within, is))
 packets_made (Audit layout) inputs lists texts are within is = absurd are
 

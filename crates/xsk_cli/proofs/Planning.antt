@@ -43,16 +43,16 @@ some_files said enough accepted none =
     omega (arith, files_named said enough accepted, ap (λ o. length (unwrap_or o [])) none, some_format (format_of said) (ports_of said) ports)
 
 -- the plan that words ask for wants the files that they name
-ready_by : (layout : Layout) (program : Program) (wire : Wire) (mangle : Option ℕ) (order : ℕ) (number : Option ℕ) (journal : Bool) (format : Format) (files : List Text) → fault_of layout ≡ None → layout.close ≡ None
+ready_by : (layout : Layout) (programs : List Program) (wire : Wire) (mangle : Option ℕ) (order : ℕ) (number : Option ℕ) (journal : Bool) (format : Format) (files : List Text) → fault_of layout ≡ None → layout.close ≡ None
     → length files ≡ cond (is_some number) 0 (files_of format layout.ports) + files_of format layout.ports
-    → IsReady (record { inputs = take (cond (is_some number) 0 (files_of format layout.ports)) files; outputs = drop (cond (is_some number) 0 (files_of format layout.ports)) files; work = Simulate layout program wire mangle order number journal format })
-ready_by layout program wire mangle order None journal format files accepted closes count = record {
+    → IsReady (record { inputs = take (cond (is_some number) 0 (files_of format layout.ports)) files; outputs = drop (cond (is_some number) 0 (files_of format layout.ports)) files; work = Simulate layout programs wire mangle order number journal format })
+ready_by layout programs wire mangle order None journal format files accepted closes count = record {
   accepted = accepted;
   closes = closes;
   inputs = length-take-le (files_of format layout.ports) files (omega (arith, count));
   outputs = omega (arith, length-drop (files_of format layout.ports) files, count);
 }
-ready_by layout program wire mangle order (Some n) journal format files accepted closes count = record {
+ready_by layout programs wire mangle order (Some n) journal format files accepted closes count = record {
   accepted = accepted;
   closes = closes;
   inputs = refl;

@@ -47,9 +47,9 @@ use Rattle.xsk_cli.specs.Format.{joined, outputs_of}
 use Rattle.xsk_cli.specs.Judged.{excess_of}
 use Rattle.xsk_cli.specs.declared.format.Format.{Format}
 use Rattle.xsk_stats.specs.Report.{report_text}
-use Rattle.xsk_cli.specs.Outcome.{Written, listed, setting_of, verdicts_by, wire_by, frames_of, sent_from, going_on, rule_by, report_of, told_of, AreTextsIn, AreTextsOf, manner_of, sent_on_by}
+use Rattle.xsk_cli.specs.Outcome.{Written, listed, setting_of, verdicts_by, wire_by, frames_of, sent_from, going_on, rules_by, report_of, told_of, AreTextsIn, AreTextsOf, manner_of, sent_on_by}
 use Rattle.xsk_cli.specs.Steps.{lists_in}
-use Rattle.xsk_cli.proofs.Going.{classes_are, expected_goes_on, is_exact_by, packets_there}
+use Rattle.xsk_cli.proofs.Going.{classes_are, expected_goes_on, are_exact_by, packets_there}
 use Rattle.xsk_cli.proofs.Judging.{limits_of}
 use Rattle.xsk_cli.proofs.Ports.{same_map}
 use Rattle.xsk_cli.proofs.Filing.{same_texts}
@@ -72,14 +72,14 @@ driver_known ports queues port queue in_ports in_queues = below port queues queu
 
 -- ---- a history in which all runs are whole, and the lists that are shown of it
 
-module _ (layout : Layout) (program : Program) (wire : Wire) (mangle : Option ℕ) (lists : List (List (List ℕ))) (accepted : fault_of layout ≡ None) (closes : layout.close ≡ None) (history : List Entry) (legal : IsHistory (regular_of layout) (frames_of layout) history)
-    (whole : (who : ℕ) → who < callers_of (regular_of layout) → IsWholeRun (setting_of layout program wire mangle lists) who (own who history)) (all : List (List (List ℕ)))
+module _ (layout : Layout) (programs : List Program) (wire : Wire) (mangle : Option ℕ) (lists : List (List (List ℕ))) (accepted : fault_of layout ≡ None) (closes : layout.close ≡ None) (history : List Entry) (legal : IsHistory (regular_of layout) (frames_of layout) history)
+    (whole : (who : ℕ) → who < callers_of (regular_of layout) → IsWholeRun (setting_of layout programs wire mangle lists) who (own who history)) (all : List (List (List ℕ)))
     (each : (pair : ℕ) → pair < length (regular_of layout).pairs → get_or all pair [] ≡ sent (regular_of layout) history pair) where
   abbrev config : Config
   config = regular_of layout
 
   abbrev verdicts : List (List Verdict)
-  verdicts = verdicts_by layout program lists
+  verdicts = verdicts_by layout programs lists
 
   abbrev manner : Manner
   manner = manner_of mangle
@@ -110,27 +110,27 @@ module _ (layout : Layout) (program : Program) (wire : Wire) (mangle : Option �
     all_sent port in_ports = sent_piece port layout.queues in_ports (omega arith)
 
     -- with one socket on each queue each driver sent what goes on to its queue
-    one_sent : mangle ≡ None → wire ≡ Wait → layout.sockets ≡ 1 → (port queue : ℕ) → port < layout.ports → queue < layout.queues → sent config history (driver_on config port queue) ≡ going_on layout program lists (paired_port port) queue 0
+    one_sent : mangle ≡ None → wire ≡ Wait → layout.sockets ≡ 1 → (port queue : ℕ) → port < layout.ports → queue < layout.queues → sent config history (driver_on config port queue) ≡ going_on layout programs lists (paired_port port) queue 0
     one_sent none waits one port queue in_ports in_queues =
         let classes : classes_of config ≡ 1 = classes_are layout (omega (arith, driver_known layout.ports layout.queues port queue in_ports in_queues)) ∙ one in
-        all_is_expected manner (wire_by wire) config (map listed lists) verdicts (frames_of layout) history port queue none (ap wire_by waits) whole_runs in_ports in_queues classes
-        ∙ expected_goes_on layout program lists port queue 0 accepted (record { in_ports = in_ports; in_queues = in_queues; in_classes = omega (arith, classes) })
+        all_is_expected 1 manner (wire_by wire) config (map listed lists) verdicts (frames_of layout) history port queue none (ap wire_by waits) whole_runs in_ports in_queues classes
+        ∙ expected_goes_on layout programs lists port queue 0 accepted (record { in_ports = in_ports; in_queues = in_queues; in_classes = omega (arith, classes) })
 
     pub texts_in : (format : Format) (told : List ℕ) (texts : Written)
         → texts.outputs ≡ outputs_of format (λ port. take layout.queues (drop (port * layout.queues) all)) (range_with_len 0 layout.ports)
-        → texts.report ≡ told → AreTextsIn format layout program wire mangle lists history told texts
+        → texts.report ≡ told → AreTextsIn format layout programs wire mangle lists history told texts
     texts_in format told texts outputs report =
         let is : texts.outputs ≡ outputs_of format (sent_from layout history) (range_with_len 0 layout.ports) =
         outputs ∙ same_texts format (λ port. take layout.queues (drop (port * layout.queues) all)) (sent_from layout history) layout.ports all_sent in
         record {
           sent = is;
           forwarded = λ port queue none in_ports in_queues.
-              all_are_forwarded manner (wire_by wire) config (map listed lists) verdicts (frames_of layout) history port queue none whole_runs in_ports in_queues;
+              all_are_forwarded 1 manner (wire_by wire) config (map listed lists) verdicts (frames_of layout) history port queue none whole_runs in_ports in_queues;
           redirected = λ port queue none waits in_ports in_queues.
-              nothing_else_is_sent manner (wire_by wire) config (map listed lists) verdicts (frames_of layout) history port queue none (ap wire_by waits) whole_runs in_ports in_queues;
+              nothing_else_is_sent 1 manner (wire_by wire) config (map listed lists) verdicts (frames_of layout) history port queue none (ap wire_by waits) whole_runs in_ports in_queues;
           one_socket = λ none waits one.
               is
-              ∙ same_texts format (sent_from layout history) (sent_on_by layout program lists) layout.ports
+              ∙ same_texts format (sent_from layout history) (sent_on_by layout programs lists) layout.ports
               (λ port h. same_map _ _ 0 layout.queues (λ queue k. one_sent none waits one port queue h (omega (arith, k))));
           report = report;
         }
@@ -146,7 +146,7 @@ module _ (layout : Layout) (program : Program) (wire : Wire) (mangle : Option �
       sent_within port queue in_ports in_queues =
           let pair : ℕ = port * layout.queues + queue in
           let known : pair < length all = omega (arith, driver_known layout.ports layout.queues port queue in_ports in_queues, pairs) in
-          let few = sent_is_within manner (wire_by wire) config (map listed lists) verdicts (frames_of layout) history port queue whole_runs in_ports in_queues in
+          let few = sent_is_within 1 manner (wire_by wire) config (map listed lists) verdicts (frames_of layout) history port queue whole_runs in_ports in_queues in
           let here : received config (map listed lists) (paired_port port) queue ≡ packets_of_queue layout.queues queue (get_or lists (paired_port port) []) =
           ap (packets_of_queue layout.queues queue) (packets_there lists (paired_port port)) in
           record {
@@ -179,66 +179,66 @@ module _ (layout : Layout) (program : Program) (wire : Wire) (mangle : Option �
 
 -- ---- a run in rounds that has ended
 
-module _ (layout : Layout) (program : Program) (wire : Wire) (mangle : Option ℕ) (order : ℕ) (lists : List (List (List ℕ))) (accepted : fault_of layout ≡ None) (closes : layout.close ≡ None) (run : Shown) (ended : HasEnded (setting_of layout program wire mangle lists) (frames_of layout) order run)
+module _ (layout : Layout) (programs : List Program) (wire : Wire) (mangle : Option ℕ) (order : ℕ) (lists : List (List (List ℕ))) (accepted : fault_of layout ≡ None) (closes : layout.close ≡ None) (run : Shown) (ended : HasEnded (setting_of layout programs wire mangle lists) (frames_of layout) order run)
     (pairs : length run.sent ≡ pairs_in layout) where
   pub texts_of : (format : Format) (journal : Bool) (texts : Written)
       → texts.outputs ≡ outputs_of format (λ port. take layout.queues (drop (port * layout.queues) run.sent)) (range_with_len 0 layout.ports)
       → run.pairs ≡ pairs_in layout → texts.report ≡ report_text (regular_of layout) run.figures ++ (if journal then journal_of run.pairs run.log else [])
-      → AreTextsOf format layout program wire mangle order lists journal texts
+      → AreTextsOf format layout programs wire mangle order lists journal texts
   texts_of format journal texts outputs drivers report =
       let config : Config = regular_of layout in
       record {
         run = run;
         ended = ended;
         are =
-            texts_in layout program wire mangle lists accepted closes ended.history ended.is.legal ended.whole run.sent ended.sent pairs format (told_of layout program wire mangle lists journal ended.history) texts outputs
+            texts_in layout programs wire mangle lists accepted closes ended.history ended.is.legal ended.whole run.sent ended.sent pairs format (told_of layout programs wire mangle lists journal ended.history) texts outputs
             (report ∙ ap (λ figures. report_text config figures ++ (if journal then journal_of run.pairs run.log else [])) ended.figures
-            ∙ ap (λ n. report_of layout program wire mangle lists ended.history ++ (if journal then journal_of n run.log else [])) (drivers ∙ sym (pairs_are layout))
-            ∙ ap (λ h. report_of layout program wire mangle lists ended.history ++ (if journal then journal_of (length config.pairs) h else [])) ended.log
-            ∙ ap (λ t. report_of layout program wire mangle lists ended.history ++ (if journal then t else [])) (journal_stored config.geometry config.sg (length config.pairs) ended.history));
-        rounds = entries_stand_in_rounds (setting_of layout program wire mangle lists) (frames_of layout) order ended.count ended.history ended.is;
+            ∙ ap (λ n. report_of layout programs wire mangle lists ended.history ++ (if journal then journal_of n run.log else [])) (drivers ∙ sym (pairs_are layout))
+            ∙ ap (λ h. report_of layout programs wire mangle lists ended.history ++ (if journal then journal_of (length config.pairs) h else [])) ended.log
+            ∙ ap (λ t. report_of layout programs wire mangle lists ended.history ++ (if journal then t else [])) (journal_stored config.geometry config.sg (length config.pairs) ended.history));
+        rounds = entries_stand_in_rounds (setting_of layout programs wire mangle lists) (frames_of layout) order ended.count ended.history ended.is;
       }
 
   pub sent_writable : length lists ≡ layout.ports → excess_of lists ≡ None → ((pair : ℕ) → pair < length run.sent → All IsShort (get_or run.sent pair [])) → (port count : ℕ) → port < layout.ports → count ≤ layout.queues
       → IsWritable (take count (drop (port * layout.queues) run.sent))
-  sent_writable count_is within each_short = all_writable layout program wire mangle lists accepted closes ended.history ended.is.legal ended.whole run.sent ended.sent pairs count_is within each_short
+  sent_writable count_is within each_short = all_writable layout programs wire mangle lists accepted closes ended.history ended.is.legal ended.whole run.sent ended.sent pairs count_is within each_short
 
   pub sent_in_file : length lists ≡ layout.ports → excess_of lists ≡ None → ((pair : ℕ) → pair < length run.sent → All IsShort (get_or run.sent pair [])) → IsWritableFile (joined layout.ports layout.queues run.sent)
-  sent_in_file count_is within each_short = all_in_file layout program wire mangle lists accepted closes ended.history ended.is.legal ended.whole run.sent ended.sent pairs count_is within each_short
+  sent_in_file count_is within each_short = all_in_file layout programs wire mangle lists accepted closes ended.history ended.is.legal ended.whole run.sent ended.sent pairs count_is within each_short
 
 -- ---- a run on threads
 
-module _ (layout : Layout) (program : Program) (wire : Wire) (lists : List (List (List ℕ))) (accepted : fault_of layout ≡ None) (closes : layout.close ≡ None) (o : OutcomeShown) (shown : HasForwarded (setting_of layout program wire None lists) (frames_of layout) o)
+module _ (layout : Layout) (programs : List Program) (wire : Wire) (lists : List (List (List ℕ))) (accepted : fault_of layout ≡ None) (closes : layout.close ≡ None) (o : OutcomeShown) (shown : HasForwarded (setting_of layout programs wire None lists) (frames_of layout) o)
     (pairs : length o.sent ≡ pairs_in layout) where
   pub texts_shown : (format : Format) (texts : Written)
       → texts.outputs ≡ outputs_of format (λ port. take layout.queues (drop (port * layout.queues) o.sent)) (range_with_len 0 layout.ports)
-      → texts.report ≡ report_text (regular_of layout) o.figures → AreTextsIn format layout program wire None lists o.history (report_of layout program wire None lists o.history) texts
+      → texts.report ≡ report_text (regular_of layout) o.figures → AreTextsIn format layout programs wire None lists o.history (report_of layout programs wire None lists o.history) texts
   texts_shown format texts outputs report =
-      texts_in layout program wire None lists accepted closes o.history shown.legal shown.whole o.sent shown.sent pairs format (report_of layout program wire None lists o.history) texts outputs (report ∙ ap (report_text (regular_of layout)) shown.figures)
+      texts_in layout programs wire None lists accepted closes o.history shown.legal shown.whole o.sent shown.sent pairs format (report_of layout programs wire None lists o.history) texts outputs (report ∙ ap (report_text (regular_of layout)) shown.figures)
 
   pub shown_writable : length lists ≡ layout.ports → excess_of lists ≡ None → ((pair : ℕ) → pair < length o.sent → All IsShort (get_or o.sent pair [])) → (port count : ℕ) → port < layout.ports → count ≤ layout.queues
       → IsWritable (take count (drop (port * layout.queues) o.sent))
-  shown_writable count_is within each_short = all_writable layout program wire None lists accepted closes o.history shown.legal shown.whole o.sent shown.sent pairs count_is within each_short
+  shown_writable count_is within each_short = all_writable layout programs wire None lists accepted closes o.history shown.legal shown.whole o.sent shown.sent pairs count_is within each_short
 
   pub shown_in_file : length lists ≡ layout.ports → excess_of lists ≡ None → ((pair : ℕ) → pair < length o.sent → All IsShort (get_or o.sent pair [])) → IsWritableFile (joined layout.ports layout.queues o.sent)
-  shown_in_file count_is within each_short = all_in_file layout program wire None lists accepted closes o.history shown.legal shown.whole o.sent shown.sent pairs count_is within each_short
+  shown_in_file count_is within each_short = all_in_file layout programs wire None lists accepted closes o.history shown.legal shown.whole o.sent shown.sent pairs count_is within each_short
 
 -- so it is one of the command's setting
-pub forwarded_as : (layout : Layout) (program : Program) (wire : Wire) (c : Config) (own : List PacketList) (fs : List Frame) (lists : List (List (List ℕ))) (o : OutcomeShown) → c ≡ regular_of layout → own ≡ map listed lists
-    → fs ≡ frames_of layout → (own_wire : OwnWire) → own_wire ≡ wire_by wire → (rule : Rule) → rule ≡ rule_by layout.sockets program
-    → HasForwarded (ruled rule own_wire c own) fs o → HasForwarded (setting_of layout program wire None lists) (frames_of layout) o
-forwarded_as layout program wire c own fs lists o is_config is_own is_frames own_wire is_wire rule is_rule h =
-    subst (λ f. HasForwarded (setting_of layout program wire None lists) f o) is_frames
-    (subst (λ (l : List PacketList). HasForwarded (ruled (rule_by layout.sockets program) (wire_by wire) (regular_of layout) l) fs o) is_own
-    (subst (λ (k : Config). HasForwarded (ruled (rule_by layout.sockets program) (wire_by wire) k own) fs o) is_config
-    (subst (λ (w : OwnWire). HasForwarded (ruled (rule_by layout.sockets program) w c own) fs o) is_wire
-    (subst (λ (r : Rule). HasForwarded (ruled r own_wire c own) fs o) is_rule h))))
+pub forwarded_as : (layout : Layout) (programs : List Program) (wire : Wire) (c : Config) (own : List PacketList) (fs : List Frame) (lists : List (List (List ℕ))) (o : OutcomeShown) → c ≡ regular_of layout → own ≡ map listed lists
+    → fs ≡ frames_of layout → (own_wire : OwnWire) → own_wire ≡ wire_by wire → (rules : List Rule) → rules ≡ rules_by layout.sockets programs
+    → HasForwarded (ruled rules own_wire c own) fs o → HasForwarded (setting_of layout programs wire None lists) (frames_of layout) o
+forwarded_as layout programs wire c own fs lists o is_config is_own is_frames own_wire is_wire rules are_rules h =
+    subst (λ f. HasForwarded (setting_of layout programs wire None lists) f o) is_frames
+    (subst (λ (l : List PacketList). HasForwarded (ruled (rules_by layout.sockets programs) (wire_by wire) (regular_of layout) l) fs o) is_own
+    (subst (λ (k : Config). HasForwarded (ruled (rules_by layout.sockets programs) (wire_by wire) k own) fs o) is_config
+    (subst (λ (w : OwnWire). HasForwarded (ruled (rules_by layout.sockets programs) w c own) fs o) is_wire
+    (subst (λ (rs : List Rule). HasForwarded (ruled rs own_wire c own) fs o) are_rules h))))
 
 -- the lists of the code
 pub lists_short : (own : List PacketList) → All HasShortPackets own → (pair : ℕ) → pair < length (lists_in own) → All IsShort (get_or (lists_in own) pair [])
 lists_short own short pair known =
     let packets : PacketList → List (List ℕ) = λ list. list.packets in
-    let none : PacketList = record { packets = []; spare_packets = 0; spare_bytes = 0 } in
+    let none : PacketList = record { packets = []; gaps = None; spare_packets = 0; spare_bytes = 0 } in
     let below : pair < length own = subst (λ n. pair < n) (length-map own packets) known in
     subst (All IsShort) (sym (get_or-map packets own pair none [] below)) (short pair none below)
 
@@ -251,18 +251,18 @@ one_list-writable packets short few small = record {
 }
 
 -- a run of the code's configuration, lists and frames
-pub stalled_as : (layout : Layout) (program : Program) (wire : Wire) (mangle : Option ℕ) (order : ℕ) (c : Config) (own : List PacketList) (fs : List Frame) (lists : List (List (List ℕ))) (round : ℕ) → c ≡ regular_of layout → own ≡ map listed lists
-    → fs ≡ frames_of layout → (own_wire : OwnWire) → own_wire ≡ wire_by wire → (verdicts : List (List Verdict)) → IsRuled (rule_by layout.sockets program) (record { config = c; wire = own_wire; manner = manner_of mangle; packets = own; verdicts = verdicts })
-    → HasStalled (record { config = c; wire = own_wire; manner = manner_of mangle; packets = own; verdicts = verdicts }) fs order round → HasStalled (setting_of layout program wire mangle lists) (frames_of layout) order round
-stalled_as layout program wire mangle order c own fs lists round is_config is_own is_frames own_wire is_wire verdicts is h =
-    subst (λ f. HasStalled (setting_of layout program wire mangle lists) f order round) is_frames
-    (subst (λ (l : List PacketList). HasStalled (ruled_by (rule_by layout.sockets program) (wire_by wire) (manner_of mangle) (regular_of layout) l) fs order round) is_own
-    (subst (λ (k : Config). HasStalled (ruled_by (rule_by layout.sockets program) (wire_by wire) (manner_of mangle) k own) fs order round) is_config (subst (λ (w : OwnWire). HasStalled (ruled_by (rule_by layout.sockets program) w (manner_of mangle) c own) fs order round) is_wire (stalls_as_ruled (rule_by layout.sockets program) (record { config = c; wire = own_wire; manner = manner_of mangle; packets = own; verdicts = verdicts }) fs order round (is_exact_by layout.sockets program) is h))))
+pub stalled_as : (layout : Layout) (programs : List Program) (wire : Wire) (mangle : Option ℕ) (order : ℕ) (c : Config) (own : List PacketList) (fs : List Frame) (lists : List (List (List ℕ))) (round : ℕ) → c ≡ regular_of layout → own ≡ map listed lists
+    → fs ≡ frames_of layout → (own_wire : OwnWire) → own_wire ≡ wire_by wire → (verdicts : List (List Verdict)) → IsRuled (rules_by layout.sockets programs) (record { config = c; wire = own_wire; manner = manner_of mangle; packets = own; verdicts = verdicts })
+    → HasStalled (record { config = c; wire = own_wire; manner = manner_of mangle; packets = own; verdicts = verdicts }) fs order round → HasStalled (setting_of layout programs wire mangle lists) (frames_of layout) order round
+stalled_as layout programs wire mangle order c own fs lists round is_config is_own is_frames own_wire is_wire verdicts is h =
+    subst (λ f. HasStalled (setting_of layout programs wire mangle lists) f order round) is_frames
+    (subst (λ (l : List PacketList). HasStalled (ruled_by (rules_by layout.sockets programs) (wire_by wire) (manner_of mangle) (regular_of layout) l) fs order round) is_own
+    (subst (λ (k : Config). HasStalled (ruled_by (rules_by layout.sockets programs) (wire_by wire) (manner_of mangle) k own) fs order round) is_config (subst (λ (w : OwnWire). HasStalled (ruled_by (rules_by layout.sockets programs) w (manner_of mangle) c own) fs order round) is_wire (stalls_as_ruled (rules_by layout.sockets programs) (record { config = c; wire = own_wire; manner = manner_of mangle; packets = own; verdicts = verdicts }) fs order round (are_exact_by layout.sockets programs) is h))))
 
-pub ended_as : (layout : Layout) (program : Program) (wire : Wire) (mangle : Option ℕ) (order : ℕ) (c : Config) (own : List PacketList) (fs : List Frame) (lists : List (List (List ℕ))) (run : Shown) → c ≡ regular_of layout → own ≡ map listed lists
-    → fs ≡ frames_of layout → (own_wire : OwnWire) → own_wire ≡ wire_by wire → (verdicts : List (List Verdict)) → IsRuled (rule_by layout.sockets program) (record { config = c; wire = own_wire; manner = manner_of mangle; packets = own; verdicts = verdicts })
-    → HasEnded (record { config = c; wire = own_wire; manner = manner_of mangle; packets = own; verdicts = verdicts }) fs order run → HasEnded (setting_of layout program wire mangle lists) (frames_of layout) order run
-ended_as layout program wire mangle order c own fs lists run is_config is_own is_frames own_wire is_wire verdicts is h =
-    subst (λ f. HasEnded (setting_of layout program wire mangle lists) f order run) is_frames
-    (subst (λ (l : List PacketList). HasEnded (ruled_by (rule_by layout.sockets program) (wire_by wire) (manner_of mangle) (regular_of layout) l) fs order run) is_own
-    (subst (λ (k : Config). HasEnded (ruled_by (rule_by layout.sockets program) (wire_by wire) (manner_of mangle) k own) fs order run) is_config (subst (λ (w : OwnWire). HasEnded (ruled_by (rule_by layout.sockets program) w (manner_of mangle) c own) fs order run) is_wire (ends_as_ruled (rule_by layout.sockets program) (record { config = c; wire = own_wire; manner = manner_of mangle; packets = own; verdicts = verdicts }) fs order run (is_exact_by layout.sockets program) is h))))
+pub ended_as : (layout : Layout) (programs : List Program) (wire : Wire) (mangle : Option ℕ) (order : ℕ) (c : Config) (own : List PacketList) (fs : List Frame) (lists : List (List (List ℕ))) (run : Shown) → c ≡ regular_of layout → own ≡ map listed lists
+    → fs ≡ frames_of layout → (own_wire : OwnWire) → own_wire ≡ wire_by wire → (verdicts : List (List Verdict)) → IsRuled (rules_by layout.sockets programs) (record { config = c; wire = own_wire; manner = manner_of mangle; packets = own; verdicts = verdicts })
+    → HasEnded (record { config = c; wire = own_wire; manner = manner_of mangle; packets = own; verdicts = verdicts }) fs order run → HasEnded (setting_of layout programs wire mangle lists) (frames_of layout) order run
+ended_as layout programs wire mangle order c own fs lists run is_config is_own is_frames own_wire is_wire verdicts is h =
+    subst (λ f. HasEnded (setting_of layout programs wire mangle lists) f order run) is_frames
+    (subst (λ (l : List PacketList). HasEnded (ruled_by (rules_by layout.sockets programs) (wire_by wire) (manner_of mangle) (regular_of layout) l) fs order run) is_own
+    (subst (λ (k : Config). HasEnded (ruled_by (rules_by layout.sockets programs) (wire_by wire) (manner_of mangle) k own) fs order run) is_config (subst (λ (w : OwnWire). HasEnded (ruled_by (rules_by layout.sockets programs) w (manner_of mangle) c own) fs order run) is_wire (ends_as_ruled (rules_by layout.sockets programs) (record { config = c; wire = own_wire; manner = manner_of mangle; packets = own; verdicts = verdicts }) fs order run (are_exact_by layout.sockets programs) is h))))

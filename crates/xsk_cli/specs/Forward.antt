@@ -62,19 +62,19 @@ is_forward (first ∷ rest) = bytes_eq first (codes "forward")
 
 -- work that is a run
 abbrev pub IsRun : Work → Type 0
-IsRun (Simulate layout program wire mangle order number journal format) = Unit {0}
+IsRun (Simulate layout programs wire mangle order number journal format) = Unit {0}
 IsRun (Generate number) = ⊥
 IsRun (Audit layout) = ⊥
 
 -- a run on threads of the work's packets shows this
 abbrev pub HasShown : Work → List (List (List ℕ)) → OutcomeShown → Type 0
-HasShown (Simulate layout program wire mangle order number journal format) lists o = HasForwarded (setting_of layout program wire None lists) (frames_of layout) o
+HasShown (Simulate layout programs wire mangle order number journal format) lists o = HasForwarded (setting_of layout programs wire None lists) (frames_of layout) o
 HasShown (Generate number) lists o = ⊥
 HasShown (Audit layout) lists o = ⊥
 
 -- these are the texts of its history
 abbrev pub AreTextsFrom : Work → List (List (List ℕ)) → OutcomeShown → Written → Type 0
-AreTextsFrom (Simulate layout program wire mangle order number journal format) lists o texts = AreTextsIn format layout program wire None lists o.history (report_of layout program wire None lists o.history) texts
+AreTextsFrom (Simulate layout programs wire mangle order number journal format) lists o texts = AreTextsIn format layout programs wire None lists o.history (report_of layout programs wire None lists o.history) texts
 AreTextsFrom (Generate number) lists o texts = ⊥
 AreTextsFrom (Audit layout) lists o texts = ⊥
 

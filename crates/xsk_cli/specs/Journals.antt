@@ -23,6 +23,6 @@ RunsAreLegal = (s : Setting) (frames : List Frame) (order : ℕ) (run : Shown) �
 -- What `simulate --journal` tells, with the report in front, is told by `audit` to be legal, where its layout is the same and the
 -- text isn't too long.
 abbrev pub ReportsAreLegal : Type 0
-ReportsAreLegal = (format : Format) (layout : Layout) (program : Program) (wire : Wire) (mangle : Option ℕ) (order : ℕ) (lists : List (List (List ℕ))) (texts : Written)
-    → (are : AreTextsOf format layout program wire mangle order lists true texts) → length texts.report ≤ 67108864
+ReportsAreLegal = (format : Format) (layout : Layout) (programs : List Program) (wire : Wire) (mangle : Option ℕ) (order : ℕ) (lists : List (List (List ℕ))) (texts : Written)
+    → (are : AreTextsOf format layout programs wire mangle order lists true texts) → length texts.report ≤ 67108864
     → IsOutcome (Audit (without_files layout)) (texts.report ∷ []) (made (record { outputs = []; report = legal_text (length are.ended.history) }))

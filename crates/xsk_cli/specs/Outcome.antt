@@ -24,7 +24,7 @@ use Rattle.xsk_args.specs.declared.program.Program.{Program}
 use Rattle.xsk_args.specs.declared.program.Program.TheVariants.{Redirect, Pass, Drop, EtherType, Fixed}
 use Rattle.xsk_args.specs.declared.wire.Wire.{Wire}
 use Rattle.xsk_args.specs.declared.wire.Wire.TheVariants.{Wait, Drop as Drops}
-use Rattle.xsk_prog.specs.Rules.{verdict_of}
+use Rattle.xsk_prog.specs.Rules.{chain_verdict_of}
 use Rattle.xsk_prog.specs.declared.rule.Rule.{Rule}
 use Rattle.xsk_prog.specs.declared.rule.Rule.TheVariants.{Redirect as ByClass, Pass as PassAll, Drop as DropAll, EtherType as TypeByClass, Fixed as ByCell}
 use Rattle.xsk_turns.specs.Inputs.{packets_of_queue}
@@ -71,8 +71,8 @@ made_lists number ports = map (λ port. first 2000 (packet number port)) (range_
 
 -- the packets of all ports: those of the files, or those that are made, where nothing is read
 abbrev pub AreListsOf : Work → List (List ℕ) → List (List (List ℕ)) → Type 0
-AreListsOf (Simulate layout program wire mangle order None journal format) inputs lists = AreFiles format layout.ports inputs lists
-AreListsOf (Simulate layout program wire mangle order (Some number) journal format) inputs lists = (inputs ≡ []) × (lists ≡ made_lists number layout.ports)
+AreListsOf (Simulate layout programs wire mangle order None journal format) inputs lists = AreFiles format layout.ports inputs lists
+AreListsOf (Simulate layout programs wire mangle order (Some number) journal format) inputs lists = (inputs ≡ []) × (lists ≡ made_lists number layout.ports)
 AreListsOf (Generate number) inputs lists = (inputs ≡ []) × (lists ≡ made_lists number 1)
 AreListsOf (Audit layout) inputs lists = ⊥
 
@@ -80,7 +80,7 @@ AreListsOf (Audit layout) inputs lists = ⊥
 
 -- the list of a port's packets, with no room for others
 abbrev pub listed : List (List ℕ) → PacketList
-listed packets = record { packets = packets; spare_packets = 0; spare_bytes = 0 }
+listed packets = record { packets = packets; gaps = None; spare_packets = 0; spare_bytes = 0 }
 
 -- the rule of a program, where each queue has so many sockets (af_xdp.rst, "XSKMAP / BPF_MAP_TYPE_XSKMAP")
 abbrev pub rule_by : ℕ → Program → Rule
@@ -89,6 +89,10 @@ rule_by sockets Pass = PassAll
 rule_by sockets Drop = DropAll
 rule_by sockets (EtherType kind) = TypeByClass kind sockets
 rule_by sockets (Fixed cell) = ByCell cell
+
+-- the rules of programs, in the order in which they are asked
+abbrev pub rules_by : ℕ → List Program → List Rule
+rules_by sockets programs = map (rule_by sockets) programs
 
 -- what the wire does with a packet that finds too few frames on FILL or no room on RX (af_xdp.rst, "XDP_STATISTICS
 -- getsockopt": rx_dropped, rx_ring_full; that it may wait is this project's own)
@@ -100,14 +104,14 @@ wire_by Drops = DropsNow
 abbrev pub manner_of : Option ℕ → Manner
 manner_of mangle = record { mangle = mangle; after = 0 }
 
--- what is run: the layout's configuration and the wire over the packets of all ports, each with the verdict that the program's
--- rule gives it, with frames of zero bytes, in order
-abbrev pub setting_of : Layout → Program → Wire → Option ℕ → List (List (List ℕ)) → Setting
-setting_of layout program wire mangle lists = ruled_by (rule_by layout.sockets program) (wire_by wire) (manner_of mangle) (regular_of layout) (map listed lists)
+-- what is run: the layout's configuration and the wire over the packets of all ports, each with the verdict that the programs'
+-- rules give it, with frames of zero bytes, in order
+abbrev pub setting_of : Layout → List Program → Wire → Option ℕ → List (List (List ℕ)) → Setting
+setting_of layout programs wire mangle lists = ruled_by (rules_by layout.sockets programs) (wire_by wire) (manner_of mangle) (regular_of layout) (map listed lists)
 
 -- the verdicts, for each pair those of its packets
-abbrev pub verdicts_by : Layout → Program → List (List (List ℕ)) → List (List Verdict)
-verdicts_by layout program lists = map (verdicts_to (rule_by layout.sockets program) (regular_of layout) (map listed lists)) (regular_of layout).pairs
+abbrev pub verdicts_by : Layout → List Program → List (List (List ℕ)) → List (List Verdict)
+verdicts_by layout programs lists = map (verdicts_to (rules_by layout.sockets programs) (regular_of layout) (map listed lists)) (regular_of layout).pairs
 
 abbrev pub frames_of : Layout → List Frame
 frames_of layout = fresh layout.chunk layout.frames
@@ -115,13 +119,13 @@ frames_of layout = fresh layout.chunk layout.frames
 -- ---- the texts
 
 -- the report of a run: its figures, each a count over its history
-abbrev pub report_of : Layout → Program → Wire → Option ℕ → List (List (List ℕ)) → List Entry → List ℕ
-report_of layout program wire mangle lists history = report_text (regular_of layout) (figures_of (setting_of layout program wire mangle lists) history)
+abbrev pub report_of : Layout → List Program → Wire → Option ℕ → List (List (List ℕ)) → List Entry → List ℕ
+report_of layout programs wire mangle lists history = report_text (regular_of layout) (figures_of (setting_of layout programs wire mangle lists) history)
 
 -- and behind it the journal of its history, where that was asked for
-abbrev pub told_of : Layout → Program → Wire → Option ℕ → List (List (List ℕ)) → Bool → List Entry → List ℕ
-told_of layout program wire mangle lists journal history =
-    report_of layout program wire mangle lists history ++ (if journal then journal_of (length (regular_of layout).pairs) history else [])
+abbrev pub told_of : Layout → List Program → Wire → Option ℕ → List (List (List ℕ)) → Bool → List Entry → List ℕ
+told_of layout programs wire mangle lists journal history =
+    report_of layout programs wire mangle lists history ++ (if journal then journal_of (length (regular_of layout).pairs) history else [])
 
 -- the one line of packets that were made
 abbrev pub report_on : List (List ℕ) → List ℕ
@@ -148,53 +152,53 @@ abbrev pub received_on : Layout → List (List (List ℕ)) → ℕ → ℕ → L
 received_on layout lists port queue = packets_of_queue layout.queues queue (slice_index_or lists port [])
 
 -- whether a packet that a port received on a queue goes on by the socket of a class: it has 14 bytes up to the number that a
--- frame holds or, with `sg`, that 18 frames hold, and the program redirects it to a cell that the port's map has and that
+-- frame holds or, with `sg`, that 18 frames hold, and the programs redirect it to a cell that the port's map has and that
 -- holds this socket
-abbrev pub goes_on : Layout → Program → ℕ → ℕ → ℕ → List ℕ → Bool
-goes_on layout program port queue class packet = has_length (regular_of layout) packet
-    && leads_to (map_of (regular_of layout) port) (socket_on (regular_of layout) port queue class) (verdict_of (rule_by layout.sockets program) packet queue)
+abbrev pub goes_on : Layout → List Program → ℕ → ℕ → ℕ → List ℕ → Bool
+goes_on layout programs port queue class packet = has_length (regular_of layout) packet
+    && leads_to (map_of (regular_of layout) port) (socket_on (regular_of layout) port queue class) (chain_verdict_of (rules_by layout.sockets programs) packet queue)
 
 -- what goes on of what a port received on a queue, in order and whole
-abbrev pub going_on : Layout → Program → List (List (List ℕ)) → ℕ → ℕ → ℕ → List (List ℕ)
-going_on layout program lists port queue class = filter (goes_on layout program port queue class) (received_on layout lists port queue)
+abbrev pub going_on : Layout → List Program → List (List (List ℕ)) → ℕ → ℕ → ℕ → List (List ℕ)
+going_on layout programs lists port queue class = filter (goes_on layout programs port queue class) (received_on layout lists port queue)
 
 -- where each queue has one socket: all that goes on to a port, that of queue 0 first
-abbrev pub sent_on_by : Layout → Program → List (List (List ℕ)) → ℕ → List (List (List ℕ))
-sent_on_by layout program lists port = map (λ queue. going_on layout program lists (paired_port port) queue 0) (queues_of layout)
+abbrev pub sent_on_by : Layout → List Program → List (List (List ℕ)) → ℕ → List (List (List ℕ))
+sent_on_by layout programs lists port = map (λ queue. going_on layout programs lists (paired_port port) queue 0) (queues_of layout)
 
 -- The texts of a history of these packets: what the drivers of each port sent in it, and what is told of it. Where applications
 -- change nothing, what the driver of a queue sent is what the paired port's driver delivered to the sockets of all classes,
 -- whatever the wire does, and nothing else. Where the wire waits it is what is expected there of all classes; with one socket on
 -- each queue each text is then that of all that goes on to its port.
-pub record AreTextsIn (format : Format) (layout : Layout) (program : Program) (wire : Wire) (mangle : Option ℕ) (lists : List (List (List ℕ))) (history : List Entry) (told : List ℕ) (texts : Written) : Type 0 where
+pub record AreTextsIn (format : Format) (layout : Layout) (programs : List Program) (wire : Wire) (mangle : Option ℕ) (lists : List (List (List ℕ))) (history : List Entry) (told : List ℕ) (texts : Written) : Type 0 where
   pub sent : texts.outputs ≡ outputs_of format (sent_from layout history) (ports_of layout)
   pub forwarded : (port queue : ℕ) → mangle ≡ None → port < layout.ports → queue < layout.queues
-      → AreForwarded (wire_by wire) (regular_of layout) history (map listed lists) (verdicts_by layout program lists) port queue
+      → AreForwarded (wire_by wire) (regular_of layout) history (map listed lists) (verdicts_by layout programs lists) port queue
       (sent_on layout history port queue)
   pub redirected : (port queue : ℕ) → mangle ≡ None → wire ≡ Wait → port < layout.ports → queue < layout.queues
-      → AreExpected (regular_of layout) (map listed lists) (verdicts_by layout program lists) port queue
+      → AreExpected (regular_of layout) (map listed lists) (verdicts_by layout programs lists) port queue
       (sent_on layout history port queue)
-  pub one_socket : mangle ≡ None → wire ≡ Wait → layout.sockets ≡ 1 → texts.outputs ≡ outputs_of format (sent_on_by layout program lists) (ports_of layout)
+  pub one_socket : mangle ≡ None → wire ≡ Wait → layout.sockets ≡ 1 → texts.outputs ≡ outputs_of format (sent_on_by layout programs lists) (ports_of layout)
   pub report : texts.report ≡ told
 
 -- Those of a run in rounds that has ended: its figures are told, and the journal, which tells of each entry the round in which it
 -- stands.
-pub record AreTextsOf (format : Format) (layout : Layout) (program : Program) (wire : Wire) (mangle : Option ℕ) (order : ℕ) (lists : List (List (List ℕ))) (journal : Bool) (texts : Written) : Type 0 where
+pub record AreTextsOf (format : Format) (layout : Layout) (programs : List Program) (wire : Wire) (mangle : Option ℕ) (order : ℕ) (lists : List (List (List ℕ))) (journal : Bool) (texts : Written) : Type 0 where
   pub run : Shown
-  pub ended : HasEnded (setting_of layout program wire mangle lists) (frames_of layout) order run
-  pub are : AreTextsIn format layout program wire mangle lists ended.history (told_of layout program wire mangle lists journal ended.history) texts
-  pub rounds : AreInRounds (IsWholeRun (setting_of layout program wire mangle lists)) (callers_of (regular_of layout)) order ended.count ended.history (rounds_of ended.history)
+  pub ended : HasEnded (setting_of layout programs wire mangle lists) (frames_of layout) order run
+  pub are : AreTextsIn format layout programs wire mangle lists ended.history (told_of layout programs wire mangle lists journal ended.history) texts
+  pub rounds : AreInRounds (IsWholeRun (setting_of layout programs wire mangle lists)) (callers_of (regular_of layout)) order ended.count ended.history (rounds_of ended.history)
 
 -- the texts that the work makes of packets: of a run, or of the packets themselves
 abbrev pub AreTextsBy : Work → List (List (List ℕ)) → Written → Type 0
-AreTextsBy (Simulate layout program wire mangle order number journal format) lists texts = AreTextsOf format layout program wire mangle order lists journal texts
+AreTextsBy (Simulate layout programs wire mangle order number journal format) lists texts = AreTextsOf format layout programs wire mangle order lists journal texts
 AreTextsBy (Generate number) lists texts =
     (texts.outputs ≡ map capture_of lists) × (texts.report ≡ report_on (slice_index_or lists 0 []))
 AreTextsBy (Audit layout) lists texts = ⊥
 
 -- the work's run of packets stalls in a round
 abbrev pub IsStalledBy : Work → List (List (List ℕ)) → ℕ → Type 0
-IsStalledBy (Simulate layout program wire mangle order number journal format) lists round = HasStalled (setting_of layout program wire mangle lists) (frames_of layout) order round
+IsStalledBy (Simulate layout programs wire mangle order number journal format) lists round = HasStalled (setting_of layout programs wire mangle lists) (frames_of layout) order round
 IsStalledBy (Generate number) lists round = ⊥
 IsStalledBy (Audit layout) lists round = ⊥
 
@@ -226,19 +230,19 @@ IsAudited layout text outcome = ⊥
 
 -- work on packets, which are read or made, and not on a journal
 abbrev pub IsOnPackets : Work → Type 0
-IsOnPackets (Simulate layout program wire mangle order number journal format) = Unit {0}
+IsOnPackets (Simulate layout programs wire mangle order number journal format) = Unit {0}
 IsOnPackets (Generate number) = Unit {0}
 IsOnPackets (Audit layout) = ⊥
 
 -- the texts that are made of inputs: of their packets, or of their journal
 abbrev pub AreMadeOf : Work → List (List ℕ) → Written → Type 0
-AreMadeOf (Simulate layout program wire mangle order number journal format) inputs texts = IsOutcomeIn (Simulate layout program wire mangle order number journal format) inputs (made texts)
+AreMadeOf (Simulate layout programs wire mangle order number journal format) inputs texts = IsOutcomeIn (Simulate layout programs wire mangle order number journal format) inputs (made texts)
 AreMadeOf (Generate number) inputs texts = IsOutcomeIn (Generate number) inputs (made texts)
 AreMadeOf (Audit layout) inputs texts = IsAudited layout (bytes_of inputs 0) (made texts)
 
 -- their journal isn't legal from a line on
 abbrev pub IsIllegalIn : Work → List (List ℕ) → ℕ → Type 0
-IsIllegalIn (Simulate layout program wire mangle order number journal format) inputs line = ⊥
+IsIllegalIn (Simulate layout programs wire mangle order number journal format) inputs line = ⊥
 IsIllegalIn (Generate number) inputs line = ⊥
 IsIllegalIn (Audit layout) inputs line = IsAudited layout (bytes_of inputs 0) (illegal line)
 
@@ -260,18 +264,18 @@ OneOutcome = (work : Work) (inputs : List (List ℕ)) (some other : Outcome) →
 
 -- what is expected of a class on a port's queue is what goes on by its socket at the paired port
 abbrev pub ExpectedGoesOn : Type 0
-ExpectedGoesOn = (layout : Layout) (program : Program) (lists : List (List (List ℕ))) (port queue class : ℕ) → fault_of layout ≡ None
+ExpectedGoesOn = (layout : Layout) (programs : List Program) (lists : List (List (List ℕ))) (port queue class : ℕ) → fault_of layout ≡ None
     → IsPlace (regular_of layout) port queue class
-    → expected (regular_of layout) (map listed lists) (verdicts_by layout program lists) port queue class ≡ going_on layout program lists (paired_port port) queue class
+    → expected (regular_of layout) (map listed lists) (verdicts_by layout programs lists) port queue class ≡ going_on layout programs lists (paired_port port) queue class
 
 -- where each packet is redirected and no cell is left empty, all packets of the class go on that have such a length
 abbrev pub ClassGoesOn : Type 0
 ClassGoesOn = (layout : Layout) (lists : List (List (List ℕ))) (port queue class : ℕ) → layout.empty ≡ None
     → port < layout.ports → queue < layout.queues → class < layout.sockets
-    → going_on layout Redirect lists port queue class
+    → going_on layout (Redirect ∷ []) lists port queue class
     ≡ filter (λ packet. has_length (regular_of layout) packet && (packet_class layout.sockets packet == class)) (received_on layout lists port queue)
 
 -- so with one queue and one socket on each port all that have such a length
 abbrev pub AllGoOn : Type 0
 AllGoOn = (layout : Layout) (lists : List (List (List ℕ))) (port : ℕ) → layout.queues ≡ 1 → layout.sockets ≡ 1 → layout.empty ≡ None → paired_port port < layout.ports
-    → sent_on_by layout Redirect lists port ≡ filter (has_length (regular_of layout)) (slice_index_or lists (paired_port port) []) ∷ []
+    → sent_on_by layout (Redirect ∷ []) lists port ≡ filter (has_length (regular_of layout)) (slice_index_or lists (paired_port port) []) ∷ []

@@ -45,13 +45,13 @@ plan_in plan = record { inputs = map (λ name. name.now) plan.inputs.now; output
 
 -- how many files are read, captures or one journal, and how many are written
 abbrev pub read_by : Work → ℕ
-read_by (Simulate layout program wire mangle order None journal format) = files_of format layout.ports
-read_by (Simulate layout program wire mangle order (Some number) journal format) = 0
+read_by (Simulate layout programs wire mangle order None journal format) = files_of format layout.ports
+read_by (Simulate layout programs wire mangle order (Some number) journal format) = 0
 read_by (Generate number) = 0
 read_by (Audit layout) = 1
 
 abbrev pub written_by : Work → ℕ
-written_by (Simulate layout program wire mangle order number journal format) = files_of format layout.ports
+written_by (Simulate layout programs wire mangle order number journal format) = files_of format layout.ports
 written_by (Generate number) = 1
 written_by (Audit layout) = 0
 
@@ -158,10 +158,10 @@ IsRefusal port bytes NoMemory = Unit {0}
 IsRefusal port bytes failure = ⊥
 
 -- why a run of packets gives nothing
-abbrev pub FailsRunning : Layout → Program → Wire → Option ℕ → ℕ → List (List (List ℕ)) → RunFailure → Type 0
-FailsRunning layout program wire mangle order lists (Stalls round) = HasStalled (setting_of layout program wire mangle lists) (frames_of layout) order round
-FailsRunning layout program wire mangle order lists NoMemory = Unit {0}
-FailsRunning layout program wire mangle order lists failure = ⊥
+abbrev pub FailsRunning : Layout → List Program → Wire → Option ℕ → ℕ → List (List (List ℕ)) → RunFailure → Type 0
+FailsRunning layout programs wire mangle order lists (Stalls round) = HasStalled (setting_of layout programs wire mangle lists) (frames_of layout) order round
+FailsRunning layout programs wire mangle order lists NoMemory = Unit {0}
+FailsRunning layout programs wire mangle order lists failure = ⊥
 
 -- why an audit of a text gives nothing to write
 abbrev pub FailsAudit : Layout → List ℕ → RunFailure → Type 0

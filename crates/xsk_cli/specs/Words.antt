@@ -3,7 +3,7 @@ use Rattle.std.specs.Prelude.{ℕ, codes, Bool, List, [], ◌∷◌, length, tak
 use Rattle.std.specs.Str.{bytes_eq}
 use Rattle.xsk_args.specs.Words.{Text, is_dashed}
 use Rattle.xsk_args.specs.Number.{number_in}
-use Rattle.xsk_args.specs.Program.{program_in}
+use Rattle.xsk_args.specs.Program.{programs_in}
 use Rattle.xsk_args.specs.declared.program.Program.{Program}
 use Rattle.xsk_args.specs.declared.program.Program.TheVariants.{Redirect}
 use Rattle.xsk_args.specs.Wire.{wire_in}
@@ -63,9 +63,9 @@ number_of said name = option_and_then number_in (one_value (said name))
 abbrev pub number_or : Meaning → Text → ℕ → ℕ
 number_or said name standing = unwrap_or (number_of said name) standing
 
--- the program that was said, or the one that redirects each packet
-abbrev pub program_of : Meaning → Program
-program_of said = unwrap_or (option_and_then program_in (one_value (said (codes "prog")))) Redirect
+-- the programs that were said, or the one that redirects each packet
+abbrev pub programs_of : Meaning → List Program
+programs_of said = unwrap_or (option_and_then programs_in (one_value (said (codes "prog")))) (Redirect ∷ [])
 
 -- the wire that was said, or the one that waits
 abbrev pub wire_of : Meaning → Wire
@@ -132,7 +132,7 @@ abbrev pub plan_by : Meaning → Plan
 plan_by said = record {
   inputs = take (inputs_named said) (files_in said);
   outputs = drop (inputs_named said) (files_in said);
-  work = Simulate (layout_by said) (program_of said) (wire_of said) (number_of said (codes "mangle")) (number_or said (codes "order") 0) (number_of said (codes "gen")) (is_some (said (codes "journal"))) (format_of said);
+  work = Simulate (layout_by said) (programs_of said) (wire_of said) (number_of said (codes "mangle")) (number_or said (codes "order") 0) (number_of said (codes "gen")) (is_some (said (codes "journal"))) (format_of said);
 }
 
 -- with pcapng there are two files, or one where the packets are made
@@ -206,30 +206,30 @@ plan_of (first ∷ rest) =
 
 -- why the work is refused, where it is
 abbrev pub fault_in : Work → Option Unlawful
-fault_in (Simulate layout program wire mangle order number journal format) = fault_of layout
+fault_in (Simulate layout programs wire mangle order number journal format) = fault_of layout
 fault_in (Generate number) = None
 fault_in (Audit layout) = fault_of layout
 
 -- the socket that is closed in its run, if one is
 abbrev pub closed_in : Work → Option ℕ
-closed_in (Simulate layout program wire mangle order number journal format) = layout.close
+closed_in (Simulate layout programs wire mangle order number journal format) = layout.close
 closed_in (Generate number) = None
 closed_in (Audit layout) = None
 
 -- how many ports have packets
 abbrev pub ports_in : Work → ℕ
-ports_in (Simulate layout program wire mangle order number journal format) = layout.ports
+ports_in (Simulate layout programs wire mangle order number journal format) = layout.ports
 ports_in (Generate number) = 1
 ports_in (Audit layout) = 0
 
 -- the format of the files of packets
 abbrev pub format_in : Work → Format
-format_in (Simulate layout program wire mangle order number journal format) = format
+format_in (Simulate layout programs wire mangle order number journal format) = format
 format_in (Generate number) = Pcap
 format_in (Audit layout) = Pcap
 
 -- the most bytes of one input: of a file of packets, or of a journal
 abbrev pub most_of : Work → ℕ
-most_of (Simulate layout program wire mangle order number journal format) = most_input format
+most_of (Simulate layout programs wire mangle order number journal format) = most_input format
 most_of (Generate number) = most_input Pcap
 most_of (Audit layout) = 67108864

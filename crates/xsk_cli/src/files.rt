@@ -13,7 +13,7 @@ use crate::captures::{check_limits, without_room};
 use crate::failure::RunFailure;
 use crate::format::Format;
 use std::alloc::Global;
-use xsk_pcapng::{BadPcapng, read, write};
+use xsk_pcapng::{BadPcapng, take, write_over};
 use xsk_umem::{OutOfMemory, PacketList};
 
 /// The packets of so many ports in the one file, all together within the limits.
@@ -39,13 +39,15 @@ pub(crate) fn take_file(
     }
 }
 
-/// The packets of so many ports in the one file, whose bytes are given up.
+/// The packets of so many ports in the one file, whose bytes the list of the last port keeps.
 fn read_file(alloc: Global, inputs: Vec<Vec<u8>>, ports: u32) -> Result<Vec<PacketList>, RunFailure>
     requires { length inputs.items ≡ 1 }
     ensures found { IfOk result (λ lists. IsPcapng ports (bytes_of (map (λ bytes. bytes.items) inputs.items) 0) (lists_in lists.items)) }
     ensures failed { IfErr result (IsFileRefusal ports (bytes_of (map (λ bytes. bytes.items) inputs.items) 0)) }
 {
-    match read(alloc, inputs[0].as_slice(), ports) {
+    let mut inputs = inputs;
+    let bytes = inputs.pop().unwrap();
+    match take(alloc, bytes, ports) {
         Ok(lists) => Ok(lists),
         Err(BadPcapng::OutOfMemory) => Err(RunFailure::OutOfMemory),
         Err(cause) => Err(RunFailure::BadPcapng(cause)),
@@ -65,11 +67,22 @@ fn all_without_room(alloc: Global, lists: Vec<PacketList>) -> Result<Vec<PacketL
     Ok(bare)
 }
 
+/// The text of the last list, when the lists are no longer wanted: memory for another text.
+pub(crate) fn spare_text(alloc: Global, lists: Vec<PacketList>) -> Vec<u8> {
+    let mut lists = lists;
+    match lists.pop() {
+        Some(list) => list.into_parts().text,
+        None => Vec::new(alloc),
+    }
+}
+
 /// What is written of lists, so many for each port: one file, in which the lists of each port are one, the first one first.
+/// It stands in the memory of the spare text, as far as that reaches.
 pub(crate) fn file_texts(
     alloc: Global,
     ports: u32,
     each: u32,
+    spare: Vec<u8>,
     lists: &[PacketList],
 ) -> Result<Vec<Vec<u8>>, OutOfMemory>
     requires ports { ports ≤ 4 }
@@ -79,7 +92,7 @@ pub(crate) fn file_texts(
     ensures { IfOk result (λ texts. map (λ text. text.items) texts.items ≡ written_file (joined ports each (lists_in lists.now)) ∷ []) }
 {
     let mut texts = Vec::with_capacity(alloc, 1)?;
-    let text = file_text(alloc, ports, each, lists)?;
+    let text = file_text(alloc, ports, each, spare, lists)?;
     texts.push_reserved(text);
     Ok(texts)
 }
@@ -89,6 +102,7 @@ fn file_text(
     alloc: Global,
     ports: u32,
     each: u32,
+    spare: Vec<u8>,
     lists: &[PacketList],
 ) -> Result<Vec<u8>, OutOfMemory>
     requires ports { ports ≤ 4 }
@@ -98,9 +112,9 @@ fn file_text(
     ensures { IfOk result (λ text. text.items ≡ written_file (joined ports each (lists_in lists.now))) }
 {
     if each == 1 {
-        return write(alloc, lists);
+        return write_over(spare, lists);
     }
-    join_and_write(alloc, ports, each, lists)
+    join_and_write(alloc, ports, each, spare, lists)
 }
 
 /// The file of lists, so many for each port, whose packets are copied into one list for each.
@@ -108,6 +122,7 @@ fn join_and_write(
     alloc: Global,
     ports: u32,
     each: u32,
+    spare: Vec<u8>,
     lists: &[PacketList],
 ) -> Result<Vec<u8>, OutOfMemory>
     requires ports { ports ≤ 4 }
@@ -117,7 +132,7 @@ fn join_and_write(
     ensures { IfOk result (λ text. text.items ≡ written_file (joined ports each (lists_in lists.now))) }
 {
     let all = join(alloc, ports, each, lists)?;
-    write(alloc, all.as_slice())
+    write_over(spare, all.as_slice())
 }
 
 /// One list for each port, of its so many.

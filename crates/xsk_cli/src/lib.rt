@@ -15,6 +15,7 @@ mod made;
 mod options;
 mod output;
 mod plain;
+mod programs;
 mod setup;
 mod shown;
 mod status;

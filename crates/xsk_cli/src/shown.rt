@@ -21,20 +21,21 @@ ghost use Rattle.xsk_cli.specs.Steps.{lists_in, written_in};
 ghost use Rattle.xsk_cli.specs.Words.{closed_in, fault_in, ports_in};
 
 use crate::failure::RunFailure;
-use crate::files::file_texts;
+use crate::files::{file_texts, spare_text};
 use crate::format::Format;
 use crate::lent::{Lent, lend};
 use crate::setup::set_up;
-use crate::texts::{Texts, rule_of, wire_of};
+use crate::programs::chain_of;
+use crate::texts::{Texts, wire_of};
 use crate::words::Work;
 use std::alloc::Global;
 use std::sync::Wait;
 use std::thread::Threads;
-use xsk_args::{Program, Wire};
+use xsk_args::{ProgramList, Wire};
 use xsk_io::Gate;
 use xsk_model::Config;
 use xsk_pcap::Capture;
-use xsk_prog::XdpProgram;
+use xsk_prog::{Rule, XdpProgram};
 use xsk_socket::Layout;
 use xsk_stats::report;
 use xsk_umem::{Frames, OutOfMemory, PacketList};
@@ -46,31 +47,31 @@ pub(crate) fn make_shown<R: Threads + Wait + Sync, G: Gate + Sync>(
     rt: &R,
     alloc: Global,
     work: &Work,
-    lists: &[PacketList],
+    lists: Vec<PacketList>,
     gate: &G,
     outcome: &mut Option<Outcome>,
 ) -> Result<Lent, RunFailure>
     requires accepted { fault_in work.now ≡ None }
     requires closes { closed_in work.now ≡ None }
     requires runs { IsRun work.now }
-    requires ports { length lists.now ≡ ports_in work.now }
-    requires within { excess_of (lists_in lists.now) ≡ None }
-    requires listed { lists.now ≡ map listed (lists_in lists.now) }
-    requires short { All HasShortPackets lists.now }
+    requires ports { length lists.items ≡ ports_in work.now }
+    requires within { excess_of (lists_in lists.items) ≡ None }
+    requires listed { lists.items ≡ map listed (lists_in lists.items) }
+    requires short { All HasShortPackets lists.items }
     requires none { outcome.old ≡ None }
-    ensures made { IfOk result (λ lent. (o : OutcomeShown) × IsLent lent o × HasShown work.now (lists_in lists.now) o × AreTextsFrom work.now (lists_in lists.now) o (written_in lent.texts)) }
-    ensures shown { (o : OutcomeShown) → outcome.new ≡ Some o → HasShown work.now (lists_in lists.now) o }
+    ensures made { IfOk result (λ lent. (o : OutcomeShown) × IsLent lent o × HasShown work.now (lists_in lists.items) o × AreTextsFrom work.now (lists_in lists.items) o (written_in lent.texts)) }
+    ensures shown { (o : OutcomeShown) → outcome.new ≡ Some o → HasShown work.now (lists_in lists.items) o }
     ensures failed { IfErr result (λ failure. failure ≡ RunFailure.OutOfMemory) }
 {
     match work {
         Work::Simulate {
             layout,
-            program,
+            programs,
             wire,
             format,
             ..
         } => run_shown(
-            rt, alloc, *format, layout, *program, *wire, lists, gate, outcome,
+            rt, alloc, *format, layout, programs, *wire, lists, gate, outcome,
         ),
         Work::Generate { .. } | Work::Audit { .. } => unreachable!(),
     }
@@ -84,30 +85,31 @@ fn run_shown<R: Threads + Wait + Sync, G: Gate + Sync>(
     alloc: Global,
     format: Format,
     layout: &Layout,
-    program: Program,
+    programs: &ProgramList,
     wire: Wire,
-    lists: &[PacketList],
+    lists: Vec<PacketList>,
     gate: &G,
     outcome: &mut Option<Outcome>,
 ) -> Result<Lent, RunFailure>
     requires accepted { fault_of layout.now ≡ None }
     requires closes { layout.now.close ≡ None }
-    requires ports { length lists.now ≡ layout.now.ports }
-    requires within { excess_of (lists_in lists.now) ≡ None }
-    requires listed { lists.now ≡ map listed (lists_in lists.now) }
-    requires short { All HasShortPackets lists.now }
+    requires ports { length lists.items ≡ layout.now.ports }
+    requires within { excess_of (lists_in lists.items) ≡ None }
+    requires listed { lists.items ≡ map listed (lists_in lists.items) }
+    requires short { All HasShortPackets lists.items }
     requires none { outcome.old ≡ None }
-    ensures made { IfOk result (λ lent. (o : OutcomeShown) × IsLent lent o × HasForwarded (setting_of layout.now program wire None (lists_in lists.now)) (frames_of layout.now) o
-        × AreTextsIn format layout.now program wire None (lists_in lists.now) o.history (report_of layout.now program wire None (lists_in lists.now) o.history) (written_in lent.texts)) }
-    ensures shown { (o : OutcomeShown) → outcome.new ≡ Some o → HasForwarded (setting_of layout.now program wire None (lists_in lists.now)) (frames_of layout.now) o }
+    ensures made { IfOk result (λ lent. (o : OutcomeShown) × IsLent lent o × HasForwarded (setting_of layout.now programs.now wire None (lists_in lists.items)) (frames_of layout.now) o
+        × AreTextsIn format layout.now programs.now wire None (lists_in lists.items) o.history (report_of layout.now programs.now wire None (lists_in lists.items) o.history) (written_in lent.texts)) }
+    ensures shown { (o : OutcomeShown) → outcome.new ≡ Some o → HasForwarded (setting_of layout.now programs.now wire None (lists_in lists.items)) (frames_of layout.now) o }
     ensures failed { IfErr result (λ failure. failure ≡ RunFailure.OutOfMemory) }
 {
     let (config, frames) = set_up(alloc, layout)?;
     let shared = config.copy(alloc)?;
     let shown = forward_lists(
-        rt, alloc, layout, config, frames, program, wire, lists, gate,
+        rt, alloc, layout, config, frames, programs, wire, lists.as_slice(), gate,
     )?;
-    let lent = keep_shown(alloc, format, layout, &shared, shown, outcome)?;
+    let spare = spare_text(alloc, lists);
+    let lent = keep_shown(alloc, format, layout, &shared, spare, shown, outcome)?;
     Ok(lent)
 }
 
@@ -117,6 +119,7 @@ fn keep_shown(
     format: Format,
     layout: &Layout,
     config: &Config,
+    spare: Vec<u8>,
     shown: Outcome,
     outcome: &mut Option<Outcome>,
 ) -> Result<Lent, OutOfMemory>
@@ -134,7 +137,7 @@ fn keep_shown(
     ensures kept { OnErr result (outcome.new ≡ Some shown) }
     ensures unkept { OnOk result (outcome.new ≡ outcome.old) }
 {
-    match text_shown(alloc, format, layout, config, shown) {
+    match text_shown(alloc, format, layout, config, spare, shown) {
         Ok(lent) => Ok(lent),
         Err(shown) => {
             *outcome = Some(shown);
@@ -150,6 +153,7 @@ fn text_shown(
     format: Format,
     layout: &Layout,
     config: &Config,
+    spare: Vec<u8>,
     shown: Outcome,
 ) -> Result<Lent, Outcome>
     requires regular { IsRegular config.now }
@@ -167,7 +171,7 @@ fn text_shown(
 {
     match format {
         Format::Pcap => lend_shown(alloc, layout, config, shown),
-        Format::Pcapng => file_shown(alloc, layout, config, shown),
+        Format::Pcapng => file_shown(alloc, layout, config, spare, shown),
     }
 }
 
@@ -177,6 +181,7 @@ fn file_shown(
     alloc: Global,
     layout: &Layout,
     config: &Config,
+    spare: Vec<u8>,
     shown: Outcome,
 ) -> Result<Lent, Outcome>
     requires regular { IsRegular config.now }
@@ -195,7 +200,13 @@ fn file_shown(
     };
     let mut shown = shown;
     let sent = shown.take_sent(alloc);
-    let outputs = file_texts(alloc, layout.ports, layout.queues, sent.as_slice());
+    let outputs = file_texts(
+        alloc,
+        layout.ports,
+        layout.queues,
+        spare,
+        sent.as_slice(),
+    );
     shown.put_sent(sent);
     match outputs {
         Ok(outputs) => Ok(Lent {
@@ -244,7 +255,7 @@ fn lend_shown(
     }
 }
 
-/// Runs the lists of all ports on threads under the program's rule, with the wire.
+/// Runs the lists of all ports on threads under the programs' rules, with the wire.
 #[allow(clippy::too_many_arguments)]
 fn forward_lists<R: Threads + Wait + Sync, G: Gate + Sync>(
     rt: &R,
@@ -252,7 +263,7 @@ fn forward_lists<R: Threads + Wait + Sync, G: Gate + Sync>(
     layout: &Layout,
     config: Config,
     frames: Frames,
-    program: Program,
+    programs: &ProgramList,
     wire: Wire,
     lists: &[PacketList],
     gate: &G,
@@ -267,14 +278,13 @@ fn forward_lists<R: Threads + Wait + Sync, G: Gate + Sync>(
     requires short { All HasShortPackets lists.now }
     ensures pairs { IfOk result (λ o. length o.sent ≡ pairs_in layout.now) }
     ensures short { IfOk result (λ o. All (λ (list : List (List ℕ)). All IsShort list) o.sent) }
-    ensures forwarded { IfOk result (HasForwarded (setting_of layout.now program wire None (lists_in lists.now)) (frames_of layout.now)) }
+    ensures forwarded { IfOk result (HasForwarded (setting_of layout.now programs.now wire None (lists_in lists.now)) (frames_of layout.now)) }
 {
-    let rule = rule_of(program, layout.sockets);
-    let attached = XdpProgram::attach(rule, |packet: &[u8], queue: u32| {
-        rule.verdict(packet, queue)
-    });
+    let chain = chain_of(alloc, programs.as_slice(), layout.sockets, |rule: Rule| {
+        XdpProgram::attach(rule, move |packet: &[u8], queue: u32| rule.verdict(packet, queue))
+    })?;
     let wire = wire_of(wire);
-    let outcome = forward(rt, alloc, config, frames, lists, &attached, wire, gate)?;
+    let outcome = forward(rt, alloc, config, frames, lists, &chain, wire, gate)?;
     Ok(outcome)
 }
 

@@ -3,13 +3,12 @@ ghost use Rattle.std.specs.Prelude.{◌≡◌, ℕ, ◌*◌, ◌<◌, ◌≤◌,
 ghost use Rattle.std.specs.List.{concat, range_with_len};
 ghost use Rattle.std.specs.Vec.Iter.{into_iter_items};
 ghost use Rattle.xsk_driver.specs.Sent.{IsShort};
-ghost use Rattle.xsk_prog.specs.Rules.{HasSockets, IsSocketCount};
 ghost use Rattle.xsk_sim.specs.Journal.{journal_of};
 ghost use Rattle.xsk_sim.specs.Runs.{HasEnded};
 ghost use Rattle.xsk_sim.specs.Shown.{HasShortPackets};
 ghost use Rattle.xsk_cli.specs.Format.{joined, outputs_of};
 ghost use Rattle.xsk_cli.specs.Judged.{excess_of};
-ghost use Rattle.xsk_cli.specs.Outcome.{AreTextsBy, AreTextsOf, IsOnPackets, capture_of, frames_of, listed, made_lists, rule_by, setting_of, wire_by};
+ghost use Rattle.xsk_cli.specs.Outcome.{AreTextsBy, AreTextsOf, IsOnPackets, capture_of, frames_of, listed, made_lists, setting_of, wire_by};
 ghost use Rattle.xsk_cli.specs.Steps.{FailsMaking, FailsRunning, lists_in, written_by, written_in};
 ghost use Rattle.xsk_cli.specs.Words.{closed_in, fault_in, ports_in};
 ghost use Rattle.xsk_cli.specs.declared.words.Work.TheVariants.{Generate};
@@ -23,14 +22,15 @@ ghost use Rattle.xsk_pcapng.specs.Written.{IsWritable as IsWritableFile};
 ghost use Rattle.xsk_stats.specs.Report.{report_text};
 
 use crate::failure::RunFailure;
-use crate::files::file_texts;
+use crate::files::{file_texts, spare_text};
 use crate::format::Format;
 use crate::made::made_texts;
+use crate::programs::chain_of;
 use crate::setup::set_up;
 use crate::words::Work;
 use std::alloc::Global;
 use std::vec::IntoIter;
-use xsk_args::{Program, Wire};
+use xsk_args::{ProgramList, Wire};
 use xsk_model::Config;
 use xsk_pcap::Capture;
 use xsk_prog::{Rule, XdpProgram};
@@ -51,23 +51,23 @@ pub(crate) struct Texts {
 pub(crate) fn make_texts(
     alloc: Global,
     work: &Work,
-    lists: &[PacketList],
+    lists: Vec<PacketList>,
 ) -> Result<Texts, RunFailure>
     requires accepted { fault_in work.now ≡ None }
     requires closes { closed_in work.now ≡ None }
     requires packets { IsOnPackets work.now }
-    requires ports { length lists.now ≡ ports_in work.now }
-    requires within { excess_of (lists_in lists.now) ≡ None }
-    requires made { (number : ℕ) → work.now ≡ Generate number → lists_in lists.now ≡ made_lists number 1 }
-    requires listed { lists.now ≡ map listed (lists_in lists.now) }
-    requires short { All HasShortPackets lists.now }
-    ensures made { IfOk result (λ texts. AreTextsBy work.now (lists_in lists.now) (written_in texts)) }
-    ensures failed { IfErr result (FailsMaking work.now (lists_in lists.now)) }
+    requires ports { length lists.items ≡ ports_in work.now }
+    requires within { excess_of (lists_in lists.items) ≡ None }
+    requires made { (number : ℕ) → work.now ≡ Generate number → lists_in lists.items ≡ made_lists number 1 }
+    requires listed { lists.items ≡ map listed (lists_in lists.items) }
+    requires short { All HasShortPackets lists.items }
+    ensures made { IfOk result (λ texts. AreTextsBy work.now (lists_in lists.items) (written_in texts)) }
+    ensures failed { IfErr result (FailsMaking work.now (lists_in lists.items)) }
 {
     match work {
         Work::Simulate {
             layout,
-            program,
+            programs,
             wire,
             mangle,
             order,
@@ -75,7 +75,7 @@ pub(crate) fn make_texts(
             format,
             ..
         } => run_texts(
-            alloc, *format, layout, *program, *wire, *mangle, *order, *journal, lists,
+            alloc, *format, layout, programs, *wire, *mangle, *order, *journal, lists,
         ),
         Work::Generate { .. } => Ok(made_texts(alloc, &lists[0])?),
         Work::Audit { .. } => unreachable!(),
@@ -88,29 +88,31 @@ fn run_texts(
     alloc: Global,
     format: Format,
     layout: &Layout,
-    program: Program,
+    programs: &ProgramList,
     wire: Wire,
     mangle: Option<u32>,
     order: u32,
     journal: bool,
-    lists: &[PacketList],
+    lists: Vec<PacketList>,
 ) -> Result<Texts, RunFailure>
     requires accepted { fault_of layout.now ≡ None }
     requires closes { layout.now.close ≡ None }
-    requires ports { length lists.now ≡ layout.now.ports }
-    requires within { excess_of (lists_in lists.now) ≡ None }
-    requires listed { lists.now ≡ map listed (lists_in lists.now) }
-    requires short { All HasShortPackets lists.now }
-    ensures made { IfOk result (λ texts. AreTextsOf format layout.now program wire mangle order (lists_in lists.now) journal (written_in texts)) }
-    ensures failed { IfErr result (FailsRunning layout.now program wire mangle order (lists_in lists.now)) }
+    requires ports { length lists.items ≡ layout.now.ports }
+    requires within { excess_of (lists_in lists.items) ≡ None }
+    requires listed { lists.items ≡ map listed (lists_in lists.items) }
+    requires short { All HasShortPackets lists.items }
+    ensures made { IfOk result (λ texts. AreTextsOf format layout.now programs.now wire mangle order (lists_in lists.items) journal (written_in texts)) }
+    ensures failed { IfErr result (FailsRunning layout.now programs.now wire mangle order (lists_in lists.items)) }
 {
     let (config, frames) = set_up(alloc, layout)?;
     let shared = config.copy(alloc)?;
     let run = run_lists(
-        alloc, layout, config, frames, program, wire, mangle, order, lists,
+        alloc, layout, config, frames, programs, wire, mangle, order, lists.as_slice(),
     )?;
     let report = told_text(alloc, &shared, &run, journal)?;
-    let outputs = sent_texts(alloc, format, layout.ports, layout.queues, run.into_sent())?;
+    let spare = spare_text(alloc, lists);
+    let sent = run.into_sent();
+    let outputs = sent_texts(alloc, format, layout.ports, layout.queues, spare, sent)?;
     Ok(Texts { outputs, report })
 }
 
@@ -132,14 +134,14 @@ fn told_text(
     Ok(text)
 }
 
-/// Runs the lists of all ports under the program's rule, with the wire.
+/// Runs the lists of all ports under the programs' rules, with the wire.
 #[allow(clippy::too_many_arguments)]
 fn run_lists(
     alloc: Global,
     layout: &Layout,
     config: Config,
     frames: Frames,
-    program: Program,
+    programs: &ProgramList,
     wire: Wire,
     mangle: Option<u32>,
     order: u32,
@@ -154,34 +156,18 @@ fn run_lists(
     requires listed { lists.now ≡ map listed (lists_in lists.now) }
     requires short { All HasShortPackets lists.now }
     ensures pairs { IfOk result (λ run. run.pairs ≡ pairs_in layout.now) }
-    ensures ended { IfOk result (HasEnded (setting_of layout.now program wire mangle (lists_in lists.now)) (frames_of layout.now) order) }
-    ensures failed { IfErr result (FailsRunning layout.now program wire mangle order (lists_in lists.now)) }
+    ensures ended { IfOk result (HasEnded (setting_of layout.now programs.now wire mangle (lists_in lists.now)) (frames_of layout.now) order) }
+    ensures failed { IfErr result (FailsRunning layout.now programs.now wire mangle order (lists_in lists.now)) }
 {
-    let rule = rule_of(program, layout.sockets);
-    let attached = XdpProgram::attach(rule, |packet: &[u8], queue: u32| {
-        rule.verdict(packet, queue)
-    });
+    let chain = chain_of(alloc, programs.as_slice(), layout.sockets, |rule: Rule| {
+        XdpProgram::attach(rule, move |packet: &[u8], queue: u32| rule.verdict(packet, queue))
+    })?;
     let wire = wire_of(wire);
     let manner = Manner { mangle, after: 0 };
-    match simulate(alloc, config, frames, lists, &attached, wire, order, manner) {
+    match simulate(alloc, config, frames, lists, &chain, wire, order, manner) {
         Ok(run) => Ok(run),
         Err(SimError::Stalled { round }) => Err(RunFailure::Stalled { round }),
         Err(SimError::OutOfMemory) => Err(RunFailure::OutOfMemory),
-    }
-}
-
-/// The rule of a program, where each queue has so many sockets.
-pub(crate) fn rule_of(program: Program, sockets: u32) -> Rule
-    requires { IsSocketCount sockets }
-    ensures rule { result ≡ rule_by sockets program }
-    ensures sockets { HasSockets result }
-{
-    match program {
-        Program::Redirect => Rule::Redirect { sockets },
-        Program::Pass => Rule::Pass,
-        Program::Drop => Rule::Drop,
-        Program::EtherType(kind) => Rule::EtherType { kind, sockets },
-        Program::Fixed(cell) => Rule::Fixed(cell),
     }
 }
 
@@ -195,12 +181,13 @@ pub(crate) fn wire_of(wire: Wire) -> xsk_sim::Wire
     }
 }
 
-/// What is written of what the drivers sent.
+/// What is written of what the drivers sent. A file takes the memory of the spare text.
 fn sent_texts(
     alloc: Global,
     format: Format,
     ports: u32,
     queues: u32,
+    spare: Vec<u8>,
     sent: Vec<PacketList>,
 ) -> Result<Vec<Vec<u8>>, OutOfMemory>
     requires ports { ports ≤ 4 }
@@ -213,7 +200,7 @@ fn sent_texts(
 {
     match format {
         Format::Pcap => output_texts(alloc, ports, queues, sent),
-        Format::Pcapng => file_texts(alloc, ports, queues, sent.as_slice()),
+        Format::Pcapng => file_texts(alloc, ports, queues, spare, sent.as_slice()),
     }
 }
 

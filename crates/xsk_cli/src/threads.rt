@@ -249,7 +249,7 @@ fn forward_plan<R: Threads + Wait + Sync, B: Bay, G: Gate + Sync>(
 {
     let inputs = read_inputs(alloc, bay, plan.inputs, plan.work.most_input())?;
     let lists = take_lists(alloc, &plan.work, inputs)?;
-    let lent = make_shown(rt, alloc, &plan.work, lists.as_slice(), gate, outcome)?;
+    let lent = make_shown(rt, alloc, &plan.work, lists, gate, outcome)?;
     let written = write_texts(bay, plan.outputs, &lent.texts);
     *outcome = Some(lent.give_back());
     written?;

@@ -5,25 +5,25 @@ ghost use Rattle.xsk_args.specs.Words.{is_dashed};
 ghost use Rattle.xsk_socket.specs.Layout.{fault_of};
 ghost use Rattle.xsk_cli.specs.Format.{files_of};
 ghost use Rattle.xsk_cli.specs.Steps.{plan_in};
-ghost use Rattle.xsk_cli.specs.Words.{are_enough, are_made, counted, fault_in, files_counted, files_in, format_of, gen_plan, has_files, layout_by, most_of, plan_by, wanted_per_port};
+ghost use Rattle.xsk_cli.specs.Words.{are_enough, are_made, counted, fault_in, files_counted, files_in, format_of, gen_plan, has_files, layout_by, most_of, plan_by, programs_of as programs_said, wanted_per_port};
 
 use crate::format::Format;
-use xsk_args::{Args, ArgsError, Program, Wire, parse_number};
+use xsk_args::{Args, ArgsError, Program, ProgramList, Wire, parse_number};
 use xsk_socket::{Layout, Unlawful, check_layout};
 
 /// The most bytes of a journal.
 const MOST_OF_JOURNAL: usize = 67_108_864;
 
 /// What is made of the files that a command reads.
-#[derive(Clone, Copy, Debug, PartialEq, Eq)]
+#[derive(Debug, Drop)]
 pub enum Work {
-    /// A run of the layout's workers over the packets of its ports, under a program and with a wire, in rounds with an order
+    /// A run of the layout's workers over the packets of its ports, under programs and with a wire, in rounds with an order
     /// number. With a number to mangle by, applications change items that they send. With a number of the generator no files are
     /// read, and the packets are made. The journal follows the report where that was asked for. The packets are read and written
     /// as files of the format.
     Simulate {
         layout: Layout,
-        program: Program,
+        programs: ProgramList,
         wire: Wire,
         mangle: Option<u32>,
         order: u32,
@@ -55,7 +55,7 @@ impl Work {
 }
 
 /// The files that a command reads, those that it writes, and what it does between.
-#[derive(Clone, Copy, Debug)]
+#[derive(Debug, Drop)]
 pub(crate) struct Plan<'p, 'w> {
     pub(crate) inputs: &'p [&'w str],
     pub(crate) outputs: &'p [&'w str],
@@ -75,7 +75,7 @@ impl<'p, 'w> Plan<'p, 'w> {
         let Some(files) = args.files() else {
             return Err(Unlawful::Files(0));
         };
-        let program = args.program("prog").unwrap_or(Program::Redirect);
+        let programs = programs_of(args);
         let wire = args.wire("wire").unwrap_or(Wire::Wait);
         let order = args.number("order").unwrap_or(0);
         let number = args.number("gen");
@@ -87,7 +87,7 @@ impl<'p, 'w> Plan<'p, 'w> {
             outputs,
             work: Work::Simulate {
                 layout,
-                program,
+                programs,
                 wire,
                 mangle: args.number("mangle"),
                 order,
@@ -96,6 +96,16 @@ impl<'p, 'w> Plan<'p, 'w> {
                 format,
             },
         })
+    }
+}
+
+/// The programs that were asked for, in order, or the one that redirects each packet.
+fn programs_of(args: &Args<'_>) -> ProgramList
+    ensures { result ≡ programs_said (under args.now) }
+{
+    match args.programs("prog") {
+        Some(programs) => programs,
+        None => ProgramList::one(Program::Redirect),
     }
 }
 

@@ -44,6 +44,6 @@ fn packet_texts(alloc: Global, work: &Work, inputs: Vec<Vec<u8>>) -> Result<Text
     ensures failed { IfErr result (MakesNone work.now (map (λ bytes. bytes.items) inputs.items)) }
 {
     let lists = take_lists(alloc, work, inputs)?;
-    let texts = make_texts(alloc, work, lists.as_slice())?;
+    let texts = make_texts(alloc, work, lists)?;
     Ok(texts)
 }

@@ -20,7 +20,7 @@ use Rattle.xsk_model.specs.declared.call.Call.TheVariants.{Submit}
 use Rattle.xsk_model.specs.declared.call.Reply.TheVariants.{Submitted}
 use Rattle.xsk_model.proofs.Counting.{times-append, its_own, numbers-append}
 use Rattle.xsk_model.proofs.Sendings.{wholes, sending_of-push}
-use Rattle.xsk_model.proofs.Completions.{kept, is_same-self, times-numbers-append}
+use Rattle.xsk_model.proofs.Completions.{kept, is_same-self, times-numbers-append, is_same-true}
 use Rattle.xsk_desc.specs.Standing.{source_of, begins, given_back, desc_of, uncompleted}
 use Rattle.xsk_desc.proofs.Steps.{all_later}
 use Rattle.xsk_desc.proofs.Completed.{all_next}
@@ -39,16 +39,6 @@ inside_by g (x ∷ xs) (y ∷ ys) e h =
     All-cons (IsInside g) x xs (ap (λ a. nat_lt a (area_of g)) address ∙ All-head (IsInside g) y ys h) (inside_by g xs ys later (All-tail (IsInside g) y ys h))
 
 -- ---- which packet they begin
-
-is_same-true : (xs ys : List ℕ) → is_same xs ys ≡ true → xs ≡ ys
-is_same-true [] [] h = refl
-is_same-true [] (y ∷ ys) h = absurd (cc)
-is_same-true (x ∷ xs) [] h = absurd (cc)
-is_same-true (x ∷ xs) (y ∷ ys) h =
-    let both = and_parts (eqb x y) (is_same xs ys) h in
-    let head : x ≡ y = eqb-true x y both.0 in
-    let tail : xs ≡ ys = is_same-true xs ys both.1 in
-    cc
 
 -- the numbers with which a packet begins stand in it
 begins_times : (n : ℕ) (ns : List ℕ) (waits : List (List Item)) → begins ns waits ≡ true → times n ns ≤ times n (flat_map numbers waits)

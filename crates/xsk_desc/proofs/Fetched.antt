@@ -27,11 +27,12 @@ use Rattle.xsk_desc.specs.Queue.{pushed}
 use Rattle.xsk_desc.specs.Standing.{StandsFor, IsFetching, fetching, places_at, no_queue, queue_at, desc_of, uncompleted}
 use Rattle.xsk_desc.specs.Noting.{one_held, sources_with, queues_with, fetched_item, HasRoom}
 use Rattle.xsk_desc.proofs.Drivers.{driver_at}
-use Rattle.xsk_desc.proofs.Going.{own_push, gift_goes, gift_legal, gift_fits, held_few}
+use Rattle.xsk_desc.proofs.Going.{gift_goes, gift_legal, gift_fits, held_few}
 use Rattle.xsk_desc.proofs.Steps.{all_first, all_later}
 use Rattle.xsk_desc.proofs.Waiting.{own_waiting, uncompleted_few, number_below}
 use Rattle.xsk_desc.proofs.Pushing.{pushed_is}
 use Rattle.xsk_desc.proofs.Fetching.{told_peeked, fetching_peeked, one_fetched, fetched_keeps}
+use Rattle.xsk_model.proofs.OwnRuns.{own_push}
 
 -- the first items of a reply would be a reply too
 fetching_own : (c : Config) (who : ℕ) (mine : List Told) (r : Ring) (n : ℕ) (items more : List Item) → OwnGoesOn c who [] mine → IsLegal c mine who (Peek r n)

@@ -14,20 +14,6 @@ use Rattle.xsk_model.specs.declared.call.Reply.{Reply}
 use Rattle.xsk_model.proofs.OwnRuns.{history_own}
 use Rattle.xsk_model.proofs.Theorems.{parts_by_own, within_size}
 
-pub own_push : (c : Config) (who : ℕ) (past mine : List Told) (t : Told) → OwnGoesOn c who past mine → IsLegal c (past ++ mine) who t.call → Fits c (past ++ mine) t.call t.reply
-    → OwnGoesOn c who past (mine ++ t ∷ [])
-own_push c who past [] t goes legal fits = (
-  subst (λ (p : List Told). IsLegal c p who t.call) (append-nil past) legal,
-  subst (λ (p : List Told). Fits c p t.call t.reply) (append-nil past) fits,
-  tt,
-)
-own_push c who past (u ∷ mine) t goes legal fits =
-    let same : past ++ u ∷ mine ≡ (past ++ u ∷ []) ++ mine = sym (append_assoc past (u ∷ []) mine) in (
-      goes.0,
-      goes.1,
-      own_push c who (past ++ u ∷ []) mine t goes.2 (subst (λ (p : List Told). IsLegal c p who t.call) same legal) (subst (λ (p : List Told). Fits c p t.call t.reply) same fits),
-    )
-
 -- the last call of those that go on is legal, and its reply fits
 pub own_last : (c : Config) (who : ℕ) (past mine : List Told) (t : Told) → OwnGoesOn c who past (mine ++ t ∷ [])
     → IsLegal c (past ++ mine) who t.call × Fits c (past ++ mine) t.call t.reply

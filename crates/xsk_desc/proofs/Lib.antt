@@ -22,3 +22,4 @@ pub mod Sources
 pub mod Steps
 pub mod Submits
 pub mod Waiting
+pub mod Whys

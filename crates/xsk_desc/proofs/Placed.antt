@@ -25,11 +25,11 @@ use Rattle.xsk_desc.specs.Queue.{first_off}
 use Rattle.xsk_desc.specs.Standing.{StandsFor, IsPlacing, placing, source_of, given_back, places_at, no_queue, queue_at, none_back, desc_of, uncompleted}
 use Rattle.xsk_desc.specs.Pieces.{frame_source, item_source}
 use Rattle.xsk_desc.specs.Noting.{one_filled, sources_with, queues_of_source, queues_without, placed_item, HasFirst, HasGiven}
-use Rattle.xsk_desc.proofs.Going.{own_push}
 use Rattle.xsk_desc.proofs.Steps.{all_later}
 use Rattle.xsk_desc.proofs.Waiting.{IsWaiting, own_waiting, number_below}
 use Rattle.xsk_desc.proofs.Placing.{told_placed, placing_placed, one_placed, queue-first, IsLeft, placed_keeps}
 use Rattle.xsk_desc.proofs.Completing.{item_framed, item_from, not_earlier, given_is, some_left, told_sending, left_is}
+use Rattle.xsk_model.proofs.OwnRuns.{own_push}
 
 -- ---- on COMPLETION
 

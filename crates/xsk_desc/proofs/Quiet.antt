@@ -28,8 +28,8 @@ use Rattle.xsk_desc.specs.Standing.{StandsFor, Keeps, source_of, uncompleted, de
 use Rattle.xsk_desc.specs.StandingLaws.{is_noted, is_watched, NeedsNoNote, BeginsWithNone, CanBeNoted}
 use Rattle.xsk_desc.proofs.Sources.{source_of-push}
 use Rattle.xsk_desc.proofs.Marks.{same_told, marks_same, swapped_marked, looked_marked}
-use Rattle.xsk_desc.proofs.Going.{own_push}
 use Rattle.xsk_desc.proofs.Able.{stands_for, can_grant, can_release, can_fetch, can_place}
+use Rattle.xsk_model.proofs.OwnRuns.{own_push}
 
 -- ---- calls that are not noted
 

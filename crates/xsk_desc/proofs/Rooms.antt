@@ -20,7 +20,8 @@ use Rattle.xsk_desc.specs.Noted.{Noted}
 use Rattle.xsk_desc.specs.Standing.{with_places, StandsFor, Keeps, places_at, source_of, uncompleted, desc_of, none_back}
 use Rattle.xsk_desc.proofs.Sources.{source_of-push}
 use Rattle.xsk_desc.proofs.Marks.{SameMarks, same_told, marks_same}
-use Rattle.xsk_desc.proofs.Going.{own_push, gift_goes, gift_legal, room_few}
+use Rattle.xsk_desc.proofs.Going.{gift_goes, gift_legal, room_few}
+use Rattle.xsk_model.proofs.OwnRuns.{own_push}
 
 -- a call that moves no frame
 module _ (c : Config) (kept : Noted) (mine : List Told) (t : Told) (r : Ring) (p : Places) where

@@ -75,7 +75,7 @@ module _ (c : Config) (kept : Noted) (mine : List Told) (h : StandsFor c kept mi
 -- ---- marks
 
 module _ (c : Config) (kept : Noted) (mine : List Told) (config : IsConfig c) (h : StandsFor c kept mine) where
-  time_timely : (m : Mark) (value : ℕ) → IsMarkOwner c kept.who m → IsTime c kept m value → IsTimely c mine m value
+  pub time_timely : (m : Mark) (value : ℕ) → IsMarkOwner c kept.who m → IsTime c kept m value → IsTimely c mine m value
   time_timely (NeedFill d) value owner time = tt
   time_timely (NeedTx s) value owner time = tt
   time_timely (Kick d) value owner time = tt
@@ -96,7 +96,7 @@ module _ (c : Config) (kept : Noted) (mine : List Told) (config : IsConfig c) (h
   )
   time_timely (Bounced d) value owner time = time ∙ ap suc (h.keeps.marked.bounced ∙ ap (λ w. unwrap_or (last_set (Bounced w) mine) 0) owner)
 
-  timely_time : (m : Mark) (value : ℕ) → IsMarkOwner c kept.who m → IsTimely c mine m value → IsTime c kept m value
+  pub timely_time : (m : Mark) (value : ℕ) → IsMarkOwner c kept.who m → IsTimely c mine m value → IsTime c kept m value
   timely_time (NeedFill d) value owner time = tt
   timely_time (NeedTx s) value owner time = tt
   timely_time (Kick d) value owner time = tt

@@ -16,15 +16,11 @@ use Rattle.xsk_model.specs.declared.call.Ring.TheVariants.{Fill, Comp, Rx, Tx}
 use Rattle.xsk_model.specs.declared.call.Call.{Call}
 use Rattle.xsk_model.specs.declared.call.Call.TheVariants.{Peek}
 use Rattle.xsk_model.proofs.OwnRuns.{own_all, fits_taken}
-use Rattle.xsk_model.proofs.Completions.{times-had_of-push}
+use Rattle.xsk_model.proofs.Completions.{times-had_of-push, from_fill-push}
 use Rattle.xsk_desc.specs.Standing.{source_step, source_of}
 
 pub source_of-push : (n : ℕ) (mine : List Told) (t : Told) → source_of n (mine ++ t ∷ []) ≡ source_step n (source_of n mine) t
 source_of-push n mine t = fold_push (source_step n) None mine t
-
-from_fill-push : (n : ℕ) (mine : List Told) (t : Told)
-    → is_from_fill n (mine ++ t ∷ []) ≡ cond (nat_lt 0 (times n (numbers (taken t.reply)))) (is_fill_peek t.call) (is_from_fill n mine)
-from_fill-push n mine t = fold_push (fill_step n) false mine t
 
 -- ---- one call
 

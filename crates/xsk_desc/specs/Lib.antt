@@ -12,3 +12,4 @@ pub mod Queue
 pub mod Roles
 pub mod Setting
 pub mod Pieces
+pub mod Why

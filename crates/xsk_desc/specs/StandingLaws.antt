@@ -14,6 +14,8 @@ use Rattle.xsk_model.specs.declared.call.Call.TheVariants.{Reserve, Submit, Peek
 use Rattle.xsk_model.specs.declared.call.Reply.{Reply}
 use Rattle.xsk_model.specs.declared.call.Reply.TheVariants.{Granted, Full, Items, Empty}
 use Rattle.xsk_desc.specs.Noted.{Noted}
+use Rattle.xsk_desc.specs.declared.why.Illegal.{Illegal}
+use Rattle.xsk_desc.specs.Why.{Fails}
 use Rattle.xsk_desc.specs.Standing.{StandsFor, IsPlacing, IsFetching}
 use Rattle.xsk_desc.specs.Noting.{IsFor, CanGrant, CanRelease, CanFetch, CanPlace}
 
@@ -49,3 +51,7 @@ pub record CanBeNoted : Type 0 where
       → MayGive c mine kept.who (Peek r n) (Items (done ++ item ∷ later)) → CanFetch c kept r item
   pub place : (c : Config) (kept : Noted) (mine : List Told) (r : Ring) (done : List Item) (item : Item) (later : List Item) → IsPlacing c kept mine r done
       → IsLegal c mine kept.who (Submit r (done ++ item ∷ later)) → CanPlace c kept r item
+
+-- a call of which a condition fails isn't legal
+abbrev pub FailsNotLegal : Type 0
+FailsNotLegal = (why : Illegal) (c : Config) (mine : List Told) (who : ℕ) (call : Call) → Fails why c mine who call → IsLegal c mine who call → ⊥

@@ -7,10 +7,7 @@ ghost use Rattle.xsk_model.specs.Packets.{IsCut};
 ghost use Rattle.xsk_desc.specs.Fault.{fault_of};
 
 use thiserror::Error;
-use xsk_umem::{Geometry, XdpDesc};
-
-/// The option XDP_PKT_CONTD: the packet continues in the next descriptor.
-pub(crate) const CONTINUED: u32 = 1;
+use xsk_umem::{Geometry, XDP_PKT_CONTD, XdpDesc};
 
 /// Why a descriptor is invalid.
 #[derive(Clone, Copy, Debug, PartialEq, Eq, Error)]
@@ -44,7 +41,7 @@ pub fn validate(desc: XdpDesc, geometry: &Geometry, sg: bool) -> Result<(), Desc
     if desc.addr % chunk + u64::from(desc.len) > chunk {
         return Err(DescError::CrossesChunk);
     }
-    if desc.options > CONTINUED || desc.options == CONTINUED && !sg {
+    if desc.options > XDP_PKT_CONTD || desc.options == XDP_PKT_CONTD && !sg {
         return Err(DescError::UnknownOptions);
     }
     Ok(())

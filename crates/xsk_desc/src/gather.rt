@@ -7,12 +7,12 @@ ghost use Rattle.xsk_model.specs.Packets.{ended_by, group_after, packets};
 ghost use Rattle.xsk_desc.specs.Kept.{Kept};
 ghost use Rattle.xsk_desc.specs.Gather.{packet_by};
 
-use crate::descriptor::{CONTINUED, validate};
+use crate::descriptor::validate;
 use std::alloc::Global;
 use std::marker::Model;
 use std::mem;
 use xsk_model::steering::MOST_FRAGMENTS;
-use xsk_umem::{Batch, Geometry, Item, XdpDesc};
+use xsk_umem::{Batch, Geometry, Item, XDP_PKT_CONTD, XdpDesc};
 
 /// What the next item of a list ends.
 #[derive(Clone, Copy, Debug, PartialEq, Eq)]
@@ -32,7 +32,7 @@ pub fn judge(before: u32, desc: XdpDesc, geometry: &Geometry, sg: bool) -> Endin
 {
     if before >= MOST_FRAGMENTS || validate(desc, geometry, sg).is_err() {
         Ending::Bad
-    } else if desc.options == CONTINUED {
+    } else if desc.options == XDP_PKT_CONTD {
         Ending::More
     } else {
         Ending::Whole
@@ -40,7 +40,7 @@ pub fn judge(before: u32, desc: XdpDesc, geometry: &Geometry, sg: bool) -> Endin
 }
 
 /// What the next item of a list ends, with its items.
-#[derive(Drop)]
+#[derive(Debug, Drop)]
 pub enum Gathered {
     /// The packet goes on, and the item is kept.
     More,

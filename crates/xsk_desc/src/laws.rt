@@ -2,7 +2,7 @@
 //! law.
 
 ghost use Rattle.xsk_desc.specs.Laws.{ValidHasNoFault, HasOneCut, CutsAnywhere, KeepsEachItem, AreWholeOrBad, HasNoOtherPackets, LayoutIsPacket};
-ghost use Rattle.xsk_desc.specs.StandingLaws.{NeedsNoNote, BeginsWithNone, CanBeNoted};
+ghost use Rattle.xsk_desc.specs.StandingLaws.{NeedsNoNote, BeginsWithNone, CanBeNoted, FailsNotLegal};
 
 /// A descriptor is valid exactly where it has no fault.
 pub fn valid_has_no_fault()
@@ -55,4 +55,10 @@ pub fn notes_begin_with_no_item()
 /// What was legal, with a reply that the object may give, can be noted.
 pub fn what_is_told_can_be_noted()
     ensures { CanBeNoted }
+{}
+
+/// A call of which a condition fails isn't legal.
+#[tactic(auto, using(crate::proofs::Whys::fails_not_legal))]
+pub fn what_fails_is_not_legal()
+    ensures { FailsNotLegal }
 {}

@@ -11,8 +11,10 @@ mod payload;
 mod queue;
 mod roles;
 mod standing;
+mod why;
 
 pub use descriptor::{DescError, fragments, validate};
 pub use gather::{Ending, Gather, Gathered, judge};
 pub use payload::payload_of;
 pub use standing::Standing;
+pub use why::Illegal;

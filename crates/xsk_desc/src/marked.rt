@@ -10,7 +10,7 @@ use crate::roles::{holds, is_closing};
 use xsk_model::{Config, Mark};
 
 /// What a caller's own Swaps and Looks left of the marks of the socket to close and of its count of bounced packets.
-#[derive(Drop)]
+#[derive(Debug, Drop)]
 pub(crate) struct Marked {
     /// By index: the cells of the socket's port that the caller lowered.
     lowered: [bool; 64],

@@ -4,16 +4,16 @@ ghost use Rattle.std.specs.VecDeque.{deque_capacity};
 ghost use Rattle.xsk_desc.specs.Noted.{Queue as Descs};
 ghost use Rattle.xsk_desc.specs.Queue.{pushed, first_off, IsNext, IsPacket};
 
-use crate::descriptor::{CONTINUED, validate};
+use crate::descriptor::validate;
 use std::alloc::Global;
 use std::collections::VecDeque;
 use std::marker::Model;
 use xsk_model::steering::MOST_FRAGMENTS;
-use xsk_umem::{Batch, Geometry, Item, OutOfMemory, XdpDesc};
+use xsk_umem::{Batch, Geometry, Item, OutOfMemory, XDP_PKT_CONTD, XdpDesc};
 
 /// The descriptors of a TX ring's packets that aren't completed, in order, and behind them those of the packet that
 /// isn't at its end.
-#[derive(Drop)]
+#[derive(Debug, Drop)]
 pub(crate) struct Queue {
     descs: VecDeque<XdpDesc>,
     /// How many descriptors belong to the packet that isn't at its end.
@@ -58,7 +58,7 @@ impl Queue {
             return;
         }
         self.descs.push_back_reserved(desc);
-        self.begun = if desc.options == CONTINUED {
+        self.begun = if desc.options == XDP_PKT_CONTD {
             self.begun + 1
         } else {
             0
@@ -101,5 +101,5 @@ impl Queue {
 fn is_piece(desc: XdpDesc, item: &Item, last: bool) -> bool
     ensures { IsTrue result ↔ IsNext desc last item.now }
 {
-    desc.addr == item.desc.addr && last != (desc.options == CONTINUED)
+    desc.addr == item.desc.addr && last != (desc.options == XDP_PKT_CONTD)
 }

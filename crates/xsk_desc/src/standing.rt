@@ -6,6 +6,7 @@ ghost use Rattle.xsk_umem.specs.Frame.{Frame as Body};
 ghost use Rattle.xsk_umem.specs.Geometry.{IsGeometry};
 ghost use Rattle.xsk_umem.specs.Limits.{most_items};
 ghost use Rattle.xsk_umem.specs.declared.batch.Item.{Item as AnItem};
+ghost use Rattle.xsk_model.specs.Asks.{joined_call};
 ghost use Rattle.xsk_model.specs.Config.{IsConfig, HasRing, callers_of};
 ghost use Rattle.xsk_model.specs.Numbers.{times, numbers};
 ghost use Rattle.xsk_model.specs.Rings.{place, places_of, port_of, queue_of, producer};
@@ -19,30 +20,26 @@ ghost use Rattle.xsk_model.specs.declared.call.Reply.TheVariants.{Granted, Submi
 ghost use Rattle.xsk_desc.specs.Standing.{StandsFor, IsPlacing, IsFetching, IsFresh, places_at, no_queue, with_places};
 ghost use Rattle.xsk_desc.specs.Noting.{one_filled, one_held, sources_with, queues_with, queues_without, HasRoom, HasGiven, IsFor, CanGrant, CanRelease, CanFetch, CanPlace};
 ghost use Rattle.xsk_desc.specs.Setting.{MaySet, IsTime, IsOpen, AreCleared};
-ghost use Rattle.xsk_desc.specs.Pieces.{MaySubmit, has, item_source, IsFill, IsPiece, ArePieces, GivesBack};
+ghost use Rattle.xsk_desc.specs.Pieces.{MaySubmit, MayPlace, has, item_source, IsFill, IsPiece, ArePieces, GivesBack};
 
-use crate::descriptor::CONTINUED;
 use crate::marked::Marked;
 use crate::queue::Queue;
 use crate::roles::{consumes, is_closing, may_be, owns, produces, seat_of};
 use std::alloc::Global;
 use std::marker::Model;
 use xsk_model::placement::{has_mark, has_ring, ring_place, ring_places};
-use xsk_model::{Call, Config, Mark, Ring};
-use xsk_umem::{Batch, Geometry, Item, OutOfMemory, XdpDesc};
-
-/// The most items of one call.
-const MOST_ITEMS: u32 = 32;
+use xsk_model::{Ask, Call, Config, Mark, Ring};
+use xsk_umem::{Batch, Geometry, Item, MOST_ITEMS, OutOfMemory, XDP_PKT_CONTD, XdpDesc};
 
 /// What is reserved and not yet filled of a ring, and what is peeked and not yet released.
 #[derive(Clone, Copy, Debug, Default)]
-struct Places {
-    room: u32,
-    held: u32,
+pub(crate) struct Places {
+    pub(crate) room: u32,
+    pub(crate) held: u32,
 }
 
 /// What the legality of a caller's next call needs of its earlier calls and replies.
-#[derive(Drop)]
+#[derive(Debug, Drop)]
 pub struct Standing {
     who: u32,
     /// By place.
@@ -100,6 +97,25 @@ impl Standing {
             }
             Call::Swap(mark, value) => self.may_set(config, *mark, *value),
             Call::Look(mark) => has_mark(config, *mark),
+        }
+    }
+
+    /// Whether the call whose items stand in a batch beside it is legal, as `allows` has it. No batch is moved by it.
+    pub fn permits(&self, config: &Config, ask: Ask, items: &Batch) -> bool
+        requires { IsFor config.now self.now }
+        ensures { (mine : List Told) → StandsFor config.now self.now mine → (IsTrue result ↔ IsLegal config.now mine self.now.who (joined_call ask items.now)) }
+    {
+        match ask {
+            Ask::Reserve(ring, n) => is_few(n) && self.feeds(config, ring),
+            Ask::Submit(ring) => self.feeds(config, ring) && self.may_submit(config, ring, items),
+            Ask::Peek(ring, n) => is_few(n) && consumes(config, self.who, ring),
+            Ask::Release(ring, n) => {
+                is_few(n)
+                    && consumes(config, self.who, ring)
+                    && n <= self.places[ring_place(config, ring)].held
+            }
+            Ask::Swap(mark, value) => self.may_set(config, mark, value),
+            Ask::Look(mark) => has_mark(config, mark),
         }
     }
 
@@ -203,8 +219,15 @@ impl Standing {
         }
     }
 
+    /// The caller.
+    pub(crate) fn who(&self) -> u32
+        ensures { result ≡ self.now.who }
+    {
+        self.who
+    }
+
     /// What is kept of the ring of a place.
-    fn places_at(&self, place: usize) -> Places
+    pub(crate) fn places_at(&self, place: usize) -> Places
         requires { place < length self.now.places }
         ensures { result ≡ places_at self.now place }
     {
@@ -285,6 +308,16 @@ impl Standing {
         if !are_items(geometry, ring, items) || !self.has_frames(items) {
             return false;
         }
+        self.may_place(config, ring, items)
+    }
+
+    /// Whether the items are packets that may stand in the ring.
+    pub(crate) fn may_place(&self, config: &Config, ring: Ring, items: &Batch) -> bool
+        requires some { 1 ≤ length items.now }
+        requires ring { HasRing config.now ring }
+        requires queues { length self.now.queues ≡ length config.now.sockets }
+        ensures { IsTrue result ↔ MayPlace config.now self.now ring items.now }
+    {
         match ring {
             Ring::Fill(_) | Ring::Tx(_) => true,
             Ring::Comp(pair) => self.are_completed(config, pair, items),
@@ -299,7 +332,7 @@ impl Standing {
         produces(config, self.who, ring) && self.is_open(config, ring)
     }
 
-    fn is_open(&self, config: &Config, ring: Ring) -> bool
+    pub(crate) fn is_open(&self, config: &Config, ring: Ring) -> bool
         ensures { IsTrue result ↔ IsOpen config.now self.now.marked ring }
     {
         match ring {
@@ -322,7 +355,7 @@ impl Standing {
     }
 
     /// Whether the caller, whose mark it is, may set it to the number now.
-    fn is_time(&self, config: &Config, mark: Mark, value: u64) -> bool
+    pub(crate) fn is_time(&self, config: &Config, mark: Mark, value: u64) -> bool
         requires lawful { IsConfig config.now }
         requires rings { length self.now.places ≡ places_of config.now }
         requires owner { IsMarkOwner config.now self.now.who mark }
@@ -371,7 +404,7 @@ impl Standing {
     }
 
     /// Whether the caller has the items' frames, each but once.
-    fn has_frames(&self, items: &Batch) -> bool
+    pub(crate) fn has_frames(&self, items: &Batch) -> bool
         ensures { IsTrue result ↔ ((n : ℕ) → times n (numbers items.now) ≤ has self.now.sources n) }
     {
         for i in 0..items.len() {
@@ -385,7 +418,7 @@ impl Standing {
     }
 
     /// Whether the caller has a frame.
-    fn has(&self, frame: u32) -> bool
+    pub(crate) fn has(&self, frame: u32) -> bool
         ensures { IsTrue result ↔ (has self.now.sources frame ≡ 1) }
     {
         match self.sources.get(frame as usize) {
@@ -458,7 +491,7 @@ fn queue_of(alloc: Global, config: &Config, who: u32, socket: u32) -> Result<Que
 }
 
 /// Whether so many may be moved at once.
-fn is_few(n: u32) -> bool
+pub(crate) fn is_few(n: u32) -> bool
     ensures { IsTrue result ↔ ((1 ≤ n) × (n ≤ 32)) }
 {
     1 <= n && n <= MOST_ITEMS
@@ -496,7 +529,7 @@ fn number_of(item: &Item) -> Option<u32>
 }
 
 /// Whether each item may stand in the ring.
-fn are_items(geometry: &Geometry, ring: Ring, items: &Batch) -> bool
+pub(crate) fn are_items(geometry: &Geometry, ring: Ring, items: &Batch) -> bool
     ensures { IsTrue result ↔ All (IsItemOn geometry.now ring) items.now }
 {
     for i in 0..items.len() {
@@ -565,7 +598,7 @@ fn is_piece(config: &Config, item: &Item, last: bool) -> bool
     if frame.number() >= geometry.frames() || item.desc.addr != geometry.data_of(frame.number()) {
         return false;
     }
-    if item.desc.options == CONTINUED {
+    if item.desc.options == XDP_PKT_CONTD {
         config.sg() && !last && item.desc.len == payload
     } else {
         item.desc.options == 0 && 1 <= item.desc.len && item.desc.len <= payload

@@ -7,8 +7,9 @@ use Rattle.std.proofs.lemmas.Option.{get_or_from_slice_get}
 use Rattle.std.specs.Fn.{Shared}
 use denote.Ref.{Bor}
 use Rattle.xsk_umem.specs.PacketList.{PacketList}
-use Rattle.xsk_prog.specs.Rules.{Meets}
-use Rattle.xsk_prog.specs.declared.rule.Rule.{Rule}
+use Rattle.xsk_prog.specs.Chain.{rules_of}
+use Rattle.xsk_prog.specs.Rules.{MeetsChain}
+use Rattle.xsk_prog.specs.declared.program.XdpProgram.{XdpProgram}
 use Rattle.xsk_prog.specs.declared.rule.Verdict.{Verdict}
 use Rattle.xsk_turns.specs.Turns.{Judged}
 use Rattle.xsk_turns.specs.declared.disposal.Disposal.{Disposal}
@@ -53,11 +54,11 @@ each-weaker P Q w [] (v ∷ verdicts) h = absurd h
 each-weaker P Q w (p ∷ packets) [] h = absurd h
 each-weaker P Q w (p ∷ packets) (v ∷ verdicts) h = (w p v h.0, each-weaker P Q w packets verdicts h.1)
 
--- answers that meet the rule meet it
-pub all_meet : {F : Type 0} (g : Shared F (Bor (List ℕ) × (ℕ × Unit {0})) Verdict) (rule : Rule) (f : F) (queue : ℕ) (packets : List (List ℕ)) (verdicts : List Verdict)
-    → EachHas (IsGiven (IsAnswer g rule f queue)) packets verdicts → EachHas (IsGiven (λ packet verdict. Meets rule packet queue verdict)) packets verdicts
-all_meet g rule f queue packets verdicts h =
-    each-weaker (IsGiven (IsAnswer g rule f queue)) (IsGiven (λ packet verdict. Meets rule packet queue verdict))
+-- answers that meet the rules meet them
+pub all_meet : {F : Type 0} (g : Shared F (Bor (List ℕ) × (ℕ × Unit {0})) Verdict) (programs : List (XdpProgram F)) (queue : ℕ) (packets : List (List ℕ)) (verdicts : List Verdict)
+    → EachHas (IsGiven (IsAnswer g programs queue)) packets verdicts → EachHas (IsGiven (λ packet verdict. MeetsChain (rules_of programs) packet queue verdict)) packets verdicts
+all_meet g programs queue packets verdicts h =
+    each-weaker (IsGiven (IsAnswer g programs queue)) (IsGiven (λ packet verdict. MeetsChain (rules_of programs) packet queue verdict))
     (λ packet verdict k. record { asked = λ long. (k.asked long).meets; runt = k.runt }) packets verdicts h
 
 pub verdicts-judged : (P : List ℕ → Verdict → Type 0) (packets : List (List ℕ)) (verdicts : List Verdict) → EachHas P packets verdicts

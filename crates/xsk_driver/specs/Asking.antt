@@ -1,11 +1,11 @@
--- What a driver asks its port's program.
+-- What a driver asks its port's programs.
 use Rattle.std.specs.Prelude.{ℕ, List, map}
 use Rattle.std.specs.Fn.{Shared}
 use denote.Ref.{Bor}
 use Rattle.xsk_umem.specs.PacketList.{PacketList}
-use Rattle.xsk_prog.specs.Program.{Answers}
-use Rattle.xsk_prog.specs.Rules.{Meets}
-use Rattle.xsk_prog.specs.declared.rule.Rule.{Rule}
+use Rattle.xsk_prog.specs.Chain.{ChainAnswers, rules_of}
+use Rattle.xsk_prog.specs.Rules.{MeetsChain}
+use Rattle.xsk_prog.specs.declared.program.XdpProgram.{XdpProgram}
 use Rattle.xsk_prog.specs.declared.rule.Verdict.{Verdict}
 use Rattle.xsk_turns.specs.Turns.{Judged, Kept}
 use Rattle.xsk_driver.specs.Stands.{packet_at}
@@ -18,7 +18,7 @@ packets_by list numbers = map (packet_at list) numbers
 abbrev pub verdicts_in : Kept → List Verdict
 verdicts_in kept = map (λ (packet : Judged). packet.verdict) kept.coming
 
--- a verdict on a packet is an answer of the closure, and it meets the rule
-pub record IsAnswer {F : Type 0} (g : Shared F (Bor (List ℕ) × (ℕ × Unit {0})) Verdict) (rule : Rule) (f : F) (queue : ℕ) (packet : List ℕ) (verdict : Verdict) : Type 0 where
-  pub answers : Answers g f packet queue verdict
-  pub meets : Meets rule packet queue verdict
+-- a verdict on a packet is an answer of the chain, the first of its programs' that isn't Pass, and it meets their rules
+pub record IsAnswer {F : Type 0} (g : Shared F (Bor (List ℕ) × (ℕ × Unit {0})) Verdict) (programs : List (XdpProgram F)) (queue : ℕ) (packet : List ℕ) (verdict : Verdict) : Type 0 where
+  pub answers : ChainAnswers g programs packet queue verdict
+  pub meets : MeetsChain (rules_of programs) packet queue verdict

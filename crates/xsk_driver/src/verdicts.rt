@@ -1,13 +1,13 @@
-//! The verdicts of a driver's packets, for which the program is asked once.
+//! The verdicts of a driver's packets, for which the chain of programs is asked once.
 ghost use Rattle.std.specs.Prelude.{◌<◌, ◌≤◌, All, IfOk, length};
-ghost use Rattle.xsk_prog.specs.Program.{Obeys};
+ghost use Rattle.xsk_prog.specs.Chain.{AllObey};
 ghost use Rattle.xsk_turns.specs.Verdicts.{EachHas, IsGiven};
 ghost use Rattle.xsk_driver.specs.Asking.{IsAnswer, packets_by};
 ghost use Rattle.xsk_driver.specs.Sent.{IsShort};
 
 use crate::machine::LEAST_BYTES;
 use std::alloc::Global;
-use xsk_prog::{Verdict, XdpProgram};
+use xsk_prog::{Chain, Verdict};
 use xsk_umem::{OutOfMemory, PacketList};
 
 /// The verdicts of the packets of these numbers, in order, each asked for once.
@@ -16,17 +16,17 @@ pub(crate) fn ask_all<F: Fn(&[u8], u32) -> Verdict>(
     packets: &PacketList,
     numbers: &[u32],
     queue: u32,
-    program: &XdpProgram<F>,
+    chain: &Chain<F>,
 ) -> Result<Vec<Verdict>, OutOfMemory>
     requires known { All (λ n. n < length packets.now.packets) numbers.now }
     requires short { All IsShort packets.now.packets }
     requires queue { queue < 4 }
-    requires obeys { Obeys F.Fn program.now.rule program.now.decide }
-    ensures { IfOk result (λ verdicts. EachHas (IsGiven (IsAnswer F.Fn program.now.rule program.now.decide queue)) (packets_by packets.now numbers.now) verdicts.items) }
+    requires obeys { AllObey F.Fn chain.now }
+    ensures { IfOk result (λ verdicts. EachHas (IsGiven (IsAnswer F.Fn chain.now queue)) (packets_by packets.now numbers.now) verdicts.items) }
 {
     let mut verdicts = Vec::with_capacity(alloc, numbers.len())?;
     for number in numbers {
-        verdicts.push_reserved(ask_once(packets.get(*number), queue, program));
+        verdicts.push_reserved(ask_once(packets.get(*number), queue, chain));
     }
     Ok(verdicts)
 }
@@ -35,15 +35,15 @@ pub(crate) fn ask_all<F: Fn(&[u8], u32) -> Verdict>(
 fn ask_once<F: Fn(&[u8], u32) -> Verdict>(
     packet: &[u8],
     queue: u32,
-    program: &XdpProgram<F>,
+    chain: &Chain<F>,
 ) -> Verdict
     requires short { length packet.now ≤ 262144 }
     requires queue { queue < 4 }
-    requires obeys { Obeys F.Fn program.now.rule program.now.decide }
-    ensures { IsGiven (IsAnswer F.Fn program.now.rule program.now.decide queue) packet.now result }
+    requires obeys { AllObey F.Fn chain.now }
+    ensures { IsGiven (IsAnswer F.Fn chain.now queue) packet.now result }
 {
     if packet.len() < LEAST_BYTES {
         return Verdict::Drop;
     }
-    program.verdict(packet, queue)
+    chain.verdict(packet, queue)
 }

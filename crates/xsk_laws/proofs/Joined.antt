@@ -34,12 +34,13 @@ use Rattle.xsk_turns.specs.declared.wire.Wire.TheVariants.{Wait}
 use Rattle.xsk_turns.proofs.Delivering.{with_disposal_is}
 use Rattle.xsk_turns.specs.Law.{IsLaidOut, IsSized, DisposedAsSaid, DeliversInOrder, DeliversSized, NothingReceivedLate, DrainsTx, CompletesAll}
 use Rattle.xsk_turns.specs.AppOwned.{IsApp}
-use Rattle.xsk_turns.specs.AppTurns.{pair_of, rx_of, app_start_by, app_turn}
-use Rattle.xsk_turns.specs.AppLaw.{AreAltered, LanesAltered, NothingSentLate, DrainsRx}
+use Rattle.xsk_turns.specs.AppTurns.{pair_of, rx_of}
+use Rattle.xsk_turns.specs.AppLaw.{AreAltered}
+use Rattle.xsk_turns.specs.Hands.{HandsPassOn, HandsSendNothingLate, HandsDrainRx}
 use Rattle.xsk_turns.proofs.Mangling.{altered_same}
 use Rattle.xsk_laws.specs.Expected.{received, received_judged, expected}
 use Rattle.xsk_laws.specs.Forwarded.{forwarded}
-use Rattle.xsk_laws.specs.Laws.{received_by, AreWholeRuns, IsPlace}
+use Rattle.xsk_laws.specs.Laws.{received_by, AreWholeRunsBy, IsPlace}
 use Rattle.xsk_model.proofs.Closings.{is_mark-self}
 use Rattle.xsk_laws.proofs.Emptied.{has_mark}
 use Rattle.xsk_laws.proofs.Passed.{IsDrained, passed}
@@ -58,9 +59,9 @@ pub record Workers : Type 0 where
   pub none_received_late : NothingReceivedLate
   pub drains_tx : DrainsTx
   pub completes : CompletesAll
-  pub altered : LanesAltered
-  pub none_sent_late : NothingSentLate
-  pub drains_rx : DrainsRx
+  pub altered : HandsPassOn
+  pub none_sent_late : HandsSendNothingLate
+  pub drains_rx : HandsDrainRx
 
 pub seat_is : (wire : Wire) (c : Config) (p q k d s : ℕ) → IsAt c p q k d s → seat_of wire c d ≡ seat_at wire c d p q
 seat_is wire c p q k d s at =
@@ -71,7 +72,7 @@ pub input_is : (c : Config) (lists : List PacketList) (verdicts : List (List Ver
 input_is c lists verdicts p q k d s at =
     ap (λ n. judged (received c lists n (pair_at c.pairs d).queue) (get_or verdicts d [])) at.pair_port ∙ ap (λ n. judged (received c lists p n) (get_or verdicts d [])) at.pair_queue
 
-module _ (w : Workers) (manner : Manner) (wire : Wire) (c : Config) (lists : List PacketList) (verdicts : List (List Verdict)) (frames : List Frame) (h : List Entry) (p q k : ℕ) (run : AreWholeRuns manner wire c lists verdicts frames h) (place : IsPlace c p q k) where
+module _ (w : Workers) (hands : ℕ) (manner : Manner) (wire : Wire) (c : Config) (lists : List PacketList) (verdicts : List (List Verdict)) (frames : List Frame) (h : List Entry) (p q k : ℕ) (run : AreWholeRunsBy hands manner wire c lists verdicts frames h) (place : IsPlace c p q k) where
   abbrev o : ℕ
   o = paired_port p
 
@@ -152,7 +153,7 @@ module _ (w : Workers) (manner : Manner) (wire : Wire) (c : Config) (lists : Lis
     listed = listed_rx;
     found = subst (λ n. (draining_of told_rx (Rx s) (own n h)).empty ≡ true) (sym app_at_o)
         (subst (λ n. (draining_of told_rx (Rx n) (own (caller_of c a) h)).empty ≡ true) (lane_rx c p q k o place.in_queues place.in_classes pair.there)
-        (w.drains_rx manner c a (own (caller_of c a) h) (lane_on c o k) one (run.apps a one.known) (lane_below c o k place.in_classes)));
+        (w.drains_rx hands manner c a (own (caller_of c a) h) (lane_on c o k) one (fit (caller_of c a)) (run.apps a one.known) (lane_below c o k place.in_classes)));
     none_late = subst (λ n. (telling_of (RxDone e) (Rx s) (own n h)).late ≡ false) (sym at_o.driver)
         (w.none_received_late wire c e s (received_by c lists verdicts e) (own e h) (whole_run (turn (seat_of wire c e)) (start (classes_of c) (received_by c lists verdicts e)) (own e h) (run.drivers e at_o.pair_known)));
   }
@@ -169,7 +170,7 @@ module _ (w : Workers) (manner : Manner) (wire : Wire) (c : Config) (lists : Lis
   lane_all =
       subst (λ n. AreAltered c.geometry manner.mangle (peeked_of (Rx n) (own (caller_of c a) h)) (submitted_of (Tx t) (own (caller_of c a) h))) (lane_rx c p q k o place.in_queues place.in_classes pair.there)
       (subst (λ n. AreAltered c.geometry manner.mangle (peeked_of (Rx (rx_of c a (lane_on c o k))) (own (caller_of c a) h)) (submitted_of (Tx n) (own (caller_of c a) h))) (lane_tx c p q k o place.in_queues place.in_classes pair.here)
-      (w.altered manner c a (own (caller_of c a) h) (lane_on c o k) one (run.apps a one.known) (lane_below c o k place.in_classes)))
+      (w.altered hands manner c a (own (caller_of c a) h) (lane_on c o k) one (fit (caller_of c a)) (run.apps a one.known) (lane_below c o k place.in_classes)))
 
   -- ---- the TX ring
 
@@ -188,7 +189,7 @@ module _ (w : Workers) (manner : Manner) (wire : Wire) (c : Config) (lists : Lis
         (subst (λ n. (draining_of (TxDone n ∷ []) (Tx t) (own d h)).empty ≡ true) same_app
         (w.drains_tx wire c d k (received_by c lists verdicts d) (own d h) (run.drivers d at_p.pair_known) place.in_classes));
     none_late = subst (λ n. (telling_of (TxDone a) (Tx t) (own n h)).late ≡ false) (sym app_at_p)
-        (w.none_sent_late manner c a t (own (caller_of c a) h) one (whole_run (app_turn c a) (app_start_by manner c) (own (caller_of c a) h) (run.apps a one.known)));
+        (w.none_sent_late hands manner c a t (own (caller_of c a) h) one (fit (caller_of c a)) (run.apps a one.known));
   }
 
   peeked_altered : AreAltered c.geometry manner.mangle (submitted_of (Rx s) (own e h)) (peeked_of (Tx t) (own d h))

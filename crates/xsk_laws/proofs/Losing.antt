@@ -27,12 +27,13 @@ use Rattle.xsk_model.proofs.Seats.{IsAt, is_at}
 use Rattle.xsk_model.proofs.Theorems.{own_entries}
 use Rattle.xsk_turns.proofs.Owning.{all_fit, redirect_here}
 use Rattle.xsk_laws.specs.Expected.{received_judged, is_redirected}
-use Rattle.xsk_laws.specs.Laws.{AreWholeRuns}
+use Rattle.xsk_laws.specs.Laws.{AreWholeRunsBy}
 use Rattle.xsk_laws.proofs.Filters.{IsBoundTo, seat_at, is_fit, to_fit, delivered_is}
 use Rattle.xsk_laws.proofs.Places.{are_paired}
 use Rattle.xsk_laws.proofs.Sockets.{at_pair}
 use Rattle.xsk_laws.proofs.Joined.{seat_is, input_is}
 use Rattle.xsk_laws.specs.Lost.{is_lost, lost, unlost, disposals_on, IsToSomeClass, ForwardedIsUnlost, OnlyRedirectedAreLost}
+use Rattle.xsk_turns.proofs.Delivering.{bytes_if}
 
 -- ---- one packet
 
@@ -161,10 +162,6 @@ never_said seat packet = by (redirect_to seat.config seat.port seat.queue (slice
     by r None e = never_to seat packet.bytes r
     by r (Some d) e = untried_has (λ d. is_lost d ≡ false) refl refl refl refl seat packet d e
 
-bytes_if : (b : Bool) (p : Judged) (l : List Judged) → cond b (p.bytes ∷ bytes_in l) (bytes_in l) ≡ bytes_in (cond b (p ∷ l) l)
-bytes_if true p l = refl
-bytes_if false p l = refl
-
 module _ (c : Config) (pair : ℕ) (seat : Seat) where
   abbrev goes : ℕ → Judged → Bool
   goes s packet = is_to s (disposal_in seat packet)
@@ -202,7 +199,7 @@ module _ (c : Config) (pair : ℕ) (seat : Seat) where
 
 -- ---- in a history of whole runs
 
-module _ (manner : Manner) (wire : Wire) (c : Config) (lists : List PacketList) (verdicts : List (List Verdict)) (frames : List Frame) (h : List Entry) (p q : ℕ) (run : AreWholeRuns manner wire c lists verdicts frames h) (port : p < c.ports) (queue : q < c.queues) where
+module _ (hands : ℕ) (manner : Manner) (wire : Wire) (c : Config) (lists : List PacketList) (verdicts : List (List Verdict)) (frames : List Frame) (h : List Entry) (p q : ℕ) (run : AreWholeRunsBy hands manner wire c lists verdicts frames h) (port : p < c.ports) (queue : q < c.queues) where
   abbrev e : ℕ
   e = driver_on c p q
 
@@ -250,9 +247,9 @@ module _ (manner : Manner) (wire : Wire) (c : Config) (lists : List PacketList) 
   only_redirected = lost_were c e (seat_at wire c e p q) (IsToSomeClass c p q) of_class input (disposals_on wire c h lists verdicts p q) fair
 
 pub forwarded_is_unlost : ForwardedIsUnlost
-forwarded_is_unlost manner wire c lists verdicts frames h p q k run place =
+forwarded_is_unlost hands manner wire c lists verdicts frames h p q k run place =
     let pair = are_paired c.ports p run.history.opened.config.ports place.in_ports in
-    delivered_as_expected manner wire c lists verdicts frames h (paired_port p) q run pair.in_ports place.in_queues k place.in_classes
+    delivered_as_expected hands manner wire c lists verdicts frames h (paired_port p) q run pair.in_ports place.in_queues k place.in_classes
 
 pub only_redirected_are_lost : OnlyRedirectedAreLost
-only_redirected_are_lost manner wire c lists verdicts frames h p q run port queue = only_redirected manner wire c lists verdicts frames h p q run port queue
+only_redirected_are_lost hands manner wire c lists verdicts frames h p q run port queue = only_redirected hands manner wire c lists verdicts frames h p q run port queue

@@ -4,7 +4,8 @@ use Rattle.std.specs.List.{filter}
 use Rattle.std.proofs.lemmas.Bool.{eq-eqb}
 use Rattle.xsk_model.specs.Config.{Config, map_of}
 use Rattle.xsk_model.specs.Steering.{packet_queue, packet_cell, packet_limit, paired_port, driver_on, socket_on}
-use Rattle.xsk_prog.specs.Rules.{Meets}
+use Rattle.xsk_prog.specs.Rules.{MeetsChain}
+use Rattle.xsk_prog.proofs.Chains.{one_chain_verdict}
 use Rattle.xsk_prog.specs.declared.rule.Rule.TheVariants.{Redirect as ByClass}
 use Rattle.xsk_prog.specs.declared.rule.Verdict.{Verdict}
 use Rattle.xsk_turns.specs.Inputs.{packets_of_port, packets_of_queue}
@@ -41,19 +42,19 @@ by_length true true z h = h refl
 by_length true false z h = refl
 by_length false y z h = refl
 
-bytes_if : (b : Bool) (p : Judged) (ps : List Judged) (qs : List (List ℕ)) → bytes_in ps ≡ qs → bytes_in (cond b (p ∷ ps) ps) ≡ cond b (p.bytes ∷ qs) qs
+pub bytes_if : (b : Bool) (p : Judged) (ps : List Judged) (qs : List (List ℕ)) → bytes_in ps ≡ qs → bytes_in (cond b (p ∷ ps) ps) ≡ cond b (p.bytes ∷ qs) qs
 bytes_if true p ps qs e = ap (λ rs. p.bytes ∷ rs) e
 bytes_if false p ps qs e = e
 
 module _ (c : Config) (o : ℕ) (own : HasOwnSockets c) (port : o < c.ports) where
   -- a packet that is redirected by its class goes on where it has such a length
-  goes_on : (packet : List ℕ) (verdict : Verdict) → IsGiven (λ p v. Meets (ByClass 1) p 0 v) packet verdict
+  goes_on : (packet : List ℕ) (verdict : Verdict) → IsGiven (λ p v. MeetsChain (ByClass 1 ∷ []) p 0 v) packet verdict
       → is_redirected c o 0 0 (record { bytes = packet; verdict = verdict }) ≡ has_length c packet
   goes_on packet verdict given =
       by_length (leb 14 (length packet)) (leb (length packet) (packet_limit c)) (leads_to (map_of c o) (socket_on c o 0 0) verdict)
-      (λ long. ap (leads_to (map_of c o) (socket_on c o 0 0)) (given.asked (leb-true 14 (length packet) long)) ∙ own_cell c o packet own port)
+      (λ long. ap (leads_to (map_of c o) (socket_on c o 0 0)) (one_chain_verdict (ByClass 1 ∷ []) packet 0 verdict refl (given.asked (leb-true 14 (length packet) long))) ∙ own_cell c o packet own port)
 
-  all_go_on : (packets : List (List ℕ)) (verdicts : List Verdict) → EachHas (IsGiven (λ p v. Meets (ByClass 1) p 0 v)) packets verdicts
+  all_go_on : (packets : List (List ℕ)) (verdicts : List Verdict) → EachHas (IsGiven (λ p v. MeetsChain (ByClass 1 ∷ []) p 0 v)) packets verdicts
       → bytes_in (filter (is_redirected c o 0 0) (judged packets verdicts)) ≡ filter (has_length c) packets
   all_go_on [] [] h = refl
   all_go_on [] (verdict ∷ verdicts) h = absurd h

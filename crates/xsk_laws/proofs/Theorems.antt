@@ -14,7 +14,7 @@ use Rattle.xsk_turns.specs.declared.manner.Manner.{Manner}
 use Rattle.xsk_turns.specs.declared.wire.Wire.{Wire}
 use Rattle.xsk_laws.specs.Expected.{received, received_judged, expected}
 use Rattle.xsk_laws.specs.Forwarded.{forwarded}
-use Rattle.xsk_laws.specs.Laws.{AreWholeRuns, SentIsForwarded, SentIsExpected, AllAreForwarded, NothingElseIsSent, AllIsForwarded, AllIsExpected, SentIsWithin}
+use Rattle.xsk_laws.specs.Laws.{AreWholeRunsBy, SentIsForwarded, SentIsExpected, AllAreForwarded, NothingElseIsSent, AllIsForwarded, AllIsExpected, SentIsWithin}
 use Rattle.xsk_model.proofs.Seats.{IsAt, is_at}
 use Rattle.xsk_laws.proofs.Machines.{workers}
 use Rattle.xsk_laws.proofs.Joined.{sent_forwarded, sent_fewer, sent_expected}
@@ -24,14 +24,14 @@ use Rattle.xsk_laws.proofs.Sockets.{sockets_are}
 use Rattle.xsk_laws.proofs.Sorted.{sorted}
 
 pub sent_is_forwarded : SentIsForwarded
-sent_is_forwarded manner wire c lists verdicts frames h port queue class none run place = sent_forwarded workers manner wire c lists verdicts frames h port queue class run place none
+sent_is_forwarded hands manner wire c lists verdicts frames h port queue class none run place = sent_forwarded workers hands manner wire c lists verdicts frames h port queue class run place none
 
 pub sent_is_expected : SentIsExpected
-sent_is_expected manner wire c lists verdicts frames h port queue class none waits run place = sent_expected workers manner wire c lists verdicts frames h port queue class run place none waits
+sent_is_expected hands manner wire c lists verdicts frames h port queue class none waits run place = sent_expected workers hands manner wire c lists verdicts frames h port queue class run place none waits
 
 -- ---- all sockets of a queue
 
-module _ (manner : Manner) (wire : Wire) (c : Config) (lists : List PacketList) (verdicts : List (List Verdict)) (frames : List Frame) (h : List Entry) (p q : ℕ) (run : AreWholeRuns manner wire c lists verdicts frames h) (port : p < c.ports) (queue : q < c.queues) where
+module _ (hands : ℕ) (manner : Manner) (wire : Wire) (c : Config) (lists : List PacketList) (verdicts : List (List Verdict)) (frames : List Frame) (h : List Entry) (p q : ℕ) (run : AreWholeRunsBy hands manner wire c lists verdicts frames h) (port : p < c.ports) (queue : q < c.queues) where
   abbrev d : ℕ
   d = driver_on c p q
 
@@ -72,7 +72,7 @@ module _ (manner : Manner) (wire : Wire) (c : Config) (lists : List PacketList) 
   within : (f : List ℕ → ℕ) → IsMeasured f → total f (sent c h d) ≤ total f (received c lists (paired_port p) q)
   within f is =
       let each : (k : ℕ) → k < classes_of c → total f (sent_from c ((d * classes_of c + k) ∷ []) [] (own d h)) ≤ total f (with_disposal (e * classes_of c + k) input ds) =
-      λ k class. sent_fewer workers manner wire c lists verdicts frames h p q k run (record { in_ports = port; in_queues = queue; in_classes = class }) f is in
+      λ k class. sent_fewer workers hands manner wire c lists verdicts frames h p q k run (record { in_ports = port; in_queues = queue; in_classes = class }) f is in
       let few = sent_few f c (own d h) input ds (d * classes_of c) (e * classes_of c) (classes_of c) 0 (classes_of c) (omega arith) each in
       let start : d * classes_of c + 0 ≡ d * classes_of c = omega arith in
       let all : total f (sent c h d) ≡ total f (sent_from c (run_of (d * classes_of c + 0) (classes_of c)) [] (own d h)) =
@@ -86,29 +86,29 @@ module _ (manner : Manner) (wire : Wire) (c : Config) (lists : List PacketList) 
       )
 
 pub all_are_forwarded : AllAreForwarded
-all_are_forwarded manner wire c lists verdicts frames h p q none run port queue =
-    sorted c (forwarded wire c h lists verdicts p q) (driver_on c p q * classes_of c) (own (driver_on c p q) h) (sent c h (driver_on c p q)) (all_sent manner wire c lists verdicts frames h p q run port queue)
-    (λ k class. sent_forwarded workers manner wire c lists verdicts frames h p q k run (record { in_ports = port; in_queues = queue; in_classes = class }) none)
+all_are_forwarded hands manner wire c lists verdicts frames h p q none run port queue =
+    sorted c (forwarded wire c h lists verdicts p q) (driver_on c p q * classes_of c) (own (driver_on c p q) h) (sent c h (driver_on c p q)) (all_sent hands manner wire c lists verdicts frames h p q run port queue)
+    (λ k class. sent_forwarded workers hands manner wire c lists verdicts frames h p q k run (record { in_ports = port; in_queues = queue; in_classes = class }) none)
 
 pub nothing_else_is_sent : NothingElseIsSent
-nothing_else_is_sent manner wire c lists verdicts frames h p q none waits run port queue =
-    sorted c (expected c lists verdicts p q) (driver_on c p q * classes_of c) (own (driver_on c p q) h) (sent c h (driver_on c p q)) (all_sent manner wire c lists verdicts frames h p q run port queue)
-    (λ k class. sent_expected workers manner wire c lists verdicts frames h p q k run (record { in_ports = port; in_queues = queue; in_classes = class }) none waits)
+nothing_else_is_sent hands manner wire c lists verdicts frames h p q none waits run port queue =
+    sorted c (expected c lists verdicts p q) (driver_on c p q * classes_of c) (own (driver_on c p q) h) (sent c h (driver_on c p q)) (all_sent hands manner wire c lists verdicts frames h p q run port queue)
+    (λ k class. sent_expected workers hands manner wire c lists verdicts frames h p q k run (record { in_ports = port; in_queues = queue; in_classes = class }) none waits)
 
 pub all_is_forwarded : AllIsForwarded
-all_is_forwarded manner wire c lists verdicts frames h p q none run port queue one =
-    only_sent manner wire c lists verdicts frames h p q run port queue one
-    ∙ sent_forwarded workers manner wire c lists verdicts frames h p q 0 run (record { in_ports = port; in_queues = queue; in_classes = omega (arith, one) }) none
+all_is_forwarded hands manner wire c lists verdicts frames h p q none run port queue one =
+    only_sent hands manner wire c lists verdicts frames h p q run port queue one
+    ∙ sent_forwarded workers hands manner wire c lists verdicts frames h p q 0 run (record { in_ports = port; in_queues = queue; in_classes = omega (arith, one) }) none
 
 pub all_is_expected : AllIsExpected
-all_is_expected manner wire c lists verdicts frames h p q none waits run port queue one =
-    only_sent manner wire c lists verdicts frames h p q run port queue one
-    ∙ sent_expected workers manner wire c lists verdicts frames h p q 0 run (record { in_ports = port; in_queues = queue; in_classes = omega (arith, one) }) none waits
+all_is_expected hands manner wire c lists verdicts frames h p q none waits run port queue one =
+    only_sent hands manner wire c lists verdicts frames h p q run port queue one
+    ∙ sent_expected workers hands manner wire c lists verdicts frames h p q 0 run (record { in_ports = port; in_queues = queue; in_classes = omega (arith, one) }) none waits
 
 pub sent_is_within : SentIsWithin
-sent_is_within manner wire c lists verdicts frames h p q run port queue =
+sent_is_within hands manner wire c lists verdicts frames h p q run port queue =
     let sent_here = sent c h (driver_on c p q) in
     let input = received c lists (paired_port p) q in (
-      omega (arith, within manner wire c lists verdicts frames h p q run port queue (λ _. 1) counts, total-one sent_here, total-one input),
-      omega (arith, within manner wire c lists verdicts frames h p q run port queue (λ (x : List ℕ). length x) sizes, total-bytes sent_here, total-bytes input),
+      omega (arith, within hands manner wire c lists verdicts frames h p q run port queue (λ _. 1) counts, total-one sent_here, total-one input),
+      omega (arith, within hands manner wire c lists verdicts frames h p q run port queue (λ (x : List ℕ). length x) sizes, total-bytes sent_here, total-bytes input),
     )

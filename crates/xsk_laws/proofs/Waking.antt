@@ -48,7 +48,7 @@ same_both true x = refl
 same_both false x = refl
 
 -- what all of a caller's entries meet, those before the last meet, and the last where it is the caller's
-sets_front : (l m : List Told) → SetsKicks (l ++ m) → SetsKicks l × SetsKicks m
+pub sets_front : (l m : List Told) → SetsKicks (l ++ m) → SetsKicks l × SetsKicks m
 sets_front [] m h = (tt, h)
 sets_front (t ∷ l) m h = let rest = sets_front l m h.1 in ((h.0, rest.0), rest.1)
 

@@ -15,10 +15,11 @@ use Rattle.xsk_model.proofs.Along.{along}
 use Rattle.xsk_model.proofs.MarkNumbers.{opening_mark_is}
 use Rattle.xsk_model.proofs.Folds.{own-append}
 use Rattle.xsk_model.proofs.Histories.{history_first}
+use Rattle.xsk_model.proofs.Theorems.{own_entries}
 use Rattle.xsk_model.proofs.Roles.{IsPlaced, app_below, pair_on_found, pair_on_only, ring_placed}
 use Rattle.xsk_turns.specs.AppLaw.{SetsKicks}
 use Rattle.xsk_turns.specs.AppOwned.{IsApp}
-use Rattle.xsk_turns.specs.AppTurns.{app_turn, app_start_by, IsAppRunBy}
+use Rattle.xsk_turns.specs.Hands.{IsAppRunOf}
 use Rattle.xsk_turns.specs.Turns.{Judged, seat_of, start, turn, IsDriverRun}
 use Rattle.xsk_turns.specs.Owned.{IsSteady, socket_at_class}
 use Rattle.xsk_turns.specs.Wakes.{IsParked, IsOwedOn, IsOwedEnd, app_for, owes_on, owes_end, IsWoken, NoWakeIsLost}
@@ -26,12 +27,13 @@ use Rattle.xsk_turns.specs.Watching.{Watching, IsWatched, WatchesAll, watching_o
 use Rattle.xsk_turns.specs.Workers.{input_of}
 use Rattle.xsk_turns.specs.declared.manner.Manner.{Manner}
 use Rattle.xsk_turns.specs.declared.wire.Wire.{Wire}
-use Rattle.xsk_turns.proofs.AppWaking.{only_sets_kicks}
+use Rattle.xsk_turns.proofs.Hands.{hands_only_set_kicks, whole_run_of}
+use Rattle.xsk_turns.proofs.Owning.{all_fit}
 use Rattle.xsk_turns.proofs.ScriptLemmas.{run_front, whole_run}
 use Rattle.xsk_turns.proofs.Watching.{parked_watches}
 use Rattle.xsk_laws.specs.Laws.{received_by}
-use Rattle.xsk_laws.specs.Woken.{NoWakesAreLost, NoneIsLostInWholeRuns}
-use Rattle.xsk_laws.proofs.Waking.{IsKept, IsTarget, IsKeptOn, keeps_on}
+use Rattle.xsk_laws.specs.Woken.{NoWakesAreLost, NoHandLosesWakes, NoneIsLostInWholeRuns}
+use Rattle.xsk_laws.proofs.Waking.{IsKept, IsTarget, IsKeptOn, sets_front, keeps_on}
 use Rattle.xsk_laws.proofs.WakingEnd.{IsEnding, IsKeptAtEnd, keeps_at_end}
 
 -- a flag that is 1 is set, so what it stands for is watched, and the wake comes
@@ -45,8 +47,8 @@ wakes s owes flag kick due watched h set x = h.woken (watched (is_set s.set flag
 none_seen : (owes : Bool) (flag kick : ℕ) (due : Type 0) → flag ≡ 0 → IsKept (record { set = false; watched = false }) owes flag kick due
 none_seen owes flag kick due e = record { set = e; armed = λ watched. absurd (cc); woken = λ watched x. absurd (cc) }
 
-module _ (manner : Manner) (wire : Wire) (c : Config) (input : List Judged) (frames : List Frame) (h : List Entry) (d : ℕ) (steady : IsSteady c) (history : IsHistory c frames h) (below : d < length c.pairs)
-    (driver : IsDriverRun wire c d input (own d h)) (app : IsAppRunBy manner c (app_for c d) (own (app_of c (Fill d)) h)) where
+module _ (wire : Wire) (c : Config) (input : List Judged) (frames : List Frame) (h : List Entry) (d : ℕ) (steady : IsSteady c) (history : IsHistory c frames h) (below : d < length c.pairs)
+    (driver : IsDriverRun wire c d input (own d h)) (sets : SetsKicks (own (app_of c (Fill d)) h)) where
   config : IsConfig c
   config = history.opened.config
 
@@ -60,9 +62,6 @@ module _ (manner : Manner) (wire : Wire) (c : Config) (input : List Judged) (fra
 
   one : IsApp c (app_for c d)
   one = record { config = config; steady = steady; geometry = history.opened.geometry; known = known }
-
-  sets : SetsKicks (own w h)
-  sets = only_sets_kicks manner c (app_for c d) (own w h) one app
 
   waker : (who : ℕ) → (who ≡ d) ⊎ (who ≡ w) → (who ≡ d → ⊥) → who ≡ w
   waker who either other = ⊎_elim (λ (e : who ≡ d). absurd (other e)) (λ (e : who ≡ w). e) either
@@ -168,28 +167,48 @@ module _ (manner : Manner) (wire : Wire) (c : Config) (input : List Judged) (fra
   pub no_wake_is_lost : NoWakeIsLost c frames h d
   no_wake_is_lost = record { fill = fill; tx = λ t has mine. tx t has mine; at_end = at_end }
 
+-- the application of a pair
+paired_app : (c : Config) (frames : List Frame) (h : List Entry) (d : ℕ) → IsSteady c → IsHistory c frames h → d < length c.pairs → IsApp c (app_for c d)
+paired_app c frames h d steady history below =
+    let config = history.opened.config in
+    let at : IsPlaced c (Fill d) = ring_placed c (Fill d) config below in
+    record { config = config; steady = steady; geometry = history.opened.geometry; known = app_below c.ports c.queues (pair_at c.pairs d).port (pair_at c.pairs d).queue config.ports at.port at.queue }
+
+-- a front of calls that only set kicks is one
+sets_first : (who : ℕ) (h more : List Entry) → SetsKicks (own who (h ++ more)) → SetsKicks (own who h)
+sets_first who h more sets = (sets_front (own who h) (own who more) (subst SetsKicks (own-append who h more) sets)).0
+
+driver_first : (wire : Wire) (c : Config) (input : List Judged) (d : ℕ) (h more : List Entry) → IsDriverRun wire c d input (own d (h ++ more)) → IsDriverRun wire c d input (own d h)
+driver_first wire c input d h more run = run_front (turn (seat_of wire c d)) (start (classes_of c) input) (own d h) (own d more) (subst (IsDriverRun wire c d input) (own-append d h more) run)
+
+-- by any number of hands, where the driver's calls are a run, and the application's too
+lost_by_none : (hands : ℕ) (manner : Manner) (wire : Wire) (c : Config) (input : List Judged) (frames : List Frame) (h more : List Entry) (d : ℕ) → IsSteady c → IsHistory c frames (h ++ more) → d < length c.pairs
+    → IsDriverRun wire c d input (own d (h ++ more)) → IsAppRunOf hands manner c (app_for c d) (own (app_of c (Fill d)) (h ++ more)) → NoWakeIsLost c frames h d
+lost_by_none hands manner wire c input frames h more d steady history below driver app =
+    let w = app_of c (Fill d) in
+    let one = paired_app c frames (h ++ more) d steady history below in
+    let fit = all_fit c w [] (own w (h ++ more)) (own_entries c frames (h ++ more) w history) in
+    no_wake_is_lost wire c input frames h d steady (history_first c frames h more history) below (driver_first wire c input d h more driver)
+    (sets_first w h more (hands_only_set_kicks hands manner c (app_for c d) (own w (h ++ more)) one fit app))
+
+pub no_hand_loses_wakes : NoHandLosesWakes
+no_hand_loses_wakes hands s frames h more d are below =
+    let c = s.config in
+    let known : app_for c d < apps_of c = (paired_app c frames (h ++ more) d are.steady are.history below).known in
+    lost_by_none hands s.manner s.wire c (input_of s d) frames h more d are.steady are.history below ((are.runs d (omega (arith, below))).driver below)
+    ((are.runs (caller_of c (app_for c d)) (omega (arith, known))).app (app_for c d) refl)
+
 pub no_wakes_are_lost : NoWakesAreLost
 no_wakes_are_lost s frames h more d are below =
     let c = s.config in
-    let config = are.history.opened.config in
-    let a = app_for c d in
-    let at : IsPlaced c (Fill d) = ring_placed c (Fill d) config below in
-    let known : a < apps_of c = app_below c.ports c.queues (pair_at c.pairs d).port (pair_at c.pairs d).queue config.ports at.port at.queue in
-    let driver = (are.runs d (omega (arith, below))).driver below in
-    let app = (are.runs (caller_of c a) (omega (arith, known))).app a refl in
-    no_wake_is_lost s.manner s.wire c (input_of s d) frames h d are.steady (history_first c frames h more are.history) below
-    (run_front (turn (seat_of s.wire c d)) (start (classes_of c) (input_of s d)) (own d h) (own d more) (subst (IsDriverRun s.wire c d (input_of s d)) (own-append d h more) driver))
-    (run_front (app_turn c a) (app_start_by s.manner c) (own (caller_of c a) h) (own (caller_of c a) more) (subst (IsAppRunBy s.manner c a) (own-append (caller_of c a) h more) app))
+    let known : app_for c d < apps_of c = (paired_app c frames (h ++ more) d are.steady are.history below).known in
+    lost_by_none 1 s.manner s.wire c (input_of s d) frames h more d are.steady are.history below ((are.runs d (omega (arith, below))).driver below)
+    ((are.runs (caller_of c (app_for c d)) (omega (arith, known))).app (app_for c d) refl)
 
 pub none_is_lost_in_whole_runs : NoneIsLostInWholeRuns
-none_is_lost_in_whole_runs manner wire c lists verdicts frames h more d are below =
-    let config = are.history.opened.config in
-    let a = app_for c d in
-    let at : IsPlaced c (Fill d) = ring_placed c (Fill d) config below in
-    let known : a < apps_of c = app_below c.ports c.queues (pair_at c.pairs d).port (pair_at c.pairs d).queue config.ports at.port at.queue in
+none_is_lost_in_whole_runs hands manner wire c lists verdicts frames h more d are below =
     let input = received_by c lists verdicts d in
-    let driver : IsDriverRun wire c d input (own d (h ++ more)) = whole_run (turn (seat_of wire c d)) (start (classes_of c) input) (own d (h ++ more)) (are.drivers d below) in
-    let app : IsAppRunBy manner c a (own (caller_of c a) (h ++ more)) = whole_run (app_turn c a) (app_start_by manner c) (own (caller_of c a) (h ++ more)) (are.apps a known) in
-    no_wake_is_lost manner wire c input frames h d are.steady (history_first c frames h more are.history) below
-    (run_front (turn (seat_of wire c d)) (start (classes_of c) input) (own d h) (own d more) (subst (IsDriverRun wire c d input) (own-append d h more) driver))
-    (run_front (app_turn c a) (app_start_by manner c) (own (caller_of c a) h) (own (caller_of c a) more) (subst (IsAppRunBy manner c a) (own-append (caller_of c a) h more) app))
+    let known : app_for c d < apps_of c = (paired_app c frames (h ++ more) d are.steady are.history below).known in
+    lost_by_none hands manner wire c input frames h more d are.steady are.history below
+    (whole_run (turn (seat_of wire c d)) (start (classes_of c) input) (own d (h ++ more)) (are.drivers d below))
+    (whole_run_of hands manner c (app_for c d) (own (caller_of c (app_for c d)) (h ++ more)) (are.apps (app_for c d) known))

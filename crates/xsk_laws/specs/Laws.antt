@@ -18,8 +18,8 @@ use Rattle.xsk_prog.specs.declared.rule.Verdict.{Verdict}
 use Rattle.xsk_turns.specs.Owned.{IsSteady}
 use Rattle.xsk_turns.specs.Stranded.{stranded_of}
 use Rattle.xsk_turns.specs.Turns.{Judged, IsWholeDriverRun}
-use Rattle.xsk_turns.specs.Verdicts.{judged, MeetRule}
-use Rattle.xsk_turns.specs.AppTurns.{IsWholeAppRunBy}
+use Rattle.xsk_turns.specs.Verdicts.{judged, MeetRules}
+use Rattle.xsk_turns.specs.Hands.{IsWholeAppRunOf}
 use Rattle.xsk_turns.specs.declared.manner.Manner.{Manner}
 use Rattle.xsk_turns.specs.declared.wire.Wire.{Wire}
 use Rattle.xsk_turns.specs.declared.wire.Wire.TheVariants.{Wait}
@@ -31,12 +31,16 @@ abbrev pub received_by : Config → List PacketList → List (List Verdict) → 
 received_by c lists verdicts d = judged (received c lists (pair_at c.pairs d).port (pair_at c.pairs d).queue) (slice_index_or verdicts d [])
 
 -- a history of a regular configuration in which no socket is closed, that all workers have run to their ends: the own entries of each driver are a whole
--- run over what it receives, with this wire, and so are those of each application, with this manner
-pub record AreWholeRuns (manner : Manner) (wire : Wire) (c : Config) (lists : List PacketList) (verdicts : List (List Verdict)) (frames : List Frame) (h : List Entry) : Type 0 where
+-- run over what it receives, with this wire, and so are those of each application, with this manner, made by so many hands
+pub record AreWholeRunsBy (hands : ℕ) (manner : Manner) (wire : Wire) (c : Config) (lists : List PacketList) (verdicts : List (List Verdict)) (frames : List Frame) (h : List Entry) : Type 0 where
   pub steady : IsSteady c
   pub history : IsHistory c frames h
   pub drivers : (d : ℕ) → d < length c.pairs → IsWholeDriverRun wire c d (received_by c lists verdicts d) (own d h)
-  pub apps : (a : ℕ) → a < apps_of c → IsWholeAppRunBy manner c a (own (caller_of c a) h)
+  pub apps : (a : ℕ) → a < apps_of c → IsWholeAppRunOf hands manner c a (own (caller_of c a) h)
+
+-- by one hand each application runs its machine
+abbrev pub AreWholeRuns : Manner → Wire → Config → List PacketList → List (List Verdict) → List Frame → List Entry → Type 0
+AreWholeRuns manner wire c lists verdicts frames h = AreWholeRunsBy 1 manner wire c lists verdicts frames h
 
 -- a port, a queue and a class of the configuration
 pub record IsPlace (c : Config) (port queue class : ℕ) : Type 0 where
@@ -47,14 +51,14 @@ pub record IsPlace (c : Config) (port queue class : ℕ) : Type 0 where
 -- where no item is changed, what a driver sent by the socket of a class is what the driver of the paired port delivered to the paired socket: these
 -- packets, each whole and in order, and no others
 abbrev pub SentIsForwarded : Type 0
-SentIsForwarded = (manner : Manner) (wire : Wire) (c : Config) (lists : List PacketList) (verdicts : List (List Verdict)) (frames : List Frame) (h : List Entry) (port queue class : ℕ)
-    → manner.mangle ≡ None → AreWholeRuns manner wire c lists verdicts frames h → IsPlace c port queue class
+SentIsForwarded = (hands : ℕ) (manner : Manner) (wire : Wire) (c : Config) (lists : List PacketList) (verdicts : List (List Verdict)) (frames : List Frame) (h : List Entry) (port queue class : ℕ)
+    → manner.mangle ≡ None → AreWholeRunsBy hands manner wire c lists verdicts frames h → IsPlace c port queue class
     → sent_by c h (driver_on c port queue) (socket_on c port queue class) ≡ forwarded wire c h lists verdicts port queue class
 
 -- where the wire waits it is what is expected there: the packets of the paired port that go to the paired socket
 abbrev pub SentIsExpected : Type 0
-SentIsExpected = (manner : Manner) (wire : Wire) (c : Config) (lists : List PacketList) (verdicts : List (List Verdict)) (frames : List Frame) (h : List Entry) (port queue class : ℕ)
-    → manner.mangle ≡ None → wire ≡ Wait → AreWholeRuns manner wire c lists verdicts frames h → IsPlace c port queue class
+SentIsExpected = (hands : ℕ) (manner : Manner) (wire : Wire) (c : Config) (lists : List PacketList) (verdicts : List (List Verdict)) (frames : List Frame) (h : List Entry) (port queue class : ℕ)
+    → manner.mangle ≡ None → wire ≡ Wait → AreWholeRunsBy hands manner wire c lists verdicts frames h → IsPlace c port queue class
     → sent_by c h (driver_on c port queue) (socket_on c port queue class) ≡ expected c lists verdicts port queue class
 
 -- a packet that is sent, and the class by whose socket
@@ -82,39 +86,39 @@ AreForwarded wire c h lists verdicts port queue packets = AreOfClasses c (forwar
 
 -- so all that a driver sent is what was forwarded by all classes, and nothing else
 abbrev pub AllAreForwarded : Type 0
-AllAreForwarded = (manner : Manner) (wire : Wire) (c : Config) (lists : List PacketList) (verdicts : List (List Verdict)) (frames : List Frame) (h : List Entry) (port queue : ℕ)
-    → manner.mangle ≡ None → AreWholeRuns manner wire c lists verdicts frames h → port < c.ports → queue < c.queues
+AllAreForwarded = (hands : ℕ) (manner : Manner) (wire : Wire) (c : Config) (lists : List PacketList) (verdicts : List (List Verdict)) (frames : List Frame) (h : List Entry) (port queue : ℕ)
+    → manner.mangle ≡ None → AreWholeRunsBy hands manner wire c lists verdicts frames h → port < c.ports → queue < c.queues
     → AreForwarded wire c h lists verdicts port queue (sent c h (driver_on c port queue))
 
 -- where the wire waits it is what is expected by all classes, and nothing else
 abbrev pub NothingElseIsSent : Type 0
-NothingElseIsSent = (manner : Manner) (wire : Wire) (c : Config) (lists : List PacketList) (verdicts : List (List Verdict)) (frames : List Frame) (h : List Entry) (port queue : ℕ)
-    → manner.mangle ≡ None → wire ≡ Wait → AreWholeRuns manner wire c lists verdicts frames h → port < c.ports → queue < c.queues
+NothingElseIsSent = (hands : ℕ) (manner : Manner) (wire : Wire) (c : Config) (lists : List PacketList) (verdicts : List (List Verdict)) (frames : List Frame) (h : List Entry) (port queue : ℕ)
+    → manner.mangle ≡ None → wire ≡ Wait → AreWholeRunsBy hands manner wire c lists verdicts frames h → port < c.ports → queue < c.queues
     → AreExpected c lists verdicts port queue (sent c h (driver_on c port queue))
 
 -- where each queue has one socket, all that a driver sent is what was forwarded by this one
 abbrev pub AllIsForwarded : Type 0
-AllIsForwarded = (manner : Manner) (wire : Wire) (c : Config) (lists : List PacketList) (verdicts : List (List Verdict)) (frames : List Frame) (h : List Entry) (port queue : ℕ)
-    → manner.mangle ≡ None → AreWholeRuns manner wire c lists verdicts frames h → port < c.ports → queue < c.queues → classes_of c ≡ 1
+AllIsForwarded = (hands : ℕ) (manner : Manner) (wire : Wire) (c : Config) (lists : List PacketList) (verdicts : List (List Verdict)) (frames : List Frame) (h : List Entry) (port queue : ℕ)
+    → manner.mangle ≡ None → AreWholeRunsBy hands manner wire c lists verdicts frames h → port < c.ports → queue < c.queues → classes_of c ≡ 1
     → sent c h (driver_on c port queue) ≡ forwarded wire c h lists verdicts port queue 0
 
 -- and where the wire waits too, what is expected by it
 abbrev pub AllIsExpected : Type 0
-AllIsExpected = (manner : Manner) (wire : Wire) (c : Config) (lists : List PacketList) (verdicts : List (List Verdict)) (frames : List Frame) (h : List Entry) (port queue : ℕ)
-    → manner.mangle ≡ None → wire ≡ Wait → AreWholeRuns manner wire c lists verdicts frames h → port < c.ports → queue < c.queues → classes_of c ≡ 1
+AllIsExpected = (hands : ℕ) (manner : Manner) (wire : Wire) (c : Config) (lists : List PacketList) (verdicts : List (List Verdict)) (frames : List Frame) (h : List Entry) (port queue : ℕ)
+    → manner.mangle ≡ None → wire ≡ Wait → AreWholeRunsBy hands manner wire c lists verdicts frames h → port < c.ports → queue < c.queues → classes_of c ≡ 1
     → sent c h (driver_on c port queue) ≡ expected c lists verdicts port queue 0
 
 -- and no frame is stranded: each that a driver peeked on its TX rings it has submitted on COMPLETION
 abbrev pub NoneAreStranded : Type 0
-NoneAreStranded = (manner : Manner) (wire : Wire) (c : Config) (lists : List PacketList) (verdicts : List (List Verdict)) (frames : List Frame) (h : List Entry) (port queue : ℕ)
-    → manner.mangle ≡ None → AreWholeRuns manner wire c lists verdicts frames h → port < c.ports → queue < c.queues
+NoneAreStranded = (hands : ℕ) (manner : Manner) (wire : Wire) (c : Config) (lists : List PacketList) (verdicts : List (List Verdict)) (frames : List Frame) (h : List Entry) (port queue : ℕ)
+    → manner.mangle ≡ None → AreWholeRunsBy hands manner wire c lists verdicts frames h → port < c.ports → queue < c.queues
     → stranded_of (own (driver_on c port queue) h) ≡ 0
 
 -- all that a driver sent is no more than what the paired port received on the queue, in packets and in bytes, whatever the
 -- applications change
 abbrev pub SentIsWithin : Type 0
-SentIsWithin = (manner : Manner) (wire : Wire) (c : Config) (lists : List PacketList) (verdicts : List (List Verdict)) (frames : List Frame) (h : List Entry) (port queue : ℕ)
-    → AreWholeRuns manner wire c lists verdicts frames h → port < c.ports → queue < c.queues
+SentIsWithin = (hands : ℕ) (manner : Manner) (wire : Wire) (c : Config) (lists : List PacketList) (verdicts : List (List Verdict)) (frames : List Frame) (h : List Entry) (port queue : ℕ)
+    → AreWholeRunsBy hands manner wire c lists verdicts frames h → port < c.ports → queue < c.queues
     → (length (sent c h (driver_on c port queue)) ≤ length (received c lists (paired_port port) queue))
     × (length (concat (sent c h (driver_on c port queue))) ≤ length (concat (received c lists (paired_port port) queue)))
 
@@ -128,5 +132,5 @@ pub record HasOwnSockets (c : Config) : Type 0 where
 -- have 14 bytes up to the limit
 abbrev pub ExpectedIsOther : Type 0
 ExpectedIsOther = (c : Config) (lists : List PacketList) (verdicts : List (List Verdict)) (port : ℕ) → IsConfig c → HasOwnSockets c → port < c.ports
-    → MeetRule (ByClass 1) 0 (received c lists (paired_port port) 0) (slice_index_or verdicts (driver_on c (paired_port port) 0) [])
+    → MeetRules (ByClass 1 ∷ []) 0 (received c lists (paired_port port) 0) (slice_index_or verdicts (driver_on c (paired_port port) 0) [])
     → expected c lists verdicts port 0 0 ≡ filter (has_length c) (packets_of_port lists (paired_port port))

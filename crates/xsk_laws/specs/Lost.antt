@@ -16,7 +16,7 @@ use Rattle.xsk_turns.specs.declared.disposal.Disposal.{Disposal}
 use Rattle.xsk_turns.specs.declared.disposal.Disposal.TheVariants.{NoFrames, RxFull}
 use Rattle.xsk_laws.specs.Expected.{received_judged, is_redirected}
 use Rattle.xsk_laws.specs.Forwarded.{forwarded}
-use Rattle.xsk_laws.specs.Laws.{AreWholeRuns, IsPlace}
+use Rattle.xsk_laws.specs.Laws.{AreWholeRunsBy, IsPlace}
 
 -- whether a packet was lost: there were too few frames on FILL, or there was too little room on RX
 abbrev pub is_lost : Disposal → Bool
@@ -48,8 +48,8 @@ expected_of_unlost wire c h lists verdicts port queue class =
 
 -- what was forwarded by the socket of a class is exactly that, in order, whatever the wire does
 abbrev pub ForwardedIsUnlost : Type 0
-ForwardedIsUnlost = (manner : Manner) (wire : Wire) (c : Config) (lists : List PacketList) (verdicts : List (List Verdict)) (frames : List Frame) (h : List Entry) (port queue class : ℕ)
-    → AreWholeRuns manner wire c lists verdicts frames h → IsPlace c port queue class
+ForwardedIsUnlost = (hands : ℕ) (manner : Manner) (wire : Wire) (c : Config) (lists : List PacketList) (verdicts : List (List Verdict)) (frames : List Frame) (h : List Entry) (port queue class : ℕ)
+    → AreWholeRunsBy hands manner wire c lists verdicts frames h → IsPlace c port queue class
     → forwarded wire c h lists verdicts port queue class ≡ expected_of_unlost wire c h lists verdicts port queue class
 
 -- a packet that goes to the socket of some class
@@ -58,6 +58,6 @@ IsToSomeClass c port queue packet = (class : ℕ) × (class < classes_of c) × (
 
 -- and each packet that was lost is one that was to be delivered
 abbrev pub OnlyRedirectedAreLost : Type 0
-OnlyRedirectedAreLost = (manner : Manner) (wire : Wire) (c : Config) (lists : List PacketList) (verdicts : List (List Verdict)) (frames : List Frame) (h : List Entry) (port queue : ℕ)
-    → AreWholeRuns manner wire c lists verdicts frames h → port < c.ports → queue < c.queues
+OnlyRedirectedAreLost = (hands : ℕ) (manner : Manner) (wire : Wire) (c : Config) (lists : List PacketList) (verdicts : List (List Verdict)) (frames : List Frame) (h : List Entry) (port queue : ℕ)
+    → AreWholeRunsBy hands manner wire c lists verdicts frames h → port < c.ports → queue < c.queues
     → All (IsToSomeClass c port queue) (lost (received_judged c lists verdicts port queue) (disposals_on wire c h lists verdicts port queue))

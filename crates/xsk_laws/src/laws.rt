@@ -3,7 +3,7 @@
 
 ghost use Rattle.xsk_laws.specs.Laws.{SentIsForwarded, SentIsExpected, AllAreForwarded, NothingElseIsSent, AllIsForwarded, AllIsExpected, NoneAreStranded, SentIsWithin, ExpectedIsOther};
 ghost use Rattle.xsk_laws.specs.Lost.{ForwardedIsUnlost, OnlyRedirectedAreLost};
-ghost use Rattle.xsk_laws.specs.Woken.{NoWakesAreLost, NoneIsLostInWholeRuns};
+ghost use Rattle.xsk_laws.specs.Woken.{NoWakesAreLost, NoHandLosesWakes, NoneIsLostInWholeRuns};
 
 /// What a driver sent by the socket of a class is exactly what the paired port's driver delivered to the paired socket, each
 /// packet whole and in order, whatever the wire does.
@@ -66,6 +66,11 @@ pub fn expected_is_other()
 /// need-wakeup flag it has set, or its end is come, its kick is set or its application owes it one.
 pub fn no_wakes_are_lost()
     ensures { NoWakesAreLost }
+{}
+
+/// So it is by any number of hands.
+pub fn no_hand_loses_wakes()
+    ensures { NoHandLosesWakes }
 {}
 
 /// So it is after each prefix of a history in which all workers have run to their ends.

@@ -3,7 +3,7 @@ ghost use Rattle.std.specs.Prelude.{◌≡◌, ◌<◌, false, All, List, [], le
 ghost use Rattle.std.specs.List.{slice_index_or};
 ghost use Rattle.xsk_model.specs.Config.{pair_at};
 ghost use Rattle.xsk_model.specs.Expected.{nothing};
-ghost use Rattle.xsk_prog.specs.Program.{Obeys};
+ghost use Rattle.xsk_prog.specs.Chain.{AllObey};
 ghost use Rattle.xsk_prog.specs.declared.rule.Verdict.{Verdict as AVerdict};
 ghost use Rattle.xsk_turns.specs.Owned.{IsSteady};
 ghost use Rattle.xsk_turns.specs.Inputs.{inputs_of};
@@ -20,18 +20,18 @@ use std::alloc::Global;
 use xsk_driver::{Driver, Wire};
 use xsk_model::Config;
 use xsk_model::steering::{driver_on, paired_port};
-use xsk_prog::{Verdict, XdpProgram};
+use xsk_prog::{Chain, Verdict};
 use xsk_umem::{OutOfMemory, PacketList};
 
 /// The driver of a pair with a wire, and with room to send all packets that the paired port received on its queue. There is one
 /// list of packets for each port, none of which has more than 262,144 bytes, and the inputs are those of these lists. The
-/// program is asked once for each of the driver's packets.
+/// chain is asked once for each of the driver's packets.
 pub fn driver_for<'a, F: Fn(&[u8], u32) -> Verdict>(
     alloc: Global,
     config: &'a Config,
     packets: &'a [PacketList],
     inputs: &'a Inputs,
-    program: &XdpProgram<F>,
+    chain: &Chain<F>,
     wire: Wire,
     pair: u32,
 ) -> Result<Driver<'a>, OutOfMemory>
@@ -39,11 +39,11 @@ pub fn driver_for<'a, F: Fn(&[u8], u32) -> Verdict>(
     requires lists { length packets.now ≡ config.now.ports }
     requires inputs { inputs.now ≡ inputs_of config.now packets.now }
     requires short { All HasShortPackets packets.now }
-    requires obeys { Obeys F.Fn program.now.rule program.now.decide }
+    requires obeys { AllObey F.Fn chain.now }
     requires pair { pair < length config.now.pairs }
     ensures new { IfOk result (λ d. (manner : AManner) (verdicts : List (List AVerdict)) → slice_index_or verdicts pair [] ≡ verdicts_in d.kept
         → IsDriver (setting_by config.now wire manner packets.now verdicts) pair d) }
-    ensures asked { IfOk result (λ d. EachHas (IsGiven (IsAnswer F.Fn program.now.rule program.now.decide (pair_at config.now.pairs pair).queue))
+    ensures asked { IfOk result (λ d. EachHas (IsGiven (IsAnswer F.Fn chain.now (pair_at config.now.pairs pair).queue))
         (packets_to config.now packets.now (pair_at config.now.pairs pair)) (verdicts_in d.kept)) }
     ensures expected { IfOk result (λ d. d.expected ≡ nothing) }
 {
@@ -60,7 +60,7 @@ pub fn driver_for<'a, F: Fn(&[u8], u32) -> Verdict>(
         pair,
         list,
         inputs.of_pair(pair),
-        program,
+        chain,
         wire,
         room.packets,
         room.bytes,
@@ -68,28 +68,28 @@ pub fn driver_for<'a, F: Fn(&[u8], u32) -> Verdict>(
     Ok(driver)
 }
 
-/// A driver for each pair. The program is asked once for each packet.
+/// A driver for each pair. The chain is asked once for each packet.
 pub fn drivers_for<'a, F: Fn(&[u8], u32) -> Verdict>(
     alloc: Global,
     config: &'a Config,
     packets: &'a [PacketList],
     inputs: &'a Inputs,
-    program: &XdpProgram<F>,
+    chain: &Chain<F>,
     wire: Wire,
 ) -> Result<Vec<Driver<'a>>, OutOfMemory>
     requires steady { IsSteady config.now }
     requires lists { length packets.now ≡ config.now.ports }
     requires inputs { inputs.now ≡ inputs_of config.now packets.now }
     requires short { All HasShortPackets packets.now }
-    requires obeys { Obeys F.Fn program.now.rule program.now.decide }
+    requires obeys { AllObey F.Fn chain.now }
     ensures new { IfOk result (λ drivers. (manner : AManner) → AreNew (setting_by config.now wire manner packets.now (kept_in drivers.items)) 0 drivers.items) }
-    ensures asked { IfOk result (λ drivers. (manner : AManner) → AreGiven (IsAnswer F.Fn program.now.rule program.now.decide) (setting_by config.now wire manner packets.now (kept_in drivers.items))) }
+    ensures asked { IfOk result (λ drivers. (manner : AManner) → AreGiven (IsAnswer F.Fn chain.now) (setting_by config.now wire manner packets.now (kept_in drivers.items))) }
     ensures count { IfOk result (λ drivers. length drivers.items ≡ length config.now.pairs) }
 {
     let count = config.pairs().len() as u32;
     let mut drivers = Vec::with_capacity(alloc, count as usize)?;
     for pair in 0..count {
-        drivers.push(driver_for(alloc, config, packets, inputs, program, wire, pair)?)?;
+        drivers.push(driver_for(alloc, config, packets, inputs, chain, wire, pair)?)?;
     }
     Ok(drivers)
 }

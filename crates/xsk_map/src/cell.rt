@@ -2,14 +2,17 @@
 ghost use Rattle.std.specs.Prelude.{◌≡◌};
 ghost use Rattle.xsk_map.specs.Redirect.{redirect_of};
 
+use thiserror::Error;
 use xsk_model::Config;
 
 /// Why a redirect leads to no socket; the packet is then dropped.
-#[derive(Clone, Copy, Debug, PartialEq, Eq)]
+#[derive(Clone, Copy, Debug, PartialEq, Eq, Error)]
 pub enum Miss {
     /// The cell is empty, or no socket has its number.
+    #[error("the cell holds no socket")]
     EmptyCell,
     /// Its socket is bound to another port or another queue.
+    #[error("the cell's socket is bound to another queue")]
     OtherQueue,
 }
 

@@ -54,7 +54,7 @@ submitted-bare (Release r n) = refl
 submitted-bare (Swap m value) = refl
 submitted-bare (Look m) = refl
 
-taken-bare : (reply : Reply) → taken (bare_reply reply) ≡ bare_items (taken reply)
+pub taken-bare : (reply : Reply) → taken (bare_reply reply) ≡ bare_items (taken reply)
 taken-bare Granted = refl
 taken-bare (Full places) = refl
 taken-bare Submitted = refl

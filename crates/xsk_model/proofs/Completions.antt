@@ -247,7 +247,7 @@ times-had_of-push n mine t =
     let now = ap (times n) (had_of-push mine t) in
     omega (arith, now, times-append n (without (numbers (submitted t.call)) (had_of mine)) (numbers (taken t.reply)), times-without n (numbers (submitted t.call)) (had_of mine))
 
-from_fill-push : (n : ℕ) (mine : List Told) (t : Told)
+pub from_fill-push : (n : ℕ) (mine : List Told) (t : Told)
     → is_from_fill n (mine ++ t ∷ []) ≡ cond (nat_lt 0 (times n (numbers (taken t.reply)))) (is_fill_peek t.call) (is_from_fill n mine)
 from_fill-push n mine t = fold_push (fill_step n) false mine t
 
@@ -334,7 +334,7 @@ peek_tx c d mine socket k reply fits h =
 
 -- ---- completed packets
 
-is_same-true : (xs ys : List ℕ) → is_same xs ys ≡ true → xs ≡ ys
+pub is_same-true : (xs ys : List ℕ) → is_same xs ys ≡ true → xs ≡ ys
 is_same-true [] [] h = refl
 is_same-true [] (y ∷ ys) h = absurd (cc)
 is_same-true (x ∷ xs) [] h = absurd (cc)

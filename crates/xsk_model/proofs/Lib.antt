@@ -8,6 +8,7 @@ pub mod PacketsLaws
 pub mod Counting
 pub mod Folds
 pub mod Places
+pub mod InRow
 pub mod Moves
 pub mod Sound
 pub mod Opened
@@ -36,3 +37,4 @@ pub mod Legality
 pub mod Bodies
 pub mod Shapes
 pub mod CallTheorems
+pub mod RingSizes

@@ -85,3 +85,18 @@ fits_taken c mine (Peek r n) reply h = elim (peeked_fresh c mine r n reply h) [ 
 fits_taken c mine (Release r n) reply h = elim (no_items reply) [ inl e ↦ inl e | inr some ↦ absurd (subst (Fits c mine (Release r n)) some.1 h) ]
 fits_taken c mine (Swap m value) reply h = elim (no_items reply) [ inl e ↦ inl e | inr some ↦ absurd (subst (Fits c mine (Swap m value)) some.1 h) ]
 fits_taken c mine (Look m) reply h = elim (no_items reply) [ inl e ↦ inl e | inr some ↦ absurd (subst (Fits c mine (Look m)) some.1 h) ]
+
+-- one call more
+pub own_push : (c : Config) (who : ℕ) (past mine : List Told) (t : Told) → OwnGoesOn c who past mine → IsLegal c (past ++ mine) who t.call → Fits c (past ++ mine) t.call t.reply
+    → OwnGoesOn c who past (mine ++ t ∷ [])
+own_push c who past [] t goes legal fits = (
+  subst (λ (p : List Told). IsLegal c p who t.call) (append-nil past) legal,
+  subst (λ (p : List Told). Fits c p t.call t.reply) (append-nil past) fits,
+  tt,
+)
+own_push c who past (u ∷ mine) t goes legal fits =
+    let same : past ++ u ∷ mine ≡ (past ++ u ∷ []) ++ mine = sym (append_assoc past (u ∷ []) mine) in (
+      goes.0,
+      goes.1,
+      own_push c who (past ++ u ∷ []) mine t goes.2 (subst (λ (p : List Told). IsLegal c p who t.call) same legal) (subst (λ (p : List Told). Fits c p t.call t.reply) same fits),
+    )

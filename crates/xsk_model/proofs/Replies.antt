@@ -19,9 +19,10 @@ use Rattle.xsk_model.specs.declared.call.Ring.{Ring}
 use Rattle.xsk_model.specs.declared.call.Call.{Call}
 use Rattle.xsk_model.specs.declared.call.Call.TheVariants.{Reserve, Submit, Peek, Release, Swap, Look}
 use Rattle.xsk_model.specs.declared.call.Reply.{Reply}
-use Rattle.xsk_model.specs.declared.call.Reply.TheVariants.{Granted, Full}
+use Rattle.xsk_model.specs.declared.call.Reply.TheVariants.{Granted, Full, Submitted, Items, Empty, Released, Old}
 use Rattle.xsk_model.proofs.Counting.{times-append, times-range_past, times-range_within, numbers-append}
 use Rattle.xsk_model.proofs.Histories.{IsSound, history_first, history_sound, goes_rest}
+use Rattle.xsk_model.specs.Expected.{IsReplyTo}
 
 -- ---- one holder
 
@@ -160,3 +161,15 @@ gift_fits c mine who call reply gift =
     let mine_is : own l.e.who l.past ≡ mine = ap (λ w. own w l.past) l.by ∙ l.before in
     let moved : Fits c mine l.e.call l.e.reply = subst (λ m. Fits c m l.e.call l.e.reply) mine_is fits in
     subst (λ (t : Told). Fits c mine t.call t.reply) l.is moved
+
+-- a reply that fits a call is of the call's kind
+pub fits_kind : (c : Config) (mine : List Told) (call : Call) (reply : Reply) → Fits c mine call reply → IsReplyTo call reply
+fits_kind c mine (Reserve r n) Granted h = tt
+fits_kind c mine (Reserve r n) (Full places) h = tt
+fits_kind c mine (Submit r items) Submitted h = refl
+fits_kind c mine (Peek r n) Empty h = tt
+fits_kind c mine (Peek r n) (Items items) h = tt
+fits_kind c mine (Release r n) Released h = refl
+fits_kind c mine (Swap m value) (Old old) h = tt
+fits_kind c mine (Look m) (Old old) h = tt
+fits_kind c mine call reply h = absurd h

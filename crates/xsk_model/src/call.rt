@@ -40,7 +40,7 @@ pub enum Mark {
 }
 
 /// One call on the object.
-#[derive(Drop)]
+#[derive(Debug, Drop)]
 pub enum Call {
     /// Asks for so many free places of a ring.
     Reserve(Ring, u32),
@@ -57,7 +57,7 @@ pub enum Call {
 }
 
 /// The reply to a call.
-#[derive(Drop)]
+#[derive(Debug, Drop)]
 pub enum Reply {
     /// The places are reserved.
     Granted,
@@ -76,7 +76,7 @@ pub enum Reply {
 }
 
 /// What a worker does next.
-#[derive(Drop)]
+#[derive(Debug, Drop)]
 pub enum Act {
     /// It makes this call and wants the reply.
     Call(Call),

@@ -57,7 +57,7 @@ impl Model for Config {
 }
 
 impl Config {
-    /// The configuration of exactly these parts. It takes no memory.
+    /// The configuration of exactly these parts, which must make one: [`are_parts`](crate::are_parts) tells. It takes no memory.
     #[allow(clippy::too_many_arguments)]
     pub fn of_parts(
         geometry: Geometry,

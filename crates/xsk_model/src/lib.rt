@@ -7,6 +7,7 @@ mod call;
 mod config;
 pub mod laws;
 mod opening;
+mod parts;
 pub mod placement;
 pub mod steering;
 
@@ -14,3 +15,4 @@ pub use ask::{Answer, Ask};
 pub use call::{Act, Call, Mark, Reply, Ring};
 pub use config::{Config, PairInfo, SocketInfo};
 pub use opening::home_item;
+pub use parts::are_parts;

@@ -10,6 +10,7 @@ use Rattle.xsk_pcap.specs.Capture.{header_bytes, Begins, IsCapture}
 use Rattle.xsk_pcap.specs.Steps.{BeginsRecord, Finds}
 use Rattle.xsk_pcap.proofs.Grammar.{Begins-push}
 use Rattle.xsk_pcap.proofs.Unique.{drop_16-record, length-record}
+use Rattle.xsk_umem.proofs.Spans.{apart-push, end_of-push}
 
 -- a record takes 16 bytes beside its packet
 pub length-begins_record : (order : Endianness) (bytes packet rest : List ℕ) → BeginsRecord order bytes packet rest → length bytes ≡ 16 + length packet + length rest
@@ -34,15 +35,6 @@ Finding-none order bytes rest begins within = record {
 }
 
 -- ---- one record more
-
--- spans in order stay so with one behind them, which is then the last
-apart-push : (from : ℕ) (spans : List Span) (span : Span) → AreFrom from spans → end_of from spans ≤ span.start → AreFrom from (spans ++ span ∷ [])
-apart-push from [] span apart behind = (behind, tt)
-apart-push from (old ∷ spans) span apart behind = (apart.0, apart-push (old.start + old.len) spans span apart.1 behind)
-
-end_of-push : (from : ℕ) (spans : List Span) (span : Span) → end_of from (spans ++ span ∷ []) ≡ span.start + span.len
-end_of-push from [] span = refl
-end_of-push from (first ∷ spans) span = end_of-push (first.start + first.len) spans span
 
 -- what is left of a capture stands at its end
 drop-begins : (order : Endianness) (bytes rest : List ℕ) (packets : List (List ℕ)) (offset : ℕ) → Begins order bytes packets rest → offset + length rest ≡ length bytes → drop offset bytes ≡ rest
@@ -102,7 +94,7 @@ Finding-more order bytes rest packet more offset true true spans new span f next
 
 -- ---- at the end
 
-rest_none : (rest : List ℕ) → length rest ≡ 0 → rest ≡ []
+pub rest_none : (rest : List ℕ) → length rest ≡ 0 → rest ≡ []
 rest_none [] none = refl
 rest_none (x ∷ rest) none = absurd (omega (arith, none))
 

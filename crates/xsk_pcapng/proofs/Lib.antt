@@ -3,6 +3,7 @@ pub mod Unique
 pub mod FileLaws
 pub mod Walk
 pub mod Listing
+pub mod Apart
 pub mod Appending
 pub mod WrittenLaw
 pub mod Fits

@@ -12,11 +12,13 @@ use Rattle.xsk_pcapng.specs.declared.reading.BadPcapng.{BadPcapng}
 use Rattle.xsk_pcapng.specs.declared.reading.Content.{Content}
 use Rattle.xsk_pcapng.specs.declared.reading.Content.TheVariants.{Other, Interface, Packet}
 use Rattle.xsk_pcapng.specs.declared.reading.Found.{Found}
-use Rattle.xsk_umem.specs.Span.{at_span}
+use Rattle.xsk_umem.specs.Span.{at_span, AreFrom, end_of}
 use Rattle.xsk_pcapng.specs.Blocks.{kind_in, total_in, interfaces_after, interfaces_behind, IsBlock, MayStand, AreBlocks, Arrival, arrivals_of, arrivals_in}
 use Rattle.xsk_pcapng.specs.Pcapng.{PassesHeader, Begins, IsPcapng, lists_of, length_refusal, content_refusal, block_refusal, IsCause}
-use Rattle.xsk_pcapng.specs.Steps.{CutsOff, IsEnds, Holds, arrival_in, IsFoundIn, Finds}
+use Rattle.xsk_pcapng.specs.Steps.{CutsOff, IsEnds, Holds, arrival_in, IsFoundIn, Finds, spans_in}
+use Rattle.xsk_pcapng.proofs.Apart.{apart-push, end_of-push}
 use Rattle.xsk_pcapng.proofs.Blocks.{total_in-append, length_none}
+use Rattle.xsk_pcap.proofs.Loops.{rest_none}
 
 -- ---- one block more
 
@@ -68,6 +70,8 @@ pub record Walking (order : Endianness) (ports : ℕ) (bytes rest : List ℕ) (l
   pub few : interfaces ≤ ports
   pub shown : lacks ≡ false → map (arrival_in bytes) found ≡ arrivals_in order blocks
   pub within : All (IsFoundIn bytes) found
+  pub apart : AreFrom 0 (spans_in found)
+  pub behind : end_of 0 (spans_in found) + length rest ≤ length bytes
 
 -- a block that passes its checks at this place
 pub record Passing (order : Endianness) (ports : ℕ) (bytes rest : List ℕ) (interfaces at : ℕ) (content : Content) (block after : List ℕ) : Type 0 where
@@ -85,6 +89,8 @@ Walking-none order ports bytes passes = record {
   few = omega arith;
   shown = λ _. refl;
   within = λ k d h. absurd (omega (arith, h));
+  apart = tt;
+  behind = omega arith;
 }
 
 -- the place is behind the blocks
@@ -117,6 +123,8 @@ Walking-other order ports bytes rest lacks interfaces at found block after w p =
   few = w.few;
   shown = λ has. next_shown order bytes found w.blocks block (w.shown has) p.holds.1;
   within = w.within;
+  apart = w.apart;
+  behind = omega (arith, w.behind, ap length p.cuts.whole, length-append block after);
 }
 
 -- an interface more stands below the number of ports
@@ -136,6 +144,8 @@ Walking-interface order ports bytes rest lacks interfaces at found block after w
   few = omega (arith, room_for_interface order ports at interfaces block p.holds.0 p.may);
   shown = λ has. next_shown order bytes found w.blocks block (w.shown has) p.holds.1;
   within = w.within;
+  apart = w.apart;
+  behind = omega (arith, w.behind, ap length p.cuts.whole, length-append block after);
 }
 
 -- ---- a packet more
@@ -159,6 +169,18 @@ next_packet order bytes found f blocks block a shown one is =
 next_within : (bytes : List ℕ) (failed : Bool) (found new : List Found) (f : Found) → new ≡ (if not failed then found ++ f ∷ [] else found) → All (IsFoundIn bytes) found → IsFoundIn bytes f → All (IsFoundIn bytes) new
 next_within bytes false found new f is all one = subst (All (IsFoundIn bytes)) (sym is) (All-push (IsFoundIn bytes) found f all one)
 next_within bytes true found new f is all one = subst (All (IsFoundIn bytes)) (sym is) all
+
+-- where it stands among the others
+next_apart : (failed : Bool) (found new : List Found) (f : Found) → new ≡ (if not failed then found ++ f ∷ [] else found) → AreFrom 0 (spans_in found) → end_of 0 (spans_in found) ≤ f.span.start → AreFrom 0 (spans_in new)
+next_apart false found new f is apart behind = subst (λ (fs : List Found). AreFrom 0 (spans_in fs)) (sym is) (rw (map-append (λ (g : Found). g.span) found (f ∷ [])) (apart-push 0 (spans_in found) f.span apart behind))
+next_apart true found new f is apart behind = subst (λ (fs : List Found). AreFrom 0 (spans_in fs)) (sym is) apart
+
+next_behind : (bytes after : List ℕ) (failed : Bool) (found new : List Found) (f : Found) → new ≡ (if not failed then found ++ f ∷ [] else found) → end_of 0 (spans_in found) + length after ≤ length bytes
+    → f.span.start + f.span.len + length after ≤ length bytes → end_of 0 (spans_in new) + length after ≤ length bytes
+next_behind bytes after false found new f is old one =
+    let end : end_of 0 (spans_in (found ++ f ∷ [])) ≡ f.span.start + f.span.len = ap (end_of 0) (map-append (λ (g : Found). g.span) found (f ∷ [])) ∙ end_of-push 0 (spans_in found) f.span in
+    subst (λ (fs : List Found). end_of 0 (spans_in fs) + length after ≤ length bytes) (sym is) (omega (arith, end, one))
+next_behind bytes after true found new f is old one = subst (λ (fs : List Found). end_of 0 (spans_in fs) + length after ≤ length bytes) (sym is) old
 
 or_left_false : (a b : Bool) → (a || b) ≡ false → a ≡ false
 or_left_false false b e = refl
@@ -193,13 +215,12 @@ Walking-packet order ports bytes rest lacks failed interfaces at interface len f
       within = next_within bytes failed found new f is w.within (
           omega (arith, start, len_is, p.at_is, p.holds.2, ap length p.cuts.whole, length-append block after)
           );
+      apart = next_apart failed found new f is w.apart (omega (arith, start, p.at_is, w.behind));
+      behind = next_behind bytes after failed found new f is (omega (arith, w.behind, ap length p.cuts.whole, length-append block after))
+          (omega (arith, start, len_is, p.at_is, p.holds.2, ap length p.cuts.whole, length-append block after));
     }
 
 -- ---- at the end
-
-rest_none : (rest : List ℕ) → length rest ≡ 0 → rest ≡ []
-rest_none [] none = refl
-rest_none (x ∷ rest) none = absurd (omega (arith, none))
 
 -- where nothing is left the bytes are a file of the packets up to there
 pub Walking-file : (order : Endianness) (ports : ℕ) (bytes rest : List ℕ) (lacks : Bool) (interfaces : ℕ) (found : List Found) (w : Walking order ports bytes rest lacks interfaces found) → length rest ≡ 0
@@ -218,6 +239,7 @@ Walking-done order ports bytes rest lacks interfaces found w has none = record {
   begins = subst (Begins order ports bytes w.blocks) (rest_none rest none) w.begins;
   shown = w.shown has;
   within = w.within;
+  apart = w.apart;
 }
 
 -- ---- a block that fails

@@ -1,6 +1,8 @@
 -- What the steps of reading a file find.
-use Rattle.std.specs.Prelude.{◌≡◌, ℕ, ◌+◌, ◌%◌, ◌<◌, ◌≤◌, List, [], ◌∷◌, ◌++◌, length, take, drop, map, All}
-use Rattle.xsk_umem.specs.Span.{at_span, IsWithin}
+use Rattle.std.specs.Prelude.{◌≡◌, ℕ, ◌+◌, ◌%◌, ◌<◌, ◌≤◌, ◌==◌, List, [], ◌∷◌, ◌++◌, length, take, drop, map, All}
+use Rattle.std.specs.List.{filter}
+use Rattle.xsk_umem.specs.Span.{at_span, IsWithin, AreFrom}
+use Rattle.xsk_umem.specs.declared.packet_list.Span.{Span}
 use Rattle.xsk_pcap.specs.declared.endianness.Endianness.{Endianness}
 use Rattle.xsk_pcapng.specs.declared.reading.Content.{Content}
 use Rattle.xsk_pcapng.specs.declared.reading.Content.TheVariants.{Other, Interface, Packet}
@@ -51,9 +53,18 @@ arrival_in bytes found = record { interface = found.interface; packet = at_span 
 abbrev pub IsFoundIn : List ℕ → Found → Type 0
 IsFoundIn bytes found = IsWithin bytes found.span
 
+-- where packets that were found stand
+abbrev pub spans_in : List Found → List Span
+spans_in found = map (λ (f : Found). f.span) found
+
+-- and where those of one port stand
+abbrev pub spans_at : ℕ → List Found → List Span
+spans_at port found = spans_in (filter (λ (f : Found). f.interface == port) found)
+
 -- the bytes are a file, and these are its packets in order
 pub record Finds (order : Endianness) (ports : ℕ) (bytes : List ℕ) (found : List Found) : Type 0 where
   pub blocks : List (List ℕ)
   pub begins : Begins order ports bytes blocks []
   pub shown : map (arrival_in bytes) found ≡ arrivals_in order blocks
   pub within : All (IsFoundIn bytes) found
+  pub apart : AreFrom 0 (spans_in found)

@@ -6,5 +6,5 @@ mod lists;
 mod reading;
 mod writing;
 
-pub use reading::{BadPcapng, read};
-pub use writing::write;
+pub use reading::{BadPcapng, read, take};
+pub use writing::{write, write_over};

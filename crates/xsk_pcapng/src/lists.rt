@@ -1,15 +1,15 @@
 //! The packets that were found in a file, laid out as a list for each port.
-ghost use Rattle.std.specs.Prelude.{◌≡◌, ◌<◌, ◌≤◌, ◌++◌, map, length, All, IfOk, IfSome, Some, slice_get};
+ghost use Rattle.std.specs.Prelude.{◌≡◌, ◌<◌, ◌≤◌, ◌^◌, ◌++◌, map, length, All, IfOk, IfSome, Some, slice_get};
 ghost use Rattle.std.specs.List.{concat};
-ghost use Rattle.xsk_umem.specs.Span.{at_span};
+ghost use Rattle.xsk_umem.specs.Span.{at_span, AreFrom};
 ghost use Rattle.xsk_pcapng.specs.Blocks.{packets_at};
 ghost use Rattle.xsk_pcapng.specs.Pcapng.{lists_of as lists_by_port};
-ghost use Rattle.xsk_pcapng.specs.Steps.{arrival_in, IsFoundIn};
+ghost use Rattle.xsk_pcapng.specs.Steps.{arrival_in, IsFoundIn, spans_at, spans_in};
 ghost use Rattle.xsk_pcapng.specs.Written.{packets_of};
 
 use crate::reading::Found;
 use std::alloc::Global;
-use xsk_umem::{OutOfMemory, PacketList};
+use xsk_umem::{OutOfMemory, PacketList, Span};
 
 /// How much the packets of one interface take.
 #[derive(Clone, Copy, Debug)]
@@ -33,6 +33,45 @@ pub fn lists_of(
         lists.push(list_of(alloc, bytes, found, port)?)?;
     }
     Ok(lists)
+}
+
+/// The lists of so many ports, of which the last keeps the bytes as its text.
+pub fn lists_in(
+    alloc: Global,
+    bytes: Vec<u8>,
+    found: &[Found],
+    ports: u32,
+) -> Result<Vec<PacketList>, OutOfMemory>
+    requires within { All (IsFoundIn bytes.items) found.now }
+    requires apart { AreFrom 0 (spans_in found.now) }
+    ensures { IfOk result (λ lists. packets_of lists.items ≡ lists_by_port ports (map (arrival_in bytes.items) found.now)) }
+{
+    if ports == 0 {
+        return Ok(Vec::new(alloc));
+    }
+    let last = ports - 1;
+    let mut lists = lists_of(alloc, bytes.as_slice(), found, last)?;
+    let spans = spans_of(alloc, found, last)?;
+    lists.push(PacketList::of_spans(bytes, spans))?;
+    Ok(lists)
+}
+
+/// Where the packets of one port stand, where 32 bits count them.
+fn spans_of(alloc: Global, found: &[Found], port: u32) -> Result<Vec<Span>, OutOfMemory>
+    ensures spans { IfOk result (λ spans. spans.items ≡ spans_at port found.now) }
+    ensures few { IfOk result (λ spans. length spans.items < 2 ^ 32) }
+{
+    let mut spans = Vec::new(alloc);
+    for i in 0..found.len() {
+        let packet = found[i];
+        if packet.interface == port {
+            spans.push(packet.span)?;
+        }
+    }
+    if spans.len() > u32::MAX as usize {
+        return Err(OutOfMemory);
+    }
+    Ok(spans)
 }
 
 /// The list of one port.

@@ -7,7 +7,7 @@ ghost use Rattle.xsk_pcapng.specs.Blocks.{kind_in, least as least_of, padded as 
 ghost use Rattle.xsk_pcapng.specs.Steps.{CutsOff, Holds, HoldsPacket, IsEnds, FitsInterface, Finds};
 ghost use Rattle.xsk_pcapng.specs.Written.{packets_of};
 
-use crate::lists::lists_of;
+use crate::lists::{lists_in, lists_of};
 use std::alloc::Global;
 use thiserror::Error;
 use xsk_pcap::Endianness;
@@ -340,6 +340,23 @@ pub fn read(alloc: Global, bytes: &[u8], ports: u32) -> Result<Vec<PacketList>, 
     let order = check_header(bytes)?;
     let found = find_packets(alloc, order, ports, bytes)?;
     let Ok(lists) = lists_of(alloc, bytes, found.as_slice(), ports) else {
+        return Err(BadPcapng::OutOfMemory);
+    };
+    Ok(lists)
+}
+
+/// Reads a file as [`read`] does. The list of the last port keeps the bytes, in which its packets stand as spans, and those of
+/// the others are copies.
+pub fn take(alloc: Global, bytes: Vec<u8>, ports: u32) -> Result<Vec<PacketList>, BadPcapng>
+    ensures found { IfOk result (λ lists. IsPcapng ports bytes.items (packets_of lists.items)) }
+    ensures accepted { (lists : List (List (List ℕ))) → IsPcapng ports bytes.items lists →
+        MatchResult result (λ read. packets_of read.items ≡ lists) (λ e. e ≡ BadPcapng.OutOfMemory) }
+    ensures refused { (refusal : BadPcapng) → IsRefused ports bytes.items refusal → result ≡ Err refusal }
+    ensures cause { IfErr result (IsCause ports bytes.items) }
+{
+    let order = check_header(bytes.as_slice())?;
+    let found = find_packets(alloc, order, ports, bytes.as_slice())?;
+    let Ok(lists) = lists_in(alloc, bytes, found.as_slice(), ports) else {
         return Err(BadPcapng::OutOfMemory);
     };
     Ok(lists)

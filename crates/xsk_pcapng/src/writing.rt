@@ -37,7 +37,17 @@ pub fn write(alloc: Global, lists: &[PacketList]) -> Result<Vec<u8>, OutOfMemory
     requires { IsWritable (packets_of lists.now) }
     ensures { IfOk result (λ text. text.items ≡ written (packets_of lists.now)) }
 {
-    let mut text = Vec::with_capacity(alloc, size_of_file(lists))?;
+    write_over(Vec::new(alloc), lists)
+}
+
+/// Writes the file of [`write`] in place of what a text had, whose memory it takes as far as that reaches.
+pub fn write_over(text: Vec<u8>, lists: &[PacketList]) -> Result<Vec<u8>, OutOfMemory>
+    requires { IsWritable (packets_of lists.now) }
+    ensures { IfOk result (λ text. text.items ≡ written (packets_of lists.now)) }
+{
+    let mut text = text;
+    text.clear();
+    text.reserve(size_of_file(lists))?;
     text.extend_from_slice(&SECTION_BLOCK).unwrap();
     append_interfaces(&mut text, lists.len());
     append_lists(&mut text, lists);

@@ -11,3 +11,4 @@ pub mod Bare
 pub mod Running
 pub mod RowLines
 pub mod RowPlaces
+pub mod StoredLines

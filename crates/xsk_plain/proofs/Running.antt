@@ -1,6 +1,6 @@
 -- A legal call goes on with the history of an engine, and with what is noted of its callers.
-use Rattle.std.proofs.Common.{◌≡◌, ◌≢◌, ◌↔◌, ℕ, zero, suc, ◌+◌, ◌<◌, inl, inr, Bool, Some, List, [], ◌∷◌, ◌++◌, length, get_or, set, refl, sym, ap, subst, ◌∙◌, ⊎_elim, arith, length-set, length-append}
-use Rattle.std.specs.Prelude.{◌⊎◌, IsTrue, slice_get}
+use Rattle.std.proofs.Common.{◌≡◌, ◌≢◌, ◌↔◌, ℕ, zero, suc, ◌+◌, ◌<◌, inl, inr, Bool, Option, None, Some, List, [], ◌∷◌, ◌++◌, length, get_or, set, refl, sym, ap, subst, ◌∙◌, ⊎_elim, arith, length-set, length-append}
+use Rattle.std.specs.Prelude.{◌⊎◌, IsNone, IsTrue, MatchOption, slice_get}
 use Rattle.std.proofs.lemmas.Bool.{cases_eq}
 use Rattle.std.proofs.lemmas.Grind.{get_or-set_at}
 use Rattle.std.proofs.lemmas.List.{map-append, get_or-set_other}
@@ -17,6 +17,9 @@ use Rattle.xsk_model.specs.declared.call.Reply.{Reply}
 use Rattle.xsk_model.proofs.Folds.{own-push_same, own-push_other}
 use Rattle.xsk_model.proofs.Histories.{goes_push, after_all-append}
 use Rattle.xsk_desc.specs.Noted.{Noted}
+use Rattle.xsk_desc.specs.declared.why.Illegal.{Illegal}
+use Rattle.xsk_desc.specs.Why.{Fails}
+use Rattle.xsk_desc.proofs.Whys.{fails_not_legal}
 use Rattle.xsk_desc.specs.Standing.{StandsFor}
 use Rattle.xsk_desc.specs.Given.{StandsGiven}
 use Rattle.xsk_plain.specs.Engine.{Engine, Shows}
@@ -155,3 +158,19 @@ one_new c noted all n kept is new caller stands = subst (λ (ns : List Noted). A
 
 pub all_new : (c : Config) (noted : List Noted) (n : ℕ) → AreNew c noted n → n ≡ callers_of c → EachNotesOwn c [] noted
 all_new c noted n new all = record { count = new.count ∙ all; each = new.each }
+
+-- why a call isn't legal after the caller's own entries of the history
+pub told_why : (engine : Engine) (d : Config) (h : List Entry) (who : ℕ) (kept : Noted) (call : Call) (result : Option Illegal) → d ≡ engine.config → NotesOwn engine.config h who kept
+    → ((mine : List Told) → StandsFor d kept mine → MatchOption result (IsLegal d mine kept.who call) (λ why. Fails why d mine kept.who call))
+    → MatchOption result (IsLegal engine.config (own who h) who call) (λ why. Fails why engine.config (own who h) who call)
+told_why engine d h who kept call result config notes tells =
+    let here : StandsFor d kept (own who h) = subst (λ (k : Config). StandsFor k kept (own who h)) (sym config) notes.stands in
+    subst (λ (w : ℕ). MatchOption result (IsLegal engine.config (own who h) w call) (λ why. Fails why engine.config (own who h) w call)) notes.caller
+    (subst (λ (k : Config). MatchOption result (IsLegal k (own who h) kept.who call) (λ why. Fails why k (own who h) kept.who call)) config (tells (own who h) here))
+
+pub none_is_legal : (engine : Engine) (frames : List Frame) (h : List Entry) (who : ℕ) (call : Call) (result : Option Illegal) → HasRun engine frames h
+    → MatchOption result (IsLegal engine.config (own who h) who call) (λ why. Fails why engine.config (own who h) who call)
+    → IsNone result ↔ IsLegal engine.config (own who engine.log) who call
+none_is_legal engine frames h who call None run told = (λ _. (legal_in engine frames h who call run).1 told, λ _. refl)
+none_is_legal engine frames h who call (Some why) run told =
+    (λ none. absurd (cc), λ legal. absurd (fails_not_legal why engine.config (own who h) who call told ((legal_in engine frames h who call run).0 legal)))

@@ -19,6 +19,7 @@ use Rattle.xsk_model.specs.Sizes.{sizes_of, fill_size, comp_size, rx_size, tx_si
 use Rattle.xsk_plain.specs.Stores.{stored_item_of, part_of, parts_of, size_in, sizes_in, Has}
 use Rattle.xsk_plain.specs.Notes.{Notes}
 use Rattle.xsk_plain.specs.Kept.{IsKept, AreKept, AllKept}
+use Rattle.xsk_model.proofs.InRow.{in_first, in_second, in_third, in_fourth}
 
 -- ---- the size of a ring, by its place
 
@@ -37,31 +38,6 @@ length-sizes_of c =
 
 pub length-rings : (c : Config) (rings : List RingStore) → sizes_in rings ≡ sizes_of c → length rings ≡ places_of c
 length-rings c rings sizes = sym (length-map rings size_in) ∙ ap length sizes ∙ length-sizes_of c
-
--- four lists one after another, read in each
-module _ (a b x y : List ℕ) where
-  in_first : (k : ℕ) → k < length a → get_or (a ++ b ++ x ++ y) k 0 ≡ get_or a k 0
-  in_first k h =
-      get_or_append_left (a ++ b ++ x) y 0 k (omega (arith, length-append (a ++ b) x, length-append a b))
-      ∙ get_or_append_left (a ++ b) x 0 k (omega (arith, length-append a b)) ∙ get_or_append_left a b 0 k h
-
-  in_second : (k i : ℕ) → i < length b → k ≡ length a + i → get_or (a ++ b ++ x ++ y) k 0 ≡ get_or b i 0
-  in_second k i h is =
-      get_or_append_left (a ++ b ++ x) y 0 k (omega (arith, length-append (a ++ b) x, length-append a b))
-      ∙ get_or_append_left (a ++ b) x 0 k (omega (arith, length-append a b)) ∙ get_or-append_right a b (length a) k 0 refl (omega arith)
-      ∙ (let e : k - length a ≡ i = omega arith in ap (λ j. get_or b j 0) e)
-
-  in_third : (k i : ℕ) → i < length x → k ≡ length a + length b + i → get_or (a ++ b ++ x ++ y) k 0 ≡ get_or x i 0
-  in_third k i h is =
-      let e : k - (length a + length b) ≡ i = omega arith in
-      get_or_append_left (a ++ b ++ x) y 0 k (omega (arith, length-append (a ++ b) x, length-append a b))
-      ∙ get_or-append_right (a ++ b) x (length a + length b) k 0 (length-append a b) (omega arith) ∙ ap (λ j. get_or x j 0) e
-
-  in_fourth : (k i : ℕ) → k ≡ length a + length b + length x + i → get_or (a ++ b ++ x ++ y) k 0 ≡ get_or y i 0
-  in_fourth k i is =
-      let e : k - (length a + length b + length x) ≡ i = omega arith in
-      get_or-append_right (a ++ b ++ x) y (length a + length b + length x) k 0 (omega (arith, length-append (a ++ b) x, length-append a b)) (omega arith)
-      ∙ ap (λ j. get_or y j 0) e
 
 no_pair : PairInfo
 no_pair = record { port = 0; queue = 0; fill = 0; comp = 0 }

@@ -4,14 +4,14 @@ use crate::noting::{new_standings, serve_noted};
 use crate::plain::{OpenRefused, Plain};
 use std::alloc::Global;
 use std::marker::Model;
-use xsk_desc::Standing;
-use xsk_model::{Call, Config, Reply};
+use xsk_desc::{Illegal, Standing};
+use xsk_model::{Answer, Ask, Call, Config, Reply};
 use xsk_umem::{Batch, Frames, OutOfMemory};
 
 /// The object on one thread, which knows of each caller which of its calls are legal. Its calls were all legal, so its log
 /// is one history from the opening. What it keeps for this costs time at each call: where legality is proved, `Plain` is
 /// the engine to take.
-#[derive(Drop)]
+#[derive(Debug, Drop)]
 pub struct Checked {
     plain: Plain,
     /// By caller.
@@ -31,16 +31,19 @@ impl Model for Checked {
 }
 
 impl Checked {
-    ghost use Rattle.std.specs.Prelude.{◌≡◌, ◌+◌, ◌≤◌, ◌↔◌, [], ◌∷◌, ◌++◌, OnOk, IfOk, IfErr, IsTrue};
+    ghost use Rattle.std.specs.Prelude.{◌≡◌, ◌+◌, ◌≤◌, ◌↔◌, List, [], ◌∷◌, ◌++◌, OnOk, IfOk, IfErr, IsNone, IsTrue, MatchOption};
+    ghost use Rattle.xsk_umem.specs.Frame.{Frame};
+    ghost use Rattle.xsk_model.specs.Asks.{joined_call, joined_reply, HasAsked, HasAnswered};
     ghost use Rattle.xsk_model.specs.Config.{IsLawful};
-    ghost use Rattle.xsk_model.specs.Entry.{own};
+    ghost use Rattle.xsk_model.specs.Entry.{Entry, own};
     ghost use Rattle.xsk_model.specs.Expected.{IsReplyTo};
     ghost use Rattle.xsk_model.specs.Legal.{IsLegal};
     ghost use Rattle.xsk_model.specs.Object.{State, reply_at, after};
     ghost use Rattle.xsk_model.specs.Opening.{AreFrames, opening};
     ghost use Rattle.xsk_model.specs.Stored.{stored_entry};
     ghost use Rattle.xsk_plain.specs.Engine.{Shows, frames_out};
-    ghost use Rattle.xsk_plain.specs.Histories.{IsRun};
+    ghost use Rattle.xsk_desc.specs.Why.{Fails};
+    ghost use Rattle.xsk_plain.specs.Histories.{HasRun, IsRun};
     ghost use Rattle.xsk_plain.specs.Log.{calls_of, entries_of};
     ghost use Rattle.xsk_plain.specs.Rooms.{payload_bytes};
 
@@ -97,6 +100,31 @@ impl Checked {
         place < self.standings.len() && self.standings[place].allows(self.plain.config(), call)
     }
 
+    /// Why the call isn't legal for the caller after its own calls and replies, and `None` exactly where it is.
+    pub fn why_not(&self, who: u32, call: &Call) -> Option<Illegal>
+        ensures legal { IsNone result ↔ IsLegal self.now.config (own who self.now.log) who call.now }
+
+        // The first condition that fails of the history that the log is, as it is stored.
+        ensures why { (frames : List Frame) × (h : List Entry) × HasRun self.now frames h
+            × MatchOption result (IsLegal self.now.config (own who h) who call.now) (λ why. Fails why self.now.config (own who h) who call.now) }
+    {
+        let place = who as usize;
+        if place >= self.standings.len() {
+            return Some(Illegal::NoCaller);
+        }
+        self.standings[place].why_not(self.plain.config(), call)
+    }
+
+    /// Whether the call whose items stand in a batch beside it is legal for the caller, as `allows` has it. No batch is moved
+    /// by it.
+    pub fn permits(&self, who: u32, ask: Ask, items: &Batch) -> bool
+        ensures { IsTrue result ↔ IsLegal self.now.config (own who self.now.log) who (joined_call ask items.now) }
+    {
+        let place = who as usize;
+        place < self.standings.len()
+            && self.standings[place].permits(self.plain.config(), ask, items)
+    }
+
     /// Makes the call for the caller, gives its reply and logs both. It must be legal after the caller's own calls and
     /// replies in the log, and the log must have room for it.
     pub fn perform(&mut self, who: u32, call: Call) -> Reply
@@ -116,9 +144,32 @@ impl Checked {
     {
         let mut items = Batch::new();
         let ask = call.split(&mut items);
-        let standing = &mut self.standings[who as usize];
-        let answer = serve_noted(&mut self.plain, standing, who, ask, &mut items);
+        let answer = self.serve(who, ask, &mut items);
         answer.joined(items)
+    }
+
+    /// Makes the call as `perform` does, with the items of a Submit taken from the batch, and those of a Peek put there.
+    /// No batch is moved by it. The batch must be empty unless the call is a Submit, and is left empty unless items were
+    /// taken.
+    pub fn serve(&mut self, who: u32, ask: Ask, items: &mut Batch) -> Answer
+        requires legal { IsLegal self.old.config (own who self.old.log) who (joined_call ask items.old) }
+        requires entries { 1 ≤ self.old.spare_entries }
+        requires bytes { payload_bytes self.old.config (joined_call ask items.old) ≤ self.old.spare_bytes }
+        requires items { HasAsked ask items.old }
+
+        // The reply and the change are the object's, in each state that is shown.
+        ensures reply { (s : State) → Shows self.old s → joined_reply result items.new ≡ reply_at self.old.config s (joined_call ask items.old) }
+        ensures state { (s : State) → Shows self.old s → Shows self.new (after self.old.config s who (joined_call ask items.old)) }
+        ensures kind { IsReplyTo (joined_call ask items.old) (joined_reply result items.new) }
+        ensures log { self.new.log ≡ self.old.log ++ stored_entry self.old.config.geometry self.old.config.sg (record { who = who; call = joined_call ask items.old; reply = joined_reply result items.new }) ∷ [] }
+        ensures config { self.new.config ≡ self.old.config }
+        ensures calls { self.new.calls ≡ self.old.calls + 1 }
+        ensures entries { self.new.spare_entries + 1 ≡ self.old.spare_entries }
+        ensures bytes { self.new.spare_bytes + payload_bytes self.old.config (joined_call ask items.old) ≡ self.old.spare_bytes }
+        ensures items { HasAnswered result items.new }
+    {
+        let standing = &mut self.standings[who as usize];
+        serve_noted(&mut self.plain, standing, who, ask, items)
     }
 
     /// The frames that stand in rings, ring by ring and in order, in a queue that has room for all frames.

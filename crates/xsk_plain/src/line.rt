@@ -2,6 +2,7 @@
 ghost use Rattle.std.specs.Prelude.{◌≡◌, ◌+◌, ◌*◌, ◌<◌, ◌≤◌, ◌++◌, length, take, sum_by, slice_get, Some, codes, []};
 ghost use Rattle.std.specs.Fmt.{decimal};
 ghost use Rattle.arrayvec.specs.ArrayString.{array_string_len};
+ghost use Rattle.xsk_umem.specs.Limits.{most_items};
 ghost use Rattle.xsk_plain.specs.Pieces.{count_of};
 ghost use Rattle.xsk_plain.specs.Log.{calls_of, entries_of};
 ghost use Rattle.xsk_plain.specs.Rows.{event_text, items_from};
@@ -18,7 +19,7 @@ use xsk_umem::XdpDesc;
 const ROOM: usize = 2048;
 
 /// A line of at most 2,048 bytes, which lie in the value itself.
-#[derive(Drop)]
+#[derive(Debug, Drop)]
 pub struct LineBuffer {
     text: ArrayString<2048>,
 }
@@ -180,6 +181,7 @@ impl Log {
         requires { i ≤ calls_of self.now }
         ensures { result ≡ sum_by count_of (take i self.now.rows.items) }
     {
+        // For the proof: what the type keeps, which a read of a field tells.
         let _begun = self.begun;
         let mut start = 0;
         for k in 0..i {
@@ -191,11 +193,12 @@ impl Log {
     /// The items of a row, at most 32.
     fn push_items(&self, line: &mut ArrayString<2048>, start: u32, count: u32)
         requires within { start + count ≤ length self.now.pieces.items }
-        requires few { count ≤ 32 }
+        requires few { count ≤ most_items }
         requires room { array_string_len line.old ≤ 500 }
         ensures text { line.new.bytes ≡ line.old.bytes ++ items_text (items_from self.now start count) }
         ensures room { array_string_len line.new ≤ array_string_len line.old + 43 * count }
     {
+        // For the proof: how many pieces there are is a number of 32 bits.
         let _pieces = self.pieces.len();
         for k in 0..count {
             let piece = self.pieces.get(start + k);
@@ -205,7 +208,7 @@ impl Log {
 
     fn push_submit(&self, line: &mut ArrayString<2048>, start: u32, row: &Row, ring: Ring)
         requires within { start + row.now.items ≤ length self.now.pieces.items }
-        requires few { row.now.items ≤ 32 }
+        requires few { row.now.items ≤ most_items }
         requires room { array_string_len line.old ≤ 100 }
         ensures text { line.new.bytes ≡ line.old.bytes ++ (codes "submit " ++ ring_text ring ++ items_text (items_from self.now start row.now.items) ++ codes " -> " ++ codes "submitted") }
         ensures room { array_string_len line.new ≤ array_string_len line.old + 1500 }
@@ -219,7 +222,7 @@ impl Log {
 
     fn push_peek(&self, line: &mut ArrayString<2048>, start: u32, row: &Row, ring: Ring, count: u32)
         requires within { start + row.now.items ≤ length self.now.pieces.items }
-        requires few { row.now.items ≤ 32 }
+        requires few { row.now.items ≤ most_items }
         requires room { array_string_len line.old ≤ 100 }
         ensures text { line.new.bytes ≡ line.old.bytes ++ (codes "peek " ++ ring_text ring ++ codes " " ++ decimal count ++ codes " -> " ++ (codes "items" ++ items_text (items_from self.now start row.now.items))) }
         ensures room { array_string_len line.new ≤ array_string_len line.old + 1500 }
@@ -233,7 +236,7 @@ impl Log {
     /// The call and its reply.
     fn push_event(&self, line: &mut ArrayString<2048>, start: u32, row: &Row)
         requires within { start + row.now.items ≤ length self.now.pieces.items }
-        requires few { row.now.items ≤ 32 }
+        requires few { row.now.items ≤ most_items }
         requires room { array_string_len line.old ≤ 100 }
         ensures text { line.new.bytes ≡ line.old.bytes ++ event_text row.now.event (items_from self.now start row.now.items) }
         ensures room { array_string_len line.new ≤ array_string_len line.old + 1500 }

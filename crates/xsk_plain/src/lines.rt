@@ -7,7 +7,7 @@ use crate::line::LineBuffer;
 use crate::log::Log;
 
 /// Goes over the entries of a log, and writes the line of one after another. Each line takes time of its own items alone.
-#[derive(Clone, Copy)]
+#[derive(Clone, Copy, Debug)]
 pub struct Lines<'a> {
     log: &'a Log,
     pairs: u32,
@@ -49,6 +49,7 @@ impl Lines<'_> {
         if self.row == self.log.len() {
             return None;
         }
+        // For the proof: what the type keeps, which a read of a field tells.
         let _begun = self.log.begun;
         self.log.write_row(self.pairs, self.row, self.start, out);
         let row = self.log.rows.get(self.row);

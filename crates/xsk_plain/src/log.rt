@@ -9,10 +9,7 @@ use crate::repeats::{Repeated, Repeats};
 use crate::rows::Rows;
 use std::alloc::Global;
 use xsk_model::{Mark, Ring};
-use xsk_umem::{OutOfMemory, XdpDesc};
-
-/// The most items of one call.
-pub(crate) const MOST_ITEMS: u32 = 32;
+use xsk_umem::{MOST_ITEMS, OutOfMemory, XdpDesc};
 
 /// The entries and the payload bytes for which room is made at first, beside what is asked for. What isn't used takes
 /// addresses alone, and a list that needn't grow leaves no holes behind.

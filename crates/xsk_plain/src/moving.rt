@@ -88,6 +88,7 @@ fn note_stored(log: &mut Log, stored: &Stored)
     match stored.place {
         Some(place) => log.note_again(place),
         None => {
+            // The item leaves the ring, so nothing keeps the place of its piece.
             let _place = log.note(stored.piece());
         }
     }

@@ -12,10 +12,10 @@ use std::alloc::Global;
 use std::mem;
 use xsk_model::placement::{has_mark, has_ring, mark_place, ring_place};
 use xsk_model::{Call, Config, Mark, Ring};
-use xsk_umem::{Batch, Frames};
+use xsk_umem::{Batch, Frames, MOST_ITEMS};
 
 /// The rings and the marks of a configuration, by place.
-#[derive(Drop)]
+#[derive(Debug, Drop)]
 pub(crate) struct Object {
     pub(crate) config: Config,
     pub(crate) rings: Vec<RingStore>,
@@ -164,7 +164,9 @@ impl Object {
             Call::Submit(ring, items) => {
                 has_ring(&self.config, *ring) && items.len() <= self.taken(*ring).0
             }
-            Call::Peek(ring, count) => has_ring(&self.config, *ring) && *count >= 1 && *count <= 32,
+            Call::Peek(ring, count) => {
+                has_ring(&self.config, *ring) && *count >= 1 && *count <= MOST_ITEMS
+            }
             Call::Release(ring, count) => {
                 has_ring(&self.config, *ring) && *count <= self.taken(*ring).1
             }

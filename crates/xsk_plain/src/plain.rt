@@ -1,11 +1,11 @@
 //! The object on one thread, as other crates use it.
-ghost use Rattle.std.specs.Prelude.{◌≡◌, ◌+◌, ◌≤◌, [], ◌∷◌, ◌++◌, ◌↔◌, length, OnOk, IfOk, IfErr, IsTrue};
+ghost use Rattle.std.specs.Prelude.{◌≡◌, ◌+◌, ◌*◌, ◌≤◌, [], ◌∷◌, ◌++◌, ◌↔◌, length, OnOk, IfOk, IfErr, IsTrue};
 ghost use Rattle.xsk_umem.specs.Geometry.{IsGeometry};
 ghost use Rattle.xsk_model.specs.Asks.{joined_call, joined_reply, HasAsked, HasAnswered};
 ghost use Rattle.xsk_model.specs.Config.{Config as Parts, IsLawful};
 ghost use Rattle.xsk_model.specs.declared.ask.Ask.{Ask as AnAsk};
 ghost use Rattle.xsk_model.specs.Expected.{IsReplyTo, IsReserved, IsPeeked, IsOld};
-ghost use Rattle.xsk_model.specs.Object.{State, reply_at, after};
+ghost use Rattle.xsk_model.specs.Object.{State, reply_at, after, submitted};
 ghost use Rattle.xsk_model.specs.Opening.{AreFrames, opening};
 ghost use Rattle.xsk_model.specs.Stored.{stored_entry};
 ghost use Rattle.xsk_plain.specs.Engine.{Shows, CanPerform, frames_out};
@@ -17,6 +17,7 @@ use crate::log::{Event, Log};
 use crate::object::Object;
 use std::alloc::Global;
 use std::marker::Model;
+use thiserror::Error;
 use xsk_model::{Answer, Ask, Call, Config, Mark, Reply, Ring};
 use xsk_umem::{Batch, Frames, OutOfMemory};
 
@@ -24,14 +25,15 @@ use xsk_umem::{Batch, Frames, OutOfMemory};
 const MOST_CHUNK: u32 = 4096;
 
 /// Memory for the object couldn't be had. What was handed in comes back.
-#[derive(Debug, Drop)]
+#[derive(Debug, Drop, Error)]
+#[error("out of memory")]
 pub struct OpenRefused {
     pub config: Config,
     pub frames: Frames,
 }
 
 /// The object on one thread.
-#[derive(Drop)]
+#[derive(Debug, Drop)]
 pub struct Plain {
     object: Object,
     log: Log,
@@ -63,6 +65,7 @@ impl Plain {
         ensures spare { IfOk result (λ plain. (plain.spare_entries ≡ 0) × (plain.spare_bytes ≡ 0)) }
         ensures refused { IfErr result (λ back. back ≡ record { config = config; frames = frames }) }
     {
+        // For the proof: a queue has at most as many frames as its limit.
         let _count = frames.len();
         let mut object = match Object::new(alloc, config) {
             Ok(object) => object,
@@ -280,9 +283,10 @@ impl Plain {
     }
 }
 
-/// The most payload bytes that the log keeps of a call.
+/// The most payload bytes that the log keeps of a call: 4,096, the bytes of the larger chunk, for each item of a Submit.
 pub fn payload_room(call: &Call) -> u32
-    ensures { (config : Parts) → IsGeometry config.geometry → payload_bytes config call.now ≤ result }
+    ensures exact { result ≡ 4096 * length (submitted call.now) }
+    ensures enough { (config : Parts) → IsGeometry config.geometry → payload_bytes config call.now ≤ result }
 {
     match call {
         Call::Submit(_, items) => items.len() * MOST_CHUNK,
@@ -290,9 +294,10 @@ pub fn payload_room(call: &Call) -> u32
     }
 }
 
-/// The most payload bytes that the log keeps of a call with these items beside it.
+/// The most payload bytes that the log keeps of a call with these items beside it: 4,096 for each.
 pub fn items_room(items: &Batch) -> u32
-    ensures { (config : Parts) (ask : AnAsk) → IsGeometry config.geometry → payload_bytes config (joined_call ask items.now) ≤ result }
+    ensures exact { result ≡ 4096 * length items.now }
+    ensures enough { (config : Parts) (ask : AnAsk) → IsGeometry config.geometry → payload_bytes config (joined_call ask items.now) ≤ result }
 {
     items.len() * MOST_CHUNK
 }

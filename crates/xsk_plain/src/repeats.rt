@@ -64,6 +64,7 @@ impl<T: Repeated> Repeats<T> {
     pub(crate) fn len(&self) -> u32
         ensures { result ≡ length self.now.items }
     {
+        // For the proof: what the type keeps, which a read of a field tells.
         let _limit = self.limit;
         self.places.len() as u32
     }
@@ -73,6 +74,7 @@ impl<T: Repeated> Repeats<T> {
         requires { i < length self.now.items }
         ensures { slice_get self.now.items i ≡ Some result.now }
     {
+        // For the proof: what the type keeps, which a read of a field tells.
         let _limit = self.limit;
         &self.values[self.places[i as usize] as usize]
     }

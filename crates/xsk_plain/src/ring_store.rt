@@ -8,7 +8,7 @@ use std::collections::VecDeque;
 use xsk_umem::{Item, OutOfMemory};
 
 /// An item that stands in a ring, and where the log has its payload.
-#[derive(Drop)]
+#[derive(Debug, Drop)]
 pub(crate) struct Stored {
     pub(crate) item: Item,
     pub(crate) payload: Span,
@@ -34,7 +34,7 @@ impl Stored {
 
 /// One ring: the items that were submitted and not peeked, and how many places are peeked and not released, and
 /// reserved and not filled.
-#[derive(Drop)]
+#[derive(Debug, Drop)]
 pub(crate) struct RingStore {
     pub(crate) out: VecDeque<Stored>,
     pub(crate) held: u32,
@@ -64,6 +64,7 @@ impl RingStore {
     pub(crate) fn len(&self) -> u32
         ensures { result ≡ length self.now.out.items }
     {
+        // For the proof: what the type keeps, which a read of a field tells.
         let _size = self.size;
         self.out.len() as u32
     }

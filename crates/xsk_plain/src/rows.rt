@@ -57,6 +57,7 @@ impl Rows {
     pub(crate) fn len(&self) -> u32
         ensures { result ≡ length self.now.items }
     {
+        // For the proof: what the type keeps, which a read of a field tells.
         let _limit = self.limit;
         self.codes.len() as u32
     }
@@ -66,6 +67,7 @@ impl Rows {
         requires { i < length self.now.items }
         ensures { slice_get self.now.items i ≡ Some result }
     {
+        // For the proof: what the type keeps, which a read of a field tells.
         let _limit = self.limit;
         let code = self.codes[i as usize];
         if code < APART {

@@ -2,12 +2,14 @@
 ghost use Rattle.std.specs.Prelude.{◌≡◌, ◌≤◌, ◌<◌, List, [], ◌∷◌, ◌++◌, length, map, OnOk, OnErr, IfErr, IfOk, Err};
 ghost use Rattle.xsk_prog.specs.Rules.{IsRuled, MeetsChain};
 ghost use Rattle.xsk_prog.specs.Chain.{AllObey, ChainAnswers, rules_of};
-ghost use Rattle.xsk_prog.specs.declared.chain.ChainError.TheVariants.{TooLong, OutOfMemory};
+ghost use Rattle.xsk_prog.specs.Program.{Obeys};
+ghost use Rattle.xsk_prog.specs.declared.chain.ChainError.TheVariants.{TooLong};
 
 use crate::{Verdict, XdpProgram};
 use std::alloc::Global;
 use std::marker::Model;
 use thiserror::Error;
+use xsk_umem::OutOfMemory;
 
 /// The most programs of a chain.
 pub const MOST_PROGRAMS: usize = 8;
@@ -49,14 +51,27 @@ impl<F: Fn(&[u8], u32) -> Verdict> Chain<F> {
         }
     }
 
+    /// The chain of one program. It is refused for want of memory alone.
+    pub fn of(alloc: Global, program: XdpProgram<F>) -> Result<Chain<F>, OutOfMemory>
+        ensures one { IfOk result (λ chain. chain ≡ program ∷ []) }
+        ensures obeys { Obeys F.Fn program.rule program.decide → IfOk result (λ chain. AllObey F.Fn chain) }
+    {
+        let mut chain = Chain::new(alloc);
+        match chain.push(program) {
+            Ok(()) => Ok(chain),
+            Err(_) => Err(OutOfMemory),
+        }
+    }
+
     /// Puts a program behind those of the chain. It is refused as `TooLong` exactly where 8 stand there, and else for want of
     /// memory alone; then it comes back, and the chain is as it was.
     pub fn push(&mut self, program: XdpProgram<F>) -> Result<(), (ChainError, XdpProgram<F>)>
         ensures pushed { OnOk result ((self.new ≡ self.old ++ program ∷ []) × (length self.old < 8)) }
+        ensures obeys { AllObey F.Fn self.old → Obeys F.Fn program.rule program.decide → OnOk result (AllObey F.Fn self.new) }
         ensures refused { OnErr result (self.new ≡ self.old) }
         ensures back { IfErr result (λ refusal. refusal.1 ≡ program) }
         ensures long { IfErr result (λ refusal. refusal.0 ≡ TooLong → length self.old ≡ 8) }
-        ensures short { IfErr result (λ refusal. refusal.0 ≡ OutOfMemory → length self.old < 8) }
+        ensures short { IfErr result (λ refusal. refusal.0 ≡ ChainError.OutOfMemory → length self.old < 8) }
     {
         if self.programs.len() >= MOST_PROGRAMS {
             return Err((ChainError::TooLong, program));

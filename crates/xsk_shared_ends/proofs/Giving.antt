@@ -18,7 +18,7 @@ use Rattle.xsk_turns.proofs.Places.{batch_some}
 use Rattle.xsk_table.specs.Held.{Holder}
 use Rattle.xsk_app.specs.Ways.{IsGroup}
 use Rattle.xsk_app.specs.Stands.{by_reply}
-use Rattle.xsk_app.proofs.TurnLemmas.{give_back_some, give_back_granted, give_back_kept, group_moved}
+use Rattle.xsk_app.proofs.TurnLemmas.{give_back_some, give_back_granted, give_back_kept, group_moved, none_back}
 use Rattle.xsk_shared_ends.specs.Standing.{Origin, At, IsSamePass, VisitsSide, GivesBack, Wakes, next}
 use Rattle.xsk_shared_ends.specs.declared.visiting.Step.{Step}
 use Rattle.xsk_shared_ends.specs.declared.visiting.Step.TheVariants.{Moved}
@@ -27,11 +27,6 @@ full_back : (c : Config) (side : ℕ) (back : List Frame) (kept : AppKept) (next
     → by_reply (give_back c side zero back kept next) (Full free) ≡ next (with_back kept side back)
 full_back c side [] kept next free home count h = absurd h
 full_back c side (frame ∷ frames) kept next free home count h = refl
-
-none_back : (c : Config) (side : ℕ) (back : List Frame) (kept : AppKept) (next : AppKept → Script AppKept) → back ≡ []
-    → give_back c side zero back kept next ≡ next (with_back kept side back)
-none_back c side [] kept next e = refl
-none_back c side (frame ∷ frames) kept next e = absurd (cc)
 
 module _ (o : Origin) (side : ℕ) (k : AppKept) (back : List Frame) where
   -- what is left once places were asked for

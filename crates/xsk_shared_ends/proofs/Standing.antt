@@ -12,7 +12,7 @@ use Rattle.xsk_model.specs.declared.call.Call.TheVariants.{Reserve, Submit, Peek
 use Rattle.xsk_model.specs.declared.call.Mark.{Mark}
 use Rattle.xsk_model.specs.declared.call.Reply.{Reply}
 use Rattle.xsk_model.specs.declared.call.Reply.TheVariants.{Granted, Full, Submitted, Items, Empty, Released, Old}
-use Rattle.xsk_model.proofs.Replies.{gift_fits}
+use Rattle.xsk_model.proofs.Replies.{gift_fits, fits_kind}
 use Rattle.xsk_turns.specs.Script.{Script, ask, again, ended, never, begun, on_submitted, on_released, on_old}
 use Rattle.xsk_turns.specs.AppTurns.{AppKept, kick}
 use Rattle.xsk_turns.specs.AppOwned.{HasOwnFrames}
@@ -40,18 +40,6 @@ begun_same (ask kept call rest) = refl
 begun_same (again kept) = refl
 begun_same (ended kept) = refl
 begun_same never = refl
-
--- a reply that fits a call is of the call's kind
-pub fits_kind : (c : Config) (mine : List Told) (call : Call) (reply : Reply) → Fits c mine call reply → IsReplyTo call reply
-fits_kind c mine (Reserve r n) Granted h = tt
-fits_kind c mine (Reserve r n) (Full places) h = tt
-fits_kind c mine (Submit r items) Submitted h = refl
-fits_kind c mine (Peek r n) Empty h = tt
-fits_kind c mine (Peek r n) (Items items) h = tt
-fits_kind c mine (Release r n) Released h = refl
-fits_kind c mine (Swap m value) (Old old) h = tt
-fits_kind c mine (Look m) (Old old) h = tt
-fits_kind c mine call reply h = absurd h
 
 -- the call at which it stands is legal
 pub may_ask : (b : Board) (p : Holder) (call : Call) → Belongs b p → Asks p call → MayAsk b p call

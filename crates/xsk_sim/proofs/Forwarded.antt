@@ -24,9 +24,9 @@ module _ (s : Setting) (frames : List Frame) (order : ℕ) (run : Shown) (port q
 pub ended_is_forwarded : EndedIsForwarded
 ended_is_forwarded s frames order run port queue none steady ended in_ports in_queues =
     subst (AreForwarded s.wire s.config ended.history s.packets s.verdicts port queue) (sym (ended.sent (driver_on s.config port queue) (known s frames order run port queue steady ended in_ports in_queues)))
-    (all_are_forwarded s.manner s.wire s.config s.packets s.verdicts frames ended.history port queue none (are_whole s frames order run port queue steady ended in_ports in_queues) in_ports in_queues)
+    (all_are_forwarded 1 s.manner s.wire s.config s.packets s.verdicts frames ended.history port queue none (are_whole s frames order run port queue steady ended in_ports in_queues) in_ports in_queues)
 
 pub ended_is_expected : EndedIsExpected
 ended_is_expected s frames order run port queue none waits steady ended in_ports in_queues =
     subst (AreExpected s.config s.packets s.verdicts port queue) (sym (ended.sent (driver_on s.config port queue) (known s frames order run port queue steady ended in_ports in_queues)))
-    (nothing_else_is_sent s.manner s.wire s.config s.packets s.verdicts frames ended.history port queue none waits (are_whole s frames order run port queue steady ended in_ports in_queues) in_ports in_queues)
+    (nothing_else_is_sent 1 s.manner s.wire s.config s.packets s.verdicts frames ended.history port queue none waits (are_whole s frames order run port queue steady ended in_ports in_queues) in_ports in_queues)

@@ -16,6 +16,7 @@ use Rattle.xsk_model.proofs.Folds.{own-push_same, own-push_other}
 use Rattle.xsk_plain.specs.Line.{who_text, ring_text, item_text, items_text, call_text, reply_text, line_of, TakesLine}
 use Rattle.xsk_sim.specs.Counts.{AreCounts}
 use Rattle.xsk_sim.specs.Journal.{round_of, journal_line, journal_from, journal_of}
+use Rattle.xsk_plain.proofs.StoredLines.{line_stored}
 
 -- one more line
 pub journal_push : (pairs : ℕ) (past es : List Entry) (e : Entry) → journal_from pairs past (es ++ e ∷ []) ≡ journal_from pairs past es ++ journal_line pairs (past ++ es) e
@@ -82,32 +83,6 @@ own_few who (e ∷ es) = own_shorter (e.who == who) (told e) (own who es) (lengt
 -- ---- histories as they are stored
 
 module _ (g : Geometry) (sg : Bool) where
-  items_stored : (items : List Item) → items_text (map (stored_item g sg) items) ≡ items_text items
-  items_stored [] = refl
-  items_stored (x ∷ items) = ap (λ t. item_text x ++ t) (items_stored items)
-
-  call_stored : (call : Call) → call_text (stored_call g sg call) ≡ call_text call
-  call_stored (Reserve r n) = refl
-  call_stored (Submit r items) = ap (λ t. codes "submit " ++ ring_text r ++ t) (items_stored items)
-  call_stored (Peek r n) = refl
-  call_stored (Release r n) = refl
-  call_stored (Swap m value) = refl
-  call_stored (Look m) = refl
-
-  reply_stored : (reply : Reply) → reply_text (stored_reply g sg reply) ≡ reply_text reply
-  reply_stored Granted = refl
-  reply_stored (Full places) = refl
-  reply_stored Submitted = refl
-  reply_stored (Items items) = ap (λ t. codes "items" ++ t) (items_stored items)
-  reply_stored Empty = refl
-  reply_stored Released = refl
-  reply_stored (Old value) = refl
-
-  line_stored : (pairs : ℕ) (e : Entry) → line_of pairs (stored_entry g sg e) ≡ line_of pairs e
-  line_stored pairs e =
-      ap (λ t. who_text pairs e.who ++ codes " " ++ t ++ codes " -> " ++ reply_text (stored_reply g sg e.reply) ++ codes "\n") (call_stored e.call)
-      ∙ ap (λ t. who_text pairs e.who ++ codes " " ++ call_text e.call ++ codes " -> " ++ t ++ codes "\n") (reply_stored e.reply)
-
   one_more : (b : Bool) (t u : Told) (l k : List Told) → length l ≡ length k → length (cond b (t ∷ l) l) ≡ length (cond b (u ∷ k) k)
   one_more true t u l k same = ap suc same
   one_more false t u l k same = same
@@ -121,7 +96,7 @@ module _ (g : Geometry) (sg : Bool) where
   from_stored pairs past [] = refl
   from_stored pairs past (e ∷ es) =
       ap (λ n. (decimal n ++ codes " " ++ line_of pairs (stored_entry g sg e)) ++ journal_from pairs (map (stored_entry g sg) past ++ stored_entry g sg e ∷ []) (map (stored_entry g sg) es)) (own_stored e.who past)
-      ∙ ap (λ t. (decimal (round_of past e) ++ codes " " ++ t) ++ journal_from pairs (map (stored_entry g sg) past ++ stored_entry g sg e ∷ []) (map (stored_entry g sg) es)) (line_stored pairs e)
+      ∙ ap (λ t. (decimal (round_of past e) ++ codes " " ++ t) ++ journal_from pairs (map (stored_entry g sg) past ++ stored_entry g sg e ∷ []) (map (stored_entry g sg) es)) (line_stored g sg pairs e)
       ∙ ap (λ l. journal_line pairs past e ++ journal_from pairs l (map (stored_entry g sg) es)) (sym (map-append (stored_entry g sg) past (e ∷ [])))
       ∙ ap (λ t. journal_line pairs past e ++ t) (from_stored pairs (past ++ e ∷ []) es)
 

@@ -14,7 +14,8 @@ use Rattle.xsk_model.specs.History.{IsHistory, state_after}
 use Rattle.xsk_model.specs.Holders.{HasOneHolder}
 use Rattle.xsk_model.specs.Stored.{stored}
 use Rattle.xsk_model.specs.Sent.{sent}
-use Rattle.xsk_prog.specs.Rules.{is_exact}
+use Rattle.xsk_prog.specs.Rules.{are_exact}
+use Rattle.xsk_prog.specs.declared.program.XdpProgram.{XdpProgram}
 use Rattle.xsk_prog.specs.declared.rule.Rule.{Rule}
 use Rattle.xsk_prog.specs.declared.rule.Verdict.{Verdict}
 use Rattle.xsk_turns.specs.Owned.{IsSteady}
@@ -80,26 +81,26 @@ pub record HasStalled (s : Setting) (frames : List Frame) (order round : ℕ) : 
   pub still : StandStill s frames order 64 (round + 1) past.history
   pub first : NeverStill s frames order round
 
--- The same under a program: there are verdicts of each driver's packets, each an answer of the program's closure that meets
--- its rule, with which the run has ended, or stalled.
-pub record HasEndedUnder {F : Type 0} (g : Shared F (Bor (List ℕ) × (ℕ × Unit {0})) Verdict) (rule : Rule) (f : F) (wire : Wire) (manner : Manner) (c : Config) (packets : List PacketList) (frames : List Frame) (order : ℕ) (run : Shown) : Type 0 where
+-- The same under a chain: there are verdicts of each driver's packets, each an answer of the chain that meets its programs'
+-- rules, with which the run has ended, or stalled.
+pub record HasEndedUnder {F : Type 0} (g : Shared F (Bor (List ℕ) × (ℕ × Unit {0})) Verdict) (programs : List (XdpProgram F)) (wire : Wire) (manner : Manner) (c : Config) (packets : List PacketList) (frames : List Frame) (order : ℕ) (run : Shown) : Type 0 where
   pub verdicts : List (List Verdict)
-  pub asked : AreGiven (IsAnswer g rule f) (setting_by c wire manner packets verdicts)
+  pub asked : AreGiven (IsAnswer g programs) (setting_by c wire manner packets verdicts)
   pub ended : HasEnded (setting_by c wire manner packets verdicts) frames order run
 
-pub record HasStalledUnder {F : Type 0} (g : Shared F (Bor (List ℕ) × (ℕ × Unit {0})) Verdict) (rule : Rule) (f : F) (wire : Wire) (manner : Manner) (c : Config) (packets : List PacketList) (frames : List Frame) (order round : ℕ) : Type 0 where
+pub record HasStalledUnder {F : Type 0} (g : Shared F (Bor (List ℕ) × (ℕ × Unit {0})) Verdict) (programs : List (XdpProgram F)) (wire : Wire) (manner : Manner) (c : Config) (packets : List PacketList) (frames : List Frame) (order round : ℕ) : Type 0 where
   pub verdicts : List (List Verdict)
-  pub asked : AreGiven (IsAnswer g rule f) (setting_by c wire manner packets verdicts)
+  pub asked : AreGiven (IsAnswer g programs) (setting_by c wire manner packets verdicts)
   pub stalled : HasStalled (setting_by c wire manner packets verdicts) frames order round
 
--- where the rule leaves one verdict for each packet, they are those that the rule gives itself
+-- where the rules leave one verdict for each packet, they are those that the rules give themselves
 abbrev pub EndsAsRuled : Type 0
-EndsAsRuled = (rule : Rule) (s : Setting) (frames : List Frame) (order : ℕ) (run : Shown) → is_exact rule ≡ true → IsRuled rule s
-    → HasEnded s frames order run → HasEnded (ruled_by rule s.wire s.manner s.config s.packets) frames order run
+EndsAsRuled = (rules : List Rule) (s : Setting) (frames : List Frame) (order : ℕ) (run : Shown) → are_exact rules ≡ true → IsRuled rules s
+    → HasEnded s frames order run → HasEnded (ruled_by rules s.wire s.manner s.config s.packets) frames order run
 
 abbrev pub StallsAsRuled : Type 0
-StallsAsRuled = (rule : Rule) (s : Setting) (frames : List Frame) (order round : ℕ) → is_exact rule ≡ true → IsRuled rule s
-    → HasStalled s frames order round → HasStalled (ruled_by rule s.wire s.manner s.config s.packets) frames order round
+StallsAsRuled = (rules : List Rule) (s : Setting) (frames : List Frame) (order round : ℕ) → are_exact rules ≡ true → IsRuled rules s
+    → HasStalled s frames order round → HasStalled (ruled_by rules s.wire s.manner s.config s.packets) frames order round
 
 -- Where no item is changed, what the driver of a port and queue sent in a run that has ended is what was forwarded by all classes, whatever the wire
 -- does, and nothing else. Where the wire waits it is what is expected by them.

@@ -13,7 +13,7 @@ ghost use Rattle.xsk_machine.specs.Workers.{AreNew};
 ghost use Rattle.xsk_driver.specs.Sent.{IsShort};
 ghost use Rattle.xsk_sim.specs.Shown.{HasShortPackets, packets_in};
 ghost use Rattle.xsk_turns.specs.Stepping.{joined_ask};
-ghost use Rattle.xsk_prog.specs.Program.{Obeys};
+ghost use Rattle.xsk_prog.specs.Chain.{AllObey};
 ghost use Rattle.xsk_turns.specs.Workers.{Setting};
 ghost use Rattle.xsk_sim.specs.Runs.{HasEnded, HasStalled, NeverStill, HasEndedUnder, HasStalledUnder};
 ghost use Rattle.xsk_sim.specs.Stalls.{StandStill};
@@ -30,7 +30,7 @@ use xsk_driver::{Driver, Wire};
 use xsk_machine::{FigureList, Figures, Inputs, Kept, drivers_for, worker_of};
 use xsk_model::Config;
 use xsk_plain::{Lines, Log, Plain};
-use xsk_prog::{Verdict, XdpProgram};
+use xsk_prog::{Chain, Verdict};
 use xsk_turns::Manner;
 use xsk_umem::{Frames, OutOfMemory, PacketList};
 
@@ -124,11 +124,11 @@ const STILL_ROUNDS: u64 = 64;
 
 /// Runs the drivers and applications of a regular configuration, in which no socket is closed, in rounds until all have ended,
 /// over one list of packets for each port, none of which has more than 262,144 bytes. The frames are all frames of its UMEM, the
-/// program is attached to every port, `wire` says what becomes of a packet that finds too few frames or no room on RX,
+/// chain of programs is attached to every port, `wire` says what becomes of a packet that finds too few frames or no room on RX,
 /// `order` is the number of the rounds' order, and `manner` says which items each application changes.
 ///
-/// Each driver asks the program once for each of its packets, so there is one list of verdicts for each driver, and all that
-/// is said of the run is said of these. Where the program's rule leaves one verdict for each packet, they are the rule's own
+/// Each driver asks the chain once for each of its packets, so there is one list of verdicts for each driver, and all that
+/// is said of the run is said of these. Where its rules leave one verdict for each packet, they are the rules' own
 /// (`laws::ends_as_ruled`). Where no items are changed, what a run that has ended sent is what was delivered to the paired sockets
 /// (`laws::ended_is_forwarded`), and where the wire waits what is expected there (`laws::ended_is_expected`).
 ///
@@ -144,7 +144,7 @@ pub fn simulate<F: Fn(&[u8], u32) -> Verdict>(
     config: Config,
     frames: Frames,
     packets: &[PacketList],
-    program: &XdpProgram<F>,
+    chain: &Chain<F>,
     wire: Wire,
     order: u32,
     manner: Manner,
@@ -153,17 +153,17 @@ pub fn simulate<F: Fn(&[u8], u32) -> Verdict>(
     requires frames { AreFrames config.geometry frames.items }
     requires lists { length packets.now ≡ config.ports }
     requires short { All HasShortPackets packets.now }
-    requires obeys { Obeys F.Fn program.now.rule program.now.decide }
+    requires obeys { AllObey F.Fn chain.now }
     ensures pairs { IfOk result (λ run. run.pairs ≡ length config.pairs) }
-    ensures ended { IfOk result (HasEndedUnder F.Fn program.now.rule program.now.decide wire manner config packets.now frames.items order) }
+    ensures ended { IfOk result (HasEndedUnder F.Fn chain.now wire manner config packets.now frames.items order) }
     ensures stalled { (round : ℕ) → result ≡ Err (SimError.Stalled round)
-        → HasStalledUnder F.Fn program.now.rule program.now.decide wire manner config packets.now frames.items order round }
+        → HasStalledUnder F.Fn chain.now wire manner config packets.now frames.items order round }
     ensures goes_on { HasAmpleRoom config → manner ≡ plain_manner → (round : ℕ) → result ≡ Err (SimError.Stalled round) → ⊥ }
 {
     let shared = config.copy(alloc)?;
     let inputs = Inputs::split(alloc, &shared, packets)?;
     let classes = shared.classes();
-    let drivers = drivers_for(alloc, &shared, packets, &inputs, program, wire)?;
+    let drivers = drivers_for(alloc, &shared, packets, &inputs, chain, wire)?;
     let workers = seat_workers(alloc, &shared, drivers, manner)?;
     let _geometry = shared.geometry();
     let Ok(plain) = Plain::open(alloc, config, frames) else {

@@ -9,7 +9,8 @@ use Rattle.xsk_model.specs.Config.{IsRingSize}
 use Rattle.xsk_socket.specs.declared.layout.Layout.{Layout}
 use Rattle.xsk_socket.specs.declared.layout.Unlawful.{Unlawful}
 use Rattle.xsk_socket.specs.Fits.{Fits, IsCount}
-use Rattle.xsk_socket.specs.Layout.{Demand, fault_of, first_unmet, is_count, is_port_count, is_ring_size, on_close, on_counts, on_empty, on_hands, on_rings, on_umem, pairs_in, pool_in, cells_in, sockets_in}
+use Rattle.xsk_socket.specs.Layout.{Demand, fault_of, first_unmet, is_count, is_port_count, on_close, on_counts, on_empty, on_hands, on_rings, on_umem, pairs_in, pool_in, cells_in, sockets_in}
+use Rattle.xsk_model.proofs.RingSizes.{size_of_power}
 
 -- each demand is met
 AreMet : List Demand → Type 0
@@ -24,28 +25,6 @@ met (d ∷ rest) none =
       | inl holds ↦ (holds, met rest (rw holds at none))
       | inr fails ↦ let some : Some d.1 ≡ None = rw fails at none in absurd (cc)
     ]
-
-power_in : (a n size : ℕ) → list_any (λ k. eqb size (2 ^ k)) (range_with_len a n) ≡ true → (k : ℕ) × (size ≡ 2 ^ k) × (a ≤ k) × (k < a + n)
-power_in a zero size is = absurd (cc)
-power_in a (suc n) size is =
-    elim (cases_Bool (eqb size (2 ^ a))) [
-      | inl here ↦ (a, eqb-true size (2 ^ a) here, omega arith, omega arith)
-      | inr other ↦
-          let rest : list_any (λ k. eqb size (2 ^ k)) (range_with_len (a + 1) n) ≡ true = rw other at is in
-          let found = power_in (a + 1) n size rest in
-          (found.0, found.1, omega arith, omega arith)
-    ]
-
-pub ring_size : (size : ℕ) → is_ring_size size ≡ true → IsRingSize size
-ring_size size is =
-    let found = power_in 1 11 size is in
-    let least : 2 ^ 1 ≤ 2 ^ found.0 = pow-le-pow_right {n = 2} (omega arith) {i = 1} {j = found.0} found.2 in
-    let most : 2 ^ found.0 ≤ 2 ^ 11 = pow-le-pow_right {n = 2} (omega arith) {i = found.0} {j = 11} (omega (arith, found.3)) in
-    record {
-      power = (found.0, found.1);
-      least = rw found.1 least;
-      most = rw found.1 most;
-    }
 
 port_count : (n : ℕ) → is_port_count n ≡ true → (n ≡ 2) ⊎ (n ≡ 4)
 port_count n is = grind (arith, nat_tests)
@@ -119,10 +98,10 @@ fits l none =
       some = of_frames.0;
       few = of_frames.1;
       divides = of_frames.2;
-      rx = ring_size l.rx rest.1.0;
-      tx = ring_size l.tx rest.1.1.0;
-      fill = ring_size l.fill rest.1.1.1.0;
-      comp = ring_size l.comp rest.1.1.1.1.0;
+      rx = size_of_power l.rx rest.1.0;
+      tx = size_of_power l.tx rest.1.1.0;
+      fill = size_of_power l.fill rest.1.1.1.0;
+      comp = size_of_power l.comp rest.1.1.1.1.0;
       pool = pool_fits (pool_in l) l.fill rest.1.1.1.1.1.0;
       close = closed_within l.close (sockets_in l) (met_last (sizes l ++ on_empty l.empty (cells_in l)) (on_close l.close (sockets_in l)) (met_first (choices l) (on_hands l) none));
       hands = count l.hands (met (on_hands l) (met_last (choices l) (on_hands l) none)).0;

@@ -31,11 +31,13 @@ use Rattle.xsk_turns.specs.Script.{Script, Asks}
 use Rattle.xsk_turns.specs.Turns.{Kept, seat_of, start, turn, IsDriverRun, IsWholeDriverRun}
 use Rattle.xsk_turns.specs.Mangling.{plain}
 use Rattle.xsk_turns.specs.AppTurns.{AppKept, app_turn, app_start, lanes_of, IsAppRun, IsAppRunBy, IsWholeAppRun, IsWholeAppRunBy}
+use Rattle.xsk_turns.specs.AppLaw.{SetsKicks}
 use Rattle.xsk_turns.specs.AppOwned.{IsApp}
 use Rattle.xsk_turns.specs.Owned.{IsSeat, AllFit, socket_at_class}
 use Rattle.xsk_turns.specs.Wakes.{IsParked, IsWoken, NoWakeIsLost, app_for, owes_on, owes_end}
 use Rattle.xsk_turns.specs.Watching.{watching_of}
 use Rattle.xsk_turns.specs.Workers.{Setting, input_of, IsWholeRun}
+use Rattle.xsk_turns.proofs.AppWaking.{only_sets_kicks}
 use Rattle.xsk_turns.proofs.Owning.{all_fit}
 use Rattle.xsk_turns.proofs.Places.{app_known, class_here, tx_ring}
 use Rattle.xsk_turns.proofs.ScriptLemmas.{run_front}
@@ -288,17 +290,20 @@ module _ (s : Setting) (frames : List Frame) (past es : List Entry) (are : AreWo
     app_mine : IsAppRun c (app_for c d) (own (app_of c (Fill d)) h)
     app_mine = app_run (app_for c d) (app_known c d (seat d below))
 
+    kicks : SetsKicks (own (app_of c (Fill d)) h)
+    kicks = only_sets_kicks plain c (app_for c d) (own (app_of c (Fill d)) h) (one_app (app_for c d) (app_known c d (seat d below))) app_mine
+
     -- a flag that is set has its mark
     pub fill_flag : (watching_of (NeedFill d) (Fill d) (Kick d) (own d h)).set ≡ true → mark_at c x (NeedFill d) ≡ 1
     fill_flag set =
-        (fill_kept plain s.wire c (input_of s d) frames h d are.steady are.history below (driver_run d below) app_mine).set ∙ one_if _ set
+        (fill_kept s.wire c (input_of s d) frames h d are.steady are.history below (driver_run d below) kicks).set ∙ one_if _ set
 
     pub tx_flag : (class : ℕ) → class < classes_of c
         → (watching_of (NeedTx (socket_at_class c d class)) (Tx (socket_at_class c d class)) (Kick d) (own d h)).set ≡ true → mark_at c x (NeedTx (socket_at_class c d class)) ≡ 1
     tx_flag class within set =
         let t = socket_at_class c d class in
         let ring = tx_ring c d (seat d below) t (class_here c d (seat d below) class within) in
-        (tx_kept plain s.wire c (input_of s d) frames h d are.steady are.history below (driver_run d below) app_mine t ring.0 (sym ring.1)).set ∙ one_if _ set
+        (tx_kept s.wire c (input_of s d) frames h d are.steady are.history below (driver_run d below) kicks t ring.0 (sym ring.1)).set ∙ one_if _ set
 
     -- a ring that isn't empty owes it a wake
     pub fill_owed : (watching_of (NeedFill d) (Fill d) (Kick d) (own d h)).set ≡ true → 1 ≤ length (ring_at c x (Fill d)).out → owes_on d (Fill d) (NeedFill d) (own (app_of c (Fill d)) h) ≡ true

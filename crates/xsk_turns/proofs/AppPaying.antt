@@ -11,7 +11,6 @@ use Rattle.xsk_turns.specs.AppLaw.{IsFlagged, PaysAtOnce, PaysEndAtOnce}
 use Rattle.xsk_turns.specs.AppOwned.{IsApp}
 use Rattle.xsk_turns.specs.Wakes.{owes_after, owes_step, owes_on, owes_end_after, owes_end_step, owes_end}
 use Rattle.xsk_turns.specs.AppTurns.{AppKept, pair_of, tx_of, tx_pair, home_of, app_turn, app_start_by}
-use Rattle.xsk_turns.specs.declared.manner.Manner.{Manner}
 use Rattle.xsk_turns.proofs.AppPlaces.{class_below, socket_driver}
 use Rattle.xsk_turns.proofs.Walks.{Premise, Anything, Fitting, meet_anything, meet_fitting}
 use Rattle.xsk_turns.proofs.AppWalk.{Place, Lanes, Lane, Sides, Side, Ending, Looking, Waking, Looked, Kicking, TxTold, Family, LookNeed, KickDriver, is_need, call_at, tx_submitted, fill_submitted, told_tx_done, looked_need, kicked, point_of, reply_of, without_need, needs_none, needs_kick, told_quietly, told_both, AtCalls, AtEntries, AtPasses, Said, IsLaw, at_call}
@@ -58,13 +57,13 @@ module _ (c : Config) (a : ℕ) (one : IsApp c a) (wakeup : c.wakeup ≡ true) (
   OnTheWay (Kicking place pair) l = owes l ≡ true → pair ≡ d
   OnTheWay place l = owes l ≡ false
 
-  abbrev At : Family
+  abbrev pub At : Family
   At place noted kept l = OnTheWay place l
 
   abbrev Pays : Call → Type 0
   Pays call = (call ≡ Look flag) ⊎ (call ≡ Swap (Kick d) 1)
 
-  abbrev Asked : Said
+  abbrev pub Asked : Said
   Asked kept call l = owes l ≡ true → Pays call
 
   abbrev Answers : Premise AppKept
@@ -143,7 +142,7 @@ module _ (c : Config) (a : ℕ) (one : IsApp c a) (wakeup : c.wakeup ≡ true) (
   passes told_both noted kept l = λ h e. free (Kicking (Kicking (Looking 2) (pair_of c a 1)) (pair_of c a 0)) l h
   passes p noted kept l = λ h e. h
 
-  law : IsLaw c a Answers At Asked (λ kept l. Unit {0})
+  pub law : IsLaw c a Answers At Asked (λ kept l. Unit {0})
   law = record { calls = calls; entries = entries; passes = passes; ends = λ noted kept l done h. tt }
 
 pub pays_at_once : PaysAtOnce
@@ -176,13 +175,13 @@ module _ (c : Config) (a : ℕ) (one : IsApp c a) (wakeup : c.wakeup ≡ true) (
   Comes TxTold = Unit {0}
   Comes place = ⊥
 
-  abbrev AtTold : Family
+  abbrev pub AtTold : Family
   AtTold place noted kept l = owing l ≡ true → Comes place
 
   abbrev Kicks : Call → Type 0
   Kicks call = (other : ℕ) × (other ≤ side) × (call ≡ Swap (Kick (pair_of c a other)) 1)
 
-  abbrev AskedTold : Said
+  abbrev pub AskedTold : Said
   AskedTold kept call l = owing l ≡ true → Kicks call
 
   owing_told : (l : List Told) (call : Call) (reply : Reply) → owing (with_told l call reply) ≡ owes_end_after (TxDone a) (Kick mine) (owing l) call
@@ -217,7 +216,7 @@ module _ (c : Config) (a : ℕ) (one : IsApp c a) (wakeup : c.wakeup ≡ true) (
   told_passes told_both noted kept l = λ h on o. either c a side below
   told_passes p noted kept l = λ h e. h
 
-  told_law : IsLaw c a Anything AtTold AskedTold (λ kept l. Unit {0})
+  pub told_law : IsLaw c a Anything AtTold AskedTold (λ kept l. Unit {0})
   told_law = record { calls = told_calls; entries = told_entries; passes = told_passes; ends = λ noted kept l done h. tt }
 
 pub pays_end_at_once : PaysEndAtOnce

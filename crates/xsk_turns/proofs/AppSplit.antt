@@ -293,12 +293,12 @@ later_frames_at_end c a past start l kept one left fit ends =
 -- ---- the lanes
 
 module _ (c : Config) (a : ℕ) (one : IsApp c a) where
-  lanes_law : IsLaw c a (Fitting c) (lanes.At plain c a one) (lanes.Asked plain c a one) (lanes.Ended plain c a one)
+  pub lanes_law : IsLaw c a (Fitting c) (lanes.At plain c a one) (lanes.Asked plain c a one) (lanes.Ended plain c a one)
   lanes_law =
       let on = lanes.law plain c a one in
       record { calls = on.calls; entries = λ e noted kept l known h asked q. on.entries e noted kept l known h asked tt; passes = on.passes; ends = on.ends }
 
-  lanes_jumps : Jumps (lanes.At plain c a one)
+  pub lanes_jumps : Jumps (lanes.At plain c a one)
   lanes_jumps = record {
     to_lane = λ lane kept l h. lanes.renoted plain c a (noted_first kept) 0 kept l h no_note lane (λ e. absurd (cc)) (λ e. absurd (cc));
     from_lane = λ lane noted kept l h. lanes.renoted plain c a noted lane kept l h (noted_first kept) 0 (λ e. e) (λ e sends j k. absurd (omega arith));

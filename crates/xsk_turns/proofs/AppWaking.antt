@@ -7,7 +7,6 @@ use Rattle.xsk_model.specs.declared.call.Mark.TheVariants.{Kick}
 use Rattle.xsk_turns.specs.AppLaw.{SetsKick, SetsKicks, OnlySetsKicks, kick_of, flag_due, due_after, due_step, due_of, IsFirstDue, WakesAtOnce}
 use Rattle.xsk_turns.specs.AppOwned.{IsApp}
 use Rattle.xsk_turns.specs.AppTurns.{AppKept, pair_of, app_turn, app_start_by}
-use Rattle.xsk_turns.specs.declared.manner.Manner.{Manner}
 use Rattle.xsk_turns.proofs.AppPlaces.{class_below, socket_driver}
 use Rattle.xsk_turns.proofs.Walks.{Anything, meet_anything}
 use Rattle.xsk_turns.proofs.AppWalk.{Place, Waking, Looked, Kicking, TxTold, Family, Point, LookNeed, KickDriver, call_at, tx_submitted, fill_submitted, told_tx_done, looked_need, kicked, point_of, reply_of, begins, without_need, needs_none, needs_kick, told_quietly, told_both, AtCalls, AtEntries, AtPasses, Said, IsLaw, at_call, of_run}
@@ -19,20 +18,20 @@ sets_more [] call reply h k = (k, tt)
 sets_more (t ∷ l) call reply h k = (h.0, sets_more l call reply h.1 k)
 
 module _ (c : Config) (a : ℕ) where
-  abbrev Sets : Family
+  abbrev pub Sets : Family
   Sets place noted kept l = SetsKicks l
 
-  abbrev SetsSaid : Said
+  abbrev pub SetsSaid : Said
   SetsSaid kept call l = SetsKicks l
 
-  abbrev SetsAtEnd : AppKept → List Told → Type 0
+  abbrev pub SetsAtEnd : AppKept → List Told → Type 0
   SetsAtEnd kept l = SetsKicks l
 
   call_sets : (p : Point) (kept : AppKept) → SetsKick (call_at c a p kept)
   call_sets (KickDriver place pair) kept = refl
   call_sets p kept = tt
 
-  sets : IsLaw c a Anything Sets SetsSaid SetsAtEnd
+  pub sets : IsLaw c a Anything Sets SetsSaid SetsAtEnd
   sets = record {
     calls = λ p noted kept l known h. h;
     entries = λ e noted kept l known h asked q. sets_more l (call_at c a (point_of e) kept) (reply_of e) h (call_sets (point_of e) kept);

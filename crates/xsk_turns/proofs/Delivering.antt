@@ -272,7 +272,7 @@ delivers_sized wire c d s input l is fit whole = (at_last wire c d s input l is 
 
 -- ---- where the wire waits
 
-bytes_if : (b : Bool) (p : Judged) (l : List Judged) → cond b (p.bytes ∷ bytes_in l) (bytes_in l) ≡ bytes_in (cond b (p ∷ l) l)
+pub bytes_if : (b : Bool) (p : Judged) (l : List Judged) → cond b (p.bytes ∷ bytes_in l) (bytes_in l) ≡ bytes_in (cond b (p ∷ l) l)
 bytes_if true p l = refl
 bytes_if false p l = refl
 

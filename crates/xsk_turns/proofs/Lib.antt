@@ -38,3 +38,4 @@ pub mod CompletingAll
 pub mod Watching
 pub mod Parking
 pub mod Finishing
+pub mod Hands

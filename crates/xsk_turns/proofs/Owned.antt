@@ -17,6 +17,7 @@ use Rattle.xsk_model.proofs.Sendings.{wholes, more_wholes, wholes-append, sendin
 use Rattle.xsk_turns.specs.Turns.{Kept, frame_in, frames_in, bad_ones, group_at, gathered, seat_of}
 use Rattle.xsk_turns.specs.Owned.{IsSeat, of_class, socket_at_class, frame_numbers, numbers_kept, IsSpare, Owned}
 use Rattle.xsk_turns.specs.declared.wire.Wire.{Wire}
+use Rattle.xsk_model.proofs.OwnRuns.{own_push}
 
 -- ---- what is had, over the lists that are kept
 
@@ -106,20 +107,6 @@ owned_quiet c pair kept call l q h = record {
 }
 
 -- ---- one entry more
-
-pub own_push : (c : Config) (who : ℕ) (past mine : List Told) (t : Told) → OwnGoesOn c who past mine → IsLegal c (past ++ mine) who t.call → Fits c (past ++ mine) t.call t.reply
-    → OwnGoesOn c who past (mine ++ t ∷ [])
-own_push c who past [] t goes legal fits = (
-  subst (λ (p : List Told). IsLegal c p who t.call) (append-nil past) legal,
-  subst (λ (p : List Told). Fits c p t.call t.reply) (append-nil past) fits,
-  tt,
-)
-own_push c who past (u ∷ mine) t goes legal fits =
-    let same : past ++ u ∷ mine ≡ (past ++ u ∷ []) ++ mine = sym (append_assoc past (u ∷ []) mine) in (
-      goes.0,
-      goes.1,
-      own_push c who (past ++ u ∷ []) mine t goes.2 (subst (λ (p : List Told). IsLegal c p who t.call) same legal) (subst (λ (p : List Told). Fits c p t.call t.reply) same fits),
-    )
 
 pub cond_same : (b : Bool) (xs ys : List Item) → ys ≡ [] → cond b (xs ++ ys) xs ≡ xs
 cond_same true xs ys h = ap (λ (zs : List Item). xs ++ zs) h ∙ append-nil xs

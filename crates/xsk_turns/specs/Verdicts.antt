@@ -1,7 +1,7 @@
--- The verdicts of a driver's packets: one for each, in order, which the program gives once (af_xdp.rst, "Overview"). A packet
+-- The verdicts of a driver's packets: one for each, in order, which the chain of programs gives once (af_xdp.rst, "Overview"). A packet
 -- without a whole Ethernet header isn't asked about; that `Drop` stands in its place is this project's own.
 use Rattle.std.specs.Prelude.{◌≡◌, ℕ, ◌<◌, ◌≤◌, nat_lt, true, if◌then◌else◌, List, [], ◌∷◌, length, map}
-use Rattle.xsk_prog.specs.Rules.{Meets, verdict_of, is_exact}
+use Rattle.xsk_prog.specs.Rules.{MeetsChain, chain_verdict_of, are_exact}
 use Rattle.xsk_prog.specs.declared.rule.Rule.{Rule}
 use Rattle.xsk_prog.specs.declared.rule.Verdict.{Verdict}
 use Rattle.xsk_prog.specs.declared.rule.Verdict.TheVariants.{Drop}
@@ -25,20 +25,20 @@ pub record IsGiven (By : List ℕ → Verdict → Type 0) (packet : List ℕ) (v
   pub asked : 14 ≤ length packet → By packet verdict
   pub runt : length packet < 14 → verdict ≡ Drop
 
--- the verdicts of packets on a queue meet a rule
-abbrev pub MeetRule : Rule → ℕ → List (List ℕ) → List Verdict → Type 0
-MeetRule rule queue packets verdicts = EachHas (IsGiven (λ packet verdict. Meets rule packet queue verdict)) packets verdicts
+-- the verdicts of packets on a queue meet the rules of a chain
+abbrev pub MeetRules : List Rule → ℕ → List (List ℕ) → List Verdict → Type 0
+MeetRules rules queue packets verdicts = EachHas (IsGiven (λ packet verdict. MeetsChain rules packet queue verdict)) packets verdicts
 
 -- ---- rules with one verdict
 
--- the verdicts that a rule gives itself
-abbrev pub own_verdict : Rule → ℕ → List ℕ → Verdict
-own_verdict rule queue packet = if nat_lt (length packet) 14 then Drop else verdict_of rule packet queue
+-- the verdicts that rules give themselves
+abbrev pub own_verdict : List Rule → ℕ → List ℕ → Verdict
+own_verdict rules queue packet = if nat_lt (length packet) 14 then Drop else chain_verdict_of rules packet queue
 
-abbrev pub own_verdicts : Rule → ℕ → List (List ℕ) → List Verdict
-own_verdicts rule queue packets = map (own_verdict rule queue) packets
+abbrev pub own_verdicts : List Rule → ℕ → List (List ℕ) → List Verdict
+own_verdicts rules queue packets = map (own_verdict rules queue) packets
 
--- a rule with one verdict for each packet leaves one list of them
+-- rules with one verdict for each packet leave one list of them
 abbrev pub OneVerdicts : Type 0
-OneVerdicts = (rule : Rule) (queue : ℕ) (packets : List (List ℕ)) (verdicts : List Verdict) → is_exact rule ≡ true → MeetRule rule queue packets verdicts
-    → verdicts ≡ own_verdicts rule queue packets
+OneVerdicts = (rules : List Rule) (queue : ℕ) (packets : List (List ℕ)) (verdicts : List Verdict) → are_exact rules ≡ true → MeetRules rules queue packets verdicts
+    → verdicts ≡ own_verdicts rules queue packets

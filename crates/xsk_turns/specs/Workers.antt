@@ -11,7 +11,7 @@ use Rattle.xsk_model.specs.Entry.{Told}
 use Rattle.xsk_turns.specs.Inputs.{packets_of_queue, packets_of_port}
 use Rattle.xsk_turns.specs.Turns.{Judged, IsDriverRun, IsWholeDriverRun}
 use Rattle.xsk_turns.specs.Verdicts.{judged, EachHas, IsGiven, own_verdicts}
-use Rattle.xsk_prog.specs.Rules.{Meets, is_exact}
+use Rattle.xsk_prog.specs.Rules.{MeetsChain, are_exact}
 use Rattle.xsk_prog.specs.declared.rule.Rule.{Rule}
 use Rattle.xsk_prog.specs.declared.rule.Verdict.{Verdict}
 use Rattle.xsk_turns.specs.AppTurns.{IsAppRunBy, IsWholeAppRunBy}
@@ -42,27 +42,27 @@ pub record AreGiven (By : ℕ → List ℕ → Verdict → Type 0) (s : Setting)
   pub each : (pair : ℕ) → pair < length s.config.pairs
       → EachHas (IsGiven (By (pair_at s.config.pairs pair).queue)) (packets_to s.config s.packets (pair_at s.config.pairs pair)) (slice_index_or s.verdicts pair [])
 
--- they meet the rule
-abbrev pub IsRuled : Rule → Setting → Type 0
-IsRuled rule s = AreGiven (λ queue packet verdict. Meets rule packet queue verdict) s
+-- they meet the rules of a chain
+abbrev pub IsRuled : List Rule → Setting → Type 0
+IsRuled rules s = AreGiven (λ queue packet verdict. MeetsChain rules packet queue verdict) s
 
--- the setting whose verdicts are those that a rule gives itself: they meet it, and there is no other setting whose verdicts
--- do where the rule leaves one verdict
-abbrev pub verdicts_to : Rule → Config → List PacketList → PairInfo → List Verdict
-verdicts_to rule c lists pair = own_verdicts rule pair.queue (packets_to c lists pair)
+-- the setting whose verdicts are those that rules give themselves: they meet them, and there is no other setting whose verdicts
+-- do where the rules leave one verdict
+abbrev pub verdicts_to : List Rule → Config → List PacketList → PairInfo → List Verdict
+verdicts_to rules c lists pair = own_verdicts rules pair.queue (packets_to c lists pair)
 
-abbrev pub ruled_by : Rule → Wire → Manner → Config → List PacketList → Setting
-ruled_by rule wire manner c lists = record { config = c; wire = wire; manner = manner; packets = lists; verdicts = map (verdicts_to rule c lists) c.pairs }
+abbrev pub ruled_by : List Rule → Wire → Manner → Config → List PacketList → Setting
+ruled_by rules wire manner c lists = record { config = c; wire = wire; manner = manner; packets = lists; verdicts = map (verdicts_to rules c lists) c.pairs }
 
 -- and the one whose applications change nothing
-abbrev pub ruled : Rule → Wire → Config → List PacketList → Setting
-ruled rule wire c lists = ruled_by rule wire plain c lists
+abbrev pub ruled : List Rule → Wire → Config → List PacketList → Setting
+ruled rules wire c lists = ruled_by rules wire plain c lists
 
 abbrev pub OwnSetting : Type 0
-OwnSetting = (rule : Rule) (wire : Wire) (manner : Manner) (c : Config) (lists : List PacketList) → IsRuled rule (ruled_by rule wire manner c lists)
+OwnSetting = (rules : List Rule) (wire : Wire) (manner : Manner) (c : Config) (lists : List PacketList) → IsRuled rules (ruled_by rules wire manner c lists)
 
 abbrev pub OneSetting : Type 0
-OneSetting = (rule : Rule) (s : Setting) → is_exact rule ≡ true → IsRuled rule s → s ≡ ruled_by rule s.wire s.manner s.config s.packets
+OneSetting = (rules : List Rule) (s : Setting) → are_exact rules ≡ true → IsRuled rules s → s ≡ ruled_by rules s.wire s.manner s.config s.packets
 
 -- a caller's own calls and replies are a run: of the driver of its pair over the pair's packets, or of its application
 pub record IsWorkerRun (s : Setting) (who : ℕ) (l : List Told) : Type 0 where

@@ -8,6 +8,7 @@ ghost use Rattle.xsk_turns.specs.AppSplit.{SplitKeepsLanes, SplitKeepsFrames, St
 ghost use Rattle.xsk_turns.specs.Counted.{KeepsCounters, KeepsCountersAtEnd};
 ghost use Rattle.xsk_turns.specs.Disposes.{KeepsDisposals, DisposesAll};
 ghost use Rattle.xsk_turns.specs.Law.{EachDisposedOnce, DisposedAsSaid, DeliversInOrder, DeliversSized, DeliversAsSaid, NothingReceivedLate, TellsRxDone, DrainsTx, CompletesAll};
+ghost use Rattle.xsk_turns.specs.Hands.{HandsPassOn, HandsDrainRx, HandsSendNothingLate, HandsOnlySetKicks, SplitOwesNothing, StepPaysAtOnce};
 ghost use Rattle.xsk_turns.specs.Owned.{KeepsFrames, KeepsFramesAtEnd, LeavesRoom, FinishedFew};
 ghost use Rattle.xsk_turns.specs.Stranded.{KeepsStranded, KeepsStrandedAtEnd, NoneStranded};
 ghost use Rattle.xsk_turns.specs.Verdicts.{OneVerdicts};
@@ -147,18 +148,18 @@ pub fn ends_awake()
     ensures { EndsAwake }
 {}
 
-/// A rule with one verdict for each packet leaves one list of verdicts.
+/// Rules of which each has one verdict for each packet leave one list of verdicts.
 #[tactic(auto, using(crate::proofs::Verdicts::one_verdicts))]
 pub fn one_verdicts()
     ensures { OneVerdicts }
 {}
 
-/// The verdicts that a rule gives itself meet it.
+/// The verdicts that rules give themselves meet them.
 pub fn own_setting()
     ensures { OwnSetting }
 {}
 
-/// A rule with one verdict for each packet leaves one setting for a configuration and packets.
+/// Rules of which each has one verdict for each packet leave one setting for a configuration and packets.
 #[tactic(auto, using(crate::proofs::Verdicts::one_setting))]
 pub fn one_setting()
     ensures { OneSetting }
@@ -272,4 +273,40 @@ pub fn later_calls_legal()
 /// At its end its frames are those that it keeps.
 pub fn later_frames_at_end()
     ensures { LaterFramesAtEnd }
+{}
+
+/// By however many hands an application's calls are made, in a whole run each item submitted on a lane is the one peeked in its
+/// place, as it was or with one of its manner's changes.
+#[tactic(auto, using(crate::proofs::Hands::hands_pass_on))]
+pub fn hands_pass_on()
+    ensures { HandsPassOn }
+{}
+
+/// Each lane's RX ring was found empty after both drivers had told that they have no further packet.
+#[tactic(auto, using(crate::proofs::Hands::hands_drain_rx))]
+pub fn hands_drain_rx()
+    ensures { HandsDrainRx }
+{}
+
+/// Nothing was submitted on TX once it told that it sends nothing more.
+#[tactic(auto, using(crate::proofs::Hands::hands_send_nothing_late))]
+pub fn hands_send_nothing_late()
+    ensures { HandsSendNothingLate }
+{}
+
+/// It sets kicks, and clears none.
+#[tactic(auto, using(crate::proofs::Hands::hands_only_set_kicks))]
+pub fn hands_only_set_kicks()
+    ensures { HandsOnlySetKicks }
+{}
+
+/// After the steps of a split run it owes no driver a kick.
+pub fn split_owes_nothing()
+    ensures { SplitOwesNothing }
+{}
+
+/// In a step it pays what it owes at once.
+#[tactic(auto, using(crate::proofs::Hands::step_pays_at_once))]
+pub fn step_pays_at_once()
+    ensures { StepPaysAtOnce }
 {}

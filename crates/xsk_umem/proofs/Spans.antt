@@ -78,7 +78,7 @@ map_at_span-extend text piece from (suc i) (first ∷ next ∷ spans) d new all 
 -- ---- where the spans end
 
 -- where the last of the spans ends after one was appended, and after the last was replaced
-end_of-push : (from : ℕ) (spans : List Span) (span : Span) → end_of from (spans ++ span ∷ []) ≡ span.start + span.len
+pub end_of-push : (from : ℕ) (spans : List Span) (span : Span) → end_of from (spans ++ span ∷ []) ≡ span.start + span.len
 end_of-push from [] span = refl
 end_of-push from (first ∷ spans) span = end_of-push (first.start + first.len) spans span
 
@@ -140,7 +140,7 @@ cut-packets text spans are =
     sym (rw (take-append-drop (end_of 0 spans) text) at grown)
 
 -- spans in order stay so with one behind them, and with another length of the last
-apart-push : (from : ℕ) (spans : List Span) (span : Span) → AreFrom from spans → end_of from spans ≤ span.start → AreFrom from (spans ++ span ∷ [])
+pub apart-push : (from : ℕ) (spans : List Span) (span : Span) → AreFrom from spans → end_of from spans ≤ span.start → AreFrom from (spans ++ span ∷ [])
 apart-push from [] span apart behind = (behind, tt)
 apart-push from (old ∷ spans) span apart behind = (apart.0, apart-push (old.start + old.len) spans span apart.1 behind)
 

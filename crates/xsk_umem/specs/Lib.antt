@@ -6,3 +6,4 @@ pub mod Limits
 pub mod PacketList
 pub mod Registration
 pub mod Span
+pub mod Walks

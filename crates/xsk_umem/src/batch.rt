@@ -6,8 +6,14 @@ use crate::Frame;
 use std::marker::Model;
 use std::{array, mem};
 
-/// The most items of one batch.
-pub const MOST_ITEMS: usize = 32;
+/// The most items of one batch, and of one call.
+pub const MOST_ITEMS: u32 = 32;
+
+/// The places of a batch.
+const PLACES: usize = MOST_ITEMS as usize;
+
+/// The option XDP_PKT_CONTD of if_xdp.h: the packet continues in the next descriptor.
+pub const XDP_PKT_CONTD: u32 = 1;
 
 /// An entry of an RX or TX ring: `struct xdp_desc` of if_xdp.h.
 #[derive(Clone, Copy, Debug, Default, PartialEq, Eq)]
@@ -16,7 +22,7 @@ pub struct XdpDesc {
     pub addr: u64,
     /// The bytes of the packet in this frame.
     pub len: u32,
-    /// 0, or 1 (XDP_PKT_CONTD) where the packet continues in the next descriptor.
+    /// 0, or [`XDP_PKT_CONTD`] where the packet continues in the next descriptor.
     pub options: u32,
 }
 
@@ -35,7 +41,7 @@ pub struct Batch {
     head: usize,
     len: usize,
     /// The items from the first on, round the end. Other places have a blank item.
-    places: [Item; MOST_ITEMS],
+    places: [Item; PLACES],
 }
 
 impl Model for Batch {
@@ -83,7 +89,7 @@ impl Batch {
         requires { length self.old < most_items }
         ensures { self.new ≡ self.old ++ item ∷ [] }
     {
-        let end = (self.head + self.len) % MOST_ITEMS;
+        let end = (self.head + self.len) % PLACES;
         self.places[end] = item;
         self.len += 1;
     }
@@ -98,7 +104,7 @@ impl Batch {
             return None;
         }
         let item = mem::replace(&mut self.places[self.head], Item::default());
-        self.head = (self.head + 1) % MOST_ITEMS;
+        self.head = (self.head + 1) % PLACES;
         self.len -= 1;
         Some(item)
     }
@@ -120,7 +126,7 @@ impl Batch {
         requires { i < length self.now }
         ensures { slice_get self.now i ≡ Some result.now }
     {
-        let at = (self.head + i as usize) % MOST_ITEMS;
+        let at = (self.head + i as usize) % PLACES;
         &self.places[at]
     }
 
@@ -129,7 +135,7 @@ impl Batch {
         requires { i < length self.now }
         ensures { IfSome (slice_get self.now i) (λ item. result ≡ item.desc) }
     {
-        let place = (self.head + i as usize) % MOST_ITEMS;
+        let place = (self.head + i as usize) % PLACES;
         self.places[place].desc
     }
 }

@@ -1,7 +1,9 @@
 //! The geometry of a UMEM: addresses by frame number, and what stands in a frame.
-ghost use Rattle.std.specs.Prelude.{◌≡◌, ◌<◌};
+ghost use Rattle.std.specs.Prelude.{◌≡◌, ◌/◌, None, Some, Err, Ok};
 ghost use Rattle.xsk_umem.specs.Geometry.{Geometry as Numbers, IsGeometry, payload_of, base_of, data_of, frame_of};
+ghost use Rattle.xsk_umem.specs.Registration.{first_refusal};
 
+use crate::UmemError;
 use std::marker::Model;
 
 /// The bytes at the start of each chunk that belong to the packet's meta data and never hold its data.
@@ -31,15 +33,32 @@ impl Model for Geometry {
 }
 
 impl Geometry {
-    pub(crate) fn new(frames: u32, chunk: u32, headroom: u32) -> Geometry
-        requires { IsGeometry (record { frames = frames; chunk = chunk; headroom = headroom }) }
-        ensures { result ≡ record { frames = frames; chunk = chunk; headroom = headroom } }
+    /// The geometry of an area of `len` bytes, cut into chunks. It takes no memory: [`Umem::register`](crate::Umem::register)
+    /// makes the frames too, and refuses what this refuses.
+    ///
+    /// The first reason of [`UmemError`], in its order, decides, and want of memory is none.
+    pub fn of_area(len: u64, chunk: u32, headroom: u32) -> Result<Geometry, UmemError>
+        ensures refused { (e : _) → first_refusal len chunk headroom ≡ Some e → result ≡ Err e }
+        ensures accepted { first_refusal len chunk headroom ≡ None → result ≡ Ok (record { frames = len / chunk; chunk = chunk; headroom = headroom }) }
     {
-        Geometry {
-            frames,
+        if chunk != 2048 && chunk != 4096 {
+            return Err(UmemError::BadChunk);
+        }
+        if headroom >= chunk - RESERVED {
+            return Err(UmemError::BadHeadroom);
+        }
+        let chunk_bytes = u64::from(chunk);
+        if len == 0 || len % chunk_bytes != 0 {
+            return Err(UmemError::BadLength);
+        }
+        if len / chunk_bytes > u64::from(MOST_FRAMES) {
+            return Err(UmemError::TooLarge);
+        }
+        Ok(Geometry {
+            frames: (len / chunk_bytes) as u32,
             chunk,
             headroom,
-        }
+        })
     }
 
     /// The number of frames, 1 to 4,096.

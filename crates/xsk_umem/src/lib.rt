@@ -8,10 +8,12 @@ mod geometry;
 mod memory;
 mod packet_list;
 mod umem;
+mod walks;
 
-pub use batch::{Batch, Item, XdpDesc};
+pub use batch::{Batch, Item, MOST_ITEMS, XDP_PKT_CONTD, XdpDesc};
 pub use frame::{Frame, Frames};
-pub use geometry::Geometry;
+pub use geometry::{Geometry, MOST_FRAMES, RESERVED};
 pub use memory::OutOfMemory;
 pub use packet_list::{Gaps, PacketList, Parts, Span};
 pub use umem::{Umem, UmemError};
+pub use walks::{Items, Packets};

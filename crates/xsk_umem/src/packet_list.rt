@@ -1,8 +1,8 @@
 //! Lists of packets, as spans of one text.
-ghost use Rattle.std.specs.Prelude.{◌≡◌, ◌+◌, ◌<◌, ◌≤◌, ◌^◌, List, [], ◌∷◌, ◌++◌, length, map, replicate, sum_by, Some, slice_get, ◌↔◌, IsTrue, IfOk, OnOk, OnErr, vec_len, vec_capacity};
+ghost use Rattle.std.specs.Prelude.{◌≡◌, ◌+◌, ◌<◌, ◌≤◌, ◌^◌, List, [], ◌∷◌, ◌++◌, length, map, replicate, sum_by, None, Some, slice_get, ◌↔◌, IsTrue, IfOk, OnOk, OnErr, vec_len, vec_capacity};
 ghost use Rattle.std.specs.List.{concat};
 ghost use Rattle.xsk_umem.specs.declared.packet_list.Gaps.{Gaps};
-ghost use Rattle.xsk_umem.specs.PacketList.{PacketList as Packets, with_last_extended};
+ghost use Rattle.xsk_umem.specs.PacketList.{PacketList as Packets, no_gaps, with_last_extended};
 ghost use Rattle.xsk_umem.specs.Span.{at_span, len_of, AreInText, end_of, spans_from, first_gap, gap_before};
 
 use crate::OutOfMemory;
@@ -61,7 +61,7 @@ impl Model for PacketList {
 
     ghost use Rattle.xsk_umem.specs.Span.{at_span, AreSpans, HaveGaps, first_gap, gap_before};
 
-    ghost view = { λ p. record { packets = map (at_span p.text.items) p.spans.items; spare_packets = p.spare_packets; spare_bytes = p.spare_bytes } };
+    ghost view = { λ p. record { packets = map (at_span p.text.items) p.spans.items; gaps = p.gaps; spare_packets = p.spare_packets; spare_bytes = p.spare_bytes } };
 
     ghost invariant = { λ p. AreSpans (first_gap p.gaps) p.text.items p.spans.items
         × HaveGaps p.gaps p.spans.items
@@ -73,7 +73,7 @@ impl Model for PacketList {
 impl PacketList {
     /// An empty list. It takes no memory.
     pub fn new(alloc: Global) -> PacketList
-        ensures { result ≡ record { packets = []; spare_packets = 0; spare_bytes = 0 } }
+        ensures { result ≡ record { packets = []; gaps = no_gaps; spare_packets = 0; spare_bytes = 0 } }
     {
         PacketList {
             text: Vec::new(alloc),
@@ -86,7 +86,7 @@ impl PacketList {
 
     /// An empty list that keeps gaps in its text.
     pub fn with_gaps(alloc: Global, gaps: Gaps) -> Result<PacketList, OutOfMemory>
-        ensures { IfOk result (λ list. list ≡ record { packets = []; spare_packets = 0; spare_bytes = 0 }) }
+        ensures { IfOk result (λ list. list ≡ record { packets = []; gaps = Some gaps; spare_packets = 0; spare_bytes = 0 }) }
     {
         let mut text = Vec::with_capacity(alloc, gaps.first as usize)?;
         append_gap(&mut text, gaps.first);
@@ -104,7 +104,7 @@ impl PacketList {
     pub fn of_spans(text: Vec<u8>, spans: Vec<Span>) -> PacketList
         requires spans { AreInText text.items spans.items }
         requires few { length spans.items < 2 ^ 32 }
-        ensures { result ≡ record { packets = map (at_span text.items) spans.items; spare_packets = 0; spare_bytes = 0 } }
+        ensures { result ≡ record { packets = map (at_span text.items) spans.items; gaps = None; spare_packets = 0; spare_bytes = 0 } }
     {
         let mut text = text;
         text.truncate(end(spans.as_slice()));
@@ -122,6 +122,7 @@ impl PacketList {
     pub fn into_parts(self) -> Parts
         ensures packets { map (at_span result.text.items) result.spans.items ≡ self.packets }
         ensures spans { AreInText result.text.items result.spans.items }
+        ensures kept { result.gaps ≡ self.gaps }
         ensures end { end_of (first_gap result.gaps) result.spans.items ≡ length result.text.items }
         ensures gaps { (gaps : Gaps) → result.gaps ≡ Some gaps → result.spans.items ≡ spans_from gaps.first gaps.before_each self.packets }
     {
@@ -132,9 +133,17 @@ impl PacketList {
         }
     }
 
+    /// The gaps that the list keeps in its text: none where it was made of spans.
+    pub fn gaps(&self) -> Option<Gaps>
+        ensures { result ≡ self.now.gaps }
+    {
+        self.gaps
+    }
+
     /// Makes room for at least so many further packets with their gaps, and bytes. The room never gets smaller by it.
     pub fn reserve(&mut self, packets: u32, bytes: u32) -> Result<(), OutOfMemory>
         ensures packets { self.new.packets ≡ self.old.packets }
+        ensures gaps { self.new.gaps ≡ self.old.gaps }
         ensures room { OnOk result ((packets ≤ self.new.spare_packets) × (bytes ≤ self.new.spare_bytes)) }
         ensures kept { (self.old.spare_packets ≤ self.new.spare_packets) × (self.old.spare_bytes ≤ self.new.spare_bytes) }
     {
@@ -190,6 +199,7 @@ impl PacketList {
         requires packets { 1 ≤ self.old.spare_packets }
         requires bytes { length bytes.now ≤ self.old.spare_bytes }
         ensures packets { self.new.packets ≡ self.old.packets ++ bytes.now ∷ [] }
+        ensures gaps { self.new.gaps ≡ self.old.gaps }
         ensures spare_packets { self.new.spare_packets + 1 ≡ self.old.spare_packets }
         ensures spare_bytes { self.new.spare_bytes + length bytes.now ≡ self.old.spare_bytes }
     {
@@ -209,6 +219,7 @@ impl PacketList {
         requires some { 1 ≤ length self.old.packets }
         requires bytes { length bytes.now ≤ self.old.spare_bytes }
         ensures packets { self.new.packets ≡ with_last_extended self.old.packets bytes.now }
+        ensures gaps { self.new.gaps ≡ self.old.gaps }
         ensures spare_packets { self.new.spare_packets ≡ self.old.spare_packets }
         ensures spare_bytes { self.new.spare_bytes + length bytes.now ≡ self.old.spare_bytes }
     {
@@ -223,6 +234,7 @@ impl PacketList {
     pub fn push(&mut self, bytes: &[u8]) -> Result<(), OutOfMemory>
         ensures pushed { OnOk result (self.new.packets ≡ self.old.packets ++ bytes.now ∷ []) }
         ensures refused { OnErr result (self.new.packets ≡ self.old.packets) }
+        ensures gaps { self.new.gaps ≡ self.old.gaps }
         ensures kept { OnErr result ((self.old.spare_packets ≤ self.new.spare_packets) × (self.old.spare_bytes ≤ self.new.spare_bytes)) }
         ensures spare_packets { self.old.spare_packets ≤ self.new.spare_packets + 1 }
         ensures spare_bytes { self.old.spare_bytes ≤ self.new.spare_bytes + length bytes.now }

@@ -4,7 +4,6 @@ ghost use Rattle.xsk_umem.specs.Geometry.{IsChunkSize};
 ghost use Rattle.xsk_umem.specs.Limits.{most_frames};
 ghost use Rattle.xsk_umem.specs.Registration.{fresh, first_refusal};
 
-use crate::geometry::{MOST_FRAMES, RESERVED};
 use crate::{Frame, Frames, Geometry, OutOfMemory};
 use std::alloc::Global;
 use thiserror::Error;
@@ -59,22 +58,9 @@ impl Umem {
         ensures geometry { IfOk result (λ made. made.0 ≡ record { frames = len / chunk; chunk = chunk; headroom = headroom }) }
         ensures frames { IfOk result (λ made. made.1 ≡ record { items = fresh chunk (len / chunk); limit = len / chunk }) }
     {
-        if chunk != 2048 && chunk != 4096 {
-            return Err(UmemError::BadChunk);
-        }
-        if headroom >= chunk - RESERVED {
-            return Err(UmemError::BadHeadroom);
-        }
-        let chunk_bytes = u64::from(chunk);
-        if len == 0 || len % chunk_bytes != 0 {
-            return Err(UmemError::BadLength);
-        }
-        if len / chunk_bytes > u64::from(MOST_FRAMES) {
-            return Err(UmemError::TooLarge);
-        }
-        let count = (len / chunk_bytes) as u32;
-        let frames = Umem::fresh(alloc, count, chunk)?;
-        Ok((Geometry::new(count, chunk, headroom), frames))
+        let geometry = Geometry::of_area(len, chunk, headroom)?;
+        let frames = Umem::fresh(alloc, geometry.frames(), geometry.chunk())?;
+        Ok((geometry, frames))
     }
 
     fn fresh(alloc: Global, count: u32, chunk: u32) -> Result<Frames, OutOfMemory>

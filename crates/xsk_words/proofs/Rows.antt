@@ -17,6 +17,7 @@ use Rattle.xsk_model.proofs.Places.{is_ring-true, place_below, places_apart}
 use Rattle.xsk_model.proofs.Few.{ports_few, apps_few}
 use Rattle.xsk_model.proofs.MarkPlaces.{mark_place_below, mark_place_injective}
 use Rattle.xsk_words.specs.Layout.{OwnWords, entry_words, width_of, width_or_none, fill_width, comp_width, rx_width, tx_width, widths_of, ring_base, marks_base, words_of, Word, producer, consumer, entry, second, mark, HasWord, word_at}
+use Rattle.xsk_model.proofs.InRow.{in_first, in_second, in_third, in_fourth}
 
 -- ---- widths by place
 
@@ -32,31 +33,6 @@ length-widths_of c =
       length-map c.sockets rx_width,
       length-map c.sockets tx_width,
     )
-
--- four lists one after another, read in each
-module _ (a b x y : List ℕ) where
-  in_first : (k : ℕ) → k < length a → get_or (a ++ b ++ x ++ y) k 0 ≡ get_or a k 0
-  in_first k h =
-      get_or_append_left (a ++ b ++ x) y 0 k (omega (arith, length-append (a ++ b) x, length-append a b))
-      ∙ get_or_append_left (a ++ b) x 0 k (omega (arith, length-append a b)) ∙ get_or_append_left a b 0 k h
-
-  in_second : (k i : ℕ) → i < length b → k ≡ length a + i → get_or (a ++ b ++ x ++ y) k 0 ≡ get_or b i 0
-  in_second k i h is =
-      get_or_append_left (a ++ b ++ x) y 0 k (omega (arith, length-append (a ++ b) x, length-append a b))
-      ∙ get_or_append_left (a ++ b) x 0 k (omega (arith, length-append a b)) ∙ get_or-append_right a b (length a) k 0 refl (omega arith)
-      ∙ (let e : k - length a ≡ i = omega arith in ap (λ j. get_or b j 0) e)
-
-  in_third : (k i : ℕ) → i < length x → k ≡ length a + length b + i → get_or (a ++ b ++ x ++ y) k 0 ≡ get_or x i 0
-  in_third k i h is =
-      let e : k - (length a + length b) ≡ i = omega arith in
-      get_or_append_left (a ++ b ++ x) y 0 k (omega (arith, length-append (a ++ b) x, length-append a b))
-      ∙ get_or-append_right (a ++ b) x (length a + length b) k 0 (length-append a b) (omega arith) ∙ ap (λ j. get_or x j 0) e
-
-  in_fourth : (k i : ℕ) → k ≡ length a + length b + length x + i → get_or (a ++ b ++ x ++ y) k 0 ≡ get_or y i 0
-  in_fourth k i is =
-      let e : k - (length a + length b + length x) ≡ i = omega arith in
-      get_or-append_right (a ++ b ++ x) y (length a + length b + length x) k 0 (omega (arith, length-append (a ++ b) x, length-append a b)) (omega arith)
-      ∙ ap (λ j. get_or y j 0) e
 
 abbrev no_pair : PairInfo
 no_pair = record { port = 0; queue = 0; fill = 0; comp = 0 }

@@ -14,7 +14,7 @@ use Rattle.xsk_model.specs.declared.call.Call.{Call}
 use Rattle.xsk_model.specs.declared.call.Call.TheVariants.{Reserve, Submit, Peek, Release, Swap, Look}
 use Rattle.xsk_model.specs.declared.call.Reply.{Reply}
 use Rattle.xsk_model.specs.declared.call.Reply.TheVariants.{Granted, Full, Submitted, Items, Empty, Released, Old}
-use Rattle.xsk_model.proofs.Replies.{gift_fits}
+use Rattle.xsk_model.proofs.Replies.{gift_fits, fits_kind}
 use Rattle.xsk_turns.specs.Counted.{capped}
 use Rattle.xsk_turns.specs.Stepping.{joined_ask, IsGivenBack}
 use Rattle.xsk_turns.specs.Workers.{Setting}
@@ -23,18 +23,6 @@ use Rattle.xsk_table.specs.Held.{Board, Holder, Belongs}
 use Rattle.xsk_rings.specs.Serving.{MayAsk, Served}
 use Rattle.xsk_rings.proofs.Telling.{may_give_served}
 use Rattle.xsk_workers.specs.Shown.{IsGoing, AreCounted}
-
--- a reply that fits a call is of the call's kind
-pub fits_kind : (c : Config) (mine : List Told) (call : Call) (reply : Reply) → Fits c mine call reply → IsReplyTo call reply
-fits_kind c mine (Reserve r n) Granted h = tt
-fits_kind c mine (Reserve r n) (Full places) h = tt
-fits_kind c mine (Submit r items) Submitted h = refl
-fits_kind c mine (Peek r n) Empty h = tt
-fits_kind c mine (Peek r n) (Items items) h = tt
-fits_kind c mine (Release r n) Released h = refl
-fits_kind c mine (Swap m value) (Old old) h = tt
-fits_kind c mine (Look m) (Old old) h = tt
-fits_kind c mine call reply h = absurd h
 
 module _ {M : Type 0} (Stands : Setting → ℕ → M → Act → List Told → Type 0) (awaits : Expected) (s : Setting) (machine : M) (given : Option Ask) (items : List Item) (p : Holder) (going : IsGoing Stands awaits s machine given items p)
     (ask : Ask) (is : given ≡ Some ask) where

@@ -11,7 +11,7 @@ use Rattle.xsk_model.specs.Entry.{Entry, own}
 use Rattle.xsk_model.specs.History.{IsHistory, state_after}
 use Rattle.xsk_model.specs.Holders.{HasOneHolder}
 use Rattle.xsk_model.specs.Sent.{sent}
-use Rattle.xsk_prog.specs.declared.rule.Rule.{Rule}
+use Rattle.xsk_prog.specs.declared.program.XdpProgram.{XdpProgram}
 use Rattle.xsk_prog.specs.declared.rule.Verdict.{Verdict}
 use Rattle.xsk_turns.specs.Owned.{IsSteady}
 use Rattle.xsk_turns.specs.Wakes.{NoWakeIsLost}
@@ -42,11 +42,11 @@ pub record HasForwarded (s : Setting) (frames : List Frame) (o : OutcomeShown) :
   pub figures : o.figures ≡ figures_of s o.history
   pub woken : (past later : List Entry) (pair : ℕ) → o.history ≡ past ++ later → pair < length s.config.pairs → NoWakeIsLost s.config frames past pair
 
--- The same under a program: there are verdicts of each driver's packets, each an answer of the program's closure that meets
--- its rule, with which it has forwarded.
-pub record HasForwardedUnder {F : Type 0} (g : Shared F (Bor (List ℕ) × (ℕ × Unit {0})) Verdict) (rule : Rule) (f : F) (wire : Wire) (c : Config) (packets : List PacketList) (frames : List Frame) (o : OutcomeShown) : Type 0 where
+-- The same under a chain: there are verdicts of each driver's packets, each an answer of the chain that meets its programs'
+-- rules, with which it has forwarded.
+pub record HasForwardedUnder {F : Type 0} (g : Shared F (Bor (List ℕ) × (ℕ × Unit {0})) Verdict) (programs : List (XdpProgram F)) (wire : Wire) (c : Config) (packets : List PacketList) (frames : List Frame) (o : OutcomeShown) : Type 0 where
   pub verdicts : List (List Verdict)
-  pub asked : AreGiven (IsAnswer g rule f) (setting_with c wire packets verdicts)
+  pub asked : AreGiven (IsAnswer g programs) (setting_with c wire packets verdicts)
   pub forwarded : HasForwarded (setting_with c wire packets verdicts) frames o
 
 -- Where no item is changed, as in each run that `forward` makes, what the driver of a port and queue sent is what was forwarded by

@@ -5,8 +5,8 @@ ghost use Rattle.xsk_umem.specs.Frame.{Frame as Body};
 ghost use Rattle.xsk_model.specs.Config.{callers_of, classes_of};
 ghost use Rattle.xsk_model.specs.Opening.{AreFrames};
 ghost use Rattle.xsk_turns.specs.Owned.{IsSteady};
-ghost use Rattle.xsk_prog.specs.Program.{Obeys};
-ghost use Rattle.xsk_prog.specs.Rules.{is_exact};
+ghost use Rattle.xsk_prog.specs.Chain.{AllObey, rules_of};
+ghost use Rattle.xsk_prog.specs.Rules.{are_exact};
 ghost use Rattle.xsk_turns.specs.Counted.{capped};
 ghost use Rattle.xsk_turns.specs.Workers.{Setting, ruled};
 ghost use Rattle.xsk_driver.specs.Sent.{IsShort};
@@ -33,7 +33,7 @@ use xsk_driver::{Driver, Wire};
 use xsk_io::Gate;
 use xsk_machine::{AnyWorker, FigureList, Figures, Inputs, Kept, drivers_for, worker_of};
 use xsk_model::Config;
-use xsk_prog::{Verdict, XdpProgram};
+use xsk_prog::{Chain, Verdict};
 use xsk_table::{Note, Passes, Shared};
 use xsk_turns::Manner;
 use xsk_umem::{Frames, OutOfMemory, PacketList};
@@ -97,8 +97,8 @@ impl Outcome {
 
 /// Runs the drivers and applications of a regular configuration, in which no socket is closed, each in a thread of its own where
 /// one can be had, until all have ended, over one list of packets for each port, none of which has more than 262,144 bytes. The
-/// frames are all frames of its UMEM. The program is attached to every port, and asked once for each packet before a worker starts: the run is
-/// one under the verdicts that it gave, which are the rule's own where that leaves one for each packet. The wire says what
+/// frames are all frames of its UMEM. The chain of programs is attached to every port, and asked once for each packet before a worker starts: the
+/// run is one under the verdicts that it gave, which are its rules' own where these leave one for each packet. The wire says what
 /// becomes of a packet that finds too few frames or no room on RX. Each worker passes the gate before each of its turns. The
 /// applications change no item.
 ///
@@ -113,7 +113,7 @@ pub fn forward<R: Threads + Wait + Sync, F: Fn(&[u8], u32) -> Verdict, G: Gate +
     config: Config,
     frames: Frames,
     packets: &[PacketList],
-    program: &XdpProgram<F>,
+    chain: &Chain<F>,
     wire: Wire,
     gate: &G,
 ) -> Result<Outcome, OutOfMemory>
@@ -121,15 +121,15 @@ pub fn forward<R: Threads + Wait + Sync, F: Fn(&[u8], u32) -> Verdict, G: Gate +
     requires frames { AreFrames config.geometry frames.items }
     requires lists { length packets.now ≡ config.ports }
     requires short { All HasShortPackets packets.now }
-    requires obeys { Obeys F.Fn program.now.rule program.now.decide }
+    requires obeys { AllObey F.Fn chain.now }
     ensures pairs { IfOk result (λ outcome. length outcome.sent ≡ length config.pairs) }
     ensures short { IfOk result (λ outcome. All (λ (list : List (List ℕ)). All IsShort list) outcome.sent) }
-    ensures under { IfOk result (HasForwardedUnder F.Fn program.now.rule program.now.decide wire config packets.now frames.items) }
-    ensures forwarded { is_exact program.now.rule ≡ true → IfOk result (HasForwarded (ruled program.now.rule wire config packets.now) frames.items) }
+    ensures under { IfOk result (HasForwardedUnder F.Fn chain.now wire config packets.now frames.items) }
+    ensures forwarded { are_exact (rules_of chain.now) ≡ true → IfOk result (HasForwarded (ruled (rules_of chain.now) wire config packets.now) frames.items) }
 {
     let own = config.copy(alloc)?;
     let inputs = Inputs::split(alloc, &own, packets)?;
-    let drivers = drivers_for(alloc, &own, packets, &inputs, program, wire)?;
+    let drivers = drivers_for(alloc, &own, packets, &inputs, chain, wire)?;
     let outcome = run_drivers::<Brand, R, G>(
         rt, alloc, &own, config, frames, packets, wire, gate, drivers,
     )?;

@@ -1,6 +1,6 @@
 use Rattle.std.proofs.Common.{◌∙◌, sym}
-use Rattle.test_object.proofs.Sizes.{ring_size}
+use Rattle.xsk_model.proofs.RingSizes.{size_of_power}
 use Rattle.test_object.proofs.setup.is_ring_size.Goals as goal
 
 pub returns : goal.returns
-returns c = λ holds. ring_size c.args.size (sym c.is_size.ensures ∙ holds)
+returns c = λ holds. size_of_power c.args.size (sym c.is_size.ensures ∙ holds)

@@ -1,8 +1,17 @@
+use Rattle.std.proofs.Common.{Option, ℕ, length, subst, arith}
+use Rattle.std.proofs.lemmas.Bool.{eq-eqb, eqb-true}
+use Rattle.memchr.specs.Find.{IsFirstByte, is_byte}
 use Rattle.xsk_audit.proofs.Cuts.{line-here, line-whole}
 use Rattle.xsk_audit.proofs.cutting.first_line.Goals as goal
 
-pub returns-then-text-i-eq10-clause-line : goal.returns-then-text-i-eq10-clause-line
-returns-then-text-i-eq10-clause-line c = line-here c.args.text.now c.loop-i.i c.loop-i-test.true c.loop-i.invariant c.if-text-i-eq10.true
+pub returns-in-Some-clause-line : goal.returns-in-Some-clause-line
+returns-in-Some-clause-line c =
+    let text = c.args.text.now in
+    let first = subst (λ (r : Option ℕ). IsFirstByte (is_byte 10) text r) c.in-Some.is c.memchr.ensures in
+    line-here text c.in-Some.i first.0.high (λ k below feed. first.0.before k (omega arith) below (eq-eqb _ _ feed)) (eqb-true _ 10 first.1)
 
-pub returns-clause-line : goal.returns-clause-line
-returns-clause-line c = line-whole c.args.text.now c.loop-i.i c.requires c.loop-i-test.false c.loop-i.invariant
+pub returns-in-None-clause-line : goal.returns-in-None-clause-line
+returns-in-None-clause-line c =
+    let text = c.args.text.now in
+    let none = subst (λ (r : Option ℕ). IsFirstByte (is_byte 10) text r) c.in-None.is c.memchr.ensures in
+    line-whole text (length text) c.requires (omega arith) (λ k below feed. none k (omega arith) below (eq-eqb _ _ feed))

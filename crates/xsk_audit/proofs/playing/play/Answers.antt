@@ -21,7 +21,7 @@ returns-then-is_empty-clause-played c =
         made = l.made;
         left = lines_of c.loop-line.rest.now;
         lines_are = l.lines;
-        told = l.told;
+        told = l.says;
         stops = subst (StopsAt c.loop-line.checked.config l.history) (sym none) tt;
       };
     }
@@ -39,21 +39,21 @@ returns-in_default-clause-played c =
         made = l.made;
         left = line ∷ lines_of c.first_line.result.1.now;
         lines_are = l.lines ∙ ap (λ (ls : List (List ℕ)). l.made ++ ls) c.first_line.ensures.line;
-        told = l.told;
+        told = l.says;
         stops = stuck-unread c.loop-line.checked.config l.history line _ l.playing.run.legal.opened.config count c.in_default.ensures.said;
       };
     }
 
 pub make-requires-clause-told : goal.make-requires-clause-told
 make-requires-clause-told c =
-    let r = c.in-Some.reading in
+    let r = c.in-Some in
     line-says _ c.first_line.result.0.now (record { round = r.round; who = r.who; call = joined_call r.ask c.read_line.new.items }) c.in-Some.ensures.said
 
 pub returns-then-not-branch-clause-played : goal.returns-then-not-branch-clause-played
 returns-then-not-branch-clause-played c =
     let l = c.loop-line.invariant in
     let line = c.first_line.result.0.now in
-    let r = c.in-Some.reading in
+    let r = c.in-Some in
     let said : Said = record { round = r.round; who = r.who; call = joined_call r.ask c.read_line.new.items } in
     let made = c.in_ok-make.ensures in
     let none = wasnt-made c.make.new.checked c.make.new.shelf l.frames l.history r.who said.call c.in_ok-make.field-0 (made.made l.frames l.history l.playing) (search rules) in
@@ -66,7 +66,7 @@ returns-then-not-branch-clause-played c =
         made = l.made;
         left = line ∷ lines_of c.first_line.result.1.now;
         lines_are = l.lines ∙ ap (λ (ls : List (List ℕ)). l.made ++ ls) c.first_line.ensures.line;
-        told = subst (λ (k : Config). AreTold (length k.pairs) l.made l.history) (sym made.config) l.told;
+        told = subst (λ (k : Config). AreTold (length k.pairs) l.made l.history) (sym made.config) l.says;
         stops = stuck-illegal c.make.new.checked.config l.history line _ said none.0.legal.opened.config count c.in-Some.ensures.said none.1;
       };
     }
@@ -75,7 +75,7 @@ pub loop-line-preserved : goal.loop-line-preserved
 loop-line-preserved c =
     let l = c.loop-line.invariant in
     let line = c.first_line.result.0.now in
-    let r = c.in-Some.reading in
+    let r = c.in-Some in
     let said : Said = record { round = r.round; who = r.who; call = joined_call r.ask c.read_line.new.items } in
     let made = c.in_ok-make.ensures in
     let m = was-made c.make.new.checked c.make.new.shelf l.frames l.history r.who said.call c.in_ok-make.field-0 (made.made l.frames l.history l.playing) (search rules) in
@@ -87,10 +87,12 @@ loop-line-preserved c =
       made = l.made ++ line ∷ [];
       playing = m.playing;
       lines = l.lines ∙ ap (λ (ls : List (List ℕ)). l.made ++ ls) c.first_line.ensures.line ∙ sym (append_assoc l.made (line ∷ []) (lines_of c.first_line.result.1.now));
-      told = told-push (length c.make.new.checked.config.pairs) l.made l.history line m.entry
-          (subst (λ (k : Config). AreTold (length k.pairs) l.made l.history) (sym made.config) l.told)
+      says = told-push (length c.make.new.checked.config.pairs) l.made l.history line m.entry
+          (subst (λ (k : Config). AreTold (length k.pairs) l.made l.history) (sym made.config) l.says)
           (tells-made _ (length c.make.new.checked.config.pairs) line said m.entry count c.in-Some.ensures.said m.caller m.told);
       short = omega (arith, l.short, c.first_line.ensures.shorter);
+      none_told = c.empty.ensures;
+      none_left = c.in_ok-make.ensures.empty (search rules);
     }
 
 pub returns-clause-played : goal.returns-clause-played
@@ -105,7 +107,7 @@ returns-clause-played c =
         made = l.made;
         left = lines_of c.loop-line.rest.now;
         lines_are = l.lines;
-        told = l.told;
+        told = l.says;
         stops = subst (StopsAt c.loop-line.checked.config l.history) (sym none) tt;
       };
     }

@@ -1,4 +1,4 @@
-use Rattle.std.proofs.Common.{◌≡◌, ◌+◌, ◌≤◌, ◌++◌, ℕ, List, length}
+use Rattle.std.proofs.Common.{◌≡◌, ◌+◌, ◌≤◌, ◌++◌, ℕ, List, [], length}
 use Rattle.xsk_umem.specs.Frame.{Frame}
 use Rattle.xsk_model.specs.Entry.{Entry}
 use Rattle.xsk_audit.specs.Lines.{lines_of}
@@ -14,6 +14,8 @@ invariant-loop-line l = record {
   made : List (List ℕ);
   playing : IsPlaying l.checked l.shelf frames history;
   lines : lines_of l.fn.text ≡ made ++ lines_of l.rest;
-  told : AreTold (length l.checked.config.pairs) made history;
+  says : AreTold (length l.checked.config.pairs) made history;
   short : l._line + length l.rest ≤ length l.fn.text;
+  none_told : l.told ≡ [];
+  none_left : l.items ≡ [];
 }

@@ -33,6 +33,6 @@ returns-clause-asked g c =
     let found : list.packets ≡ packets_of_port lists (pair_at config.pairs pair).port =
     list_at lists (pair_at c.pairs.result.now pair).port list c.index-packets-info.is ports.0
     ∙ ap (λ (ps : List PairInfo). packets_of_port lists (pair_at ps pair).port) c.pairs.ensures.value in
-    subst (λ (l : List (List ℕ)). EachHas (IsGiven (IsAnswer g.F.Fn c.args.program.now.rule c.args.program.now.decide (pair_at config.pairs pair).queue)) (packets_of_queue config.queues (pair_at config.pairs pair).queue l)
+    subst (λ (l : List (List ℕ)). EachHas (IsGiven (IsAnswer g.F.Fn c.args.chain.now (pair_at config.pairs pair).queue)) (packets_of_queue config.queues (pair_at config.pairs pair).queue l)
     (verdicts_in c.in_ok-driver.driver.kept)) found
     (c.in_ok-driver.ensures.asked (c.of_pair-numbers.ensures ∙ input_numbers config c.args.packets.now c.args.inputs.now pair list.packets c.requires.inputs c.requires.pair found))

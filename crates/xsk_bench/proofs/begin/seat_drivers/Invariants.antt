@@ -6,4 +6,4 @@ use Rattle.xsk_bench.proofs.begin.seat_drivers.Given as goal
 abbrev pub invariant-loop-pair : goal.invariant-loop-pair
 invariant-loop-pair g l =
     (length (vec_items l.seats) ≡ l.pair)
-    × Begun (IsAnswer g.F.Fn l.program.rule l.program.decide) l.config l.wire l.packets l.room l.pair (vec_items l.seats)
+    × Begun (IsAnswer g.F.Fn l.chain) l.config l.wire l.packets l.room l.pair (vec_items l.seats)

@@ -7,10 +7,10 @@ use Rattle.xsk_cli.specs.Steps.{lists_in}
 use Rattle.xsk_cli.proofs.Filing.{joined_as_is}
 use Rattle.xsk_cli.proofs.files.file_text.Goals as goal
 
-pub write-requires : goal.write-requires
-write-requires c =
+pub write_over-requires : goal.write_over-requires
+write_over-requires c =
     subst IsWritable (joined_as_is c.args.ports c.args.each c.args.lists.now (search rules) c.requires.count) c.requires.writable
 
 pub returns-then-each-eq1 : goal.returns-then-each-eq1
 returns-then-each-eq1 c =
-    subst (λ (ls : List (List (List ℕ))). IfOk c.write.result (λ text. text.items ≡ written_file ls)) (sym (joined_as_is c.args.ports c.args.each c.args.lists.now (search rules) c.requires.count)) c.write.ensures
+    subst (λ (ls : List (List (List ℕ))). IfOk c.write_over.result (λ text. text.items ≡ written_file ls)) (sym (joined_as_is c.args.ports c.args.each c.args.lists.now (search rules) c.requires.count)) c.write_over.ensures

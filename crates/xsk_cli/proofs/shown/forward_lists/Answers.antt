@@ -1,16 +1,17 @@
-use Rattle.std.proofs.Common.{◌≡◌, true, length, ap, subst, sym, ◌∙◌, arith}
+use Rattle.std.proofs.Common.{◌≡◌, true, List, length, ap, subst, sym, ◌∙◌, arith}
 use Rattle.xsk_model.specs.Config.{Config}
-use Rattle.xsk_prog.specs.Rules.{is_exact}
+use Rattle.xsk_prog.specs.Chain.{rules_of}
+use Rattle.xsk_prog.specs.Rules.{are_exact}
 use Rattle.xsk_prog.specs.declared.rule.Rule.{Rule}
 use Rattle.xsk_socket.proofs.Accepted.{fits}
-use Rattle.xsk_cli.specs.Outcome.{rule_by}
+use Rattle.xsk_cli.specs.Outcome.{rules_by}
 use Rattle.xsk_cli.specs.Steps.{lists_in}
-use Rattle.xsk_cli.proofs.Going.{is_exact_by}
+use Rattle.xsk_cli.proofs.Going.{are_exact_by}
 use Rattle.xsk_cli.proofs.Running.{forwarded_as, pairs_are}
 use Rattle.xsk_cli.proofs.shown.forward_lists.Goals as goal
 
-pub rule_of-rule-requires : goal.rule_of-rule-requires
-rule_of-rule-requires g c =
+pub chain_of-chain-requires-clause-sockets : goal.chain_of-chain-requires-clause-sockets
+chain_of-chain-requires-clause-sockets g c =
     let sockets = (fits c.args.layout.now c.requires.accepted).sockets in
     record { some = omega (arith, sockets); few = omega (arith, sockets) }
 
@@ -19,10 +20,10 @@ returns-clause-pairs g c = c.in_ok-outcome.ensures.pairs ∙ ap (λ (k : Config)
 
 pub returns-clause-forwarded : goal.returns-clause-forwarded
 returns-clause-forwarded g c =
-    let is : c.attach-attached.result.rule ≡ rule_by c.args.layout.now.sockets c.args.program = ap (λ attached. attached.rule) c.attach-attached.ensures.parts ∙ c.rule_of-rule.ensures.rule in
-    forwarded_as c.args.layout.now c.args.program c.args.wire c.args.config c.args.lists.now c.args.frames.items (lists_in c.args.lists.now) c.in_ok-outcome.outcome
-    c.requires.config c.requires.listed c.requires.frames c.wire_of-wire.result c.wire_of-wire.ensures c.attach-attached.result.rule
-    is (c.in_ok-outcome.ensures.forwarded (subst (λ (r : Rule). is_exact r ≡ true) (sym is) (is_exact_by c.args.layout.now.sockets c.args.program)))
+    let are : rules_of c.in_ok-chain.chain ≡ rules_by c.args.layout.now.sockets c.args.programs.now = c.in_ok-chain.ensures.rules ∙ ap (rules_by c.args.layout.now.sockets) c.as_slice.ensures.value in
+    forwarded_as c.args.layout.now c.args.programs.now c.args.wire c.args.config c.args.lists.now c.args.frames.items (lists_in c.args.lists.now) c.in_ok-outcome.outcome
+    c.requires.config c.requires.listed c.requires.frames c.wire_of-wire.result c.wire_of-wire.ensures (rules_of c.in_ok-chain.chain)
+    are (c.in_ok-outcome.ensures.forwarded (subst (λ (rs : List Rule). are_exact rs ≡ true) (sym are) (are_exact_by c.args.layout.now.sockets c.args.programs.now)))
 
 pub returns-clause-short : goal.returns-clause-short
 returns-clause-short g c = c.in_ok-outcome.ensures.short

@@ -8,8 +8,8 @@ use Rattle.xsk_cli.proofs.shown.make_shown.Goals as goal
 
 pub returns-clause-made : goal.returns-clause-made
 returns-clause-made g c =
-    subst (λ (w : Work). IfOk c.run_shown.result (λ lent. (o : OutcomeShown) × IsLent lent o × HasShown w (lists_in c.args.lists.now) o × AreTextsFrom w (lists_in c.args.lists.now) o (written_in lent.texts)))
+    subst (λ (w : Work). IfOk c.run_shown.result (λ lent. (o : OutcomeShown) × IsLent lent o × HasShown w (lists_in c.args.lists.items) o × AreTextsFrom w (lists_in c.args.lists.items) o (written_in lent.texts)))
     (sym c.in-Simulate.is) c.run_shown.ensures.made
 
 pub returns-clause-shown : goal.returns-clause-shown
-returns-clause-shown g c o is = subst (λ (w : Work). HasShown w (lists_in c.args.lists.now) o) (sym c.in-Simulate.is) (c.run_shown.ensures.shown o is)
+returns-clause-shown g c o is = subst (λ (w : Work). HasShown w (lists_in c.args.lists.items) o) (sym c.in-Simulate.is) (c.run_shown.ensures.shown o is)

@@ -1,14 +1,14 @@
 use Rattle.std.proofs.Common.{Err, ap, subst, ◌∙◌, arith}
 use Rattle.xsk_turns.specs.Workers.{Setting, IsRuled}
-use Rattle.xsk_sim.proofs.Verdicts.{asked_ruled}
+use Rattle.xsk_machine.proofs.Ruling.{asked_ruled}
 use Rattle.xsk_socket.proofs.Accepted.{fits}
-use Rattle.xsk_cli.specs.Outcome.{manner_of}
+use Rattle.xsk_cli.specs.Outcome.{manner_of, rules_by}
 use Rattle.xsk_cli.specs.Steps.{lists_in}
 use Rattle.xsk_cli.proofs.Running.{stalled_as, ended_as}
 use Rattle.xsk_cli.proofs.texts.run_lists.Goals as goal
 
-pub rule_of-rule-requires : goal.rule_of-rule-requires
-rule_of-rule-requires c =
+pub chain_of-chain-requires-clause-sockets : goal.chain_of-chain-requires-clause-sockets
+chain_of-chain-requires-clause-sockets c =
     let sockets = (fits c.args.layout.now c.requires.accepted).sockets in
     record { some = omega (arith, sockets); few = omega (arith, sockets) }
 
@@ -16,14 +16,14 @@ pub returns-in-Err-Stalled-clause-failed : goal.returns-in-Err-Stalled-clause-fa
 returns-in-Err-Stalled-clause-failed c =
     let under = c.in-Err-Stalled.ensures.stalled c.in-Err-Stalled.round (ap Err c.in-Err-Stalled.field-0-is) in
     let s : Setting = record { config = c.args.config; wire = c.wire_of-wire.result; manner = manner_of c.args.mangle; packets = c.args.lists.now; verdicts = under.verdicts } in
-    stalled_as c.args.layout.now c.args.program c.args.wire c.args.mangle c.args.order c.args.config c.args.lists.now c.args.frames.items (lists_in c.args.lists.now) c.in-Err-Stalled.round
+    stalled_as c.args.layout.now c.args.programs.now c.args.wire c.args.mangle c.args.order c.args.config c.args.lists.now c.args.frames.items (lists_in c.args.lists.now) c.in-Err-Stalled.round
     c.requires.config c.requires.listed c.requires.frames c.wire_of-wire.result c.wire_of-wire.ensures under.verdicts
-    (subst (λ rule. IsRuled rule s) (ap (λ attached. attached.rule) c.attach-attached.ensures.parts ∙ c.rule_of-rule.ensures.rule) (asked_ruled _ c.attach-attached.result.rule c.attach-attached.result.decide s under.asked)) under.stalled
+    (subst (λ rules. IsRuled rules s) (c.in_ok-chain.ensures.rules ∙ ap (rules_by c.args.layout.now.sockets) c.as_slice.ensures.value) (asked_ruled _ c.in_ok-chain.chain s under.asked)) under.stalled
 
 pub returns-in-Ok-clause-ended : goal.returns-in-Ok-clause-ended
 returns-in-Ok-clause-ended c =
     let under = c.in-Ok.ensures.ended in
     let s : Setting = record { config = c.args.config; wire = c.wire_of-wire.result; manner = manner_of c.args.mangle; packets = c.args.lists.now; verdicts = under.verdicts } in
-    ended_as c.args.layout.now c.args.program c.args.wire c.args.mangle c.args.order c.args.config c.args.lists.now c.args.frames.items (lists_in c.args.lists.now) c.in-Ok.run'
+    ended_as c.args.layout.now c.args.programs.now c.args.wire c.args.mangle c.args.order c.args.config c.args.lists.now c.args.frames.items (lists_in c.args.lists.now) c.in-Ok.run'
     c.requires.config c.requires.listed c.requires.frames c.wire_of-wire.result c.wire_of-wire.ensures under.verdicts
-    (subst (λ rule. IsRuled rule s) (ap (λ attached. attached.rule) c.attach-attached.ensures.parts ∙ c.rule_of-rule.ensures.rule) (asked_ruled _ c.attach-attached.result.rule c.attach-attached.result.decide s under.asked)) under.ended
+    (subst (λ rules. IsRuled rules s) (c.in_ok-chain.ensures.rules ∙ ap (rules_by c.args.layout.now.sockets) c.as_slice.ensures.value) (asked_ruled _ c.in_ok-chain.chain s under.asked)) under.ended

@@ -6,6 +6,7 @@ use Rattle.std.proofs.lemmas.List.FromFn.{length-map-range_with_len}
 use Rattle.xsk_model.specs.Config.{Config, IsRegular}
 use Rattle.xsk_machine.specs.declared.figures.Figures.{Figures}
 use Rattle.xsk_sim.specs.Journal.{journal_of}
+use Rattle.xsk_sim.specs.Runs.{HasEnded}
 use Rattle.xsk_stats.specs.Report.{report_text}
 use Rattle.xsk_socket.specs.Regular.{regular_of}
 use Rattle.xsk_pcap.specs.Capture.{IsShort}
@@ -14,6 +15,7 @@ use Rattle.xsk_pcapng.specs.Written.{IsWritable as IsWritableFile}
 use Rattle.xsk_socket.proofs.Accepted.{fits}
 use Rattle.xsk_socket.proofs.Regularity.{regular-config}
 use Rattle.xsk_cli.specs.Format.{joined, outputs_of}
+use Rattle.xsk_cli.specs.Outcome.{frames_of, setting_of}
 use Rattle.xsk_cli.specs.Steps.{FailsRunning, lists_in, written_in}
 use Rattle.xsk_cli.specs.declared.failure.RunFailure.TheVariants.{OutOfMemory as NoMemory}
 use Rattle.xsk_cli.proofs.Running.{lists_short, pairs_are, sent_in_file, sent_writable, texts_of}
@@ -22,15 +24,15 @@ use Rattle.xsk_cli.proofs.texts.run_texts.Goals as goal
 pub sent_texts-requires-clause-writable : goal.sent_texts-requires-clause-writable
 sent_texts-requires-clause-writable c port count in_ports few =
     let layout = c.args.layout.now in
-    let lists : List (List (List ℕ)) = lists_in c.args.lists.now in
+    let lists : List (List (List ℕ)) = lists_in c.args.lists.items in
     let run = c.in_ok-run.run' in
     let own = c.into_sent.result.items in
     let same : lists_in own ≡ run.sent = c.into_sent.ensures.sent in
-    let known : length lists ≡ layout.ports = length-map c.args.lists.now (λ list. list.packets) ∙ c.requires.ports in
+    let known : length lists ≡ layout.ports = length-map c.args.lists.items (λ list. list.packets) ∙ c.requires.ports in
     let pairs : length run.sent ≡ layout.ports * layout.queues =
     ap length (sym same) ∙ length-map own (λ list. list.packets) ∙ c.into_sent.ensures.pairs ∙ c.in_ok-run.ensures.pairs in
     subst (λ (ls : List (List (List ℕ))). IsWritable (take count (drop (port * layout.queues) ls))) (sym same)
-    (sent_writable layout c.args.program c.args.wire c.args.mangle c.args.order lists c.requires.accepted c.requires.closes run c.in_ok-run.ensures.ended pairs known c.requires.within
+    (sent_writable layout c.args.programs.now c.args.wire c.args.mangle c.args.order lists c.requires.accepted c.requires.closes run (subst (λ ls. HasEnded (setting_of layout c.args.programs.now c.args.wire c.args.mangle (lists_in ls)) (frames_of layout) c.args.order c.in_ok-run.run') c.as_slice.ensures.value c.in_ok-run.ensures.ended) pairs known c.requires.within
     (subst (λ (ls : List (List (List ℕ))). (pair : ℕ) → pair < length ls → All IsShort (get_or ls pair [])) same (lists_short own c.into_sent.ensures.short)) port count in_ports few)
 
 pub sent_texts-requires-clause-count : goal.sent_texts-requires-clause-count
@@ -44,15 +46,15 @@ sent_texts-requires-clause-few c =
 pub sent_texts-requires-clause-file : goal.sent_texts-requires-clause-file
 sent_texts-requires-clause-file c =
     let layout = c.args.layout.now in
-    let lists : List (List (List ℕ)) = lists_in c.args.lists.now in
+    let lists : List (List (List ℕ)) = lists_in c.args.lists.items in
     let run = c.in_ok-run.run' in
     let own = c.into_sent.result.items in
     let same : lists_in own ≡ run.sent = c.into_sent.ensures.sent in
-    let known : length lists ≡ layout.ports = length-map c.args.lists.now (λ list. list.packets) ∙ c.requires.ports in
+    let known : length lists ≡ layout.ports = length-map c.args.lists.items (λ list. list.packets) ∙ c.requires.ports in
     let pairs : length run.sent ≡ layout.ports * layout.queues =
     ap length (sym same) ∙ length-map own (λ list. list.packets) ∙ c.into_sent.ensures.pairs ∙ c.in_ok-run.ensures.pairs in
     subst (λ (ls : List (List (List ℕ))). IsWritableFile (joined layout.ports layout.queues ls)) (sym same)
-    (sent_in_file layout c.args.program c.args.wire c.args.mangle c.args.order lists c.requires.accepted c.requires.closes run c.in_ok-run.ensures.ended pairs known c.requires.within
+    (sent_in_file layout c.args.programs.now c.args.wire c.args.mangle c.args.order lists c.requires.accepted c.requires.closes run (subst (λ ls. HasEnded (setting_of layout c.args.programs.now c.args.wire c.args.mangle (lists_in ls)) (frames_of layout) c.args.order c.in_ok-run.run') c.as_slice.ensures.value c.in_ok-run.ensures.ended) pairs known c.requires.within
     (subst (λ (ls : List (List (List ℕ))). (pair : ℕ) → pair < length ls → All IsShort (get_or ls pair [])) same (lists_short own c.into_sent.ensures.short)))
 
 pub returns-clause-made : goal.returns-clause-made
@@ -63,7 +65,7 @@ returns-clause-made c =
     let same : lists_in own ≡ run.sent = c.into_sent.ensures.sent in
     let pairs : length run.sent ≡ layout.ports * layout.queues =
     ap length (sym same) ∙ length-map own (λ list. list.packets) ∙ c.into_sent.ensures.pairs ∙ c.in_ok-run.ensures.pairs in
-    texts_of layout c.args.program c.args.wire c.args.mangle c.args.order (lists_in c.args.lists.now) c.requires.accepted c.requires.closes run c.in_ok-run.ensures.ended pairs c.args.format c.args.journal
+    texts_of layout c.args.programs.now c.args.wire c.args.mangle c.args.order (lists_in c.args.lists.items) c.requires.accepted c.requires.closes run (subst (λ ls. HasEnded (setting_of layout c.args.programs.now c.args.wire c.args.mangle (lists_in ls)) (frames_of layout) c.args.order c.in_ok-run.run') c.as_slice.ensures.value c.in_ok-run.ensures.ended) pairs c.args.format c.args.journal
     (written_in (record { outputs = c.in_ok-outputs.outputs; report = c.in_ok-report.report }))
     (c.in_ok-outputs.ensures ∙ ap (λ (ls : List (List (List ℕ))). outputs_of c.args.format (λ port. take layout.queues (drop (port * layout.queues) ls)) (range_with_len 0 layout.ports)) same)
     c.in_ok-run.ensures.pairs
@@ -83,7 +85,7 @@ pub returns-in_err-report-clause-failed : goal.returns-in_err-report-clause-fail
 returns-in_err-report-clause-failed c =
     let gives = c.from_residual-in_err-report.ensures in
     let error : c.from_residual-in_err-report.result ≡ Err NoMemory = search (rules, gives) in
-    subst (λ r. IfErr r (FailsRunning c.args.layout.now c.args.program c.args.wire c.args.mangle c.args.order (lists_in c.args.lists.now))) (sym error) tt
+    subst (λ r. IfErr r (FailsRunning c.args.layout.now c.args.programs.now c.args.wire c.args.mangle c.args.order (lists_in c.args.lists.items))) (sym error) tt
 
 pub run_lists-requires-clause-steady : goal.run_lists-requires-clause-steady
 run_lists-requires-clause-steady c = record { regular = c.in_ok-config.ensures.regular; closes = ap (λ (k : Config). k.closing) c.in_ok-config.ensures.config ∙ c.requires.closes }

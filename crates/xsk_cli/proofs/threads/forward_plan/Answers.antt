@@ -1,9 +1,8 @@
 use Rattle.std.proofs.Common.{rules, ◌≡◌, length, map, sym, ap, ◌∙◌, subst, arith, Option, None, Some}
-use Rattle.std.specs.Prelude.{All, Err, Ok}
+use Rattle.std.specs.Prelude.{Err, Ok}
 use Rattle.std.proofs.lemmas.List.{length-map}
-use Rattle.xsk_sim.specs.Shown.{HasShortPackets}
 use Rattle.xsk_workers.specs.Forwarded.{OutcomeShown}
-use Rattle.xsk_cli.specs.Forward.{AreTextsFrom, ComesShown, EndsShown, HasShown, IsShown, IsWritten}
+use Rattle.xsk_cli.specs.Forward.{ComesShown, EndsShown, IsShown, IsWritten}
 use Rattle.xsk_cli.specs.Judged.{AreShort}
 use Rattle.xsk_cli.specs.Outcome.{AreListsOf}
 use Rattle.xsk_cli.specs.Steps.{HaveRead, MakesNone, lists_in, plan_in, read_status, run_status, write_status, written_in}
@@ -44,8 +43,7 @@ returns-in_err-lists-clause-ends g c =
 
 pub make_shown-requires-clause-short : goal.make_shown-requires-clause-short
 make_shown-requires-clause-short g c κs within =
-    subst (All HasShortPackets) (sym c.as_slice.ensures.value)
-    (short_lists (plan_in c.args.plan.now).work (map (λ bytes. bytes.items) c.in_ok-inputs.inputs.items) c.in_ok-lists.lists.items c.in_ok-lists.ensures.taken)
+    short_lists (plan_in c.args.plan.now).work (map (λ bytes. bytes.items) c.in_ok-inputs.inputs.items) c.in_ok-lists.lists.items c.in_ok-lists.ensures.taken
 
 pub returns-in_err-lent-clause-ends : goal.returns-in_err-lent-clause-ends
 returns-in_err-lent-clause-ends g c =
@@ -58,7 +56,6 @@ returns-in_err-lent-clause-ends g c =
     (subst (λ m. HaveRead m plan.inputs bytes (length c.args.plan.now.inputs.now) old mid) c.most_input.ensures c.in_ok-inputs.ensures.read) in
     let short : AreShort (most_of plan.work) bytes (length bytes) = subst (AreShort (most_of plan.work) bytes) (sym have.count_is) have.short in
     let are : AreListsOf plan.work bytes lists = c.in_ok-lists.ensures.taken in
-    let same_lists : lists_in c.as_slice.result.now ≡ lists = ap lists_in c.as_slice.ensures.value in
     let ports : length lists ≡ ports_in plan.work = length-map c.in_ok-lists.lists.items (λ list. list.packets) ∙ c.in_ok-lists.ensures.count in
     let shown : Option OutcomeShown = c.make_shown.new.outcome in
     let each : (o : OutcomeShown) → shown ≡ Some o → IsShown plan.work bytes o = λ o is. record {
@@ -67,7 +64,7 @@ returns-in_err-lent-clause-ends g c =
       are = are;
       ports = ports;
       within = c.in_ok-lists.ensures.within;
-      shown = subst (λ ls. HasShown plan.work ls o) same_lists (c.make_shown.ensures.shown o is);
+      shown = c.make_shown.ensures.shown o is;
     } in
     ran_out_shown c.from_residual-in_err-lent.result plan bytes old mid mid have shown each (search (rules, c.in_err-lent.ensures.failed))
 
@@ -80,7 +77,7 @@ write_texts-written-requires-clause-texts g c =
     let plan = plan_in c.args.plan.now in
     omega (
       arith,
-      shown_count plan.work (lists_in c.as_slice.result.now) c.in_ok-lent.ensures.made.0 (written_in c.in_ok-lent.lent.texts) c.in_ok-lent.ensures.made.3,
+      shown_count plan.work (lists_in c.in_ok-lists.lists.items) c.in_ok-lent.ensures.made.0 (written_in c.in_ok-lent.lent.texts) c.in_ok-lent.ensures.made.3,
       length-map c.in_ok-lent.lent.texts.outputs.items (λ text. text.items),
       length-map c.args.plan.now.outputs.now (λ name. name.now),
       c.requires.ready.outputs,
@@ -104,7 +101,6 @@ returns-in_err-written-clause-ends g c =
     (subst (λ m. HaveRead m plan.inputs bytes (length c.args.plan.now.inputs.now) old mid) c.most_input.ensures c.in_ok-inputs.ensures.read) in
     let short : AreShort (most_of plan.work) bytes (length bytes) = subst (AreShort (most_of plan.work) bytes) (sym have.count_is) have.short in
     let are : AreListsOf plan.work bytes lists = c.in_ok-lists.ensures.taken in
-    let same_lists : lists_in c.as_slice.result.now ≡ lists = ap lists_in c.as_slice.ensures.value in
     let ports : length lists ≡ ports_in plan.work = length-map c.in_ok-lists.lists.items (λ list. list.packets) ∙ c.in_ok-lists.ensures.count in
     let o = c.in_ok-lent.ensures.made.0 in
     let is_some : Some c.give_back.result ≡ Some o = ap Some (c.give_back.ensures o c.in_ok-lent.ensures.made.1) in
@@ -114,9 +110,9 @@ returns-in_err-written-clause-ends g c =
       are = are;
       ports = ports;
       within = c.in_ok-lists.ensures.within;
-      shown = subst (λ ls. HasShown plan.work ls o) same_lists c.in_ok-lent.ensures.made.2;
+      shown = c.in_ok-lent.ensures.made.2;
     } in
-    let is : IsWritten plan.work bytes o texts = record { is = shown; texts_are = subst (λ ls. AreTextsFrom plan.work ls o texts) same_lists c.in_ok-lent.ensures.made.3 } in
+    let is : IsWritten plan.work bytes o texts = record { is = shown; texts_are = c.in_ok-lent.ensures.made.3 } in
     let same : SameInputs mid new = record { opened = c.write_texts-written.ensures.opened; asked = c.write_texts-written.ensures.asked; left = λ port. c.write_texts-written.ensures.left _ } in
     status_shown c.from_residual-in_err-written.result (write_status failure) (Some o) _ plan old new (search rules) is_some
     (unwritten_by plan bytes old mid new have (ComesShown plan.work (Some o)) texts same (λ stream. is) (λ port. is) failure (rw gave at c.write_texts-written.ensures.failed))
@@ -135,7 +131,6 @@ returns-clause-ends g c =
     (subst (λ m. HaveRead m plan.inputs bytes (length c.args.plan.now.inputs.now) old mid) c.most_input.ensures c.in_ok-inputs.ensures.read) in
     let short : AreShort (most_of plan.work) bytes (length bytes) = subst (AreShort (most_of plan.work) bytes) (sym have.count_is) have.short in
     let are : AreListsOf plan.work bytes lists = c.in_ok-lists.ensures.taken in
-    let same_lists : lists_in c.as_slice.result.now ≡ lists = ap lists_in c.as_slice.ensures.value in
     let ports : length lists ≡ ports_in plan.work = length-map c.in_ok-lists.lists.items (λ list. list.packets) ∙ c.in_ok-lists.ensures.count in
     let o = c.in_ok-lent.ensures.made.0 in
     let is_some : Some c.give_back.result ≡ Some o = ap Some (c.give_back.ensures o c.in_ok-lent.ensures.made.1) in
@@ -145,9 +140,9 @@ returns-clause-ends g c =
       are = are;
       ports = ports;
       within = c.in_ok-lists.ensures.within;
-      shown = subst (λ ls. HasShown plan.work ls o) same_lists c.in_ok-lent.ensures.made.2;
+      shown = c.in_ok-lent.ensures.made.2;
     } in
-    let is : IsWritten plan.work bytes o texts = record { is = shown; texts_are = subst (λ ls. AreTextsFrom plan.work ls o texts) same_lists c.in_ok-lent.ensures.made.3 } in
+    let is : IsWritten plan.work bytes o texts = record { is = shown; texts_are = c.in_ok-lent.ensures.made.3 } in
     let same : SameInputs mid new = record { opened = c.write_texts-written.ensures.opened; asked = c.write_texts-written.ensures.asked; left = λ port. c.write_texts-written.ensures.left _ } in
     let count : length plan.outputs ≡ length c.args.plan.now.outputs.now = length-map c.args.plan.now.outputs.now (λ name. name.now) in
     let writes : AreWritten plan.outputs texts.outputs (length plan.outputs) (length plan.outputs) mid new =

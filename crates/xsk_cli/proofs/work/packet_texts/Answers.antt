@@ -1,7 +1,5 @@
 use Rattle.std.proofs.Common.{rules, ◌≡◌, List, ℕ, length, map, sym, ◌∙◌, subst}
-use Rattle.std.specs.Prelude.{All}
 use Rattle.std.proofs.lemmas.List.{length-map}
-use Rattle.xsk_sim.specs.Shown.{HasShortPackets}
 use Rattle.xsk_cli.specs.Judged.{AreShort}
 use Rattle.xsk_cli.specs.Words.{most_of, ports_in}
 use Rattle.xsk_cli.specs.Outcome.{AreTextsBy}
@@ -13,8 +11,7 @@ use Rattle.xsk_cli.proofs.work.packet_texts.Goals as goal
 
 pub make_texts-requires-clause-short : goal.make_texts-requires-clause-short
 make_texts-requires-clause-short c =
-    subst (All HasShortPackets) (sym c.as_slice.ensures.value)
-    (short_lists c.args.work.now (map (λ bytes. bytes.items) c.args.inputs.items) c.in_ok-lists.lists.items c.in_ok-lists.ensures.taken)
+    short_lists c.args.work.now (map (λ bytes. bytes.items) c.args.inputs.items) c.in_ok-lists.lists.items c.in_ok-lists.ensures.taken
 
 pub returns-in_err-texts-clause-failed : goal.returns-in_err-texts-clause-failed
 returns-in_err-texts-clause-failed c =
@@ -23,7 +20,7 @@ returns-in_err-texts-clause-failed c =
     let lists = lists_in c.in_ok-lists.lists.items in
     let failure = c.in_err-texts.field-0.0 in
     let within : AreShort (most_of work) bytes (length bytes) = subst (AreShort (most_of work) bytes) (sym (length-map c.args.inputs.items (λ bytes. bytes.items))) c.requires.short in
-    let fails : FailsMaking work lists failure = subst (λ ls. FailsMaking work (lists_in ls) failure) c.as_slice.ensures.value c.in_err-texts.ensures.failed in
+    let fails : FailsMaking work lists failure = c.in_err-texts.ensures.failed in
     answer_makes c.from_residual-in_err-texts.result failure work bytes (search rules) (making_fails work bytes lists failure within c.in_ok-lists.ensures.taken c.in_ok-lists.ensures.within fails)
 
 pub returns-clause-made : goal.returns-clause-made
@@ -32,7 +29,7 @@ returns-clause-made c =
     let bytes : List (List ℕ) = map (λ bytes. bytes.items) c.args.inputs.items in
     let lists = lists_in c.in_ok-lists.lists.items in
     let texts = written_in c.in_ok-texts.texts in
-    let is : AreTextsBy work lists texts = subst (λ ls. AreTextsBy work (lists_in ls) texts) c.as_slice.ensures.value c.in_ok-texts.ensures.made in (
+    let is : AreTextsBy work lists texts = c.in_ok-texts.ensures.made in (
       subst (AreShort (most_of work) bytes) (sym (length-map c.args.inputs.items (λ bytes. bytes.items))) c.requires.short,
       packets_made work bytes lists texts c.in_ok-lists.ensures.taken c.in_ok-lists.ensures.within is,
     )
@@ -42,6 +39,6 @@ returns-clause-count c =
     let work = c.args.work.now in
     let lists = lists_in c.in_ok-lists.lists.items in
     let texts = written_in c.in_ok-texts.texts in
-    let is : AreTextsBy work lists texts = subst (λ ls. AreTextsBy work (lists_in ls) texts) c.as_slice.ensures.value c.in_ok-texts.ensures.made in
+    let is : AreTextsBy work lists texts = c.in_ok-texts.ensures.made in
     let count : length lists ≡ ports_in work = length-map c.in_ok-lists.lists.items (λ list. list.packets) ∙ c.in_ok-lists.ensures.count in
     texts_count work lists texts is count

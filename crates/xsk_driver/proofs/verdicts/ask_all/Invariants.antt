@@ -5,4 +5,4 @@ use Rattle.xsk_driver.proofs.verdicts.ask_all.Given as goal
 
 abbrev pub invariant-loop-number : goal.invariant-loop-number
 invariant-loop-number g l = (length l.numbers ≤ vec_capacity l.verdicts) × (length l.verdicts.items ≡ l.number-index)
-    × EachHas (IsGiven (IsAnswer g.F.Fn l.program.rule l.program.decide l.queue)) (packets_by l.packets (take l.number-index l.numbers)) l.verdicts.items
+    × EachHas (IsGiven (IsAnswer g.F.Fn l.chain l.queue)) (packets_by l.packets (take l.number-index l.numbers)) l.verdicts.items

@@ -5,7 +5,7 @@ use Rattle.xsk_machine.proofs.begin.drivers_for.Goals as goal
 
 pub loop-pair-preserved : goal.loop-pair-preserved
 loop-pair-preserved g c =
-    let By = IsAnswer g.F.Fn c.args.program.now.rule c.args.program.now.decide in
+    let By = IsAnswer g.F.Fn c.args.chain.now in
     let driver = c.in_ok-driver_for.field-0 in
     let made = made_more By c.args.config.now c.args.wire c.args.packets.now c.loop-pair.drivers.items c.loop-pair.pair driver c.loop-pair.invariant.1 c.loop-pair.invariant.0
     (record { new = c.in_ok-driver_for.ensures.new; asked = c.in_ok-driver_for.ensures.asked; expected = c.in_ok-driver_for.ensures.expected }) in (
@@ -15,9 +15,9 @@ loop-pair-preserved g c =
 
 pub returns-clause-new : goal.returns-clause-new
 returns-clause-new g c =
-    all_new (IsAnswer g.F.Fn c.args.program.now.rule c.args.program.now.decide) c.args.config.now c.args.wire c.args.packets.now c.loop-pair.drivers.items c.loop-pair.invariant.0
+    all_new (IsAnswer g.F.Fn c.args.chain.now) c.args.config.now c.args.wire c.args.packets.now c.loop-pair.drivers.items c.loop-pair.invariant.0
 
 pub returns-clause-asked : goal.returns-clause-asked
 returns-clause-asked g c =
     let count : length c.loop-pair.drivers.items ≡ length c.args.config.now.pairs = search rules in
-    λ manner. all_asked (IsAnswer g.F.Fn c.args.program.now.rule c.args.program.now.decide) c.args.config.now c.args.wire c.args.packets.now c.loop-pair.drivers.items c.loop-pair.invariant.0 manner count
+    λ manner. all_asked (IsAnswer g.F.Fn c.args.chain.now) c.args.config.now c.args.wire c.args.packets.now c.loop-pair.drivers.items c.loop-pair.invariant.0 manner count

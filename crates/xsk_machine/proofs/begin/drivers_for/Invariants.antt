@@ -5,5 +5,5 @@ use Rattle.xsk_machine.proofs.begin.drivers_for.Given as goal
 
 abbrev pub invariant-loop-pair : goal.invariant-loop-pair
 invariant-loop-pair g l =
-    AreMade (IsAnswer g.F.Fn l.program.rule l.program.decide) l.config l.wire l.packets (vec_items l.drivers)
+    AreMade (IsAnswer g.F.Fn l.chain) l.config l.wire l.packets (vec_items l.drivers)
     × (length (vec_items l.drivers) ≡ l.pair)

@@ -31,9 +31,9 @@ seated g c =
     c.in-Ok.ensures.config c.in-Ok.ensures.state c.in-Ok.ensures.log.0 (c.in_ok-workers.ensures.seated copy refl refl (c.in_ok-drivers.ensures.new c.args.manner)) c.in_ok-workers.ensures.settled c.in_ok-workers.ensures.count
 
 asked : (g : given.Over) (c : goal.After-drop-shared-inside-4 g)
-    → AreGiven (IsAnswer g.F.Fn c.args.program.now.rule c.args.program.now.decide) (setting_by c.args.config c.args.wire c.args.manner c.args.packets.now (kept_in c.in_ok-drivers.drivers.items))
+    → AreGiven (IsAnswer g.F.Fn c.args.chain.now) (setting_by c.args.config c.args.wire c.args.manner c.args.packets.now (kept_in c.in_ok-drivers.drivers.items))
 asked g c =
-    subst (λ (k : Config). AreGiven (IsAnswer g.F.Fn c.args.program.now.rule c.args.program.now.decide) (setting_by k c.args.wire c.args.manner c.args.packets.now (kept_in c.in_ok-drivers.drivers.items)))
+    subst (λ (k : Config). AreGiven (IsAnswer g.F.Fn c.args.chain.now) (setting_by k c.args.wire c.args.manner c.args.packets.now (kept_in c.in_ok-drivers.drivers.items)))
     c.in_ok-shared.ensures (c.in_ok-drivers.ensures.asked c.args.manner)
 
 pub seat_workers-requires-clause-new : goal.seat_workers-requires-clause-new

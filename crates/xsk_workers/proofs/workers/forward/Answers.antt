@@ -14,9 +14,9 @@ run_drivers-requires-clause-new g c κs within =
     subst (λ (k : Config). AreNew (setting_with k c.args.wire c.args.packets.now (kept_in c.in_ok-drivers.drivers.items)) 0 c.in_ok-drivers.drivers.items) c.in_ok-own.ensures (c.in_ok-drivers.ensures.new plain)
 
 asked : (g : given.Over) (c : goal.After-drop-own-inside-4 g)
-    → AreGiven (IsAnswer g.F.Fn c.args.program.now.rule c.args.program.now.decide) (setting_with c.args.config c.args.wire c.args.packets.now (kept_in c.in_ok-drivers.drivers.items))
+    → AreGiven (IsAnswer g.F.Fn c.args.chain.now) (setting_with c.args.config c.args.wire c.args.packets.now (kept_in c.in_ok-drivers.drivers.items))
 asked g c =
-    subst (λ (k : Config). AreGiven (IsAnswer g.F.Fn c.args.program.now.rule c.args.program.now.decide) (setting_with k c.args.wire c.args.packets.now (kept_in c.in_ok-drivers.drivers.items)))
+    subst (λ (k : Config). AreGiven (IsAnswer g.F.Fn c.args.chain.now) (setting_with k c.args.wire c.args.packets.now (kept_in c.in_ok-drivers.drivers.items)))
     c.in_ok-own.ensures (c.in_ok-drivers.ensures.asked plain)
 
 pub returns-clause-under : goal.returns-clause-under
@@ -24,5 +24,5 @@ returns-clause-under g c = record { verdicts = kept_in c.in_ok-drivers.drivers.i
 
 pub returns-clause-forwarded : goal.returns-clause-forwarded
 returns-clause-forwarded g c exact =
-    forwards_as_ruled g.F.Fn c.args.program.now.rule c.args.program.now.decide (setting_with c.args.config c.args.wire c.args.packets.now (kept_in c.in_ok-drivers.drivers.items)) c.args.frames.items c.in_ok-outcome.outcome
+    forwards_as_ruled g.F.Fn c.args.chain.now (setting_with c.args.config c.args.wire c.args.packets.now (kept_in c.in_ok-drivers.drivers.items)) c.args.frames.items c.in_ok-outcome.outcome
     exact (asked g c) c.in_ok-outcome.ensures.forwarded

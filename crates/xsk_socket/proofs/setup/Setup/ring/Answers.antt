@@ -2,7 +2,7 @@ use Rattle.std.proofs.Common.{rules, ◌≡◌, ◌∙◌, ◌<◌, None, true, 
 use Rattle.xsk_socket.specs.declared.socket.Socket.{Socket}
 use Rattle.xsk_socket.specs.Layout.{is_ring_size}
 use Rattle.xsk_socket.specs.Setup.{State, socket_at}
-use Rattle.xsk_socket.proofs.Accepted.{ring_size}
+use Rattle.xsk_model.proofs.RingSizes.{size_of_power}
 use Rattle.xsk_socket.proofs.Outcomes.{more_rings}
 use Rattle.xsk_socket.proofs.Setups.{more_ring, own_is}
 use Rattle.xsk_socket.proofs.setup.Setup.ring.Goals as goal
@@ -16,7 +16,7 @@ invariant_of-self c =
     let here : socket_at s.sockets c.args.socket ≡ own = own_is s.sockets c.args.socket own within c.index.ensures in
     let unbound : own.bound ≡ None = search rules in
     let size : is_ring_size c.args.size ≡ true = search rules in
-    rw c.with_ring.ensures (more_ring s c.args.socket c.args.size c.args.kind own c.self.invariant within here unbound (ring_size c.args.size size))
+    rw c.with_ring.ensures (more_ring s c.args.socket c.args.size c.args.kind own c.self.invariant within here unbound (size_of_power c.args.size size))
 
 pub returns-clause-calls : goal.returns-clause-calls
 returns-clause-calls c = λ calls stands.

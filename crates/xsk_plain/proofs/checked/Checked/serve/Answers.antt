@@ -3,28 +3,26 @@ use Rattle.xsk_model.specs.Asks.{joined_call, joined_reply}
 use Rattle.xsk_model.specs.Config.{Config, callers_of}
 use Rattle.xsk_model.specs.Entry.{own}
 use Rattle.xsk_model.specs.Legal.{IsLegal}
-use Rattle.xsk_model.specs.declared.call.Call.{Call}
 use Rattle.xsk_plain.specs.Engine.{Engine}
 use Rattle.xsk_plain.specs.Histories.{EachNotesOwn}
 use Rattle.xsk_plain.proofs.Running.{entry, legal_in, noted_at, each_next}
-use Rattle.xsk_plain.proofs.checked.Checked.perform.Goals as goal
+use Rattle.xsk_plain.proofs.checked.Checked.serve.Goals as goal
 
-pub serve_noted-answer-requires-clause-run : goal.serve_noted-answer-requires-clause-run
-serve_noted-answer-requires-clause-run c =
+pub serve_noted-requires-clause-run : goal.serve_noted-requires-clause-run
+serve_noted-requires-clause-run c =
     let inside = c.self.inside in
     let frames = c.self.invariant.frames in
     let h = c.self.invariant.history in
     let who = c.args.who in
     let callers = ap (λ (e : Engine). callers_of e.config) c.self.view_is in
     let within : who < length inside.standings.items = omega (arith, c.requires.legal.caller, callers, c.self.invariant.noted.count) in
-    let legal : IsLegal inside.plain.config (own who inside.plain.log) who c.args.call =
-    subst (λ (e : Engine). IsLegal e.config (own who e.log) who c.args.call) (sym c.self.view_is) c.requires.legal in (
+    let legal : IsLegal inside.plain.config (own who inside.plain.log) who (joined_call c.args.ask c.args.items.now) =
+    subst (λ (e : Engine). IsLegal e.config (own who e.log) who (joined_call c.args.ask c.args.items.now)) (sym c.self.view_is) c.requires.legal in (
       frames,
       h,
       c.self.invariant.run,
       noted_at inside.plain.config h inside.standings.items who c.index_mut-standing.result.now c.self.invariant.noted within c.index_mut-standing.ensures.value,
-      subst (λ (call : Call). IsLegal inside.plain.config (own who h) who call) (sym c.split-ask.ensures.call)
-          ((legal_in inside.plain frames h who c.args.call c.self.invariant.run).0 legal),
+      (legal_in inside.plain frames h who (joined_call c.args.ask c.args.items.now) c.self.invariant.run).0 legal,
     )
 
 pub invariant_of-self : goal.invariant_of-self
@@ -33,20 +31,19 @@ invariant_of-self c =
     let frames = c.self.invariant.frames in
     let h = c.self.invariant.history in
     let who = c.args.who in
-    let new = c.serve_noted-answer.new.plain in
-    let kept = c.serve_noted-answer.new.standing in
-    let call = joined_call c.split-ask.result c.split-ask.new.items in
-    let reply = joined_reply c.serve_noted-answer.result c.serve_noted-answer.new.items in
+    let new = c.serve_noted.new.plain in
+    let kept = c.serve_noted.new.standing in
+    let call = joined_call c.args.ask c.args.items.now in
+    let reply = joined_reply c.serve_noted.result c.serve_noted.new.items in
     let callers = ap (λ (e : Engine). callers_of e.config) c.self.view_is in
     let within : who < length inside.standings.items = omega (arith, c.requires.legal.caller, callers, c.self.invariant.noted.count) in
-    let legal : IsLegal inside.plain.config (own who inside.plain.log) who c.args.call =
-    subst (λ (e : Engine). IsLegal e.config (own who e.log) who c.args.call) (sym c.self.view_is) c.requires.legal in
+    let legal : IsLegal inside.plain.config (own who inside.plain.log) who (joined_call c.args.ask c.args.items.now) =
+    subst (λ (e : Engine). IsLegal e.config (own who e.log) who (joined_call c.args.ask c.args.items.now)) (sym c.self.view_is) c.requires.legal in
     let notes = noted_at inside.plain.config h inside.standings.items who c.index_mut-standing.result.now c.self.invariant.noted within c.index_mut-standing.ensures.value in
-    let made = c.serve_noted-answer.ensures.run frames h c.self.invariant.run notes
-    (subst (λ (k : Call). IsLegal inside.plain.config (own who h) who k) (sym c.split-ask.ensures.call)
-    ((legal_in inside.plain frames h who c.args.call c.self.invariant.run).0 legal)) in
+    let made = c.serve_noted.ensures.run frames h c.self.invariant.run notes
+    ((legal_in inside.plain frames h who (joined_call c.args.ask c.args.items.now) c.self.invariant.run).0 legal) in
     let noted : EachNotesOwn new.config h inside.standings.items =
-    subst (λ (k : Config). EachNotesOwn k h inside.standings.items) (sym c.serve_noted-answer.ensures.enters.config) c.self.invariant.noted in
+    subst (λ (k : Config). EachNotesOwn k h inside.standings.items) (sym c.serve_noted.ensures.enters.config) c.self.invariant.noted in
     record {
       frames = frames;
       history = h ++ entry who call reply ∷ [];
