@@ -18,5 +18,5 @@ payload_bytes-le c (Release r n) items is = omega arith
 payload_bytes-le c (Swap m value) items is = omega arith
 payload_bytes-le c (Look m) items is = omega arith
 
-pub returns : goal.returns
-returns c config ask is = rw c.len.ensures.value (payload_bytes-le config ask c.args.items.now is)
+pub returns-clause-enough : goal.returns-clause-enough
+returns-clause-enough c config ask is = rw c.len.ensures.value (payload_bytes-le config ask c.args.items.now is)
