@@ -26,6 +26,8 @@ const LAYOUT: Layout = Layout {
     sg: false,
     wakeup: false,
     empty: None,
+    close: None,
+    hands: 1,
 };
 
 pub fn configure<R: Print>(rt: &R, alloc: Global) -> Result<()> {
@@ -55,5 +57,8 @@ pub fn opened(alloc: Global, layout: &Layout) -> Result<(Config, Frames)>
         bail!("the UMEM has other frames");
     }
     let config = regular(alloc, geometry, layout)?;
+    if config.closing().is_some() {
+        bail!("the layout closes a socket");
+    }
     Ok((config, frames))
 }

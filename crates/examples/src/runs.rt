@@ -32,6 +32,8 @@ pub const LAYOUT: Layout = Layout {
     sg: false,
     wakeup: false,
     empty: None,
+    close: None,
+    hands: 1,
 };
 
 pub fn forward_a_packet<R: Print>(rt: &R, alloc: Global) -> Result<()> {

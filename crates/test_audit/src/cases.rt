@@ -1,5 +1,5 @@
 //! The cases: heads, texts, and what is found.
-use crate::setup::{layout_of, opened};
+use crate::setup::{opened, setting_of};
 use std::alloc::{AllocError, Global};
 use xsk_audit::{Verdicts, audit};
 use xsk_umem::OutOfMemory;
@@ -47,10 +47,10 @@ pub fn blocks_of(alloc: Global, blocks: &mut Vec<Block>, line: &str) -> Result<(
 /// The name of a case and what its audit finds.
 pub fn verdict_line(alloc: Global, block: &Block) -> Result<String, OutOfMemory> {
     let name = block.name();
-    let Some(layout) = layout_of(block.options()) else {
+    let Some(setting) = setting_of(block.options()) else {
         return Ok(format!(in alloc; "{name}: bad options")?);
     };
-    let Some((config, frames)) = opened(alloc, &layout) else {
+    let Some((config, frames)) = opened(alloc, &setting) else {
         return Ok(format!(in alloc; "{name}: refused")?);
     };
     let text = text_of(block);

@@ -10,6 +10,21 @@ use xsk_model::Config;
 use xsk_socket::{Layout, check_layout, regular};
 use xsk_umem::{Frames, Geometry, Umem};
 
+/// A layout, and a cell that holds another number than the layout's, if one does.
+#[derive(Clone, Copy)]
+pub struct Setting {
+    layout: Layout,
+    cell: Option<Cell>,
+}
+
+/// A cell of a port's XSKMAP: its place and its number.
+#[derive(Clone, Copy)]
+struct Cell {
+    port: u32,
+    index: u32,
+    value: u32,
+}
+
 /// What a case has where it says nothing.
 const DEFAULTS: Layout = Layout {
     ports: 2,
@@ -27,35 +42,50 @@ const DEFAULTS: Layout = Layout {
     sg: false,
     wakeup: false,
     empty: None,
+    close: None,
+    hands: 1,
 };
 
-/// The layout of a case's options, which are words and numbers.
-pub fn layout_of(options: &str) -> Option<Layout> {
-    let mut layout = DEFAULTS;
+/// The setup of a case's options, which are words and numbers.
+pub fn setting_of(options: &str) -> Option<Setting> {
+    let mut setting = Setting {
+        layout: DEFAULTS,
+        cell: None,
+    };
     let mut words = options.split_whitespace();
     for _word in 0..100 {
         let Some(word) = words.next() else {
-            layout.files = 2 * layout.ports.min(4);
-            return Some(layout);
+            setting.layout.files = 2 * setting.layout.ports.min(4);
+            return Some(setting);
         };
         if word != "cut" {
-            set(&mut layout, word, &mut words)?;
+            set(&mut setting, word, &mut words)?;
         }
     }
     None
 }
 
-fn set(layout: &mut Layout, word: &str, words: &mut SplitWhitespace<'_>) -> Option<()> {
-    if word == "sg" {
-        layout.sg = true;
-        return Some(());
+fn set(setting: &mut Setting, word: &str, words: &mut SplitWhitespace<'_>) -> Option<()> {
+    match word {
+        "sg" => setting.layout.sg = true,
+        "wakeup" => setting.layout.wakeup = true,
+        "cell" => setting.cell = Some(cell_of(words)?),
+        _ => set_number(&mut setting.layout, word, number(words)?)?,
     }
-    if word == "wakeup" {
-        layout.wakeup = true;
-        return Some(());
-    }
-    let number = words.next()?.parse::<u32>().ok()?;
-    set_number(layout, word, number)
+    Some(())
+}
+
+/// The cell of three numbers: its port, its place there, and what it holds.
+fn cell_of(words: &mut SplitWhitespace<'_>) -> Option<Cell> {
+    Some(Cell {
+        port: number(words)?,
+        index: number(words)?,
+        value: number(words)?,
+    })
+}
+
+fn number(words: &mut SplitWhitespace<'_>) -> Option<u32> {
+    words.next()?.parse::<u32>().ok()
 }
 
 fn set_number(layout: &mut Layout, word: &str, number: u32) -> Option<()> {
@@ -71,24 +101,45 @@ fn set_number(layout: &mut Layout, word: &str, number: u32) -> Option<()> {
         "fill" => layout.fill = number,
         "comp" => layout.comp = number,
         "empty" => layout.empty = Some(number),
+        "close" => layout.close = Some(number),
         _ => return None,
     }
     Some(())
 }
 
-/// The configuration and the frames of a layout, if it is accepted and there is memory for it.
-pub fn opened(alloc: Global, layout: &Layout) -> Option<(Config, Frames)>
+/// The configuration and the frames of a setup, if it is accepted and there is memory for it.
+pub fn opened(alloc: Global, setting: &Setting) -> Option<(Config, Frames)>
     ensures lawful { IfSome result (λ made. IsLawful made.0) }
     ensures frames { IfSome result (λ made. AreFrames made.0.geometry made.1.items) }
 {
+    let layout = &setting.layout;
     if check_layout(layout).is_err() {
         return None;
     }
     let (geometry, frames) = register(alloc, layout)?;
-    match regular(alloc, geometry, layout) {
-        Ok(config) => Some((config, frames)),
-        Err(_) => None,
+    let Ok(mut config) = regular(alloc, geometry, layout) else {
+        return None;
+    };
+    if let Some(cell) = setting.cell {
+        set_cell(&mut config, cell)?;
     }
+    Some((config, frames))
+}
+
+/// Sets a cell, if it is there and its number is a socket's, counted from 1, or 0.
+fn set_cell(config: &mut Config, cell: Cell) -> Option<()>
+    ensures lawful { IsLawful config.old → IsLawful config.new }
+    ensures geometry { config.new.geometry ≡ config.old.geometry }
+{
+    let value = u64::from(cell.value);
+    if cell.port >= config.ports() || cell.index >= config.cells(cell.port) {
+        return None;
+    }
+    if value > config.sockets().len() as u64 {
+        return None;
+    }
+    config.set_cell(cell.port, cell.index, value);
+    Some(())
 }
 
 /// The UMEM of an accepted layout: its geometry and its frames.

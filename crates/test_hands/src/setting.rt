@@ -12,7 +12,9 @@ use xsk_socket::{Layout, check_layout, regular};
 use xsk_table::{Pass, Passes, Shared};
 use xsk_umem::{Frames, Geometry, Umem};
 
-fn layout(wakeup: bool) -> Layout {
+fn layout(wakeup: bool) -> Layout
+    ensures { result.close ≡ None }
+{
     Layout {
         ports: 2,
         queues: 1,
@@ -29,6 +31,8 @@ fn layout(wakeup: bool) -> Layout {
         sg: false,
         wakeup,
         empty: None,
+        close: None,
+        hands: 1,
     }
 }
 

@@ -31,6 +31,8 @@ pub(crate) fn layout(queues: u32, entries: u32) -> Layout {
         sg: false,
         wakeup: false,
         empty: None,
+        close: None,
+        hands: 1,
     }
 }
 
@@ -44,6 +46,9 @@ pub(crate) fn set_up(alloc: Global, layout: &Layout) -> Result<(Config, Frames),
     }
     let (geometry, frames) = register(alloc, layout)?;
     let config = regular(alloc, geometry, layout)?;
+    if config.closing().is_some() {
+        return Err("the layout closes a socket")?;
+    }
     Ok((config, frames))
 }
 

@@ -63,6 +63,10 @@ fn tell_options(config: &Config, told: &mut Told) {
     if config.wakeup() {
         told.say(", wakeup");
     }
+    if let Some(socket) = config.closing() {
+        told.say(", closing ");
+        told.number(socket);
+    }
 }
 
 /// Each socket's port and queue, and the sizes of its RX and TX.

@@ -32,6 +32,8 @@ pub const LEAST: Layout = Layout {
     sg: false,
     wakeup: false,
     empty: None,
+    close: None,
+    hands: 1,
 };
 
 #[derive(Drop)]
@@ -144,6 +146,8 @@ fn change(layout: &mut Layout, word: &str, number: u32) -> Result<(), Fault> {
         "sg" => layout.sg = number == 1,
         "wakeup" => layout.wakeup = number == 1,
         "empty" => layout.empty = Some(number),
+        "close" => layout.close = Some(number),
+        "hands" => layout.hands = number,
         _ => return Err(Fault::BadLine),
     }
     Ok(())

@@ -23,6 +23,8 @@ const PLAIN: Layout = Layout {
     sg: false,
     wakeup: false,
     empty: None,
+    close: None,
+    hands: 1,
 };
 
 /// The layout of a script, which is accepted.

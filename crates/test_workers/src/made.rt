@@ -21,6 +21,9 @@ pub(crate) fn set_up(alloc: Global, lines: &[Line<'_>]) -> Result<(Config, Frame
     let layout = layout_of(lines)?;
     let (geometry, frames) = register(alloc, &layout)?;
     let config = regular(alloc, geometry, &layout)?;
+    if config.closing().is_some() {
+        return Err(Trouble::BadLayout);
+    }
     Ok((config, frames))
 }
 

@@ -47,7 +47,7 @@ none_stalls : (work : Work) (inputs : List (List ℕ)) (round : ℕ) → fault_i
 none_stalls (Simulate layout programs wire mangle order number journal format) inputs round accepted ample is =
     let lists = is.1.0 in
     let run = is.1.2.1 in
-    none_stands_still (setting_of layout programs wire mangle lists) (frames_of layout) order round (record { regular = regular-regular layout (fits layout accepted); closes = refl }) (ample_room layout ample.1) (ap manner_of ample.0)
+    none_stands_still (setting_of layout programs wire mangle lists) (frames_of layout) order round (record { regular = regular-regular layout (fits layout accepted); closes = ample.1 }) (ample_room layout ample.2) (ap manner_of ample.0)
     (record { past = run.past; still = run.still })
 none_stalls (Generate number) inputs round accepted ample is = is.1.2.1
 none_stalls (Audit layout) inputs round accepted ample is = is.1.1

@@ -43,16 +43,18 @@ some_files said enough accepted none =
     omega (arith, files_named said enough accepted, ap (λ o. length (unwrap_or o [])) none, some_format (format_of said) (ports_of said) ports)
 
 -- the plan that words ask for wants the files that they name
-ready_by : (layout : Layout) (programs : List Program) (wire : Wire) (mangle : Option ℕ) (order : ℕ) (number : Option ℕ) (journal : Bool) (format : Format) (files : List Text) → fault_of layout ≡ None
+ready_by : (layout : Layout) (programs : List Program) (wire : Wire) (mangle : Option ℕ) (order : ℕ) (number : Option ℕ) (journal : Bool) (format : Format) (files : List Text) → fault_of layout ≡ None → layout.close ≡ None
     → length files ≡ cond (is_some number) 0 (files_of format layout.ports) + files_of format layout.ports
     → IsReady (record { inputs = take (cond (is_some number) 0 (files_of format layout.ports)) files; outputs = drop (cond (is_some number) 0 (files_of format layout.ports)) files; work = Simulate layout programs wire mangle order number journal format })
-ready_by layout programs wire mangle order None journal format files accepted count = record {
+ready_by layout programs wire mangle order None journal format files accepted closes count = record {
   accepted = accepted;
+  closes = closes;
   inputs = length-take-le (files_of format layout.ports) files (omega (arith, count));
   outputs = omega (arith, length-drop (files_of format layout.ports) files, count);
 }
-ready_by layout programs wire mangle order (Some n) journal format files accepted count = record {
+ready_by layout programs wire mangle order (Some n) journal format files accepted closes count = record {
   accepted = accepted;
+  closes = closes;
   inputs = refl;
   outputs = omega (arith, count);
 }
@@ -61,7 +63,7 @@ pub plan_ready : (said : Meaning) (plan : Plan) → has_files said ≡ true → 
 plan_ready said plan enough is accepted =
     let none : fault_of (layout_by said) ≡ None = subst (λ (p : Plan). fault_in p.work ≡ None) is accepted in
     subst IsReady (sym is)
-    (ready_by (layout_by said) (program_of said) (wire_of said) (number_of said (codes "mangle")) (number_or said (codes "order") 0) (number_of said (codes "gen")) (is_some (said (codes "journal"))) (format_of said) (files_in said) none (files_named said enough none))
+    (ready_by (layout_by said) (program_of said) (wire_of said) (number_of said (codes "mangle")) (number_or said (codes "order") 0) (number_of said (codes "gen")) (is_some (said (codes "journal"))) (format_of said) (files_in said) none refl (files_named said enough none))
 
 -- the plan of words with as many files as they want, and none of others
 pub has_plan : (said : Meaning) (meant : Option Meaning) → meant ≡ Some said → has_files said ≡ true → option_and_then planned_by meant ≡ Some (plan_by said)

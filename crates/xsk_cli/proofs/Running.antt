@@ -72,7 +72,7 @@ driver_known ports queues port queue in_ports in_queues = below port queues queu
 
 -- ---- a history in which all runs are whole, and the lists that are shown of it
 
-module _ (layout : Layout) (programs : List Program) (wire : Wire) (mangle : Option ℕ) (lists : List (List (List ℕ))) (accepted : fault_of layout ≡ None) (history : List Entry) (legal : IsHistory (regular_of layout) (frames_of layout) history)
+module _ (layout : Layout) (programs : List Program) (wire : Wire) (mangle : Option ℕ) (lists : List (List (List ℕ))) (accepted : fault_of layout ≡ None) (closes : layout.close ≡ None) (history : List Entry) (legal : IsHistory (regular_of layout) (frames_of layout) history)
     (whole : (who : ℕ) → who < callers_of (regular_of layout) → IsWholeRun (setting_of layout programs wire mangle lists) who (own who history)) (all : List (List (List ℕ)))
     (each : (pair : ℕ) → pair < length (regular_of layout).pairs → get_or all pair [] ≡ sent (regular_of layout) history pair) where
   abbrev config : Config
@@ -87,7 +87,7 @@ module _ (layout : Layout) (programs : List Program) (wire : Wire) (mangle : Opt
   -- all workers have whole runs
   whole_runs : AreWholeRuns manner (wire_by wire) config (map listed lists) verdicts (frames_of layout) history
   whole_runs = record {
-    steady = record { regular = regular-regular layout (fits layout accepted); closes = refl };
+    steady = record { regular = regular-regular layout (fits layout accepted); closes = closes };
     history = legal;
     drivers = λ d below. (whole d (omega (arith, below))).driver below;
     apps = λ a below. (whole (caller_of config a) (omega (arith, below))).app a refl;
@@ -179,7 +179,7 @@ module _ (layout : Layout) (programs : List Program) (wire : Wire) (mangle : Opt
 
 -- ---- a run in rounds that has ended
 
-module _ (layout : Layout) (programs : List Program) (wire : Wire) (mangle : Option ℕ) (order : ℕ) (lists : List (List (List ℕ))) (accepted : fault_of layout ≡ None) (run : Shown) (ended : HasEnded (setting_of layout programs wire mangle lists) (frames_of layout) order run)
+module _ (layout : Layout) (programs : List Program) (wire : Wire) (mangle : Option ℕ) (order : ℕ) (lists : List (List (List ℕ))) (accepted : fault_of layout ≡ None) (closes : layout.close ≡ None) (run : Shown) (ended : HasEnded (setting_of layout programs wire mangle lists) (frames_of layout) order run)
     (pairs : length run.sent ≡ pairs_in layout) where
   pub texts_of : (format : Format) (journal : Bool) (texts : Written)
       → texts.outputs ≡ outputs_of format (λ port. take layout.queues (drop (port * layout.queues) run.sent)) (range_with_len 0 layout.ports)
@@ -191,7 +191,7 @@ module _ (layout : Layout) (programs : List Program) (wire : Wire) (mangle : Opt
         run = run;
         ended = ended;
         are =
-            texts_in layout programs wire mangle lists accepted ended.history ended.is.legal ended.whole run.sent ended.sent pairs format (told_of layout programs wire mangle lists journal ended.history) texts outputs
+            texts_in layout programs wire mangle lists accepted closes ended.history ended.is.legal ended.whole run.sent ended.sent pairs format (told_of layout programs wire mangle lists journal ended.history) texts outputs
             (report ∙ ap (λ figures. report_text config figures ++ (if journal then journal_of run.pairs run.log else [])) ended.figures
             ∙ ap (λ n. report_of layout programs wire mangle lists ended.history ++ (if journal then journal_of n run.log else [])) (drivers ∙ sym (pairs_are layout))
             ∙ ap (λ h. report_of layout programs wire mangle lists ended.history ++ (if journal then journal_of (length config.pairs) h else [])) ended.log
@@ -201,27 +201,27 @@ module _ (layout : Layout) (programs : List Program) (wire : Wire) (mangle : Opt
 
   pub sent_writable : length lists ≡ layout.ports → excess_of lists ≡ None → ((pair : ℕ) → pair < length run.sent → All IsShort (get_or run.sent pair [])) → (port count : ℕ) → port < layout.ports → count ≤ layout.queues
       → IsWritable (take count (drop (port * layout.queues) run.sent))
-  sent_writable count_is within each_short = all_writable layout programs wire mangle lists accepted ended.history ended.is.legal ended.whole run.sent ended.sent pairs count_is within each_short
+  sent_writable count_is within each_short = all_writable layout programs wire mangle lists accepted closes ended.history ended.is.legal ended.whole run.sent ended.sent pairs count_is within each_short
 
   pub sent_in_file : length lists ≡ layout.ports → excess_of lists ≡ None → ((pair : ℕ) → pair < length run.sent → All IsShort (get_or run.sent pair [])) → IsWritableFile (joined layout.ports layout.queues run.sent)
-  sent_in_file count_is within each_short = all_in_file layout programs wire mangle lists accepted ended.history ended.is.legal ended.whole run.sent ended.sent pairs count_is within each_short
+  sent_in_file count_is within each_short = all_in_file layout programs wire mangle lists accepted closes ended.history ended.is.legal ended.whole run.sent ended.sent pairs count_is within each_short
 
 -- ---- a run on threads
 
-module _ (layout : Layout) (programs : List Program) (wire : Wire) (lists : List (List (List ℕ))) (accepted : fault_of layout ≡ None) (o : OutcomeShown) (shown : HasForwarded (setting_of layout programs wire None lists) (frames_of layout) o)
+module _ (layout : Layout) (programs : List Program) (wire : Wire) (lists : List (List (List ℕ))) (accepted : fault_of layout ≡ None) (closes : layout.close ≡ None) (o : OutcomeShown) (shown : HasForwarded (setting_of layout programs wire None lists) (frames_of layout) o)
     (pairs : length o.sent ≡ pairs_in layout) where
   pub texts_shown : (format : Format) (texts : Written)
       → texts.outputs ≡ outputs_of format (λ port. take layout.queues (drop (port * layout.queues) o.sent)) (range_with_len 0 layout.ports)
       → texts.report ≡ report_text (regular_of layout) o.figures → AreTextsIn format layout programs wire None lists o.history (report_of layout programs wire None lists o.history) texts
   texts_shown format texts outputs report =
-      texts_in layout programs wire None lists accepted o.history shown.legal shown.whole o.sent shown.sent pairs format (report_of layout programs wire None lists o.history) texts outputs (report ∙ ap (report_text (regular_of layout)) shown.figures)
+      texts_in layout programs wire None lists accepted closes o.history shown.legal shown.whole o.sent shown.sent pairs format (report_of layout programs wire None lists o.history) texts outputs (report ∙ ap (report_text (regular_of layout)) shown.figures)
 
   pub shown_writable : length lists ≡ layout.ports → excess_of lists ≡ None → ((pair : ℕ) → pair < length o.sent → All IsShort (get_or o.sent pair [])) → (port count : ℕ) → port < layout.ports → count ≤ layout.queues
       → IsWritable (take count (drop (port * layout.queues) o.sent))
-  shown_writable count_is within each_short = all_writable layout programs wire None lists accepted o.history shown.legal shown.whole o.sent shown.sent pairs count_is within each_short
+  shown_writable count_is within each_short = all_writable layout programs wire None lists accepted closes o.history shown.legal shown.whole o.sent shown.sent pairs count_is within each_short
 
   pub shown_in_file : length lists ≡ layout.ports → excess_of lists ≡ None → ((pair : ℕ) → pair < length o.sent → All IsShort (get_or o.sent pair [])) → IsWritableFile (joined layout.ports layout.queues o.sent)
-  shown_in_file count_is within each_short = all_in_file layout programs wire None lists accepted o.history shown.legal shown.whole o.sent shown.sent pairs count_is within each_short
+  shown_in_file count_is within each_short = all_in_file layout programs wire None lists accepted closes o.history shown.legal shown.whole o.sent shown.sent pairs count_is within each_short
 
 -- so it is one of the command's setting
 pub forwarded_as : (layout : Layout) (programs : List Program) (wire : Wire) (c : Config) (own : List PacketList) (fs : List Frame) (lists : List (List (List ℕ))) (o : OutcomeShown) → c ≡ regular_of layout → own ≡ map listed lists

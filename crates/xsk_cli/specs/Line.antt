@@ -8,7 +8,7 @@ use Rattle.xsk_pcap.specs.declared.reading.BadCapture.TheVariants.{ShortHeader, 
 use Rattle.xsk_pcapng.specs.declared.reading.BadPcapng.{BadPcapng as FileCause}
 use Rattle.xsk_pcapng.specs.declared.reading.BadPcapng.TheVariants.{ShortHeader as NoHeader, BadMagic as BadFileMagic, BadVersion as BadFileVersion, Truncated as CutShort, BadBlock, SecondSection, BadLink as BadFileLink, TooManyInterfaces, OtherPacket, NoInterface, RecordTooLong as PacketTooLong, OutOfMemory as NoFileMemory}
 use Rattle.xsk_socket.specs.declared.layout.Unlawful.{Unlawful}
-use Rattle.xsk_socket.specs.declared.layout.Unlawful.TheVariants.{Ports, Queues, Sockets, Files, Chunk, Headroom, Frames, Rx, Tx, Fill, Comp, Pool, Empty}
+use Rattle.xsk_socket.specs.declared.layout.Unlawful.TheVariants.{Ports, Queues, Sockets, Files, Chunk, Headroom, Frames, Rx, Tx, Fill, Comp, Pool, Empty, Close, Hands}
 use Rattle.xsk_cli.specs.declared.status.Excess.{Excess}
 use Rattle.xsk_cli.specs.declared.status.Excess.TheVariants.{Input as TooLong, Packets, Bytes}
 use Rattle.xsk_cli.specs.declared.status.Status.{Status}
@@ -61,6 +61,8 @@ unlawful_text (Fill n) = codes "fill " ++ decimal n
 unlawful_text (Comp n) = codes "comp " ++ decimal n
 unlawful_text (Pool n) = codes "pool " ++ decimal n
 unlawful_text (Empty n) = codes "empty " ++ decimal n
+unlawful_text (Close n) = codes "close " ++ decimal n
+unlawful_text (Hands n) = codes "hands " ++ decimal n
 
 abbrev pub status_text : Status → List ℕ
 status_text Done = codes "done"

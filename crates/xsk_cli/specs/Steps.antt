@@ -21,7 +21,7 @@ use Rattle.xsk_args.specs.declared.error.ArgsError.{ArgsError}
 use Rattle.xsk_args.specs.declared.error.ArgsError.TheVariants.{Usage as IsUsage, OutOfMemory as ArgsMemory}
 use Rattle.xsk_cli.specs.declared.texts.Texts.{Texts}
 use Rattle.xsk_cli.specs.declared.words.Plan.{Plan as CodePlan}
-use Rattle.xsk_cli.specs.Words.{Plan, fault_in, no_plan}
+use Rattle.xsk_cli.specs.Words.{Plan, closed_in, fault_in, no_plan}
 use Rattle.xsk_cli.specs.Cause.{IsCaused, NeverFalls, NoOthers}
 use Rattle.xsk_cli.specs.Ends.{Ends}
 use Rattle.xsk_cli.specs.declared.words.Work.{Work}
@@ -55,9 +55,10 @@ written_by (Simulate layout programs wire mangle order number journal format) = 
 written_by (Generate number) = 1
 written_by (Audit layout) = 0
 
--- a plan whose work is accepted, with as many files as it wants
+-- a plan whose work is accepted and closes no socket, with as many files as it wants
 pub record IsReady (plan : Plan) : Type 0 where
   pub accepted : fault_in plan.work ≡ None
+  pub closes : closed_in plan.work ≡ None
   pub inputs : length plan.inputs ≡ read_by plan.work
   pub outputs : length plan.outputs ≡ written_by plan.work
 

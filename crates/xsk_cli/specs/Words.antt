@@ -120,6 +120,8 @@ layout_by said = record {
   sg = is_some (said (codes "sg"));
   wakeup = is_some (said (codes "wakeup"));
   empty = number_of said (codes "empty");
+  close = None;
+  hands = 1;
 }
 
 -- the files are an input for each port, or one of pcapng, but where the packets are made, and then as many outputs
@@ -172,6 +174,7 @@ audit_options =
     ∷ (codes "fill", Number)
     ∷ (codes "comp", Number)
     ∷ (codes "empty", Number)
+    ∷ (codes "close", Number)
     ∷ (codes "sg", Nothing)
     ∷ (codes "wakeup", Nothing)
     ∷ []
@@ -180,9 +183,13 @@ audit_options =
 abbrev pub without_files : Layout → Layout
 without_files layout = record layout { files = 0; files_wanted_per_port = 0 }
 
+-- with the socket that the run of the journal was to close
+abbrev pub audited_by : Meaning → Layout
+audited_by said = record (without_files (layout_by said)) { close = number_of said (codes "close") }
+
 -- the one file is the journal
 abbrev pub audit_plan_by : Meaning → List Text → Option Plan
-audit_plan_by said (file ∷ []) = Some (record { inputs = file ∷ []; outputs = []; work = Audit (without_files (layout_by said)) })
+audit_plan_by said (file ∷ []) = Some (record { inputs = file ∷ []; outputs = []; work = Audit (audited_by said) })
 audit_plan_by said _ = None
 
 abbrev pub audit_plan : List Text → Option Plan
@@ -202,6 +209,12 @@ abbrev pub fault_in : Work → Option Unlawful
 fault_in (Simulate layout programs wire mangle order number journal format) = fault_of layout
 fault_in (Generate number) = None
 fault_in (Audit layout) = fault_of layout
+
+-- the socket that is closed in its run, if one is
+abbrev pub closed_in : Work → Option ℕ
+closed_in (Simulate layout programs wire mangle order number journal format) = layout.close
+closed_in (Generate number) = None
+closed_in (Audit layout) = None
 
 -- how many ports have packets
 abbrev pub ports_in : Work → ℕ

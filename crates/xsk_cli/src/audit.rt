@@ -7,7 +7,7 @@ ghost use Rattle.xsk_socket.specs.Layout.{fault_of};
 ghost use Rattle.xsk_cli.specs.Outcome.{IsAudited, legal_text, made};
 ghost use Rattle.xsk_cli.specs.Steps.{Comes, FailsAudit, written_in};
 ghost use Rattle.xsk_cli.specs.Streams.{status_in};
-ghost use Rattle.xsk_cli.specs.Words.{audit_plan, files_in, layout_by, without_files};
+ghost use Rattle.xsk_cli.specs.Words.{audit_plan, audited_by, files_in};
 
 use crate::Status;
 use crate::failure::RunFailure;
@@ -24,7 +24,7 @@ use xsk_socket::{Layout, Unlawful, check_layout};
 use xsk_umem::OutOfMemory;
 
 /// The options of `audit`: those of `simulate` that make the configuration.
-const AUDIT_OPTIONS: [OptionRow; 13] = [
+const AUDIT_OPTIONS: [OptionRow; 14] = [
     OptionRow {
         name: "ports",
         takes: Takes::Number,
@@ -70,6 +70,10 @@ const AUDIT_OPTIONS: [OptionRow; 13] = [
         takes: Takes::Number,
     },
     OptionRow {
+        name: "close",
+        takes: Takes::Number,
+    },
+    OptionRow {
         name: "sg",
         takes: Takes::Nothing,
     },
@@ -112,15 +116,16 @@ fn one_file<'w>(args: &Args<'w>) -> Option<&'w str>
     }
 }
 
-/// The layout that was asked for, unless it is refused. It wants no files.
+/// The layout that was asked for, with the socket to close, unless it is refused. It wants no files.
 fn audited_layout(args: &Args<'_>) -> Result<Layout, Unlawful>
-    ensures layout { IfOk result (λ layout. layout ≡ without_files (layout_by (under args.now))) }
+    ensures layout { IfOk result (λ layout. layout ≡ audited_by (under args.now)) }
     ensures accepted { IfOk result (λ layout. fault_of layout ≡ None) }
-    ensures refused { IfErr result (λ unlawful. fault_of (without_files (layout_by (under args.now))) ≡ Some unlawful) }
+    ensures refused { IfErr result (λ unlawful. fault_of (audited_by (under args.now)) ≡ Some unlawful) }
 {
     let mut layout = layout_of(args);
     layout.files = 0;
     layout.files_wanted_per_port = 0;
+    layout.close = args.number("close");
     check_layout(&layout)?;
     Ok(layout)
 }

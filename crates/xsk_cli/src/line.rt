@@ -176,6 +176,8 @@ fn push_unlawful(line: &mut ArrayString<96>, unlawful: Unlawful)
         Unlawful::Comp(value) => push_named(line, "comp ", value),
         Unlawful::Pool(value) => push_named(line, "pool ", value),
         Unlawful::Empty(value) => push_named(line, "empty ", value),
+        Unlawful::Close(value) => push_named(line, "close ", value),
+        Unlawful::Hands(value) => push_named(line, "hands ", value),
     }
 }
 

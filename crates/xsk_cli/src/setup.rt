@@ -1,11 +1,11 @@
 //! The configuration of a simulation and the frames of its UMEM.
 ghost use Rattle.std.specs.Prelude.{◌≡◌, ◌/◌, None, IfOk};
+ghost use Rattle.xsk_model.specs.Config.{IsRegular};
 ghost use Rattle.xsk_model.specs.Opening.{AreFrames};
 ghost use Rattle.xsk_umem.specs.Registration.{fresh};
 ghost use Rattle.xsk_socket.specs.Layout.{fault_of, geometry_of};
 ghost use Rattle.xsk_socket.specs.Regular.{regular_of};
 ghost use Rattle.xsk_cli.specs.Outcome.{frames_of};
-ghost use Rattle.xsk_turns.specs.Owned.{IsSteady};
 
 use std::alloc::Global;
 use xsk_model::Config;
@@ -16,7 +16,7 @@ use xsk_umem::{Frames, Geometry, OutOfMemory, Umem};
 pub(crate) fn set_up(alloc: Global, layout: &Layout) -> Result<(Config, Frames), OutOfMemory>
     requires { fault_of layout.now ≡ None }
     ensures config { IfOk result (λ made. made.0 ≡ regular_of layout.now) }
-    ensures steady { IfOk result (λ made. IsSteady made.0) }
+    ensures regular { IfOk result (λ made. IsRegular made.0) }
     ensures frames { IfOk result (λ made. made.1.items ≡ frames_of layout.now) }
     ensures known { IfOk result (λ made. AreFrames (geometry_of layout.now) made.1.items) }
 {

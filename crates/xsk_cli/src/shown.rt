@@ -18,7 +18,7 @@ ghost use Rattle.xsk_cli.specs.Judged.{excess_of};
 ghost use Rattle.xsk_cli.specs.Lent.{IsLent};
 ghost use Rattle.xsk_cli.specs.Outcome.{AreTextsIn, frames_of, listed, report_of, setting_of};
 ghost use Rattle.xsk_cli.specs.Steps.{lists_in, written_in};
-ghost use Rattle.xsk_cli.specs.Words.{fault_in, ports_in};
+ghost use Rattle.xsk_cli.specs.Words.{closed_in, fault_in, ports_in};
 
 use crate::failure::RunFailure;
 use crate::files::{file_texts, spare_text};
@@ -52,6 +52,7 @@ pub(crate) fn make_shown<R: Threads + Wait + Sync, G: Gate + Sync>(
     outcome: &mut Option<Outcome>,
 ) -> Result<Lent, RunFailure>
     requires accepted { fault_in work.now ≡ None }
+    requires closes { closed_in work.now ≡ None }
     requires runs { IsRun work.now }
     requires ports { length lists.items ≡ ports_in work.now }
     requires within { excess_of (lists_in lists.items) ≡ None }
@@ -91,6 +92,7 @@ fn run_shown<R: Threads + Wait + Sync, G: Gate + Sync>(
     outcome: &mut Option<Outcome>,
 ) -> Result<Lent, RunFailure>
     requires accepted { fault_of layout.now ≡ None }
+    requires closes { layout.now.close ≡ None }
     requires ports { length lists.items ≡ layout.now.ports }
     requires within { excess_of (lists_in lists.items) ≡ None }
     requires listed { lists.items ≡ map listed (lists_in lists.items) }

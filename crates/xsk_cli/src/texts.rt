@@ -10,7 +10,7 @@ ghost use Rattle.xsk_cli.specs.Format.{joined, outputs_of};
 ghost use Rattle.xsk_cli.specs.Judged.{excess_of};
 ghost use Rattle.xsk_cli.specs.Outcome.{AreTextsBy, AreTextsOf, IsOnPackets, capture_of, frames_of, listed, made_lists, setting_of, wire_by};
 ghost use Rattle.xsk_cli.specs.Steps.{FailsMaking, FailsRunning, lists_in, written_by, written_in};
-ghost use Rattle.xsk_cli.specs.Words.{fault_in, ports_in};
+ghost use Rattle.xsk_cli.specs.Words.{closed_in, fault_in, ports_in};
 ghost use Rattle.xsk_cli.specs.declared.words.Work.TheVariants.{Generate};
 ghost use Rattle.xsk_model.specs.Config.{IsRegular};
 ghost use Rattle.xsk_turns.specs.Owned.{IsSteady};
@@ -54,6 +54,7 @@ pub(crate) fn make_texts(
     lists: Vec<PacketList>,
 ) -> Result<Texts, RunFailure>
     requires accepted { fault_in work.now ≡ None }
+    requires closes { closed_in work.now ≡ None }
     requires packets { IsOnPackets work.now }
     requires ports { length lists.items ≡ ports_in work.now }
     requires within { excess_of (lists_in lists.items) ≡ None }
@@ -95,6 +96,7 @@ fn run_texts(
     lists: Vec<PacketList>,
 ) -> Result<Texts, RunFailure>
     requires accepted { fault_of layout.now ≡ None }
+    requires closes { layout.now.close ≡ None }
     requires ports { length lists.items ≡ layout.now.ports }
     requires within { excess_of (lists_in lists.items) ≡ None }
     requires listed { lists.items ≡ map listed (lists_in lists.items) }

@@ -165,6 +165,8 @@ pub(crate) fn layout_of(args: &Args<'_>) -> Layout
         sg: args.is_said("sg"),
         wakeup: args.is_said("wakeup"),
         empty: args.number("empty"),
+        close: None,
+        hands: 1,
     }
 }
 

@@ -1,15 +1,15 @@
 -- What holds of an accepted layout.
-use Rattle.std.proofs.Common.{◌≡◌, ℕ, zero, suc, ◌+◌, ◌%◌, ◌^◌, ◌<◌, ◌≤◌, ◌⊎◌, ◌*◌, ◌&&◌, ◌||◌, true, eqb, ltb, leb, List, [], ◌∷◌, ◌++◌, refl, arith, Option, None, Some, subst, inl, inr}
-use Rattle.std.specs.Prelude.{IsSome}
+use Rattle.std.proofs.Common.{◌≡◌, ℕ, zero, suc, ◌+◌, ◌%◌, ◌^◌, ◌<◌, ◌≤◌, ◌⊎◌, ◌*◌, ◌&&◌, ◌||◌, true, eqb, ltb, leb, List, [], ◌∷◌, ◌++◌, refl, arith, Option, None, Some, subst, sym, ◌∙◌, inl, inr}
+use Rattle.std.specs.Prelude.{IfSome, IsSome}
 use Rattle.std.specs.List.{list_any, range_with_len}
-use Rattle.std.proofs.lemmas.Bool.{cases_Bool, eqb-true}
+use Rattle.std.proofs.lemmas.Bool.{cases_Bool, eqb-true, ltb-true}
 use Rattle.std.proofs.lemmas.Bool.Decides.{nat_tests}
 use Rattle.std.proofs.Math.Nat.{pow-le-pow_right}
 use Rattle.xsk_model.specs.Config.{IsRingSize}
 use Rattle.xsk_socket.specs.declared.layout.Layout.{Layout}
 use Rattle.xsk_socket.specs.declared.layout.Unlawful.{Unlawful}
 use Rattle.xsk_socket.specs.Fits.{Fits, IsCount}
-use Rattle.xsk_socket.specs.Layout.{Demand, demands, fault_of, first_unmet, is_count, is_port_count, is_ring_size, pairs_in, pool_in}
+use Rattle.xsk_socket.specs.Layout.{Demand, fault_of, first_unmet, is_count, is_port_count, on_close, on_counts, on_empty, on_hands, on_rings, on_umem, pairs_in, pool_in, cells_in, sockets_in}
 use Rattle.xsk_model.proofs.RingSizes.{size_of_power}
 
 -- each demand is met
@@ -55,10 +55,40 @@ unmet_before (d ∷ xs) ys r some is =
       | inr fails ↦ rw fails (rw fails at is)
     ]
 
+-- of two lists of demands that are met both are
+met_first : (xs ys : List Demand) → first_unmet (xs ++ ys) ≡ None → first_unmet xs ≡ None
+met_first [] ys none = refl
+met_first (d ∷ xs) ys none =
+    elim (cases_Bool d.0) [
+      | inl holds ↦ rw holds (met_first xs ys (rw holds at none))
+      | inr fails ↦ let some : Some d.1 ≡ None = rw fails at none in absurd (cc)
+    ]
+
+met_last : (xs ys : List Demand) → first_unmet (xs ++ ys) ≡ None → first_unmet ys ≡ None
+met_last xs ys none = sym (met_before xs ys (met_first xs ys none)) ∙ none
+
+-- those that the counts, the UMEM and the rings have to meet
+abbrev sizes : Layout → List Demand
+sizes l = on_counts l ++ on_umem l ++ on_rings l
+
+abbrev choices : Layout → List Demand
+choices l = sizes l ++ on_empty l.empty (cells_in l) ++ on_close l.close (sockets_in l)
+
+met_sizes : (l : Layout) → fault_of l ≡ None → AreMet (sizes l)
+met_sizes l none =
+    met (sizes l)
+    (met_first (sizes l) (on_empty l.empty (cells_in l))
+    (met_first (sizes l ++ on_empty l.empty (cells_in l)) (on_close l.close (sockets_in l)) (met_first (choices l) (on_hands l) none)))
+
+closed_within : (close : Option ℕ) (sockets : ℕ) → first_unmet (on_close close sockets) ≡ None → IfSome close (λ s. s < sockets)
+unfolding AreMet
+closed_within None sockets none = tt
+closed_within (Some socket) sockets none = ltb-true socket sockets (met (on_close (Some socket) sockets) none).0
+
 pub fits : (l : Layout) → fault_of l ≡ None → Fits l
 unfolding AreMet
 fits l none =
-    let all = met (demands l) none in
+    let all = met_sizes l none in
     let rest = all.1.1.1.1.1.1 in
     let of_frames = frames_fit l.frames (pairs_in l) rest.0 in
     record {
@@ -73,6 +103,8 @@ fits l none =
       fill = size_of_power l.fill rest.1.1.1.0;
       comp = size_of_power l.comp rest.1.1.1.1.0;
       pool = pool_fits (pool_in l) l.fill rest.1.1.1.1.1.0;
+      close = closed_within l.close (sockets_in l) (met_last (sizes l ++ on_empty l.empty (cells_in l)) (on_close l.close (sockets_in l)) (met_first (choices l) (on_hands l) none));
+      hands = count l.hands (met (on_hands l) (met_last (choices l) (on_hands l) none)).0;
     }
 
 chunk_size : (n : ℕ) → (eqb n 2048 || eqb n 4096) ≡ true → (n ≡ 2048) ⊎ (n ≡ 4096)
@@ -80,9 +112,9 @@ chunk_size n is = grind (arith, nat_tests)
 
 pub chunk_is : (l : Layout) → fault_of l ≡ None → (l.chunk ≡ 2048) ⊎ (l.chunk ≡ 4096)
 unfolding AreMet
-chunk_is l none = chunk_size l.chunk (met (demands l) none).1.1.1.1.0
+chunk_is l none = chunk_size l.chunk (met_sizes l none).1.1.1.1.0
 
 -- as many files as all ports together want
 pub files_are : (l : Layout) → fault_of l ≡ None → l.files ≡ l.files_wanted_per_port * l.ports
 unfolding AreMet
-files_are l none = eqb-true l.files (l.files_wanted_per_port * l.ports) (met (demands l) none).1.1.1.0
+files_are l none = eqb-true l.files (l.files_wanted_per_port * l.ports) (met_sizes l none).1.1.1.0

@@ -1,13 +1,13 @@
 -- The regular configuration of a layout is a configuration, and it is regular.
 use Rattle.std.proofs.Common.{◌≡◌, ℕ, suc, ◌+◌, ◌*◌, ◌/◌, ◌%◌, ◌<◌, ◌≤◌, ◌⊎◌, ◌&&◌, eqb, true, length, refl, sym, ap, ◌∙◌, subst, inl, inr, arith, Bool, []}
-use Rattle.std.specs.Prelude.{EachIndex}
+use Rattle.std.specs.Prelude.{EachIndex, IfSome, None, Option, Some}
 use Rattle.std.proofs.lemmas.Bool.{and_parts, cases_Bool, cases_eq, eq-eqb, eqb-true}
 use Rattle.std.proofs.Math.Nat.{div-lt_iff_lt-mul, mul-div_cancel, mul-div_cancel_left, mul-lt-mul_of_pos_right, mul-le-mul_right, mul_assoc, mul-zero, div-add-mod'}
-use Rattle.xsk_model.specs.Config.{IsConfig, IsBound, IsServed, IsMap, IsLawful, IsRegular, IsPairOf, IsSocketOf, pair_at, socket_at, pairs_at, pool_of, classes_of}
+use Rattle.xsk_model.specs.Config.{Config, IsConfig, IsBound, IsClosable, IsServed, IsMap, IsLawful, IsRegular, IsPairOf, IsSocketOf, pair_at, socket_at, pairs_at, pool_of, classes_of}
 use Rattle.xsk_model.specs.declared.config.PairInfo.{PairInfo}
 use Rattle.xsk_socket.specs.declared.layout.Layout.{Layout}
 use Rattle.xsk_socket.specs.Fits.{Fits, IsCount}
-use Rattle.xsk_socket.specs.Layout.{cells_in, pairs_in}
+use Rattle.xsk_socket.specs.Layout.{cells_in, pairs_in, sockets_in}
 use Rattle.xsk_socket.specs.Regular.{cell_in, is_left_empty, map_in, numbered, pair_in, regular_of, socket_in}
 use Rattle.xsk_socket.proofs.Numbered.{all_numbered, count_one, get_or-numbered, length-numbered}
 
@@ -132,8 +132,12 @@ map_is l fits port below =
           (λ i within. rw (length-numbered n (socket_in l)) (cell_known l port i below within));
     }
 
-pub regular-config : (l : Layout) → Fits l → IsConfig (regular_of l)
-regular-config l fits =
+-- with any socket to close
+abbrev closing_in : Layout → Option ℕ → Config
+closing_in l close = record (regular_of l) { closing = close }
+
+config-closing : (l : Layout) (close : Option ℕ) → Fits l → IfSome close (IsClosable (regular_of l).sockets) → IsConfig (closing_in l close)
+config-closing l close fits closable =
     let c = regular_of l in
     let some_q = some l.queues fits.queues in
     let some_s = some l.sockets fits.sockets in
@@ -154,8 +158,25 @@ regular-config l fits =
       served = all_numbered (IsServed c.sockets) (pairs_in l) (pair_in l) (served l fits);
       maps = length-numbered l.ports (map_in l);
       cells = all_numbered (IsMap (length c.sockets)) l.ports (map_in l) (map_is l fits);
-      closing = tt;
+      closing = closable;
     }
+
+pub open-config : (l : Layout) → Fits l → IsConfig (closing_in l None)
+open-config l fits = config-closing l None fits tt
+
+place : (l : Layout) (s : ℕ) → s < sockets_in l → IsSocketOf l.queues l.sockets s (socket_at (regular_of l).sockets s)
+place l s within = rw (get_or-numbered (sockets_in l) (socket_in l) s (socket_at [] s) within) (refl, refl, refl, refl)
+
+-- the socket that the layout closes
+pub is_closable : (l : Layout) → Fits l → IfSome l.close (IsClosable (regular_of l).sockets)
+is_closable l fits = go l.close fits.close
+  where
+    go : (close : Option ℕ) → IfSome close (λ s. s < sockets_in l) → IfSome close (IsClosable (regular_of l).sockets)
+    go None within = tt
+    go (Some s) within = (rw (length-numbered (sockets_in l) (socket_in l)) within, (place l s within).2, (place l s within).3)
+
+pub regular-config : (l : Layout) → Fits l → IsConfig (regular_of l)
+regular-config l fits = config-closing l l.close fits (is_closable l fits)
 
 -- ---- regular
 
@@ -176,9 +197,6 @@ classes l fits =
 
 seat : (l : Layout) (d : ℕ) → d < pairs_in l → IsPairOf l.queues d (pair_at (regular_of l).pairs d)
 seat l d below = rw (get_or-numbered (pairs_in l) (pair_in l) d (pair_at [] d) below) (refl, refl)
-
-place : (l : Layout) (s : ℕ) → s < pairs_in l * l.sockets → IsSocketOf l.queues l.sockets s (socket_at (regular_of l).sockets s)
-place l s within = rw (get_or-numbered (pairs_in l * l.sockets) (socket_in l) s (socket_at [] s) within) (refl, refl, refl, refl)
 
 pub regular-regular : (l : Layout) → Fits l → IsRegular (regular_of l)
 regular-regular l fits =

@@ -1,9 +1,9 @@
 -- What holds of an accepted layout.
-use Rattle.std.specs.Prelude.{◌≡◌, ℕ, ◌%◌, ◌<◌, ◌≤◌, ◌⊎◌}
+use Rattle.std.specs.Prelude.{◌≡◌, ℕ, ◌%◌, ◌<◌, ◌≤◌, ◌⊎◌, IfSome}
 use Rattle.xsk_umem.specs.Limits.{most_frames}
 use Rattle.xsk_model.specs.Config.{IsRingSize}
 use Rattle.xsk_socket.specs.declared.layout.Layout.{Layout}
-use Rattle.xsk_socket.specs.Layout.{pairs_in, pool_in}
+use Rattle.xsk_socket.specs.Layout.{pairs_in, pool_in, sockets_in}
 
 abbrev pub IsCount : ℕ → Type 0
 IsCount n = (n ≡ 1) ⊎ (n ≡ 2) ⊎ (n ≡ 4)
@@ -25,3 +25,5 @@ pub record Fits (l : Layout) : Type 0 where
   pub fill : IsRingSize l.fill
   pub comp : IsRingSize l.comp
   pub pool : pool_in l ≤ l.fill
+  pub close : IfSome l.close (λ s. s < sockets_in l)
+  pub hands : IsCount l.hands

@@ -6,7 +6,7 @@ use Rattle.xsk_umem.specs.Geometry.{Geometry}
 use Rattle.xsk_umem.specs.Limits.{reserved_bytes, most_frames}
 use Rattle.xsk_socket.specs.declared.layout.Layout.{Layout}
 use Rattle.xsk_socket.specs.declared.layout.Unlawful.{Unlawful}
-use Rattle.xsk_socket.specs.declared.layout.Unlawful.TheVariants.{Ports, Queues, Sockets, Files, Chunk, Headroom, Frames, Rx, Tx, Fill, Comp, Pool, Empty}
+use Rattle.xsk_socket.specs.declared.layout.Unlawful.TheVariants.{Ports, Queues, Sockets, Files, Chunk, Headroom, Frames, Rx, Tx, Fill, Comp, Pool, Empty, Close, Hands}
 
 abbrev pub is_port_count : ℕ → Bool
 is_port_count n = n == 2 || n == 4
@@ -23,6 +23,9 @@ pairs_in l = l.ports * l.queues
 
 abbrev pub cells_in : Layout → ℕ
 cells_in l = l.queues * l.sockets
+
+abbrev pub sockets_in : Layout → ℕ
+sockets_in l = pairs_in l * l.sockets
 
 -- the frames of each pair's home pool
 abbrev pub pool_in : Layout → ℕ
@@ -60,9 +63,17 @@ abbrev pub on_empty : Option ℕ → ℕ → List Demand
 on_empty None cells = []
 on_empty (Some cell) cells = (nat_lt cell cells, Empty cell) ∷ []
 
+-- the socket that is to be closed is one of the layout's
+abbrev pub on_close : Option ℕ → ℕ → List Demand
+on_close None sockets = []
+on_close (Some socket) sockets = (nat_lt socket sockets, Close socket) ∷ []
+
+abbrev pub on_hands : Layout → List Demand
+on_hands l = (is_count l.hands, Hands l.hands) ∷ []
+
 -- all that is asked, in order
 abbrev pub demands : Layout → List Demand
-demands l = on_counts l ++ on_umem l ++ on_rings l ++ on_empty l.empty (cells_in l)
+demands l = on_counts l ++ on_umem l ++ on_rings l ++ on_empty l.empty (cells_in l) ++ on_close l.close (sockets_in l) ++ on_hands l
 
 abbrev pub first_unmet : List Demand → Option Unlawful
 first_unmet [] = None
@@ -94,4 +105,6 @@ usual = record {
   sg = false;
   wakeup = false;
   empty = None;
+  close = None;
+  hands = 1;
 }

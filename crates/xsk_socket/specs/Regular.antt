@@ -5,7 +5,7 @@ use Rattle.xsk_model.specs.Config.{Config}
 use Rattle.xsk_model.specs.declared.config.SocketInfo.{SocketInfo}
 use Rattle.xsk_model.specs.declared.config.PairInfo.{PairInfo}
 use Rattle.xsk_socket.specs.declared.layout.Layout.{Layout}
-use Rattle.xsk_socket.specs.Layout.{cells_in, geometry_of, pairs_in}
+use Rattle.xsk_socket.specs.Layout.{cells_in, geometry_of, pairs_in, sockets_in}
 
 -- a list by number: entry i, counted from 0, of n
 abbrev pub numbered : {A : Type 0} → ℕ → (ℕ → A) → List A
@@ -34,10 +34,10 @@ regular_of l = record {
   geometry = geometry_of l;
   ports = l.ports;
   queues = l.queues;
-  sockets = numbered (pairs_in l * l.sockets) (socket_in l);
+  sockets = numbered (sockets_in l) (socket_in l);
   pairs = numbered (pairs_in l) (pair_in l);
   cells = numbered l.ports (map_in l);
   sg = l.sg;
   wakeup = l.wakeup;
-  closing = None;
+  closing = l.close;
 }

@@ -2,7 +2,7 @@
 ghost use Rattle.std.specs.Prelude.{◌≡◌, None, Some, OnOk, if◌then◌else◌};
 ghost use Rattle.std.specs.Result.{result_err};
 ghost use Rattle.xsk_socket.specs.Fits.{HasCounts};
-ghost use Rattle.xsk_socket.specs.Layout.{fault_of, first_unmet, is_count, is_port_count, is_ring_size, on_counts, on_rings, on_umem};
+ghost use Rattle.xsk_socket.specs.Layout.{cells_in, fault_of, first_unmet, is_count, is_port_count, is_ring_size, on_close, on_counts, on_empty, on_rings, on_umem, sockets_in};
 
 use thiserror::Error;
 
@@ -48,10 +48,14 @@ pub struct Layout {
     pub wakeup: bool,
     /// The cell of each port's XSKMAP that is left empty, if one is.
     pub empty: Option<u32>,
+    /// The socket that is to be closed while traffic flows, if one is, of all sockets numbered by port, queue and class.
+    pub close: Option<u32>,
+    /// The threads of each application: 1, 2 or 4.
+    pub hands: u32,
 }
 
 /// The layout of a command that says nothing of it: two ports with a queue and a socket each, 256 frames of 4,096 bytes, and
-/// rings of 2,048 entries. It is accepted.
+/// rings of 2,048 entries; no socket is closed, and each application is one thread. It is accepted.
 impl Default for Layout {
     ghost use Rattle.std.specs.Prelude.{◌≡◌, None};
     ghost use Rattle.xsk_socket.specs.Layout.{fault_of, usual};
@@ -75,6 +79,8 @@ impl Default for Layout {
             sg: false,
             wakeup: false,
             empty: None,
+            close: None,
+            hands: 1,
         }
     }
 }
@@ -121,6 +127,12 @@ pub enum Unlawful {
     /// There is no such cell.
     #[error("there is no cell {0}")]
     Empty(u32),
+    /// There is no such socket to close.
+    #[error("there is no socket {0}")]
+    Close(u32),
+    /// An application has no 1, 2 or 4 threads.
+    #[error("{0} threads: an application must have 1, 2 or 4")]
+    Hands(u32),
 }
 
 /// Whether a layout is accepted, and else the first reason of [`Unlawful`], in its order, with its value.
@@ -130,10 +142,9 @@ pub fn check_layout(layout: &Layout) -> Result<(), Unlawful>
     check_counts(layout)?;
     check_umem(layout)?;
     check_rings(layout)?;
-    match layout.empty {
-        Some(cell) => unless(cell < layout.queues * layout.sockets, Unlawful::Empty(cell)),
-        None => Ok(()),
-    }
+    check_empty(layout)?;
+    check_close(layout)?;
+    unless(is_count(layout.hands), Unlawful::Hands(layout.hands))
 }
 
 fn check_counts(layout: &Layout) -> Result<(), Unlawful>
@@ -174,6 +185,27 @@ fn check_rings(layout: &Layout) -> Result<(), Unlawful>
     unless(is_ring_size(layout.comp), Unlawful::Comp(layout.comp))?;
     let pool = layout.frames / (layout.ports * layout.queues);
     unless(pool <= layout.fill, Unlawful::Pool(pool))
+}
+
+fn check_empty(layout: &Layout) -> Result<(), Unlawful>
+    requires { HasCounts layout.now }
+    ensures { result_err result ≡ first_unmet (on_empty layout.now.empty (cells_in layout.now)) }
+{
+    let Some(cell) = layout.empty else {
+        return Ok(());
+    };
+    unless(cell < layout.queues * layout.sockets, Unlawful::Empty(cell))
+}
+
+fn check_close(layout: &Layout) -> Result<(), Unlawful>
+    requires { HasCounts layout.now }
+    ensures { result_err result ≡ first_unmet (on_close layout.now.close (sockets_in layout.now)) }
+{
+    let Some(socket) = layout.close else {
+        return Ok(());
+    };
+    let sockets = layout.ports * layout.queues * layout.sockets;
+    unless(socket < sockets, Unlawful::Close(socket))
 }
 
 /// The refusal, unless the condition holds.

@@ -1,7 +1,7 @@
 //! The regular configuration of a layout.
-ghost use Rattle.std.specs.Prelude.{◌≡◌, ◌*◌, ◌<◌, None, IfOk, map};
+ghost use Rattle.std.specs.Prelude.{◌≡◌, ◌*◌, ◌<◌, None, IfOk, IfSome, map};
 ghost use Rattle.std.specs.Vec.{vec_items};
-ghost use Rattle.xsk_model.specs.Config.{IsRegular};
+ghost use Rattle.xsk_model.specs.Config.{IsClosable, IsRegular};
 ghost use Rattle.xsk_socket.specs.Fits.{Fits};
 ghost use Rattle.xsk_socket.specs.Layout.{cells_in, fault_of, geometry_of, pairs_in};
 ghost use Rattle.xsk_socket.specs.Regular.{cell_in, map_in, numbered, pair_in, regular_of, socket_in};
@@ -12,7 +12,8 @@ use xsk_model::{Config, PairInfo, SocketInfo};
 use xsk_umem::{Geometry, OutOfMemory};
 
 /// The regular configuration of an accepted layout over its UMEM: all pairs and sockets numbered by port and queue, and
-/// in each port's XSKMAP the port's own sockets, but for the cell that the layout leaves empty.
+/// in each port's XSKMAP the port's own sockets, but for the cell that the layout leaves empty. The layout's
+/// socket to close is the configuration's.
 ///
 /// [`check_layout`](crate::check_layout) must accept the layout, and the geometry must be the layout's.
 pub fn regular(alloc: Global, geometry: Geometry, layout: &Layout) -> Result<Config, OutOfMemory>
@@ -24,7 +25,7 @@ pub fn regular(alloc: Global, geometry: Geometry, layout: &Layout) -> Result<Con
     let sockets = number_sockets(alloc, layout)?;
     let pairs = number_pairs(alloc, layout)?;
     let cells = number_maps(alloc, layout)?;
-    Ok(Config::of_parts(
+    let config = Config::of_parts(
         geometry,
         layout.ports,
         layout.queues,
@@ -33,7 +34,21 @@ pub fn regular(alloc: Global, geometry: Geometry, layout: &Layout) -> Result<Con
         cells,
         layout.sg,
         layout.wakeup,
-    ))
+    );
+    Ok(closing(config, layout.close))
+}
+
+/// The configuration with a socket to close, if one is.
+fn closing(config: Config, socket: Option<u32>) -> Config
+    requires open { config.closing ≡ None }
+    requires socket { IfSome socket (IsClosable config.sockets) }
+    ensures { result ≡ record config { closing = socket } }
+{
+    let mut config = config;
+    if let Some(socket) = socket {
+        config.set_closing(socket);
+    }
+    config
 }
 
 #[tactic(auto, using(crate::proofs::Numbered::numbered_more))]

@@ -1,5 +1,4 @@
-use Rattle.std.proofs.Common.{sym, ap, subst}
-use Rattle.xsk_model.specs.Config.{Config}
+use Rattle.std.proofs.Common.{sym, subst}
 use Rattle.xsk_model.specs.Opening.{AreFrames}
 use Rattle.xsk_plain.proofs.Legality.{fresh_are_frames}
 use Rattle.xsk_socket.specs.Layout.{geometry_of}
@@ -7,6 +6,3 @@ use Rattle.xsk_cli.proofs.setup.set_up.Goals as goal
 
 pub returns-clause-known : goal.returns-clause-known
 returns-clause-known c = subst (AreFrames (geometry_of c.args.layout.now)) (sym c.in_ok-geometry.ensures.frames) (fresh_are_frames (geometry_of c.args.layout.now))
-
-pub returns-clause-steady : goal.returns-clause-steady
-returns-clause-steady c = record { regular = c.in_ok-config.ensures.regular; closes = ap (λ (k : Config). k.closing) c.in_ok-config.ensures.value }
