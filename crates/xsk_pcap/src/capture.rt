@@ -1,12 +1,12 @@
 //! A capture as it is written.
-ghost use Rattle.std.specs.Prelude.{◌≡◌, ◌+◌, ◌*◌, ◌/◌, ◌%◌, ◌^◌, ◌<◌, ◌≤◌, [], ◌∷◌, ◌++◌, length, map, vec_capacity, IfErr, IfOk, OnOk, OnErr};
+ghost use Rattle.std.specs.Prelude.{◌≡◌, ◌+◌, ◌*◌, ◌/◌, ◌%◌, ◌^◌, ◌<◌, ◌≤◌, [], ◌∷◌, ◌++◌, length, map, vec_capacity, Some, ◌↔◌, IfErr, IfOk, IsOk, OnOk, OnErr};
 ghost use Rattle.std.specs.List.{concat, AllByRecursion};
 ghost use Rattle.byteorder.specs.Endian.{little_bytes};
 ghost use Rattle.xsk_umem.specs.Span.{at_span};
 ghost use Rattle.xsk_pcap.specs.declared.endianness.Endianness.TheVariants.{Little};
 ghost use Rattle.xsk_pcap.specs.Capture.{record_bytes, IsShort};
 ghost use Rattle.xsk_pcap.specs.Steps.{HasGaps};
-ghost use Rattle.xsk_pcap.specs.Laid.{IsLaid};
+ghost use Rattle.xsk_pcap.specs.Laid.{IsLaid, capture_gaps};
 ghost use Rattle.xsk_pcap.specs.Written.{written, written_record, text_of, IsWritable};
 
 use byteorder::{ByteOrder, LittleEndian};
@@ -133,19 +133,19 @@ pub struct Laid {
     pub spans: Vec<Span>,
 }
 
-/// Writes the capture of a list, within the limits of [`Capture::add`], into the list's own text, where it has the [`GAPS`]
-/// for the headers. A list without them comes back as it was. It copies no packet and takes no memory.
+/// Writes the capture of a list, within the limits of [`Capture::add`], into the list's own text, exactly where it has the
+/// [`GAPS`] for the headers. A list without them comes back as it was. It copies no packet and takes no memory.
 pub fn write_in_gaps(list: PacketList) -> Result<Laid, PacketList>
     requires { IsWritable (list.packets ∷ []) }
+    ensures gaps { IsOk result ↔ (list.gaps ≡ Some capture_gaps) }
     ensures laid { IfOk result (λ laid. IsLaid list.packets laid.text.items laid.spans.items) }
-    ensures refused { IfErr result (λ other. other.packets ≡ list.packets) }
+    ensures refused { IfErr result (λ other. other ≡ list) }
 {
-    let Parts { text, spans, gaps } = list.into_parts();
-    if gaps == Some(GAPS) {
-        Ok(lay(text, spans))
-    } else {
-        Err(PacketList::of_spans(text, spans))
+    if list.gaps() != Some(GAPS) {
+        return Err(list);
     }
+    let Parts { text, spans, .. } = list.into_parts();
+    Ok(lay(text, spans))
 }
 
 /// Writes the headers of a capture into the gaps of a text.
