@@ -113,7 +113,7 @@ module _ (layout : Layout) (programs : List Program) (wire : Wire) (mangle : Opt
     one_sent : mangle ≡ None → wire ≡ Wait → layout.sockets ≡ 1 → (port queue : ℕ) → port < layout.ports → queue < layout.queues → sent config history (driver_on config port queue) ≡ going_on layout programs lists (paired_port port) queue 0
     one_sent none waits one port queue in_ports in_queues =
         let classes : classes_of config ≡ 1 = classes_are layout (omega (arith, driver_known layout.ports layout.queues port queue in_ports in_queues)) ∙ one in
-        all_is_expected manner (wire_by wire) config (map listed lists) verdicts (frames_of layout) history port queue none (ap wire_by waits) whole_runs in_ports in_queues classes
+        all_is_expected 1 manner (wire_by wire) config (map listed lists) verdicts (frames_of layout) history port queue none (ap wire_by waits) whole_runs in_ports in_queues classes
         ∙ expected_goes_on layout programs lists port queue 0 accepted (record { in_ports = in_ports; in_queues = in_queues; in_classes = omega (arith, classes) })
 
     pub texts_in : (format : Format) (told : List ℕ) (texts : Written)
@@ -125,9 +125,9 @@ module _ (layout : Layout) (programs : List Program) (wire : Wire) (mangle : Opt
         record {
           sent = is;
           forwarded = λ port queue none in_ports in_queues.
-              all_are_forwarded manner (wire_by wire) config (map listed lists) verdicts (frames_of layout) history port queue none whole_runs in_ports in_queues;
+              all_are_forwarded 1 manner (wire_by wire) config (map listed lists) verdicts (frames_of layout) history port queue none whole_runs in_ports in_queues;
           redirected = λ port queue none waits in_ports in_queues.
-              nothing_else_is_sent manner (wire_by wire) config (map listed lists) verdicts (frames_of layout) history port queue none (ap wire_by waits) whole_runs in_ports in_queues;
+              nothing_else_is_sent 1 manner (wire_by wire) config (map listed lists) verdicts (frames_of layout) history port queue none (ap wire_by waits) whole_runs in_ports in_queues;
           one_socket = λ none waits one.
               is
               ∙ same_texts format (sent_from layout history) (sent_on_by layout programs lists) layout.ports
@@ -146,7 +146,7 @@ module _ (layout : Layout) (programs : List Program) (wire : Wire) (mangle : Opt
       sent_within port queue in_ports in_queues =
           let pair : ℕ = port * layout.queues + queue in
           let known : pair < length all = omega (arith, driver_known layout.ports layout.queues port queue in_ports in_queues, pairs) in
-          let few = sent_is_within manner (wire_by wire) config (map listed lists) verdicts (frames_of layout) history port queue whole_runs in_ports in_queues in
+          let few = sent_is_within 1 manner (wire_by wire) config (map listed lists) verdicts (frames_of layout) history port queue whole_runs in_ports in_queues in
           let here : received config (map listed lists) (paired_port port) queue ≡ packets_of_queue layout.queues queue (get_or lists (paired_port port) []) =
           ap (packets_of_queue layout.queues queue) (packets_there lists (paired_port port)) in
           record {
@@ -238,7 +238,7 @@ forwarded_as layout programs wire c own fs lists o is_config is_own is_frames ow
 pub lists_short : (own : List PacketList) → All HasShortPackets own → (pair : ℕ) → pair < length (lists_in own) → All IsShort (get_or (lists_in own) pair [])
 lists_short own short pair known =
     let packets : PacketList → List (List ℕ) = λ list. list.packets in
-    let none : PacketList = record { packets = []; spare_packets = 0; spare_bytes = 0 } in
+    let none : PacketList = record { packets = []; gaps = None; spare_packets = 0; spare_bytes = 0 } in
     let below : pair < length own = subst (λ n. pair < n) (length-map own packets) known in
     subst (All IsShort) (sym (get_or-map packets own pair none [] below)) (short pair none below)
 

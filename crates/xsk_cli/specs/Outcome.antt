@@ -80,7 +80,7 @@ AreListsOf (Audit layout) inputs lists = ⊥
 
 -- the list of a port's packets, with no room for others
 abbrev pub listed : List (List ℕ) → PacketList
-listed packets = record { packets = packets; spare_packets = 0; spare_bytes = 0 }
+listed packets = record { packets = packets; gaps = None; spare_packets = 0; spare_bytes = 0 }
 
 -- the rule of a program, where each queue has so many sockets (af_xdp.rst, "XSKMAP / BPF_MAP_TYPE_XSKMAP")
 abbrev pub rule_by : ℕ → Program → Rule

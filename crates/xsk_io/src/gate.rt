@@ -1,6 +1,6 @@
 //! Gates: what each worker on a thread of its own passes before each of its turns. They are for tests, which see by them that
 //! workers run at once.
-ghost use Rattle.std.specs.Prelude.{◌≡◌, ◌≤◌, ◌^◌, nat_lt, false, if◌then◌else◌};
+ghost use Rattle.std.specs.Prelude.{◌≡◌, ◌≢◌, ◌≤◌, ◌^◌, nat_lt, false, if◌then◌else◌};
 
 use std::marker::Model;
 use std::sync::atomic::{AtomicU64, Ordering};
@@ -26,19 +26,41 @@ impl Gate for Open {
     fn enter(&self, _worker: u32, _turn: u64) {}
 }
 
-/// It holds worker 0 in its first turn until worker 1 has entered, and worker 1 until worker 0 has, each for at most 1,000,000
-/// looks.
+/// It holds each of two workers in its first turn until the other has entered, for at most 1,000,000 looks. Contracts see the numbers
+/// of the two.
 #[derive(Drop)]
 pub struct PairGate {
+    first: u32,
+    second: u32,
     /// A bit for each of the first 64 workers that entered.
     entered: AtomicU64,
     limit: AtomicU64,
 }
 
+impl Model for PairGate {
+    ghost use Rattle.std.specs.Prelude.{ℕ};
+
+    ghost Value = { ℕ × ℕ };
+
+    ghost view = { λ g. (g.first, g.second) };
+}
+
 impl PairGate {
-    /// A gate through which no one has come.
-    pub fn new() -> PairGate {
+    /// A gate through which no one has come, for workers 0 and 1.
+    pub fn new() -> PairGate
+        ensures { result ≡ (0, 1) }
+    {
+        PairGate::of(0, 1)
+    }
+
+    /// A gate through which no one has come, for these two workers, which differ.
+    pub fn of(first: u32, second: u32) -> PairGate
+        requires { first ≢ second }
+        ensures { result ≡ (first, second) }
+    {
         PairGate {
+            first,
+            second,
             entered: AtomicU64::new(0),
             limit: AtomicU64::new(0),
         }
@@ -74,10 +96,10 @@ impl Gate for PairGate {
             return;
         }
         self.entered.fetch_or(bit(worker), Ordering::SeqCst);
-        match worker {
-            0 => self.wait_for(1),
-            1 => self.wait_for(0),
-            _ => {}
+        if worker == self.first {
+            self.wait_for(self.second);
+        } else if worker == self.second {
+            self.wait_for(self.first);
         }
     }
 }

@@ -1,5 +1,5 @@
 -- New workers of a setting.
-use Rattle.std.proofs.Common.{◌≡◌, ℕ, ◌<◌, All, List, [], length, sym, subst, ap, ◌∙◌, arith}
+use Rattle.std.proofs.Common.{◌≡◌, ℕ, ◌<◌, All, List, [], None, length, sym, subst, ap, ◌∙◌, arith}
 use Rattle.std.proofs.lemmas.List.{get_or-map, get_or_default, length-map}
 use Rattle.std.proofs.lemmas.Nat.{div_below}
 use Rattle.std.specs.List.{slice_index_or}
@@ -77,7 +77,7 @@ ports_known c pairs count pair regular is same counted below =
 -- the list of a port
 pub list_at : (lists : List PacketList) (port : ℕ) (list : PacketList) → list ≡ slice_index_or lists port list → port < length lists → list.packets ≡ packets_of_port lists port
 list_at lists port list is below =
-    ap (λ (l : PacketList). l.packets) (is ∙ get_or_default lists port list (record { packets = []; spare_packets = 0; spare_bytes = 0 }) below)
+    ap (λ (l : PacketList). l.packets) (is ∙ get_or_default lists port list (record { packets = []; gaps = None; spare_packets = 0; spare_bytes = 0 }) below)
 
 -- what was looked up of the paired port's driver
 pub other_found : (s : Setting) (pair : ℕ) (inputs : List (List ℕ)) (pairs : List PairInfo) (port other : ℕ) (list : PacketList) → IsConfig s.config → IsRegular s.config

@@ -1,5 +1,5 @@
 -- The numbers of a queue's packets, packet by packet.
-use Rattle.std.proofs.Common.{◌≡◌, ℕ, ◌+◌, ◌<◌, Bool, true, false, List, [], ◌∷◌, ◌++◌, length, take, get_or, Some, refl, sym, ◌∙◌, ap, arith, add-zero, subst, append-nil, eq-eqb, if◌then◌else◌, ◌==◌, map, slice_get}
+use Rattle.std.proofs.Common.{◌≡◌, ℕ, ◌+◌, ◌<◌, Bool, true, false, List, [], ◌∷◌, ◌++◌, length, take, get_or, None, Some, refl, sym, ◌∙◌, ap, arith, add-zero, subst, append-nil, eq-eqb, if◌then◌else◌, ◌==◌, map, slice_get}
 use Rattle.std.proofs.lemmas.Bool.Decides.{nat_tests}
 use Rattle.std.proofs.lemmas.List.{take_more, length-take-le, map-append}
 use Rattle.std.proofs.lemmas.Option.{slice_get_within, get_or_from_slice_get, slice_get-get_or}
@@ -65,8 +65,8 @@ pub numbers_found : (c : Config) (lists : List PacketList) (pairs : List PairInf
 numbers_found c lists pairs d queues list xs same_pairs same_queues got within is =
     let at : list ≡ get_or lists (pair_at c.pairs d).port list = subst (λ (ps : List PairInfo). list ≡ get_or lists (pair_at ps d).port list) same_pairs got in
     let some = slice_get-get_or lists (pair_at c.pairs d).port list within in
-    let found = get_or_from_slice_get lists (pair_at c.pairs d).port (get_or lists (pair_at c.pairs d).port list) (record { packets = []; spare_packets = 0; spare_bytes = 0 }) some in
-    let now : list ≡ get_or lists (pair_at c.pairs d).port (record { packets = []; spare_packets = 0; spare_bytes = 0 }) = at ∙ sym found in
+    let found = get_or_from_slice_get lists (pair_at c.pairs d).port (get_or lists (pair_at c.pairs d).port list) (record { packets = []; gaps = None; spare_packets = 0; spare_bytes = 0 }) some in
+    let now : list ≡ get_or lists (pair_at c.pairs d).port (record { packets = []; gaps = None; spare_packets = 0; spare_bytes = 0 }) = at ∙ sym found in
     is ∙ ap (λ (ps : List PairInfo). numbers_from queues (pair_at ps d).queue 0 list.packets) same_pairs
     ∙ ap (λ n. numbers_from n (pair_at c.pairs d).queue 0 list.packets) same_queues
     ∙ ap (λ (l : PacketList). numbers_from c.queues (pair_at c.pairs d).queue 0 l.packets) now

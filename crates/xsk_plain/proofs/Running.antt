@@ -160,10 +160,10 @@ pub all_new : (c : Config) (noted : List Noted) (n : ℕ) → AreNew c noted n �
 all_new c noted n new all = record { count = new.count ∙ all; each = new.each }
 
 -- why a call isn't legal after the caller's own entries of the history
-pub told_why : (engine : Engine) (d : Config) (frames : List Frame) (h : List Entry) (who : ℕ) (kept : Noted) (call : Call) (result : Option Illegal) → d ≡ engine.config → NotesOwn engine.config h who kept
+pub told_why : (engine : Engine) (d : Config) (h : List Entry) (who : ℕ) (kept : Noted) (call : Call) (result : Option Illegal) → d ≡ engine.config → NotesOwn engine.config h who kept
     → ((mine : List Told) → StandsFor d kept mine → MatchOption result (IsLegal d mine kept.who call) (λ why. Fails why d mine kept.who call))
     → MatchOption result (IsLegal engine.config (own who h) who call) (λ why. Fails why engine.config (own who h) who call)
-told_why engine d frames h who kept call result config notes tells =
+told_why engine d h who kept call result config notes tells =
     let here : StandsFor d kept (own who h) = subst (λ (k : Config). StandsFor k kept (own who h)) (sym config) notes.stands in
     subst (λ (w : ℕ). MatchOption result (IsLegal engine.config (own who h) w call) (λ why. Fails why engine.config (own who h) w call)) notes.caller
     (subst (λ (k : Config). MatchOption result (IsLegal k (own who h) kept.who call) (λ why. Fails why k (own who h) kept.who call)) config (tells (own who h) here))
@@ -171,6 +171,6 @@ told_why engine d frames h who kept call result config notes tells =
 pub none_is_legal : (engine : Engine) (frames : List Frame) (h : List Entry) (who : ℕ) (call : Call) (result : Option Illegal) → HasRun engine frames h
     → MatchOption result (IsLegal engine.config (own who h) who call) (λ why. Fails why engine.config (own who h) who call)
     → IsNone result ↔ IsLegal engine.config (own who engine.log) who call
-none_is_legal engine frames h who call None run told = (λ _. (legal_in engine frames h who call run).1 told, λ _. tt)
+none_is_legal engine frames h who call None run told = (λ _. (legal_in engine frames h who call run).1 told, λ _. refl)
 none_is_legal engine frames h who call (Some why) run told =
-    (λ none. absurd none, λ legal. fails_not_legal why engine.config (own who h) who call told ((legal_in engine frames h who call run).0 legal))
+    (λ none. absurd (cc), λ legal. absurd (fails_not_legal why engine.config (own who h) who call told ((legal_in engine frames h who call run).0 legal)))

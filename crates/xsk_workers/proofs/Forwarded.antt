@@ -23,9 +23,9 @@ module _ (s : Setting) (frames : List Frame) (o : OutcomeShown) (port queue : â„
 pub all_forwarded : AllAreForwarded
 all_forwarded s frames o port queue none steady forwarded in_ports in_queues =
     subst (AreForwarded s.wire s.config o.history s.packets s.verdicts port queue) (sym (forwarded.sent (driver_on s.config port queue) (known s frames o port queue steady forwarded in_ports in_queues)))
-    (all_are_forwarded s.manner s.wire s.config s.packets s.verdicts frames o.history port queue none (are_whole s frames o port queue steady forwarded in_ports in_queues) in_ports in_queues)
+    (all_are_forwarded 1 s.manner s.wire s.config s.packets s.verdicts frames o.history port queue none (are_whole s frames o port queue steady forwarded in_ports in_queues) in_ports in_queues)
 
 pub all_expected : AllAreExpected
 all_expected s frames o port queue none waits steady forwarded in_ports in_queues =
     subst (AreExpected s.config s.packets s.verdicts port queue) (sym (forwarded.sent (driver_on s.config port queue) (known s frames o port queue steady forwarded in_ports in_queues)))
-    (nothing_else_is_sent s.manner s.wire s.config s.packets s.verdicts frames o.history port queue none waits (are_whole s frames o port queue steady forwarded in_ports in_queues) in_ports in_queues)
+    (nothing_else_is_sent 1 s.manner s.wire s.config s.packets s.verdicts frames o.history port queue none waits (are_whole s frames o port queue steady forwarded in_ports in_queues) in_ports in_queues)

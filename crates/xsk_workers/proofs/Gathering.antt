@@ -283,7 +283,7 @@ module _ (b : Board) (s : Setting) (frames : List Frame) (passes : List (Option 
     sent = sent_is;
     figures = figures_are;
     woken = λ past later pair split below.
-        none_is_lost_in_whole_runs s.manner s.wire s.config s.packets s.verdicts frames past later pair
+        none_is_lost_in_whole_runs 1 s.manner s.wire s.config s.packets s.verdicts frames past later pair
         (subst (AreWholeRuns s.manner s.wire s.config s.packets s.verdicts frames) split (whole_runs s frames h steady legal whole)) below;
   }
 
