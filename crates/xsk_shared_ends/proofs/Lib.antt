@@ -2,4 +2,3 @@ pub mod Standing
 pub mod Passing
 pub mod Giving
 pub mod Ending
-pub mod Emptying

@@ -1,4 +1,3 @@
 pub mod Shown
 pub mod Standing
 pub mod Steps
-pub mod Last
