@@ -55,16 +55,7 @@ pub fn forwarded(alloc: Global, config: Config, frames: Frames) -> Result<Run>
     let chain = Chain::of(alloc, program)?;
     let lists = received.as_slice();
     let manner = Manner::plain();
-    Ok(simulate(
-        alloc,
-        config,
-        frames,
-        lists,
-        &chain,
-        Wire::Wait,
-        0,
-        manner,
-    )?)
+    Ok(simulate(alloc, config, frames, lists, &chain, Wire::Wait, 0, manner)?)
 }
 
 /// A list of one packet for port 0, and one of none for port 1.

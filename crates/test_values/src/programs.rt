@@ -67,7 +67,10 @@ fn fill(alloc: Global, rule: Rule, count: u32, told: &mut Told) -> Result<(), Fa
     }
     let mut chain = Chain::new(alloc);
     for taken in 0..count {
-        let program = XdpProgram::attach(rule, move |bytes: &[u8], queue: u32| rule.verdict(bytes, queue));
+        let program = XdpProgram::attach(
+            rule,
+            move |bytes: &[u8], queue: u32| rule.verdict(bytes, queue),
+        );
         if let Err((error, program)) = chain.push(program) {
             told.count(taken as usize);
             told.say(" taken, ");

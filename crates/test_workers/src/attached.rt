@@ -207,7 +207,5 @@ pub(crate) fn run_of(
         |packet: &[u8], queue: u32| decided(rule, even, packet, queue),
     );
     let chain = Chain::of(alloc, program)?;
-    Ok(simulate(
-        alloc, config, frames, packets, &chain, wire, order, manner,
-    )?)
+    Ok(simulate(alloc, config, frames, packets, &chain, wire, order, manner)?)
 }

@@ -19,7 +19,7 @@ use Rattle.xsk_model.specs.declared.call.Ring.{Ring}
 use Rattle.xsk_model.specs.declared.call.Call.{Call}
 use Rattle.xsk_model.specs.declared.call.Call.TheVariants.{Reserve, Submit, Peek, Release, Swap, Look}
 use Rattle.xsk_model.specs.declared.call.Reply.{Reply}
-use Rattle.xsk_model.specs.declared.call.Reply.TheVariants.{Granted, Full, Submitted, Items, Empty, Released, Old}
+use Rattle.xsk_model.specs.declared.call.Reply.TheVariants.{Granted, Full, Items}
 use Rattle.xsk_model.proofs.Bodies.{taken-bare}
 
 abbrev pub bare_items : List Item → List Item

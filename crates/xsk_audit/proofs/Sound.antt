@@ -5,19 +5,14 @@ use Rattle.std.specs.Prelude.{codes}
 use Rattle.std.specs.Fmt.{decimal}
 use Rattle.xsk_umem.specs.Frame.{Frame}
 use Rattle.xsk_umem.specs.Geometry.{Geometry}
-use Rattle.xsk_umem.specs.declared.batch.Item.{Item}
 use Rattle.xsk_model.specs.Config.{Config}
 use Rattle.xsk_model.specs.Entry.{Entry}
 use Rattle.xsk_model.specs.History.{IsHistory}
-use Rattle.xsk_model.specs.Stored.{stored, stored_entry, stored_call, stored_reply, stored_item}
-use Rattle.xsk_model.specs.declared.call.Call.{Call}
-use Rattle.xsk_model.specs.declared.call.Call.TheVariants.{Reserve, Submit, Peek, Release, Swap, Look}
-use Rattle.xsk_model.specs.declared.call.Reply.{Reply}
-use Rattle.xsk_model.specs.declared.call.Reply.TheVariants.{Granted, Full, Submitted, Items, Empty, Released, Old}
+use Rattle.xsk_model.specs.Stored.{stored, stored_entry}
 use Rattle.xsk_model.proofs.Histories.{history_first}
 use Rattle.xsk_plain.specs.Engine.{Engine}
 use Rattle.xsk_plain.specs.Histories.{IsRun}
-use Rattle.xsk_plain.specs.Line.{who_text, ring_text, item_text, items_text, call_text, reply_text, line_of}
+use Rattle.xsk_plain.specs.Line.{line_of}
 use Rattle.xsk_audit.specs.Telling.{Timed, entries, journal_line, NeverFalls, TellHistory, last_of, AreSame}
 use Rattle.xsk_plain.proofs.StoredLines.{line_stored}
 

@@ -1,11 +1,11 @@
 -- How the readers follow a text.
-use Rattle.std.proofs.Common.{◌≡◌, ℕ, ◌+◌, ◌-◌, ◌*◌, ◌^◌, ◌<◌, ◌≤◌, Option, Some, None, List, [], ◌∷◌, ◌++◌, length, take, drop, slice_index, refl, sym, ap, ◌∙◌, inl, inr, true, false, append_assoc}
+use Rattle.std.proofs.Common.{◌≡◌, ℕ, ◌+◌, ◌-◌, ◌*◌, ◌^◌, ◌<◌, ◌≤◌, Option, Some, None, List, [], ◌∷◌, ◌++◌, length, take, drop, slice_index, refl, sym, ap, ◌∙◌, inl, inr, true, false, append_assoc, arith}
 use Rattle.std.specs.Prelude.{Bool, ◌==◌, ◌&&◌, nat_eq}
 use Rattle.std.specs.Borrow.{Bor}
 use Rattle.std.specs.Option.{MatchOption}
 use Rattle.std.specs.Cmp.Lexicographic.{pointwise}
 use Rattle.std.specs.Char.{is_ascii_digit}
-use Rattle.std.proofs.lemmas.Bool.{cases_Bool, eq-eqb, eqb-true, le-leb, lt-leb}
+use Rattle.std.proofs.lemmas.Bool.{cases_Bool, eq-eqb, eqb-true, le-leb, lt-leb, ne_eqb}
 use Rattle.std.specs.Fmt.{decimal}
 use Rattle.xsk_audit.proofs.Numbers.{number-text, some-value}
 use Rattle.std.proofs.lemmas.List.{drop_more}
@@ -62,6 +62,26 @@ pub word-view : (word xs : List ℕ) (r : Option (Bor (List ℕ)))
     → text_view r ≡ word_at word xs
 word-view word xs None h = sym (word-missed word xs h)
 word-view word xs (Some rest) h = ap Some h.1 ∙ sym (word-found word xs h.0)
+
+-- ---- a word by its first letter
+
+pub no-letters : (word xs : List ℕ) → length word ≡ 0 → Some xs ≡ word_at word xs
+unfolding word_at
+no-letters [] xs none = refl
+no-letters (w ∷ word) xs none = absurd (omega (arith, none))
+
+pub no-text : (w : ℕ) (word all xs : List ℕ) → all ≡ w ∷ word → length xs ≡ 0 → None ≡ word_at all xs
+unfolding word_at
+no-text w word all [] is none = rw is refl
+no-text w word all (x ∷ xs) is none = absurd (omega (arith, none))
+
+pub same-letter : (w x : ℕ) (word xs all text : List ℕ) → all ≡ w ∷ word → text ≡ x ∷ xs → x ≡ w → word_at all text ≡ word_at word xs
+unfolding word_at
+same-letter w x word xs all text is begins same = rw (is, begins, eq-eqb x w same) refl
+
+pub other-letter : (w x : ℕ) (word xs all text : List ℕ) → all ≡ w ∷ word → text ≡ x ∷ xs → (x ≡ w → ⊥) → word_at all text ≡ None
+unfolding word_at
+other-letter w x word xs all text is begins other = rw (is, begins, ne_eqb x w other) refl
 
 -- a word that was read stands at the front
 pub word-text : (word xs rest : List ℕ) → word_at word xs ≡ Some rest → xs ≡ word ++ rest

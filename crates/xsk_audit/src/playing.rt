@@ -35,9 +35,10 @@ pub(crate) fn play(
             return Ok(());
         }
         let (line, later) = first_line(rest);
-        let Some(Reading { who, ask, .. }) = read_line(pairs, line, &mut told) else {
+        let Some(reading) = read_line(pairs, line, &mut told) else {
             return Ok(());
         };
+        let Reading { who, ask, .. } = reading;
         if !make(alloc, checked, shelf, who, ask, &told, &mut items)? {
             return Ok(());
         }

@@ -12,7 +12,7 @@ use Rattle.xsk_socket.proofs.Accepted.{files_are, fits}
 use Rattle.xsk_cli.specs.Format.{files_of}
 use Rattle.xsk_cli.specs.declared.format.Format.{Format}
 use Rattle.xsk_cli.specs.declared.format.Format.TheVariants.{Pcap, Pcapng}
-use Rattle.xsk_cli.specs.Words.{Plan, are_enough, are_made, counted, fault_in, files_counted, files_in, format_of, has_files, layout_by, inputs_named, number_of, number_or, plan_by, plan_of, planned_by, ports_of, program_of, wanted_per_port, wire_of}
+use Rattle.xsk_cli.specs.Words.{Plan, are_enough, are_made, counted, fault_in, files_counted, files_in, format_of, has_files, layout_by, inputs_named, number_of, number_or, plan_by, plan_of, planned_by, ports_of, programs_of, wanted_per_port, wire_of}
 use Rattle.xsk_cli.specs.Steps.{IsReady}
 use Rattle.xsk_cli.proofs.Making.{few_ports}
 use Rattle.xsk_cli.specs.declared.words.Work.TheVariants.{Simulate}
@@ -63,7 +63,7 @@ pub plan_ready : (said : Meaning) (plan : Plan) → has_files said ≡ true → 
 plan_ready said plan enough is accepted =
     let none : fault_of (layout_by said) ≡ None = subst (λ (p : Plan). fault_in p.work ≡ None) is accepted in
     subst IsReady (sym is)
-    (ready_by (layout_by said) (program_of said) (wire_of said) (number_of said (codes "mangle")) (number_or said (codes "order") 0) (number_of said (codes "gen")) (is_some (said (codes "journal"))) (format_of said) (files_in said) none refl (files_named said enough none))
+    (ready_by (layout_by said) (programs_of said) (wire_of said) (number_of said (codes "mangle")) (number_or said (codes "order") 0) (number_of said (codes "gen")) (is_some (said (codes "journal"))) (format_of said) (files_in said) none refl (files_named said enough none))
 
 -- the plan of words with as many files as they want, and none of others
 pub has_plan : (said : Meaning) (meant : Option Meaning) → meant ≡ Some said → has_files said ≡ true → option_and_then planned_by meant ≡ Some (plan_by said)

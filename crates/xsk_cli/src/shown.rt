@@ -24,8 +24,8 @@ use crate::failure::RunFailure;
 use crate::files::{file_texts, spare_text};
 use crate::format::Format;
 use crate::lent::{Lent, lend};
-use crate::setup::set_up;
 use crate::programs::chain_of;
+use crate::setup::set_up;
 use crate::texts::{Texts, wire_of};
 use crate::words::Work;
 use std::alloc::Global;
@@ -106,7 +106,15 @@ fn run_shown<R: Threads + Wait + Sync, G: Gate + Sync>(
     let (config, frames) = set_up(alloc, layout)?;
     let shared = config.copy(alloc)?;
     let shown = forward_lists(
-        rt, alloc, layout, config, frames, programs, wire, lists.as_slice(), gate,
+        rt,
+        alloc,
+        layout,
+        config,
+        frames,
+        programs,
+        wire,
+        lists.as_slice(),
+        gate,
     )?;
     let spare = spare_text(alloc, lists);
     let lent = keep_shown(alloc, format, layout, &shared, spare, shown, outcome)?;
@@ -200,13 +208,7 @@ fn file_shown(
     };
     let mut shown = shown;
     let sent = shown.take_sent(alloc);
-    let outputs = file_texts(
-        alloc,
-        layout.ports,
-        layout.queues,
-        spare,
-        sent.as_slice(),
-    );
+    let outputs = file_texts(alloc, layout.ports, layout.queues, spare, sent.as_slice());
     shown.put_sent(sent);
     match outputs {
         Ok(outputs) => Ok(Lent {
@@ -281,7 +283,10 @@ fn forward_lists<R: Threads + Wait + Sync, G: Gate + Sync>(
     ensures forwarded { IfOk result (HasForwarded (setting_of layout.now programs.now wire None (lists_in lists.now)) (frames_of layout.now)) }
 {
     let chain = chain_of(alloc, programs.as_slice(), layout.sockets, |rule: Rule| {
-        XdpProgram::attach(rule, move |packet: &[u8], queue: u32| rule.verdict(packet, queue))
+        XdpProgram::attach(
+            rule,
+            move |packet: &[u8], queue: u32| rule.verdict(packet, queue),
+        )
     })?;
     let wire = wire_of(wire);
     let outcome = forward(rt, alloc, config, frames, lists, &chain, wire, gate)?;

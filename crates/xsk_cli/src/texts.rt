@@ -107,7 +107,15 @@ fn run_texts(
     let (config, frames) = set_up(alloc, layout)?;
     let shared = config.copy(alloc)?;
     let run = run_lists(
-        alloc, layout, config, frames, programs, wire, mangle, order, lists.as_slice(),
+        alloc,
+        layout,
+        config,
+        frames,
+        programs,
+        wire,
+        mangle,
+        order,
+        lists.as_slice(),
     )?;
     let report = told_text(alloc, &shared, &run, journal)?;
     let spare = spare_text(alloc, lists);
@@ -160,7 +168,10 @@ fn run_lists(
     ensures failed { IfErr result (FailsRunning layout.now programs.now wire mangle order (lists_in lists.now)) }
 {
     let chain = chain_of(alloc, programs.as_slice(), layout.sockets, |rule: Rule| {
-        XdpProgram::attach(rule, move |packet: &[u8], queue: u32| rule.verdict(packet, queue))
+        XdpProgram::attach(
+            rule,
+            move |packet: &[u8], queue: u32| rule.verdict(packet, queue),
+        )
     })?;
     let wire = wire_of(wire);
     let manner = Manner { mangle, after: 0 };

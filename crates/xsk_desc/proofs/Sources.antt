@@ -8,7 +8,7 @@ use Rattle.xsk_model.specs.Config.{Config}
 use Rattle.xsk_model.specs.Numbers.{times, numbers}
 use Rattle.xsk_model.specs.Object.{call_ring, submitted, taken}
 use Rattle.xsk_model.specs.Entry.{Told}
-use Rattle.xsk_model.specs.Own.{had_of, is_fill_peek, fill_step, is_from_fill}
+use Rattle.xsk_model.specs.Own.{had_of, is_fill_peek, is_from_fill}
 use Rattle.xsk_model.specs.Legal.{IsLegal}
 use Rattle.xsk_model.specs.History.{Fits, OwnGoesOn}
 use Rattle.xsk_model.specs.declared.call.Ring.{Ring}

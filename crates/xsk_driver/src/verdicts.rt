@@ -32,11 +32,7 @@ pub(crate) fn ask_all<F: Fn(&[u8], u32) -> Verdict>(
 }
 
 /// The verdict of a packet. One without an Ethernet header isn't asked about.
-fn ask_once<F: Fn(&[u8], u32) -> Verdict>(
-    packet: &[u8],
-    queue: u32,
-    chain: &Chain<F>,
-) -> Verdict
+fn ask_once<F: Fn(&[u8], u32) -> Verdict>(packet: &[u8], queue: u32, chain: &Chain<F>) -> Verdict
     requires short { length packet.now ≤ 262144 }
     requires queue { queue < 4 }
     requires obeys { AllObey F.Fn chain.now }

@@ -4,7 +4,7 @@ use Rattle.std.specs.Prelude.{◌||◌, not, if◌then◌else◌}
 use Rattle.std.proofs.lemmas.List.{length-append, map-append, take_at, drop_at, drop-drop}
 use Rattle.std.proofs.lemmas.List.Elements.{All-push}
 use Rattle.xsk_umem.specs.declared.packet_list.Span.{Span}
-use Rattle.xsk_umem.specs.Span.{at_span, IsWithin, AreFrom, AreInText, end_of}
+use Rattle.xsk_umem.specs.Span.{at_span, IsWithin, AreInText, end_of}
 use Rattle.xsk_pcap.specs.declared.endianness.Endianness.{Endianness}
 use Rattle.xsk_pcap.specs.Capture.{header_bytes, Begins, IsCapture}
 use Rattle.xsk_pcap.specs.Steps.{BeginsRecord, Finds}

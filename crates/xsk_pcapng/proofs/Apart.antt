@@ -1,6 +1,6 @@
 -- Packets that stand in order and apart in a text, and those of one port among them.
 use Rattle.std.proofs.Common.{◌≡◌, ℕ, ◌+◌, ◌≤◌, Bool, true, false, List, [], ◌∷◌, ◌++◌, length, map, refl, ap, arith, inl, inr}
-use Rattle.std.specs.Prelude.{◌==◌, All, slice_get, Some, drop}
+use Rattle.std.specs.Prelude.{◌==◌, All, slice_get, Some, drop, eqb}
 use Rattle.std.specs.List.{filter}
 use Rattle.std.proofs.lemmas.Bool.{cases_Bool, ne_eqb}
 use Rattle.std.proofs.lemmas.List.Elements.{All-map, All-filter}
@@ -20,7 +20,7 @@ end_of-push from [] span = refl
 end_of-push from (first ∷ spans) span = end_of-push (first.start + first.len) spans span
 
 module _ (port : ℕ) where
-  is_here : Found → Bool
+  abbrev is_here : Found → Bool
   is_here f = f.interface == port
 
   -- the packets of one port stand apart too
@@ -29,16 +29,16 @@ module _ (port : ℕ) where
   apart-at before from (f ∷ found) early apart =
       let first : from ≤ f.span.start = apart.0 in
       elim (cases_Bool (is_here f)) [
-        | inl yes ↦ rw yes ((omega (arith, early, first)), apart-at (f.span.start + f.span.len) (f.span.start + f.span.len) found (omega arith) apart.1)
-        | inr no ↦ rw no (apart-at before (f.span.start + f.span.len) found (omega (arith, early, first)) apart.1)
+        | inl same ↦ rw same (omega (arith, early, first), apart-at (f.span.start + f.span.len) (f.span.start + f.span.len) found (omega arith) apart.1)
+        | inr other ↦ rw other (apart-at before (f.span.start + f.span.len) found (omega (arith, early, first)) apart.1)
       ]
 
   -- and are its packets
   pub packets-at : (bytes : List ℕ) (found : List Found) → map (at_span bytes) (spans_at port found) ≡ packets_at port (map (arrival_in bytes) found)
   packets-at bytes [] = refl
   packets-at bytes (f ∷ found) = elim (cases_Bool (is_here f)) [
-    | inl yes ↦ rw yes (ap (λ (ps : List (List ℕ)). at_span bytes f.span ∷ ps) (packets-at bytes found))
-    | inr no ↦ rw no (packets-at bytes found)
+    | inl same ↦ rw same (ap (λ (ps : List (List ℕ)). at_span bytes f.span ∷ ps) (packets-at bytes found))
+    | inr other ↦ rw other (packets-at bytes found)
   ]
 
   pub in-text-at : (bytes : List ℕ) (found : List Found) → All (IsFoundIn bytes) found → AreFrom 0 (spans_in found) → AreInText bytes (spans_at port found)
@@ -53,10 +53,10 @@ module _ (port : ℕ) where
 
   pub spans_from-here : (found : List Found) (i : ℕ) (f : Found) → slice_get found i ≡ Some f → f.interface ≡ port → spans_from found i ≡ f.span ∷ spans_from found (i + 1)
   spans_from-here found i f e is =
-      let yes : is_here f ≡ true = grind (arith, is) in
-      rw (drop_slice_get found i f e, yes) refl
+      let same : eqb f.interface port ≡ true = grind (arith, is) in
+      rw (drop_slice_get found i f e, same) refl
 
   pub spans_from-else : (found : List Found) (i : ℕ) (f : Found) → slice_get found i ≡ Some f → (f.interface ≡ port → ⊥) → spans_from found i ≡ spans_from found (i + 1)
   spans_from-else found i f e not_it =
-      let no : is_here f ≡ false = ne_eqb f.interface port not_it in
-      rw (drop_slice_get found i f e, no) refl
+      let other : eqb f.interface port ≡ false = ne_eqb f.interface port not_it in
+      rw (drop_slice_get found i f e, other) refl

@@ -1,7 +1,7 @@
 -- A step of one ring's store as a step of the object.
 use Rattle.std.proofs.Common.{◌≡◌, ℕ, ◌+◌, ◌-◌, ◌*◌, ◌<◌, ◌≤◌, ◌↔◌, cond, nat_le, List, [], ◌++◌, length, get_or, set, map, Some, Ok, Err, refl, sym, ap, subst, ◌∙◌, arith, length-append}
 use Rattle.std.specs.Prelude.{Result, IsOk, OnOk, OnErr}
-use Rattle.std.proofs.lemmas.List.{length-map, get_or-map, map-set, set-get_or, get_or_append_left, get_or-append_right}
+use Rattle.std.proofs.lemmas.List.{length-map, get_or-map, map-set, set-get_or}
 use Rattle.std.proofs.lemmas.List.Elements.{All-set, All-get_or, All-same}
 use Rattle.std.proofs.lemmas.Bool.Decides.{nat_tests}
 use Rattle.xsk_model.specs.Config.{Config, HasRing, size_of, socket_at}

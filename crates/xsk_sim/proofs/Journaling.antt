@@ -5,15 +5,10 @@ use Rattle.std.specs.Fmt.{decimal}
 use Rattle.std.proofs.lemmas.Bool.{cases_eq}
 use Rattle.std.proofs.lemmas.List.{get_or-set_same, get_or-set_other, length-append, nil_from_length, map-append}
 use Rattle.xsk_umem.specs.Geometry.{Geometry}
-use Rattle.xsk_umem.specs.declared.batch.Item.{Item}
 use Rattle.xsk_model.specs.Entry.{Told, Entry, told, own}
-use Rattle.xsk_model.specs.Stored.{stored, stored_entry, stored_call, stored_reply, stored_item}
-use Rattle.xsk_model.specs.declared.call.Call.{Call}
-use Rattle.xsk_model.specs.declared.call.Call.TheVariants.{Reserve, Submit, Peek, Release, Swap, Look}
-use Rattle.xsk_model.specs.declared.call.Reply.{Reply}
-use Rattle.xsk_model.specs.declared.call.Reply.TheVariants.{Granted, Full, Submitted, Items, Empty, Released, Old}
+use Rattle.xsk_model.specs.Stored.{stored, stored_entry}
 use Rattle.xsk_model.proofs.Folds.{own-push_same, own-push_other}
-use Rattle.xsk_plain.specs.Line.{who_text, ring_text, item_text, items_text, call_text, reply_text, line_of, TakesLine}
+use Rattle.xsk_plain.specs.Line.{line_of, TakesLine}
 use Rattle.xsk_sim.specs.Counts.{AreCounts}
 use Rattle.xsk_sim.specs.Journal.{round_of, journal_line, journal_from, journal_of}
 use Rattle.xsk_plain.proofs.StoredLines.{line_stored}

@@ -4,16 +4,14 @@ use Rattle.xsk_umem.specs.declared.batch.Item.{Item}
 use Rattle.xsk_model.specs.Config.{Config}
 use Rattle.xsk_model.specs.Asks.{joined_call, HasAsked}
 use Rattle.xsk_model.specs.Entry.{Told, own, with_told}
-use Rattle.xsk_model.specs.Expected.{Expected, IsReplyTo, CanCome, can_come, expected_of}
-use Rattle.xsk_model.specs.History.{Fits, MayGive}
+use Rattle.xsk_model.specs.Expected.{Expected, CanCome, can_come, expected_of}
+use Rattle.xsk_model.specs.History.{MayGive}
 use Rattle.xsk_model.specs.Legal.{IsLegal}
 use Rattle.xsk_model.specs.declared.ask.Ask.{Ask}
 use Rattle.xsk_model.specs.declared.call.Act.{Act}
 use Rattle.xsk_model.specs.declared.call.Act.TheVariants.{Call as Calls}
 use Rattle.xsk_model.specs.declared.call.Call.{Call}
-use Rattle.xsk_model.specs.declared.call.Call.TheVariants.{Reserve, Submit, Peek, Release, Swap, Look}
 use Rattle.xsk_model.specs.declared.call.Reply.{Reply}
-use Rattle.xsk_model.specs.declared.call.Reply.TheVariants.{Granted, Full, Submitted, Items, Empty, Released, Old}
 use Rattle.xsk_model.proofs.Replies.{gift_fits, fits_kind}
 use Rattle.xsk_turns.specs.Counted.{capped}
 use Rattle.xsk_turns.specs.Stepping.{joined_ask, IsGivenBack}

@@ -30,8 +30,8 @@ returns-then-not-permits-clause-made c frames h playing =
           (λ legal. not-true c.permits.result (search rules) (c.permits.ensures.1 legal)),
     )
 
-pub serve-_answer-requires-clause-items : goal.serve-_answer-requires-clause-items
-serve-_answer-requires-clause-items c =
+pub serve-answer-requires-clause-items : goal.serve-answer-requires-clause-items
+serve-answer-requires-clause-items c =
     let lent = c.lend.ensures.lent (search rules) in
     asks-too c.args.ask c.lend.new.items c.args.told.now (as-many c.args.told.now c.lend.new.items lent.descs_are) c.requires.asked
 
@@ -39,8 +39,8 @@ pub returns-clause-made : goal.returns-clause-made
 returns-clause-made c frames h playing =
     let geometry = c.geometry.ensures.value ∙ ap (λ (k : Config). k.geometry) c.config.ensures in
     let lent = c.lend.ensures.lent (search rules) in
-    let serve = c.serve-_answer.ensures in
-    made-as c.args.checked.now c.reserve_log.new.self c.serve-_answer.new.self c.args.shelf.now c.lend.new.self c.keep.new.self frames h c.args.who c.args.ask c.args.told.now c.lend.new.items c.serve-_answer.result c.serve-_answer.new.items
+    let serve = c.serve-answer.ensures in
+    made-as c.args.checked.now c.reserve_log.new.self c.serve-answer.new.self c.args.shelf.now c.lend.new.self c.keep.new.self frames h c.args.who c.args.ask c.args.told.now c.lend.new.items c.serve-answer.result c.serve-answer.new.items
     (payload_bytes c.reserve_log.new.self.config (joined_call c.args.ask c.lend.new.items)) playing c.requires.asked c.requires.told
     (subst (λ (g : Geometry). IsLent g c.args.shelf.now c.lend.new.self (descs_of c.args.told.now) c.lend.new.items) geometry lent)
     (subst (λ (g : Geometry). AreInPlace g c.lend.new.self) geometry c.lend.ensures.places) c.lend.ensures.count

@@ -46,14 +46,14 @@ returns-in_default-clause-played c =
 
 pub make-requires-clause-told : goal.make-requires-clause-told
 make-requires-clause-told c =
-    let r = c.in-Some in
+    let r = c.in-Some.reading in
     line-says _ c.first_line.result.0.now (record { round = r.round; who = r.who; call = joined_call r.ask c.read_line.new.items }) c.in-Some.ensures.said
 
 pub returns-then-not-branch-clause-played : goal.returns-then-not-branch-clause-played
 returns-then-not-branch-clause-played c =
     let l = c.loop-line.invariant in
     let line = c.first_line.result.0.now in
-    let r = c.in-Some in
+    let r = c.in-Some.reading in
     let said : Said = record { round = r.round; who = r.who; call = joined_call r.ask c.read_line.new.items } in
     let made = c.in_ok-make.ensures in
     let none = wasnt-made c.make.new.checked c.make.new.shelf l.frames l.history r.who said.call c.in_ok-make.field-0 (made.made l.frames l.history l.playing) (search rules) in
@@ -75,7 +75,7 @@ pub loop-line-preserved : goal.loop-line-preserved
 loop-line-preserved c =
     let l = c.loop-line.invariant in
     let line = c.first_line.result.0.now in
-    let r = c.in-Some in
+    let r = c.in-Some.reading in
     let said : Said = record { round = r.round; who = r.who; call = joined_call r.ask c.read_line.new.items } in
     let made = c.in_ok-make.ensures in
     let m = was-made c.make.new.checked c.make.new.shelf l.frames l.history r.who said.call c.in_ok-make.field-0 (made.made l.frames l.history l.playing) (search rules) in

@@ -11,10 +11,12 @@ returns-then-not-is_map c =
     let below : c.loop-k.k < length c.args.cells.now = search rules in
     let here : get_or (map vec_items c.args.cells.now) c.loop-k.k c.as_slice.result.now ≡ c.as_slice.result.now =
     get_or-map vec_items c.args.cells.now c.loop-k.k c.index-cells-k.result c.as_slice.result.now below ∙ ap vec_items (sym c.index-cells-k.is) ∙ sym c.as_slice.ensures.value in
-    let within : c.loop-k.k < length (map vec_items c.args.cells.now) = rw (length-map c.args.cells.now vec_items) below in
-    (λ is. absurd (cc), λ all.
-        let told : IsTrue c.is_map.result = c.is_map.ensures.1 (subst (IsMap c.args.sockets) here (all c.loop-k.k c.as_slice.result.now within)) in
-        search (rules, told))
+    let within : c.loop-k.k < length (map vec_items c.args.cells.now) = rw (length-map c.args.cells.now vec_items) below in (
+      λ is. absurd (cc),
+      λ all.
+          let told : IsTrue c.is_map.result = c.is_map.ensures.1 (subst (IsMap c.args.sockets) here (all c.loop-k.k c.as_slice.result.now within)) in
+          search (rules, told),
+    )
 
 pub loop-k-preserved : goal.loop-k-preserved
 loop-k-preserved c = λ i none first.

@@ -19,11 +19,14 @@ returns-then-not-has_frames c = λ mine h.
     let kept = c.args.self.now in
     let room : length c.args.items.now ≤ room_of c.args.ring mine = omega (arith, c.requires.room, h.keeps.room c.args.ring c.requires.ring) in
     let lawful : All (IsItemOn config.geometry c.args.ring) c.args.items.now =
-    subst (λ g. All (IsItemOn g c.args.ring) c.args.items.now) c.geometry.ensures.value (c.are_items.ensures.0 c.if-not-are_items.false) in
-    (((h.caller, c.requires.ring, c.requires.role), (c.requires.some, c.requires.few, room)), lawful, λ frames.
-        let yes : c.has_frames.result ≡ true = c.has_frames.ensures.1 (had_to_has config kept mine h c.args.ring c.args.items.now lawful frames) in
-        let no : c.has_frames.result ≡ false = c.if-not-has_frames.true in
-        absurd (cc))
+    subst (λ g. All (IsItemOn g c.args.ring) c.args.items.now) c.geometry.ensures.value (c.are_items.ensures.0 c.if-not-are_items.false) in (
+      ((h.caller, c.requires.ring, c.requires.role), (c.requires.some, c.requires.few, room)),
+      lawful,
+      λ frames.
+          let yes : c.has_frames.result ≡ true = c.has_frames.ensures.1 (had_to_has config kept mine h c.args.ring c.args.items.now lawful frames) in
+          let no : c.has_frames.result ≡ false = c.if-not-has_frames.true in
+          absurd (cc),
+    )
 
 pub returns-then-not-may_place : goal.returns-then-not-may_place
 returns-then-not-may_place c = λ mine h.
@@ -32,12 +35,14 @@ returns-then-not-may_place c = λ mine h.
     let room : length c.args.items.now ≤ room_of c.args.ring mine = omega (arith, c.requires.room, h.keeps.room c.args.ring c.requires.ring) in
     let lawful : All (IsItemOn config.geometry c.args.ring) c.args.items.now =
     subst (λ g. All (IsItemOn g c.args.ring) c.args.items.now) c.geometry.ensures.value (c.are_items.ensures.0 c.if-not-are_items.false) in
-    let frames = has_to_had config kept mine h c.args.items.now (c.has_frames.ensures.0 c.if-not-has_frames.false) in
-    ((((h.caller, c.requires.ring, c.requires.role), (c.requires.some, c.requires.few, room)), lawful, frames), λ packets.
-        let yes : c.may_place.result ≡ true =
-        c.may_place.ensures.1 (packets_placed config kept mine c.args.items.now c.geometry.ensures.lawful h c.args.ring c.requires.ring c.requires.role c.requires.some lawful frames packets) in
-        let no : c.may_place.result ≡ false = c.if-not-may_place.true in
-        absurd (cc))
+    let frames = has_to_had config kept mine h c.args.items.now (c.has_frames.ensures.0 c.if-not-has_frames.false) in (
+      (((h.caller, c.requires.ring, c.requires.role), (c.requires.some, c.requires.few, room)), lawful, frames),
+      λ packets.
+          let yes : c.may_place.result ≡ true =
+          c.may_place.ensures.1 (packets_placed config kept mine c.args.items.now c.geometry.ensures.lawful h c.args.ring c.requires.ring c.requires.role c.requires.some lawful frames packets) in
+          let no : c.may_place.result ≡ false = c.if-not-may_place.true in
+          absurd (cc),
+    )
 
 pub returns-then-not-is_open : goal.returns-then-not-is_open
 returns-then-not-is_open c = λ mine h.
@@ -54,12 +59,14 @@ returns-then-not-is_open c = λ mine h.
       lawful = lawful;
       frames = has_each;
       packets = c.may_place.ensures.0 c.if-not-may_place.false;
-    } in
-    ((((h.caller, c.requires.ring, c.requires.role), (c.requires.some, c.requires.few, room)), lawful, has_to_had config kept mine h c.args.items.now has_each),
-    placed_packets config kept mine c.args.items.now c.geometry.ensures.lawful h c.args.ring c.requires.ring c.requires.role may, λ fed.
-        let yes : c.is_open.result ≡ true = c.is_open.ensures.1 ((open_is_fed config kept mine h c.args.ring).1 fed) in
-        let no : c.is_open.result ≡ false = c.if-not-is_open.true in
-        absurd (cc))
+    } in (
+      (((h.caller, c.requires.ring, c.requires.role), (c.requires.some, c.requires.few, room)), lawful, has_to_had config kept mine h c.args.items.now has_each),
+      placed_packets config kept mine c.args.items.now c.geometry.ensures.lawful h c.args.ring c.requires.ring c.requires.role may,
+      λ fed.
+          let yes : c.is_open.result ≡ true = c.is_open.ensures.1 ((open_is_fed config kept mine h c.args.ring).1 fed) in
+          let no : c.is_open.result ≡ false = c.if-not-is_open.true in
+          absurd (cc),
+    )
 
 pub returns : goal.returns
 returns c = λ mine h.

@@ -40,7 +40,10 @@ returns-clause-why c =
     let notes : NotesOwn inside.plain.config c.self.invariant.history c.args.who c.index.result.now =
     noted_at inside.plain.config c.self.invariant.history inside.standings.items c.args.who c.index.result.now c.self.invariant.noted within c.index.ensures in
     let whys : Engine → Type 0 = λ e. (frames : List Frame) × (h : List Entry) × HasRun e frames h
-        × MatchOption c.why_not.result (IsLegal e.config (own c.args.who h) c.args.who c.args.call.now) (λ why. Fails why e.config (own c.args.who h) c.args.who c.args.call.now) in
-    subst whys c.self.view_is
-    (c.self.invariant.frames, c.self.invariant.history, c.self.invariant.run,
-    told_why inside.plain c.config.result.now c.self.invariant.history c.args.who c.index.result.now c.args.call.now c.why_not.result c.config.ensures notes c.why_not.ensures)
+    × MatchOption c.why_not.result (IsLegal e.config (own c.args.who h) c.args.who c.args.call.now) (λ why. Fails why e.config (own c.args.who h) c.args.who c.args.call.now) in
+    subst whys c.self.view_is (
+      c.self.invariant.frames,
+      c.self.invariant.history,
+      c.self.invariant.run,
+      told_why inside.plain c.config.result.now c.self.invariant.history c.args.who c.index.result.now c.args.call.now c.why_not.result c.config.ensures notes c.why_not.ensures,
+    )
