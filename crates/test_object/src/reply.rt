@@ -16,10 +16,7 @@ pub(crate) enum Asked {
 pub(crate) const NOT_LEGAL: &str = "not legal";
 
 /// What is told of a call that isn't legal.
-pub(crate) fn refusal_words(
-    alloc: Global,
-    why: Option<Illegal>,
-) -> Result<String, OutOfMemory> {
+pub(crate) fn refusal_words(alloc: Global, why: Option<Illegal>) -> Result<String, OutOfMemory> {
     match why {
         Some(why) => Ok(format!(in alloc; "{NOT_LEGAL}: {why}")?),
         None => Ok(format!(in alloc; "{NOT_LEGAL}")?),
