@@ -2,12 +2,9 @@
 
 use anyhow::{Context, Result, ensure};
 use std::alloc::Global;
-use xsk_umem::{Batch, Frame, Item, Umem, XdpDesc};
+use xsk_umem::{Batch, Frame, Item, RESERVED, Umem, XdpDesc};
 
 const PACKET: [u8; 60] = [7; 60];
-
-/// The bytes of a chunk before its data: 256 and no headroom.
-const RESERVED: u32 = 256;
 
 pub fn fill_a_frame<R: Print>(rt: &R, alloc: Global) -> Result<()> {
     let (geometry, mut frames) = Umem::register(alloc, 16_384, 2048, 0)?;
@@ -18,7 +15,7 @@ pub fn fill_a_frame<R: Print>(rt: &R, alloc: Global) -> Result<()> {
     hand_over(rt, alloc, frame, addr)
 }
 
-/// A frame with the packet at its data.
+/// A frame with the packet at its data, which stands behind the reserved bytes, as there is no headroom.
 fn filled(frame: Option<Frame>) -> Result<Frame> {
     let mut frame = frame.context("the UMEM has frames")?;
     ensure!(frame.bytes().len() == 2048, "a frame has a whole chunk");

@@ -59,6 +59,7 @@ pub(crate) fn told(alloc: Global, blocks: &[Block], block: &Block) -> Result<Str
 fn makers(word: &str) -> Makers {
     match word {
         "checked" => Makers::Checked,
+        "why" => Makers::Why,
         "plain" => Makers::Plain,
         _ => Makers::Both(number(word).unwrap_or(0)),
     }

@@ -1,6 +1,6 @@
 //! The frames that are out of all rings, of both engines.
 use crate::bytes;
-use crate::reply::{Asked, NOT_LEGAL, reply_words};
+use crate::reply::{Asked, refusal_words, reply_words};
 use crate::words::{Body, Move, Thing};
 use std::alloc::Global;
 use std::string::String;
@@ -189,11 +189,11 @@ impl Store {
                 };
                 Ok(Told { words, fine })
             }
-            Asked::Refused(call) => {
+            Asked::Refused(call, why) => {
                 if let Call::Submit(_, items) = call {
                     self.put_items(known, items);
                 }
-                let words = format!(in alloc; "{NOT_LEGAL}")?;
+                let words = refusal_words(alloc, why)?;
                 Ok(Told { words, fine: true })
             }
         }

@@ -5,10 +5,12 @@ use xsk_model::{Call, Config};
 use xsk_plain::{Checked, LineBuffer, Log, Plain, payload_room};
 use xsk_umem::{Frames, OutOfMemory};
 
-/// The engine that tells which calls are legal, or the one that makes each call that can be made.
+/// The engine that tells which calls are legal, the same where it is asked why one isn't, or the one that makes each call that
+/// can be made.
 #[derive(Drop)]
 pub(crate) enum Object {
     Checked(Checked),
+    Why(Checked),
     Plain(Plain),
 }
 
@@ -16,16 +18,25 @@ fn ask_checked(checked: &mut Checked, who: u32, call: Call) -> Result<Asked, Out
     let _geometry = checked.config().geometry();
     checked.reserve_log(1, payload_room(&call))?;
     if !checked.allows(who, &call) {
-        return Ok(Asked::Refused(call));
+        return Ok(Asked::Refused(call, None));
     }
     Ok(Asked::Made(checked.perform(who, call)))
+}
+
+fn ask_why(checked: &mut Checked, who: u32, call: Call) -> Result<Asked, OutOfMemory> {
+    let _geometry = checked.config().geometry();
+    checked.reserve_log(1, payload_room(&call))?;
+    match checked.why_not(who, &call) {
+        Some(why) => Ok(Asked::Refused(call, Some(why))),
+        None => Ok(Asked::Made(checked.perform(who, call))),
+    }
 }
 
 fn ask_plain(plain: &mut Plain, who: u32, call: Call) -> Result<Asked, OutOfMemory> {
     let _geometry = plain.config().geometry();
     plain.reserve_log(1, payload_room(&call))?;
     if !plain.can_perform(&call) {
-        return Ok(Asked::Refused(call));
+        return Ok(Asked::Refused(call, None));
     }
     Ok(Asked::Made(plain.perform(who, call)))
 }
@@ -33,14 +44,14 @@ fn ask_plain(plain: &mut Plain, who: u32, call: Call) -> Result<Asked, OutOfMemo
 impl Object {
     pub(crate) fn config(&self) -> &Config {
         match self {
-            Object::Checked(checked) => checked.config(),
+            Object::Checked(checked) | Object::Why(checked) => checked.config(),
             Object::Plain(plain) => plain.config(),
         }
     }
 
     pub(crate) fn log(&self) -> &Log {
         match self {
-            Object::Checked(checked) => checked.log(),
+            Object::Checked(checked) | Object::Why(checked) => checked.log(),
             Object::Plain(plain) => plain.log(),
         }
     }
@@ -49,6 +60,7 @@ impl Object {
     pub(crate) fn ask(&mut self, who: u32, call: Call) -> Result<Asked, OutOfMemory> {
         match self {
             Object::Checked(checked) => ask_checked(checked, who, call),
+            Object::Why(checked) => ask_why(checked, who, call),
             Object::Plain(plain) => ask_plain(plain, who, call),
         }
     }
@@ -56,7 +68,7 @@ impl Object {
     /// The frames that stand in rings, ring by ring and in order.
     pub(crate) fn close(self) -> Frames {
         match self {
-            Object::Checked(checked) => checked.close(),
+            Object::Checked(checked) | Object::Why(checked) => checked.close(),
             Object::Plain(plain) => plain.close(),
         }
     }

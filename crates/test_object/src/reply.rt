@@ -1,18 +1,27 @@
 //! What comes of a call, in words.
 use std::alloc::Global;
 use std::string::String;
+use xsk_desc::Illegal;
 use xsk_model::{Call, Reply};
 use xsk_umem::{Batch, OutOfMemory};
 
-/// What comes of a call: its reply, or the call itself where it isn't legal.
+/// What comes of a call: its reply, or the call itself where it isn't legal, and why it isn't where that was asked.
 #[derive(Drop)]
 pub(crate) enum Asked {
     Made(Reply),
-    Refused(Call),
+    Refused(Call, Option<Illegal>),
 }
 
 /// What is printed of a call that isn't legal.
 pub(crate) const NOT_LEGAL: &str = "not legal";
+
+/// What is told of a call that isn't legal.
+pub(crate) fn refusal_words(alloc: Global, why: Option<Illegal>) -> Result<String, OutOfMemory> {
+    match why {
+        Some(why) => Ok(format!(in alloc; "{NOT_LEGAL}: {why}")?),
+        None => Ok(format!(in alloc; "{NOT_LEGAL}")?),
+    }
+}
 
 /// A reply in the words of a journal's line.
 pub(crate) fn reply_words(alloc: Global, reply: &Reply) -> Result<String, OutOfMemory> {

@@ -22,6 +22,8 @@ pub(crate) enum Makers {
     Both(u32),
     /// This object alone.
     Checked,
+    /// The same, asked why a call isn't legal.
+    Why,
     /// The object alone that makes each call that can be made.
     Plain,
 }
@@ -53,9 +55,18 @@ fn checked_of(alloc: Global, setup: Setup) -> Option<Object> {
     }
 }
 
+fn why_of(alloc: Global, setup: Setup) -> Option<Object> {
+    let (config, frames) = setup.make(alloc)?;
+    match Checked::open(alloc, config, frames) {
+        Ok(checked) => Some(Object::Why(checked)),
+        Err(_) => None,
+    }
+}
+
 fn object_of(alloc: Global, setup: Setup, makers: Makers) -> Option<Object> {
     match makers {
         Makers::Plain => plain_of(alloc, setup),
+        Makers::Why => why_of(alloc, setup),
         Makers::Both(_) | Makers::Checked => checked_of(alloc, setup),
     }
 }

@@ -132,8 +132,9 @@ impl Stage {
 
     /// Prints what came of a call, by the log's line of it.
     pub(crate) fn tell(&mut self, line: &str, who: u32, made: &Made) -> Result<(), OutOfMemory> {
-        if made.words.as_str() == NOT_LEGAL {
-            let text = format!(in self.alloc; "{line}: {NOT_LEGAL}")?;
+        if made.words.as_str().starts_with(NOT_LEGAL) {
+            let words = made.words.as_str();
+            let text = format!(in self.alloc; "{line}: {words}")?;
             return self.print(text.as_str());
         }
         self.keep(who)?;

@@ -103,7 +103,7 @@ fn asked<L: Ledger>(
     ensures caller { pass.new.who ≡ pass.old.who }
 {
     if !pass.allows(shared, &call) {
-        return (Asked::Refused(call), 0);
+        return (Asked::Refused(call, None), 0);
     }
     let mut steps = Steps::<L>::new(blank);
     let (reply, looks) = if anew {
@@ -192,7 +192,7 @@ impl Table {
         ensures { self.new ≡ self.old }
     {
         if who as usize >= self.checked.len() {
-            return (Asked::Refused(call), 0);
+            return (Asked::Refused(call, None), 0);
         }
         asked_anew(&self.shared, &mut self.checked[who as usize], call, anew)
     }

@@ -47,6 +47,11 @@ no_file_check work inputs h = no_file_check_in (format_in work) (ports_in work) 
 
 -- ---- what is refused
 
+-- what is taken from the end of a list of one
+pub only_one : {X : Type 0} (all rest : List X) (x : X) → length all ≡ 1 → all ≡ rest ++ x ∷ [] → get_or all 0 x ≡ x
+only_one all [] x one is = ap (λ xs. get_or xs 0 x) is
+only_one all (y ∷ ys) x one is = absurd (omega (arith, one, ap length is, length-append ys (x ∷ [])))
+
 pub file_refusal : (ports : ℕ) (bytes : List ℕ) (cause : FileCause) → IsCause ports bytes cause → (cause ≡ NoFileCause → ⊥) → IsRefused ports bytes cause × (cause ≡ NoFileCause → ⊥)
 file_refusal ports bytes cause (inl refused) check = (refused, check)
 file_refusal ports bytes cause (inr memory) check = absurd (check memory.0)

@@ -13,10 +13,11 @@ use Rattle.xsk_socket.specs.Layout.{fault_of}
 use Rattle.xsk_socket.proofs.Accepted.{fits}
 use Rattle.xsk_cli.specs.Judged.{bytes_of, AreShort, packets_in, bytes_in, excess_of}
 use Rattle.xsk_cli.specs.Outcome.{listed, made_lists, Written, AreListsOf, AreMadeOf, AreTextsBy, IsOnPackets}
-use Rattle.xsk_cli.specs.Steps.{AreUntaken, FailsAudit, FailsMaking, MakesNone, lists_in, read_by, IsUntaken}
+use Rattle.xsk_cli.specs.Steps.{AreUntaken, FailsAudit, FailsMaking, FailsRunning, MakesNone, lists_in, read_by, IsUntaken}
 use Rattle.xsk_cli.specs.Words.{fault_in, most_of}
 use Rattle.xsk_cli.specs.declared.failure.RunFailure.{RunFailure}
 use Rattle.xsk_cli.specs.declared.failure.RunFailure.TheVariants.{BadCapture as Bad, TooMuch as Excessive, Stalled as Stalls, OutOfMemory as NoMemory, NotLegal as Breaks, BadPcapng as BadFile}
+use Rattle.xsk_cli.specs.declared.format.Format.{Format}
 use Rattle.xsk_cli.specs.declared.format.Format.TheVariants.{Pcap, Pcapng}
 use Rattle.xsk_cli.proofs.Ports.{more_ports}
 use Rattle.xsk_args.specs.declared.program.Program.{Program}
@@ -151,3 +152,14 @@ audit_fails layout inputs (Breaks line) within h = (within, h)
 pub audit_makes : {A : Type 0} (answer : Result A RunFailure) (layout : Layout) (inputs : List (List ℕ)) → AreShort (most_of (Audit layout)) inputs (length inputs) → IfErr answer (FailsAudit layout (bytes_of inputs 0)) → IfErr answer (MakesNone (Audit layout) inputs)
 audit_makes (Ok made) layout inputs within h = tt
 audit_makes (Err failure) layout inputs within h = audit_fails layout inputs failure within h
+
+-- a run that gives nothing, as its work gives nothing
+pub run_makes : {A : Type 0} (layout : Layout) (programs : List Program) (wire : Wire) (mangle : Option ℕ) (order : ℕ) (number : Option ℕ) (journal : Bool) (format : Format) (lists : List (List (List ℕ)))
+    (r : Result A RunFailure) → IfErr r (FailsRunning layout programs wire mangle order lists) → IfErr r (FailsMaking (Simulate layout programs wire mangle order number journal format) lists)
+run_makes layout programs wire mangle order number journal format lists (Ok texts) fails = fails
+run_makes layout programs wire mangle order number journal format lists (Err (Stalls round)) fails = fails
+run_makes layout programs wire mangle order number journal format lists (Err NoMemory) fails = tt
+run_makes layout programs wire mangle order number journal format lists (Err (Bad port cause)) fails = absurd fails
+run_makes layout programs wire mangle order number journal format lists (Err (Excessive excess)) fails = absurd fails
+run_makes layout programs wire mangle order number journal format lists (Err (Breaks line)) fails = absurd fails
+run_makes layout programs wire mangle order number journal format lists (Err (BadFile cause)) fails = absurd fails

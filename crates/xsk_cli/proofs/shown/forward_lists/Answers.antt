@@ -10,8 +10,8 @@ use Rattle.xsk_cli.proofs.Going.{are_exact_by}
 use Rattle.xsk_cli.proofs.Running.{forwarded_as, pairs_are}
 use Rattle.xsk_cli.proofs.shown.forward_lists.Goals as goal
 
-pub chain_of-chain-requires-clause-sockets : goal.chain_of-chain-requires-clause-sockets
-chain_of-chain-requires-clause-sockets g c =
+pub chain_of-requires-clause-sockets : goal.chain_of-requires-clause-sockets
+chain_of-requires-clause-sockets g c =
     let sockets = (fits c.args.layout.now c.requires.accepted).sockets in
     record { some = omega (arith, sockets); few = omega (arith, sockets) }
 

@@ -65,4 +65,4 @@ returns-in_err-lent-clause-shown g c o is =
     subst (HasForwarded (setting_of c.args.layout.now c.args.programs.now c.args.wire None (lists_in c.args.lists.items)) (frames_of c.args.layout.now)) (same_Some c.in_ok-shown.shown o (sym c.in_err-lent.ensures.kept ∙ is)) (subst (λ ls. HasForwarded (setting_of c.args.layout.now c.args.programs.now c.args.wire None (lists_in ls)) (frames_of c.args.layout.now) c.in_ok-shown.shown) c.as_slice.ensures.value c.in_ok-shown.ensures.forwarded)
 
 pub forward_lists-requires-clause-steady : goal.forward_lists-requires-clause-steady
-forward_lists-requires-clause-steady g c = record { regular = c.in_ok-config.ensures.regular; closes = ap (λ (k : Config). k.closing) c.in_ok-config.ensures.config ∙ c.requires.closes }
+forward_lists-requires-clause-steady g c κs within = record { regular = c.in_ok-config.ensures.regular; closes = ap (λ (k : Config). k.closing) c.in_ok-config.ensures.config ∙ c.requires.closes }

@@ -7,8 +7,8 @@ use Rattle.xsk_cli.specs.Steps.{lists_in}
 use Rattle.xsk_cli.proofs.Running.{stalled_as, ended_as}
 use Rattle.xsk_cli.proofs.texts.run_lists.Goals as goal
 
-pub chain_of-chain-requires-clause-sockets : goal.chain_of-chain-requires-clause-sockets
-chain_of-chain-requires-clause-sockets c =
+pub chain_of-requires-clause-sockets : goal.chain_of-requires-clause-sockets
+chain_of-requires-clause-sockets c =
     let sockets = (fits c.args.layout.now c.requires.accepted).sockets in
     record { some = omega (arith, sockets); few = omega (arith, sockets) }
 

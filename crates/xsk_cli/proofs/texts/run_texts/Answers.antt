@@ -26,17 +26,17 @@ sent_texts-requires-clause-writable c port count in_ports few =
     let layout = c.args.layout.now in
     let lists : List (List (List ℕ)) = lists_in c.args.lists.items in
     let run = c.in_ok-run.run' in
-    let own = c.into_sent.result.items in
-    let same : lists_in own ≡ run.sent = c.into_sent.ensures.sent in
+    let own = c.into_sent-sent.result.items in
+    let same : lists_in own ≡ run.sent = c.into_sent-sent.ensures.sent in
     let known : length lists ≡ layout.ports = length-map c.args.lists.items (λ list. list.packets) ∙ c.requires.ports in
     let pairs : length run.sent ≡ layout.ports * layout.queues =
-    ap length (sym same) ∙ length-map own (λ list. list.packets) ∙ c.into_sent.ensures.pairs ∙ c.in_ok-run.ensures.pairs in
+    ap length (sym same) ∙ length-map own (λ list. list.packets) ∙ c.into_sent-sent.ensures.pairs ∙ c.in_ok-run.ensures.pairs in
     subst (λ (ls : List (List (List ℕ))). IsWritable (take count (drop (port * layout.queues) ls))) (sym same)
     (sent_writable layout c.args.programs.now c.args.wire c.args.mangle c.args.order lists c.requires.accepted c.requires.closes run (subst (λ ls. HasEnded (setting_of layout c.args.programs.now c.args.wire c.args.mangle (lists_in ls)) (frames_of layout) c.args.order c.in_ok-run.run') c.as_slice.ensures.value c.in_ok-run.ensures.ended) pairs known c.requires.within
-    (subst (λ (ls : List (List (List ℕ))). (pair : ℕ) → pair < length ls → All IsShort (get_or ls pair [])) same (lists_short own c.into_sent.ensures.short)) port count in_ports few)
+    (subst (λ (ls : List (List (List ℕ))). (pair : ℕ) → pair < length ls → All IsShort (get_or ls pair [])) same (lists_short own c.into_sent-sent.ensures.short)) port count in_ports few)
 
 pub sent_texts-requires-clause-count : goal.sent_texts-requires-clause-count
-sent_texts-requires-clause-count c = c.into_sent.ensures.pairs ∙ c.in_ok-run.ensures.pairs
+sent_texts-requires-clause-count c = c.into_sent-sent.ensures.pairs ∙ c.in_ok-run.ensures.pairs
 
 pub sent_texts-requires-clause-few : goal.sent_texts-requires-clause-few
 sent_texts-requires-clause-few c =
@@ -48,23 +48,23 @@ sent_texts-requires-clause-file c =
     let layout = c.args.layout.now in
     let lists : List (List (List ℕ)) = lists_in c.args.lists.items in
     let run = c.in_ok-run.run' in
-    let own = c.into_sent.result.items in
-    let same : lists_in own ≡ run.sent = c.into_sent.ensures.sent in
+    let own = c.into_sent-sent.result.items in
+    let same : lists_in own ≡ run.sent = c.into_sent-sent.ensures.sent in
     let known : length lists ≡ layout.ports = length-map c.args.lists.items (λ list. list.packets) ∙ c.requires.ports in
     let pairs : length run.sent ≡ layout.ports * layout.queues =
-    ap length (sym same) ∙ length-map own (λ list. list.packets) ∙ c.into_sent.ensures.pairs ∙ c.in_ok-run.ensures.pairs in
+    ap length (sym same) ∙ length-map own (λ list. list.packets) ∙ c.into_sent-sent.ensures.pairs ∙ c.in_ok-run.ensures.pairs in
     subst (λ (ls : List (List (List ℕ))). IsWritableFile (joined layout.ports layout.queues ls)) (sym same)
     (sent_in_file layout c.args.programs.now c.args.wire c.args.mangle c.args.order lists c.requires.accepted c.requires.closes run (subst (λ ls. HasEnded (setting_of layout c.args.programs.now c.args.wire c.args.mangle (lists_in ls)) (frames_of layout) c.args.order c.in_ok-run.run') c.as_slice.ensures.value c.in_ok-run.ensures.ended) pairs known c.requires.within
-    (subst (λ (ls : List (List (List ℕ))). (pair : ℕ) → pair < length ls → All IsShort (get_or ls pair [])) same (lists_short own c.into_sent.ensures.short)))
+    (subst (λ (ls : List (List (List ℕ))). (pair : ℕ) → pair < length ls → All IsShort (get_or ls pair [])) same (lists_short own c.into_sent-sent.ensures.short)))
 
 pub returns-clause-made : goal.returns-clause-made
 returns-clause-made c =
     let layout = c.args.layout.now in
     let run = c.in_ok-run.run' in
-    let own = c.into_sent.result.items in
-    let same : lists_in own ≡ run.sent = c.into_sent.ensures.sent in
+    let own = c.into_sent-sent.result.items in
+    let same : lists_in own ≡ run.sent = c.into_sent-sent.ensures.sent in
     let pairs : length run.sent ≡ layout.ports * layout.queues =
-    ap length (sym same) ∙ length-map own (λ list. list.packets) ∙ c.into_sent.ensures.pairs ∙ c.in_ok-run.ensures.pairs in
+    ap length (sym same) ∙ length-map own (λ list. list.packets) ∙ c.into_sent-sent.ensures.pairs ∙ c.in_ok-run.ensures.pairs in
     texts_of layout c.args.programs.now c.args.wire c.args.mangle c.args.order (lists_in c.args.lists.items) c.requires.accepted c.requires.closes run (subst (λ ls. HasEnded (setting_of layout c.args.programs.now c.args.wire c.args.mangle (lists_in ls)) (frames_of layout) c.args.order c.in_ok-run.run') c.as_slice.ensures.value c.in_ok-run.ensures.ended) pairs c.args.format c.args.journal
     (written_in (record { outputs = c.in_ok-outputs.outputs; report = c.in_ok-report.report }))
     (c.in_ok-outputs.ensures ∙ ap (λ (ls : List (List (List ℕ))). outputs_of c.args.format (λ port. take layout.queues (drop (port * layout.queues) ls)) (range_with_len 0 layout.ports)) same)
