@@ -126,7 +126,7 @@ one_socket n bytes Passed = omega arith
 one_socket n bytes Dropped = omega arith
 one_socket n bytes Bounced = omega arith
 
-total-cond : {X : Type 0} (f : X → ℕ) (b : Bool) (x : X) (xs : List X) → total f (cond b (x ∷ xs) xs) ≡ cond b (f x) 0 + total f xs
+pub total-cond : {X : Type 0} (f : X → ℕ) (b : Bool) (x : X) (xs : List X) → total f (cond b (x ∷ xs) xs) ≡ cond b (f x) 0 + total f xs
 total-cond f true x xs = refl
 total-cond f false x xs = omega arith
 
@@ -144,7 +144,7 @@ delivered_parts f n (x ∷ input) (disposal ∷ disposals) =
       total-cond f (is_from n disposal) x.bytes (delivered_from n input disposals),
     )
 
-cond_few : (b : Bool) (n : ℕ) → cond b n 0 ≤ n
+pub cond_few : (b : Bool) (n : ℕ) → cond b n 0 ≤ n
 cond_few true n = omega arith
 cond_few false n = omega arith
 
