@@ -23,7 +23,7 @@ use Rattle.xsk_turns.proofs.ScriptLemmas.{whole_run}
 use Rattle.xsk_app.specs.Runs.{StandsWith as AppStandsWith}
 use Rattle.xsk_app.proofs.Runs.{tells_with as app_tells_with}
 use Rattle.xsk_turns.specs.Workers.{Setting, input_of, IsWorkerRun}
-use Rattle.xsk_machine.specs.Acts.{other_of, HasRoomToSend, DriverStands, AppStands, IsActAfter}
+use Rattle.xsk_machine.specs.Acts.{leaving, HasRoomToSend, DriverStands, AppStands, IsActAfter}
 
 -- ---- drivers
 
@@ -43,10 +43,10 @@ pub room_stays : (s : Setting) (who : ℕ) (old new : DriverShown) → HasRoomTo
     → (new.sent.most_packets ≡ old.sent.most_packets) × (new.sent.most_bytes ≡ old.sent.most_bytes) → HasRoomToSend s who new
 room_stays s who old new room same = record { packets = same.0 ∙ room.packets; bytes = same.1 ∙ room.bytes }
 
--- packets are no more than what the paired port received on the queue
+-- packets are no more than what can leave by a pair's port on its queue
 pub record IsWithin (s : Setting) (who : ℕ) (packets : List (List ℕ)) : Type 0 where
-  pub count : length packets ≤ length (other_of s who)
-  pub bytes : length (concat packets) ≤ length (concat (other_of s who))
+  pub count : length packets ≤ length (leaving s.config s.packets who)
+  pub bytes : length (concat packets) ≤ length (concat (leaving s.config s.packets who))
 
 is_false : (b : Bool) → (IsTrue b → ⊥) → b ≡ false
 is_false true h = absurd (h refl)

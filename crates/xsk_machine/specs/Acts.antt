@@ -1,7 +1,7 @@
 -- Where the workers of a setting stand, each for its own calls and replies, and what each gave after them.
-use Rattle.std.specs.Prelude.{◌≡◌, ℕ, ◌<◌, All, List, length}
+use Rattle.std.specs.Prelude.{◌≡◌, ℕ, ◌<◌, All, List, ◌++◌, length}
 use Rattle.std.specs.List.{concat}
-use Rattle.xsk_model.specs.Config.{pair_at}
+use Rattle.xsk_model.specs.Config.{Config, pair_at}
 use Rattle.xsk_model.specs.Rings.{caller_of}
 use Rattle.xsk_model.specs.Entry.{Told}
 use Rattle.xsk_model.specs.Legal.{IsLegal}
@@ -25,14 +25,15 @@ HasShortPackets list = All IsShort list.packets
 abbrev pub packets_in : PacketList → List (List ℕ)
 packets_in list = list.packets
 
--- what the paired port of a pair's port received on the pair's queue
-abbrev pub other_of : Setting → ℕ → List (List ℕ)
-other_of s who = received s.config s.packets (paired_port (pair_at s.config.pairs who).port) (pair_at s.config.pairs who).queue
+-- what can leave by a pair's port on the pair's queue: what came there to the port itself, and what came to the paired port
+abbrev pub leaving : Config → List PacketList → ℕ → List (List ℕ)
+leaving c lists who =
+    received c lists (pair_at c.pairs who).port (pair_at c.pairs who).queue ++ received c lists (paired_port (pair_at c.pairs who).port) (pair_at c.pairs who).queue
 
 -- a driver has room to send all of it
 pub record HasRoomToSend (s : Setting) (who : ℕ) (d : DriverShown) : Type 0 where
-  pub packets : d.sent.most_packets ≡ length (other_of s who)
-  pub bytes : d.sent.most_bytes ≡ length (concat (other_of s who))
+  pub packets : d.sent.most_packets ≡ length (leaving s.config s.packets who)
+  pub bytes : d.sent.most_bytes ≡ length (concat (leaving s.config s.packets who))
 
 -- the new driver of a pair
 pub record IsDriver (s : Setting) (who : ℕ) (d : DriverShown) : Type 0 where
