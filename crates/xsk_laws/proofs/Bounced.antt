@@ -1,8 +1,7 @@
--- The packets that are to bounce, and how many there are of them; under rules that let none bounce there is none.
-use Rattle.std.proofs.Common.{◌≡◌, ℕ, zero, suc, ◌+◌, ◌-◌, ◌<◌, ◌≤◌, ◌⊎◌, inl, inr, Bool, true, false, cond, ltb, not, ◌&&◌, List, [], ◌∷◌, ◌++◌, length, map, take, drop, refl, sym, ap, ◌∙◌, ⊎_elim, arith, append-nil}
+-- The packets that are to bounce: they are delivered to no socket, and under rules that let none bounce there is none.
+use Rattle.std.proofs.Common.{◌≡◌, ℕ, zero, suc, ◌+◌, ◌-◌, ◌<◌, ◌≤◌, ◌⊎◌, inl, inr, Bool, true, false, cond, ltb, nat_lt, not, ◌&&◌, Option, Some, None, List, [], ◌∷◌, ◌++◌, length, map, take, drop, refl, sym, ap, ◌∙◌, ⊎_elim, arith}
 use Rattle.std.proofs.lemmas.Bool.{cases_lt, lt-ltb, and_parts}
 use Rattle.std.proofs.Math.Bool.{and-false}
-use Rattle.xsk_umem.specs.declared.batch.Item.{Item}
 use Rattle.xsk_model.specs.Config.{Config}
 use Rattle.xsk_model.specs.Packets.{bytes_of}
 use Rattle.xsk_model.specs.Entry.{Told}
@@ -10,18 +9,22 @@ use Rattle.xsk_model.specs.Sent.{completed_in, sent_from, bounced_in, bounced_of
 use Rattle.xsk_model.specs.declared.call.Call.{Call}
 use Rattle.xsk_model.specs.declared.call.Call.TheVariants.{Reserve, Submit, Peek, Release, Swap, Look}
 use Rattle.xsk_model.specs.declared.call.Mark.TheVariants.{Bounced}
-use Rattle.xsk_model.proofs.Closings.{all_completed}
-use Rattle.xsk_prog.specs.Rules.{Meets, MeetsChain, ether_type_of}
+use Rattle.xsk_prog.specs.Rules.{Meets, MeetsChain}
 use Rattle.xsk_prog.specs.declared.rule.Rule.{Rule}
 use Rattle.xsk_prog.specs.declared.rule.Rule.TheVariants.{Redirect as ByClass, Drop as DropAll, Pass as PassAll, EtherType, Fixed, AtMost, Bounce as BounceAll, BounceType}
 use Rattle.xsk_prog.specs.declared.rule.Verdict.{Verdict}
 use Rattle.xsk_prog.specs.declared.rule.Verdict.TheVariants.{Drop, Pass, Redirect, Bounce}
-use Rattle.xsk_turns.specs.Turns.{Judged, bounces}
+use Rattle.xsk_turns.specs.Turns.{Seat, Judged, bounces, disposal_by}
+use Rattle.xsk_turns.specs.Disposals.{disposal_in}
+use Rattle.xsk_turns.specs.declared.disposal.Disposal.{Disposal}
+use Rattle.xsk_turns.specs.declared.disposal.Disposal.TheVariants.{Delivered, NoFrames, RxFull, TooLong, Runt, Missed, Passed, Dropped, Bounced as BouncedOff}
+use Rattle.xsk_turns.proofs.Saying.{in-bounced}
 use Rattle.xsk_turns.specs.Sending.{bounces_at, bouncing}
 use Rattle.xsk_turns.specs.Verdicts.{judged, EachHas, IsGiven}
 use Rattle.xsk_laws.specs.Expected.{may_bounce, none_bounces}
-use Rattle.xsk_laws.specs.Laws.{OnlyCompleted}
-use Rattle.xsk_laws.proofs.Totals.{total, total-append, total-cond, cond_few}
+use Rattle.xsk_laws.specs.Lost.{is_lost}
+use Rattle.xsk_laws.proofs.Losing.{IsFair, AreFair}
+use Rattle.xsk_laws.proofs.Totals.{total, total-append, total-cond, cond_few, is_from, delivered_from}
 
 -- ---- of no packets none is bounced
 
@@ -60,11 +63,55 @@ total-sent f c ss packets past (t ∷ mine) =
       total-sent f c ss packets (past ++ t ∷ []) mine,
     )
 
--- what is to bounce is no more than what comes
-pub bouncing_within : (f : List ℕ → ℕ) (input : List Judged) → total f (bouncing input) ≤ total (λ (x : Judged). f x.bytes) input
-bouncing_within f [] = omega arith
-bouncing_within f (x ∷ input) =
-    omega (arith, total-cond f (bounces_at x) x.bytes (bouncing input), cond_few (bounces_at x) (f x.bytes), bouncing_within f input)
+-- a packet that is to bounce has that disposal
+bounces_said : (seat : Seat) (packet : Judged) → bounces_at packet ≡ true → disposal_in seat packet ≡ BouncedOff
+bounces_said seat packet e = let both = by (nat_lt (length packet.bytes) 14) packet.verdict e in in-bounced seat packet both.0 both.1
+  where
+    by : (short : Bool) (verdict : Verdict) → (not short && bounces verdict) ≡ true → (cond short (Some Runt) (disposal_by seat verdict) ≡ None) × (bounces verdict ≡ true)
+    by true verdict e = absurd (cc)
+    by false Drop e = absurd (cc)
+    by false Pass e = absurd (cc)
+    by false (Redirect cell) e = absurd (cc)
+    by false Bounce e = (refl, refl)
+
+lost_from : (n : ℕ) (d : Disposal) → is_lost d ≡ true → is_from n d ≡ false
+lost_from n NoFrames e = refl
+lost_from n RxFull e = refl
+lost_from n (Delivered t) e = absurd (cc)
+lost_from n TooLong e = absurd (cc)
+lost_from n Runt e = absurd (cc)
+lost_from n Missed e = absurd (cc)
+lost_from n Passed e = absurd (cc)
+lost_from n Dropped e = absurd (cc)
+lost_from n BouncedOff e = absurd (cc)
+
+module _ (c : Config) (pair : ℕ) (seat : Seat) where
+  -- so it isn't delivered
+  stays_off : (n : ℕ) (packet : Judged) (d : Disposal) → IsFair c pair seat packet d → bounces_at packet ≡ true → is_from n d ≡ false
+  stays_off n packet d (inl is) e = ap (is_from n) (sym is ∙ bounces_said seat packet e)
+  stays_off n packet d (inr lost) e = lost_from n d lost.lost
+
+  leaves_once : (n size : ℕ) (packet : Judged) (d : Disposal) → IsFair c pair seat packet d → cond (is_from n d) size 0 + cond (bounces_at packet) size 0 ≤ size
+  leaves_once n size packet d fair = by (bounces_at packet) refl
+    where
+      by : (b : Bool) → bounces_at packet ≡ b → cond (is_from n d) size 0 + cond b size 0 ≤ size
+      by false e = omega (arith, cond_few (is_from n d) size)
+      by true e = omega (arith, ap (λ b. cond b size 0) (stays_off n packet d fair e))
+
+  -- what is delivered and what bounces is no more than what comes
+  pub leaving_within : (f : List ℕ → ℕ) (n : ℕ) (input : List Judged) (ds : List Disposal) → AreFair c pair seat input ds
+      → total f (delivered_from n input ds) + total f (bouncing input) ≤ total (λ (x : Judged). f x.bytes) input
+  leaving_within f n [] [] h = omega arith
+  leaving_within f n [] (d ∷ ds) h = absurd h
+  leaving_within f n (packet ∷ input) [] h = absurd h
+  leaving_within f n (packet ∷ input) (d ∷ ds) h =
+      omega (
+        arith,
+        leaves_once n (f packet.bytes) packet d h.0,
+        leaving_within f n input ds h.1,
+        total-cond f (is_from n d) packet.bytes (delivered_from n input ds),
+        total-cond f (bounces_at packet) packet.bytes (bouncing input),
+      )
 
 -- ---- rules
 

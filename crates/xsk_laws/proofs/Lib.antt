@@ -10,10 +10,10 @@ pub mod Machines
 pub mod Totals
 pub mod Sockets
 pub mod Sorted
-pub mod Bounced
 pub mod Theorems
 pub mod OneQueue
 pub mod Losing
+pub mod Bounced
 pub mod Waking
 pub mod WakingEnd
 pub mod Woken

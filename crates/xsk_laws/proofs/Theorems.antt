@@ -14,15 +14,18 @@ use Rattle.xsk_turns.specs.declared.manner.Manner.{Manner}
 use Rattle.xsk_turns.specs.declared.wire.Wire.{Wire}
 use Rattle.xsk_laws.specs.Expected.{received, received_judged, expected, bounced_on}
 use Rattle.xsk_laws.specs.Forwarded.{forwarded}
-use Rattle.xsk_laws.specs.Laws.{received_by, AreWholeRunsBy, AreOfClasses, SentIsForwarded, SentIsExpected, BouncedAsSaid, OnlyCompleted, AllAreForwarded, NothingElseIsSent, CompletedAreForwarded, CompletedAreExpected, AllIsForwarded, AllIsExpected, SentIsWithin, AllIsWithin}
+use Rattle.xsk_laws.specs.Laws.{received_by, AreWholeRunsBy, AreOfClasses, SentIsForwarded, SentIsExpected, BouncedAsSaid, OnlyCompleted, AllAreForwarded, NothingElseIsSent, CompletedAreForwarded, CompletedAreExpected, AllIsForwarded, AllIsExpected, SentIsWithin, EachLeavesOnce, AllIsWithin}
 use Rattle.xsk_model.proofs.Seats.{IsAt, is_at}
 use Rattle.xsk_laws.proofs.Machines.{workers}
 use Rattle.xsk_laws.proofs.Joined.{input_is, sent_forwarded, sent_fewer, sent_expected}
 use Rattle.xsk_laws.proofs.Altered.{IsMeasured, counts, sizes}
-use Rattle.xsk_laws.proofs.Totals.{total, total-one, total-bytes, run_of, delivered_within, judged_within, sent_few}
+use Rattle.xsk_laws.proofs.Filters.{seat_at}
+use Rattle.xsk_laws.proofs.Places.{are_paired, paired_twice}
+use Rattle.xsk_laws.proofs.Losing.{fair}
+use Rattle.xsk_laws.proofs.Totals.{total, total-one, total-bytes, run_of, judged_within, sent_few}
 use Rattle.xsk_laws.proofs.Sockets.{sockets_are}
 use Rattle.xsk_laws.proofs.Sorted.{sorted}
-use Rattle.xsk_laws.proofs.Bounced.{nothing_of, total-sent, bouncing_within, none_to_bounce}
+use Rattle.xsk_laws.proofs.Bounced.{nothing_of, total-sent, leaving_within, none_to_bounce}
 use Rattle.xsk_model.proofs.Closings.{all_completed}
 
 pub sent_is_forwarded : SentIsForwarded
@@ -74,7 +77,10 @@ module _ (hands : ℕ) (manner : Manner) (wire : Wire) (c : Config) (lists : Lis
   abbrev ds : List Disposal
   ds = disposals_of (seat_of wire c e) input (attempts_of (own e h))
 
-  within : (f : List ℕ → ℕ) → IsMeasured f → total f (sent c h d) ≤ total f (received c lists (paired_port p) q)
+  other : paired_port p < c.ports
+  other = (are_paired c.ports p config.ports port).in_ports
+
+  within : (f : List ℕ → ℕ) → IsMeasured f → total f (sent c h d) + total f (bounced_on c lists verdicts (paired_port p) q) ≤ total f (received c lists (paired_port p) q)
   within f is =
       let each : (k : ℕ) → k < classes_of c → total f (sent_from c ((d * classes_of c + k) ∷ []) [] (own d h)) ≤ total f (with_disposal (e * classes_of c + k) input ds) =
       λ k class. sent_fewer workers hands manner wire c lists verdicts frames h p q k run (record { in_ports = port; in_queues = queue; in_classes = class }) f is in
@@ -86,7 +92,7 @@ module _ (hands : ℕ) (manner : Manner) (wire : Wire) (c : Config) (lists : Lis
         arith,
         all,
         few,
-        delivered_within f (e * classes_of c + 0) input ds,
+        leaving_within c e (seat_at wire c e (paired_port p) q) f (e * classes_of c + 0) input ds (fair hands manner wire c lists verdicts frames h (paired_port p) q run other queue),
         judged_within f (received c lists (paired_port p) q) (get_or verdicts (driver_on c (paired_port p) q) []),
       )
 
@@ -112,16 +118,9 @@ module _ (hands : ℕ) (manner : Manner) (wire : Wire) (c : Config) (lists : Lis
         sorted c bounced of_class (d * classes_of c) (own d h) bounced (all_sent c bounced h d)
         (ap (λ ss. all_sent_from c ss bounced [] (own d h)) sockets) all_bounced each
 
-  all_within : (f : List ℕ → ℕ) → IsMeasured f → total f (all_sent c bounced h d) ≤ total f (received c lists p q) + total f (received c lists (paired_port p) q)
-  all_within f is =
-      omega (
-        arith,
-        total-sent f c (sockets_of c d) bounced [] (own d h),
-        ap (total f) all_bounced,
-        bouncing_within f (received_judged c lists verdicts p q),
-        judged_within f (received c lists p q) (get_or verdicts d []),
-        within f is,
-      )
+  -- all that was sent is what was completed and what bounced
+  pub all_sent_total : (f : List ℕ → ℕ) → total f (all_sent c bounced h d) ≡ total f (sent c h d) + total f bounced
+  all_sent_total f = total-sent f c (sockets_of c d) bounced [] (own d h) ∙ ap (λ packets. total f (sent c h d) + total f packets) all_bounced
 
 pub bounced_as_said : BouncedAsSaid
 bounced_as_said hands manner wire c lists verdicts frames h p q run port queue = all_bounced hands manner wire c lists verdicts frames h p q run port queue
@@ -163,17 +162,56 @@ all_is_expected hands manner wire c lists verdicts frames h p q none waits run p
 
 pub sent_is_within : SentIsWithin
 sent_is_within hands manner wire c lists verdicts frames h p q run port queue =
+    let most = within hands manner wire c lists verdicts frames h p q run port queue in
     let sent_here = sent c h (driver_on c p q) in
+    let input = received c lists (paired_port p) q in
+    (omega (arith, most (λ _. 1) counts, total-one sent_here, total-one input), omega (arith, most (λ (x : List ℕ). length x) sizes, total-bytes sent_here, total-bytes input))
+
+pub each_leaves_once : EachLeavesOnce
+each_leaves_once hands manner wire c lists verdicts frames h p q run port queue =
+    let most = within hands manner wire c lists verdicts frames h p q run port queue in
+    let sent_here = sent c h (driver_on c p q) in
+    let bounced = bounced_on c lists verdicts (paired_port p) q in
     let input = received c lists (paired_port p) q in (
-      omega (arith, within hands manner wire c lists verdicts frames h p q run port queue (λ _. 1) counts, total-one sent_here, total-one input),
-      omega (arith, within hands manner wire c lists verdicts frames h p q run port queue (λ (x : List ℕ). length x) sizes, total-bytes sent_here, total-bytes input),
+      omega (arith, most (λ _. 1) counts, total-one sent_here, total-one bounced, total-one input),
+      omega (arith, most (λ (x : List ℕ). length x) sizes, total-bytes sent_here, total-bytes bounced, total-bytes input),
     )
+
+-- ---- both ports of a pair
+
+module _ (hands : ℕ) (manner : Manner) (wire : Wire) (c : Config) (lists : List PacketList) (verdicts : List (List Verdict)) (frames : List Frame) (h : List Entry) (p q : ℕ) (run : AreWholeRunsBy hands manner wire c lists verdicts frames h) (port : p < c.ports) (queue : q < c.queues) where
+  abbrev o : ℕ
+  o = paired_port p
+
+  paired : o < c.ports
+  paired = (are_paired c.ports p run.history.opened.config.ports port).in_ports
+
+  -- what the driver of a port sent in all, and what the port received
+  abbrev sent_at : ℕ → List (List ℕ)
+  sent_at n = all_sent c (bounced_on c lists verdicts n q) h (driver_on c n q)
+
+  abbrev came_to : ℕ → List (List ℕ)
+  came_to n = received c lists n q
+
+  both_within : (f : List ℕ → ℕ) → IsMeasured f → total f (sent_at p) + total f (sent_at o) ≤ total f (came_to p) + total f (came_to o)
+  both_within f is =
+      let back : total f (sent c h (driver_on c o q)) + total f (bounced_on c lists verdicts p q) ≤ total f (came_to p) =
+      subst (λ n. total f (sent c h (driver_on c o q)) + total f (bounced_on c lists verdicts n q) ≤ total f (came_to n)) (paired_twice p)
+      (within hands manner wire c lists verdicts frames h o q run paired queue f is) in
+      omega (
+        arith,
+        all_sent_total hands manner wire c lists verdicts frames h p q run port queue f,
+        all_sent_total hands manner wire c lists verdicts frames h o q run paired queue f,
+        within hands manner wire c lists verdicts frames h p q run port queue f is,
+        back,
+      )
 
 pub all_is_within : AllIsWithin
 all_is_within hands manner wire c lists verdicts frames h p q run port queue =
-    let sent_here = all_sent c (bounced_on c lists verdicts p q) h (driver_on c p q) in
-    let mine = received c lists p q in
-    let others = received c lists (paired_port p) q in (
-      omega (arith, all_within hands manner wire c lists verdicts frames h p q run port queue (λ _. 1) counts, total-one sent_here, total-one mine, total-one others),
-      omega (arith, all_within hands manner wire c lists verdicts frames h p q run port queue (λ (x : List ℕ). length x) sizes, total-bytes sent_here, total-bytes mine, total-bytes others),
+    let most = both_within hands manner wire c lists verdicts frames h p q run port queue in
+    let o = paired_port p in
+    let mine = all_sent c (bounced_on c lists verdicts p q) h (driver_on c p q) in
+    let others = all_sent c (bounced_on c lists verdicts o q) h (driver_on c o q) in (
+      omega (arith, most (λ _. 1) counts, total-one mine, total-one others, total-one (received c lists p q), total-one (received c lists o q)),
+      omega (arith, most (λ (x : List ℕ). length x) sizes, total-bytes mine, total-bytes others, total-bytes (received c lists p q), total-bytes (received c lists o q)),
     )

@@ -148,18 +148,6 @@ pub cond_few : (b : Bool) (n : ℕ) → cond b n 0 ≤ n
 cond_few true n = omega arith
 cond_few false n = omega arith
 
-pub delivered_within : (f : List ℕ → ℕ) (n : ℕ) (input : List Judged) (disposals : List Disposal)
-    → total f (delivered_from n input disposals) ≤ total (λ (x : Judged). f x.bytes) input
-delivered_within f n [] disposals = omega arith
-delivered_within f n (x ∷ input) [] = omega arith
-delivered_within f n (x ∷ input) (disposal ∷ disposals) =
-    omega (
-      arith,
-      cond_few (is_from n disposal) (f x.bytes),
-      delivered_within f n input disposals,
-      total-cond f (is_from n disposal) x.bytes (delivered_from n input disposals),
-    )
-
 -- packets with their verdicts are no more than the packets
 pub judged_within : (f : List ℕ → ℕ) (packets : List (List ℕ)) (verdicts : List Verdict) → total (λ (x : Judged). f x.bytes) (judged packets verdicts) ≤ total f packets
 judged_within f [] verdicts = omega arith

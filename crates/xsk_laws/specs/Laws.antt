@@ -152,12 +152,23 @@ SentIsWithin = (hands : ℕ) (manner : Manner) (wire : Wire) (c : Config) (lists
     → (length (sent c h (driver_on c port queue)) ≤ length (received c lists (paired_port port) queue))
     × (length (concat (sent c h (driver_on c port queue))) ≤ length (concat (received c lists (paired_port port) queue)))
 
--- and all that it sent no more than what both ports received there
+-- with what bounces of it, it is still no more: each packet leaves at most once
+abbrev pub EachLeavesOnce : Type 0
+EachLeavesOnce = (hands : ℕ) (manner : Manner) (wire : Wire) (c : Config) (lists : List PacketList) (verdicts : List (List Verdict)) (frames : List Frame) (h : List Entry) (port queue : ℕ)
+    → AreWholeRunsBy hands manner wire c lists verdicts frames h → port < c.ports → queue < c.queues
+    → (length (sent c h (driver_on c port queue)) + length (bounced_on c lists verdicts (paired_port port) queue) ≤ length (received c lists (paired_port port) queue))
+    × (length (concat (sent c h (driver_on c port queue))) + length (concat (bounced_on c lists verdicts (paired_port port) queue)) ≤ length (concat (received c lists (paired_port port) queue)))
+
+-- so all that the drivers of a port and the paired port sent is no more than what both received there
 abbrev pub AllIsWithin : Type 0
 AllIsWithin = (hands : ℕ) (manner : Manner) (wire : Wire) (c : Config) (lists : List PacketList) (verdicts : List (List Verdict)) (frames : List Frame) (h : List Entry) (port queue : ℕ)
     → AreWholeRunsBy hands manner wire c lists verdicts frames h → port < c.ports → queue < c.queues
-    → (length (all_sent c (bounced_on c lists verdicts port queue) h (driver_on c port queue)) ≤ length (received c lists port queue) + length (received c lists (paired_port port) queue))
-    × (length (concat (all_sent c (bounced_on c lists verdicts port queue) h (driver_on c port queue))) ≤ length (concat (received c lists port queue)) + length (concat (received c lists (paired_port port) queue)))
+    → (length (all_sent c (bounced_on c lists verdicts port queue) h (driver_on c port queue))
+    + length (all_sent c (bounced_on c lists verdicts (paired_port port) queue) h (driver_on c (paired_port port) queue))
+    ≤ length (received c lists port queue) + length (received c lists (paired_port port) queue))
+    × (length (concat (all_sent c (bounced_on c lists verdicts port queue) h (driver_on c port queue)))
+    + length (concat (all_sent c (bounced_on c lists verdicts (paired_port port) queue) h (driver_on c (paired_port port) queue)))
+    ≤ length (concat (received c lists port queue)) + length (concat (received c lists (paired_port port) queue)))
 
 -- one queue with one socket on each port, and each port's one cell holding the port's own socket
 pub record HasOwnSockets (c : Config) : Type 0 where

@@ -1,7 +1,7 @@
 //! The laws of all workers' runs, each the contract of a function that does nothing. They are stated in `specs/Laws.antt`
 //! and `specs/Lost.antt`, of whole runs, and in `specs/Woken.antt`, of all runs.
 
-ghost use Rattle.xsk_laws.specs.Laws.{SentIsForwarded, SentIsExpected, BouncedAsSaid, OnlyCompleted, AllAreForwarded, NothingElseIsSent, CompletedAreForwarded, CompletedAreExpected, AllIsForwarded, AllIsExpected, NoneAreStranded, SentIsWithin, AllIsWithin, ExpectedIsOther};
+ghost use Rattle.xsk_laws.specs.Laws.{SentIsForwarded, SentIsExpected, BouncedAsSaid, OnlyCompleted, AllAreForwarded, NothingElseIsSent, CompletedAreForwarded, CompletedAreExpected, AllIsForwarded, AllIsExpected, NoneAreStranded, SentIsWithin, EachLeavesOnce, AllIsWithin, ExpectedIsOther};
 ghost use Rattle.xsk_laws.specs.Lost.{ForwardedIsUnlost, OnlyRedirectedAreLost};
 ghost use Rattle.xsk_laws.specs.Woken.{NoWakesAreLost, NoHandLosesWakes, NoneIsLostInWholeRuns};
 
@@ -76,7 +76,12 @@ pub fn sent_is_within()
     ensures { SentIsWithin }
 {}
 
-/// All that a driver sent is no more than what both ports received on its queue, in packets and in bytes.
+/// With what bounces of it, it is still no more: each packet that comes leaves at most once.
+pub fn each_leaves_once()
+    ensures { EachLeavesOnce }
+{}
+
+/// All that the drivers of two paired ports sent on a queue is no more than what both ports received there, in packets and in bytes.
 pub fn all_is_within()
     ensures { AllIsWithin }
 {}
