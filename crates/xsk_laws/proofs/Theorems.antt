@@ -14,7 +14,7 @@ use Rattle.xsk_turns.specs.declared.manner.Manner.{Manner}
 use Rattle.xsk_turns.specs.declared.wire.Wire.{Wire}
 use Rattle.xsk_laws.specs.Expected.{received, received_judged, expected, bounced_on}
 use Rattle.xsk_laws.specs.Forwarded.{forwarded}
-use Rattle.xsk_laws.specs.Laws.{received_by, AreWholeRunsBy, AreOfClasses, SentIsForwarded, SentIsExpected, BouncedAsSaid, OnlyCompleted, AllAreForwarded, NothingElseIsSent, CompletedAreForwarded, CompletedAreExpected, AllIsForwarded, AllIsExpected, SentIsWithin, EachLeavesOnce, AllIsWithin}
+use Rattle.xsk_laws.specs.Laws.{received_by, AreWholeRunsBy, AreOfClasses, SentIsForwarded, SentIsExpected, BouncedAsSaid, OnlyCompleted, AllAreForwarded, NothingElseIsSent, CompletedAreForwarded, CompletedAreExpected, AllIsForwarded, AllIsExpected, AllAreBoth, SentIsWithin, LeavesOnce, AllIsWithin}
 use Rattle.xsk_model.proofs.Seats.{IsAt, is_at}
 use Rattle.xsk_laws.proofs.Machines.{workers}
 use Rattle.xsk_laws.proofs.Joined.{input_is, sent_forwarded, sent_fewer, sent_expected}
@@ -160,6 +160,16 @@ all_is_expected hands manner wire c lists verdicts frames h p q none waits run p
     only_sent hands manner wire c lists verdicts frames h p q run port queue one
     ∙ sent_expected workers hands manner wire c lists verdicts frames h p q 0 run (record { in_ports = port; in_queues = queue; in_classes = omega (arith, one) }) none waits
 
+pub all_are_both : AllAreBoth
+all_are_both hands manner wire c lists verdicts frames h p q run port queue =
+    let both = all_sent_total hands manner wire c lists verdicts frames h p q run port queue in
+    let sent_here = all_sent c (bounced_on c lists verdicts p q) h (driver_on c p q) in
+    let completed = sent c h (driver_on c p q) in
+    let bounced = bounced_on c lists verdicts p q in (
+      omega (arith, both (λ _. 1), total-one sent_here, total-one completed, total-one bounced),
+      omega (arith, both (λ (x : List ℕ). length x), total-bytes sent_here, total-bytes completed, total-bytes bounced),
+    )
+
 pub sent_is_within : SentIsWithin
 sent_is_within hands manner wire c lists verdicts frames h p q run port queue =
     let most = within hands manner wire c lists verdicts frames h p q run port queue in
@@ -167,8 +177,8 @@ sent_is_within hands manner wire c lists verdicts frames h p q run port queue =
     let input = received c lists (paired_port p) q in
     (omega (arith, most (λ _. 1) counts, total-one sent_here, total-one input), omega (arith, most (λ (x : List ℕ). length x) sizes, total-bytes sent_here, total-bytes input))
 
-pub each_leaves_once : EachLeavesOnce
-each_leaves_once hands manner wire c lists verdicts frames h p q run port queue =
+pub leaves_once : LeavesOnce
+leaves_once hands manner wire c lists verdicts frames h p q run port queue =
     let most = within hands manner wire c lists verdicts frames h p q run port queue in
     let sent_here = sent c h (driver_on c p q) in
     let bounced = bounced_on c lists verdicts (paired_port p) q in

@@ -144,6 +144,14 @@ NoneAreStranded = (hands : ℕ) (manner : Manner) (wire : Wire) (c : Config) (li
     → manner.mangle ≡ None → AreWholeRunsBy hands manner wire c lists verdicts frames h → port < c.ports → queue < c.queues
     → stranded_of (own (driver_on c port queue) h) ≡ 0
 
+-- all that a driver sent are, in packets and in bytes, those that it completed and those that bounce
+abbrev pub AllAreBoth : Type 0
+AllAreBoth = (hands : ℕ) (manner : Manner) (wire : Wire) (c : Config) (lists : List PacketList) (verdicts : List (List Verdict)) (frames : List Frame) (h : List Entry) (port queue : ℕ)
+    → AreWholeRunsBy hands manner wire c lists verdicts frames h → port < c.ports → queue < c.queues
+    → (length (all_sent c (bounced_on c lists verdicts port queue) h (driver_on c port queue)) ≡ length (sent c h (driver_on c port queue)) + length (bounced_on c lists verdicts port queue))
+    × (length (concat (all_sent c (bounced_on c lists verdicts port queue) h (driver_on c port queue)))
+    ≡ length (concat (sent c h (driver_on c port queue))) + length (concat (bounced_on c lists verdicts port queue)))
+
 -- all that a driver completed is no more than what the paired port received on the queue, in packets and in bytes, whatever the
 -- applications change
 abbrev pub SentIsWithin : Type 0
@@ -153,8 +161,8 @@ SentIsWithin = (hands : ℕ) (manner : Manner) (wire : Wire) (c : Config) (lists
     × (length (concat (sent c h (driver_on c port queue))) ≤ length (concat (received c lists (paired_port port) queue)))
 
 -- with what bounces of it, it is still no more: each packet leaves at most once
-abbrev pub EachLeavesOnce : Type 0
-EachLeavesOnce = (hands : ℕ) (manner : Manner) (wire : Wire) (c : Config) (lists : List PacketList) (verdicts : List (List Verdict)) (frames : List Frame) (h : List Entry) (port queue : ℕ)
+abbrev pub LeavesOnce : Type 0
+LeavesOnce = (hands : ℕ) (manner : Manner) (wire : Wire) (c : Config) (lists : List PacketList) (verdicts : List (List Verdict)) (frames : List Frame) (h : List Entry) (port queue : ℕ)
     → AreWholeRunsBy hands manner wire c lists verdicts frames h → port < c.ports → queue < c.queues
     → (length (sent c h (driver_on c port queue)) + length (bounced_on c lists verdicts (paired_port port) queue) ≤ length (received c lists (paired_port port) queue))
     × (length (concat (sent c h (driver_on c port queue))) + length (concat (bounced_on c lists verdicts (paired_port port) queue)) ≤ length (concat (received c lists (paired_port port) queue)))

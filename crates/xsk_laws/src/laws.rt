@@ -1,7 +1,7 @@
 //! The laws of all workers' runs, each the contract of a function that does nothing. They are stated in `specs/Laws.antt`
 //! and `specs/Lost.antt`, of whole runs, and in `specs/Woken.antt`, of all runs.
 
-ghost use Rattle.xsk_laws.specs.Laws.{SentIsForwarded, SentIsExpected, BouncedAsSaid, OnlyCompleted, AllAreForwarded, NothingElseIsSent, CompletedAreForwarded, CompletedAreExpected, AllIsForwarded, AllIsExpected, NoneAreStranded, SentIsWithin, EachLeavesOnce, AllIsWithin, ExpectedIsOther};
+ghost use Rattle.xsk_laws.specs.Laws.{SentIsForwarded, SentIsExpected, BouncedAsSaid, OnlyCompleted, AllAreForwarded, NothingElseIsSent, CompletedAreForwarded, CompletedAreExpected, AllIsForwarded, AllIsExpected, NoneAreStranded, AllAreBoth, SentIsWithin, LeavesOnce, AllIsWithin, ExpectedIsOther};
 ghost use Rattle.xsk_laws.specs.Lost.{ForwardedIsUnlost, OnlyRedirectedAreLost};
 ghost use Rattle.xsk_laws.specs.Woken.{NoWakesAreLost, NoHandLosesWakes, NoneIsLostInWholeRuns};
 
@@ -71,14 +71,19 @@ pub fn none_are_stranded()
     ensures { NoneAreStranded }
 {}
 
+/// All that a driver sent is, in packets and in bytes, what it completed and what bounced.
+pub fn all_are_both()
+    ensures { AllAreBoth }
+{}
+
 /// All that a driver completed is no more than what the paired port received, in packets and in bytes, whatever applications change.
 pub fn sent_is_within()
     ensures { SentIsWithin }
 {}
 
 /// With what bounces of it, it is still no more: each packet that comes leaves at most once.
-pub fn each_leaves_once()
-    ensures { EachLeavesOnce }
+pub fn leaves_once()
+    ensures { LeavesOnce }
 {}
 
 /// All that the drivers of two paired ports sent on a queue is no more than what both ports received there, in packets and in bytes.
