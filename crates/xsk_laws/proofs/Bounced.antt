@@ -1,5 +1,5 @@
 -- The packets that are to bounce: they are delivered to no socket, and under rules that let none bounce there is none.
-use Rattle.std.proofs.Common.{◌≡◌, ℕ, zero, suc, ◌+◌, ◌-◌, ◌<◌, ◌≤◌, ◌⊎◌, inl, inr, Bool, true, false, cond, ltb, nat_lt, not, ◌&&◌, Option, Some, None, List, [], ◌∷◌, ◌++◌, length, map, take, drop, refl, sym, ap, ◌∙◌, ⊎_elim, arith}
+use Rattle.std.proofs.Common.{◌≡◌, ℕ, zero, suc, ◌+◌, ◌-◌, ◌<◌, ◌≤◌, ◌⊎◌, inl, inr, Bool, true, false, cond, eqb, ltb, nat_lt, not, ◌&&◌, Option, Some, None, List, [], ◌∷◌, ◌++◌, length, map, take, drop, refl, sym, ap, ◌∙◌, ⊎_elim, arith}
 use Rattle.std.proofs.lemmas.Bool.{cases_lt, lt-ltb, and_parts}
 use Rattle.std.proofs.Math.Bool.{and-false}
 use Rattle.xsk_model.specs.Config.{Config}
@@ -9,7 +9,8 @@ use Rattle.xsk_model.specs.Sent.{completed_in, sent_from, bounced_in, bounced_of
 use Rattle.xsk_model.specs.declared.call.Call.{Call}
 use Rattle.xsk_model.specs.declared.call.Call.TheVariants.{Reserve, Submit, Peek, Release, Swap, Look}
 use Rattle.xsk_model.specs.declared.call.Mark.TheVariants.{Bounced}
-use Rattle.xsk_prog.specs.Rules.{Meets, MeetsChain}
+use Rattle.xsk_model.specs.Steering.{packet_cell}
+use Rattle.xsk_prog.specs.Rules.{Meets, MeetsChain, ether_type_of}
 use Rattle.xsk_prog.specs.declared.rule.Rule.{Rule}
 use Rattle.xsk_prog.specs.declared.rule.Rule.TheVariants.{Redirect as ByClass, Drop as DropAll, Pass as PassAll, EtherType, Fixed, AtMost, Bounce as BounceAll, BounceType}
 use Rattle.xsk_prog.specs.declared.rule.Verdict.{Verdict}
@@ -115,16 +116,15 @@ module _ (c : Config) (pair : ℕ) (seat : Seat) where
 
 -- ---- rules
 
--- a verdict that is one of two that don't bounce
-neither : (b : Bool) (verdict other : Verdict) → bounces verdict ≡ false → bounces other ≡ false → bounces (cond b verdict other) ≡ false
-neither true verdict other e f = e
-neither false verdict other e f = f
+neither : (b : Bool) (cell : ℕ) → bounces (cond b (Redirect cell) Pass) ≡ false
+neither true cell = refl
+neither false cell = refl
 
 rule_stays : (rule : Rule) (packet : List ℕ) (queue : ℕ) (verdict : Verdict) → may_bounce rule ≡ false → Meets rule packet queue verdict → bounces verdict ≡ false
 rule_stays (ByClass sockets) packet queue verdict e h = ap bounces h
 rule_stays DropAll packet queue verdict e h = ap bounces h
 rule_stays PassAll packet queue verdict e h = ap bounces h
-rule_stays (EtherType kind sockets) packet queue verdict e h = ap bounces h ∙ neither _ _ Pass refl refl
+rule_stays (EtherType kind sockets) packet queue verdict e h = ap bounces h ∙ neither (eqb (ether_type_of packet) kind) (packet_cell sockets queue packet)
 rule_stays (Fixed cell) packet queue verdict e h = ap bounces h
 rule_stays (AtMost cells) packet queue Drop e h = refl
 rule_stays (AtMost cells) packet queue Pass e h = refl
