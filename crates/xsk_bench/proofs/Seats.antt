@@ -40,7 +40,7 @@ act_after s who d IsEnd l known stands =
     record { driver = λ below. tells.whole; app = λ a is. absurd (omega arith) }
 
 -- and what it sent, the call that it gave counted as made
-pub sends : (s : Setting) (who : ℕ) (d : DriverShown) (act : Act) (l : List Told) → Drives s who d act l → Sends d.sent (sent_by_act s.config who l act)
+pub sends : (s : Setting) (who : ℕ) (d : DriverShown) (act : Act) (l : List Told) → Drives s who d act l → Sends d.sent (sent_by_act s.config who (input_of s who) l act)
 sends s who d (Calls call) l stands = stands.sent
 sends s who d IsEnd l stands = stands.sent
 
@@ -102,7 +102,7 @@ module _ (s : Setting) (frames : List Frame) where
 
 -- what the driver of a pair sent
 pub sent_at : (s : Setting) (frames : List Frame) (h : List Entry) (p : Play) (pair : ℕ) (seat : Seat) → HasPlayed s frames h p → slice_get p.seats.items pair ≡ Some seat
-    → Sends seat.driver.sent (sent_by_act s.config pair (own pair h) (act_of seat))
+    → Sends seat.driver.sent (sent_by_act s.config pair (input_of s pair) (own pair h) (act_of seat))
 sent_at s frames h p pair seat played at =
     let items = p.seats.items in
     let here : IsSeated s p.room h pair seat =

@@ -3,10 +3,11 @@ use Rattle.std.specs.Prelude.{◌≡◌, ℕ, ◌<◌, Bool, false, List, length
 use Rattle.xsk_umem.specs.Frame.{Frame}
 use Rattle.xsk_model.specs.Config.{Config}
 use Rattle.xsk_model.specs.Entry.{Entry, own}
-use Rattle.xsk_model.specs.Sent.{sent}
+use Rattle.xsk_model.specs.Sent.{all_sent}
 use Rattle.xsk_model.specs.declared.call.Act.{Act}
 use Rattle.xsk_model.specs.declared.call.Act.TheVariants.{Call as Gave, Ended}
-use Rattle.xsk_turns.specs.Sending.{is_completing, sent_by_act}
+use Rattle.xsk_turns.specs.Sending.{is_completing, bouncing, sent_by_act}
+use Rattle.xsk_turns.specs.Turns.{Judged}
 use Rattle.xsk_turns.specs.Workers.{Setting, IsWorkerRun}
 use Rattle.xsk_bench.specs.Played.{HasPlayed}
 use Rattle.xsk_bench.specs.declared.play.Play.{Play}
@@ -22,4 +23,5 @@ gives_back Ended = false
 
 -- where a driver's next act isn't one, what it sent with this act counted as made is what it sent in the history
 abbrev pub SentSoFar : Type 0
-SentSoFar = (c : Config) (h : List Entry) (pair : ℕ) (act : Act) → gives_back act ≡ false → sent_by_act c pair (own pair h) act ≡ sent c h pair
+SentSoFar = (c : Config) (input : List Judged) (h : List Entry) (pair : ℕ) (act : Act) → gives_back act ≡ false
+    → sent_by_act c pair input (own pair h) act ≡ all_sent c (bouncing input) h pair

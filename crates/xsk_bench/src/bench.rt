@@ -56,7 +56,7 @@ impl<'a> Bench<'a> {
     ghost use Rattle.xsk_model.specs.Rings.{caller_of};
     ghost use Rattle.xsk_prog.specs.Chain.{AllObey};
     ghost use Rattle.xsk_prog.specs.declared.rule.Verdict.{Verdict as AVerdict};
-    ghost use Rattle.xsk_turns.specs.Workers.{Setting, AreGiven};
+    ghost use Rattle.xsk_turns.specs.Workers.{Setting, AreGiven, input_of};
     ghost use Rattle.xsk_turns.specs.Sending.{sent_by_act};
     ghost use Rattle.xsk_driver.specs.Asking.{IsAnswer};
     ghost use Rattle.xsk_driver.specs.Sent.{Exceeds};
@@ -171,13 +171,14 @@ impl<'a> Bench<'a> {
         self.play.checked.log().lines(pairs)
     }
 
-    /// What the driver of a pair sent so far; a packet whose frames its next call gives back counts as sent. There is none where
-    /// there is no such pair, or it sent more than there was room for.
+    /// What the driver of a pair sent so far, with the packets that it bounced; a packet whose frames its next call gives back
+    /// counts as sent, and one that its next call bounces doesn't yet. There is none where there is no such pair, or it sent more
+    /// than there was room for.
     pub fn sent(&self, pair: u32) -> Option<&PacketList>
         ensures none { length self.now.seats.items ≤ pair → IsNone result }
         ensures sent { (s : Setting) (frames : List Frame) (h : List Entry) (seat : ASeat) → HasPlayed s frames h self.now → slice_get self.now.seats.items pair ≡ Some seat
-            → MatchOption result (Exceeds seat.driver.sent (sent_by_act s.config pair (own pair h) (act_of seat)))
-            (λ list. list.now.packets ≡ sent_by_act s.config pair (own pair h) (act_of seat)) }
+            → MatchOption result (Exceeds seat.driver.sent (sent_by_act s.config pair (input_of s pair) (own pair h) (act_of seat)))
+            (λ list. list.now.packets ≡ sent_by_act s.config pair (input_of s pair) (own pair h) (act_of seat)) }
     {
         let place = pair as usize;
         if place >= self.play.seats.len() {

@@ -32,6 +32,7 @@ use Rattle.xsk_turns.specs.declared.manner.Manner.{Manner}
 use Rattle.xsk_turns.specs.declared.wire.Wire.{Wire}
 use Rattle.xsk_turns.specs.declared.wire.Wire.TheVariants.{Wait}
 use Rattle.xsk_turns.proofs.Delivering.{with_disposal_is}
+use Rattle.xsk_turns.specs.Sending.{BouncesAll}
 use Rattle.xsk_turns.specs.Law.{IsLaidOut, IsSized, DisposedAsSaid, DeliversInOrder, DeliversSized, NothingReceivedLate, DrainsTx, CompletesAll}
 use Rattle.xsk_turns.specs.AppOwned.{IsApp}
 use Rattle.xsk_turns.specs.AppTurns.{pair_of, rx_of}
@@ -59,6 +60,7 @@ pub record Workers : Type 0 where
   pub none_received_late : NothingReceivedLate
   pub drains_tx : DrainsTx
   pub completes : CompletesAll
+  pub bounces : BouncesAll
   pub altered : HandsPassOn
   pub none_sent_late : HandsSendNothingLate
   pub drains_rx : HandsDrainRx

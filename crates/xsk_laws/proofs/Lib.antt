@@ -13,6 +13,7 @@ pub mod Sorted
 pub mod Theorems
 pub mod OneQueue
 pub mod Losing
+pub mod Bounced
 pub mod Waking
 pub mod WakingEnd
 pub mod Woken

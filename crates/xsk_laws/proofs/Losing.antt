@@ -221,7 +221,7 @@ module _ (hands : ℕ) (manner : Manner) (wire : Wire) (c : Config) (lists : Lis
   whole : IsWholeDriverRun wire c e input (own e h)
   whole = subst (λ (l : List Judged). IsWholeDriverRun wire c e l (own e h)) (input_is c lists verdicts p q 0 e (socket_on c p q 0) at) (run.drivers e at.pair_known)
 
-  fair : AreFair c e (seat_at wire c e p q) input (disposals_on wire c h lists verdicts p q)
+  pub fair : AreFair c e (seat_at wire c e p q) input (disposals_on wire c h lists verdicts p q)
   fair =
       subst (λ (x : Seat). AreFair c e x input (disposals_on wire c h lists verdicts p q)) (seat_is wire c p q 0 e (socket_on c p q 0) at)
       (disposed_fairly wire c e input (own e h) run.steady.closes (all_fit c e [] (own e h) (own_entries c frames h e run.history)) whole)

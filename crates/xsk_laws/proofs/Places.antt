@@ -20,6 +20,16 @@ paired_even port h = ap (λ b. cond b (port + 1) (port - 1)) (eq-eqb (port % 2) 
 pub paired_odd : (port : ℕ) → (port % 2 ≡ 0 → ⊥) → paired_port port ≡ port - 1
 paired_odd port h = ap (λ b. cond b (port + 1) (port - 1)) (ne_eqb (port % 2) 0 h)
 
+pub paired_twice : (port : ℕ) → paired_port (paired_port port) ≡ port
+paired_twice port = ⊎_elim
+    (λ (e : port % 2 ≡ 0).
+    let back : port + 1 - 1 ≡ port = omega arith in
+    ap paired_port (paired_even port e) ∙ paired_odd (port + 1) (λ f. omega (arith, e, f)) ∙ back)
+    (λ (e : port % 2 ≡ 0 → ⊥).
+    let back : port - 1 + 1 ≡ port = omega (arith, e) in
+    ap paired_port (paired_odd port e) ∙ paired_even (port - 1) (omega (arith, e)) ∙ back)
+    (cases_eq (port % 2) 0)
+
 -- the two ports of a pair
 pub record ArePaired (ports port other : ℕ) : Type 0 where
   pub in_ports : other < ports

@@ -126,7 +126,7 @@ one_socket n bytes Passed = omega arith
 one_socket n bytes Dropped = omega arith
 one_socket n bytes Bounced = omega arith
 
-total-cond : {X : Type 0} (f : X → ℕ) (b : Bool) (x : X) (xs : List X) → total f (cond b (x ∷ xs) xs) ≡ cond b (f x) 0 + total f xs
+pub total-cond : {X : Type 0} (f : X → ℕ) (b : Bool) (x : X) (xs : List X) → total f (cond b (x ∷ xs) xs) ≡ cond b (f x) 0 + total f xs
 total-cond f true x xs = refl
 total-cond f false x xs = omega arith
 
@@ -144,21 +144,9 @@ delivered_parts f n (x ∷ input) (disposal ∷ disposals) =
       total-cond f (is_from n disposal) x.bytes (delivered_from n input disposals),
     )
 
-cond_few : (b : Bool) (n : ℕ) → cond b n 0 ≤ n
+pub cond_few : (b : Bool) (n : ℕ) → cond b n 0 ≤ n
 cond_few true n = omega arith
 cond_few false n = omega arith
-
-pub delivered_within : (f : List ℕ → ℕ) (n : ℕ) (input : List Judged) (disposals : List Disposal)
-    → total f (delivered_from n input disposals) ≤ total (λ (x : Judged). f x.bytes) input
-delivered_within f n [] disposals = omega arith
-delivered_within f n (x ∷ input) [] = omega arith
-delivered_within f n (x ∷ input) (disposal ∷ disposals) =
-    omega (
-      arith,
-      cond_few (is_from n disposal) (f x.bytes),
-      delivered_within f n input disposals,
-      total-cond f (is_from n disposal) x.bytes (delivered_from n input disposals),
-    )
 
 -- packets with their verdicts are no more than the packets
 pub judged_within : (f : List ℕ → ℕ) (packets : List (List ℕ)) (verdicts : List Verdict) → total (λ (x : Judged). f x.bytes) (judged packets verdicts) ≤ total f packets

@@ -1,15 +1,18 @@
--- What each port sends: of the packets that its paired port receives those that go to a socket, each whole and in order.
--- It is read off the input with its verdicts and the configuration alone.
-use Rattle.std.specs.Prelude.{ℕ, ◌+◌, ◌==◌, ◌&&◌, Bool, false, nat_lt, nat_le, List, [], length, slice_index}
+-- What each port sends: of the packets that its paired port receives those that go to a socket, and of its own those that bounce,
+-- each whole and in order. It is read off the input with its verdicts and the configuration alone.
+use Rattle.std.specs.Prelude.{ℕ, ◌+◌, ◌==◌, ◌&&◌, not, Bool, true, false, nat_lt, nat_le, List, [], ◌∷◌, length, slice_index}
 use Rattle.std.specs.List.{filter, slice_index_or}
 use Rattle.xsk_umem.specs.PacketList.{PacketList}
 use Rattle.xsk_model.specs.Config.{Config, map_of}
 use Rattle.xsk_model.specs.Steering.{packet_limit, paired_port, driver_on, socket_on}
+use Rattle.xsk_prog.specs.declared.rule.Rule.{Rule}
+use Rattle.xsk_prog.specs.declared.rule.Rule.TheVariants.{Bounce as BounceAll, BounceType}
 use Rattle.xsk_prog.specs.declared.rule.Verdict.{Verdict}
 use Rattle.xsk_prog.specs.declared.rule.Verdict.TheVariants.{Drop, Pass, Redirect, Bounce}
 use Rattle.xsk_turns.specs.Inputs.{packets_of_port, packets_of_queue}
 use Rattle.xsk_turns.specs.Turns.{Judged}
 use Rattle.xsk_turns.specs.Disposals.{bytes_in}
+use Rattle.xsk_turns.specs.Sending.{bouncing}
 use Rattle.xsk_turns.specs.Verdicts.{judged}
 
 -- what a port receives on a queue
@@ -46,3 +49,19 @@ is_redirected c port queue class packet = has_length c packet.bytes && leads_to 
 abbrev pub expected : Config → List PacketList → List (List Verdict) → ℕ → ℕ → ℕ → List (List ℕ)
 expected c lists verdicts port queue class =
     bytes_in (filter (is_redirected c (paired_port port) queue class) (received_judged c lists verdicts (paired_port port) queue))
+
+-- ---- what bounces
+
+-- what a port sends on a queue of the packets that it receives there (XDP_TX)
+abbrev pub bounced_on : Config → List PacketList → List (List Verdict) → ℕ → ℕ → List (List ℕ)
+bounced_on c lists verdicts port queue = bouncing (received_judged c lists verdicts port queue)
+
+-- whether a rule lets a packet bounce, and that none of these does
+abbrev pub may_bounce : Rule → Bool
+may_bounce BounceAll = true
+may_bounce (BounceType kind) = true
+may_bounce rule = false
+
+abbrev pub none_bounces : List Rule → Bool
+none_bounces [] = true
+none_bounces (rule ∷ rules) = not (may_bounce rule) && none_bounces rules

@@ -1,7 +1,7 @@
 //! The laws of all workers' runs, each the contract of a function that does nothing. They are stated in `specs/Laws.antt`
 //! and `specs/Lost.antt`, of whole runs, and in `specs/Woken.antt`, of all runs.
 
-ghost use Rattle.xsk_laws.specs.Laws.{SentIsForwarded, SentIsExpected, AllAreForwarded, NothingElseIsSent, AllIsForwarded, AllIsExpected, NoneAreStranded, SentIsWithin, ExpectedIsOther};
+ghost use Rattle.xsk_laws.specs.Laws.{SentIsForwarded, SentIsExpected, BouncedAsSaid, OnlyCompleted, AllAreForwarded, NothingElseIsSent, CompletedAreForwarded, CompletedAreExpected, AllIsForwarded, AllIsExpected, NoneAreStranded, AllAreBoth, SentIsWithin, LeavesOnce, AllIsWithin, ExpectedIsOther};
 ghost use Rattle.xsk_laws.specs.Lost.{ForwardedIsUnlost, OnlyRedirectedAreLost};
 ghost use Rattle.xsk_laws.specs.Woken.{NoWakesAreLost, NoHandLosesWakes, NoneIsLostInWholeRuns};
 
@@ -26,22 +26,42 @@ pub fn sent_is_expected()
     ensures { SentIsExpected }
 {}
 
-/// All that a driver sent is what was forwarded by all classes together, and nothing else.
+/// The packets that a driver bounced are exactly those of its own port and queue that are to bounce, each once and in order.
+pub fn bounced_as_said()
+    ensures { BouncedAsSaid }
+{}
+
+/// Where no rule of the chain lets a packet bounce, all that a driver sent was completed.
+pub fn only_completed()
+    ensures { OnlyCompleted }
+{}
+
+/// All that a driver sent is what was forwarded by all classes together and what bounced, and nothing else.
 pub fn all_are_forwarded()
     ensures { AllAreForwarded }
 {}
 
-/// Where the wire waits, it is what is expected by all classes together, and nothing else.
+/// Where the wire waits, it is what is expected by all classes together and what bounces, and nothing else.
 pub fn nothing_else_is_sent()
     ensures { NothingElseIsSent }
 {}
 
-/// With one socket for each queue, what was forwarded by it is all that the driver sent.
+/// All that a driver completed is what was forwarded by all classes together, and nothing else.
+pub fn completed_are_forwarded()
+    ensures { CompletedAreForwarded }
+{}
+
+/// Where the wire waits, it is what is expected by all classes together, and nothing else.
+pub fn completed_are_expected()
+    ensures { CompletedAreExpected }
+{}
+
+/// With one socket for each queue, what was forwarded by it is all that the driver completed.
 pub fn all_is_forwarded()
     ensures { AllIsForwarded }
 {}
 
-/// Where the wire waits too, all that the driver sent is what is expected by that socket.
+/// Where the wire waits too, all that the driver completed is what is expected by that socket.
 pub fn all_is_expected()
     ensures { AllIsExpected }
 {}
@@ -51,9 +71,24 @@ pub fn none_are_stranded()
     ensures { NoneAreStranded }
 {}
 
-/// All that a driver sent is no more than what the paired port received, in packets and in bytes, whatever applications change.
+/// All that a driver sent is, in packets and in bytes, what it completed and what bounced.
+pub fn all_are_both()
+    ensures { AllAreBoth }
+{}
+
+/// All that a driver completed is no more than what the paired port received, in packets and in bytes, whatever applications change.
 pub fn sent_is_within()
     ensures { SentIsWithin }
+{}
+
+/// With what bounces of it, it is still no more: each packet that comes leaves at most once.
+pub fn leaves_once()
+    ensures { LeavesOnce }
+{}
+
+/// All that the drivers of two paired ports sent on a queue is no more than what both ports received there, in packets and in bytes.
+pub fn all_is_within()
+    ensures { AllIsWithin }
 {}
 
 /// With one queue and one socket on each port, and each port's cell holding its own socket, what is expected of a port are

@@ -7,7 +7,6 @@ use Rattle.xsk_turns.specs.AppOwned.{HasOwnFrames}
 use Rattle.xsk_turns.proofs.AppHomes.{own_frames, had_none}
 use Rattle.xsk_model.specs.Entry.{Told, with_told, own}
 use Rattle.xsk_model.specs.History.{MayGive}
-use Rattle.xsk_model.specs.Sent.{sockets_of, sent_from}
 use Rattle.xsk_model.specs.declared.call.Call.{Call}
 use Rattle.xsk_model.specs.declared.call.Reply.{Reply}
 use Rattle.xsk_model.specs.declared.call.Act.{Act}
@@ -23,7 +22,7 @@ use Rattle.xsk_turns.proofs.ScriptLemmas.{whole_run}
 use Rattle.xsk_app.specs.Runs.{StandsWith as AppStandsWith}
 use Rattle.xsk_app.proofs.Runs.{tells_with as app_tells_with}
 use Rattle.xsk_turns.specs.Workers.{Setting, input_of, IsWorkerRun}
-use Rattle.xsk_machine.specs.Acts.{other_of, HasRoomToSend, DriverStands, AppStands, IsActAfter}
+use Rattle.xsk_machine.specs.Acts.{leaving, sent_along, HasRoomToSend, DriverStands, AppStands, IsActAfter}
 
 -- ---- drivers
 
@@ -43,10 +42,10 @@ pub room_stays : (s : Setting) (who : ℕ) (old new : DriverShown) → HasRoomTo
     → (new.sent.most_packets ≡ old.sent.most_packets) × (new.sent.most_bytes ≡ old.sent.most_bytes) → HasRoomToSend s who new
 room_stays s who old new room same = record { packets = same.0 ∙ room.packets; bytes = same.1 ∙ room.bytes }
 
--- packets are no more than what the paired port received on the queue
+-- packets are no more than what can leave by a pair's port on its queue
 pub record IsWithin (s : Setting) (who : ℕ) (packets : List (List ℕ)) : Type 0 where
-  pub count : length packets ≤ length (other_of s who)
-  pub bytes : length (concat packets) ≤ length (concat (other_of s who))
+  pub count : length packets ≤ length (leaving s.config s.packets who)
+  pub bytes : length (concat packets) ≤ length (concat (leaving s.config s.packets who))
 
 is_false : (b : Bool) → (IsTrue b → ⊥) → b ≡ false
 is_false true h = absurd (h refl)
@@ -54,11 +53,11 @@ is_false false h = refl
 
 -- a driver that has ended and has sent no more than that keeps what it sent
 pub sent_at : (s : Setting) (who : ℕ) (d : DriverShown) (act : Act) (l : List Told) → act ≡ IsEnd → DriverStands s who d act l
-    → IsWithin s who (sent_from s.config (sockets_of s.config who) [] l)
-    → d.sent.packets ≡ sent_from s.config (sockets_of s.config who) [] l
+    → IsWithin s who (sent_along s who l)
+    → d.sent.packets ≡ sent_along s who l
 sent_at s who d act l is stands within =
     let ended : StandsWith s.wire s.config who (input_of s who) d IsEnd l = subst (λ a. StandsWith s.wire s.config who (input_of s who) d a l) is stands.stands in
-    let mine = sent_from s.config (sockets_of s.config who) [] l in
+    let mine = sent_along s who l in
     ended.sent.kept (is_false d.sent.overrun (λ overran. ⊎_elim
     (λ (many : d.sent.most_packets < length mine). absurd (omega (arith, many, stands.room.packets, within.count)))
     (λ (many : d.sent.most_bytes < length (concat mine)). absurd (omega (arith, many, stands.room.bytes, within.bytes)))

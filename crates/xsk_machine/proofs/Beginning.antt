@@ -1,8 +1,10 @@
 -- New workers of a setting.
-use Rattle.std.proofs.Common.{◌≡◌, ℕ, ◌<◌, All, List, [], None, length, sym, subst, ap, ◌∙◌, arith}
+use Rattle.std.proofs.Common.{◌≡◌, ℕ, ◌+◌, ◌<◌, ◌≤◌, ◌⊎◌, inl, inr, All, List, [], ◌++◌, Option, None, Some, length, length-append, sym, subst, ap, ◌∙◌, ⊎_elim, arith}
 use Rattle.std.proofs.lemmas.List.{get_or-map, get_or_default, length-map}
 use Rattle.std.proofs.lemmas.Nat.{div_below}
-use Rattle.std.specs.List.{slice_index_or}
+use Rattle.std.proofs.lemmas.List.Folds.{concat-append}
+use Rattle.std.specs.List.{concat, slice_index_or}
+use Rattle.std.specs.Option.{MatchOption}
 use Rattle.xsk_umem.specs.PacketList.{PacketList}
 use Rattle.xsk_model.specs.Config.{Config, IsConfig, IsRegular, pair_at, classes_of}
 use Rattle.xsk_model.specs.declared.config.PairInfo.{PairInfo}
@@ -23,7 +25,9 @@ use Rattle.xsk_prog.specs.declared.rule.Verdict.{Verdict}
 use Rattle.xsk_turns.specs.Verdicts.{judged}
 use Rattle.xsk_turns.specs.Workers.{Setting}
 use Rattle.xsk_turns.specs.declared.manner.Manner.{Manner}
-use Rattle.xsk_machine.specs.Acts.{other_of, HasRoomToSend, IsDriver, IsApp}
+use Rattle.xsk_laws.specs.Expected.{received}
+use Rattle.xsk_machine.specs.Acts.{HasRoomToSend, IsDriver, IsApp}
+use Rattle.xsk_machine.specs.declared.inputs.Amount.{Amount}
 
 -- the inputs of a pair's driver are the numbers of its packets
 pub input_numbers : (c : Config) (packets : List PacketList) (inputs : List (List ℕ)) (pair : ℕ) (list : List (List ℕ)) → inputs ≡ inputs_of c packets → pair < length c.pairs
@@ -34,33 +38,43 @@ input_numbers c packets inputs pair list is known at =
     ∙ get_or-map (numbers_of c packets) c.pairs pair (record { port = 0; queue = 0; fill = 0; comp = 0 }) [] known
     ∙ ap (numbers_from c.queues (pair_at c.pairs pair).queue 0) (sym at)
 
--- the numbers that the inputs have of the paired port's driver of a queue
-pub record AreOther (s : Setting) (pair : ℕ) (list : PacketList) (numbers : List ℕ) : Type 0 where
+-- numbers are those of these packets in a list
+pub record AreNumbersOf (list : PacketList) (packets : List (List ℕ)) (numbers : List ℕ) : Type 0 where
   pub known : All (λ n. n < length list.packets) numbers
-  pub count : length numbers ≡ length (other_of s pair)
-  pub packets : packets_by list numbers ≡ other_of s pair
+  pub count : length numbers ≡ length packets
+  pub is : packets_by list numbers ≡ packets
 
-pub other_numbers : (s : Setting) (pair : ℕ) (inputs : List (List ℕ)) (list : PacketList) → IsConfig s.config → IsRegular s.config → inputs ≡ inputs_of s.config s.packets → pair < length s.config.pairs
-    → list.packets ≡ packets_of_port s.packets (paired_port (pair_at s.config.pairs pair).port)
-    → AreOther s pair list (slice_index_or inputs (driver_on s.config (paired_port (pair_at s.config.pairs pair).port) (pair_at s.config.pairs pair).queue) [])
-other_numbers s pair inputs list config regular is known at =
-    let c = s.config in
+numbers_are : (queues queue : ℕ) (list : PacketList) (port : List (List ℕ)) (numbers : List ℕ) → numbers ≡ numbers_from queues queue 0 list.packets → list.packets ≡ port
+    → AreNumbersOf list (packets_of_queue queues queue port) numbers
+numbers_are queues queue list port numbers is at =
+    let same : packets_by list numbers ≡ packets_of_queue queues queue port = ap (packets_by list) is ∙ packets_by_number queues queue list ∙ ap (packets_of_queue queues queue) at in
+    record {
+      known = subst (All (λ n. n < length list.packets)) (sym is) (numbers_known queues queue list.packets);
+      count = sym (length-map numbers (packet_at list)) ∙ ap length same;
+      is = same;
+    }
+
+-- those that the inputs have of a pair, and of the paired port's driver of its queue
+own_numbers : (c : Config) (lists : List PacketList) (inputs : List (List ℕ)) (pair : ℕ) (list : PacketList) → inputs ≡ inputs_of c lists → pair < length c.pairs
+    → list.packets ≡ packets_of_port lists (pair_at c.pairs pair).port
+    → AreNumbersOf list (received c lists (pair_at c.pairs pair).port (pair_at c.pairs pair).queue) (slice_index_or inputs pair [])
+own_numbers c lists inputs pair list is known at =
+    numbers_are c.queues (pair_at c.pairs pair).queue list (packets_of_port lists (pair_at c.pairs pair).port) (slice_index_or inputs pair []) (input_numbers c lists inputs pair list.packets is known at) at
+
+other_numbers : (c : Config) (lists : List PacketList) (inputs : List (List ℕ)) (pair : ℕ) (list : PacketList) → IsConfig c → IsRegular c → inputs ≡ inputs_of c lists → pair < length c.pairs
+    → list.packets ≡ packets_of_port lists (paired_port (pair_at c.pairs pair).port)
+    → AreNumbersOf list (received c lists (paired_port (pair_at c.pairs pair).port) (pair_at c.pairs pair).queue)
+    (slice_index_or inputs (driver_on c (paired_port (pair_at c.pairs pair).port) (pair_at c.pairs pair).queue) [])
+other_numbers c lists inputs pair list config regular is known at =
     let o = paired_port (pair_at c.pairs pair).port in
     let q = (pair_at c.pairs pair).queue in
     let d = driver_on c o q in
     let some : 0 < classes_of c = let classes = regular.classes in omega (arith, classes) in
     let port : o < c.ports = (are_paired c.ports (pair_at c.pairs pair).port config.ports (port_within c pair config regular known)).in_ports in
     let there = is_at c o q 0 config regular port (queue_known c pair config regular known) some in
-    let numbers : slice_index_or inputs d [] ≡ numbers_from c.queues q 0 list.packets =
-    input_numbers c s.packets inputs d list.packets is there.pair_known (at ∙ ap (packets_of_port s.packets) (sym there.pair_port))
-    ∙ ap (λ (n : ℕ). numbers_from c.queues n 0 list.packets) there.pair_queue in
-    let packets : packets_by list (slice_index_or inputs d []) ≡ other_of s pair =
-    ap (packets_by list) numbers ∙ packets_by_number c.queues q list ∙ ap (packets_of_queue c.queues q) at in
-    record {
-      known = subst (All (λ n. n < length list.packets)) (sym numbers) (numbers_known c.queues q list.packets);
-      count = sym (length-map (slice_index_or inputs d []) (packet_at list)) ∙ ap length packets;
-      packets = packets;
-    }
+    numbers_are c.queues q list (packets_of_port lists o) (slice_index_or inputs d [])
+    (input_numbers c lists inputs d list.packets is there.pair_known (at ∙ ap (packets_of_port lists) (sym there.pair_port))
+    ∙ ap (λ (n : ℕ). numbers_from c.queues n 0 list.packets) there.pair_queue) at
 
 -- its port and the paired one are ports of the configuration
 pub ports_known : (c : Config) (pairs : List PairInfo) (count pair : ℕ) → IsRegular c → IsConfig c → pairs ≡ c.pairs → count ≡ c.ports → pair < length pairs
@@ -79,20 +93,64 @@ pub list_at : (lists : List PacketList) (port : ℕ) (list : PacketList) → lis
 list_at lists port list is below =
     ap (λ (l : PacketList). l.packets) (is ∙ get_or_default lists port list (record { packets = []; gaps = None; spare_packets = 0; spare_bytes = 0 }) below)
 
--- what was looked up of the paired port's driver
-pub other_found : (s : Setting) (pair : ℕ) (inputs : List (List ℕ)) (pairs : List PairInfo) (port other : ℕ) (list : PacketList) → IsConfig s.config → IsRegular s.config
-    → inputs ≡ inputs_of s.config s.packets → pair < length s.config.pairs → length s.packets ≡ s.config.ports → pairs ≡ s.config.pairs → port ≡ paired_port (pair_at pairs pair).port
-    → other ≡ driver_on s.config port (pair_at pairs pair).queue → list ≡ slice_index_or s.packets port list → AreOther s pair list (slice_index_or inputs other [])
-other_found s pair inputs pairs port other list config regular is known counted same port_is other_is got =
-    let c = s.config in
+-- what was looked up of a pair, and of the paired port's driver
+pub own_found : (c : Config) (lists : List PacketList) (pair : ℕ) (inputs : List (List ℕ)) (pairs : List PairInfo) (list : PacketList) → IsConfig c → IsRegular c
+    → inputs ≡ inputs_of c lists → pair < length c.pairs → length lists ≡ c.ports → pairs ≡ c.pairs → list ≡ slice_index_or lists (pair_at pairs pair).port list
+    → AreNumbersOf list (received c lists (pair_at c.pairs pair).port (pair_at c.pairs pair).queue) (slice_index_or inputs pair [])
+own_found c lists pair inputs pairs list config regular is known counted same got =
+    let here : (pair_at pairs pair).port ≡ (pair_at c.pairs pair).port = ap (λ (ps : List PairInfo). (pair_at ps pair).port) same in
+    let within : (pair_at pairs pair).port < length lists = omega (arith, here, port_within c pair config regular known, counted) in
+    own_numbers c lists inputs pair list is known (list_at lists (pair_at pairs pair).port list got within ∙ ap (packets_of_port lists) here)
+
+pub other_found : (c : Config) (lists : List PacketList) (pair : ℕ) (inputs : List (List ℕ)) (pairs : List PairInfo) (port other : ℕ) (list : PacketList) → IsConfig c → IsRegular c
+    → inputs ≡ inputs_of c lists → pair < length c.pairs → length lists ≡ c.ports → pairs ≡ c.pairs → port ≡ paired_port (pair_at pairs pair).port
+    → other ≡ driver_on c port (pair_at pairs pair).queue → list ≡ slice_index_or lists port list
+    → AreNumbersOf list (received c lists (paired_port (pair_at c.pairs pair).port) (pair_at c.pairs pair).queue) (slice_index_or inputs other [])
+other_found c lists pair inputs pairs port other list config regular is known counted same port_is other_is got =
     let o = paired_port (pair_at c.pairs pair).port in
     let here : port ≡ o = port_is ∙ ap (λ (ps : List PairInfo). paired_port (pair_at ps pair).port) same in
     let within : o < c.ports = (are_paired c.ports (pair_at c.pairs pair).port config.ports (port_within c pair config regular known)).in_ports in
-    let at : list.packets ≡ packets_of_port s.packets o =
-    list_at s.packets port list got (subst (λ (n : ℕ). n < length s.packets) (sym here) (omega (arith, within, counted))) ∙ ap (packets_of_port s.packets) here in
+    let at : list.packets ≡ packets_of_port lists o =
+    list_at lists port list got (subst (λ (n : ℕ). n < length lists) (sym here) (omega (arith, within, counted))) ∙ ap (packets_of_port lists) here in
     let there : other ≡ driver_on c o (pair_at c.pairs pair).queue =
     other_is ∙ ap (λ (n : ℕ). driver_on c n (pair_at pairs pair).queue) here ∙ ap (λ (ps : List PairInfo). driver_on c o (pair_at ps pair).queue) same in
-    subst (λ (n : ℕ). AreOther s pair list (slice_index_or inputs n [])) (sym there) (other_numbers s pair inputs list config regular is known at)
+    subst (λ (n : ℕ). AreNumbersOf list (received c lists o (pair_at c.pairs pair).queue) (slice_index_or inputs n [])) (sym there) (other_numbers c lists inputs pair list config regular is known at)
+
+-- ---- the packets of both
+
+-- so many packets with so many bytes, or either is too many
+abbrev AreFew : ℕ → List (List ℕ) → Option Amount → Type 0
+AreFew most packets amount =
+    MatchOption amount ((most ≤ length packets) ⊎ (most ≤ length (concat packets))) (λ (a : Amount). (a.packets ≡ length packets) × (a.bytes ≡ length (concat packets)))
+
+module _ (most : ℕ) (list other : PacketList) (mine others : List (List ℕ)) (ns ms : List ℕ) (are : AreNumbersOf list mine ns) where
+  count : length (mine ++ others) ≡ length ns + length others
+  count = omega (arith, are.count, length-append mine others)
+
+  size : length (concat (mine ++ others)) ≡ length (concat (packets_by list ns)) + length (concat others)
+  size = omega (arith, ap (λ (ps : List (List ℕ)). length (concat ps)) are.is, ap length (concat-append mine others), length-append (concat mine) (concat others))
+
+  -- where the first are too many, both are
+  pub first_many : (most ≤ length ns) ⊎ (most ≤ length (concat (packets_by list ns))) → (most ≤ length (mine ++ others)) ⊎ (most ≤ length (concat (mine ++ others)))
+  first_many h = ⊎_elim (λ (many : most ≤ length ns). inl (omega (arith, many, count))) (λ (many : most ≤ length (concat (packets_by list ns))). inr (omega (arith, many, size))) h
+
+  module _ (also : AreNumbersOf other others ms) where
+    both : length (mine ++ others) ≡ length ns + length ms
+    both = omega (arith, count, also.count)
+
+    sizes : length (concat (mine ++ others)) ≡ length (concat (packets_by list ns)) + length (concat (packets_by other ms))
+    sizes = omega (arith, size, ap (λ (ps : List (List ℕ)). length (concat ps)) also.is)
+
+    pub second_many : (most ≤ length ms) ⊎ (most ≤ length (concat (packets_by other ms))) → (most ≤ length (mine ++ others)) ⊎ (most ≤ length (concat (mine ++ others)))
+    second_many h = ⊎_elim (λ (many : most ≤ length ms). inl (omega (arith, many, both))) (λ (many : most ≤ length (concat (packets_by other ms))). inr (omega (arith, many, sizes))) h
+
+    pub sum_of : (a b : Amount) (result : Option Amount) → (a.packets ≡ length ns) × (a.bytes ≡ length (concat (packets_by list ns)))
+        → (b.packets ≡ length ms) × (b.bytes ≡ length (concat (packets_by other ms)))
+        → MatchOption result ((most ≤ a.packets + b.packets) ⊎ (most ≤ a.bytes + b.bytes)) (λ (sum : Amount). (sum.packets ≡ a.packets + b.packets) × (sum.bytes ≡ a.bytes + b.bytes))
+        → AreFew most (mine ++ others) result
+    sum_of a b None first second h =
+        ⊎_elim (λ (many : most ≤ a.packets + b.packets). inl (omega (arith, many, first.0, second.0, both))) (λ (many : most ≤ a.bytes + b.bytes). inr (omega (arith, many, first.1, second.1, sizes))) h
+    sum_of a b (Some sum) first second h = (omega (arith, h.0, first.0, second.0, both), omega (arith, h.1, first.1, second.1, sizes))
 
 pub new_driver : (s : Setting) (pair : ℕ) (list : List (List ℕ)) (verdicts : List Verdict) (d : DriverShown) → pair < length s.config.pairs → HasRoomToSend s pair d
     → list ≡ packets_of_port s.packets (pair_at s.config.pairs pair).port

@@ -40,7 +40,7 @@ same_counters c pair disposals counters l is =
 pub figures_at_end : FiguresAtEnd
 figures_at_end wire c pair input d l ended =
     let disposed : HasDisposedAll (seat_of wire c pair) input d.kept (attempts_of l) = disposes_all wire c pair input l d.kept ended.ends in
-    let counted : IsCounted c pair d.kept.disposals d.kept.counters l = keeps_counters_at_end wire c pair input l d.kept ended.one ended.fit ended.ends in
+    let counted : IsCounted c pair d.kept.disposals d.kept.counters l = keeps_counters_at_end wire c pair input l d.kept ended.one ended.own ended.ends in
     let counters = same_counters c pair d.kept.disposals d.kept.counters l counted in
     let sent = capped (length d.sent.packets) in
     let lost = ended_stranded wire c pair input d l ended in

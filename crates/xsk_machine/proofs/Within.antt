@@ -1,23 +1,29 @@
--- No driver sends more than the paired port received on its queue.
-use Rattle.std.proofs.Common.{◌≡◌, ℕ, ◌+◌, ◌*◌, ◌/◌, ◌<◌, List, length, refl, sym, ap, subst, ◌∙◌, arith}
+-- No driver sends more than its port and the paired port received on its queue.
+use Rattle.std.proofs.Common.{◌≡◌, ℕ, ◌+◌, ◌*◌, ◌/◌, ◌<◌, List, [], length, length-append, refl, sym, ap, subst, ◌∙◌, arith}
+use Rattle.std.specs.List.{concat, slice_index_or}
+use Rattle.std.proofs.lemmas.List.Folds.{concat-append}
 use Rattle.std.proofs.lemmas.Nat.{div-add-mod', div_below, mod_below}
 use Rattle.xsk_umem.specs.Frame.{Frame}
 use Rattle.xsk_model.specs.Config.{callers_of, pair_at}
 use Rattle.xsk_model.specs.Rings.{caller_of}
 use Rattle.xsk_model.specs.Entry.{Told, Entry, own}
 use Rattle.xsk_model.specs.History.{IsHistory}
-use Rattle.xsk_model.specs.Sent.{sent}
-use Rattle.xsk_model.specs.Steering.{driver_on}
+use Rattle.xsk_model.specs.Sent.{all_sent}
+use Rattle.xsk_model.specs.Steering.{paired_port, driver_on}
+use Rattle.xsk_laws.specs.Expected.{received}
 use Rattle.xsk_laws.specs.Laws.{AreWholeRuns, AreWholeRunsBy}
-use Rattle.xsk_laws.proofs.Theorems.{sent_is_within}
+use Rattle.xsk_laws.proofs.Theorems.{all_is_within}
 use Rattle.xsk_turns.specs.Hands.{IsWholeRunOf}
 use Rattle.xsk_turns.specs.Owned.{IsSteady}
+use Rattle.xsk_turns.specs.Sending.{bouncing}
+use Rattle.xsk_turns.specs.Verdicts.{judged}
 use Rattle.xsk_turns.specs.Workers.{Setting, IsWholeRun}
+use Rattle.xsk_machine.specs.Acts.{sent_of}
 use Rattle.xsk_machine.proofs.Acts.{IsWithin}
 
 -- each driver's packets are no more than that
 abbrev pub AreWithin : Setting → List Entry → Type 0
-AreWithin s h = (d : ℕ) → d < length s.config.pairs → IsWithin s d (sent s.config h d)
+AreWithin s h = (d : ℕ) → d < length s.config.pairs → IsWithin s d (sent_of s h d)
 
 -- by any number of hands
 module _ (hands : ℕ) (s : Setting) (frames : List Frame) (h : List Entry) (steady : IsSteady s.config) (legal : IsHistory s.config frames h)
@@ -39,8 +45,14 @@ module _ (hands : ℕ) (s : Setting) (frames : List Frame) (h : List Entry) (ste
       let here : driver_on s.config p q ≡ d = ap (λ n. n * s.config.queues + q) seat.0 ∙ ap (λ n. (d / s.config.queues) * s.config.queues + n) seat.1 ∙ div-add-mod' d s.config.queues in
       let port : p < s.config.ports = subst (λ n. n < s.config.ports) (sym seat.0) (div_below d s.config.queues s.config.ports some (omega (arith, below, steady.regular.pairs))) in
       let queue : q < s.config.queues = subst (λ n. n < s.config.queues) (sym seat.1) (mod_below d s.config.queues some) in
-      let few = sent_is_within hands s.manner s.wire s.config s.packets s.verdicts frames h p q whole_runs_by port queue in
-      subst (λ k. IsWithin s d (sent s.config h k)) here (record { count = few.0; bytes = few.1 })
+      let few = all_is_within hands s.manner s.wire s.config s.packets s.verdicts frames h p q whole_runs_by port queue in
+      let mine = received s.config s.packets p q in
+      let others = received s.config s.packets (paired_port p) q in
+      subst (λ k. IsWithin s d (all_sent s.config (bouncing (judged mine (slice_index_or s.verdicts k []))) h k)) here
+      (record {
+        count = omega (arith, few.0, length-append mine others);
+        bytes = omega (arith, few.1, ap length (concat-append mine others), length-append (concat mine) (concat others));
+      })
 
 -- and by one
 pub by_one : (s : Setting) (who : ℕ) (l : List Told) → IsWholeRun s who l → IsWholeRunOf 1 s who l

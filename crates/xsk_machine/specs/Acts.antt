@@ -1,13 +1,15 @@
 -- Where the workers of a setting stand, each for its own calls and replies, and what each gave after them.
-use Rattle.std.specs.Prelude.{◌≡◌, ℕ, ◌<◌, All, List, length}
+use Rattle.std.specs.Prelude.{◌≡◌, ℕ, ◌<◌, All, List, [], ◌++◌, length}
 use Rattle.std.specs.List.{concat}
-use Rattle.xsk_model.specs.Config.{pair_at}
+use Rattle.xsk_model.specs.Config.{Config, pair_at}
 use Rattle.xsk_model.specs.Rings.{caller_of}
-use Rattle.xsk_model.specs.Entry.{Told}
+use Rattle.xsk_model.specs.Entry.{Told, Entry}
 use Rattle.xsk_model.specs.Legal.{IsLegal}
+use Rattle.xsk_model.specs.Sent.{sockets_of, all_sent_from, all_sent}
 use Rattle.xsk_model.specs.Steering.{paired_port}
 use Rattle.xsk_model.specs.declared.call.Act.{Act}
 use Rattle.xsk_model.specs.declared.call.Act.TheVariants.{Call as Calls, Ended as IsEnd}
+use Rattle.xsk_turns.specs.Sending.{bouncing}
 use Rattle.xsk_turns.specs.Workers.{Setting, input_of, IsWorkerRun, IsWholeRun}
 use Rattle.xsk_laws.specs.Expected.{received}
 use Rattle.xsk_umem.specs.PacketList.{PacketList}
@@ -25,14 +27,23 @@ HasShortPackets list = All IsShort list.packets
 abbrev pub packets_in : PacketList → List (List ℕ)
 packets_in list = list.packets
 
--- what the paired port of a pair's port received on the pair's queue
-abbrev pub other_of : Setting → ℕ → List (List ℕ)
-other_of s who = received s.config s.packets (paired_port (pair_at s.config.pairs who).port) (pair_at s.config.pairs who).queue
+-- what can leave by a pair's port on the pair's queue: what came there to the port itself, and what came to the paired port
+abbrev pub leaving : Config → List PacketList → ℕ → List (List ℕ)
+leaving c lists who =
+    received c lists (pair_at c.pairs who).port (pair_at c.pairs who).queue ++ received c lists (paired_port (pair_at c.pairs who).port) (pair_at c.pairs who).queue
 
--- a driver has room to send all of it
+-- all that the driver of a pair sent by its own calls and replies, and in a history: what it completed, and what it bounced of its
+-- packets
+abbrev pub sent_along : Setting → ℕ → List Told → List (List ℕ)
+sent_along s who l = all_sent_from s.config (sockets_of s.config who) (bouncing (input_of s who)) [] l
+
+abbrev pub sent_of : Setting → List Entry → ℕ → List (List ℕ)
+sent_of s h who = all_sent s.config (bouncing (input_of s who)) h who
+
+-- a driver has room to send all that can leave
 pub record HasRoomToSend (s : Setting) (who : ℕ) (d : DriverShown) : Type 0 where
-  pub packets : d.sent.most_packets ≡ length (other_of s who)
-  pub bytes : d.sent.most_bytes ≡ length (concat (other_of s who))
+  pub packets : d.sent.most_packets ≡ length (leaving s.config s.packets who)
+  pub bytes : d.sent.most_bytes ≡ length (concat (leaving s.config s.packets who))
 
 -- the new driver of a pair
 pub record IsDriver (s : Setting) (who : ℕ) (d : DriverShown) : Type 0 where

@@ -6,7 +6,6 @@ use Rattle.xsk_model.specs.Config.{Config, classes_of}
 use Rattle.xsk_model.specs.Packets.{packets, bad_items}
 use Rattle.xsk_model.specs.Entry.{Told, Entry, own}
 use Rattle.xsk_model.specs.Own.{peeked_of}
-use Rattle.xsk_model.specs.Sent.{sent}
 use Rattle.xsk_model.specs.declared.call.Ring.TheVariants.{Fill, Rx, Tx}
 use Rattle.xsk_turns.specs.Counters.{frameless}
 use Rattle.xsk_turns.specs.Counted.{capped, fulls_of, empties_of, drops_of}
@@ -18,6 +17,7 @@ use Rattle.xsk_turns.specs.Workers.{Setting, input_of}
 use Rattle.xsk_turns.specs.declared.disposal.Disposal.{Disposal}
 use Rattle.xsk_turns.specs.declared.disposal.DriverCounters.{DriverCounters}
 use Rattle.xsk_turns.specs.declared.wire.Wire.{Wire}
+use Rattle.xsk_machine.specs.Acts.{sent_of}
 use Rattle.xsk_machine.specs.Figures.{figures_by, figures_in}
 use Rattle.xsk_driver.specs.Runs.{HasEnded}
 use Rattle.xsk_driver.specs.Shown.{Shown}
@@ -52,7 +52,7 @@ FiguresAtEnd = (wire : Wire) (c : Config) (pair : ℕ) (input : List Judged) (d 
 
 -- the figures of the workers of a setting, whose calls and replies are this history
 abbrev pub driver_figures_of : Setting → List Entry → ℕ → DriverFigures
-driver_figures_of s h pair = driver_figures_by s.wire s.config pair (input_of s pair) (length (sent s.config h pair)) (own pair h)
+driver_figures_of s h pair = driver_figures_by s.wire s.config pair (input_of s pair) (length (sent_of s h pair)) (own pair h)
 
 abbrev pub figures_of : Setting → List Entry → Figures
 figures_of s h = record { calls = capped (length h); wire = s.wire; drivers = map (driver_figures_of s h) (range_with_len 0 (length s.config.pairs)); mangled = is_some s.manner.mangle }

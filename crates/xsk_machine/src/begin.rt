@@ -1,6 +1,6 @@
 //! New drivers of a setting.
-ghost use Rattle.std.specs.Prelude.{◌≡◌, ◌<◌, false, All, List, [], length, IfOk};
-ghost use Rattle.std.specs.List.{slice_index_or};
+ghost use Rattle.std.specs.Prelude.{◌≡◌, ◌<◌, ◌≤◌, ◌^◌, ◌⊎◌, false, All, List, [], length, IfOk, MatchOption};
+ghost use Rattle.std.specs.List.{concat, slice_index_or};
 ghost use Rattle.xsk_model.specs.Config.{pair_at};
 ghost use Rattle.xsk_model.specs.Expected.{nothing};
 ghost use Rattle.xsk_prog.specs.Chain.{AllObey};
@@ -11,11 +11,11 @@ ghost use Rattle.xsk_turns.specs.Owned.{IsSteady};
 ghost use Rattle.xsk_turns.specs.Verdicts.{EachHas, IsGiven};
 ghost use Rattle.xsk_turns.specs.Workers.{packets_to, AreGiven};
 ghost use Rattle.xsk_driver.specs.Asking.{IsAnswer, verdicts_in};
-ghost use Rattle.xsk_machine.specs.Acts.{IsDriver, HasShortPackets};
+ghost use Rattle.xsk_machine.specs.Acts.{IsDriver, HasShortPackets, leaving};
 ghost use Rattle.xsk_machine.specs.Workers.{AreNew, kept_in, setting_by};
 ghost use Rattle.xsk_turns.specs.declared.manner.Manner.{Manner as AManner};
 
-use crate::Inputs;
+use crate::{Amount, Inputs};
 use std::alloc::Global;
 use xsk_driver::{Driver, Wire};
 use xsk_model::Config;
@@ -23,9 +23,32 @@ use xsk_model::steering::{driver_on, paired_port};
 use xsk_prog::{Chain, Verdict};
 use xsk_umem::{OutOfMemory, PacketList};
 
-/// The driver of a pair with a wire, and with room to send all packets that the paired port received on its queue. There is one
-/// list of packets for each port, none of which has more than 262,144 bytes, and the inputs are those of these lists. The
-/// chain is asked once for each of the driver's packets.
+/// The packets that can leave by a pair's port on its queue, those that came there and those that came to the paired port, if
+/// both they and their bytes are fewer than 2^32.
+fn leaving_by(
+    config: &Config,
+    packets: &[PacketList],
+    inputs: &Inputs,
+    pair: u32,
+) -> Option<Amount>
+    requires steady { IsSteady config.now }
+    requires lists { length packets.now ≡ config.now.ports }
+    requires inputs { inputs.now ≡ inputs_of config.now packets.now }
+    requires pair { pair < length config.now.pairs }
+    ensures { MatchOption result ((2 ^ 32 ≤ length (leaving config.now packets.now pair)) ⊎ (2 ^ 32 ≤ length (concat (leaving config.now packets.now pair))))
+        (λ amount. (amount.packets ≡ length (leaving config.now packets.now pair)) × (amount.bytes ≡ length (concat (leaving config.now packets.now pair)))) }
+{
+    let info = config.pairs()[pair as usize];
+    let own = inputs.amount_of(pair, &packets[info.port as usize])?;
+    let port = paired_port(info.port);
+    let driver = driver_on(config, port, info.queue);
+    let other = inputs.amount_of(driver, &packets[port as usize])?;
+    own.plus(other)
+}
+
+/// The driver of a pair with a wire, and with room to send all packets that its port and the paired port received on its queue.
+/// There is one list of packets for each port, none of which has more than 262,144 bytes, and the inputs are those of these lists.
+/// The chain is asked once for each of the driver's packets.
 pub fn driver_for<'a, F: Fn(&[u8], u32) -> Verdict>(
     alloc: Global,
     config: &'a Config,
@@ -47,11 +70,8 @@ pub fn driver_for<'a, F: Fn(&[u8], u32) -> Verdict>(
         (packets_to config.now packets.now (pair_at config.now.pairs pair)) (verdicts_in d.kept)) }
     ensures expected { IfOk result (λ d. d.expected ≡ nothing) }
 {
-    let info = config.pairs()[pair as usize];
-    let list = &packets[info.port as usize];
-    let port = paired_port(info.port);
-    let other = driver_on(config, port, info.queue);
-    let Some(room) = inputs.amount_of(other, &packets[port as usize]) else {
+    let list = &packets[config.pairs()[pair as usize].port as usize];
+    let Some(room) = leaving_by(config, packets, inputs, pair) else {
         return Err(OutOfMemory);
     };
     let driver = Driver::new(

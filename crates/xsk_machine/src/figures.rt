@@ -10,16 +10,16 @@ use xsk_driver::{Disposal, Driver, DriverCounters, Wire};
 use xsk_umem::OutOfMemory;
 
 /// The kinds of disposals.
-const KINDS: usize = 8;
+const KINDS: usize = 9;
 
 /// The figures of one driver. Each stays at its last value, 2^64 - 1.
 #[derive(Clone, Copy, Debug, PartialEq, Eq)]
 pub struct DriverFigures {
     /// The packets of its input.
     pub packets_in: u64,
-    /// How many of them have each kind of disposal: delivered, no frames, RX full, too long, runt, missed, passed, dropped.
-    pub kinds: [u64; 8],
-    /// The packets that it sent.
+    /// How many of them have each kind of disposal: delivered, no frames, RX full, too long, runt, missed, passed, dropped, bounced.
+    pub kinds: [u64; 9],
+    /// The packets that it sent, those that bounced among them.
     pub sent: u64,
     /// Its counters.
     pub counters: DriverCounters,

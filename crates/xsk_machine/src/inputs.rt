@@ -1,5 +1,5 @@
 //! The packets of a port, split into the numbers of each queue's own.
-ghost use Rattle.std.specs.Prelude.{◌≡◌, ◌<◌, ◌≤◌, ◌^◌, ◌⊎◌, All, IfOk, MatchOption, [], length, min};
+ghost use Rattle.std.specs.Prelude.{◌≡◌, ◌+◌, ◌<◌, ◌≤◌, ◌^◌, ◌⊎◌, All, IfOk, MatchOption, [], length, min};
 ghost use Rattle.std.specs.List.{concat, slice_index_or};
 ghost use Rattle.xsk_model.specs.Config.{IsRegular};
 ghost use Rattle.xsk_model.specs.Steering.{packet_queue as queue_of_packet};
@@ -17,6 +17,18 @@ use xsk_umem::{OutOfMemory, PacketList};
 pub struct Amount {
     pub packets: u32,
     pub bytes: u32,
+}
+
+impl Amount {
+    /// Both together, if they are fewer than 2^32 packets and bytes.
+    pub fn plus(self, more: Amount) -> Option<Amount>
+        ensures { MatchOption result ((2 ^ 32 ≤ self.packets + more.packets) ⊎ (2 ^ 32 ≤ self.bytes + more.bytes))
+            (λ sum. (sum.packets ≡ self.packets + more.packets) × (sum.bytes ≡ self.bytes + more.bytes)) }
+    {
+        let packets = self.packets.checked_add(more.packets)?;
+        let bytes = self.bytes.checked_add(more.bytes)?;
+        Some(Amount { packets, bytes })
+    }
 }
 
 /// For each pair the numbers of its packets in its port's list, in order.

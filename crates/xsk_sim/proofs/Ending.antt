@@ -11,7 +11,6 @@ use Rattle.xsk_model.specs.Config.{callers_of, classes_of}
 use Rattle.xsk_model.specs.Entry.{Entry, Told, own}
 use Rattle.xsk_model.specs.Stored.{stored_entry}
 use Rattle.xsk_model.specs.History.{IsHistory}
-use Rattle.xsk_model.specs.Sent.{sent}
 use Rattle.xsk_model.proofs.Theorems.{one_holder}
 use Rattle.xsk_turns.specs.Counted.{capped}
 use Rattle.xsk_turns.specs.declared.wire.Wire.{Wire}
@@ -34,7 +33,7 @@ use Rattle.xsk_sim.specs.Shown.{Shown}
 use Rattle.xsk_turns.specs.Workers.{Setting, IsWorkerRun, IsWholeRun, input_of}
 use Rattle.xsk_sim.specs.Runs.{HasEnded, HasStalled, NeverStill}
 use Rattle.xsk_sim.specs.Stalls.{StandStill}
-use Rattle.xsk_machine.specs.Acts.{IsActAfter, DriverStands}
+use Rattle.xsk_machine.specs.Acts.{IsActAfter, DriverStands, sent_of}
 use Rattle.xsk_machine.specs.Workers.{Stands, kept_of, figures_kept}
 use Rattle.xsk_machine.specs.declared.worker.AnyWorker.{AnyWorker}
 use Rattle.xsk_machine.specs.declared.worker.AnyWorker.TheVariants.{Driver, App}
@@ -99,10 +98,10 @@ pub record AreKept {X : Type 0} (s : Setting) (who : ℕ) (things : List X) (thi
   pub driver : who < length s.config.pairs → things ≡ thing ∷ []
   pub app : length s.config.pairs ≤ who → things ≡ []
 
-sent_kept : (s : Setting) (h : List Entry) (who : ℕ) (m : AnyWorker) (act : Act) → AreWithin s h → act ≡ IsEnd → Stands s who m act (own who h) → AreKept s who (kept_of m) (sent s.config h who)
+sent_kept : (s : Setting) (h : List Entry) (who : ℕ) (m : AnyWorker) (act : Act) → AreWithin s h → act ≡ IsEnd → Stands s who m act (own who h) → AreKept s who (kept_of m) (sent_of s h who)
 sent_kept s h who (Driver d) act within is stands =
     let known : who < length s.config.pairs = stands.known in
-    let same : d.sent.packets ≡ sent s.config h who = sent_at s who d act (own who h) is stands (within who known) in
+    let same : d.sent.packets ≡ sent_of s h who = sent_at s who d act (own who h) is stands (within who known) in
     record { driver = λ below. ap (λ (ps : List (List ℕ)). ps ∷ []) same; app = λ high. absurd (omega (arith, known, high)) }
 sent_kept s h who (App a) act within is stands = record { driver = λ below. absurd (omega (arith, stands.caller, below)); app = λ high. refl }
 
@@ -110,8 +109,8 @@ ended_figures : (s : Setting) (h : List Entry) (who : ℕ) (m : AnyWorker) (act 
     → AreKept s who (figures_kept (classes_of s.config) m) (driver_figures_of s h who)
 ended_figures s h who (Driver d) act within is stands =
     let known : who < length s.config.pairs = stands.known in
-    let same : d.sent.packets ≡ sent s.config h who = sent_at s who d act (own who h) is stands (within who known) in
-    let figures : figures_in (classes_of s.config) d ≡ driver_figures_of s h who = figures_at s who d act (own who h) (sent s.config h who) is stands same in
+    let same : d.sent.packets ≡ sent_of s h who = sent_at s who d act (own who h) is stands (within who known) in
+    let figures : figures_in (classes_of s.config) d ≡ driver_figures_of s h who = figures_at s who d act (own who h) (sent_of s h who) is stands same in
     record { driver = λ below. ap (λ (f : DriverFigures). f ∷ []) figures; app = λ high. absurd (omega (arith, known, high)) }
 ended_figures s h who (App a) act within is stands = record { driver = λ below. absurd (omega (arith, stands.caller, below)); app = λ high. refl }
 
@@ -179,13 +178,13 @@ module _ (s : Setting) (frames : List Frame) (h : List Entry) (w : Workers) (eng
   ended_seats : HaveEnded w → EachFrom w.seats.items 0 (λ who seat. (joined_ask seat.ask seat.items ≡ IsEnd) × Sits s (own_in h) who seat.machine (joined_ask seat.ask seat.items))
   ended_seats ended = each_both w.seats.items 0 _ _ ended seated.seats
 
-  all_lists : HaveEnded w → AreWithin s h → kept_lists w ≡ map (sent s.config h) (range_with_len 0 (length s.config.pairs))
-  all_lists ended within = kept_by_pair s (λ seat. kept_of seat.machine) (sent s.config h) w.seats.items 0 (length s.config.pairs) (omega arith) (omega (arith, many))
+  all_lists : HaveEnded w → AreWithin s h → kept_lists w ≡ map (sent_of s h) (range_with_len 0 (length s.config.pairs))
+  all_lists ended within = kept_by_pair s (λ seat. kept_of seat.machine) (sent_of s h) w.seats.items 0 (length s.config.pairs) (omega arith) (omega (arith, many))
       (each_change w.seats.items 0 _ _ (ended_seats ended) (λ k x low high both. sent_kept s h k x.machine (joined_ask x.ask x.items) within both.0 both.1.0))
 
-  pub all_sent : HaveEnded w → AreWithin s h → (pair : ℕ) → pair < length s.config.pairs → get_or (kept_lists w) pair [] ≡ sent s.config h pair
+  pub all_sent : HaveEnded w → AreWithin s h → (pair : ℕ) → pair < length s.config.pairs → get_or (kept_lists w) pair [] ≡ sent_of s h pair
   all_sent ended within pair below =
-      ap (λ lists. get_or lists pair []) (all_lists ended within) ∙ get_or-map-range_with_len (sent s.config h) 0 (length s.config.pairs) pair pair [] below (omega arith)
+      ap (λ lists. get_or lists pair []) (all_lists ended within) ∙ get_or-map-range_with_len (sent_of s h) 0 (length s.config.pairs) pair pair [] below (omega arith)
 
   -- and figures
   pub all_figures : HaveEnded w → AreWithin s h → kept_figures (classes_of s.config) w ≡ map (driver_figures_of s h) (range_with_len 0 (length s.config.pairs))

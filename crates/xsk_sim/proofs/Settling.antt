@@ -9,7 +9,7 @@ use Rattle.xsk_turns.specs.Script.{Script, ask, again, ended, never, begun, Leav
 use Rattle.xsk_turns.specs.Turns.{Seat, Kept, settled, dropped, pieces_of, seat_of, start, turn, IsDriverRun}
 use Rattle.xsk_turns.specs.Workers.{Setting, input_of}
 use Rattle.xsk_turns.specs.declared.disposal.Disposal.{Disposal}
-use Rattle.xsk_turns.specs.declared.disposal.Disposal.TheVariants.{Delivered, NoFrames, RxFull, TooLong, Missed}
+use Rattle.xsk_turns.specs.declared.disposal.Disposal.TheVariants.{Delivered, NoFrames, RxFull, TooLong, Missed, Bounced}
 use Rattle.xsk_turns.proofs.Disposing.{keeps_disposals}
 use Rattle.xsk_turns.proofs.ScriptLemmas.{leaves_on, leaves_front, asked_last}
 use Rattle.xsk_turns.proofs.Walks.{Premise, MeetAlong}
@@ -71,6 +71,7 @@ module _ (s : Setting) (d : ℕ) where
   calls p noted kept l known h = h
 
   entries : walk.AtEntries seat Q At Asked
+  entries (walk.told_bounced packet n) noted kept l known found h a q = same l kept (settled kept Bounced) _ _ (one_more kept Bounced) q
   entries (walk.looked_none packet n) noted kept l known found h a q = same l kept (settled kept Missed) _ _ (one_more kept Missed) q
   entries (walk.looked_long packet n t) noted kept l known found h a q = same l kept (dropped kept TooLong) _ _ (one_more kept TooLong) q
   entries (walk.rx_submitted packet t) noted kept l known found h a q =

@@ -13,7 +13,6 @@ use Rattle.xsk_model.specs.Entry.{Entry, own}
 use Rattle.xsk_model.specs.History.{IsHistory, state_after}
 use Rattle.xsk_model.specs.Holders.{HasOneHolder}
 use Rattle.xsk_model.specs.Stored.{stored}
-use Rattle.xsk_model.specs.Sent.{sent}
 use Rattle.xsk_prog.specs.Rules.{are_exact}
 use Rattle.xsk_prog.specs.declared.program.XdpProgram.{XdpProgram}
 use Rattle.xsk_prog.specs.declared.rule.Rule.{Rule}
@@ -26,6 +25,7 @@ use Rattle.xsk_turns.specs.declared.wire.Wire.{Wire}
 use Rattle.xsk_turns.specs.declared.wire.Wire.TheVariants.{Wait}
 use Rattle.xsk_laws.specs.Laws.{AreForwarded, AreExpected}
 use Rattle.xsk_driver.specs.Asking.{IsAnswer}
+use Rattle.xsk_machine.specs.Acts.{sent_of}
 use Rattle.xsk_machine.specs.Workers.{setting_by}
 use Rattle.xsk_machine.specs.Figured.{figures_of}
 use Rattle.xsk_sim.specs.Journal.{rounds_of}
@@ -60,7 +60,8 @@ NeverStill s frames order count = (round : ℕ) → round < count → StandsStil
 
 -- A run that has ended, with no round before at which it stood still: each worker's own calls and replies are a whole run. The
 -- log is the history as it is stored, after each of its prefixes each frame has one holder, and what is shown of each driver
--- are the packets that its calls on COMPLETION completed. The figures are counts over the history. No wake is lost after any prefix.
+-- are the packets that its calls on COMPLETION completed and those of its own that it bounced, in the history's order. The figures
+-- are counts over the history. No wake is lost after any prefix.
 pub record HasEnded (s : Setting) (frames : List Frame) (order : ℕ) (run : Shown) : Type 0 where
   pub history : List Entry
   pub count : ℕ
@@ -70,7 +71,7 @@ pub record HasEnded (s : Setting) (frames : List Frame) (order : ℕ) (run : Sho
   pub whole : (who : ℕ) → who < callers_of s.config → IsWholeRun s who (own who history)
   pub log : run.log ≡ stored s.config.geometry s.config.sg history
   pub holders : (past later : List Entry) → history ≡ past ++ later → HasOneHolder s.config.geometry.frames (state_after s.config frames past)
-  pub sent : (pair : ℕ) → pair < length s.config.pairs → slice_index_or run.sent pair [] ≡ sent s.config history pair
+  pub sent : (pair : ℕ) → pair < length s.config.pairs → slice_index_or run.sent pair [] ≡ sent_of s history pair
   pub figures : run.figures ≡ figures_of s history
   pub woken : (past later : List Entry) (pair : ℕ) → history ≡ past ++ later → pair < length s.config.pairs → NoWakeIsLost s.config frames past pair
 
@@ -103,7 +104,7 @@ StallsAsRuled = (rules : List Rule) (s : Setting) (frames : List Frame) (order r
     → HasStalled s frames order round → HasStalled (ruled_by rules s.wire s.manner s.config s.packets) frames order round
 
 -- Where no item is changed, what the driver of a port and queue sent in a run that has ended is what was forwarded by all classes, whatever the wire
--- does, and nothing else. Where the wire waits it is what is expected by them.
+-- does, beside what bounced of its own packets, and nothing else. Where the wire waits it is what is expected by them, beside what bounces.
 abbrev pub EndedIsForwarded : Type 0
 EndedIsForwarded = (s : Setting) (frames : List Frame) (order : ℕ) (run : Shown) (port queue : ℕ) → s.manner.mangle ≡ None → IsSteady s.config → (ended : HasEnded s frames order run)
     → port < s.config.ports → queue < s.config.queues

@@ -52,12 +52,13 @@ pub fn stalls_as_ruled()
     ensures { StallsAsRuled }
 {}
 
-/// What each driver sent in a run that has ended is what the paired port's driver delivered, whatever the wire does.
+/// What each driver sent in a run that has ended is what the paired port's driver delivered, whatever the wire does, and what
+/// bounced of its own packets.
 pub fn ended_is_forwarded()
     ensures { EndedIsForwarded }
 {}
 
-/// Where the wire waits, it is what is expected of the input.
+/// Where the wire waits, it is what is expected of the input, and what bounces.
 pub fn ended_is_expected()
     ensures { EndedIsExpected }
 {}

@@ -130,7 +130,8 @@ const STILL_ROUNDS: u64 = 64;
 /// Each driver asks the chain once for each of its packets, so there is one list of verdicts for each driver, and all that
 /// is said of the run is said of these. Where its rules leave one verdict for each packet, they are the rules' own
 /// (`laws::ends_as_ruled`). Where no items are changed, what a run that has ended sent is what was delivered to the paired sockets
-/// (`laws::ended_is_forwarded`), and where the wire waits what is expected there (`laws::ended_is_expected`).
+/// (`laws::ended_is_forwarded`), and where the wire waits what is expected there (`laws::ended_is_expected`), beside the packets
+/// that bounce by the port on which they came.
 ///
 /// It stalls exactly in the first round at which some worker hasn't ended and nothing has changed for 64 rounds, this one among
 /// them: the object was the same after each of their calls, and no packet got its disposal, which it gets in the round of its

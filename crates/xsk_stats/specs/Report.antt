@@ -9,7 +9,7 @@ use Rattle.xsk_model.specs.declared.config.PairInfo.{PairInfo}
 use Rattle.xsk_turns.specs.Counters.{no_counters}
 use Rattle.xsk_turns.specs.Counted.{capped}
 use Rattle.xsk_turns.specs.declared.disposal.Disposal.{Disposal}
-use Rattle.xsk_turns.specs.declared.disposal.Disposal.TheVariants.{Delivered, NoFrames, RxFull, TooLong, Runt, Missed, Passed, Dropped}
+use Rattle.xsk_turns.specs.declared.disposal.Disposal.TheVariants.{Delivered, NoFrames, RxFull, TooLong, Runt, Missed, Passed, Dropped, Bounced}
 use Rattle.xsk_turns.specs.declared.disposal.DriverCounters.{DriverCounters}
 use Rattle.xsk_turns.specs.declared.wire.Wire.{Wire}
 use Rattle.xsk_turns.specs.declared.wire.Wire.TheVariants.{Wait, Drop}
@@ -63,6 +63,7 @@ driver_line pair figures =
     ++ numbered (codes " missed ") (of_kind figures Missed)
     ++ numbered (codes " passed ") (of_kind figures Passed)
     ++ numbered (codes " dropped ") (of_kind figures Dropped)
+    ++ numbered (codes " bounced ") (of_kind figures Bounced)
     ++ numbered (codes " sent ") figures.sent
     ++ codes "\n"
 

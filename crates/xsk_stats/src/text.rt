@@ -95,6 +95,7 @@ fn push_driver(
         missed,
         passed,
         dropped,
+        bounced,
     ] = figures.kinds;
     push_queue(text, "driver ", pair)?;
     push_u64(text, " in ", figures.packets_in)?;
@@ -106,6 +107,7 @@ fn push_driver(
     push_u64(text, " missed ", missed)?;
     push_u64(text, " passed ", passed)?;
     push_u64(text, " dropped ", dropped)?;
+    push_u64(text, " bounced ", bounced)?;
     push_u64(text, " sent ", figures.sent)?;
     text.push_str("\n")?;
     Ok(())

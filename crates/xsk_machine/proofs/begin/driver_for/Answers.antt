@@ -9,16 +9,8 @@ use Rattle.xsk_turns.specs.Mangling.{plain}
 use Rattle.xsk_turns.specs.Workers.{Setting}
 use Rattle.xsk_driver.specs.Asking.{IsAnswer, verdicts_in}
 use Rattle.xsk_machine.specs.Acts.{HasRoomToSend}
-use Rattle.xsk_machine.proofs.Beginning.{input_numbers, list_at, new_driver, ports_known, other_found}
+use Rattle.xsk_machine.proofs.Beginning.{input_numbers, list_at, new_driver, ports_known}
 use Rattle.xsk_machine.proofs.begin.driver_for.Goals as goal
-
-pub amount_of-requires : goal.amount_of-requires
-amount_of-requires g c =
-    let s : Setting = record { config = c.args.config.now; wire = c.args.wire; manner = plain; packets = c.args.packets.now; verdicts = [] } in
-    record {
-      known = (other_found s c.args.pair c.args.inputs.now c.pairs.result.now c.paired_port-port.result c.driver_on-other.result c.index-packets-port.result c.pairs.ensures.lawful c.requires.steady.regular
-          c.requires.inputs c.requires.pair c.requires.lists c.pairs.ensures.value c.paired_port-port.ensures c.driver_on-other.ensures.value c.index-packets-port.is).known;
-    }
 
 pub returns-clause-new : goal.returns-clause-new
 returns-clause-new g c manner verdicts given =
@@ -27,16 +19,13 @@ returns-clause-new g c manner verdicts given =
     let known : pair < length s.config.pairs = c.requires.pair in
     let below : pair < length c.pairs.result.now = omega (arith, known, ap (length {A = PairInfo}) c.pairs.ensures.value) in
     let ports = ports_known s.config c.pairs.result.now (length s.packets) pair c.requires.steady.regular c.pairs.ensures.lawful c.pairs.ensures.value c.requires.lists below in
-    let list = c.index-packets-info.result in
+    let list = c.index-packets-list.result in
     let at : list.packets ≡ packets_of_port s.packets (pair_at s.config.pairs pair).port =
-    list_at s.packets (pair_at c.pairs.result.now pair).port list c.index-packets-info.is ports.0
+    list_at s.packets (pair_at c.pairs.result.now pair).port list c.index-packets-list.is ports.0
     ∙ ap (λ (ps : List PairInfo). packets_of_port s.packets (pair_at ps pair).port) c.pairs.ensures.value in
-    let other : PacketList = c.index-packets-port.result in
-    let found = other_found s pair c.args.inputs.now c.pairs.result.now c.paired_port-port.result c.driver_on-other.result other c.pairs.ensures.lawful c.requires.steady.regular
-    c.requires.inputs known c.requires.lists c.pairs.ensures.value c.paired_port-port.ensures c.driver_on-other.ensures.value c.index-packets-port.is in
     let room : HasRoomToSend s pair c.in_ok-driver.driver = record {
-      packets = c.in_ok-driver.ensures.sent_room.0 ∙ c.in-Some.ensures.0 ∙ found.count;
-      bytes = c.in_ok-driver.ensures.sent_room.1 ∙ c.in-Some.ensures.1 ∙ ap (λ (ps : List (List ℕ)). length (concat ps)) found.packets;
+      packets = c.in_ok-driver.ensures.sent_room.0 ∙ c.in-Some.ensures.0;
+      bytes = c.in_ok-driver.ensures.sent_room.1 ∙ c.in-Some.ensures.1;
     } in
     new_driver s pair list.packets (verdicts_in c.in_ok-driver.driver.kept) c.in_ok-driver.driver known room at (sym given)
     (c.in_ok-driver.ensures.is_new (c.of_pair.ensures ∙ input_numbers s.config s.packets c.args.inputs.now pair list.packets c.requires.inputs known at))
@@ -49,9 +38,9 @@ returns-clause-asked g c =
     let known : pair < length config.pairs = c.requires.pair in
     let below : pair < length c.pairs.result.now = omega (arith, known, ap (length {A = PairInfo}) c.pairs.ensures.value) in
     let ports = ports_known config c.pairs.result.now (length lists) pair c.requires.steady.regular c.pairs.ensures.lawful c.pairs.ensures.value c.requires.lists below in
-    let list = c.index-packets-info.result in
+    let list = c.index-packets-list.result in
     let at : list.packets ≡ packets_of_port lists (pair_at config.pairs pair).port =
-    list_at lists (pair_at c.pairs.result.now pair).port list c.index-packets-info.is ports.0
+    list_at lists (pair_at c.pairs.result.now pair).port list c.index-packets-list.is ports.0
     ∙ ap (λ (ps : List PairInfo). packets_of_port lists (pair_at ps pair).port) c.pairs.ensures.value in
     subst (λ (l : List (List ℕ)). EachHas (IsGiven (IsAnswer g.F.Fn c.args.chain.now (pair_at config.pairs pair).queue)) (packets_of_queue config.queues (pair_at config.pairs pair).queue l)
     (verdicts_in c.in_ok-driver.driver.kept)) at
