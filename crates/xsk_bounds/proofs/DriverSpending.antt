@@ -1,5 +1,5 @@
 -- What a driver puts into rings is paid by its packets and by what it took from TX, and it swaps marks no more often than it
--- finds items, or its kick set, or its end, lets it.
+-- finds items, or its kick set, or its end, lets it, and once for each packet that bounces.
 use Rattle.std.proofs.Common.{◌≡◌, ℕ, zero, suc, ◌+◌, ◌*◌, ◌%◌, ◌≤◌, Bool, true, false, cond, not, ◌||◌, ◌&&◌, eqb, nat_le, Option, Some, None, is_some, option_to_list, List, [], ◌∷◌, ◌++◌, length, take, drop, map, replicate, refl, ap, subst, ◌∙◌, arith, length-append, length-take, length-drop, eq-eqb, ltb-false}
 use Rattle.std.specs.Int.{div_ceil}
 use Rattle.std.proofs.lemmas.List.{length-map}
@@ -15,18 +15,18 @@ use Rattle.xsk_model.specs.Entry.{Told, with_told}
 use Rattle.xsk_model.specs.History.{OwnGoesOn}
 use Rattle.xsk_model.specs.declared.call.Ring.TheVariants.{Fill, Comp, Rx, Tx}
 use Rattle.xsk_model.specs.declared.call.Mark.{Mark}
-use Rattle.xsk_model.specs.declared.call.Mark.TheVariants.{NeedFill, NeedTx, Kick, RxDone, Gone, TxDone}
+use Rattle.xsk_model.specs.declared.call.Mark.TheVariants.{NeedFill, NeedTx, Kick, RxDone, Gone, TxDone, Bounced as BouncedMark}
 use Rattle.xsk_model.specs.declared.call.Call.{Call}
 use Rattle.xsk_model.specs.declared.call.Call.TheVariants.{Submit, Peek, Swap, Look}
 use Rattle.xsk_model.specs.declared.call.Reply.{Reply}
 use Rattle.xsk_model.specs.declared.call.Reply.TheVariants.{Granted, Full, Submitted, Items, Empty, Released, Old}
-use Rattle.xsk_turns.specs.Turns.{Seat, Judged, Kept, fresh, awaits, settled, dropped, supplied, with_rx_full, with_fill_empty, with_tx_empty, gathered, woken, pieces_of, limit_of, laid_out, application_of, group_at, returned, seat_of, socket_of, start, turn, IsDriverRun}
+use Rattle.xsk_turns.specs.Turns.{Seat, Judged, Kept, fresh, awaits, bounced_among, settled, dropped, supplied, with_rx_full, with_fill_empty, with_tx_empty, gathered, woken, pieces_of, limit_of, laid_out, application_of, group_at, returned, seat_of, socket_of, start, turn, IsDriverRun}
 use Rattle.xsk_turns.specs.declared.wire.Wire.{Wire}
 use Rattle.xsk_turns.specs.declared.disposal.Disposal.{Disposal}
-use Rattle.xsk_turns.specs.declared.disposal.Disposal.TheVariants.{Delivered, NoFrames, RxFull, TooLong, Missed}
+use Rattle.xsk_turns.specs.declared.disposal.Disposal.TheVariants.{Delivered, NoFrames, RxFull, TooLong, Missed, Bounced}
 use Rattle.xsk_turns.proofs.Layouts.{few_pieces}
 use Rattle.xsk_turns.proofs.Walks.{nothing_due, submit_due, release_due}
-use Rattle.xsk_turns.proofs.DriverWalk.{Place, Receiving, Trying, Lacking, Sending, Idling, Arming, Which, Turning, Again, Parked, Woken, Disarming, Family, first_place, Begins, asked, PeekFill, ReleaseFill, PeekTx, ReleaseTx, ArmTx, DisarmTx, SubmitRx, call_at, told_rx_done, looked_none, looked_long, looked_some, fill_empty, fill_items, fill_released, rx_granted, rx_full, rx_submitted, comp_granted, comp_full, comp_submitted, tx_empty, tx_items, tx_released, looked_tx_done, armed_fill, armed_tx, found_end, found_none, kicked, not_kicked, cleared_kick, disarmed_fill, disarmed_tx, untried, none_comes, too_few, waits, drops_full, drops_frameless, visited, idles, arms, seeks, sought, misses, looks, finds, parks, disarmed, Said, AtCalls, AtEntries, AtPasses, IsLaw, of_run}
+use Rattle.xsk_turns.proofs.DriverWalk.{Place, Receiving, Trying, Lacking, Sending, Idling, Arming, Which, Turning, Again, Parked, Woken, Disarming, Family, first_place, Begins, asked, PeekFill, ReleaseFill, PeekTx, ReleaseTx, ArmTx, DisarmTx, SubmitRx, call_at, told_rx_done, told_bounced, looked_none, looked_long, looked_some, fill_empty, fill_items, fill_released, rx_granted, rx_full, rx_submitted, comp_granted, comp_full, comp_submitted, tx_empty, tx_items, tx_released, looked_tx_done, armed_fill, armed_tx, found_end, found_none, kicked, not_kicked, cleared_kick, disarmed_fill, disarmed_tx, untried, none_comes, too_few, waits, drops_full, drops_frameless, visited, idles, arms, seeks, sought, misses, looks, finds, parks, disarmed, Said, AtCalls, AtEntries, AtPasses, IsLaw, of_run}
 use Rattle.xsk_bounds.specs.Totals.{total, put, steps_put, steps_taken, swapped, took, kick_swaps}
 use Rattle.xsk_bounds.proofs.Totals.{total-append, total-push}
 use Rattle.xsk_bounds.proofs.Sums.{Spends, Drives}
@@ -119,9 +119,9 @@ IsQuiet (Sending look k due) progress tx_done = QuietIn look tx_done
 IsQuiet place progress tx_done = Unit {0}
 
 pub record Pays (d packets : ℕ) (place : Place) (progress : Bool) (kept : Kept) (l : List Told) : Type 0 where
-  pub spends : total put l + total steps_put l + 2 * held kept ≤ total steps_taken l + 128 * length kept.disposals
+  pub spends : total put l + total steps_put l + 2 * held kept ≤ total steps_taken l + 90 * length kept.disposals
   pub count : length kept.disposals + length kept.coming ≡ packets
-  pub swaps : total swapped l + fewer_at place progress ≤ base d kept.rx_done kept.tx_done l + more_at place
+  pub swaps : total swapped l + fewer_at place progress ≤ base d kept.rx_done kept.tx_done l + more_at place + length kept.disposals
   pub quiet : IsQuiet place progress kept.tx_done
   pub kicks : (e : ℕ) → total (kick_swaps e 1) l ≡ 0
 
@@ -140,7 +140,7 @@ flag_few false = omega arith
 -- what such calls come to
 pub record Spent (d packets : ℕ) (l : List Told) : Type 0 where
   pub spends : Spends l packets
-  pub swaps : total swapped l ≤ 11 * (total took l + total (kick_swaps d 0) l + 2) + 2
+  pub swaps : total swapped l ≤ 11 * (total took l + total (kick_swaps d 0) l + 2) + 2 + packets
   pub kicks : (e : ℕ) → total (kick_swaps e 1) l ≡ 0
 
 -- a packet has no more pieces than 18
@@ -169,18 +169,18 @@ module _ (wire : Wire) (c : Config) (d packets : ℕ) (few : classes_of c ≤ 4)
   spent place progress kept l small h =
       record {
         spends = omega (arith, h.spends, h.count);
-        swaps = omega (arith, h.swaps, small, flag_few kept.rx_done, flag_few kept.tx_done);
+        swaps = omega (arith, h.swaps, h.count, small, flag_few kept.rx_done, flag_few kept.tx_done);
         kicks = h.kicks;
       }
 
   -- one call more
   abbrev Costs : Kept → Kept → Told → Type 0
-  Costs kept now t = put t + steps_put t + 2 * held now + 128 * length kept.disposals ≤ 2 * held kept + steps_taken t + 128 * length now.disposals
+  Costs kept now t = put t + steps_put t + 2 * held now + 90 * length kept.disposals ≤ 2 * held kept + steps_taken t + 90 * length now.disposals
 
   abbrev Counts : Place → Place → Bool → Bool → Kept → Kept → Told → Type 0
   Counts place next progress after kept now t =
-      swapped t + fewer_at next after + more_at place + 11 * flag kept.tx_done + flag kept.rx_done
-      ≤ fewer_at place progress + more_at next + 11 * took t + 11 * kick_swaps d 0 t + 11 * flag now.tx_done + flag now.rx_done
+      swapped t + fewer_at next after + more_at place + 11 * flag kept.tx_done + flag kept.rx_done + length kept.disposals
+      ≤ fewer_at place progress + more_at next + 11 * took t + 11 * kick_swaps d 0 t + 11 * flag now.tx_done + flag now.rx_done + length now.disposals
 
   step : (place next : Place) (progress after : Bool) (kept now : Kept) (l : List Told) (call : Call) (reply : Reply)
       → (let t : Told = record { call = call; reply = reply } in Costs kept now t × Counts place next progress after kept now t × ((e : ℕ) → kick_swaps e 1 t ≡ 0))
@@ -204,7 +204,7 @@ module _ (wire : Wire) (c : Config) (d packets : ℕ) (few : classes_of c ≤ 4)
       → Pays d packets place progress kept l → Pays d packets next after now (with_told l call reply)
   still place next progress after kept now l call reply none same more count rx tx credit quiet h =
       step place next progress after kept now l call reply
-      (omega (arith, none.0, none.1, same, more), omega (arith, none.2, ap flag rx, tx, credit), none.3) count quiet h
+      (omega (arith, none.0, none.1, same, more), omega (arith, none.2, ap flag rx, tx, credit, more), none.3) count quiet h
 
   nothing : {A : Type 0} (x : A) → flag false ≤ flag false
   nothing x = omega arith
@@ -265,7 +265,7 @@ module _ (wire : Wire) (c : Config) (d packets : ℕ) (few : classes_of c ≤ 4)
       → Pays d packets place progress kept l → Pays d packets next after now (with_told l (Swap m value) (Old n))
   swaps_mark place next progress after kept now l m value n none same more coming tx credit quiet h =
       step place next progress after kept now l (Swap m value) (Old n)
-      (omega (arith, same, ap length more), omega (arith, credit, ap flag tx, none d 0), λ e. none e 1) (omega (arith, ap length more, ap length coming)) quiet h
+      (omega (arith, same, ap length more), omega (arith, credit, ap flag tx, none d 0, ap length more), λ e. none e 1) (omega (arith, ap length more, ap length coming)) quiet h
 
   calls : AtCalls seat (Lawful c d) At Asked
   calls (ArmTx k) noted kept l known h = spent (Arming k) noted.progress kept l (omega (arith, known, few)) h
@@ -279,6 +279,10 @@ module _ (wire : Wire) (c : Config) (d packets : ℕ) (few : classes_of c ≤ 4)
   entries : AtEntries seat (Lawful c d) At Asked
   entries (told_rx_done n) noted kept l known found h a q =
       swaps_mark Receiving (Sending Turning 0 nothing_due) noted.progress true kept (record kept { rx_done = true }) l (RxDone d) 1 n (λ e v. refl) refl refl refl refl (omega (arith, ap flag known.1)) tt h
+  entries (told_bounced packet n) noted kept l known found h a q =
+      let more = length-append kept.disposals (Bounced ∷ []) in
+      step Receiving (Sending Turning 0 nothing_due) noted.progress true kept (settled kept Bounced) l (Swap (BouncedMark d) (suc (bounced_among kept.disposals))) (Old n)
+      (omega (arith, more), omega (arith, more), λ e. refl) (one_fewer kept.disposals Bounced kept.coming packet known.later known.is) tt h
   entries (looked_none packet n) noted kept l known found h a q =
       settles Receiving (Sending Turning 0 nothing_due) noted.progress true kept (settled kept Missed) l _ (Old n) Missed (refl, refl, refl, λ e. refl) refl refl (one_fewer kept.disposals Missed kept.coming packet known.later known.is) refl refl (omega arith) tt h
   entries (looked_long packet n s) noted kept l known found h a q =
@@ -311,7 +315,7 @@ module _ (wire : Wire) (c : Config) (d packets : ℕ) (few : classes_of c ≤ 4)
         pieces_few c geometry packet.bytes (ltb-false (limit_of seat) (length packet.bytes) known.0.fits),
       ) in
       step (Trying Turning packet s (submit_due (Rx s) (pieces_of seat packet.bytes))) (Sending Turning 0 nothing_due) noted.progress true kept _ l give Submitted
-      (omega (arith, items, length-append kept.disposals (Delivered s ∷ [])), omega arith, λ e. refl)
+      (omega (arith, items, length-append kept.disposals (Delivered s ∷ [])), omega (arith, length-append kept.disposals (Delivered s ∷ [])), λ e. refl)
       (one_fewer kept.disposals (Delivered s) kept.coming packet known.0.next.later known.0.next.is) tt h
   entries (comp_granted k packet later) noted kept l known found h a q =
       still (Sending Turning k nothing_due) (Sending Turning k (submit_due (Comp d) (length packet))) noted.progress noted.progress kept kept l _ Granted (refl, refl, refl, λ e. refl) refl (omega arith) refl refl (omega arith) (omega arith) tt h
@@ -351,7 +355,7 @@ module _ (wire : Wire) (c : Config) (d packets : ℕ) (few : classes_of c ≤ 4)
       record {
         spends = omega (arith, h.spends, same, more);
         count = count ∙ h.count;
-        swaps = omega (arith, h.swaps, ap flag rx, ap flag tx, credit);
+        swaps = omega (arith, h.swaps, ap flag rx, ap flag tx, credit, more);
         quiet = quiet;
         kicks = h.kicks;
       }
@@ -393,7 +397,7 @@ module _ (wire : Wire) (c : Config) (d packets : ℕ) (few : classes_of c ≤ 4)
         let t : Told = record { call = Swap (Gone d) 1; reply = Old n } in
         record {
           spends = omega (arith, a.spends, total-push put l t, total-push steps_put l t, total-push steps_taken l t);
-          swaps = omega (arith, h.swaps, flag_few kept.rx_done, flag_few kept.tx_done, total-push swapped l t, total-push took l t, total-push (kick_swaps d 0) l t);
+          swaps = omega (arith, h.swaps, h.count, flag_few kept.rx_done, flag_few kept.tx_done, total-push swapped l t, total-push took l t, total-push (kick_swaps d 0) l t);
           kicks = λ e. omega (arith, a.kicks e, total-push (kick_swaps e 1) l t);
         };
   }

@@ -145,14 +145,14 @@ sum_swap (suc n) m f = omega (arith, sum_swap n m f, sum-add m (λ w. sum_below 
 -- ---- the callers' parts
 
 -- what is said of a caller's own calls: each item that it puts into a ring, with the steps that it has left, is paid by the
--- items that it takes and by the packets that it disposes of
+-- items that it takes and by the packets that it disposes of, of which each puts 18 items at most on RX
 abbrev pub Spends : List Told → ℕ → Type 0
-Spends l disposed = total put l + total steps_put l ≤ total steps_taken l + 128 * disposed
+Spends l disposed = total put l + total steps_put l ≤ total steps_taken l + 90 * disposed
 
--- a driver swaps marks as often as it finds items, or its kick set, lets it; and it sets no kick
+-- a driver swaps marks as often as it finds items, or its kick set, lets it, and once for each packet that bounces; and it sets no kick
 pub record Drives (d disposed : ℕ) (l : List Told) : Type 0 where
   pub spends : Spends l disposed
-  pub swaps : total swapped l ≤ 11 * (total took l + total (kick_swaps d 0) l + 2) + 2
+  pub swaps : total swapped l ≤ 11 * (total took l + total (kick_swaps d 0) l + 2) + 2 + disposed
   pub kicks : (e : ℕ) → total (kick_swaps e 1) l ≡ 0
 
 -- an application swaps at most one for each item that it puts into a ring, and three at its end
@@ -177,14 +177,14 @@ module _ (c : Config) (frames : List Frame) (h : List Entry) (disposed : ℕ →
   by_caller f = total_own (callers_of c) f h (callers_exist c frames h history) ∙ sum_split (length c.pairs) (apps_of c) (λ who. total f (own who h))
 
   -- what is put into rings
-  drivers_spend : drivers put + drivers steps_put ≤ drivers steps_taken + 128 * packets
+  drivers_spend : drivers put + drivers steps_put ≤ drivers steps_taken + 90 * packets
   drivers_spend =
       omega (
         arith,
-        sum-le (length c.pairs) (λ d. total put (own d h) + total steps_put (own d h)) (λ d. total steps_taken (own d h) + 128 * disposed d) (λ d lt. (drives d lt).spends),
+        sum-le (length c.pairs) (λ d. total put (own d h) + total steps_put (own d h)) (λ d. total steps_taken (own d h) + 90 * disposed d) (λ d lt. (drives d lt).spends),
         sum-add (length c.pairs) (λ d. total put (own d h)) (λ d. total steps_put (own d h)),
-        sum-add (length c.pairs) (λ d. total steps_taken (own d h)) (λ d. 128 * disposed d),
-        sum-times (length c.pairs) 128 disposed,
+        sum-add (length c.pairs) (λ d. total steps_taken (own d h)) (λ d. 90 * disposed d),
+        sum-times (length c.pairs) 90 disposed,
       )
 
   apps_spend : apps put + apps steps_put ≤ apps steps_taken
@@ -207,7 +207,7 @@ module _ (c : Config) (frames : List Frame) (h : List Entry) (disposed : ℕ →
         total_same (λ e. IsKnown c e.call) (put_on c (steps_at c)) steps_put h known (λ e is. steps_same c e.call (length (submitted e.call)) is),
       )
 
-  put_few : total put (all_told h) ≤ 128 * packets
+  put_few : total put (all_told h) ≤ 90 * packets
   put_few = omega (arith, drivers_spend, apps_spend, steps_flow, by_caller put, by_caller steps_put, by_caller steps_taken)
 
   took_few : total took (all_told h) ≤ c.geometry.frames + total put (all_told h)
@@ -245,12 +245,13 @@ module _ (c : Config) (frames : List Frame) (h : List Entry) (disposed : ℕ →
             (λ a lt. kicks_few (length c.pairs) 1 (own (length c.pairs + a) h)),
       )
 
-  drivers_swap : drivers swapped ≤ 11 * (drivers took + sum_below (length c.pairs) (λ d. total (kick_swaps d 0) (own d h)) + 2 * length c.pairs) + 2 * length c.pairs
+  drivers_swap : drivers swapped ≤ 11 * (drivers took + sum_below (length c.pairs) (λ d. total (kick_swaps d 0) (own d h)) + 2 * length c.pairs) + 2 * length c.pairs + packets
   drivers_swap =
       let n = length c.pairs in
       omega (
         arith,
-        sum-le n (λ d. total swapped (own d h)) (λ d. 11 * (total took (own d h) + total (kick_swaps d 0) (own d h) + 2) + 2) (λ d lt. (drives d lt).swaps),
+        sum-le n (λ d. total swapped (own d h)) (λ d. 11 * (total took (own d h) + total (kick_swaps d 0) (own d h) + 2) + 2 + disposed d) (λ d lt. (drives d lt).swaps),
+        sum-add n (λ d. 11 * (total took (own d h) + total (kick_swaps d 0) (own d h) + 2) + 2) disposed,
         sum-add n (λ d. 11 * (total took (own d h) + total (kick_swaps d 0) (own d h) + 2)) (λ d. 2),
         sum-times n 11 (λ d. total took (own d h) + total (kick_swaps d 0) (own d h) + 2),
         sum-add n (λ d. total took (own d h) + total (kick_swaps d 0) (own d h)) (λ d. 2),

@@ -3,7 +3,7 @@ use Rattle.std.proofs.Common.{◌≡◌, ◌⊎◌, inl, inr, ℕ, zero, suc, �
 use Rattle.xsk_umem.specs.Frame.{Frame}
 use Rattle.xsk_turns.proofs.Calls.{Item, Told, Call, Reply}
 use Rattle.xsk_turns.specs.Script.{Script, ask, again, ended, never, begun, Leaves, Asks, IsLive, IsRun, IsWhole}
-use Rattle.xsk_turns.specs.Turns.{Seat, Judged, Kept, Noted, fresh, settled, settled_or, disposal_untried, visit, complete, transmit, receive, turn_by, turn}
+use Rattle.xsk_turns.specs.Turns.{Seat, Judged, Kept, Noted, fresh, bounces, settled, settled_or, disposal_untried, visit, complete, transmit, receive, turn_by, turn}
 use Rattle.xsk_turns.specs.AppTurns.{AppKept, AppNoted, pending_at, back_at, lanes_of, visit_lane, visit_lanes, visit_side, turn_sides, noted_first, app_turn}
 use Rattle.xsk_turns.proofs.Object.{Config}
 use Rattle.xsk_turns.specs.declared.disposal.Disposal.{Disposal}
@@ -66,7 +66,7 @@ module _ (seat : Seat) (some : 1 ≤ seat.classes) where
   receive_asks [] noted kept = ask_if kept.rx_done _ _ (transmit_asks noted kept) tt
   receive_asks (packet ∷ later) noted kept =
       settled_asks (disposal_untried seat packet) (λ disposal. receive seat later (record noted { progress = true }) (settled kept disposal)) _
-      (λ disposal. receive_asks later (record noted { progress = true }) (settled kept disposal)) tt
+      (λ disposal. receive_asks later (record noted { progress = true }) (settled kept disposal)) (ask_if (bounces packet.verdict) _ _ tt tt)
 
   by_parked : (o : Option Bool) (kept : Kept) → IsAsk (turn_by seat kept o)
   by_parked None kept = receive_asks kept.coming fresh kept

@@ -8,16 +8,16 @@ use Rattle.xsk_model.specs.Object.{State, mark_at, reply_at}
 use Rattle.xsk_model.specs.OtherWords.{changes}
 use Rattle.xsk_model.specs.Steering.{packet_limit}
 use Rattle.xsk_turns.proofs.Calls.{Item, Told, with_told, Fill, Comp, Rx, Tx, NeedTx, Kick, RxDone, TxDone, Cell, Call, Look, Reply, Granted, Full, Submitted, Items, Empty, Released, Old}
-use Rattle.xsk_turns.specs.Turns.{Seat, Judged, Kept, Noted, fresh, awaits, drops, disposal_untried, cell_of, redirect_to, pieces_of, seat_of, start, turn, socket_of, application_of}
+use Rattle.xsk_turns.specs.Turns.{Seat, Judged, Kept, Noted, fresh, awaits, bounces, drops, disposal_untried, cell_of, redirect_to, pieces_of, seat_of, start, turn, socket_of, application_of}
 use Rattle.xsk_turns.specs.declared.disposal.Disposal.{Disposal}
-use Rattle.xsk_turns.specs.declared.disposal.Disposal.TheVariants.{NoFrames, RxFull, TooLong, Missed}
+use Rattle.xsk_turns.specs.declared.disposal.Disposal.TheVariants.{NoFrames, RxFull, TooLong, Missed, Bounced}
 use Rattle.xsk_turns.specs.Script.{Script, ask, Asks}
 use Rattle.xsk_turns.specs.Owned.{IsSeat, AllFit, socket_at_class}
 use Rattle.xsk_turns.specs.Wakes.{IsParked}
 use Rattle.xsk_turns.specs.declared.wire.Wire.{Wire}
 use Rattle.xsk_turns.proofs.Counting.{four_classes}
 use Rattle.xsk_turns.proofs.Walks.{Premise, nothing_due, submit_due, release_due}
-use Rattle.xsk_turns.proofs.DriverWalk.{Place, Receiving, Trying, Lacking, Sending, Idling, Arming, Which, Turning, Again, Parked, Woken, Disarming, Family, Said, AtCalls, AtEntries, AtPasses, IsLaw, GoesOnAtOnce, TellRxDone, LookCell, PeekFill, ReleaseFill, ReserveRx, SubmitRx, ReserveComp, SubmitComp, PeekTx, ReleaseTx, LookTxDone, TellGone, ArmFill, ArmTx, LookEnd, LookKick, ClearKick, DisarmFill, DisarmTx, told_rx_done, looked_none, looked_long, looked_some, fill_empty, fill_items, fill_released, rx_granted, rx_full, rx_submitted, comp_granted, comp_full, comp_submitted, tx_empty, tx_items, tx_released, looked_tx_done, armed_fill, armed_tx, found_end, found_none, kicked, not_kicked, cleared_kick, disarmed_fill, disarmed_tx, untried, none_comes, too_few, waits, drops_full, drops_frameless, visited, idles, arms, seeks, sought, misses, looks, finds, parks, disarmed, at_call}
+use Rattle.xsk_turns.proofs.DriverWalk.{Place, Receiving, Trying, Lacking, Sending, Idling, Arming, Which, Turning, Again, Parked, Woken, Disarming, Family, Said, AtCalls, AtEntries, AtPasses, IsLaw, GoesOnAtOnce, TellRxDone, TellBounced, LookCell, PeekFill, ReleaseFill, ReserveRx, SubmitRx, ReserveComp, SubmitComp, PeekTx, ReleaseTx, LookTxDone, TellGone, ArmFill, ArmTx, LookEnd, LookKick, ClearKick, DisarmFill, DisarmTx, told_rx_done, told_bounced, looked_none, looked_long, looked_some, fill_empty, fill_items, fill_released, rx_granted, rx_full, rx_submitted, comp_granted, comp_full, comp_submitted, tx_empty, tx_items, tx_released, looked_tx_done, armed_fill, armed_tx, found_end, found_none, kicked, not_kicked, cleared_kick, disarmed_fill, disarmed_tx, untried, none_comes, too_few, waits, drops_full, drops_frameless, visited, idles, arms, seeks, sought, misses, looks, finds, parks, disarmed, at_call}
 use Rattle.xsk_still.specs.Still.{IsEmpty, LacksRoom, IsStill, IsHeldUp, StaysBy}
 use Rattle.xsk_still.specs.Own.{IsFree, DriverStays}
 use Rattle.xsk_still.proofs.AppStaying.{was_empty, was_full, was_number, still_one, longer, all_at}
@@ -75,6 +75,7 @@ module _ (wire : Wire) (c : Config) (d : ℕ) (is : IsSeat c d) (x : State) (m c
     pub later : List Judged
     pub next : coming ≡ packet ∷ later
     pub tried : disposal_untried seat packet ≡ None
+    pub stays : bounces packet.verdict ≡ false
     pub fits : nat_lt (packet_limit c) (length packet.bytes) ≡ false
     pub socket : ℕ
     pub target : redirect_to c seat.port seat.queue (cell packet) ≡ Some socket
@@ -270,6 +271,7 @@ module _ (wire : Wire) (c : Config) (d : ℕ) (is : IsSeat c d) (x : State) (m c
 
   calls : AtCalls seat Q At Asked
   calls TellRxDone noted kept l known h = λ long. (tt, inr (reasons Receiving noted kept l (omega arith) long h))
+  calls (TellBounced packet) noted kept l known h = λ long. (tt, inr (reasons Receiving noted kept l (omega arith) long h))
   calls (LookCell packet) noted kept l known h = λ long. (tt, inr (reasons Receiving noted kept l (omega arith) long h))
   calls (PeekFill look packet s) noted kept l known h = λ long. (tt, inr (reasons (Trying look packet s nothing_due) noted kept l (omega (arith, later_few look)) long h))
   calls (ReleaseFill look packet s n) noted kept l known h = λ long. absurd (h.sure (omega (arith, many (Trying look packet s (release_due (Fill d) n)) noted kept l (omega (arith, later_few look)) long h)))
@@ -331,6 +333,15 @@ module _ (wire : Wire) (c : Config) (d : ℕ) (is : IsSeat c d) (x : State) (m c
       let w = q.1 ge in
       let one : mark_at c x (RxDone d) ≡ 1 = sym (was_number n _ w.gives) ∙ still_one n w.quiet in
       absurd (let off : false ≡ true = sym known.1 ∙ w.told one in cc))
+  entries (told_bounced packet n) noted kept l known found h a q = by_stretch l
+      (λ lt. first (Sending Turning 0 nothing_due) _ _ l _ (Old n) lt (omega arith))
+      (λ ge.
+      let w = q.1 ge in
+      let more = one_longer kept Bounced in
+      let un : 2 ≤ h.turns → ⊥ = λ two. against kept packet known.later known.is
+      (λ held e. differs _ _ held.stays known.bounces (ap (λ (p : Judged). bounces p.verdict) e)) (h.known two).facts.receives in
+      step Receiving (Sending Turning 0 nothing_due) noted _ kept _ l _ (Old n) (omega arith) (omega arith) h (omega (arith, more, w.settled)) ge (λ some turns zero. absurd (omega (arith, zero)))
+      (λ some e. absurd (omega (arith, e, more, w.settled))) (λ two. absurd (un two)) (λ three. absurd (un (omega (arith, three)))))
   entries (looked_none packet n) noted kept l known found h a q = by_stretch l
       (λ lt. first (Sending Turning 0 nothing_due) _ _ l _ (Old n) lt (omega arith))
       (λ ge.
@@ -534,12 +545,12 @@ module _ (wire : Wire) (c : Config) (d : ℕ) (is : IsSeat c d) (x : State) (m c
   passes (waits packet s true) noted kept l = λ h e. pass (Lacking Turning packet s true) (Sending Turning 0 nothing_due) noted _ kept kept l (omega arith) (omega arith) h (omega arith) (λ some turns zero. absurd (omega (arith, zero)))
       (λ some n.
       let f = h.now some n in
-      let held : HeldUp kept.coming kept.spare = record { packet = packet; later = e.0.next.later; next = e.0.next.is; tried = e.0.next.none; fits = e.0.fits; socket = s; target = f.1; waits = e.1; why = inl f.2 } in
+      let held : HeldUp kept.coming kept.spare = record { packet = packet; later = e.0.next.later; next = e.0.next.is; tried = e.0.next.none; stays = e.0.next.stays; fits = e.0.fits; socket = s; target = f.1; waits = e.1; why = inl f.2 } in
       ((f.0, inr held, λ full none. let off : packet ∷ e.0.next.later ≡ [] = sym e.0.next.is ∙ none in cc), λ j below. absurd (omega (arith, below)))) h.known h.ends
   passes (waits packet s false) noted kept l = λ h e. pass (Lacking Turning packet s false) (Sending Turning 0 nothing_due) noted _ kept kept l (omega arith) (omega arith) h (omega arith) (λ some turns zero. absurd (omega (arith, zero)))
       (λ some n.
       let f = h.now some n in
-      let held : HeldUp kept.coming kept.spare = record { packet = packet; later = e.0.next.later; next = e.0.next.is; tried = e.0.next.none; fits = e.0.fits; socket = s; target = f.2; waits = e.1; why = inr (f.3, f.4) } in
+      let held : HeldUp kept.coming kept.spare = record { packet = packet; later = e.0.next.later; next = e.0.next.is; tried = e.0.next.none; stays = e.0.next.stays; fits = e.0.fits; socket = s; target = f.2; waits = e.1; why = inr (f.3, f.4) } in
       ((f.0, inr held, λ full none. let off : packet ∷ e.0.next.later ≡ [] = sym e.0.next.is ∙ none in cc), λ j below. absurd (omega (arith, below)))) h.known h.ends
   passes (drops_full packet s) noted kept l = λ h e.
       let more = one_longer kept RxFull in
@@ -622,6 +633,7 @@ module _ (wire : Wire) (c : Config) (d : ℕ) (is : IsSeat c d) (x : State) (m c
     later = h.later;
     next = h.next;
     tried = h.tried;
+    stays = h.stays;
     fits = ltb-false _ _ h.fits;
     socket = h.socket;
     target = h.target;

@@ -178,7 +178,7 @@ module _ (s : Setting) (frames : List Frame) (past es : List Entry) (are : AreWo
 
   module _ (i : ℕ) (side : i < 2) (o : Open i) where
     pub owned : Owned c (d i) o.kept o.call (own (d i) h)
-    owned = (keeps_frames s.wire c (d i) (input_of s (d i)) (own (d i) h) o.kept o.call o.rest (seat i side) (stand.fit s frames past es are ample st (d i)) o.asks).0
+    owned = (keeps_frames s.wire c (d i) (input_of s (d i)) (own (d i) h) o.kept o.call o.rest (seat i side) (stand.goes s frames past es are ample st (d i)) o.asks).0
 
     has_kept : HasKept c (d i) o.kept (own (d i) h)
     has_kept = record {

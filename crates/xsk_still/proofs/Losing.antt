@@ -1,15 +1,17 @@
 -- A driver loses no frame where no packet was bad.
-use Rattle.std.proofs.Common.{◌≡◌, ℕ, zero, suc, ◌<◌, Bool, true, false, cond, List, [], ◌∷◌, ◌++◌, append_assoc, take, refl, sym, ap, ◌∙◌, eq-eqb}
-use Rattle.xsk_turns.proofs.Object.{Frame, Config, classes_of, Packet, whole, bad, packets, packets_from, rest, peeked_of, peeked_step, taken, is_on, Fits, IsLegal}
-use Rattle.xsk_model.proofs.Folds.{part_of-push}
-use Rattle.xsk_model.proofs.PacketsLaws.{packets_from-append}
+use Rattle.std.proofs.Common.{◌≡◌, ℕ, zero, suc, ◌<◌, Bool, true, false, cond, List, [], ◌∷◌, ◌++◌, append_assoc, length, get_or, set, take, refl, sym, ap, ◌∙◌, ⊎_elim, arith, eq-eqb, ne_eqb, length-set, get_or-set_same, get_or-set_other}
+use Rattle.std.proofs.lemmas.Bool.{cases_eq}
+use Rattle.std.proofs.lemmas.List.{length-replicate}
+use Rattle.xsk_turns.proofs.Object.{Frame, Config, classes_of, Packet, whole, bad, packets, packets_from, rest, rest_from, peeked_of, peeked_step, taken, is_on}
+use Rattle.xsk_model.proofs.Folds.{part_of-push, part_of-push_other}
+use Rattle.xsk_model.proofs.PacketsLaws.{packets_from-append, rest_from-append}
 use Rattle.xsk_turns.proofs.Calls.{Item, Told, with_told, Tx, Call, Peek, Reply, Items}
-use Rattle.xsk_turns.specs.Script.{ask}
-use Rattle.xsk_turns.specs.Turns.{Seat, Kept, frames_in, bad_ones, group_at, gathered, seat_of, start}
-use Rattle.xsk_turns.specs.Owned.{IsSeat, Owned, socket_at_class}
+use Rattle.xsk_turns.specs.Turns.{Seat, Kept, frames_in, bad_ones, group_at, gathered, seat_of, start, turn}
+use Rattle.xsk_turns.specs.Owned.{socket_at_class}
 use Rattle.xsk_turns.specs.declared.wire.Wire.{Wire}
-use Rattle.xsk_turns.proofs.Owning.{meet_owned}
-use Rattle.xsk_turns.proofs.Walks.{Premise}
+use Rattle.xsk_turns.proofs.Owned.{peeked_none, sockets_apart}
+use Rattle.xsk_turns.proofs.Owning.{no_group}
+use Rattle.xsk_turns.proofs.Walks.{Anything, meet_anything}
 use Rattle.xsk_turns.proofs.DriverWalk as walk
 use Rattle.xsk_still.specs.Own.{LosesNone}
 
@@ -30,7 +32,7 @@ take_none : {X : Type 0} (n : ℕ) (xs : List X) → xs ≡ [] → take n xs ≡
 take_none zero xs e = refl
 take_none (suc n) xs e = ap (take (suc n)) e
 
-module _ (wire : Wire) (c : Config) (d : ℕ) (is : IsSeat c d) where
+module _ (wire : Wire) (c : Config) (d : ℕ) where
   abbrev seat : Seat
   seat = seat_of wire c d
 
@@ -44,11 +46,14 @@ module _ (wire : Wire) (c : Config) (d : ℕ) (is : IsSeat c d) where
   abbrev NoneBad : List Told → Type 0
   NoneBad l = (class : ℕ) → class < classes_of c → bads (peeked_of (Tx (tx class)) l) ≡ []
 
-  abbrev Q : Premise Kept
-  Q kept l call reply = (Owned c d kept call l × IsLegal c l d call) × Fits c l call reply
+  -- what is gathered of each class is the rest of what was peeked there; and no frame is lost where no packet was bad
+  record Loses (groups : List (List Item)) (lost : List Frame) (l : List Told) : Type 0 where
+    pub classes : length groups ≡ classes_of c
+    pub rests : (class : ℕ) → class < classes_of c → get_or groups class [] ≡ rest c.geometry c.sg (peeked_of (Tx (tx class)) l)
+    pub none : NoneBad l → lost ≡ []
 
   abbrev At : walk.Family
-  At place noted kept l = NoneBad l → kept.lost ≡ []
+  At place noted kept l = Loses kept.groups kept.lost l
 
   abbrev Said : walk.Said
   Said kept call l = NoneBad l → kept.lost ≡ []
@@ -69,39 +74,77 @@ module _ (wire : Wire) (c : Config) (d : ℕ) (is : IsSeat c d) where
       bad_before (is_on (Tx (tx class)) call) (peeked_of (Tx (tx class)) l) (taken reply)
       (ap bads (sym (part_of-push peeked_step (Tx (tx class)) [] l (record { call = call; reply = reply }))) ∙ h class below)
 
-  still : (lost : List Frame) (l : List Told) (call : Call) (reply : Reply) → (NoneBad l → lost ≡ []) → NoneBad (with_told l call reply) → lost ≡ []
-  still lost l call reply h none = h (before l call reply none)
+  -- a call that takes nothing from the TX rings
+  still : (groups : List (List Item)) (lost : List Frame) (l : List Told) (call : Call) (reply : Reply)
+      → ((class : ℕ) → peeked_of (Tx (tx class)) (with_told l call reply) ≡ peeked_of (Tx (tx class)) l) → Loses groups lost l → Loses groups lost (with_told l call reply)
+  still groups lost l call reply same h = record {
+    classes = h.classes;
+    rests = λ class below. h.rests class below ∙ ap (rest c.geometry c.sg) (sym (same class));
+    none = λ none. h.none (before l call reply none);
+  }
 
-  gathers : (k : ℕ) (kept : Kept) (items : List Item) (l : List Told) → k < classes_of c → Q kept l (Peek (Tx (tx k)) seat.batch) (Items items) → (NoneBad l → kept.lost ≡ [])
-      → NoneBad (with_told l (Peek (Tx (tx k)) seat.batch) (Items items)) → (gathered seat k kept items).lost ≡ []
-  gathers k kept items l below q h none =
+  elsewhere : (l : List Told) (call : Call) (reply : Reply) → ((class : ℕ) → is_on (Tx (tx class)) call ≡ false) → (class : ℕ)
+      → peeked_of (Tx (tx class)) (with_told l call reply) ≡ peeked_of (Tx (tx class)) l
+  elsewhere l call reply off class = part_of-push_other peeked_step (Tx (tx class)) [] l (record { call = call; reply = reply }) (off class)
+
+  gathers : (k : ℕ) (kept : Kept) (items : List Item) (l : List Told) → k < classes_of c → Loses kept.groups kept.lost l
+      → Loses (gathered seat k kept items).groups (gathered seat k kept items).lost (with_told l (Peek (Tx (tx k)) seat.batch) (Items items))
+  gathers k kept items l below h =
       let call = Peek (Tx (tx k)) seat.batch in
+      let m = with_told l call (Items items) in
+      let t : Told = record { call = call; reply = Items items } in
       let peeked = peeked_of (Tx (tx k)) l in
-      let all : peeked_of (Tx (tx k)) (with_told l call (Items items)) ≡ peeked ++ items =
-      part_of-push peeked_step (Tx (tx k)) [] l (record { call = call; reply = Items items }) ∙ ap (λ b. cond b (peeked ++ items) peeked) (eq-eqb (tx k) (tx k) refl) in
-      let later : bad_ones (packets_from c.geometry c.sg (rest c.geometry c.sg peeked) items) ≡ [] =
-      none_back (bads peeked) _ (sym (more peeked items) ∙ ap bads (sym all) ∙ none k below) in
-      let now : bad_ones (packets_from c.geometry c.sg (group_at kept k) items) ≡ [] =
-      ap (λ group. bad_ones (packets_from c.geometry c.sg group items)) (q.0.0.groups k below) ∙ later in
-      take_none c.geometry.frames _ (ap (λ xs. xs ++ frames_in (bad_ones (packets_from c.geometry c.sg (group_at kept k) items))) (h (before l call (Items items) none)) ∙ ap frames_in now)
+      let new = rest_from c.geometry c.sg (group_at kept k) items in
+      let all : peeked_of (Tx (tx k)) m ≡ peeked ++ items =
+      part_of-push peeked_step (Tx (tx k)) [] l t ∙ ap (λ b. cond b (peeked ++ items) peeked) (eq-eqb (tx k) (tx k) refl) in
+      record {
+        classes = length-set kept.groups k new ∙ h.classes;
+        rests = λ class within. ⊎_elim
+            (λ (e : class ≡ k).
+            ap (λ j. get_or (set kept.groups k new) j []) e
+            ∙ get_or-set_same kept.groups k new [] (omega (arith, below, h.classes))
+            ∙ ap (λ (group : List Item). rest_from c.geometry c.sg group items) (h.rests k below)
+            ∙ sym (rest_from-append c.geometry c.sg [] peeked items)
+            ∙ ap (rest c.geometry c.sg) (sym all)
+            ∙ ap (λ j. rest c.geometry c.sg (peeked_of (Tx (tx j)) m)) (sym e))
+            (λ (e : class ≡ k → ⊥).
+            get_or-set_other kept.groups k class new [] e
+            ∙ h.rests class within
+            ∙ ap (rest c.geometry c.sg) (sym (part_of-push_other peeked_step (Tx (tx class)) [] l t (ne_eqb (tx class) (tx k) (sockets_apart c d class k e)))))
+            (cases_eq class k);
+        none = λ none.
+            let later : bad_ones (packets_from c.geometry c.sg (rest c.geometry c.sg peeked) items) ≡ [] =
+            none_back (bads peeked) _ (sym (more peeked items) ∙ ap bads (sym all) ∙ none k below) in
+            let now : bad_ones (packets_from c.geometry c.sg (group_at kept k) items) ≡ [] =
+            ap (λ group. bad_ones (packets_from c.geometry c.sg group items)) (h.rests k below) ∙ later in
+            take_none c.geometry.frames _
+            (ap (λ xs. xs ++ frames_in (bad_ones (packets_from c.geometry c.sg (group_at kept k) items))) (h.none (before l call (Items items) none)) ∙ ap frames_in now);
+      }
 
-  calls : walk.AtCalls seat Q At Said
-  calls walk.TellRxDone noted kept l known h = h
-  calls p noted kept l known h = h
+  calls : walk.AtCalls seat Anything At Said
+  calls walk.TellRxDone noted kept l known h = h.none
+  calls p noted kept l known h = h.none
 
-  entries : walk.AtEntries seat Q At Said
-  entries (walk.tx_items look k items) noted kept l known found h a q = gathers k kept items l known.0 q h
-  entries e noted kept l known found h a q = still kept.lost l (walk.call_at seat (walk.point_of e) kept) (walk.reply_of e) h
+  entries : walk.AtEntries seat Anything At Said
+  entries (walk.tx_items look k items) noted kept l known found h a q = gathers k kept items l known.0 h
+  entries (walk.fill_items look packet s items) noted kept l known found h a q =
+      let call = walk.call_at seat (walk.PeekFill look packet s) kept in
+      still kept.groups kept.lost l call (Items items) (elsewhere l call (Items items) (λ class. refl)) h
+  entries e noted kept l known found h a q =
+      still kept.groups kept.lost l (walk.call_at seat (walk.point_of e) kept) (walk.reply_of e)
+      (λ class. peeked_none (Tx (tx class)) l (walk.call_at seat (walk.point_of e) kept) (walk.reply_of e) refl) h
 
-  passes : walk.AtPasses seat Q At
+  passes : walk.AtPasses seat Anything At
   passes walk.none_comes noted kept l = λ h e. h
   passes p noted kept l = λ h e. h
 
-  law : walk.IsLaw seat Q At Said Nothing
+  law : walk.IsLaw seat Anything At Said Nothing
   law = record { calls = calls; entries = entries; passes = passes; ends = λ noted kept l n known h a q. tt }
 
 pub loses_none : LosesNone
 loses_none wire c d input l kept call rest is fit asks none =
     let seat = seat_of wire c d in
-    walk.at_call seat (Q wire c d is) (At wire c d is) (Said wire c d is) (Nothing wire c d is) (law wire c d is) (start (classes_of c) input) (λ none. refl) l
-    (meet_owned wire c d input l is fit (ask kept call rest) asks) kept call rest asks none
+    let begins = start (classes_of c) input in
+    walk.at_call seat Anything (At wire c d) (Said wire c d) (Nothing wire c d) (law wire c d) begins
+    (record { classes = length-replicate (classes_of c) []; rests = λ class within. no_group (classes_of c) class; none = λ none. refl }) l
+    (meet_anything (turn seat) (turn seat begins) [] l) kept call rest asks none

@@ -209,6 +209,7 @@ module _ (wire : Wire) (c : Config) (pair : ℕ) (is : IsSeat c pair) where
 
   entries : walk.AtEntries here Anything At Asked
   entries (walk.told_rx_done n) noted kept l known found h a q = λ p. absurd (cc)
+  entries (walk.told_bounced packet n) noted kept l known found h a q = λ p. absurd (cc)
   entries (walk.looked_none packet n) noted kept l known found h a q = λ p. absurd (cc)
   entries (walk.looked_long packet n s) noted kept l known found h a q = λ p. absurd (cc)
   entries (walk.rx_submitted packet s) noted kept l known found h a q = λ p. absurd (cc)

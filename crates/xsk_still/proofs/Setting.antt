@@ -33,6 +33,7 @@ module _ (seat : Seat) where
 
   entries : walk.AtEntries seat Anything At (λ kept call l. Ones l)
   entries (walk.told_rx_done n) noted kept l known found h a q = both l (Swap (RxDone seat.pair) 1) (Old n) (λ e. refl) (λ e. refl) h
+  entries (walk.told_bounced packet n) noted kept l known found h a q = both l _ (Old n) (λ e. let off : false ≡ true = e in cc) (λ e. let off : false ≡ true = e in cc) h
   entries (walk.armed_fill n) noted kept l known found h a q = both l _ (Old n) (λ e. refl) (λ e. refl) h
   entries (walk.armed_tx k n) noted kept l known found h a q = both l _ (Old n) (λ e. refl) (λ e. refl) h
   entries (walk.cleared_kick frames n) noted kept l known found h a q = both l _ (Old n) (λ e. let off : false ≡ true = e in cc) (λ e. let off : false ≡ true = e in cc) h

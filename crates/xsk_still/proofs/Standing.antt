@@ -12,7 +12,7 @@ use Rattle.xsk_model.specs.Entry.{Told, Entry, own, all_told}
 use Rattle.xsk_model.specs.Own.{peeked_of, submitted_of}
 use Rattle.xsk_model.specs.Ends.{Telling, telling_after, telling_step, telling_of}
 use Rattle.xsk_model.specs.Homes.{first_ring}
-use Rattle.xsk_model.specs.History.{IsHistory, state_after}
+use Rattle.xsk_model.specs.History.{IsHistory, OwnGoesOn, state_after}
 use Rattle.xsk_model.specs.Opening.{opening}
 use Rattle.xsk_model.specs.declared.call.Ring.{Ring}
 use Rattle.xsk_model.specs.declared.call.Ring.TheVariants.{Fill, Comp, Rx, Tx}
@@ -113,8 +113,11 @@ module _ (s : Setting) (frames : List Frame) (past es : List Entry) (are : AreWo
   pub one_app : (a : ℕ) → a < apps_of c → IsApp c a
   one_app a known = record { config = config; steady = are.steady; geometry = are.history.opened.geometry; known = known }
 
+  pub goes : (who : ℕ) → OwnGoesOn c who [] (own who h)
+  goes who = own_entries c frames h who are.history
+
   pub fit : (who : ℕ) → AllFit c [] (own who h)
-  fit who = all_fit c who [] (own who h) (own_entries c frames h who are.history)
+  fit who = all_fit c who [] (own who h) (goes who)
 
   pub driver_run : (d : ℕ) → d < length c.pairs → IsDriverRun s.wire c d (input_of s d) (own d h)
   driver_run d below = (are.runs d (omega (arith, below))).driver below

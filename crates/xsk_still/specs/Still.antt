@@ -11,7 +11,7 @@ use Rattle.xsk_model.specs.Steering.{packet_limit}
 use Rattle.xsk_model.specs.declared.call.Ring.{Ring}
 use Rattle.xsk_model.specs.declared.call.Ring.TheVariants.{Fill, Comp, Rx, Tx}
 use Rattle.xsk_model.specs.declared.call.Mark.TheVariants.{RxDone, Gone, TxDone, Cell}
-use Rattle.xsk_turns.specs.Turns.{Seat, Judged, Kept, drops, disposal_untried, cell_of, redirect_to, pieces_of, application_of}
+use Rattle.xsk_turns.specs.Turns.{Seat, Judged, Kept, bounces, drops, disposal_untried, cell_of, redirect_to, pieces_of, application_of}
 use Rattle.xsk_turns.specs.AppTurns.{AppKept, lanes_of, pair_of, rx_of, tx_of, home_of, group_of, pending_at, back_at}
 use Rattle.xsk_turns.specs.Owned.{socket_at_class}
 
@@ -45,13 +45,14 @@ IsEmpty c x r = (ring_at c x r).out ≡ []
 
 -- ---- a driver
 
--- its next packet is tried, fits the limit and goes to a socket of its queue, the wire waits, and there is too little room or
--- there are too few frames
+-- its next packet is tried and doesn't bounce, fits the limit and goes to a socket of its queue, the wire waits, and there is too
+-- little room or there are too few frames
 pub record IsHeldUp (seat : Seat) (x : State) (kept : Kept) : Type 0 where
   pub packet : Judged
   pub later : List Judged
   pub next : kept.coming ≡ packet ∷ later
   pub tried : disposal_untried seat packet ≡ None
+  pub stays : bounces packet.verdict ≡ false
   pub fits : length packet.bytes ≤ packet_limit seat.config
   pub socket : ℕ
   pub target : redirect_to seat.config seat.port seat.queue (mark_at seat.config x (Cell seat.port (cell_of packet.verdict))) ≡ Some socket
