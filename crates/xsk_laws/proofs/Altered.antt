@@ -1,6 +1,6 @@
 -- Items that an application changed make no more whole packets than those of which they were the layouts, and with no more bytes:
 -- a whole packet still ends only at an item that ended a packet, and its items have their true lengths.
-use Rattle.std.proofs.Common.{◌≡◌, ℕ, suc, ◌+◌, ◌*◌, ◌%◌, ◌<◌, ◌≤◌, ◌⊎◌, inl, inr, ⊎_elim, Bool, true, false, cond, ◌&&◌, eqb, nat_le, Option, Some, None, List, [], ◌∷◌, ◌++◌, length, map, flat_map, take, drop, All, refl, sym, ap, subst, ◌∙◌, arith, length-append, length-take, eq-eqb}
+use Rattle.std.proofs.Common.{◌≡◌, ℕ, ◌+◌, ◌*◌, ◌%◌, ◌≤◌, ⊎_elim, Bool, true, false, cond, ◌&&◌, eqb, nat_le, Option, Some, None, List, [], ◌∷◌, length, map, flat_map, take, drop, All, refl, sym, ap, subst, ◌∙◌, arith, length-append, length-take, eq-eqb}
 use Rattle.std.specs.List.{concat}
 use Rattle.std.proofs.Math.Bool.{and-false}
 use Rattle.std.proofs.lemmas.Nat.{mod-mul-add}

@@ -1,5 +1,5 @@
 -- What is sent is the redirected input: the laws, proved.
-use Rattle.std.proofs.Common.{◌≡◌, ℕ, ◌+◌, ◌*◌, ◌<◌, ◌≤◌, List, [], ◌∷◌, length, get_or, refl, sym, ap, subst, ◌∙◌, arith}
+use Rattle.std.proofs.Common.{◌≡◌, ℕ, ◌+◌, ◌*◌, ◌<◌, ◌≤◌, List, [], ◌∷◌, length, get_or, sym, ap, subst, ◌∙◌, arith}
 use Rattle.xsk_umem.specs.Frame.{Frame}
 use Rattle.xsk_umem.specs.PacketList.{PacketList}
 use Rattle.xsk_model.specs.Config.{Config, IsConfig, pair_at, classes_of}
@@ -14,7 +14,7 @@ use Rattle.xsk_turns.specs.declared.manner.Manner.{Manner}
 use Rattle.xsk_turns.specs.declared.wire.Wire.{Wire}
 use Rattle.xsk_laws.specs.Expected.{received, received_judged, expected, bounced_on}
 use Rattle.xsk_laws.specs.Forwarded.{forwarded}
-use Rattle.xsk_laws.specs.Laws.{received_by, AreWholeRunsBy, AreOfClasses, SentIsForwarded, SentIsExpected, BouncedAsSaid, OnlyCompleted, AllAreForwarded, NothingElseIsSent, CompletedAreForwarded, CompletedAreExpected, AllIsForwarded, AllIsExpected, AllAreBoth, SentIsWithin, LeavesOnce, AllIsWithin}
+use Rattle.xsk_laws.specs.Laws.{AreWholeRunsBy, AreOfClasses, SentIsForwarded, SentIsExpected, BouncedAsSaid, OnlyCompleted, AllAreForwarded, NothingElseIsSent, CompletedAreForwarded, CompletedAreExpected, AllIsForwarded, AllIsExpected, AllAreBoth, SentIsWithin, LeavesOnce, AllIsWithin}
 use Rattle.xsk_model.proofs.Seats.{IsAt, is_at}
 use Rattle.xsk_laws.proofs.Machines.{workers}
 use Rattle.xsk_laws.proofs.Joined.{input_is, sent_forwarded, sent_fewer, sent_expected}
