@@ -1,6 +1,6 @@
 -- What is sent as the driver's machine goes on: the packet that bounced, behind the swap that counts it, and else none beside those that
 -- a call completes.
-use Rattle.std.proofs.Common.{◌≡◌, ℕ, Bool, true, false, cond, List, [], ◌∷◌, ◌++◌, refl, sym, ap, ◌∙◌, subst}
+use Rattle.std.proofs.Common.{◌≡◌, ℕ, Bool, false, cond, List, [], ◌∷◌, ◌++◌, refl, sym, subst}
 use Rattle.xsk_turns.proofs.Calls.{Item, Ask, Act}
 use Rattle.xsk_model.specs.Asks.{joined_call}
 use Rattle.xsk_model.specs.Packets.{bytes_of}

@@ -24,5 +24,6 @@ returns-clause-sends c packets sends =
 pub returns-clause-goes : goal.returns-clause-goes
 returns-clause-goes c =
     let m = c.args.self.now in
-    goes_left (record m { sending = c.add.new.self }) c.settle_bounced.new.self c.transmit.new.self c.transmit.result (moved (noted_in m)) (settled (kept_in m) Bounced)
-    c.settle_bounced.ensures.leaves c.transmit.ensures.goes
+    let leaves = c.settle_bounced.ensures.leaves in
+    goes_left m c.settle_bounced.new.self c.transmit.new.self c.transmit.result (moved (noted_in m)) (settled (kept_in m) Bounced)
+    (record { seat = leaves.seat; notes = leaves.notes; keeps = leaves.keeps }) c.transmit.ensures.goes

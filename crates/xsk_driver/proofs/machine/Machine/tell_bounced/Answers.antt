@@ -1,4 +1,4 @@
-use Rattle.std.proofs.Common.{◌≡◌, ◌+◌, suc, ap, ◌∙◌, arith}
+use Rattle.std.proofs.Common.{◌≡◌, suc, ap, ◌∙◌, arith}
 use Rattle.xsk_turns.proofs.Calls.{BouncedMark, Swap}
 use Rattle.xsk_turns.specs.Script.{ask, begun, on_old}
 use Rattle.xsk_turns.specs.Turns.{turn, moved, settled, transmit, bounced_among}
