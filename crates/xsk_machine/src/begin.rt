@@ -25,12 +25,7 @@ use xsk_umem::{OutOfMemory, PacketList};
 
 /// The packets that can leave by a pair's port on its queue, those that came there and those that came to the paired port, if
 /// both they and their bytes are fewer than 2^32.
-fn leaving_by(
-    config: &Config,
-    packets: &[PacketList],
-    inputs: &Inputs,
-    pair: u32,
-) -> Option<Amount>
+fn leaving_by(config: &Config, packets: &[PacketList], inputs: &Inputs, pair: u32) -> Option<Amount>
     requires steady { IsSteady config.now }
     requires lists { length packets.now ≡ config.now.ports }
     requires inputs { inputs.now ≡ inputs_of config.now packets.now }
@@ -70,7 +65,8 @@ pub fn driver_for<'a, F: Fn(&[u8], u32) -> Verdict>(
         (packets_to config.now packets.now (pair_at config.now.pairs pair)) (verdicts_in d.kept)) }
     ensures expected { IfOk result (λ d. d.expected ≡ nothing) }
 {
-    let list = &packets[config.pairs()[pair as usize].port as usize];
+    let info = config.pairs()[pair as usize];
+    let list = &packets[info.port as usize];
     let Some(room) = leaving_by(config, packets, inputs, pair) else {
         return Err(OutOfMemory);
     };

@@ -1,11 +1,8 @@
-use Rattle.std.proofs.Common.{◌≡◌, ℕ, ◌<◌, List, [], length, sym, ap, subst, ◌∙◌, arith}
-use Rattle.std.specs.List.{concat}
-use Rattle.xsk_umem.specs.PacketList.{PacketList}
+use Rattle.std.proofs.Common.{◌≡◌, ℕ, ◌<◌, List, length, sym, ap, subst, ◌∙◌, arith}
 use Rattle.xsk_model.specs.Config.{pair_at}
 use Rattle.xsk_model.specs.declared.config.PairInfo.{PairInfo}
 use Rattle.xsk_turns.specs.Inputs.{packets_of_port, packets_of_queue}
 use Rattle.xsk_turns.specs.Verdicts.{EachHas, IsGiven}
-use Rattle.xsk_turns.specs.Mangling.{plain}
 use Rattle.xsk_turns.specs.Workers.{Setting}
 use Rattle.xsk_driver.specs.Asking.{IsAnswer, verdicts_in}
 use Rattle.xsk_machine.specs.Acts.{HasRoomToSend}
@@ -19,9 +16,9 @@ returns-clause-new g c manner verdicts given =
     let known : pair < length s.config.pairs = c.requires.pair in
     let below : pair < length c.pairs.result.now = omega (arith, known, ap (length {A = PairInfo}) c.pairs.ensures.value) in
     let ports = ports_known s.config c.pairs.result.now (length s.packets) pair c.requires.steady.regular c.pairs.ensures.lawful c.pairs.ensures.value c.requires.lists below in
-    let list = c.index-packets-list.result in
+    let list = c.index-packets-info.result in
     let at : list.packets ≡ packets_of_port s.packets (pair_at s.config.pairs pair).port =
-    list_at s.packets (pair_at c.pairs.result.now pair).port list c.index-packets-list.is ports.0
+    list_at s.packets (pair_at c.pairs.result.now pair).port list c.index-packets-info.is ports.0
     ∙ ap (λ (ps : List PairInfo). packets_of_port s.packets (pair_at ps pair).port) c.pairs.ensures.value in
     let room : HasRoomToSend s pair c.in_ok-driver.driver = record {
       packets = c.in_ok-driver.ensures.sent_room.0 ∙ c.in-Some.ensures.0;
@@ -38,9 +35,9 @@ returns-clause-asked g c =
     let known : pair < length config.pairs = c.requires.pair in
     let below : pair < length c.pairs.result.now = omega (arith, known, ap (length {A = PairInfo}) c.pairs.ensures.value) in
     let ports = ports_known config c.pairs.result.now (length lists) pair c.requires.steady.regular c.pairs.ensures.lawful c.pairs.ensures.value c.requires.lists below in
-    let list = c.index-packets-list.result in
+    let list = c.index-packets-info.result in
     let at : list.packets ≡ packets_of_port lists (pair_at config.pairs pair).port =
-    list_at lists (pair_at c.pairs.result.now pair).port list c.index-packets-list.is ports.0
+    list_at lists (pair_at c.pairs.result.now pair).port list c.index-packets-info.is ports.0
     ∙ ap (λ (ps : List PairInfo). packets_of_port lists (pair_at ps pair).port) c.pairs.ensures.value in
     subst (λ (l : List (List ℕ)). EachHas (IsGiven (IsAnswer g.F.Fn c.args.chain.now (pair_at config.pairs pair).queue)) (packets_of_queue config.queues (pair_at config.pairs pair).queue l)
     (verdicts_in c.in_ok-driver.driver.kept)) at

@@ -1,4 +1,4 @@
-use Rattle.std.proofs.Common.{ℕ, List, []}
+use Rattle.std.proofs.Common.{[]}
 use Rattle.std.specs.List.{slice_index_or}
 use Rattle.xsk_model.specs.Config.{pair_at}
 use Rattle.xsk_model.specs.Steering.{paired_port}

@@ -1,9 +1,17 @@
-use Rattle.std.proofs.Common.{sym, subst}
+use Rattle.std.proofs.Common.{◌∷◌, ◌++◌, [], ◌∙◌, ap, sym, subst}
 use Rattle.std.specs.Prelude.{All}
 use Rattle.std.proofs.lemmas.List.Elements.{All-push}
 use Rattle.xsk_machine.specs.Acts.{HasShortPackets}
+use Rattle.xsk_machine.specs.Workers.{figures_kept}
+use Rattle.xsk_machine.specs.declared.figures.DriverFigures.{DriverFigures}
+use Rattle.xsk_machine.specs.declared.worker.AnyWorker.{AnyWorker}
 use Rattle.xsk_machine.proofs.kept.Kept.keep.Goals as goal
 
 pub returns-in-Driver-clause-short : goal.returns-in-Driver-clause-short
 returns-in-Driver-clause-short c was =
     subst (All HasShortPackets) (sym c.push_reserved-in-Driver.ensures.items) (All-push HasShortPackets _ _ was c.into_sent.ensures.short)
+
+pub returns-in-Driver-clause-figures : goal.returns-in-Driver-clause-figures
+returns-in-Driver-clause-figures c =
+    c.push_reserved.ensures.items ∙ ap (λ (figures : DriverFigures). c.args.self.now.figures.items ++ figures ∷ []) c.of_driver.ensures
+    ∙ ap (λ (w : AnyWorker). c.args.self.now.figures.items ++ figures_kept c.args.classes w) (sym c.in-Driver.is)
