@@ -28,7 +28,7 @@ use Rattle.xsk_laws.specs.Expected.{received, has_length, holds_socket, is_redir
 use Rattle.xsk_laws.proofs.Bounced.{none_to_bounce}
 use Rattle.xsk_laws.proofs.Places.{are_paired}
 use Rattle.xsk_socket.specs.declared.layout.Layout.{Layout}
-use Rattle.xsk_socket.specs.Layout.{cells_in, pairs_in}
+use Rattle.xsk_socket.specs.Layout.{cells_in, fault_of, pairs_in}
 use Rattle.xsk_socket.specs.Regular.{cell_in, is_left_empty, map_in, pair_in, regular_of, socket_in}
 use Rattle.xsk_socket.proofs.Accepted.{fits}
 use Rattle.xsk_socket.proofs.Numbered.{get_or-numbered, length-numbered}
