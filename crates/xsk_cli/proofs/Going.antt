@@ -33,7 +33,7 @@ use Rattle.xsk_socket.specs.Regular.{cell_in, is_left_empty, map_in, pair_in, re
 use Rattle.xsk_socket.proofs.Accepted.{fits}
 use Rattle.xsk_socket.proofs.Numbered.{get_or-numbered, length-numbered}
 use Rattle.xsk_socket.proofs.Regularity.{regular-config, regular-regular}
-use Rattle.xsk_cli.specs.Outcome.{listed, rule_by, rules_by, verdicts_by, received_on, goes_on, going_on, goes_back, going_back, ExpectedGoesOn, ClassGoesOn, AllGoOn, BouncedGoesBack, NoneBounces, AllGoBack}
+use Rattle.xsk_cli.specs.Outcome.{listed, rule_by, rules_by, verdicts_by, received_on, goes_on, going_on, goes_back, ExpectedGoesOn, ClassGoesOn, AllGoOn, BouncedGoesBack, NoneBounces, AllGoBack}
 use Rattle.xsk_laws.proofs.OneQueue.{bytes_if}
 
 -- ---- verdicts
