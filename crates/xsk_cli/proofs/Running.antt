@@ -23,13 +23,15 @@ use Rattle.xsk_turns.specs.Inputs.{packets_of_queue}
 use Rattle.xsk_turns.specs.Sending.{bouncing}
 use Rattle.xsk_turns.specs.Turns.{Judged}
 use Rattle.xsk_turns.specs.declared.manner.Manner.{Manner}
-use Rattle.xsk_turns.specs.Workers.{IsRuled, IsWholeRun, ruled, ruled_by}
+use Rattle.xsk_turns.specs.Hands.{IsWholeRunOf}
+use Rattle.xsk_turns.specs.Workers.{IsRuled, ruled, ruled_by}
 use Rattle.xsk_prog.specs.declared.rule.Rule.{Rule}
 use Rattle.xsk_prog.specs.declared.rule.Verdict.{Verdict}
 use Rattle.xsk_args.specs.declared.program.Program.{Program}
 use Rattle.xsk_args.specs.declared.wire.Wire.{Wire}
 use Rattle.xsk_args.specs.declared.wire.Wire.TheVariants.{Wait}
 use Rattle.xsk_machine.specs.Acts.{sent_of}
+use Rattle.xsk_machine.proofs.Within.{by_one}
 use Rattle.xsk_workers.specs.Forwarded.{OutcomeShown, HasForwarded}
 use Rattle.xsk_sim.specs.Runs.{HasEnded, HasStalled}
 use Rattle.xsk_sim.specs.Journal.{journal_of}
@@ -37,7 +39,7 @@ use Rattle.xsk_sim.specs.Shown.{HasShortPackets, Shown}
 use Rattle.xsk_sim.proofs.InRounds.{entries_stand_in_rounds}
 use Rattle.xsk_sim.proofs.Journaling.{journal_stored}
 use Rattle.xsk_sim.proofs.Verdicts.{ends_as_ruled, stalls_as_ruled}
-use Rattle.xsk_laws.specs.Laws.{AreExpected, AreForwarded, AreWholeRuns}
+use Rattle.xsk_laws.specs.Laws.{AreExpected, AreForwarded, AreWholeRunsBy}
 use Rattle.xsk_laws.specs.Expected.{bounced_on, received}
 use Rattle.xsk_laws.proofs.Joined.{input_is}
 use Rattle.xsk_laws.proofs.Places.{are_paired}
@@ -77,8 +79,8 @@ driver_known ports queues port queue in_ports in_queues = below port queues queu
 
 -- ---- a history in which all runs are whole, and the lists that are shown of it
 
-module _ (layout : Layout) (programs : List Program) (wire : Wire) (mangle : Option ℕ) (lists : List (List (List ℕ))) (accepted : fault_of layout ≡ None) (closes : layout.close ≡ None) (history : List Entry) (legal : IsHistory (regular_of layout) (frames_of layout) history)
-    (whole : (who : ℕ) → who < callers_of (regular_of layout) → IsWholeRun (setting_of layout programs wire mangle lists) who (own who history)) (all : List (List (List ℕ)))
+module _ (hands : ℕ) (layout : Layout) (programs : List Program) (wire : Wire) (mangle : Option ℕ) (lists : List (List (List ℕ))) (accepted : fault_of layout ≡ None) (closes : layout.close ≡ None) (history : List Entry) (legal : IsHistory (regular_of layout) (frames_of layout) history)
+    (whole : (who : ℕ) → who < callers_of (regular_of layout) → IsWholeRunOf hands (setting_of layout programs wire mangle lists) who (own who history)) (all : List (List (List ℕ)))
     (each : (pair : ℕ) → pair < length (regular_of layout).pairs → get_or all pair [] ≡ sent_of (setting_of layout programs wire mangle lists) history pair) where
   abbrev config : Config
   config = regular_of layout
@@ -90,7 +92,7 @@ module _ (layout : Layout) (programs : List Program) (wire : Wire) (mangle : Opt
   manner = manner_of mangle
 
   -- all workers have whole runs
-  whole_runs : AreWholeRuns manner (wire_by wire) config (map listed lists) verdicts (frames_of layout) history
+  whole_runs : AreWholeRunsBy hands manner (wire_by wire) config (map listed lists) verdicts (frames_of layout) history
   whole_runs = record {
     steady = record { regular = regular-regular layout (fits layout accepted); closes = closes };
     history = legal;
@@ -137,7 +139,7 @@ module _ (layout : Layout) (programs : List Program) (wire : Wire) (mangle : Opt
         let classes : classes_of config ≡ 1 = classes_are layout (omega (arith, driver_known layout.ports layout.queues port queue in_ports in_queues)) ∙ one in
         ap (λ ps. all_sent config ps history (driver_on config port queue)) (back port queue in_ports in_queues)
         ∙ all_completed config history (driver_on config port queue)
-        ∙ all_is_expected 1 manner (wire_by wire) config (map listed lists) verdicts (frames_of layout) history port queue none (ap wire_by waits) whole_runs in_ports in_queues classes
+        ∙ all_is_expected hands manner (wire_by wire) config (map listed lists) verdicts (frames_of layout) history port queue none (ap wire_by waits) whole_runs in_ports in_queues classes
         ∙ expected_goes_on layout programs lists port queue 0 accepted (record { in_ports = in_ports; in_queues = in_queues; in_classes = omega (arith, classes) })
 
     pub texts_in : (format : Format) (told : List ℕ) (texts : Written)
@@ -150,13 +152,13 @@ module _ (layout : Layout) (programs : List Program) (wire : Wire) (mangle : Opt
           sent = is;
           bounced = λ port queue in_ports in_queues.
               subst (λ ps. bounced_of ps (own (driver_on config port queue) history) ≡ ps) (goes_back_on port queue in_ports in_queues)
-              (bounced_as_said 1 manner (wire_by wire) config (map listed lists) verdicts (frames_of layout) history port queue whole_runs in_ports in_queues);
+              (bounced_as_said hands manner (wire_by wire) config (map listed lists) verdicts (frames_of layout) history port queue whole_runs in_ports in_queues);
           forwarded = λ port queue none in_ports in_queues.
               subst (AreForwarded (wire_by wire) config history (map listed lists) verdicts port queue) (sent_as port queue in_ports in_queues)
-              (all_are_forwarded 1 manner (wire_by wire) config (map listed lists) verdicts (frames_of layout) history port queue none whole_runs in_ports in_queues);
+              (all_are_forwarded hands manner (wire_by wire) config (map listed lists) verdicts (frames_of layout) history port queue none whole_runs in_ports in_queues);
           redirected = λ port queue none waits in_ports in_queues.
               subst (AreExpected config (map listed lists) verdicts port queue) (sent_as port queue in_ports in_queues)
-              (nothing_else_is_sent 1 manner (wire_by wire) config (map listed lists) verdicts (frames_of layout) history port queue none (ap wire_by waits) whole_runs in_ports in_queues);
+              (nothing_else_is_sent hands manner (wire_by wire) config (map listed lists) verdicts (frames_of layout) history port queue none (ap wire_by waits) whole_runs in_ports in_queues);
           one_socket = λ none waits one back.
               is
               ∙ same_texts format (sent_from layout programs lists history) (sent_on_by layout programs lists) layout.ports
@@ -187,7 +189,7 @@ module _ (layout : Layout) (programs : List Program) (wire : Wire) (mangle : Opt
           → IsWithin layout.queues (get_or lists port []) (get_or lists (paired_port port) []) queue (sent_here port queue) (sent_here (paired_port port) queue)
       sent_within port queue in_ports in_queues =
           let other : paired_port port < layout.ports = (are_paired layout.ports port (fits layout accepted).ports in_ports).in_ports in
-          let few = all_is_within 1 manner (wire_by wire) config (map listed lists) verdicts (frames_of layout) history port queue whole_runs in_ports in_queues in
+          let few = all_is_within hands manner (wire_by wire) config (map listed lists) verdicts (frames_of layout) history port queue whole_runs in_ports in_queues in
           let mine = sent_as port queue in_ports in_queues in
           let theirs = sent_as (paired_port port) queue other in_queues in
           let here = received_there port queue in
@@ -230,6 +232,10 @@ module _ (layout : Layout) (programs : List Program) (wire : Wire) (mangle : Opt
 
 module _ (layout : Layout) (programs : List Program) (wire : Wire) (mangle : Option ℕ) (order : ℕ) (lists : List (List (List ℕ))) (accepted : fault_of layout ≡ None) (closes : layout.close ≡ None) (run : Shown) (ended : HasEnded (setting_of layout programs wire mangle lists) (frames_of layout) order run)
     (pairs : length run.sent ≡ pairs_in layout) where
+  -- one hand runs each application
+  whole : (who : ℕ) → who < callers_of (regular_of layout) → IsWholeRunOf 1 (setting_of layout programs wire mangle lists) who (own who ended.history)
+  whole who below = by_one (setting_of layout programs wire mangle lists) who (own who ended.history) (ended.whole who below)
+
   pub texts_of : (format : Format) (journal : Bool) (texts : Written)
       → texts.outputs ≡ outputs_of format (λ port. take layout.queues (drop (port * layout.queues) run.sent)) (range_with_len 0 layout.ports)
       → run.pairs ≡ pairs_in layout → texts.report ≡ report_text (regular_of layout) run.figures ++ (if journal then journal_of run.pairs run.log else [])
@@ -240,7 +246,7 @@ module _ (layout : Layout) (programs : List Program) (wire : Wire) (mangle : Opt
         run = run;
         ended = ended;
         are =
-            texts_in layout programs wire mangle lists accepted closes ended.history ended.is.legal ended.whole run.sent ended.sent pairs format (told_of layout programs wire mangle lists journal ended.history) texts outputs
+            texts_in 1 layout programs wire mangle lists accepted closes ended.history ended.is.legal whole run.sent ended.sent pairs format (told_of layout programs wire mangle lists journal ended.history) texts outputs
             (report ∙ ap (λ figures. report_text config figures ++ (if journal then journal_of run.pairs run.log else [])) ended.figures
             ∙ ap (λ n. report_of layout programs wire mangle lists ended.history ++ (if journal then journal_of n run.log else [])) (drivers ∙ sym (pairs_are layout))
             ∙ ap (λ h. report_of layout programs wire mangle lists ended.history ++ (if journal then journal_of (length config.pairs) h else [])) ended.log
@@ -250,27 +256,30 @@ module _ (layout : Layout) (programs : List Program) (wire : Wire) (mangle : Opt
 
   pub sent_writable : length lists ≡ layout.ports → excess_of lists ≡ None → ((pair : ℕ) → pair < length run.sent → All IsShort (get_or run.sent pair [])) → (port count : ℕ) → port < layout.ports → count ≤ layout.queues
       → IsWritable (take count (drop (port * layout.queues) run.sent))
-  sent_writable count_is within each_short = all_writable layout programs wire mangle lists accepted closes ended.history ended.is.legal ended.whole run.sent ended.sent pairs count_is within each_short
+  sent_writable count_is within each_short = all_writable 1 layout programs wire mangle lists accepted closes ended.history ended.is.legal whole run.sent ended.sent pairs count_is within each_short
 
   pub sent_in_file : length lists ≡ layout.ports → excess_of lists ≡ None → ((pair : ℕ) → pair < length run.sent → All IsShort (get_or run.sent pair [])) → IsWritableFile (joined layout.ports layout.queues run.sent)
-  sent_in_file count_is within each_short = all_in_file layout programs wire mangle lists accepted closes ended.history ended.is.legal ended.whole run.sent ended.sent pairs count_is within each_short
+  sent_in_file count_is within each_short = all_in_file 1 layout programs wire mangle lists accepted closes ended.history ended.is.legal whole run.sent ended.sent pairs count_is within each_short
 
 -- ---- a run on threads
 
 module _ (layout : Layout) (programs : List Program) (wire : Wire) (lists : List (List (List ℕ))) (accepted : fault_of layout ≡ None) (closes : layout.close ≡ None) (o : OutcomeShown) (shown : HasForwarded (setting_of layout programs wire None lists) (frames_of layout) o)
     (pairs : length o.sent ≡ pairs_in layout) where
+  shown_whole : (who : ℕ) → who < callers_of (regular_of layout) → IsWholeRunOf 1 (setting_of layout programs wire None lists) who (own who o.history)
+  shown_whole who below = by_one (setting_of layout programs wire None lists) who (own who o.history) (shown.whole who below)
+
   pub texts_shown : (format : Format) (texts : Written)
       → texts.outputs ≡ outputs_of format (λ port. take layout.queues (drop (port * layout.queues) o.sent)) (range_with_len 0 layout.ports)
       → texts.report ≡ report_text (regular_of layout) o.figures → AreTextsIn format layout programs wire None lists o.history (report_of layout programs wire None lists o.history) texts
   texts_shown format texts outputs report =
-      texts_in layout programs wire None lists accepted closes o.history shown.legal shown.whole o.sent shown.sent pairs format (report_of layout programs wire None lists o.history) texts outputs (report ∙ ap (report_text (regular_of layout)) shown.figures)
+      texts_in 1 layout programs wire None lists accepted closes o.history shown.legal shown_whole o.sent shown.sent pairs format (report_of layout programs wire None lists o.history) texts outputs (report ∙ ap (report_text (regular_of layout)) shown.figures)
 
   pub shown_writable : length lists ≡ layout.ports → excess_of lists ≡ None → ((pair : ℕ) → pair < length o.sent → All IsShort (get_or o.sent pair [])) → (port count : ℕ) → port < layout.ports → count ≤ layout.queues
       → IsWritable (take count (drop (port * layout.queues) o.sent))
-  shown_writable count_is within each_short = all_writable layout programs wire None lists accepted closes o.history shown.legal shown.whole o.sent shown.sent pairs count_is within each_short
+  shown_writable count_is within each_short = all_writable 1 layout programs wire None lists accepted closes o.history shown.legal shown_whole o.sent shown.sent pairs count_is within each_short
 
   pub shown_in_file : length lists ≡ layout.ports → excess_of lists ≡ None → ((pair : ℕ) → pair < length o.sent → All IsShort (get_or o.sent pair [])) → IsWritableFile (joined layout.ports layout.queues o.sent)
-  shown_in_file count_is within each_short = all_in_file layout programs wire None lists accepted closes o.history shown.legal shown.whole o.sent shown.sent pairs count_is within each_short
+  shown_in_file count_is within each_short = all_in_file 1 layout programs wire None lists accepted closes o.history shown.legal shown_whole o.sent shown.sent pairs count_is within each_short
 
 -- so it is one of the command's setting
 pub forwarded_as : (layout : Layout) (programs : List Program) (wire : Wire) (c : Config) (own : List PacketList) (fs : List Frame) (lists : List (List (List ℕ))) (o : OutcomeShown) → c ≡ regular_of layout → own ≡ map listed lists
