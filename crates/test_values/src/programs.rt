@@ -1,7 +1,7 @@
 //! Programs: rules, and their verdicts on packets.
 //!
 //! `rule redirect SOCKETS`, `rule drop`, `rule pass`, `rule ethertype KIND SOCKETS`, `rule fixed CELL`, `rule atmost CELLS`,
-//! `packet BYTES`, `verdict QUEUE` (the rule's own), `attached QUEUE` (of the program that has the rule as its closure), `own QUEUE`
+//! `rule bounce`, `rule bouncetype KIND`, `packet BYTES`, `verdict QUEUE` (the rule's own), `attached QUEUE` (of the program that has the rule as its closure), `own QUEUE`
 //! (of a program with a closure of one's own: packets whose first byte is even go to cell 0, and the others are dropped),
 //! `fill N` (puts so many programs of the rule into a new chain).
 ghost use Rattle.std.specs.Prelude.{◌≡◌, true};
@@ -89,6 +89,7 @@ fn rule_in(line: &mut Line<'_>) -> Result<Rule, Fault> {
     match line.word()? {
         "drop" => Ok(Rule::Drop),
         "pass" => Ok(Rule::Pass),
+        "bounce" => Ok(Rule::Bounce),
         word => numbered(word, line.number()?, line),
     }
 }
@@ -100,6 +101,7 @@ fn numbered(word: &str, number: u32, line: &mut Line<'_>) -> Result<Rule, Fault>
         "fixed" => Ok(Rule::Fixed(number)),
         "atmost" => Ok(Rule::AtMost(number)),
         "ethertype" => ether_type(number, line.number()?),
+        "bouncetype" => bounce_type(number),
         _ => Err(Fault::BadLine),
     }
 }
@@ -107,6 +109,13 @@ fn numbered(word: &str, number: u32, line: &mut Line<'_>) -> Result<Rule, Fault>
 fn ether_type(kind: u32, sockets: u32) -> Result<Rule, Fault> {
     match u16::try_from(kind) {
         Ok(kind) => Ok(Rule::EtherType { kind, sockets }),
+        Err(_) => Err(Fault::BadLine),
+    }
+}
+
+fn bounce_type(kind: u32) -> Result<Rule, Fault> {
+    match u16::try_from(kind) {
+        Ok(kind) => Ok(Rule::BounceType { kind }),
         Err(_) => Err(Fault::BadLine),
     }
 }
@@ -136,7 +145,12 @@ fn has_sockets(rule: Rule) -> bool
         Rule::Redirect { sockets } | Rule::EtherType { sockets, .. } => {
             sockets >= 1 && sockets <= 64
         }
-        Rule::Drop | Rule::Pass | Rule::Fixed(_) | Rule::AtMost(_) => true,
+        Rule::Drop
+        | Rule::Pass
+        | Rule::Fixed(_)
+        | Rule::AtMost(_)
+        | Rule::Bounce
+        | Rule::BounceType { .. } => true,
     }
 }
 

@@ -1,7 +1,7 @@
 //! Reports: figures made by hand, and the text of them.
 //!
-//! `layout [NAME VALUE]..` (the least layout with these changes), `wire wait|drop`, `calls NUMBER`, `driver` and 25 numbers: the packets
-//! that came in, eight kinds of disposals, the packets sent, and then the counters: rx_dropped, rx_invalid_descs,
+//! `layout [NAME VALUE]..` (the least layout with these changes), `wire wait|drop`, `calls NUMBER`, `driver` and 26 numbers: the packets
+//! that came in, nine kinds of disposals, the packets sent, and then the counters: rx_dropped, rx_invalid_descs,
 //! rx_fill_ring_empty_descs, and by class rx_ring_full, tx_invalid_descs and tx_ring_empty_descs. A further number is that of
 //! stranded frames. `mangled` says that applications changed items. `report` tells the text.
 ghost use Rattle.std.specs.Prelude.{◌≡◌, length};
@@ -74,7 +74,7 @@ fn wire_in(word: &str) -> Result<Wire, Fault> {
 
 fn driver_in(line: &mut Line<'_>) -> Result<DriverFigures, Fault> {
     let packets_in = line.long()?;
-    let mut kinds = [0; 8];
+    let mut kinds = [0; 9];
     take_numbers(&mut kinds, line)?;
     let sent = line.long()?;
     let counters = counters_in(line)?;

@@ -7,7 +7,7 @@ use Rattle.std.specs.Str.Parse.{digits_value}
 use Rattle.xsk_args.specs.Words.{Text}
 use Rattle.xsk_args.specs.Number.{number_in}
 use Rattle.xsk_args.specs.declared.program.Program.{Program}
-use Rattle.xsk_args.specs.declared.program.Program.TheVariants.{Redirect, Pass, Drop, EtherType, Fixed}
+use Rattle.xsk_args.specs.declared.program.Program.TheVariants.{Redirect, Pass, Drop, EtherType, Fixed, Bounce, BounceType}
 
 -- four hexadecimal digits of either case, the highest first
 abbrev pub ether_type_in : Text → Option ℕ
@@ -21,9 +21,14 @@ abbrev pub fixed_in : Option Text → Option Program
 fixed_in None = None
 fixed_in (Some text) = option_map Fixed (number_in text)
 
--- `type:HHHH`, and else `fixed:N`
+-- `bounce:HHHH`, and else `fixed:N`
+abbrev pub bouncing_in : Text → Option Text → Option Program
+bouncing_in text None = fixed_in (behind (codes "fixed:") text)
+bouncing_in text (Some kind) = option_map BounceType (ether_type_in kind)
+
+-- `type:HHHH`, and else `bounce:HHHH` or `fixed:N`
 abbrev pub valued_in : Text → Option Text → Option Program
-valued_in text None = fixed_in (behind (codes "fixed:") text)
+valued_in text None = bouncing_in text (behind (codes "bounce:") text)
 valued_in text (Some kind) = option_map EtherType (ether_type_in kind)
 
 abbrev pub program_in : Text → Option Program
@@ -31,6 +36,7 @@ program_in text =
     if bytes_eq text (codes "redirect") then Some Redirect
     else if bytes_eq text (codes "pass") then Some Pass
     else if bytes_eq text (codes "drop") then Some Drop
+    else if bytes_eq text (codes "bounce") then Some Bounce
     else valued_in text (behind (codes "type:") text)
 
 -- the texts between the commas of a text: one more than it has commas

@@ -2,7 +2,7 @@
 ghost use Rattle.std.specs.Prelude.{◌≡◌, codes, option_map};
 ghost use Rattle.std.specs.Char.{is_digit};
 ghost use Rattle.std.specs.List.{list_all};
-ghost use Rattle.xsk_args.specs.Program.{behind, ether_type_in, fixed_in, program_in, valued_in};
+ghost use Rattle.xsk_args.specs.Program.{behind, bouncing_in, ether_type_in, fixed_in, program_in, valued_in};
 
 use crate::number::parse_number;
 
@@ -20,10 +20,14 @@ pub enum Program {
     EtherType(u16),
     /// `fixed:N`: each packet is redirected to this cell.
     Fixed(u32),
+    /// `bounce`: each packet leaves by the port on which it came.
+    Bounce,
+    /// `bounce:HHHH`: packets of this EtherType leave so, and the others pass.
+    BounceType(u16),
 }
 
-/// The program that a text is: `redirect`, `pass`, `drop`, `type:HHHH` with four hexadecimal digits of either case, the
-/// highest first, or `fixed:N` with one to ten decimal digits, at most 4,294,967,295.
+/// The program that a text is: `redirect`, `pass`, `drop`, `bounce`, `type:HHHH` or `bounce:HHHH` with four hexadecimal digits of
+/// either case, the highest first, or `fixed:N` with one to ten decimal digits, at most 4,294,967,295.
 pub fn parse_program(text: &str) -> Option<Program>
     ensures { result ≡ program_in text.now }
 {
@@ -36,15 +40,28 @@ pub fn parse_program(text: &str) -> Option<Program>
     if text == "drop" {
         return Some(Program::Drop);
     }
+    if text == "bounce" {
+        return Some(Program::Bounce);
+    }
     parse_valued(text)
 }
 
-/// The program of `type:HHHH`, or else of `fixed:N`.
+/// The program of `type:HHHH`, or else of `bounce:HHHH` or `fixed:N`.
 fn parse_valued(text: &str) -> Option<Program>
     ensures { result ≡ valued_in text.now (behind (codes "type:") text.now) }
 {
     match strip(text, "type:") {
         Some(kind) => Some(Program::EtherType(parse_ether_type(kind)?)),
+        None => parse_bouncing(text),
+    }
+}
+
+/// The program of `bounce:HHHH`, or else of `fixed:N`.
+fn parse_bouncing(text: &str) -> Option<Program>
+    ensures { result ≡ bouncing_in text.now (behind (codes "bounce:") text.now) }
+{
+    match strip(text, "bounce:") {
+        Some(kind) => Some(Program::BounceType(parse_ether_type(kind)?)),
         None => parse_fixed(text),
     }
 }

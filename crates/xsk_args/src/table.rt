@@ -6,7 +6,7 @@ pub enum Takes {
     Nothing,
     /// One to ten decimal digits, at most 4,294,967,295.
     Number,
-    /// `redirect`, `pass`, `drop`, `type:HHHH` or `fixed:N`.
+    /// One to eight of `redirect`, `pass`, `drop`, `type:HHHH`, `fixed:N`, `bounce` and `bounce:HHHH`, with commas between them.
     Program,
     /// `wait` or `drop`.
     Wire,

@@ -1,8 +1,9 @@
--- What is expected of each class, off the inputs and the words alone.
-use Rattle.std.proofs.Common.{◌≡◌, ℕ, suc, ◌+◌, ◌*◌, ◌%◌, ◌<◌, ◌≤◌, ◌&&◌, Bool, cond, true, false, eqb, leb, List, [], ◌∷◌, length, map, get_or, refl, ap, ◌∙◌, subst, arith, None, eq-eqb, lt-ltb, leb-true, sum, take, mul-le-mul_right}
+-- What is expected of each class and what goes back, off the inputs and the words alone.
+use Rattle.std.proofs.Common.{◌≡◌, ℕ, suc, ◌+◌, ◌*◌, ◌%◌, ◌<◌, ◌≤◌, ◌&&◌, not, Bool, cond, true, false, eqb, leb, ltb, List, [], ◌∷◌, length, map, get_or, refl, sym, ap, ◌∙◌, subst, arith, None, eq-eqb, lt-ltb, leb-true, sum, take, mul-le-mul_right}
 use Rattle.std.specs.Prelude.{filter}
 use Rattle.std.specs.List.{range_with_len}
 use Rattle.std.proofs.lemmas.Bool.Decides.{nat_tests}
+use Rattle.std.proofs.Math.Bool.{and-false}
 use Rattle.std.proofs.Math.Nat.{mod-lt, mul_assoc, mul-div_cancel_left}
 use Rattle.std.proofs.Math.ListN.{get_or-map}
 use Rattle.xsk_umem.specs.PacketList.{PacketList}
@@ -14,23 +15,25 @@ use Rattle.xsk_prog.specs.Rules.{MeetsChain, is_exact, are_exact, chain_verdict_
 use Rattle.xsk_prog.proofs.Chains.{one_chain_verdict}
 use Rattle.xsk_prog.specs.declared.rule.Verdict.{Verdict}
 use Rattle.xsk_args.specs.declared.program.Program.{Program}
-use Rattle.xsk_args.specs.declared.program.Program.TheVariants.{Redirect, Pass, Drop, EtherType, Fixed}
+use Rattle.xsk_args.specs.declared.program.Program.TheVariants.{Redirect, Pass, Drop, EtherType, Fixed, Bounce, BounceType}
 use Rattle.xsk_turns.specs.Mangling.{plain}
 use Rattle.xsk_turns.specs.declared.wire.Wire.TheVariants.{Wait}
 use Rattle.xsk_turns.specs.Inputs.{packets_of_port, packets_of_queue}
 use Rattle.xsk_turns.specs.Verdicts.{EachHas, IsGiven, MeetRules, judged}
-use Rattle.xsk_turns.specs.Turns.{Judged}
+use Rattle.xsk_turns.specs.Turns.{Judged, bounces}
 use Rattle.xsk_turns.specs.Disposals.{bytes_in}
+use Rattle.xsk_turns.specs.Sending.{bounces_at, bouncing}
 use Rattle.xsk_turns.proofs.Verdicts.{own_setting}
 use Rattle.xsk_laws.specs.Expected.{received, has_length, holds_socket, is_redirected, leads_to}
+use Rattle.xsk_laws.proofs.Bounced.{none_to_bounce}
 use Rattle.xsk_laws.proofs.Places.{are_paired}
 use Rattle.xsk_socket.specs.declared.layout.Layout.{Layout}
-use Rattle.xsk_socket.specs.Layout.{cells_in, pairs_in}
+use Rattle.xsk_socket.specs.Layout.{cells_in, fault_of, pairs_in}
 use Rattle.xsk_socket.specs.Regular.{cell_in, is_left_empty, map_in, pair_in, regular_of, socket_in}
 use Rattle.xsk_socket.proofs.Accepted.{fits}
 use Rattle.xsk_socket.proofs.Numbered.{get_or-numbered, length-numbered}
 use Rattle.xsk_socket.proofs.Regularity.{regular-config, regular-regular}
-use Rattle.xsk_cli.specs.Outcome.{listed, rule_by, rules_by, verdicts_by, received_on, goes_on, going_on, ExpectedGoesOn, ClassGoesOn, AllGoOn}
+use Rattle.xsk_cli.specs.Outcome.{listed, rule_by, rules_by, verdicts_by, received_on, goes_on, going_on, goes_back, ExpectedGoesOn, ClassGoesOn, AllGoOn, BouncedGoesBack, NoneBounces, AllGoBack}
 use Rattle.xsk_laws.proofs.OneQueue.{bytes_if}
 
 -- ---- verdicts
@@ -42,6 +45,8 @@ is_exact_by sockets Pass = refl
 is_exact_by sockets Drop = refl
 is_exact_by sockets (EtherType kind) = refl
 is_exact_by sockets (Fixed cell) = refl
+is_exact_by sockets Bounce = refl
+is_exact_by sockets (BounceType kind) = refl
 
 pub are_exact_by : (sockets : ℕ) (programs : List Program) → are_exact (rules_by sockets programs) ≡ true
 are_exact_by sockets [] = refl
@@ -87,22 +92,86 @@ module _ (layout : Layout) (programs : List Program) (o queue class : ℕ) where
 pub packets_there : (lists : List (List (List ℕ))) (port : ℕ) → packets_of_port (map listed lists) port ≡ get_or lists port []
 packets_there lists port = ap (λ (l : PacketList). l.packets) (get_or-map listed lists port [])
 
-pub expected_goes_on : ExpectedGoesOn
-expected_goes_on layout programs lists port queue class accepted place =
+-- their verdicts meet the rules
+met_on : (layout : Layout) (programs : List Program) (lists : List (List (List ℕ))) (port queue : ℕ) → fault_of layout ≡ None → port < layout.ports → queue < layout.queues
+    → MeetRules (rules_by layout.sockets programs) queue (received (regular_of layout) (map listed lists) port queue) (get_or (verdicts_by layout programs lists) (driver_on (regular_of layout) port queue) [])
+met_on layout programs lists port queue accepted in_ports in_queues =
     let c : Config = regular_of layout in
     let rules : List Rule = rules_by layout.sockets programs in
     let verdicts : List (List Verdict) = verdicts_by layout programs lists in
-    let o : ℕ = paired_port port in
-    let d : ℕ = driver_on c o queue in
-    let other : o < layout.ports = (are_paired layout.ports port (fits layout accepted).ports place.in_ports).in_ports in
-    let at : IsAt c o queue class d (socket_on c o queue class) =
-    is_at c o queue class (regular-config layout (fits layout accepted)) (regular-regular layout (fits layout accepted)) other place.in_queues place.in_classes in
-    let met : MeetRules rules queue (received c (map listed lists) o queue) (get_or verdicts d []) =
-    subst (λ q. MeetRules rules q (received c (map listed lists) o q) (get_or verdicts d [])) at.pair_queue
+    let d : ℕ = driver_on c port queue in
+    let regular = regular-regular layout (fits layout accepted) in
+    let some : 0 < classes_of c = (let classes = regular.classes in omega (arith, classes)) in
+    let at : IsAt c port queue 0 d (socket_on c port queue 0) = is_at c port queue 0 (regular-config layout (fits layout accepted)) regular in_ports in_queues some in
+    subst (λ q. MeetRules rules q (received c (map listed lists) port q) (get_or verdicts d [])) at.pair_queue
     (subst (λ p. MeetRules rules (pair_at c.pairs d).queue (received c (map listed lists) p (pair_at c.pairs d).queue) (get_or verdicts d [])) at.pair_port
-    ((own_setting rules Wait plain c (map listed lists)).each d at.pair_known)) in
-    all_go layout programs o queue class (received c (map listed lists) o queue) (get_or verdicts d []) met
+    ((own_setting rules Wait plain c (map listed lists)).each d at.pair_known))
+
+pub expected_goes_on : ExpectedGoesOn
+expected_goes_on layout programs lists port queue class accepted place =
+    let c : Config = regular_of layout in
+    let o : ℕ = paired_port port in
+    let other : o < layout.ports = (are_paired layout.ports port (fits layout accepted).ports place.in_ports).in_ports in
+    all_go layout programs o queue class (received c (map listed lists) o queue) (get_or (verdicts_by layout programs lists) (driver_on c o queue) []) (met_on layout programs lists o queue accepted other place.in_queues)
     ∙ ap (λ ps. filter (goes_on layout programs o queue class) (packets_of_queue layout.queues queue ps)) (packets_there lists o)
+
+-- ---- what goes back
+
+not_short : (n : ℕ) → not (ltb n 14) ≡ leb 14 n
+not_short n = grind (arith, nat_tests)
+
+by_first : (x z w : Bool) → (x ≡ true → z ≡ w) → (x && z) ≡ (x && w)
+by_first true z w h = h refl
+by_first false z w h = refl
+
+module _ (layout : Layout) (programs : List Program) (queue : ℕ) where
+  abbrev own_rules : List Rule
+  own_rules = rules_by layout.sockets programs
+
+  one_back : (packet : List ℕ) (verdict : Verdict) → IsGiven (λ p v. MeetsChain own_rules p queue v) packet verdict
+      → bounces_at (record { bytes = packet; verdict = verdict }) ≡ goes_back layout programs queue packet
+  one_back packet verdict given =
+      ap (λ b. b && bounces verdict) (not_short (length packet))
+      ∙ by_first (leb 14 (length packet)) (bounces verdict) (bounces (chain_verdict_of own_rules packet queue))
+      (λ long. ap bounces (own_verdict layout.sockets programs queue packet verdict (given.asked (leb-true 14 (length packet) long))))
+
+  all_back : (packets : List (List ℕ)) (verdicts : List Verdict) → EachHas (IsGiven (λ p v. MeetsChain own_rules p queue v)) packets verdicts
+      → bouncing (judged packets verdicts) ≡ filter (goes_back layout programs queue) packets
+  all_back [] [] h = refl
+  all_back [] (verdict ∷ verdicts) h = absurd h
+  all_back (packet ∷ packets) [] h = absurd h
+  all_back (packet ∷ packets) (verdict ∷ verdicts) h =
+      let later = bouncing (judged packets verdicts) in
+      ap (λ b. cond b (packet ∷ later) later) (one_back packet verdict h.0)
+      ∙ ap (λ qs. cond (goes_back layout programs queue packet) (packet ∷ qs) qs) (all_back packets verdicts h.1)
+
+pub bounced_goes_back : BouncedGoesBack
+bounced_goes_back layout programs lists port queue accepted in_ports in_queues =
+    let c : Config = regular_of layout in
+    all_back layout programs queue (received c (map listed lists) port queue) (get_or (verdicts_by layout programs lists) (driver_on c port queue) []) (met_on layout programs lists port queue accepted in_ports in_queues)
+    ∙ ap (λ ps. filter (goes_back layout programs queue) (packets_of_queue layout.queues queue ps)) (packets_there lists port)
+
+pub none_bounces : NoneBounces
+none_bounces layout programs lists accepted none port queue in_ports in_queues =
+    let c : Config = regular_of layout in
+    sym (bounced_goes_back layout programs lists port queue accepted in_ports in_queues)
+    ∙ none_to_bounce (rules_by layout.sockets programs) queue (received c (map listed lists) port queue) (get_or (verdicts_by layout programs lists) (driver_on c port queue) []) none
+    (met_on layout programs lists port queue accepted in_ports in_queues)
+
+none_of : (packets : List (List ℕ)) → filter (λ (packet : List ℕ). false) packets ≡ []
+none_of [] = refl
+none_of (packet ∷ packets) = none_of packets
+
+keeps : (b w : Bool) → w ≡ true → (b && w) ≡ b
+keeps true w e = e
+keeps false w e = refl
+
+pub all_go_back : AllGoBack
+all_go_back layout lists port queue class =
+    let packets = received_on layout lists port queue in (
+      (λ i. filter (λ (packet : List ℕ). keeps (leb 14 (length packet)) true refl i) packets),
+      (λ i. filter (λ (packet : List ℕ). and-false (has_length (regular_of layout) packet) i) packets) ∙ none_of packets,
+    )
 
 -- ---- the program that redirects each packet
 
@@ -158,10 +227,6 @@ all_of_queue queues [] one = refl
 all_of_queue queues (packet ∷ ps) one =
     ap (λ b. cond b (packet ∷ packets_of_queue queues 0 ps) (packets_of_queue queues 0 ps)) (eq-eqb (packet_queue queues packet) 0 (ap (λ k. sum (take 12 packet) % k) one ∙ omega arith))
     ∙ ap (λ qs. packet ∷ qs) (all_of_queue queues ps one)
-
-keeps : (b w : Bool) → w ≡ true → (b && w) ≡ b
-keeps true w e = e
-keeps false w e = refl
 
 of_one_class : (sockets : ℕ) (packet : List ℕ) → sockets ≡ 1 → packet_class sockets packet ≡ 0
 of_one_class sockets packet one = ap (λ n. sum (take 14 packet) % n) one ∙ omega arith

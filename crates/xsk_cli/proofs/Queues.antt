@@ -1,8 +1,10 @@
--- The queues of a port together: what its drivers sent is among the lists of all pairs, and fits one capture.
-use Rattle.std.proofs.Common.{◌≡◌, ℕ, zero, suc, ◌+◌, ◌<◌, ◌≤◌, Bool, true, false, cond, eqb, leb, List, [], ◌∷◌, ◌++◌, length, map, get_or, take, drop, refl, sym, ap, ◌∙◌, ⊎_elim, inl, inr, arith}
+-- The queues of a port together: what its drivers sent is among the lists of all pairs, and fits one capture; and what all
+-- drivers sent fits one file, since each packet leaves at most once.
+use Rattle.std.proofs.Common.{◌≡◌, ℕ, zero, suc, ◌+◌, ◌<◌, ◌≤◌, Bool, true, false, cond, eqb, leb, List, [], ◌∷◌, ◌++◌, length, map, get_or, take, drop, refl, sym, ap, subst, ◌∙◌, ⊎_elim, inl, inr, arith}
 use Rattle.std.specs.Prelude.{All, ◌⊎◌, sum_by}
 use Rattle.std.specs.List.{concat, range_with_len}
 use Rattle.std.proofs.lemmas.Bool.Decides.{nat_tests}
+use Rattle.std.proofs.Math.Nat.{eq-or-lt_of_le}
 use Rattle.std.proofs.lemmas.List.{drop-map, length-drop, length-take-le, get_or-drop, get_or-take, take_more}
 use Rattle.std.proofs.Math.Seq.{take-add}
 use Rattle.std.proofs.lemmas.List.Elements.{All-append, recursion_from_All}
@@ -63,6 +65,14 @@ over_less : (g h : ℕ → ℕ) (first count : ℕ) → ((queue : ℕ) → queue
 over_less g h first zero each = omega arith
 over_less g h first (suc count) each = omega (arith, each first (omega arith), over_less g h (first + 1) count (λ queue below. each queue (omega (arith, below))))
 
+-- one of them is no more than all
+one_of : (g : ℕ → ℕ) (first count place : ℕ) → first ≤ place → place < first + count → g place ≤ sum_over g first count
+one_of g first zero place low high = absurd (omega (arith, low, high))
+one_of g first (suc count) place low high = ⊎_elim
+    (λ (e : first ≡ place). subst (λ n. g n ≤ g first + sum_over g (first + 1) count) e (omega arith))
+    (λ (l : first < place). omega (arith, one_of g (first + 1) count place (omega (arith, l)) (omega (arith, high))))
+    (eq-or-lt_of_le low)
+
 -- a number of one queue alone
 over_one : (queue n first count : ℕ) → sum_over (λ other. cond (eqb queue other) n 0) first count ≤ cond (leb first queue) n 0
 over_one queue n first zero = omega arith
@@ -102,14 +112,21 @@ module _ (f : List ℕ → ℕ) where
       λ i. sum_over (λ queue. total_if (eqb own queue) packet (packets_of_queue queues queue packets) i) first count in
       omega (arith, parts, over_both here others first count, over_one own (f packet) first count, at_most (leb first own) (f packet), queues_total queues packets first count)
 
-  within_total : (queues : ℕ) (g : ℕ → List (List ℕ)) (packets : List (List ℕ)) (count : ℕ) → ((queue : ℕ) → queue < count → total f (g queue) ≤ total f (packets_of_queue queues queue packets))
-      → total f (all_packets (map g (range_with_len 0 count))) ≤ total f packets
-  within_total queues g packets count each =
+  -- what two ports sent on all queues
+  pair_total : (queues : ℕ) (mine theirs : ℕ → List (List ℕ)) (packets others : List (List ℕ)) (count : ℕ)
+      → ((queue : ℕ) → queue < count → total f (mine queue) + total f (theirs queue) ≤ total f (packets_of_queue queues queue packets) + total f (packets_of_queue queues queue others))
+      → total f (all_packets (map mine (range_with_len 0 count))) + total f (all_packets (map theirs (range_with_len 0 count))) ≤ total f packets + total f others
+  pair_total queues mine theirs packets others count each =
       omega (
         arith,
-        total_all g 0 count,
-        over_less (λ queue. total f (g queue)) (λ queue. total f (packets_of_queue queues queue packets)) 0 count (λ queue below. each queue (omega (arith, below))),
+        total_all mine 0 count,
+        total_all theirs 0 count,
+        over_both (λ queue. total f (mine queue)) (λ queue. total f (theirs queue)) 0 count,
+        over_less (λ queue. total f (mine queue) + total f (theirs queue)) (λ queue. total f (packets_of_queue queues queue packets) + total f (packets_of_queue queues queue others)) 0 count
+            (λ queue below. each queue (omega (arith, below))),
+        over_both (λ queue. total f (packets_of_queue queues queue packets)) (λ queue. total f (packets_of_queue queues queue others)) 0 count,
         queues_total queues packets 0 count,
+        queues_total queues others 0 count,
       )
 
 all_short : (g : ℕ → List (List ℕ)) (first count : ℕ) → ((queue : ℕ) → queue < first + count → All IsShort (g queue)) → All IsShort (all_packets (map g (range_with_len first count)))
@@ -117,88 +134,101 @@ all_short g first zero each = λ i d below. absurd (omega (arith, below))
 all_short g first (suc count) each =
     All-append IsShort (g first) (all_packets (map g (range_with_len (first + 1) count))) (each first (omega arith)) (all_short g (first + 1) count (λ queue below. each queue (omega (arith, below))))
 
--- of each queue no more than the port received there, and so one capture of all
-pub record IsWithin (queues : ℕ) (packets : List (List ℕ)) (queue : ℕ) (sent : List (List ℕ)) : Type 0 where
-  pub short : All IsShort sent
-  pub few : length sent ≤ length (packets_of_queue queues queue packets)
-  pub small : length (concat sent) ≤ length (concat (packets_of_queue queues queue packets))
+-- ---- what leaves by each port
 
--- of all queues together no more than the port received
-pub record FitsIn (packets sent : List (List ℕ)) : Type 0 where
-  pub short : All IsShort sent
-  pub few : length sent ≤ length packets
-  pub small : length (concat sent) ≤ length (concat packets)
+-- what two paired ports sent on a queue is no more than what they received there
+pub record IsWithin (queues : ℕ) (packets others : List (List ℕ)) (queue : ℕ) (mine theirs : List (List ℕ)) : Type 0 where
+  pub few : length mine + length theirs ≤ length (packets_of_queue queues queue packets) + length (packets_of_queue queues queue others)
+  pub small : length (concat mine) + length (concat theirs) ≤ length (concat (packets_of_queue queues queue packets)) + length (concat (packets_of_queue queues queue others))
 
-pub queues_within : (queues : ℕ) (g : ℕ → List (List ℕ)) (packets : List (List ℕ)) (count : ℕ) → ((queue : ℕ) → queue < count → IsWithin queues packets queue (g queue))
-    → FitsIn packets (all_packets (map g (range_with_len 0 count)))
-queues_within queues g packets count each =
-    let all = all_packets (map g (range_with_len 0 count)) in
-    record {
-      short = all_short g 0 count (λ queue below. (each queue (omega (arith, below))).short);
-      few =
-          omega (
-            arith,
-            total-one all,
-            total-one packets,
-            within_total (λ _. 1) queues g packets count (λ queue below. omega (arith, (each queue below).few, total-one (g queue), total-one (packets_of_queue queues queue packets))),
-          );
-      small =
-          omega (
-            arith,
-            total-bytes all,
-            total-bytes packets,
-            within_total (λ (x : List ℕ). length x) queues g packets count (λ queue below. omega (arith, (each queue below).small, total-bytes (g queue), total-bytes (packets_of_queue queues queue packets))),
-          );
-    }
-
-pub queues_writable : (queues : ℕ) (g : ℕ → List (List ℕ)) (packets : List (List ℕ)) (count : ℕ) → ((queue : ℕ) → queue < count → IsWithin queues packets queue (g queue))
-    → length packets ≤ 65536 → length (concat packets) ≤ 33554432 → IsWritable (map g (range_with_len 0 count))
-queues_writable queues g packets count each few small =
-    let within = queues_within queues g packets count each in
-    record {
-      each = recursion_from_All IsShort (all_packets (map g (range_with_len 0 count))) within.short;
-      packets = omega (arith, few, within.few);
-      bytes = omega (arith, small, within.small);
-    }
-
--- ---- all ports together
-
--- a number of each port that is no more than one of the paired port's list
-paired_sum : (h : ℕ → ℕ) (g : List (List ℕ) → ℕ) (lists : List (List (List ℕ))) → (length lists ≡ 2) ⊎ (length lists ≡ 4) → ((port : ℕ) → port < length lists → h port ≤ g (get_or lists (paired_port port) []))
+-- a number of each port that is no more, with that of the paired port, than those of both lists
+paired_sum : (h : ℕ → ℕ) (g : List (List ℕ) → ℕ) (lists : List (List (List ℕ))) → (length lists ≡ 2) ⊎ (length lists ≡ 4)
+    → ((port : ℕ) → port < length lists → h port + h (paired_port port) ≤ g (get_or lists port []) + g (get_or lists (paired_port port) []))
     → sum_over h 0 (length lists) ≤ sum_by g lists
 paired_sum h g [] count each = absurd (⊎_elim (λ e. omega (arith, e)) (λ e. omega (arith, e)) count)
 paired_sum h g (a ∷ []) count each = absurd (⊎_elim (λ e. omega (arith, e)) (λ e. omega (arith, e)) count)
-paired_sum h g (a ∷ b ∷ []) count each = omega (arith, each 0 (omega arith), each 1 (omega arith))
+paired_sum h g (a ∷ b ∷ []) count each = let first : h 0 + h 1 ≤ g a + g b = each 0 (omega arith) in omega (arith, first)
 paired_sum h g (a ∷ b ∷ c ∷ []) count each = absurd (⊎_elim (λ e. omega (arith, e)) (λ e. omega (arith, e)) count)
-paired_sum h g (a ∷ b ∷ c ∷ d ∷ []) count each = omega (arith, each 0 (omega arith), each 1 (omega arith), each 2 (omega arith), each 3 (omega arith))
+paired_sum h g (a ∷ b ∷ c ∷ d ∷ []) count each =
+    let first : h 0 + h 1 ≤ g a + g b = each 0 (omega arith) in
+    let second : h 2 + h 3 ≤ g c + g d = each 2 (omega arith) in
+    omega (arith, first, second)
 paired_sum h g (a ∷ b ∷ c ∷ d ∷ e ∷ lists) count each = absurd (⊎_elim (λ e. omega (arith, e)) (λ e. omega (arith, e)) count)
 
 at_most_four : (n : ℕ) → (n ≡ 2) ⊎ (n ≡ 4) → n ≤ 4
 at_most_four n (inl two) = omega (arith, two)
 at_most_four n (inr four) = omega (arith, four)
 
-pub ports_writable : (g : ℕ → List (List (List ℕ))) (lists : List (List (List ℕ))) → (length lists ≡ 2) ⊎ (length lists ≡ 4) → packets_in lists ≤ 65536 → bytes_in lists ≤ 33554432
-    → ((port : ℕ) → port < length lists → FitsIn (get_or lists (paired_port port) []) (all_packets (g port))) → IsWritableFile (map (λ port. all_packets (g port)) (range_with_len 0 (length lists)))
-ports_writable g lists count few small each =
-    let one : ℕ → List (List ℕ) = λ port. all_packets (g port) in
-    let all = all_packets (map one (range_with_len 0 (length lists))) in
-    record {
-      few = omega (arith, length-map-range_with_len one 0 (length lists), at_most_four (length lists) count);
-      each = recursion_from_All IsShort all (all_short one 0 (length lists) (λ port below. (each port (omega (arith, below))).short));
-      packets =
-          omega (
-            arith,
-            few,
-            total-one all,
-            total_all (λ _. 1) one 0 (length lists),
-            paired_sum (λ port. total (λ _. 1) (one port)) (λ (packets : List (List ℕ)). length packets) lists count (λ port below. omega (arith, total-one (one port), (each port below).few)),
-          );
-      bytes =
-          omega (
-            arith,
-            small,
-            total-bytes all,
-            total_all (λ (x : List ℕ). length x) one 0 (length lists),
-            paired_sum (λ port. total (λ (x : List ℕ). length x) (one port)) (λ (packets : List (List ℕ)). length (concat packets)) lists count (λ port below. omega (arith, total-bytes (one port), (each port below).small)),
-          );
-    }
+-- what the drivers of all ports sent on so many queues
+module _ (queues : ℕ) (lists : List (List (List ℕ))) (sent : ℕ → ℕ → List (List ℕ)) (count : ℕ) (ports : (length lists ≡ 2) ⊎ (length lists ≡ 4))
+    (short : (port queue : ℕ) → port < length lists → queue < count → All IsShort (sent port queue))
+    (within : (port queue : ℕ) → port < length lists → queue < count → IsWithin queues (get_or lists port []) (get_or lists (paired_port port) []) queue (sent port queue) (sent (paired_port port) queue))
+    (few : packets_in lists ≤ 65536) (small : bytes_in lists ≤ 33554432) where
+  abbrev by_port : ℕ → List (List ℕ)
+  by_port port = all_packets (map (sent port) (range_with_len 0 count))
+
+  few_total : sum_over (λ port. total (λ _. 1) (by_port port)) 0 (length lists) ≤ packets_in lists
+  few_total =
+      paired_sum (λ port. total (λ _. 1) (by_port port)) (λ (packets : List (List ℕ)). length packets) lists ports
+      (λ port known.
+      let mine : List (List ℕ) = get_or lists port [] in
+      let others : List (List ℕ) = get_or lists (paired_port port) [] in
+      omega (
+        arith,
+        pair_total (λ _. 1) queues (sent port) (sent (paired_port port)) mine others count
+            (λ queue below. omega (
+              arith,
+              (within port queue known below).few,
+              total-one (sent port queue),
+              total-one (sent (paired_port port) queue),
+              total-one (packets_of_queue queues queue mine),
+              total-one (packets_of_queue queues queue others),
+            )),
+        total-one mine,
+        total-one others,
+      ))
+
+  small_total : sum_over (λ port. total (λ (x : List ℕ). length x) (by_port port)) 0 (length lists) ≤ bytes_in lists
+  small_total =
+      paired_sum (λ port. total (λ (x : List ℕ). length x) (by_port port)) (λ (packets : List (List ℕ)). length (concat packets)) lists ports
+      (λ port known.
+      let mine : List (List ℕ) = get_or lists port [] in
+      let others : List (List ℕ) = get_or lists (paired_port port) [] in
+      omega (
+        arith,
+        pair_total (λ (x : List ℕ). length x) queues (sent port) (sent (paired_port port)) mine others count
+            (λ queue below. omega (
+              arith,
+              (within port queue known below).small,
+              total-bytes (sent port queue),
+              total-bytes (sent (paired_port port) queue),
+              total-bytes (packets_of_queue queues queue mine),
+              total-bytes (packets_of_queue queues queue others),
+            )),
+        total-bytes mine,
+        total-bytes others,
+      ))
+
+  port_short : (port : ℕ) → port < length lists → All IsShort (by_port port)
+  port_short port known = all_short (sent port) 0 count (λ queue below. short port queue known (omega (arith, below)))
+
+  -- so one capture holds what those of a port sent
+  pub port_writable : (port : ℕ) → port < length lists → IsWritable (map (sent port) (range_with_len 0 count))
+  port_writable port known = record {
+    each = recursion_from_All IsShort (by_port port) (port_short port known);
+    packets =
+        omega (arith, few, few_total, total-one (by_port port), one_of (λ other. total (λ _. 1) (by_port other)) 0 (length lists) port (omega arith) (omega (arith, known)));
+    bytes =
+        omega (arith, small, small_total, total-bytes (by_port port), one_of (λ other. total (λ (x : List ℕ). length x) (by_port other)) 0 (length lists) port (omega arith) (omega (arith, known)));
+  }
+
+  -- and one file what those of all ports sent
+  pub ports_writable : IsWritableFile (map by_port (range_with_len 0 (length lists)))
+  ports_writable =
+      let all = all_packets (map by_port (range_with_len 0 (length lists))) in
+      record {
+        few = omega (arith, length-map-range_with_len by_port 0 (length lists), at_most_four (length lists) ports);
+        each = recursion_from_All IsShort all (all_short by_port 0 (length lists) (λ port below. port_short port (omega (arith, below))));
+        packets = omega (arith, few, few_total, total-one all, total_all (λ _. 1) by_port 0 (length lists));
+        bytes = omega (arith, small, small_total, total-bytes all, total_all (λ (x : List ℕ). length x) by_port 0 (length lists));
+      }

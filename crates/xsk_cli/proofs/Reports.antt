@@ -6,7 +6,7 @@ use Rattle.std.specs.List.{range_with_len, slice_index_or}
 use Rattle.xsk_audit.proofs.Feeds.{has_no_feed, no-feed-both, decimal-no-feed, IsPassed, passed-none, passed-both, passed-line, passed-flat}
 use Rattle.xsk_model.specs.Config.{Config, classes_of, pair_at}
 use Rattle.xsk_model.specs.declared.config.PairInfo.{PairInfo}
-use Rattle.xsk_turns.specs.declared.disposal.Disposal.TheVariants.{Delivered, NoFrames, RxFull, TooLong, Runt, Missed, Passed, Dropped}
+use Rattle.xsk_turns.specs.declared.disposal.Disposal.TheVariants.{Delivered, NoFrames, RxFull, TooLong, Runt, Missed, Passed, Dropped, Bounced}
 use Rattle.xsk_turns.specs.declared.disposal.DriverCounters.{DriverCounters}
 use Rattle.xsk_turns.specs.declared.wire.Wire.{Wire}
 use Rattle.xsk_turns.specs.declared.wire.Wire.TheVariants.{Wait, Drop}
@@ -74,7 +74,8 @@ driver-passed pair figures =
     let missed = with_number runt (codes " missed ") (of_kind figures Missed) refl in
     let passed = with_number missed (codes " passed ") (of_kind figures Passed) refl in
     let dropped = with_number passed (codes " dropped ") (of_kind figures Dropped) refl in
-    let body = with_number dropped (codes " sent ") figures.sent refl in
+    let bounced = with_number dropped (codes " bounced ") (of_kind figures Bounced) refl in
+    let body = with_number bounced (codes " sent ") figures.sent refl in
     passed-line body.0 refl body.1
 
 pair-passed : (pair : PairInfo) (counters : DriverCounters) → IsPassed (pair_line pair counters)

@@ -1,10 +1,10 @@
--- What a run of the command sent is what is expected at each port and queue, and fits the captures of the ports.
+-- What a run of the command sent is what is expected at each port and queue and what goes back there, and fits the captures of the
+-- ports.
 use Rattle.std.proofs.Common.{◌≡◌, ℕ, suc, ◌+◌, ◌*◌, ◌<◌, ◌≤◌, List, [], ◌∷◌, length, map, get_or, take, drop, refl, sym, ap, ◌∙◌, subst, arith, None, append-nil, mul-le-mul_right}
 use Rattle.std.specs.Prelude.{All, ◌++◌, Bool, if◌then◌else◌, Option, ◌⊎◌}
 use Rattle.std.specs.List.{concat, range_with_len}
 use Rattle.std.proofs.lemmas.List.{length-map, get_or-map}
 use Rattle.std.proofs.lemmas.List.Elements.{recursion_from_All}
-use Rattle.std.proofs.lemmas.List.Sums.{get_or-le-sum_by}
 use Rattle.xsk_pcap.specs.Capture.{IsShort}
 use Rattle.xsk_pcap.specs.Written.{IsWritable, all_packets}
 use Rattle.xsk_pcapng.specs.Written.{IsWritable as IsWritableFile}
@@ -14,18 +14,24 @@ use Rattle.xsk_model.specs.Config.{Config, classes_of, callers_of}
 use Rattle.xsk_model.specs.Entry.{Entry, own}
 use Rattle.xsk_model.specs.History.{IsHistory}
 use Rattle.xsk_model.specs.Rings.{caller_of}
-use Rattle.xsk_model.specs.Sent.{sent}
-use Rattle.xsk_model.specs.Steering.{paired_port, driver_on}
-use Rattle.xsk_model.proofs.Seats.{below}
+use Rattle.xsk_model.specs.Sent.{all_sent, bounced_of}
+use Rattle.xsk_model.specs.Steering.{paired_port, driver_on, socket_on}
+use Rattle.xsk_model.proofs.Closings.{all_completed}
+use Rattle.xsk_model.proofs.Seats.{IsAt, below, is_at}
 use Rattle.xsk_turns.specs.declared.wire.Wire.{Wire as OwnWire}
 use Rattle.xsk_turns.specs.Inputs.{packets_of_queue}
+use Rattle.xsk_turns.specs.Sending.{bouncing}
+use Rattle.xsk_turns.specs.Turns.{Judged}
 use Rattle.xsk_turns.specs.declared.manner.Manner.{Manner}
-use Rattle.xsk_turns.specs.Workers.{IsRuled, IsWholeRun, ruled, ruled_by}
+use Rattle.xsk_turns.specs.Hands.{IsWholeRunOf}
+use Rattle.xsk_turns.specs.Workers.{IsRuled, ruled, ruled_by}
 use Rattle.xsk_prog.specs.declared.rule.Rule.{Rule}
 use Rattle.xsk_prog.specs.declared.rule.Verdict.{Verdict}
 use Rattle.xsk_args.specs.declared.program.Program.{Program}
 use Rattle.xsk_args.specs.declared.wire.Wire.{Wire}
 use Rattle.xsk_args.specs.declared.wire.Wire.TheVariants.{Wait}
+use Rattle.xsk_machine.specs.Acts.{sent_of}
+use Rattle.xsk_machine.proofs.Within.{by_one}
 use Rattle.xsk_workers.specs.Forwarded.{OutcomeShown, HasForwarded}
 use Rattle.xsk_sim.specs.Runs.{HasEnded, HasStalled}
 use Rattle.xsk_sim.specs.Journal.{journal_of}
@@ -33,27 +39,28 @@ use Rattle.xsk_sim.specs.Shown.{HasShortPackets, Shown}
 use Rattle.xsk_sim.proofs.InRounds.{entries_stand_in_rounds}
 use Rattle.xsk_sim.proofs.Journaling.{journal_stored}
 use Rattle.xsk_sim.proofs.Verdicts.{ends_as_ruled, stalls_as_ruled}
-use Rattle.xsk_laws.specs.Laws.{AreWholeRuns}
-use Rattle.xsk_laws.specs.Expected.{received}
+use Rattle.xsk_laws.specs.Laws.{AreExpected, AreForwarded, AreWholeRunsBy}
+use Rattle.xsk_laws.specs.Expected.{bounced_on, received}
+use Rattle.xsk_laws.proofs.Joined.{input_is}
 use Rattle.xsk_laws.proofs.Places.{are_paired}
-use Rattle.xsk_laws.proofs.Theorems.{all_are_forwarded, all_is_expected, nothing_else_is_sent, sent_is_within}
+use Rattle.xsk_laws.proofs.Theorems.{all_are_forwarded, all_is_expected, all_is_within, bounced_as_said, nothing_else_is_sent}
 use Rattle.xsk_socket.specs.declared.layout.Layout.{Layout}
 use Rattle.xsk_socket.specs.Layout.{fault_of, pairs_in}
 use Rattle.xsk_socket.specs.Regular.{pair_in, regular_of}
 use Rattle.xsk_socket.proofs.Accepted.{fits}
 use Rattle.xsk_socket.proofs.Numbered.{length-numbered}
-use Rattle.xsk_socket.proofs.Regularity.{regular-regular}
+use Rattle.xsk_socket.proofs.Regularity.{regular-config, regular-regular}
 use Rattle.xsk_cli.specs.Format.{joined, outputs_of}
 use Rattle.xsk_cli.specs.Judged.{excess_of}
 use Rattle.xsk_cli.specs.declared.format.Format.{Format}
 use Rattle.xsk_stats.specs.Report.{report_text}
-use Rattle.xsk_cli.specs.Outcome.{Written, listed, setting_of, verdicts_by, wire_by, frames_of, sent_from, going_on, rules_by, report_of, told_of, AreTextsIn, AreTextsOf, manner_of, sent_on_by}
+use Rattle.xsk_cli.specs.Outcome.{Written, listed, setting_of, verdicts_by, wire_by, frames_of, sent_on, sent_from, going_on, going_back, rules_by, report_of, told_of, AreTextsIn, AreTextsOf, NoneGoesBack, manner_of, sent_on_by}
 use Rattle.xsk_cli.specs.Steps.{lists_in}
-use Rattle.xsk_cli.proofs.Going.{classes_are, expected_goes_on, are_exact_by, packets_there}
+use Rattle.xsk_cli.proofs.Going.{bounced_goes_back, classes_are, expected_goes_on, are_exact_by, packets_there}
 use Rattle.xsk_cli.proofs.Judging.{limits_of}
 use Rattle.xsk_cli.proofs.Ports.{same_map}
 use Rattle.xsk_cli.proofs.Filing.{same_texts}
-use Rattle.xsk_cli.proofs.Queues.{FitsIn, IsWithin, piece, ports_writable, queues_within, queues_writable}
+use Rattle.xsk_cli.proofs.Queues.{IsWithin, piece, port_writable, ports_writable}
 
 -- ---- the pairs of a layout
 
@@ -72,9 +79,9 @@ driver_known ports queues port queue in_ports in_queues = below port queues queu
 
 -- ---- a history in which all runs are whole, and the lists that are shown of it
 
-module _ (layout : Layout) (programs : List Program) (wire : Wire) (mangle : Option ℕ) (lists : List (List (List ℕ))) (accepted : fault_of layout ≡ None) (closes : layout.close ≡ None) (history : List Entry) (legal : IsHistory (regular_of layout) (frames_of layout) history)
-    (whole : (who : ℕ) → who < callers_of (regular_of layout) → IsWholeRun (setting_of layout programs wire mangle lists) who (own who history)) (all : List (List (List ℕ)))
-    (each : (pair : ℕ) → pair < length (regular_of layout).pairs → get_or all pair [] ≡ sent (regular_of layout) history pair) where
+module _ (hands : ℕ) (layout : Layout) (programs : List Program) (wire : Wire) (mangle : Option ℕ) (lists : List (List (List ℕ))) (accepted : fault_of layout ≡ None) (closes : layout.close ≡ None) (history : List Entry) (legal : IsHistory (regular_of layout) (frames_of layout) history)
+    (whole : (who : ℕ) → who < callers_of (regular_of layout) → IsWholeRunOf hands (setting_of layout programs wire mangle lists) who (own who history)) (all : List (List (List ℕ)))
+    (each : (pair : ℕ) → pair < length (regular_of layout).pairs → get_or all pair [] ≡ sent_of (setting_of layout programs wire mangle lists) history pair) where
   abbrev config : Config
   config = regular_of layout
 
@@ -85,7 +92,7 @@ module _ (layout : Layout) (programs : List Program) (wire : Wire) (mangle : Opt
   manner = manner_of mangle
 
   -- all workers have whole runs
-  whole_runs : AreWholeRuns manner (wire_by wire) config (map listed lists) verdicts (frames_of layout) history
+  whole_runs : AreWholeRunsBy hands manner (wire_by wire) config (map listed lists) verdicts (frames_of layout) history
   whole_runs = record {
     steady = record { regular = regular-regular layout (fits layout accepted); closes = closes };
     history = legal;
@@ -93,94 +100,142 @@ module _ (layout : Layout) (programs : List Program) (wire : Wire) (mangle : Opt
     apps = λ a below. (whole (caller_of config a) (omega (arith, below))).app a refl;
   }
 
-  shown_sent : (port queue : ℕ) → port < layout.ports → queue < layout.queues → get_or all (port * layout.queues + queue) [] ≡ sent config history (driver_on config port queue)
+  -- what goes back of what a port received on a queue is what its driver is to bounce
+  goes_back_on : (port queue : ℕ) → port < layout.ports → queue < layout.queues → bounced_on config (map listed lists) verdicts port queue ≡ going_back layout programs lists port queue
+  goes_back_on port queue in_ports in_queues = bounced_goes_back layout programs lists port queue accepted in_ports in_queues
+
+  -- so what it sent is what the words say
+  abbrev sent_here : ℕ → ℕ → List (List ℕ)
+  sent_here port queue = sent_on layout programs lists history port queue
+
+  sent_as : (port queue : ℕ) → port < layout.ports → queue < layout.queues → all_sent config (bounced_on config (map listed lists) verdicts port queue) history (driver_on config port queue) ≡ sent_here port queue
+  sent_as port queue in_ports in_queues = ap (λ ps. all_sent config ps history (driver_on config port queue)) (goes_back_on port queue in_ports in_queues)
+
+  shown_sent : (port queue : ℕ) → port < layout.ports → queue < layout.queues → get_or all (port * layout.queues + queue) [] ≡ sent_here port queue
   shown_sent port queue in_ports in_queues =
+      let d : ℕ = driver_on config port queue in
+      let some : 0 < classes_of config = (let classes = (regular-regular layout (fits layout accepted)).classes in omega (arith, classes)) in
+      let at : IsAt config port queue 0 d (socket_on config port queue 0) =
+      is_at config port queue 0 (regular-config layout (fits layout accepted)) (regular-regular layout (fits layout accepted)) in_ports in_queues some in
       each (port * layout.queues + queue) (omega (arith, driver_known layout.ports layout.queues port queue in_ports in_queues, pairs_are layout))
+      ∙ ap (λ (input : List Judged). all_sent config (bouncing input) history d) (input_is config (map listed lists) verdicts port queue 0 d (socket_on config port queue 0) at)
+      ∙ sent_as port queue in_ports in_queues
 
   module _ (pairs : length all ≡ pairs_in layout) where
-    sent_piece : (port count : ℕ) → port < layout.ports → count ≤ layout.queues
-        → take count (drop (port * layout.queues) all) ≡ map (λ queue. sent config history (driver_on config port queue)) (range_with_len 0 count)
+    sent_piece : (port count : ℕ) → port < layout.ports → count ≤ layout.queues → take count (drop (port * layout.queues) all) ≡ map (sent_here port) (range_with_len 0 count)
     sent_piece port count in_ports few =
         piece [] all (port * layout.queues) count (omega (arith, rows layout.ports layout.queues port count in_ports few, pairs))
         ∙ same_map _ _ 0 count (λ queue below. shown_sent port queue in_ports (omega (arith, below, few)))
 
     -- ---- the texts
 
-    all_sent : (port : ℕ) → port < layout.ports → take layout.queues (drop (port * layout.queues) all) ≡ sent_from layout history port
-    all_sent port in_ports = sent_piece port layout.queues in_ports (omega arith)
+    all_from : (port : ℕ) → port < layout.ports → take layout.queues (drop (port * layout.queues) all) ≡ sent_from layout programs lists history port
+    all_from port in_ports = sent_piece port layout.queues in_ports (omega arith)
 
-    -- with one socket on each queue each driver sent what goes on to its queue
-    one_sent : mangle ≡ None → wire ≡ Wait → layout.sockets ≡ 1 → (port queue : ℕ) → port < layout.ports → queue < layout.queues → sent config history (driver_on config port queue) ≡ going_on layout programs lists (paired_port port) queue 0
-    one_sent none waits one port queue in_ports in_queues =
+    -- with one socket on each queue, and where nothing goes back, each driver sent what goes on to its queue
+    one_sent : mangle ≡ None → wire ≡ Wait → layout.sockets ≡ 1 → NoneGoesBack layout programs lists → (port queue : ℕ) → port < layout.ports → queue < layout.queues
+        → sent_here port queue ≡ going_on layout programs lists (paired_port port) queue 0
+    one_sent none waits one back port queue in_ports in_queues =
         let classes : classes_of config ≡ 1 = classes_are layout (omega (arith, driver_known layout.ports layout.queues port queue in_ports in_queues)) ∙ one in
-        all_is_expected 1 manner (wire_by wire) config (map listed lists) verdicts (frames_of layout) history port queue none (ap wire_by waits) whole_runs in_ports in_queues classes
+        ap (λ ps. all_sent config ps history (driver_on config port queue)) (back port queue in_ports in_queues)
+        ∙ all_completed config history (driver_on config port queue)
+        ∙ all_is_expected hands manner (wire_by wire) config (map listed lists) verdicts (frames_of layout) history port queue none (ap wire_by waits) whole_runs in_ports in_queues classes
         ∙ expected_goes_on layout programs lists port queue 0 accepted (record { in_ports = in_ports; in_queues = in_queues; in_classes = omega (arith, classes) })
 
     pub texts_in : (format : Format) (told : List ℕ) (texts : Written)
         → texts.outputs ≡ outputs_of format (λ port. take layout.queues (drop (port * layout.queues) all)) (range_with_len 0 layout.ports)
         → texts.report ≡ told → AreTextsIn format layout programs wire mangle lists history told texts
     texts_in format told texts outputs report =
-        let is : texts.outputs ≡ outputs_of format (sent_from layout history) (range_with_len 0 layout.ports) =
-        outputs ∙ same_texts format (λ port. take layout.queues (drop (port * layout.queues) all)) (sent_from layout history) layout.ports all_sent in
+        let is : texts.outputs ≡ outputs_of format (sent_from layout programs lists history) (range_with_len 0 layout.ports) =
+        outputs ∙ same_texts format (λ port. take layout.queues (drop (port * layout.queues) all)) (sent_from layout programs lists history) layout.ports all_from in
         record {
           sent = is;
+          bounced = λ port queue in_ports in_queues.
+              subst (λ ps. bounced_of ps (own (driver_on config port queue) history) ≡ ps) (goes_back_on port queue in_ports in_queues)
+              (bounced_as_said hands manner (wire_by wire) config (map listed lists) verdicts (frames_of layout) history port queue whole_runs in_ports in_queues);
           forwarded = λ port queue none in_ports in_queues.
-              all_are_forwarded 1 manner (wire_by wire) config (map listed lists) verdicts (frames_of layout) history port queue none whole_runs in_ports in_queues;
+              subst (AreForwarded (wire_by wire) config history (map listed lists) verdicts port queue) (sent_as port queue in_ports in_queues)
+              (all_are_forwarded hands manner (wire_by wire) config (map listed lists) verdicts (frames_of layout) history port queue none whole_runs in_ports in_queues);
           redirected = λ port queue none waits in_ports in_queues.
-              nothing_else_is_sent 1 manner (wire_by wire) config (map listed lists) verdicts (frames_of layout) history port queue none (ap wire_by waits) whole_runs in_ports in_queues;
-          one_socket = λ none waits one.
+              subst (AreExpected config (map listed lists) verdicts port queue) (sent_as port queue in_ports in_queues)
+              (nothing_else_is_sent hands manner (wire_by wire) config (map listed lists) verdicts (frames_of layout) history port queue none (ap wire_by waits) whole_runs in_ports in_queues);
+          one_socket = λ none waits one back.
               is
-              ∙ same_texts format (sent_from layout history) (sent_on_by layout programs lists) layout.ports
-              (λ port h. same_map _ _ 0 layout.queues (λ queue k. one_sent none waits one port queue h (omega (arith, k))));
+              ∙ same_texts format (sent_from layout programs lists history) (sent_on_by layout programs lists) layout.ports
+              (λ port h. same_map _ _ 0 layout.queues (λ queue k. one_sent none waits one back port queue h (omega (arith, k))));
           report = report;
         }
 
     -- ---- the captures of the ports
 
     module _ (count_is : length lists ≡ layout.ports) (within : excess_of lists ≡ None) (each_short : (pair : ℕ) → pair < length all → All IsShort (get_or all pair [])) where
-      other_known : (port : ℕ) → port < layout.ports → paired_port port < length lists
-      other_known port in_ports = omega (arith, count_is, (are_paired layout.ports port (fits layout accepted).ports in_ports).in_ports)
+      -- so many ports
+      in_lists : (port : ℕ) → port < length lists → port < layout.ports
+      in_lists port known = omega (arith, known, count_is)
+
+      ports_are : (length lists ≡ 2) ⊎ (length lists ≡ 4)
+      ports_are = subst (λ (n : ℕ). (n ≡ 2) ⊎ (n ≡ 4)) (sym count_is) (fits layout accepted).ports
+
+      sent_short : (port queue : ℕ) → port < layout.ports → queue < layout.queues → All IsShort (sent_here port queue)
+      sent_short port queue in_ports in_queues =
+          subst (All IsShort) (shown_sent port queue in_ports in_queues)
+          (each_short (port * layout.queues + queue) (omega (arith, driver_known layout.ports layout.queues port queue in_ports in_queues, pairs)))
+
+      -- what a port received on a queue
+      received_there : (port queue : ℕ) → received config (map listed lists) port queue ≡ packets_of_queue layout.queues queue (get_or lists port [])
+      received_there port queue = ap (packets_of_queue layout.queues queue) (packets_there lists port)
 
       sent_within : (port queue : ℕ) → port < layout.ports → queue < layout.queues
-          → IsWithin layout.queues (get_or lists (paired_port port) []) queue (sent config history (driver_on config port queue))
+          → IsWithin layout.queues (get_or lists port []) (get_or lists (paired_port port) []) queue (sent_here port queue) (sent_here (paired_port port) queue)
       sent_within port queue in_ports in_queues =
-          let pair : ℕ = port * layout.queues + queue in
-          let known : pair < length all = omega (arith, driver_known layout.ports layout.queues port queue in_ports in_queues, pairs) in
-          let few = sent_is_within 1 manner (wire_by wire) config (map listed lists) verdicts (frames_of layout) history port queue whole_runs in_ports in_queues in
-          let here : received config (map listed lists) (paired_port port) queue ≡ packets_of_queue layout.queues queue (get_or lists (paired_port port) []) =
-          ap (packets_of_queue layout.queues queue) (packets_there lists (paired_port port)) in
+          let other : paired_port port < layout.ports = (are_paired layout.ports port (fits layout accepted).ports in_ports).in_ports in
+          let few = all_is_within hands manner (wire_by wire) config (map listed lists) verdicts (frames_of layout) history port queue whole_runs in_ports in_queues in
+          let mine = sent_as port queue in_ports in_queues in
+          let theirs = sent_as (paired_port port) queue other in_queues in
+          let here = received_there port queue in
+          let there = received_there (paired_port port) queue in
           record {
-            short = subst (All IsShort) (shown_sent port queue in_ports in_queues) (each_short pair known);
-            few = subst (λ (ps : List (List ℕ)). length (sent config history (driver_on config port queue)) ≤ length ps) here few.0;
-            small = subst (λ (ps : List (List ℕ)). length (concat (sent config history (driver_on config port queue))) ≤ length (concat ps)) here few.1;
+            few = omega (arith, few.0, ap length mine, ap length theirs, ap length here, ap length there);
+            small =
+                omega (
+                  arith,
+                  few.1,
+                  ap (λ (ps : List (List ℕ)). length (concat ps)) mine,
+                  ap (λ (ps : List (List ℕ)). length (concat ps)) theirs,
+                  ap (λ (ps : List (List ℕ)). length (concat ps)) here,
+                  ap (λ (ps : List (List ℕ)). length (concat ps)) there,
+                );
           }
 
       pub all_writable : (port count : ℕ) → port < layout.ports → count ≤ layout.queues → IsWritable (take count (drop (port * layout.queues) all))
       all_writable port count in_ports few =
-          let own : List (List ℕ) = get_or lists (paired_port port) [] in
           subst IsWritable (sym (sent_piece port count in_ports few))
-          (queues_writable layout.queues (λ queue. sent config history (driver_on config port queue)) own count (λ queue below. sent_within port queue in_ports (omega (arith, below, few)))
-          (omega (arith, get_or-le-sum_by (λ (packets : List (List ℕ)). length packets) lists (paired_port port) [] (other_known port in_ports), (limits_of lists within).0))
-          (omega (arith, get_or-le-sum_by (λ (packets : List (List ℕ)). length (concat packets)) lists (paired_port port) [] (other_known port in_ports), (limits_of lists within).1)))
+          (port_writable layout.queues lists sent_here count ports_are
+          (λ other queue known below. sent_short other queue (in_lists other known) (omega (arith, below, few)))
+          (λ other queue known below. sent_within other queue (in_lists other known) (omega (arith, below, few)))
+          (limits_of lists within).0 (limits_of lists within).1 port (omega (arith, in_ports, count_is)))
 
       -- so all of them go into one file
-      port_within : (port : ℕ) → port < layout.ports → FitsIn (get_or lists (paired_port port) []) (all_packets (take layout.queues (drop (port * layout.queues) all)))
-      port_within port in_ports =
-          let own : List (List ℕ) = get_or lists (paired_port port) [] in
-          subst (λ (ls : List (List (List ℕ))). FitsIn own (all_packets ls)) (sym (all_sent port in_ports))
-          (queues_within layout.queues (λ queue. sent config history (driver_on config port queue)) own layout.queues (λ queue below. sent_within port queue in_ports below))
-
       pub all_in_file : IsWritableFile (joined layout.ports layout.queues all)
       all_in_file =
-          let limits = limits_of lists within in
-          subst (λ (n : ℕ). IsWritableFile (joined n layout.queues all)) count_is
-          (ports_writable (λ port. take layout.queues (drop (port * layout.queues) all)) lists (subst (λ (n : ℕ). (n ≡ 2) ⊎ (n ≡ 4)) (sym count_is) (fits layout accepted).ports) limits.0 limits.1
-          (λ port below. port_within port (omega (arith, below, count_is))))
+          let one : ℕ → List (List ℕ) = λ port. all_packets (map (sent_here port) (range_with_len 0 layout.queues)) in
+          let same : joined layout.ports layout.queues all ≡ map one (range_with_len 0 layout.ports) =
+          same_map (λ port. all_packets (take layout.queues (drop (port * layout.queues) all))) one 0 layout.ports (λ port below. ap all_packets (all_from port (omega (arith, below)))) in
+          subst IsWritableFile (sym same)
+          (subst (λ (n : ℕ). IsWritableFile (map one (range_with_len 0 n))) count_is
+          (ports_writable layout.queues lists sent_here layout.queues ports_are
+          (λ port queue known below. sent_short port queue (in_lists port known) below)
+          (λ port queue known below. sent_within port queue (in_lists port known) below)
+          (limits_of lists within).0 (limits_of lists within).1))
 
 -- ---- a run in rounds that has ended
 
 module _ (layout : Layout) (programs : List Program) (wire : Wire) (mangle : Option ℕ) (order : ℕ) (lists : List (List (List ℕ))) (accepted : fault_of layout ≡ None) (closes : layout.close ≡ None) (run : Shown) (ended : HasEnded (setting_of layout programs wire mangle lists) (frames_of layout) order run)
     (pairs : length run.sent ≡ pairs_in layout) where
+  -- one hand runs each application
+  whole : (who : ℕ) → who < callers_of (regular_of layout) → IsWholeRunOf 1 (setting_of layout programs wire mangle lists) who (own who ended.history)
+  whole who below = by_one (setting_of layout programs wire mangle lists) who (own who ended.history) (ended.whole who below)
+
   pub texts_of : (format : Format) (journal : Bool) (texts : Written)
       → texts.outputs ≡ outputs_of format (λ port. take layout.queues (drop (port * layout.queues) run.sent)) (range_with_len 0 layout.ports)
       → run.pairs ≡ pairs_in layout → texts.report ≡ report_text (regular_of layout) run.figures ++ (if journal then journal_of run.pairs run.log else [])
@@ -191,7 +246,7 @@ module _ (layout : Layout) (programs : List Program) (wire : Wire) (mangle : Opt
         run = run;
         ended = ended;
         are =
-            texts_in layout programs wire mangle lists accepted closes ended.history ended.is.legal ended.whole run.sent ended.sent pairs format (told_of layout programs wire mangle lists journal ended.history) texts outputs
+            texts_in 1 layout programs wire mangle lists accepted closes ended.history ended.is.legal whole run.sent ended.sent pairs format (told_of layout programs wire mangle lists journal ended.history) texts outputs
             (report ∙ ap (λ figures. report_text config figures ++ (if journal then journal_of run.pairs run.log else [])) ended.figures
             ∙ ap (λ n. report_of layout programs wire mangle lists ended.history ++ (if journal then journal_of n run.log else [])) (drivers ∙ sym (pairs_are layout))
             ∙ ap (λ h. report_of layout programs wire mangle lists ended.history ++ (if journal then journal_of (length config.pairs) h else [])) ended.log
@@ -201,27 +256,30 @@ module _ (layout : Layout) (programs : List Program) (wire : Wire) (mangle : Opt
 
   pub sent_writable : length lists ≡ layout.ports → excess_of lists ≡ None → ((pair : ℕ) → pair < length run.sent → All IsShort (get_or run.sent pair [])) → (port count : ℕ) → port < layout.ports → count ≤ layout.queues
       → IsWritable (take count (drop (port * layout.queues) run.sent))
-  sent_writable count_is within each_short = all_writable layout programs wire mangle lists accepted closes ended.history ended.is.legal ended.whole run.sent ended.sent pairs count_is within each_short
+  sent_writable count_is within each_short = all_writable 1 layout programs wire mangle lists accepted closes ended.history ended.is.legal whole run.sent ended.sent pairs count_is within each_short
 
   pub sent_in_file : length lists ≡ layout.ports → excess_of lists ≡ None → ((pair : ℕ) → pair < length run.sent → All IsShort (get_or run.sent pair [])) → IsWritableFile (joined layout.ports layout.queues run.sent)
-  sent_in_file count_is within each_short = all_in_file layout programs wire mangle lists accepted closes ended.history ended.is.legal ended.whole run.sent ended.sent pairs count_is within each_short
+  sent_in_file count_is within each_short = all_in_file 1 layout programs wire mangle lists accepted closes ended.history ended.is.legal whole run.sent ended.sent pairs count_is within each_short
 
 -- ---- a run on threads
 
 module _ (layout : Layout) (programs : List Program) (wire : Wire) (lists : List (List (List ℕ))) (accepted : fault_of layout ≡ None) (closes : layout.close ≡ None) (o : OutcomeShown) (shown : HasForwarded (setting_of layout programs wire None lists) (frames_of layout) o)
     (pairs : length o.sent ≡ pairs_in layout) where
+  shown_whole : (who : ℕ) → who < callers_of (regular_of layout) → IsWholeRunOf 1 (setting_of layout programs wire None lists) who (own who o.history)
+  shown_whole who below = by_one (setting_of layout programs wire None lists) who (own who o.history) (shown.whole who below)
+
   pub texts_shown : (format : Format) (texts : Written)
       → texts.outputs ≡ outputs_of format (λ port. take layout.queues (drop (port * layout.queues) o.sent)) (range_with_len 0 layout.ports)
       → texts.report ≡ report_text (regular_of layout) o.figures → AreTextsIn format layout programs wire None lists o.history (report_of layout programs wire None lists o.history) texts
   texts_shown format texts outputs report =
-      texts_in layout programs wire None lists accepted closes o.history shown.legal shown.whole o.sent shown.sent pairs format (report_of layout programs wire None lists o.history) texts outputs (report ∙ ap (report_text (regular_of layout)) shown.figures)
+      texts_in 1 layout programs wire None lists accepted closes o.history shown.legal shown_whole o.sent shown.sent pairs format (report_of layout programs wire None lists o.history) texts outputs (report ∙ ap (report_text (regular_of layout)) shown.figures)
 
   pub shown_writable : length lists ≡ layout.ports → excess_of lists ≡ None → ((pair : ℕ) → pair < length o.sent → All IsShort (get_or o.sent pair [])) → (port count : ℕ) → port < layout.ports → count ≤ layout.queues
       → IsWritable (take count (drop (port * layout.queues) o.sent))
-  shown_writable count_is within each_short = all_writable layout programs wire None lists accepted closes o.history shown.legal shown.whole o.sent shown.sent pairs count_is within each_short
+  shown_writable count_is within each_short = all_writable 1 layout programs wire None lists accepted closes o.history shown.legal shown_whole o.sent shown.sent pairs count_is within each_short
 
   pub shown_in_file : length lists ≡ layout.ports → excess_of lists ≡ None → ((pair : ℕ) → pair < length o.sent → All IsShort (get_or o.sent pair [])) → IsWritableFile (joined layout.ports layout.queues o.sent)
-  shown_in_file count_is within each_short = all_in_file layout programs wire None lists accepted closes o.history shown.legal shown.whole o.sent shown.sent pairs count_is within each_short
+  shown_in_file count_is within each_short = all_in_file 1 layout programs wire None lists accepted closes o.history shown.legal shown_whole o.sent shown.sent pairs count_is within each_short
 
 -- so it is one of the command's setting
 pub forwarded_as : (layout : Layout) (programs : List Program) (wire : Wire) (c : Config) (own : List PacketList) (fs : List Frame) (lists : List (List (List ℕ))) (o : OutcomeShown) → c ≡ regular_of layout → own ≡ map listed lists

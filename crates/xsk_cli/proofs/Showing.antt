@@ -207,7 +207,7 @@ check_file_shown plan old new (Some o) ends = ends.comes
 
 -- there is a text for each port
 pub shown_count : (work : Work) (lists : List (List (List ℕ))) (o : OutcomeShown) (texts : Written) → AreTextsFrom work lists o texts → length texts.outputs ≡ written_by work
-shown_count (Simulate layout programs wire mangle order number journal format) lists o texts are = ap length are.sent ∙ count_texts format (sent_from layout o.history) layout.ports
+shown_count (Simulate layout programs wire mangle order number journal format) lists o texts are = ap length are.sent ∙ count_texts format (sent_from layout programs lists o.history) layout.ports
 shown_count (Generate number) lists o texts are = absurd are
 shown_count (Audit layout) lists o texts are = absurd are
 

@@ -124,7 +124,7 @@ module _ (format : Format) (layout : Layout) (programs : List Program) (wire : W
   same_history = one_run (setting_of layout programs wire mangle lists) (frames_of layout) order s.run t.run s.ended t.ended
 
   same_outputs : a.outputs ≡ b.outputs
-  same_outputs = s.are.sent ∙ ap (λ h. outputs_of format (sent_from layout h) (ports_of layout)) same_history ∙ sym t.are.sent
+  same_outputs = s.are.sent ∙ ap (λ h. outputs_of format (sent_from layout programs lists h) (ports_of layout)) same_history ∙ sym t.are.sent
 
   same_report : a.report ≡ b.report
   same_report = s.are.report ∙ ap (told_of layout programs wire mangle lists journal) same_history ∙ sym t.are.report

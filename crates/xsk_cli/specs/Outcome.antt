@@ -1,16 +1,16 @@
 -- What a command's work makes of the bytes of its inputs. There is one outcome of them.
-use Rattle.std.specs.Prelude.{◌≡◌, ◌&&◌, ◌==◌, ℕ, ◌<◌, Bool, List, [], ◌∷◌, ◌++◌, length, map, filter, codes, None, Some, if◌then◌else◌, Option}
+use Rattle.std.specs.Prelude.{◌≡◌, ◌&&◌, ◌==◌, ℕ, ◌<◌, nat_le, Bool, true, List, [], ◌∷◌, ◌++◌, length, map, filter, codes, None, Some, if◌then◌else◌, Option}
 use Rattle.std.specs.Fmt.{decimal}
 use Rattle.std.specs.List.{concat, range_with_len, slice_index_or}
 use Rattle.xsk_umem.specs.PacketList.{PacketList}
 use Rattle.xsk_umem.specs.Registration.{fresh}
 use Rattle.xsk_umem.specs.Frame.{Frame}
-use Rattle.xsk_model.specs.Sent.{sent}
+use Rattle.xsk_model.specs.Sent.{all_sent, bounced_of}
 use Rattle.xsk_model.specs.Config.{callers_of, map_of}
-use Rattle.xsk_model.specs.Entry.{Entry}
+use Rattle.xsk_model.specs.Entry.{Entry, own}
 use Rattle.xsk_model.specs.Steering.{packet_class, paired_port, driver_on, socket_on}
 use Rattle.xsk_gen.specs.Generator.{first, packet}
-use Rattle.xsk_laws.specs.Expected.{expected, has_length, leads_to}
+use Rattle.xsk_laws.specs.Expected.{bounced_on, expected, has_length, leads_to, none_bounces}
 use Rattle.xsk_laws.specs.Laws.{AreExpected, AreForwarded, IsPlace}
 use Rattle.xsk_socket.specs.declared.layout.Layout.{Layout}
 use Rattle.xsk_socket.specs.Layout.{fault_of}
@@ -21,13 +21,14 @@ use Rattle.xsk_sim.specs.Journal.{journal_of, rounds_of}
 use Rattle.xsk_sim.specs.Rounds.{AreInRounds}
 use Rattle.xsk_sim.specs.Shown.{Shown}
 use Rattle.xsk_args.specs.declared.program.Program.{Program}
-use Rattle.xsk_args.specs.declared.program.Program.TheVariants.{Redirect, Pass, Drop, EtherType, Fixed}
+use Rattle.xsk_args.specs.declared.program.Program.TheVariants.{Redirect, Pass, Drop, EtherType, Fixed, Bounce, BounceType}
 use Rattle.xsk_args.specs.declared.wire.Wire.{Wire}
 use Rattle.xsk_args.specs.declared.wire.Wire.TheVariants.{Wait, Drop as Drops}
 use Rattle.xsk_prog.specs.Rules.{chain_verdict_of}
 use Rattle.xsk_prog.specs.declared.rule.Rule.{Rule}
-use Rattle.xsk_prog.specs.declared.rule.Rule.TheVariants.{Redirect as ByClass, Pass as PassAll, Drop as DropAll, EtherType as TypeByClass, Fixed as ByCell}
+use Rattle.xsk_prog.specs.declared.rule.Rule.TheVariants.{Redirect as ByClass, Pass as PassAll, Drop as DropAll, EtherType as TypeByClass, Fixed as ByCell, Bounce as BounceAll, BounceType as BounceByType}
 use Rattle.xsk_turns.specs.Inputs.{packets_of_queue}
+use Rattle.xsk_turns.specs.Turns.{bounces}
 use Rattle.xsk_prog.specs.declared.rule.Verdict.{Verdict}
 use Rattle.xsk_turns.specs.Workers.{Setting, IsWholeRun, ruled_by, verdicts_to}
 use Rattle.xsk_turns.specs.declared.wire.Wire.{Wire as OwnWire}
@@ -89,6 +90,8 @@ rule_by sockets Pass = PassAll
 rule_by sockets Drop = DropAll
 rule_by sockets (EtherType kind) = TypeByClass kind sockets
 rule_by sockets (Fixed cell) = ByCell cell
+rule_by sockets Bounce = BounceAll
+rule_by sockets (BounceType kind) = BounceByType kind
 
 -- the rules of programs, in the order in which they are asked
 abbrev pub rules_by : ℕ → List Program → List Rule
@@ -140,16 +143,27 @@ ports_of layout = range_with_len 0 layout.ports
 abbrev pub queues_of : Layout → List ℕ
 queues_of layout = range_with_len 0 layout.queues
 
--- what the driver of a port's queue sent by a history, and what all drivers of the port did, that of queue 0 first
-abbrev pub sent_on : Layout → List Entry → ℕ → ℕ → List (List ℕ)
-sent_on layout history port queue = sent (regular_of layout) history (driver_on (regular_of layout) port queue)
-
-abbrev pub sent_from : Layout → List Entry → ℕ → List (List (List ℕ))
-sent_from layout history port = map (sent_on layout history port) (queues_of layout)
-
 -- what a port received on a queue, where there is one list of packets for each port
 abbrev pub received_on : Layout → List (List (List ℕ)) → ℕ → ℕ → List (List ℕ)
 received_on layout lists port queue = packets_of_queue layout.queues queue (slice_index_or lists port [])
+
+-- whether a packet that a port received on a queue goes back by this port: it has an Ethernet header, and the programs let it bounce
+-- (XDP_TX)
+abbrev pub goes_back : Layout → List Program → ℕ → List ℕ → Bool
+goes_back layout programs queue packet = nat_le 14 (length packet) && bounces (chain_verdict_of (rules_by layout.sockets programs) packet queue)
+
+-- what goes back of what a port received on a queue, in order and whole
+abbrev pub going_back : Layout → List Program → List (List (List ℕ)) → ℕ → ℕ → List (List ℕ)
+going_back layout programs lists port queue = filter (goes_back layout programs queue) (received_on layout lists port queue)
+
+-- What the driver of a port's queue sent by a history: the packets that it completed, and those that bounced, in the history's
+-- order. And what all drivers of the port sent, that of queue 0 first.
+abbrev pub sent_on : Layout → List Program → List (List (List ℕ)) → List Entry → ℕ → ℕ → List (List ℕ)
+sent_on layout programs lists history port queue =
+    all_sent (regular_of layout) (going_back layout programs lists port queue) history (driver_on (regular_of layout) port queue)
+
+abbrev pub sent_from : Layout → List Program → List (List (List ℕ)) → List Entry → ℕ → List (List (List ℕ))
+sent_from layout programs lists history port = map (sent_on layout programs lists history port) (queues_of layout)
 
 -- whether a packet that a port received on a queue goes on by the socket of a class: it has 14 bytes up to the number that a
 -- frame holds or, with `sg`, that 18 frames hold, and the programs redirect it to a cell that the port's map has and that
@@ -166,19 +180,26 @@ going_on layout programs lists port queue class = filter (goes_on layout program
 abbrev pub sent_on_by : Layout → List Program → List (List (List ℕ)) → ℕ → List (List (List ℕ))
 sent_on_by layout programs lists port = map (λ queue. going_on layout programs lists (paired_port port) queue 0) (queues_of layout)
 
--- The texts of a history of these packets: what the drivers of each port sent in it, and what is told of it. Where applications
--- change nothing, what the driver of a queue sent is what the paired port's driver delivered to the sockets of all classes,
--- whatever the wire does, and nothing else. Where the wire waits it is what is expected there of all classes; with one socket on
--- each queue each text is then that of all that goes on to its port.
+-- no packet goes back
+abbrev pub NoneGoesBack : Layout → List Program → List (List (List ℕ)) → Type 0
+NoneGoesBack layout programs lists = (port queue : ℕ) → port < layout.ports → queue < layout.queues → going_back layout programs lists port queue ≡ []
+
+-- The texts of a history of these packets: what the drivers of each port sent in it, and what is told of it. What the driver of a
+-- queue bounced is all that goes back there, in order, whatever the wire does and applications change. Where applications change
+-- nothing, what it sent beside that is what the paired port's driver delivered to the sockets of all classes, whatever the wire
+-- does, and nothing else. Where the wire waits it is what is expected there of all classes; with one socket on each queue, and where
+-- no packet goes back, each text is then that of all that goes on to its port.
 pub record AreTextsIn (format : Format) (layout : Layout) (programs : List Program) (wire : Wire) (mangle : Option ℕ) (lists : List (List (List ℕ))) (history : List Entry) (told : List ℕ) (texts : Written) : Type 0 where
-  pub sent : texts.outputs ≡ outputs_of format (sent_from layout history) (ports_of layout)
+  pub sent : texts.outputs ≡ outputs_of format (sent_from layout programs lists history) (ports_of layout)
+  pub bounced : (port queue : ℕ) → port < layout.ports → queue < layout.queues
+      → bounced_of (going_back layout programs lists port queue) (own (driver_on (regular_of layout) port queue) history) ≡ going_back layout programs lists port queue
   pub forwarded : (port queue : ℕ) → mangle ≡ None → port < layout.ports → queue < layout.queues
       → AreForwarded (wire_by wire) (regular_of layout) history (map listed lists) (verdicts_by layout programs lists) port queue
-      (sent_on layout history port queue)
+      (sent_on layout programs lists history port queue)
   pub redirected : (port queue : ℕ) → mangle ≡ None → wire ≡ Wait → port < layout.ports → queue < layout.queues
       → AreExpected (regular_of layout) (map listed lists) (verdicts_by layout programs lists) port queue
-      (sent_on layout history port queue)
-  pub one_socket : mangle ≡ None → wire ≡ Wait → layout.sockets ≡ 1 → texts.outputs ≡ outputs_of format (sent_on_by layout programs lists) (ports_of layout)
+      (sent_on layout programs lists history port queue)
+  pub one_socket : mangle ≡ None → wire ≡ Wait → layout.sockets ≡ 1 → NoneGoesBack layout programs lists → texts.outputs ≡ outputs_of format (sent_on_by layout programs lists) (ports_of layout)
   pub report : texts.report ≡ told
 
 -- Those of a run in rounds that has ended: its figures are told, and the journal, which tells of each entry the round in which it
@@ -279,3 +300,22 @@ ClassGoesOn = (layout : Layout) (lists : List (List (List ℕ))) (port queue cla
 abbrev pub AllGoOn : Type 0
 AllGoOn = (layout : Layout) (lists : List (List (List ℕ))) (port : ℕ) → layout.queues ≡ 1 → layout.sockets ≡ 1 → layout.empty ≡ None → paired_port port < layout.ports
     → sent_on_by layout (Redirect ∷ []) lists port ≡ filter (has_length (regular_of layout)) (slice_index_or lists (paired_port port) []) ∷ []
+
+-- ---- what goes back
+
+-- what is to bounce of what a port receives on a queue is what goes back there
+abbrev pub BouncedGoesBack : Type 0
+BouncedGoesBack = (layout : Layout) (programs : List Program) (lists : List (List (List ℕ))) (port queue : ℕ) → fault_of layout ≡ None
+    → port < layout.ports → queue < layout.queues
+    → bounced_on (regular_of layout) (map listed lists) (verdicts_by layout programs lists) port queue ≡ going_back layout programs lists port queue
+
+-- where no program lets a packet bounce, none goes back
+abbrev pub NoneBounces : Type 0
+NoneBounces = (layout : Layout) (programs : List Program) (lists : List (List (List ℕ))) → fault_of layout ≡ None → none_bounces (rules_by layout.sockets programs) ≡ true
+    → NoneGoesBack layout programs lists
+
+-- where each packet bounces, all packets go back that have an Ethernet header, and none goes on
+abbrev pub AllGoBack : Type 0
+AllGoBack = (layout : Layout) (lists : List (List (List ℕ))) (port queue class : ℕ)
+    → (going_back layout (Bounce ∷ []) lists port queue ≡ filter (λ packet. nat_le 14 (length packet)) (received_on layout lists port queue))
+    × (going_on layout (Bounce ∷ []) lists port queue class ≡ [])

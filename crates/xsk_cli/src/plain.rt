@@ -30,8 +30,8 @@ use xsk_io::{Bay, Stream, write_whole};
 /// Does what the words of a command line say, over a bay of which no stream is open.
 ///
 /// `simulate [OPTION ..] IN0 IN1 .. OUT0 OUT1 ..` reads a capture for each port, forwards the packets of each port to the paired
-/// one, and writes a capture for each port, with what the drivers of its queues sent, that of queue 0 first; and then
-/// the figures of the run, line by line, to the report. `simulate --gen N [OPTION ..] OUT0 OUT1 ..` makes the packets of a number
+/// one, or sends them back, as the programs say, and writes a capture for each port, with what the drivers of its queues sent, that
+/// of queue 0 first; and then the figures of the run, line by line, to the report. `simulate --gen N [OPTION ..] OUT0 OUT1 ..` makes the packets of a number
 /// instead. With `--pcapng` one pcapng file is read, whose interfaces are the ports, and one is written. `gen N FILE` writes a
 /// capture of the packets that are made of a number, and then the line `packets P bytes B`. `audit [OPTION ..] FILE` reads a
 /// journal, and tells by the line `legal N` that it is the journal of a legal history with so many entries, or by the status

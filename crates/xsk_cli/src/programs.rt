@@ -48,5 +48,7 @@ fn rule_of(program: Program, sockets: u32) -> Rule
         Program::Drop => Rule::Drop,
         Program::EtherType(kind) => Rule::EtherType { kind, sockets },
         Program::Fixed(cell) => Rule::Fixed(cell),
+        Program::Bounce => Rule::Bounce,
+        Program::BounceType(kind) => Rule::BounceType { kind },
     }
 }
