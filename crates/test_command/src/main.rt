@@ -87,5 +87,5 @@ fn main(rt: HostRuntime) -> ExitCode {
     if play(&rt).is_err() {
         return ExitCode::from(1);
     }
-    xsk_program::run(&rt)
+    ExitCode::from(xsk_program::run(&rt))
 }

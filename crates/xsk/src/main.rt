@@ -4,5 +4,5 @@
 use std::process::ExitCode;
 
 fn main(rt: HostRuntime) -> ExitCode {
-    xsk_program::run(&rt)
+    ExitCode::from(xsk_program::run(&rt))
 }

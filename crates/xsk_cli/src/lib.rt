@@ -24,6 +24,6 @@ mod threads;
 mod words;
 mod work;
 
-pub use plain::run_plain;
+pub use plain::{run_plain, tell};
 pub use status::{Excess, Status};
 pub use threads::{Ended, run};

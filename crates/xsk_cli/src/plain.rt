@@ -176,7 +176,7 @@ pub(crate) fn run_plan<B: Bay>(
 }
 
 /// Writes the line of a refusal to the report. A fault there changes nothing.
-pub(crate) fn tell<B: Bay>(bay: &mut B, status: &Status)
+pub fn tell<B: Bay>(bay: &mut B, status: &Status)
     ensures line { HasLine status.now → GotLine (line_of status.now)
         (record { is_open = B.is_open bay.old; asked = B.asked bay.old; left = B.left bay.old; held = B.held bay.old; offers = B.offers bay.old; faults = B.faults bay.old })
         (record { is_open = B.is_open bay.new; asked = B.asked bay.new; left = B.left bay.new; held = B.held bay.new; offers = B.offers bay.new; faults = B.faults bay.new }) }

@@ -2,6 +2,7 @@
 ghost use Rattle.std.specs.Prelude.{◌≡◌};
 ghost use Rattle.xsk_cli.specs.ExitStatus.{exit_status_of};
 
+use std::process::ExitCode;
 use xsk_args::ArgsError;
 use xsk_io::Stream;
 use xsk_pcap::BadCapture;
@@ -68,6 +69,18 @@ impl Status {
             Status::BadPcapng(_) => 12,
             Status::NotLegal { .. } => 13,
         }
+    }
+}
+
+impl From<Status> for ExitCode {
+    ghost use Rattle.std.specs.Prelude.{◌≡◌};
+    ghost use Rattle.std.specs.Process.{exit_status};
+    ghost use Rattle.xsk_cli.specs.ExitStatus.{exit_status_of};
+
+    ghost from_gives = { λ status code. exit_status code ≡ exit_status_of status };
+
+    fn from(status: Status) -> ExitCode {
+        ExitCode::from(status.exit_status())
     }
 }
 
