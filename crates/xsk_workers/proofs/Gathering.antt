@@ -20,7 +20,7 @@ use Rattle.xsk_driver.specs.Shown.{Shown as DriverShown}
 use Rattle.xsk_machine.specs.declared.figures.DriverFigures.{DriverFigures}
 use Rattle.xsk_machine.specs.declared.figures.Figures.{Figures}
 use Rattle.xsk_machine.proofs.Figured.{figures_at_end}
-use Rattle.xsk_machine.specs.Acts.{DriverStands}
+use Rattle.xsk_machine.specs.Acts.{DriverStands, sent_of}
 use Rattle.xsk_machine.proofs.Acts.{sent_at}
 use Rattle.xsk_table.specs.Held.{Board, Holder, new_pass}
 use Rattle.xsk_table.specs.Opening.{new_passes}
@@ -30,7 +30,6 @@ use Rattle.xsk_umem.specs.Frame.{Frame}
 use Rattle.xsk_model.specs.Config.{Config}
 use Rattle.xsk_model.specs.Entry.{Entry}
 use Rattle.xsk_model.specs.History.{IsHistory}
-use Rattle.xsk_model.specs.Sent.{sent as sent_in}
 use Rattle.xsk_model.proofs.Theorems.{one_holder}
 use Rattle.xsk_laws.specs.Laws.{AreWholeRuns}
 use Rattle.xsk_laws.proofs.Woken.{none_is_lost_in_whole_runs}
@@ -252,7 +251,7 @@ module _ (b : Board) (s : Setting) (frames : List Frame) (passes : List (Option 
       let mine : own pair h ≡ own pair at.0.view.seen = ends.of_each pair at.0 (known pair who) at.1 in
       subst (λ l. Is pair l (get_or xs pair none)) (sym mine) at.2
 
-  sent_is : (pair : ℕ) → pair < length s.config.pairs → get_or lists pair [] ≡ sent_in s.config h pair
+  sent_is : (pair : ℕ) → pair < length s.config.pairs → get_or lists pair [] ≡ sent_of s h pair
   sent_is pair below = kept_is (IsSentOf s) lists sent pair [] below (are_within s frames h steady legal whole pair below)
 
   drivers_are : drivers ≡ map (driver_figures_of s h) (range_with_len 0 (length s.config.pairs))

@@ -10,7 +10,6 @@ use Rattle.xsk_model.specs.Steering.{driver_on}
 use Rattle.xsk_model.specs.Entry.{Entry, own}
 use Rattle.xsk_model.specs.History.{IsHistory, state_after}
 use Rattle.xsk_model.specs.Holders.{HasOneHolder}
-use Rattle.xsk_model.specs.Sent.{sent}
 use Rattle.xsk_prog.specs.declared.program.XdpProgram.{XdpProgram}
 use Rattle.xsk_prog.specs.declared.rule.Verdict.{Verdict}
 use Rattle.xsk_turns.specs.Owned.{IsSteady}
@@ -19,6 +18,7 @@ use Rattle.xsk_turns.specs.Workers.{Setting, IsWholeRun, AreGiven}
 use Rattle.xsk_turns.specs.declared.wire.Wire.{Wire}
 use Rattle.xsk_turns.specs.declared.wire.Wire.TheVariants.{Wait}
 use Rattle.xsk_driver.specs.Asking.{IsAnswer}
+use Rattle.xsk_machine.specs.Acts.{sent_of}
 use Rattle.xsk_machine.specs.Figured.{figures_of}
 use Rattle.xsk_machine.specs.declared.figures.Figures.{Figures}
 pub use Rattle.xsk_machine.specs.Acts.{packets_in}
@@ -33,12 +33,13 @@ pub record OutcomeShown : Type 0 where
 
 -- The history is legal from the opening with these frames. Of each worker it has a whole run of its turns over the packets
 -- that came, and of no one else anything. After each of its prefixes each frame has one holder and no wake is lost, and what each
--- driver sent are the packets that its calls on COMPLETION completed there. The figures are counts over the history.
+-- driver sent are the packets that its calls on COMPLETION completed there and those of its own that it bounced, in the history's
+-- order. The figures are counts over the history.
 pub record HasForwarded (s : Setting) (frames : List Frame) (o : OutcomeShown) : Type 0 where
   pub legal : IsHistory s.config frames o.history
   pub whole : (who : ℕ) → who < callers_of s.config → IsWholeRun s who (own who o.history)
   pub holders : (past later : List Entry) → o.history ≡ past ++ later → HasOneHolder s.config.geometry.frames (state_after s.config frames past)
-  pub sent : (pair : ℕ) → pair < length s.config.pairs → slice_index_or o.sent pair [] ≡ sent s.config o.history pair
+  pub sent : (pair : ℕ) → pair < length s.config.pairs → slice_index_or o.sent pair [] ≡ sent_of s o.history pair
   pub figures : o.figures ≡ figures_of s o.history
   pub woken : (past later : List Entry) (pair : ℕ) → o.history ≡ past ++ later → pair < length s.config.pairs → NoWakeIsLost s.config frames past pair
 
@@ -50,8 +51,8 @@ pub record HasForwardedUnder {F : Type 0} (g : Shared F (Bor (List ℕ) × (ℕ 
   pub forwarded : HasForwarded (setting_with c wire packets verdicts) frames o
 
 -- Where no item is changed, as in each run that `forward` makes, what the driver of a port and queue sent is what was forwarded by
--- all classes, whatever the wire does, and nothing else.
--- Where the wire waits it is what is expected by them.
+-- all classes, whatever the wire does, beside what bounced of its own packets, and nothing else.
+-- Where the wire waits it is what is expected by them, beside what bounces.
 abbrev pub AllAreForwarded : Type 0
 AllAreForwarded = (s : Setting) (frames : List Frame) (o : OutcomeShown) (port queue : ℕ) → s.manner.mangle ≡ None → IsSteady s.config → HasForwarded s frames o → port < s.config.ports → queue < s.config.queues
     → AreForwarded s.wire s.config o.history s.packets s.verdicts port queue (slice_index_or o.sent (driver_on s.config port queue) [])

@@ -2,8 +2,8 @@
 use Rattle.std.specs.Prelude.{◌≡◌, ℕ, ◌+◌, ◌<◌, ◌≤◌, Option, Some, None, List, [], ◌∷◌, length, get_or}
 use Rattle.xsk_model.specs.Config.{callers_of}
 use Rattle.xsk_model.specs.Entry.{Told, own}
-use Rattle.xsk_model.specs.Sent.{sockets_of, sent_from}
 use Rattle.xsk_turns.specs.Workers.{Setting, IsWholeRun, input_of}
+use Rattle.xsk_machine.specs.Acts.{sent_along}
 use Rattle.xsk_machine.specs.Figured.{driver_figures_by}
 use Rattle.xsk_machine.specs.declared.figures.DriverFigures.{DriverFigures}
 use Rattle.xsk_machine.proofs.Acts.{IsWithin}
@@ -40,15 +40,15 @@ pub record AreKept {X : Type 0} (Is : ℕ → List Told → X → Type 0) (s : S
 
 -- a list of packets is what a driver sent, by what its pass saw, unless that is more than it has room for
 abbrev pub IsSentOf : Setting → ℕ → List Told → List (List ℕ) → Type 0
-IsSentOf s who l packets = IsWithin s who (sent_from s.config (sockets_of s.config who) [] l) → packets ≡ sent_from s.config (sockets_of s.config who) [] l
+IsSentOf s who l packets = IsWithin s who (sent_along s who l) → packets ≡ sent_along s who l
 
 abbrev pub AreSent : Setting → ℕ → List (Option Holder) → List (List (List ℕ)) → Type 0
 AreSent s = AreKept (IsSentOf s) s
 
 -- and so are its figures
 abbrev pub IsFiguresOf : Setting → ℕ → List Told → DriverFigures → Type 0
-IsFiguresOf s who l figures = IsWithin s who (sent_from s.config (sockets_of s.config who) [] l)
-    → figures ≡ driver_figures_by s.wire s.config who (input_of s who) (length (sent_from s.config (sockets_of s.config who) [] l)) l
+IsFiguresOf s who l figures = IsWithin s who (sent_along s who l)
+    → figures ≡ driver_figures_by s.wire s.config who (input_of s who) (length (sent_along s who l)) l
 
 abbrev pub AreFiguresOf : Setting → ℕ → List (Option Holder) → List DriverFigures → Type 0
 AreFiguresOf s = AreKept (IsFiguresOf s) s

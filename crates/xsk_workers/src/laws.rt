@@ -2,7 +2,7 @@
 
 ghost use Rattle.xsk_workers.specs.Forwarded.{AllAreForwarded, AllAreExpected};
 
-/// What each driver sent is what the paired port's driver delivered, whatever the wire does.
+/// What each driver sent is what the paired port's driver delivered, whatever the wire does, and what bounced of its own packets.
 pub fn all_are_forwarded()
     ensures { AllAreForwarded }
 {}

@@ -103,7 +103,7 @@ impl Outcome {
 /// applications change no item.
 ///
 /// What the drivers sent is what was delivered to the paired sockets (`laws::all_are_forwarded`), and where the wire waits what
-/// is expected there (`laws::all_are_expected`).
+/// is expected there (`laws::all_are_expected`), beside the packets that bounce by the port on which they came.
 ///
 /// All memory is taken before a worker starts. A worker whose thread can't be had makes its calls on the caller's thread,
 /// in turn with other such workers. Nothing is promised of an end.
