@@ -1,3 +1,4 @@
 pub mod Shown
 pub mod Standing
 pub mod Steps
+pub mod Last

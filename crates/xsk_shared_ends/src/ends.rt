@@ -8,10 +8,12 @@ ghost use Rattle.xsk_rings.specs.Rounds.{mine_of};
 ghost use Rattle.xsk_app.specs.Resumed.{IsResumed};
 ghost use Rattle.xsk_turns.specs.AppTurns.{app_start, both, lanes_of};
 ghost use Rattle.xsk_turns.specs.AppSplit.{AtLane, AtSide, AtMarks, HasLeft, IsSplit};
+ghost use Rattle.xsk_turns.specs.Counted.{capped};
 ghost use Rattle.xsk_turns.specs.Owned.{IsSteady};
-ghost use Rattle.xsk_shared_ends.specs.Shown.{AreEnds, AreSame, KeepsLanes, Makes};
-ghost use Rattle.xsk_shared_ends.specs.declared.visiting.Step.TheVariants.{Moved};
+ghost use Rattle.xsk_shared_ends.specs.Shown.{AreEnds, AreSame, KeepsLanes, Makes, IsFoundEmpty};
+ghost use Rattle.xsk_shared_ends.specs.declared.visiting.Step.TheVariants.{Moved, Idle};
 
+use crate::counting::Counted;
 use crate::serving::look;
 use crate::visiting::{Step, visit_lane, visit_side};
 use std::alloc::Global;
@@ -34,7 +36,7 @@ pub struct EndsRefused {
 pub struct Ends<'a> {
     config: &'a Config,
     app: u32,
-    pass: Pass,
+    pass: Counted,
     kept: Kept,
 }
 
@@ -86,7 +88,7 @@ impl<'a> Ends<'a> {
             Ok(kept) => Ok(Ends {
                 config,
                 app,
-                pass,
+                pass: Counted::new(pass),
                 kept,
             }),
             Err(_) => Err(EndsRefused { pass }),
@@ -100,6 +102,7 @@ impl<'a> Ends<'a> {
         requires lane { lane < lanes_of self.old.config }
         ensures same { AreSame self.old self.new }
         ensures made { Makes (AtLane lane) self.old self.new result }
+        ensures idle { result ≡ Idle → IsFoundEmpty lane self.old self.new }
     {
         let way = lane_way(self.config, self.app, lane);
         visit_lane(
@@ -156,6 +159,20 @@ impl<'a> Ends<'a> {
         self.kept.seen0 && self.kept.seen1
     }
 
+    /// How many lanes the application has.
+    pub fn lanes(&self) -> u32
+        ensures { result ≡ lanes_of self.now.config }
+    {
+        2 * self.config.classes()
+    }
+
+    /// Whether it was seen that both drivers have told that they have no further packet.
+    pub fn has_told(&self) -> bool
+        ensures { result ≡ both self.now.kept.seen }
+    {
+        self.kept.seen0 && self.kept.seen1
+    }
+
     /// What the type keeps: the application's calls and replies are a split run that leaves what is kept, so what is kept is what
     /// they left, and on each lane what was peeked is what was submitted, followed by what is pending.
     pub fn keeps(&self)
@@ -164,6 +181,13 @@ impl<'a> Ends<'a> {
         ensures lanes { KeepsLanes self.now }
     {
         let _app = self.app;
+    }
+
+    /// How many calls were made with them; the number stays at 2^64 - 1.
+    pub fn calls(&self) -> u64
+        ensures { result ≡ capped (length (mine_of self.now.pass)) }
+    {
+        self.pass.calls()
     }
 
     /// The application that goes on from here by its turns, and its pass. It takes no memory.
@@ -180,7 +204,7 @@ impl<'a> Ends<'a> {
             pass,
             kept,
         } = self;
-        (App::resume(config, app, kept), pass)
+        (App::resume(config, app, kept), pass.into_pass())
     }
 }
 

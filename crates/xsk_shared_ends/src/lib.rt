@@ -11,9 +11,13 @@
 //! steps are pieces, and the frames that go back with their groups by home (`xsk_app::Back`).
 #![tactic(auto)]
 
+mod counting;
 mod ends;
+mod last;
+mod leaving;
 mod serving;
 mod visiting;
 
 pub use ends::{Ends, EndsName, EndsRefused};
+pub use last::{LastHand, Turned};
 pub use visiting::Step;

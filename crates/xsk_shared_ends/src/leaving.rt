@@ -1,0 +1,98 @@
+//! An application's machine that goes on from what steps left, with its pass.
+ghost use Rattle.std.specs.Prelude.{◌≡◌, length};
+ghost use Rattle.xsk_table.specs.View.{idle};
+ghost use Rattle.xsk_table.specs.Held.{Belongs};
+ghost use Rattle.xsk_rings.specs.Rounds.{mine_of};
+ghost use Rattle.xsk_turns.specs.AppSplit.{IsWholeSplitRun};
+ghost use Rattle.xsk_turns.specs.Counted.{capped};
+ghost use Rattle.xsk_shared_ends.specs.Last.{AreDrained, StaysLast, shown_of_ends};
+ghost use Rattle.xsk_shared_ends.specs.declared.last.Turned.TheVariants.{Ended};
+
+use crate::ends::Ends;
+use crate::last::Turned;
+use std::marker::Model;
+use xsk_app::App;
+use xsk_model::{Answer, Ask};
+use xsk_rings::RingCalls;
+use xsk_table::{Pass, Shared};
+use xsk_umem::Batch;
+
+/// The machine, the call that it makes next, its pass, and the number of the application's calls, which stays at 2^64 - 1.
+#[derive(Drop)]
+pub(crate) struct Leaving<'a> {
+    app: App<'a>,
+    ask: Option<Ask>,
+    items: Batch,
+    pass: Pass,
+    calls: u64,
+}
+
+impl<'a> Model for Leaving<'a> {
+    ghost use Rattle.std.specs.Prelude.{◌≡◌, length};
+    ghost use Rattle.xsk_rings.specs.Rounds.{mine_of};
+    ghost use Rattle.xsk_turns.specs.Counted.{capped};
+    ghost use Rattle.xsk_shared_ends.specs.Last.{LastShown, AreLeft};
+
+    ghost Value = { LastShown };
+
+    ghost view = { λ r. record { config = r.app.config; app = r.app.app; pass = r.pass } };
+
+    ghost invariant = { λ r. AreLeft r.app r.ask r.items r.pass × (r.calls ≡ capped (length (mine_of r.pass))) };
+}
+
+impl<'a> Leaving<'a> {
+    /// The machine that goes on from these ends, whose lanes were all found empty.
+    pub(crate) fn new(ends: Ends<'a>) -> Leaving<'a>
+        requires drained { AreDrained ends.config ends.app (mine_of ends.pass) }
+        ensures { result ≡ shown_of_ends ends.entry }
+    {
+        ends.keeps();
+        let calls = ends.calls();
+        let (app, pass) = ends.finish();
+        let mut app = app;
+        let mut items = Batch::new();
+        let ask = app.step(None, &mut items);
+        Leaving {
+            app,
+            ask,
+            items,
+            pass,
+            calls,
+        }
+    }
+
+    /// Makes its next call, if there is one.
+    pub(crate) fn turn(&mut self, shared: &Shared) -> Turned
+        requires belongs { Belongs shared.now self.old.pass }
+        ensures same { StaysLast self.old self.new }
+        ensures whole { result ≡ Ended → IsWholeSplitRun self.new.config self.new.app (mine_of self.new.pass) }
+    {
+        let Some(ask) = self.ask else {
+            return Turned::Ended;
+        };
+        let answer = self.pass.serve(shared, ask, &mut self.items);
+        self.calls = self.calls.saturating_add(1);
+        self.ask = self.app.step(Some(answer), &mut self.items);
+        came_of(ask, answer)
+    }
+
+    /// The pass, and the number of the application's calls.
+    pub(crate) fn into_parts(self) -> (Pass, u64)
+        ensures pass { result.0 ≡ self.entry.pass }
+        ensures rests { self.entry.pass.view.flight ≡ idle }
+        ensures calls { result.1 ≡ capped (length (mine_of self.entry.pass)) }
+    {
+        let Leaving { pass, calls, .. } = self;
+        (pass, calls)
+    }
+}
+
+/// Whether a call moved something.
+fn came_of(ask: Ask, answer: Answer) -> Turned
+    ensures goes_on { (result ≡ Ended) → ⊥ }
+{
+    match (ask, answer) {
+        (Ask::Look(_), _) | (_, Answer::Full(_) | Answer::Empty) => Turned::Waited,
+        _ => Turned::Moved,
+    }
+}
