@@ -13,14 +13,12 @@ use Rattle.xsk_turns.specs.AppTurns.{AppKept, pair_of, rx_of, lanes_of}
 use Rattle.xsk_turns.specs.AppOwned.{HasOwnFrames}
 use Rattle.xsk_turns.specs.AppSplit.{IsSplit}
 use Rattle.xsk_turns.specs.Stepping.{joined_ask, IsGivenBack}
-use Rattle.xsk_table.specs.View.{idle, no_setup}
-use Rattle.xsk_table.specs.Held.{Holder, new_pass}
+use Rattle.xsk_table.specs.View.{idle}
+use Rattle.xsk_table.specs.Held.{Holder}
 use Rattle.xsk_rings.specs.Rounds.{mine_of}
 use Rattle.xsk_app.specs.Resumed.{StandsFromWith}
 use Rattle.xsk_app.specs.Shown.{Shown as AppShown}
-use Rattle.xsk_shared_ends.specs.Shown.{EndsShown, no_name}
-use Rattle.xsk_shared_ends.specs.declared.last.State.{State}
-use Rattle.xsk_shared_ends.specs.declared.last.State.TheVariants.{Sharing, Leaving, Gone}
+use Rattle.xsk_shared_ends.specs.Shown.{EndsShown}
 
 -- each lane's RX ring was found empty, after both drivers had told that they have no further packet
 abbrev pub AreDrained : Config → ℕ → List Told → Type 0
@@ -49,19 +47,9 @@ pub record AreLeft (app : AppShown) (ask : Option Ask) (items : List Item) (p : 
   pub drained : AreDrained app.config app.app past
   pub stands : StandsFromWith app.config app.app start past app (joined_ask ask items) later
 
--- where the last hand stands: it has the ends, or runs the machine
+-- what is seen of ends
 abbrev pub shown_of_ends : EndsShown → LastShown
 shown_of_ends e = record { config = e.config; app = e.app; pass = e.pass }
-
-abbrev pub shown_in : State → LastShown
-shown_in (Sharing ends) = shown_of_ends ends
-shown_in (Leaving run) = run
-shown_in Gone = record { config = no_setup.config; app = 0; pass = new_pass no_name.board 0 }
-
-abbrev pub IsThere : State → Type 0
-IsThere (Sharing ends) = Unit {0}
-IsThere (Leaving run) = Unit {0}
-IsThere Gone = ⊥
 
 -- the application stays, and its pass that of its caller on its table
 pub record StaysLast (old new : LastShown) : Type 0 where

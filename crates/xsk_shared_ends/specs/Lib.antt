@@ -2,3 +2,4 @@ pub mod Shown
 pub mod Standing
 pub mod Steps
 pub mod Last
+pub mod Hand

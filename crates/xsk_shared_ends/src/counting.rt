@@ -47,14 +47,17 @@ impl Counted {
         self.calls
     }
 
-    pub(crate) fn into_pass(self) -> Pass
-        ensures { result ≡ self }
+    /// The pass, and how many calls were made with it.
+    pub(crate) fn into_parts(self) -> (Pass, u64)
+        ensures pass { result.0 ≡ self }
+        ensures calls { result.1 ≡ capped (length (mine_of self)) }
     {
-        let Counted { pass, calls: _ } = self;
-        pass
+        let Counted { pass, calls } = self;
+        (pass, calls)
     }
 
     /// Makes a call, as the pass does.
+    #[inline(always)]
     pub(crate) fn serve(&mut self, shared: &Shared, ask: Ask, items: &mut Batch) -> Answer
         requires may { MayAsk shared.now self.old (joined_call ask items.old) }
         requires items { HasAsked ask items.old }

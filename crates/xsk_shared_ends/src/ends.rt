@@ -5,7 +5,7 @@ ghost use Rattle.xsk_model.specs.Rings.{caller_of};
 ghost use Rattle.xsk_table.specs.View.{idle};
 ghost use Rattle.xsk_table.specs.Held.{Belongs};
 ghost use Rattle.xsk_rings.specs.Rounds.{mine_of};
-ghost use Rattle.xsk_app.specs.Resumed.{IsResumed};
+ghost use Rattle.xsk_app.specs.Resumed.{IsResumed, kept_in};
 ghost use Rattle.xsk_turns.specs.AppTurns.{app_start, both, lanes_of};
 ghost use Rattle.xsk_turns.specs.AppSplit.{AtLane, AtSide, AtMarks, HasLeft, IsSplit};
 ghost use Rattle.xsk_turns.specs.Counted.{capped};
@@ -156,7 +156,7 @@ impl<'a> Ends<'a> {
             &mut self.kept.seen1,
             &mut items,
         );
-        self.kept.seen0 && self.kept.seen1
+        have_told(&self.kept)
     }
 
     /// How many lanes the application has.
@@ -170,7 +170,7 @@ impl<'a> Ends<'a> {
     pub fn has_told(&self) -> bool
         ensures { result ≡ both self.now.kept.seen }
     {
-        self.kept.seen0 && self.kept.seen1
+        have_told(&self.kept)
     }
 
     /// What the type keeps: the application's calls and replies are a split run that leaves what is kept, so what is kept is what
@@ -198,14 +198,44 @@ impl<'a> Ends<'a> {
         ensures ends { AreEnds self.entry }
         ensures lanes { KeepsLanes self.entry }
     {
+        let (app, pass) = self.leave();
+        let (pass, _calls) = pass.into_parts();
+        (app, pass)
+    }
+
+    /// The same, with a pass that goes on to count its calls.
+    pub(crate) fn leave(self) -> (App<'a>, Counted)
+        ensures expected { result.0.expected ≡ nothing }
+        ensures app { IsResumed self.entry.config self.entry.app self.entry.kept (mine_of self.entry.pass) result.0 }
+        ensures pass { result.1 ≡ self.entry.pass }
+        ensures ends { AreEnds self.entry }
+        ensures lanes { KeepsLanes self.entry }
+    {
         let Ends {
             config,
             app,
             pass,
             kept,
         } = self;
-        (App::resume(config, app, kept), pass.into_pass())
+        (App::resume(config, app, kept), pass)
     }
+
+    /// The pass, and how many calls were made with it.
+    pub(crate) fn into_parts(self) -> (Pass, u64)
+        ensures pass { result.0 ≡ self.entry.pass }
+        ensures rests { self.entry.pass.view.flight ≡ idle }
+        ensures calls { result.1 ≡ capped (length (mine_of self.entry.pass)) }
+    {
+        let Ends { pass, .. } = self;
+        pass.into_parts()
+    }
+}
+
+/// Whether both drivers have told that they have no further packet, as far as it was seen.
+fn have_told(kept: &Kept) -> bool
+    ensures { result ≡ both (kept_in kept.now).seen }
+{
+    kept.seen0 && kept.seen1
 }
 
 /// Ends may be sent to another thread.

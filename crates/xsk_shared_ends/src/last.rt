@@ -1,18 +1,17 @@
 //! The last hand of an application: it has the ends to itself.
-ghost use Rattle.std.specs.Prelude.{◌≡◌, ℕ, ◌<◌, length, true, IfOk, IfErr};
+ghost use Rattle.std.specs.Prelude.{◌≡◌, length, IfOk, IfErr};
 ghost use Rattle.xsk_table.specs.View.{idle};
 ghost use Rattle.xsk_table.specs.Held.{Belongs};
 ghost use Rattle.xsk_rings.specs.Rounds.{mine_of};
 ghost use Rattle.xsk_turns.specs.AppSplit.{IsWholeSplitRun};
-ghost use Rattle.xsk_turns.specs.AppTurns.{both, lanes_of};
 ghost use Rattle.xsk_turns.specs.Counted.{capped};
-ghost use Rattle.xsk_shared_ends.specs.Shown.{AreSame};
-ghost use Rattle.xsk_shared_ends.specs.Last.{AreDrained, StaysLast, shown_of_ends, shown_in, IsThere};
+ghost use Rattle.xsk_shared_ends.specs.Last.{StaysLast, shown_of_ends};
+ghost use Rattle.xsk_shared_ends.specs.Hand.{shown_in, IsThere, HasDrained};
 ghost use Rattle.xsk_shared_ends.specs.declared.last.Turned.TheVariants.{Ended};
 
 use crate::ends::Ends;
 use crate::leaving::Leaving;
-use crate::visiting::Step;
+use crate::sharing::share;
 use std::marker::Model;
 use std::mem;
 use xsk_table::{Pass, Shared};
@@ -35,7 +34,7 @@ pub(crate) enum State<'a> {
     Sharing(Ends<'a>),
     /// The machine that goes on from what they left.
     Leaving(Leaving<'a>),
-    /// Nothing, while it makes a turn.
+    /// Nothing, while it goes from the one to the other.
     Gone,
 }
 
@@ -48,7 +47,8 @@ pub struct LastHand<'a> {
 }
 
 impl<'a> Model for LastHand<'a> {
-    ghost use Rattle.xsk_shared_ends.specs.Last.{LastShown, shown_in, IsThere};
+    ghost use Rattle.xsk_shared_ends.specs.Last.{LastShown};
+    ghost use Rattle.xsk_shared_ends.specs.Hand.{shown_in, IsThere};
 
     ghost Value = { LastShown };
 
@@ -74,20 +74,17 @@ impl<'a> LastHand<'a> {
         ensures same { StaysLast self.old self.new }
         ensures whole { result ≡ Ended → IsWholeSplitRun self.new.config self.new.app (mine_of self.new.pass) }
     {
-        match mem::replace(&mut self.state, State::Gone) {
+        match &mut self.state {
             State::Sharing(ends) => {
-                let (state, turned) = share(ends, shared);
-                self.state = state;
-                turned
+                if let Some(turned) = share(ends, shared) {
+                    return turned;
+                }
             }
-            State::Leaving(leaving) => {
-                let mut leaving = leaving;
-                let turned = leaving.turn(shared);
-                self.state = State::Leaving(leaving);
-                turned
-            }
+            State::Leaving(leaving) => return leaving.turn(shared),
             State::Gone => unreachable!(),
         }
+        leave(&mut self.state);
+        Turned::Moved
     }
 
     /// The ends, while it has them.
@@ -95,7 +92,8 @@ impl<'a> LastHand<'a> {
         ensures ends { IfOk result (λ ends. shown_of_ends ends ≡ self.entry) }
         ensures back { IfErr result (λ hand. hand ≡ self.entry) }
     {
-        match self.state {
+        let LastHand { state } = self;
+        match state {
             State::Sharing(ends) => Ok(ends),
             state => Err(LastHand { state }),
         }
@@ -107,56 +105,23 @@ impl<'a> LastHand<'a> {
         ensures rests { self.entry.pass.view.flight ≡ idle }
         ensures calls { result.1 ≡ capped (length (mine_of self.entry.pass)) }
     {
-        match self.state {
-            State::Sharing(ends) => {
-                ends.keeps();
-                let calls = ends.calls();
-                let (_, pass) = ends.finish();
-                (pass, calls)
-            }
+        let LastHand { state } = self;
+        match state {
+            State::Sharing(ends) => ends.into_parts(),
             State::Leaving(leaving) => leaving.into_parts(),
             State::Gone => unreachable!(),
         }
     }
 }
 
-/// A turn on the ends.
-fn share<'a>(ends: Ends<'a>, shared: &Shared) -> (State<'a>, Turned)
-    requires belongs { Belongs shared.now ends.pass }
-    ensures there { IsThere result.0 }
-    ensures same { StaysLast (shown_of_ends ends.entry) (shown_in result.0) }
-    ensures goes_on { (result.1 ≡ Ended) → ⊥ }
+/// Goes on with the machine from ends whose lanes were all found empty.
+fn leave(state: &mut State<'_>)
+    requires drained { HasDrained state.old }
+    ensures there { IsThere state.new }
+    ensures same { shown_in state.new ≡ shown_in state.old }
 {
-    let mut ends = ends;
-    let told = ends.has_told();
-    let empty = visit_lanes(&mut ends, shared);
-    if told && empty {
-        return (State::Leaving(Leaving::new(ends)), Turned::Moved);
+    match mem::replace(state, State::Gone) {
+        State::Sharing(ends) => *state = State::Leaving(Leaving::new(ends)),
+        _ => unreachable!(),
     }
-    let first = ends.recycle(shared, 0);
-    let second = ends.recycle(shared, 1);
-    ends.inputs_done(shared);
-    let turned = match (empty, first, second) {
-        (true, Step::Idle, Step::Idle) => Turned::Waited,
-        _ => Turned::Moved,
-    };
-    (State::Sharing(ends), turned)
-}
-
-/// Visits all lanes. Says whether each was found empty.
-fn visit_lanes(ends: &mut Ends<'_>, shared: &Shared) -> bool
-    requires belongs { Belongs shared.now ends.old.pass }
-    ensures same { AreSame ends.old ends.new }
-    ensures drained { result ≡ true → both ends.old.kept.seen ≡ true → AreDrained ends.new.config ends.new.app (mine_of ends.new.pass) }
-{
-    ends.keeps();
-    let mut empty = true;
-    for lane in 0..ends.lanes() {
-        ends.keeps();
-        match ends.lane(shared, lane) {
-            Step::Idle => {}
-            _ => empty = false,
-        }
-    }
-    empty
 }

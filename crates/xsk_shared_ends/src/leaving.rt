@@ -8,36 +8,32 @@ ghost use Rattle.xsk_turns.specs.Counted.{capped};
 ghost use Rattle.xsk_shared_ends.specs.Last.{AreDrained, StaysLast, shown_of_ends};
 ghost use Rattle.xsk_shared_ends.specs.declared.last.Turned.TheVariants.{Ended};
 
+use crate::counting::Counted;
 use crate::ends::Ends;
 use crate::last::Turned;
 use std::marker::Model;
 use xsk_app::App;
 use xsk_model::{Answer, Ask};
-use xsk_rings::RingCalls;
 use xsk_table::{Pass, Shared};
 use xsk_umem::Batch;
 
-/// The machine, the call that it makes next, its pass, and the number of the application's calls, which stays at 2^64 - 1.
+/// The machine, the call that it makes next, and its pass.
 #[derive(Drop)]
 pub(crate) struct Leaving<'a> {
     app: App<'a>,
     ask: Option<Ask>,
     items: Batch,
-    pass: Pass,
-    calls: u64,
+    pass: Counted,
 }
 
 impl<'a> Model for Leaving<'a> {
-    ghost use Rattle.std.specs.Prelude.{◌≡◌, length};
-    ghost use Rattle.xsk_rings.specs.Rounds.{mine_of};
-    ghost use Rattle.xsk_turns.specs.Counted.{capped};
     ghost use Rattle.xsk_shared_ends.specs.Last.{LastShown, AreLeft};
 
     ghost Value = { LastShown };
 
     ghost view = { λ r. record { config = r.app.config; app = r.app.app; pass = r.pass } };
 
-    ghost invariant = { λ r. AreLeft r.app r.ask r.items r.pass × (r.calls ≡ capped (length (mine_of r.pass))) };
+    ghost invariant = { λ r. AreLeft r.app r.ask r.items r.pass };
 }
 
 impl<'a> Leaving<'a> {
@@ -46,9 +42,7 @@ impl<'a> Leaving<'a> {
         requires drained { AreDrained ends.config ends.app (mine_of ends.pass) }
         ensures { result ≡ shown_of_ends ends.entry }
     {
-        ends.keeps();
-        let calls = ends.calls();
-        let (app, pass) = ends.finish();
+        let (app, pass) = ends.leave();
         let mut app = app;
         let mut items = Batch::new();
         let ask = app.step(None, &mut items);
@@ -57,7 +51,6 @@ impl<'a> Leaving<'a> {
             ask,
             items,
             pass,
-            calls,
         }
     }
 
@@ -71,19 +64,18 @@ impl<'a> Leaving<'a> {
             return Turned::Ended;
         };
         let answer = self.pass.serve(shared, ask, &mut self.items);
-        self.calls = self.calls.saturating_add(1);
         self.ask = self.app.step(Some(answer), &mut self.items);
         came_of(ask, answer)
     }
 
-    /// The pass, and the number of the application's calls.
+    /// The pass, and the number of the application's calls, which stays at 2^64 - 1.
     pub(crate) fn into_parts(self) -> (Pass, u64)
         ensures pass { result.0 ≡ self.entry.pass }
         ensures rests { self.entry.pass.view.flight ≡ idle }
         ensures calls { result.1 ≡ capped (length (mine_of self.entry.pass)) }
     {
-        let Leaving { pass, calls, .. } = self;
-        (pass, calls)
+        let Leaving { pass, .. } = self;
+        pass.into_parts()
     }
 }
 

@@ -98,7 +98,13 @@ pub(crate) fn wake(
 }
 
 /// Looks at the mark of a side that isn't seen yet, which is seen where it is 1.
-pub(crate) fn look(pass: &mut Counted, shared: &Shared, mark: Mark, seen: &mut bool, items: &mut Batch)
+pub(crate) fn look(
+    pass: &mut Counted,
+    shared: &Shared,
+    mark: Mark,
+    seen: &mut bool,
+    items: &mut Batch,
+)
     requires belongs { Belongs shared.now pass.old }
     requires empty { items.old ≡ [] }
     requires at { (o : Origin) × (k : AppKept) × (done : Script AppKept) × (later : ℕ → Script AppKept) × Looks o mark seen.old k done later pass.old }
