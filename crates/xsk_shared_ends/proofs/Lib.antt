@@ -3,4 +3,4 @@ pub mod Passing
 pub mod Giving
 pub mod Ending
 pub mod Emptying
-pub mod Counting
+pub mod Calls

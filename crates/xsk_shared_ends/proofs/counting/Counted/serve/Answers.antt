@@ -2,7 +2,7 @@ use Rattle.std.proofs.Common.{sym, subst}
 use Rattle.xsk_model.specs.Asks.{joined_call, joined_reply}
 use Rattle.xsk_table.specs.Held.{Holder}
 use Rattle.xsk_rings.specs.Serving.{MayAsk, Served}
-use Rattle.xsk_shared_ends.proofs.Counting.{counted_more}
+use Rattle.xsk_shared_ends.proofs.Calls.{counted_more}
 use Rattle.xsk_shared_ends.proofs.counting.Counted.serve.Goals as goal
 
 pub serve-requires-clause-may : goal.serve-requires-clause-may
