@@ -1,7 +1,8 @@
 //! The program of a script, by one of these lines: `program redirect SOCKETS`, `program drop`, `program pass`,
-//! `program ether KIND SOCKETS`, `program fixed CELL`, `program atmost CELLS`, or `program even`, which redirects packets to
-//! cell 0 whose first byte is even, and drops all others. Without one it is `program redirect 1`. And what the wire does where
-//! a packet finds no frame or no room: by `wire drop` it drops it, and else it waits. By `mangle K` applications change items.
+//! `program ether KIND SOCKETS`, `program fixed CELL`, `program atmost CELLS`, `program bounce`, `program bounce KIND`, or
+//! `program even`, which redirects packets to cell 0 whose first byte is even, and drops all others. Without one it is
+//! `program redirect 1`. And what the wire does where a packet finds no frame or no room: by `wire drop` it drops it, and else
+//! it waits. By `mangle K` applications change items.
 ghost use Rattle.std.specs.Prelude.{◌≡◌, ◌<◌, ◌≤◌, All, IfOk, length};
 ghost use Rattle.xsk_model.specs.Expected.{nothing};
 ghost use Rattle.xsk_model.specs.Opening.{AreFrames};
@@ -80,6 +81,7 @@ fn plain_rule(name: &str) -> Result<Rule, Trouble> {
     match name {
         "drop" => Ok(Rule::Drop),
         "pass" => Ok(Rule::Pass),
+        "bounce" => Ok(Rule::Bounce),
         _ => Err(Trouble::BadLine),
     }
 }
@@ -89,15 +91,26 @@ fn rule_by(name: &str, number: u32) -> Result<Rule, Trouble> {
         "redirect" => Ok(Rule::Redirect { sockets: number }),
         "fixed" => Ok(Rule::Fixed(number)),
         "atmost" => Ok(Rule::AtMost(number)),
+        "bounce" => Ok(Rule::BounceType {
+            kind: ether_type(number)?,
+        }),
         _ => Err(Trouble::BadLine),
     }
 }
 
 fn ether_rule(name: &str, words: &[&str]) -> Result<Rule, Trouble> {
     let (kind, sockets) = two_numbers(words)?;
-    match u16::try_from(kind) {
-        Ok(kind) if name == "ether" => Ok(Rule::EtherType { kind, sockets }),
-        _ => Err(Trouble::BadLine),
+    if name != "ether" {
+        return Err(Trouble::BadLine);
+    }
+    let kind = ether_type(kind)?;
+    Ok(Rule::EtherType { kind, sockets })
+}
+
+fn ether_type(number: u32) -> Result<u16, Trouble> {
+    match u16::try_from(number) {
+        Ok(kind) => Ok(kind),
+        Err(_) => Err(Trouble::BadLine),
     }
 }
 

@@ -13,7 +13,7 @@ use xsk_machine::DriverFigures;
 use xsk_sim::{Run, journal_text};
 
 /// The kinds of disposal, as figures have them.
-const KINDS: [&str; 8] = [
+const KINDS: [&str; 9] = [
     " delivered ",
     " noframes ",
     " rxfull ",
@@ -22,6 +22,7 @@ const KINDS: [&str; 8] = [
     " missed ",
     " passed ",
     " dropped ",
+    " bounced ",
 ];
 
 /// Makes a run: `run ORDER`, and tells its figures and what was sent. Further lines ask for its journal.

@@ -112,6 +112,7 @@ fn disposal_name(disposal: Disposal) -> &'static str {
         Disposal::Missed => " missed",
         Disposal::Passed => " passed",
         Disposal::Dropped => " dropped",
+        Disposal::Bounced => " bounced",
     }
 }
 

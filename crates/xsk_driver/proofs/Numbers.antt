@@ -5,6 +5,8 @@ use Rattle.std.proofs.lemmas.List.Elements.{All-cons, All-nil}
 use Rattle.xsk_umem.specs.PacketList.{PacketList}
 use Rattle.xsk_model.specs.Steering.{packet_queue}
 use Rattle.xsk_turns.specs.Inputs.{numbers_from, packets_of_queue}
+use Rattle.xsk_prog.specs.declared.rule.Verdict.{Verdict}
+use Rattle.xsk_turns.specs.Verdicts.{judged}
 use Rattle.xsk_driver.specs.Stands.{packet_at}
 
 known_if : (b : Bool) (n m : ℕ) (ns : List ℕ) → n < m → All (λ k. k < m) ns → All (λ k. k < m) (if b then n ∷ ns else ns)
@@ -41,3 +43,20 @@ packets_after queues queue front (packet ∷ packets) =
 -- so the packets of these numbers are those of the queue
 pub packets_by_number : (queues queue : ℕ) (list : PacketList) → map (packet_at list) (numbers_from queues queue 0 list.packets) ≡ packets_of_queue queues queue list.packets
 packets_by_number queues queue list = packets_after queues queue [] list.packets
+
+-- they are no more than all, and each has at most one verdict
+few_if : (b : Bool) (packet : List ℕ) (ps packets : List (List ℕ)) → length ps ≤ length packets → length (if b then packet ∷ ps else ps) ≤ length (packet ∷ packets)
+few_if true packet ps packets few = omega (arith, few)
+few_if false packet ps packets few = omega (arith, few)
+
+few_of_queue : (queues queue : ℕ) (packets : List (List ℕ)) → length (packets_of_queue queues queue packets) ≤ length packets
+few_of_queue queues queue [] = omega arith
+few_of_queue queues queue (packet ∷ packets) = few_if (packet_queue queues packet == queue) packet (packets_of_queue queues queue packets) packets (few_of_queue queues queue packets)
+
+judged_few : (packets : List (List ℕ)) (verdicts : List Verdict) → length (judged packets verdicts) ≤ length packets
+judged_few [] verdicts = omega arith
+judged_few (packet ∷ packets) [] = omega arith
+judged_few (packet ∷ packets) (verdict ∷ verdicts) = omega (arith, judged_few packets verdicts)
+
+pub few_judged : (queues queue most : ℕ) (packets : List (List ℕ)) (verdicts : List Verdict) → length packets < most → length (judged (packets_of_queue queues queue packets) verdicts) < most
+few_judged queues queue most packets verdicts few = omega (arith, few, few_of_queue queues queue packets, judged_few (packets_of_queue queues queue packets) verdicts)

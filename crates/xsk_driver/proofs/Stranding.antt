@@ -42,7 +42,7 @@ items_more xss i n count new xs within at is so more =
 pub stands_stranded : (wire : Wire) (c : Config) (pair : ℕ) (input : List Judged) (d : Shown) (call : Call) (l : List Told) → Stands wire c pair input d call l
     → stranded_in d.kept ≡ sent_count l - completed_count l - frames_completed call
 stands_stranded wire c pair input d call l stands =
-    omega (arith, keeps_stranded wire c pair input l d.kept call (left (seat_of wire c pair) d.wait d.noted d.kept) stands.one stands.fit stands.asks)
+    omega (arith, keeps_stranded wire c pair input l d.kept call (left (seat_of wire c pair) d.wait d.noted d.kept) stands.one stands.own stands.asks)
 
 pub ended_stranded : (wire : Wire) (c : Config) (pair : ℕ) (input : List Judged) (d : Shown) (l : List Told) → HasEnded wire c pair input d l → stranded_in d.kept ≡ stranded_of l
-ended_stranded wire c pair input d l ended = omega (arith, keeps_stranded_at_end wire c pair input l d.kept ended.one ended.fit ended.ends)
+ended_stranded wire c pair input d l ended = omega (arith, keeps_stranded_at_end wire c pair input l d.kept ended.one ended.own ended.ends)

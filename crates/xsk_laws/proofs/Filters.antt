@@ -8,12 +8,12 @@ use Rattle.xsk_model.specs.Config.{Config, socket_at, classes_of, batch_of, map_
 use Rattle.xsk_model.specs.Steering.{packet_limit, socket_on}
 use Rattle.xsk_map.specs.declared.cell.Miss.TheVariants.{EmptyCell, OtherQueue}
 use Rattle.xsk_prog.specs.declared.rule.Verdict.{Verdict}
-use Rattle.xsk_prog.specs.declared.rule.Verdict.TheVariants.{Drop, Pass, Redirect}
+use Rattle.xsk_prog.specs.declared.rule.Verdict.TheVariants.{Drop, Pass, Redirect, Bounce}
 use Rattle.xsk_turns.specs.Turns.{Seat, Judged, settled_or, redirect_to, limit_of}
 use Rattle.xsk_turns.specs.Disposals.{disposal_to, disposal_in, is_to, delivered_to}
 use Rattle.xsk_turns.specs.declared.wire.Wire.{Wire}
 use Rattle.xsk_turns.specs.declared.disposal.Disposal.{Disposal}
-use Rattle.xsk_turns.specs.declared.disposal.Disposal.TheVariants.{Delivered, TooLong, Runt, Missed, Passed, Dropped}
+use Rattle.xsk_turns.specs.declared.disposal.Disposal.TheVariants.{Delivered, TooLong, Runt, Missed, Passed, Dropped, Bounced}
 use Rattle.xsk_laws.specs.Expected.{has_length, leads_to, is_redirected}
 
 -- ---- one packet, by plain tests
@@ -116,6 +116,11 @@ stays : (s : ℕ) (short : Bool) (d to : Disposal) → is_to s d ≡ false → i
 stays s true d to e = refl
 stays s false d to e = e
 
+-- a packet that bounces neither
+bounces_off : (s : ℕ) (short : Bool) → is_to s (settled_or (cond short (Some Runt) None) (λ d. d) Bounced) ≡ false
+bounces_off s true = refl
+bounces_off s false = refl
+
 looks : (short missing : Bool) (to : Disposal) → settled_or (cond short (Some Runt) (cond missing (Some Missed) None)) (λ d. d) to ≡ cond short Runt (cond missing Missed to)
 looks true missing to = refl
 looks false true to = refl
@@ -131,6 +136,7 @@ to_fit wire c d o q s packet bound = by packet.verdict
     by : (verdict : Verdict) → (let p : Judged = record { bytes = packet.bytes; verdict = verdict } in is_to s (disposal_in (seat_at wire c d o q) p) ≡ is_fit c o s p)
     by Drop = stays s (ltb (length packet.bytes) 14) Dropped _ refl ∙ and_none (has_length c packet.bytes)
     by Pass = stays s (ltb (length packet.bytes) 14) Passed _ refl ∙ and_none (has_length c packet.bytes)
+    by Bounce = bounces_off s (ltb (length packet.bytes) 14) ∙ and_none (has_length c packet.bytes)
     by (Redirect cell) =
         let number = slice_index (map_of c o) cell in
         let r = redirect_to c o q number in

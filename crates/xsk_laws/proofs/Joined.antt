@@ -230,7 +230,7 @@ module _ (w : Workers) (hands : ℕ) (manner : Manner) (wire : Wire) (c : Config
   sent_wholes =
       let whole : List (List Item) = whole_packets (packets c.geometry c.sg (peeked_of (Tx t) (own d h))) in
       let done : (sending_of c t (own d h)).completed ≡ length whole =
-      w.completes wire c d k (received_by c lists verdicts d) (own d h) seat_d (fit d) (run.drivers d at_p.pair_known) place.in_classes in
+      w.completes wire c d k (received_by c lists verdicts d) (own d h) seat_d (own_entries c frames h d run.history) (run.drivers d at_p.pair_known) place.in_classes in
       sent_in_order c frames h d t run.history
       ∙ ap (λ n. map (bytes_of c.geometry c.sg) (take n whole)) done
       ∙ ap (map (bytes_of c.geometry c.sg)) (take_all (length whole) whole (omega arith))

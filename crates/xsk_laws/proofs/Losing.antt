@@ -13,16 +13,16 @@ use Rattle.xsk_model.specs.Steering.{paired_port, driver_on, socket_on}
 use Rattle.xsk_prog.specs.declared.rule.Verdict.{Verdict}
 use Rattle.xsk_turns.proofs.Calls.{Told, Call}
 use Rattle.xsk_turns.specs.Owned.{AllFit, IsHere}
-use Rattle.xsk_turns.specs.Turns.{Seat, Judged, Kept, seat_of, start, turn, settled, settled_or, disposal_untried, cell_of, redirect_to, limit_of, IsWholeDriverRun}
+use Rattle.xsk_turns.specs.Turns.{Seat, Judged, Kept, bounces, seat_of, start, turn, settled, settled_or, disposal_untried, cell_of, redirect_to, limit_of, IsWholeDriverRun}
 use Rattle.xsk_turns.specs.Disposals.{disposal_to, disposal_in, disposals_of, attempts_of, with_disposal, is_to, bytes_in}
 use Rattle.xsk_turns.specs.declared.manner.Manner.{Manner}
 use Rattle.xsk_turns.specs.declared.wire.Wire.{Wire}
 use Rattle.xsk_turns.specs.declared.disposal.Disposal.{Disposal}
-use Rattle.xsk_turns.specs.declared.disposal.Disposal.TheVariants.{Delivered, NoFrames, RxFull, TooLong, Runt, Missed, Passed, Dropped}
+use Rattle.xsk_turns.specs.declared.disposal.Disposal.TheVariants.{Delivered, NoFrames, RxFull, TooLong, Runt, Missed, Passed, Dropped, Bounced}
 use Rattle.xsk_turns.proofs.Walks.{Fitting, meet_fitting}
-use Rattle.xsk_turns.proofs.DriverWalk.{Family, IsTried, told_rx_done, looked_none, looked_long, rx_submitted, looked_tx_done, found_end, untried, drops_full, drops_frameless, untried_has, AtEntries, AtPasses, IsLaw, at_end}
+use Rattle.xsk_turns.proofs.DriverWalk.{Family, IsTried, told_rx_done, told_bounced, looked_none, looked_long, rx_submitted, looked_tx_done, found_end, untried, drops_full, drops_frameless, untried_has, AtEntries, AtPasses, IsLaw, at_end}
 use Rattle.xsk_turns.proofs.Disposing.{IsOver, over_later, disposes_all}
-use Rattle.xsk_turns.proofs.Saying.{in-untried, to_none, to_some, to_tried}
+use Rattle.xsk_turns.proofs.Saying.{in-untried, in-bounced, to_none, to_some, to_tried}
 use Rattle.xsk_model.proofs.Seats.{IsAt, is_at}
 use Rattle.xsk_model.proofs.Theorems.{own_entries}
 use Rattle.xsk_turns.proofs.Owning.{all_fit, redirect_here}
@@ -101,6 +101,7 @@ module _ (wire : Wire) (c : Config) (pair : ℕ) (input : List Judged) (closes :
 
   entries : AtEntries seat (Fitting c) At Asked
   entries (told_rx_done n) noted kept l known found h a q = record { done = h.done; parts = h.parts; fair = h.fair; over = record { none = λ x. known.0; first = λ x. refl } }
+  entries (told_bounced packet n) noted kept l known found h a q = settles kept packet known.later Bounced l known.is (inl (in-bounced seat packet known.none known.bounces)) h
   entries (looked_none packet n) noted kept l known found h a q = settles kept packet known.later Missed l known.is (inl (to_none wire c pair kept.coming packet known n closes q found)) h
   entries (looked_long packet n t) noted kept l known found h a q = settles kept packet known.later TooLong l known.is (inl (to_some wire c pair kept.coming packet known n closes q t true found.0 found.1)) h
   entries (rx_submitted packet t) noted kept l known found h a q = settles kept packet known.0.next.later (Delivered t) l known.0.next.is (inl (to_tried wire c pair kept.coming packet t closes known.0)) h
@@ -145,6 +146,7 @@ lost_to s Runt e = absurd (cc)
 lost_to s Missed e = absurd (cc)
 lost_to s Passed e = absurd (cc)
 lost_to s Dropped e = absurd (cc)
+lost_to s Bounced e = absurd (cc)
 
 -- no packet is lost by what the configuration and its verdict say
 never_to : (at : Seat) (packet : List ℕ) (r : Option ℕ) → is_lost (disposal_to at packet r) ≡ false
@@ -156,11 +158,12 @@ never_to at packet (Some t) = by (nat_lt (limit_of at) (length packet))
     by false = refl
 
 never_said : (seat : Seat) (packet : Judged) → is_lost (disposal_in seat packet) ≡ false
-never_said seat packet = by (redirect_to seat.config seat.port seat.queue (slice_index (map_of seat.config seat.port) (cell_of packet.verdict))) (disposal_untried seat packet) refl
+never_said seat packet = by (bounces packet.verdict) (redirect_to seat.config seat.port seat.queue (slice_index (map_of seat.config seat.port) (cell_of packet.verdict))) (disposal_untried seat packet) refl
   where
-    by : (r : Option ℕ) (o : Option Disposal) → disposal_untried seat packet ≡ o → is_lost (settled_or o (λ d. d) (disposal_to seat packet.bytes r)) ≡ false
-    by r None e = never_to seat packet.bytes r
-    by r (Some d) e = untried_has (λ d. is_lost d ≡ false) refl refl refl refl seat packet d e
+    by : (b : Bool) (r : Option ℕ) (o : Option Disposal) → disposal_untried seat packet ≡ o → is_lost (settled_or o (λ d. d) (cond b Bounced (disposal_to seat packet.bytes r))) ≡ false
+    by true r None e = refl
+    by false r None e = never_to seat packet.bytes r
+    by b r (Some d) e = untried_has (λ d. is_lost d ≡ false) refl refl refl refl seat packet d e
 
 module _ (c : Config) (pair : ℕ) (seat : Seat) where
   abbrev goes : ℕ → Judged → Bool

@@ -17,7 +17,7 @@ use Rattle.xsk_turns.specs.Turns.{Judged}
 use Rattle.xsk_turns.specs.Verdicts.{judged}
 use Rattle.xsk_turns.specs.Disposals.{is_to, with_disposal}
 use Rattle.xsk_turns.specs.declared.disposal.Disposal.{Disposal}
-use Rattle.xsk_turns.specs.declared.disposal.Disposal.TheVariants.{Delivered, NoFrames, RxFull, TooLong, Runt, Missed, Passed, Dropped}
+use Rattle.xsk_turns.specs.declared.disposal.Disposal.TheVariants.{Delivered, NoFrames, RxFull, TooLong, Runt, Missed, Passed, Dropped, Bounced}
 
 -- ---- a measure of packets, summed up
 
@@ -124,6 +124,7 @@ one_socket n bytes Runt = omega arith
 one_socket n bytes Missed = omega arith
 one_socket n bytes Passed = omega arith
 one_socket n bytes Dropped = omega arith
+one_socket n bytes Bounced = omega arith
 
 total-cond : {X : Type 0} (f : X → ℕ) (b : Bool) (x : X) (xs : List X) → total f (cond b (x ∷ xs) xs) ≡ cond b (f x) 0 + total f xs
 total-cond f true x xs = refl

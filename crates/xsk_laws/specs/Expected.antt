@@ -6,7 +6,7 @@ use Rattle.xsk_umem.specs.PacketList.{PacketList}
 use Rattle.xsk_model.specs.Config.{Config, map_of}
 use Rattle.xsk_model.specs.Steering.{packet_limit, paired_port, driver_on, socket_on}
 use Rattle.xsk_prog.specs.declared.rule.Verdict.{Verdict}
-use Rattle.xsk_prog.specs.declared.rule.Verdict.TheVariants.{Drop, Pass, Redirect}
+use Rattle.xsk_prog.specs.declared.rule.Verdict.TheVariants.{Drop, Pass, Redirect, Bounce}
 use Rattle.xsk_turns.specs.Inputs.{packets_of_port, packets_of_queue}
 use Rattle.xsk_turns.specs.Turns.{Judged}
 use Rattle.xsk_turns.specs.Disposals.{bytes_in}
@@ -31,6 +31,7 @@ abbrev pub leads_to : List ℕ → ℕ → Verdict → Bool
 leads_to map socket Drop = false
 leads_to map socket Pass = false
 leads_to map socket (Redirect cell) = holds_socket map cell socket
+leads_to map socket Bounce = false
 
 -- whether a packet has 14 bytes up to the limit
 abbrev pub has_length : Config → List ℕ → Bool

@@ -5,7 +5,7 @@ use Rattle.std.proofs.lemmas.List.Sums.{sum_by-cons, count_by-le-length}
 use Rattle.xsk_turns.specs.Counted.{capped}
 use Rattle.xsk_machine.specs.Figures.{count_of_kind, kinds_of, KindsAddUp}
 use Rattle.xsk_turns.specs.declared.disposal.Disposal.{Disposal}
-use Rattle.xsk_turns.specs.declared.disposal.Disposal.TheVariants.{Delivered, NoFrames, RxFull, TooLong, Runt, Missed, Passed, Dropped}
+use Rattle.xsk_turns.specs.declared.disposal.Disposal.TheVariants.{Delivered, NoFrames, RxFull, TooLong, Runt, Missed, Passed, Dropped, Bounced}
 
 pub kinds_add_up : KindsAddUp
 kinds_add_up [] = refl
@@ -17,6 +17,7 @@ kinds_add_up (Runt ∷ ds) = simp sum_by-cons (omega (arith, kinds_add_up ds))
 kinds_add_up (Missed ∷ ds) = simp sum_by-cons (omega (arith, kinds_add_up ds))
 kinds_add_up (Passed ∷ ds) = simp sum_by-cons (omega (arith, kinds_add_up ds))
 kinds_add_up (Dropped ∷ ds) = simp sum_by-cons (omega (arith, kinds_add_up ds))
+kinds_add_up (Bounced ∷ ds) = simp sum_by-cons (omega (arith, kinds_add_up ds))
 
 -- no kind has more packets than there are
 few : (kind : ℕ) (ds : List Disposal) → length ds ≤ 18446744073709551615 → capped (count_of_kind kind ds) ≡ count_of_kind kind ds
@@ -27,7 +28,7 @@ few kind ds h =
 -- where the packets aren't more than a number holds, the numbers of the kinds add up to them
 pub kept_kinds_add_up : (ds : List Disposal) → length ds ≤ 18446744073709551615 → sum (kinds_of ds) ≡ length ds
 kept_kinds_add_up ds h =
-    rw (few 0 ds h, few 1 ds h, few 2 ds h, few 3 ds h, few 4 ds h, few 5 ds h, few 6 ds h, few 7 ds h)
+    rw (few 0 ds h, few 1 ds h, few 2 ds h, few 3 ds h, few 4 ds h, few 5 ds h, few 6 ds h, few 7 ds h, few 8 ds h)
     (kinds_add_up ds)
 
 pub all_kept_kinds_add_up : (ds : List Disposal) (i : ℕ) (kinds : List ℕ) → length ds ≤ 18446744073709551615 → length ds ≤ i

@@ -4,7 +4,7 @@ use Rattle.std.specs.Prelude.{◌≡◌, ℕ, ◌==◌, nat_lt, if◌then◌else
 use Rattle.xsk_turns.specs.Counted.{capped}
 use Rattle.xsk_turns.specs.Stranded.{stranded_in}
 use Rattle.xsk_turns.specs.declared.disposal.Disposal.{Disposal}
-use Rattle.xsk_turns.specs.declared.disposal.Disposal.TheVariants.{Delivered, NoFrames, RxFull, TooLong, Runt, Missed, Passed, Dropped}
+use Rattle.xsk_turns.specs.declared.disposal.Disposal.TheVariants.{Delivered, NoFrames, RxFull, TooLong, Runt, Missed, Passed, Dropped, Bounced}
 use Rattle.xsk_turns.specs.declared.disposal.DriverCounters.{DriverCounters}
 use Rattle.std.specs.List.{slice_index_or}
 use Rattle.xsk_driver.specs.Shown.{Shown}
@@ -20,13 +20,14 @@ kind_of Runt = 4
 kind_of Missed = 5
 kind_of Passed = 6
 kind_of Dropped = 7
+kind_of Bounced = 8
 
 -- how many packets have a disposal of a kind
 abbrev pub count_of_kind : ℕ → List Disposal → ℕ
 count_of_kind kind disposals = count_by (λ disposal. kind_of disposal == kind) disposals
 
 abbrev pub all_kinds : List ℕ
-all_kinds = 0 ∷ 1 ∷ 2 ∷ 3 ∷ 4 ∷ 5 ∷ 6 ∷ 7 ∷ []
+all_kinds = 0 ∷ 1 ∷ 2 ∷ 3 ∷ 4 ∷ 5 ∷ 6 ∷ 7 ∷ 8 ∷ []
 
 abbrev pub kinds_of : List Disposal → List ℕ
 kinds_of disposals = map (λ kind. capped (count_of_kind kind disposals)) all_kinds

@@ -96,7 +96,7 @@ fn keep_if(number: u64, kept: bool) -> u64
 }
 
 /// Counts one more disposal.
-fn count_kind(kinds: &mut [u64; 8], disposal: Disposal)
+fn count_kind(kinds: &mut [u64; 9], disposal: Disposal)
     ensures { (disposals : List ADisposal) → kinds.old ≡ kinds_of disposals → kinds.new ≡ kinds_of (disposals ++ disposal ∷ []) }
 {
     let kind = kind_of(disposal);
@@ -106,7 +106,7 @@ fn count_kind(kinds: &mut [u64; 8], disposal: Disposal)
 /// The place of a disposal's kind among the figures.
 fn kind_of(disposal: Disposal) -> usize
     ensures value { result ≡ kind_by disposal }
-    ensures known { result < 8 }
+    ensures known { result < 9 }
 {
     match disposal {
         Disposal::Delivered(_) => 0,
@@ -117,6 +117,7 @@ fn kind_of(disposal: Disposal) -> usize
         Disposal::Missed => 5,
         Disposal::Passed => 6,
         Disposal::Dropped => 7,
+        Disposal::Bounced => 8,
     }
 }
 

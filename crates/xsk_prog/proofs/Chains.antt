@@ -7,9 +7,9 @@ use Rattle.std.proofs.lemmas.Bool.{and_parts}
 use Rattle.std.proofs.lemmas.List.{drop_all}
 use Rattle.std.proofs.Math.Seq.{drop-cons}
 use Rattle.xsk_prog.specs.declared.rule.Rule.{Rule}
-use Rattle.xsk_prog.specs.declared.rule.Rule.TheVariants.{Redirect as ByClass, Drop as DropAll, Pass as PassAll, EtherType, Fixed, AtMost}
+use Rattle.xsk_prog.specs.declared.rule.Rule.TheVariants.{Redirect as ByClass, Drop as DropAll, Pass as PassAll, EtherType, Fixed, AtMost, Bounce as BounceAll, BounceType}
 use Rattle.xsk_prog.specs.declared.rule.Verdict.{Verdict}
-use Rattle.xsk_prog.specs.declared.rule.Verdict.TheVariants.{Drop, Pass, Redirect}
+use Rattle.xsk_prog.specs.declared.rule.Verdict.TheVariants.{Drop, Pass, Redirect, Bounce}
 use Rattle.xsk_prog.specs.declared.program.XdpProgram.{XdpProgram}
 use Rattle.xsk_prog.specs.Program.{Answers}
 use Rattle.xsk_prog.specs.Rules.{Meets, MeetsChain, verdict_of, or_next, chain_verdict_of, is_exact, are_exact, MeetsOwnChain, OneChainVerdict}
@@ -57,6 +57,8 @@ own_meets PassAll packet queue = refl
 own_meets (EtherType kind sockets) packet queue = refl
 own_meets (Fixed cell) packet queue = refl
 own_meets (AtMost cells) packet queue = tt
+own_meets BounceAll packet queue = refl
+own_meets (BounceType kind) packet queue = refl
 
 only_own : (rule : Rule) (packet : List ℕ) (queue : ℕ) (verdict : Verdict) → is_exact rule ≡ true → Meets rule packet queue verdict → verdict ≡ verdict_of rule packet queue
 only_own (ByClass sockets) packet queue verdict exact meets = meets
@@ -65,6 +67,8 @@ only_own PassAll packet queue verdict exact meets = meets
 only_own (EtherType kind sockets) packet queue verdict exact meets = meets
 only_own (Fixed cell) packet queue verdict exact meets = meets
 only_own (AtMost cells) packet queue verdict exact meets = absurd (cc)
+only_own BounceAll packet queue verdict exact meets = meets
+only_own (BounceType kind) packet queue verdict exact meets = meets
 
 pub meets_own_chain : MeetsOwnChain
 meets_own_chain [] packet queue = refl
@@ -75,6 +79,7 @@ meets_own_chain (rule ∷ rules) packet queue = by (verdict_of rule packet queue
     by Drop meets later = inl (meets, λ e. absurd (cc))
     by Pass meets later = inr (meets, later)
     by (Redirect cell) meets later = inl (meets, λ e. absurd (cc))
+    by Bounce meets later = inl (meets, λ e. absurd (cc))
 
 pub one_chain_verdict : OneChainVerdict
 one_chain_verdict [] packet queue verdict exact meets = meets
@@ -84,6 +89,7 @@ one_chain_verdict (rule ∷ rules) packet queue verdict exact (inl (meets, other
     by Drop differs is = ap (λ w. or_next w (chain_verdict_of rules packet queue)) is
     by Pass differs is = absurd (differs refl)
     by (Redirect cell) differs is = ap (λ w. or_next w (chain_verdict_of rules packet queue)) is
+    by Bounce differs is = ap (λ w. or_next w (chain_verdict_of rules packet queue)) is
 one_chain_verdict (rule ∷ rules) packet queue verdict exact (inr (passes, later)) =
     let both = and_parts (is_exact rule) (are_exact rules) exact in
     one_chain_verdict rules packet queue verdict both.1 later

@@ -5,7 +5,7 @@ ghost use Rattle.xsk_prog.specs.Rules.{HasSockets, IsRuled, IsSocketCount, Meets
 
 use xsk_model::steering::packet_cell;
 
-/// What a program answers of a packet (XDP_DROP, XDP_PASS and XDP_REDIRECT).
+/// What a program answers of a packet (XDP_DROP, XDP_PASS, XDP_REDIRECT and XDP_TX).
 #[derive(Clone, Copy, Debug, PartialEq, Eq)]
 pub enum Verdict {
     /// The packet is dropped.
@@ -14,6 +14,8 @@ pub enum Verdict {
     Pass,
     /// It is redirected to the socket in this cell of its port's XSKMAP.
     Redirect(u32),
+    /// It leaves by the port on which it came.
+    Bounce,
 }
 
 /// Which verdicts a packet may have. All rules but `AtMost` leave exactly one.
@@ -31,6 +33,10 @@ pub enum Rule {
     Fixed(u32),
     /// Each packet is dropped, passes, or is redirected to a cell below this number.
     AtMost(u32),
+    /// Each packet bounces.
+    Bounce,
+    /// A packet of this EtherType bounces, and each other packet passes.
+    BounceType { kind: u16 },
 }
 
 impl Rule {
@@ -52,6 +58,9 @@ impl Rule {
             Rule::EtherType { .. } => Verdict::Pass,
             Rule::Fixed(cell) => Verdict::Redirect(cell),
             Rule::AtMost(_) => Verdict::Drop,
+            Rule::Bounce => Verdict::Bounce,
+            Rule::BounceType { kind } if ether_type(packet) == kind => Verdict::Bounce,
+            Rule::BounceType { .. } => Verdict::Pass,
         }
     }
 }

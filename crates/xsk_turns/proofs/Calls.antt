@@ -5,7 +5,7 @@ pub use Rattle.xsk_model.specs.Entry.{Told, with_told}
 pub use Rattle.xsk_model.specs.declared.call.Ring.{Ring}
 pub use Rattle.xsk_model.specs.declared.call.Ring.TheVariants.{Fill, Comp, Rx, Tx}
 pub use Rattle.xsk_model.specs.declared.call.Mark.{Mark}
-pub use Rattle.xsk_model.specs.declared.call.Mark.TheVariants.{NeedFill, NeedTx, Kick, RxDone, Gone, TxDone, Cell}
+pub use Rattle.xsk_model.specs.declared.call.Mark.TheVariants.{NeedFill, NeedTx, Kick, RxDone, Gone, TxDone, Cell, Bounced as BouncedMark}
 pub use Rattle.xsk_model.specs.declared.call.Call.{Call}
 pub use Rattle.xsk_model.specs.declared.call.Call.TheVariants.{Reserve, Submit, Peek, Release, Swap, Look}
 pub use Rattle.xsk_model.specs.declared.call.Reply.{Reply}

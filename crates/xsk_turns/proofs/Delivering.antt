@@ -16,13 +16,13 @@ use Rattle.xsk_turns.specs.Law.{AreLayouts, IsLaidOut, IsSized, DeliversInOrder,
 use Rattle.xsk_model.specs.Steering.{packet_limit}
 use Rattle.xsk_turns.specs.declared.wire.Wire.{Wire}
 use Rattle.xsk_turns.specs.declared.disposal.Disposal.{Disposal}
-use Rattle.xsk_turns.specs.declared.disposal.Disposal.TheVariants.{Delivered, NoFrames, RxFull, TooLong, Missed}
+use Rattle.xsk_turns.specs.declared.disposal.Disposal.TheVariants.{Delivered, NoFrames, RxFull, TooLong, Missed, Bounced}
 use Rattle.xsk_turns.proofs.Rooms.{IsOwnFrame, own_frames, all_whole}
 use Rattle.xsk_turns.proofs.Layouts.{layout, one_piece, length-laid_out}
 use Rattle.xsk_turns.proofs.Disposing.{IsOver, over_later, disposes_all}
 use Rattle.xsk_turns.proofs.Saying.{disposed_as_said}
 use Rattle.xsk_turns.proofs.Walks.{Fitting, meet_fitting}
-use Rattle.xsk_turns.proofs.DriverWalk.{Family, Begins, IsTried, call_at, told_rx_done, looked_none, looked_long, fill_items, rx_submitted, comp_submitted, looked_tx_done, found_end, point_of, reply_of, untried, drops_full, drops_frameless, parks, untried_has, AtEntries, AtPasses, IsLaw, at_call, at_end}
+use Rattle.xsk_turns.proofs.DriverWalk.{Family, Begins, IsTried, call_at, told_rx_done, told_bounced, looked_none, looked_long, fill_items, rx_submitted, comp_submitted, looked_tx_done, found_end, point_of, reply_of, untried, drops_full, drops_frameless, parks, untried_has, AtEntries, AtPasses, IsLaw, at_call, at_end}
 
 -- ---- lists of layouts
 
@@ -199,6 +199,7 @@ module _ (wire : Wire) (c : Config) (d s : ℕ) (is : IsSeat c d) (input : List 
   entries : AtEntries seat (Fitting c) At Asked
   entries (told_rx_done n) noted kept l known found h a q =
       let now = still kept l (Swap (RxDone d) 1) (Old n) refl h in record { given = now.given; spare = now.spare; over = record { none = λ x. known.0; first = λ x. refl } }
+  entries (told_bounced packet n) noted kept l known found h a q = skips kept packet known.later Bounced _ known.is refl (still kept l _ (Old n) refl h)
   entries (looked_none packet n) noted kept l known found h a q = skips kept packet known.later Missed _ known.is refl (still kept l _ (Old n) refl h)
   entries (looked_long packet n t) noted kept l known found h a q =
       let now = skips kept packet known.later TooLong _ known.is refl (still kept l _ (Old n) refl h) in

@@ -9,7 +9,7 @@ use Rattle.xsk_turns.proofs.Object.{classes_of, Draining, are_none, unseen_after
 use Rattle.xsk_turns.specs.Turns.{Seat, Kept, Noted, seat_of, start, turn, socket_of, application_of, cell_of}
 use Rattle.xsk_turns.specs.Law.{DrainsTx}
 use Rattle.xsk_turns.proofs.Walks.{Anything, meet_anything}
-use Rattle.xsk_turns.proofs.DriverWalk.{Place, Turning, Again, Sending, Idling, Family, call_at, told_rx_done, looked_none, looked_long, looked_some, rx_submitted, comp_full, comp_submitted, tx_empty, tx_items, tx_released, looked_tx_done, armed_fill, found_end, found_none, kicked, not_kicked, point_of, reply_of, leads, none_comes, waits, drops_full, drops_frameless, visited, idles, arms, AtEntries, AtPasses, IsLaw, at_end}
+use Rattle.xsk_turns.proofs.DriverWalk.{Place, Turning, Again, Sending, Idling, Family, call_at, told_rx_done, told_bounced, looked_none, looked_long, looked_some, rx_submitted, comp_full, comp_submitted, tx_empty, tx_items, tx_released, looked_tx_done, armed_fill, found_end, found_none, kicked, not_kicked, point_of, reply_of, leads, none_comes, waits, drops_full, drops_frameless, visited, idles, arms, AtEntries, AtPasses, IsLaw, at_end}
 
 pub draining_told : (ms : List Mark) (r : Ring) (l : List Told) (call : Call) (reply : Reply)
     → draining_of ms r (with_told l call reply) ≡ draining_after r (draining_of ms r l) call reply
@@ -143,6 +143,7 @@ module _ (seat : Seat) (class : ℕ) (below : class < seat.classes) where
   entries (looked_long packet n s) noted kept l known found h x q = looked_other a t kept.tx_done ⊥ _ l (Cell seat.port (cell_of packet.verdict)) n refl (λ x. absurd (omega (arith, x.0))) h
   entries (looked_some packet n s) noted kept l known found h x q = looked_other a t kept.tx_done ⊥ ⊥ l (Cell seat.port (cell_of packet.verdict)) n refl (λ x. x) h
   entries (told_rx_done n) noted kept l known found h x q = still a t kept.tx_done ⊥ _ l _ (Old n) (λ s. refl) (λ x. absurd (omega (arith, x.0))) h
+  entries (told_bounced packet n) noted kept l known found h x q = still a t kept.tx_done ⊥ _ l _ (Old n) (λ s. refl) (λ x. absurd (omega (arith, x.0))) h
   entries (rx_submitted packet s) noted kept l known found h x q = still a t kept.tx_done ⊥ _ l _ Submitted (λ s. refl) (λ x. absurd (omega (arith, x.0))) h
   entries (comp_full k packet later free) noted kept l known found h x q = still a t kept.tx_done _ _ l _ (Full free) (λ s. refl) (λ x. absurd (let no = x.1 in cc)) h
   entries (comp_submitted k packet later) noted kept l known found h x q = still a t kept.tx_done _ _ l _ Submitted (λ s. refl) (λ x. absurd (let no = x.1.0 in cc)) h

@@ -2,14 +2,14 @@
 -- list, a call with its reply, makes of it; then it holds along every run.
 use Rattle.std.proofs.Common.{◌≡◌, ◌⊎◌, inl, inr, ℕ, zero, suc, ◌+◌, ◌-◌, ◌%◌, ◌<◌, Bool, true, false, cond, ◌||◌, nat_lt, nat_le, eqb, Option, Some, None, List, [], ◌∷◌, length, map, take, drop, refl, sym, ap, ◌∙◌, subst, arith}
 use Rattle.std.proofs.lemmas.Bool.{or_parts}
-use Rattle.xsk_turns.proofs.Calls.{Item, Told, with_told, Fill, Comp, Rx, Tx, NeedFill, NeedTx, Kick, RxDone, Gone, TxDone, Cell, Call, Reserve, Submit, Peek, Release, Swap, Look, Reply, Granted, Full, Submitted, Items, Empty, Released, Old}
+use Rattle.xsk_turns.proofs.Calls.{Item, Told, with_told, Fill, Comp, Rx, Tx, NeedFill, NeedTx, Kick, RxDone, Gone, TxDone, Cell, BouncedMark, Call, Reserve, Submit, Peek, Release, Swap, Look, Reply, Granted, Full, Submitted, Items, Empty, Released, Old}
 use Rattle.xsk_model.specs.Config.{map_of}
 use Rattle.xsk_turns.specs.Script.{Script, ask, again, ended, on_submitted, on_released, on_old, Asks, Ends, IsRun, Leaves}
-use Rattle.xsk_turns.specs.Turns.{Seat, Judged, Kept, Noted, fresh, awaits, drops, moved, stopped, lacks, settled, settled_or, dropped, disposal_by, disposal_untried, supplied, with_rx_full, with_fill_empty, with_tx_empty, no_frames, no_room, visit_from, socket_of, application_of, cell_of, redirect_to, limit_of, pieces_of, laid_out, returned, gathered, flag_tx, flag_from, flag_all, disarm, park, woken, peek_fill, peek_tx, look_kick, settle, look_tx, look_from, look_again, idle, complete, complete_all, visit, transmit, deliver, reserve, go_on, find_spare, direct, receive, turn_by, turn}
+use Rattle.xsk_turns.specs.Turns.{Seat, Judged, Kept, Noted, fresh, awaits, drops, moved, stopped, lacks, settled, settled_or, dropped, disposal_by, disposal_untried, supplied, with_rx_full, with_fill_empty, with_tx_empty, no_frames, no_room, visit_from, socket_of, application_of, bounces, bounced_among, bounce, cell_of, redirect_to, limit_of, pieces_of, laid_out, returned, gathered, flag_tx, flag_from, flag_all, disarm, park, woken, peek_fill, peek_tx, look_kick, settle, look_tx, look_from, look_again, idle, complete, complete_all, visit, transmit, deliver, reserve, go_on, find_spare, direct, receive, turn_by, turn}
 use Rattle.xsk_turns.specs.declared.disposal.Disposal.{Disposal}
-use Rattle.xsk_turns.specs.declared.disposal.Disposal.TheVariants.{Delivered, NoFrames, RxFull, TooLong, Runt, Missed, Passed, Dropped}
+use Rattle.xsk_turns.specs.declared.disposal.Disposal.TheVariants.{Delivered, NoFrames, RxFull, TooLong, Runt, Missed, Passed, Dropped, Bounced}
 use Rattle.xsk_prog.specs.declared.rule.Verdict.{Verdict}
-use Rattle.xsk_prog.specs.declared.rule.Verdict.TheVariants.{Drop, Pass as PassOn, Redirect}
+use Rattle.xsk_prog.specs.declared.rule.Verdict.TheVariants.{Drop, Pass as PassOn, Redirect, Bounce}
 use Rattle.xsk_umem.specs.Frame.{Frame}
 use Rattle.xsk_turns.proofs.Walks.{Premise, Law, Due, nothing_due, submit_due, release_due, Holds, MeetAlong, at_reserve, at_submit, at_peek, at_release, at_old, by_case, by_option, says_left, says_run, meets_law}
 
@@ -24,16 +24,17 @@ known_if : (beyond : Bool) → cond beyond (Some Missed) None ≡ None → beyon
 known_if true e = absurd (cc)
 known_if false e = refl
 
-cell_by : (seat : Seat) (verdict : Verdict) → disposal_by seat verdict ≡ None → nat_le (length (map_of seat.config seat.port)) (cell_of verdict) ≡ false
-cell_by seat Drop e = absurd (cc)
-cell_by seat PassOn e = absurd (cc)
-cell_by seat (Redirect cell) e = known_if (nat_le (length (map_of seat.config seat.port)) cell) e
+cell_by : (seat : Seat) (verdict : Verdict) → disposal_by seat verdict ≡ None → bounces verdict ≡ false → nat_le (length (map_of seat.config seat.port)) (cell_of verdict) ≡ false
+cell_by seat Drop e f = absurd (cc)
+cell_by seat PassOn e f = absurd (cc)
+cell_by seat (Redirect cell) e f = known_if (nat_le (length (map_of seat.config seat.port)) cell) e
+cell_by seat Bounce e f = absurd (cc)
 
 pub tried_long : (seat : Seat) (packet : Judged) → disposal_untried seat packet ≡ None → nat_lt (length packet.bytes) 14 ≡ false
 tried_long seat packet e = (long_if (nat_lt (length packet.bytes) 14) (disposal_by seat packet.verdict) e).0
 
-pub tried_cell : (seat : Seat) (packet : Judged) → disposal_untried seat packet ≡ None → nat_le (length (map_of seat.config seat.port)) (cell_of packet.verdict) ≡ false
-tried_cell seat packet e = cell_by seat packet.verdict (long_if (nat_lt (length packet.bytes) 14) (disposal_by seat packet.verdict) e).1
+pub tried_cell : (seat : Seat) (packet : Judged) → disposal_untried seat packet ≡ None → bounces packet.verdict ≡ false → nat_le (length (map_of seat.config seat.port)) (cell_of packet.verdict) ≡ false
+tried_cell seat packet e f = cell_by seat packet.verdict (long_if (nat_lt (length packet.bytes) 14) (disposal_by seat packet.verdict) e).1 f
 
 -- what holds of the four disposals of packets that aren't
 module _ (P : Disposal → Type 0) (runt : P Runt) (missed : P Missed) (passed : P Passed) (dropped : P Dropped) where
@@ -45,6 +46,7 @@ module _ (P : Disposal → Type 0) (runt : P Runt) (missed : P Missed) (passed :
   verdict_has seat Drop d e = subst P (let same : Dropped ≡ d = cc in same) dropped
   verdict_has seat PassOn d e = subst P (let same : Passed ≡ d = cc in same) passed
   verdict_has seat (Redirect cell) d e = beyond_has (nat_le (length (map_of seat.config seat.port)) cell) d e
+  verdict_has seat Bounce d e = absurd (cc)
 
   short_has : (short : Bool) (seat : Seat) (verdict : Verdict) (d : Disposal) → cond short (Some Runt) (disposal_by seat verdict) ≡ Some d → P d
   short_has true seat verdict d e = subst P (let same : Runt ≡ d = cc in same) runt
@@ -90,6 +92,7 @@ Begins At kept l = At (first_place kept.parked) fresh kept l
 -- a call, by which look it is, by the packet and its socket, by the class and the finished packets, or by the class
 pub data Point : Type 0 where
   TellRxDone : Point
+  TellBounced : Judged → Point
   LookCell : Judged → Point
   PeekFill : Which → Judged → ℕ → Point
   ReleaseFill : Which → Judged → ℕ → ℕ → Point
@@ -112,6 +115,7 @@ pub data Point : Type 0 where
 -- where each call is given, the call, and what is kept once it is given: a Submit takes its frames along
 abbrev pub asked : Seat → Point → Kept → Place × Call × Kept
 asked seat TellRxDone kept = (Receiving, Swap (RxDone seat.pair) 1, kept)
+asked seat (TellBounced packet) kept = (Receiving, Swap (BouncedMark seat.pair) (suc (bounced_among kept.disposals)), kept)
 asked seat (LookCell packet) kept = (Receiving, Look (Cell seat.port (cell_of packet.verdict)), kept)
 asked seat (PeekFill look packet s) kept = (Trying look packet s nothing_due, Peek (Fill seat.pair) (pieces_of seat packet.bytes - length kept.spare), kept)
 asked seat (ReleaseFill look packet s n) kept = (Trying look packet s (release_due (Fill seat.pair) n), Release (Fill seat.pair) n, kept)
@@ -137,11 +141,20 @@ call_at seat p kept = (asked seat p kept).1
 abbrev pub kept_at : Seat → Point → Kept → Kept
 kept_at seat p kept = (asked seat p kept).2
 
+-- the next packet bounces, and is long enough
+pub record IsBouncing (seat : Seat) (coming : List Judged) (packet : Judged) : Type 0 where
+  pub later : List Judged
+  pub is : coming ≡ packet ∷ later
+  pub none : disposal_untried seat packet ≡ None
+  pub long : nat_lt (length packet.bytes) 14 ≡ false
+  pub bounces : bounces packet.verdict ≡ true
+
 -- the next packet is tried: it is long enough and goes to a cell, which redirected it to the socket, and fits it
 pub record IsNext (seat : Seat) (coming : List Judged) (packet : Judged) : Type 0 where
   pub later : List Judged
   pub is : coming ≡ packet ∷ later
   pub none : disposal_untried seat packet ≡ None
+  pub stays : bounces packet.verdict ≡ false
   pub long : nat_lt (length packet.bytes) 14 ≡ false
   pub cell : nat_le (length (map_of seat.config seat.port)) (cell_of packet.verdict) ≡ false
 
@@ -163,6 +176,7 @@ pub record IsLacking (seat : Seat) (Q : Premise Kept) (n : ℕ) (coming : List J
 -- what is known where a call is given
 abbrev pub Known : Seat → Premise Kept → Point → Noted → Kept → Type 0
 Known seat Q TellRxDone noted kept = (kept.coming ≡ []) × (kept.rx_done ≡ false)
+Known seat Q (TellBounced packet) noted kept = IsBouncing seat kept.coming packet
 Known seat Q (LookCell packet) noted kept = IsNext seat kept.coming packet
 Known seat Q (PeekFill look packet s) noted kept = IsTried seat Q kept.coming packet s × (nat_le (pieces_of seat packet.bytes) (length kept.spare) ≡ false)
 Known seat Q (ReleaseFill look packet s n) noted kept = IsTried seat Q kept.coming packet s
@@ -187,6 +201,7 @@ Known seat Q (DisarmTx k) noted kept = (kept.parked ≡ None) × (k < seat.class
 -- the entries, each a call and its reply
 pub data Entry : Type 0 where
   told_rx_done : ℕ → Entry
+  told_bounced : Judged → ℕ → Entry
   looked_none : Judged → ℕ → Entry
   looked_long : Judged → ℕ → ℕ → Entry
   looked_some : Judged → ℕ → ℕ → Entry
@@ -215,6 +230,7 @@ pub data Entry : Type 0 where
 
 abbrev pub told : Entry → Point × Reply
 told (told_rx_done n) = (TellRxDone, Old n)
+told (told_bounced packet n) = (TellBounced packet, Old n)
 told (looked_none packet n) = (LookCell packet, Old n)
 told (looked_long packet n s) = (LookCell packet, Old n)
 told (looked_some packet n s) = (LookCell packet, Old n)
@@ -250,6 +266,7 @@ reply_of e = (told e).1
 -- where each leads, with what is noted and kept there
 abbrev pub leads : Seat → Entry → Noted → Kept → Place × Noted × Kept
 leads seat (told_rx_done n) noted kept = (Sending Turning 0 nothing_due, moved noted, record kept { rx_done = true })
+leads seat (told_bounced packet n) noted kept = (Sending Turning 0 nothing_due, moved noted, settled kept Bounced)
 leads seat (looked_none packet n) noted kept = (Sending Turning 0 nothing_due, moved noted, settled kept Missed)
 leads seat (looked_long packet n s) noted kept = (Sending Turning 0 nothing_due, moved noted, dropped kept TooLong)
 leads seat (looked_some packet n s) noted kept = (Trying Turning packet s nothing_due, noted, kept)
@@ -361,6 +378,45 @@ pub record IsLaw (seat : Seat) (Q : Premise Kept) (At : Family) (A : Said) (E : 
   pub entries : AtEntries seat Q At A
   pub passes : AtPasses seat Q At
   pub ends : AtEnd seat Q At A E
+
+-- A law may stand on another: what that one says holds at each place is known where it says what holds at each call.
+module _ (seat : Seat) (Q : Premise Kept) (At On : Family) (A B : Said) (E F : Kept → List Told → Type 0) (is : IsLaw seat Q At A E)
+    (calls : (p : Point) (noted : Noted) (kept : Kept) (l : List Told) → Known seat Q p noted kept → At (asked seat p kept).0 noted kept l → On (asked seat p kept).0 noted kept l → B (kept_at seat p kept) (call_at seat p kept) l)
+    (entries : AtEntries seat Q On B) (passes : AtPasses seat Q On) (ends : AtEnd seat Q On B F) where
+  abbrev Together : Family
+  Together place noted kept l = At place noted kept l × On place noted kept l
+
+  abbrev SaidTogether : Said
+  SaidTogether kept call l = A kept call l × B kept call l
+
+  abbrev EndTogether : Kept → List Told → Type 0
+  EndTogether kept l = E kept l × F kept l
+
+  pass_together : AtPasses seat Q Together
+  pass_together (untried packet later disposal) noted kept l = λ h e. (is.passes (untried packet later disposal) noted kept l h.0 e, passes (untried packet later disposal) noted kept l h.1 e)
+  pass_together none_comes noted kept l = λ h e. (is.passes none_comes noted kept l h.0 e, passes none_comes noted kept l h.1 e)
+  pass_together (too_few packet s) noted kept l = λ h e. (is.passes (too_few packet s) noted kept l h.0 e, passes (too_few packet s) noted kept l h.1 e)
+  pass_together (waits packet s full) noted kept l = λ h e. (is.passes (waits packet s full) noted kept l h.0 e, passes (waits packet s full) noted kept l h.1 e)
+  pass_together (drops_full packet s) noted kept l = λ h e. (is.passes (drops_full packet s) noted kept l h.0 e, passes (drops_full packet s) noted kept l h.1 e)
+  pass_together (drops_frameless packet s) noted kept l = λ h e. (is.passes (drops_frameless packet s) noted kept l h.0 e, passes (drops_frameless packet s) noted kept l h.1 e)
+  pass_together visited noted kept l = λ h e. (is.passes visited noted kept l h.0 e, passes visited noted kept l h.1 e)
+  pass_together idles noted kept l = λ h e. (is.passes idles noted kept l h.0 e, passes idles noted kept l h.1 e)
+  pass_together arms noted kept l = λ h e. (is.passes arms noted kept l h.0 e, passes arms noted kept l h.1 e)
+  pass_together (seeks packet s) noted kept l = λ h e. (is.passes (seeks packet s) noted kept l h.0 e, passes (seeks packet s) noted kept l h.1 e)
+  pass_together (sought packet s) noted kept l = λ h e. (is.passes (sought packet s) noted kept l h.0 e, passes (sought packet s) noted kept l h.1 e)
+  pass_together (misses packet s) noted kept l = λ h e. (is.passes (misses packet s) noted kept l h.0 e, passes (misses packet s) noted kept l h.1 e)
+  pass_together looks noted kept l = λ h e. (is.passes looks noted kept l h.0 e, passes looks noted kept l h.1 e)
+  pass_together finds noted kept l = λ h e. (is.passes finds noted kept l h.0 e, passes finds noted kept l h.1 e)
+  pass_together parks noted kept l = λ h e. (is.passes parks noted kept l h.0 e, passes parks noted kept l h.1 e)
+  pass_together disarmed noted kept l = λ h e. (is.passes disarmed noted kept l h.0 e, passes disarmed noted kept l h.1 e)
+
+  pub together : IsLaw seat Q Together SaidTogether EndTogether
+  together = record {
+    calls = λ p noted kept l known h. (is.calls p noted kept l known h.0, calls p noted kept l known h.0 h.1);
+    entries = λ e noted kept l known found h a q. (is.entries e noted kept l known found h.0 a.0 q, entries e noted kept l known found h.1 a.1 q);
+    passes = pass_together;
+    ends = λ noted kept l n known h a q. (is.ends noted kept l n known h.0 a.0 q, ends noted kept l n known h.1 a.1 q);
+  }
 
 module _ (seat : Seat) (Q : Premise Kept) (At : Family) (A : Said) (E : Kept → List Told → Type 0) (is : IsLaw seat Q At A E) where
   abbrev law : Law Kept
@@ -668,6 +724,16 @@ module _ (seat : Seat) (Q : Premise Kept) (At : Family) (A : Said) (E : Kept →
 
   -- ---- receiving
 
+  go_bounce : (packet : Judged) (noted : Noted) (kept : Kept) (l : List Told) → Awake noted kept → At Receiving noted kept l → IsBouncing seat kept.coming packet → Along (bounce seat noted kept) l
+  go_bounce packet noted kept l up h next =
+      let call = Swap (BouncedMark seat.pair) (suc (bounced_among kept.disposals)) in
+      let left : Kept = settled kept Bounced in
+      let gives = is.calls (TellBounced packet) noted kept l next h in (
+        gives,
+        at_old Q law kept call l (λ n. transmit seat (moved noted) left)
+            (λ n q. go_transmit (moved noted) left (with_told l call (Old n)) (steady (moved noted) left up) (is.entries (told_bounced packet n) noted kept l next tt h gives q)),
+      )
+
   go_receive : (coming : List Judged) (noted : Noted) (kept : Kept) (l : List Told) → Awake noted kept → At Receiving noted kept l → kept.coming ≡ coming → Along (receive seat coming noted kept) l
   go_receive [] noted kept l up h e =
       let call = Swap (RxDone seat.pair) 1 in
@@ -684,9 +750,11 @@ module _ (seat : Seat) (Q : Premise Kept) (At : Family) (A : Said) (E : Kept →
       let to = λ (n : ℕ). redirect_to seat.config seat.port seat.queue n in
       let rest : drop 1 kept.coming ≡ later = ap (drop 1) e in
       let look : Script Kept = ask kept call (on_old (λ n. direct seat packet.bytes noted kept (to n))) in
-      by_option (disposal_untried seat packet) (λ o. Along (settled_or o (λ d. receive seat later (moved noted) (settled kept d)) look) l)
-      (λ none.
-      let next : IsNext seat kept.coming packet = record { later = later; is = e; none = none; long = tried_long seat packet none; cell = tried_cell seat packet none } in
+      by_option (disposal_untried seat packet) (λ o. Along (settled_or o (λ d. receive seat later (moved noted) (settled kept d)) (cond (bounces packet.verdict) (bounce seat noted kept) look)) l)
+      (λ none. by_case Q law (bounces packet.verdict) _ _ l
+      (λ b. go_bounce packet noted kept l up h (record { later = later; is = e; none = none; long = tried_long seat packet none; bounces = b }))
+      (λ stays.
+      let next : IsNext seat kept.coming packet = record { later = later; is = e; none = none; stays = stays; long = tried_long seat packet none; cell = tried_cell seat packet none stays } in
       let gives = is.calls (LookCell packet) noted kept l next h in (
         gives,
         at_old Q law kept call l (λ n. direct seat packet.bytes noted kept (to n))
@@ -697,7 +765,7 @@ module _ (seat : Seat) (Q : Premise Kept) (At : Family) (A : Said) (E : Kept →
             (λ s some. by_case Q law (nat_lt (limit_of seat) (length packet.bytes)) _ _ told
             (λ long. go_transmit (moved noted) (dropped kept TooLong) told (steady (moved noted) (dropped kept TooLong) up) (is.entries (looked_long packet n s) noted kept l next (some, long) h gives q))
             (λ fits. go_find packet s noted kept told up (is.entries (looked_some packet n s) noted kept l next (some, fits) h gives q) (record { next = next; number = n; looked = (kept, l, q); target = some; fits = fits })))),
-      ))
+      )))
       (λ d some. go_receive later (moved noted) (settled kept d) l up (is.passes (untried packet later d) noted kept l h (e, some)) rest)
 
   go_by : (o : Option Bool) (kept : Kept) (l : List Told) → kept.parked ≡ o → At (first_place o) fresh kept l → Along (turn_by seat kept o) l

@@ -10,6 +10,8 @@ pub mod AppSplit
 pub mod AppWaking
 pub mod AppWalk
 pub mod Calls
+pub mod Bouncing
+pub mod Bounced
 pub mod Completing
 pub mod Counting
 pub mod Counts

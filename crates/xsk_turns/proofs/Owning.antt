@@ -1,26 +1,31 @@
 -- At each of its calls a driver has the frames that it peeked and didn't submit, and the call is legal.
-use Rattle.std.proofs.Common.{◌≡◌, ℕ, zero, suc, ◌+◌, ◌-◌, ◌*◌, ◌<◌, ◌≤◌, Bool, true, false, cond, nat_lt, Some, inl, List, [], ◌∷◌, ◌++◌, length, map, drop, get_or, flat_map, replicate, refl, sym, ap, ◌∙◌, subst, arith, append-nil, append_assoc, ◌&&◌, if◌then◌else◌, ◌==◌, leb-true, leb-false, ltb-false}
+use Rattle.std.proofs.Common.{◌^◌, ◌≡◌, ℕ, zero, suc, ◌+◌, ◌-◌, ◌*◌, ◌<◌, ◌≤◌, Bool, true, false, cond, nat_lt, Some, inl, List, [], ◌∷◌, ◌++◌, length, map, drop, get_or, flat_map, replicate, refl, sym, ap, ◌∙◌, subst, arith, append-nil, append_assoc, ◌&&◌, if◌then◌else◌, ◌==◌, leb-true, leb-false, ltb-false}
 use Rattle.std.specs.Prelude.{not, ◌||◌, Ok, Err}
 use Rattle.std.specs.Result.{result_ok}
 use Rattle.std.proofs.lemmas.Bool.Decides.{nat_tests}
 use Rattle.std.proofs.lemmas.List.{length-replicate, take_all}
 use Rattle.std.proofs.lemmas.List.Elements.{All-nil}
+use Rattle.std.proofs.lemmas.List.Sums.{sum_by-cons}
 use Rattle.xsk_map.specs.declared.cell.Miss.TheVariants.{EmptyCell, OtherQueue}
 use Rattle.xsk_turns.proofs.Object.{payload_of, Frame, packets_from, Config, pair_at, classes_of, socket_at, times, numbers, IsWhole, taken, room_of, IsLegal, Fits, OwnGoesOn}
-use Rattle.xsk_turns.proofs.Calls.{Item, Told, with_told, Fill, Comp, Rx, Tx, NeedFill, NeedTx, Kick, RxDone, Gone, TxDone, Cell, Call, Submit, Peek, Swap, Reply, Granted, Full, Items, Old}
+use Rattle.xsk_turns.proofs.Calls.{Item, Told, with_told, Fill, Comp, Rx, Tx, NeedFill, NeedTx, Kick, RxDone, Gone, TxDone, Cell, BouncedMark, Call, Submit, Peek, Swap, Reply, Granted, Full, Items, Old}
 use Rattle.xsk_turns.proofs.LegalCalls.{had_told, fed, legal_reserve, legal_peek, legal_release, legal_look, legal_swap, room_told, held_told, IsDue}
-use Rattle.xsk_turns.specs.Script.{Script, Leaves, Ends}
-use Rattle.xsk_turns.specs.Turns.{Seat, Judged, Kept, Noted, seat_of, start, turn, application_of, cell_of, redirect_to, limit_of, pieces_of, returned, frames_in, bad_ones, group_at, supplied, gathered}
+use Rattle.xsk_turns.specs.Script.{Script, ask, begun, Asks, Leaves, Ends}
+use Rattle.xsk_turns.specs.Turns.{Seat, Judged, Kept, Noted, seat_of, start, turn, application_of, bounce_of, bounced_among, cell_of, redirect_to, limit_of, pieces_of, returned, frames_in, bad_ones, group_at, supplied, gathered}
 use Rattle.xsk_turns.specs.declared.wire.Wire.{Wire}
+use Rattle.xsk_turns.specs.declared.disposal.Disposal.{Disposal}
+use Rattle.xsk_turns.specs.declared.disposal.Disposal.TheVariants.{Delivered, NoFrames, RxFull, TooLong, Runt, Missed, Passed, Dropped, Bounced}
+use Rattle.xsk_turns.proofs.Disposing.{keeps_disposals}
 use Rattle.xsk_turns.specs.Owned.{IsSeat, IsHere, socket_at_class, IsSpare, Owned, AllFit, KeepsFrames, KeepsFramesAtEnd}
+use Rattle.xsk_turns.proofs.Bouncing.{counted, law as counts_bounced, At as CountsAt, Nothing as SaysNothing, Ended as EndsSo}
 use Rattle.xsk_turns.proofs.Completing.{whole_some}
 use Rattle.xsk_turns.proofs.Layouts.{pieces_some, few_pieces}
 use Rattle.xsk_turns.proofs.Legality.{first_whole, legal_rx, owned_rx, legal_comp, owned_comp}
 use Rattle.xsk_turns.proofs.Owned.{Has as HasLists, HasKept, IsQuiet, owned_quiet, times-kept, has_told, has_fill, has_tx}
 use Rattle.xsk_turns.proofs.Places.{batch_some, batch_few, class_here, rx_ring, tx_ring, caller_known, port_known, app_known}
 use Rattle.xsk_turns.proofs.Rooms.{fill_frames, all_whole, lost_few}
-use Rattle.xsk_turns.proofs.Walks.{Premise, MeetAlong, release_due, meet_fitting}
-use Rattle.xsk_turns.proofs.DriverWalk.{Place, Trying, Sending, Idling, Family, TellRxDone, LookCell, PeekFill, ReleaseFill, ReserveRx, SubmitRx, ReserveComp, SubmitComp, PeekTx, ReleaseTx, LookTxDone, TellGone, ArmFill, ArmTx, LookEnd, LookKick, ClearKick, DisarmFill, DisarmTx, call_at, kept_at, IsTried, fill_items, tx_items, rx_granted, comp_granted, comp_full, point_of, reply_of, visited, idles, arms, seeks, misses, looks, finds, parks, disarmed, Said, AtCalls, AtEntries, AtPasses, IsLaw, at_call, at_end, meets_said}
+use Rattle.xsk_turns.proofs.Walks.{Premise, MeetAlong, release_due, meet_fitting, meet_weaker}
+use Rattle.xsk_turns.proofs.DriverWalk.{Place, Trying, Sending, Idling, Family, Point, Known, asked, TellRxDone, TellBounced, LookCell, PeekFill, ReleaseFill, ReserveRx, SubmitRx, ReserveComp, SubmitComp, PeekTx, ReleaseTx, LookTxDone, TellGone, ArmFill, ArmTx, LookEnd, LookKick, ClearKick, DisarmFill, DisarmTx, call_at, kept_at, IsTried, fill_items, tx_items, rx_granted, comp_granted, comp_full, point_of, reply_of, visited, idles, arms, seeks, misses, looks, finds, parks, disarmed, Said, AtCalls, AtEntries, AtPasses, IsLaw, together, at_call, at_end, meets_said}
 
 -- ---- a packet that goes to a socket
 
@@ -47,11 +52,16 @@ module _ (wire : Wire) (c : Config) (pair : ℕ) (is : IsSeat c pair) where
   abbrev Has : Kept → List Told → Type 0
   Has kept l = HasKept c pair kept l
 
+  -- the calls that were made were legal, and their replies fit
   abbrev Answers : Premise Kept
-  Answers kept l call reply = Fits c l call reply
+  Answers kept l call reply = IsLegal c l pair call × Fits c l call reply
+
+  -- one packet more can be counted
+  abbrev Countable : Kept → Type 0
+  Countable kept = suc (bounced_among kept.disposals) < 2 ^ 64
 
   abbrev Asked : Said
-  Asked kept call l = Owned c pair kept call l × IsLegal c l pair call
+  Asked kept call l = Owned c pair kept call l × (Countable kept → IsLegal c l pair call)
 
   abbrev Ended : Kept → List Told → Type 0
   Ended kept l = Has kept l × (kept.finished ≡ [])
@@ -68,10 +78,10 @@ module _ (wire : Wire) (c : Config) (pair : ℕ) (is : IsSeat c pair) where
 
   -- a call that moves no frame, and a reply with which nothing comes
   quiet : (kept : Kept) (call : Call) (l : List Told) → IsQuiet call → Has kept l → IsLegal c l pair call → Asked kept call l
-  quiet kept call l q h legal = (owned_quiet c pair kept call l q h, legal)
+  quiet kept call l q h legal = (owned_quiet c pair kept call l q h, λ few. legal)
 
-  told : (kept : Kept) (call : Call) (reply : Reply) (l : List Told) → taken reply ≡ [] → Asked kept call l → Fits c l call reply → Has kept (with_told l call reply)
-  told kept call reply l none asked fits = has_told c pair kept call reply l asked.0 asked.1 fits none
+  told : (kept : Kept) (call : Call) (reply : Reply) (l : List Told) → taken reply ≡ [] → Asked kept call l → Answers kept l call reply → Has kept (with_told l call reply)
+  told kept call reply l none asked q = has_told c pair kept call reply l asked.0 q.0 q.1 none
 
   pieces_few : (packet : List ℕ) → length packet ≤ limit_of seat → pieces_of seat packet ≤ 18
   pieces_few packet short = by_sg c.sg refl
@@ -104,72 +114,78 @@ module _ (wire : Wire) (c : Config) (pair : ℕ) (is : IsSeat c pair) where
       let ring = tx_ring c pair is s (class_here c pair is k within) in
       quiet kept _ l tt h (legal_swap c pair l (caller_known c pair is) (NeedTx s) value ring.0 (ring.1, tt) few)
 
-  calls : AtCalls seat Answers At Asked
-  calls TellRxDone noted kept l known h = quiet kept _ l tt h.0 (legal_swap c pair l (caller_known c pair is) (RxDone pair) 1 is.known (refl, tt) (omega arith))
-  calls (LookCell packet) noted kept l known h = quiet kept _ l tt h.0 (legal_look c pair l (caller_known c pair is) (Cell seat.port (cell_of packet.verdict)) (port_known c pair is, leb-false _ _ known.cell))
-  calls (PeekFill look packet s) noted kept l known h =
+  abbrev Counts : Family
+  Counts place noted kept l = CountsAt seat Answers place noted kept l
+
+  calls : (p : Point) (noted : Noted) (kept : Kept) (l : List Told) → Known seat Answers p noted kept → Counts (asked seat p kept).0 noted kept l → At (asked seat p kept).0 noted kept l → Asked (kept_at seat p kept) (call_at seat p kept) l
+  calls TellRxDone noted kept l known counts h = quiet kept _ l tt h.0 (legal_swap c pair l (caller_known c pair is) (RxDone pair) 1 is.known (refl, tt) (omega arith))
+  calls (TellBounced packet) noted kept l known counts h =
+      let call = Swap (BouncedMark pair) (suc (bounced_among kept.disposals)) in
+      (owned_quiet c pair kept call l tt h.0, λ few. legal_swap c pair l (caller_known c pair is) (BouncedMark pair) (suc (bounced_among kept.disposals)) is.known (refl, ap suc (sym counts)) few)
+  calls (LookCell packet) noted kept l known counts h = quiet kept _ l tt h.0 (legal_look c pair l (caller_known c pair is) (Cell seat.port (cell_of packet.verdict)) (port_known c pair is, leb-false _ _ known.cell))
+  calls (PeekFill look packet s) noted kept l known counts h =
       let below = leb-false (pieces_of seat packet.bytes) (length kept.spare) known.1 in
       let few = few packet s kept.coming known.0 in
       quiet kept _ l tt h.0 (legal_peek c pair l (caller_known c pair is) (Fill pair) (pieces_of seat packet.bytes - length kept.spare) is.known refl (omega (arith, below)) (omega (arith, few)))
-  calls (ReleaseFill look packet s n) noted kept l known h = quiet kept _ l tt h.0 (legal_release c pair l (caller_known c pair is) (Fill pair) n is.known refl h.1.0 h.1.1 h.1.2)
-  calls (ReserveRx packet s) noted kept l known h =
+  calls (ReleaseFill look packet s n) noted kept l known counts h = quiet kept _ l tt h.0 (legal_release c pair l (caller_known c pair is) (Fill pair) n is.known refl h.1.0 h.1.1 h.1.2)
+  calls (ReserveRx packet s) noted kept l known counts h =
       let ring = rx_ring c pair is s (here packet s kept.coming known.0) in
       let some = pieces_some c.geometry is.geometry packet.bytes (omega (arith, long packet s kept.coming known.0)) in
       quiet kept _ l tt h.0 (legal_reserve c pair l (caller_known c pair is) (Rx s) (pieces_of seat packet.bytes) ring.0 ring.1 some (omega (arith, few packet s kept.coming known.0)) (fed c is.steady.closes l (Rx s)))
-  calls (SubmitRx packet s) noted kept l known h =
+  calls (SubmitRx packet s) noted kept l known counts h =
       let long = long packet s kept.coming known.0 in
       let short = short packet s kept.coming known.0 in
       let few = few packet s kept.coming known.0 in
       let here = here packet s kept.coming known.0 in
       let enough = leb-true _ _ known.1 in
-      (owned_rx c pair s is kept l h.0 packet.bytes long short few enough here, legal_rx c pair s is kept l h.0 packet.bytes long short few enough here h.1)
-  calls (ReserveComp k packet later) noted kept l known h =
+      (owned_rx c pair s is kept l h.0 packet.bytes long short few enough here, λ counted. legal_rx c pair s is kept l h.0 packet.bytes long short few enough here h.1)
+  calls (ReserveComp k packet later) noted kept l known counts h =
       let some : 1 ≤ length kept.finished = omega (arith, ap length known) in
       let whole = subst (λ (ps : List (List Item)). IsWhole c.geometry c.sg (get_or ps 0 [])) known (first_whole c pair kept l h.0 some) in
       quiet kept _ l tt h.0 (legal_reserve c pair l (caller_known c pair is) (Comp pair) (length packet) is.known refl (whole_some c packet whole) (omega (arith, whole.few)) tt)
-  calls (SubmitComp k packet later) noted kept l known h =
+  calls (SubmitComp k packet later) noted kept l known counts h =
       let some : 1 ≤ length kept.finished = omega (arith, ap length known) in
       let room = subst (λ (ps : List (List Item)). length (get_or ps 0 []) ≤ room_of (Comp pair) l) (sym known) h.1 in
       let legal = legal_comp c pair is kept l h.0 some room in
-      subst (λ (ps : List (List Item)). Asked (record kept { finished = drop 1 ps }) (Submit (Comp pair) (map returned (get_or ps 0 []))) l) known (owned_comp c pair is kept l h.0 some legal, legal)
-  calls (PeekTx look k) noted kept l known h =
+      subst (λ (ps : List (List Item)). Asked (record kept { finished = drop 1 ps }) (Submit (Comp pair) (map returned (get_or ps 0 []))) l) known (owned_comp c pair is kept l h.0 some legal, λ counted. legal)
+  calls (PeekTx look k) noted kept l known counts h =
       let s = socket_at_class c pair k in
       let ring = tx_ring c pair is s (class_here c pair is k known.0) in
       quiet kept _ l tt h.0 (legal_peek c pair l (caller_known c pair is) (Tx s) seat.batch ring.0 ring.1 (batch_some c is.config) (batch_few c))
-  calls (ReleaseTx look k n) noted kept l known h =
+  calls (ReleaseTx look k n) noted kept l known counts h =
       let s = socket_at_class c pair k in
       let ring = tx_ring c pair is s (class_here c pair is k known) in
       quiet kept _ l tt h.0 (legal_release c pair l (caller_known c pair is) (Tx s) n ring.0 ring.1 h.1.0 h.1.1 h.1.2)
-  calls LookTxDone noted kept l known h = quiet kept _ l tt h.0 (legal_look c pair l (caller_known c pair is) (TxDone (application_of seat)) (app_known c pair is))
-  calls TellGone noted kept l known h = quiet kept _ l tt h.0 (legal_swap c pair l (caller_known c pair is) (Gone pair) 1 is.known (refl, tt) (omega arith))
-  calls ArmFill noted kept l known h = flags_fill kept l 1 (omega arith) h.0
-  calls (ArmTx k) noted kept l known h = flags_tx k kept l 1 known (omega arith) h.0
-  calls LookEnd noted kept l known h = quiet kept _ l tt h.0 (legal_look c pair l (caller_known c pair is) (TxDone (application_of seat)) (app_known c pair is))
-  calls (LookKick frames) noted kept l known h = quiet kept _ l tt h.0 (legal_look c pair l (caller_known c pair is) (Kick pair) is.known)
-  calls (ClearKick frames) noted kept l known h = quiet kept _ l tt h.0 (legal_swap c pair l (caller_known c pair is) (Kick pair) 0 is.known (inl refl, tt) (omega arith))
-  calls DisarmFill noted kept l known h = flags_fill kept l 0 (omega arith) h.0
-  calls (DisarmTx k) noted kept l known h = flags_tx k kept l 0 known.1 (omega arith) h.0
+  calls LookTxDone noted kept l known counts h = quiet kept _ l tt h.0 (legal_look c pair l (caller_known c pair is) (TxDone (application_of seat)) (app_known c pair is))
+  calls TellGone noted kept l known counts h = quiet kept _ l tt h.0 (legal_swap c pair l (caller_known c pair is) (Gone pair) 1 is.known (refl, tt) (omega arith))
+  calls ArmFill noted kept l known counts h = flags_fill kept l 1 (omega arith) h.0
+  calls (ArmTx k) noted kept l known counts h = flags_tx k kept l 1 known (omega arith) h.0
+  calls LookEnd noted kept l known counts h = quiet kept _ l tt h.0 (legal_look c pair l (caller_known c pair is) (TxDone (application_of seat)) (app_known c pair is))
+  calls (LookKick frames) noted kept l known counts h = quiet kept _ l tt h.0 (legal_look c pair l (caller_known c pair is) (Kick pair) is.known)
+  calls (ClearKick frames) noted kept l known counts h = quiet kept _ l tt h.0 (legal_swap c pair l (caller_known c pair is) (Kick pair) 0 is.known (inl refl, tt) (omega arith))
+  calls DisarmFill noted kept l known counts h = flags_fill kept l 0 (omega arith) h.0
+  calls (DisarmTx k) noted kept l known counts h = flags_tx k kept l 0 known.1 (omega arith) h.0
 
   -- frames that come by FILL, and items by the TX ring of a class
-  fill_comes : (n : ℕ) (kept : Kept) (items : List Item) (l : List Told) → n + length kept.spare ≤ 18 → Asked kept (Peek (Fill pair) n) l → Fits c l (Peek (Fill pair) n) (Items items)
+  fill_comes : (n : ℕ) (kept : Kept) (items : List Item) (l : List Told) → n + length kept.spare ≤ 18 → Asked kept (Peek (Fill pair) n) l → Answers kept l (Peek (Fill pair) n) (Items items)
       → Has (supplied seat kept items) (with_told l (Peek (Fill pair) n) (Items items)) × IsDue (release_due (Fill pair) (length items)) (with_told l (Peek (Fill pair) n) (Items items))
   fill_comes n kept items l few a q = (
-    subst (λ (fs : List Frame). HasLists c pair (kept.spare ++ fs) kept.groups kept.finished kept.lost (with_told l (Peek (Fill pair) n) (Items items))) (sym (all_whole c.geometry (Fill pair) items q.lawful))
-        (has_fill c pair n kept items l a.0 a.1 q few (fill_frames c pair n l items q.lawful)),
-    (q.some, omega (arith, q.few, few), held_told l (Fill pair) n items),
+    subst (λ (fs : List Frame). HasLists c pair (kept.spare ++ fs) kept.groups kept.finished kept.lost (with_told l (Peek (Fill pair) n) (Items items))) (sym (all_whole c.geometry (Fill pair) items q.1.lawful))
+        (has_fill c pair n kept items l a.0 q.0 q.1 few (fill_frames c pair n l items q.1.lawful)),
+    (q.1.some, omega (arith, q.1.few, few), held_told l (Fill pair) n items),
   )
 
   tx_comes : (k : ℕ) (kept : Kept) (items : List Item) (l : List Told) → k < classes_of c → Asked kept (Peek (Tx (socket_at_class c pair k)) seat.batch) l
-      → Fits c l (Peek (Tx (socket_at_class c pair k)) seat.batch) (Items items) → Has (gathered seat k kept items) (with_told l (Peek (Tx (socket_at_class c pair k)) seat.batch) (Items items))
+      → Answers kept l (Peek (Tx (socket_at_class c pair k)) seat.batch) (Items items) → Has (gathered seat k kept items) (with_told l (Peek (Tx (socket_at_class c pair k)) seat.batch) (Items items))
       × IsDue (release_due (Tx (socket_at_class c pair k)) (length items)) (with_told l (Peek (Tx (socket_at_class c pair k)) seat.batch) (Items items))
   tx_comes k kept items l within a q =
       let call = Peek (Tx (socket_at_class c pair k)) seat.batch in
       let got = gathered seat k kept items in
       let lost = kept.lost ++ frames_in (bad_ones (packets_from c.geometry c.sg (group_at kept k) items)) in
-      let has = has_tx wire c pair k seat.batch kept items l is within a.0 a.1 q in
-      let few = lost_few c pair kept.spare got.groups got.finished lost (with_told l call (Items items)) has (λ n. omega (arith, had_told l call (Items items) n, q.fresh n)) in (
+      let has = has_tx wire c pair k seat.batch kept items l is within a.0 q.0 q.1 in
+      let few = lost_few c pair kept.spare got.groups got.finished lost (with_told l call (Items items)) has (λ n. omega (arith, had_told l call (Items items) n, q.1.fresh n)) in (
         subst (λ (fs : List Frame). HasLists c pair kept.spare got.groups got.finished fs (with_told l call (Items items))) (sym (take_all c.geometry.frames lost few)) has,
-        (q.some, omega (arith, q.few, batch_few c), held_told l (Tx (socket_at_class c pair k)) seat.batch items),
+        (q.1.some, omega (arith, q.1.few, batch_few c), held_told l (Tx (socket_at_class c pair k)) seat.batch items),
       )
 
   entries : AtEntries seat Answers At Asked
@@ -195,8 +211,18 @@ module _ (wire : Wire) (c : Config) (pair : ℕ) (is : IsSeat c pair) where
   passes disarmed noted kept l = λ h e. (h.0, tt)
   passes p noted kept l = λ h e. h
 
-  law : IsLaw seat Answers At Asked Ended
-  law = record { calls = calls; entries = entries; passes = passes; ends = λ noted kept l n known h a q. (told kept (Swap (Gone pair) 1) (Old n) l refl a q, h.1 known.1) }
+  abbrev Both : Family
+  Both place noted kept l = Counts place noted kept l × At place noted kept l
+
+  abbrev AskedBoth : Said
+  AskedBoth kept call l = SaysNothing seat Answers kept call l × Asked kept call l
+
+  abbrev EndedBoth : Kept → List Told → Type 0
+  EndedBoth kept l = EndsSo seat Answers kept l × Ended kept l
+
+  law : IsLaw seat Answers Both AskedBoth EndedBoth
+  law = together seat Answers Counts At (SaysNothing seat Answers) Asked (EndsSo seat Answers) Ended (counts_bounced seat Answers) calls entries passes
+      (λ noted kept l n known h a q. (told kept (Swap (Gone pair) 1) (Old n) l refl a q, h.1 known.1))
 
 -- ---- at first
 
@@ -232,27 +258,54 @@ pub all_fit : (c : Config) (who : ℕ) (past l : List Told) → OwnGoesOn c who 
 all_fit c who past [] goes = tt
 all_fit c who past (t ∷ l) goes = (goes.1, all_fit c who (past ++ t ∷ []) l goes.2)
 
-module _ (wire : Wire) (c : Config) (pair : ℕ) (input : List Judged) (l : List Told) (is : IsSeat c pair) (fit : AllFit c [] l) where
+-- own entries that go on are legal, and fit
+meet_going : (turn : Kept → Script Kept) (c : Config) (who : ℕ) (s : Script Kept) (past l : List Told) → OwnGoesOn c who past l → MeetAlong turn (λ kept m call reply. IsLegal c m who call × Fits c m call reply) s past l
+meet_going turn c who (ask kept call rest) past [] h = tt
+meet_going turn c who (ask kept call rest) past (t ∷ l) h = ((h.0, h.1), meet_going turn c who (begun turn (rest t.reply)) (past ++ t ∷ []) l h.2)
+meet_going turn c who script past l h = tt
+
+pub few_bounced : (ds : List Disposal) → bounced_among ds ≤ length ds
+few_bounced [] = omega arith
+few_bounced (d ∷ ds) = omega (arith, few_bounced ds, one d, sum_by-cons bounce_of d ds)
+  where
+    one : (d : Disposal) → bounce_of d ≤ 1
+    one (Delivered socket) = omega arith
+    one NoFrames = omega arith
+    one RxFull = omega arith
+    one TooLong = omega arith
+    one Runt = omega arith
+    one Missed = omega arith
+    one Passed = omega arith
+    one Dropped = omega arith
+    one Bounced = omega arith
+
+module _ (wire : Wire) (c : Config) (pair : ℕ) (input : List Judged) (l : List Told) (is : IsSeat c pair) (goes : OwnGoesOn c pair [] l) where
   abbrev begins : Kept
   begins = start (classes_of c) input
 
-  fits : MeetAlong (turn (seat_of wire c pair)) (Answers wire c pair is) (turn (seat_of wire c pair) begins) [] l
-  fits = meet_fitting (turn (seat_of wire c pair)) c (turn (seat_of wire c pair) begins) [] l fit
+  going : MeetAlong (turn (seat_of wire c pair)) (Answers wire c pair is) (turn (seat_of wire c pair) begins) [] l
+  going = meet_going (turn (seat_of wire c pair)) c pair (turn (seat_of wire c pair) begins) [] l goes
 
   -- what is had at each call, for laws that stand on it
   pub meet_owned : (left : Script Kept) → Leaves (turn (seat_of wire c pair)) (turn (seat_of wire c pair) begins) l left
       → MeetAlong (turn (seat_of wire c pair)) (λ kept m call reply. (Owned c pair kept call m × IsLegal c m pair call) × Fits c m call reply) (turn (seat_of wire c pair) begins) [] l
-  meet_owned left e = meets_said (seat_of wire c pair) (Answers wire c pair is) (At wire c pair is) (Asked wire c pair is) (Ended wire c pair is) (law wire c pair is) begins (has_new c pair input is, tt) l fits left e
+  meet_owned left e =
+      meet_weaker (turn (seat_of wire c pair)) (λ kept m call reply. AskedBoth wire c pair is kept call m × Answers wire c pair is kept m call reply) _ (λ kept m call reply h. ((h.0.1.0, h.1.0), h.1.1)) (turn (seat_of wire c pair) begins) [] l
+      (meets_said (seat_of wire c pair) (Answers wire c pair is) (Both wire c pair is) (AskedBoth wire c pair is) (EndedBoth wire c pair is) (law wire c pair is) begins (refl, (has_new c pair input is, tt)) l going left e)
 
   -- what is had at the end, where nothing finished is left
   pub has_ended : (kept : Kept) → Ends (turn (seat_of wire c pair)) begins l kept → HasKept c pair kept l × (kept.finished ≡ [])
-  has_ended = at_end (seat_of wire c pair) (Answers wire c pair is) (At wire c pair is) (Asked wire c pair is) (Ended wire c pair is) (law wire c pair is) begins (has_new c pair input is, tt) l fits
+  has_ended kept ends = (at_end (seat_of wire c pair) (Answers wire c pair is) (Both wire c pair is) (AskedBoth wire c pair is) (EndedBoth wire c pair is) (law wire c pair is) begins (refl, (has_new c pair input is, tt)) l going kept ends).1
+
+  has_asked : (kept : Kept) (call : Call) (rest : Reply → Script Kept) → Asks (turn (seat_of wire c pair)) begins l kept call rest → Asked wire c pair is kept call l
+  has_asked kept call rest asks = (at_call (seat_of wire c pair) (Answers wire c pair is) (Both wire c pair is) (AskedBoth wire c pair is) (EndedBoth wire c pair is) (law wire c pair is) begins (refl, (has_new c pair input is, tt)) l going kept call rest asks).1
 
 pub keeps_frames : KeepsFrames
-keeps_frames wire c pair input l kept call rest is fit asks =
-    at_call (seat_of wire c pair) (Answers wire c pair is) (At wire c pair is) (Asked wire c pair is) (Ended wire c pair is) (law wire c pair is) (start (classes_of c) input) (has_new c pair input is, tt) l (fits wire c pair input l is fit) kept call rest asks
+keeps_frames wire c pair input l kept call rest is goes asks =
+    let has = has_asked wire c pair input l is goes kept call rest asks in
+    (has.0, λ few. has.1 (omega (arith, few, few_bounced kept.disposals, (keeps_disposals wire c pair input l kept call rest asks).each)))
 
 pub keeps_frames_at_end : KeepsFramesAtEnd
-keeps_frames_at_end wire c pair input l kept is fit ends =
-    let has = has_ended wire c pair input l is fit kept ends in
+keeps_frames_at_end wire c pair input l kept is goes ends =
+    let has = has_ended wire c pair input l is goes kept ends in
     (has.0.own, λ m. times-kept m kept ∙ has.0.frames m)

@@ -4,14 +4,14 @@ use Rattle.std.proofs.lemmas.Bool.{or_from}
 use Rattle.std.proofs.Math.Bool.{or-false, and-false}
 use Rattle.std.proofs.lemmas.List.Sums.{fold_push}
 use Rattle.xsk_turns.specs.Script.{Script, Asks}
-use Rattle.xsk_turns.proofs.Calls.{Item, Told, with_told, Ring, Comp, Rx, Mark, NeedFill, NeedTx, Kick, RxDone, Gone, Call, Submit, Swap, Reply, Submitted, Old}
+use Rattle.xsk_turns.proofs.Calls.{Item, Told, with_told, Ring, Comp, Rx, Mark, NeedFill, NeedTx, Kick, RxDone, Gone, BouncedMark, Call, Submit, Swap, Reply, Submitted, Old}
 use Rattle.xsk_model.specs.Marks.{is_mark}
 use Rattle.xsk_turns.proofs.Object.{Config, classes_of, Telling, telling_after, telling_step, telling_of}
 use Rattle.xsk_turns.specs.Turns.{Seat, Judged, Kept, seat_of, start, turn, returned, socket_of}
 use Rattle.xsk_turns.specs.declared.wire.Wire.{Wire}
 use Rattle.xsk_turns.specs.Law.{NothingReceivedLate, TellsRxDone}
 use Rattle.xsk_turns.proofs.Walks.{Anything, meet_anything}
-use Rattle.xsk_turns.proofs.DriverWalk.{Family, Begins, TellRxDone, SubmitRx, call_at, told_rx_done, looked_none, looked_long, rx_submitted, comp_submitted, looked_tx_done, armed_fill, armed_tx, found_end, cleared_kick, disarmed_fill, disarmed_tx, point_of, reply_of, untried, drops_full, drops_frameless, Said, AtCalls, AtEntries, AtPasses, IsLaw, at_call, at_end, of_run}
+use Rattle.xsk_turns.proofs.DriverWalk.{Family, Begins, TellRxDone, SubmitRx, call_at, told_rx_done, told_bounced, looked_none, looked_long, rx_submitted, comp_submitted, looked_tx_done, armed_fill, armed_tx, found_end, cleared_kick, disarmed_fill, disarmed_tx, point_of, reply_of, untried, drops_full, drops_frameless, Said, AtCalls, AtEntries, AtPasses, IsLaw, at_call, at_end, of_run}
 
 pub telling_told : (m : Mark) (r : Ring) (l : List Told) (call : Call) (reply : Reply) → telling_of m r (with_told l call reply) ≡ telling_after m r (telling_of m r l) call
 telling_told m r l call reply = fold_push (telling_step m r) (record { told = false; late = false }) l (record { call = call; reply = reply })
@@ -110,6 +110,8 @@ module _ (wire : Wire) (c : Config) (d s : ℕ) where
 
   entries : AtEntries seat Anything (At d s) (OnTime d s)
   entries (told_rx_done n) noted kept l known found h a q = tells d s kept.rx_done kept.tx_done kept.coming l n known.0 h
+  entries (told_bounced packet n) noted kept l known found h a q =
+      dropped d s kept.rx_done kept.tx_done kept.coming _ (swaps d s kept.rx_done kept.tx_done kept.coming l (BouncedMark d) _ n refl h)
   entries (looked_none packet n) noted kept l known found h a q = dropped d s kept.rx_done kept.tx_done kept.coming _ (still d s kept.rx_done kept.tx_done kept.coming l _ (Old n) (λ u. refl) h)
   entries (looked_long packet n t) noted kept l known found h a q = dropped d s kept.rx_done kept.tx_done kept.coming _ (still d s kept.rx_done kept.tx_done kept.coming l _ (Old n) (λ u. refl) h)
   entries (rx_submitted packet t) noted kept l known found h a q =

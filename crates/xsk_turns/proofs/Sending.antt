@@ -1,14 +1,15 @@
 -- Giving back the first finished packet completes that packet alone, and no other call completes any.
 use Rattle.std.proofs.Common.{◌≡◌, ℕ, ◌≤◌, Bool, true, false, cond, List, [], ◌∷◌, ◌++◌, length, get_or, map, flat_map, refl, sym, ap, subst, ◌∙◌, ⊎_elim, arith, append_assoc, append-nil, length-append, ne_eqb}
 use Rattle.std.proofs.lemmas.Bool.{cases_eq}
-use Rattle.xsk_turns.proofs.Object.{Config, times, bytes_of, taken, completed_by, waiting, sending_of, IsLegal, Fits, sockets_of, completed_in, sent_from}
+use Rattle.xsk_turns.proofs.Object.{Config, times, bytes_of, taken, completed_by, waiting, sending_of, IsLegal, Fits, sockets_of, completed_in}
+use Rattle.xsk_model.specs.Sent.{all_sent_from, bounced_in}
 use Rattle.xsk_turns.proofs.Calls.{Told, with_told, Comp, Call, Submit, Reply}
 use Rattle.xsk_model.specs.declared.call.Act.TheVariants.{Call as Gave, Ended as IsEnded}
 use Rattle.xsk_model.proofs.Completions.{one_completion}
-use Rattle.xsk_turns.specs.Turns.{Kept, seat_of, returned}
+use Rattle.xsk_turns.specs.Turns.{Judged, Kept, seat_of, returned}
 use Rattle.xsk_turns.specs.Owned.{IsSeat, socket_at_class, Owned}
 use Rattle.xsk_turns.specs.declared.wire.Wire.{Wire}
-use Rattle.xsk_turns.specs.Sending.{is_completing, Completes, sent_by, sent_with, sent_by_act}
+use Rattle.xsk_turns.specs.Sending.{is_completing, bouncing, Completes, sent_by, sent_with, sent_by_act}
 use Rattle.xsk_turns.proofs.Completing.{completes}
 use Rattle.xsk_turns.proofs.Legality.{first_class, first_known, behind_first, first_waits}
 use Rattle.xsk_turns.proofs.Owned.{HasKept, has_told}
@@ -37,17 +38,20 @@ only_part f x s (y ∷ xs) e some few = ⊎_elim
 
 -- ---- what is sent
 
--- one call more sends what it completes
-pub sent_push : (c : Config) (sockets : List ℕ) (past mine : List Told) (t : Told)
-    → sent_from c sockets past (mine ++ t ∷ []) ≡ sent_from c sockets past mine ++ map (bytes_of c.geometry c.sg) (completed_in c sockets (past ++ mine) t.call)
-sent_push c sockets past [] t =
-    append-nil (map (bytes_of c.geometry c.sg) (completed_in c sockets past t.call))
-    ∙ ap (λ (p : List Told). map (bytes_of c.geometry c.sg) (completed_in c sockets p t.call)) (sym (append-nil past))
-sent_push c sockets past (u ∷ mine) t =
-    let now = map (bytes_of c.geometry c.sg) (completed_in c sockets past u.call) in
-    ap (λ (xs : List (List ℕ)). now ++ xs) (sent_push c sockets (past ++ u ∷ []) mine t)
-    ∙ sym (append_assoc now (sent_from c sockets (past ++ u ∷ []) mine) (map (bytes_of c.geometry c.sg) (completed_in c sockets ((past ++ u ∷ []) ++ mine) t.call)))
-    ∙ ap (λ (p : List Told). (now ++ sent_from c sockets (past ++ u ∷ []) mine) ++ map (bytes_of c.geometry c.sg) (completed_in c sockets p t.call)) (append_assoc past (u ∷ []) mine)
+-- one call more sends what it completes, and what it bounces
+pub sent_push : (c : Config) (sockets : List ℕ) (bounces : List (List ℕ)) (past mine : List Told) (t : Told)
+    → all_sent_from c sockets bounces past (mine ++ t ∷ [])
+    ≡ all_sent_from c sockets bounces past mine ++ (map (bytes_of c.geometry c.sg) (completed_in c sockets (past ++ mine) t.call) ++ bounced_in bounces t.call)
+sent_push c sockets bounces past [] t =
+    let new : List Told → List (List ℕ) = λ l. map (bytes_of c.geometry c.sg) (completed_in c sockets l t.call) ++ bounced_in bounces t.call in
+    append-nil (new past) ∙ ap new (sym (append-nil past))
+sent_push c sockets bounces past (u ∷ mine) t =
+    let here : List (List ℕ) = map (bytes_of c.geometry c.sg) (completed_in c sockets past u.call) ++ bounced_in bounces u.call in
+    let rest : List (List ℕ) = all_sent_from c sockets bounces (past ++ u ∷ []) mine in
+    let new : List Told → List (List ℕ) = λ l. map (bytes_of c.geometry c.sg) (completed_in c sockets l t.call) ++ bounced_in bounces t.call in
+    ap (λ xs. here ++ xs) (sent_push c sockets bounces (past ++ u ∷ []) mine t)
+    ∙ ap (λ l. here ++ (rest ++ new l)) (append_assoc past (u ∷ []) mine)
+    ∙ sym (append_assoc here rest (new (past ++ u ∷ mine)))
 
 -- ---- the first finished packet
 
@@ -80,15 +84,25 @@ module _ (c : Config) (pair : ℕ) (seat : IsSeat c pair) (l : List Told) (kept 
       (subst (λ x. completed_in c (sockets_of c pair) (with_told l call reply) x ≡ get_or kept.finished 0 [] ∷ []) (sym k.is)
       (completed_first c pair seat kept (with_told l call reply) h k.some (subst (λ x. IsLegal c (with_told l call reply) pair x) k.is lawful)))
 
-  pub sent_next : (wire : Wire) (next : Call) → (is_completing next ≡ true → Completes pair kept reply next) → IsLegal c (with_told l call reply) pair next
-      → sent_with c pair (with_told l call reply) next ≡ sent_with c pair l call ++ sent_by (seat_of wire c pair) kept (Gave next)
-  sent_next wire next completing lawful =
-      ap (λ xs. xs ++ map (bytes_of c.geometry c.sg) (completed_in c (sockets_of c pair) (with_told l call reply) next)) (sent_push c (sockets_of c pair) [] l (record { call = call; reply = reply }))
-      ∙ ap (λ xs. sent_with c pair l call ++ xs) (by_call next (is_completing next) refl completing lawful)
+  pub sent_next : (wire : Wire) (input : List Judged) (next : Call) → (is_completing next ≡ true → Completes pair kept reply next) → IsLegal c (with_told l call reply) pair next
+      → sent_with c pair input (with_told l call reply) next ≡ sent_with c pair input l call ++ (bounced_in (bouncing input) call ++ sent_by (seat_of wire c pair) kept (Gave next))
+  sent_next wire input next completing lawful =
+      let sent : List (List ℕ) = all_sent_from c (sockets_of c pair) (bouncing input) [] l in
+      let completed : List (List ℕ) = map (bytes_of c.geometry c.sg) (completed_in c (sockets_of c pair) l call) in
+      let bounced : List (List ℕ) = bounced_in (bouncing input) call in
+      let now : List (List ℕ) = map (bytes_of c.geometry c.sg) (completed_in c (sockets_of c pair) (with_told l call reply) next) in
+      ap (λ xs. xs ++ now) (sent_push c (sockets_of c pair) (bouncing input) [] l (record { call = call; reply = reply }) ∙ sym (append_assoc sent completed bounced))
+      ∙ append_assoc (sent ++ completed) bounced now
+      ∙ ap (λ xs. (sent ++ completed) ++ (bounced ++ xs)) (by_call next (is_completing next) refl completing lawful)
 
-  pub sent_end : sent_by_act c pair (with_told l call reply) IsEnded ≡ sent_with c pair l call ++ []
-  sent_end = sent_push c (sockets_of c pair) [] l (record { call = call; reply = reply }) ∙ sym (append-nil (sent_with c pair l call))
+  pub sent_end : (input : List Judged) → sent_by_act c pair input (with_told l call reply) IsEnded ≡ sent_with c pair input l call ++ (bounced_in (bouncing input) call ++ [])
+  sent_end input =
+      let sent : List (List ℕ) = all_sent_from c (sockets_of c pair) (bouncing input) [] l in
+      let completed : List (List ℕ) = map (bytes_of c.geometry c.sg) (completed_in c (sockets_of c pair) l call) in
+      let bounced : List (List ℕ) = bounced_in (bouncing input) call in
+      sent_push c (sockets_of c pair) (bouncing input) [] l (record { call = call; reply = reply }) ∙ sym (append_assoc sent completed bounced)
+      ∙ ap (λ xs. (sent ++ completed) ++ xs) (sym (append-nil bounced))
 
 -- no packet is sent before the first call, and none by it
-pub sent_first : (c : Config) (pair : ℕ) (call : Call) → is_completing call ≡ false → sent_with c pair [] call ≡ []
-sent_first c pair call e = ap (map (bytes_of c.geometry c.sg)) (completes_none c (sockets_of c pair) [] call e)
+pub sent_first : (c : Config) (pair : ℕ) (input : List Judged) (call : Call) → is_completing call ≡ false → sent_with c pair input [] call ≡ []
+sent_first c pair input call e = ap (map (bytes_of c.geometry c.sg)) (completes_none c (sockets_of c pair) [] call e)

@@ -8,8 +8,9 @@ use Rattle.xsk_turns.proofs.Object.{Geometry, Frame, Config, classes_of, Packet,
 use Rattle.xsk_turns.proofs.Calls.{Item, Told, with_told, Comp, Tx, Gone, Call, Submit, Peek, Swap, Reply, Submitted, Items, Old}
 use Rattle.xsk_model.proofs.PacketsLaws.{whole_packets-append}
 use Rattle.xsk_turns.specs.Turns.{Seat, Judged, Kept, seat_of, start, turn, group_at, gathered, returned, frame_in, frames_in, bad_ones}
+use Rattle.xsk_model.specs.History.{OwnGoesOn}
 use Rattle.xsk_turns.specs.Stranded.{frames_sent, frames_completed, sent_count, completed_count, items_in, stranded_in, KeepsStranded, KeepsStrandedAtEnd, NoneStranded}
-use Rattle.xsk_turns.specs.Owned.{IsSeat, AllFit, socket_at_class, Owned}
+use Rattle.xsk_turns.specs.Owned.{IsSeat, socket_at_class, Owned}
 use Rattle.xsk_turns.specs.Script.{Ends as RunEnds}
 use Rattle.xsk_turns.specs.declared.wire.Wire.{Wire}
 use Rattle.xsk_model.proofs.Places.{is_ring-self}
@@ -263,7 +264,7 @@ pub keeps_stranded : KeepsStranded
 keeps_stranded wire c pair input l kept call rest is fit asks =
     at_call (seat_of wire c pair) (Given wire c pair is) (At wire c pair is) (Says wire c pair is) (Strands wire c pair is) (law wire c pair is) (start (classes_of c) input) (first wire c pair is input) l (meet_owned wire c pair input l is fit _ asks) kept call rest asks
 
-strands_at_end : (wire : Wire) (c : Config) (pair : ℕ) (input : List Judged) (l : List Told) (kept : Kept) (is : IsSeat c pair) → AllFit c [] l
+strands_at_end : (wire : Wire) (c : Config) (pair : ℕ) (input : List Judged) (l : List Told) (kept : Kept) (is : IsSeat c pair) → OwnGoesOn c pair [] l
     → RunEnds (turn (seat_of wire c pair)) (start (classes_of c) input) l kept → Strands wire c pair is kept l
 strands_at_end wire c pair input l kept is fit ends =
     at_end (seat_of wire c pair) (Given wire c pair is) (At wire c pair is) (Says wire c pair is) (Strands wire c pair is) (law wire c pair is) (start (classes_of c) input) (first wire c pair is input) l (meet_owned wire c pair input l is fit _ ends) kept ends

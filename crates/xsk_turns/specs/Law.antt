@@ -5,6 +5,7 @@ use Rattle.xsk_umem.specs.Geometry.{Geometry}
 use Rattle.xsk_umem.specs.declared.batch.Item.{Item}
 use Rattle.xsk_model.specs.Config.{Config, classes_of}
 use Rattle.xsk_model.specs.Packets.{IsLayout, packets, whole_packets}
+use Rattle.xsk_model.specs.History.{OwnGoesOn}
 use Rattle.xsk_model.specs.Entry.{Told}
 use Rattle.xsk_model.specs.Own.{submitted_of, peeked_of, sending_of}
 use Rattle.xsk_model.specs.Ends.{draining_of, telling_of}
@@ -77,7 +78,7 @@ DrainsTx = (wire : Wire) (c : Config) (d class : ℕ) (input : List Judged) (l :
 
 -- in a whole run all packets that were peeked on a TX ring whole are completed
 abbrev pub CompletesAll : Type 0
-CompletesAll = (wire : Wire) (c : Config) (d class : ℕ) (input : List Judged) (l : List Told) → IsSeat c d → AllFit c [] l → IsWholeDriverRun wire c d input l
+CompletesAll = (wire : Wire) (c : Config) (d class : ℕ) (input : List Judged) (l : List Told) → IsSeat c d → OwnGoesOn c d [] l → IsWholeDriverRun wire c d input l
     → class < classes_of c
     → (sending_of c (socket_at_class c d class) l).completed
     ≡ length (whole_packets (packets c.geometry c.sg (peeked_of (Tx (socket_at_class c d class)) l)))

@@ -107,15 +107,15 @@ abbrev pub AllFit : Config → List Told → List Told → Type 0
 AllFit c past [] = Unit {0}
 AllFit c past (t ∷ l) = Fits c past t.call t.reply × AllFit c (past ++ t ∷ []) l
 
--- At each call that a driver makes, the frames that it keeps, with those of the call, are those that it peeked and didn't
--- submit; and the call is legal.
+-- At each call that a driver makes after legal ones whose replies fit, the frames that it keeps, with those of the call, are those that it peeked and didn't
+-- submit; and the call is legal, where a list counts its packets in 32 bits.
 abbrev pub KeepsFrames : Type 0
-KeepsFrames = (wire : Wire) (c : Config) (pair : ℕ) (input : List Judged) (l : List Told) (kept : Kept) (call : Call) (rest : Reply → Script Kept) → IsSeat c pair → AllFit c [] l
-    → Asks (turn (seat_of wire c pair)) (start (classes_of c) input) l kept call rest → Owned c pair kept call l × IsLegal c l pair call
+KeepsFrames = (wire : Wire) (c : Config) (pair : ℕ) (input : List Judged) (l : List Told) (kept : Kept) (call : Call) (rest : Reply → Script Kept) → IsSeat c pair → OwnGoesOn c pair [] l
+    → Asks (turn (seat_of wire c pair)) (start (classes_of c) input) l kept call rest → Owned c pair kept call l × (length input < 4294967296 → IsLegal c l pair call)
 
 -- at its end they are those that it keeps
 abbrev pub KeepsFramesAtEnd : Type 0
-KeepsFramesAtEnd = (wire : Wire) (c : Config) (pair : ℕ) (input : List Judged) (l : List Told) (kept : Kept) → IsSeat c pair → AllFit c [] l
+KeepsFramesAtEnd = (wire : Wire) (c : Config) (pair : ℕ) (input : List Judged) (l : List Told) (kept : Kept) → IsSeat c pair → OwnGoesOn c pair [] l
     → Ends (turn (seat_of wire c pair)) (start (classes_of c) input) l kept → OwnGoesOn c pair [] l × ((n : ℕ) → times n (numbers_kept kept) ≡ times n (had_of l))
 
 -- so there is room for each reply that fits

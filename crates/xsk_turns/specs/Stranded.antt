@@ -6,6 +6,7 @@ use Rattle.xsk_umem.specs.declared.batch.Item.{Item}
 use Rattle.xsk_model.specs.Config.{Config, classes_of}
 use Rattle.xsk_model.specs.Packets.{packets, rest, bad_items}
 use Rattle.xsk_model.specs.Object.{taken}
+use Rattle.xsk_model.specs.History.{OwnGoesOn}
 use Rattle.xsk_model.specs.Entry.{Told}
 use Rattle.xsk_model.specs.Own.{peeked_of}
 use Rattle.xsk_model.specs.declared.call.Ring.TheVariants.{Comp, Tx}
@@ -47,16 +48,16 @@ stranded_in kept = items_in kept.groups + items_in kept.finished + length kept.l
 
 -- so it is at each call that a driver makes, the call counted as made, and at its end
 abbrev pub KeepsStranded : Type 0
-KeepsStranded = (wire : Wire) (c : Config) (pair : ℕ) (input : List Judged) (l : List Told) (kept : Kept) (call : Call) (rest : Reply → Script Kept) → IsSeat c pair → AllFit c [] l
+KeepsStranded = (wire : Wire) (c : Config) (pair : ℕ) (input : List Judged) (l : List Told) (kept : Kept) (call : Call) (rest : Reply → Script Kept) → IsSeat c pair → OwnGoesOn c pair [] l
     → Asks (turn (seat_of wire c pair)) (start (classes_of c) input) l kept call rest → sent_count l ≡ stranded_in kept + frames_completed call + completed_count l
 
 abbrev pub KeepsStrandedAtEnd : Type 0
-KeepsStrandedAtEnd = (wire : Wire) (c : Config) (pair : ℕ) (input : List Judged) (l : List Told) (kept : Kept) → IsSeat c pair → AllFit c [] l
+KeepsStrandedAtEnd = (wire : Wire) (c : Config) (pair : ℕ) (input : List Judged) (l : List Told) (kept : Kept) → IsSeat c pair → OwnGoesOn c pair [] l
     → Ends (turn (seat_of wire c pair)) (start (classes_of c) input) l kept → sent_count l ≡ stranded_in kept + completed_count l
 
 -- and at its end nothing is stranded where each item that it peeked on its TX rings stands in a whole packet
 abbrev pub NoneStranded : Type 0
-NoneStranded = (wire : Wire) (c : Config) (pair : ℕ) (input : List Judged) (l : List Told) (kept : Kept) → IsSeat c pair → AllFit c [] l
+NoneStranded = (wire : Wire) (c : Config) (pair : ℕ) (input : List Judged) (l : List Told) (kept : Kept) → IsSeat c pair → OwnGoesOn c pair [] l
     → Ends (turn (seat_of wire c pair)) (start (classes_of c) input) l kept
     → ((class : ℕ) → class < classes_of c → (bad_items (packets c.geometry c.sg (peeked_of (Tx (socket_at_class c pair class)) l)) ≡ 0)
     × (rest c.geometry c.sg (peeked_of (Tx (socket_at_class c pair class)) l) ≡ []))

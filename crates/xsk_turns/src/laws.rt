@@ -10,6 +10,7 @@ ghost use Rattle.xsk_turns.specs.Disposes.{KeepsDisposals, DisposesAll};
 ghost use Rattle.xsk_turns.specs.Law.{EachDisposedOnce, DisposedAsSaid, DeliversInOrder, DeliversSized, DeliversAsSaid, NothingReceivedLate, TellsRxDone, DrainsTx, CompletesAll};
 ghost use Rattle.xsk_turns.specs.Hands.{HandsPassOn, HandsDrainRx, HandsSendNothingLate, HandsOnlySetKicks, SplitOwesNothing, StepPaysAtOnce};
 ghost use Rattle.xsk_turns.specs.Owned.{KeepsFrames, KeepsFramesAtEnd, LeavesRoom, FinishedFew};
+ghost use Rattle.xsk_turns.specs.Sending.{BouncesNext, BouncesAll};
 ghost use Rattle.xsk_turns.specs.Stranded.{KeepsStranded, KeepsStrandedAtEnd, NoneStranded};
 ghost use Rattle.xsk_turns.specs.Verdicts.{OneVerdicts};
 ghost use Rattle.xsk_turns.specs.Watching.{ParkedWatches, ParkedLooks, EndsAwake};
@@ -48,6 +49,16 @@ pub fn keeps_counters()
 #[tactic(auto, using(crate::proofs::Counting::keeps_counters_at_end))]
 pub fn keeps_counters_at_end()
     ensures { KeepsCountersAtEnd }
+{}
+
+/// A swap that counts a bounced packet sends the next packet.
+pub fn bounces_next()
+    ensures { BouncesNext }
+{}
+
+/// In a whole run the packets that are bounced are exactly those that are to be, each once and in order.
+pub fn bounces_all()
+    ensures { BouncesAll }
 {}
 
 /// At each call what is kept of the frames that were peeked on TX are those that weren't submitted on COMPLETION.
