@@ -1,5 +1,5 @@
 -- Lanes that are found empty one after the other, and the machine's run behind them.
-use Rattle.std.proofs.Common.{◌≡◌, ℕ, ◌+◌, ◌<◌, ◌≤◌, Bool, true, false, ◌&&◌, eqb, Option, Some, None, List, [], ◌∷◌, ◌++◌, append_assoc, append-nil, refl, sym, ap, ◌∙◌, subst, ⊎_elim, arith, eq-eqb}
+use Rattle.std.proofs.Common.{◌≡◌, ℕ, ◌+◌, ◌<◌, ◌≤◌, true, eqb, Option, Some, None, List, [], ◌∷◌, ◌++◌, append_assoc, append-nil, sym, ap, ◌∙◌, subst, ⊎_elim, arith, eq-eqb}
 use Rattle.std.proofs.lemmas.Bool.{cases_eq}
 use Rattle.xsk_umem.specs.declared.batch.Item.{Item}
 use Rattle.xsk_model.specs.Asks.{joined_call, HasAsked}
@@ -81,12 +81,6 @@ one_more_empty e f lane same found empty =
 
 pub all_drained : (e : EndsShown) (lane : ℕ) → lanes_of e.config ≤ lane → IsEmptyUpTo e lane → AreDrained e.config e.app (mine_of e.pass)
 all_drained e lane all is j below = is.empty j (omega (arith, all, below))
-
--- where a flag stays set through a visit, it was set before, and the visit found nothing
-pub both_set : (x y : Bool) → (x && y) ≡ true → (x ≡ true) × (y ≡ true)
-both_set true true h = (refl, refl)
-both_set true false h = absurd (cc)
-both_set false y h = absurd (cc)
 
 -- ---- the machine's run behind them
 
