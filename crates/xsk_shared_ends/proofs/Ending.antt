@@ -20,12 +20,11 @@ use Rattle.xsk_turns.specs.Mangling.{plain}
 use Rattle.xsk_turns.proofs.AppSplit.{fit_join, split_push, split_keeps_frames, split_keeps_lanes, split_none, step_sends, lanes_after_steps}
 use Rattle.xsk_turns.proofs.AppHomes.{had_none}
 use Rattle.xsk_table.specs.View.{idle}
-use Rattle.xsk_table.specs.Held.{Board, Holder, Belongs}
+use Rattle.xsk_table.specs.Held.{Holder}
 use Rattle.xsk_rings.specs.Rounds.{mine_of}
-use Rattle.xsk_shared_ends.specs.Shown.{EndsShown, Name, AreEnds, AreSame, KeepsLanes, Makes, IsFoundEmpty}
+use Rattle.xsk_shared_ends.specs.Shown.{EndsShown, AreEnds, AreSame, KeepsLanes, Makes, IsFoundEmpty}
 use Rattle.xsk_app.specs.declared.machine.Way.{Way}
 use Rattle.xsk_shared_ends.proofs.Passing.{with_pending-same}
-use Rattle.xsk_shared_ends.specs.Last.{StaysLast, shown_of_ends}
 use Rattle.xsk_shared_ends.specs.Standing.{Origin, At, IsSamePass, Over, VisitsLane, VisitsSide, Looks, HasLooked, after}
 use Rattle.xsk_shared_ends.specs.declared.visiting.Step.{Step}
 use Rattle.xsk_shared_ends.specs.declared.visiting.Step.TheVariants.{Moved}
@@ -93,21 +92,6 @@ same e f pass config app = record {
 -- and so do ends of which another step is made
 pub are_same_on : (e f g : EndsShown) → AreSame e f → AreSame f g → AreSame e g
 are_same_on e f g first second = record { name = second.name ∙ first.name; config = second.config ∙ first.config; app = second.app ∙ first.app }
-
-pub still_belong : (b : Board) (e f : EndsShown) → AreSame e f → Belongs b e.pass → Belongs b f.pass
-still_belong b e f same is = record {
-  table = ap (λ (n : Name). n.board.table) same.name ∙ is.table;
-  setup = ap (λ (n : Name). n.board.setup) same.name ∙ is.setup;
-}
-
-pub stay_last : (e f : EndsShown) → AreSame e f → StaysLast (shown_of_ends e) (shown_of_ends f)
-stay_last e f same = record {
-  config = same.config;
-  app = same.app;
-  table = ap (λ (n : Name). n.board.table) same.name;
-  setup = ap (λ (n : Name). n.board.setup) same.name;
-  who = ap (λ (n : Name). n.who) same.name;
-}
 
 -- the ends of an application that has made no call
 pub new_ends : (c : Config) (app : ℕ) (p : Holder) (kept : AppKept) → IsConfig c → IsSteady c → IsGeometry c.geometry → app < apps_of c → p.view.setup.config ≡ c → p.who ≡ caller_of c app → p.view.flight ≡ idle → mine_of p ≡ []

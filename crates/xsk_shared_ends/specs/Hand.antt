@@ -1,5 +1,4 @@
 -- Where the last hand stands.
-use Rattle.std.specs.Prelude.{ℕ}
 use Rattle.xsk_table.specs.View.{no_setup}
 use Rattle.xsk_table.specs.Held.{new_pass}
 use Rattle.xsk_rings.specs.Rounds.{mine_of}

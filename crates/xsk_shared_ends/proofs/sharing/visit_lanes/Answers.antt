@@ -1,7 +1,7 @@
 use Rattle.std.proofs.Common.{rules, ◌≡◌, true, refl, ap, arith}
 use Rattle.xsk_model.specs.Config.{Config}
 use Rattle.xsk_turns.specs.AppTurns.{lanes_of}
-use Rattle.xsk_shared_ends.proofs.Ending.{are_same_on, still_belong}
+use Rattle.xsk_shared_ends.proofs.Ending.{are_same_on}
 use Rattle.xsk_shared_ends.proofs.Emptying.{none_yet, one_more_empty, all_drained}
 use Rattle.xsk_shared_ends.proofs.sharing.visit_lanes.Goals as goal
 
