@@ -1,16 +1,19 @@
 -- From ends to a step and back.
-use Rattle.std.proofs.Common.{◌≡◌, ℕ, ◌<◌, Bool, true, false, cond, eqb, List, [], ◌∷◌, refl, sym, ap, subst, append-nil, arith}
+use Rattle.std.proofs.Common.{◌≡◌, ℕ, ◌<◌, Bool, true, false, cond, eqb, List, [], ◌∷◌, refl, sym, ap, ◌∙◌, subst, append-nil, arith}
 use Rattle.xsk_umem.specs.Frame.{Frame}
 use Rattle.xsk_umem.specs.Geometry.{IsGeometry}
 use Rattle.xsk_umem.specs.declared.batch.Item.{Item}
-use Rattle.xsk_model.specs.Config.{Config, IsConfig}
+use Rattle.xsk_model.specs.Config.{Config, IsConfig, batch_of}
+use Rattle.xsk_model.specs.Entry.{with_told}
 use Rattle.xsk_model.specs.Marks.{apps_of}
 use Rattle.xsk_model.specs.Rings.{caller_of}
 use Rattle.xsk_turns.specs.Owned.{AllFit, IsSteady}
-use Rattle.xsk_model.specs.declared.call.Call.TheVariants.{Look}
+use Rattle.xsk_model.specs.declared.call.Call.TheVariants.{Peek, Look}
 use Rattle.xsk_model.specs.declared.call.Mark.TheVariants.{RxDone}
+use Rattle.xsk_model.specs.declared.call.Reply.TheVariants.{Empty}
+use Rattle.xsk_model.specs.declared.call.Ring.TheVariants.{Rx}
 use Rattle.xsk_turns.specs.Script.{Script, ask, again, on_old}
-use Rattle.xsk_turns.specs.AppTurns.{AppKept, pair_of, rx_of, tx_of, tx_pair, lanes_of, pending_at, back_at, visit_lane, visit_side, with_seen, look_rx_done, app_start}
+use Rattle.xsk_turns.specs.AppTurns.{AppKept, pair_of, rx_of, tx_of, tx_pair, lanes_of, pending_at, with_pending, back_at, visit_lane, visit_side, with_seen, look_rx_done, app_start}
 use Rattle.xsk_turns.specs.AppOwned.{HasOwnFrames}
 use Rattle.xsk_turns.specs.AppSplit.{SplitStep, AtLane, AtSide, HasPlace, no_note, HasLeft, IsStep, IsSplit, piece}
 use Rattle.xsk_turns.specs.Mangling.{plain}
@@ -19,8 +22,9 @@ use Rattle.xsk_turns.proofs.AppHomes.{had_none}
 use Rattle.xsk_table.specs.View.{idle}
 use Rattle.xsk_table.specs.Held.{Holder}
 use Rattle.xsk_rings.specs.Rounds.{mine_of}
-use Rattle.xsk_shared_ends.specs.Shown.{EndsShown, AreEnds, AreSame, KeepsLanes, Makes}
+use Rattle.xsk_shared_ends.specs.Shown.{EndsShown, AreEnds, AreSame, KeepsLanes, Makes, IsFoundEmpty}
 use Rattle.xsk_app.specs.declared.machine.Way.{Way}
+use Rattle.xsk_shared_ends.proofs.Passing.{with_pending-same}
 use Rattle.xsk_shared_ends.specs.Standing.{Origin, At, IsSamePass, Over, VisitsLane, VisitsSide, Looks, HasLooked, after}
 use Rattle.xsk_shared_ends.specs.declared.visiting.Step.{Step}
 use Rattle.xsk_shared_ends.specs.declared.visiting.Step.TheVariants.{Moved}
@@ -85,6 +89,10 @@ same e f pass config app = record {
   app = app;
 }
 
+-- and so do ends of which another step is made
+pub are_same_on : (e f g : EndsShown) → AreSame e f → AreSame f g → AreSame e g
+are_same_on e f g first second = record { name = second.name ∙ first.name; config = second.config ∙ first.config; app = second.app ∙ first.app }
+
 -- the ends of an application that has made no call
 pub new_ends : (c : Config) (app : ℕ) (p : Holder) (kept : AppKept) → IsConfig c → IsSteady c → IsGeometry c.geometry → app < apps_of c → p.view.setup.config ≡ c → p.who ≡ caller_of c app → p.view.flight ≡ idle → mine_of p ≡ []
     → kept ≡ app_start c → AreEnds (record { config = c; app = app; pass = p; kept = kept })
@@ -111,6 +119,18 @@ lane_begins e lane way items is below rx tx pair same = record {
   plain = ap (λ m. m.mangle) (is_plain e is);
   at = subst (λ xs. At (origin e (AtLane lane)) e.pass (visit_lane e.config e.app lane xs no_note e.kept after) Moved) (sym same) (begins e (AtLane lane) is below);
 }
+
+-- one that was found empty
+pub found_empty : (e : EndsShown) (lane rx : ℕ) (q : Holder) (name : ℕ) (items : List Item) → rx ≡ rx_of e.config e.app lane → pending_at e.kept lane ≡ [] → items ≡ []
+    → mine_of q ≡ with_told (mine_of e.pass) (Peek (Rx rx) (batch_of e.config)) Empty → IsFoundEmpty lane e (record { config = e.config; app = name; pass = q; kept = with_pending e.kept lane items })
+found_empty e lane rx q name items rx_is none still mine = record {
+  none = none;
+  kept = ap (with_pending e.kept lane) (still ∙ sym none) ∙ with_pending-same e.kept lane;
+  mine = mine ∙ ap (λ (n : ℕ). with_told (mine_of e.pass) (Peek (Rx n) (batch_of e.config)) Empty) rx_is;
+}
+
+pub found_from : (lane : ℕ) (e f x : EndsShown) → e ≡ x → IsFoundEmpty lane e f → IsFoundEmpty lane x f
+found_from lane e f x same h = subst (λ (y : EndsShown). IsFoundEmpty lane y f) same h
 
 pub side_begins : (e : EndsShown) (side pair : ℕ) (frames : List Frame) → AreEnds e → side < 2 → pair ≡ pair_of e.config e.app side → frames ≡ back_at e.kept side
     → VisitsSide e.config pair (origin e (AtSide side)) side e.kept frames e.pass

@@ -1,9 +1,11 @@
 -- What contracts see of the ends, and what their type keeps.
 use Rattle.std.specs.Prelude.{◌≡◌, ℕ, ◌<◌, false, List, [], ◌++◌}
-use Rattle.xsk_model.specs.Config.{Config}
-use Rattle.xsk_model.specs.Entry.{Told}
+use Rattle.xsk_model.specs.Config.{Config, batch_of}
+use Rattle.xsk_model.specs.Entry.{Told, with_told}
 use Rattle.xsk_model.specs.Own.{submitted_of, peeked_of}
 use Rattle.xsk_model.specs.Rings.{caller_of}
+use Rattle.xsk_model.specs.declared.call.Call.TheVariants.{Peek}
+use Rattle.xsk_model.specs.declared.call.Reply.TheVariants.{Empty}
 use Rattle.xsk_model.specs.declared.call.Ring.TheVariants.{Rx, Tx}
 use Rattle.xsk_turns.specs.AppTurns.{AppKept, rx_of, tx_of, lanes_of, pending_at}
 use Rattle.xsk_turns.specs.AppOwned.{IsApp, HasOwnFrames}
@@ -62,3 +64,9 @@ pub record AreSame (old new : EndsShown) : Type 0 where
   pub name : name_of new ≡ name_of old
   pub config : new.config ≡ old.config
   pub app : new.app ≡ old.app
+
+-- a visit to a lane found its RX ring empty: no item of it was pending, its one call was the Peek, and nothing else that is kept changed
+pub record IsFoundEmpty (lane : ℕ) (old new : EndsShown) : Type 0 where
+  pub none : pending_at old.kept lane ≡ []
+  pub kept : new.kept ≡ old.kept
+  pub mine : mine_of new.pass ≡ with_told (mine_of old.pass) (Peek (Rx (rx_of old.config old.app lane)) (batch_of old.config)) Empty

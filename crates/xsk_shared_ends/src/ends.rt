@@ -5,13 +5,15 @@ ghost use Rattle.xsk_model.specs.Rings.{caller_of};
 ghost use Rattle.xsk_table.specs.View.{idle};
 ghost use Rattle.xsk_table.specs.Held.{Belongs};
 ghost use Rattle.xsk_rings.specs.Rounds.{mine_of};
-ghost use Rattle.xsk_app.specs.Resumed.{IsResumed};
+ghost use Rattle.xsk_app.specs.Resumed.{IsResumed, kept_in};
 ghost use Rattle.xsk_turns.specs.AppTurns.{app_start, both, lanes_of};
 ghost use Rattle.xsk_turns.specs.AppSplit.{AtLane, AtSide, AtMarks, HasLeft, IsSplit};
+ghost use Rattle.xsk_turns.specs.Counted.{capped};
 ghost use Rattle.xsk_turns.specs.Owned.{IsSteady};
-ghost use Rattle.xsk_shared_ends.specs.Shown.{AreEnds, AreSame, KeepsLanes, Makes};
-ghost use Rattle.xsk_shared_ends.specs.declared.visiting.Step.TheVariants.{Moved};
+ghost use Rattle.xsk_shared_ends.specs.Shown.{AreEnds, AreSame, KeepsLanes, Makes, IsFoundEmpty};
+ghost use Rattle.xsk_shared_ends.specs.declared.visiting.Step.TheVariants.{Moved, Idle};
 
+use crate::counting::Counted;
 use crate::serving::look;
 use crate::visiting::{Step, visit_lane, visit_side};
 use std::alloc::Global;
@@ -34,7 +36,7 @@ pub struct EndsRefused {
 pub struct Ends<'a> {
     config: &'a Config,
     app: u32,
-    pass: Pass,
+    pass: Counted,
     kept: Kept,
 }
 
@@ -86,7 +88,7 @@ impl<'a> Ends<'a> {
             Ok(kept) => Ok(Ends {
                 config,
                 app,
-                pass,
+                pass: Counted::new(pass),
                 kept,
             }),
             Err(_) => Err(EndsRefused { pass }),
@@ -100,6 +102,7 @@ impl<'a> Ends<'a> {
         requires lane { lane < lanes_of self.old.config }
         ensures same { AreSame self.old self.new }
         ensures made { Makes (AtLane lane) self.old self.new result }
+        ensures idle { result ≡ Idle → IsFoundEmpty lane self.old self.new }
     {
         let way = lane_way(self.config, self.app, lane);
         visit_lane(
@@ -153,7 +156,21 @@ impl<'a> Ends<'a> {
             &mut self.kept.seen1,
             &mut items,
         );
-        self.kept.seen0 && self.kept.seen1
+        have_told(&self.kept)
+    }
+
+    /// How many lanes the application has.
+    pub fn lanes(&self) -> u32
+        ensures { result ≡ lanes_of self.now.config }
+    {
+        2 * self.config.classes()
+    }
+
+    /// Whether it was seen that both drivers have told that they have no further packet.
+    pub fn has_told(&self) -> bool
+        ensures { result ≡ both self.now.kept.seen }
+    {
+        have_told(&self.kept)
     }
 
     /// What the type keeps: the application's calls and replies are a split run that leaves what is kept, so what is kept is what
@@ -166,8 +183,28 @@ impl<'a> Ends<'a> {
         let _app = self.app;
     }
 
+    /// How many calls were made with them; the number stays at 2^64 - 1.
+    pub fn calls(&self) -> u64
+        ensures { result ≡ capped (length (mine_of self.now.pass)) }
+    {
+        self.pass.calls()
+    }
+
     /// The application that goes on from here by its turns, and its pass. It takes no memory.
     pub fn finish(self) -> (App<'a>, Pass)
+        ensures expected { result.0.expected ≡ nothing }
+        ensures app { IsResumed self.entry.config self.entry.app self.entry.kept (mine_of self.entry.pass) result.0 }
+        ensures pass { result.1 ≡ self.entry.pass }
+        ensures ends { AreEnds self.entry }
+        ensures lanes { KeepsLanes self.entry }
+    {
+        let (app, pass) = self.leave();
+        let (pass, _calls) = pass.into_parts();
+        (app, pass)
+    }
+
+    /// The same, with a pass that goes on to count its calls.
+    pub(crate) fn leave(self) -> (App<'a>, Counted)
         ensures expected { result.0.expected ≡ nothing }
         ensures app { IsResumed self.entry.config self.entry.app self.entry.kept (mine_of self.entry.pass) result.0 }
         ensures pass { result.1 ≡ self.entry.pass }
@@ -182,6 +219,23 @@ impl<'a> Ends<'a> {
         } = self;
         (App::resume(config, app, kept), pass)
     }
+
+    /// The pass, and how many calls were made with it.
+    pub(crate) fn into_parts(self) -> (Pass, u64)
+        ensures pass { result.0 ≡ self.entry.pass }
+        ensures rests { self.entry.pass.view.flight ≡ idle }
+        ensures calls { result.1 ≡ capped (length (mine_of self.entry.pass)) }
+    {
+        let Ends { pass, .. } = self;
+        pass.into_parts()
+    }
+}
+
+/// Whether both drivers have told that they have no further packet, as far as it was seen.
+fn have_told(kept: &Kept) -> bool
+    ensures { result ≡ both (kept_in kept.now).seen }
+{
+    kept.seen0 && kept.seen1
 }
 
 /// Ends may be sent to another thread.

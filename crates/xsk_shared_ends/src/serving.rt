@@ -1,11 +1,13 @@
 //! A step's calls, each made by the pass where the step has come to it.
 ghost use Rattle.std.specs.Prelude.{◌≡◌, ℕ, [], MatchOption};
 ghost use Rattle.xsk_model.specs.Asks.{joined_call, joined_reply, HasAsked, HasAnswered};
+ghost use Rattle.xsk_model.specs.Entry.{with_told};
 ghost use Rattle.xsk_model.specs.Expected.{IsReplyTo};
 ghost use Rattle.xsk_model.specs.declared.call.Call.TheVariants.{Reserve, Look};
 ghost use Rattle.xsk_model.specs.declared.call.Reply.{Reply as AReply};
 ghost use Rattle.xsk_model.specs.declared.call.Reply.TheVariants.{Granted, Full};
 ghost use Rattle.xsk_table.specs.Held.{Belongs};
+ghost use Rattle.xsk_rings.specs.Rounds.{mine_of};
 ghost use Rattle.xsk_turns.specs.AppTurns.{AppKept};
 ghost use Rattle.xsk_turns.specs.Script.{Script, ask as asks, on_old};
 ghost use Rattle.xsk_shared_ends.specs.Standing.{Origin, At, Asks, IsSamePass, Wakes, Looks, HasLooked};
@@ -13,19 +15,20 @@ ghost use Rattle.xsk_shared_ends.specs.Steps.{came_by};
 ghost use Rattle.xsk_shared_ends.specs.declared.visiting.Step.{Step as AStep};
 ghost use Rattle.xsk_shared_ends.specs.declared.visiting.Step.TheVariants as step;
 
+use crate::counting::Counted;
 use xsk_model::{Answer, Ask, Config, Mark, Ring};
-use xsk_rings::RingCalls;
-use xsk_table::{Pass, Shared};
+use xsk_table::Shared;
 use xsk_umem::Batch;
 
 /// Makes the call at which the step stands, and goes on with its reply.
-pub(crate) fn serve(pass: &mut Pass, shared: &Shared, ask: Ask, items: &mut Batch) -> Answer
+pub(crate) fn serve(pass: &mut Counted, shared: &Shared, ask: Ask, items: &mut Batch) -> Answer
     requires belongs { Belongs shared.now pass.old }
     requires asked { HasAsked ask items.old }
     requires at { Asks pass.old (joined_call ask items.old) }
     ensures same { IsSamePass pass.old pass.new }
     ensures answered { HasAnswered result items.new }
     ensures kind { IsReplyTo (joined_call ask items.old) (joined_reply result items.new) }
+    ensures told { mine_of pass.new ≡ with_told (mine_of pass.old) (joined_call ask items.old) (joined_reply result items.new) }
     ensures goes_on { (o : Origin) (k : AppKept) (rest : AReply → Script AppKept) (came : AStep) → At o pass.old (asks k (joined_call ask items.old) rest) came
         → At o pass.new (rest (joined_reply result items.new)) (came_by came (joined_reply result items.new)) }
 {
@@ -34,7 +37,7 @@ pub(crate) fn serve(pass: &mut Pass, shared: &Shared, ask: Ask, items: &mut Batc
 
 /// Asks for so many places of a ring. It tells how many are free, exactly where these are fewer.
 pub(crate) fn reserve(
-    pass: &mut Pass,
+    pass: &mut Counted,
     shared: &Shared,
     ring: Ring,
     count: u32,
@@ -56,7 +59,7 @@ pub(crate) fn reserve(
 }
 
 /// Looks at a mark.
-fn look_at(pass: &mut Pass, shared: &Shared, mark: Mark, items: &mut Batch) -> u64
+fn look_at(pass: &mut Counted, shared: &Shared, mark: Mark, items: &mut Batch) -> u64
     requires belongs { Belongs shared.now pass.old }
     requires empty { items.old ≡ [] }
     requires at { Asks pass.old (Look mark) }
@@ -73,7 +76,7 @@ fn look_at(pass: &mut Pass, shared: &Shared, mark: Mark, items: &mut Batch) -> u
 /// Looks at a ring's flag, where the need-wakeup flags are used, and wakes the pair's driver where it is set.
 pub(crate) fn wake(
     config: &Config,
-    pass: &mut Pass,
+    pass: &mut Counted,
     shared: &Shared,
     need: Mark,
     pair: u32,
@@ -95,7 +98,13 @@ pub(crate) fn wake(
 }
 
 /// Looks at the mark of a side that isn't seen yet, which is seen where it is 1.
-pub(crate) fn look(pass: &mut Pass, shared: &Shared, mark: Mark, seen: &mut bool, items: &mut Batch)
+pub(crate) fn look(
+    pass: &mut Counted,
+    shared: &Shared,
+    mark: Mark,
+    seen: &mut bool,
+    items: &mut Batch,
+)
     requires belongs { Belongs shared.now pass.old }
     requires empty { items.old ≡ [] }
     requires at { (o : Origin) × (k : AppKept) × (done : Script AppKept) × (later : ℕ → Script AppKept) × Looks o mark seen.old k done later pass.old }

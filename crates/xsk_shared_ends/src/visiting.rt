@@ -1,13 +1,21 @@
 //! Visits to a lane and to a side: the calls of the application's turn for it.
 ghost use Rattle.std.specs.Prelude.{◌≡◌, ℕ, [], length};
+ghost use Rattle.xsk_model.specs.Config.{batch_of};
+ghost use Rattle.xsk_model.specs.Entry.{with_told};
+ghost use Rattle.xsk_model.specs.declared.call.Call.TheVariants.{Peek};
+ghost use Rattle.xsk_model.specs.declared.call.Reply.TheVariants.{Empty};
+ghost use Rattle.xsk_model.specs.declared.call.Ring.TheVariants.{Rx};
 ghost use Rattle.xsk_table.specs.Held.{Belongs};
+ghost use Rattle.xsk_rings.specs.Rounds.{mine_of};
 ghost use Rattle.xsk_turns.specs.AppTurns.{AppKept, with_pending, with_back};
+ghost use Rattle.xsk_shared_ends.specs.declared.visiting.Step.TheVariants.{Idle};
 ghost use Rattle.xsk_shared_ends.specs.Standing.{Origin, IsSamePass, Over, VisitsLane, PassesOn, VisitsSide, GivesBack};
 
+use crate::counting::Counted;
 use crate::serving::{reserve, serve, wake};
 use xsk_app::{Back, Way};
 use xsk_model::{Answer, Ask, Config, Mark, Ring};
-use xsk_table::{Pass, Shared};
+use xsk_table::Shared;
 use xsk_umem::Batch;
 
 /// What came of a step.
@@ -25,7 +33,7 @@ pub enum Step {
 pub(crate) fn visit_lane(
     config: &Config,
     way: Way,
-    pass: &mut Pass,
+    pass: &mut Counted,
     shared: &Shared,
     pending: &mut Batch,
 ) -> Step
@@ -33,6 +41,7 @@ pub(crate) fn visit_lane(
     requires at { (o : Origin) × (lane : ℕ) × (k : AppKept) × VisitsLane config.now way o lane k pending.old pass.old }
     ensures same { IsSamePass pass.old pass.new }
     ensures over { (o : Origin) (lane : ℕ) (k : AppKept) → VisitsLane config.now way o lane k pending.old pass.old → Over o pass.new (with_pending k lane pending.new) result }
+    ensures idle { result ≡ Idle → (pending.old ≡ []) × (pending.new ≡ []) × (mine_of pass.new ≡ with_told (mine_of pass.old) (Peek (Rx way.rx) (batch_of config.now)) Empty) }
 {
     let mut items = Batch::new();
     if !pending.is_empty() {
@@ -56,7 +65,7 @@ pub(crate) fn visit_lane(
 fn pass_on(
     config: &Config,
     way: Way,
-    pass: &mut Pass,
+    pass: &mut Counted,
     shared: &Shared,
     pending: &mut Batch,
     items: &mut Batch,
@@ -66,6 +75,7 @@ fn pass_on(
     requires at { (o : Origin) × (lane : ℕ) × (k : AppKept) × PassesOn config.now way o lane k pending.old pass.old }
     ensures same { IsSamePass pass.old pass.new }
     ensures over { (o : Origin) (lane : ℕ) (k : AppKept) → PassesOn config.now way o lane k pending.old pass.old → Over o pass.new (with_pending k lane pending.new) result }
+    ensures busy { result ≡ Idle → ⊥ }
 {
     if let Some(free) = reserve(pass, shared, Ring::Tx(way.tx), pending.len(), items) {
         return Step::Full(free);
@@ -81,7 +91,7 @@ fn pass_on(
 pub(crate) fn visit_side(
     config: &Config,
     pair: u32,
-    pass: &mut Pass,
+    pass: &mut Counted,
     shared: &Shared,
     back: &mut Back,
 ) -> Step
@@ -111,7 +121,7 @@ pub(crate) fn visit_side(
 /// Gives frames back to the FILL rings of their homes, group by group, as far as these have room.
 fn give_back(
     config: &Config,
-    pass: &mut Pass,
+    pass: &mut Counted,
     shared: &Shared,
     back: &mut Back,
     items: &mut Batch,

@@ -1,4 +1,9 @@
-use Rattle.std.proofs.Common.{rules, ◌≡◌, [], ◌++◌, ap, ◌∙◌}
+use Rattle.std.proofs.Common.{rules, ◌≡◌, ℕ, [], ◌++◌, ap, ◌∙◌}
+use Rattle.xsk_model.specs.Entry.{with_told}
+use Rattle.xsk_model.specs.declared.call.Call.TheVariants.{Peek}
+use Rattle.xsk_model.specs.declared.call.Reply.TheVariants.{Empty}
+use Rattle.xsk_model.specs.declared.call.Ring.TheVariants.{Rx}
+use Rattle.xsk_rings.specs.Rounds.{mine_of}
 use Rattle.xsk_turns.specs.Script.{on_released}
 use Rattle.xsk_turns.specs.AppTurns.{with_pending, pass_on}
 use Rattle.xsk_shared_ends.specs.Standing.{next}
@@ -58,3 +63,14 @@ pub returns-in-Empty-clause-over : goal.returns-in-Empty-clause-over
 returns-in-Empty-clause-over c o lane k v =
     let none : c.args.pending.now ≡ [] = search rules in
     lane_stays _ _ o lane k _ _ _ Idle v (c.in-Empty.ensures.goes_on o k (on_rx o lane k) Moved (lane_peeks _ _ o lane k _ _ _ none c.batch.ensures v))
+
+pub returns-then-not-is_empty-clause-idle : goal.returns-then-not-is_empty-clause-idle
+returns-then-not-is_empty-clause-idle c = λ idle. absurd (c.pass_on.ensures.busy idle)
+
+pub returns-in-Items-clause-idle : goal.returns-in-Items-clause-idle
+returns-in-Items-clause-idle c = λ idle. absurd (c.pass_on-in-Items.ensures.busy idle)
+
+pub returns-in-Empty-clause-idle : goal.returns-in-Empty-clause-idle
+returns-in-Empty-clause-idle c =
+    let none : c.args.pending.now ≡ [] = search rules in
+    λ idle. (none, none, c.in-Empty.ensures.told ∙ ap (λ (n : ℕ). with_told (mine_of c.args.pass.now) (Peek (Rx c.args.way.rx) n) Empty) c.batch.ensures)

@@ -3,7 +3,7 @@ use Rattle.xsk_rings.specs.Rounds.{mine_of}
 use Rattle.xsk_app.specs.Resumed.{IsResumed}
 use Rattle.xsk_shared_ends.specs.Shown.{EndsShown, KeepsLanes}
 use Rattle.xsk_shared_ends.proofs.Ending.{left, lanes}
-use Rattle.xsk_shared_ends.proofs.ends.Ends.finish.Goals as goal
+use Rattle.xsk_shared_ends.proofs.ends.Ends.leave.Goals as goal
 
 pub resume-requires-clause-lanes : goal.resume-requires-clause-lanes
 resume-requires-clause-lanes c = (left _ c.self.invariant).lanes
