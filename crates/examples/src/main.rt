@@ -20,6 +20,7 @@ fn main(rt: HostRuntime) -> Result<()> {
     captures::write_in_gaps(&rt, alloc)?;
     layouts::configure(&rt, alloc)?;
     runs::forward_a_packet(&rt, alloc)?;
+    runs::bounce_every_third(&rt, alloc)?;
     forwarder::forward_by_hand(&rt, alloc, true)?;
     forwarder::forward_by_hand(&rt, alloc, false)?;
     reports::report_a_run(&rt, alloc)

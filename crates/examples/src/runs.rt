@@ -1,4 +1,5 @@
-//! xsk_sim: two drivers and an application forward a port's packets in rounds. What was sent has gaps for a capture's headers.
+//! xsk_sim: two drivers and an application forward a port's packets in rounds. What was sent has gaps for a capture's headers. The same
+//! where a program of one's own sends each third packet back by the port on which it came.
 ghost use Rattle.std.specs.Prelude.{All, IfOk};
 ghost use Rattle.xsk_model.specs.Opening.{AreFrames};
 ghost use Rattle.xsk_sim.specs.Shown.{HasShortPackets};
@@ -41,19 +42,40 @@ pub fn forward_a_packet<R: Print>(rt: &R, alloc: Global) -> Result<()> {
     tell_run(rt, forwarded(alloc, config, frames)?)
 }
 
+pub fn bounce_every_third<R: Print>(rt: &R, alloc: Global) -> Result<()> {
+    let (config, frames) = opened(alloc, &LAYOUT)?;
+    let lists = numbered(alloc)?;
+    let rule = Rule::BounceType { kind: THIRD };
+    tell_run(rt, run_under(alloc, config, frames, lists, rule)?)
+}
+
 /// The run in which port 0 of two receives one packet.
 pub fn forwarded(alloc: Global, config: Config, frames: Frames) -> Result<Run>
     requires steady { IsSteady config }
     requires frames { AreFrames config.geometry frames.items }
 {
-    let received = received(alloc)?;
-    if received.len() != config.ports() as usize {
+    let lists = received(alloc)?;
+    run_under(alloc, config, frames, lists, Rule::Redirect { sockets: 1 })
+}
+
+/// A run under a program that keeps a rule.
+fn run_under(
+    alloc: Global,
+    config: Config,
+    frames: Frames,
+    lists: Vec<PacketList>,
+    rule: Rule,
+) -> Result<Run>
+    requires steady { IsSteady config }
+    requires frames { AreFrames config.geometry frames.items }
+    requires short { All HasShortPackets lists.items }
+{
+    if lists.len() != config.ports() as usize {
         bail!("there is a list for each port");
     }
-    let rule = Rule::Redirect { sockets: 1 };
     let program = XdpProgram::attach(rule, |bytes: &[u8], queue: u32| rule.verdict(bytes, queue));
     let chain = Chain::of(alloc, program)?;
-    let lists = received.as_slice();
+    let lists = lists.as_slice();
     let manner = Manner::plain();
     Ok(simulate(alloc, config, frames, lists, &chain, Wire::Wait, 0, manner)?)
 }
@@ -64,6 +86,22 @@ fn received(alloc: Global) -> Result<Vec<PacketList>>
 {
     let mut first = PacketList::new(alloc);
     first.push(&[7; 60])?;
+    Ok(vec![in alloc; first, PacketList::new(alloc)]?)
+}
+
+/// The EtherType of each third packet, one of those for experiments (IEEE 802).
+const THIRD: u16 = 0x88b5;
+
+/// A list of six packets for port 0, numbered from 1, and one of none for port 1.
+fn numbered(alloc: Global) -> Result<Vec<PacketList>>
+    ensures { IfOk result (λ lists. All HasShortPackets lists.items) }
+{
+    let mut first = PacketList::new(alloc);
+    for number in 1..=6u8 {
+        let kind = if number % 3 == 0 { THIRD } else { 0x0800 };
+        let [high, low] = kind.to_be_bytes();
+        first.push(&[2, 0, 0, 0, 0, 1, 2, 0, 0, 0, 0, 2, high, low, number])?;
+    }
     Ok(vec![in alloc; first, PacketList::new(alloc)]?)
 }
 
