@@ -1,6 +1,6 @@
 //! xsk_sim: two drivers and an application forward a port's packets in rounds. What was sent has gaps for a capture's headers. The same
 //! where a program of one's own sends each third packet back by the port on which it came.
-ghost use Rattle.std.specs.Prelude.{All, IfOk};
+ghost use Rattle.std.specs.Prelude.{All, IfOk, OnOk};
 ghost use Rattle.xsk_model.specs.Opening.{AreFrames};
 ghost use Rattle.xsk_sim.specs.Shown.{HasShortPackets};
 ghost use Rattle.xsk_turns.specs.Owned.{IsSteady};
@@ -97,12 +97,21 @@ fn numbered(alloc: Global) -> Result<Vec<PacketList>>
     ensures { IfOk result (λ lists. All HasShortPackets lists.items) }
 {
     let mut first = PacketList::new(alloc);
-    for number in 1..=6u8 {
-        let kind = if number % 3 == 0 { THIRD } else { 0x0800 };
-        let [high, low] = kind.to_be_bytes();
-        first.push(&[2, 0, 0, 0, 0, 1, 2, 0, 0, 0, 0, 2, high, low, number])?;
+    for number in 1..7 {
+        push_numbered(&mut first, number)?;
     }
     Ok(vec![in alloc; first, PacketList::new(alloc)]?)
+}
+
+fn push_numbered(list: &mut PacketList, number: u8) -> Result<()>
+    requires { HasShortPackets list.old }
+    ensures { OnOk result (HasShortPackets list.new) }
+{
+    let kind = if number % 3 == 0 { THIRD } else { 0x0800 };
+    let [high, low] = kind.to_be_bytes();
+    let bytes = [2, 0, 0, 0, 0, 1, 2, 0, 0, 0, 0, 2, high, low, number];
+    list.push(&bytes)?;
+    Ok(())
 }
 
 fn tell_run<R: Print>(rt: &R, run: Run) -> Result<()> {
