@@ -2,6 +2,7 @@
 //! where a program of one's own sends each third packet back by the port on which it came.
 ghost use Rattle.std.specs.Prelude.{All, IfOk, OnOk};
 ghost use Rattle.xsk_model.specs.Opening.{AreFrames};
+ghost use Rattle.xsk_prog.specs.Rules.{HasSockets};
 ghost use Rattle.xsk_sim.specs.Shown.{HasShortPackets};
 ghost use Rattle.xsk_turns.specs.Owned.{IsSteady};
 
@@ -66,6 +67,7 @@ fn run_under(
     lists: Vec<PacketList>,
     rule: Rule,
 ) -> Result<Run>
+    requires sockets { HasSockets rule }
     requires steady { IsSteady config }
     requires frames { AreFrames config.geometry frames.items }
     requires short { All HasShortPackets lists.items }
