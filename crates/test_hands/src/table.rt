@@ -5,7 +5,6 @@ ghost use Rattle.xsk_table.specs.Held.{Belongs};
 ghost use Rattle.xsk_table.specs.Opening.{new_passes};
 ghost use Rattle.xsk_turns.specs.Owned.{IsSteady};
 
-use crate::alone::turns;
 use crate::driver::{free, receive, send, swap};
 use crate::setting::take;
 use crate::turn::calls_of;
@@ -15,17 +14,16 @@ use std::marker::Model;
 use std::string::String;
 use xsk_model::Mark;
 use xsk_rings::CheckedPass;
-use xsk_shared_ends::{Ends, LastHand, Step};
+use xsk_shared_ends::{Ends, Step};
 use xsk_table::{Passes, Shared};
 
-/// The drivers of both pairs, and the ends until they are finished, or the last hand that has them.
+/// The drivers of both pairs, and the ends until they are finished.
 #[derive(Drop)]
 pub(crate) struct Callers<'a> {
     shared: &'a Shared,
     first: CheckedPass,
     second: CheckedPass,
     ends: Option<Ends<'a>>,
-    last: Option<LastHand<'a>>,
     /// The length of the next packet.
     len: u32,
 }
@@ -40,7 +38,7 @@ impl<'a> Model for Callers<'a> {
 
     ghost view = { λ c. c.len };
 
-    ghost invariant = { λ c. IsSteady c.shared.now.setup.config × Rests c.shared.now c.first × Rests c.shared.now c.second × IfSome c.ends (λ e. Belongs c.shared.now e.pass) × IfSome c.last (λ h. Belongs c.shared.now h.pass) };
+    ghost invariant = { λ c. IsSteady c.shared.now.setup.config × Rests c.shared.now c.first × Rests c.shared.now c.second × IfSome c.ends (λ e. Belongs c.shared.now e.pass) };
 }
 
 /// A number from 0 to 31.
@@ -126,7 +124,6 @@ fn drive(
             Ok(text)
         }
         "done" => or_none(alloc, swap(shared, pass, Mark::RxDone(pair), 1)),
-        "gone" => or_none(alloc, swap(shared, pass, Mark::Gone(pair), 1)),
         "need" => {
             swap(shared, pass, Mark::NeedFill(pair), 1);
             or_none(alloc, swap(shared, pass, Mark::NeedTx(pair), 1))
@@ -193,7 +190,6 @@ impl<'a> Callers<'a> {
             first,
             second,
             ends: Some(ends),
-            last: None,
             len: 60,
         })
     }
@@ -215,11 +211,6 @@ impl<'a> Callers<'a> {
                 Some(ends) => make_step(alloc, self.shared, ends, word, place),
                 None => String::from_str(alloc, "finished"),
             },
-            "calls" => self.calls(alloc),
-            "take" => self.take(alloc),
-            "turn" => self.turn(alloc, place),
-            "back" => self.back(alloc),
-            "parts" => self.parts(alloc),
             _ if place == 0 => drive(
                 alloc,
                 self.shared,
@@ -249,62 +240,6 @@ impl<'a> Callers<'a> {
                 calls_of(alloc, app)
             }
             None => String::from_str(alloc, "finished"),
-        }
-    }
-
-    fn calls(&self, alloc: Global) -> Result<String, AllocError> {
-        match &self.ends {
-            Some(ends) => {
-                let calls = ends.calls();
-                format!(in alloc; "{calls}")
-            }
-            None => String::from_str(alloc, "no ends"),
-        }
-    }
-
-    /// The last hand takes the ends.
-    fn take(&mut self, alloc: Global) -> Result<String, AllocError> {
-        match self.ends.take() {
-            Some(ends) => {
-                self.last = Some(LastHand::new(ends));
-                String::from_str(alloc, "taken")
-            }
-            None => String::from_str(alloc, "no ends"),
-        }
-    }
-
-    fn turn(&mut self, alloc: Global, count: u32) -> Result<String, AllocError> {
-        match &mut self.last {
-            Some(hand) => turns(alloc, self.shared, hand, count),
-            None => String::from_str(alloc, "no hand"),
-        }
-    }
-
-    /// The last hand gives the ends back, if it has them.
-    fn back(&mut self, alloc: Global) -> Result<String, AllocError> {
-        let Some(hand) = self.last.take() else {
-            return String::from_str(alloc, "no hand");
-        };
-        match hand.into_ends() {
-            Ok(ends) => {
-                self.ends = Some(ends);
-                String::from_str(alloc, "the ends")
-            }
-            Err(hand) => {
-                self.last = Some(hand);
-                String::from_str(alloc, "the machine")
-            }
-        }
-    }
-
-    /// The last hand gives the pass back.
-    fn parts(&mut self, alloc: Global) -> Result<String, AllocError> {
-        match self.last.take() {
-            Some(hand) => {
-                let (_pass, calls) = hand.into_parts();
-                format!(in alloc; "{calls}")
-            }
-            None => String::from_str(alloc, "no hand"),
         }
     }
 }
