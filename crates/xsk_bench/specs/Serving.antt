@@ -1,17 +1,22 @@
--- What a call that is served adds to a history.
+-- What a call that is served adds to a history, and why another isn't served.
 use Rattle.std.specs.Prelude.{◌≡◌, ℕ, Result, Ok, Err, List, [], ◌∷◌, ◌++◌}
 use Rattle.xsk_umem.specs.Frame.{Frame}
 use Rattle.xsk_umem.specs.declared.batch.Item.{Item}
 use Rattle.xsk_model.specs.Asks.{joined_reply}
-use Rattle.xsk_model.specs.Entry.{Entry}
+use Rattle.xsk_model.specs.Entry.{Entry, own}
 use Rattle.xsk_model.specs.History.{state_after}
 use Rattle.xsk_model.specs.Object.{reply_at}
 use Rattle.xsk_model.specs.declared.ask.Answer.{Answer}
 use Rattle.xsk_model.specs.declared.call.Call.{Call}
 use Rattle.xsk_model.specs.declared.call.Reply.{Reply}
+use Rattle.xsk_desc.specs.Why.{Fails}
+use Rattle.xsk_desc.specs.declared.why.Illegal.{Illegal}
+use Rattle.xsk_plain.specs.Engine.{Engine}
+use Rattle.xsk_plain.specs.Histories.{HasRun}
 use Rattle.xsk_turns.specs.Workers.{Setting}
 use Rattle.xsk_bench.specs.Played.{HasPlayed}
 use Rattle.xsk_bench.specs.declared.bench.Unserved.{Unserved}
+use Rattle.xsk_bench.specs.declared.bench.Unserved.TheVariants.{Illegal as Refused}
 use Rattle.xsk_bench.specs.declared.play.Play.{Play}
 
 abbrev pub entry_by : ℕ → Call → Reply → Entry
@@ -24,3 +29,19 @@ Serves s frames h who call before after old new (Ok answer) =
     (joined_reply answer after ≡ reply_at s.config (state_after s.config frames h) call)
     × HasPlayed s frames (h ++ entry_by who call (joined_reply answer after) ∷ []) new
 Serves s frames h who call before after old new (Err e) = (after ≡ before) × (new.checked.log ≡ old.checked.log) × HasPlayed s frames h new
+
+-- ---- why it isn't served
+
+-- it isn't since it isn't legal
+abbrev pub IsIllegal : Result Answer Unserved → Type 0
+IsIllegal (Err (Refused why)) = Unit {0}
+IsIllegal result = ⊥
+
+-- the first condition that fails after the caller's own entries of a history of which the log is the stored form
+abbrev pub IsWhy : Engine → ℕ → Call → Illegal → Type 0
+IsWhy engine who call why = (frames : List Frame) × (h : List Entry) × HasRun engine frames h × Fails why engine.config (own who h) who call
+
+-- a reason that is told is that one
+abbrev pub TellsWhy : Engine → ℕ → Call → Result Answer Unserved → Type 0
+TellsWhy engine who call (Err (Refused why)) = IsWhy engine who call why
+TellsWhy engine who call result = Unit {0}

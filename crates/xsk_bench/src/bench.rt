@@ -5,6 +5,7 @@ use crate::play::Play;
 use std::alloc::Global;
 use std::marker::Model;
 use thiserror::Error;
+use xsk_desc::Illegal;
 use xsk_driver::Wire;
 use xsk_machine::{Amount, DriverFigures};
 use xsk_model::{Answer, Ask, Config};
@@ -15,9 +16,9 @@ use xsk_umem::{Batch, Frames, OutOfMemory, PacketList};
 /// Why a call wasn't served. It wasn't made, and its batch is as it was.
 #[derive(Clone, Copy, Debug, PartialEq, Eq, Error)]
 pub enum Unserved {
-    /// The application may not make it after its own calls and replies.
-    #[error("the call isn't legal")]
-    Illegal,
+    /// The application may not make it after its own calls and replies: the first condition that fails.
+    #[error("the call isn't legal: {0}")]
+    Illegal(Illegal),
     /// Items stand beside a call that submits none.
     #[error("items stand beside a call that submits none")]
     StrayItems,
@@ -68,7 +69,7 @@ impl<'a> Bench<'a> {
     ghost use Rattle.xsk_bench.specs.Played.{HasPlayed, IsGoing, act_of};
     ghost use Rattle.xsk_bench.specs.declared.seat.Seat.{Seat as ASeat};
     ghost use Rattle.xsk_bench.specs.Playing.{HadRound, HadRounds};
-    ghost use Rattle.xsk_bench.specs.Serving.{Serves};
+    ghost use Rattle.xsk_bench.specs.Serving.{Serves, IsIllegal, TellsWhy};
 
     /// The drivers of all pairs with their packets, over an object in its opening state, in which nobody has made a call. The
     /// frames are all frames of the configuration's UMEM; the chain of programs is attached to every port, and asked here, once for each
@@ -116,11 +117,13 @@ impl<'a> Bench<'a> {
     /// Makes a call for an application, counted from 0, with the items of a Submit taken from the batch, and those of a Peek put
     /// there. It is refused exactly where it isn't legal for the application after its own calls and replies in the log, or
     /// items stand beside a call that submits none, or memory for the log can't be had; then it isn't made, and the batch and
-    /// the log are as they were. An application that doesn't exist may make no call.
+    /// the log are as they were. Why it isn't legal is told: the first of its conditions that fails. An application that doesn't
+    /// exist may make no call.
     pub fn serve(&mut self, app: u32, ask: Ask, items: &mut Batch) -> Result<Answer, Unserved>
         ensures stray { (result ≡ Err Unserved.StrayItems) ↔ (HasAsked ask items.old → ⊥) }
-        ensures illegal { (result ≡ Err Unserved.Illegal)
+        ensures illegal { IsIllegal result
             ↔ (HasAsked ask items.old × (IsLegal self.old.checked.config (own (caller_of self.old.checked.config app) self.old.checked.log) (caller_of self.old.checked.config app) (joined_call ask items.old) → ⊥)) }
+        ensures why { TellsWhy self.old.checked (caller_of self.old.checked.config app) (joined_call ask items.old) result }
         ensures answered { IfOk result (λ answer. HasAnswered answer items.new) }
         ensures served { (s : Setting) (frames : List Frame) (h : List Entry) → HasPlayed s frames h self.old
             → Serves s frames h (caller_of s.config app) (joined_call ask items.old) items.old items.new self.old self.new result }

@@ -10,11 +10,12 @@ ghost use Rattle.xsk_turns.specs.Workers.{Setting};
 ghost use Rattle.xsk_sim.specs.Rooms.{most_payload};
 ghost use Rattle.xsk_bench.specs.Played.{HasPlayed, IsGoing};
 ghost use Rattle.xsk_bench.specs.Playing.{HadTurns, HadRound, HadRounds};
-ghost use Rattle.xsk_bench.specs.Serving.{Serves};
+ghost use Rattle.xsk_bench.specs.Serving.{Serves, IsIllegal, TellsWhy};
 
 use crate::Unserved;
 use crate::seat::Seat;
 use std::mem;
+use xsk_desc::Illegal;
 use xsk_machine::Amount;
 use xsk_model::steering::applications;
 use xsk_model::{Answer, Ask};
@@ -45,8 +46,9 @@ impl Play<'_> {
     ) -> Result<Answer, Unserved>
         ensures room { self.new.room ≡ self.old.room }
         ensures stray { (result ≡ Err Unserved.StrayItems) ↔ (HasAsked ask items.old → ⊥) }
-        ensures illegal { (result ≡ Err Unserved.Illegal)
+        ensures illegal { IsIllegal result
             ↔ (HasAsked ask items.old × (IsLegal self.old.checked.config (own (caller_of self.old.checked.config app) self.old.checked.log) (caller_of self.old.checked.config app) (joined_call ask items.old) → ⊥)) }
+        ensures why { TellsWhy self.old.checked (caller_of self.old.checked.config app) (joined_call ask items.old) result }
         ensures answered { IfOk result (λ answer. HasAnswered answer items.new) }
         ensures served { (s : Setting) (frames : List Frame) (h : List Entry) → HasPlayed s frames h self.old
             → Serves s frames h (caller_of s.config app) (joined_call ask items.old) items.old items.new self.old self.new result }
@@ -56,14 +58,15 @@ impl Play<'_> {
         }
         let config = self.checked.config();
         let _geometry = config.geometry();
+        let _log = self.checked.log();
         if app >= applications(config) {
-            return Err(Unserved::Illegal);
+            return Err(Unserved::Illegal(Illegal::NoCaller));
         }
         let who = config.pairs().len() as u32 + app;
         let call = ask.joined(mem::replace(items, Batch::new()));
-        if !self.checked.allows(who, &call) {
+        if let Some(why) = self.checked.why_not(who, &call) {
             let _ask = call.split(items);
-            return Err(Unserved::Illegal);
+            return Err(Unserved::Illegal(why));
         }
         let Ok(()) = self.checked.reserve_log(1, payload_room(&call)) else {
             let _ask = call.split(items);
