@@ -3,17 +3,14 @@
 use anyhow::Result;
 use std::alloc::Global;
 use xsk_desc::{Gather, Gathered, fragments, validate};
-use xsk_umem::{Geometry, Item, Umem, XdpDesc};
-
-/// The option of a descriptor behind which the packet goes on (XDP_PKT_CONTD).
-const CONTINUED: u32 = 1;
+use xsk_umem::{Geometry, Item, Umem, XDP_PKT_CONTD, XdpDesc};
 
 pub fn gather_a_packet<R: Print>(rt: &R, alloc: Global) -> Result<()> {
     let (geometry, _frames) = Umem::register(alloc, 16_384, 4096, 0)?;
     let first = XdpDesc {
         addr: 256,
         len: 3_840,
-        options: CONTINUED,
+        options: XDP_PKT_CONTD,
     };
     let last = XdpDesc {
         addr: 4_352,

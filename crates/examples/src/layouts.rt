@@ -1,4 +1,4 @@
-//! xsk_socket: a layout is judged, and gives the regular configuration. `docs/SOCKETS.md` has the setup socket by socket.
+//! xsk_socket: a layout is judged, and gives the regular configuration. `sockets.rt` sets up socket by socket.
 ghost use Rattle.std.specs.Prelude.{IfOk};
 ghost use Rattle.xsk_model.specs.Opening.{AreFrames};
 ghost use Rattle.xsk_turns.specs.Owned.{IsSteady};
