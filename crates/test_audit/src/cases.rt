@@ -53,19 +53,21 @@ pub fn verdict_line(alloc: Global, block: &Block) -> Result<String, OutOfMemory>
     let Some((config, frames)) = opened(alloc, &setting) else {
         return Ok(format!(in alloc; "{name}: refused")?);
     };
-    let text = text_of(block);
-    match audit(alloc, config, frames, text)? {
+    let text = text_of(alloc, block, setting.times)?;
+    match audit(alloc, config, frames, text.as_slice())? {
         Verdicts::Legal { entries } => Ok(format!(in alloc; "{name}: legal {entries}")?),
         Verdicts::NotLegal { line } => Ok(format!(in alloc; "{name}: not legal {line}")?),
     }
 }
 
-/// The text, without its last byte if the case says so.
-fn text_of(block: &Block) -> &[u8] {
-    let text = block.text.as_slice();
-    let cut = block.options().split_whitespace().any(|word| word == "cut");
-    match text.split_last() {
-        Some((_last, front)) if cut => front,
-        _ => text,
+/// The text as often as the case says, without its last byte if it says so.
+fn text_of(alloc: Global, block: &Block, times: u32) -> Result<Vec<u8>, AllocError> {
+    let mut text = Vec::new(alloc);
+    for _ in 0..times {
+        text.extend_from_slice(block.text.as_slice())?;
     }
+    if block.options().split_whitespace().any(|word| word == "cut") {
+        let _last = text.pop();
+    }
+    Ok(text)
 }

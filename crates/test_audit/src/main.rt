@@ -1,5 +1,5 @@
-//! Audits the journals of cases. A case is a head, `# NAME: OPTIONS`, and the lines behind it up to the next head; with the
-//! option `cut` the last byte of its text is left out. It prints what each audit finds.
+//! Audits the journals of cases. A case is a head, `# NAME: OPTIONS`, and the lines behind it up to the next head, which stand so
+//! often as the option `times N` says; with the option `cut` the last byte of all is left out. It prints what each audit finds.
 #![tactic(auto)]
 
 mod cases;

@@ -10,11 +10,12 @@ use xsk_model::Config;
 use xsk_socket::{Layout, check_layout, regular};
 use xsk_umem::{Frames, Geometry, Umem};
 
-/// A layout, and a cell that holds another number than the layout's, if one does.
+/// A layout, a cell that holds another number than the layout's, if one does, and how often the text of the case stands.
 #[derive(Clone, Copy)]
 pub struct Setting {
     layout: Layout,
     cell: Option<Cell>,
+    pub times: u32,
 }
 
 /// A cell of a port's XSKMAP: its place and its number.
@@ -51,6 +52,7 @@ pub fn setting_of(options: &str) -> Option<Setting> {
     let mut setting = Setting {
         layout: DEFAULTS,
         cell: None,
+        times: 1,
     };
     let mut words = options.split_whitespace();
     for _word in 0..100 {
@@ -70,6 +72,7 @@ fn set(setting: &mut Setting, word: &str, words: &mut SplitWhitespace<'_>) -> Op
         "sg" => setting.layout.sg = true,
         "wakeup" => setting.layout.wakeup = true,
         "cell" => setting.cell = Some(cell_of(words)?),
+        "times" => setting.times = number(words)?,
         _ => set_number(&mut setting.layout, word, number(words)?)?,
     }
     Some(())
