@@ -1,22 +1,48 @@
 //! The program: the words behind its name, and the command over files.
 #![tactic(auto)]
 
+ghost use Rattle.std.specs.Prelude.{◌≡◌, false, map, string_bytes, MatchResult};
+ghost use Rattle.xsk_io.specs.declared.bay.Stream.{Stream as AStream};
+ghost use Rattle.xsk_program.specs.Answering.{IsAnswered, IsTold};
+
+use std::alloc::Global;
 use std::env;
 use std::io::ErrorKind;
 use std::rt::{Env, Files};
 use std::sync::Wait;
 use std::thread::Threads;
 use xsk_cli::{Status, tell};
-use xsk_io::{FileBay, Open};
+use xsk_io::{Bay, FileBay, Open};
 
 /// Does what the program's words say, over files, with a thread for each worker where the command is `forward`. A refusal is told
 /// in one line on standard output, also that of words which aren't UTF-8. The program ends with the status's number.
 pub fn run<R: Env + Files + Print + AllocGlobal + Threads + Wait + Sync>(rt: &R) -> Status {
     let mut bay = FileBay::new(rt);
-    match words_of(rt) {
-        Ok(words) => xsk_cli::run(rt, rt.alloc(), words.as_slice(), &mut bay, &Open).status,
+    answer(rt, rt.alloc(), words_of(rt), &mut bay)
+}
+
+/// Does what words say, over a bay of which no stream is open, or tells why there are none. No worker is held at a gate.
+pub fn answer<R: Threads + Wait + Sync, B: Bay>(
+    rt: &R,
+    alloc: Global,
+    words: Result<Vec<String>, Status>,
+    bay: &mut B,
+) -> Status
+    requires { (stream : AStream) → B.is_open bay.old stream ≡ false }
+    ensures { MatchResult words
+        (λ given. IsAnswered (map string_bytes given.items)
+            (record { is_open = B.is_open bay.old; asked = B.asked bay.old; left = B.left bay.old; held = B.held bay.old; offers = B.offers bay.old; faults = B.faults bay.old })
+            (record { is_open = B.is_open bay.new; asked = B.asked bay.new; left = B.left bay.new; held = B.held bay.new; offers = B.offers bay.new; faults = B.faults bay.new })
+            result)
+        (λ why. IsTold why
+            (record { is_open = B.is_open bay.old; asked = B.asked bay.old; left = B.left bay.old; held = B.held bay.old; offers = B.offers bay.old; faults = B.faults bay.old })
+            (record { is_open = B.is_open bay.new; asked = B.asked bay.new; left = B.left bay.new; held = B.held bay.new; offers = B.offers bay.new; faults = B.faults bay.new })
+            result) }
+{
+    match words {
+        Ok(words) => xsk_cli::run(rt, alloc, words.as_slice(), bay, &Open).status,
         Err(status) => {
-            tell(&mut bay, &status);
+            tell(bay, &status);
             status
         }
     }
