@@ -263,34 +263,31 @@ module _ (layout : Layout) (programs : List Program) (wire : Wire) (mangle : Opt
 
 -- ---- a run on threads
 
-module _ (layout : Layout) (programs : List Program) (wire : Wire) (lists : List (List (List ℕ))) (accepted : fault_of layout ≡ None) (closes : layout.close ≡ None) (o : OutcomeShown) (shown : HasForwarded (setting_of layout programs wire None lists) (frames_of layout) o)
+module _ (layout : Layout) (programs : List Program) (wire : Wire) (lists : List (List (List ℕ))) (accepted : fault_of layout ≡ None) (closes : layout.close ≡ None) (o : OutcomeShown) (shown : HasForwarded layout.hands (setting_of layout programs wire None lists) (frames_of layout) o)
     (pairs : length o.sent ≡ pairs_in layout) where
-  shown_whole : (who : ℕ) → who < callers_of (regular_of layout) → IsWholeRunOf 1 (setting_of layout programs wire None lists) who (own who o.history)
-  shown_whole who below = by_one (setting_of layout programs wire None lists) who (own who o.history) (shown.whole who below)
-
   pub texts_shown : (format : Format) (texts : Written)
       → texts.outputs ≡ outputs_of format (λ port. take layout.queues (drop (port * layout.queues) o.sent)) (range_with_len 0 layout.ports)
       → texts.report ≡ report_text (regular_of layout) o.figures → AreTextsIn format layout programs wire None lists o.history (report_of layout programs wire None lists o.history) texts
   texts_shown format texts outputs report =
-      texts_in 1 layout programs wire None lists accepted closes o.history shown.legal shown_whole o.sent shown.sent pairs format (report_of layout programs wire None lists o.history) texts outputs (report ∙ ap (report_text (regular_of layout)) shown.figures)
+      texts_in layout.hands layout programs wire None lists accepted closes o.history shown.legal shown.whole o.sent shown.sent pairs format (report_of layout programs wire None lists o.history) texts outputs (report ∙ ap (report_text (regular_of layout)) shown.figures)
 
   pub shown_writable : length lists ≡ layout.ports → excess_of lists ≡ None → ((pair : ℕ) → pair < length o.sent → All IsShort (get_or o.sent pair [])) → (port count : ℕ) → port < layout.ports → count ≤ layout.queues
       → IsWritable (take count (drop (port * layout.queues) o.sent))
-  shown_writable count_is within each_short = all_writable 1 layout programs wire None lists accepted closes o.history shown.legal shown_whole o.sent shown.sent pairs count_is within each_short
+  shown_writable count_is within each_short = all_writable layout.hands layout programs wire None lists accepted closes o.history shown.legal shown.whole o.sent shown.sent pairs count_is within each_short
 
   pub shown_in_file : length lists ≡ layout.ports → excess_of lists ≡ None → ((pair : ℕ) → pair < length o.sent → All IsShort (get_or o.sent pair [])) → IsWritableFile (joined layout.ports layout.queues o.sent)
-  shown_in_file count_is within each_short = all_in_file 1 layout programs wire None lists accepted closes o.history shown.legal shown_whole o.sent shown.sent pairs count_is within each_short
+  shown_in_file count_is within each_short = all_in_file layout.hands layout programs wire None lists accepted closes o.history shown.legal shown.whole o.sent shown.sent pairs count_is within each_short
 
 -- so it is one of the command's setting
 pub forwarded_as : (layout : Layout) (programs : List Program) (wire : Wire) (c : Config) (own : List PacketList) (fs : List Frame) (lists : List (List (List ℕ))) (o : OutcomeShown) → c ≡ regular_of layout → own ≡ map listed lists
     → fs ≡ frames_of layout → (own_wire : OwnWire) → own_wire ≡ wire_by wire → (rules : List Rule) → rules ≡ rules_by layout.sockets programs
-    → HasForwarded (ruled rules own_wire c own) fs o → HasForwarded (setting_of layout programs wire None lists) (frames_of layout) o
+    → HasForwarded layout.hands (ruled rules own_wire c own) fs o → HasForwarded layout.hands (setting_of layout programs wire None lists) (frames_of layout) o
 forwarded_as layout programs wire c own fs lists o is_config is_own is_frames own_wire is_wire rules are_rules h =
-    subst (λ f. HasForwarded (setting_of layout programs wire None lists) f o) is_frames
-    (subst (λ (l : List PacketList). HasForwarded (ruled (rules_by layout.sockets programs) (wire_by wire) (regular_of layout) l) fs o) is_own
-    (subst (λ (k : Config). HasForwarded (ruled (rules_by layout.sockets programs) (wire_by wire) k own) fs o) is_config
-    (subst (λ (w : OwnWire). HasForwarded (ruled (rules_by layout.sockets programs) w c own) fs o) is_wire
-    (subst (λ (rs : List Rule). HasForwarded (ruled rs own_wire c own) fs o) are_rules h))))
+    subst (λ f. HasForwarded layout.hands (setting_of layout programs wire None lists) f o) is_frames
+    (subst (λ (l : List PacketList). HasForwarded layout.hands (ruled (rules_by layout.sockets programs) (wire_by wire) (regular_of layout) l) fs o) is_own
+    (subst (λ (k : Config). HasForwarded layout.hands (ruled (rules_by layout.sockets programs) (wire_by wire) k own) fs o) is_config
+    (subst (λ (w : OwnWire). HasForwarded layout.hands (ruled (rules_by layout.sockets programs) w c own) fs o) is_wire
+    (subst (λ (rs : List Rule). HasForwarded layout.hands (ruled rs own_wire c own) fs o) are_rules h))))
 
 -- the lists of the code
 pub lists_short : (own : List PacketList) → All HasShortPackets own → (pair : ℕ) → pair < length (lists_in own) → All IsShort (get_or (lists_in own) pair [])

@@ -29,7 +29,7 @@ use Rattle.xsk_cli.specs.declared.status.Status.TheVariants.{BadCapture, BadPcap
 
 -- ---- the words
 
--- the options of `forward`: those of `simulate` but the order of the rounds
+-- the options of `forward`: those of `simulate` but the order of the rounds, and the hands of each application
 abbrev pub forward_options : List Key
 forward_options =
     (codes "ports", Number)
@@ -46,6 +46,7 @@ forward_options =
     ∷ (codes "prog", TakesProgram)
     ∷ (codes "wire", TakesWire)
     ∷ (codes "empty", Number)
+    ∷ (codes "hands", Number)
     ∷ (codes "sg", Nothing)
     ∷ (codes "wakeup", Nothing)
     ∷ (codes "pcapng", Nothing)
@@ -68,7 +69,7 @@ IsRun (Audit layout) = ⊥
 
 -- a run on threads of the work's packets shows this
 abbrev pub HasShown : Work → List (List (List ℕ)) → OutcomeShown → Type 0
-HasShown (Simulate layout programs wire mangle order number journal format) lists o = HasForwarded (setting_of layout programs wire None lists) (frames_of layout) o
+HasShown (Simulate layout programs wire mangle order number journal format) lists o = HasForwarded layout.hands (setting_of layout programs wire None lists) (frames_of layout) o
 HasShown (Generate number) lists o = ⊥
 HasShown (Audit layout) lists o = ⊥
 

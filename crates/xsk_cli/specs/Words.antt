@@ -102,7 +102,7 @@ wanted_per_port Pcapng made = 0
 
 -- what is asked for: its ports, the queues of each and the sockets of each queue, all over one UMEM (af_xdp.rst,
 -- "XDP_SHARED_UMEM bind flag"); with `sg` packets may have several frames ("XDP_USE_SG bind flag"); with `empty` one cell of
--- each port's XSKMAP holds no socket
+-- each port's XSKMAP holds no socket; with `hands` each application is run by so many threads
 abbrev pub layout_by : Meaning → Layout
 layout_by said = record {
   ports = ports_of said;
@@ -121,7 +121,7 @@ layout_by said = record {
   wakeup = is_some (said (codes "wakeup"));
   empty = number_of said (codes "empty");
   close = None;
-  hands = 1;
+  hands = number_or said (codes "hands") 1;
 }
 
 -- the files are an input for each port, or one of pcapng, but where the packets are made, and then as many outputs

@@ -98,9 +98,9 @@ fn run_shown<R: Threads + Wait + Sync, G: Gate + Sync>(
     requires listed { lists.items ≡ map listed (lists_in lists.items) }
     requires short { All HasShortPackets lists.items }
     requires none { outcome.old ≡ None }
-    ensures made { IfOk result (λ lent. (o : OutcomeShown) × IsLent lent o × HasForwarded (setting_of layout.now programs.now wire None (lists_in lists.items)) (frames_of layout.now) o
+    ensures made { IfOk result (λ lent. (o : OutcomeShown) × IsLent lent o × HasForwarded layout.now.hands (setting_of layout.now programs.now wire None (lists_in lists.items)) (frames_of layout.now) o
         × AreTextsIn format layout.now programs.now wire None (lists_in lists.items) o.history (report_of layout.now programs.now wire None (lists_in lists.items) o.history) (written_in lent.texts)) }
-    ensures shown { (o : OutcomeShown) → outcome.new ≡ Some o → HasForwarded (setting_of layout.now programs.now wire None (lists_in lists.items)) (frames_of layout.now) o }
+    ensures shown { (o : OutcomeShown) → outcome.new ≡ Some o → HasForwarded layout.now.hands (setting_of layout.now programs.now wire None (lists_in lists.items)) (frames_of layout.now) o }
     ensures failed { IfErr result (λ failure. failure ≡ RunFailure.OutOfMemory) }
 {
     let (config, frames) = set_up(alloc, layout)?;
@@ -280,7 +280,7 @@ fn forward_lists<R: Threads + Wait + Sync, G: Gate + Sync>(
     requires short { All HasShortPackets lists.now }
     ensures pairs { IfOk result (λ o. length o.sent ≡ pairs_in layout.now) }
     ensures short { IfOk result (λ o. All (λ (list : List (List ℕ)). All IsShort list) o.sent) }
-    ensures forwarded { IfOk result (HasForwarded (setting_of layout.now programs.now wire None (lists_in lists.now)) (frames_of layout.now)) }
+    ensures forwarded { IfOk result (HasForwarded layout.now.hands (setting_of layout.now programs.now wire None (lists_in lists.now)) (frames_of layout.now)) }
 {
     let chain = chain_of(alloc, programs.as_slice(), layout.sockets, |rule: Rule| {
         XdpProgram::attach(
@@ -289,7 +289,17 @@ fn forward_lists<R: Threads + Wait + Sync, G: Gate + Sync>(
         )
     })?;
     let wire = wire_of(wire);
-    let outcome = forward(rt, alloc, config, frames, lists, &chain, wire, gate)?;
+    let outcome = forward(
+        rt,
+        alloc,
+        config,
+        frames,
+        lists,
+        &chain,
+        wire,
+        gate,
+        layout.hands,
+    )?;
     Ok(outcome)
 }
 

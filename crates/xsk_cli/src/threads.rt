@@ -30,8 +30,8 @@ use xsk_args::{OptionRow, Takes, parse};
 use xsk_io::{Bay, Gate};
 use xsk_workers::Outcome;
 
-/// The options of `forward`: those of `simulate` but `--order`, for there are no rounds.
-const FORWARD_OPTIONS: [OptionRow; 17] = [
+/// The options of `forward`: those of `simulate` but `--order`, for there are no rounds, and `--hands`.
+const FORWARD_OPTIONS: [OptionRow; 18] = [
     OptionRow {
         name: "ports",
         takes: Takes::Number,
@@ -89,6 +89,10 @@ const FORWARD_OPTIONS: [OptionRow; 17] = [
         takes: Takes::Number,
     },
     OptionRow {
+        name: "hands",
+        takes: Takes::Number,
+    },
+    OptionRow {
         name: "sg",
         takes: Takes::Nothing,
     },
@@ -113,8 +117,9 @@ pub struct Ended {
 /// Does what the words of a command line say, over a bay of which no stream is open, with threads for `forward`.
 ///
 /// `forward [OPTION ..] IN0 IN1 .. OUT0 OUT1 ..` is `simulate` (see [`run_plain`]) with each driver and each application in a
-/// thread of its own, and with no order of rounds. Each worker passes the gate before each of its turns. The texts are those of
-/// the one history that the outcome shows. Nothing is promised of an end. Every other command is done as `run_plain` does it.
+/// thread of its own, or with `--hands` each application in several, and with no order of rounds. Each worker passes the gate
+/// before each of its turns. The texts are those of the one history that the outcome shows. Nothing is promised of an end. Every
+/// other command is done as `run_plain` does it.
 pub fn run<R: Threads + Wait + Sync, B: Bay, G: Gate + Sync>(
     rt: &R,
     alloc: Global,

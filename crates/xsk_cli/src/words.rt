@@ -166,7 +166,7 @@ pub(crate) fn layout_of(args: &Args<'_>) -> Layout
         wakeup: args.is_said("wakeup"),
         empty: args.number("empty"),
         close: None,
-        hands: 1,
+        hands: args.number("hands").unwrap_or(1),
     }
 }
 

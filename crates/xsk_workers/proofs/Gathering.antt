@@ -1,8 +1,8 @@
--- Passes are taken, and given back once their workers have ended.
-use Rattle.std.proofs.Common.{◌≡◌, ℕ, ◌+◌, ◌<◌, ◌≤◌, Option, Some, None, List, [], ◌∷◌, ◌++◌, length, get_or, set, map, All, refl, sym, ap, subst, ◌∙◌, arith, ⊎_elim, get_or-set_same, get_or-set_other, length-set, length-append, append-nil, drop, Bool, false}
+-- Passes are taken, and given back once their members have ended.
+use Rattle.std.proofs.Common.{◌≡◌, ℕ, ◌+◌, ◌<◌, ◌≤◌, Option, Some, None, List, [], ◌∷◌, ◌++◌, length, get_or, set, map, All, refl, sym, ap, subst, ◌∙◌, arith, ⊎_elim, get_or-set_same, get_or-set_other, length-set, length-append, append-nil, drop, Bool, true, false, zero, suc, ◌==◌, ◌||◌, nat_lt, ◌⊎◌, inl, inr}
 use Rattle.std.specs.Prelude.{is_some}
 use Rattle.std.specs.List.{range_with_len}
-use Rattle.std.proofs.lemmas.Bool.{cases_eq}
+use Rattle.std.proofs.lemmas.Bool.{cases_eq, or_cases, eqb-true, ltb-true}
 use Rattle.std.proofs.lemmas.List.{get_or-map, length-map, get_or_append_left, get_or_push}
 use Rattle.std.proofs.lemmas.List.Elements.{All-head, All-tail}
 use Rattle.std.proofs.lemmas.List.FromFn.{length-range_with_len, get_or-range_with_len, fill_by_all}
@@ -12,7 +12,11 @@ use Rattle.xsk_model.specs.declared.call.Act.TheVariants.{Ended}
 use Rattle.xsk_model.proofs.CallTheorems.{callers_exist}
 use Rattle.xsk_turns.specs.Owned.{IsSteady}
 use Rattle.xsk_turns.specs.Counted.{capped}
+use Rattle.xsk_turns.specs.Hands.{IsWholeRunOf, IsWholeAppRunOf}
+use Rattle.xsk_turns.specs.AppSplit.{IsWholeSplitRun}
+use Rattle.xsk_turns.specs.Mangling.{plain}
 use Rattle.xsk_turns.specs.Workers.{Setting, IsWholeRun, input_of}
+use Rattle.xsk_turns.specs.declared.manner.Manner.{Manner}
 use Rattle.xsk_turns.specs.declared.wire.Wire.{Wire}
 use Rattle.xsk_machine.specs.Figures.{figures_in}
 use Rattle.xsk_machine.specs.Figured.{driver_figures_by, driver_figures_of, figures_of}
@@ -24,18 +28,23 @@ use Rattle.xsk_machine.specs.Acts.{DriverStands, sent_of}
 use Rattle.xsk_machine.proofs.Acts.{sent_at}
 use Rattle.xsk_table.specs.Held.{Board, Holder, new_pass}
 use Rattle.xsk_table.specs.Opening.{new_passes}
-use Rattle.xsk_workers.specs.Shown.{WorkerShown, Seat, seat_of, seat_at, HasRun}
+use Rattle.xsk_model.specs.Rings.{caller_of}
+use Rattle.xsk_workers.specs.Crew.{Seat, IsSeatOn}
+use Rattle.xsk_workers.specs.Shown.{WorkerShown, seat_at, is_alone}
+use Rattle.xsk_workers.specs.Hands.{TeamShown}
+use Rattle.xsk_workers.specs.Members.{member_seat, MemberHasRun, pass_in, IsLeftOf, kept_left, figures_left}
+use Rattle.xsk_workers.specs.declared.member.Member.{Member}
+use Rattle.xsk_workers.specs.declared.member.Member.TheVariants.{One, Several}
 use Rattle.xsk_machine.specs.Workers.{Stands, kept_of, figures_kept}
 use Rattle.xsk_umem.specs.Frame.{Frame}
 use Rattle.xsk_model.specs.Config.{Config}
 use Rattle.xsk_model.specs.Entry.{Entry}
 use Rattle.xsk_model.specs.History.{IsHistory}
 use Rattle.xsk_model.proofs.Theorems.{one_holder}
-use Rattle.xsk_laws.specs.Laws.{AreWholeRuns}
+use Rattle.xsk_laws.specs.Laws.{AreWholeRunsBy}
 use Rattle.xsk_laws.proofs.Woken.{none_is_lost_in_whole_runs}
-use Rattle.xsk_machine.proofs.Within.{are_within, whole_runs}
+use Rattle.xsk_machine.proofs.Within.{by_one, are_within_by, whole_runs_by}
 use Rattle.xsk_table.specs.Closing.{AreThere, EndsIn}
-use Rattle.xsk_workers.specs.Shown.{AreOf}
 use Rattle.xsk_workers.specs.Forwarded.{HasForwarded}
 use Rattle.xsk_workers.specs.Gathering.{HaveRun, HaveRunFrom, AreTaken, AreGiven, AreKept, AreSent, IsSentOf, AreFiguresOf, IsFiguresOf, calls_in}
 use Rattle.xsk_workers.proofs.Calls.{calls_are}
@@ -77,8 +86,8 @@ is_new_pass b n passes p below taken is = ap (some_of p) (is ∙ taken.there n (
 
 -- ---- given back
 
-pub given_none : (b : Board) (s : Setting) (passes : List (Option Holder)) → AreTaken b (callers_of b.setup.config) passes → AreGiven b s 0 passes
-given_none b s passes h = record { length_is = h.length_is; there = λ w none. absurd (omega arith); gone = λ w low below. h.gone w below }
+pub given_none : (b : Board) (hands : ℕ) (s : Setting) (passes : List (Option Holder)) → AreTaken b (callers_of b.setup.config) passes → AreGiven b hands s 0 passes
+given_none b hands s passes h = record { length_is = h.length_is; there = λ w none. absurd (omega arith); gone = λ w low below. h.gone w below }
 
 -- the figures of a driver that has ended
 figures_at : (s : Setting) (n classes : ℕ) (d : DriverShown) (l : List Told) → classes ≡ classes_of s.config → DriverStands s n d Ended l → IsFiguresOf s n l (figures_in classes d)
@@ -86,7 +95,12 @@ figures_at s n classes d l is stands within =
     ap (λ k. figures_in k d) is ∙ figures_at_end s.wire s.config n (input_of s n) d l stands.stands
     ∙ ap (λ (ps : List (List ℕ)). driver_figures_by s.wire s.config n (input_of s n) (length ps) l) (sent_at s n d Ended l refl stands within)
 
-module _ (b : Board) (s : Setting) (n : ℕ) (passes : List (Option Holder)) (p : Holder) (known : n < callers_of b.setup.config) (h : AreGiven b s n passes) where
+-- what is left of a member at this place: a machine that has ended, or of an application nothing
+abbrev pub StandsLeft : Setting → ℕ → Option AnyWorker → List Told → Type 0
+StandsLeft s n None l = length s.config.pairs ≤ n
+StandsLeft s n (Some m) l = Stands s n m Ended l
+
+module _ (b : Board) (hands : ℕ) (s : Setting) (n : ℕ) (passes : List (Option Holder)) (p : Holder) (known : n < callers_of b.setup.config) (h : AreGiven b hands s n passes) where
   abbrev more : List (Option Holder)
   more = set passes n (Some p)
 
@@ -96,11 +110,11 @@ module _ (b : Board) (s : Setting) (n : ℕ) (passes : List (Option Holder)) (p 
   before : (w : ℕ) → w < n → get_or more w None ≡ get_or passes w None
   before w below = get_or-set_other passes n w (Some p) None (λ e. omega (arith, e, below))
 
-  pub given_more : p.table ≡ b.table → p.view.setup ≡ b.setup → IsWholeRun s n (own n p.view.seen) → AreGiven b s (n + 1) more
+  pub given_more : p.table ≡ b.table → p.view.setup ≡ b.setup → IsWholeRunOf hands s n (own n p.view.seen) → AreGiven b hands s (n + 1) more
   given_more table setup whole = record {
     length_is = length-set passes n (Some p) ∙ h.length_is;
     there = λ w below. ⊎_elim
-        (λ (e : w ≡ n). (p, ap (λ k. get_or more k None) e ∙ here, table, setup, subst (λ k. IsWholeRun s k (own k p.view.seen)) (sym e) whole))
+        (λ (e : w ≡ n). (p, ap (λ k. get_or more k None) e ∙ here, table, setup, subst (λ k. IsWholeRunOf hands s k (own k p.view.seen)) (sym e) whole))
         (λ (e : w ≡ n → ⊥). let old = h.there w (omega (arith, e)) in (old.0, before w (omega (arith, e)) ∙ old.1, old.2, old.3, old.4))
         (cases_eq w n);
     gone = λ w low below. get_or-set_other passes n w (Some p) None (λ e. omega (arith, e)) ∙ h.gone w (omega arith) below;
@@ -137,87 +151,131 @@ module _ (b : Board) (s : Setting) (n : ℕ) (passes : List (Option Holder)) (p 
         each = λ w none below. let old = kept.each w none below in (old.0, before w (omega (arith, below, count, past)) ∙ old.1, old.2);
       })
 
-  pub sent_more : (lists : List (List (List ℕ))) (m : AnyWorker) → Stands s n m Ended (own n p.view.seen) → AreSent s n passes lists → AreSent s (n + 1) more (lists ++ kept_of m)
-  sent_more lists (Driver d) stands sent = one_kept (IsSentOf s) lists d.sent.packets stands.known (λ within. sent_at s n d Ended (own n p.view.seen) refl stands within) sent
-  sent_more lists (App a) stands sent = none_kept (IsSentOf s) lists (omega (arith, stands.caller)) sent
+  pub sent_more : (lists : List (List (List ℕ))) (left : Option AnyWorker) → StandsLeft s n left (own n p.view.seen) → AreSent s n passes lists → AreSent s (n + 1) more (lists ++ kept_left left)
+  sent_more lists None past sent = none_kept (IsSentOf s) lists past sent
+  sent_more lists (Some (Driver d)) stands sent = one_kept (IsSentOf s) lists d.sent.packets stands.known (λ within. sent_at s n d Ended (own n p.view.seen) refl stands within) sent
+  sent_more lists (Some (App a)) stands sent = none_kept (IsSentOf s) lists (omega (arith, stands.caller)) sent
 
-  pub figures_more : (classes : ℕ) (figures : List DriverFigures) (m : AnyWorker) → classes ≡ classes_of s.config → Stands s n m Ended (own n p.view.seen) → AreFiguresOf s n passes figures
-      → AreFiguresOf s (n + 1) more (figures ++ figures_kept classes m)
-  figures_more classes figures (Driver d) is stands kept = one_kept (IsFiguresOf s) figures (figures_in classes d) stands.known (figures_at s n classes d (own n p.view.seen) is stands) kept
-  figures_more classes figures (App a) is stands kept = none_kept (IsFiguresOf s) figures (omega (arith, stands.caller)) kept
+  pub figures_more : (classes : ℕ) (figures : List DriverFigures) (left : Option AnyWorker) → classes ≡ classes_of s.config → StandsLeft s n left (own n p.view.seen) → AreFiguresOf s n passes figures
+      → AreFiguresOf s (n + 1) more (figures ++ figures_left classes left)
+  figures_more classes figures None is past kept = none_kept (IsFiguresOf s) figures past kept
+  figures_more classes figures (Some (Driver d)) is stands kept = one_kept (IsFiguresOf s) figures (figures_in classes d) stands.known (figures_at s n classes d (own n p.view.seen) is stands) kept
+  figures_more classes figures (Some (App a)) is stands kept = none_kept (IsFiguresOf s) figures (omega (arith, stands.caller)) kept
 
 pub kept_none : {X : Type 0} (Is : ℕ → List Told → X → Type 0) (s : Setting) (passes : List (Option Holder)) → AreKept Is s 0 passes []
 kept_none Is s passes = record { first = λ few. refl; all = λ full. omega (arith, full); each = λ w none below. absurd (omega (arith, below)) }
 
--- ---- workers that came back
+-- ---- members that came back
 
-pub seats_count : (b : Board) (s : Setting) (ws : List WorkerShown) → map (λ (w : WorkerShown). seat_of w) ws ≡ map (seat_at s b) (range_with_len 0 (callers_of b.setup.config))
-    → length ws ≡ callers_of b.setup.config
-seats_count b s ws seats =
-    sym (length-map ws (λ (w : WorkerShown). seat_of w)) ∙ ap (length {A = Seat}) seats ∙ length-map (range_with_len 0 (callers_of b.setup.config)) (seat_at s b)
+pub seats_count : (b : Board) (hands : ℕ) (s : Setting) (ms : List (Member WorkerShown TeamShown)) → map member_seat ms ≡ map (seat_at hands s b) (range_with_len 0 (callers_of b.setup.config))
+    → length ms ≡ callers_of b.setup.config
+seats_count b hands s ms seats =
+    sym (length-map ms member_seat) ∙ ap (length {A = Seat}) seats ∙ length-map (range_with_len 0 (callers_of b.setup.config)) (seat_at hands s b)
     ∙ length-range_with_len 0 (callers_of b.setup.config)
 
-pub have_run : (b : Board) (s : Setting) (n : ℕ) (ws : List WorkerShown) → map (λ (w : WorkerShown). seat_of w) ws ≡ map (seat_at s b) (range_with_len n (length ws))
-    → All (λ (w : WorkerShown). HasRun w) ws → HaveRunFrom b s n ws
-have_run b s n [] seats whole = tt
-have_run b s n (w ∷ ws) seats whole =
-    (ap (λ (xs : List Seat). get_or xs 0 (seat_of w)) seats, All-head (λ (x : WorkerShown). HasRun x) w ws whole, have_run b s (n + 1) ws (ap (drop 1) seats) (All-tail (λ (x : WorkerShown). HasRun x) w ws whole))
+pub have_run : (b : Board) (hands : ℕ) (s : Setting) (n : ℕ) (ms : List (Member WorkerShown TeamShown)) → map member_seat ms ≡ map (seat_at hands s b) (range_with_len n (length ms))
+    → All MemberHasRun ms → HaveRunFrom b hands s n ms
+have_run b hands s n [] seats whole = tt
+have_run b hands s n (m ∷ ms) seats whole =
+    (ap (λ (xs : List Seat). get_or xs 0 (member_seat m)) seats, All-head MemberHasRun m ms whole, have_run b hands s (n + 1) ms (ap (drop 1) seats) (All-tail MemberHasRun m ms whole))
 
-pub have_run_all : (b : Board) (s : Setting) (ws : List WorkerShown) → s.config ≡ b.setup.config → map (λ (w : WorkerShown). seat_of w) ws ≡ map (seat_at s b) (range_with_len 0 (callers_of b.setup.config))
-    → All (λ (w : WorkerShown). HasRun w) ws → HaveRun b s ws
-have_run_all b s ws config seats whole =
-    let count : length ws ≡ callers_of b.setup.config = seats_count b s ws seats in
-    record { config = config; run = have_run b s 0 ws (seats ∙ ap (λ n. map (seat_at s b) (range_with_len 0 n)) (sym count)) whole }
+pub have_run_all : (b : Board) (hands : ℕ) (s : Setting) (ms : List (Member WorkerShown TeamShown)) → s.config ≡ b.setup.config → s.manner ≡ plain
+    → map member_seat ms ≡ map (seat_at hands s b) (range_with_len 0 (callers_of b.setup.config)) → All MemberHasRun ms → HaveRun b hands s ms
+have_run_all b hands s ms config changes_nothing seats whole =
+    let count : length ms ≡ callers_of b.setup.config = seats_count b hands s ms seats in
+    record { config = config; plain = changes_nothing; run = have_run b hands s 0 ms (seats ∙ ap (λ n. map (seat_at hands s b) (range_with_len 0 n)) (sym count)) whole }
 
--- the first of them, in the setting and as the caller of its seat
-module _ (b : Board) (s : Setting) (n : ℕ) (w : WorkerShown) (rest : List WorkerShown) (run : HaveRunFrom b s n (w ∷ rest)) where
-  pub who_is : w.pass.who ≡ n
-  who_is = ap (λ (x : Seat). x.who) run.0
+-- one machine makes all calls where there is one hand, or of a driver
+alone_by : (hands n pairs : ℕ) → (hands == 1 || nat_lt n pairs) ≡ true → (hands ≡ 1) ⊎ (n < pairs)
+alone_by hands n pairs is = ⊎_elim (λ one. inl (eqb-true hands 1 one)) (λ driver. inr (ltb-true n pairs driver)) (or_cases (hands == 1) (nat_lt n pairs) is)
 
-  setting_is : w.setting ≡ s
-  setting_is = ap (λ (x : Seat). x.setting) run.0
+-- several hands make a whole split run
+split_by : (hands : ℕ) (m : Manner) (c : Config) (app : ℕ) (l : List Told) → (hands ≡ 1 → ⊥) → m ≡ plain → IsWholeSplitRun c app l → IsWholeAppRunOf hands m c app l
+split_by zero m c app l several is whole = (is, whole)
+split_by (suc zero) m c app l several is whole = absurd (several refl)
+split_by (suc (suc hands)) m c app l several is whole = (is, whole)
 
-  pub table_is : w.pass.table ≡ b.table
-  table_is = ap (λ (x : Seat). x.table) run.0
+-- by so many hands, a worker's whole run is one where it is alone
+whole_alone : (hands : ℕ) (s : Setting) (n : ℕ) (l : List Told) → is_alone hands s n ≡ true → IsWholeRun s n l → IsWholeRunOf hands s n l
+whole_alone hands s n l is run = ⊎_elim
+    (λ (one : hands ≡ 1). subst (λ (k : ℕ). IsWholeRunOf k s n l) (sym one) (by_one s n l run))
+    (λ (driver : n < length s.config.pairs). record { driver = run.driver; app = λ a at. absurd (omega (arith, driver, at)) })
+    (alone_by hands n (length s.config.pairs) is)
 
-  pub setup_is : w.pass.view.setup ≡ b.setup
-  setup_is = ap (λ (x : Seat). x.setup) run.0
-
-  at_seat : (P : Setting → ℕ → Type 0) → P w.setting w.pass.who → P s n
-  at_seat P h = subst (λ k. P s k) who_is (subst (λ k. P k w.pass.who) setting_is h)
-
-  pub whole_here : IsWholeRun s n (own n w.pass.view.seen)
-  whole_here = at_seat (λ t k. IsWholeRun t k (own k w.pass.view.seen)) run.1
-
-  pub stands_here : (m : AnyWorker) → Stands w.setting w.pass.who m Ended (own w.pass.who w.pass.view.seen) → Stands s n m Ended (own n w.pass.view.seen)
-  stands_here m h = at_seat (λ t k. Stands t k m Ended (own k w.pass.view.seen)) h
-
--- there is room for what is kept of a driver
-pub kept_few : {X : Type 0} (Is : ℕ → List Told → X → Type 0) (s : Setting) (n : ℕ) (passes : List (Option Holder)) (xs : List X) (m : AnyWorker) (l : List Told) → Stands s n m Ended l → AreKept Is s n passes xs
-    → length xs + length (kept_of m) ≤ length s.config.pairs
-kept_few Is s n passes xs (Driver d) l stands kept = omega (arith, stands.known, kept.first (omega (arith, stands.known)))
-kept_few Is s n passes xs (App a) l stands kept = omega (arith, kept.all (omega (arith, stands.caller)))
-
-pub as_many : (classes : ℕ) (m : AnyWorker) → length (figures_kept classes m) ≡ length (kept_of m)
-as_many classes (Driver d) = refl
-as_many classes (App a) = refl
-
--- workers in these seats are workers of the setting, on the table
-pub are_of : (b : Board) (s : Setting) (n k : ℕ) (ws : List WorkerShown) → map (λ (w : WorkerShown). seat_of w) ws ≡ map (seat_at s b) (range_with_len n k) → AreOf b s ws
-are_of b s n k ws seats =
-    let count : length ws ≡ k = sym (length-map ws (λ (w : WorkerShown). seat_of w)) ∙ ap (length {A = Seat}) seats ∙ length-map (range_with_len n k) (seat_at s b) ∙ length-range_with_len n k in
-    let each : (i : ℕ) (d : WorkerShown) → i < length ws → seat_of (get_or ws i d) ≡ seat_at s b (get_or (range_with_len n k) i 0) =
-    λ i d below.
-    sym (get_or-map (λ (w : WorkerShown). seat_of w) ws i d (seat_of d) below) ∙ ap (λ (xs : List Seat). get_or xs i (seat_of d)) seats
-    ∙ get_or-map (seat_at s b) (range_with_len n k) i 0 (seat_of d) (omega (arith, below, count, length-range_with_len n k)) in
+-- and several hands' whole split run where it isn't
+whole_split : (hands : ℕ) (s : Setting) (n app : ℕ) (l : List Told) → is_alone hands s n ≡ false → s.manner ≡ plain → n ≡ caller_of s.config app → IsWholeSplitRun s.config app l → IsWholeRunOf hands s n l
+whole_split hands s n app l is changes_nothing caller whole =
+    let several : hands ≡ 1 → ⊥ = λ one. let no : true ≡ false = ap (λ k. is_alone k s n) (sym one) ∙ is in absurd cc in
     record {
-      belong = λ i d below. record { table = ap (λ (x : Seat). x.table) (each i d below); setup = ap (λ (x : Seat). x.setup) (each i d below) };
-      judged = λ i d below. ap (λ (x : Seat). x.setting) (each i d below);
+      driver = λ below. absurd (omega (arith, below, caller));
+      app = λ a at.
+          let same : app ≡ a = omega (arith, at, caller) in
+          split_by hands s.manner s.config a l several changes_nothing (subst (λ k. IsWholeSplitRun s.config k l) same whole);
     }
 
+-- the first of them, in the setting and as the caller of its seat
+module _ (b : Board) (hands : ℕ) (s : Setting) (n : ℕ) where
+  pub who_is : (m : Member WorkerShown TeamShown) (rest : List (Member WorkerShown TeamShown)) → HaveRunFrom b hands s n (m ∷ rest) → (pass_in m).who ≡ n
+  who_is (One w) rest run = ap (λ (x : Seat). x.who) run.0
+  who_is (Several t) rest run = ap (λ (x : Seat). x.who) run.0
+
+  pub table_is : (m : Member WorkerShown TeamShown) (rest : List (Member WorkerShown TeamShown)) → HaveRunFrom b hands s n (m ∷ rest) → (pass_in m).table ≡ b.table
+  table_is (One w) rest run = ap (λ (x : Seat). x.table) run.0
+  table_is (Several t) rest run = ap (λ (x : Seat). x.table) run.0
+
+  pub setup_is : (m : Member WorkerShown TeamShown) (rest : List (Member WorkerShown TeamShown)) → HaveRunFrom b hands s n (m ∷ rest) → (pass_in m).view.setup ≡ b.setup
+  setup_is (One w) rest run = ap (λ (x : Seat). x.setup) run.0
+  setup_is (Several t) rest run = ap (λ (x : Seat). x.setup) run.0
+
+  at_seat : (P : Setting → ℕ → Type 0) (t : Setting) (who : ℕ) → t ≡ s → who ≡ n → P t who → P s n
+  at_seat P t who setting is h = subst (λ k. P s k) is (subst (λ k. P k who) setting h)
+
+  -- of several hands: its caller is an application
+  past : (t : TeamShown) (rest : List (Member WorkerShown TeamShown)) (run : HaveRunFrom b hands s n (Several t ∷ rest)) → n ≡ caller_of s.config t.last.app
+  past t rest run =
+      at_seat (λ x k. k ≡ caller_of x.config t.last.app) t.setting t.last.pass.who (ap (λ (x : Seat). x.setting) run.0) (ap (λ (x : Seat). x.who) run.0) run.1.team.caller
+
+  pub whole_here : (m : Member WorkerShown TeamShown) (rest : List (Member WorkerShown TeamShown)) → s.manner ≡ plain → HaveRunFrom b hands s n (m ∷ rest) → IsWholeRunOf hands s n (own n (pass_in m).view.seen)
+  whole_here (One w) rest changes_nothing run =
+      whole_alone hands s n (own n w.pass.view.seen) (sym (ap (λ (x : Seat). x.alone) run.0))
+      (at_seat (λ x k. IsWholeRun x k (own k w.pass.view.seen)) w.setting w.pass.who (ap (λ (x : Seat). x.setting) run.0) (ap (λ (x : Seat). x.who) run.0) run.1)
+  whole_here (Several t) rest changes_nothing run =
+      whole_split hands s n t.last.app (own n t.last.pass.view.seen) (sym (ap (λ (x : Seat). x.alone) run.0)) changes_nothing (past t rest run)
+      (at_seat (λ x k. IsWholeSplitRun x.config t.last.app (own k t.last.pass.view.seen)) t.setting t.last.pass.who (ap (λ (x : Seat). x.setting) run.0) (ap (λ (x : Seat). x.who) run.0) run.1.whole)
+
+  pub left_here : (m : Member WorkerShown TeamShown) (rest : List (Member WorkerShown TeamShown)) (left : Option AnyWorker) → HaveRunFrom b hands s n (m ∷ rest) → IsLeftOf Stands m left
+      → StandsLeft s n left (own n (pass_in m).view.seen)
+  left_here (One w) rest None run is = absurd is
+  left_here (One w) rest (Some machine) run is =
+      at_seat (λ x k. Stands x k machine Ended (own k w.pass.view.seen)) w.setting w.pass.who (ap (λ (x : Seat). x.setting) run.0) (ap (λ (x : Seat). x.who) run.0) (is run.1)
+  left_here (Several t) rest None run is = omega (arith, past t rest run)
+  left_here (Several t) rest (Some machine) run is = absurd is
+
+-- there is room for what is kept of a driver
+pub kept_few : {X : Type 0} (Is : ℕ → List Told → X → Type 0) (s : Setting) (n : ℕ) (passes : List (Option Holder)) (xs : List X) (left : Option AnyWorker) (l : List Told) → StandsLeft s n left l → AreKept Is s n passes xs
+    → length xs + length (kept_left left) ≤ length s.config.pairs
+kept_few Is s n passes xs None l past kept = omega (arith, kept.all past)
+kept_few Is s n passes xs (Some (Driver d)) l stands kept = omega (arith, stands.known, kept.first (omega (arith, stands.known)))
+kept_few Is s n passes xs (Some (App a)) l stands kept = omega (arith, kept.all (omega (arith, stands.caller)))
+
+pub as_many : (classes : ℕ) (left : Option AnyWorker) → length (figures_left classes left) ≡ length (kept_left left)
+as_many classes None = refl
+as_many classes (Some (Driver d)) = refl
+as_many classes (Some (App a)) = refl
+
+-- members in these seats are on the table
+pub are_on : (b : Board) (hands : ℕ) (s : Setting) (n k : ℕ) (ms : List (Member WorkerShown TeamShown)) → map member_seat ms ≡ map (seat_at hands s b) (range_with_len n k) → All (λ m. IsSeatOn b (member_seat m)) ms
+are_on b hands s n k ms seats =
+    let count : length ms ≡ k = sym (length-map ms member_seat) ∙ ap (length {A = Seat}) seats ∙ length-map (range_with_len n k) (seat_at hands s b) ∙ length-range_with_len n k in
+    λ i d below.
+    let each : member_seat (get_or ms i d) ≡ seat_at hands s b (get_or (range_with_len n k) i 0) =
+    sym (get_or-map member_seat ms i d (member_seat d) below) ∙ ap (λ (xs : List Seat). get_or xs i (member_seat d)) seats
+    ∙ get_or-map (seat_at hands s b) (range_with_len n k) i 0 (member_seat d) (omega (arith, below, count, length-range_with_len n k)) in
+    (ap (λ (x : Seat). x.table) each, ap (λ (x : Seat). x.setup) each)
+
 -- the passes that were given back are there
-pub are_there : (b : Board) (s : Setting) (passes : List (Option Holder)) → AreGiven b s (callers_of b.setup.config) passes → AreThere b passes
-are_there b s passes h = λ w below. let at = h.there w below in (at.0, at.1, record { table = at.2; setup = at.3 })
+pub are_there : (b : Board) (hands : ℕ) (s : Setting) (passes : List (Option Holder)) → AreGiven b hands s (callers_of b.setup.config) passes → AreThere b passes
+are_there b hands s passes h = λ w below. let at = h.there w below in (at.0, at.1, record { table = at.2; setup = at.3 })
 
 -- ---- the history of them all
 
@@ -226,8 +284,8 @@ figures_by_parts calls wire mangled drivers = record { calls = calls; wire = wir
 
 -- in the history in which all passes end each caller's own calls and replies are a whole run, and what was kept as sent, as
 -- figures and as the number of calls is what it should be there
-module _ (b : Board) (s : Setting) (frames : List Frame) (passes : List (Option Holder)) (lists : List (List (List ℕ))) (drivers : List DriverFigures) (calls : ℕ) (wire : Wire) (h : List Entry) (steady : IsSteady s.config)
-    (config : s.config ≡ b.setup.config) (opened : b.setup.frames ≡ frames) (given : AreGiven b s (callers_of b.setup.config) passes) (sent : AreSent s (callers_of b.setup.config) passes lists)
+module _ (b : Board) (hands : ℕ) (s : Setting) (frames : List Frame) (passes : List (Option Holder)) (lists : List (List (List ℕ))) (drivers : List DriverFigures) (calls : ℕ) (wire : Wire) (h : List Entry) (steady : IsSteady s.config)
+    (config : s.config ≡ b.setup.config) (opened : b.setup.frames ≡ frames) (given : AreGiven b hands s (callers_of b.setup.config) passes) (sent : AreSent s (callers_of b.setup.config) passes lists)
     (figured : AreFiguresOf s (callers_of b.setup.config) passes drivers) (counted : calls ≡ capped (calls_in 0 passes)) (same_wire : wire ≡ s.wire) (none_changed : is_some s.manner.mangle ≡ false) (ends : EndsIn b passes h) where
   legal : IsHistory s.config frames h
   legal = subst (λ f. IsHistory s.config f h) opened (subst (λ c. IsHistory c b.setup.frames h) (sym config) ends.legal)
@@ -235,29 +293,29 @@ module _ (b : Board) (s : Setting) (frames : List Frame) (passes : List (Option 
   known : (who : ℕ) → who < callers_of s.config → who < callers_of b.setup.config
   known who below = subst (λ (c : Config). who < callers_of c) config below
 
-  whole : (who : ℕ) → who < callers_of s.config → IsWholeRun s who (own who h)
+  whole : (who : ℕ) → who < callers_of s.config → IsWholeRunOf hands s who (own who h)
   whole who below =
       let at = given.there who (known who below) in
-      subst (IsWholeRun s who) (sym (ends.of_each who at.0 (known who below) at.1)) at.4
+      subst (IsWholeRunOf hands s who) (sym (ends.of_each who at.0 (known who below) at.1)) at.4
 
-  past : length s.config.pairs ≤ callers_of b.setup.config
-  past = omega (arith, ap (λ (c : Config). callers_of c) config)
+  drivers_known : length s.config.pairs ≤ callers_of b.setup.config
+  drivers_known = omega (arith, ap (λ (c : Config). callers_of c) config)
 
   -- what was kept of a driver is so in the history
   kept_is : {X : Type 0} (Is : ℕ → List Told → X → Type 0) (xs : List X) → AreKept Is s (callers_of b.setup.config) passes xs → (pair : ℕ) (none : X) → pair < length s.config.pairs → Is pair (own pair h) (get_or xs pair none)
   kept_is Is xs kept pair none below =
-      let at = kept.each pair none (omega (arith, kept.all past, below)) in
+      let at = kept.each pair none (omega (arith, kept.all drivers_known, below)) in
       let who : pair < callers_of s.config = omega (arith, below) in
       let mine : own pair h ≡ own pair at.0.view.seen = ends.of_each pair at.0 (known pair who) at.1 in
       subst (λ l. Is pair l (get_or xs pair none)) (sym mine) at.2
 
   sent_is : (pair : ℕ) → pair < length s.config.pairs → get_or lists pair [] ≡ sent_of s h pair
-  sent_is pair below = kept_is (IsSentOf s) lists sent pair [] below (are_within s frames h steady legal whole pair below)
+  sent_is pair below = kept_is (IsSentOf s) lists sent pair [] below (are_within_by hands s frames h steady legal whole pair below)
 
   drivers_are : drivers ≡ map (driver_figures_of s h) (range_with_len 0 (length s.config.pairs))
   drivers_are =
-      fill_by_all (driver_figures_of s h) drivers (length s.config.pairs) (driver_figures_of s h 0) (figured.all past)
-      (λ k below. kept_is (IsFiguresOf s) drivers figured k (driver_figures_of s h 0) below (are_within s frames h steady legal whole k below))
+      fill_by_all (driver_figures_of s h) drivers (length s.config.pairs) (driver_figures_of s h 0) (figured.all drivers_known)
+      (λ k below. kept_is (IsFiguresOf s) drivers figured k (driver_figures_of s h 0) below (are_within_by hands s frames h steady legal whole k below))
 
   calls_is : calls ≡ capped (length h)
   calls_is =
@@ -274,7 +332,7 @@ module _ (b : Board) (s : Setting) (frames : List Frame) (passes : List (Option 
       ap (λ (n : ℕ). figures_by_parts n wire false drivers) calls_is ∙ ap (λ (x : Wire). figures_by_parts (capped (length h)) x false drivers) same_wire
       ∙ ap (λ (b : Bool). figures_by_parts (capped (length h)) s.wire b drivers) (sym none_changed) ∙ ap (figures_by_parts (capped (length h)) s.wire (is_some s.manner.mangle)) drivers_are
 
-  pub has_forwarded : HasForwarded s frames (record { history = h; sent = lists; figures = figures })
+  pub has_forwarded : HasForwarded hands s frames (record { history = h; sent = lists; figures = figures })
   has_forwarded = record {
     legal = legal;
     whole = whole;
@@ -282,9 +340,9 @@ module _ (b : Board) (s : Setting) (frames : List Frame) (passes : List (Option 
     sent = sent_is;
     figures = figures_are;
     woken = λ past later pair split below.
-        none_is_lost_in_whole_runs 1 s.manner s.wire s.config s.packets s.verdicts frames past later pair
-        (subst (AreWholeRuns s.manner s.wire s.config s.packets s.verdicts frames) split (whole_runs s frames h steady legal whole)) below;
+        none_is_lost_in_whole_runs hands s.manner s.wire s.config s.packets s.verdicts frames past later pair
+        (subst (AreWholeRunsBy hands s.manner s.wire s.config s.packets s.verdicts frames) split (whole_runs_by hands s frames h steady legal whole)) below;
   }
 
   pub pairs_are : length lists ≡ length s.config.pairs
-  pairs_are = sent.all past
+  pairs_are = sent.all drivers_known

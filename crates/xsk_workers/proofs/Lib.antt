@@ -2,6 +2,8 @@ pub mod Going
 pub mod Sleeping
 pub mod Ruling
 pub mod Seats
+pub mod Dealt
+pub mod Sitting
 pub mod Lists
 pub mod Calls
 pub mod Gathering

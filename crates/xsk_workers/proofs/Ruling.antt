@@ -13,6 +13,6 @@ use Rattle.xsk_driver.specs.Asking.{IsAnswer}
 use Rattle.xsk_machine.proofs.Ruling.{asked_ruled}
 use Rattle.xsk_workers.specs.Forwarded.{HasForwarded, OutcomeShown}
 
-pub forwards_as_ruled : {F : Type 0} (g : Shared F (Bor (List ℕ) × (ℕ × Unit {0})) Verdict) (programs : List (XdpProgram F)) (s : Setting) (frames : List Frame) (o : OutcomeShown)
-    → are_exact (rules_of programs) ≡ true → AreGiven (IsAnswer g programs) s → HasForwarded s frames o → HasForwarded (ruled_by (rules_of programs) s.wire s.manner s.config s.packets) frames o
-forwards_as_ruled g programs s frames o exact asked h = subst (λ t. HasForwarded t frames o) (one_setting (rules_of programs) s exact (asked_ruled g programs s asked)) h
+pub forwards_as_ruled : {F : Type 0} (hands : ℕ) (g : Shared F (Bor (List ℕ) × (ℕ × Unit {0})) Verdict) (programs : List (XdpProgram F)) (s : Setting) (frames : List Frame) (o : OutcomeShown)
+    → are_exact (rules_of programs) ≡ true → AreGiven (IsAnswer g programs) s → HasForwarded hands s frames o → HasForwarded hands (ruled_by (rules_of programs) s.wire s.manner s.config s.packets) frames o
+forwards_as_ruled hands g programs s frames o exact asked h = subst (λ t. HasForwarded hands t frames o) (one_setting (rules_of programs) s exact (asked_ruled g programs s asked)) h

@@ -14,7 +14,8 @@ use Rattle.xsk_prog.specs.declared.program.XdpProgram.{XdpProgram}
 use Rattle.xsk_prog.specs.declared.rule.Verdict.{Verdict}
 use Rattle.xsk_turns.specs.Owned.{IsSteady}
 use Rattle.xsk_turns.specs.Wakes.{NoWakeIsLost}
-use Rattle.xsk_turns.specs.Workers.{Setting, IsWholeRun, AreGiven}
+use Rattle.xsk_turns.specs.Hands.{IsWholeRunOf}
+use Rattle.xsk_turns.specs.Workers.{Setting, AreGiven}
 use Rattle.xsk_turns.specs.declared.wire.Wire.{Wire}
 use Rattle.xsk_turns.specs.declared.wire.Wire.TheVariants.{Wait}
 use Rattle.xsk_driver.specs.Asking.{IsAnswer}
@@ -31,13 +32,13 @@ pub record OutcomeShown : Type 0 where
   pub sent : List (List (List ℕ))
   pub figures : Figures
 
--- The history is legal from the opening with these frames. Of each worker it has a whole run of its turns over the packets
--- that came, and of no one else anything. After each of its prefixes each frame has one holder and no wake is lost, and what each
--- driver sent are the packets that its calls on COMPLETION completed there and those of its own that it bounced, in the history's
--- order. The figures are counts over the history.
-pub record HasForwarded (s : Setting) (frames : List Frame) (o : OutcomeShown) : Type 0 where
+-- The history is legal from the opening with these frames. Of each driver, and of each application by so many hands, it has a
+-- whole run over the packets that came, and of no one else anything. After each of its prefixes each frame has one holder and no
+-- wake is lost, and what each driver sent are the packets that its calls on COMPLETION completed there and those of its own that it
+-- bounced, in the history's order. The figures are counts over the history.
+pub record HasForwarded (hands : ℕ) (s : Setting) (frames : List Frame) (o : OutcomeShown) : Type 0 where
   pub legal : IsHistory s.config frames o.history
-  pub whole : (who : ℕ) → who < callers_of s.config → IsWholeRun s who (own who o.history)
+  pub whole : (who : ℕ) → who < callers_of s.config → IsWholeRunOf hands s who (own who o.history)
   pub holders : (past later : List Entry) → o.history ≡ past ++ later → HasOneHolder s.config.geometry.frames (state_after s.config frames past)
   pub sent : (pair : ℕ) → pair < length s.config.pairs → slice_index_or o.sent pair [] ≡ sent_of s o.history pair
   pub figures : o.figures ≡ figures_of s o.history
@@ -45,18 +46,18 @@ pub record HasForwarded (s : Setting) (frames : List Frame) (o : OutcomeShown) :
 
 -- The same under a chain: there are verdicts of each driver's packets, each an answer of the chain that meets its programs'
 -- rules, with which it has forwarded.
-pub record HasForwardedUnder {F : Type 0} (g : Shared F (Bor (List ℕ) × (ℕ × Unit {0})) Verdict) (programs : List (XdpProgram F)) (wire : Wire) (c : Config) (packets : List PacketList) (frames : List Frame) (o : OutcomeShown) : Type 0 where
+pub record HasForwardedUnder {F : Type 0} (hands : ℕ) (g : Shared F (Bor (List ℕ) × (ℕ × Unit {0})) Verdict) (programs : List (XdpProgram F)) (wire : Wire) (c : Config) (packets : List PacketList) (frames : List Frame) (o : OutcomeShown) : Type 0 where
   pub verdicts : List (List Verdict)
   pub asked : AreGiven (IsAnswer g programs) (setting_with c wire packets verdicts)
-  pub forwarded : HasForwarded (setting_with c wire packets verdicts) frames o
+  pub forwarded : HasForwarded hands (setting_with c wire packets verdicts) frames o
 
 -- Where no item is changed, as in each run that `forward` makes, what the driver of a port and queue sent is what was forwarded by
 -- all classes, whatever the wire does, beside what bounced of its own packets, and nothing else.
 -- Where the wire waits it is what is expected by them, beside what bounces.
 abbrev pub AllAreForwarded : Type 0
-AllAreForwarded = (s : Setting) (frames : List Frame) (o : OutcomeShown) (port queue : ℕ) → s.manner.mangle ≡ None → IsSteady s.config → HasForwarded s frames o → port < s.config.ports → queue < s.config.queues
+AllAreForwarded = (hands : ℕ) (s : Setting) (frames : List Frame) (o : OutcomeShown) (port queue : ℕ) → s.manner.mangle ≡ None → IsSteady s.config → HasForwarded hands s frames o → port < s.config.ports → queue < s.config.queues
     → AreForwarded s.wire s.config o.history s.packets s.verdicts port queue (slice_index_or o.sent (driver_on s.config port queue) [])
 
 abbrev pub AllAreExpected : Type 0
-AllAreExpected = (s : Setting) (frames : List Frame) (o : OutcomeShown) (port queue : ℕ) → s.manner.mangle ≡ None → s.wire ≡ Wait → IsSteady s.config → HasForwarded s frames o → port < s.config.ports → queue < s.config.queues
+AllAreExpected = (hands : ℕ) (s : Setting) (frames : List Frame) (o : OutcomeShown) (port queue : ℕ) → s.manner.mangle ≡ None → s.wire ≡ Wait → IsSteady s.config → HasForwarded hands s frames o → port < s.config.ports → queue < s.config.queues
     → AreExpected s.config s.packets s.verdicts port queue (slice_index_or o.sent (driver_on s.config port queue) [])

@@ -1,24 +1,30 @@
--- Workers before and after they ran, in the order of their numbers.
+-- Members before and after they ran, in the order of their numbers.
 use Rattle.std.specs.Prelude.{◌≡◌, ℕ, ◌+◌, ◌<◌, ◌≤◌, Option, Some, None, List, [], ◌∷◌, length, get_or}
 use Rattle.xsk_model.specs.Config.{callers_of}
 use Rattle.xsk_model.specs.Entry.{Told, own}
-use Rattle.xsk_turns.specs.Workers.{Setting, IsWholeRun, input_of}
+use Rattle.xsk_turns.specs.Hands.{IsWholeRunOf}
+use Rattle.xsk_turns.specs.Mangling.{plain}
+use Rattle.xsk_turns.specs.Workers.{Setting, input_of}
 use Rattle.xsk_machine.specs.Acts.{sent_along}
 use Rattle.xsk_machine.specs.Figured.{driver_figures_by}
 use Rattle.xsk_machine.specs.declared.figures.DriverFigures.{DriverFigures}
 use Rattle.xsk_machine.proofs.Acts.{IsWithin}
 use Rattle.xsk_table.specs.Held.{Board, Holder, new_pass}
-use Rattle.xsk_workers.specs.Shown.{WorkerShown, seat_of, seat_at, HasRun}
+use Rattle.xsk_workers.specs.Shown.{WorkerShown, seat_at}
+use Rattle.xsk_workers.specs.Hands.{TeamShown}
+use Rattle.xsk_workers.specs.Members.{member_seat, MemberHasRun}
+use Rattle.xsk_workers.specs.declared.member.Member.{Member}
 
--- workers that have ended, each in its seat, by number from one on
-abbrev pub HaveRunFrom : Board → Setting → ℕ → List WorkerShown → Type 0
-HaveRunFrom b s n [] = Unit {0}
-HaveRunFrom b s n (w ∷ ws) = (seat_of w ≡ seat_at s b n) × HasRun w × HaveRunFrom b s (n + 1) ws
+-- members that have ended, each in its seat, by number from one on
+abbrev pub HaveRunFrom : Board → ℕ → Setting → ℕ → List (Member WorkerShown TeamShown) → Type 0
+HaveRunFrom b hands s n [] = Unit {0}
+HaveRunFrom b hands s n (m ∷ ms) = (member_seat m ≡ seat_at hands s b n) × MemberHasRun m × HaveRunFrom b hands s (n + 1) ms
 
--- those of all callers of a table, in a setting of its configuration
-pub record HaveRun (b : Board) (s : Setting) (workers : List WorkerShown) : Type 0 where
+-- those of all callers of a table, in a setting of its configuration whose applications change nothing, by so many hands
+pub record HaveRun (b : Board) (hands : ℕ) (s : Setting) (members : List (Member WorkerShown TeamShown)) : Type 0 where
   pub config : s.config ≡ b.setup.config
-  pub run : HaveRunFrom b s 0 workers
+  pub plain : s.manner ≡ plain
+  pub run : HaveRunFrom b hands s 0 members
 
 -- the passes of the first callers are taken, and the others are there, with no call made
 pub record AreTaken (b : Board) (count : ℕ) (passes : List (Option Holder)) : Type 0 where
@@ -27,9 +33,9 @@ pub record AreTaken (b : Board) (count : ℕ) (passes : List (Option Holder)) : 
   pub gone : (w : ℕ) → w < count → get_or passes w None ≡ None
 
 -- the passes of the first callers are given back, each with a whole run of its caller, and the others aren't there
-pub record AreGiven (b : Board) (s : Setting) (count : ℕ) (passes : List (Option Holder)) : Type 0 where
+pub record AreGiven (b : Board) (hands : ℕ) (s : Setting) (count : ℕ) (passes : List (Option Holder)) : Type 0 where
   pub length_is : length passes ≡ callers_of b.setup.config
-  pub there : (w : ℕ) → w < count → (p : Holder) × (get_or passes w None ≡ Some p) × (p.table ≡ b.table) × (p.view.setup ≡ b.setup) × IsWholeRun s w (own w p.view.seen)
+  pub there : (w : ℕ) → w < count → (p : Holder) × (get_or passes w None ≡ Some p) × (p.table ≡ b.table) × (p.view.setup ≡ b.setup) × IsWholeRunOf hands s w (own w p.view.seen)
   pub gone : (w : ℕ) → count ≤ w → w < callers_of b.setup.config → get_or passes w None ≡ None
 
 -- What was kept of the first drivers, one thing of each, is what it should be by what their passes saw.

@@ -1,4 +1,7 @@
+pub mod Crew
 pub mod Shown
 pub mod Parking
+pub mod Hands
+pub mod Members
 pub mod Forwarded
 pub mod Gathering

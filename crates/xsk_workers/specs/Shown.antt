@@ -1,9 +1,5 @@
 -- What contracts see of a worker, and what its type keeps.
-use Rattle.std.specs.Prelude.{◌≡◌, ℕ, ◌≤◌, Option, List, [], All, length, vec_len, vec_capacity}
-use Rattle.std.specs.Vec.{vec_items}
-use Rattle.std.specs.declared.vec.Vec.{Vec}
-use Rattle.std.specs.declared.alloc.Global.{Global}
-use Rattle.atomic_table.specs.Seated.{TableId}
+use Rattle.std.specs.Prelude.{◌≡◌, ℕ, ◌==◌, ◌||◌, nat_lt, Bool, true, Option, List, length}
 use Rattle.xsk_umem.specs.declared.batch.Item.{Item}
 use Rattle.xsk_model.specs.Entry.{Told, own}
 use Rattle.xsk_model.specs.Expected.{Expected, expected_of}
@@ -13,8 +9,9 @@ use Rattle.xsk_turns.specs.Counted.{capped}
 use Rattle.xsk_turns.specs.Stepping.{joined_ask, IsGivenBack}
 use Rattle.xsk_turns.specs.Workers.{Setting, IsWholeRun}
 use Rattle.xsk_machine.specs.Acts.{IsActAfter}
-use Rattle.xsk_table.specs.View.{Setup, idle}
-use Rattle.xsk_table.specs.Held.{Board, Holder, Belongs}
+use Rattle.xsk_table.specs.View.{idle}
+use Rattle.xsk_table.specs.Held.{Board, Holder}
+use Rattle.xsk_workers.specs.Crew.{Seat}
 
 -- a worker: the setting, the pass of its caller, and the call that it makes next, without its items
 pub record WorkerShown : Type 0 where
@@ -22,18 +19,19 @@ pub record WorkerShown : Type 0 where
   pub pass : Holder
   pub next : Option Ask
 
--- what of a worker never changes: its setting, its table and the table's setup, its caller
-pub record Seat : Type 0 where
-  pub setting : Setting
-  pub table : TableId
-  pub setup : Setup
-  pub who : ℕ
+-- the seat of a caller in a setting, by its pass
+abbrev pub seat_with : Setting → Holder → Bool → Seat
+seat_with s p alone = record { setting = s; table = p.table; setup = p.view.setup; who = p.who; alone = alone }
 
 abbrev pub seat_of : WorkerShown → Seat
-seat_of w = record { setting = w.setting; table = w.pass.table; setup = w.pass.view.setup; who = w.pass.who }
+seat_of w = seat_with w.setting w.pass true
 
-abbrev pub seat_at : Setting → Board → ℕ → Seat
-seat_at s b who = record { setting = s; table = b.table; setup = b.setup; who = who }
+-- by so many hands one machine makes all calls of each driver, and with one hand of each application too
+abbrev pub is_alone : ℕ → Setting → ℕ → Bool
+is_alone hands s who = hands == 1 || nat_lt who (length s.config.pairs)
+
+abbrev pub seat_at : ℕ → Setting → Board → ℕ → Seat
+seat_at hands s b who = record { setting = s; table = b.table; setup = b.setup; who = who; alone = is_alone hands s who }
 
 -- the worker's own calls and replies, as far as its pass has seen, which are all of them, are a whole run of its machine
 abbrev pub HasRun : WorkerShown → Type 0
@@ -52,22 +50,3 @@ pub record IsGoing {M : Type 0} (Stands : Setting → ℕ → M → Act → List
   pub given_back : IsGivenBack ask items
   pub stands : Stands s p.who machine (joined_ask ask items) (own p.who p.view.seen)
   pub after : IsActAfter s p.who (joined_ask ask items) (own p.who p.view.seen)
-
--- workers of a setting, on one table
-pub record AreOf (b : Board) (s : Setting) (workers : List WorkerShown) : Type 0 where
-  pub belong : All (λ (w : WorkerShown). Belongs b w.pass) workers
-  pub judged : All (λ (w : WorkerShown). w.setting ≡ s) workers
-
--- what contracts see of a crew: its table and the seats of its workers
-pub record CrewShown : Type 0 where
-  pub board : Board
-  pub seats : List Seat
-
--- three lists are empty and have room for as many as stand in the first
-pub record HaveRoom {X H : Type 0} (workers : Vec X Global) (handles : Vec H Global) (unrun done : Vec X Global) : Type 0 where
-  pub no_handle : vec_items handles ≡ []
-  pub none_unrun : vec_items unrun ≡ []
-  pub none_done : vec_items done ≡ []
-  pub for_handles : vec_len workers ≤ vec_capacity handles
-  pub for_unrun : vec_len workers ≤ vec_capacity unrun
-  pub for_done : vec_len workers ≤ vec_capacity done

@@ -1,12 +1,11 @@
 //! All workers of a run in threads of their own.
 ghost use Rattle.std.specs.Prelude.{◌≡◌, ℕ, ◌≤◌, List, [], map, All, vec_len, vec_capacity, IfOk};
-ghost use Rattle.xsk_table.specs.Held.{Board, Belongs};
-ghost use Rattle.xsk_workers.specs.Shown.{WorkerShown, Seat, seat_of, HasRun, AreOf};
+ghost use Rattle.xsk_table.specs.Held.{Board};
+ghost use Rattle.xsk_workers.specs.Crew.{Seat, IsSeatOn};
 ghost use denote.Param.Send.{IsSend, IsSync};
 
-use crate::place::Place;
-use crate::running::{Handed, finish, run};
-use crate::worker::Worker;
+use crate::runner::{Opens, Runner};
+use crate::running::{Handed, finish, start};
 use std::alloc::{AllocError, Global};
 use std::marker::Model;
 use std::snapshot::Snapshot;
@@ -15,41 +14,38 @@ use std::sync::atomic::{AtomicU64, Ordering};
 use std::thread;
 use std::thread::{PromisedHandle, Scope, Threads};
 use xsk_io::Gate;
-use xsk_machine::Machine;
 use xsk_table::Shared;
 
 /// Workers before they start, with room for them to come back to, which is taken before any of them starts.
 #[derive(Drop)]
-pub(crate) struct Crew<M: Machine + Drop, P: Place> {
+pub(crate) struct Crew<W: Runner + Drop> {
     shared: Snapshot<Shared>,
-    place: P,
-    workers: Vec<Worker<M, P>>,
-    handles: Vec<PromisedHandle<Worker<M, P>, Handed<P>>>,
-    unrun: Vec<Worker<M, P>>,
-    done: Vec<Worker<M, P>>,
+    workers: Vec<W>,
+    handles: Vec<PromisedHandle<W, Handed<W>>>,
+    unrun: Vec<W>,
+    done: Vec<W>,
 }
 
-impl<M: Machine + Drop, P: Place> Model for Crew<M, P> {
-    ghost use Rattle.std.specs.Prelude.{map};
-    ghost use Rattle.xsk_workers.specs.Shown.{WorkerShown, CrewShown, seat_of, AreOf, HaveRoom};
+impl<W: Runner + Drop> Model for Crew<W> {
+    ghost use Rattle.std.specs.Prelude.{map, All};
+    ghost use Rattle.xsk_workers.specs.Crew.{CrewShown, IsSeatOn, HaveRoom};
 
     ghost Value = { CrewShown };
 
-    ghost view = { λ c. record { board = c.shared.value; seats = map (λ (w : WorkerShown). seat_of w) c.workers.items } };
+    ghost view = { λ c. record { board = c.shared.value; seats = map W.seat c.workers.items } };
 
-    ghost invariant = { λ c. AreOf c.shared.value (P.setting c.place) c.workers.items × HaveRoom c.workers c.handles c.unrun c.done };
+    ghost invariant = { λ c. All (λ w. IsSeatOn c.shared.value (W.seat w)) c.workers.items × HaveRoom c.workers c.handles c.unrun c.done };
 }
 
-impl<M: Machine + Drop, P: Place> Crew<M, P> {
+impl<W: Runner + Drop> Crew<W> {
     /// The crew of these workers.
     pub(crate) fn new(
         alloc: Global,
         shared: &Shared,
-        place: P,
-        workers: Vec<Worker<M, P>>,
-    ) -> Result<Crew<M, P>, AllocError>
-        requires workers { AreOf shared.now (P.setting place) workers.items }
-        ensures { IfOk result (λ c. c ≡ record { board = shared.now; seats = map (λ (w : WorkerShown). seat_of w) workers.items }) }
+        workers: Vec<W>,
+    ) -> Result<Crew<W>, AllocError>
+        requires workers { All (λ w. IsSeatOn shared.now (W.seat w)) workers.items }
+        ensures { IfOk result (λ c. c ≡ record { board = shared.now; seats = map W.seat workers.items }) }
     {
         let count = workers.len();
         let handles = Vec::with_capacity(alloc, count)?;
@@ -57,7 +53,6 @@ impl<M: Machine + Drop, P: Place> Crew<M, P> {
         let done = Vec::with_capacity(alloc, count)?;
         Ok(Crew {
             shared: Snapshot::of(shared),
-            place,
             workers,
             handles,
             unrun,
@@ -67,28 +62,28 @@ impl<M: Machine + Drop, P: Place> Crew<M, P> {
 }
 
 /// Runs workers, each in a thread of its own where one can be had, and gives them back in their order.
-fn run_in_scope<
-    R: Threads + Wait + Sync,
-    M: Machine + Drop + Send,
-    P: Place + Send,
-    G: Gate + Sync,
->(rt: &R, shared: &Shared, gate: &G, refused: &AtomicU64, crew: Crew<M, P>) -> Vec<Worker<M, P>>
+fn run_in_scope<R: Threads + Wait + Sync, W: Opens + Drop + Send, G: Gate + Sync>(
+    rt: &R,
+    shared: &Shared,
+    gate: &G,
+    refused: &AtomicU64,
+    crew: Crew<W>,
+) -> Vec<W>
     requires board { crew.board ≡ shared.now }
-    ensures seats { map (λ (w : WorkerShown). seat_of w) result.items ≡ crew.seats }
-    ensures belong { All (λ (w : WorkerShown). Belongs shared.now w.pass) result.items }
+    ensures seats { map W.seat result.items ≡ crew.seats }
+    ensures belong { All (λ w. IsSeatOn shared.now (W.seat w)) result.items }
 {
     thread::scope(
         thread::scope_env(),
         rt,
-        |scope| -> Vec<Worker<M, P>>
+        |scope| -> Vec<W>
             requires { crew.board ≡ shared.now }
-            ensures seats { map (λ (w : WorkerShown). seat_of w) result.items ≡ crew.seats }
-            ensures belong { All (λ (w : WorkerShown). Belongs shared.entry.now w.pass) result.items }
+            ensures seats { map W.seat result.items ≡ crew.seats }
+            ensures belong { All (λ w. IsSeatOn shared.entry.now (W.seat w)) result.items }
         {
             let crew = crew;
             let Crew {
                 shared: _,
-                place,
                 workers,
                 mut handles,
                 mut unrun,
@@ -101,14 +96,12 @@ fn run_in_scope<
                 }
                 let number = worker.caller();
                 let promise = Handed {
-                    shared: Snapshot::of(shared),
-                    who: number,
-                    place,
+                    member: Snapshot::of(&worker),
                 };
-                let job = move || -> Worker<M, P>
-                    requires { Belongs shared.now worker.pass }
-                    ensures { seat_of result ≡ seat_of worker }
-                { run(rt, shared, gate, refused, worker) };
+                let job = move || -> W
+                    requires { IsSeatOn shared.now (W.seat worker) }
+                    ensures { W.seat result ≡ W.seat worker }
+                { start(rt, shared, gate, refused, worker) };
                 match scope.spawn_with(promise, job) {
                     Ok(handle) => handles.push_reserved(handle),
                     Err(back) => {
@@ -132,15 +125,15 @@ fn run_in_scope<
 }
 
 /// Runs all workers to their ends: they come back in their order.
-pub(crate) fn run_crew<
-    R: Threads + Wait + Sync,
-    M: Machine + Drop + Send,
-    P: Place + Send,
-    G: Gate + Sync,
->(rt: &R, shared: &Shared, gate: &G, crew: Crew<M, P>) -> Vec<Worker<M, P>>
+pub(crate) fn run_crew<R: Threads + Wait + Sync, W: Opens + Drop + Send, G: Gate + Sync>(
+    rt: &R,
+    shared: &Shared,
+    gate: &G,
+    crew: Crew<W>,
+) -> Vec<W>
     requires board { crew.board ≡ shared.now }
-    ensures seats { map (λ (w : WorkerShown). seat_of w) result.items ≡ crew.seats }
-    ensures whole { All (λ (w : WorkerShown). HasRun w) result.items }
+    ensures seats { map W.seat result.items ≡ crew.seats }
+    ensures whole { All W.has_run result.items }
 {
     let refused = AtomicU64::new(0);
     let mut workers = run_in_scope(rt, shared, gate, &refused, crew);

@@ -21,6 +21,9 @@ pub(crate) trait Place: Copy {
     // The tokens of the parkers of the pairs' drivers, and none where drivers don't sleep.
     ghost tokens: { Self → List TableId };
 
+    /// What wakes the drivers, by their pairs, where they sleep.
+    fn wakers(&self) -> &[Unparker];
+
     /// What wakes the driver of a pair, where drivers sleep.
     fn waker(&self, pair: u32) -> Option<&Unparker>
         ensures { option_map (λ waker. token_of waker.now) result ≡ slice_get (tokens self.now) pair };
@@ -57,6 +60,10 @@ impl<V: Verdicts> Place for Source<'_, V> {
     ghost setting = { λ s. record { config = s.config.now; wire = s.wire; manner = plain; packets = s.packets.now; verdicts = V.verdicts } };
 
     ghost tokens = { λ s. map token_of s.wakers.now };
+
+    fn wakers(&self) -> &[Unparker] {
+        self.wakers
+    }
 
     fn waker(&self, pair: u32) -> Option<&Unparker> {
         self.wakers.get(pair as usize)

@@ -1,94 +1,91 @@
-//! Workers to their ends: one in its thread, or several by turns.
+//! Members of a crew to their ends: one in its thread, or several by turns.
 ghost use Rattle.std.specs.Prelude.{◌≡◌, ℕ, true, map, All, vec_len};
-ghost use Rattle.xsk_table.specs.Held.{Belongs};
-ghost use Rattle.xsk_workers.specs.Shown.{WorkerShown, seat_of, HasRun, seat_at};
+ghost use Rattle.xsk_workers.specs.Crew.{IsSeatOn};
 
-use crate::place::Place;
-use crate::worker::{Pace, Worker};
-use crossbeam_utils::Backoff;
+use crate::runner::{Opens, Runner};
+use crate::teams::share_ends;
 use std::snapshot::Snapshot;
 use std::sync::Wait;
 use std::sync::atomic::{AtomicU64, Ordering};
-use std::thread::Promise;
+use std::thread::{Promise, Threads};
 use xsk_io::Gate;
-use xsk_machine::Machine;
 use xsk_table::Shared;
 
-/// What is promised of a worker that comes back from its thread: it is the caller of the same setting and table.
+/// What is promised of a member that comes back from its thread: it is the caller of the same setting and table.
 #[derive(Drop)]
-pub(crate) struct Handed<P: Place> {
-    pub(crate) shared: Snapshot<Shared>,
-    pub(crate) who: u32,
-    pub(crate) place: P,
+pub(crate) struct Handed<W: Runner + Drop> {
+    pub(crate) member: Snapshot<W>,
 }
 
-impl<M: Machine + Drop, P: Place> Promise<Worker<M, P>> for Handed<P> {
-    ghost kept_by = { λ p w. seat_of w ≡ seat_at (P.setting p.place) p.shared.value p.who };
+impl<W: Runner + Drop> Promise<W> for Handed<W> {
+    ghost kept_by = { λ p w. W.seat w ≡ W.seat p.member.value };
 }
 
-/// Runs a worker to its end, or hands it back as it is where its number, and one more, is noted.
-pub(crate) fn run<R: Wait, M: Machine + Drop, P: Place, G: Gate>(
+/// Runs a member to its end, or hands it back as it is where its number, and one more, is noted.
+pub(crate) fn start<R: Threads + Wait + Sync, W: Opens, G: Gate + Sync>(
     rt: &R,
     shared: &Shared,
     gate: &G,
     refused: &AtomicU64,
-    worker: Worker<M, P>,
-) -> Worker<M, P>
-    requires { Belongs shared.now worker.pass }
-    ensures { seat_of result ≡ seat_of worker }
+    member: W,
+) -> W
+    requires { IsSeatOn shared.now (W.seat member) }
+    ensures { W.seat result ≡ W.seat member }
 {
-    let mut worker = worker;
-    let number = worker.caller();
-    if refused.load(Ordering::SeqCst) == u64::from(number) + 1 {
-        return worker;
+    if refused.load(Ordering::SeqCst) == u64::from(member.caller()) + 1 {
+        return member;
     }
-    let backoff = Backoff::new();
-    let mut turn = 0u64;
-    for _ in rt.forever() {
-        gate.enter(number, turn);
-        turn = turn.saturating_add(1);
-        match worker.turn(shared) {
-            Pace::Ended => break,
-            Pace::Moved => backoff.reset(),
-            Pace::Waited => backoff.snooze(),
-            Pace::Parked => worker.rest(rt, &backoff),
-        }
-    }
-    worker
+    let member = run_hands(rt, shared, gate, member);
+    member.run(rt, shared, gate)
 }
 
-/// Makes one call of each worker that hasn't ended. Says whether all have ended.
-fn take_turns<M: Machine + Drop, P: Place>(shared: &Shared, workers: &mut Vec<Worker<M, P>>) -> bool
-    requires { All (λ (w : WorkerShown). Belongs shared.now w.pass) workers.old.items }
-    ensures belong { All (λ (w : WorkerShown). Belongs shared.now w.pass) workers.new.items }
-    ensures count { vec_len workers.new ≡ vec_len workers.old }
-    ensures seats { map (λ (w : WorkerShown). seat_of w) workers.new.items ≡ map (λ (w : WorkerShown). seat_of w) workers.old.items }
-    ensures whole { result ≡ true → All (λ (w : WorkerShown). HasRun w) workers.new.items }
+/// Has the hands of a member share its ends until all have ended, where it has several.
+fn run_hands<R: Threads + Wait + Sync, W: Opens, G: Gate + Sync>(
+    rt: &R,
+    shared: &Shared,
+    gate: &G,
+    member: W,
+) -> W
+    requires { IsSeatOn shared.now (W.seat member) }
+    ensures { W.seat result ≡ W.seat member }
+{
+    match member.open() {
+        Ok((ends, rest)) => {
+            let ends = share_ends(rt, shared, gate, W::wakers(&rest), W::plan(&rest), ends);
+            W::shut(rest, ends)
+        }
+        Err(member) => member,
+    }
+}
+
+/// Makes a turn of each member that hasn't ended. Says whether all have ended.
+fn take_turns<W: Runner>(shared: &Shared, members: &mut Vec<W>) -> bool
+    requires { All (λ w. IsSeatOn shared.now (W.seat w)) members.old.items }
+    ensures belong { All (λ w. IsSeatOn shared.now (W.seat w)) members.new.items }
+    ensures count { vec_len members.new ≡ vec_len members.old }
+    ensures seats { map W.seat members.new.items ≡ map W.seat members.old.items }
+    ensures whole { result ≡ true → All W.has_run members.new.items }
 {
     let mut ended = true;
-    for i in 0..workers.len() {
-        let worker = &mut workers[i];
-        if !worker.turn(shared).is_end() {
+    for i in 0..members.len() {
+        let member = &mut members[i];
+        if !member.turn(shared) {
             ended = false;
         }
     }
     ended
 }
 
-/// Runs workers to their ends, one call after another in turn.
-pub(crate) fn finish<R: Wait, M: Machine + Drop, P: Place>(
-    rt: &R,
-    shared: &Shared,
-    workers: &mut Vec<Worker<M, P>>,
-)
-    requires { All (λ (w : WorkerShown). Belongs shared.now w.pass) workers.old.items }
-    ensures count { vec_len workers.new ≡ vec_len workers.old }
-    ensures seats { map (λ (w : WorkerShown). seat_of w) workers.new.items ≡ map (λ (w : WorkerShown). seat_of w) workers.old.items }
-    ensures belong { All (λ (w : WorkerShown). Belongs shared.now w.pass) workers.new.items }
-    ensures whole { All (λ (w : WorkerShown). HasRun w) workers.new.items }
+/// Runs members to their ends, one turn after another.
+pub(crate) fn finish<R: Wait, W: Runner>(rt: &R, shared: &Shared, members: &mut Vec<W>)
+    requires { All (λ w. IsSeatOn shared.now (W.seat w)) members.old.items }
+    ensures count { vec_len members.new ≡ vec_len members.old }
+    ensures seats { map W.seat members.new.items ≡ map W.seat members.old.items }
+    ensures belong { All (λ w. IsSeatOn shared.now (W.seat w)) members.new.items }
+    ensures whole { All W.has_run members.new.items }
 {
     for _ in rt.forever() {
-        if take_turns(shared, workers) {
+        if take_turns(shared, members) {
             break;
         }
     }

@@ -1,5 +1,5 @@
 //! A run on threads: drivers and applications over one table, from its opening to its end.
-ghost use Rattle.std.specs.Prelude.{◌≡◌, ℕ, ◌≤◌, ◌<◌, List, [], map, false, true, All, length, vec_capacity, IfOk};
+ghost use Rattle.std.specs.Prelude.{◌≡◌, ℕ, ◌+◌, ◌≤◌, ◌<◌, ◌==◌, ◌||◌, nat_lt, List, [], ◌++◌, map, false, true, All, length, vec_len, vec_capacity, IfOk, IfSome, IfNone};
 ghost use Rattle.std.specs.List.{range_with_len};
 ghost use Rattle.xsk_umem.specs.Frame.{Frame as Body};
 ghost use Rattle.xsk_model.specs.Config.{callers_of, classes_of};
@@ -11,17 +11,23 @@ ghost use Rattle.xsk_turns.specs.Counted.{capped};
 ghost use Rattle.xsk_turns.specs.Workers.{Setting, ruled};
 ghost use Rattle.xsk_driver.specs.Sent.{IsShort};
 ghost use Rattle.xsk_machine.specs.Acts.{HasShortPackets};
+ghost use Rattle.xsk_table.specs.View.{idle};
 ghost use Rattle.xsk_table.specs.Held.{Board};
 ghost use Rattle.xsk_table.specs.Opening.{new_passes};
-ghost use Rattle.xsk_workers.specs.Shown.{WorkerShown, seat_of, seat_at, HasRun, AreOf};
-ghost use Rattle.xsk_workers.specs.Parking.{token_of, token_in};
+ghost use Rattle.xsk_workers.specs.Shown.{seat_with, seat_at, is_alone};
+ghost use Rattle.xsk_workers.specs.Hands.{AreHands, team_seat};
+ghost use Rattle.xsk_workers.specs.Members.{member_seat, kept_left, figures_left};
+ghost use Rattle.xsk_workers.specs.Parking.{token_of, token_in, IsParkerOf};
 ghost use Rattle.xsk_workers.specs.Gathering.{HaveRun, AreTaken, AreGiven, AreSent, AreFiguresOf, calls_in};
 ghost use Rattle.xsk_workers.specs.Forwarded.{HasForwarded, HasForwardedUnder, packets_in, setting_with};
-ghost use Rattle.xsk_machine.specs.Workers.{AreNew};
+ghost use Rattle.xsk_machine.specs.Workers.{AreNew, IsFreshDriver};
 
 use crate::crew::{Crew, run_crew};
+use crate::member::Member;
 use crate::parking::parkers_for;
 use crate::place::{Source, Verdicts};
+use crate::plan::{Plan, Rest};
+use crate::team::Team;
 use crate::worker::Worker;
 use crossbeam_utils::sync::Parker;
 use std::alloc::Global;
@@ -29,14 +35,19 @@ use std::marker::{Brand, Model, PhantomData};
 use std::mem;
 use std::sync::Wait;
 use std::thread::Threads;
+use xsk_app::side_pair;
 use xsk_driver::{Driver, Wire};
 use xsk_io::Gate;
 use xsk_machine::{AnyWorker, FigureList, Figures, Inputs, Kept, drivers_for, worker_of};
 use xsk_model::Config;
 use xsk_prog::{Chain, Verdict};
-use xsk_table::{Note, Passes, Shared};
+use xsk_shared_ends::Ends;
+use xsk_table::{Note, Pass, Passes, Shared};
 use xsk_turns::Manner;
 use xsk_umem::{Frames, OutOfMemory, PacketList};
+
+/// A caller of a run: a driver or an application by itself, or an application by several hands.
+type Caller<'a, V> = Member<Worker<AnyWorker<'a>, Source<'a, V>>, Team<'a, Source<'a, V>>>;
 
 /// What a run on threads shows. Contracts see the history of its table, the packets that each driver sent, and the figures.
 #[derive(Drop)]
@@ -105,8 +116,12 @@ impl Outcome {
 /// What the drivers sent is what was delivered to the paired sockets (`laws::all_are_forwarded`), and where the wire waits what
 /// is expected there (`laws::all_are_expected`), beside the packets that bounce by the port on which they came.
 ///
-/// All memory is taken before a worker starts. A worker whose thread can't be had makes its calls on the caller's thread,
-/// in turn with other such workers. Nothing is promised of an end.
+/// Each application has so many hands. One hand runs its machine. Several share its ends behind a lock, each in a thread of its own,
+/// and once all have ended one of them goes on alone: then its calls and replies are a whole split run.
+///
+/// All memory is taken before a worker starts, but for the lock of several hands, without which one does it alone. A worker whose
+/// thread can't be had makes its calls on the caller's thread, in turn with other such workers, and a hand whose thread can't be had
+/// leaves its lanes to another of its application. Nothing is promised of an end.
 pub fn forward<R: Threads + Wait + Sync, F: Fn(&[u8], u32) -> Verdict, G: Gate + Sync>(
     rt: &R,
     alloc: Global,
@@ -116,7 +131,9 @@ pub fn forward<R: Threads + Wait + Sync, F: Fn(&[u8], u32) -> Verdict, G: Gate +
     chain: &Chain<F>,
     wire: Wire,
     gate: &G,
+    hands: u32,
 ) -> Result<Outcome, OutOfMemory>
+    requires hands { AreHands hands }
     requires steady { IsSteady config }
     requires frames { AreFrames config.geometry frames.items }
     requires lists { length packets.now ≡ config.ports }
@@ -124,14 +141,14 @@ pub fn forward<R: Threads + Wait + Sync, F: Fn(&[u8], u32) -> Verdict, G: Gate +
     requires obeys { AllObey F.Fn chain.now }
     ensures pairs { IfOk result (λ outcome. length outcome.sent ≡ length config.pairs) }
     ensures short { IfOk result (λ outcome. All (λ (list : List (List ℕ)). All IsShort list) outcome.sent) }
-    ensures under { IfOk result (HasForwardedUnder F.Fn chain.now wire config packets.now frames.items) }
-    ensures forwarded { are_exact (rules_of chain.now) ≡ true → IfOk result (HasForwarded (ruled (rules_of chain.now) wire config packets.now) frames.items) }
+    ensures under { IfOk result (HasForwardedUnder hands F.Fn chain.now wire config packets.now frames.items) }
+    ensures forwarded { are_exact (rules_of chain.now) ≡ true → IfOk result (HasForwarded hands (ruled (rules_of chain.now) wire config packets.now) frames.items) }
 {
     let own = config.copy(alloc)?;
     let inputs = Inputs::split(alloc, &own, packets)?;
     let drivers = drivers_for(alloc, &own, packets, &inputs, chain, wire)?;
     let outcome = run_drivers::<Brand, R, G>(
-        rt, alloc, &own, config, frames, packets, wire, gate, drivers,
+        rt, alloc, &own, config, frames, packets, wire, gate, hands, drivers,
     )?;
     Ok(outcome)
 }
@@ -146,6 +163,7 @@ fn run_drivers<'a, V: Verdicts + Send, R: Threads + Wait + Sync, G: Gate + Sync>
     packets: &'a [PacketList],
     wire: Wire,
     gate: &G,
+    hands: u32,
     drivers: Vec<Driver<'a>>,
 ) -> Result<Outcome, OutOfMemory>
     requires own { own.now ≡ config }
@@ -155,7 +173,7 @@ fn run_drivers<'a, V: Verdicts + Send, R: Threads + Wait + Sync, G: Gate + Sync>
     requires new { AreNew (setting_with config wire packets.now V.verdicts) 0 drivers.items }
     ensures pairs { IfOk result (λ outcome. length outcome.sent ≡ length config.pairs) }
     ensures short { IfOk result (λ outcome. All (λ (list : List (List ℕ)). All IsShort list) outcome.sent) }
-    ensures forwarded { IfOk result (HasForwarded (setting_with config wire packets.now V.verdicts) frames.items) }
+    ensures forwarded { IfOk result (HasForwarded hands (setting_with config wire packets.now V.verdicts) frames.items) }
 {
     let classes = own.classes();
     let mut kept = Kept::with_room(alloc, own.pairs().len())?;
@@ -170,10 +188,10 @@ fn run_drivers<'a, V: Verdicts + Send, R: Threads + Wait + Sync, G: Gate + Sync>
         wakers: wakers.as_slice(),
         verdicts: PhantomData,
     };
-    let workers = seat_workers(alloc, &shared, place, drivers, parkers, &mut passes)?;
-    let crew = Crew::new(alloc, &shared, place, workers)?;
-    let workers = run_crew(rt, &shared, gate, crew);
-    let calls = give_back(&shared, workers, classes, &mut passes, &mut kept);
+    let members = seat_members(alloc, &shared, place, hands, drivers, parkers, &mut passes)?;
+    let crew = Crew::new(alloc, &shared, members)?;
+    let members = run_crew(rt, &shared, gate, crew);
+    let calls = give_back(&shared, members, classes, &mut passes, &mut kept);
     let (_frames, note) = shared.close(passes);
     let Kept { figures, sent } = kept;
     let drivers = FigureList::of(figures);
@@ -189,66 +207,145 @@ fn run_drivers<'a, V: Verdicts + Send, R: Threads + Wait + Sync, G: Gate + Sync>
     })
 }
 
-/// A worker for each caller, with its pass: the drivers of all pairs, each with its parker where they sleep, and then the
-/// applications.
-fn seat_workers<'a, V: Verdicts>(
+/// A member for each caller, with its pass: the drivers of all pairs, each with its parker where they sleep, and then the
+/// applications by so many hands.
+fn seat_members<'a, V: Verdicts>(
     alloc: Global,
     shared: &Shared,
     place: Source<'a, V>,
+    hands: u32,
     drivers: Vec<Driver<'a>>,
     parkers: Vec<Parker>,
     passes: &mut Passes,
-) -> Result<Vec<Worker<AnyWorker<'a>, Source<'a, V>>>, OutOfMemory>
+) -> Result<Vec<Caller<'a, V>>, OutOfMemory>
     requires steady { IsSteady place.config.now }
     requires count { length drivers.items ≡ length place.config.now.pairs }
     requires new { AreNew (setting_with place.config.now place.wire place.packets.now V.verdicts) 0 drivers.items }
     requires table { shared.now.setup.config ≡ place.config.now }
     requires parkers { map token_in parkers.items ≡ map token_of place.wakers.now }
     requires passes { passes.old ≡ new_passes shared.now }
-    ensures taken { IfOk result (λ workers. AreTaken shared.now (callers_of shared.now.setup.config) passes.new) }
-    ensures seats { IfOk result (λ workers. map (λ (w : WorkerShown). seat_of w) workers.items
-        ≡ map (seat_at (setting_with place.entry.config.now place.entry.wire place.entry.packets.now V.verdicts) shared.now) (range_with_len 0 (callers_of shared.now.setup.config))) }
+    ensures taken { IfOk result (λ members. AreTaken shared.now (callers_of shared.now.setup.config) passes.new) }
+    ensures seats { IfOk result (λ members. map member_seat members.items
+        ≡ map (seat_at hands (setting_with place.entry.config.now place.entry.wire place.entry.packets.now V.verdicts) shared.now) (range_with_len 0 (callers_of shared.now.setup.config))) }
 {
     let callers = place.config.callers();
-    let mut workers = Vec::with_capacity(alloc, callers as usize)?;
+    let mut members = Vec::with_capacity(alloc, callers as usize)?;
     let mut drivers = drivers.into_iter();
     let mut parkers = parkers.into_iter();
     for who in 0..callers {
-        let machine = worker_of(alloc, place.config, drivers.next(), who, Manner::plain())?;
         let Some(pass) = passes.take(who) else {
             unreachable!()
         };
-        workers.push(Worker::new(place, machine, pass, parkers.next()))?;
+        let driver = drivers.next();
+        let parker = parkers.next();
+        let member = seat_member(alloc, place, hands, driver, parker, pass)?;
+        members.push(member)?;
     }
-    Ok(workers)
+    Ok(members)
 }
 
-/// Gives the passes of workers that have ended back, and keeps what is left of the workers. Says how many calls they made.
+/// The member that is a caller, with its pass: a worker where one machine makes all calls, and else a team.
+fn seat_member<'a, V: Verdicts>(
+    alloc: Global,
+    place: Source<'a, V>,
+    hands: u32,
+    driver: Option<Driver<'a>>,
+    parker: Option<Parker>,
+    pass: Pass,
+) -> Result<Caller<'a, V>, OutOfMemory>
+    requires steady { IsSteady place.config.now }
+    requires unused { (pass.view.flight ≡ idle) × (pass.view.seen ≡ []) × (pass.view.setup.config ≡ place.config.now) }
+    requires app { IfNone driver (length place.config.now.pairs ≤ pass.who) }
+    requires driver { IfSome driver (IsFreshDriver (setting_with place.config.now place.wire place.packets.now V.verdicts) pass.who) }
+    requires parker { IsParkerOf (map token_of place.wakers.now) pass.who parker }
+    ensures { IfOk result (λ member. member_seat member
+        ≡ seat_with (setting_with place.entry.config.now place.entry.wire place.entry.packets.now V.verdicts) pass (is_alone hands (setting_with place.entry.config.now place.entry.wire place.entry.packets.now V.verdicts) pass.who)) }
+{
+    let config = place.config;
+    let who = pass.caller();
+    if is_alone_in(config, hands, who) {
+        let machine = worker_of(alloc, config, driver, who, Manner::plain())?;
+        return Ok(Member::One(Worker::new(place, machine, pass, parker)));
+    }
+    let team = seat_team(alloc, place, hands, pass)?;
+    Ok(Member::Several(team))
+}
+
+/// Whether one machine makes all calls of a caller: a driver's, and with one hand an application's.
+fn is_alone_in(config: &Config, hands: u32, who: u32) -> bool
+    ensures { result ≡ (hands == 1 || nat_lt who (length config.now.pairs)) }
+{
+    hands == 1 || (who as usize) < config.pairs().len()
+}
+
+/// The team of an application, with its pass.
+fn seat_team<'a, V: Verdicts>(
+    alloc: Global,
+    place: Source<'a, V>,
+    hands: u32,
+    pass: Pass,
+) -> Result<Team<'a, Source<'a, V>>, OutOfMemory>
+    requires steady { IsSteady place.config.now }
+    requires unused { (pass.view.flight ≡ idle) × (pass.view.seen ≡ []) × (pass.view.setup.config ≡ place.config.now) }
+    requires app { length place.config.now.pairs ≤ pass.who }
+    ensures { IfOk result (λ team. team_seat team ≡ seat_with (setting_with place.entry.config.now place.entry.wire place.entry.packets.now V.verdicts) pass false) }
+{
+    let config = place.config;
+    let who = pass.caller();
+    let app = who - config.pairs().len() as u32;
+    let plan = Plan {
+        alloc,
+        hands,
+        base: config.callers().saturating_add(app.saturating_mul(hands)),
+        pairs: [side_pair(config, app, 0), side_pair(config, app, 1)],
+    };
+    let rest = Rest { place, who, plan };
+    match Ends::new(alloc, config, pass) {
+        Ok(ends) => Ok(Team::new(rest, ends)),
+        Err(_) => Err(OutOfMemory),
+    }
+}
+
+/// Gives the passes of members that have ended back, and keeps what is left of them. Says how many calls they made.
 fn give_back<'a, V: Verdicts>(
     shared: &Shared,
-    workers: Vec<Worker<AnyWorker<'a>, Source<'a, V>>>,
+    members: Vec<Caller<'a, V>>,
     classes: u32,
     passes: &mut Passes,
     kept: &mut Kept,
 ) -> u64
-    requires run { (s : Setting) × HaveRun shared.now s workers.items }
-    requires count { length workers.items ≡ callers_of shared.now.setup.config }
+    requires run { (hands : ℕ) × (s : Setting) × HaveRun shared.now hands s members.items }
+    requires count { length members.items ≡ callers_of shared.now.setup.config }
     requires classes { classes ≡ classes_of shared.now.setup.config }
     requires taken { AreTaken shared.now (callers_of shared.now.setup.config) passes.old }
     requires none { (kept.old.figures.items ≡ []) × (kept.old.sent.items ≡ []) }
     requires room { (length shared.now.setup.config.pairs ≤ vec_capacity kept.old.figures) × (length shared.now.setup.config.pairs ≤ vec_capacity kept.old.sent) }
-    ensures given { (s : Setting) → HaveRun shared.now s workers.entry.items → AreGiven shared.now s (callers_of shared.now.setup.config) passes.new }
-    ensures sent { (s : Setting) → HaveRun shared.now s workers.entry.items → AreSent s (callers_of shared.now.setup.config) passes.new (map packets_in kept.new.sent.items) }
-    ensures figures { (s : Setting) → HaveRun shared.now s workers.entry.items → AreFiguresOf s (callers_of shared.now.setup.config) passes.new kept.new.figures.items }
+    ensures given { (hands : ℕ) (s : Setting) → HaveRun shared.now hands s members.entry.items → AreGiven shared.now hands s (callers_of shared.now.setup.config) passes.new }
+    ensures sent { (hands : ℕ) (s : Setting) → HaveRun shared.now hands s members.entry.items → AreSent s (callers_of shared.now.setup.config) passes.new (map packets_in kept.new.sent.items) }
+    ensures figures { (hands : ℕ) (s : Setting) → HaveRun shared.now hands s members.entry.items → AreFiguresOf s (callers_of shared.now.setup.config) passes.new kept.new.figures.items }
     ensures calls { result ≡ capped (calls_in 0 passes.new) }
     ensures short { All HasShortPackets kept.new.sent.items }
 {
     let mut calls = 0u64;
-    for worker in workers {
-        let (machine, pass, made) = worker.into_parts();
+    for member in members {
+        let (left, pass, made) = member.into_parts();
         passes.give(pass);
-        kept.keep(machine, classes);
+        keep(kept, left, classes);
         calls = calls.saturating_add(made);
     }
     calls
+}
+
+/// Keeps what is left of a member, where each queue has so many sockets.
+fn keep(kept: &mut Kept, left: Option<AnyWorker<'_>>, classes: u32)
+    requires figures { vec_len kept.old.figures + length (figures_left classes left) ≤ vec_capacity kept.old.figures }
+    requires sent { vec_len kept.old.sent + length (kept_left left) ≤ vec_capacity kept.old.sent }
+    ensures short { All HasShortPackets kept.old.sent.items → All HasShortPackets kept.new.sent.items }
+    ensures room { (vec_capacity kept.new.figures ≡ vec_capacity kept.old.figures) × (vec_capacity kept.new.sent ≡ vec_capacity kept.old.sent) }
+    ensures figures { kept.new.figures.items ≡ kept.old.figures.items ++ figures_left classes left.entry }
+    ensures sent { map packets_in kept.new.sent.items ≡ map packets_in kept.old.sent.items ++ kept_left left.entry }
+{
+    if let Some(worker) = left {
+        kept.keep(worker, classes);
+    }
 }

@@ -15,6 +15,9 @@ chain_of-requires-clause-sockets g c =
     let sockets = (fits c.args.layout.now c.requires.accepted).sockets in
     record { some = omega (arith, sockets); few = omega (arith, sockets) }
 
+pub forward-requires-clause-hands : goal.forward-requires-clause-hands
+forward-requires-clause-hands g c κs within = (fits c.args.layout.now c.requires.accepted).hands
+
 pub returns-clause-pairs : goal.returns-clause-pairs
 returns-clause-pairs g c = c.in_ok-outcome.ensures.pairs ∙ ap (λ (k : Config). length k.pairs) c.requires.config ∙ pairs_are c.args.layout.now
 

@@ -24,5 +24,5 @@ returns-clause-under g c = record { verdicts = kept_in c.in_ok-drivers.drivers.i
 
 pub returns-clause-forwarded : goal.returns-clause-forwarded
 returns-clause-forwarded g c exact =
-    forwards_as_ruled g.F.Fn c.args.chain.now (setting_with c.args.config c.args.wire c.args.packets.now (kept_in c.in_ok-drivers.drivers.items)) c.args.frames.items c.in_ok-outcome.outcome
+    forwards_as_ruled c.args.hands g.F.Fn c.args.chain.now (setting_with c.args.config c.args.wire c.args.packets.now (kept_in c.in_ok-drivers.drivers.items)) c.args.frames.items c.in_ok-outcome.outcome
     exact (asked g c) c.in_ok-outcome.ensures.forwarded

@@ -8,14 +8,14 @@ use Rattle.xsk_workers.specs.Gathering.{HaveRun, HaveRunFrom, AreGiven, AreSent,
 use Rattle.xsk_workers.specs.Forwarded.{packets_in}
 use Rattle.xsk_workers.proofs.workers.give_back.Given as goal
 
--- in a setting of the workers those that are left have run, the others' passes are given back, and what is left of them is kept
-abbrev pub invariant-loop-worker : goal.invariant-loop-worker
-invariant-loop-worker g l =
+-- in a setting of the members those that are left have run, the others' passes are given back, and what is left of them is kept
+abbrev pub invariant-loop-member : goal.invariant-loop-member
+invariant-loop-member g l =
     let n : ℕ = length l.yielded in
-    ((s : Setting) → HaveRun l.shared s (vec_items l.fn.workers)
-    → HaveRunFrom l.shared s n (into_iter_items l.worker-iterator) × AreGiven l.shared s n l.passes × AreSent s n l.passes (map packets_in (vec_items l.kept.sent))
+    ((hands : ℕ) (s : Setting) → HaveRun l.shared hands s (vec_items l.fn.members)
+    → HaveRunFrom l.shared hands s n (into_iter_items l.member-iterator) × AreGiven l.shared hands s n l.passes × AreSent s n l.passes (map packets_in (vec_items l.kept.sent))
     × AreFiguresOf s n l.passes (vec_items l.kept.figures))
-    × (n + length (into_iter_items l.worker-iterator) ≡ callers_of l.shared.setup.config)
+    × (n + length (into_iter_items l.member-iterator) ≡ callers_of l.shared.setup.config)
     × (l.calls ≡ capped (calls_in 0 l.passes))
     × (length l.shared.setup.config.pairs ≤ vec_capacity l.kept.figures)
     × (length l.shared.setup.config.pairs ≤ vec_capacity l.kept.sent)

@@ -1,7 +1,6 @@
 use Rattle.std.proofs.Common.{◌≡◌, ◌+◌, ◌≤◌, [], ◌++◌, vec_len, vec_items, vec_capacity, map, All}
 use Rattle.std.specs.Vec.Iter.{into_iter_items, into_iter_len}
-use Rattle.xsk_table.specs.Held.{Belongs}
-use Rattle.xsk_workers.specs.Shown.{WorkerShown, seat_of, seat_at, AreOf}
+use Rattle.xsk_workers.specs.Crew.{IsSeatOn}
 use Rattle.xsk_workers.proofs.crew.fn.run_in_scope.scope.Given as goal
 
 -- those that were started, those that weren't, and those that are left, in their order
@@ -9,26 +8,26 @@ abbrev pub invariant-loop-worker : goal.invariant-loop-worker
 invariant-loop-worker g l =
     let rest = l.worker-iterator in
     (goal.iterator-loop-worker g).can_next rest × (goal.iterator-loop-worker g).is_finite rest
-    × ((map (λ h. seat_at (g.P.Place.setting h.promise.place) h.promise.shared.value h.promise.who) (vec_items l.handles) ++ map (λ (w : WorkerShown). seat_of w) (vec_items l.unrun))
-    ++ map (λ (w : WorkerShown). seat_of w) (into_iter_items rest) ≡ map (λ (w : WorkerShown). seat_of w) (vec_items l.crew-inside.workers))
-    × AreOf l.crew-inside.shared.value (g.P.Place.setting l.crew-inside.place) (into_iter_items rest)
+    × ((map (λ h. g.W.Runner.seat h.promise.member.value) (vec_items l.handles) ++ map g.W.Runner.seat (vec_items l.unrun))
+    ++ map g.W.Runner.seat (into_iter_items rest) ≡ map g.W.Runner.seat (vec_items l.crew-inside.workers))
+    × All (λ w. IsSeatOn l.crew-inside.shared.value (g.W.Runner.seat w)) (into_iter_items rest)
     × (vec_len l.handles + into_iter_len rest ≤ vec_capacity l.handles)
     × (vec_len l.unrun + into_iter_len rest ≤ vec_capacity l.unrun)
     × (vec_len l.handles + vec_len l.unrun + into_iter_len rest ≤ vec_capacity l.done)
     × (vec_items l.done ≡ [])
-    × All (λ (w : WorkerShown). Belongs l.crew-inside.shared.value w.pass) (vec_items l.unrun)
+    × All (λ w. IsSeatOn l.crew-inside.shared.value (g.W.Runner.seat w)) (vec_items l.unrun)
 
 abbrev pub invariant-loop-handle : goal.invariant-loop-handle
 invariant-loop-handle g l =
     let rest = l.handle-iterator in
     (goal.iterator-loop-handle g).can_next rest × (goal.iterator-loop-handle g).is_finite rest
-    × ((map (λ (w : WorkerShown). seat_of w) (vec_items l.done) ++ map (λ h. seat_at (g.P.Place.setting h.promise.place) h.promise.shared.value h.promise.who) (into_iter_items rest))
-    ++ map (λ (w : WorkerShown). seat_of w) (vec_items l.unrun) ≡ map (λ (w : WorkerShown). seat_of w) (vec_items l.crew-inside.workers))
+    × ((map g.W.Runner.seat (vec_items l.done) ++ map (λ h. g.W.Runner.seat h.promise.member.value) (into_iter_items rest))
+    ++ map g.W.Runner.seat (vec_items l.unrun) ≡ map g.W.Runner.seat (vec_items l.crew-inside.workers))
     × (vec_len l.done + into_iter_len rest + vec_len l.unrun ≤ vec_capacity l.done)
 
 abbrev pub invariant-loop-worker-2 : goal.invariant-loop-worker-2
 invariant-loop-worker-2 g l =
     let rest = l.worker-iterator in
     (goal.iterator-loop-worker-2 g).can_next rest × (goal.iterator-loop-worker-2 g).is_finite rest
-    × (map (λ (w : WorkerShown). seat_of w) (vec_items l.done) ++ map (λ (w : WorkerShown). seat_of w) (into_iter_items rest) ≡ map (λ (w : WorkerShown). seat_of w) (vec_items l.crew-inside.workers))
+    × (map g.W.Runner.seat (vec_items l.done) ++ map g.W.Runner.seat (into_iter_items rest) ≡ map g.W.Runner.seat (vec_items l.crew-inside.workers))
     × (vec_len l.done + into_iter_len rest ≤ vec_capacity l.done)

@@ -1,9 +1,9 @@
 use Rattle.std.proofs.Common.{◌≡◌}
-use Rattle.xsk_table.specs.Held.{Belongs}
+use Rattle.xsk_workers.specs.Crew.{IsSeatOn}
 use Rattle.xsk_workers.specs.Shown.{seat_of}
-use Rattle.xsk_workers.proofs.running.run.Given as goal
+use Rattle.xsk_workers.proofs.alone.run_alone.Given as goal
 
 abbrev pub invariant-loop : goal.invariant-loop
 invariant-loop g l =
     (goal.iterator-loop g).can_next l.iterator' × (goal.iterator-loop g).is_finite l.iterator' × (seat_of l.worker ≡ seat_of l.initial.worker)
-    × Belongs l.initial.shared l.worker.pass
+    × IsSeatOn l.initial.shared (seat_of l.worker)
