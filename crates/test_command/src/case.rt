@@ -48,8 +48,8 @@ pub(crate) struct Named {
 #[derive(Clone, Copy, PartialEq, Eq)]
 pub(crate) enum Holds {
     NoOne,
-    /// Workers 0 and 1 until both have come.
-    Pair,
+    /// These two workers until both have come.
+    Pair(u32, u32),
     /// This one, until another has gone on for long.
     One(u32),
 }
@@ -138,10 +138,7 @@ impl Case {
             }
             "fail" => self.add_fail(value),
             "lanes" => Ok(self.set_spread(value)),
-            "pair" => {
-                self.next.holds = Holds::Pair;
-                Ok(true)
-            }
+            "pair" => Ok(self.set_pair(value)),
             "writes" => {
                 self.next.tells_writes = true;
                 Ok(true)
@@ -181,6 +178,14 @@ impl Case {
         }
     }
 
+    fn set_pair(&mut self, value: &str) -> bool {
+        let Some((first, second)) = pair_of(value) else {
+            return false;
+        };
+        self.next.holds = Holds::Pair(first, second);
+        true
+    }
+
     fn set_spread(&mut self, value: &str) -> bool {
         self.spread = spread_of(value);
         self.spread.is_some()
@@ -212,10 +217,16 @@ fn fail_of(value: &str) -> Option<Fail> {
 }
 
 fn spread_of(value: &str) -> Option<Spread> {
-    let (queues, sockets) = value.split_once(' ')?;
-    let queues = queues.parse::<u32>().ok()?;
-    let sockets = sockets.parse::<u32>().ok()?;
+    let (queues, sockets) = pair_of(value)?;
     Some(Spread { queues, sockets })
+}
+
+/// Two numbers, parted by a space.
+fn pair_of(value: &str) -> Option<(u32, u32)> {
+    let (first, second) = value.split_once(' ')?;
+    let first = first.parse::<u32>().ok()?;
+    let second = second.parse::<u32>().ok()?;
+    Some((first, second))
 }
 
 /// A copy of the bytes of each input. None where an input has no text.

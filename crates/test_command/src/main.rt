@@ -7,9 +7,9 @@
 //! - `inputs NAME ..` says the texts that the ports' inputs have.
 //! - `room N` says how many bytes an output takes, and the report; 65,536 where it isn't said.
 //! - `lanes QUEUES SOCKETS` has each output told lane by lane, where the order between lanes is free.
-//! - `fail open N`, `fail read N`, `fail write N`, `most N`, `pair`, `hold WORKER`, `writes` and `has FRONT` are about the next
-//!   run: a call that fails, the most bytes that a write takes, a gate, that its writes are told, and that of its report only
-//!   is told whether it has a line that begins so.
+//! - `fail open N`, `fail read N`, `fail write N`, `most N`, `pair WORKER WORKER`, `hold WORKER`, `writes` and `has FRONT` are
+//!   about the next run: a call that fails, the most bytes that a write takes, a gate, that its writes are told, and that of its
+//!   report only is told whether it has a line that begins so.
 //! - `run WORD ..` runs the command of these words, with threads for `forward`, `alone WORD ..` without, and `files WORD ..` over
 //!   the files of the folder.
 //! - `meaning WORD ..` tells what the words of `simulate` mean, and `table WORD ..` those of a smaller table of options.

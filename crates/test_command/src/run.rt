@@ -27,7 +27,17 @@ pub(crate) fn run<R: Threads + Wait + Sync>(
     let mut told = format!(in alloc; "> {line}\n")?;
     let ended = match case.next.holds {
         Holds::NoOne => through(rt, alloc, words.as_slice(), &mut bay, &Open),
-        Holds::Pair => run_pair(rt, alloc, words.as_slice(), &mut bay, &mut told)?,
+        Holds::Pair(first, second) => {
+            run_pair(
+                rt,
+                alloc,
+                words.as_slice(),
+                &mut bay,
+                first,
+                second,
+                &mut told,
+            )?
+        }
         Holds::One(worker) => {
             let gate = HoldGate::new(worker);
             let ended = through(rt, alloc, words.as_slice(), &mut bay, &gate);
@@ -110,20 +120,25 @@ fn bay_of(alloc: Global, case: &Case) -> Result<MemoryBay>
     Ok(bay)
 }
 
-/// Runs a command over the gate of a pair, and tells who came to it.
+/// Runs a command over the gate of two workers, and tells whether both came to it.
 fn run_pair<R: Threads + Wait + Sync, B: Bay>(
     rt: &R,
     alloc: Global,
     words: &[String],
     bay: &mut B,
+    first: u32,
+    second: u32,
     told: &mut String,
 ) -> Result<Ended>
     requires { (stream : AStream) → B.is_open bay.old stream ≡ false }
 {
-    let gate = PairGate::new();
+    if first == second {
+        return Err(anyhow!("a worker doesn't meet itself"));
+    }
+    let gate = PairGate::of(first, second);
     let ended = through(rt, alloc, words, bay, &gate);
-    let met = gate.entered(0) && gate.entered(1) && !gate.limit_met();
-    writeln!(told, "two drivers meet: {met}")?;
+    let met = gate.entered(first) && gate.entered(second) && !gate.limit_met();
+    writeln!(told, "both meet: {met}")?;
     Ok(ended)
 }
 

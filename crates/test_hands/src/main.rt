@@ -1,13 +1,16 @@
-//! The ends of an application by hand, over small rings whose drivers are played by hand too. A line names a table, `quiet` or
-//! `waking` (with need-wakeup), and what is done there; it is written out again with what came of it.
+//! The ends of an application by hand, over small rings whose drivers are played by hand too. A line names a table, `quiet`, `alone`
+//! or `waking` (with need-wakeup), and what is done there; it is written out again with what came of it.
 //!
 //! - `lane L`, `recycle E`, `inputs`: a step of the ends. `finish`: the calls that the application makes in its next turn where
 //!   every ring is full, or empty.
+//! - `calls`: the number of calls made with the ends. `take`: the last hand takes them. `turn N`: it makes so many turns. `back`: it
+//!   gives them back, while it has them. `parts`: it gives the pass back; the number of its calls is told.
 //! - `rx D N`: the driver of a pair receives so many packets. `free D N`: it gives back so many places of its FILL ring. `tx D`:
-//!   it sends what its TX ring has, and completes it. `done D`: it tells that it has no further packet. `need D`: it sets the flags of
-//!   its FILL and TX rings. `kick D`: it looks at its kick, and clears it.
+//!   it sends what its TX ring has, and completes it. `done D`: it tells that it has no further packet. `gone D`: it tells that
+//!   it has ended. `need D`: it sets the flags of its FILL and TX rings. `kick D`: it looks at its kick, and clears it.
 #![tactic(auto)]
 
+mod application;
 mod driver;
 mod setting;
 mod table;
@@ -26,6 +29,7 @@ fn main(rt: HostRuntime) -> io::Result<()> {
         lines.push(line?)?;
     }
     play(&rt, alloc, "quiet", false, &lines)?;
+    play(&rt, alloc, "alone", false, &lines)?;
     play(&rt, alloc, "waking", true, &lines)
 }
 

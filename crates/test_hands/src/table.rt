@@ -1,44 +1,41 @@
-//! A table with its drivers and the ends of its application.
-ghost use Rattle.std.specs.Prelude.{◌≡◌, IfSome};
+//! A table with its drivers and its application.
+ghost use Rattle.std.specs.Prelude.{◌≡◌};
 ghost use Rattle.xsk_rings.specs.Rounds.{Rests};
-ghost use Rattle.xsk_table.specs.Held.{Belongs};
 ghost use Rattle.xsk_table.specs.Opening.{new_passes};
 ghost use Rattle.xsk_turns.specs.Owned.{IsSteady};
 
+use crate::application::Application;
 use crate::driver::{free, receive, send, swap};
 use crate::setting::take;
-use crate::turn::calls_of;
 use std::alloc::{AllocError, Global};
 use std::fmt::Write;
 use std::marker::Model;
 use std::string::String;
 use xsk_model::Mark;
 use xsk_rings::CheckedPass;
-use xsk_shared_ends::{Ends, Step};
+use xsk_shared_ends::Ends;
 use xsk_table::{Passes, Shared};
 
-/// The drivers of both pairs, and the ends until they are finished.
+/// The drivers of both pairs, and the application.
 #[derive(Drop)]
 pub(crate) struct Callers<'a> {
     shared: &'a Shared,
     first: CheckedPass,
     second: CheckedPass,
-    ends: Option<Ends<'a>>,
+    application: Application<'a>,
     /// The length of the next packet.
     len: u32,
 }
 
 impl<'a> Model for Callers<'a> {
-    ghost use Rattle.std.specs.Prelude.{IfSome, ℕ};
+    ghost use Rattle.std.specs.Prelude.{ℕ};
     ghost use Rattle.xsk_rings.specs.Rounds.{Rests};
-    ghost use Rattle.xsk_table.specs.Held.{Belongs};
-    ghost use Rattle.xsk_turns.specs.Owned.{IsSteady};
 
     ghost Value = { ℕ };
 
     ghost view = { λ c. c.len };
 
-    ghost invariant = { λ c. IsSteady c.shared.now.setup.config × Rests c.shared.now c.first × Rests c.shared.now c.second × IfSome c.ends (λ e. Belongs c.shared.now e.pass) };
+    ghost invariant = { λ c. Rests c.shared.now c.first × Rests c.shared.now c.second };
 }
 
 /// A number from 0 to 31.
@@ -49,25 +46,12 @@ fn number(word: &str) -> Option<u32> {
     }
 }
 
-fn step_in_words(alloc: Global, step: Step) -> Result<String, AllocError> {
-    match step {
-        Step::Idle => String::from_str(alloc, "idle"),
-        Step::Full(free) => format!(in alloc; "full {free}"),
-        Step::Moved => String::from_str(alloc, "moved"),
-    }
-}
-
-/// A visit to a lane, if there is such a lane.
-fn lane(shared: &Shared, ends: &mut Ends<'_>, lane: u32) -> Option<Step>
-    requires belongs { Belongs shared.now ends.old.pass }
-    requires steady { IsSteady shared.now.setup.config }
-    ensures { Belongs shared.now ends.new.pass }
-{
-    ends.keeps();
-    if lane >= 2 * shared.config().classes() {
-        return None;
-    }
-    Some(ends.lane(shared, lane))
+/// Whether a word says something of the application, and not of a driver.
+fn is_of_application(word: &str) -> bool {
+    matches!(
+        word,
+        "lane" | "recycle" | "inputs" | "finish" | "calls" | "take" | "turn" | "back" | "parts"
+    )
 }
 
 /// Receives so many packets, each a byte longer than the one before, and tells how many could be.
@@ -124,41 +108,13 @@ fn drive(
             Ok(text)
         }
         "done" => or_none(alloc, swap(shared, pass, Mark::RxDone(pair), 1)),
+        "gone" => or_none(alloc, swap(shared, pass, Mark::Gone(pair), 1)),
         "need" => {
             swap(shared, pass, Mark::NeedFill(pair), 1);
             or_none(alloc, swap(shared, pass, Mark::NeedTx(pair), 1))
         }
         "kick" => or_none(alloc, swap(shared, pass, Mark::Kick(pair), 0)),
         _ => String::from_str(alloc, "no such call"),
-    }
-}
-
-/// A step of the ends.
-fn make_step(
-    alloc: Global,
-    shared: &Shared,
-    ends: &mut Ends<'_>,
-    word: &str,
-    place: u32,
-) -> Result<String, AllocError>
-    requires belongs { Belongs shared.now ends.old.pass }
-    requires steady { IsSteady shared.now.setup.config }
-    ensures { Belongs shared.now ends.new.pass }
-{
-    match word {
-        "lane" => match lane(shared, ends, place) {
-            Some(step) => step_in_words(alloc, step),
-            None => String::from_str(alloc, "no such lane"),
-        },
-        "recycle" if place < 2 => {
-            let step = ends.recycle(shared, place);
-            step_in_words(alloc, step)
-        }
-        "inputs" => {
-            let done = ends.inputs_done(shared);
-            format!(in alloc; "{done}")
-        }
-        _ => String::from_str(alloc, "no such step"),
     }
 }
 
@@ -189,7 +145,7 @@ impl<'a> Callers<'a> {
             shared,
             first,
             second,
-            ends: Some(ends),
+            application: Application::new(shared, ends),
             len: 60,
         })
     }
@@ -205,41 +161,42 @@ impl<'a> Callers<'a> {
         let (Some(place), Some(count)) = (place, count) else {
             return String::from_str(alloc, "no such number");
         };
-        match word {
-            "finish" => self.finish(alloc),
-            "lane" | "recycle" | "inputs" => match &mut self.ends {
-                Some(ends) => make_step(alloc, self.shared, ends, word, place),
-                None => String::from_str(alloc, "finished"),
-            },
-            _ if place == 0 => drive(
-                alloc,
-                self.shared,
-                &mut self.first,
-                0,
-                word,
-                count,
-                &mut self.len,
-            ),
-            _ => drive(
-                alloc,
-                self.shared,
-                &mut self.second,
-                1,
-                word,
-                count,
-                &mut self.len,
-            ),
+        if is_of_application(word) {
+            return self.application.answer(alloc, word, place);
+        }
+        if place == 0 {
+            self.drive_first(alloc, word, count)
+        } else {
+            self.drive_second(alloc, word, count)
         }
     }
 
-    /// Ends the ends, and tells the calls of the application's next turn.
-    fn finish(&mut self, alloc: Global) -> Result<String, AllocError> {
-        match self.ends.take() {
-            Some(ends) => {
-                let (app, _pass) = ends.finish();
-                calls_of(alloc, app)
-            }
-            None => String::from_str(alloc, "finished"),
-        }
+    fn drive_first(&mut self, alloc: Global, word: &str, count: u32) -> Result<String, AllocError> {
+        drive(
+            alloc,
+            self.shared,
+            &mut self.first,
+            0,
+            word,
+            count,
+            &mut self.len,
+        )
+    }
+
+    fn drive_second(
+        &mut self,
+        alloc: Global,
+        word: &str,
+        count: u32,
+    ) -> Result<String, AllocError> {
+        drive(
+            alloc,
+            self.shared,
+            &mut self.second,
+            1,
+            word,
+            count,
+            &mut self.len,
+        )
     }
 }
