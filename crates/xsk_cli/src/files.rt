@@ -9,7 +9,7 @@ ghost use Rattle.xsk_cli.specs.Judged.{AreShort, bytes_of, excess_of};
 ghost use Rattle.xsk_cli.specs.Outcome.{listed};
 ghost use Rattle.xsk_cli.specs.Steps.{IsBeforeRun, IsFileRefusal, IsUntaken, lists_in};
 
-use crate::captures::{check_limits, without_room};
+use crate::captures::check_limits;
 use crate::failure::RunFailure;
 use crate::format::Format;
 use std::alloc::Global;
@@ -34,15 +34,16 @@ pub(crate) fn take_file(
 {
     let lists = read_file(alloc, inputs, ports)?;
     match check_limits(lists.as_slice()) {
-        Ok(()) => all_without_room(alloc, lists),
+        Ok(()) => Ok(lists),
         Err(excess) => Err(RunFailure::TooMuch(excess)),
     }
 }
 
-/// The packets of so many ports in the one file, whose bytes the list of the last port keeps.
+/// The packets of so many ports in the one file, whose bytes the lists share.
 fn read_file(alloc: Global, inputs: Vec<Vec<u8>>, ports: u32) -> Result<Vec<PacketList>, RunFailure>
     requires { length inputs.items ≡ 1 }
     ensures found { IfOk result (λ lists. IsPcapng ports (bytes_of (map (λ bytes. bytes.items) inputs.items) 0) (lists_in lists.items)) }
+    ensures listed { IfOk result (λ lists. lists.items ≡ map listed (lists_in lists.items)) }
     ensures failed { IfErr result (IsFileRefusal ports (bytes_of (map (λ bytes. bytes.items) inputs.items) 0)) }
 {
     let mut inputs = inputs;
@@ -54,23 +55,13 @@ fn read_file(alloc: Global, inputs: Vec<Vec<u8>>, ports: u32) -> Result<Vec<Pack
     }
 }
 
-/// The lists without the room for further packets.
-fn all_without_room(alloc: Global, lists: Vec<PacketList>) -> Result<Vec<PacketList>, RunFailure>
-    ensures packets { IfOk result (λ bare. lists_in bare.items ≡ lists_in lists.items) }
-    ensures listed { IfOk result (λ bare. bare.items ≡ map listed (lists_in bare.items)) }
-    ensures failed { IfErr result (λ failure. failure ≡ RunFailure.OutOfMemory) }
-{
-    let mut bare = Vec::with_capacity(alloc, lists.len())?;
-    for list in lists {
-        bare.push_reserved(without_room(list));
-    }
-    Ok(bare)
-}
-
-/// The text of the last list, when the lists are no longer wanted: memory for another text.
+/// The text of the last list, when the lists are no longer wanted: memory for another text. The others go first, so that none
+/// shares it.
 pub(crate) fn spare_text(alloc: Global, lists: Vec<PacketList>) -> Vec<u8> {
     let mut lists = lists;
-    match lists.pop() {
+    let last = lists.pop();
+    drop(lists);
+    match last {
         Some(list) => list.into_parts().text,
         None => Vec::new(alloc),
     }

@@ -1,5 +1,5 @@
 -- The packets of one port among those that were found.
-use Rattle.std.proofs.Common.{◌≡◌, ℕ, ◌+◌, List, ◌∷◌, drop, map, Some, true, refl, ap, ◌∙◌, arith}
+use Rattle.std.proofs.Common.{◌≡◌, ℕ, ◌+◌, List, [], ◌∷◌, drop, map, Some, true, refl, ap, ◌∙◌, arith}
 use Rattle.std.specs.Prelude.{slice_get, eqb}
 use Rattle.std.proofs.lemmas.Bool.{ne_eqb}
 use Rattle.std.proofs.lemmas.List.{drop_more}
@@ -8,11 +8,17 @@ use Rattle.xsk_umem.specs.Span.{at_span}
 use Rattle.xsk_pcapng.specs.declared.reading.Found.{Found}
 use Rattle.xsk_pcapng.specs.Blocks.{Arrival, packets_at}
 use Rattle.xsk_pcapng.specs.Steps.{arrival_in}
+use Rattle.xsk_pcapng.specs.Written.{bare, packets_of}
 
 -- the items from place i on
 pub drop_slice_get : {X : Type 0} (xs : List X) (i : ℕ) (x : X) → slice_get xs i ≡ Some x → drop i xs ≡ x ∷ drop (i + 1) xs
 drop_slice_get {X} xs i x e =
     drop_more xs i x (slice_get_within xs i x e) ∙ ap (λ (y : X). y ∷ drop (i + 1) xs) (get_or_from_slice_get xs i x x e)
+
+-- the packets of bare lists
+pub packets_of-bare : (lists : List (List (List ℕ))) → packets_of (map bare lists) ≡ lists
+packets_of-bare [] = refl
+packets_of-bare (list ∷ lists) = ap (λ (ls : List (List (List ℕ))). list ∷ ls) (packets_of-bare lists)
 
 -- the packets of a port, of what was found from place i on
 abbrev pub packets_from : List ℕ → List Found → ℕ → ℕ → List (List ℕ)

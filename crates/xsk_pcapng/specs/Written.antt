@@ -1,5 +1,5 @@
 -- Files as they are written: the fields are those of the pcapng draft, and what they hold is this project's own.
-use Rattle.std.specs.Prelude.{ℕ, ◌+◌, ◌-◌, ◌/◌, ◌%◌, ◌^◌, ◌≤◌, List, [], ◌∷◌, ◌++◌, length, map, replicate}
+use Rattle.std.specs.Prelude.{ℕ, None, ◌+◌, ◌-◌, ◌/◌, ◌%◌, ◌^◌, ◌≤◌, List, [], ◌∷◌, ◌++◌, length, map, replicate}
 use Rattle.std.specs.List.{concat, flat_map, AllByRecursion}
 use Rattle.byteorder.specs.Endian.{little_bytes}
 use Rattle.xsk_umem.specs.PacketList.{PacketList}
@@ -52,6 +52,10 @@ written lists = concat (written_blocks lists)
 -- the packets of lists
 abbrev pub packets_of : List PacketList → List (List (List ℕ))
 packets_of lists = map (λ l. l.packets) lists
+
+-- the list of packets that has no gaps and no room for others
+abbrev pub bare : List (List ℕ) → PacketList
+bare packets = record { packets = packets; gaps = None; spare_packets = 0; spare_bytes = 0 }
 
 -- few enough bytes of one packet
 abbrev pub IsShort : List ℕ → Type 0

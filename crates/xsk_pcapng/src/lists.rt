@@ -1,14 +1,16 @@
 //! The packets that were found in a file, laid out as a list for each port.
 ghost use Rattle.std.specs.Prelude.{◌≡◌, ◌<◌, ◌≤◌, ◌^◌, ◌++◌, map, length, All, IfOk, IfSome, Some, slice_get};
+ghost use Rattle.std.specs.Arc.{arc_value};
 ghost use Rattle.std.specs.List.{concat};
 ghost use Rattle.xsk_umem.specs.Span.{at_span, AreFrom};
 ghost use Rattle.xsk_pcapng.specs.Blocks.{packets_at};
 ghost use Rattle.xsk_pcapng.specs.Pcapng.{lists_of as lists_by_port};
 ghost use Rattle.xsk_pcapng.specs.Steps.{arrival_in, IsFoundIn, spans_at, spans_in};
-ghost use Rattle.xsk_pcapng.specs.Written.{packets_of};
+ghost use Rattle.xsk_pcapng.specs.Written.{bare, packets_of};
 
 use crate::reading::Found;
 use std::alloc::Global;
+use std::sync::Arc;
 use xsk_umem::{OutOfMemory, PacketList, Span};
 
 /// How much the packets of one interface take.
@@ -35,7 +37,7 @@ pub fn lists_of(
     Ok(lists)
 }
 
-/// The lists of so many ports, of which the last keeps the bytes as its text.
+/// The lists of so many ports, which share the bytes as their text.
 pub fn lists_in(
     alloc: Global,
     bytes: Vec<u8>,
@@ -44,15 +46,31 @@ pub fn lists_in(
 ) -> Result<Vec<PacketList>, OutOfMemory>
     requires within { All (IsFoundIn bytes.items) found.now }
     requires apart { AreFrom 0 (spans_in found.now) }
-    ensures { IfOk result (λ lists. packets_of lists.items ≡ lists_by_port ports (map (arrival_in bytes.items) found.now)) }
+    ensures packets { IfOk result (λ lists. packets_of lists.items ≡ lists_by_port ports (map (arrival_in bytes.items) found.now)) }
+    ensures bare { IfOk result (λ lists. lists.items ≡ map bare (packets_of lists.items)) }
 {
-    if ports == 0 {
-        return Ok(Vec::new(alloc));
+    let text = Arc::new(alloc, bytes)?;
+    let lists = lists_over(alloc, &text, found, ports)?;
+    Ok(lists)
+}
+
+/// The lists of so many ports over one text.
+fn lists_over(
+    alloc: Global,
+    text: &Arc<Vec<u8>>,
+    found: &[Found],
+    ports: u32,
+) -> Result<Vec<PacketList>, OutOfMemory>
+    requires within { All (IsFoundIn (arc_value text.now).items) found.now }
+    requires apart { AreFrom 0 (spans_in found.now) }
+    ensures { IfOk result (λ lists. lists.items ≡ map bare (lists_by_port ports (map (arrival_in (arc_value text.now).items) found.now))) }
+{
+    let mut lists = Vec::new(alloc);
+    for port in 0..ports {
+        let spans = spans_of(alloc, found, port)?;
+        let list = PacketList::of_shared(alloc, text, spans)?;
+        lists.push(list)?;
     }
-    let last = ports - 1;
-    let mut lists = lists_of(alloc, bytes.as_slice(), found, last)?;
-    let spans = spans_of(alloc, found, last)?;
-    lists.push(PacketList::of_spans(bytes, spans))?;
     Ok(lists)
 }
 

@@ -1,11 +1,11 @@
 //! Files read as lists of packets, or the first failing check with its place.
-ghost use Rattle.std.specs.Prelude.{◌≡◌, ◌<◌, ◌≤◌, ◌^◌, ℕ, List, None, length, All, IfOk, IfErr, MatchResult};
+ghost use Rattle.std.specs.Prelude.{◌≡◌, ◌<◌, ◌≤◌, ◌^◌, ℕ, List, None, length, map, All, IfOk, IfErr, MatchResult};
 ghost use Rattle.xsk_pcapng.specs.Blocks.{IsBlock, MayStand};
 ghost use Rattle.xsk_pcapng.specs.Pcapng.{IsPcapng, IsRefused, IsCause, PassesHeader};
 ghost use Rattle.xsk_pcapng.specs.Pcapng.{order_of, header_refusal, length_refusal, interface_refusal, packet_refusal, kind_refusal, content_refusal};
 ghost use Rattle.xsk_pcapng.specs.Blocks.{kind_in, least as least_of, padded as padded_to, section_header, interface_description, enhanced_packet};
 ghost use Rattle.xsk_pcapng.specs.Steps.{CutsOff, Holds, HoldsPacket, IsEnds, FitsInterface, Finds};
-ghost use Rattle.xsk_pcapng.specs.Written.{packets_of};
+ghost use Rattle.xsk_pcapng.specs.Written.{bare, packets_of};
 
 use crate::lists::{lists_in, lists_of};
 use std::alloc::Global;
@@ -345,9 +345,9 @@ pub fn read(alloc: Global, bytes: &[u8], ports: u32) -> Result<Vec<PacketList>, 
     Ok(lists)
 }
 
-/// Reads a file as [`read`] does. The list of the last port keeps the bytes, in which its packets stand as spans, and those of
-/// the others are copies.
+/// Reads a file as [`read`] does. The lists share the bytes as their text, in which the packets stand as spans: none is copied.
 pub fn take(alloc: Global, bytes: Vec<u8>, ports: u32) -> Result<Vec<PacketList>, BadPcapng>
+    ensures bare { IfOk result (λ lists. lists.items ≡ map bare (packets_of lists.items)) }
     ensures found { IfOk result (λ lists. IsPcapng ports bytes.items (packets_of lists.items)) }
     ensures accepted { (lists : List (List (List ℕ))) → IsPcapng ports bytes.items lists →
         MatchResult result (λ read. packets_of read.items ≡ lists) (λ e. e ≡ BadPcapng.OutOfMemory) }

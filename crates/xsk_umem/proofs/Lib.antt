@@ -1,4 +1,5 @@
 pub mod Lengths
 pub mod Places
 pub mod Spans
+pub mod Sharing
 pub mod Going

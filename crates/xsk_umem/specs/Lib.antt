@@ -5,5 +5,6 @@ pub mod Frames
 pub mod Limits
 pub mod PacketList
 pub mod Registration
+pub mod Shared
 pub mod Span
 pub mod Walks

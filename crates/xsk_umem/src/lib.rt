@@ -4,6 +4,7 @@
 
 mod batch;
 mod frame;
+mod front;
 mod geometry;
 mod memory;
 mod packet_list;

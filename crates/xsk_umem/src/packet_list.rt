@@ -1,13 +1,17 @@
 //! Lists of packets, as spans of one text.
-ghost use Rattle.std.specs.Prelude.{◌≡◌, ◌+◌, ◌<◌, ◌≤◌, ◌^◌, List, [], ◌∷◌, ◌++◌, length, map, replicate, sum_by, None, Some, slice_get, ◌↔◌, IsTrue, IfOk, OnOk, OnErr, vec_len, vec_capacity};
+ghost use Rattle.std.specs.Prelude.{ℕ, ◌≡◌, ◌+◌, ◌<◌, ◌≤◌, ◌^◌, List, [], ◌∷◌, ◌++◌, length, map, replicate, sum_by, None, Some, slice_get, ◌↔◌, IsTrue, IfOk, OnOk, OnErr, vec_len, vec_capacity};
 ghost use Rattle.std.specs.List.{concat};
 ghost use Rattle.xsk_umem.specs.declared.packet_list.Gaps.{Gaps};
+ghost use Rattle.std.specs.Arc.{arc_value};
 ghost use Rattle.xsk_umem.specs.PacketList.{PacketList as Packets, no_gaps, with_last_extended};
+ghost use Rattle.xsk_umem.specs.Shared.{bytes_of, MaySpare};
 ghost use Rattle.xsk_umem.specs.Span.{at_span, len_of, AreInText, end_of, spans_from, first_gap, gap_before};
 
 use crate::OutOfMemory;
+use crate::front::Front;
 use std::alloc::Global;
 use std::marker::Model;
+use std::sync::Arc;
 
 /// Where a packet's bytes stand in a text.
 #[derive(Clone, Copy, Debug)]
@@ -47,6 +51,8 @@ const NO_GAPS: Gaps = Gaps {
 #[derive(Debug, Drop)]
 pub struct PacketList {
     text: Vec<u8>,
+    /// What stands in the text's place, where lists share one.
+    front: Option<Front>,
     spans: Vec<Span>,
     gaps: Option<Gaps>,
     spare_packets: u32,
@@ -59,15 +65,18 @@ impl Model for PacketList {
 
     ghost Value = { Packets };
 
+    ghost use Rattle.xsk_umem.specs.Shared.{bytes_of, MaySpare};
     ghost use Rattle.xsk_umem.specs.Span.{at_span, AreSpans, HaveGaps, first_gap, gap_before};
 
-    ghost view = { λ p. record { packets = map (at_span p.text.items) p.spans.items; gaps = p.gaps; spare_packets = p.spare_packets; spare_bytes = p.spare_bytes } };
+    ghost view = { λ p. record { packets = map (at_span (bytes_of p.text.items p.front)) p.spans.items; gaps = p.gaps; spare_packets = p.spare_packets; spare_bytes = p.spare_bytes } };
 
-    ghost invariant = { λ p. AreSpans (first_gap p.gaps) p.text.items p.spans.items
+    ghost invariant = { λ p. AreSpans (first_gap p.gaps) (bytes_of p.text.items p.front) p.spans.items
         × HaveGaps p.gaps p.spans.items
         × (vec_len p.spans + p.spare_packets ≤ vec_capacity p.spans)
         × (vec_len p.text + (p.spare_packets * gap_before p.gaps + p.spare_bytes) ≤ vec_capacity p.text)
-        × (vec_len p.spans + p.spare_packets < 2 ^ 32) };
+        × (vec_len p.spans + p.spare_packets < 2 ^ 32)
+        × MaySpare p.front p.spare_packets
+        × MaySpare p.front p.spare_bytes };
 }
 
 impl PacketList {
@@ -77,6 +86,7 @@ impl PacketList {
     {
         PacketList {
             text: Vec::new(alloc),
+            front: None,
             spans: Vec::new(alloc),
             gaps: Some(NO_GAPS),
             spare_packets: 0,
@@ -92,6 +102,7 @@ impl PacketList {
         append_gap(&mut text, gaps.first);
         Ok(PacketList {
             text,
+            front: None,
             spans: Vec::new(alloc),
             gaps: Some(gaps),
             spare_packets: 0,
@@ -110,11 +121,34 @@ impl PacketList {
         text.truncate(end(spans.as_slice()));
         PacketList {
             text,
+            front: None,
             spans,
             gaps: None,
             spare_packets: 0,
             spare_bytes: 0,
         }
+    }
+
+    /// The list that [`of_spans`](PacketList::of_spans) makes, of a text that other lists may have too. Room is taken for a copy
+    /// of it, which is made when the list is to grow or to be taken apart while others have the text.
+    pub fn of_shared(
+        alloc: Global,
+        text: &Arc<Vec<u8>>,
+        spans: Vec<Span>,
+    ) -> Result<PacketList, OutOfMemory>
+        requires spans { AreInText (arc_value text.now).items spans.items }
+        requires few { length spans.items < 2 ^ 32 }
+        ensures { IfOk result (λ list. list ≡ record { packets = map (at_span (arc_value text.now).items) spans.items; gaps = None; spare_packets = 0; spare_bytes = 0 }) }
+    {
+        let front = Front::of(alloc, text, end(spans.as_slice()))?;
+        Ok(PacketList {
+            text: Vec::new(alloc),
+            front: Some(front),
+            spans,
+            gaps: None,
+            spare_packets: 0,
+            spare_bytes: 0,
+        })
     }
 
     /// What the list is made of: a text that ends with the last packet, or with the first gap where there is none, and the
@@ -127,7 +161,7 @@ impl PacketList {
         ensures gaps { (gaps : Gaps) → result.gaps ≡ Some gaps → result.spans.items ≡ spans_from gaps.first gaps.before_each self.packets }
     {
         Parts {
-            text: self.text,
+            text: own_text(self.text, self.front),
             spans: self.spans,
             gaps: self.gaps,
         }
@@ -157,7 +191,7 @@ impl PacketList {
             return Err(OutOfMemory);
         };
         self.spans.reserve(packets as usize)?;
-        self.text.reserve(room as usize)?;
+        reserve_own(&mut self.text, &mut self.front, room as usize)?;
         self.spare_packets = packets;
         self.spare_bytes = bytes;
         Ok(())
@@ -191,7 +225,8 @@ impl PacketList {
         ensures { slice_get self.now.packets i ≡ Some result.now }
     {
         let span = self.spans[i as usize];
-        &self.text[span.start..span.start + span.len]
+        let bytes = bytes_in(self.text.as_slice(), &self.front);
+        &bytes[span.start..span.start + span.len]
     }
 
     /// Appends a packet in the room that is reserved, which must hold it, and lowers that room by it.
@@ -243,6 +278,53 @@ impl PacketList {
         self.reserve(1, bytes_len)?;
         self.push_reserved(bytes);
         Ok(())
+    }
+}
+
+/// The bytes in which the packets of a list stand.
+fn bytes_in<'a>(text: &'a [u8], front: &'a Option<Front>) -> &'a [u8]
+    ensures { result.now ≡ bytes_of text.now front.now }
+{
+    match front {
+        Some(front) => front.bytes(),
+        None => text,
+    }
+}
+
+/// The bytes in which the packets of a list stand, as a text.
+fn own_text(text: Vec<u8>, front: Option<Front>) -> Vec<u8>
+    ensures { result.items ≡ bytes_of text.items front }
+{
+    match front {
+        Some(front) => front.into_text(),
+        None => text,
+    }
+}
+
+/// Makes room for so many further bytes in a list's own text, which takes the place of what is shared.
+fn reserve_own(
+    text: &mut Vec<u8>,
+    front: &mut Option<Front>,
+    bytes: usize,
+) -> Result<(), OutOfMemory>
+    ensures bytes { bytes_of text.new.items front.new ≡ bytes_of text.old.items front.old }
+    ensures own { front.new ≡ None }
+    ensures room { OnOk result (vec_len text.new + bytes ≤ vec_capacity text.new) }
+    ensures kept { (spare : ℕ) → MaySpare front.old spare → vec_len text.old + spare ≤ vec_capacity text.old → vec_len text.new + spare ≤ vec_capacity text.new }
+{
+    make_own(text, front);
+    text.reserve(bytes)?;
+    Ok(())
+}
+
+/// Puts the bytes in which the packets of a list stand into its own text.
+fn make_own(text: &mut Vec<u8>, front: &mut Option<Front>)
+    ensures items { text.new.items ≡ bytes_of text.old.items front.old }
+    ensures own { front.new ≡ None }
+    ensures kept { (spare : ℕ) → MaySpare front.old spare → vec_len text.old + spare ≤ vec_capacity text.old → vec_len text.new + spare ≤ vec_capacity text.new }
+{
+    if let Some(front) = front.take() {
+        *text = front.into_text();
     }
 }
 
@@ -304,3 +386,14 @@ fn total(spans: &[Span]) -> u64
     }
     total
 }
+
+/// Threads may share a list, also one whose text other lists have, and may be sent it.
+#[allow(dead_code)]
+fn is_shared(list: &PacketList) {
+    needs_sync(list);
+    needs_send(list);
+}
+
+fn needs_sync<T: Sync>(_shared: &T) {}
+
+fn needs_send<T: Send>(_sent: &T) {}

@@ -34,13 +34,13 @@ returns-in_default-clause-cause c =
 pub returns-clause-found : goal.returns-clause-found
 returns-clause-found c =
     let found = subst (λ (b : List ℕ). Finds c.in_ok-order.order c.args.ports b c.in_ok-found.found.items) c.as_slice-2.ensures.value c.in_ok-found.ensures.found in
-    file_of c.in_ok-order.order c.args.ports c.args.bytes.items c.in_ok-found.found.items c.as_slice-3.result.now (packets_of c.in-Ok.lists.items) found c.as_slice-3.ensures.value c.in-Ok.ensures
+    file_of c.in_ok-order.order c.args.ports c.args.bytes.items c.in_ok-found.found.items c.as_slice-3.result.now (packets_of c.in-Ok.lists.items) found c.as_slice-3.ensures.value c.in-Ok.ensures.packets
 
 pub returns-clause-accepted : goal.returns-clause-accepted
 returns-clause-accepted c = λ lists file.
     let found = subst (λ (b : List ℕ). Finds c.in_ok-order.order c.args.ports b c.in_ok-found.found.items) c.as_slice-2.ensures.value c.in_ok-found.ensures.found in
     one_reading c.args.ports c.args.bytes.items (packets_of c.in-Ok.lists.items) lists (
-    file_of c.in_ok-order.order c.args.ports c.args.bytes.items c.in_ok-found.found.items c.as_slice-3.result.now (packets_of c.in-Ok.lists.items) found c.as_slice-3.ensures.value c.in-Ok.ensures
+    file_of c.in_ok-order.order c.args.ports c.args.bytes.items c.in_ok-found.found.items c.as_slice-3.result.now (packets_of c.in-Ok.lists.items) found c.as_slice-3.ensures.value c.in-Ok.ensures.packets
     ) file
 
 pub returns-clause-refused : goal.returns-clause-refused
