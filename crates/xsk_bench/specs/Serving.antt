@@ -12,7 +12,6 @@ use Rattle.xsk_model.specs.declared.call.Reply.{Reply}
 use Rattle.xsk_desc.specs.Why.{Fails}
 use Rattle.xsk_desc.specs.declared.why.Illegal.{Illegal}
 use Rattle.xsk_plain.specs.Engine.{Engine}
-use Rattle.xsk_plain.specs.Histories.{HasRun}
 use Rattle.xsk_turns.specs.Workers.{Setting}
 use Rattle.xsk_bench.specs.Played.{HasPlayed}
 use Rattle.xsk_bench.specs.declared.bench.Unserved.{Unserved}
@@ -37,11 +36,7 @@ abbrev pub IsIllegal : Result Answer Unserved → Type 0
 IsIllegal (Err (Refused why)) = Unit {0}
 IsIllegal result = ⊥
 
--- the first condition that fails after the caller's own entries of a history of which the log is the stored form
-abbrev pub IsWhy : Engine → ℕ → Call → Illegal → Type 0
-IsWhy engine who call why = (frames : List Frame) × (h : List Entry) × HasRun engine frames h × Fails why engine.config (own who h) who call
-
--- a reason that is told is that one
+-- a reason that is told is the first condition that fails after the caller's own calls and replies in the log
 abbrev pub TellsWhy : Engine → ℕ → Call → Result Answer Unserved → Type 0
-TellsWhy engine who call (Err (Refused why)) = IsWhy engine who call why
+TellsWhy engine who call (Err (Refused why)) = Fails why engine.config (own who engine.log) who call
 TellsWhy engine who call result = Unit {0}

@@ -17,7 +17,7 @@ use Rattle.xsk_model.specs.Entry.{Told}
 use Rattle.xsk_model.specs.Own.{had_step, had_of, is_fill_peek, fill_step, is_from_fill, is_on, part_of, granted, released, room_step, held_step, room_of, held_of, Sending, waiting, is_same, completed_by, sending_after, sending_step, sending_of}
 use Rattle.xsk_model.specs.Marks.{is_mark}
 use Rattle.xsk_model.specs.Swaps.{set_after, set_step, last_set, number_in, seen_after, seen_step, last_seen, IsTimely, IsFed, MayFeed}
-use Rattle.xsk_model.specs.Legal.{HasRole, IsCounted, ArePackets, AreReceived, AreCompleted, IsLegal}
+use Rattle.xsk_model.specs.Legal.{HasRole, IsCounted, HasFrames, ArePackets, AreReceived, AreCompleted, IsLegal}
 use Rattle.xsk_model.specs.OtherWords.{bare_frame, bare_item, bare_call, bare_reply, bare}
 use Rattle.xsk_model.specs.declared.call.Ring.{Ring}
 use Rattle.xsk_model.specs.declared.call.Ring.TheVariants.{Fill, Comp, Rx, Tx}
@@ -334,7 +334,7 @@ module _ (c : Config) (mine other : List Told) (e : map bare mine ≡ map bare o
   same_fed (Rx s) h = λ is set. h is (same_set (Acked s) ∙ set)
   same_fed (Tx s) h = λ is set. h is (same_set (Closing s) ∙ set)
 
-  same_feeds : (call : Call) → MayFeed c mine call → MayFeed c other call
+  pub same_feeds : (call : Call) → MayFeed c mine call → MayFeed c other call
   same_feeds (Reserve r n) h = same_fed r h
   same_feeds (Submit r items) h = same_fed r h
   same_feeds (Peek r n) h = h
@@ -342,7 +342,7 @@ module _ (c : Config) (mine other : List Told) (e : map bare mine ≡ map bare o
   same_feeds (Swap m value) h = h
   same_feeds (Look m) h = h
 
-  same_role : (who : ℕ) (call : Call) → HasRole c mine who call → HasRole c other who call
+  pub same_role : (who : ℕ) (call : Call) → HasRole c mine who call → HasRole c other who call
   same_role who (Reserve r n) h = h
   same_role who (Submit r items) h = h
   same_role who (Peek r n) h = h
@@ -350,11 +350,20 @@ module _ (c : Config) (mine other : List Told) (e : map bare mine ≡ map bare o
   same_role who (Swap m value) h = (h.0, same_time m value h.1)
   same_role who (Look m) h = h
 
-  same_counted : (call : Call) → IsCounted c mine call → IsCounted c other call
+  pub same_room : (r : Ring) → room_of r mine ≡ room_of r other
+  same_room r = alike (room_of r) (room-bare r) mine other e
+
+  pub same_held : (r : Ring) → held_of r mine ≡ held_of r other
+  same_held r = alike (held_of r) (held-bare r) mine other e
+
+  pub same_frames : (call : Call) → HasFrames mine call → HasFrames other call
+  same_frames call h = λ n. subst (λ had. times n (numbers (submitted call)) ≤ times n had) (alike had_of had-bare mine other e) (h n)
+
+  pub same_counted : (call : Call) → IsCounted c mine call → IsCounted c other call
   same_counted (Reserve r n) h = h
-  same_counted (Submit r items) h = (h.0, h.1, subst (λ n. length items ≤ n) (alike (room_of r) (room-bare r) mine other e) h.2)
+  same_counted (Submit r items) h = (h.0, h.1, subst (λ n. length items ≤ n) (same_room r) h.2)
   same_counted (Peek r n) h = h
-  same_counted (Release r n) h = (h.0, h.1, subst (λ k. n ≤ k) (alike (held_of r) (held-bare r) mine other e) h.2)
+  same_counted (Release r n) h = (h.0, h.1, subst (λ k. n ≤ k) (same_held r) h.2)
   same_counted (Swap m value) h = h
   same_counted (Look m) h = h
 
@@ -391,7 +400,7 @@ module _ (c : Config) (mine other : List Told) (e : map bare mine ≡ map bare o
   same_completed r items h =
       completed_there r items h (waiting c (sending_of c h.socket other)) refl (sym (ap (map bare_items) h.next) ∙ same_waits h.socket)
 
-  same_packets : (call : Call) → ArePackets c mine call → ArePackets c other call
+  pub same_packets : (call : Call) → ArePackets c mine call → ArePackets c other call
   same_packets (Reserve r n) h = h
   same_packets (Submit (Fill d) items) h = h
   same_packets (Submit (Comp d) items) h = same_completed (Comp d) items h
@@ -408,7 +417,7 @@ module _ (c : Config) (mine other : List Told) (e : map bare mine ≡ map bare o
     known = h.known;
     role = same_role who call h.role;
     counted = same_counted call h.counted;
-    frames = λ n. subst (λ had. times n (numbers (submitted call)) ≤ times n had) (alike had_of had-bare mine other e) (h.frames n);
+    frames = same_frames call h.frames;
     items = h.items;
     packets = same_packets call h.packets;
     feeds = same_feeds call h.feeds;

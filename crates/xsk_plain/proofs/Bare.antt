@@ -1,9 +1,10 @@
--- That a stored history tells which calls are legal.
+-- That a stored history tells which calls are legal, and why another isn't.
 use Rattle.std.proofs.Common.{◌≡◌, ℕ, ◌==◌, Bool, true, false, cond, Option, Some, None, List, [], ◌∷◌, map, refl, sym, ap, ◌∙◌}
 use Rattle.std.specs.Option.{option_map}
 use Rattle.xsk_umem.specs.Frame.{Frame}
 use Rattle.xsk_umem.specs.Geometry.{Geometry}
 use Rattle.xsk_umem.specs.declared.batch.Item.{Item}
+use Rattle.xsk_model.specs.Config.{Config}
 use Rattle.xsk_model.specs.Descriptor.{payload}
 use Rattle.xsk_model.specs.Entry.{Told, Entry, told, own}
 use Rattle.xsk_model.specs.OtherWords.{bare, bare_frame, bare_item, bare_call, bare_reply}
@@ -13,6 +14,9 @@ use Rattle.xsk_model.specs.declared.call.Call.TheVariants.{Reserve, Submit, Peek
 use Rattle.xsk_model.specs.declared.call.Reply.{Reply}
 use Rattle.xsk_model.specs.declared.call.Reply.TheVariants.{Granted, Full, Submitted, Items, Empty, Released, Old}
 use Rattle.xsk_model.proofs.CallTheorems.{bodies_dont_matter}
+use Rattle.xsk_desc.specs.Why.{Fails}
+use Rattle.xsk_desc.specs.declared.why.Illegal.{Illegal}
+use Rattle.xsk_desc.proofs.Whys.{fails_there}
 use Rattle.xsk_plain.specs.Laws.{LogDecides}
 
 module _ (g : Geometry) (sg : Bool) where
@@ -64,3 +68,6 @@ log_decides c h who call =
       bodies_dont_matter c (own who (stored c.geometry c.sg h)) (own who h) who call same,
       bodies_dont_matter c (own who h) (own who (stored c.geometry c.sg h)) who call (sym same),
     )
+
+pub fails_in_log : (c : Config) (h : List Entry) (who : ℕ) (call : Call) (why : Illegal) → Fails why c (own who h) who call → Fails why c (own who (stored c.geometry c.sg h)) who call
+fails_in_log c h who call why fails = fails_there why c (own who h) (own who (stored c.geometry c.sg h)) who call (sym (same_own c.geometry c.sg who h)) fails

@@ -12,3 +12,4 @@ pub mod Running
 pub mod RowLines
 pub mod RowPlaces
 pub mod StoredLines
+pub mod RowDigits

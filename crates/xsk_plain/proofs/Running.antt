@@ -1,6 +1,6 @@
 -- A legal call goes on with the history of an engine, and with what is noted of its callers.
 use Rattle.std.proofs.Common.{◌≡◌, ◌≢◌, ◌↔◌, ℕ, zero, suc, ◌+◌, ◌<◌, inl, inr, Bool, Option, None, Some, List, [], ◌∷◌, ◌++◌, length, get_or, set, refl, sym, ap, subst, ◌∙◌, ⊎_elim, arith, length-set, length-append}
-use Rattle.std.specs.Prelude.{◌⊎◌, IsNone, IsTrue, MatchOption, slice_get}
+use Rattle.std.specs.Prelude.{◌⊎◌, IfSome, IsNone, IsTrue, MatchOption, slice_get}
 use Rattle.std.proofs.lemmas.Bool.{cases_eq}
 use Rattle.std.proofs.lemmas.Grind.{get_or-set_at}
 use Rattle.std.proofs.lemmas.List.{map-append, get_or-set_other}
@@ -26,7 +26,7 @@ use Rattle.xsk_plain.specs.Engine.{Engine, Shows}
 use Rattle.xsk_plain.specs.Histories.{HasRun, NotesOwn, EachNotesOwn}
 use Rattle.xsk_plain.specs.Rooms.{Enters}
 use Rattle.xsk_plain.specs.Steps.{FollowsObject}
-use Rattle.xsk_plain.proofs.Bare.{log_decides}
+use Rattle.xsk_plain.proofs.Bare.{log_decides, fails_in_log}
 
 abbrev pub entry : ℕ → Call → Reply → Entry
 entry who call reply = record { who = who; call = call; reply = reply }
@@ -174,3 +174,10 @@ pub none_is_legal : (engine : Engine) (frames : List Frame) (h : List Entry) (wh
 none_is_legal engine frames h who call None run told = (λ _. (legal_in engine frames h who call run).1 told, λ _. refl)
 none_is_legal engine frames h who call (Some why) run told =
     (λ none. absurd (cc), λ legal. absurd (fails_not_legal why engine.config (own who h) who call told ((legal_in engine frames h who call run).0 legal)))
+
+pub told_in_log : (engine : Engine) (frames : List Frame) (h : List Entry) (who : ℕ) (call : Call) (result : Option Illegal) → HasRun engine frames h
+    → MatchOption result (IsLegal engine.config (own who h) who call) (λ why. Fails why engine.config (own who h) who call)
+    → IfSome result (λ why. Fails why engine.config (own who engine.log) who call)
+told_in_log engine frames h who call None run told = tt
+told_in_log engine frames h who call (Some why) run told =
+    subst (λ (l : List Entry). Fails why engine.config (own who l) who call) (sym run.log) (fails_in_log engine.config h who call why told)

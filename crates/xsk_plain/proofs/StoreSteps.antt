@@ -1,5 +1,5 @@
 -- A step of one ring's store as a step of the object.
-use Rattle.std.proofs.Common.{◌≡◌, ℕ, ◌+◌, ◌-◌, ◌*◌, ◌<◌, ◌≤◌, ◌↔◌, cond, nat_le, List, [], ◌++◌, length, get_or, set, map, Some, Ok, Err, refl, sym, ap, subst, ◌∙◌, arith, length-append}
+use Rattle.std.proofs.Common.{◌≡◌, ℕ, ◌+◌, ◌*◌, ◌<◌, ◌≤◌, ◌↔◌, cond, nat_le, List, [], ◌++◌, length, get_or, set, map, Some, Ok, Err, refl, sym, ap, subst, ◌∙◌, arith, length-append}
 use Rattle.std.specs.Prelude.{Result, IsOk, OnOk, OnErr}
 use Rattle.std.proofs.lemmas.List.{length-map, get_or-map, map-set, set-get_or}
 use Rattle.std.proofs.lemmas.List.Elements.{All-set, All-get_or, All-same}

@@ -1,6 +1,6 @@
 -- The rows of the log as numbers. One whose numbers are small is a number below 2 ^ 31 itself, and any other one stands
 -- apart and is told by its place behind 2 ^ 31.
-use Rattle.std.specs.Prelude.{ℕ, ◌-◌, ◌/◌, ◌%◌, ◌^◌, ◌==◌, ◌&&◌, ◌||◌, nat_lt, if◌then◌else◌, List, map}
+use Rattle.std.specs.Prelude.{◌≡◌, ℕ, ◌-◌, ◌/◌, ◌%◌, ◌^◌, ◌<◌, ◌==◌, ◌&&◌, ◌||◌, nat_lt, if◌then◌else◌, List, Option, None, Some, map}
 use Rattle.std.specs.List.{slice_index_or}
 use Rattle.xsk_model.specs.declared.call.Ring.{Ring}
 use Rattle.xsk_model.specs.declared.call.Ring.TheVariants.{Fill, Comp, Rx, Tx}
@@ -18,6 +18,12 @@ abbrev pub ring_at : ℕ → ℕ → Ring
 ring_at side place =
     if side == 0 then Fill place else if side == 1 then Comp place else if side == 2 then Rx place else Tx place
 
+abbrev pub ring_place : Ring → ℕ
+ring_place (Fill pair) = pair
+ring_place (Comp pair) = pair
+ring_place (Rx socket) = socket
+ring_place (Tx socket) = socket
+
 -- a cell's place is its port
 abbrev pub mark_at : (side place index : ℕ) → Mark
 mark_at side place index =
@@ -29,6 +35,17 @@ mark_at side place index =
     else if side == 5 then TxDone place
     else if side == 6 then Cell place index
     else Closing place
+
+-- the place of a mark that has no other number, where it has a side
+abbrev pub mark_place : Mark → Option ℕ
+mark_place (NeedFill pair) = Some pair
+mark_place (NeedTx socket) = Some socket
+mark_place (Kick pair) = Some pair
+mark_place (RxDone pair) = Some pair
+mark_place (Gone pair) = Some pair
+mark_place (TxDone app) = Some app
+mark_place (Closing socket) = Some socket
+mark_place mark = None
 
 abbrev pub event_at : (kind side place first second : ℕ) → Event
 event_at kind side place first second =
@@ -57,6 +74,10 @@ row_with who kind side place first second = record {
 abbrev pub small_row : ℕ → Row
 small_row code =
     row_with (code / 64 / 64 / 64 % 128) (code / 64 / 64 / 64 / 128 / 8) (code / 64 / 64 / 64 / 128 % 8) (code / 64 / 64 % 64) (code / 64 % 64) (code % 64)
+
+-- it is that of a number
+abbrev pub IsSmall : Row → Type 0
+IsSmall row = (code : ℕ) × (code < 2 ^ 31) × (small_row code ≡ row)
 
 -- the row of a number, where these rows stand apart
 abbrev pub row_at : List Row → ℕ → Row

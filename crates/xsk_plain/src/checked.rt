@@ -31,11 +31,10 @@ impl Model for Checked {
 }
 
 impl Checked {
-    ghost use Rattle.std.specs.Prelude.{◌≡◌, ◌+◌, ◌≤◌, ◌↔◌, List, [], ◌∷◌, ◌++◌, OnOk, IfOk, IfErr, IsNone, IsTrue, MatchOption};
-    ghost use Rattle.xsk_umem.specs.Frame.{Frame};
+    ghost use Rattle.std.specs.Prelude.{◌≡◌, ◌+◌, ◌≤◌, ◌↔◌, [], ◌∷◌, ◌++◌, OnOk, IfOk, IfErr, IfSome, IsNone, IsTrue};
     ghost use Rattle.xsk_model.specs.Asks.{joined_call, joined_reply, HasAsked, HasAnswered};
     ghost use Rattle.xsk_model.specs.Config.{IsLawful};
-    ghost use Rattle.xsk_model.specs.Entry.{Entry, own};
+    ghost use Rattle.xsk_model.specs.Entry.{own};
     ghost use Rattle.xsk_model.specs.Expected.{IsReplyTo};
     ghost use Rattle.xsk_model.specs.Legal.{IsLegal};
     ghost use Rattle.xsk_model.specs.Object.{State, reply_at, after};
@@ -43,7 +42,7 @@ impl Checked {
     ghost use Rattle.xsk_model.specs.Stored.{stored_entry};
     ghost use Rattle.xsk_plain.specs.Engine.{Shows, frames_out};
     ghost use Rattle.xsk_desc.specs.Why.{Fails};
-    ghost use Rattle.xsk_plain.specs.Histories.{HasRun, IsRun};
+    ghost use Rattle.xsk_plain.specs.Histories.{IsRun};
     ghost use Rattle.xsk_plain.specs.Log.{calls_of, entries_of};
     ghost use Rattle.xsk_plain.specs.Rooms.{payload_bytes};
 
@@ -100,13 +99,10 @@ impl Checked {
         place < self.standings.len() && self.standings[place].allows(self.plain.config(), call)
     }
 
-    /// Why the call isn't legal for the caller after its own calls and replies, and `None` exactly where it is.
+    /// Why the call isn't legal for the caller after its own calls and replies in the log, and `None` exactly where it is.
     pub fn why_not(&self, who: u32, call: &Call) -> Option<Illegal>
         ensures legal { IsNone result ↔ IsLegal self.now.config (own who self.now.log) who call.now }
-
-        // The first condition that fails of the history that the log is, as it is stored.
-        ensures why { (frames : List Frame) × (h : List Entry) × HasRun self.now frames h
-            × MatchOption result (IsLegal self.now.config (own who h) who call.now) (λ why. Fails why self.now.config (own who h) who call.now) }
+        ensures why { IfSome result (λ why. Fails why self.now.config (own who self.now.log) who call.now) }
     {
         let place = who as usize;
         if place >= self.standings.len() {

@@ -2,6 +2,7 @@
 #![tactic(auto)]
 
 mod checked;
+mod entries;
 pub mod laws;
 mod line;
 mod lines;
@@ -16,6 +17,7 @@ mod ring_store;
 mod rows;
 
 pub use checked::Checked;
+pub use entries::Noted;
 pub use line::LineBuffer;
 pub use lines::Lines;
 pub use log::Log;

@@ -1,6 +1,7 @@
 //! The rows of the log. One whose numbers are small is a number itself, and any other one stands apart.
-ghost use Rattle.std.specs.Prelude.{◌≡◌, ◌≢◌, ℕ, ◌+◌, ◌<◌, ◌≤◌, ◌^◌, [], ◌∷◌, ◌++◌, Some, length, slice_get, vec_len, vec_capacity, IfSome, OnOk};
-ghost use Rattle.xsk_plain.specs.RowCodes.{ring_at, mark_at, items_at, event_at, row_with, row_at, small_row};
+ghost use Rattle.std.specs.Prelude.{◌≡◌, ◌≢◌, ℕ, ◌+◌, ◌<◌, ◌≤◌, ◌^◌, [], ◌∷◌, ◌++◌, Some, length, slice_get, vec_len, vec_capacity, IfSome, IsSome, OnOk};
+ghost use Rattle.xsk_model.specs.declared.call.Mark.TheVariants.{Cell};
+ghost use Rattle.xsk_plain.specs.RowCodes.{ring_at, mark_at, items_at, event_at, row_with, row_at, ring_place, mark_place, small_row, IsSmall};
 ghost use Rattle.xsk_plain.specs.Repeats.{KeepsValues};
 
 use crate::log::{Event, Row};
@@ -114,6 +115,7 @@ fn number_of(apart: &mut Vec<Row>, row: &Row) -> u32
     requires few { vec_len apart.old < 2 ^ 31 }
     ensures row { row_at apart.new.items result ≡ row.now }
     ensures within { result < 2 ^ 31 + length apart.new.items }
+    ensures small { IsSmall row.now → apart.new.items ≡ apart.old.items }
     ensures kept { KeepsValues apart.old.items apart.new.items }
     ensures len { vec_len apart.new ≤ vec_len apart.old + 1 }
     ensures capacity { vec_capacity apart.new ≡ vec_capacity apart.old }
@@ -149,10 +151,11 @@ struct Digits {
     second: u64,
 }
 
-/// The number of a row, if it is small.
+/// The number of a row, exactly where it is small.
 #[inline(always)]
 fn code_of(row: &Row) -> Option<u32>
-    ensures { IfSome result (λ code. (code < 2 ^ 31) × (small_row code ≡ row.now)) }
+    ensures code { IfSome result (λ code. (code < 2 ^ 31) × (small_row code ≡ row.now)) }
+    ensures small { IsSmall row.now → IsSome result }
 {
     let digits = digits_of(row);
     if row.who >= 128 || digits.place >= 64 || digits.first >= LARGE || digits.second >= LARGE {
@@ -167,6 +170,7 @@ fn digits_of(row: &Row) -> Digits
     ensures kind { result.kind < 8 }
     ensures side { result.side < 8 }
     ensures row { result.second < 64 → row_with row.now.who result.kind result.side result.place result.first result.second ≡ row.now }
+    ensures small { IsSmall row.now → (result.place < 64) × (result.first < 64) × (result.second < 64) }
 {
     let items = u64::from(row.items);
     match row.event {
@@ -179,10 +183,7 @@ fn digits_of(row: &Row) -> Digits
             let free = unless_items(row.items, u64::from(free));
             of_ring(5, ring, count, free)
         }
-        Event::Swapped(mark, value, old) => {
-            let old = unless_items(row.items, old);
-            of_mark(6, mark, value, old)
-        }
+        Event::Swapped(mark, value, old) => of_swap(mark, value, old, row.items),
         Event::Looked(mark, old) => of_look(mark, old, row.items),
     }
 }
@@ -190,7 +191,8 @@ fn digits_of(row: &Row) -> Digits
 /// A number of a row that has no items, and a large one in its place where it has some.
 #[inline(always)]
 fn unless_items(items: u32, number: u64) -> u64
-    ensures { result < 64 → (items ≡ 0) × (result ≡ number) }
+    ensures number { result < 64 → (items ≡ 0) × (result ≡ number) }
+    ensures none { items ≡ 0 → result ≡ number }
 {
     if items == 0 { number } else { LARGE }
 }
@@ -199,6 +201,7 @@ fn of_ring(kind: u32, ring: Ring, first: u32, second: u64) -> Digits
     ensures kind { result.kind ≡ kind }
     ensures side { result.side < 4 }
     ensures ring { ring_at result.side result.place ≡ ring }
+    ensures place { result.place ≡ ring_place ring }
     ensures numbers { (result.first ≡ first) × (result.second ≡ second) }
 {
     let (side, place) = match ring {
@@ -222,6 +225,7 @@ fn of_mark(kind: u32, mark: Mark, first: u64, second: u64) -> Digits
     ensures side { (result.side < 8) × (result.side ≢ 6) }
     ensures first { result.first ≡ first }
     ensures second { result.second < 64 → ((index : ℕ) → mark_at result.side result.place index ≡ mark) × (result.second ≡ second) }
+    ensures place { (place : ℕ) → mark_place mark ≡ Some place → (result.place ≡ place) × (result.second ≡ second) }
 {
     let (side, place) = match mark {
         Mark::NeedFill(pair) => (0, pair),
@@ -250,12 +254,36 @@ fn of_mark(kind: u32, mark: Mark, first: u64, second: u64) -> Digits
     }
 }
 
+/// Those of a swap. Of a cell only the first of a port is small.
+fn of_swap(mark: Mark, value: u64, old: u64, items: u32) -> Digits
+    ensures kind { result.kind ≡ 6 }
+    ensures side { result.side < 8 }
+    ensures first { result.first ≡ value }
+    ensures second { result.second < 64 → (mark_at result.side result.place 0 ≡ mark) × (result.second ≡ old) × (items ≡ 0) }
+    ensures place { (place : ℕ) → mark_place mark ≡ Some place → items ≡ 0 → (result.place ≡ place) × (result.second ≡ old) }
+    ensures cell { (port : ℕ) → mark ≡ Cell port 0 → items ≡ 0 → (result.place ≡ port) × (result.second ≡ old) }
+{
+    let second = unless_items(items, old);
+    match mark {
+        Mark::Cell(port, 0) => Digits {
+            kind: 6,
+            side: 6,
+            place: port,
+            first: value,
+            second,
+        },
+        _ => of_mark(6, mark, value, second),
+    }
+}
+
 fn of_look(mark: Mark, old: u64, items: u32) -> Digits
     ensures kind { result.kind ≡ 7 }
     ensures side { result.side < 8 }
     ensures first { result.first ≡ old }
     ensures mark { result.second < 64 → mark_at result.side result.place result.second ≡ mark }
     ensures items { result.second < 64 → items_at 7 result.side result.second ≡ items }
+    ensures place { (place : ℕ) → mark_place mark ≡ Some place → (result.place ≡ place) × (result.second ≡ items) }
+    ensures cell { (port index : ℕ) → mark ≡ Cell port index → items ≡ 0 → (result.place ≡ port) × (result.second ≡ index) }
 {
     match mark {
         Mark::Cell(port, index) => Digits {

@@ -9,7 +9,7 @@ use Rattle.xsk_model.specs.declared.call.Act.{Act}
 use Rattle.xsk_model.specs.declared.call.Call.{Call}
 use Rattle.xsk_model.specs.declared.call.Reply.{Reply}
 use Rattle.xsk_model.specs.declared.call.Act.TheVariants.{Call as Calls}
-use Rattle.xsk_model.proofs.Replies.{gift_fits}
+use Rattle.xsk_turns.proofs.Fitting.{gift_suits}
 use Rattle.xsk_plain.specs.Rooms.{payload_bytes}
 use Rattle.xsk_sim.specs.Rooms.{most_payload}
 use Rattle.xsk_sim.proofs.RunSteps.{Performs, turn_made, turn_past}
@@ -38,7 +38,7 @@ returns-clause-turn c s frames h run known drives =
     (Drives s who new act) run (act_after s who c.args.self.now.driver (Calls call) (own who h) known gave) performs
     (λ may.
     let next : Drives s who new act (with_told (own who h) call reply) =
-    c.step-self.ensures.goes_on s.wire s.config who (input_of s who) (own who h) call reply gave (ap (λ (r : Reply). Some r) c.split-answer.ensures.reply) (gift_fits s.config (own who h) who call reply may) in
+    c.step-self.ensures.goes_on s.wire s.config who (input_of s who) (own who h) call reply gave (ap (λ (r : Reply). Some r) c.split-answer.ensures.reply) (gift_suits s.config (own who h) who call reply may) in
     (next, act_after s who new act (with_told (own who h) call reply) known next))
     is (search rules)
     (subst (λ (k : Call). IsTrue c.is_quiet-still.result ↔ ((changes k reply ≡ false) × (length c.args.self.now.driver.kept.disposals ≡ c.args.self.now.settled))) (sym call_is)

@@ -1,18 +1,14 @@
-use Rattle.std.proofs.Common.{◌<◌, ◌↔◌, Option, length, sym, subst, arith}
-use Rattle.std.specs.Prelude.{IsNone, MatchOption}
+use Rattle.std.proofs.Common.{◌<◌, ◌↔◌, length, sym, subst, arith}
+use Rattle.std.specs.Prelude.{IfSome, IsNone}
 use Rattle.xsk_model.specs.Config.{Config}
 use Rattle.xsk_model.specs.Entry.{own}
 use Rattle.xsk_model.specs.Legal.{IsLegal}
 use Rattle.xsk_desc.specs.Noting.{IsFor}
 use Rattle.xsk_desc.specs.Why.{Fails}
-use Rattle.xsk_desc.specs.declared.why.Illegal.{Illegal}
 use Rattle.xsk_desc.proofs.Able.{stands_for}
-use Rattle.xsk_umem.specs.Frame.{Frame}
-use Rattle.xsk_model.specs.Entry.{Entry}
-use Rattle.std.proofs.Common.{List}
 use Rattle.xsk_plain.specs.Engine.{Engine}
-use Rattle.xsk_plain.specs.Histories.{HasRun, NotesOwn}
-use Rattle.xsk_plain.proofs.Running.{noted_at, told_why, none_is_legal}
+use Rattle.xsk_plain.specs.Histories.{NotesOwn}
+use Rattle.xsk_plain.proofs.Running.{noted_at, told_why, none_is_legal, told_in_log}
 use Rattle.xsk_plain.proofs.checked.Checked.why_not.Goals as goal
 
 pub why_not-requires : goal.why_not-requires
@@ -39,11 +35,6 @@ returns-clause-why c =
     let within : c.args.who < length inside.standings.items = omega (arith, c.if-place-len.false, c.len.ensures) in
     let notes : NotesOwn inside.plain.config c.self.invariant.history c.args.who c.index.result.now =
     noted_at inside.plain.config c.self.invariant.history inside.standings.items c.args.who c.index.result.now c.self.invariant.noted within c.index.ensures in
-    let whys : Engine → Type 0 = λ e. (frames : List Frame) × (h : List Entry) × HasRun e frames h
-    × MatchOption c.why_not.result (IsLegal e.config (own c.args.who h) c.args.who c.args.call.now) (λ why. Fails why e.config (own c.args.who h) c.args.who c.args.call.now) in
-    subst whys c.self.view_is (
-      c.self.invariant.frames,
-      c.self.invariant.history,
-      c.self.invariant.run,
-      told_why inside.plain c.config.result.now c.self.invariant.history c.args.who c.index.result.now c.args.call.now c.why_not.result c.config.ensures notes c.why_not.ensures,
-    )
+    subst (λ (e : Engine). IfSome c.why_not.result (λ why. Fails why e.config (own c.args.who e.log) c.args.who c.args.call.now)) c.self.view_is
+    (told_in_log inside.plain c.self.invariant.frames c.self.invariant.history c.args.who c.args.call.now c.why_not.result c.self.invariant.run
+    (told_why inside.plain c.config.result.now c.self.invariant.history c.args.who c.index.result.now c.args.call.now c.why_not.result c.config.ensures notes c.why_not.ensures))
