@@ -12,6 +12,7 @@ ghost use Rattle.xsk_pcap.specs.Written.{written, written_record, text_of, IsWri
 use byteorder::{ByteOrder, LittleEndian};
 use std::alloc::Global;
 use std::marker::Model;
+use thiserror::Error;
 use xsk_umem::{Gaps, OutOfMemory, PacketList, Parts, Span};
 
 const FILE_HEADER: u32 = 24;
@@ -30,6 +31,13 @@ const WRITTEN_HEADER: [u8; 24] = [
     0xd4, 0xc3, 0xb2, 0xa1, 0x02, 0x00, 0x04, 0x00, 0x00, 0x00, 0x00, 0x00, 0x00, 0x00, 0x00, 0x00,
     0x00, 0x00, 0x04, 0x00, 0x01, 0x00, 0x00, 0x00,
 ];
+
+/// Memory for a capture couldn't be had. The list comes back.
+#[derive(Debug, Drop, Error)]
+#[error("out of memory")]
+pub struct CaptureRefused {
+    pub list: PacketList,
+}
 
 /// A capture that is being written, seen as the lists of packets that have been added.
 #[derive(Debug, Drop)]
@@ -67,36 +75,50 @@ impl Capture {
     }
 
     /// A capture of the packets of one list, within the limits of [`add`](Capture::add). Where the list has the [`GAPS`] the
-    /// headers are written into them, and no packet is copied.
-    pub fn of(alloc: Global, list: PacketList) -> Result<Capture, OutOfMemory>
+    /// headers are written into them, and no packet is copied. It is refused for want of memory alone.
+    pub fn of(alloc: Global, list: PacketList) -> Result<Capture, CaptureRefused>
         requires { IsWritable (list.packets ∷ []) }
-        ensures { IfOk result (λ capture. capture ≡ list.packets ∷ []) }
+        ensures made { IfOk result (λ capture. capture ≡ list.packets ∷ []) }
+        ensures refused { IfErr result (λ back. back.list ≡ list) }
     {
+        let Ok(counts) = Vec::with_capacity(alloc, 1) else {
+            return Err(CaptureRefused { list });
+        };
         match write_in_gaps(list) {
-            Ok(laid) => Capture::of_laid(alloc, laid),
-            Err(list) => {
-                let mut capture = Capture::start(alloc)?;
-                capture.add(&list)?;
-                Ok(capture)
-            }
+            Ok(laid) => Ok(Capture::of_laid(counts, laid)),
+            Err(list) => match Capture::copied(alloc, &list) {
+                Ok(capture) => Ok(capture),
+                Err(_) => Err(CaptureRefused { list }),
+            },
         }
     }
 
-    /// A capture of the one list that has been laid out as one.
-    fn of_laid(alloc: Global, laid: Laid) -> Result<Capture, OutOfMemory>
+    /// A capture of the packets of one list, which are copied into it.
+    fn copied(alloc: Global, list: &PacketList) -> Result<Capture, OutOfMemory>
+        requires { IsWritable (list.now.packets ∷ []) }
+        ensures { IfOk result (λ capture. capture ≡ list.now.packets ∷ []) }
+    {
+        let mut capture = Capture::start(alloc)?;
+        capture.add(list)?;
+        Ok(capture)
+    }
+
+    /// A capture of the one list that has been laid out as one, with room for its number of packets.
+    fn of_laid(counts: Vec<u32>, laid: Laid) -> Capture
         requires laid { IsLaid (map (at_span laid.text.items) laid.spans.items) laid.text.items laid.spans.items }
         requires writable { IsWritable (map (at_span laid.text.items) laid.spans.items ∷ []) }
-        ensures { IfOk result (λ capture. capture ≡ map (at_span laid.text.items) laid.spans.items ∷ []) }
+        requires room { (counts.items ≡ []) × (1 ≤ vec_capacity counts) }
+        ensures { result ≡ map (at_span laid.text.items) laid.spans.items ∷ [] }
     {
         let Laid { text, spans } = laid;
         let number = spans.len() as u32;
-        let mut counts = Vec::with_capacity(alloc, 1)?;
+        let mut counts = counts;
         counts.push_reserved(number);
-        Ok(Capture {
+        Capture {
             text,
             counts,
             number,
-        })
+        }
     }
 
     /// Adds the packets of a list. Each has at most 262,144 bytes, and all that are added have at most 65,536 packets and

@@ -6,6 +6,6 @@ mod endianness;
 pub mod laws;
 mod reading;
 
-pub use capture::{Capture, GAPS, Laid, write_in_gaps};
+pub use capture::{Capture, CaptureRefused, GAPS, Laid, write_in_gaps};
 pub use endianness::Endianness;
-pub use reading::{BadCapture, read};
+pub use reading::{BadCapture, ReadRefused, read};

@@ -1,5 +1,5 @@
 //! Captures read as lists of packets, or the first failing check with its place.
-ghost use Rattle.std.specs.Prelude.{◌≡◌, ◌<◌, ◌≤◌, ◌^◌, ℕ, List, length, IfOk, IfErr, MatchResult};
+ghost use Rattle.std.specs.Prelude.{◌≡◌, ◌<◌, ◌≤◌, ◌^◌, ℕ, List, Some, Err, length, IfOk, IfErr, MatchResult};
 ghost use Rattle.std.specs.List.{AllByRecursion};
 ghost use Rattle.xsk_pcap.specs.Capture.{is_magic as magic_test, IsCapture, IsShort, IsRefused, IsCause};
 ghost use Rattle.xsk_pcap.specs.Capture.{order_of, header_refusal, record_refusal};
@@ -41,6 +41,14 @@ pub enum BadCapture {
     /// All checks pass, but memory for the packets couldn't be had, or they are more than 32 bits count.
     #[error("out of memory")]
     OutOfMemory,
+}
+
+/// Bytes weren't read as a capture. They come back, with the reason.
+#[derive(Debug, Drop, Error)]
+#[error("{cause}")]
+pub struct ReadRefused {
+    pub bytes: Vec<u8>,
+    pub cause: BadCapture,
 }
 
 fn is_magic(number: u32) -> bool
@@ -129,23 +137,36 @@ fn find_packets(alloc: Global, order: Endianness, bytes: &[u8]) -> Result<Vec<Sp
     Ok(spans)
 }
 
+/// The spans of the packets of a capture in either byte order.
+fn spans_of(alloc: Global, bytes: &[u8]) -> Result<Vec<Span>, BadCapture>
+    ensures found { IfOk result (λ spans. (order : Endianness) × Finds order bytes.now spans.items) }
+    ensures few { IfOk result (λ spans. length spans.items < 2 ^ 32) }
+    ensures cause { IfErr result (IsCause bytes.now) }
+{
+    let order = check_header(bytes)?;
+    find_packets(alloc, order, bytes)
+}
+
 /// Reads a capture in either byte order, with time stamps of microseconds or nanoseconds, and gives its packets in order.
-/// They are spans of the bytes, which the list keeps: no packet is copied.
+/// They are spans of the bytes, which the list keeps: no packet is copied. Where it isn't read the bytes come back.
 ///
 /// Times, original lengths, the time zone, the accuracy and the snapshot length may be anything, and aren't told. A packet
 /// may be empty, or longer than the snapshot length.
-pub fn read(alloc: Global, bytes: Vec<u8>) -> Result<PacketList, BadCapture>
+pub fn read(alloc: Global, bytes: Vec<u8>) -> Result<PacketList, ReadRefused>
     // What is read is a capture of these packets.
     ensures found { IfOk result (λ list. IsCapture bytes.items list.packets) }
     ensures short { IfOk result (λ list. AllByRecursion IsShort list.packets) }
     // What is a capture is read as its packets, unless memory runs out.
     ensures accepted { (packets : List (List ℕ)) → IsCapture bytes.items packets →
-        MatchResult result (λ list. list.packets ≡ packets) (λ e. e ≡ BadCapture.OutOfMemory) }
+        MatchResult result (λ list. list.packets ≡ packets) (λ back. back.cause ≡ BadCapture.OutOfMemory) }
     // The first check that fails decides, whatever memory there is.
-    ensures refused { (refusal : BadCapture) → IsRefused bytes.items refusal → result ≡ Err refusal }
-    ensures cause { IfErr result (IsCause bytes.items) }
+    ensures refused { (refusal : BadCapture) → IsRefused bytes.items refusal →
+        result ≡ Err (record { bytes = bytes; cause = refusal }) }
+    ensures cause { IfErr result (λ back. IsCause bytes.items back.cause) }
+    ensures back { IfErr result (λ back. back.bytes ≡ bytes) }
 {
-    let order = check_header(bytes.as_slice())?;
-    let spans = find_packets(alloc, order, bytes.as_slice())?;
-    Ok(PacketList::of_spans(bytes, spans))
+    match spans_of(alloc, bytes.as_slice()) {
+        Ok(spans) => Ok(PacketList::of_spans(bytes, spans)),
+        Err(cause) => Err(ReadRefused { bytes, cause }),
+    }
 }

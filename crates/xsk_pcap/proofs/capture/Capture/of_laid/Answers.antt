@@ -8,7 +8,7 @@ pub invariant_of-result : goal.invariant_of-result
 invariant_of-result c =
     let text = c.args.laid.text.items in
     let spans = c.args.laid.spans.items in
-    let counts = c.push_reserved.ensures.items ∙ ap (λ counts. counts ++ c.len-number.result ∷ []) c.in_ok-counts.ensures.items in
+    let counts = c.push_reserved.ensures.items ∙ ap (λ counts. counts ++ c.len-number.result ∷ []) c.requires.room.0 in
     let number : c.len-number.result ≡ length (map (at_span text) spans) = omega (arith, c.len-number.ensures, length-map spans (at_span text)) in
     (IsKept-one _ _ _ (map (at_span text) spans) c.requires.laid.text_is counts number c.requires.writable).1
 
@@ -16,6 +16,6 @@ pub returns : goal.returns
 returns c =
     let text = c.args.laid.text.items in
     let spans = c.args.laid.spans.items in
-    let counts = c.push_reserved.ensures.items ∙ ap (λ counts. counts ++ c.len-number.result ∷ []) c.in_ok-counts.ensures.items in
+    let counts = c.push_reserved.ensures.items ∙ ap (λ counts. counts ++ c.len-number.result ∷ []) c.requires.room.0 in
     let number : c.len-number.result ≡ length (map (at_span text) spans) = omega (arith, c.len-number.ensures, length-map spans (at_span text)) in
     (IsKept-one _ _ _ (map (at_span text) spans) c.requires.laid.text_is counts number c.requires.writable).0
