@@ -2,3 +2,4 @@ pub mod Bay
 pub mod Memory
 pub mod Files
 pub mod Failing
+pub mod Gates

@@ -1,12 +1,13 @@
 //! Gates: what each worker on a thread of its own passes before each of its turns. They are for tests, which see by them that
 //! workers run at once.
 ghost use Rattle.std.specs.Prelude.{◌≡◌, ◌≢◌, ◌≤◌, ◌^◌, nat_lt, false, if◌then◌else◌};
+ghost use Rattle.xsk_io.specs.Gates.{most_looks};
 
 use std::marker::Model;
 use std::sync::atomic::{AtomicU64, Ordering};
 use std::thread;
 
-/// The most looks, with a yield after each, for which a gate holds a worker.
+/// The most looks, with a yield after each, for which a gate holds a worker, where it isn't made with another number.
 const MOST_LOOKS: u32 = 1_000_000;
 
 /// The turn of another worker that ends the wait of a worker that is held.
@@ -26,29 +27,30 @@ impl Gate for Open {
     fn enter(&self, _worker: u32, _turn: u64) {}
 }
 
-/// It holds each of two workers in its first turn until the other has entered, for at most 1,000,000 looks. Contracts see the numbers
-/// of the two.
+/// It holds each of two workers in its first turn until the other has entered, for 1,000,000 looks at most or for another number of
+/// them. Contracts see the numbers of the two, and the looks.
 #[derive(Drop)]
 pub struct PairGate {
     first: u32,
     second: u32,
+    looks: u32,
     /// A bit for each of the first 64 workers that entered.
     entered: AtomicU64,
     limit: AtomicU64,
 }
 
 impl Model for PairGate {
-    ghost use Rattle.std.specs.Prelude.{ℕ};
+    ghost use Rattle.xsk_io.specs.Gates.{Pair};
 
-    ghost Value = { ℕ × ℕ };
+    ghost Value = { Pair };
 
-    ghost view = { λ g. (g.first, g.second) };
+    ghost view = { λ g. record { first = g.first; second = g.second; looks = g.looks } };
 }
 
 impl PairGate {
     /// A gate through which no one has come, for workers 0 and 1.
     pub fn new() -> PairGate
-        ensures { result ≡ (0, 1) }
+        ensures { result ≡ record { first = 0; second = 1; looks = most_looks } }
     {
         PairGate::of(0, 1)
     }
@@ -56,14 +58,22 @@ impl PairGate {
     /// A gate through which no one has come, for these two workers, which differ.
     pub fn of(first: u32, second: u32) -> PairGate
         requires { first ≢ second }
-        ensures { result ≡ (first, second) }
+        ensures { result ≡ record { first = first; second = second; looks = most_looks } }
     {
         PairGate {
             first,
             second,
+            looks: MOST_LOOKS,
             entered: AtomicU64::new(0),
             limit: AtomicU64::new(0),
         }
+    }
+
+    /// The gate, which holds each of its two for at most so many looks.
+    pub fn with_looks(self, looks: u32) -> PairGate
+        ensures { result ≡ record self { looks = looks } }
+    {
+        PairGate { looks, ..self }
     }
 
     /// Whether a worker below 64 has entered. Of others it tells nothing.
@@ -80,7 +90,7 @@ impl PairGate {
 
     /// Waits until the other worker has entered.
     fn wait_for(&self, other: u32) {
-        for _ in 0..MOST_LOOKS {
+        for _ in 0..self.looks {
             if self.entered(other) {
                 return;
             }
@@ -111,32 +121,42 @@ fn bit(worker: u32) -> u64
     1u64.checked_shl(worker).unwrap_or(0)
 }
 
-/// It holds one worker in its first turn for 1,000,000 looks, or until another worker has entered its turn 1,000.
+/// It holds one worker in its first turn until another worker has entered its turn 1,000, for 1,000,000 looks at most or for another
+/// number of them. Contracts see the number of the one, and the looks.
 #[derive(Drop)]
 pub struct HoldGate {
     worker: u32,
+    looks: u32,
     passed: AtomicU64,
     pushed: AtomicU64,
 }
 
 impl Model for HoldGate {
-    ghost use Rattle.std.specs.Prelude.{ℕ};
+    ghost use Rattle.xsk_io.specs.Gates.{Hold};
 
-    ghost Value = { ℕ };
+    ghost Value = { Hold };
 
-    ghost view = { λ g. g.worker };
+    ghost view = { λ g. record { worker = g.worker; looks = g.looks } };
 }
 
 impl HoldGate {
     /// A gate that holds this worker.
     pub fn new(worker: u32) -> HoldGate
-        ensures { result ≡ worker }
+        ensures { result ≡ record { worker = worker; looks = most_looks } }
     {
         HoldGate {
             worker,
+            looks: MOST_LOOKS,
             passed: AtomicU64::new(0),
             pushed: AtomicU64::new(0),
         }
+    }
+
+    /// The gate, which holds its worker for at most so many looks.
+    pub fn with_looks(self, looks: u32) -> HoldGate
+        ensures { result ≡ record self { looks = looks } }
+    {
+        HoldGate { looks, ..self }
     }
 
     /// Whether another worker entered its turn 1,000 before this one was let through its first.
@@ -145,7 +165,7 @@ impl HoldGate {
     }
 
     fn hold(&self) {
-        for _ in 0..MOST_LOOKS {
+        for _ in 0..self.looks {
             if self.pushed() {
                 break;
             }
