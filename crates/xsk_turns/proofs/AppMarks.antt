@@ -2,7 +2,7 @@
 use Rattle.std.proofs.Common.{◌≡◌, ℕ, zero, suc, ◌<◌, Bool, true, false, cond, ◌&&◌, eqb, List, [], ◌∷◌, ◌++◌, length, set, refl, sym, ap, ◌∙◌, arith, eq-eqb, ne_eqb, get_or-set_same, get_or-set_other}
 use Rattle.xsk_turns.proofs.Object.{Config, Draining, unseen_after, draining_of}
 use Rattle.xsk_turns.proofs.Calls.{Told, Rx, Mark, RxDone, Gone}
-use Rattle.xsk_model.specs.declared.call.Mark.TheVariants.{NeedFill, NeedTx}
+use Rattle.xsk_model.specs.declared.call.Mark.TheVariants.{NeedFill, NeedTx, Acked}
 use Rattle.xsk_turns.specs.AppTurns.{pair_of, rx_of, is_set}
 use Rattle.xsk_turns.specs.AppOwned.{IsApp}
 use Rattle.xsk_turns.proofs.AppPlaces.{pairs_apart}
@@ -32,6 +32,12 @@ other_mark d e g n true true = refl
 other_mark d e g n true false = refl
 other_mark d e g n false true = refl
 other_mark d e g n false false = refl
+
+pub other_acked : (d e s n : ℕ) (x y : Bool) → unseen_after (unseen_by d e x y) (Acked s) n ≡ unseen_by d e x y
+other_acked d e s n true true = refl
+other_acked d e s n true false = refl
+other_acked d e s n false true = refl
+other_acked d e s n false false = refl
 
 -- a need-wakeup flag is none of them
 pub other_need : (d e : ℕ) (need : Mark) (n : ℕ) (x y : Bool) → is_need need ≡ true → unseen_after (unseen_by d e x y) need n ≡ unseen_by d e x y

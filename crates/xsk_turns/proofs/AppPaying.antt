@@ -5,7 +5,7 @@ use Rattle.xsk_turns.proofs.Object.{Config, pool_of, classes_of, IsMarkNumber, i
 use Rattle.xsk_turns.proofs.Calls.{Told, with_told, Ring, Fill, Tx, Mark, TxDone, Call, Swap, Look, Reply, Submitted, Old}
 use Rattle.xsk_model.specs.Marks.{is_mark}
 use Rattle.xsk_model.specs.Rings.{driver_of}
-use Rattle.xsk_model.specs.declared.call.Mark.TheVariants.{NeedFill, NeedTx, Kick}
+use Rattle.xsk_model.specs.declared.call.Mark.TheVariants.{NeedFill, NeedTx, Kick, Closing}
 use Rattle.xsk_model.proofs.Places.{is_ring-true}
 use Rattle.xsk_turns.specs.AppLaw.{IsFlagged, PaysAtOnce, PaysEndAtOnce}
 use Rattle.xsk_turns.specs.AppOwned.{IsApp}
@@ -13,7 +13,7 @@ use Rattle.xsk_turns.specs.Wakes.{owes_after, owes_step, owes_on, owes_end_after
 use Rattle.xsk_turns.specs.AppTurns.{AppKept, pair_of, tx_of, tx_pair, home_of, app_turn, app_start_by}
 use Rattle.xsk_turns.proofs.AppPlaces.{class_below, socket_driver}
 use Rattle.xsk_turns.proofs.Walks.{Premise, Anything, Fitting, meet_anything, meet_fitting}
-use Rattle.xsk_turns.proofs.AppWalk.{Place, Lanes, Lane, Sides, Side, Ending, Looking, Waking, Looked, Kicking, TxTold, Family, LookNeed, KickDriver, is_need, call_at, tx_submitted, fill_submitted, told_tx_done, looked_need, kicked, point_of, reply_of, without_need, needs_none, needs_kick, told_quietly, told_both, AtCalls, AtEntries, AtPasses, Said, IsLaw, at_call}
+use Rattle.xsk_turns.proofs.AppWalk.{Place, Lanes, Lane, Sides, Side, Ending, Looking, Waking, Looked, Kicking, TxTold, Lowering, Shutting, Draining, Family, LowerCell, lowered, told_closing, closed_quietly, closed_kicks, LookNeed, KickDriver, is_need, call_at, tx_submitted, fill_submitted, told_tx_done, looked_need, kicked, point_of, reply_of, without_need, needs_none, needs_kick, told_quietly, told_both, AtCalls, AtEntries, AtPasses, Said, IsLaw, at_call}
 
 -- ---- numbers and marks
 
@@ -83,6 +83,9 @@ module _ (c : Config) (a : ℕ) (one : IsApp c a) (wakeup : c.wakeup ≡ true) (
   free Ending l e = e
   free (Looking side) l e = e
   free TxTold l e = e
+  free (Lowering shut index) l e = e
+  free (Shutting shut) l e = e
+  free (Draining lane due) l e = e
 
   nothing : (kept : AppKept) (l : List Told) (call : Call) → owes l ≡ false → Asked kept call l
   nothing kept l call e = λ o. absurd (let no : false ≡ true = sym e ∙ o in cc)
@@ -140,6 +143,7 @@ module _ (c : Config) (a : ℕ) (one : IsApp c a) (wakeup : c.wakeup ≡ true) (
   passes (needs_kick place need pair n) noted kept l = λ h e o. (h o).1
   passes told_quietly noted kept l = λ h off. h
   passes told_both noted kept l = λ h e. free (Kicking (Kicking (Looking 2) (pair_of c a 1)) (pair_of c a 0)) l h
+  passes (closed_kicks shut) noted kept l = λ h e. free (Kicking (Lanes 0) (pair_of c a shut.side)) l h
   passes p noted kept l = λ h e. h
 
   pub law : IsLaw c a Answers At Asked (λ kept l. Unit {0})
@@ -155,6 +159,11 @@ pays_at_once m c a l kept call rest d r flag one wakeup fit asks is owes =
 or_off : (x : Bool) → (x || (false && true)) ≡ true → x ≡ true
 or_off true e = refl
 or_off false e = absurd (cc)
+
+-- a swap of another mark
+others : (x b : Bool) → ((x || (false && b)) && not (false && b)) ≡ x
+others true b = refl
+others false b = refl
 
 -- the first kick is that of the first side, the second that of the other
 either : (c : Config) (a side : ℕ) → side < 2 → (pair_of c a 0 ≡ pair_of c a side) ⊎ ((pair_of c a 0 ≡ pair_of c a 0) × ((pair_of c a 1 ≡ pair_of c a side) ⊎ ((pair_of c a 1 ≡ pair_of c a 0) × ⊥)))
@@ -206,6 +215,8 @@ module _ (c : Config) (a : ℕ) (one : IsApp c a) (wakeup : c.wakeup ≡ true) (
       (λ (e : pair ≡ mine). absurd (let no : true ≡ false = sym (ap (λ b. b && true) (eq-eqb mine pair (sym e))) ∙ not_true (eqb mine pair && true) parts.1 in cc))
       (λ (e : (pair ≡ pair_of c a 0) × Comes place). e.1)
       (h (or_off (owing l) parts.0))
+  told_entries (lowered shut index n) noted kept l known h asked q = λ o. absurd (h (as_before l (call_at c a (LowerCell shut index) kept) (Old n) (others (owing l) false) o))
+  told_entries (told_closing shut n) noted kept l known h asked q = λ o. absurd (h (as_before l (Swap (Closing shut.socket) 1) (Old n) (others (owing l) true) o))
   told_entries e noted kept l known h asked q = λ o. absurd (h (as_before l (call_at c a (point_of e) kept) (reply_of e) refl o))
 
   told_passes : AtPasses c a AtTold
@@ -214,6 +225,8 @@ module _ (c : Config) (a : ℕ) (one : IsApp c a) (wakeup : c.wakeup ≡ true) (
   told_passes (needs_kick place need pair n) noted kept l = λ h e o. absurd (h o)
   told_passes told_quietly noted kept l = λ h off. absurd (let no : true ≡ false = sym wakeup ∙ off in cc)
   told_passes told_both noted kept l = λ h on o. either c a side below
+  told_passes (closed_quietly shut) noted kept l = λ h off. h
+  told_passes (closed_kicks shut) noted kept l = λ h on o. absurd (h o)
   told_passes p noted kept l = λ h e. h
 
   pub told_law : IsLaw c a Anything AtTold AskedTold (λ kept l. Unit {0})

@@ -54,7 +54,7 @@ module _ (c : Config) (a : ℕ) (one : IsApp c a) where
       let low : x < c.ports / 2 = div_below a c.queues (c.ports / 2) some one.known in
       let ports : suc (2 * x + side) ≤ c.ports = side_port x side c.ports one.config.ports low h in
       let most : suc (2 * x + side) * c.queues ≤ c.ports * c.queues = mul-le-mul_right c.queues ports in
-      within (2 * x + side) c.queues (a % c.queues) (length c.pairs) rest (omega (arith, most, one.steady.regular.pairs))
+      within (2 * x + side) c.queues (a % c.queues) (length c.pairs) rest (omega (arith, most, one.regular.pairs))
 
   -- the pairs of the two sides are two
   pub pairs_apart : pair_of c a 0 ≡ pair_of c a 1 → ⊥
@@ -83,28 +83,28 @@ module _ (c : Config) (a : ℕ) (one : IsApp c a) where
   pub comp_seat : (side : ℕ) → side < 2 → (pair_of c a side < length c.pairs) × (caller_of c a ≡ consumer c (Comp (pair_of c a side)))
   comp_seat side h =
       let below = pair_below side h in
-      let at = one.steady.regular.seats (pair_of c a side) below in
+      let at = one.regular.seats (pair_of c a side) below in
       (below, ap (caller_of c) (sym (own_app side _ _ h at.0 at.1)))
 
   -- ---- the socket of a side's class
 
-  classes_some : 1 ≤ classes_of c
-  classes_some = queues_some (classes_of c) one.steady.regular.classes
+  pub classes_some : 1 ≤ classes_of c
+  classes_some = queues_some (classes_of c) one.regular.classes
 
   pub socket_below : (side class : ℕ) → side < 2 → class < classes_of c → side_socket c a side class < length c.sockets
   socket_below side class h k =
       let below = pair_below side h in
       let most : suc (pair_of c a side) * classes_of c ≤ length c.pairs * classes_of c = mul-le-mul_right (classes_of c) below in
-      within (pair_of c a side) (classes_of c) class (length c.sockets) k (omega (arith, most, one.steady.regular.sockets))
+      within (pair_of c a side) (classes_of c) class (length c.sockets) k (omega (arith, most, one.regular.sockets))
 
   pub socket_pair : (side class : ℕ) → class < classes_of c → side_socket c a side class / classes_of c ≡ pair_of c a side
   socket_pair side class k = div-mul-add (pair_of c a side) (classes_of c) class k
 
-  rx_seat : (side class : ℕ) → side < 2 → class < classes_of c
+  pub rx_seat : (side class : ℕ) → side < 2 → class < classes_of c
       → HasRing c (Rx (side_socket c a side class)) × (caller_of c a ≡ consumer c (Rx (side_socket c a side class)))
   rx_seat side class h k =
       let below = socket_below side class h k in
-      let at = one.steady.regular.places (side_socket c a side class) below in
+      let at = one.regular.places (side_socket c a side class) below in
       let e = socket_pair side class k in
       ((below, at.2), ap (caller_of c) (sym (own_app side _ _ h (at.0 ∙ ap (λ (n : ℕ). n / c.queues) e) (at.1 ∙ ap (λ (n : ℕ). n % c.queues) e))))
 
@@ -112,7 +112,7 @@ module _ (c : Config) (a : ℕ) (one : IsApp c a) where
       → HasRing c (Tx (side_socket c a side class)) × (caller_of c a ≡ producer c (Tx (side_socket c a side class)))
   tx_seat side class h k =
       let below = socket_below side class h k in
-      let at = one.steady.regular.places (side_socket c a side class) below in
+      let at = one.regular.places (side_socket c a side class) below in
       let e = socket_pair side class k in
       ((below, at.3), ap (caller_of c) (sym (own_app side _ _ h (at.0 ∙ ap (λ (n : ℕ). n / c.queues) e) (at.1 ∙ ap (λ (n : ℕ). n % c.queues) e))))
 
@@ -123,8 +123,8 @@ module _ (c : Config) (a : ℕ) (one : IsApp c a) where
       let within = socket_below side class h k in
       let below = pair_below side h in
       let bound : IsBound c.ports c.queues c.pairs (socket_at c.sockets s) = one.config.bound s (record { port = 0; queue = 0; rx = None; tx = None }) within in
-      let seat = one.steady.regular.seats (pair_of c a side) below in
-      let at = one.steady.regular.places s within in
+      let seat = one.regular.seats (pair_of c a side) below in
+      let at = one.regular.places s within in
       let e = socket_pair side class k in
       pair_on_only c.pairs (port_of c (Tx s)) (queue_of c (Tx s)) (pair_of c a side) bound.pair below
       (seat.0 ∙ ap (λ (n : ℕ). n / c.queues) (sym e) ∙ sym at.0, seat.1 ∙ ap (λ (n : ℕ). n % c.queues) (sym e) ∙ sym at.1)
@@ -137,14 +137,14 @@ module _ (c : Config) (a : ℕ) (one : IsApp c a) where
   home_seat : (number : ℕ) → number < c.geometry.frames → number / pool_of c < length c.pairs
   home_seat number h =
       let whole = div-add-mod' c.geometry.frames (length c.pairs) in
-      let e : length c.pairs * pool_of c ≡ c.geometry.frames = omega (arith, whole, one.steady.regular.lawful.divides) in
-      div_below number (pool_of c) (length c.pairs) one.steady.regular.lawful.some (omega (arith, e))
+      let e : length c.pairs * pool_of c ≡ c.geometry.frames = omega (arith, whole, one.regular.lawful.divides) in
+      div_below number (pool_of c) (length c.pairs) one.regular.lawful.some (omega (arith, e))
 
   pub app_seats : AppSeats c a
   app_seats = record {
     known = one.known;
     caller = (let known = one.known in omega (arith, known));
-    rx = λ lane h. rx_seat (lane / classes_of c) (lane % classes_of c) (side_below (classes_of c) lane one.steady.regular.classes h) (class_below lane);
+    rx = λ lane h. rx_seat (lane / classes_of c) (lane % classes_of c) (side_below (classes_of c) lane one.regular.classes h) (class_below lane);
     tx = λ lane h. tx_seat (1 - lane / classes_of c) (lane % classes_of c) (omega arith) (class_below lane);
     comp = comp_seat;
     home = home_seat;
@@ -179,4 +179,4 @@ module _ (c : Config) (a : ℕ) (one : IsApp c a) where
   pub tx_lane : (i j : ℕ) → i < lanes_of c → j < lanes_of c → tx_of c a i ≡ tx_of c a j → i ≡ j
   tx_lane i j h k e =
       let both = same_socket (1 - i / classes_of c) (i % classes_of c) (1 - j / classes_of c) (j % classes_of c) (class_below c a one i) (class_below c a one j) e in
-      same_lane i j (omega (arith, both.0, side_below (classes_of c) i one.steady.regular.classes h, side_below (classes_of c) j one.steady.regular.classes k)) both.1
+      same_lane i j (omega (arith, both.0, side_below (classes_of c) i one.regular.classes h, side_below (classes_of c) j one.regular.classes k)) both.1

@@ -1,6 +1,6 @@
 -- Steps of an application: each law of its turns goes along the piece of a turn that a step is, so it holds after any steps, and of
 -- the turns behind them.
-use Rattle.std.proofs.Common.{◌≡◌, ℕ, zero, suc, ◌+◌, ◌-◌, Bool, true, false, cond, eqb, List, [], ◌∷◌, ◌++◌, append_assoc, append-nil, length, drop, map, set, refl, sym, ap, ◌∙◌, subst, arith}
+use Rattle.std.proofs.Common.{◌≡◌, ℕ, zero, suc, ◌+◌, ◌-◌, Bool, true, false, cond, eqb, None, List, [], ◌∷◌, ◌++◌, append_assoc, append-nil, length, drop, map, set, refl, sym, ap, ◌∙◌, subst, arith}
 use Rattle.std.proofs.lemmas.List.Elements.{All-nil, All-cons, All-head, All-weaker}
 use Rattle.xsk_turns.proofs.Object.{Frame, Config, Geometry, pool_of, batch_of, home_item, IsItemOn, submitted_of}
 use Rattle.xsk_turns.proofs.Calls.{Item, Told, Fill, Comp, Rx, Tx, Mark, RxDone, Call, Reserve, Submit, Peek, Release, Swap, Look, Reply}
@@ -8,7 +8,9 @@ use Rattle.xsk_model.specs.declared.call.Mark.TheVariants.{NeedFill, NeedTx, Kic
 use Rattle.xsk_turns.specs.Script.{Script, ask, again, ended, on_submitted, Leaves, Asks, Ends}
 use Rattle.xsk_turns.specs.Turns.{frames_in}
 use Rattle.xsk_turns.specs.Owned.{AllFit}
-use Rattle.xsk_turns.specs.AppTurns.{AppKept, AppNoted, pair_of, rx_of, tx_of, tx_pair, lanes_of, home_of, group_of, is_set, pending_at, with_pending, given_on, passed_on, back_at, with_back, kick, wake, pass_on, receive_lane, visit_lane, give_back, complete_side, visit_side, with_seen, look_marks, noted_first, app_turn, app_start}
+use Rattle.xsk_turns.specs.AppTurns.{AppKept, AppNoted, pair_of, rx_of, tx_of, tx_pair, lanes_of, home_of, group_of, is_set, pending_at, received, drains, given_on, passed_on, back_at, with_back, kick, wake, pass_on, receive_lane, visit_lane, give_back, complete_side, visit_side, with_seen, look_marks, noted_first, app_turn, app_start}
+use Rattle.xsk_turns.proofs.AppShut.{none_drains}
+use Rattle.xsk_turns.proofs.AppClosing.{clear_of_none}
 use Rattle.xsk_turns.specs.AppOwned.{IsApp}
 use Rattle.xsk_turns.specs.Mangling.{plain}
 use Rattle.xsk_turns.proofs.Mangling.{altered_same}
@@ -84,7 +86,7 @@ module _ (c : Config) (a : ℕ) where
         tt,
         at_peek Anything Sending kept call l (receive_lane c a lane kept (next full)) (next noted kept)
             (λ items q.
-            let more = with_pending kept lane items in
+            let more = received c a lane kept items in
             let give = Release (Rx (rx_of c a lane)) (length items) in
             (tt, at_release Anything Sending more give _ (pass_on c a lane more (next full)) (λ r. stays_pass_on lane more (next full) _ sends (go full))))
             (λ q. go noted kept _ sends),
@@ -169,7 +171,7 @@ pub record Jumps (At : Family) : Type 0 where
   pub from_side : (side : ℕ) (noted : AppNoted) (kept : AppKept) (l : List Told) → At (Sides side) noted kept l → At (Lanes 0) (noted_first kept) kept l
   pub to_marks : (kept : AppKept) (l : List Told) → At (Lanes 0) (noted_first kept) kept l → At (Looking 0) no_note kept l
 
-module _ (c : Config) (a : ℕ) (one : IsApp c a) (At : Family) (A : Said) (E : AppKept → List Told → Type 0) (is : IsLaw c a (Fitting c) At A E) (jumps : Jumps At) where
+module _ (c : Config) (a : ℕ) (one : IsApp c a) (At : Family) (A : Said) (E : AppKept → List Told → Type 0) (is : IsLaw c a (Fitting c) At A E) (jumps : Jumps At) (closes : c.closing ≡ None) where
   abbrev law : Law AppKept
   law = walk.law c a one (Fitting c) At A E is
 
@@ -178,7 +180,7 @@ module _ (c : Config) (a : ℕ) (one : IsApp c a) (At : Family) (A : Said) (E : 
 
   piece_holds : (step : SplitStep) (kept : AppKept) (l : List Told) → HasPlace c step → kept.tx_done ≡ false → Between kept l → Holds (Fitting c) law (piece c a step kept) l
   piece_holds (AtLane lane) kept l below sends h =
-      go_lane c a one (Fitting c) At A E is lane (pending_at kept lane) no_note kept (λ noted kept. again kept) l (below, sends) refl (jumps.to_lane lane kept l h)
+      go_lane c a one (Fitting c) At A E is lane (pending_at kept lane) no_note kept (λ noted kept. again kept) l (below, sends, none_drains c a lane kept closes) refl (jumps.to_lane lane kept l h)
       (λ noted kept l sends h. jumps.from_lane (lane + 1) noted kept l h)
   piece_holds (AtSide side) kept l below sends h =
       go_side c a one (Fitting c) At A E is side (back_at kept side) no_note kept (λ noted kept. again kept) l below refl (jumps.to_side side kept l h)
@@ -242,7 +244,7 @@ left_of_has c kept past h = record {
   counts = λ n. omega (arith, h.counts n, times-app_numbers n kept);
 }
 
-module _ (c : Config) (a : ℕ) (one : IsApp c a) where
+module _ (c : Config) (a : ℕ) (one : IsApp c a) (closes : c.closing ≡ None) where
   has_jumps : Jumps (owning.At c a one)
   has_jumps = record {
     to_lane = λ lane kept l h. (h.0, tt);
@@ -255,44 +257,44 @@ module _ (c : Config) (a : ℕ) (one : IsApp c a) where
   pub owned_in_step : (step : SplitStep) (start : AppKept) (past l : List Told) (kept : AppKept) (call : Call) (rest : Reply → Script AppKept) → HasPlace c step → start.tx_done ≡ false
       → AppHas c start [] past → AllFit c past l → LeavesOf (piece c a step start) l (ask kept call rest) → owning.Asked c a one kept call (past ++ l)
   owned_in_step step start past l kept call rest place sends has fit leaves =
-      says_in_step c a one (owning.At c a one) (owning.Asked c a one) (owning.Has c a one) (owning.law c a one) has_jumps step start past l (ask kept call rest) place sends (has, tt) fit leaves
+      says_in_step c a one (owning.At c a one) (owning.Asked c a one) (owning.Has c a one) (owning.law c a one) has_jumps closes step start past l (ask kept call rest) place sends (has, tt) fit leaves
 
   pub has_after_step : (step : SplitStep) (start : AppKept) (past l : List Told) (now : AppKept) → start.tx_done ≡ false → AppHas c start [] past → AllFit c past l → IsStep c a step start l now
       → AppHas c now [] (past ++ l)
   has_after_step step start past l now sends has fit is =
-      (says_in_step c a one (owning.At c a one) (owning.Asked c a one) (owning.Has c a one) (owning.law c a one) has_jumps step start past l (again now) is.place sends (has, tt) fit is.leaves).0
+      (says_in_step c a one (owning.At c a one) (owning.Asked c a one) (owning.Has c a one) (owning.law c a one) has_jumps closes step start past l (again now) is.place sends (has, tt) fit is.leaves).0
 
   has_after_steps : (steps : List SplitStep) (l : List Told) (now : AppKept) → AllFit c [] l → AreSteps c a steps (app_start c) l now → AppHas c now [] l
   has_after_steps steps l now fit is =
-      (after_steps c a one (owning.At c a one) (owning.Asked c a one) (owning.Has c a one) (owning.law c a one) has_jumps steps (app_start c) [] l now refl (has_none plain c, tt) fit is).0
+      (after_steps c a one (owning.At c a one) (owning.Asked c a one) (owning.Has c a one) (owning.law c a one) has_jumps closes steps (app_start c) [] l now refl (has_none plain c, tt) fit is).0
 
   owned_in_run : (start : AppKept) (past l : List Told) (kept : AppKept) (call : Call) (rest : Reply → Script AppKept) → AppHas c start [] past → AllFit c past l
       → Asks (app_turn c a) start l kept call rest → owning.Asked c a one kept call (past ++ l)
   owned_in_run start past l kept call rest has fit asks =
-      says_in_run c a one (owning.At c a one) (owning.Asked c a one) (owning.Has c a one) (owning.law c a one) has_jumps start past l (ask kept call rest) (has, tt) fit asks
+      says_in_run c a one (owning.At c a one) (owning.Asked c a one) (owning.Has c a one) (owning.law c a one) has_jumps closes start past l (ask kept call rest) (has, tt) fit asks
 
   has_at_end : (start : AppKept) (past l : List Told) (kept : AppKept) → AppHas c start [] past → AllFit c past l → Ends (app_turn c a) start l kept → AppHas c kept [] (past ++ l)
   has_at_end start past l kept has fit ends =
-      says_in_run c a one (owning.At c a one) (owning.Asked c a one) (owning.Has c a one) (owning.law c a one) has_jumps start past l (ended kept) (has, tt) fit ends
+      says_in_run c a one (owning.At c a one) (owning.Asked c a one) (owning.Has c a one) (owning.law c a one) has_jumps closes start past l (ended kept) (has, tt) fit ends
 
 pub split_keeps_frames : SplitKeepsFrames
-split_keeps_frames c a l kept one fit split = left_of_has c kept l (has_after_steps c a one split.0 l kept fit split.1)
+split_keeps_frames c a l kept one closes fit split = left_of_has c kept l (has_after_steps c a one closes split.0 l kept fit split.1)
 
 pub step_calls_legal : StepCallsLegal
-step_calls_legal c a past step start l kept call rest one sends left place fit leaves own =
-    (owned_in_step c a one step start past l kept call rest place sends (has_of_left c start past left) fit leaves).1 own
+step_calls_legal c a past step start l kept call rest one closes sends left place fit leaves own =
+    (owned_in_step c a one closes step start past l kept call rest place sends (has_of_left c start past left) fit leaves).1 own (clear_of_none c (past ++ l) call closes)
 
 pub later_calls_legal : LaterCallsLegal
-later_calls_legal c a past start l kept call rest one left fit asks =
-    let at = owned_in_run c a one start past l kept call rest (has_of_left c start past left) fit asks in (app_owned c kept call (past ++ l) at.0, at.1)
+later_calls_legal c a past start l kept call rest one closes left fit asks =
+    let at = owned_in_run c a one closes start past l kept call rest (has_of_left c start past left) fit asks in (app_owned c kept call (past ++ l) at.0, λ own. at.1 own (clear_of_none c (past ++ l) call closes))
 
 pub later_frames_at_end : LaterFramesAtEnd
-later_frames_at_end c a past start l kept one left fit ends =
-    let has = has_at_end c a one start past l kept (has_of_left c start past left) fit ends in λ n. omega (arith, has.counts n, times-app_numbers n kept)
+later_frames_at_end c a past start l kept one closes left fit ends =
+    let has = has_at_end c a one closes start past l kept (has_of_left c start past left) fit ends in λ n. omega (arith, has.counts n, times-app_numbers n kept)
 
 -- ---- the lanes
 
-module _ (c : Config) (a : ℕ) (one : IsApp c a) where
+module _ (c : Config) (a : ℕ) (one : IsApp c a) (closes : c.closing ≡ None) where
   pub lanes_law : IsLaw c a (Fitting c) (lanes.At plain c a one) (lanes.Asked plain c a one) (lanes.Ended plain c a one)
   lanes_law =
       let on = lanes.law plain c a one in
@@ -310,12 +312,12 @@ module _ (c : Config) (a : ℕ) (one : IsApp c a) where
   pub lanes_after_steps : (steps : List SplitStep) (l : List Told) (now : AppKept) → AllFit c [] l → AreSteps c a steps (app_start c) l now
       → lanes.InOrder plain c a (noted_first now) 0 now l
   lanes_after_steps steps l now fit is =
-      after_steps c a one (lanes.At plain c a one) (lanes.Asked plain c a one) (lanes.Ended plain c a one) lanes_law lanes_jumps steps (app_start c) [] l now refl (lanes.first plain c a one l) fit is
+      after_steps c a one (lanes.At plain c a one) (lanes.Asked plain c a one) (lanes.Ended plain c a one) lanes_law lanes_jumps closes steps (app_start c) [] l now refl (lanes.first plain c a one l) fit is
 
 pub split_keeps_lanes : SplitKeepsLanes
-split_keeps_lanes c a l kept lane one fit split below =
+split_keeps_lanes c a l kept lane one closes fit split below =
     let out = submitted_of (Tx (tx_of c a lane)) l in
-    let order = (lanes_after_steps c a one split.0 l kept fit split.1).order lane below in
+    let order = lanes.open_lane c.geometry None (drains c a lane kept) out (pending_at kept lane) _ (none_drains c a lane kept closes) ((lanes_after_steps c a one closes split.0 l kept fit split.1).order lane below) in
     let same : out ≡ order.front = altered_same c.geometry order.front out order.altered in
     sym (ap (λ xs. xs ++ pending_at kept lane) same ∙ order.whole)
 

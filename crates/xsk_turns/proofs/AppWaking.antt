@@ -3,13 +3,14 @@ use Rattle.std.proofs.Common.{◌≡◌, ℕ, ◌-◌, ◌/◌, ◌%◌, true, f
 use Rattle.std.proofs.lemmas.List.Sums.{fold_push}
 use Rattle.xsk_turns.proofs.Object.{Config, classes_of}
 use Rattle.xsk_turns.proofs.Calls.{Told, with_told, Mark, TxDone, Call, Swap, Look, Reply, Submitted, Old}
-use Rattle.xsk_model.specs.declared.call.Mark.TheVariants.{Kick}
+use Rattle.xsk_model.specs.declared.call.Mark.TheVariants.{Kick, Closing}
 use Rattle.xsk_turns.specs.AppLaw.{SetsKick, SetsKicks, OnlySetsKicks, kick_of, flag_due, due_after, due_step, due_of, IsFirstDue, WakesAtOnce}
 use Rattle.xsk_turns.specs.AppOwned.{IsApp}
 use Rattle.xsk_turns.specs.AppTurns.{AppKept, pair_of, app_turn, app_start_by}
 use Rattle.xsk_turns.proofs.AppPlaces.{class_below, socket_driver}
+use Rattle.xsk_turns.proofs.AppShut.{shut_mine, shut_driver}
 use Rattle.xsk_turns.proofs.Walks.{Anything, meet_anything}
-use Rattle.xsk_turns.proofs.AppWalk.{Place, Waking, Looked, Kicking, TxTold, Family, Point, LookNeed, KickDriver, call_at, tx_submitted, fill_submitted, told_tx_done, looked_need, kicked, point_of, reply_of, begins, without_need, needs_none, needs_kick, told_quietly, told_both, AtCalls, AtEntries, AtPasses, Said, IsLaw, at_call, of_run}
+use Rattle.xsk_turns.proofs.AppWalk.{Place, Waking, Looked, Kicking, TxTold, Shutting, Family, Point, LookNeed, KickDriver, call_at, tx_submitted, fill_submitted, told_tx_done, told_closing, looked_need, kicked, point_of, reply_of, begins, without_need, needs_none, needs_kick, told_quietly, told_both, closed_quietly, closed_kicks, AtCalls, AtEntries, AtPasses, Said, IsLaw, at_call, of_run}
 
 -- ---- it clears no kick
 
@@ -57,6 +58,7 @@ module _ (c : Config) (a : ℕ) (one : IsApp c a) (wakeup : c.wakeup ≡ true) w
   due_at (Looked place need pair n) = cond (eqb n 1) (kick_of pair) [] ++ due_at place
   due_at (Kicking place pair) = kick_of pair ++ due_at place
   due_at TxTold = kick_of (pair_of c a 0) ++ kick_of (pair_of c a 1)
+  due_at (Shutting shut) = kick_of (pair_of c a shut.side)
   due_at place = []
 
   -- the flag is that of a ring of the pair's driver
@@ -100,6 +102,8 @@ module _ (c : Config) (a : ℕ) (one : IsApp c a) (wakeup : c.wakeup ≡ true) w
   entries (fill_submitted side frame frames) noted kept l known h asked q = (follows l _ Submitted [] h.0, (λ n. refl, tt))
   entries (told_tx_done n) noted kept l known h asked q =
       (follows l (Swap (TxDone a) 1) (Old n) [] h.0 ∙ ap (λ b. cond (b && true) (kick_of (pair_of c a 0) ++ kick_of (pair_of c a 1)) [] ++ []) (eq-eqb a a refl), tt)
+  entries (told_closing shut n) noted kept l known h asked q =
+      (follows l (Swap (Closing shut.socket) 1) (Old n) [] h.0 ∙ ap (λ d. kick_of d ++ []) (shut_driver c a one shut (shut_mine c a shut known.0)), tt)
   entries (looked_need place need pair n) noted kept l known h asked q =
       (follows l (Look need) (Old n) (Look need ∷ due_at place) h.0 ∙ ap (λ ds. ds ++ due_at place) (h.1.0 n), h.1.1)
   entries (kicked place pair n) noted kept l known h asked q = (follows l (Swap (Kick pair) 1) (Old n) (kick_of pair ++ due_at place) h.0, h.1)
@@ -111,6 +115,8 @@ module _ (c : Config) (a : ℕ) (one : IsApp c a) (wakeup : c.wakeup ≡ true) w
   passes (needs_kick place need pair n) noted kept l = λ h e. (h.0 ∙ ap (λ b. cond b (kick_of pair) [] ++ due_at place) e, h.1)
   passes told_quietly noted kept l = λ h off. absurd (let no : true ≡ false = sym wakeup ∙ off in cc)
   passes told_both noted kept l = λ h e. h
+  passes (closed_quietly shut) noted kept l = λ h off. absurd (let no : true ≡ false = sym wakeup ∙ off in cc)
+  passes (closed_kicks shut) noted kept l = λ h e. h
   passes p noted kept l = λ h e. h
 
   law : IsLaw c a Anything At Asked Ended

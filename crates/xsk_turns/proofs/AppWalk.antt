@@ -1,12 +1,15 @@
 -- The one walk along an application's turns. A law of its runs says what holds at each place of a turn, and what each entry
 -- of the list, a call with its reply, makes of it; then it holds along every run.
-use Rattle.std.proofs.Common.{◌≡◌, ◌⊎◌, inl, inr, ℕ, zero, suc, ◌+◌, ◌-◌, ◌<◌, Bool, true, false, cond, ◌&&◌, eqb, List, [], ◌∷◌, length, drop, map, set, refl, sym, ap, ◌∙◌, subst, arith}
+use Rattle.std.proofs.Common.{◌≡◌, ◌⊎◌, inl, inr, ℕ, zero, suc, ◌+◌, ◌-◌, ◌<◌, Bool, true, false, cond, ◌&&◌, not, eqb, slice_index, Some, None, Option, List, [], ◌∷◌, length, drop, map, set, refl, sym, ap, ◌∙◌, subst, arith}
+use Rattle.std.proofs.lemmas.Bool.{and_parts}
 use Rattle.xsk_turns.proofs.Object.{Frame, Config, pool_of, batch_of, home_item}
 use Rattle.xsk_turns.proofs.Calls.{Item, Told, with_told, Fill, Comp, Rx, Tx, Mark, RxDone, Gone, TxDone, Call, Reserve, Submit, Peek, Release, Swap, Look, Reply, Granted, Full, Submitted, Items, Empty, Released, Old}
-use Rattle.xsk_model.specs.declared.call.Mark.TheVariants.{NeedFill, NeedTx, Kick}
-use Rattle.xsk_turns.specs.Script.{Script, ask, again, ended, on_submitted, Asks, Ends, IsRun}
+use Rattle.xsk_model.specs.declared.call.Mark.TheVariants.{NeedFill, NeedTx, Kick, Cell, Closing, Acked}
+use Rattle.xsk_model.specs.Config.{map_of}
+use Rattle.xsk_model.specs.Rings.{port_of}
+use Rattle.xsk_turns.specs.Script.{Script, ask, again, ended, on_submitted, on_released, Asks, Ends, IsRun}
 use Rattle.xsk_turns.specs.Turns.{frames_in}
-use Rattle.xsk_turns.specs.AppTurns.{AppKept, AppNoted, pair_of, rx_of, tx_of, tx_pair, lanes_of, home_of, group_of, both, is_set, is_none, pending_at, with_pending, back_at, with_back, kick, wake, wake_both, given_on, passed_on, pass_on, receive_lane, visit_lane, visit_lanes, give_back, complete_side, visit_side, visit_sides, with_seen, with_gone, look_marks, look_rx_done, look_gone, end_turn, turn_sides, noted_first, app_turn}
+use Rattle.xsk_turns.specs.AppTurns.{AppKept, AppNoted, pair_of, rx_of, tx_of, tx_pair, lanes_of, home_of, group_of, both, is_set, is_none, pending_at, back_at, with_back, kick, wake, wake_both, given_on, passed_on, pass_on, receive_lane, visit_lane, visit_lanes, give_back, complete_side, visit_side, visit_sides, with_seen, with_gone, look_marks, look_rx_done, look_gone, may_tell, look_acked, end_by, end_turn, turn_sides, Shut, shut_of, drains, received, drained, may_close, with_begun, with_acked, drain_lane, lower_cells, wake_closed, tell_closing, close_first, turn_lanes, noted_first, app_turn}
 use Rattle.xsk_turns.specs.AppOwned.{IsApp}
 use Rattle.xsk_turns.proofs.AppGroups.{with_back-again, with_back-same, group_some, shorter}
 use Rattle.xsk_turns.proofs.Places.{batch_some}
@@ -16,7 +19,8 @@ use Rattle.xsk_turns.proofs.Walks.{Premise, Law, Due, nothing_due, submit_due, r
 
 -- An application comes to a lane or to a side, is at one, is at the end of its turn, or looks at marks there. Before it goes on
 -- to a place it may have to look at a ring's need-wakeup flag, has looked at it, with this number, or has to wake a driver; and
--- it has told that it sends nothing more.
+-- it has told that it sends nothing more. It lowers the cells of the socket that it closes, from this one on, has closed it, and
+-- is at a lane whose items it gives back.
 pub data Place : Type 0 where
   Lanes : ℕ → Place
   Lane : ℕ → Due → Place
@@ -28,6 +32,9 @@ pub data Place : Type 0 where
   Looked : Place → Mark → ℕ → ℕ → Place
   Kicking : Place → ℕ → Place
   TxTold : Place
+  Lowering : Shut → ℕ → Place
+  Shutting : Shut → Place
+  Draining : ℕ → Due → Place
 
 abbrev pub is_need : Mark → Bool
 is_need (NeedFill d) = true
@@ -67,6 +74,18 @@ pub data Point : Type 0 where
   LookGone : ℕ → Point
   LookNeed : Place → Mark → ℕ → Point
   KickDriver : Place → ℕ → Point
+  LowerCell : Shut → ℕ → Point
+  TellClosing : Shut → Point
+  PeekDrain : ℕ → Point
+  ReleaseDrain : ℕ → ℕ → Point
+  LookAcked : Shut → Point
+
+-- the port of the socket, and its cells
+abbrev pub shut_port : Config → Shut → ℕ
+shut_port c shut = port_of c (Rx shut.socket)
+
+abbrev pub shut_cells : Config → Shut → List ℕ
+shut_cells c shut = map_of c (shut_port c shut)
 
 abbrev pub group : Config → Frame → List Frame → List Frame
 group c frame frames = group_of (pool_of c) (batch_of c) frame frames
@@ -86,6 +105,11 @@ asked c a TellTxDone kept = (Ending, Swap (TxDone a) 1, kept)
 asked c a (LookGone side) kept = (Looking side, Look (Gone (pair_of c a side)), kept)
 asked c a (LookNeed place need pair) kept = (Waking place need pair, Look need, kept)
 asked c a (KickDriver place pair) kept = (Kicking place pair, Swap (Kick pair) 1, kept)
+asked c a (LowerCell shut index) kept = (Lowering shut index, Swap (Cell (shut_port c shut) index) 0, kept)
+asked c a (TellClosing shut) kept = (Lowering shut (length (shut_cells c shut)), Swap (Closing shut.socket) 1, kept)
+asked c a (PeekDrain lane) kept = (Lanes lane, Peek (Rx (rx_of c a lane)) (batch_of c), kept)
+asked c a (ReleaseDrain lane n) kept = (Draining lane (release_due (Rx (rx_of c a lane)) n), Release (Rx (rx_of c a lane)) n, kept)
+asked c a (LookAcked shut) kept = (Ending, Look (Acked shut.socket), kept)
 
 abbrev pub call_at : Config → ℕ → Point → AppKept → Call
 call_at c a p kept = (asked c a p kept).1
@@ -100,20 +124,25 @@ kept_before (SubmitFill side frame frames) kept = with_back kept side (frame ∷
 kept_before point kept = kept
 
 -- what is known where a call is given
-abbrev pub Known : Config → Point → AppNoted → AppKept → Type 0
-Known c (PeekRx lane) noted kept = (lane < lanes_of c) × (kept.tx_done ≡ false) × (pending_at kept lane ≡ [])
-Known c (ReleaseRx lane n) noted kept = (lane < lanes_of c) × (kept.tx_done ≡ false)
-Known c (ReserveTx lane) noted kept = (lane < lanes_of c) × (kept.tx_done ≡ false)
-Known c (SubmitTx lane) noted kept = (lane < lanes_of c) × (kept.tx_done ≡ false)
-Known c (PeekComp side) noted kept = (side < 2) × (back_at kept side ≡ [])
-Known c (LookRxDone side) noted kept = (side < 2) × (is_set kept.seen side ≡ false) × (kept.tx_done ≡ false)
-Known c TellTxDone noted kept = (kept.tx_done ≡ false) × ((noted.seen && noted.lanes_empty) ≡ true)
-Known c (ReleaseComp side n) noted kept = side < 2
-Known c (ReserveFill side frame frames) noted kept = side < 2
-Known c (SubmitFill side frame frames) noted kept = side < 2
-Known c (LookGone side) noted kept = (side < 2) × (is_set kept.gone side ≡ false) × (kept.tx_done ≡ true)
-Known c (LookNeed place need pair) noted kept = (c.wakeup ≡ true) × (is_need need ≡ true)
-Known c (KickDriver place pair) noted kept = c.wakeup ≡ true
+abbrev pub Known : Config → ℕ → Point → AppNoted → AppKept → Type 0
+Known c a (PeekRx lane) noted kept = (lane < lanes_of c) × (kept.tx_done ≡ false) × (pending_at kept lane ≡ []) × (drains c a lane kept ≡ false)
+Known c a (ReleaseRx lane n) noted kept = (lane < lanes_of c) × (kept.tx_done ≡ false) × (drains c a lane kept ≡ false)
+Known c a (ReserveTx lane) noted kept = (lane < lanes_of c) × (kept.tx_done ≡ false) × (drains c a lane kept ≡ false)
+Known c a (SubmitTx lane) noted kept = (lane < lanes_of c) × (kept.tx_done ≡ false) × (drains c a lane kept ≡ false)
+Known c a (PeekComp side) noted kept = (side < 2) × (back_at kept side ≡ [])
+Known c a (LookRxDone side) noted kept = (side < 2) × (is_set kept.seen side ≡ false) × (kept.tx_done ≡ false)
+Known c a TellTxDone noted kept = (kept.tx_done ≡ false) × (may_tell noted kept ≡ true)
+Known c a (ReleaseComp side n) noted kept = side < 2
+Known c a (ReserveFill side frame frames) noted kept = side < 2
+Known c a (SubmitFill side frame frames) noted kept = side < 2
+Known c a (LookGone side) noted kept = (side < 2) × (is_set kept.gone side ≡ false) × (kept.tx_done ≡ true)
+Known c a (LookNeed place need pair) noted kept = (c.wakeup ≡ true) × (is_need need ≡ true)
+Known c a (KickDriver place pair) noted kept = c.wakeup ≡ true
+Known c a (LowerCell shut index) noted kept = (shut_of c a ≡ Some shut) × (kept.begun ≡ false) × (kept.tx_done ≡ false) × (index < length (shut_cells c shut)) × (eqb (slice_index (shut_cells c shut) index) (suc shut.socket) ≡ true)
+Known c a (TellClosing shut) noted kept = (shut_of c a ≡ Some shut) × (kept.begun ≡ false) × (kept.tx_done ≡ false)
+Known c a (PeekDrain lane) noted kept = (lane < lanes_of c) × (kept.tx_done ≡ false) × (drains c a lane kept ≡ true)
+Known c a (ReleaseDrain lane n) noted kept = (lane < lanes_of c) × (kept.tx_done ≡ false) × (drains c a lane kept ≡ true)
+Known c a (LookAcked shut) noted kept = (shut_of c a ≡ Some shut) × (kept.begun ≡ true) × (kept.acked ≡ false)
 
 -- ---- what each reply makes of it
 
@@ -135,6 +164,12 @@ pub data Entry : Type 0 where
   looked_gone : ℕ → ℕ → Entry
   looked_need : Place → Mark → ℕ → ℕ → Entry
   kicked : Place → ℕ → ℕ → Entry
+  lowered : Shut → ℕ → ℕ → Entry
+  told_closing : Shut → ℕ → Entry
+  drain_empty : ℕ → Entry
+  drain_items : ℕ → List Item → Entry
+  drain_released : ℕ → ℕ → Entry
+  looked_acked : Shut → ℕ → Entry
 
 abbrev pub told : Entry → Point × Reply
 told (rx_empty lane) = (PeekRx lane, Empty)
@@ -154,6 +189,12 @@ told (told_tx_done n) = (TellTxDone, Old n)
 told (looked_gone side n) = (LookGone side, Old n)
 told (looked_need place need pair n) = (LookNeed place need pair, Old n)
 told (kicked place pair n) = (KickDriver place pair, Old n)
+told (lowered shut index n) = (LowerCell shut index, Old n)
+told (told_closing shut n) = (TellClosing shut, Old n)
+told (drain_empty lane) = (PeekDrain lane, Empty)
+told (drain_items lane items) = (PeekDrain lane, Items items)
+told (drain_released lane n) = (ReleaseDrain lane n, Released)
+told (looked_acked shut n) = (LookAcked shut, Old n)
 
 abbrev pub point_of : Entry → Point
 point_of e = (told e).0
@@ -164,7 +205,7 @@ reply_of e = (told e).1
 -- where each leads, with what is noted and kept there
 abbrev pub leads : Config → ℕ → Entry → AppNoted → AppKept → Place × AppNoted × AppKept
 leads c a (rx_empty lane) noted kept = (Lanes (lane + 1), noted, kept)
-leads c a (rx_items lane items) noted kept = (Lane lane (release_due (Rx (rx_of c a lane)) (length items)), busy_lane noted, with_pending kept lane items)
+leads c a (rx_items lane items) noted kept = (Lane lane (release_due (Rx (rx_of c a lane)) (length items)), busy_lane noted, received c a lane kept items)
 leads c a (rx_released lane n) noted kept = (Lane lane nothing_due, noted, kept)
 leads c a (tx_granted lane) noted kept = (Lane lane (submit_due (Tx (tx_of c a lane)) (length (pending_at kept lane))), noted, kept)
 leads c a (tx_full lane free) noted kept = (Lanes (lane + 1), noted, kept)
@@ -180,6 +221,12 @@ leads c a (told_tx_done n) noted kept = (TxTold, noted, record kept { tx_done = 
 leads c a (looked_gone side n) noted kept = (Looking (side + 1), noted, with_gone kept side n)
 leads c a (looked_need place need pair n) noted kept = (Looked place need pair n, noted, kept)
 leads c a (kicked place pair n) noted kept = (place, noted, kept)
+leads c a (lowered shut index n) noted kept = (Lowering shut (index + 1), noted, kept)
+leads c a (told_closing shut n) noted kept = (Shutting shut, noted, with_begun kept)
+leads c a (drain_empty lane) noted kept = (Lanes (lane + 1), noted, kept)
+leads c a (drain_items lane items) noted kept = (Draining lane (release_due (Rx (rx_of c a lane)) (length items)), busy_lane noted, drained c lane kept items)
+leads c a (drain_released lane n) noted kept = (Lanes (lane + 1), noted, kept)
+leads c a (looked_acked shut n) noted kept = (Ending, noted, with_acked kept n)
 
 -- ---- what goes on without a call
 
@@ -199,6 +246,10 @@ pub data Pass : Type 0 where
   needs_kick : Place → Mark → ℕ → ℕ → Pass
   told_quietly : Pass
   told_both : Pass
+  closes : Shut → Pass
+  keeps_cell : Shut → ℕ → Pass
+  closed_quietly : Shut → Pass
+  closed_kicks : Shut → Pass
 
 -- whether it has ended, by what it noted and keeps
 abbrev pub is_over : AppNoted → AppKept → Bool
@@ -221,7 +272,7 @@ Passing c a At (all_given side) noted kept l = At (Side side nothing_due) noted 
 Passing c a At sides_done noted kept l = At (Sides 2) noted kept l → Unit {0} → At Ending noted kept l
 Passing c a At looks noted kept l = At Ending noted kept l → Looks noted kept → At (Looking 0) noted kept l
 Passing c a At rests noted kept l =
-    At Ending noted kept l → (kept.tx_done ≡ false) × (both kept.seen ≡ true) × ((noted.seen && noted.lanes_empty) ≡ false) → At (Looking 2) noted kept l
+    At Ending noted kept l → (kept.tx_done ≡ false) × (both kept.seen ≡ true) × (may_tell noted kept ≡ false) → At (Looking 2) noted kept l
 Passing c a At (skips side) noted kept l = At (Looking side) noted kept l → is_set (flags_of kept) side ≡ true → At (Looking (side + 1)) noted kept l
 Passing c a At begins noted kept l = At (Looking 2) noted kept l → Unit {0} → At (Lanes 0) (noted_first kept) kept l
 Passing c a At (without_need place need pair) noted kept l = At (Waking place need pair) noted kept l → c.wakeup ≡ false → At place noted kept l
@@ -229,6 +280,22 @@ Passing c a At (needs_none place need pair n) noted kept l = At (Looked place ne
 Passing c a At (needs_kick place need pair n) noted kept l = At (Looked place need pair n) noted kept l → eqb n 1 ≡ true → At (Kicking place pair) noted kept l
 Passing c a At told_quietly noted kept l = At TxTold noted kept l → c.wakeup ≡ false → At (Looking 2) noted kept l
 Passing c a At told_both noted kept l = At TxTold noted kept l → c.wakeup ≡ true → At (Kicking (Kicking (Looking 2) (pair_of c a 1)) (pair_of c a 0)) noted kept l
+Passing c a At (closes shut) noted kept l = At (Lanes 0) noted kept l → (shut_of c a ≡ Some shut) × (may_close c shut kept ≡ true) × (kept.tx_done ≡ false) → At (Lowering shut 0) noted kept l
+Passing c a At (keeps_cell shut index) noted kept l =
+    At (Lowering shut index) noted kept l → (index < length (shut_cells c shut)) × (eqb (slice_index (shut_cells c shut) index) (suc shut.socket) ≡ false) → At (Lowering shut (index + 1)) noted kept l
+Passing c a At (closed_quietly shut) noted kept l = At (Shutting shut) noted kept l → c.wakeup ≡ false → At (Lanes 0) noted kept l
+Passing c a At (closed_kicks shut) noted kept l = At (Shutting shut) noted kept l → (c.wakeup ≡ true) × (shut_of c a ≡ Some shut) → At (Kicking (Lanes 0) (pair_of c a shut.side)) noted kept l
+
+-- where a socket may be closed, it isn't
+not_true : (b : Bool) → not b ≡ true → b ≡ false
+not_true true e = absurd (cc)
+not_true false e = refl
+
+is_fed : (c : Config) (shut : Shut) (kept : AppKept) → may_close c shut kept ≡ true → kept.begun ≡ false
+is_fed c shut kept e =
+    let first = (and_parts _ _ e).0 in
+    let open_still = (and_parts _ _ first).0 in
+    not_true kept.begun (and_parts _ _ open_still).0
 
 -- ---- a law
 
@@ -237,10 +304,10 @@ abbrev pub Said : Type 1
 Said = AppKept → Call → List Told → Type 0
 
 abbrev pub AtCalls : Config → ℕ → Family → Said → Type 0
-AtCalls c a At A = (p : Point) (noted : AppNoted) (kept : AppKept) (l : List Told) → Known c p noted kept → At (asked c a p kept).0 noted (kept_before p kept) l → A (kept_at c a p kept) (call_at c a p kept) l
+AtCalls c a At A = (p : Point) (noted : AppNoted) (kept : AppKept) (l : List Told) → Known c a p noted kept → At (asked c a p kept).0 noted (kept_before p kept) l → A (kept_at c a p kept) (call_at c a p kept) l
 
 abbrev pub AtEntries : Config → ℕ → Premise AppKept → Family → Said → Type 0
-AtEntries c a Q At A = (e : Entry) (noted : AppNoted) (kept : AppKept) (l : List Told) → Known c (point_of e) noted kept
+AtEntries c a Q At A = (e : Entry) (noted : AppNoted) (kept : AppKept) (l : List Told) → Known c a (point_of e) noted kept
     → At (asked c a (point_of e) kept).0 noted (kept_before (point_of e) kept) l → A (kept_at c a (point_of e) kept) (call_at c a (point_of e) kept) l
     → Q (kept_at c a (point_of e) kept) l (call_at c a (point_of e) kept) (reply_of e)
     → At (leads c a e noted kept).0 (leads c a e noted kept).1 (leads c a e noted kept).2 (with_told l (call_at c a (point_of e) kept) (reply_of e))
@@ -295,7 +362,7 @@ module _ (c : Config) (a : ℕ) (one : IsApp c a) (Q : Premise AppKept) (At : Fa
 
   -- ---- the lanes
 
-  go_pass_on : (lane : ℕ) (noted : AppNoted) (kept : AppKept) (next : AppKept → Script AppKept) (l : List Told) → (lane < lanes_of c) × (kept.tx_done ≡ false)
+  go_pass_on : (lane : ℕ) (noted : AppNoted) (kept : AppKept) (next : AppKept → Script AppKept) (l : List Told) → (lane < lanes_of c) × (kept.tx_done ≡ false) × (drains c a lane kept ≡ false)
       → At (Lane lane nothing_due) noted kept l → Sends (lane + 1) noted next → Along (pass_on c a lane kept next) l
   go_pass_on lane noted kept next l known h go =
       let items = pending_at kept lane in
@@ -317,37 +384,61 @@ module _ (c : Config) (a : ℕ) (one : IsApp c a) (Q : Premise AppKept) (At : Fa
             (λ free q. go kept (with_told l call (Full free)) known.1 (is.entries (tx_full lane free) noted kept l known h asked q)),
       )
 
-  pub go_lane : (lane : ℕ) (items : List Item) (noted : AppNoted) (kept : AppKept) (next : AppNoted → AppKept → Script AppKept) (l : List Told) → (lane < lanes_of c) × (kept.tx_done ≡ false)
+  pub go_lane : (lane : ℕ) (items : List Item) (noted : AppNoted) (kept : AppKept) (next : AppNoted → AppKept → Script AppKept) (l : List Told) → (lane < lanes_of c) × (kept.tx_done ≡ false) × (drains c a lane kept ≡ false)
       → pending_at kept lane ≡ items → At (Lanes lane) noted kept l → ((noted : AppNoted) → Sends (lane + 1) noted (next noted)) → Along (visit_lane c a lane items noted kept next) l
   go_lane lane [] noted kept next l known e h go =
       let r = Rx (rx_of c a lane) in
       let call = Peek r (batch_of c) in
       let full = busy_lane noted in
-      let asked = is.calls (PeekRx lane) noted kept l (known.0, known.1, e) h in (
+      let asked = is.calls (PeekRx lane) noted kept l (known.0, known.1, e, known.2) h in (
         asked,
         at_peek Q law kept call l (receive_lane c a lane kept (next full)) (next noted kept)
             (λ items q.
-            let more = with_pending kept lane items in
+            let more = received c a lane kept items in
             let give = Release r (length items) in
             let peeked = with_told l call (Items items) in
-            let now = is.entries (rx_items lane items) noted kept l (known.0, known.1, e) h asked q in
+            let now = is.entries (rx_items lane items) noted kept l (known.0, known.1, e, known.2) h asked q in
             let gives = is.calls (ReleaseRx lane (length items)) full more peeked known now in (
               gives,
               at_release Q law more give peeked (pass_on c a lane more (next full))
                   (λ r. go_pass_on lane full more (next full) (with_told peeked give Released) known (is.entries (rx_released lane (length items)) full more peeked known now gives r) (go full)),
             ))
-            (λ q. go noted kept (with_told l call Empty) known.1 (is.entries (rx_empty lane) noted kept l (known.0, known.1, e) h asked q)),
+            (λ q. go noted kept (with_told l call Empty) known.1 (is.entries (rx_empty lane) noted kept l (known.0, known.1, e, known.2) h asked q)),
       )
   go_lane lane (item ∷ items) noted kept next l known e h go =
       go_pass_on lane (busy_lane noted) kept (next (busy_lane noted)) l known (is.passes (has_items lane item items) noted kept l h e) (go (busy_lane noted))
+
+  go_drain : (lane : ℕ) (noted : AppNoted) (kept : AppKept) (next : AppNoted → AppKept → Script AppKept) (l : List Told) → (lane < lanes_of c) × (kept.tx_done ≡ false) × (drains c a lane kept ≡ true)
+      → At (Lanes lane) noted kept l → ((noted : AppNoted) → Sends (lane + 1) noted (next noted)) → Along (drain_lane c a lane noted kept next) l
+  go_drain lane noted kept next l known h go =
+      let r = Rx (rx_of c a lane) in
+      let call = Peek r (batch_of c) in
+      let full = busy_lane noted in
+      let asked = is.calls (PeekDrain lane) noted kept l known h in (
+        asked,
+        at_peek Q law kept call l (λ items. ask (drained c lane kept items) (Release r (length items)) (on_released (next full (drained c lane kept items)))) (next noted kept)
+            (λ items q.
+            let more = drained c lane kept items in
+            let give = Release r (length items) in
+            let peeked = with_told l call (Items items) in
+            let now = is.entries (drain_items lane items) noted kept l known h asked q in
+            let gives = is.calls (ReleaseDrain lane (length items)) full more peeked known now in (
+              gives,
+              at_release Q law more give peeked (next full more)
+                  (λ r. go full more (with_told peeked give Released) known.1 (is.entries (drain_released lane (length items)) full more peeked known now gives r)),
+            ))
+            (λ q. go noted kept (with_told l call Empty) known.1 (is.entries (drain_empty lane) noted kept l known h asked q)),
+      )
 
   go_lanes : (more lane : ℕ) (noted : AppNoted) (kept : AppKept) (next : AppNoted → AppKept → Script AppKept) (l : List Told) → lane + more ≡ lanes_of c → kept.tx_done ≡ false
       → At (Lanes lane) noted kept l → Continues (Sides 0) next → Along (visit_lanes c a more lane noted kept next) l
   go_lanes zero lane noted kept next l e sends h go =
       let all : lane ≡ lanes_of c = omega (arith, e) in go noted kept l (is.passes lanes_done noted kept l (subst (λ k. At (Lanes k) noted kept l) all h) sends)
   go_lanes (suc more) lane noted kept next l e sends h go =
-      go_lane lane (pending_at kept lane) noted kept (λ noted kept. visit_lanes c a more (lane + 1) noted kept next) l (omega (arith, e), sends) refl h
-      (λ noted kept l sends h. go_lanes more (lane + 1) noted kept next l (omega (arith, e)) sends h go)
+      let rest = λ (noted : AppNoted) (kept : AppKept) (l : List Told) (sends : kept.tx_done ≡ false) (h : At (Lanes (lane + 1)) noted kept l). go_lanes more (lane + 1) noted kept next l (omega (arith, e)) sends h go in
+      by_case Q law (drains c a lane kept) _ _ l
+      (λ f. go_drain lane noted kept (λ noted kept. visit_lanes c a more (lane + 1) noted kept next) l (omega (arith, e), sends, f) h rest)
+      (λ f. go_lane lane (pending_at kept lane) noted kept (λ noted kept. visit_lanes c a more (lane + 1) noted kept next) l (omega (arith, e), sends, f) refl h rest)
 
   -- ---- the sides
 
@@ -466,14 +557,14 @@ module _ (c : Config) (a : ℕ) (one : IsApp c a) (Q : Premise AppKept) (At : Fa
       (λ m now. go_kick (Looking 2) (pair_of c a 1) noted kept (again kept) m on now (λ k over. is.passes begins noted kept k over tt)))
       (λ off. is.passes begins noted kept l (is.passes told_quietly noted kept l h off) tt)
 
-  go_end : Continues Ending (end_turn c a)
-  go_end noted kept l h =
+  go_end_by : Continues Ending (end_by c a)
+  go_end_by noted kept l h =
       let call = Swap (TxDone a) 1 in
       let told : AppKept = record kept { tx_done = true } in
       by_case Q law kept.tx_done _ _ l
       (λ done. by_case Q law (is_over noted kept) _ _ l (λ e. is.ends noted kept l (done, e) h) (λ e. go_gone noted kept l done (is.passes looks noted kept l h (inr (done, e)))))
       (λ sends. by_case Q law (both kept.seen) _ _ l
-      (λ e. by_case Q law (noted.seen && noted.lanes_empty) _ _ l
+      (λ e. by_case Q law (may_tell noted kept) _ _ l
       (λ f.
       let asked = is.calls TellTxDone noted kept l (sends, f) h in (
         asked,
@@ -483,13 +574,78 @@ module _ (c : Config) (a : ℕ) (one : IsApp c a) (Q : Premise AppKept) (At : Fa
       (λ f. is.passes begins noted kept l (is.passes rests noted kept l h (sends, e, f)) tt))
       (λ e. go_rx_done noted kept l sends (is.passes looks noted kept l h (inl (sends, e)))))
 
+  go_acked : (o : Option Shut) (noted : AppNoted) (kept : AppKept) (l : List Told) → shut_of c a ≡ o → At Ending noted kept l → Along (look_acked o kept (end_by c a noted)) l
+  go_acked None noted kept l e h = go_end_by noted kept l h
+  go_acked (Some shut) noted kept l e h =
+      by_case Q law (kept.begun && not kept.acked) _ _ l
+      (λ f.
+      let known : (shut_of c a ≡ Some shut) × (kept.begun ≡ true) × (kept.acked ≡ false) = (e, (and_parts kept.begun (not kept.acked) f).0, not_true kept.acked (and_parts kept.begun (not kept.acked) f).1) in
+      let asked = is.calls (LookAcked shut) noted kept l known h in (
+        asked,
+        at_old Q law kept (Look (Acked shut.socket)) l (λ n. end_by c a noted (with_acked kept n))
+            (λ n q. go_end_by noted (with_acked kept n) (with_told l (Look (Acked shut.socket)) (Old n)) (is.entries (looked_acked shut n) noted kept l known h asked q)),
+      ))
+      (λ f. go_end_by noted kept l h)
+
+  go_end : Continues Ending (end_turn c a)
+  go_end noted kept l h = go_acked (shut_of c a) noted kept l refl h
+
   go_turn_sides : Continues (Sides 0) (turn_sides c a)
   go_turn_sides noted kept l h = go_sides 2 0 noted kept (end_turn c a) l refl h go_end
+
+  -- ---- closing a socket
+
+  go_turn_lanes : (kept : AppKept) (l : List Told) → kept.tx_done ≡ false → At (Lanes 0) (noted_first kept) kept l → Along (turn_lanes c a kept) l
+  go_turn_lanes kept l sends h = go_lanes (lanes_of c) 0 (noted_first kept) kept (turn_sides c a) l (omega arith) sends h go_turn_sides
+
+  go_tell_closing : (shut : Shut) (kept : AppKept) (l : List Told) → shut_of c a ≡ Some shut → kept.begun ≡ false → kept.tx_done ≡ false
+      → At (Lowering shut (length (shut_cells c shut))) (noted_first kept) kept l → Along (tell_closing c a shut kept (turn_lanes c a)) l
+  go_tell_closing shut kept l e f sends h =
+      let call = Swap (Closing shut.socket) 1 in
+      let now = with_begun kept in
+      let noted = noted_first kept in
+      let pair = pair_of c a shut.side in
+      let asked = is.calls (TellClosing shut) noted kept l (e, f, sends) h in (
+        asked,
+        at_old Q law kept call l (λ old. wake_closed c pair now (turn_lanes c a now))
+            (λ n q.
+            let m = with_told l call (Old n) in
+            let told = is.entries (told_closing shut n) noted kept l (e, f, sends) h asked q in
+            by_case Q law c.wakeup _ _ m
+            (λ on. go_kick (Lanes 0) pair noted now (turn_lanes c a now) m on (is.passes (closed_kicks shut) noted now m told (on, e)) (λ k over. go_turn_lanes now k sends over))
+            (λ off. go_turn_lanes now m sends (is.passes (closed_quietly shut) noted now m told off))),
+      )
+
+  go_lower : (shut : Shut) (more index : ℕ) (kept : AppKept) (l : List Told) → index + more ≡ length (shut_cells c shut) → shut_of c a ≡ Some shut → kept.begun ≡ false → kept.tx_done ≡ false
+      → At (Lowering shut index) (noted_first kept) kept l → Along (lower_cells c shut.socket more index kept (tell_closing c a shut kept (turn_lanes c a))) l
+  go_lower shut zero index kept l all e f sends h =
+      let here : index ≡ length (shut_cells c shut) = omega (arith, all) in
+      go_tell_closing shut kept l e f sends (subst (λ k. At (Lowering shut k) (noted_first kept) kept l) here h)
+  go_lower shut (suc more) index kept l all e f sends h =
+      let noted = noted_first kept in
+      let call = Swap (Cell (shut_port c shut) index) 0 in
+      let below : index < length (shut_cells c shut) = omega (arith, all) in
+      let next : (index + 1) + more ≡ length (shut_cells c shut) = omega (arith, all) in
+      by_case Q law (eqb (slice_index (shut_cells c shut) index) (suc shut.socket)) _ _ l
+      (λ g.
+      let asked = is.calls (LowerCell shut index) noted kept l (e, f, sends, below, g) h in (
+        asked,
+        at_old Q law kept call l (λ old. lower_cells c shut.socket more (index + 1) kept (tell_closing c a shut kept (turn_lanes c a)))
+            (λ n q. go_lower shut more (index + 1) kept (with_told l call (Old n)) next e f sends (is.entries (lowered shut index n) noted kept l (e, f, sends, below, g) h asked q)),
+      ))
+      (λ g. go_lower shut more (index + 1) kept l next e f sends (is.passes (keeps_cell shut index) noted kept l h (below, g)))
+
+  go_close : (o : Option Shut) (kept : AppKept) (l : List Told) → shut_of c a ≡ o → kept.tx_done ≡ false → At (Lanes 0) (noted_first kept) kept l → Along (close_first c a o kept (turn_lanes c a)) l
+  go_close None kept l e sends h = go_turn_lanes kept l sends h
+  go_close (Some shut) kept l e sends h =
+      by_case Q law (may_close c shut kept) _ _ l
+      (λ f. go_lower shut (length (shut_cells c shut)) 0 kept l (omega arith) e (is_fed c shut kept f) sends (is.passes (closes shut) (noted_first kept) kept l h (e, f, sends)))
+      (λ f. go_turn_lanes kept l sends h)
 
   pub go_turn : (kept : AppKept) (l : List Told) → At (Lanes 0) (noted_first kept) kept l → Along (app_turn c a kept) l
   go_turn kept l h =
       by_case Q law kept.tx_done _ _ l (λ done. go_turn_sides (noted_first kept) kept l (is.passes no_lanes (noted_first kept) kept l h done))
-      (λ sends. go_lanes (lanes_of c) 0 (noted_first kept) kept (turn_sides c a) l (omega arith) sends h go_turn_sides)
+      (λ sends. go_close (shut_of c a) kept l refl sends h)
 
   -- ---- runs
 

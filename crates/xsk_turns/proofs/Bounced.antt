@@ -1,22 +1,21 @@
 -- The packets that a driver bounces are those that are to be bounced, each once and in order.
-use Rattle.std.proofs.Common.{◌≡◌, ℕ, suc, ◌+◌, ◌-◌, Bool, true, false, cond, not, ◌&&◌, nat_lt, Option, Some, None, List, [], ◌∷◌, ◌++◌, length, take, drop, flat_map, refl, sym, ap, ◌∙◌, subst, arith, append-nil, append_assoc, length-append}
+use Rattle.std.proofs.Common.{◌≡◌, ℕ, suc, ◌-◌, Bool, true, false, cond, not, ◌&&◌, nat_lt, Some, List, [], ◌∷◌, ◌++◌, length, take, drop, refl, sym, ap, ◌∙◌, arith, append-nil, append_assoc, length-append}
 use Rattle.std.proofs.lemmas.Grind.{flat_map-append}
 use Rattle.std.proofs.lemmas.List.Sums.{sum_by_push}
 use Rattle.std.proofs.Math.Bool.{and-false}
 use Rattle.std.proofs.Math.Seq.{drop-append_seam}
-use Rattle.xsk_model.specs.Config.{Config, classes_of, map_of}
+use Rattle.xsk_model.specs.Config.{classes_of}
 use Rattle.xsk_model.specs.Sent.{bounced_in, bounced_of}
 use Rattle.xsk_turns.proofs.Calls.{Told, with_told, Gone, BouncedMark, Call, Swap, Reply, Old}
-use Rattle.xsk_turns.specs.Script.{Script, Asks, Ends}
 use Rattle.xsk_turns.specs.Turns.{Seat, Judged, Kept, seat_of, start, turn, bounces, bounce_of, bounced_among, disposal_by, disposal_untried}
 use Rattle.xsk_turns.specs.Sending.{bounces_at, bouncing, is_bouncing, BouncesNext, BouncesAll}
 use Rattle.xsk_turns.specs.declared.disposal.Disposal.{Disposal}
-use Rattle.xsk_turns.specs.declared.disposal.Disposal.TheVariants.{Delivered, NoFrames, RxFull, TooLong, Runt, Missed, Passed, Dropped, Bounced}
+use Rattle.xsk_turns.specs.declared.disposal.Disposal.TheVariants.{Delivered, NoFrames, RxFull, TooLong, Runt, Missed, Bounced}
 use Rattle.xsk_prog.specs.declared.rule.Verdict.{Verdict}
 use Rattle.xsk_prog.specs.declared.rule.Verdict.TheVariants.{Drop, Pass, Redirect, Bounce}
 use Rattle.xsk_turns.proofs.Walks.{Anything, meet_anything}
 use Rattle.xsk_turns.proofs.Disposing.{IsOver, over_later}
-use Rattle.xsk_turns.proofs.DriverWalk.{Family, IsBouncing, SubmitRx, TellBounced, call_at, kept_at, told_rx_done, told_bounced, looked_none, looked_long, rx_submitted, looked_tx_done, found_end, point_of, reply_of, untried, drops_full, drops_frameless, untried_has, Said, AtCalls, AtEntries, AtPasses, IsLaw, at_call, at_end}
+use Rattle.xsk_turns.proofs.DriverWalk.{Family, IsBouncing, SubmitRx, TellBounced, call_at, told_rx_done, told_bounced, looked_none, looked_long, rx_submitted, looked_tx_done, found_end, point_of, reply_of, untried, drops_full, drops_frameless, untried_has, Said, AtCalls, AtEntries, AtPasses, IsLaw, at_call, at_end}
 
 -- ---- packets that bounce, and those that don't
 

@@ -1,17 +1,15 @@
 -- A driver last set the mark that counts its bounced packets to the number of those that bounced, so it may set it to one more.
-use Rattle.std.proofs.Common.{◌≡◌, ℕ, suc, ◌+◌, Bool, true, false, cond, Option, Some, None, List, [], ◌∷◌, ◌++◌, refl, sym, ap, ◌∙◌, subst, arith}
-use Rattle.std.specs.Prelude.{sum_by, unwrap_or}
+use Rattle.std.proofs.Common.{◌≡◌, ℕ, suc, Bool, cond, Option, Some, None, List, [], ◌∷◌, ◌++◌, refl, ap, ◌∙◌, arith}
+use Rattle.std.specs.Prelude.{unwrap_or}
 use Rattle.std.proofs.lemmas.List.Sums.{fold_push, sum_by_push}
-use Rattle.xsk_model.specs.Config.{Config, classes_of}
-use Rattle.xsk_model.specs.Marks.{is_mark}
 use Rattle.xsk_model.specs.Swaps.{set_after, set_step, last_set}
 use Rattle.xsk_model.proofs.Closings.{is_mark-self}
-use Rattle.xsk_turns.proofs.Calls.{Told, with_told, Gone, BouncedMark, Call, Swap, Reply, Submitted, Old}
-use Rattle.xsk_turns.specs.Turns.{Seat, Judged, Kept, settled, bounce_of, bounced_among}
+use Rattle.xsk_turns.proofs.Calls.{Told, with_told, BouncedMark, Call, Swap, Reply, Submitted, Old}
+use Rattle.xsk_turns.specs.Turns.{Seat, Kept, bounce_of, bounced_among}
 use Rattle.xsk_turns.specs.declared.disposal.Disposal.{Disposal}
-use Rattle.xsk_turns.specs.declared.disposal.Disposal.TheVariants.{Delivered, NoFrames, RxFull, TooLong, Runt, Missed, Passed, Dropped, Bounced}
+use Rattle.xsk_turns.specs.declared.disposal.Disposal.TheVariants.{Delivered, NoFrames, RxFull, TooLong, Missed, Bounced}
 use Rattle.xsk_turns.proofs.Walks.{Premise}
-use Rattle.xsk_turns.proofs.DriverWalk.{Family, SubmitRx, TellRxDone, call_at, kept_at, told_bounced, looked_none, looked_long, rx_submitted, point_of, reply_of, untried, drops_full, drops_frameless, untried_has, Said, AtCalls, AtEntries, AtPasses, IsLaw}
+use Rattle.xsk_turns.proofs.DriverWalk.{Family, SubmitRx, TellRxDone, call_at, told_bounced, looked_none, looked_long, rx_submitted, point_of, reply_of, untried, drops_full, drops_frameless, untried_has, Said, AtCalls, AtEntries, AtPasses, IsLaw}
 
 module _ (seat : Seat) (Q : Premise Kept) where
   abbrev pub counted : List Told → ℕ

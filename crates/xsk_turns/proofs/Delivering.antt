@@ -22,7 +22,7 @@ use Rattle.xsk_turns.proofs.Layouts.{layout, one_piece, length-laid_out}
 use Rattle.xsk_turns.proofs.Disposing.{IsOver, over_later, disposes_all}
 use Rattle.xsk_turns.proofs.Saying.{disposed_as_said}
 use Rattle.xsk_turns.proofs.Walks.{Fitting, meet_fitting}
-use Rattle.xsk_turns.proofs.DriverWalk.{Family, Begins, IsTried, call_at, told_rx_done, told_bounced, looked_none, looked_long, fill_items, rx_submitted, comp_submitted, looked_tx_done, found_end, point_of, reply_of, untried, drops_full, drops_frameless, parks, untried_has, AtEntries, AtPasses, IsLaw, at_call, at_end}
+use Rattle.xsk_turns.proofs.DriverWalk.{Family, Begins, TellRxDone, IsTried, call_at, told_rx_done, told_bounced, looked_none, looked_long, fill_items, rx_submitted, comp_submitted, looked_tx_done, found_end, point_of, reply_of, untried, drops_full, drops_frameless, parks, untried_has, AtCalls, AtEntries, AtPasses, IsLaw, at_call, at_end}
 
 -- ---- lists of layouts
 
@@ -46,7 +46,7 @@ laid_out-more g sg packets all packet items h k =
 -- ---- what holds
 
 -- packets that have their disposals, and what was submitted of them
-record IsGiven (c : Config) (s : ℕ) (input coming : List Judged) (ds : List Disposal) (items : List Item) : Type 0 where
+pub record IsGiven (c : Config) (s : ℕ) (input coming : List Judged) (ds : List Disposal) (items : List Item) : Type 0 where
   pub done : List Judged
   pub parts : done ++ coming ≡ input
   pub each : length done ≡ length ds
@@ -124,19 +124,19 @@ module _ (wire : Wire) (c : Config) (d s : ℕ) (is : IsSeat c d) (input : List 
   abbrev seat : Seat
   seat = seat_of wire c d
 
-  record IsSettled (kept : Kept) (l : List Told) : Type 0 where
+  pub record IsSettled (kept : Kept) (l : List Told) : Type 0 where
     pub given : IsGiven c s input kept.coming kept.disposals (submitted_of (Rx s) l)
     pub spare : All (IsOwnFrame c.geometry) kept.spare
     pub over : IsOver kept.rx_done kept.tx_done kept.coming
 
-  abbrev At : Family
+  abbrev pub At : Family
   At place noted kept l = IsSettled kept l
 
-  abbrev Asked : Kept → Call → List Told → Type 0
-  Asked kept call l = (packets : List (List ℕ)) × IsLaidOut c.geometry c.sg packets (submitted_of (Rx s) l) × All (IsSized c) packets
+  abbrev pub Asked : Kept → Call → List Told → Type 0
+  Asked kept call l = IsGiven c s input kept.coming kept.disposals (submitted_of (Rx s) l)
 
-  abbrev Ended : Kept → List Told → Type 0
-  Ended kept l = IsLaidOut c.geometry c.sg (with_disposal s input kept.disposals) (submitted_of (Rx s) l) × All (IsSized c) (with_disposal s input kept.disposals)
+  abbrev pub Ended : Kept → List Told → Type 0
+  Ended kept l = IsGiven c s input kept.coming kept.disposals (submitted_of (Rx s) l) × (kept.coming ≡ [])
 
   still : (kept : Kept) (l : List Told) (call : Call) (reply : Reply) → submitted call ≡ [] → IsSettled kept l → IsSettled kept (with_told l call reply)
   still kept l call reply e h = record {
@@ -171,10 +171,7 @@ module _ (wire : Wire) (c : Config) (d s : ℕ) (is : IsSeat c d) (input : List 
       (is_layout kept packet.bytes tried.next.long tried.fits enough h.spare) (record { long = ltb-false _ 14 tried.next.long; few = ltb-false (packet_limit c) _ tried.fits }))
 
   all_given : (kept : Kept) (l : List Told) → kept.tx_done ≡ true → IsSettled kept l → Ended kept l
-  all_given kept l done h =
-      let none : kept.coming ≡ [] = h.over.none (h.over.first done) in
-      let all : h.given.done ≡ input = sym (append-nil h.given.done) ∙ ap (λ xs. h.given.done ++ xs) (sym none) ∙ h.given.parts in
-      subst (λ ps. IsLaidOut c.geometry c.sg (with_disposal s ps kept.disposals) (submitted_of (Rx s) l) × All (IsSized c) (with_disposal s ps kept.disposals)) all (h.given.laid, h.given.sized)
+  all_given kept l done h = (h.given, h.over.none (h.over.first done))
 
   -- a packet that isn't delivered
   skips : (kept : Kept) (packet : Judged) (later : List Judged) (x : Disposal) (l : List Told) → kept.coming ≡ packet ∷ later → is_to s x ≡ false → IsSettled kept l
@@ -195,6 +192,10 @@ module _ (wire : Wire) (c : Config) (d s : ℕ) (is : IsSeat c d) (input : List 
             (All-append (IsOwnFrame c.geometry) kept.spare (frames_in items) now.spare (own_frames c.geometry (Fill d) items q.lawful));
         over = now.over;
       }
+
+  calls : AtCalls seat (Fitting c) At Asked
+  calls TellRxDone noted kept l known h = h.given
+  calls p noted kept l known h = h.given
 
   entries : AtEntries seat (Fitting c) At Asked
   entries (told_rx_done n) noted kept l known found h a q =
@@ -230,15 +231,15 @@ module _ (wire : Wire) (c : Config) (d s : ℕ) (is : IsSeat c d) (input : List 
   passes parks noted kept l = λ h e. record { given = h.given; spare = h.spare; over = h.over }
   passes p noted kept l = λ h e. h
 
-  law : IsLaw seat (Fitting c) At Asked Ended
+  pub law : IsLaw seat (Fitting c) At Asked Ended
   law = record {
-    calls = λ p noted kept l known h. (with_disposal s h.given.done kept.disposals, h.given.laid, h.given.sized);
+    calls = calls;
     entries = entries;
     passes = passes;
     ends = λ noted kept l n known h a q. all_given kept (with_told l (Swap (Gone d) 1) (Old n)) known.2 (still kept l (Swap (Gone d) 1) (Old n) refl h);
   }
 
-  at_first : Begins At (start (classes_of c) input) []
+  pub at_first : Begins At (start (classes_of c) input) []
   at_first = record {
     given = record { done = []; parts = refl; each = refl; laid = ([], refl, tt); sized = All-nil (IsSized c) };
     spare = All-nil (IsOwnFrame c.geometry);
@@ -251,8 +252,9 @@ pub laid_at : (wire : Wire) (c : Config) (d s : ℕ) (input : List Judged) (l : 
     → (packets : List (List ℕ)) × IsLaidOut c.geometry c.sg packets (submitted_of (Rx s) l) × All (IsSized c) packets
 laid_at wire c d s input l kept call rest is fit asks =
     let at = seat_of wire c d in
-    at_call at (Fitting c) (At wire c d s is input) (Asked wire c d s is input) (Ended wire c d s is input) (law wire c d s is input) (start (classes_of c) input) (at_first wire c d s is input) l
-    (meet_fitting (turn at) c _ [] l fit) kept call rest asks
+    let given = at_call at (Fitting c) (At wire c d s is input) (Asked wire c d s is input) (Ended wire c d s is input) (law wire c d s is input) (start (classes_of c) input) (at_first wire c d s is input) l
+    (meet_fitting (turn at) c _ [] l fit) kept call rest asks in
+    (with_disposal s given.done kept.disposals, given.laid, given.sized)
 
 module _ (wire : Wire) (c : Config) (d s : ℕ) (input : List Judged) (l : List Told) (is : IsSeat c d) (fit : AllFit c [] l) (whole : IsWholeDriverRun wire c d input l) where
   abbrev all_delivered : List (List ℕ)
@@ -261,9 +263,12 @@ module _ (wire : Wire) (c : Config) (d s : ℕ) (input : List Judged) (l : List 
   at_last : IsLaidOut c.geometry c.sg all_delivered (submitted_of (Rx s) l) × All (IsSized c) all_delivered
   at_last =
       let at = seat_of wire c d in
+      let over = at_end at (Fitting c) (At wire c d s is input) (Asked wire c d s is input) (Ended wire c d s is input) (law wire c d s is input) (start (classes_of c) input) (at_first wire c d s is input) l
+      (meet_fitting (turn at) c _ [] l fit) whole.0 whole.1 in
+      let given = over.0 in
+      let all : given.done ≡ input = sym (append-nil given.done) ∙ ap (λ xs. given.done ++ xs) (sym over.1) ∙ given.parts in
       subst (λ ds. IsLaidOut c.geometry c.sg (with_disposal s input ds) (submitted_of (Rx s) l) × All (IsSized c) (with_disposal s input ds)) (disposes_all wire c d input l whole.0 whole.1).disposals
-      (at_end at (Fitting c) (At wire c d s is input) (Asked wire c d s is input) (Ended wire c d s is input) (law wire c d s is input) (start (classes_of c) input) (at_first wire c d s is input) l
-      (meet_fitting (turn at) c _ [] l fit) whole.0 whole.1)
+      (subst (λ ps. IsLaidOut c.geometry c.sg (with_disposal s ps whole.0.disposals) (submitted_of (Rx s) l) × All (IsSized c) (with_disposal s ps whole.0.disposals)) all (given.laid, given.sized))
 
 pub delivers_in_order : DeliversInOrder
 delivers_in_order wire c d s input l is fit whole = (at_last wire c d s input l is fit whole).0
@@ -285,7 +290,7 @@ with_disposal_is at s (packet ∷ ps) =
     ∙ bytes_if (is_to s (disposal_in at packet)) packet (delivered_to at s ps)
 
 pub delivers_as_said : DeliversAsSaid
-delivers_as_said wire c d s input l waits is fit whole =
+delivers_as_said wire c d s input l waits closes is fit whole =
     subst (λ ps. IsLaidOut c.geometry c.sg ps (submitted_of (Rx s) l))
-    (ap (with_disposal s input) (disposed_as_said wire c d input l waits is.steady.closes fit whole) ∙ with_disposal_is (seat_of wire c d) s input)
+    (ap (with_disposal s input) (disposed_as_said wire c d input l waits closes fit whole) ∙ with_disposal_is (seat_of wire c d) s input)
     (delivers_in_order wire c d s input l is fit whole)

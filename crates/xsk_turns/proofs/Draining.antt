@@ -9,7 +9,8 @@ use Rattle.xsk_turns.proofs.Object.{classes_of, Draining, are_none, unseen_after
 use Rattle.xsk_turns.specs.Turns.{Seat, Kept, Noted, seat_of, start, turn, socket_of, application_of, cell_of}
 use Rattle.xsk_turns.specs.Law.{DrainsTx}
 use Rattle.xsk_turns.proofs.Walks.{Anything, meet_anything}
-use Rattle.xsk_turns.proofs.DriverWalk.{Place, Turning, Again, Sending, Idling, Family, call_at, told_rx_done, told_bounced, looked_none, looked_long, looked_some, rx_submitted, comp_full, comp_submitted, tx_empty, tx_items, tx_released, looked_tx_done, armed_fill, found_end, found_none, kicked, not_kicked, point_of, reply_of, leads, none_comes, waits, drops_full, drops_frameless, visited, idles, arms, AtEntries, AtPasses, IsLaw, at_end}
+use Rattle.xsk_turns.proofs.DriverWalk.{Place, Turning, Again, Sending, Idling, Family, call_at, told_rx_done, told_bounced, looked_none, looked_long, looked_some, rx_submitted, comp_full, comp_submitted, tx_empty, tx_items, tx_released, looked_tx_done, armed_fill, found_end, found_none, kicked, not_kicked, point_of, reply_of, leads, none_comes, waits, drops_full, drops_frameless, visited, idles, arms, AtEntries, AtPasses, IsLaw, at_end, saw_fed, saw_closed}
+use Rattle.xsk_model.specs.declared.call.Mark.TheVariants.{Closing}
 
 pub draining_told : (ms : List Mark) (r : Ring) (l : List Told) (call : Call) (reply : Reply)
     → draining_of ms r (with_told l call reply) ≡ draining_after r (draining_of ms r l) call reply
@@ -160,6 +161,8 @@ module _ (seat : Seat) (class : ℕ) (below : class < seat.classes) where
       subst (λ b. IsDrained a t b ⊥ (with_told l (Look (TxDone a)) (Old n))) (ap (λ b. kept.tx_done || b) found ∙ or-false kept.tx_done) (looked_mark a t kept.tx_done ⊥ ⊥ l n (λ x. x) h)
   entries (kicked frames n) noted kept l known found h x q = looked_other a t kept.tx_done ⊥ ⊥ l (Kick seat.pair) n refl (λ x. x) h
   entries (not_kicked frames n) noted kept l known found h x q = looked_other a t kept.tx_done ⊥ ⊥ l (Kick seat.pair) n refl (λ x. x) h
+  entries (saw_fed s n) noted kept l known found h x q = looked_other a t kept.tx_done ⊥ ⊥ l (Closing s) n refl (λ x. x) h
+  entries (saw_closed s n) noted kept l known found h x q = looked_other a t kept.tx_done ⊥ ⊥ l (Closing s) n refl (λ x. x) h
   entries e noted kept l known found h x q =
       still a t kept.tx_done (Needs class (leads seat e noted kept).0 noted kept) (Needs class (leads seat e noted kept).0 noted kept) l (call_at seat (point_of e) kept) (reply_of e) (λ s. refl) (λ x. x) h
 

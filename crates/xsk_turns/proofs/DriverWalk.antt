@@ -5,7 +5,8 @@ use Rattle.std.proofs.lemmas.Bool.{or_parts}
 use Rattle.xsk_turns.proofs.Calls.{Item, Told, with_told, Fill, Comp, Rx, Tx, NeedFill, NeedTx, Kick, RxDone, Gone, TxDone, Cell, BouncedMark, Call, Reserve, Submit, Peek, Release, Swap, Look, Reply, Granted, Full, Submitted, Items, Empty, Released, Old}
 use Rattle.xsk_model.specs.Config.{map_of}
 use Rattle.xsk_turns.specs.Script.{Script, ask, again, ended, on_submitted, on_released, on_old, Asks, Ends, IsRun, Leaves}
-use Rattle.xsk_turns.specs.Turns.{Seat, Judged, Kept, Noted, fresh, awaits, drops, moved, stopped, lacks, settled, settled_or, dropped, disposal_by, disposal_untried, supplied, with_rx_full, with_fill_empty, with_tx_empty, no_frames, no_room, visit_from, socket_of, application_of, bounces, bounced_among, bounce, cell_of, redirect_to, limit_of, pieces_of, laid_out, returned, gathered, flag_tx, flag_from, flag_all, disarm, park, woken, peek_fill, peek_tx, look_kick, settle, look_tx, look_from, look_again, idle, complete, complete_all, visit, transmit, deliver, reserve, go_on, find_spare, direct, receive, turn_by, turn}
+use Rattle.xsk_turns.specs.Turns.{Seat, Judged, Kept, Noted, fresh, awaits, drops, moved, stopped, lacks, settled, settled_or, dropped, disposal_by, disposal_untried, supplied, with_rx_full, with_fill_empty, with_tx_empty, no_frames, no_room, visit_from, socket_of, application_of, bounces, bounced_among, bounce, cell_of, redirect_to, limit_of, pieces_of, laid_out, returned, gathered, flag_tx, flag_from, flag_all, disarm, park, woken, peek_fill, peek_tx, look_kick, settle, look_tx, look_from, look_again, idle, complete, complete_all, visit, transmit, deliver, reserve, go_on, find_spare, direct, receive, turn_by, turn, closing_of, with_acked, look_closing}
+use Rattle.xsk_model.specs.declared.call.Mark.TheVariants.{Closing, Acked}
 use Rattle.xsk_turns.specs.declared.disposal.Disposal.{Disposal}
 use Rattle.xsk_turns.specs.declared.disposal.Disposal.TheVariants.{Delivered, NoFrames, RxFull, TooLong, Runt, Missed, Passed, Dropped, Bounced}
 use Rattle.xsk_prog.specs.declared.rule.Verdict.{Verdict}
@@ -62,11 +63,13 @@ pub data Which : Type 0 where
   Turning : Which
   Again : Which
 
--- a driver receives, tries a packet that goes to a socket, has too few frames for it or no room on RX, sends once so many
+-- a driver starts a turn, has seen its socket closed, receives, tries a packet that goes to a socket, has too few frames for it or no room on RX, sends once so many
 -- classes are visited, or is idle; it sets its flags, and then it looks at FILL for the packet and at the classes again; it is
 -- parked, or has seen its kick, each with FILL's flag or without; or it clears its flags, FILL's first, or once those of so
 -- many classes are cleared
 pub data Place : Type 0 where
+  Starting : Place
+  Acking : Place
   Receiving : Place
   Trying : Which → Judged → ℕ → Due → Place
   Lacking : Which → Judged → ℕ → Bool → Place
@@ -83,7 +86,7 @@ Family = Place → Noted → Kept → List Told → Type 0
 
 -- where a turn begins
 abbrev pub first_place : Option Bool → Place
-first_place None = Receiving
+first_place None = Starting
 first_place (Some frames) = Parked frames
 
 abbrev pub Begins : Family → Kept → List Told → Type 0
@@ -91,6 +94,8 @@ Begins At kept l = At (first_place kept.parked) fresh kept l
 
 -- a call, by which look it is, by the packet and its socket, by the class and the finished packets, or by the class
 pub data Point : Type 0 where
+  LookClosing : ℕ → Point
+  TellAcked : ℕ → Point
   TellRxDone : Point
   TellBounced : Judged → Point
   LookCell : Judged → Point
@@ -114,6 +119,8 @@ pub data Point : Type 0 where
 
 -- where each call is given, the call, and what is kept once it is given: a Submit takes its frames along
 abbrev pub asked : Seat → Point → Kept → Place × Call × Kept
+asked seat (LookClosing s) kept = (Starting, Look (Closing s), kept)
+asked seat (TellAcked s) kept = (Acking, Swap (Acked s) 1, kept)
 asked seat TellRxDone kept = (Receiving, Swap (RxDone seat.pair) 1, kept)
 asked seat (TellBounced packet) kept = (Receiving, Swap (BouncedMark seat.pair) (suc (bounced_among kept.disposals)), kept)
 asked seat (LookCell packet) kept = (Receiving, Look (Cell seat.port (cell_of packet.verdict)), kept)
@@ -175,6 +182,8 @@ pub record IsLacking (seat : Seat) (Q : Premise Kept) (n : ℕ) (coming : List J
 
 -- what is known where a call is given
 abbrev pub Known : Seat → Premise Kept → Point → Noted → Kept → Type 0
+Known seat Q (LookClosing s) noted kept = (closing_of seat ≡ Some s) × (kept.acked ≡ false)
+Known seat Q (TellAcked s) noted kept = (closing_of seat ≡ Some s) × (kept.acked ≡ false)
 Known seat Q TellRxDone noted kept = (kept.coming ≡ []) × (kept.rx_done ≡ false)
 Known seat Q (TellBounced packet) noted kept = IsBouncing seat kept.coming packet
 Known seat Q (LookCell packet) noted kept = IsNext seat kept.coming packet
@@ -200,6 +209,9 @@ Known seat Q (DisarmTx k) noted kept = (kept.parked ≡ None) × (k < seat.class
 
 -- the entries, each a call and its reply
 pub data Entry : Type 0 where
+  saw_fed : ℕ → ℕ → Entry
+  saw_closed : ℕ → ℕ → Entry
+  told_acked : ℕ → ℕ → Entry
   told_rx_done : ℕ → Entry
   told_bounced : Judged → ℕ → Entry
   looked_none : Judged → ℕ → Entry
@@ -229,6 +241,9 @@ pub data Entry : Type 0 where
   disarmed_tx : ℕ → ℕ → Entry
 
 abbrev pub told : Entry → Point × Reply
+told (saw_fed s n) = (LookClosing s, Old n)
+told (saw_closed s n) = (LookClosing s, Old n)
+told (told_acked s n) = (TellAcked s, Old n)
 told (told_rx_done n) = (TellRxDone, Old n)
 told (told_bounced packet n) = (TellBounced packet, Old n)
 told (looked_none packet n) = (LookCell packet, Old n)
@@ -265,6 +280,9 @@ reply_of e = (told e).1
 
 -- where each leads, with what is noted and kept there
 abbrev pub leads : Seat → Entry → Noted → Kept → Place × Noted × Kept
+leads seat (saw_fed s n) noted kept = (Receiving, noted, kept)
+leads seat (saw_closed s n) noted kept = (Acking, noted, kept)
+leads seat (told_acked s n) noted kept = (Receiving, noted, with_acked kept)
 leads seat (told_rx_done n) noted kept = (Sending Turning 0 nothing_due, moved noted, record kept { rx_done = true })
 leads seat (told_bounced packet n) noted kept = (Sending Turning 0 nothing_due, moved noted, settled kept Bounced)
 leads seat (looked_none packet n) noted kept = (Sending Turning 0 nothing_due, moved noted, settled kept Missed)
@@ -282,7 +300,7 @@ leads seat (comp_submitted k packet later) noted kept = (Sending Turning k nothi
 leads seat (tx_empty look k) noted kept = (Sending look (k + 1) nothing_due, noted, with_tx_empty k kept)
 leads seat (tx_items look k items) noted kept = (Sending look (k + 1) (release_due (Tx (socket_of seat k)) (length items)), moved noted, gathered seat k kept items)
 leads seat (tx_released look k n) noted kept = (Sending look (k + 1) nothing_due, noted, kept)
-leads seat (looked_tx_done n) noted kept = (Receiving, fresh, record kept { tx_done = kept.tx_done || eqb n 1 })
+leads seat (looked_tx_done n) noted kept = (Starting, fresh, record kept { tx_done = kept.tx_done || eqb n 1 })
 leads seat (armed_fill n) noted kept = (Arming 0, noted, kept)
 leads seat (armed_tx k n) noted kept = (Arming (k + 1), noted, kept)
 leads seat (found_end n) noted kept = (Disarming (awaits noted) 0, noted, record kept { tx_done = true })
@@ -295,6 +313,8 @@ leads seat (disarmed_tx k n) noted kept = (Disarming false (k + 1), noted, kept)
 
 -- what it finds of a cell's number, or a mark's
 abbrev pub Finds : Seat → Entry → Type 0
+Finds seat (saw_fed s n) = eqb n 1 ≡ false
+Finds seat (saw_closed s n) = eqb n 1 ≡ true
 Finds seat (looked_none packet n) = redirect_to seat.config seat.port seat.queue n ≡ None
 Finds seat (looked_long packet n s) = (redirect_to seat.config seat.port seat.queue n ≡ Some s) × (nat_lt (limit_of seat) (length packet.bytes) ≡ true)
 Finds seat (looked_some packet n s) = (redirect_to seat.config seat.port seat.queue n ≡ Some s) × (nat_lt (limit_of seat) (length packet.bytes) ≡ false)
@@ -307,6 +327,7 @@ Finds seat entry = Unit {0}
 -- ---- what goes on without a call
 
 pub data Pass : Type 0 where
+  receives : Pass
   untried : Judged → List Judged → Disposal → Pass
   none_comes : Pass
   too_few : Judged → ℕ → Pass
@@ -329,6 +350,7 @@ abbrev pub GoesOnAtOnce : Seat → Noted → Kept → Type 0
 GoesOnAtOnce seat noted kept = ((noted.progress || noted.full) ≡ true) ⊎ ((kept.tx_done ≡ false) × (seat.config.wakeup ≡ false) × (kept.rx_done ≡ false))
 
 abbrev pub Passing : Seat → Premise Kept → Family → Pass → Noted → Kept → List Told → Type 0
+Passing seat Q At receives noted kept l = At Starting noted kept l → (closing_of seat ≡ None) ⊎ (kept.acked ≡ true) → At Receiving noted kept l
 Passing seat Q At (untried packet later disposal) noted kept l =
     At Receiving noted kept l → (kept.coming ≡ packet ∷ later) × (disposal_untried seat packet ≡ Some disposal) → At Receiving (moved noted) (settled kept disposal) l
 Passing seat Q At none_comes noted kept l = At Receiving noted kept l → (kept.coming ≡ []) × (kept.rx_done ≡ true) → At (Sending Turning 0 nothing_due) noted kept l
@@ -340,7 +362,7 @@ Passing seat Q At (drops_full packet s) noted kept l =
 Passing seat Q At (drops_frameless packet s) noted kept l =
     At (Lacking Turning packet s false) noted kept l → IsTried seat Q kept.coming packet s × (drops seat.wire ≡ true) → At (Sending Turning 0 nothing_due) (moved noted) (dropped kept NoFrames) l
 Passing seat Q At visited noted kept l = At (Sending Turning seat.classes nothing_due) noted kept l → kept.finished ≡ [] → At Idling noted kept l
-Passing seat Q At idles noted kept l = At Idling noted kept l → GoesOnAtOnce seat noted kept → At Receiving fresh kept l
+Passing seat Q At idles noted kept l = At Idling noted kept l → GoesOnAtOnce seat noted kept → At Starting fresh kept l
 Passing seat Q At arms noted kept l = At Idling noted kept l → (noted.full ≡ false) × (awaits noted ≡ false) × (kept.tx_done ≡ false) × (noted.progress ≡ false) × (seat.config.wakeup ≡ true) → At (Arming 0) noted kept l
 Passing seat Q At (seeks packet s) noted kept l = At (Arming seat.classes) noted kept l → IsTried seat Q kept.coming packet s × (awaits noted ≡ true) → At (Trying Again packet s nothing_due) noted kept l
 Passing seat Q At (sought packet s) noted kept l = At (Trying Again packet s nothing_due) noted kept l → (awaits noted ≡ true) × (noted.progress ≡ true) → At (Sending Again 0 nothing_due) noted kept l
@@ -349,7 +371,7 @@ Passing seat Q At looks noted kept l = At (Arming seat.classes) noted kept l →
 Passing seat Q At finds noted kept l = At (Sending Again seat.classes nothing_due) noted kept l → noted.progress ≡ true → At (Disarming (awaits noted) 0) noted kept l
 Passing seat Q At parks noted kept l =
     At (Sending Again seat.classes nothing_due) noted kept l → (noted.progress ≡ false) × (kept.rx_done ≡ false) → At (Parked (awaits noted)) fresh (record kept { parked = Some (awaits noted) }) l
-Passing seat Q At disarmed noted kept l = At (Disarming false seat.classes) noted kept l → kept.parked ≡ None → At Receiving fresh kept l
+Passing seat Q At disarmed noted kept l = At (Disarming false seat.classes) noted kept l → kept.parked ≡ None → At Starting fresh kept l
 
 -- ---- a law
 
@@ -393,6 +415,7 @@ module _ (seat : Seat) (Q : Premise Kept) (At On : Family) (A B : Said) (E F : K
   EndTogether kept l = E kept l × F kept l
 
   pass_together : AtPasses seat Q Together
+  pass_together receives noted kept l = λ h e. (is.passes receives noted kept l h.0 e, passes receives noted kept l h.1 e)
   pass_together (untried packet later disposal) noted kept l = λ h e. (is.passes (untried packet later disposal) noted kept l h.0 e, passes (untried packet later disposal) noted kept l h.1 e)
   pass_together none_comes noted kept l = λ h e. (is.passes none_comes noted kept l h.0 e, passes none_comes noted kept l h.1 e)
   pass_together (too_few packet s) noted kept l = λ h e. (is.passes (too_few packet s) noted kept l h.0 e, passes (too_few packet s) noted kept l h.1 e)
@@ -436,7 +459,7 @@ module _ (seat : Seat) (Q : Premise Kept) (At : Family) (A : Said) (E : Kept →
   steady : (noted : Noted) (kept : Kept) → Awake noted kept → Steady noted kept
   steady noted kept w = (w.0, λ e. absurd (let no : false ≡ true = sym (ap (nat_lt 0) w.1) ∙ e in cc))
 
-  begins_awake : (kept : Kept) (l : List Told) → kept.parked ≡ None → At Receiving fresh kept l → Begins At kept l
+  begins_awake : (kept : Kept) (l : List Told) → kept.parked ≡ None → At Starting fresh kept l → Begins At kept l
   begins_awake kept l e h = subst (λ o. At (first_place o) fresh kept l) (sym e) h
 
   begins_parked : (frames : Bool) (kept : Kept) (l : List Told) → kept.parked ≡ Some frames → At (Parked frames) fresh kept l → Begins At kept l
@@ -768,8 +791,34 @@ module _ (seat : Seat) (Q : Premise Kept) (At : Family) (A : Said) (E : Kept →
       )))
       (λ d some. go_receive later (moved noted) (settled kept d) l up (is.passes (untried packet later d) noted kept l h (e, some)) rest)
 
+  -- ---- a socket that is closed
+
+  go_closing : (o : Option ℕ) (kept : Kept) (l : List Told) → closing_of seat ≡ o → kept.parked ≡ None → At Starting fresh kept l → Along (look_closing seat o kept) l
+  go_closing None kept l e up h = go_receive kept.coming fresh kept l (up, refl) (is.passes receives fresh kept l h (inl e)) refl
+  go_closing (Some s) kept l e up h =
+      let look = Look (Closing s) in
+      let give = Swap (Acked s) 1 in
+      let now = with_acked kept in
+      by_case Q law kept.acked _ _ l (λ f. go_receive kept.coming fresh kept l (up, refl) (is.passes receives fresh kept l h (inr f)) refl)
+      (λ f.
+      let asked = is.calls (LookClosing s) fresh kept l (e, f) h in (
+        asked,
+        at_old Q law kept look l (λ n. cond (eqb n 1) (ask kept give (on_old (λ _. receive seat kept.coming fresh now))) (receive seat kept.coming fresh kept))
+            (λ n q.
+            let looked = with_told l look (Old n) in
+            by_case Q law (eqb n 1) _ _ looked
+            (λ g.
+            let seen = is.entries (saw_closed s n) fresh kept l (e, f) g h asked q in
+            let gives = is.calls (TellAcked s) fresh kept looked (e, f) seen in (
+              gives,
+              at_old Q law kept give looked (λ _. receive seat kept.coming fresh now)
+                  (λ m r. go_receive now.coming fresh now (with_told looked give (Old m)) (up, refl) (is.entries (told_acked s m) fresh kept looked (e, f) tt seen gives r) refl),
+            ))
+            (λ g. go_receive kept.coming fresh kept looked (up, refl) (is.entries (saw_fed s n) fresh kept l (e, f) g h asked q) refl)),
+      ))
+
   go_by : (o : Option Bool) (kept : Kept) (l : List Told) → kept.parked ≡ o → At (first_place o) fresh kept l → Along (turn_by seat kept o) l
-  go_by None kept l e h = go_receive kept.coming fresh kept l (e, refl) h refl
+  go_by None kept l e h = go_closing (closing_of seat) kept l refl e h
   go_by (Some frames) kept l e h = go_parked frames kept l e h
 
   pub go_turn : (kept : Kept) (l : List Told) → Begins At kept l → Along (turn seat kept) l

@@ -64,7 +64,7 @@ module _ (wire : Wire) (c : Config) (pair : ℕ) (is : IsSeat c pair) where
 
   few_in : (look : Which) (k : ℕ) (kept : Kept) → FewIn look k kept.finished → Few kept
   few_in Turning k kept h = h
-  few_in Again k kept h = omega (arith, h.0, h.1, four_classes c is.steady.regular.classes)
+  few_in Again k kept h = omega (arith, h.0, h.1, four_classes c is.regular.classes)
 
   more_in : (look : Which) (k : ℕ) (old new : List (List Item)) → (k < classes_of c) × (look ≡ Turning → old ≡ []) → length new ≤ length old + 32 → FewIn look k old → FewIn look (k + 1) new
   more_in Turning k old new known more h = omega (arith, ap length (known.1 refl), more)

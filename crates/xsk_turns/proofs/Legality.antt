@@ -4,7 +4,7 @@ use Rattle.std.specs.Int.{div_ceil}
 use Rattle.std.proofs.lemmas.Bool.{cases_eq}
 use Rattle.std.proofs.lemmas.List.{length-map, length-drop, nil_from_length}
 use Rattle.std.proofs.lemmas.List.Elements.{All-nil, All-cons, All-head, All-tail, All-take, All-drop, All-weaker}
-use Rattle.xsk_turns.proofs.Object.{payload_of, Frame, Config, classes_of, times, numbers, IsLayout, IsWhole, room_of, is_from_fill, completed_by, waiting, sending_of, IsLegal, AreReceived, sockets_of}
+use Rattle.xsk_turns.proofs.Object.{payload_of, Frame, Config, classes_of, times, numbers, IsLayout, IsWhole, room_of, is_from_fill, completed_by, waiting, sending_of, IsFed, IsLegal, AreReceived, sockets_of}
 use Rattle.xsk_turns.proofs.Calls.{Item, Told, Comp, Rx, Submit}
 use Rattle.xsk_model.proofs.Completions.{one_completion}
 use Rattle.xsk_model.proofs.Counting.{times-append}
@@ -13,7 +13,6 @@ use Rattle.xsk_turns.specs.Turns.{Kept, laid_out, returned}
 use Rattle.xsk_turns.specs.Owned.{IsHere}
 use Rattle.xsk_turns.specs.Owned.{IsSeat, of_class, socket_at_class, frame_numbers, IsSpare, Owned}
 use Rattle.xsk_turns.proofs.Completing.{waiting_whole, whole_some, waiting_lawful, numbers-returned, all_returned, are_completed, completes}
-use Rattle.xsk_turns.proofs.LegalCalls.{fed}
 use Rattle.xsk_turns.proofs.Layouts.{layout, items_on, pieces_some, one_piece, length-laid_out, numbers-laid_out}
 use Rattle.xsk_turns.proofs.Owned.{HasKept, times-kept, sockets_apart}
 use Rattle.xsk_turns.proofs.Places.{class_here, class_among, rx_ring, caller_known}
@@ -124,8 +123,8 @@ module _ (c : Config) (pair socket : ℕ) (seat : IsSeat c pair) (kept : Kept) (
         times-front m (pieces c packet) kept.spare,
       )
 
-  pub legal_rx : pieces c packet ≤ room_of (Rx socket) l → IsLegal c l pair (Submit (Rx socket) items)
-  legal_rx room =
+  pub legal_rx : pieces c packet ≤ room_of (Rx socket) l → IsFed c l (Rx socket) → IsLegal c l pair (Submit (Rx socket) items)
+  legal_rx room feeds =
       let ring = rx_ring c pair seat socket here in
       record {
         caller = caller_known c pair seat;
@@ -139,7 +138,7 @@ module _ (c : Config) (pair socket : ℕ) (seat : IsSeat c pair) (kept : Kept) (
         frames = λ m. omega (arith, items_times m, h.frames m);
         items = items_on c.geometry seat.geometry socket packet (take (pieces c packet) kept.spare) used_own;
         packets = received;
-        feeds = fed c seat.steady.closes l (Rx socket);
+        feeds = feeds;
       }
 
   pub owned_rx : Owned c pair (record kept { spare = drop (pieces c packet) kept.spare }) (Submit (Rx socket) items) l

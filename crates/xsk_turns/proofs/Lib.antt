@@ -1,3 +1,4 @@
+pub mod Acknowledging
 pub mod AppMarks
 pub mod AppGroups
 pub mod AppHomes
@@ -6,6 +7,8 @@ pub mod AppOwned
 pub mod AppOwning
 pub mod AppPaying
 pub mod AppPlaces
+pub mod AppShut
+pub mod AppClosing
 pub mod AppSplit
 pub mod AppWaking
 pub mod AppWalk
@@ -40,4 +43,5 @@ pub mod CompletingAll
 pub mod Watching
 pub mod Parking
 pub mod Finishing
+pub mod Fitting
 pub mod Hands

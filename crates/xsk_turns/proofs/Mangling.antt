@@ -1,5 +1,5 @@
 -- What the changes of items leave: as many items, each lawful on TX, and their frames, those of the items and those that are taken.
-use Rattle.std.proofs.Common.{◌≡◌, ℕ, ◌+◌, ◌*◌, ◌/◌, ◌^◌, ◌<◌, ◌≤◌, ◌⊎◌, inl, inr, ⊎_elim, Bool, true, false, cond, nat_lt, min, Option, Some, None, List, [], ◌∷◌, ◌++◌, length, map, get_or, set, take, All, refl, sym, ap, ◌∙◌, subst, arith, lit<, length-set}
+use Rattle.std.proofs.Common.{◌≡◌, ℕ, ◌+◌, ◌*◌, ◌/◌, ◌^◌, ◌<◌, ◌≤◌, ◌⊎◌, inl, inr, ⊎_elim, Bool, false, cond, nat_lt, min, Option, Some, None, List, [], ◌∷◌, ◌++◌, length, get_or, take, All, refl, sym, ap, ◌∙◌, arith, lit<, length-set}
 use Rattle.std.proofs.lemmas.Bool.Decides.{nat_tests}
 use Rattle.std.proofs.lemmas.List.Elements.{All-nil, All-cons, All-head, All-tail, All-append}
 use Rattle.xsk_umem.specs.Geometry.{IsGeometry, area_of}
@@ -9,7 +9,7 @@ use Rattle.xsk_turns.proofs.Calls.{Item, Tx}
 use Rattle.xsk_model.proofs.Counting.{times-append}
 use Rattle.xsk_turns.specs.Owned.{frame_numbers}
 use Rattle.xsk_turns.specs.AppLaw.{IsAltered, AreAltered}
-use Rattle.xsk_turns.specs.Mangling.{change_at, made_of, made_by, taken_of, taken_by, mangled, frames_taken, given_by, back_by}
+use Rattle.xsk_turns.specs.Mangling.{change_at, made_of, made_by, taken_by, mangled, frames_taken, given_by, back_by}
 use Rattle.xsk_turns.specs.declared.manner.Change.{Change}
 use Rattle.xsk_turns.specs.declared.manner.Change.TheVariants.{NoBytes, WholeChunk, UnknownOption, Outside, GoesOn}
 use Rattle.xsk_turns.proofs.AppOwned.{IsBackFrame, back_of}

@@ -1,10 +1,9 @@
 -- Items are changed by their numbers among all that an application submits on TX, though these are counted round.
-use Rattle.std.proofs.Common.{◌≡◌, ℕ, zero, suc, ◌+◌, ◌-◌, ◌*◌, ◌/◌, ◌%◌, ◌<◌, ◌≤◌, max, Bool, true, false, cond, eqb, Option, Some, None, List, [], ◌∷◌, ◌++◌, length, set, refl, sym, ap, ◌∙◌, subst, arith}
+use Rattle.std.proofs.Common.{◌≡◌, ℕ, zero, suc, ◌+◌, ◌-◌, ◌*◌, ◌/◌, ◌%◌, Bool, true, false, cond, eqb, Option, Some, None, List, [], ◌∷◌, ◌++◌, length, set, refl, sym, ap, ◌∙◌, arith}
 use Rattle.std.proofs.Math.Nat.{div-add-mod, mul-add-mod_self_left, mul-add-div}
 use Rattle.xsk_turns.proofs.Object.{Geometry, Config}
 use Rattle.xsk_turns.proofs.Calls.{Item, Told, with_told, Call, Reply, Submit, Tx, Submitted}
 use Rattle.xsk_turns.specs.AppLaw.{sends_count, items_sent, IsNumbered, ChangesByNumber, ChangesRepeat}
-use Rattle.xsk_turns.specs.AppOwned.{IsApp}
 use Rattle.xsk_turns.specs.AppTurns.{AppKept, tx_of, pending_at, given_on, app_turn, app_start_by}
 use Rattle.xsk_turns.specs.Mangling.{change_of, change_at, made_by, mangled, given_by, number_by, round_of}
 use Rattle.xsk_turns.specs.declared.manner.Manner.{Manner}
@@ -12,7 +11,7 @@ use Rattle.xsk_turns.specs.declared.manner.Change.{Change}
 use Rattle.xsk_turns.specs.declared.manner.Change.TheVariants.{GoesOn}
 use Rattle.xsk_turns.proofs.Mangling.{length-given}
 use Rattle.xsk_turns.proofs.Walks.{Anything, meet_anything}
-use Rattle.xsk_turns.proofs.AppWalk.{Family, Point, SubmitTx, call_at, kept_before, tx_submitted, looked_rx_done, looked_gone, point_of, reply_of, no_lanes, begins, Said, AtCalls, AtEntries, AtPasses, IsLaw, at_call}
+use Rattle.xsk_turns.proofs.AppWalk.{Family, SubmitTx, call_at, kept_before, tx_submitted, looked_rx_done, looked_gone, point_of, reply_of, no_lanes, begins, Said, AtCalls, AtEntries, AtPasses, IsLaw, at_call}
 
 -- ---- the changes come round
 

@@ -1,47 +1,34 @@
 -- At each of its calls a driver has the frames that it peeked and didn't submit, and the call is legal.
-use Rattle.std.proofs.Common.{◌^◌, ◌≡◌, ℕ, zero, suc, ◌+◌, ◌-◌, ◌*◌, ◌<◌, ◌≤◌, Bool, true, false, cond, nat_lt, Some, inl, List, [], ◌∷◌, ◌++◌, length, map, drop, get_or, flat_map, replicate, refl, sym, ap, ◌∙◌, subst, arith, append-nil, append_assoc, ◌&&◌, if◌then◌else◌, ◌==◌, leb-true, leb-false, ltb-false}
-use Rattle.std.specs.Prelude.{not, ◌||◌, Ok, Err}
-use Rattle.std.specs.Result.{result_ok}
-use Rattle.std.proofs.lemmas.Bool.Decides.{nat_tests}
+use Rattle.std.proofs.Common.{◌^◌, ◌≡◌, ℕ, zero, suc, ◌+◌, ◌-◌, ◌*◌, ◌<◌, ◌≤◌, Bool, true, false, cond, Some, inl, List, [], ◌∷◌, ◌++◌, length, map, drop, get_or, flat_map, replicate, refl, sym, ap, ◌∙◌, subst, arith, append-nil, append_assoc, leb-true, leb-false, ltb-false}
 use Rattle.std.proofs.lemmas.List.{length-replicate, take_all}
 use Rattle.std.proofs.lemmas.List.Elements.{All-nil}
 use Rattle.std.proofs.lemmas.List.Sums.{sum_by-cons}
-use Rattle.xsk_map.specs.declared.cell.Miss.TheVariants.{EmptyCell, OtherQueue}
-use Rattle.xsk_turns.proofs.Object.{payload_of, Frame, packets_from, Config, pair_at, classes_of, socket_at, times, numbers, IsWhole, taken, room_of, IsLegal, Fits, OwnGoesOn}
+use Rattle.xsk_turns.proofs.Object.{payload_of, Frame, packets_from, Config, pair_at, classes_of, times, numbers, IsWhole, taken, room_of, IsLegal, Fits, OwnGoesOn}
 use Rattle.xsk_turns.proofs.Calls.{Item, Told, with_told, Fill, Comp, Rx, Tx, NeedFill, NeedTx, Kick, RxDone, Gone, TxDone, Cell, BouncedMark, Call, Submit, Peek, Swap, Reply, Granted, Full, Items, Old}
-use Rattle.xsk_turns.proofs.LegalCalls.{had_told, fed, legal_reserve, legal_peek, legal_release, legal_look, legal_swap, room_told, held_told, IsDue}
+use Rattle.xsk_model.specs.declared.call.Mark.TheVariants.{Closing, Acked}
+use Rattle.xsk_turns.proofs.LegalCalls.{had_told, legal_reserve, legal_peek, legal_release, legal_look, legal_swap, room_told, held_told, IsDue}
 use Rattle.xsk_turns.specs.Script.{Script, ask, begun, Asks, Leaves, Ends}
 use Rattle.xsk_turns.specs.Turns.{Seat, Judged, Kept, Noted, seat_of, start, turn, application_of, bounce_of, bounced_among, cell_of, redirect_to, limit_of, pieces_of, returned, frames_in, bad_ones, group_at, supplied, gathered}
 use Rattle.xsk_turns.specs.declared.wire.Wire.{Wire}
 use Rattle.xsk_turns.specs.declared.disposal.Disposal.{Disposal}
 use Rattle.xsk_turns.specs.declared.disposal.Disposal.TheVariants.{Delivered, NoFrames, RxFull, TooLong, Runt, Missed, Passed, Dropped, Bounced}
 use Rattle.xsk_turns.proofs.Disposing.{keeps_disposals}
-use Rattle.xsk_turns.specs.Owned.{IsSeat, IsHere, socket_at_class, IsSpare, Owned, AllFit, KeepsFrames, KeepsFramesAtEnd}
-use Rattle.xsk_turns.proofs.Bouncing.{counted, law as counts_bounced, At as CountsAt, Nothing as SaysNothing, Ended as EndsSo}
+use Rattle.xsk_turns.specs.Owned.{IsSeat, IsHere, socket_at_class, IsSpare, Owned, AllFit, Suits, KeepsFrames, KeepsFramesAtEnd}
+use Rattle.xsk_turns.proofs.Bouncing.{law as counts_bounced, At as CountsAt, Nothing as SaysNothing, Ended as EndsSo}
 use Rattle.xsk_turns.proofs.Completing.{whole_some}
 use Rattle.xsk_turns.proofs.Layouts.{pieces_some, few_pieces}
 use Rattle.xsk_turns.proofs.Legality.{first_whole, legal_rx, owned_rx, legal_comp, owned_comp}
 use Rattle.xsk_turns.proofs.Owned.{Has as HasLists, HasKept, IsQuiet, owned_quiet, times-kept, has_told, has_fill, has_tx}
 use Rattle.xsk_turns.proofs.Places.{batch_some, batch_few, class_here, rx_ring, tx_ring, caller_known, port_known, app_known}
 use Rattle.xsk_turns.proofs.Rooms.{fill_frames, all_whole, lost_few}
-use Rattle.xsk_turns.proofs.Walks.{Premise, MeetAlong, release_due, meet_fitting, meet_weaker}
-use Rattle.xsk_turns.proofs.DriverWalk.{Place, Trying, Sending, Idling, Family, Point, Known, asked, TellRxDone, TellBounced, LookCell, PeekFill, ReleaseFill, ReserveRx, SubmitRx, ReserveComp, SubmitComp, PeekTx, ReleaseTx, LookTxDone, TellGone, ArmFill, ArmTx, LookEnd, LookKick, ClearKick, DisarmFill, DisarmTx, call_at, kept_at, IsTried, fill_items, tx_items, rx_granted, comp_granted, comp_full, point_of, reply_of, visited, idles, arms, seeks, misses, looks, finds, parks, disarmed, Said, AtCalls, AtEntries, AtPasses, IsLaw, together, at_call, at_end, meets_said}
+use Rattle.xsk_turns.proofs.Acknowledging.{redirects, closing_is, closing_here, IsReady, ready_at}
+use Rattle.xsk_turns.proofs.Walks.{Premise, MeetAlong, release_due, meet_weaker}
+use Rattle.xsk_turns.proofs.DriverWalk.{Place, Trying, Sending, Idling, Family, Point, Known, asked, LookClosing, TellAcked, TellRxDone, TellBounced, LookCell, PeekFill, ReleaseFill, ReserveRx, SubmitRx, ReserveComp, SubmitComp, PeekTx, ReleaseTx, LookTxDone, TellGone, ArmFill, ArmTx, LookEnd, LookKick, ClearKick, DisarmFill, DisarmTx, call_at, kept_at, IsTried, fill_items, tx_items, rx_granted, comp_granted, comp_full, point_of, reply_of, visited, idles, arms, seeks, misses, looks, finds, parks, disarmed, Said, AtEntries, AtPasses, IsLaw, together, at_call, at_end, meets_said}
 
 -- ---- a packet that goes to a socket
 
-here_if : (c : Config) (pair number socket : ℕ) (none above port queue : Bool) → (none ≡ false → 0 < number) → (above ≡ false → number ≤ length c.sockets)
-    → (port ≡ true → (socket_at c.sockets (number - 1)).port ≡ (pair_at c.pairs pair).port) → (queue ≡ true → (socket_at c.sockets (number - 1)).queue ≡ (pair_at c.pairs pair).queue)
-    → result_ok (if none || above then Err EmptyCell else if not (port && queue) then Err OtherQueue else Ok (number - 1)) ≡ Some socket → IsHere c pair socket
-here_if c pair number socket false false true true some known port queue h =
-    let is : number - 1 ≡ socket = cc in
-    subst (IsHere c pair) is (record { known = omega (arith, some refl, known refl); port = port refl; queue = queue refl })
-here_if c pair number socket n a p q some known port queue h = cc
-
 pub redirect_here : (c : Config) (pair number socket : ℕ) → redirect_to c (pair_at c.pairs pair).port (pair_at c.pairs pair).queue number ≡ Some socket → IsHere c pair socket
-redirect_here c pair number socket h =
-    let is = socket_at c.sockets (number - 1) in
-    here_if c pair number socket (number == 0) (nat_lt (length c.sockets) number) (is.port == (pair_at c.pairs pair).port) (is.queue == (pair_at c.pairs pair).queue)
-    (λ e. grind (arith, nat_tests)) (λ e. grind (arith, nat_tests)) (λ e. grind (arith, nat_tests)) (λ e. grind (arith, nat_tests)) h
+redirect_here c pair number socket h = (redirects c pair number socket h).0
 
 -- ---- the law
 
@@ -61,7 +48,7 @@ module _ (wire : Wire) (c : Config) (pair : ℕ) (is : IsSeat c pair) where
   Countable kept = suc (bounced_among kept.disposals) < 2 ^ 64
 
   abbrev Asked : Said
-  Asked kept call l = Owned c pair kept call l × (Countable kept → IsLegal c l pair call)
+  Asked kept call l = Owned c pair kept call l × (IsReady c l call → Countable kept → IsLegal c l pair call)
 
   abbrev Ended : Kept → List Told → Type 0
   Ended kept l = Has kept l × (kept.finished ≡ [])
@@ -78,7 +65,7 @@ module _ (wire : Wire) (c : Config) (pair : ℕ) (is : IsSeat c pair) where
 
   -- a call that moves no frame, and a reply with which nothing comes
   quiet : (kept : Kept) (call : Call) (l : List Told) → IsQuiet call → Has kept l → IsLegal c l pair call → Asked kept call l
-  quiet kept call l q h legal = (owned_quiet c pair kept call l q h, λ few. legal)
+  quiet kept call l q h legal = (owned_quiet c pair kept call l q h, λ ready few. legal)
 
   told : (kept : Kept) (call : Call) (reply : Reply) (l : List Told) → taken reply ≡ [] → Asked kept call l → Answers kept l call reply → Has kept (with_told l call reply)
   told kept call reply l none asked q = has_told c pair kept call reply l asked.0 q.0 q.1 none
@@ -118,10 +105,16 @@ module _ (wire : Wire) (c : Config) (pair : ℕ) (is : IsSeat c pair) where
   Counts place noted kept l = CountsAt seat Answers place noted kept l
 
   calls : (p : Point) (noted : Noted) (kept : Kept) (l : List Told) → Known seat Answers p noted kept → Counts (asked seat p kept).0 noted kept l → At (asked seat p kept).0 noted kept l → Asked (kept_at seat p kept) (call_at seat p kept) l
+  calls (LookClosing s) noted kept l known counts h =
+      quiet kept _ l tt h.0 (legal_look c pair l (caller_known c pair is) (Closing s) (closing_here c pair is s (closing_is pair (classes_of c) s c.closing known.0).1).known)
+  calls (TellAcked s) noted kept l known counts h =
+      let closing = closing_is pair (classes_of c) s c.closing known.0 in
+      let here = closing_here c pair is s closing.1 in
+      (owned_quiet c pair kept _ l tt h.0, λ ready few. legal_swap c pair l (caller_known c pair is) (Acked s) 1 here.known ((closing.0, (rx_ring c pair is s here).1), (refl, ready.1.0, ready.1.1)) (omega arith))
   calls TellRxDone noted kept l known counts h = quiet kept _ l tt h.0 (legal_swap c pair l (caller_known c pair is) (RxDone pair) 1 is.known (refl, tt) (omega arith))
   calls (TellBounced packet) noted kept l known counts h =
       let call = Swap (BouncedMark pair) (suc (bounced_among kept.disposals)) in
-      (owned_quiet c pair kept call l tt h.0, λ few. legal_swap c pair l (caller_known c pair is) (BouncedMark pair) (suc (bounced_among kept.disposals)) is.known (refl, ap suc (sym counts)) few)
+      (owned_quiet c pair kept call l tt h.0, λ ready few. legal_swap c pair l (caller_known c pair is) (BouncedMark pair) (suc (bounced_among kept.disposals)) is.known (refl, ap suc (sym counts)) few)
   calls (LookCell packet) noted kept l known counts h = quiet kept _ l tt h.0 (legal_look c pair l (caller_known c pair is) (Cell seat.port (cell_of packet.verdict)) (port_known c pair is, leb-false _ _ known.cell))
   calls (PeekFill look packet s) noted kept l known counts h =
       let below = leb-false (pieces_of seat packet.bytes) (length kept.spare) known.1 in
@@ -131,14 +124,14 @@ module _ (wire : Wire) (c : Config) (pair : ℕ) (is : IsSeat c pair) where
   calls (ReserveRx packet s) noted kept l known counts h =
       let ring = rx_ring c pair is s (here packet s kept.coming known.0) in
       let some = pieces_some c.geometry is.geometry packet.bytes (omega (arith, long packet s kept.coming known.0)) in
-      quiet kept _ l tt h.0 (legal_reserve c pair l (caller_known c pair is) (Rx s) (pieces_of seat packet.bytes) ring.0 ring.1 some (omega (arith, few packet s kept.coming known.0)) (fed c is.steady.closes l (Rx s)))
+      (owned_quiet c pair kept _ l tt h.0, λ ready counted. legal_reserve c pair l (caller_known c pair is) (Rx s) (pieces_of seat packet.bytes) ring.0 ring.1 some (omega (arith, few packet s kept.coming known.0)) ready.0)
   calls (SubmitRx packet s) noted kept l known counts h =
       let long = long packet s kept.coming known.0 in
       let short = short packet s kept.coming known.0 in
       let few = few packet s kept.coming known.0 in
       let here = here packet s kept.coming known.0 in
       let enough = leb-true _ _ known.1 in
-      (owned_rx c pair s is kept l h.0 packet.bytes long short few enough here, λ counted. legal_rx c pair s is kept l h.0 packet.bytes long short few enough here h.1)
+      (owned_rx c pair s is kept l h.0 packet.bytes long short few enough here, λ ready counted. legal_rx c pair s is kept l h.0 packet.bytes long short few enough here h.1 ready.0)
   calls (ReserveComp k packet later) noted kept l known counts h =
       let some : 1 ≤ length kept.finished = omega (arith, ap length known) in
       let whole = subst (λ (ps : List (List Item)). IsWhole c.geometry c.sg (get_or ps 0 [])) known (first_whole c pair kept l h.0 some) in
@@ -147,7 +140,7 @@ module _ (wire : Wire) (c : Config) (pair : ℕ) (is : IsSeat c pair) where
       let some : 1 ≤ length kept.finished = omega (arith, ap length known) in
       let room = subst (λ (ps : List (List Item)). length (get_or ps 0 []) ≤ room_of (Comp pair) l) (sym known) h.1 in
       let legal = legal_comp c pair is kept l h.0 some room in
-      subst (λ (ps : List (List Item)). Asked (record kept { finished = drop 1 ps }) (Submit (Comp pair) (map returned (get_or ps 0 []))) l) known (owned_comp c pair is kept l h.0 some legal, λ counted. legal)
+      subst (λ (ps : List (List Item)). Asked (record kept { finished = drop 1 ps }) (Submit (Comp pair) (map returned (get_or ps 0 []))) l) known (owned_comp c pair is kept l h.0 some legal, λ ready counted. legal)
   calls (PeekTx look k) noted kept l known counts h =
       let s = socket_at_class c pair k in
       let ring = tx_ring c pair is s (class_here c pair is k known.0) in
@@ -249,14 +242,9 @@ has_new c pair input seat = record {
   waits = λ class within. refl;
 }
 
-pub fit_push : (c : Config) (past l : List Told) (call : Call) (reply : Reply) → AllFit c past l → Fits c (past ++ l) call reply → AllFit c past (with_told l call reply)
-fit_push c past [] call reply h fits = (subst (λ m. Fits c m call reply) (append-nil past) fits, tt)
-fit_push c past (t ∷ l) call reply h fits = (h.0, fit_push c (past ++ t ∷ []) l call reply h.1 (subst (λ m. Fits c m call reply) (sym (append_assoc past (t ∷ []) l)) fits))
-
--- a caller's own entries in a history fit
-pub all_fit : (c : Config) (who : ℕ) (past l : List Told) → OwnGoesOn c who past l → AllFit c past l
-all_fit c who past [] goes = tt
-all_fit c who past (t ∷ l) goes = (goes.1, all_fit c who (past ++ t ∷ []) l goes.2)
+pub fit_push : (c : Config) (past l : List Told) (call : Call) (reply : Reply) → AllFit c past l → Suits c (past ++ l) call reply → AllFit c past (with_told l call reply)
+fit_push c past [] call reply h fits = (subst (λ m. Suits c m call reply) (append-nil past) fits, tt)
+fit_push c past (t ∷ l) call reply h fits = (h.0, fit_push c (past ++ t ∷ []) l call reply h.1 (subst (λ m. Suits c m call reply) (sym (append_assoc past (t ∷ []) l)) fits))
 
 -- own entries that go on are legal, and fit
 meet_going : (turn : Kept → Script Kept) (c : Config) (who : ℕ) (s : Script Kept) (past l : List Told) → OwnGoesOn c who past l → MeetAlong turn (λ kept m call reply. IsLegal c m who call × Fits c m call reply) s past l
@@ -303,7 +291,7 @@ module _ (wire : Wire) (c : Config) (pair : ℕ) (input : List Judged) (l : List
 pub keeps_frames : KeepsFrames
 keeps_frames wire c pair input l kept call rest is goes asks =
     let has = has_asked wire c pair input l is goes kept call rest asks in
-    (has.0, λ few. has.1 (omega (arith, few, few_bounced kept.disposals, (keeps_disposals wire c pair input l kept call rest asks).each)))
+    (has.0, λ fit few. has.1 (ready_at wire c pair input l is fit kept call rest asks) (omega (arith, few, few_bounced kept.disposals, (keeps_disposals wire c pair input l kept call rest asks).each)))
 
 pub keeps_frames_at_end : KeepsFramesAtEnd
 keeps_frames_at_end wire c pair input l kept is goes ends =

@@ -99,7 +99,7 @@ socket_among n (suc k) (socket ∷ sockets) port queue d h at on =
 
 module _ (c : Config) (pair : ℕ) (seat : IsSeat c pair) where
   pub classes_some : 1 ≤ classes_of c
-  classes_some = queues_some (classes_of c) seat.steady.regular.classes
+  classes_some = queues_some (classes_of c) seat.regular.classes
 
   -- the socket of a class is one of this port and queue
   pub class_here : (class : ℕ) → class < classes_of c → IsHere c pair (socket_at_class c pair class)
@@ -107,9 +107,9 @@ module _ (c : Config) (pair : ℕ) (seat : IsSeat c pair) where
       let s = socket_at_class c pair class in
       let most : suc pair * classes_of c ≤ length c.pairs * classes_of c = mul-le-mul_right (classes_of c) seat.known in
       let next : (p k n : ℕ) → k < n → p * n + k < suc p * n = λ p k n h. grind arith in
-      let below : s < length c.sockets = omega (arith, most, seat.steady.regular.sockets, next pair class (classes_of c) within) in
-      let at = seat.steady.regular.places s below in
-      let mine = seat.steady.regular.seats pair seat.known in
+      let below : s < length c.sockets = omega (arith, most, seat.regular.sockets, next pair class (classes_of c) within) in
+      let at = seat.regular.places s below in
+      let mine = seat.regular.seats pair seat.known in
       let same : s / classes_of c ≡ pair = div-mul-add pair (classes_of c) class within in
       record {
         known = below;
@@ -136,16 +136,16 @@ module _ (c : Config) (pair : ℕ) (seat : IsSeat c pair) where
       sym (pair_on_only c.pairs (port_of c (Tx s)) (queue_of c (Tx s)) pair bound.pair seat.known (sym here.port, sym here.queue))
 
   pub rx_ring : (s : ℕ) → IsHere c pair s → HasRing c (Rx s) × (pair ≡ producer c (Rx s))
-  rx_ring s here = ((here.known, (seat.steady.regular.places s here.known).2), driver_is s here)
+  rx_ring s here = ((here.known, (seat.regular.places s here.known).2), driver_is s here)
 
   pub tx_ring : (s : ℕ) → IsHere c pair s → HasRing c (Tx s) × (pair ≡ consumer c (Tx s))
-  tx_ring s here = ((here.known, (seat.steady.regular.places s here.known).3), driver_is s here)
+  tx_ring s here = ((here.known, (seat.regular.places s here.known).3), driver_is s here)
 
   pub caller_known : pair < callers_of c
   caller_known = omega (arith, seat.known)
 
   pub port_known : (pair_at c.pairs pair).port < c.ports
-  port_known = port_within c pair seat.config seat.steady.regular seat.known
+  port_known = port_within c pair seat.config seat.regular seat.known
 
   pub app_known : application_on c (pair_at c.pairs pair).port (pair_at c.pairs pair).queue < apps_of c
   app_known = omega (arith, app_of_below c (Fill pair) seat.config seat.known)

@@ -1,12 +1,11 @@
 -- What a driver keeps of the frames that it peeked on TX are those that it didn't submit on COMPLETION.
-use Rattle.std.proofs.Common.{◌≡◌, ℕ, zero, suc, ◌+◌, ◌/◌, ◌<◌, ◌≤◌, ◌⊎◌, inl, inr, ⊎_elim, Bool, true, false, not, cond, nat_lt, nat_le, eqb, Option, Some, None, option_map, List, [], ◌∷◌, ◌++◌, length, get_or, set, map, take, replicate, All, refl, sym, ap, ◌∙◌, subst, arith, append-nil, length-append}
+use Rattle.std.proofs.Common.{◌≡◌, ℕ, zero, suc, ◌+◌, ◌/◌, ◌<◌, ◌⊎◌, inl, inr, ⊎_elim, Bool, true, false, not, cond, nat_le, eqb, Option, Some, None, option_map, List, [], ◌∷◌, ◌++◌, length, get_or, set, map, take, replicate, All, refl, sym, ap, ◌∙◌, subst, arith, length-append}
 use Rattle.std.specs.Prelude.{is_some, option_to_list, ◌&&◌}
 use Rattle.std.proofs.lemmas.Bool.{and_parts}
-use Rattle.std.proofs.lemmas.List.{length-replicate, take_all}
+use Rattle.std.proofs.lemmas.List.{take_all}
 use Rattle.std.proofs.lemmas.List.Elements.{All-nil, All-cons, All-head, All-tail, All-append}
-use Rattle.xsk_turns.proofs.Object.{Geometry, Frame, Config, classes_of, Packet, whole, bad, is_valid, is_inside, has_bytes, fits_chunk, has_known_options, ended_by, group_after, packets, rest, packets_from, rest_from, whole_packets, bad_items, is_on, taken, peeked_of, IsItemOn, IsLegal, Fits}
+use Rattle.xsk_turns.proofs.Object.{Geometry, Frame, Config, classes_of, Packet, whole, bad, is_valid, is_inside, has_bytes, fits_chunk, has_known_options, ended_by, packets, rest, packets_from, rest_from, whole_packets, bad_items, is_on, taken, peeked_of, IsItemOn, IsLegal, Fits}
 use Rattle.xsk_turns.proofs.Calls.{Item, Told, with_told, Comp, Tx, Gone, Call, Submit, Peek, Swap, Reply, Submitted, Items, Old}
-use Rattle.xsk_model.proofs.PacketsLaws.{whole_packets-append}
 use Rattle.xsk_turns.specs.Turns.{Seat, Judged, Kept, seat_of, start, turn, group_at, gathered, returned, frame_in, frames_in, bad_ones}
 use Rattle.xsk_model.specs.History.{OwnGoesOn}
 use Rattle.xsk_turns.specs.Stranded.{frames_sent, frames_completed, sent_count, completed_count, items_in, stranded_in, KeepsStranded, KeepsStrandedAtEnd, NoneStranded}
@@ -17,11 +16,11 @@ use Rattle.xsk_model.proofs.Places.{is_ring-self}
 use Rattle.xsk_turns.proofs.AppOwned.{at_set}
 use Rattle.xsk_turns.proofs.Counting.{peeked-push, bad_more}
 use Rattle.xsk_turns.proofs.LegalCalls.{had_told}
-use Rattle.xsk_turns.proofs.Owned.{HasKept, has_tx}
+use Rattle.xsk_turns.proofs.Owned.{has_tx}
 use Rattle.xsk_turns.proofs.Owning.{meet_owned, no_group, has_ended}
 use Rattle.xsk_turns.proofs.Rooms.{lost_few}
 use Rattle.xsk_turns.proofs.Walks.{Premise}
-use Rattle.xsk_turns.proofs.DriverWalk.{Family, SubmitComp, call_at, kept_at, comp_submitted, tx_items, TellRxDone, point_of, reply_of, visited, Said, AtCalls, AtEntries, AtPasses, IsLaw, at_call, at_end}
+use Rattle.xsk_turns.proofs.DriverWalk.{Family, SubmitComp, call_at, comp_submitted, tx_items, point_of, reply_of, visited, Said, AtCalls, AtEntries, AtPasses, IsLaw, at_call, at_end}
 
 -- ---- items with frames
 

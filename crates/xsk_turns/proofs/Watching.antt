@@ -1,18 +1,20 @@
 -- A driver that is parked watches each ring whose flag it has set, and its end; and it keeps that it is parked exactly where it
 -- looks at its kick.
-use Rattle.std.proofs.Common.{◌≡◌, ℕ, ◌-◌, ◌<◌, length, Bool, true, false, cond, not, eqb, ◌&&◌, List, [], ◌∷◌, refl, sym, ap, ◌∙◌, subst, eq-eqb, arith}
+use Rattle.std.proofs.Common.{◌≡◌, ℕ, ◌-◌, ◌<◌, length, Bool, true, false, cond, not, eqb, ◌&&◌, Option, None, Some, List, [], ◌∷◌, refl, sym, ap, ◌∙◌, subst, ⊎_elim, eq-eqb, arith}
 use Rattle.std.proofs.lemmas.Bool.{and_from}
 use Rattle.std.proofs.lemmas.List.Sums.{fold_push}
 use Rattle.xsk_turns.proofs.Calls.{Told, with_told, Ring, Fill, Tx, Mark, NeedFill, NeedTx, Kick, RxDone, TxDone, Call, Peek, Swap, Look, Reply, Items, Empty, Released, Old}
 use Rattle.xsk_model.specs.Config.{Config, classes_of}
 use Rattle.xsk_model.specs.Marks.{is_mark}
+use Rattle.xsk_model.specs.Swaps.{set_after, set_step, last_set}
+use Rattle.xsk_model.specs.declared.call.Mark.TheVariants.{Closing, Acked}
 use Rattle.xsk_turns.specs.Script.{Leaves}
-use Rattle.xsk_turns.specs.Turns.{Seat, Judged, Kept, awaits, pieces_of, seat_of, start, turn, socket_of, application_of, IsDriverRun}
-use Rattle.xsk_turns.specs.Watching.{Watching, peeked, watching_after, watching_step, watching_of, ending_after, ending_step, ending_of, IsWatched, ParkedWatches}
+use Rattle.xsk_turns.specs.Turns.{Seat, Judged, Kept, awaits, pieces_of, seat_of, start, turn, socket_of, application_of, closing_of, IsDriverRun}
+use Rattle.xsk_turns.specs.Watching.{Watching, peeked, watching_after, watching_step, watching_of, ending_after, ending_step, ending_of, closing_after, closing_step, watches_closing, IsWatched, ParkedWatches}
 use Rattle.xsk_turns.specs.declared.wire.Wire.{Wire}
 use Rattle.xsk_turns.proofs.ScriptLemmas.{leaves_front, asked_last}
 use Rattle.xsk_turns.proofs.Walks.{Anything, meet_anything}
-use Rattle.xsk_turns.proofs.DriverWalk.{Family, Begins, Arming, Again, Trying, Lacking, Sending, Parked, Woken, Disarming, LookKick, told_rx_done, fill_empty, fill_items, fill_released, tx_empty, tx_items, tx_released, armed_fill, armed_tx, found_end, found_none, kicked, not_kicked, cleared_kick, disarmed_fill, disarmed_tx, arms, seeks, sought, misses, looks, finds, parks, disarmed, call_at, point_of, reply_of, Said, AtCalls, AtEntries, AtPasses, IsLaw, at_call}
+use Rattle.xsk_turns.proofs.DriverWalk.{Family, Begins, Starting, Acking, Arming, Again, Trying, Lacking, Sending, Parked, Woken, Disarming, LookKick, saw_fed, saw_closed, told_acked, told_rx_done, fill_empty, fill_items, fill_released, tx_empty, tx_items, tx_released, looked_tx_done, armed_fill, armed_tx, found_end, found_none, kicked, not_kicked, cleared_kick, disarmed_fill, disarmed_tx, receives, idles, arms, seeks, sought, misses, looks, finds, parks, disarmed, call_at, point_of, reply_of, Said, AtCalls, AtEntries, AtPasses, IsLaw, at_call}
 
 -- ---- the folds
 
@@ -254,6 +256,93 @@ module _ (seat : Seat) where
   end_law : IsLaw seat Anything EndAt EndAsked Nothing
   end_law = record { calls = end_calls; entries = end_entries; passes = end_passes; ends = λ noted kept l n known h a q. tt }
 
+-- ---- a socket that is closed
+
+module _ (seat : Seat) (s : ℕ) (mine : closing_of seat ≡ Some s) where
+  abbrev sees : List Told → Bool
+  sees l = watches_closing (Closing s) (Kick seat.pair) l
+
+  abbrev acked_in : List Told → Option ℕ
+  acked_in l = last_set (Acked s) l
+
+  -- what it told of the socket, and that it watches it until then
+  abbrev Acks : Bool → List Told → Type 0
+  Acks b l = b ≡ true → acked_in l ≡ Some 1
+
+  abbrev Sees : Bool → List Told → Type 0
+  Sees b l = Acks b l × (b ≡ false → sees l ≡ true)
+
+  abbrev ClosingAt : Family
+  ClosingAt Starting noted kept l = Acks kept.acked l
+  ClosingAt Acking noted kept l = Acks kept.acked l
+  ClosingAt (Woken frames) noted kept l = Acks kept.acked l
+  ClosingAt (Disarming frames k) noted kept l = Acks kept.acked l
+  ClosingAt place noted kept l = Sees kept.acked l
+
+  abbrev IsSeen : List Told → Type 0
+  IsSeen l = (acked_in l ≡ Some 1 → ⊥) → sees l ≡ true
+
+  abbrev ClosingAsked : Said
+  ClosingAsked kept call l = AtKick (IsSeen l) call
+
+  acked_told : (l : List Told) (call : Call) (reply : Reply) → acked_in (with_told l call reply) ≡ set_after (Acked s) (acked_in l) call
+  acked_told l call reply = fold_push (set_step (Acked s)) None l (record { call = call; reply = reply })
+
+  sees_told : (l : List Told) (call : Call) (reply : Reply) → sees (with_told l call reply) ≡ closing_after (Closing s) (Kick seat.pair) (sees l) call reply
+  sees_told l call reply = fold_push (closing_step (Closing s) (Kick seat.pair)) false l (record { call = call; reply = reply })
+
+  -- a call that acknowledges nothing, and one that isn't seen either
+  still_acks : (b : Bool) (l : List Told) (call : Call) (reply : Reply) → ((o : Option ℕ) → set_after (Acked s) o call ≡ o) → Acks b l → Acks b (with_told l call reply)
+  still_acks b l call reply e h = λ f. acked_told l call reply ∙ e (acked_in l) ∙ h f
+
+  still_sees : (b : Bool) (l : List Told) (call : Call) (reply : Reply) → ((o : Option ℕ) → set_after (Acked s) o call ≡ o) → ((x : Bool) → closing_after (Closing s) (Kick seat.pair) x call reply ≡ x)
+      → Sees b l → Sees b (with_told l call reply)
+  still_sees b l call reply e f h = (still_acks b l call reply e h.0, λ g. sees_told l call reply ∙ f (sees l) ∙ h.1 g)
+
+  -- its socket is the one of which it tells
+  same_socket : (t : ℕ) → closing_of seat ≡ Some t → s ≡ t
+  same_socket t e = let two : Some s ≡ Some t = sym mine ∙ e in cc
+
+  seen_by : (b : Bool) (l : List Told) → Sees b l → IsSeen l
+  seen_by true l h none = absurd (none (h.0 refl))
+  seen_by false l h none = h.1 refl
+
+  closing_calls : AtCalls seat Anything ClosingAt ClosingAsked
+  closing_calls (LookKick frames) noted kept l known h = seen_by kept.acked l h
+  closing_calls p noted kept l known h = tt
+
+  closing_entries : AtEntries seat Anything ClosingAt ClosingAsked
+  closing_entries (saw_fed t n) noted kept l known found h a q = (
+    still_acks kept.acked l (Look (Closing t)) (Old n) (λ o. refl) h,
+    λ f. sees_told l (Look (Closing t)) (Old n) ∙ ap (λ b. cond b (not (eqb n 1)) (sees l)) (eq-eqb s t (same_socket t known.0)) ∙ ap not found,
+  )
+  closing_entries (saw_closed t n) noted kept l known found h a q = still_acks kept.acked l (Look (Closing t)) (Old n) (λ o. refl) h
+  closing_entries (told_acked t n) noted kept l known found h a q = (
+    λ f. acked_told l (Swap (Acked t) 1) (Old n) ∙ ap (λ b. cond b (Some 1) (acked_in l)) (eq-eqb s t (same_socket t known.0)),
+    λ f. absurd (cc),
+  )
+  closing_entries (looked_tx_done n) noted kept l known found h a q = still_acks kept.acked l (Look (TxDone (application_of seat))) (Old n) (λ o. refl) h.0
+  closing_entries (found_end n) noted kept l known found h a q = still_acks kept.acked l (Look (TxDone (application_of seat))) (Old n) (λ o. refl) h.0
+  closing_entries (kicked frames n) noted kept l known found h a q = still_acks kept.acked l (Look (Kick seat.pair)) (Old n) (λ o. refl) h.0
+  closing_entries (cleared_kick frames n) noted kept l known found h a q = still_acks kept.acked l (Swap (Kick seat.pair) 0) (Old n) (λ o. refl) h
+  closing_entries (disarmed_fill n) noted kept l known found h a q = still_acks kept.acked l (Swap (NeedFill seat.pair) 0) (Old n) (λ o. refl) h
+  closing_entries (disarmed_tx k n) noted kept l known found h a q = still_acks kept.acked l (Swap (NeedTx (socket_of seat k)) 0) (Old n) (λ o. refl) h
+  closing_entries e noted kept l known found h a q = still_sees kept.acked l (call_at seat (point_of e) kept) (reply_of e) (λ o. refl) (λ x. refl) h
+
+  closing_passes : AtPasses seat Anything ClosingAt
+  closing_passes receives noted kept l = λ h e. (
+    h,
+    λ f. ⊎_elim (λ (none : closing_of seat ≡ None). absurd (let two : None ≡ Some s = sym none ∙ mine in cc))
+        (λ (told : kept.acked ≡ true). absurd (is_true kept.acked told f))
+        e,
+  )
+  closing_passes idles noted kept l = λ h e. h.0
+  closing_passes finds noted kept l = λ h e. h.0
+  closing_passes p noted kept l = λ h e. h
+
+  closing_law : IsLaw seat Anything ClosingAt ClosingAsked Nothing
+  closing_law = record { calls = closing_calls; entries = closing_entries; passes = closing_passes; ends = λ noted kept l n known h a q. tt }
+
 -- ---- the laws
 
 module _ (wire : Wire) (c : Config) (d : ℕ) (input : List Judged) (l : List Told) (run : IsDriverRun wire c d input (with_told l (Look (Kick d)) (Old 0))) where
@@ -279,4 +368,7 @@ parked_watches wire c d input l run =
       fill = still_fill s l (Look (Kick d)) (Old 0) refl (at_kick wire c d input l run (FillAt s) (λ m. IsWatched (fill s m)) (fill_law s) refl);
       tx = λ class below. still_tx s class below l (Look (Kick d)) (Old 0) refl (at_kick wire c d input l run (TxAt s class below) (λ m. IsWatched (tx s class below m)) (tx_law s class below) tt);
       ends = subst IsWatched (sym (ending_told (RxDone d) (TxDone (done s)) (Kick d) l (Look (Kick d)) (Old 0))) (at_kick wire c d input l run (EndAt s) (λ m. IsWatched (end s m)) (end_law s) refl);
+      closing = λ x mine none.
+          let seen : IsSeen s x mine l = at_kick wire c d input l run (ClosingAt s x mine) (IsSeen s x mine) (closing_law s x mine) (λ e. absurd (cc)) in
+          sees_told s x mine l (Look (Kick d)) (Old 0) ∙ seen (λ e. none (acked_told s x mine l (Look (Kick d)) (Old 0) ∙ e));
     }

@@ -1,5 +1,5 @@
 -- What holds of every run of an application, and what of every whole one, by its turns alone.
-use Rattle.std.specs.Prelude.{◌≡◌, ℕ, ◌+◌, ◌%◌, ◌<◌, ◌≤◌, ◌⊎◌, ◌==◌, ◌&&◌, true, false, if◌then◌else◌, Option, Some, None, List, [], ◌∷◌, ◌++◌, length, drop}
+use Rattle.std.specs.Prelude.{◌≡◌, ◌≢◌, ℕ, ◌+◌, ◌%◌, ◌<◌, ◌≤◌, ◌⊎◌, ◌==◌, ◌&&◌, true, false, if◌then◌else◌, Option, Some, None, List, [], ◌∷◌, ◌++◌, length, drop}
 use Rattle.xsk_umem.specs.Geometry.{Geometry}
 use Rattle.std.specs.List.{fold}
 use Rattle.xsk_umem.specs.declared.batch.Item.{Item}
@@ -9,10 +9,11 @@ use Rattle.xsk_model.specs.Own.{submitted_of, peeked_of}
 use Rattle.xsk_model.specs.Ends.{draining_of, telling_of}
 use Rattle.xsk_model.specs.Rings.{driver_of}
 use Rattle.xsk_model.specs.Marks.{is_mark}
+use Rattle.xsk_model.specs.Swaps.{last_set}
 use Rattle.xsk_model.specs.declared.call.Ring.{Ring}
 use Rattle.xsk_model.specs.declared.call.Ring.TheVariants.{Fill, Rx, Tx}
 use Rattle.xsk_model.specs.declared.call.Mark.{Mark}
-use Rattle.xsk_model.specs.declared.call.Mark.TheVariants.{NeedFill, NeedTx, Kick, RxDone, TxDone}
+use Rattle.xsk_model.specs.declared.call.Mark.TheVariants.{NeedFill, NeedTx, Kick, RxDone, TxDone, Closing}
 use Rattle.xsk_model.specs.declared.call.Call.{Call}
 use Rattle.xsk_model.specs.declared.call.Call.TheVariants.{Submit, Swap, Look}
 use Rattle.xsk_model.specs.declared.call.Reply.{Reply}
@@ -36,9 +37,13 @@ abbrev pub LanesInOrder : Type 0
 LanesInOrder = (m : Manner) (c : Config) (app : ℕ) (l : List Told) (lane : ℕ) → m.mangle ≡ None → IsApp c app → IsAppRunBy m c app l → lane < lanes_of c
     → IsFront (submitted_of (Tx (tx_of c app lane)) l) (peeked_of (Rx (rx_of c app lane)) l)
 
--- at the end they are all of those
+-- a lane that an application doesn't close: it is none of the socket's that is to be closed, or the application didn't close that
+abbrev pub StaysOpen : Config → ℕ → ℕ → List Told → Type 0
+StaysOpen c app lane l = (s : ℕ) → c.closing ≡ Some s → (rx_of c app lane ≡ s) ⊎ (tx_of c app lane ≡ s) → last_set (Closing s) l ≢ Some 1
+
+-- at the end, on each lane that stays open, they are all of those
 abbrev pub LanesPassedOn : Type 0
-LanesPassedOn = (m : Manner) (c : Config) (app : ℕ) (l : List Told) (lane : ℕ) → m.mangle ≡ None → IsApp c app → IsWholeAppRunBy m c app l → lane < lanes_of c
+LanesPassedOn = (m : Manner) (c : Config) (app : ℕ) (l : List Told) (lane : ℕ) → m.mangle ≡ None → IsApp c app → IsWholeAppRunBy m c app l → lane < lanes_of c → StaysOpen c app lane l
     → submitted_of (Tx (tx_of c app lane)) l ≡ peeked_of (Rx (rx_of c app lane)) l
 
 -- Where items are changed, each item that is submitted on a lane is the one that was peeked in its place, as it was or with one
@@ -55,7 +60,7 @@ AreAltered g mangle (before ∷ befores) (after ∷ afters) = IsAltered g mangle
 
 -- so in a whole run of an application of any manner
 abbrev pub LanesAltered : Type 0
-LanesAltered = (m : Manner) (c : Config) (app : ℕ) (l : List Told) (lane : ℕ) → IsApp c app → IsWholeAppRunBy m c app l → lane < lanes_of c
+LanesAltered = (m : Manner) (c : Config) (app : ℕ) (l : List Told) (lane : ℕ) → IsApp c app → IsWholeAppRunBy m c app l → lane < lanes_of c → StaysOpen c app lane l
     → AreAltered c.geometry m.mangle (peeked_of (Rx (rx_of c app lane)) l) (submitted_of (Tx (tx_of c app lane)) l)
 
 -- how many items a call submits on TX, and a list of calls in all
@@ -105,7 +110,7 @@ OnlySetsKicks = (m : Manner) (c : Config) (app : ℕ) (l : List Told) → IsApp 
 
 -- The calls that are due where the need-wakeup flags are used: after a Submit on FILL or TX a look at that ring's flag (af_xdp.rst,
 -- "XDP_USE_NEED_WAKEUP bind flag"); where it was answered 1, a swap of the kick of the ring's driver to 1; and after it told that
--- it sends nothing more, a swap of the kick of each of its drivers.
+-- it sends nothing more, a swap of the kick of each of its drivers, and after it closed a socket one of its driver's.
 abbrev pub kick_of : ℕ → List Call
 kick_of pair = Swap (Kick pair) 1 ∷ []
 
@@ -114,10 +119,14 @@ flag_due c (NeedFill d) (Old number) = if number == 1 then kick_of d else []
 flag_due c (NeedTx t) (Old number) = if number == 1 then kick_of (driver_of c (Tx t)) else []
 flag_due c mark reply = []
 
+abbrev pub closing_due : Config → Mark → ℕ → List Call
+closing_due c (Closing s) value = if value == 1 then kick_of (driver_of c (Rx s)) else []
+closing_due c mark value = []
+
 abbrev pub due_after : Config → ℕ → Call → Reply → List Call
 due_after c app (Submit (Fill d) items) reply = Look (NeedFill d) ∷ []
 due_after c app (Submit (Tx t) items) reply = Look (NeedTx t) ∷ []
-due_after c app (Swap m value) reply = if is_mark m (TxDone app) && value == 1 then kick_of (pair_of c app 0) ++ kick_of (pair_of c app 1) else []
+due_after c app (Swap m value) reply = if is_mark m (TxDone app) && value == 1 then kick_of (pair_of c app 0) ++ kick_of (pair_of c app 1) else closing_due c m value
 due_after c app (Look m) reply = flag_due c m reply
 due_after c app call reply = []
 

@@ -3,7 +3,7 @@
 -- after it gave the frames back. That they are is a law of the object: in every history frames stay with one application.
 use Rattle.std.specs.Prelude.{◌≡◌, ℕ, ◌+◌, ◌<◌, ◌≤◌, List, [], ◌++◌, flat_map}
 use Rattle.xsk_umem.specs.Geometry.{IsGeometry}
-use Rattle.xsk_model.specs.Config.{Config, IsConfig}
+use Rattle.xsk_model.specs.Config.{Config, IsConfig, IsRegular}
 use Rattle.xsk_model.specs.Marks.{apps_of}
 use Rattle.xsk_model.specs.Rings.{caller_of}
 use Rattle.xsk_model.specs.Numbers.{times, numbers}
@@ -17,12 +17,12 @@ use Rattle.xsk_model.specs.declared.call.Reply.{Reply}
 use Rattle.xsk_turns.specs.Script.{Script, Asks, Ends}
 use Rattle.xsk_turns.specs.AppTurns.{AppKept, app_turn, app_start_by}
 use Rattle.xsk_turns.specs.declared.manner.Manner.{Manner}
-use Rattle.xsk_turns.specs.Owned.{IsSteady, AllFit, frame_numbers}
+use Rattle.xsk_turns.specs.Owned.{AllFit, frame_numbers}
 
--- an application of a regular configuration in which no socket is closed
+-- an application of a regular configuration
 pub record IsApp (c : Config) (app : ℕ) : Type 0 where
   pub config : IsConfig c
-  pub steady : IsSteady c
+  pub regular : IsRegular c
   pub geometry : IsGeometry c.geometry
   pub known : app < apps_of c
 

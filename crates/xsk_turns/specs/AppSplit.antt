@@ -1,8 +1,8 @@
 -- Split runs of an application. Threads that take an application's ends in turn make its calls by steps, in any order: a visit to
 -- a lane, a visit to a side, or the looks at the marks by which the drivers tell that they have no further packet. Each is the
 -- piece of a turn that it is, cut at its start, from what the steps before it left. Then the application goes on from there by
--- its turns. All of this is this project's own.
-use Rattle.std.specs.Prelude.{◌≡◌, ℕ, ◌<◌, ◌≤◌, true, false, List, [], ◌∷◌, ◌++◌, length, All}
+-- its turns. No socket is closed there. All of this is this project's own.
+use Rattle.std.specs.Prelude.{◌≡◌, ℕ, ◌<◌, ◌≤◌, true, false, None, List, [], ◌∷◌, ◌++◌, length, All}
 use Rattle.xsk_umem.specs.Frame.{Frame}
 use Rattle.xsk_umem.specs.Limits.{most_items}
 use Rattle.xsk_umem.specs.declared.batch.Item.{Item}
@@ -38,7 +38,7 @@ HasPlace c AtMarks = Unit {0}
 
 -- a step has no use of what a turn notes
 abbrev pub no_note : AppNoted
-no_note = record { seen = false; gone = false; lanes_empty = false; sides_empty = false }
+no_note = record { seen = false; gone = false; lanes_empty = false; sides_empty = false; acked = false }
 
 -- the piece of a turn that a step is, from what is kept; after it another step may begin
 abbrev pub piece : Config → ℕ → SplitStep → AppKept → Script AppKept
@@ -67,8 +67,9 @@ AreSteps c app (step ∷ steps) kept l now =
 abbrev pub IsSplit : Config → ℕ → List Told → AppKept → Type 0
 IsSplit c app l kept = (steps : List SplitStep) × AreSteps c app steps (app_start c) l kept
 
--- and then of a run from there
+-- and then of a run from there; no socket is closed in it
 pub record IsSplitRun (c : Config) (app : ℕ) (l : List Told) : Type 0 where
+  pub closes : c.closing ≡ None
   pub steps : List Told
   pub later : List Told
   pub kept : AppKept
@@ -79,6 +80,7 @@ pub record IsSplitRun (c : Config) (app : ℕ) (l : List Told) : Type 0 where
 -- The run is a whole one, and by the steps before it each lane's RX ring was found empty, after both drivers had told that they
 -- have no further packet. So a whole split run has steps.
 pub record IsWholeSplitRun (c : Config) (app : ℕ) (l : List Told) : Type 0 where
+  pub closes : c.closing ≡ None
   pub steps : List Told
   pub later : List Told
   pub kept : AppKept
@@ -110,27 +112,27 @@ pub record HasLeft (c : Config) (kept : AppKept) (past : List Told) : Type 0 whe
 
 -- After steps, for each lane the items that were peeked are those that were submitted, followed by those that are pending.
 abbrev pub SplitKeepsLanes : Type 0
-SplitKeepsLanes = (c : Config) (app : ℕ) (l : List Told) (kept : AppKept) (lane : ℕ) → IsApp c app → AllFit c [] l → IsSplit c app l kept → lane < lanes_of c
+SplitKeepsLanes = (c : Config) (app : ℕ) (l : List Told) (kept : AppKept) (lane : ℕ) → IsApp c app → c.closing ≡ None → AllFit c [] l → IsSplit c app l kept → lane < lanes_of c
     → peeked_of (Rx (rx_of c app lane)) l ≡ submitted_of (Tx (tx_of c app lane)) l ++ pending_at kept lane
 
 -- what is kept is what the steps left
 abbrev pub SplitKeepsFrames : Type 0
-SplitKeepsFrames = (c : Config) (app : ℕ) (l : List Told) (kept : AppKept) → IsApp c app → AllFit c [] l → IsSplit c app l kept → HasLeft c kept l
+SplitKeepsFrames = (c : Config) (app : ℕ) (l : List Told) (kept : AppKept) → IsApp c app → c.closing ≡ None → AllFit c [] l → IsSplit c app l kept → HasLeft c kept l
 
 -- Each call of a step is legal after the steps before it and its own earlier calls, where all frames that the application has
 -- had are at home with it.
 abbrev pub StepCallsLegal : Type 0
-StepCallsLegal = (c : Config) (app : ℕ) (past : List Told) (step : SplitStep) (start : AppKept) (l : List Told) (kept : AppKept) (call : Call) (rest : Reply → Script AppKept) → IsApp c app
+StepCallsLegal = (c : Config) (app : ℕ) (past : List Told) (step : SplitStep) (start : AppKept) (l : List Told) (kept : AppKept) (call : Call) (rest : Reply → Script AppKept) → IsApp c app → c.closing ≡ None
     → start.tx_done ≡ false → HasLeft c start past → HasPlace c step → AllFit c past l → LeavesOf (piece c app step start) l (ask kept call rest) → HasOwnFrames c app (past ++ l)
     → IsLegal c (past ++ l) (caller_of c app) call
 
 -- And so is each call of a run from what earlier calls left; its frames are those that it keeps, and those of the call.
 abbrev pub LaterCallsLegal : Type 0
-LaterCallsLegal = (c : Config) (app : ℕ) (past : List Told) (start : AppKept) (l : List Told) (kept : AppKept) (call : Call) (rest : Reply → Script AppKept) → IsApp c app
+LaterCallsLegal = (c : Config) (app : ℕ) (past : List Told) (start : AppKept) (l : List Told) (kept : AppKept) (call : Call) (rest : Reply → Script AppKept) → IsApp c app → c.closing ≡ None
     → HasLeft c start past → AllFit c past l → Asks (app_turn c app) start l kept call rest
     → AppOwned kept call (past ++ l) × (HasOwnFrames c app (past ++ l) → IsLegal c (past ++ l) (caller_of c app) call)
 
 -- at its end its frames are those that it keeps
 abbrev pub LaterFramesAtEnd : Type 0
-LaterFramesAtEnd = (c : Config) (app : ℕ) (past : List Told) (start : AppKept) (l : List Told) (kept : AppKept) → IsApp c app → HasLeft c start past → AllFit c past l
+LaterFramesAtEnd = (c : Config) (app : ℕ) (past : List Told) (start : AppKept) (l : List Told) (kept : AppKept) → IsApp c app → c.closing ≡ None → HasLeft c start past → AllFit c past l
     → Ends (app_turn c app) start l kept → (n : ℕ) → times n (app_numbers kept) ≡ times n (had_of (past ++ l))

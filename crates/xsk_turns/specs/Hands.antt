@@ -1,7 +1,7 @@
 -- What an application's calls and replies are, by how many hands make them: one hand runs its machine; several make steps, in any
 -- order, and then one of them runs the machine from what they left. What holds of either is said here once. How hands take turns
 -- is this project's own.
-use Rattle.std.specs.Prelude.{◌≡◌, ℕ, zero, suc, ◌<◌, ◌⊎◌, true, false, List, [], ◌∷◌, ◌++◌, length}
+use Rattle.std.specs.Prelude.{◌≡◌, ℕ, zero, suc, ◌<◌, ◌⊎◌, true, false, None, List, [], ◌∷◌, ◌++◌, length}
 use Rattle.xsk_model.specs.Config.{Config}
 use Rattle.xsk_model.specs.Ends.{draining_of, telling_of}
 use Rattle.xsk_model.specs.Entry.{Told}
@@ -15,7 +15,7 @@ use Rattle.xsk_model.specs.declared.call.Reply.{Reply}
 use Rattle.xsk_model.specs.declared.call.Ring.{Ring}
 use Rattle.xsk_model.specs.declared.call.Ring.TheVariants.{Rx, Tx}
 use Rattle.xsk_turns.specs.Script.{Script, ask}
-use Rattle.xsk_turns.specs.AppLaw.{AreAltered, SetsKicks, IsFlagged}
+use Rattle.xsk_turns.specs.AppLaw.{StaysOpen, AreAltered, SetsKicks, IsFlagged}
 use Rattle.xsk_turns.specs.AppOwned.{IsApp}
 use Rattle.xsk_turns.specs.AppSplit.{SplitStep, HasPlace, piece, LeavesOf, IsSplit, IsSplitRun, IsWholeSplitRun}
 use Rattle.xsk_turns.specs.AppTurns.{AppKept, pair_of, rx_of, tx_of, lanes_of, IsAppRunBy, IsWholeAppRunBy}
@@ -51,10 +51,10 @@ pub record IsWholeRunOf (hands : ℕ) (s : Setting) (who : ℕ) (l : List Told) 
 
 -- ---- laws, by any number of hands
 
--- In a whole run of an application, for each lane, each item that is submitted is the one that was peeked in its place, as it was or
+-- In a whole run of an application, for each lane that stays open, each item that is submitted is the one that was peeked in its place, as it was or
 -- with one of its manner's changes: so where it changes nothing they are those, in order.
 abbrev pub HandsPassOn : Type 0
-HandsPassOn = (hands : ℕ) (m : Manner) (c : Config) (app : ℕ) (l : List Told) (lane : ℕ) → IsApp c app → AllFit c [] l → IsWholeAppRunOf hands m c app l → lane < lanes_of c
+HandsPassOn = (hands : ℕ) (m : Manner) (c : Config) (app : ℕ) (l : List Told) (lane : ℕ) → IsApp c app → AllFit c [] l → IsWholeAppRunOf hands m c app l → lane < lanes_of c → StaysOpen c app lane l
     → AreAltered c.geometry m.mangle (peeked_of (Rx (rx_of c app lane)) l) (submitted_of (Tx (tx_of c app lane)) l)
 
 -- each lane's RX ring was found empty, after both drivers had told that they have no further packet
@@ -75,11 +75,11 @@ HandsOnlySetKicks = (hands : ℕ) (m : Manner) (c : Config) (app : ℕ) (l : Lis
 
 -- After steps no kick is owed, for a ring or for the end: so ends that no hand holds owe none.
 abbrev pub SplitOwesNothing : Type 0
-SplitOwesNothing = (c : Config) (app : ℕ) (l : List Told) (kept : AppKept) (d : ℕ) (r : Ring) (flag : Mark) → IsApp c app → c.wakeup ≡ true → AllFit c [] l → IsSplit c app l kept → IsFlagged c d r flag
+SplitOwesNothing = (c : Config) (app : ℕ) (l : List Told) (kept : AppKept) (d : ℕ) (r : Ring) (flag : Mark) → IsApp c app → c.closing ≡ None → c.wakeup ≡ true → AllFit c [] l → IsSplit c app l kept → IsFlagged c d r flag
     → (owes_on d r flag l ≡ false) × ((side : ℕ) → side < 2 → owes_end (pair_of c app side) (TxDone app) l ≡ false)
 
 -- In a step it is paid at once: its next call is the look at the ring's flag, or the kick.
 abbrev pub StepPaysAtOnce : Type 0
 StepPaysAtOnce = (c : Config) (app : ℕ) (past : List Told) (start : AppKept) (step : SplitStep) (l : List Told) (kept : AppKept) (call : Call) (rest : Reply → Script AppKept) (d : ℕ) (r : Ring) (flag : Mark)
-    → IsApp c app → c.wakeup ≡ true → AllFit c [] (past ++ l) → IsSplit c app past start → HasPlace c step → LeavesOf (piece c app step start) l (ask kept call rest) → IsFlagged c d r flag
+    → IsApp c app → c.closing ≡ None → c.wakeup ≡ true → AllFit c [] (past ++ l) → IsSplit c app past start → HasPlace c step → LeavesOf (piece c app step start) l (ask kept call rest) → IsFlagged c d r flag
     → owes_on d r flag (past ++ l) ≡ true → (call ≡ Look flag) ⊎ (call ≡ Swap (Kick d) 1)

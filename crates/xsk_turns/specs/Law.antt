@@ -56,9 +56,9 @@ abbrev pub DeliversSized : Type 0
 DeliversSized = (wire : Wire) (c : Config) (d s : ℕ) (input : List Judged) (l : List Told) → IsSeat c d → AllFit c [] l → IsWholeDriverRun wire c d input l
     → All (IsSized c) (with_disposal s input (disposals_of (seat_of wire c d) input (attempts_of l)))
 
--- where the wire waits these are the packets that are to be delivered to it by the configuration and the verdicts
+-- where the wire waits and no socket is closed these are the packets that are to be delivered to it by the configuration and the verdicts
 abbrev pub DeliversAsSaid : Type 0
-DeliversAsSaid = (wire : Wire) (c : Config) (d s : ℕ) (input : List Judged) (l : List Told) → wire ≡ Wait → IsSeat c d → AllFit c [] l → IsWholeDriverRun wire c d input l
+DeliversAsSaid = (wire : Wire) (c : Config) (d s : ℕ) (input : List Judged) (l : List Told) → wire ≡ Wait → c.closing ≡ None → IsSeat c d → AllFit c [] l → IsWholeDriverRun wire c d input l
     → IsLaidOut c.geometry c.sg (bytes_in (delivered_to (seat_of wire c d) s input)) (submitted_of (Rx s) l)
 
 -- nothing is submitted on RX behind the Swap that tells that no further packet comes

@@ -1,6 +1,6 @@
 -- What a driver has: the frames that it keeps, with those of the call that it gave, are those that it peeked and didn't
 -- submit, and what it keeps of them is what its own calls and replies leave. Then each call that it gives is legal.
-use Rattle.std.specs.Prelude.{◌≡◌, ℕ, ◌+◌, ◌*◌, ◌<◌, ◌≤◌, ◌==◌, IsTrue, if◌then◌else◌, List, [], ◌∷◌, ◌++◌, length, map, flat_map, All, None}
+use Rattle.std.specs.Prelude.{◌≡◌, ℕ, ◌+◌, ◌*◌, ◌<◌, ◌≤◌, ◌==◌, IsTrue, if◌then◌else◌, List, [], ◌∷◌, ◌++◌, length, map, flat_map, All, None, Some}
 use Rattle.xsk_umem.specs.Frame.{Frame}
 use Rattle.xsk_umem.specs.Geometry.{IsGeometry}
 use Rattle.xsk_umem.specs.declared.batch.Item.{Item}
@@ -13,10 +13,15 @@ use Rattle.xsk_model.specs.Own.{had_of, is_from_fill, peeked_of, waiting, sendin
 use Rattle.xsk_model.specs.Legal.{IsLegal}
 use Rattle.xsk_model.specs.History.{Fits, OwnGoesOn}
 use Rattle.xsk_model.specs.Sent.{completed_in}
-use Rattle.xsk_model.specs.declared.call.Ring.TheVariants.{Tx}
+use Rattle.xsk_model.specs.Marks.{HoldsClosing}
+use Rattle.xsk_model.specs.Rings.{port_of}
+use Rattle.xsk_model.specs.Swaps.{last_seen}
+use Rattle.xsk_model.specs.declared.call.Ring.TheVariants.{Rx, Tx}
+use Rattle.xsk_model.specs.declared.call.Mark.TheVariants.{Cell, Closing}
 use Rattle.xsk_model.specs.declared.call.Call.{Call}
+use Rattle.xsk_model.specs.declared.call.Call.TheVariants.{Look}
 use Rattle.xsk_model.specs.declared.call.Reply.{Reply}
-use Rattle.xsk_model.specs.declared.call.Reply.TheVariants.{Items}
+use Rattle.xsk_model.specs.declared.call.Reply.TheVariants.{Items, Old}
 use Rattle.xsk_turns.specs.Turns.{Judged, Kept, seat_of, start, turn, group_at, frames_in}
 use Rattle.xsk_turns.specs.declared.wire.Wire.{Wire}
 use Rattle.xsk_turns.specs.Script.{Script, Asks, Ends}
@@ -26,10 +31,10 @@ pub record IsSteady (c : Config) : Type 0 where
   pub regular : IsRegular c
   pub closes : c.closing ≡ None
 
--- a pair of such a configuration
+-- a pair of a regular configuration
 pub record IsSeat (c : Config) (pair : ℕ) : Type 0 where
   pub config : IsConfig c
-  pub steady : IsSteady c
+  pub regular : IsRegular c
   pub geometry : IsGeometry c.geometry
   pub known : pair < length c.pairs
 
@@ -102,16 +107,26 @@ HasRoom c kept reply = Unit {0}
 
 -- ---- the laws
 
+-- who has seen that a socket is closed finds each cell lowered that held it: so the object replies, by its law ClosedCells
+abbrev pub FindsLowered : Config → List Told → Call → Reply → Type 0
+FindsLowered c past (Look (Cell port index)) (Old number) =
+    (s : ℕ) → HoldsClosing c port index s → port ≡ port_of c (Rx s) → last_seen (Closing s) past ≡ Some 1 → number ≡ 0
+FindsLowered c past call reply = Unit {0}
+
+-- so each reply is one that the object may give
+abbrev pub Suits : Config → List Told → Call → Reply → Type 0
+Suits c past call reply = Fits c past call reply × FindsLowered c past call reply
+
 -- the calls and replies of a caller, where each reply fits
 abbrev pub AllFit : Config → List Told → List Told → Type 0
 AllFit c past [] = Unit {0}
-AllFit c past (t ∷ l) = Fits c past t.call t.reply × AllFit c (past ++ t ∷ []) l
+AllFit c past (t ∷ l) = Suits c past t.call t.reply × AllFit c (past ++ t ∷ []) l
 
 -- At each call that a driver makes after legal ones whose replies fit, the frames that it keeps, with those of the call, are those that it peeked and didn't
--- submit; and the call is legal, where a list counts its packets in 32 bits.
+-- submit; and the call is legal, where the replies also show cells as lowered and a list counts its packets in 32 bits.
 abbrev pub KeepsFrames : Type 0
 KeepsFrames = (wire : Wire) (c : Config) (pair : ℕ) (input : List Judged) (l : List Told) (kept : Kept) (call : Call) (rest : Reply → Script Kept) → IsSeat c pair → OwnGoesOn c pair [] l
-    → Asks (turn (seat_of wire c pair)) (start (classes_of c) input) l kept call rest → Owned c pair kept call l × (length input < 4294967296 → IsLegal c l pair call)
+    → Asks (turn (seat_of wire c pair)) (start (classes_of c) input) l kept call rest → Owned c pair kept call l × (AllFit c [] l → length input < 4294967296 → IsLegal c l pair call)
 
 -- at its end they are those that it keeps
 abbrev pub KeepsFramesAtEnd : Type 0

@@ -15,7 +15,7 @@ use Rattle.xsk_model.specs.declared.call.Call.TheVariants.{Submit, Peek}
 use Rattle.xsk_model.specs.declared.call.Reply.{Reply}
 use Rattle.xsk_turns.specs.Script.{Script, Asks, Ends}
 use Rattle.xsk_turns.specs.Turns.{Judged, Kept, seat_of, start, turn, frames_in}
-use Rattle.xsk_turns.specs.Owned.{IsSeat, AllFit, socket_at_class}
+use Rattle.xsk_turns.specs.Owned.{IsSeat, socket_at_class}
 use Rattle.xsk_turns.specs.declared.wire.Wire.{Wire}
 
 -- the frames that came by a call on a TX ring, and those that a call gives to COMPLETION

@@ -8,7 +8,7 @@ pub struct Manner {
     /// Of the items that it submits on TX, numbered from 0 in that order, those whose number leaves `every - 1` when divided
     /// by `every` are changed, in turn as the changes are listed; with 0 each packet goes on. `None` changes nothing.
     pub mangle: Option<u32>,
-    /// How many packets it passes on before it closes a socket. It stands at 0, since no socket is closed.
+    /// How many items come on the RX ring of the socket that it closes before it closes it.
     pub after: u32,
 }
 
