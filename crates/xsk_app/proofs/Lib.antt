@@ -4,3 +4,4 @@ pub mod TurnLemmas
 pub mod Runs
 pub mod Resumed
 pub mod Taking
+pub mod Shutting

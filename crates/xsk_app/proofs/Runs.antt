@@ -1,10 +1,10 @@
 -- From a step of the machine to the list for which the application stands, and all that is promised of it there.
 use Rattle.std.proofs.Common.{◌≡◌, ℕ, List, [], refl, sym, ap, ◌∙◌, subst}
-use Rattle.xsk_turns.proofs.Object.{Config, Fits}
+use Rattle.xsk_turns.proofs.Object.{Config}
 use Rattle.xsk_turns.proofs.Calls.{Told, with_told, Call, Reply, Act}
 use Rattle.xsk_model.specs.declared.call.Act.TheVariants.{Call as Calls, Ended as IsEnded}
 use Rattle.xsk_turns.specs.Script.{Script, ask, again, ended, begun, Leaves}
-use Rattle.xsk_turns.specs.Owned.{AllFit}
+use Rattle.xsk_turns.specs.Owned.{AllFit, Suits}
 use Rattle.xsk_turns.specs.AppTurns.{AppKept, app_turn, app_start_by}
 use Rattle.xsk_turns.specs.AppOwned.{IsApp}
 use Rattle.xsk_turns.specs.declared.manner.Manner.{Manner}
@@ -47,7 +47,7 @@ module _ (manner : Manner) (c : Config) (app : ℕ) where
         stands_with now s act (again (app_start_by manner c)) [] shown (ap (λ r. r.now) same.config ∙ sym shows.config ∙ new.config) (same.app ∙ sym shows.app ∙ new.app) new.one tt refl
         (subst (λ k. GoesOn c app now act (again k)) (sym shows.kept ∙ new.kept) (moved new.config new.app (again (kept_by old)) goes))
 
-    pub stands_next : (call : Call) (reply : Reply) (l : List Told) → Stands manner c app before call l → Fits c l call reply
+    pub stands_next : (call : Call) (reply : Reply) (l : List Told) → Stands manner c app before call l → Suits c l call reply
         → GoesOn old.config.now old.app now act (left old.config.now old.app old.wait (noted_by old.turn) (kept_by old) reply) → StandsWith manner c app s act (with_told l call reply)
     stands_next call reply l stands fits goes =
         let rest = left c app before.wait before.noted before.kept in

@@ -1,36 +1,55 @@
 -- What each call of an application's machine and its wait come to, in the machine's own terms.
-use Rattle.std.proofs.Common.{◌≡◌, ℕ, zero, ◌++◌, ◌<◌, ◌≤◌, Option, Some, None, List, [], length, map, take, drop, sym, ap, ◌∙◌, get_or-set_same}
+use Rattle.std.proofs.Common.{◌≡◌, ℕ, zero, true, false, ◌<◌, ◌≤◌, Option, Some, None, List, [], length, map, take, drop, refl, sym, ap, ◌∙◌, get_or-set_same}
 use Rattle.xsk_turns.proofs.Object.{Frame, Config, pool_of, batch_of, home_item}
-use Rattle.xsk_turns.proofs.Calls.{Item, Fill, Comp, Rx, Tx, Reserve, Submit, Peek, Release, Reply, Granted, Submitted}
-use Rattle.xsk_model.specs.Expected.{CanCome, submitted}
+use Rattle.xsk_turns.proofs.Calls.{Item, Fill, Comp, Rx, Tx, Reserve, Submit, Peek, Release, Reply, Granted, Full, Submitted, Items, Empty, Released, Old}
+use Rattle.xsk_model.specs.Expected.{CanCome, submitted, number}
 use Rattle.xsk_model.specs.declared.ask.Answer.{Answer}
 use Rattle.xsk_model.specs.declared.ask.Answer.TheVariants.{Granted as Allowed, Full as IsFull, Submitted as Taken, Items as HasItems, Empty as IsEmpty, Released as Freed, Old as Was}
 use Rattle.xsk_turns.specs.Stepping.{joined_answer, IsLent}
 use Rattle.xsk_turns.specs.Script.{ask}
-use Rattle.xsk_turns.specs.AppTurns.{AppKept, AppNoted, rx_of, tx_of, lanes_of, pair_of, pending_at, with_pending, given_on, passed_on, back_at, with_back, pass_on, receive_lane, give_back}
+use Rattle.xsk_turns.specs.AppTurns.{AppKept, AppNoted, rx_of, tx_of, lanes_of, pair_of, pending_at, with_pending, drains, drained, received, awaited_after, cut_after, given_on, passed_on, back_at, with_back, pass_on, receive_lane, give_back}
 use Rattle.xsk_app.specs.Ways.{IsGroup}
-use Rattle.xsk_app.specs.Stands.{from_lane, after_full_lane, from_side, after_full_side, by_reply, left}
-use Rattle.xsk_app.specs.declared.machine.Wait.TheVariants.{PeekRx, ReleaseRx, SubmitTx, PeekComp, ReserveFill, SubmitFill}
+use Rattle.xsk_app.specs.Stands.{from_lane, after_full_lane, from_side, after_full_side, by_reply, left, counted, drain_by}
+use Rattle.xsk_app.specs.declared.machine.Wait.TheVariants.{DrainRx, ReleaseDrained, PeekRx, ReleaseRx, SubmitTx, PeekComp, ReserveFill, SubmitFill}
 use Rattle.xsk_turns.proofs.AppGroups.{with_back-same}
-use Rattle.xsk_app.proofs.TurnLemmas.{submit_home, lane_empty, side_empty, give_back_some, give_back_granted}
+use Rattle.xsk_app.proofs.TurnLemmas.{submit_home, lane_empty, lane_drains, side_empty, give_back_some, give_back_granted}
 
-pub peek_lane : (c : Config) (app lane : ℕ) (noted : AppNoted) (kept : AppKept) (rx batch : ℕ) → lane < lanes_of c → pending_at kept lane ≡ []
+pub peek_lane : (c : Config) (app lane : ℕ) (noted : AppNoted) (kept : AppKept) (rx batch : ℕ) → lane < lanes_of c → drains c app lane kept ≡ false → pending_at kept lane ≡ []
     → rx ≡ rx_of c app lane → batch ≡ batch_of c
     → ask kept (Peek (Rx rx) batch) (left c app (PeekRx lane) noted kept) ≡ from_lane c app lane noted kept
-peek_lane c app lane noted kept rx batch h empty e f =
+peek_lane c app lane noted kept rx batch h other empty e f =
     ap (λ (r : ℕ). ask kept (Peek (Rx r) batch) (left c app (PeekRx lane) noted kept)) e
     ∙ ap (λ (n : ℕ). ask kept (Peek (Rx (rx_of c app lane)) n) (left c app (PeekRx lane) noted kept)) f
-    ∙ sym (lane_empty c app lane noted kept h empty)
+    ∙ sym (lane_empty c app lane noted kept h other empty)
 
-pub release_lane : (c : Config) (app lane : ℕ) (noted : AppNoted) (kept : AppKept) (items pending : List Item) (rx count : ℕ) → pending_at kept lane ≡ []
-    → pending ≡ pending_at kept lane ++ items → rx ≡ rx_of c app lane → count ≡ length items
-    → ask (with_pending kept lane pending) (Release (Rx rx) count) (left c app (ReleaseRx lane) noted (with_pending kept lane pending))
-    ≡ receive_lane c app lane kept (after_full_lane c app lane noted) items
-release_lane c app lane noted kept items pending rx count empty is e f =
-    let same : pending ≡ items = is ∙ ap (λ (xs : List Item). xs ++ items) empty in
-    ap (λ (r : ℕ). ask (with_pending kept lane pending) (Release (Rx r) count) (left c app (ReleaseRx lane) noted (with_pending kept lane pending))) e
-    ∙ ap (λ (n : ℕ). ask (with_pending kept lane pending) (Release (Rx (rx_of c app lane)) n) (left c app (ReleaseRx lane) noted (with_pending kept lane pending))) f
-    ∙ ap (λ (xs : List Item). ask (with_pending kept lane xs) (Release (Rx (rx_of c app lane)) (length items)) (left c app (ReleaseRx lane) noted (with_pending kept lane xs))) same
+pub peek_drain : (c : Config) (app lane : ℕ) (noted : AppNoted) (kept : AppKept) (rx batch : ℕ) → lane < lanes_of c → drains c app lane kept ≡ true
+    → rx ≡ rx_of c app lane → batch ≡ batch_of c
+    → ask kept (Peek (Rx rx) batch) (left c app (DrainRx lane) noted kept) ≡ from_lane c app lane noted kept
+peek_drain c app lane noted kept rx batch h closed e f =
+    ap (λ (r : ℕ). ask kept (Peek (Rx r) batch) (left c app (DrainRx lane) noted kept)) e
+    ∙ ap (λ (n : ℕ). ask kept (Peek (Rx (rx_of c app lane)) n) (left c app (DrainRx lane) noted kept)) f
+    ∙ sym (lane_drains c app lane noted kept h closed)
+
+pub release_drained : (c : Config) (app lane : ℕ) (noted : AppNoted) (kept now : AppKept) (items : List Item) (rx count : ℕ) → now ≡ drained c lane kept items → rx ≡ rx_of c app lane → count ≡ length items
+    → ask now (Release (Rx rx) count) (left c app (ReleaseDrained lane) noted now) ≡ drain_by c app lane noted kept (Items items)
+release_drained c app lane noted kept now items rx count is e f =
+    ap (λ (k : AppKept). ask k (Release (Rx rx) count) (left c app (ReleaseDrained lane) noted k)) is
+    ∙ ap (λ (r : ℕ). ask (drained c lane kept items) (Release (Rx r) count) (left c app (ReleaseDrained lane) noted (drained c lane kept items))) e
+    ∙ ap (λ (n : ℕ). ask (drained c lane kept items) (Release (Rx (rx_of c app lane)) n) (left c app (ReleaseDrained lane) noted (drained c lane kept items))) f
+
+pub release_lane : (c : Config) (app lane : ℕ) (noted : AppNoted) (kept now : AppKept) (items : List Item) (rx count : ℕ) → now ≡ received c app lane kept items → rx ≡ rx_of c app lane → count ≡ length items
+    → ask now (Release (Rx rx) count) (left c app (ReleaseRx lane) noted now) ≡ receive_lane c app lane kept (after_full_lane c app lane noted) items
+release_lane c app lane noted kept now items rx count is e f =
+    ap (λ (k : AppKept). ask k (Release (Rx rx) count) (left c app (ReleaseRx lane) noted k)) is
+    ∙ ap (λ (r : ℕ). ask (received c app lane kept items) (Release (Rx r) count) (left c app (ReleaseRx lane) noted (received c app lane kept items))) e
+    ∙ ap (λ (n : ℕ). ask (received c app lane kept items) (Release (Rx (rx_of c app lane)) n) (left c app (ReleaseRx lane) noted (received c app lane kept items))) f
+
+-- what is pending on a lane that received is what it counts
+pub counted_received : (c : Config) (app lane : ℕ) (kept : AppKept) (items pending : List Item) → lane < length kept.pending → pending ≡ items
+    → counted c app lane (with_pending kept lane pending) ≡ received c app lane kept items
+counted_received c app lane kept items pending h is =
+    let made : List Item → List Item → AppKept = λ ps xs. record (with_pending kept lane ps) { awaited = awaited_after c app lane c.closing xs kept.awaited; cut = cut_after c app lane c.closing xs kept.cut } in
+    ap (made pending) (get_or-set_same kept.pending lane pending [] h ∙ is) ∙ ap (λ xs. made xs items) is
 
 pub peek_side : (c : Config) (app side : ℕ) (noted : AppNoted) (kept : AppKept) (pair batch : ℕ) → side < 2 → back_at kept side ≡ []
     → pair ≡ pair_of c app side → batch ≡ batch_of c
@@ -75,6 +94,17 @@ pub submitted_came : (reply : Option Reply) → CanCome submitted reply → repl
 submitted_came None came = absurd came
 submitted_came (Some reply) came = ap Some came
 
+-- and that to a Swap or a Look
+pub number_came : (reply : Option Reply) → CanCome number reply → (n : ℕ) × (reply ≡ Some (Old n))
+number_came None came = absurd came
+number_came (Some (Old n)) came = (n, refl)
+number_came (Some Granted) came = absurd came
+number_came (Some (Full free)) came = absurd came
+number_came (Some Submitted) came = absurd came
+number_came (Some (Items items)) came = absurd came
+number_came (Some Empty) came = absurd came
+number_came (Some Released) came = absurd came
+
 pub lent_none : (answer : Option Answer) (items : List Item) → joined_answer answer items ≡ Some Submitted → IsLent answer items → items ≡ []
 lent_none None items e lent = lent
 lent_none (Some Allowed) items e lent = lent
@@ -83,4 +113,4 @@ lent_none (Some Taken) items e lent = lent
 lent_none (Some HasItems) items e lent = absurd (cc)
 lent_none (Some IsEmpty) items e lent = lent
 lent_none (Some Freed) items e lent = lent
-lent_none (Some (Was number)) items e lent = lent
+lent_none (Some (Was n)) items e lent = lent

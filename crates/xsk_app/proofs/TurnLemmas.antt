@@ -5,34 +5,47 @@ use Rattle.xsk_turns.proofs.Object.{Frame, Config, pool_of, batch_of, home_item}
 use Rattle.xsk_turns.proofs.Calls.{Item, Fill, Comp, Rx, Mark, Reserve, Submit, Peek, Look, Granted, Full}
 use Rattle.xsk_model.specs.declared.call.Mark.TheVariants.{NeedFill}
 use Rattle.xsk_turns.specs.Script.{Script, ask, again, items_or_empty, on_old, granted_or_full, on_submitted, begun}
-use Rattle.xsk_turns.specs.AppTurns.{AppKept, AppNoted, rx_of, lanes_of, pair_of, pending_at, back_at, with_back, is_set, wake, receive_lane, pass_on, visit_lane, visit_lanes, group_of, home_of, give_back, complete_side, visit_side, visit_sides, look_marks, end_turn, turn_sides, app_turn}
+use Rattle.xsk_turns.specs.AppTurns.{AppKept, AppNoted, rx_of, lanes_of, pair_of, pending_at, back_at, with_back, is_set, wake, receive_lane, pass_on, visit_lane, visit_lanes, drains, drain_lane, group_of, home_of, give_back, complete_side, visit_side, visit_sides, look_marks, end_turn, turn_sides, app_turn}
 use Rattle.xsk_turns.proofs.AppGroups.{with_back-again, with_back-same, group_some, group_front}
 use Rattle.xsk_app.specs.Ways.{IsGroup, first_unset}
-use Rattle.xsk_app.specs.Stands.{from_lane, after_lane, after_full_lane, from_side, after_side, after_full_side, by_reply}
+use Rattle.xsk_app.specs.Stands.{from_lane, after_lane, after_full_lane, drain_by, from_side, after_side, after_full_side, by_reply}
 
 -- ---- the lanes
 
-pub lane_here : (c : Config) (app lane : ℕ) (noted : AppNoted) (kept : AppKept) → lane < lanes_of c
-    → from_lane c app lane noted kept ≡ visit_lane c app lane (pending_at kept lane) noted kept (after_lane c app lane)
-lane_here c app lane noted kept h =
+-- by whether it is a closed one
+abbrev visit_by : Config → ℕ → ℕ → AppNoted → AppKept → Bool → Script AppKept
+visit_by c app lane noted kept closed =
+    cond closed (drain_lane c app lane noted kept (after_lane c app lane)) (visit_lane c app lane (pending_at kept lane) noted kept (after_lane c app lane))
+
+lane_by : (c : Config) (app lane : ℕ) (noted : AppNoted) (kept : AppKept) → lane < lanes_of c
+    → from_lane c app lane noted kept ≡ visit_by c app lane noted kept (drains c app lane kept)
+lane_by c app lane noted kept h =
     let e : lanes_of c - lane ≡ suc (lanes_of c - (lane + 1)) = omega arith in
     ap (λ more. visit_lanes c app more lane noted kept (turn_sides c app)) e
 
-pub lane_empty : (c : Config) (app lane : ℕ) (noted : AppNoted) (kept : AppKept) → lane < lanes_of c → pending_at kept lane ≡ []
+pub lane_drains : (c : Config) (app lane : ℕ) (noted : AppNoted) (kept : AppKept) → lane < lanes_of c → drains c app lane kept ≡ true
+    → from_lane c app lane noted kept ≡ ask kept (Peek (Rx (rx_of c app lane)) (batch_of c)) (drain_by c app lane noted kept)
+lane_drains c app lane noted kept h closed = lane_by c app lane noted kept h ∙ ap (visit_by c app lane noted kept) closed
+
+pub lane_here : (c : Config) (app lane : ℕ) (noted : AppNoted) (kept : AppKept) → lane < lanes_of c → drains c app lane kept ≡ false
+    → from_lane c app lane noted kept ≡ visit_lane c app lane (pending_at kept lane) noted kept (after_lane c app lane)
+lane_here c app lane noted kept h other = lane_by c app lane noted kept h ∙ ap (visit_by c app lane noted kept) other
+
+pub lane_empty : (c : Config) (app lane : ℕ) (noted : AppNoted) (kept : AppKept) → lane < lanes_of c → drains c app lane kept ≡ false → pending_at kept lane ≡ []
     → from_lane c app lane noted kept
     ≡ ask kept (Peek (Rx (rx_of c app lane)) (batch_of c)) (items_or_empty (receive_lane c app lane kept (after_full_lane c app lane noted)) (after_lane c app lane noted kept))
-lane_empty c app lane noted kept h e =
-    lane_here c app lane noted kept h ∙ ap (λ items. visit_lane c app lane items noted kept (after_lane c app lane)) e
+lane_empty c app lane noted kept h other e =
+    lane_here c app lane noted kept h other ∙ ap (λ items. visit_lane c app lane items noted kept (after_lane c app lane)) e
 
 full_visit : (c : Config) (app lane : ℕ) (noted : AppNoted) (kept : AppKept) (items : List Item) → items ≢ []
     → visit_lane c app lane items noted kept (after_lane c app lane) ≡ pass_on c app lane kept (after_full_lane c app lane noted)
 full_visit c app lane noted kept [] some = absurd (some refl)
 full_visit c app lane noted kept (item ∷ items) some = refl
 
-pub lane_full : (c : Config) (app lane : ℕ) (noted : AppNoted) (kept : AppKept) → lane < lanes_of c → pending_at kept lane ≢ []
+pub lane_full : (c : Config) (app lane : ℕ) (noted : AppNoted) (kept : AppKept) → lane < lanes_of c → drains c app lane kept ≡ false → pending_at kept lane ≢ []
     → from_lane c app lane noted kept ≡ pass_on c app lane kept (after_full_lane c app lane noted)
-lane_full c app lane noted kept h some =
-    lane_here c app lane noted kept h ∙ full_visit c app lane noted kept (pending_at kept lane) some
+lane_full c app lane noted kept h other some =
+    lane_here c app lane noted kept h other ∙ full_visit c app lane noted kept (pending_at kept lane) some
 
 pub lanes_past : (c : Config) (app lane : ℕ) (noted : AppNoted) (kept : AppKept) → lanes_of c ≤ lane
     → from_lane c app lane noted kept ≡ from_side c app 0 noted kept
@@ -45,11 +58,15 @@ begun_visit : (c : Config) (app lane : ℕ) (noted : AppNoted) (kept : AppKept) 
 begun_visit c app lane noted kept [] = refl
 begun_visit c app lane noted kept (item ∷ items) = refl
 
+begun_by : (c : Config) (app lane : ℕ) (noted : AppNoted) (kept : AppKept) (closed : Bool) → begun (app_turn c app) (visit_by c app lane noted kept closed) ≡ visit_by c app lane noted kept closed
+begun_by c app lane noted kept true = refl
+begun_by c app lane noted kept false = begun_visit c app lane noted kept (pending_at kept lane)
+
 pub begun_lane : (c : Config) (app lane : ℕ) (noted : AppNoted) (kept : AppKept) → lane < lanes_of c
     → begun (app_turn c app) (from_lane c app lane noted kept) ≡ from_lane c app lane noted kept
 begun_lane c app lane noted kept h =
-    let here = lane_here c app lane noted kept h in
-    ap (begun (app_turn c app)) here ∙ begun_visit c app lane noted kept (pending_at kept lane) ∙ sym here
+    let here = lane_by c app lane noted kept h in
+    ap (begun (app_turn c app)) here ∙ begun_by c app lane noted kept (drains c app lane kept) ∙ sym here
 
 -- ---- the sides
 
@@ -186,7 +203,7 @@ give_back_none c side kept next e = none_back c side (back_at kept side) kept ne
 -- ---- the looks
 
 -- what is asked by a test, where it is asked so for each outcome
-by_test : (asks : Option ℕ → Script AppKept) (b : Bool) (x y : Script AppKept) (p q : Option ℕ) → x ≡ asks p → y ≡ asks q → cond b x y ≡ asks (cond b p q)
+pub by_test : (asks : Option ℕ → Script AppKept) (b : Bool) (x y : Script AppKept) (p q : Option ℕ) → x ≡ asks p → y ≡ asks q → cond b x y ≡ asks (cond b p q)
 by_test asks true x y p q h k = h
 by_test asks false x y p q h k = k
 

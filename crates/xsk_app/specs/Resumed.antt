@@ -1,5 +1,5 @@
 -- An application that goes on from what its own earlier calls left: its later calls are a run from there.
-use Rattle.std.specs.Prelude.{◌≡◌, ℕ, false, List, [], ◌∷◌, ◌++◌}
+use Rattle.std.specs.Prelude.{◌≡◌, ℕ, false, None, List, [], ◌∷◌, ◌++◌}
 use Rattle.xsk_model.specs.Config.{Config}
 use Rattle.xsk_model.specs.Rings.{caller_of}
 use Rattle.xsk_model.specs.Numbers.{times}
@@ -30,6 +30,10 @@ kept_in k = record {
   tx_done = false;
   manner = plain;
   number = 0;
+  awaited = 0;
+  cut = false ∷ false ∷ [];
+  begun = false;
+  acked = false;
 }
 
 -- an application at the start of a turn, with what its earlier calls and replies left it
@@ -37,6 +41,7 @@ pub record IsResumed (c : Config) (a : ℕ) (start : AppKept) (past : List Told)
   pub config : s.config ≡ c
   pub app : s.app ≡ a
   pub one : IsApp c a
+  pub closes : c.closing ≡ None
   pub wait : s.wait ≡ Start
   pub kept : s.kept ≡ start
   pub begins : HasLeft c start past
@@ -47,6 +52,7 @@ pub record StandsFrom (c : Config) (a : ℕ) (start : AppKept) (past : List Told
   pub config : s.config ≡ c
   pub app : s.app ≡ a
   pub one : IsApp c a
+  pub closes : c.closing ≡ None
   pub begins : HasLeft c start past
   pub fit : AllFit c past l
   pub asks : Asks (app_turn c a) start l s.kept call (left c a s.wait s.noted s.kept)
@@ -55,6 +61,7 @@ pub record HasEndedFrom (c : Config) (a : ℕ) (start : AppKept) (past : List To
   pub config : s.config ≡ c
   pub app : s.app ≡ a
   pub one : IsApp c a
+  pub closes : c.closing ≡ None
   pub begins : HasLeft c start past
   pub fit : AllFit c past l
   pub ends : Ends (app_turn c a) start l s.kept

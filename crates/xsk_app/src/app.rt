@@ -2,11 +2,11 @@
 ghost use Rattle.std.specs.Prelude.{◌≡◌, None, Some, List, ℕ, ◌+◌, ◌++◌, ◌-◌, ◌*◌, ◌/◌, ◌%◌, ◌<◌, ◌≤◌, IfOk, [], ◌∷◌, length, replicate, vec_len, slice_index};
 ghost use Rattle.std.specs.List.{slice_index_or};
 ghost use Rattle.xsk_turns.specs.AppTurns.{AppKept};
-ghost use Rattle.xsk_turns.specs.Owned.{IsSteady};
+ghost use Rattle.xsk_turns.specs.Owned.{Suits};
 ghost use Rattle.xsk_model.specs.Marks.{apps_of};
 ghost use Rattle.xsk_app.specs.declared.machine.Way.{Way};
 ghost use Rattle.xsk_app.specs.Ways.{IsWay};
-ghost use Rattle.xsk_model.specs.Config.{Config as AConfig};
+ghost use Rattle.xsk_model.specs.Config.{Config as AConfig, IsRegular};
 ghost use Rattle.xsk_model.specs.Entry.{Told, with_told};
 ghost use Rattle.xsk_model.specs.History.{Fits};
 ghost use Rattle.xsk_model.specs.declared.call.Call.{Call as ACall};
@@ -16,6 +16,7 @@ ghost use Rattle.xsk_turns.specs.declared.manner.Manner.{Manner as AManner};
 ghost use Rattle.xsk_turns.specs.Stepping.{joined_ask, joined_answer, IsGivenBack, IsLent};
 
 use crate::back::Back;
+use crate::closing::shut_on;
 use crate::kept::fill_ways;
 use crate::machine::{Machine, Turn, Wait, Way};
 use std::alloc::Global;
@@ -47,15 +48,15 @@ impl<'a> App<'a> {
     ghost use Rattle.xsk_app.specs.Runs.{IsNew, Stands, StandsWith, TellsWith};
     ghost use Rattle.xsk_app.specs.Resumed.{IsResumed, StandsFrom, StandsFromWith};
 
-    /// The application with this number, of a regular configuration that has it and in which no socket is closed. By its manner
-    /// it changes items that it submits on TX, or none.
+    /// The application with this number, of a regular configuration that has it. By its manner it changes items that it submits
+    /// on TX, or none, and closes the socket that is to be closed, where it is one of its own, once so many items came.
     pub fn new(
         alloc: Global,
         config: &'a Config,
         app: u32,
         manner: Manner,
     ) -> Result<App<'a>, OutOfMemory>
-        requires steady { IsSteady config.now }
+        requires regular { IsRegular config.now }
         requires app { app < apps_of config.now }
         ensures expected { IfOk result (λ a. a.expected ≡ nothing) }
         ensures new { IfOk result (λ a. IsNew manner config.now app a) }
@@ -80,11 +81,18 @@ impl<'a> App<'a> {
             tx_done: false,
             manner,
             number: 0,
+            classes,
+            shut: shut_on(config, app),
+            awaited: manner.after,
+            cut: [false; 2],
+            begun: false,
+            acked: false,
             turn: Turn {
                 seen: false,
                 gone: false,
                 lanes_empty: true,
                 sides_empty: true,
+                acked: false,
             },
             wait: Wait::Start,
         };
@@ -101,12 +109,12 @@ impl<'a> App<'a> {
         // gives the call that they ask for, or has ended as they have.
         ensures begins { (m : AManner) (c : AConfig) (app : ℕ) → IsNew m c app self.old → reply ≡ None → StandsWith m c app self.new result [] }
         ensures goes_on { (m : AManner) (c : AConfig) (app : ℕ) (l : List Told) (call : ACall) (r : AReply)
-            → Stands m c app self.old call l → reply ≡ Some r → Fits c l call r → StandsWith m c app self.new result (with_told l call r) }
+            → Stands m c app self.old call l → reply ≡ Some r → Suits c l call r → StandsWith m c app self.new result (with_told l call r) }
 
         // So by the laws of its turns it tells what its own calls and replies leave.
         ensures tells_first { (m : AManner) (c : AConfig) (app : ℕ) → IsNew m c app self.old → reply ≡ None → TellsWith m c app self.new result [] }
         ensures tells { (m : AManner) (c : AConfig) (app : ℕ) (l : List Told) (call : ACall) (r : AReply)
-            → Stands m c app self.old call l → reply ≡ Some r → Fits c l call r → TellsWith m c app self.new result (with_told l call r) }
+            → Stands m c app self.old call l → reply ≡ Some r → Suits c l call r → TellsWith m c app self.new result (with_told l call r) }
 
         // One that goes on from what earlier calls left stands for its calls since then, and their replies.
         ensures resumes { (c : AConfig) (app : ℕ) (start : AppKept) (past : List Told) → IsResumed c app start past self.old → reply ≡ None → StandsFromWith c app start past self.new result [] }
@@ -131,12 +139,12 @@ impl<'a> App<'a> {
         ensures same { (self.new.config ≡ self.old.config) × (self.new.app ≡ self.old.app) }
         ensures begins { (m : AManner) (c : AConfig) (app : ℕ) → IsNew m c app self.old → joined_answer answer items.old ≡ None → StandsWith m c app self.new (joined_ask result items.new) [] }
         ensures goes_on { (m : AManner) (c : AConfig) (app : ℕ) (l : List Told) (call : ACall) (r : AReply)
-            → Stands m c app self.old call l → joined_answer answer items.old ≡ Some r → Fits c l call r
+            → Stands m c app self.old call l → joined_answer answer items.old ≡ Some r → Suits c l call r
             → StandsWith m c app self.new (joined_ask result items.new) (with_told l call r) }
         ensures tells_first { (m : AManner) (c : AConfig) (app : ℕ) → IsNew m c app self.old → joined_answer answer items.old ≡ None
             → TellsWith m c app self.new (joined_ask result items.new) [] }
         ensures tells { (m : AManner) (c : AConfig) (app : ℕ) (l : List Told) (call : ACall) (r : AReply)
-            → Stands m c app self.old call l → joined_answer answer items.old ≡ Some r → Fits c l call r
+            → Stands m c app self.old call l → joined_answer answer items.old ≡ Some r → Suits c l call r
             → TellsWith m c app self.new (joined_ask result items.new) (with_told l call r) }
         ensures resumes { (c : AConfig) (app : ℕ) (start : AppKept) (past : List Told) → IsResumed c app start past self.old → joined_answer answer items.old ≡ None
             → StandsFromWith c app start past self.new (joined_ask result items.new) [] }

@@ -88,11 +88,18 @@ impl<'a> App<'a> {
             tx_done: false,
             manner: Manner::plain(),
             number: 0,
+            classes: config.classes(),
+            shut: None,
+            awaited: 0,
+            cut: [false; 2],
+            begun: false,
+            acked: false,
             turn: Turn {
                 seen: false,
                 gone: false,
                 lanes_empty: true,
                 sides_empty: true,
+                acked: false,
             },
             wait: Wait::Start,
         };

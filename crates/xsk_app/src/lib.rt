@@ -5,6 +5,7 @@
 
 mod app;
 mod back;
+mod closing;
 mod kept;
 mod machine;
 mod mangling;

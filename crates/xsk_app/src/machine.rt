@@ -1,11 +1,14 @@
 //! The application's machine: it makes one call, waits for the reply, and goes on by it.
 //!
 //! ```text
+//! close  LowerCell ──> TellClosing ──> lanes                       cell by cell, where the socket is to be closed, once
 //! lanes  PeekRx ──> ReleaseRx ──> ReserveTx ──> SubmitTx           lane by lane. RX empty: the next lane
 //!                                                                  TX full: the packets stay pending for the next turn
+//!        DrainRx ──> ReleaseDrained                                a closed lane, once the socket is closed
 //! sides  PeekComp ──> ReleaseComp ──> ReserveFill ──> SubmitFill   side by side. COMPLETION empty: the next side
 //!                                         └─<────────────┘         by groups of one home. FILL full: they stay
-//! end    LookRxDone of each side ──> the next turn                 until both have told, and then, where all lanes
+//! end    LookAcked                                                 until the driver has acknowledged the closing; and then
+//!        LookRxDone of each side ──> the next turn                 until both have told, and then, where all lanes
 //!        TellTxDone ──> the next turn                              were empty, once; from then on without lanes
 //!        LookGone of each side ──> the next turn, or Ended         where both had ended as the turn began, sides
 //!                                                                  were empty and nothing is left to give back
@@ -15,19 +18,20 @@
 //!
 //! ```text
 //! SubmitTx, SubmitFill ──> LookNeed ──> Kick    the driver of the ring is woken where the ring's flag is set
+//! TellClosing ──> Kick                          the driver of the socket is woken
 //! TellTxDone ──> Kick ──> Kick                  both drivers are woken
 //! ```
-ghost use Rattle.std.specs.Prelude.{Some, None, ◌≡◌, ◌≢◌, ℕ, ◌+◌, ◌-◌, ◌<◌, ◌≤◌, [], ◌∷◌, IfSome, length, vec_len, map, take, drop};
-ghost use Rattle.xsk_model.specs.Config.{batch_of, pool_of};
+ghost use Rattle.std.specs.Prelude.{Some, None, false, ◌≡◌, ◌≢◌, ℕ, ◌+◌, ◌-◌, ◌<◌, ◌≤◌, [], ◌∷◌, IfSome, length, vec_len, map, take, drop};
+ghost use Rattle.xsk_model.specs.Config.{batch_of, classes_of, pool_of};
 ghost use Rattle.xsk_model.specs.Marks.{apps_of};
 ghost use Rattle.xsk_model.specs.Asks.{joined_call, HasAsked};
 ghost use Rattle.xsk_model.specs.Expected.{CanCome, expected_by, expected_of};
 ghost use Rattle.xsk_model.specs.declared.call.Act.TheVariants as act;
 ghost use Rattle.xsk_model.specs.declared.call.Mark.TheVariants as mark;
 ghost use Rattle.xsk_model.specs.declared.call.Reply.TheVariants as reply;
-ghost use Rattle.xsk_turns.specs.AppTurns.{lanes_of, pair_of};
+ghost use Rattle.xsk_turns.specs.AppTurns.{lanes_of, pair_of, shut_of};
 ghost use Rattle.xsk_turns.specs.Stepping.{joined_ask, joined_answer, IsGivenBack, IsLent};
-ghost use Rattle.xsk_app.specs.Ways.{AreWays, IsGroup, CanGoOn, IsReady, IsReady-prop, first_unset};
+ghost use Rattle.xsk_app.specs.Ways.{AreWays, IsGroup, CanGoOn, socket_in, IsReady, IsReady-prop, first_unset};
 
 use crate::back::Back;
 use crate::mangling::{mangle, round_of};
@@ -39,12 +43,13 @@ use xsk_umem::Batch;
 pub(crate) const SIDES: usize = 2;
 
 /// Where it goes on behind a wake: behind a lane that had packets, with the next frames of a side, with the wake of the second
-/// driver, or with the next turn.
+/// driver, with the lanes, or with the next turn.
 #[derive(Clone, Copy)]
 pub(crate) enum Next {
     Lane { lane: usize },
     Side { side: usize },
     Second,
+    Lanes,
     Turn,
 }
 
@@ -52,6 +57,12 @@ pub(crate) enum Next {
 #[derive(Clone, Copy)]
 pub(crate) enum Wait {
     Start,
+    /// A cell that held the socket is lowered.
+    LowerCell { socket: u32, index: u32 },
+    TellClosing { socket: u32 },
+    /// A closed lane's RX ring, once the socket is closed.
+    DrainRx { lane: usize },
+    ReleaseDrained { lane: usize },
     PeekRx { lane: usize },
     ReleaseRx { lane: usize },
     ReserveTx { lane: usize },
@@ -63,6 +74,7 @@ pub(crate) enum Wait {
     /// The flag of a ring of the pair, whose driver is woken where it is set.
     LookNeed { pair: u32, next: Next },
     Kick { next: Next },
+    LookAcked,
     LookRxDone { side: usize },
     TellTxDone,
     LookGone { side: usize },
@@ -86,6 +98,8 @@ pub(crate) struct Turn {
     pub(crate) gone: bool,
     pub(crate) lanes_empty: bool,
     pub(crate) sides_empty: bool,
+    /// Whether the closing was acknowledged.
+    pub(crate) acked: bool,
 }
 
 /// The application's machine. It makes turns: it moves packets along the lanes, gives frames back, and looks for its
@@ -105,6 +119,15 @@ pub(crate) struct Machine<'a> {
     pub(crate) manner: Manner,
     /// That of the next item that it submits on TX, counted round, where it changes items.
     pub(crate) number: u64,
+    pub(crate) classes: u32,
+    /// The socket that it is to close, if any, and how many items it awaits on its RX ring before it does.
+    pub(crate) shut: Option<u32>,
+    pub(crate) awaited: u32,
+    /// For each side whether the packet of the last item that its closed lane received goes on.
+    pub(crate) cut: [bool; 2],
+    /// Whether it has closed the socket, and whether the driver has acknowledged that.
+    pub(crate) begun: bool,
+    pub(crate) acked: bool,
     pub(crate) turn: Turn,
     pub(crate) wait: Wait,
     ghost pooled: { 1 ≤ pool_of config.now },
@@ -118,13 +141,15 @@ pub(crate) struct Machine<'a> {
     ghost lanes: { length pending.items ≡ lanes_of config.now },
     ghost sides: { length backs.items ≡ 2 },
     ghost numbered: { number < 1099511627776 },
+    ghost classes_are: { classes ≡ classes_of config.now },
+    ghost shut_is: { shut ≡ socket_in (shut_of config.now app) },
     ghost ready: { IsReady config.now pending.items backs.items wait } by { IsReady-prop config.now pending.items backs.items wait },
 }
 
 impl<'a> Machine<'a> {
     ghost use Rattle.xsk_app.specs.Waits.{expects, IsBare};
     ghost use Rattle.xsk_app.specs.declared.machine.Wait.TheVariants as wait;
-    ghost use Rattle.xsk_turns.specs.AppTurns.{tx_of, tx_pair, given_on, passed_on, kick, wake, wake_both, pass_on, receive_lane, visit_lane, visit_lanes, give_back, complete_side, visit_side, back_at, pending_at, with_back, with_seen, with_gone, look_rx_done, look_gone, tell_tx_done, end_or_look, end_turn, turn_sides};
+    ghost use Rattle.xsk_turns.specs.AppTurns.{tx_of, tx_pair, given_on, passed_on, kick, wake, wake_both, pass_on, receive_lane, visit_lane, visit_lanes, noted_first, turn_lanes, end_by, drains, give_back, complete_side, visit_side, back_at, pending_at, with_back, with_seen, with_gone, look_rx_done, look_gone, tell_tx_done, end_or_look, turn_sides};
     ghost use Rattle.xsk_app.specs.Stands.{GoesOn, to_do, doing, by_reply, IsSame, HasSameRest, noted_by, kept_by, from_lane, after_full_lane, from_side, after_full_side, after_group, after, wake_by, told_tx_done};
     ghost use Rattle.xsk_turns.specs.Script.{again};
 
@@ -139,6 +164,8 @@ impl<'a> Machine<'a> {
         ensures given_back { IsGivenBack result items.new }
     {
         match self.wait {
+            Wait::DrainRx { lane } => self.go_on_from_closed(lane, answer, items),
+            Wait::ReleaseDrained { lane } => self.go_on_full_lane(lane),
             Wait::PeekRx { lane } => self.go_on_from_rx(lane, answer, items),
             Wait::ReserveTx { lane } => self.go_on_at_tx(lane, answer, items),
             Wait::SubmitTx { lane } => self.wake_lane(lane),
@@ -155,7 +182,13 @@ impl<'a> Machine<'a> {
                 _ => unreachable!(),
             },
             Wait::Kick { next } => self.go_on_behind(next),
+            Wait::LookAcked => match answer {
+                Some(Answer::Old(acked)) => self.learn_acked(acked),
+                _ => unreachable!(),
+            },
             Wait::Start
+            | Wait::LowerCell { .. }
+            | Wait::TellClosing { .. }
             | Wait::ReleaseRx { .. }
             | Wait::LookRxDone { .. }
             | Wait::TellTxDone
@@ -175,6 +208,8 @@ impl<'a> Machine<'a> {
     {
         match self.wait {
             Wait::Start => self.begin(),
+            Wait::LowerCell { socket, index } => self.lower_from(socket, index + 1),
+            Wait::TellClosing { socket } => self.go_on_closed(socket),
             Wait::ReleaseRx { lane } => self.reserve_tx(lane),
             Wait::LookRxDone { side } => match answer {
                 Some(Answer::Old(done)) => self.learn_rx_done(side, done),
@@ -274,28 +309,57 @@ impl<'a> Machine<'a> {
         }
     }
 
-    /// Begins a turn: with the first lane, or the first side where nothing more is sent.
-    fn begin(&mut self) -> Ask
+    /// Begins a turn: with the first side where nothing more is sent, and else with the first lane, before which the socket is
+    /// closed where that is due.
+    pub(crate) fn begin(&mut self) -> Ask
         ensures expected { expects self.new.wait ≡ expected_by (joined_call result []) }
         ensures goes { GoesOn self.old.config.now self.old.app self.new (act.Call (joined_call result [])) (again (kept_by self.old)) }
         ensures same { IsSame self.old self.new }
     {
-        self.turn = Turn {
+        if self.tx_done {
+            return self.begin_sides();
+        }
+        match self.shut {
+            Some(socket) => self.begin_closing(socket),
+            None => self.begin_lanes(),
+        }
+    }
+
+    /// What is so as a turn begins.
+    fn first_turn(&self) -> Turn
+        ensures { noted_by result ≡ noted_first (kept_by self.now) }
+    {
+        Turn {
             seen: self.seen[0] && self.seen[1],
             gone: self.gone[0] && self.gone[1],
             lanes_empty: true,
             sides_empty: true,
-        };
-        if self.tx_done {
-            self.open_side(0)
-        } else {
-            self.open_lane(0)
+            acked: self.acked,
         }
     }
 
+    fn begin_sides(&mut self) -> Ask
+        ensures expected { expects self.new.wait ≡ expected_by (joined_call result []) }
+        ensures goes { doing self.old.config.now self.old.app self.new (act.Call (joined_call result [])) ≡ turn_sides self.old.config.now self.old.app (noted_first (kept_by self.old)) (kept_by self.old) }
+        ensures same { IsSame self.old self.new }
+    {
+        self.turn = self.first_turn();
+        self.open_side(0)
+    }
+
+    pub(crate) fn begin_lanes(&mut self) -> Ask
+        ensures expected { expects self.new.wait ≡ expected_by (joined_call result []) }
+        ensures goes { GoesOn self.old.config.now self.old.app self.new (act.Call (joined_call result [])) (turn_lanes self.old.config.now self.old.app (kept_by self.old)) }
+        ensures same { IsSame self.old self.new }
+    {
+        self.turn = self.first_turn();
+        self.open_lane(0)
+    }
+
     /// Peeks the lane's RX ring, or asks for places on its TX ring where packets are pending.
-    fn open_lane(&mut self, lane: usize) -> Ask
-        requires { lane < vec_len self.old.pending }
+    pub(crate) fn visit_lane(&mut self, lane: usize) -> Ask
+        requires lane { lane < vec_len self.old.pending }
+        requires other { drains self.old.config.now self.old.app lane (kept_by self.old) ≡ false }
         ensures expected { expects self.new.wait ≡ expected_by (joined_call result []) }
         ensures goes { doing self.old.config.now self.old.app self.new (act.Call (joined_call result [])) ≡ from_lane self.old.config.now self.old.app lane (noted_by self.old.turn) (kept_by self.old) }
         ensures same { IsSame self.old self.new }
@@ -308,7 +372,7 @@ impl<'a> Machine<'a> {
         }
     }
 
-    fn go_to_lane(&mut self, lane: usize) -> Option<Ask>
+    pub(crate) fn go_to_lane(&mut self, lane: usize) -> Option<Ask>
         ensures expected { expects self.new.wait ≡ expected_of (joined_ask result []) }
         ensures goes { GoesOn self.old.config.now self.old.app self.new (joined_ask result []) (from_lane self.old.config.now self.old.app lane (noted_by self.old.turn) (kept_by self.old)) }
         ensures same { IsSame self.old self.new }
@@ -321,7 +385,7 @@ impl<'a> Machine<'a> {
     }
 
     /// Goes on behind a lane that had packets.
-    fn go_on_full_lane(&mut self, lane: usize) -> Option<Ask>
+    pub(crate) fn go_on_full_lane(&mut self, lane: usize) -> Option<Ask>
         requires { lane < vec_len self.old.pending }
         ensures expected { expects self.new.wait ≡ expected_of (joined_ask result []) }
         ensures goes { GoesOn self.old.config.now self.old.app self.new (joined_ask result []) (after_full_lane self.old.config.now self.old.app lane (noted_by self.old.turn) (kept_by self.old)) }
@@ -341,9 +405,11 @@ impl<'a> Machine<'a> {
         ensures given_back { IsGivenBack result items.new }
     {
         let count = items.len();
+        let rx = self.ways[lane].rx;
         self.wait = Wait::ReleaseRx { lane };
         self.pending[lane].append(items);
-        Some(Ask::Release(Ring::Rx(self.ways[lane].rx), count))
+        self.note_received(lane);
+        Some(Ask::Release(Ring::Rx(rx), count))
     }
 
     /// Asks for places on the lane's TX ring.
@@ -468,7 +534,7 @@ impl<'a> Machine<'a> {
     }
 
     /// Wakes the pair's driver.
-    fn kick(&mut self, pair: u32, next: Next) -> Ask
+    pub(crate) fn kick(&mut self, pair: u32, next: Next) -> Ask
         requires { CanGoOn self.old.pending.items next }
         ensures expected { expects self.new.wait ≡ expected_by (joined_call result []) }
         ensures goes { GoesOn self.old.config.now self.old.app self.new (act.Call (joined_call result [])) (kick pair (kept_by self.old) (after self.old.config.now self.old.app next (noted_by self.old.turn) (kept_by self.old))) }
@@ -489,6 +555,7 @@ impl<'a> Machine<'a> {
             Next::Lane { lane } => self.go_on_full_lane(lane),
             Next::Side { side } => self.give_back(side),
             Next::Second => Some(self.kick(self.pairs[1], Next::Turn)),
+            Next::Lanes => Some(self.begin_lanes()),
             Next::Turn => Some(self.begin()),
         }
     }
@@ -598,9 +665,9 @@ impl<'a> Machine<'a> {
     }
 
     /// Ends a turn, by the facts as they are now.
-    fn end_turn(&mut self) -> Option<Ask>
+    pub(crate) fn end_by_facts(&mut self) -> Option<Ask>
         ensures expected { expects self.new.wait ≡ expected_of (joined_ask result []) }
-        ensures goes { GoesOn self.old.config.now self.old.app self.new (joined_ask result []) (end_turn self.old.config.now self.old.app (noted_by self.old.turn) (kept_by self.old)) }
+        ensures goes { GoesOn self.old.config.now self.old.app self.new (joined_ask result []) (end_by self.old.config.now self.old.app (noted_by self.old.turn) (kept_by self.old)) }
         ensures same { IsSame self.old self.new }
     {
         if self.tx_done {
@@ -640,13 +707,15 @@ impl<'a> Machine<'a> {
         self.look_rx_done(side + 1)
     }
 
-    /// Tells that nothing more is sent, where both sides were seen as the turn began and each lane was empty in it.
+    /// Tells that nothing more is sent, where both sides were seen as the turn began and each lane was empty in it; and where it
+    /// has closed a socket, only if that was acknowledged as the turn began.
     fn end_sending(&mut self) -> Ask
         ensures expected { expects self.new.wait ≡ expected_by (joined_call result []) }
         ensures goes { GoesOn self.old.config.now self.old.app self.new (act.Call (joined_call result [])) (tell_tx_done self.old.config.now self.old.app (noted_by self.old.turn) (kept_by self.old)) }
         ensures same { IsSame self.old self.new }
     {
-        if self.turn.seen && self.turn.lanes_empty {
+        let acked = !self.begun || self.turn.acked;
+        if self.turn.seen && self.turn.lanes_empty && acked {
             self.wait = Wait::TellTxDone;
             Ask::Swap(Mark::TxDone(self.app), 1)
         } else {

@@ -16,13 +16,13 @@ invariant_of-machine c =
     let few : c.batch.result ≤ 32 = omega (arith, c.batch.ensures, batch_few k) in
     let count : length c.in_ok-new_ways.field-0.items ≡ 2 * c.classes-classes.result = search rules in
     let ways : AreWays k c.args.app c.in_ok-new_ways.field-0.items =
-    ways_from k c.args.app d0 d1 c.classes-classes.result c.in_ok-new_ways.field-0.items first second c.classes-classes.ensures c.requires.steady.regular.classes
+    ways_from k c.args.app d0 d1 c.classes-classes.result c.in_ok-new_ways.field-0.items first second c.classes-classes.ensures c.requires.regular.classes
     count (λ lane d h. c.in_ok-new_ways.ensures.ways lane d (omega (arith, h, count, c.in_ok-new_ways.ensures.count))) in
     let lanes : length c.in_ok-new_pending.field-0.items ≡ lanes_of k = search rules in
     let sides : length c.in_ok-new_backs.field-0.items ≡ 2 = search rules in
     record {
-      pooled = c.requires.steady.regular.lawful.some;
-      classed = omega (arith, c.requires.steady.regular.classes);
+      pooled = c.requires.regular.lawful.some;
+      classed = omega (arith, c.requires.regular.classes);
       known = c.requires.app;
       some = some;
       few = few;
@@ -32,5 +32,7 @@ invariant_of-machine c =
       lanes = lanes;
       sides = sides;
       numbered = omega arith;
+      classes_are = c.classes-classes.ensures;
+      shut_is = c.shut_on.ensures;
       ready = tt;
     }

@@ -1,6 +1,7 @@
-use Rattle.std.proofs.Common.{rules, arith, ◌≡◌, ◌*◌, ◌≤◌, length}
+use Rattle.std.proofs.Common.{rules, arith, ◌≡◌, ◌*◌, ◌≤◌, length, sym, ap}
 use Rattle.xsk_turns.specs.AppTurns.{pair_of, lanes_of}
-use Rattle.xsk_app.specs.Ways.{AreWays}
+use Rattle.xsk_app.specs.Ways.{AreWays, socket_in}
+use Rattle.xsk_turns.proofs.AppShut.{no_shut}
 use Rattle.xsk_turns.proofs.Places.{batch_few, batch_some}
 use Rattle.xsk_app.proofs.Fresh.{ways_from, both_pairs}
 use Rattle.xsk_app.proofs.app.App.resume.Goals as goal
@@ -31,5 +32,7 @@ invariant_of-machine c =
       lanes = lanes;
       sides = sides;
       numbered = omega arith;
+      classes_are = c.classes-2.ensures;
+      shut_is = sym (ap socket_in (no_shut k app c.requires.steady.closes));
       ready = tt;
     }

@@ -1,4 +1,4 @@
-use Rattle.std.proofs.Common.{rules, arith, sym, ap, ◌<◌, length}
+use Rattle.std.proofs.Common.{rules, sym, ap, ◌<◌, length}
 use Rattle.xsk_turns.specs.Turns.{frame_in}
 use Rattle.xsk_app.proofs.Taking.{take_same, take_more, take_full}
 use Rattle.xsk_app.proofs.back.Back.add.Goals as goal
