@@ -16,5 +16,12 @@ pub mod Losing
 pub mod Bounced
 pub mod Waking
 pub mod WakingEnd
+pub mod WakingClosing
 pub mod Woken
 pub mod Altered
+pub mod ClosedRing
+pub mod Closed
+pub mod ComingHome
+pub mod CutDriver
+pub mod CutApp
+pub mod Cut

@@ -24,8 +24,8 @@ use Rattle.xsk_turns.proofs.DriverWalk.{Family, IsTried, told_rx_done, told_boun
 use Rattle.xsk_turns.proofs.Disposing.{IsOver, over_later, disposes_all}
 use Rattle.xsk_turns.proofs.Saying.{in-untried, in-bounced, to_none, to_some, to_tried}
 use Rattle.xsk_model.proofs.Seats.{IsAt, is_at}
-use Rattle.xsk_model.proofs.Theorems.{own_entries}
-use Rattle.xsk_turns.proofs.Owning.{all_fit, redirect_here}
+use Rattle.xsk_turns.proofs.Fitting.{fit_in_history}
+use Rattle.xsk_turns.proofs.Owning.{redirect_here}
 use Rattle.xsk_laws.specs.Expected.{received_judged, is_redirected}
 use Rattle.xsk_laws.specs.Laws.{AreWholeRunsBy}
 use Rattle.xsk_laws.proofs.Filters.{IsBoundTo, seat_at, is_fit, to_fit, delivered_is}
@@ -224,7 +224,7 @@ module _ (hands : ℕ) (manner : Manner) (wire : Wire) (c : Config) (lists : Lis
   pub fair : AreFair c e (seat_at wire c e p q) input (disposals_on wire c h lists verdicts p q)
   fair =
       subst (λ (x : Seat). AreFair c e x input (disposals_on wire c h lists verdicts p q)) (seat_is wire c p q 0 e (socket_on c p q 0) at)
-      (disposed_fairly wire c e input (own e h) run.steady.closes (all_fit c e [] (own e h) (own_entries c frames h e run.history)) whole)
+      (disposed_fairly wire c e input (own e h) run.steady.closes (fit_in_history c frames h e run.history) whole)
 
   pub delivered_as_expected : (k : ℕ) → k < classes_of c
       → with_disposal (socket_on c p q k) input (disposals_on wire c h lists verdicts p q) ≡ bytes_in (filter (is_redirected c p q k) (unlost input (disposals_on wire c h lists verdicts p q)))

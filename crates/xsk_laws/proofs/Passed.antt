@@ -20,7 +20,7 @@ use Rattle.xsk_model.proofs.Theorems.{in_order, items_by_own}
 use Rattle.xsk_laws.proofs.Emptied.{has_mark, emptied}
 
 -- all rings but FILL are empty at the opening
-opening_empty : (c : Config) (frames : List Frame) (r : Ring) → length c.pairs ≤ place c r → (ring_at c (opening c frames) r).out ≡ []
+pub opening_empty : (c : Config) (frames : List Frame) (r : Ring) → length c.pairs ≤ place c r → (ring_at c (opening c frames) r).out ≡ []
 opening_empty c frames r h =
     ap (λ (x : RingState). x.out)
     (get_or-blanks (home_rings c.geometry (pool_of c) (length c.pairs) frames) (length c.pairs + 2 * length c.sockets) (place c r) empty_ring

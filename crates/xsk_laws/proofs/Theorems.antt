@@ -3,24 +3,30 @@ use Rattle.std.proofs.Common.{◌≡◌, ℕ, ◌+◌, ◌*◌, ◌<◌, ◌≤�
 use Rattle.xsk_umem.specs.Frame.{Frame}
 use Rattle.xsk_umem.specs.PacketList.{PacketList}
 use Rattle.xsk_model.specs.Config.{Config, IsConfig, pair_at, classes_of}
+use Rattle.xsk_model.specs.Rings.{caller_of}
 use Rattle.xsk_model.specs.Entry.{Entry, own}
 use Rattle.xsk_model.specs.Sent.{sockets_from, sockets_of, sent_from, sent, sent_by, bounced_of, all_sent_from, all_sent}
 use Rattle.xsk_model.specs.Steering.{paired_port, driver_on, socket_on}
 use Rattle.xsk_prog.specs.declared.rule.Verdict.{Verdict}
 use Rattle.xsk_turns.specs.Turns.{Judged, seat_of, IsWholeDriverRun}
+use Rattle.xsk_turns.specs.AppOwned.{IsApp}
+use Rattle.xsk_turns.specs.AppTurns.{app_turn, app_start_by}
+use Rattle.xsk_turns.proofs.AppLanes.{lanes_in_order}
+use Rattle.xsk_turns.proofs.ScriptLemmas.{whole_run}
 use Rattle.xsk_turns.specs.Disposals.{attempts_of, disposals_of, with_disposal}
 use Rattle.xsk_turns.specs.declared.disposal.Disposal.{Disposal}
 use Rattle.xsk_turns.specs.declared.manner.Manner.{Manner}
 use Rattle.xsk_turns.specs.declared.wire.Wire.{Wire}
 use Rattle.xsk_laws.specs.Expected.{received, received_judged, expected, bounced_on}
 use Rattle.xsk_laws.specs.Forwarded.{forwarded}
+use Rattle.xsk_laws.specs.Closed.{FirstAreSent}
 use Rattle.xsk_laws.specs.Laws.{AreWholeRunsBy, AreOfClasses, SentIsForwarded, SentIsExpected, BouncedAsSaid, OnlyCompleted, AllAreForwarded, NothingElseIsSent, CompletedAreForwarded, CompletedAreExpected, AllIsForwarded, AllIsExpected, AllAreBoth, SentIsWithin, LeavesOnce, AllIsWithin}
 use Rattle.xsk_model.proofs.Seats.{IsAt, is_at}
 use Rattle.xsk_laws.proofs.Machines.{workers}
-use Rattle.xsk_laws.proofs.Joined.{input_is, sent_forwarded, sent_fewer, sent_expected}
+use Rattle.xsk_laws.proofs.Joined.{input_is, ended_runs, one as app_in, sent_forwarded, sent_first, sent_fewer, sent_expected}
 use Rattle.xsk_laws.proofs.Altered.{IsMeasured, counts, sizes}
 use Rattle.xsk_laws.proofs.Filters.{seat_at}
-use Rattle.xsk_laws.proofs.Places.{are_paired, paired_twice}
+use Rattle.xsk_laws.proofs.Places.{are_paired, paired_twice, app_on, lane_on, lane_below}
 use Rattle.xsk_laws.proofs.Losing.{fair}
 use Rattle.xsk_laws.proofs.Totals.{total, total-one, total-bytes, run_of, judged_within, sent_few}
 use Rattle.xsk_laws.proofs.Sockets.{sockets_are}
@@ -29,10 +35,18 @@ use Rattle.xsk_laws.proofs.Bounced.{nothing_of, total-sent, leaving_within, none
 use Rattle.xsk_model.proofs.Closings.{all_completed}
 
 pub sent_is_forwarded : SentIsForwarded
-sent_is_forwarded hands manner wire c lists verdicts frames h port queue class none run place = sent_forwarded workers hands manner wire c lists verdicts frames h port queue class run place none
+sent_is_forwarded hands manner wire c lists verdicts frames h port queue class none run place = sent_forwarded workers hands manner wire c lists verdicts frames h port queue class (ended_runs hands manner wire c lists verdicts frames h run) place run.steady.closes none
 
 pub sent_is_expected : SentIsExpected
-sent_is_expected hands manner wire c lists verdicts frames h port queue class none waits run place = sent_expected workers hands manner wire c lists verdicts frames h port queue class run place none waits
+sent_is_expected hands manner wire c lists verdicts frames h port queue class none waits run place = sent_expected workers hands manner wire c lists verdicts frames h port queue class (ended_runs hands manner wire c lists verdicts frames h run) place run.steady.closes none waits
+
+-- with a socket that is closed, the first packets
+pub first_are_sent : FirstAreSent
+first_are_sent m wire c lists verdicts frames h port queue class none run place =
+    let one : IsApp c (app_on c port queue) = app_in workers 1 m wire c lists verdicts frames h port queue class run place in
+    sent_first workers 1 m wire c lists verdicts frames h port queue class run place
+    (lanes_in_order m c (app_on c port queue) (own (caller_of c (app_on c port queue)) h) (lane_on c (paired_port port) class) none one
+    (whole_run (app_turn c (app_on c port queue)) (app_start_by m c) (own (caller_of c (app_on c port queue)) h) (run.apps (app_on c port queue) one.known)) (lane_below c (paired_port port) class place.in_classes))
 
 -- ---- all sockets of a queue
 
@@ -83,7 +97,7 @@ module _ (hands : ℕ) (manner : Manner) (wire : Wire) (c : Config) (lists : Lis
   within : (f : List ℕ → ℕ) → IsMeasured f → total f (sent c h d) + total f (bounced_on c lists verdicts (paired_port p) q) ≤ total f (received c lists (paired_port p) q)
   within f is =
       let each : (k : ℕ) → k < classes_of c → total f (sent_from c ((d * classes_of c + k) ∷ []) [] (own d h)) ≤ total f (with_disposal (e * classes_of c + k) input ds) =
-      λ k class. sent_fewer workers hands manner wire c lists verdicts frames h p q k run (record { in_ports = port; in_queues = queue; in_classes = class }) f is in
+      λ k class. sent_fewer workers hands manner wire c lists verdicts frames h p q k (ended_runs hands manner wire c lists verdicts frames h run) (record { in_ports = port; in_queues = queue; in_classes = class }) run.steady.closes f is in
       let few = sent_few f c (own d h) input ds (d * classes_of c) (e * classes_of c) (classes_of c) 0 (classes_of c) (omega arith) each in
       let start : d * classes_of c + 0 ≡ d * classes_of c = omega arith in
       let all : total f (sent c h d) ≡ total f (sent_from c (run_of (d * classes_of c + 0) (classes_of c)) [] (own d h)) =
@@ -133,32 +147,32 @@ only_completed rules c lists verdicts h p q none meet =
 pub all_are_forwarded : AllAreForwarded
 all_are_forwarded hands manner wire c lists verdicts frames h p q none run port queue =
     sorted_all hands manner wire c lists verdicts frames h p q run port queue (forwarded wire c h lists verdicts p q)
-    (λ k class. sent_forwarded workers hands manner wire c lists verdicts frames h p q k run (record { in_ports = port; in_queues = queue; in_classes = class }) none)
+    (λ k class. sent_forwarded workers hands manner wire c lists verdicts frames h p q k (ended_runs hands manner wire c lists verdicts frames h run) (record { in_ports = port; in_queues = queue; in_classes = class }) run.steady.closes none)
 
 pub nothing_else_is_sent : NothingElseIsSent
 nothing_else_is_sent hands manner wire c lists verdicts frames h p q none waits run port queue =
     sorted_all hands manner wire c lists verdicts frames h p q run port queue (expected c lists verdicts p q)
-    (λ k class. sent_expected workers hands manner wire c lists verdicts frames h p q k run (record { in_ports = port; in_queues = queue; in_classes = class }) none waits)
+    (λ k class. sent_expected workers hands manner wire c lists verdicts frames h p q k (ended_runs hands manner wire c lists verdicts frames h run) (record { in_ports = port; in_queues = queue; in_classes = class }) run.steady.closes none waits)
 
 pub completed_are_forwarded : CompletedAreForwarded
 completed_are_forwarded hands manner wire c lists verdicts frames h p q none run port queue =
     sorted_completed hands manner wire c lists verdicts frames h p q run port queue (forwarded wire c h lists verdicts p q)
-    (λ k class. sent_forwarded workers hands manner wire c lists verdicts frames h p q k run (record { in_ports = port; in_queues = queue; in_classes = class }) none)
+    (λ k class. sent_forwarded workers hands manner wire c lists verdicts frames h p q k (ended_runs hands manner wire c lists verdicts frames h run) (record { in_ports = port; in_queues = queue; in_classes = class }) run.steady.closes none)
 
 pub completed_are_expected : CompletedAreExpected
 completed_are_expected hands manner wire c lists verdicts frames h p q none waits run port queue =
     sorted_completed hands manner wire c lists verdicts frames h p q run port queue (expected c lists verdicts p q)
-    (λ k class. sent_expected workers hands manner wire c lists verdicts frames h p q k run (record { in_ports = port; in_queues = queue; in_classes = class }) none waits)
+    (λ k class. sent_expected workers hands manner wire c lists verdicts frames h p q k (ended_runs hands manner wire c lists verdicts frames h run) (record { in_ports = port; in_queues = queue; in_classes = class }) run.steady.closes none waits)
 
 pub all_is_forwarded : AllIsForwarded
 all_is_forwarded hands manner wire c lists verdicts frames h p q none run port queue one =
     only_sent hands manner wire c lists verdicts frames h p q run port queue one
-    ∙ sent_forwarded workers hands manner wire c lists verdicts frames h p q 0 run (record { in_ports = port; in_queues = queue; in_classes = omega (arith, one) }) none
+    ∙ sent_forwarded workers hands manner wire c lists verdicts frames h p q 0 (ended_runs hands manner wire c lists verdicts frames h run) (record { in_ports = port; in_queues = queue; in_classes = omega (arith, one) }) run.steady.closes none
 
 pub all_is_expected : AllIsExpected
 all_is_expected hands manner wire c lists verdicts frames h p q none waits run port queue one =
     only_sent hands manner wire c lists verdicts frames h p q run port queue one
-    ∙ sent_expected workers hands manner wire c lists verdicts frames h p q 0 run (record { in_ports = port; in_queues = queue; in_classes = omega (arith, one) }) none waits
+    ∙ sent_expected workers hands manner wire c lists verdicts frames h p q 0 (ended_runs hands manner wire c lists verdicts frames h run) (record { in_ports = port; in_queues = queue; in_classes = omega (arith, one) }) run.steady.closes none waits
 
 pub all_are_both : AllAreBoth
 all_are_both hands manner wire c lists verdicts frames h p q run port queue =

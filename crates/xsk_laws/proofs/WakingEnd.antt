@@ -29,12 +29,12 @@ pub record IsEnding (c : Config) (d w a : ℕ) : Type 0 where
   pub wakes : (who : ℕ) → IsMarkOwner c who (Kick d) → (who ≡ d → ⊥) → who ≡ w
 
 -- the end is owed still, and newly
-owes_still : (b o x y : Bool) → o ≡ true → y ≡ false → cond b ((o || x) && not y) o ≡ true
+pub owes_still : (b o x y : Bool) → o ≡ true → y ≡ false → cond b ((o || x) && not y) o ≡ true
 owes_still true true x y e f = ap not f
 owes_still true false x y e f = absurd (cc)
 owes_still false o x y e f = e
 
-owes_now : (b o x y : Bool) → b ≡ true → x ≡ true → y ≡ false → cond b ((o || x) && not y) o ≡ true
+pub owes_now : (b o x y : Bool) → b ≡ true → x ≡ true → y ≡ false → cond b ((o || x) && not y) o ≡ true
 owes_now true true x y e f g = ap not g
 owes_now true false true y e f g = ap not g
 owes_now true false false y e f g = f

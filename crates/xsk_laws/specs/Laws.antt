@@ -6,7 +6,7 @@ use Rattle.std.specs.List.{concat, filter, slice_index_or}
 use Rattle.std.specs.Option.{is_none}
 use Rattle.xsk_umem.specs.Frame.{Frame}
 use Rattle.xsk_umem.specs.PacketList.{PacketList}
-use Rattle.xsk_model.specs.Config.{Config, IsConfig, pair_at, map_of, classes_of}
+use Rattle.xsk_model.specs.Config.{Config, IsConfig, IsRegular, pair_at, map_of, classes_of}
 use Rattle.xsk_model.specs.Rings.{caller_of}
 use Rattle.xsk_model.specs.Marks.{apps_of}
 use Rattle.xsk_model.specs.Entry.{Entry, own}
@@ -32,8 +32,15 @@ use Rattle.xsk_laws.specs.Forwarded.{forwarded}
 abbrev pub received_by : Config → List PacketList → List (List Verdict) → ℕ → List Judged
 received_by c lists verdicts d = judged (received c lists (pair_at c.pairs d).port (pair_at c.pairs d).queue) (slice_index_or verdicts d [])
 
--- a history of a regular configuration in which no socket is closed, that all workers have run to their ends: the own entries of each driver are a whole
--- run over what it receives, with this wire, and so are those of each application, with this manner, made by so many hands
+-- a history of a regular configuration that all workers have run to their ends: the own entries of each driver are a whole run over what it
+-- receives, with this wire, and so are those of each application, with this manner, made by so many hands
+pub record AreEndedRunsBy (hands : ℕ) (manner : Manner) (wire : Wire) (c : Config) (lists : List PacketList) (verdicts : List (List Verdict)) (frames : List Frame) (h : List Entry) : Type 0 where
+  pub regular : IsRegular c
+  pub history : IsHistory c frames h
+  pub drivers : (d : ℕ) → d < length c.pairs → IsWholeDriverRun wire c d (received_by c lists verdicts d) (own d h)
+  pub apps : (a : ℕ) → a < apps_of c → IsWholeAppRunOf hands manner c a (own (caller_of c a) h)
+
+-- and one in which no socket is closed
 pub record AreWholeRunsBy (hands : ℕ) (manner : Manner) (wire : Wire) (c : Config) (lists : List PacketList) (verdicts : List (List Verdict)) (frames : List Frame) (h : List Entry) : Type 0 where
   pub steady : IsSteady c
   pub history : IsHistory c frames h

@@ -1,3 +1,5 @@
+pub mod Closed
+pub mod Cut
 pub mod Expected
 pub mod Forwarded
 pub mod Laws

@@ -3,7 +3,7 @@
 use Rattle.std.specs.Prelude.{ℕ, ◌<◌, List, ◌++◌, length}
 use Rattle.xsk_umem.specs.Frame.{Frame}
 use Rattle.xsk_umem.specs.PacketList.{PacketList}
-use Rattle.xsk_model.specs.Config.{Config, callers_of}
+use Rattle.xsk_model.specs.Config.{Config, IsRegular, callers_of}
 use Rattle.xsk_model.specs.Entry.{Entry, own}
 use Rattle.xsk_model.specs.History.{IsHistory}
 use Rattle.xsk_prog.specs.declared.rule.Verdict.{Verdict}
@@ -26,9 +26,9 @@ abbrev pub NoWakesAreLost : Type 0
 NoWakesAreLost = (s : Setting) (frames : List Frame) (h more : List Entry) (d : ℕ) → AreWorkerRuns s frames (h ++ more) → d < length s.config.pairs
     → NoWakeIsLost s.config frames h d
 
--- So it is by any number of hands: then the entries of an application are a run by so many.
+-- So it is by any number of hands, and where a socket is to be closed: then the entries of an application are a run by so many.
 pub record AreRunsByHands (hands : ℕ) (s : Setting) (frames : List Frame) (h : List Entry) : Type 0 where
-  pub steady : IsSteady s.config
+  pub regular : IsRegular s.config
   pub history : IsHistory s.config frames h
   pub runs : (who : ℕ) → who < callers_of s.config → IsRunOf hands s who (own who h)
 

@@ -1,7 +1,9 @@
 //! The laws of all workers' runs, each the contract of a function that does nothing. They are stated in `specs/Laws.antt`
-//! and `specs/Lost.antt`, of whole runs, and in `specs/Woken.antt`, of all runs.
+//! and `specs/Lost.antt`, of whole runs, in `specs/Woken.antt`, of all runs, and in `specs/Closed.antt`, of a socket that is closed.
 
 ghost use Rattle.xsk_laws.specs.Laws.{SentIsForwarded, SentIsExpected, BouncedAsSaid, OnlyCompleted, AllAreForwarded, NothingElseIsSent, CompletedAreForwarded, CompletedAreExpected, AllIsForwarded, AllIsExpected, NoneAreStranded, AllAreBoth, SentIsWithin, LeavesOnce, AllIsWithin, ExpectedIsOther};
+ghost use Rattle.xsk_laws.specs.Closed.{NothingBehindClosing, ClosedIsEmpty, AllComeHome, FirstAreSent};
+ghost use Rattle.xsk_laws.specs.Cut.{NothingIsCut, SentIsForwardedUntil, SentIsExpectedUntil};
 ghost use Rattle.xsk_laws.specs.Lost.{ForwardedIsUnlost, OnlyRedirectedAreLost};
 ghost use Rattle.xsk_laws.specs.Woken.{NoWakesAreLost, NoHandLosesWakes, NoneIsLostInWholeRuns};
 
@@ -111,4 +113,43 @@ pub fn no_hand_loses_wakes()
 /// So it is after each prefix of a history in which all workers have run to their ends.
 pub fn none_is_lost_in_whole_runs()
     ensures { NoneIsLostInWholeRuns }
+{}
+
+/// In every legal history nothing is submitted on a socket's RX ring behind the acknowledgement that it is closed, and nothing on its
+/// TX ring behind the closing.
+pub fn nothing_behind_closing()
+    ensures { NothingBehindClosing }
+{}
+
+/// Where an application has closed a socket and run to its end, nothing stands in the socket's RX ring, and nothing is held of it.
+pub fn closed_is_empty()
+    ensures { ClosedIsEmpty }
+{}
+
+/// At its end an application has submitted each frame that it took, on a TX ring or on the frame's home FILL ring: so what it took on the
+/// lanes of a socket that it closed has come home.
+pub fn all_come_home()
+    ensures { AllComeHome }
+{}
+
+/// Whatever socket is closed, what a driver sent by the socket of a class is the first of what was delivered to the paired socket: as many
+/// packets as its application passed on whole. Where none is closed they are all.
+pub fn first_are_sent()
+    ensures { FirstAreSent }
+{}
+
+/// Where no socket is to be closed no lane is cut.
+pub fn nothing_is_cut()
+    ensures { NothingIsCut }
+{}
+
+/// Where one is, what a driver sent by the socket of a class is what the driver of the paired port delivered to the paired socket: on the
+/// two lanes of the socket that was closed the first packets, as many as the application passed on.
+pub fn sent_is_forwarded_until()
+    ensures { SentIsForwardedUntil }
+{}
+
+/// And where the wire waits it is what is expected there, on these lanes the first so many.
+pub fn sent_is_expected_until()
+    ensures { SentIsExpectedUntil }
 {}
