@@ -1,6 +1,6 @@
 -- Why an application whose calls change nothing stays as it is: in each turn of them every lane and every side is empty or lacks
 -- room, the second turn knows what the drivers told, and the third would tell or end.
-use Rattle.std.proofs.Common.{◌≡◌, ◌≢◌, ◌⊎◌, inl, inr, ℕ, zero, suc, ◌+◌, ◌*◌, ◌/◌, ◌<◌, ◌≤◌, Bool, true, false, cond, not, eqb, nat_le, ◌&&◌, List, [], ◌∷◌, ◌++◌, length, set, refl, sym, ap, ◌∙◌, subst, ⊎_elim, arith, length-append, length-set, get_or-set_same, get_or-set_other, All, leb-false, eq-eqb}
+use Rattle.std.proofs.Common.{◌≡◌, ◌≢◌, ◌⊎◌, inl, inr, ℕ, zero, suc, ◌+◌, ◌*◌, ◌/◌, ◌<◌, ◌≤◌, Bool, true, false, cond, not, eqb, nat_le, ◌&&◌, ◌||◌, Some, None, List, [], ◌∷◌, ◌++◌, length, set, refl, sym, ap, ◌∙◌, subst, ⊎_elim, arith, length-append, length-set, get_or-set_same, get_or-set_other, All, leb-false, eq-eqb}
 use Rattle.std.proofs.lemmas.Bool.{cases_lt, cases_eq, and_parts, eqb-true}
 use Rattle.std.proofs.lemmas.List.{get_or_past}
 use Rattle.std.proofs.lemmas.List.Elements.{All-head, All-tail}
@@ -9,13 +9,14 @@ use Rattle.xsk_turns.proofs.Object.{Config, classes_of, pool_of}
 use Rattle.xsk_model.specs.Object.{State, mark_at, reserve_reply, peek_reply, reply_at}
 use Rattle.xsk_model.specs.OtherWords.{changes}
 use Rattle.xsk_turns.proofs.Calls.{Item, Told, with_told, Fill, Comp, Rx, Tx, Mark, RxDone, Gone, Kick, TxDone, Call, Swap, Look, Reply, Granted, Full, Items, Empty, Old}
-use Rattle.xsk_turns.specs.AppTurns.{AppKept, AppNoted, pair_of, rx_of, tx_of, lanes_of, home_of, both, is_set, is_none, pending_at, back_at, with_back, noted_first, app_turn, app_start}
+use Rattle.xsk_turns.specs.AppTurns.{AppKept, AppNoted, pair_of, rx_of, tx_of, lanes_of, home_of, both, is_set, is_none, pending_at, back_at, with_back, Shut, shut_of, drains, may_tell, noted_first, app_turn, app_start}
 use Rattle.xsk_turns.specs.AppOwned.{IsApp}
 use Rattle.xsk_turns.specs.Script.{Script, ask, Asks}
+use Rattle.xsk_turns.proofs.AppShut.{no_shut, none_drains}
 use Rattle.xsk_turns.proofs.Counting.{four_classes}
 use Rattle.xsk_turns.proofs.Mangling.{back_sides}
 use Rattle.xsk_turns.proofs.Walks.{Premise, nothing_due, submit_due, release_due}
-use Rattle.xsk_turns.proofs.AppWalk.{Place, Lanes, Lane, Sides, Side, Ending, Looking, Waking, Looked, Kicking, TxTold, Family, PeekRx, ReleaseRx, ReserveTx, SubmitTx, PeekComp, ReleaseComp, ReserveFill, SubmitFill, LookRxDone, TellTxDone, LookGone, LookNeed, KickDriver, group, rx_empty, rx_items, rx_released, tx_granted, tx_full, tx_submitted, comp_empty, comp_items, comp_released, fill_granted, fill_full, fill_submitted, looked_rx_done, told_tx_done, looked_gone, looked_need, kicked, flags_of, is_over, no_lanes, has_items, lanes_done, has_frames, all_given, sides_done, looks, rests, skips, begins, without_need, needs_none, needs_kick, told_quietly, told_both, Said, AtCalls, AtEntries, AtPasses, IsLaw, at_call}
+use Rattle.xsk_turns.proofs.AppWalk.{Place, Lanes, Lane, Sides, Side, Ending, Looking, Waking, Looked, Kicking, TxTold, Lowering, Shutting, Family, PeekRx, ReleaseRx, ReserveTx, SubmitTx, PeekComp, ReleaseComp, ReserveFill, SubmitFill, LookRxDone, TellTxDone, LookGone, LookNeed, KickDriver, LowerCell, TellClosing, PeekDrain, ReleaseDrain, LookAcked, group, rx_empty, rx_items, rx_released, tx_granted, tx_full, tx_submitted, comp_empty, comp_items, comp_released, fill_granted, fill_full, fill_submitted, looked_rx_done, told_tx_done, looked_gone, looked_need, kicked, lowered, told_closing, drain_empty, drain_items, drain_released, looked_acked, flags_of, is_over, no_lanes, has_items, lanes_done, has_frames, all_given, sides_done, looks, rests, skips, begins, without_need, needs_none, needs_kick, told_quietly, told_both, closes, keeps_cell, closed_quietly, closed_kicks, Said, AtCalls, AtEntries, AtPasses, IsLaw, at_call}
 use Rattle.xsk_still.specs.Still.{LaneStays, SideStays, AppStaysBy}
 use Rattle.xsk_still.specs.Still.{IsStill}
 use Rattle.xsk_still.specs.Own.{IsPlain, AppStays}
@@ -60,7 +61,23 @@ set_more flags side j within e = ⊎_elim
 pub longer : (l : List Told) (call : Call) (reply : Reply) → length (with_told l call reply) ≡ length l + 1
 longer l call reply = length-append l ((record { call = call; reply = reply }) ∷ [])
 
-module _ (c : Config) (a : ℕ) (one : IsApp c a) (x : State) (m : ℕ) where
+-- an application that closes nothing tells by what it noted of its lanes alone
+tells_open : (noted : AppNoted) (kept : AppKept) → kept.begun ≡ false → may_tell noted kept ≡ false → (noted.seen && noted.lanes_empty) ≡ false
+tells_open noted kept unshut e = by (noted.seen && noted.lanes_empty) kept.begun unshut e
+  where
+    by : (b begun : Bool) → begun ≡ false → (b && (not begun || noted.acked)) ≡ false → b ≡ false
+    by b true f g = absurd (let no : true ≡ false = f in cc)
+    by true false f g = absurd (let no : true ≡ false = g in cc)
+    by false false f g = refl
+
+module _ (c : Config) (a : ℕ) (one : IsApp c a) (none_shut : c.closing ≡ None) (x : State) (m : ℕ) where
+  -- there is no socket of it to close, and no lane whose items it gives back
+  no_socket : (shut : Shut) → shut_of c a ≡ Some shut → ⊥
+  no_socket shut e = let off : None ≡ Some shut = sym (no_shut c a none_shut) ∙ e in cc
+
+  never_drains : (lane : ℕ) (kept : AppKept) → drains c a lane kept ≡ true → ⊥
+  never_drains lane kept e = let off : false ≡ true = sym (none_drains c a lane kept none_shut) ∙ e in cc
+
   -- a call in the stretch
   record IsAnswered (kept : AppKept) (call : Call) (reply : Reply) : Type 0 where
     pub gives : reply ≡ reply_at c x call
@@ -139,6 +156,7 @@ module _ (c : Config) (a : ℕ) (one : IsApp c a) (x : State) (m : ℕ) where
     pub back : length kept.back ≡ 2
     pub seen : length kept.seen ≡ 2
     pub gone : length kept.gone ≡ 2
+    pub unshut : kept.begun ≡ false
 
   record Stays (kept : AppKept) : Type 0 where
     pub lanes : kept.tx_done ≡ false → LanesTo kept (lanes_of c)
@@ -196,7 +214,7 @@ module _ (c : Config) (a : ℕ) (one : IsApp c a) (x : State) (m : ℕ) where
   woken place noted kept l on few sized = absurd on
 
   lanes_few : lanes_of c ≤ 8
-  lanes_few = omega (arith, four_classes c one.steady.regular.classes)
+  lanes_few = omega (arith, four_classes c one.regular.classes)
 
   -- ---- at each call
 
@@ -233,6 +251,11 @@ module _ (c : Config) (a : ℕ) (one : IsApp c a) (x : State) (m : ℕ) where
   calls (LookGone side) noted kept l known h = λ long. (tt, reasons (Looking side) noted kept l (omega (arith, known.0)) long h)
   calls (LookNeed place need pair) noted kept l known h = λ long. absurd (omega (arith, long, h.2))
   calls (KickDriver place pair) noted kept l known h = λ long. absurd (omega (arith, long, h.1))
+  calls (LowerCell shut index) noted kept l known h = absurd (no_socket shut known.0)
+  calls (TellClosing shut) noted kept l known h = absurd (no_socket shut known.0)
+  calls (PeekDrain lane) noted kept l known h = absurd (never_drains lane kept known.2)
+  calls (ReleaseDrain lane n) noted kept l known h = absurd (never_drains lane kept known.2)
+  calls (LookAcked shut) noted kept l known h = absurd (no_socket shut known.0)
 
   -- ---- entries
 
@@ -275,7 +298,7 @@ module _ (c : Config) (a : ℕ) (one : IsApp c a) (x : State) (m : ℕ) where
   known_more kept k all here = record { known = λ j below. ⊎_elim (λ (same : j ≡ k). subst (IsKnown kept) (sym same) here) (λ (other : j ≡ k → ⊥). all.known j (omega (arith, below, other))) (cases_eq j k) }
 
   back_sized : (kept : AppKept) (side : ℕ) (frames : List Frame) → Sized kept → Sized (with_back kept side frames)
-  back_sized kept side frames h = record { back = length-set kept.back side frames ∙ h.back; seen = h.seen; gone = h.gone }
+  back_sized kept side frames h = record { back = length-set kept.back side frames ∙ h.back; seen = h.seen; gone = h.gone; unshut = h.unshut }
 
   -- ---- flags
 
@@ -311,7 +334,7 @@ module _ (c : Config) (a : ℕ) (one : IsApp c a) (x : State) (m : ℕ) where
       record {
         turns = h.turns;
         few = omega (arith, h.few, longer l (Look (RxDone (pair_of c a side))) (Old n));
-        sized = record { back = h.sized.back; seen = length-set kept.seen side true ∙ h.sized.seen; gone = h.sized.gone };
+        sized = record { back = h.sized.back; seen = length-set kept.seen side true ∙ h.sized.seen; gone = h.sized.gone; unshut = h.sized.unshut };
         now = λ some.
             let now = h.now some in (
               record { lanes = λ k. record { stay = (now.0.lanes k).stay; empty = (now.0.lanes k).empty }; stay = now.0.stay; empty = now.0.empty },
@@ -335,7 +358,7 @@ module _ (c : Config) (a : ℕ) (one : IsApp c a) (x : State) (m : ℕ) where
       record {
         turns = h.turns;
         few = omega (arith, h.few, longer l (Look (Gone (pair_of c a side))) (Old n));
-        sized = record { back = h.sized.back; seen = h.sized.seen; gone = length-set kept.gone side true ∙ h.sized.gone };
+        sized = record { back = h.sized.back; seen = h.sized.seen; gone = length-set kept.gone side true ∙ h.sized.gone; unshut = h.sized.unshut };
         now = λ some.
             let now = h.now some in (
               record { lanes = λ k. record { stay = (now.0.lanes k).stay; empty = (now.0.lanes k).empty }; stay = now.0.stay; empty = now.0.empty },
@@ -351,11 +374,11 @@ module _ (c : Config) (a : ℕ) (one : IsApp c a) (x : State) (m : ℕ) where
       (λ some. let now = h.now some in (now.0, known_more kept side now.1 (to_known kept side true e (inr (not_one n _ g f))), now.2))
 
   seen_sized : (kept : AppKept) (side : ℕ) → Sized kept → (b : Bool) → Sized (cond b (record kept { seen = set kept.seen side true }) kept)
-  seen_sized kept side h true = record { back = h.back; seen = length-set kept.seen side true ∙ h.seen; gone = h.gone }
+  seen_sized kept side h true = record { back = h.back; seen = length-set kept.seen side true ∙ h.seen; gone = h.gone; unshut = h.unshut }
   seen_sized kept side h false = h
 
   gone_sized : (kept : AppKept) (side : ℕ) → Sized kept → (b : Bool) → Sized (cond b (record kept { gone = set kept.gone side true }) kept)
-  gone_sized kept side h true = record { back = h.back; seen = h.seen; gone = length-set kept.gone side true ∙ h.gone }
+  gone_sized kept side h true = record { back = h.back; seen = h.seen; gone = length-set kept.gone side true ∙ h.gone; unshut = h.unshut }
   gone_sized kept side h false = h
 
   entries : AtEntries c a Q At Asked
@@ -370,7 +393,7 @@ module _ (c : Config) (a : ℕ) (one : IsApp c a) (x : State) (m : ℕ) where
         },
         now.1,
       )))
-  entries (rx_items lane items) noted kept l known h said q = moves _ _ kept _ l _ (Items items) refl q (record { back = h.sized.back; seen = h.sized.seen; gone = h.sized.gone })
+  entries (rx_items lane items) noted kept l known h said q = moves _ _ kept _ l _ (Items items) refl q (record { back = h.sized.back; seen = h.sized.seen; gone = h.sized.gone; unshut = h.sized.unshut })
   entries (rx_released lane n) noted kept l known h said q = moves _ noted kept kept l _ _ refl q h.sized
   entries (tx_granted lane) noted kept l known h said q = moves _ noted kept kept l _ Granted refl q h.sized
   entries (tx_full lane places) noted kept l known h said q = by_stretch l
@@ -384,7 +407,7 @@ module _ (c : Config) (a : ℕ) (one : IsApp c a) (x : State) (m : ℕ) where
         },
         now.2,
       )))
-  entries (tx_submitted lane) noted kept l known h said q = (tt, refl, ends_before _ l _ _ refl q, record { back = back_sides kept.manner.mangle kept.number (pending_at kept lane) (lane / classes_of c) kept.back ∙ h.sized.back; seen = h.sized.seen; gone = h.sized.gone })
+  entries (tx_submitted lane) noted kept l known h said q = (tt, refl, ends_before _ l _ _ refl q, record { back = back_sides kept.manner.mangle kept.number (pending_at kept lane) (lane / classes_of c) kept.back ∙ h.sized.back; seen = h.sized.seen; gone = h.sized.gone; unshut = h.sized.unshut })
   entries (comp_empty side) noted kept l known h said q = by_stretch l
       (λ lt. first (Sides (side + 1)) noted kept l _ Empty lt h.sized)
       (λ ge. step (Sides side) (Sides (side + 1)) noted kept l _ Empty (omega arith) h
@@ -414,13 +437,13 @@ module _ (c : Config) (a : ℕ) (one : IsApp c a) (x : State) (m : ℕ) where
     tt,
     refl,
     ends_before _ l _ _ refl q,
-    record { back = length-set kept.back side _ ∙ sym (length-set kept.back side (frame ∷ frames)) ∙ h.sized.back; seen = h.sized.seen; gone = h.sized.gone },
+    record { back = length-set kept.back side _ ∙ sym (length-set kept.back side (frame ∷ frames)) ∙ h.sized.back; seen = h.sized.seen; gone = h.sized.gone; unshut = h.sized.unshut },
   )
   entries (looked_rx_done side n) noted kept l known h said q = by_stretch l
       (λ lt. first (Looking (side + 1)) noted _ l _ (Old n) lt (seen_sized kept side h.sized (eqb n 1)))
       (λ ge. seen_now side n noted kept l known.0 known.2 (was_number n _ (q ge).gives) h (eqb n 1) refl)
   entries (told_tx_done n) noted kept l known h said q = by_stretch l
-      (λ lt. (omega (arith, lt, longer l (Swap (TxDone a) 1) (Old n)), record { back = h.sized.back; seen = h.sized.seen; gone = h.sized.gone }))
+      (λ lt. (omega (arith, lt, longer l (Swap (TxDone a) 1) (Old n)), record { back = h.sized.back; seen = h.sized.seen; gone = h.sized.gone; unshut = h.sized.unshut }))
       (λ ge.
       let ans = q ge in
       let one : mark_at c x (TxDone a) ≡ 1 = sym (was_number n _ ans.gives) ∙ still_one n ans.quiet in
@@ -430,6 +453,12 @@ module _ (c : Config) (a : ℕ) (one : IsApp c a) (x : State) (m : ℕ) where
       (λ ge. gone_now side n noted kept l known.0 known.2 (was_number n _ (q ge).gives) h (eqb n 1) refl)
   entries (looked_need place need pair n) noted kept l known h said q = (h.0, h.1, omega (arith, h.2, longer l (Look need) (Old n)), h.3)
   entries (kicked place pair n) noted kept l known h said q = woken place noted kept _ h.0 (omega (arith, h.1, longer l (Swap (Kick pair) 1) (Old n))) h.2
+  entries (lowered shut index n) noted kept l known h said q = absurd (no_socket shut known.0)
+  entries (told_closing shut n) noted kept l known h said q = absurd (no_socket shut known.0)
+  entries (drain_empty lane) noted kept l known h said q = absurd (never_drains lane kept known.2)
+  entries (drain_items lane items) noted kept l known h said q = absurd (never_drains lane kept known.2)
+  entries (drain_released lane n) noted kept l known h said q = absurd (never_drains lane kept known.2)
+  entries (looked_acked shut n) noted kept l known h said q = absurd (no_socket shut known.0)
 
   -- ---- what goes on without a call
 
@@ -515,7 +544,7 @@ module _ (c : Config) (a : ℕ) (one : IsApp c a) (x : State) (m : ℕ) where
       (λ some.
       let now = h.now some in
       let seen = and_parts (is_set kept.seen 0) (is_set kept.seen 1) w.1 in
-      (now, record { known = both_known kept w.0 seen.0 seen.1 }, over_rests h.turns noted kept now h.began w.0 w.2))
+      (now, record { known = both_known kept w.0 seen.0 seen.1 }, over_rests h.turns noted kept now h.began w.0 (tells_open noted kept h.sized.unshut w.2)))
     where
       both_known : (kept : AppKept) → kept.tx_done ≡ false → is_set kept.seen 0 ≡ true → is_set kept.seen 1 ≡ true → (j : ℕ) → j < 2 → IsKnown kept j
       both_known kept e f g zero k = to_known kept 0 false e (inl f)
@@ -541,6 +570,10 @@ module _ (c : Config) (a : ℕ) (one : IsApp c a) (x : State) (m : ℕ) where
   passes (needs_kick place need pair n) noted kept l = λ h e. (h.0, omega (arith, h.1, h.2), h.3)
   passes told_quietly noted kept l = λ h off. early (Looking 2) noted kept l (omega (arith, h.0)) h.1
   passes told_both noted kept l = λ h on. (tt, omega (arith, h.0), h.1)
+  passes (closes shut) noted kept l = λ h e. absurd (no_socket shut e.0)
+  passes (keeps_cell shut index) noted kept l = λ h e. pass (Lowering shut index) (Lowering shut (index + 1)) noted kept l (omega arith) h h.now
+  passes (closed_quietly shut) noted kept l = λ h e. pass (Shutting shut) (Lanes 0) noted kept l (omega arith) h (λ some. absurd (h.now some))
+  passes (closed_kicks shut) noted kept l = λ h e. absurd (no_socket shut e.1)
 
   law : IsLaw c a Q At Asked (λ kept l. Unit {0})
   law = record { calls = calls; entries = entries; passes = passes; ends = λ noted kept l done h. tt }
@@ -552,11 +585,11 @@ all_at P [] later t all = All-head P t later all
 all_at P (x ∷ front) later t all = all_at P front later t (All-tail P x (front ++ t ∷ later) all)
 
 pub app_stays : AppStays
-app_stays c a x mine still kept call rest one fit all long told asks =
+app_stays c a x mine still kept call rest one none_shut fit all long told asks =
     let m = length mine in
     let begins = app_start c in
     let each : (front : List Told) (t : Told) (later : List Told) (k : AppKept) (on : Reply → Script AppKept) → mine ++ still ≡ front ++ t ∷ later → Asks (app_turn c a) begins front k t.call on
-    → Q c a one x m k front t.call t.reply =
+    → Q c a one none_shut x m k front t.call t.reply =
     λ front t later k on e asked behind.
     let cut = cut_behind mine still front later t e behind in
     let is : IsStill c x t = all_at (IsStill c x) cut.0 later t (subst (All (IsStill c x)) cut.2 all) in
@@ -565,6 +598,6 @@ app_stays c a x mine still kept call rest one fit all long told asks =
       quiet = is.quiet;
       told = told cut.0 t later k on cut.2 (subst (λ l. Asks (app_turn c a) begins l k t.call on) cut.1 asked);
     } in
-    at_call c a one (Q c a one x m) (At c a one x m) (Asked c a one x m) (λ kept l. Unit {0}) (law c a one x m) begins
-    (early c a one x m (Lanes 0) (noted_first begins) begins [] (omega arith) (record { back = refl; seen = refl; gone = refl })) (mine ++ still)
-    (meet_each (app_turn c a) begins (Q c a one x m) (mine ++ still) each (ask kept call rest) asks) kept call rest asks (omega (arith, long, length-append mine still))
+    at_call c a one (Q c a one none_shut x m) (At c a one none_shut x m) (Asked c a one none_shut x m) (λ kept l. Unit {0}) (law c a one none_shut x m) begins
+    (early c a one none_shut x m (Lanes 0) (noted_first begins) begins [] (omega arith) (record { back = refl; seen = refl; gone = refl; unshut = refl })) (mine ++ still)
+    (meet_each (app_turn c a) begins (Q c a one none_shut x m) (mine ++ still) each (ask kept call rest) asks) kept call rest asks (omega (arith, long, length-append mine still))

@@ -1,11 +1,11 @@
 -- A worker that hasn't ended asks a call: each turn of it begins with one.
-use Rattle.std.proofs.Common.{◌≡◌, ◌⊎◌, inl, inr, ℕ, zero, suc, ◌-◌, ◌≤◌, Bool, true, false, cond, Option, Some, None, List, [], ◌∷◌, sym, subst, arith}
+use Rattle.std.proofs.Common.{◌≡◌, ◌⊎◌, inl, inr, ℕ, zero, suc, ◌+◌, ◌-◌, ◌≤◌, Bool, true, false, cond, eqb, slice_index, Option, Some, None, List, [], ◌∷◌, length, sym, subst, arith}
 use Rattle.xsk_umem.specs.Frame.{Frame}
-use Rattle.xsk_turns.proofs.Calls.{Item, Told, Call, Reply}
+use Rattle.xsk_turns.proofs.Calls.{Item, Told, Rx, Call, Reply}
 use Rattle.xsk_turns.specs.Script.{Script, ask, again, ended, never, begun, Leaves, Asks, IsLive, IsRun, IsWhole}
-use Rattle.xsk_turns.specs.Turns.{Seat, Judged, Kept, Noted, fresh, bounces, settled, settled_or, disposal_untried, visit, complete, transmit, receive, turn_by, turn}
-use Rattle.xsk_turns.specs.AppTurns.{AppKept, AppNoted, pending_at, back_at, lanes_of, visit_lane, visit_lanes, visit_side, turn_sides, noted_first, app_turn}
-use Rattle.xsk_turns.proofs.Object.{Config}
+use Rattle.xsk_turns.specs.Turns.{Seat, Judged, Kept, Noted, fresh, bounces, settled, settled_or, disposal_untried, visit, complete, transmit, receive, closing_of, look_closing, turn_by, turn}
+use Rattle.xsk_turns.specs.AppTurns.{AppKept, AppNoted, pending_at, back_at, lanes_of, visit_lane, visit_lanes, drains, visit_side, turn_sides, turn_lanes, Shut, shut_of, may_close, lower_cells, tell_closing, close_first, noted_first, app_turn}
+use Rattle.xsk_turns.proofs.Object.{Config, map_of, port_of}
 use Rattle.xsk_turns.specs.declared.disposal.Disposal.{Disposal}
 
 abbrev IsAsk : {K : Type 0} → Script K → Type 0
@@ -68,8 +68,12 @@ module _ (seat : Seat) (some : 1 ≤ seat.classes) where
       settled_asks (disposal_untried seat packet) (λ disposal. receive seat later (record noted { progress = true }) (settled kept disposal)) _
       (λ disposal. receive_asks later (record noted { progress = true }) (settled kept disposal)) (ask_if (bounces packet.verdict) _ _ tt tt)
 
+  closing_asks : (o : Option ℕ) (kept : Kept) → IsAsk (look_closing seat o kept)
+  closing_asks None kept = receive_asks kept.coming fresh kept
+  closing_asks (Some s) kept = ask_if kept.acked _ _ (receive_asks kept.coming fresh kept) tt
+
   by_parked : (o : Option Bool) (kept : Kept) → IsAsk (turn_by seat kept o)
-  by_parked None kept = receive_asks kept.coming fresh kept
+  by_parked None kept = closing_asks (closing_of seat) kept
   by_parked (Some frames) kept = tt
 
   pub turn_asks : (kept : Kept) → IsAsk (turn seat kept)
@@ -91,7 +95,18 @@ module _ (c : Config) (a : ℕ) (some : 1 ≤ lanes_of c) where
 
   lanes_ask : (more : ℕ) (noted : AppNoted) (kept : AppKept) (next : AppNoted → AppKept → Script AppKept) → 1 ≤ more → IsAsk (visit_lanes c a more 0 noted kept next)
   lanes_ask zero noted kept next h = absurd (omega (arith, h))
-  lanes_ask (suc more) noted kept next h = lane_asks 0 (pending_at kept 0) noted kept _
+  lanes_ask (suc more) noted kept next h = ask_if (drains c a 0 kept) _ _ tt (lane_asks 0 (pending_at kept 0) noted kept _)
+
+  lower_asks : (s more index : ℕ) (kept : AppKept) (next : Script AppKept) → IsAsk next → IsAsk (lower_cells c s more index kept next)
+  lower_asks s zero index kept next h = h
+  lower_asks s (suc more) index kept next h =
+      ask_if (eqb (slice_index (map_of c (port_of c (Rx s))) index) (suc s)) _ _ tt (lower_asks s more (index + 1) kept next h)
+
+  close_asks : (o : Option Shut) (kept : AppKept) → IsAsk (close_first c a o kept (turn_lanes c a))
+  close_asks None kept = lanes_ask (lanes_of c) (noted_first kept) kept (turn_sides c a) some
+  close_asks (Some shut) kept =
+      ask_if (may_close c shut kept) _ _ (lower_asks shut.socket (length (map_of c (port_of c (Rx shut.socket)))) 0 kept (tell_closing c a shut kept (turn_lanes c a)) tt)
+      (lanes_ask (lanes_of c) (noted_first kept) kept (turn_sides c a) some)
 
   pub app_turn_asks : (kept : AppKept) → IsAsk (app_turn c a kept)
-  app_turn_asks kept = ask_if kept.tx_done _ _ (sides_ask (noted_first kept) kept) (lanes_ask (lanes_of c) (noted_first kept) kept (turn_sides c a) some)
+  app_turn_asks kept = ask_if kept.tx_done _ _ (sides_ask (noted_first kept) kept) (close_asks (shut_of c a) kept)

@@ -8,7 +8,7 @@ use Rattle.xsk_model.specs.Object.{State, mark_at, reply_at}
 use Rattle.xsk_model.specs.OtherWords.{changes}
 use Rattle.xsk_model.specs.Steering.{packet_limit}
 use Rattle.xsk_turns.proofs.Calls.{Item, Told, with_told, Fill, Comp, Rx, Tx, NeedTx, Kick, RxDone, TxDone, Cell, Call, Look, Reply, Granted, Full, Submitted, Items, Empty, Released, Old}
-use Rattle.xsk_turns.specs.Turns.{Seat, Judged, Kept, Noted, fresh, awaits, bounces, drops, disposal_untried, cell_of, redirect_to, pieces_of, seat_of, start, turn, socket_of, application_of}
+use Rattle.xsk_turns.specs.Turns.{Seat, Judged, Kept, Noted, fresh, awaits, bounces, drops, disposal_untried, cell_of, redirect_to, pieces_of, seat_of, start, turn, socket_of, application_of, closing_on, closing_of}
 use Rattle.xsk_turns.specs.declared.disposal.Disposal.{Disposal}
 use Rattle.xsk_turns.specs.declared.disposal.Disposal.TheVariants.{NoFrames, RxFull, TooLong, Missed, Bounced}
 use Rattle.xsk_turns.specs.Script.{Script, ask, Asks}
@@ -17,14 +17,14 @@ use Rattle.xsk_turns.specs.Wakes.{IsParked}
 use Rattle.xsk_turns.specs.declared.wire.Wire.{Wire}
 use Rattle.xsk_turns.proofs.Counting.{four_classes}
 use Rattle.xsk_turns.proofs.Walks.{Premise, nothing_due, submit_due, release_due}
-use Rattle.xsk_turns.proofs.DriverWalk.{Place, Receiving, Trying, Lacking, Sending, Idling, Arming, Which, Turning, Again, Parked, Woken, Disarming, Family, Said, AtCalls, AtEntries, AtPasses, IsLaw, GoesOnAtOnce, TellRxDone, TellBounced, LookCell, PeekFill, ReleaseFill, ReserveRx, SubmitRx, ReserveComp, SubmitComp, PeekTx, ReleaseTx, LookTxDone, TellGone, ArmFill, ArmTx, LookEnd, LookKick, ClearKick, DisarmFill, DisarmTx, told_rx_done, told_bounced, looked_none, looked_long, looked_some, fill_empty, fill_items, fill_released, rx_granted, rx_full, rx_submitted, comp_granted, comp_full, comp_submitted, tx_empty, tx_items, tx_released, looked_tx_done, armed_fill, armed_tx, found_end, found_none, kicked, not_kicked, cleared_kick, disarmed_fill, disarmed_tx, untried, none_comes, too_few, waits, drops_full, drops_frameless, visited, idles, arms, seeks, sought, misses, looks, finds, parks, disarmed, at_call}
+use Rattle.xsk_turns.proofs.DriverWalk.{Place, Starting, Acking, Receiving, Trying, Lacking, Sending, Idling, Arming, Which, Turning, Again, Parked, Woken, Disarming, Family, Said, AtCalls, AtEntries, AtPasses, IsLaw, GoesOnAtOnce, LookClosing, TellAcked, TellRxDone, TellBounced, LookCell, PeekFill, ReleaseFill, ReserveRx, SubmitRx, ReserveComp, SubmitComp, PeekTx, ReleaseTx, LookTxDone, TellGone, ArmFill, ArmTx, LookEnd, LookKick, ClearKick, DisarmFill, DisarmTx, saw_fed, saw_closed, told_acked, told_rx_done, told_bounced, looked_none, looked_long, looked_some, fill_empty, fill_items, fill_released, rx_granted, rx_full, rx_submitted, comp_granted, comp_full, comp_submitted, tx_empty, tx_items, tx_released, looked_tx_done, armed_fill, armed_tx, found_end, found_none, kicked, not_kicked, cleared_kick, disarmed_fill, disarmed_tx, receives as starts, untried, none_comes, too_few, waits, drops_full, drops_frameless, visited, idles, arms, seeks, sought, misses, looks, finds, parks, disarmed, at_call}
 use Rattle.xsk_still.specs.Still.{IsEmpty, LacksRoom, IsStill, IsHeldUp, StaysBy}
 use Rattle.xsk_still.specs.Own.{IsFree, DriverStays}
 use Rattle.xsk_still.proofs.AppStaying.{was_empty, was_full, was_number, still_one, longer, all_at}
 use Rattle.xsk_still.proofs.Meeting.{meet_each, cut_behind}
 
 fits_in : (c : Config) (past front later : List Told) (t : Told) → AllFit c past (front ++ t ∷ later) → Fits c (past ++ front) t.call t.reply
-fits_in c past [] later t h = subst (λ l. Fits c l t.call t.reply) (sym (append-nil past)) h.0
+fits_in c past [] later t h = subst (λ l. Fits c l t.call t.reply) (sym (append-nil past)) h.0.0
 fits_in c past (y ∷ front) later t h = subst (λ l. Fits c l t.call t.reply) (append_assoc past (y ∷ []) front) (fits_in c (past ++ y ∷ []) front later t h.1)
 
 fits_at : (c : Config) (front later : List Told) (t : Told) → AllFit c [] (front ++ t ∷ later) → Fits c front t.call t.reply
@@ -46,7 +46,7 @@ abbrev spent : ℕ → ℕ
 spent zero = 0
 spent (suc k) = 26 + 8 * k
 
-module _ (wire : Wire) (c : Config) (d : ℕ) (is : IsSeat c d) (x : State) (m count : ℕ) where
+module _ (wire : Wire) (c : Config) (d : ℕ) (is : IsSeat c d) (closes : c.closing ≡ None) (x : State) (m count : ℕ) where
   abbrev seat : Seat
   seat = seat_of wire c d
 
@@ -60,10 +60,14 @@ module _ (wire : Wire) (c : Config) (d : ℕ) (is : IsSeat c d) (x : State) (m c
   Q kept l call reply = Fits c l call reply × (m ≤ length l → IsAnswered kept call reply)
 
   four : classes_of c ≤ 4
-  four = four_classes c is.steady.regular.classes
+  four = four_classes c is.regular.classes
 
   some_class : 1 ≤ classes_of c
-  some_class = let few = is.steady.regular.classes in omega (arith, few)
+  some_class = let few = is.regular.classes in omega (arith, few)
+
+  -- there is no socket of it to close
+  no_closing : (s : ℕ) → closing_of seat ≡ Some s → ⊥
+  no_closing s e = let off : None ≡ Some s = sym (ap (closing_on d (classes_of c)) closes) ∙ e in cc
 
   -- ---- what is found in a turn
 
@@ -111,6 +115,7 @@ module _ (wire : Wire) (c : Config) (d : ℕ) (is : IsSeat c d) (x : State) (m c
   LooksAgain noted = (noted.progress ≡ false) × (first_flag ≡ 1)
 
   abbrev Found : Place → Noted → Kept → Type 0
+  Found Starting noted kept = (noted.progress ≡ false) × (noted.full ≡ false)
   Found Receiving noted kept = (noted.progress ≡ false) × (noted.full ≡ false)
   Found (Trying Turning packet s nothing_due) noted kept = (noted.progress ≡ false) × (noted.full ≡ false) × (redirect_to c seat.port seat.queue (cell packet) ≡ Some s)
   Found (Lacking Turning packet s true) noted kept = (noted.progress ≡ false) × (redirect_to c seat.port seat.queue (cell packet) ≡ Some s) × LacksRoom c x (Rx s) (pieces_of seat packet.bytes)
@@ -144,6 +149,8 @@ module _ (wire : Wire) (c : Config) (d : ℕ) (is : IsSeat c d) (x : State) (m c
   later Again = 11
 
   abbrev before : Place → ℕ
+  before Starting = 0
+  before Acking = 1
   before Receiving = 0
   before (Trying look packet s due) = 1 + later look
   before (Lacking look packet s full) = 2 + later look
@@ -270,6 +277,8 @@ module _ (wire : Wire) (c : Config) (d : ℕ) (is : IsSeat c d) (x : State) (m c
   later_few Again = omega arith
 
   calls : AtCalls seat Q At Asked
+  calls (LookClosing s) noted kept l known h = absurd (no_closing s known.0)
+  calls (TellAcked s) noted kept l known h = absurd (no_closing s known.0)
   calls TellRxDone noted kept l known h = λ long. (tt, inr (reasons Receiving noted kept l (omega arith) long h))
   calls (TellBounced packet) noted kept l known h = λ long. (tt, inr (reasons Receiving noted kept l (omega arith) long h))
   calls (LookCell packet) noted kept l known h = λ long. (tt, inr (reasons Receiving noted kept l (omega arith) long h))
@@ -327,6 +336,9 @@ module _ (wire : Wire) (c : Config) (d : ℕ) (is : IsSeat c d) (x : State) (m c
   flag_fits_woken false = omega arith
 
   entries : AtEntries seat Q At Asked
+  entries (saw_fed s n) noted kept l known found h a q = absurd (no_closing s known.0)
+  entries (saw_closed s n) noted kept l known found h a q = absurd (no_closing s known.0)
+  entries (told_acked s n) noted kept l known found h a q = absurd (no_closing s known.0)
   entries (told_rx_done n) noted kept l known found h a q = by_stretch l
       (λ lt. first (Sending Turning 0 nothing_due) _ _ l _ (Old n) lt (omega arith))
       (λ ge.
@@ -409,7 +421,7 @@ module _ (wire : Wire) (c : Config) (d : ℕ) (is : IsSeat c d) (x : State) (m c
       (λ some e. let f = h.now some w.settled in (f.0, more_tx k f.1 (was_empty _ _ w.gives)))
       (λ two. let k = h.known two in record { facts = k.facts; settled = k.settled; asked = k.asked }) h.ends)
   entries (looked_tx_done n) noted kept l known found h a q = by_stretch l
-      (λ lt. first Receiving _ _ l _ (Old n) lt tt)
+      (λ lt. first Starting _ _ l _ (Old n) lt tt)
       (λ ge.
       let w = q.1 ge in
       let is : n ≡ mark_at c x (TxDone (application_of seat)) = was_number n _ w.gives in
@@ -532,6 +544,7 @@ module _ (wire : Wire) (c : Config) (d : ℕ) (is : IsSeat c d) (x : State) (m c
   none_full noted e f = sym (ap (λ b. b || noted.full) e) ∙ f
 
   passes : AtPasses seat Q At
+  passes starts noted kept l = λ h e. pass Starting Receiving noted noted kept kept l (omega arith) tt h (omega arith) (λ some. tt) h.now h.known h.ends
   passes (untried packet later y) noted kept l = λ h e.
       let more = one_longer kept y in
       let un : 2 ≤ h.turns → ⊥ = λ two. against kept packet later e.0
@@ -581,7 +594,7 @@ module _ (wire : Wire) (c : Config) (d : ℕ) (is : IsSeat c d) (x : State) (m c
             let some : 1 ≤ h.turns = omega (arith, three) in
             not_at_once noted kept (h.now some (h.sure some)) none fin e;
       })
-      (λ (not_in : length l ≤ m). early Receiving fresh kept l not_in tt)
+      (λ (not_in : length l ≤ m). early Starting fresh kept l not_in tt)
       (cases_lt m (length l))
     where
       not_at_once : (noted : Noted) (kept : Kept) → Found Idling noted kept → kept.coming ≡ [] → kept.finished ≡ [] → GoesOnAtOnce seat noted kept → ⊥
@@ -615,7 +628,7 @@ module _ (wire : Wire) (c : Config) (d : ℕ) (is : IsSeat c d) (x : State) (m c
         known = λ two. absurd (omega (arith, two));
         ends = λ three. absurd (omega (arith, three));
       })
-      (λ (not_in : length l ≤ m). early Receiving fresh kept l not_in tt)
+      (λ (not_in : length l ≤ m). early Starting fresh kept l not_in tt)
       (cases_lt m (length l))
     where
       by : (t : ℕ) → (1 ≤ t → seat.classes ≡ 0) → t ≡ 0
@@ -650,12 +663,12 @@ module _ (wire : Wire) (c : Config) (d : ℕ) (is : IsSeat c d) (x : State) (m c
   }
 
 pub driver_stays : DriverStays
-driver_stays wire c d input x count mine still kept call rest is fit all long settled marked asks =
+driver_stays wire c d input x count mine still kept call rest is closes fit all long settled marked asks =
     let m = length mine in
     let seat = seat_of wire c d in
     let begins = start (classes_of c) input in
     let each : (front : List Told) (t : Told) (later : List Told) (k : Kept) (on : Reply → Script Kept) → mine ++ still ≡ front ++ t ∷ later → Asks (turn seat) begins front k t.call on
-    → Q wire c d is x m count k front t.call t.reply =
+    → Q wire c d is closes x m count k front t.call t.reply =
     λ front t later k on e asked. (
       fits_at c front later t (subst (AllFit c []) e fit),
       λ behind.
@@ -664,10 +677,10 @@ driver_stays wire c d input x count mine still kept call rest is fit all long se
           let here = subst (λ l. Asks (turn seat) begins l k t.call on) cut.1 asked in
           record { gives = one.reply; quiet = one.quiet; settled = settled cut.0 t later k on cut.2 here; told = marked cut.0 t later k on cut.2 here },
     ) in
-    let said = at_call seat (Q wire c d is x m count) (At wire c d is x m count) (Asked wire c d is x m count) (λ kept l. Unit {0}) (law wire c d is x m count) begins
-    (early wire c d is x m count Receiving fresh begins [] (omega arith) tt) (mine ++ still)
-    (meet_each (turn seat) begins (Q wire c d is x m count) (mine ++ still) each (ask kept call rest) asks) kept call rest asks (omega (arith, long, length-append mine still)) in (
+    let said = at_call seat (Q wire c d is closes x m count) (At wire c d is closes x m count) (Asked wire c d is closes x m count) (λ kept l. Unit {0}) (law wire c d is closes x m count) begins
+    (early wire c d is closes x m count Starting fresh begins [] (omega arith) tt) (mine ++ still)
+    (meet_each (turn seat) begins (Q wire c d is closes x m count) (mine ++ still) each (ask kept call rest) asks) kept call rest asks (omega (arith, long, length-append mine still)) in (
       said.0,
       ⊎_elim (λ (p : IsParked d (mine ++ still) × (is_some kept.parked ≡ true)). inl p)
-          (λ (f : FactsOf wire c d is x m count kept × Waits wire c d is x m count kept). inr (stays_by wire c d is x m count kept f.0 f.1)) said.1,
+          (λ (f : FactsOf wire c d is closes x m count kept × Waits wire c d is closes x m count kept). inr (stays_by wire c d is closes x m count kept f.0 f.1)) said.1,
     )

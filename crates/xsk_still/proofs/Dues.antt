@@ -152,6 +152,8 @@ IsClear (app.Lane lane nothing_due) = Unit {0}
 IsClear (app.Lane lane due) = ⊥
 IsClear (app.Side side nothing_due) = Unit {0}
 IsClear (app.Side side due) = ⊥
+IsClear (app.Draining lane nothing_due) = Unit {0}
+IsClear (app.Draining lane due) = ⊥
 IsClear (app.Waking place need pair) = IsClear place
 IsClear (app.Looked place need pair n) = IsClear place
 IsClear (app.Kicking place pair) = IsClear place
@@ -163,6 +165,7 @@ ClearAt (app.Looked place need pair n) noted kept l = HasNothingDue l × IsClear
 ClearAt (app.Kicking place pair) noted kept l = HasNothingDue l × IsClear place
 ClearAt (app.Lane lane due) noted kept l = IsDueOn due l
 ClearAt (app.Side side due) noted kept l = IsDueOn due l
+ClearAt (app.Draining lane due) noted kept l = IsDueOn due l
 ClearAt place noted kept l = HasNothingDue l
 
 clear_at : (place : app.Place) (noted : AppNoted) (kept : AppKept) (l : List Told) → IsClear place → HasNothingDue l → ClearAt place noted kept l
@@ -172,6 +175,9 @@ clear_at (app.Lane lane (release_due q n)) noted kept l is h = absurd is
 clear_at (app.Side side nothing_due) noted kept l is h = h
 clear_at (app.Side side (submit_due q n)) noted kept l is h = absurd is
 clear_at (app.Side side (release_due q n)) noted kept l is h = absurd is
+clear_at (app.Draining lane nothing_due) noted kept l is h = h
+clear_at (app.Draining lane (submit_due q n)) noted kept l is h = absurd is
+clear_at (app.Draining lane (release_due q n)) noted kept l is h = absurd is
 clear_at (app.Waking place need pair) noted kept l is h = (h, is)
 clear_at (app.Looked place need pair n) noted kept l is h = (h, is)
 clear_at (app.Kicking place pair) noted kept l is h = (h, is)
@@ -183,6 +189,7 @@ module _ (c : Config) (a : ℕ) where
   app_calls (app.SubmitTx lane) noted kept l known h = λ free. absurd free
   app_calls (app.ReleaseComp side n) noted kept l known h = λ free. absurd free
   app_calls (app.SubmitFill side frame frames) noted kept l known h = λ free. absurd free
+  app_calls (app.ReleaseDrain lane n) noted kept l known h = λ free. absurd free
   app_calls (app.LookNeed place need pair) noted kept l known h = λ free. h.0
   app_calls (app.KickDriver place pair) noted kept l known h = λ free. h.0
   app_calls p noted kept l known h = λ free. h
@@ -197,6 +204,8 @@ module _ (c : Config) (a : ℕ) where
   app_entries (app.comp_released side n) noted kept l known h said q = released_due l _ n h
   app_entries (app.fill_granted side frame frames) noted kept l known h said q = granted_due l _ _ h
   app_entries (app.fill_submitted side frame frames) noted kept l known h said q = (submitted_due l _ _ _ (length-map (app.group c frame frames) (home_item c.geometry)) h, tt)
+  app_entries (app.drain_items lane items) noted kept l known h said q = peeked_due l _ _ items h
+  app_entries (app.drain_released lane n) noted kept l known h said q = released_due l _ n h
   app_entries (app.looked_need place need pair n) noted kept l known h said q = (still_due nothing_due l _ (Old n) refl refl refl refl h.0, h.1)
   app_entries (app.kicked place pair n) noted kept l known h said q = clear_at place noted kept _ h.1 (still_due nothing_due l (Swap (Kick pair) 1) (Old n) refl refl refl refl h.0)
   app_entries e noted kept l known h said q = still_due nothing_due l (app.call_at c a (app.point_of e) kept) (app.reply_of e) refl refl refl refl h
@@ -206,6 +215,7 @@ module _ (c : Config) (a : ℕ) where
   app_passes (app.needs_none place need pair n) noted kept l = λ h e. clear_at place noted kept l h.1 h.0
   app_passes (app.needs_kick place need pair n) noted kept l = λ h e. h
   app_passes app.told_both noted kept l = λ h e. (h, tt)
+  app_passes (app.closed_kicks shut) noted kept l = λ h e. (h, tt)
   app_passes p noted kept l = λ h e. h
 
   app_law : app.IsLaw c a Anything ClearAt AppAsked (λ kept l. HasNothingDue l)

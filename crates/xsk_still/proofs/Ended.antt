@@ -164,7 +164,7 @@ module _ (s : Setting) (frames : List Frame) (past es : List Entry) (are : AreWo
         let has = rx_has lane.0 lane.1 in
         let by : producer c (Rx r) ≡ d i = rx_by lane.0 lane.1 ∙ ap d lane.2 in
         let late = nothing_received_late s.wire c (d i) r (input_of s (d i)) (own (d i) h) (stand.driver_run s frames past es are ample st (d i) (below i side)) in
-        let keeps = keeps_tx_told c a 0 (own who h) w.kept w.call w.rest one w.asks in
+        let keeps = keeps_tx_told c a 0 (own who h) w.kept w.call w.rest one are.steady.closes w.asks in
         let holds = holds_after c frames ms (RxDone (d i)) (Rx r) (stand.config s frames past es are ample st) has.0 (below i side) (λ k e. e ∙ sym by) h are.history (listed i side)
         (opening_mark_is c frames (RxDone (d i)) (stand.config s frames past es are ample st) (below i side))
         (subst (λ n. (telling_of (RxDone (d i)) (Rx r) (own n h)).late ≡ false) (sym by) late) in
@@ -174,7 +174,7 @@ module _ (s : Setting) (frames : List Frame) (past es : List Entry) (are : AreWo
 
     tx_is_told : w.kept.tx_done ≡ true → mark_at c x (TxDone a) ≡ 1
     tx_is_told done =
-        let keeps = keeps_tx_told c a 0 (own who h) w.kept w.call w.rest one w.asks in
+        let keeps = keeps_tx_told c a 0 (own who h) w.kept w.call w.rest one are.steady.closes w.asks in
         stand.tx_marked s frames past es are ample st a 0 known ∙ one_if _ (keeps.0 ∙ done)
 
     told_whole : w.kept.tx_done ≡ true → (i : ℕ) → i < 2 → IsWholeDriver i
@@ -228,7 +228,7 @@ module _ (s : Setting) (frames : List Frame) (past es : List Entry) (are : AreWo
           let found = holds.found_empty (subst (λ n. (draining_of (TxDone a ∷ []) (Tx t) (own n h)).empty ≡ true) ring.1
           (subst (λ n. (draining_of (TxDone n ∷ []) (Tx t) (own (d i) h)).empty ≡ true) (app_is i side) drained)) in
           let told : (telling_of (TxDone a) (Tx t) (own who h)).told ≡ true = subst (λ n. (telling_of (TxDone a) (Tx t) (own n h)).told ≡ true) (sym fed) found.1 in
-          not_false w.kept.tx_done (sym (keeps_tx_told c a t (own who h) w.kept w.call w.rest one w.asks).0 ∙ told) goes
+          not_false w.kept.tx_done (sym (keeps_tx_told c a t (own who h) w.kept w.call w.rest one are.steady.closes w.asks).0 ∙ told) goes
 
       open_at : (i : ℕ) → i < 2 → Open i
       open_at i side = ⊎_elim (λ (whole : IsWholeDriver i). absurd (none_whole i side whole)) (λ (o : Open i). o) (stand.driver_state s frames past es are ample st (d i) (below i side))
@@ -268,7 +268,7 @@ module _ (s : Setting) (frames : List Frame) (past es : List Entry) (are : AreWo
           let rx = rx_has lane.0 lane.1 in
           let by : producer c (Rx r) ≡ d (1 - i) = rx_by lane.0 lane.1 ∙ ap d lane.2 in
           let none = lane_none lane.0 lane.1 in
-          let order = has_pending c a (own who h) lane.0 w.kept w.call w.rest one w.asks (plain_free s frames past es are ample st w.call w.plain) lane.1 in
+          let order = has_pending c a (own who h) lane.0 w.kept w.call w.rest one are.steady.closes w.asks (plain_free s frames past es are ample st w.call w.plain) lane.1 in
           ap (λ n. peeked_of (Tx t) (own n h)) ring.1
           ∙ stand.passed_on s frames past es are ample st (Tx t) ring.0 refl (all_sent i side k within)
           ∙ ap (λ n. submitted_of (Tx n) (own (producer c (Tx n)) h)) (sym same)

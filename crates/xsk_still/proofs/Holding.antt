@@ -79,7 +79,7 @@ module _ (c : Config) (a : ℕ) (one : IsApp c a) where
   pair_side e below mine =
       let port = (pair_at c.pairs e).port in
       let queue = (pair_at c.pairs e).queue in
-      let seat = one.steady.regular.seats e below in
+      let seat = one.regular.seats e below in
       let at = ring_placed c (Fill e) one.config below in
       let is : (port / 2) * c.queues + queue ≡ a = omega (arith, mine) in
       let half : a / c.queues ≡ port / 2 = ap (λ n. n / c.queues) (sym is) ∙ div-mul-add (port / 2) c.queues queue at.queue in
@@ -97,7 +97,7 @@ module _ (c : Config) (a : ℕ) (one : IsApp c a) where
       )
 
   some_class : 1 ≤ classes_of c
-  some_class = let classes = one.steady.regular.classes in omega (arith, classes)
+  some_class = let classes = one.regular.classes in omega (arith, classes)
 
   -- and a socket one of a side's
   pub socket_of_side : (s : ℕ) → s < length c.sockets → app_of c (Rx s) ≡ caller_of c a
@@ -105,9 +105,9 @@ module _ (c : Config) (a : ℕ) (one : IsApp c a) where
   socket_of_side s below mine =
       let e = s / classes_of c in
       let class = s % classes_of c in
-      let known : e < length c.pairs = div_below s (classes_of c) (length c.pairs) some_class (omega (arith, below, one.steady.regular.sockets)) in
-      let seat = one.steady.regular.seats e known in
-      let at = one.steady.regular.places s below in
+      let known : e < length c.pairs = div_below s (classes_of c) (length c.pairs) some_class (omega (arith, below, one.regular.sockets)) in
+      let seat = one.regular.seats e known in
+      let at = one.regular.places s below in
       let same : app_of c (Fill e) ≡ app_of c (Rx s) =
       ap (λ (n : ℕ). caller_of c ((n / 2) * c.queues + (pair_at c.pairs e).queue)) (seat.0 ∙ sym at.0)
       ∙ ap (λ (n : ℕ). caller_of c ((port_of c (Rx s) / 2) * c.queues + n)) (seat.1 ∙ sym at.1) in

@@ -157,7 +157,7 @@ module _ (s : Setting) (frames : List Frame) (h : List Entry) (d : ℕ) (unchang
   a = app_for c d
 
   seat : IsSeat c d
-  seat = record { config = are.history.opened.config; steady = are.steady; geometry = are.history.opened.geometry; known = below }
+  seat = record { config = are.history.opened.config; regular = are.steady.regular; geometry = are.history.opened.geometry; known = below }
 
   opened : All (IsHomeItem c d) (ring_at c (opening c frames) (Fill d)).out
   opened =
@@ -177,7 +177,7 @@ module _ (s : Setting) (frames : List Frame) (h : List Entry) (d : ℕ) (unchang
       let mine = items_by_own c frames h (Fill d) are.history below in
       let known = app_known c d seat in
       let run : IsAppRun c a (own (caller_of c a) h) = subst (λ m. IsAppRunBy m c a (own (caller_of c a) h)) unchanged ((are.runs (caller_of c a) (omega (arith, known))).app a refl) in
-      let given = fills_homes c a d (own (caller_of c a) h) (record { config = are.history.opened.config; steady = are.steady; geometry = are.history.opened.geometry; known = known }) run in
+      let given = fills_homes c a d (own (caller_of c a) h) (record { config = are.history.opened.config; regular = are.steady.regular; geometry = are.history.opened.geometry; known = known }) run in
       subst (All (IsHomeItem c d)) (sym (in_order c frames h (Fill d) are.history below))
       (All-append (IsHomeItem c d) (ring_at c (opening c frames) (Fill d)).out (submitted_of (Fill d) (all_told h)) opened (subst (All (IsHomeItem c d)) (sym mine.1) given))
 

@@ -34,6 +34,7 @@ module _ (seat : Seat) where
   entries : walk.AtEntries seat Anything At (λ kept call l. Ones l)
   entries (walk.told_rx_done n) noted kept l known found h a q = both l (Swap (RxDone seat.pair) 1) (Old n) (λ e. refl) (λ e. refl) h
   entries (walk.told_bounced packet n) noted kept l known found h a q = both l _ (Old n) (λ e. let off : false ≡ true = e in cc) (λ e. let off : false ≡ true = e in cc) h
+  entries (walk.told_acked s n) noted kept l known found h a q = both l _ (Old n) (λ e. refl) (λ e. refl) h
   entries (walk.armed_fill n) noted kept l known found h a q = both l _ (Old n) (λ e. refl) (λ e. refl) h
   entries (walk.armed_tx k n) noted kept l known found h a q = both l _ (Old n) (λ e. refl) (λ e. refl) h
   entries (walk.cleared_kick frames n) noted kept l known found h a q = both l _ (Old n) (λ e. let off : false ≡ true = e in cc) (λ e. let off : false ≡ true = e in cc) h
@@ -78,6 +79,8 @@ module _ (c : Config) (a : ℕ) where
 
   app_entries : app.AtEntries c a Anything AppAt (λ kept call l. Told1 l)
   app_entries (app.told_tx_done n) noted kept l known h said q = push (TxDone a) l _ (Old n) (λ e. refl) h
+  app_entries (app.lowered shut index n) noted kept l known h said q = push (TxDone a) l _ (Old n) (λ e. let off : false ≡ true = e in cc) h
+  app_entries (app.told_closing shut n) noted kept l known h said q = push (TxDone a) l _ (Old n) (λ e. refl) h
   app_entries (app.kicked place pair n) noted kept l known h said q = told_at place noted kept _ (push (TxDone a) l _ (Old n) (λ e. refl) h)
   app_entries e noted kept l known h said q = push (TxDone a) l (app.call_at c a (app.point_of e) kept) (app.reply_of e) tt h
 

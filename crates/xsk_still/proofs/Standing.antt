@@ -1,6 +1,6 @@
 -- What stands after a stretch of calls that change nothing, of each worker by itself: it has ended, or the reasons for which it
 -- stays are those of the last state; nothing is due; each mark of its end tells what it told; and a parked driver isn't woken.
-use Rattle.std.proofs.Common.{◌≡◌, ◌⊎◌, inl, inr, ℕ, ◌+◌, ◌<◌, ◌≤◌, Bool, true, false, cond, ◌||◌, ◌&&◌, eqb, is_some, All, List, [], ◌∷◌, ◌++◌, length, refl, sym, ap, ◌∙◌, subst, ⊎_elim, arith, append-nil, length-append}
+use Rattle.std.proofs.Common.{◌≡◌, ◌⊎◌, inl, inr, ℕ, ◌+◌, ◌<◌, ◌≤◌, Bool, true, false, cond, ◌||◌, ◌&&◌, eqb, is_some, All, None, List, [], ◌∷◌, ◌++◌, length, refl, sym, ap, ◌∙◌, subst, ⊎_elim, arith, append-nil, length-append}
 use Rattle.std.specs.List.{fold}
 use Rattle.std.proofs.lemmas.List.Sums.{fold-append}
 use Rattle.xsk_umem.specs.Frame.{Frame}
@@ -38,7 +38,7 @@ use Rattle.xsk_turns.specs.Wakes.{IsParked, IsWoken, NoWakeIsLost, app_for, owes
 use Rattle.xsk_turns.specs.Watching.{watching_of}
 use Rattle.xsk_turns.specs.Workers.{Setting, input_of, IsWholeRun}
 use Rattle.xsk_turns.proofs.AppWaking.{only_sets_kicks}
-use Rattle.xsk_turns.proofs.Owning.{all_fit}
+use Rattle.xsk_turns.proofs.Fitting.{fit_in_history}
 use Rattle.xsk_turns.proofs.Places.{app_known, class_here, tx_ring}
 use Rattle.xsk_turns.proofs.ScriptLemmas.{run_front}
 use Rattle.xsk_laws.specs.Woken.{AreWorkerRuns}
@@ -108,16 +108,19 @@ module _ (s : Setting) (frames : List Frame) (past es : List Entry) (are : AreWo
   config = are.history.opened.config
 
   pub seat : (d : ℕ) → d < length c.pairs → IsSeat c d
-  seat d below = record { config = config; steady = are.steady; geometry = are.history.opened.geometry; known = below }
+  seat d below = record { config = config; regular = are.steady.regular; geometry = are.history.opened.geometry; known = below }
 
   pub one_app : (a : ℕ) → a < apps_of c → IsApp c a
-  one_app a known = record { config = config; steady = are.steady; geometry = are.history.opened.geometry; known = known }
+  one_app a known = record { config = config; regular = are.steady.regular; geometry = are.history.opened.geometry; known = known }
 
   pub goes : (who : ℕ) → OwnGoesOn c who [] (own who h)
   goes who = own_entries c frames h who are.history
 
   pub fit : (who : ℕ) → AllFit c [] (own who h)
-  fit who = all_fit c who [] (own who h) (goes who)
+  fit who = fit_in_history c frames h who are.history
+
+  pub closes : c.closing ≡ None
+  closes = are.steady.closes
 
   pub driver_run : (d : ℕ) → d < length c.pairs → IsDriverRun s.wire c d (input_of s d) (own d h)
   driver_run d below = (are.runs d (omega (arith, below))).driver below
@@ -165,7 +168,7 @@ module _ (s : Setting) (frames : List Frame) (past es : List Entry) (are : AreWo
       let was : mark_at c (state_after c frames past) (TxDone a) ≡ cond (telling_of (TxDone a) (Tx 0) mine).told 1 0 =
       mark_is_told c frames past (TxDone a) (Tx 0) (caller_of c a) earlier known (opening_mark_is c frames (TxDone a) config known) (λ other e. e) (app_sets_once c a mine (one_app a known) (app_before a known)) in
       let told : (telling_of (TxDone a) (Tx 0) mine).told ≡ true = if_one _ (sym was ∙ ap (λ y. mark_at c y (TxDone a)) (sym st.same) ∙ marked) in
-      let keeps = keeps_tx_told c a 0 (mine ++ front) kept t.call rest (one_app a known) asks in
+      let keeps = keeps_tx_told c a 0 (mine ++ front) kept t.call rest (one_app a known) closes asks in
       sym keeps.0 ∙ told_stays (TxDone a) (Tx 0) mine front told
 
   -- ---- each worker has ended, or stays as it is
@@ -192,7 +195,7 @@ module _ (s : Setting) (frames : List Frame) (past es : List Entry) (are : AreWo
       let cut = subst (λ l. Asks (turn (seat_of s.wire c d)) (start (classes_of c) (input_of s d)) l asking.kept asking.call asking.rest) same asking.asks in
       let settled = st.settled d below in
       let now = driver_stays s.wire c d (input_of s d) x settled.0 (own d past) (own d es) asking.kept asking.call asking.rest
-      (seat d below) (subst (AllFit c []) same (fit d)) (still_at d (omega (arith, below))) long settled.1 (keeps_rx d below) cut in
+      (seat d below) closes (subst (AllFit c []) same (fit d)) (still_at d (omega (arith, below))) long settled.1 (keeps_rx d below) cut in
       inr (record {
         kept = asking.kept;
         call = asking.call;
@@ -226,7 +229,7 @@ module _ (s : Setting) (frames : List Frame) (past es : List Entry) (are : AreWo
       let same = own-append who past es in
       let cut = subst (λ l. Asks (app_turn c a) (app_start c) l asking.kept asking.call asking.rest) same asking.asks in
       let now = app_stays c a x (own who past) (own who es) asking.kept asking.call asking.rest
-      (one_app a known) (subst (AllFit c []) same (fit who)) (still_at who (omega (arith, known))) long (keeps_tx a known) cut in
+      (one_app a known) closes (subst (AllFit c []) same (fit who)) (still_at who (omega (arith, known))) long (keeps_tx a known) cut in
       inr (record { kept = asking.kept; call = asking.call; rest = asking.rest; asks = asking.asks; plain = now.0; stays = now.1 }))
       (whole_or_asking (app_turn c a) (app_turn_asks c a some_lane) (app_start c) (own (caller_of c a) h) (app_run a known)))
       (st.long (caller_of c a) (omega (arith, known)))
@@ -299,14 +302,14 @@ module _ (s : Setting) (frames : List Frame) (past es : List Entry) (are : AreWo
     -- a flag that is set has its mark
     pub fill_flag : (watching_of (NeedFill d) (Fill d) (Kick d) (own d h)).set ≡ true → mark_at c x (NeedFill d) ≡ 1
     fill_flag set =
-        (fill_kept s.wire c (input_of s d) frames h d are.steady are.history below (driver_run d below) kicks).set ∙ one_if _ set
+        (fill_kept s.wire c (input_of s d) frames h d are.steady.regular are.history below (driver_run d below) kicks).set ∙ one_if _ set
 
     pub tx_flag : (class : ℕ) → class < classes_of c
         → (watching_of (NeedTx (socket_at_class c d class)) (Tx (socket_at_class c d class)) (Kick d) (own d h)).set ≡ true → mark_at c x (NeedTx (socket_at_class c d class)) ≡ 1
     tx_flag class within set =
         let t = socket_at_class c d class in
         let ring = tx_ring c d (seat d below) t (class_here c d (seat d below) class within) in
-        (tx_kept s.wire c (input_of s d) frames h d are.steady are.history below (driver_run d below) kicks t ring.0 (sym ring.1)).set ∙ one_if _ set
+        (tx_kept s.wire c (input_of s d) frames h d are.steady.regular are.history below (driver_run d below) kicks t ring.0 (sym ring.1)).set ∙ one_if _ set
 
     -- a ring that isn't empty owes it a wake
     pub fill_owed : (watching_of (NeedFill d) (Fill d) (Kick d) (own d h)).set ≡ true → 1 ≤ length (ring_at c x (Fill d)).out → owes_on d (Fill d) (NeedFill d) (own (app_of c (Fill d)) h) ≡ true

@@ -5,6 +5,7 @@ use Rattle.xsk_turns.proofs.Object.{Config, classes_of, is_ring, Draining, are_n
 use Rattle.xsk_model.specs.Marks.{is_mark}
 use Rattle.xsk_model.specs.Ends.{found}
 use Rattle.xsk_turns.proofs.Calls.{Told, with_told, Ring, Comp, Mark, NeedFill, NeedTx, RxDone, Gone, Call, Submit, Peek, Swap, Look, Reply, Items, Empty, Old}
+use Rattle.xsk_model.specs.declared.call.Mark.TheVariants.{Acked}
 use Rattle.xsk_turns.specs.Script.{Script, ask, again, ended, never, IsLive, Leaves}
 use Rattle.xsk_turns.specs.Turns.{Seat, Kept, seat_of, start, turn, IsWholeDriverRun}
 use Rattle.xsk_turns.specs.AppTurns.{AppKept, pair_of, is_set, both, with_gone, app_turn, app_start}
@@ -253,6 +254,7 @@ module _ (c : Config) (a : ℕ) (one : IsApp c a) (side : ℕ) (below : side < 2
   app_entries (app.looked_rx_done other n) noted kept l known h asked q = looked_rx noted.gone kept l other n (eqb n 1) h
   app_entries (app.looked_gone other n) noted kept l known h asked q = looked_side noted.gone kept l other n known.0 h
   app_entries (app.looked_need place need pair n) noted kept l known h asked q = looked noted.gone kept.gone l need n (no_gone d need known.1) h
+  app_entries (app.looked_acked shut n) noted kept l known h asked q = looked noted.gone kept.gone l (Acked shut.socket) n refl h
   app_entries (app.kicked place pair n) noted kept l known h asked q = still noted.gone kept.gone l _ (Old n) tt h
   app_entries e noted kept l known h asked q = still noted.gone (app.kept_before (app.point_of e) kept).gone l (app.call_at c a (app.point_of e) kept) (app.reply_of e) tt h
 

@@ -1,5 +1,5 @@
 -- What holds at each call of a worker that makes calls that change nothing, by its own calls and replies.
-use Rattle.std.specs.Prelude.{◌≡◌, ◌⊎◌, ℕ, ◌<◌, ◌≤◌, Bool, true, false, All, Some, List, [], ◌∷◌, ◌++◌, length, is_some}
+use Rattle.std.specs.Prelude.{◌≡◌, ◌⊎◌, ℕ, ◌<◌, ◌≤◌, Bool, true, false, All, None, Some, List, [], ◌∷◌, ◌++◌, length, is_some}
 use Rattle.xsk_umem.specs.Frame.{Frame}
 use Rattle.xsk_umem.specs.declared.batch.Item.{Item}
 use Rattle.xsk_model.specs.Config.{Config, classes_of, pool_of}
@@ -61,16 +61,16 @@ IsPlain (Look (NeedTx s)) = ⊥
 IsPlain (Swap (Kick d) value) = ⊥
 IsPlain call = Unit {0}
 
--- so a driver is parked, or stays as it is for want of room, of frames, or of the application's mark
+-- so where no socket is closed a driver is parked, or stays as it is for want of room, of frames, or of the application's mark
 abbrev pub DriverStays : Type 0
 DriverStays = (wire : Wire) (c : Config) (d : ℕ) (input : List Judged) (x : State) (count : ℕ) (mine still : List Told) (kept : Kept) (call : Call) (rest : Reply → Script Kept)
-    → IsSeat c d → AllFit c [] (mine ++ still) → AreStill c x still → 64 ≤ length still → HasSettled wire c d input count mine still → KeepsRxMark wire c d input x mine still
+    → IsSeat c d → c.closing ≡ None → AllFit c [] (mine ++ still) → AreStill c x still → 64 ≤ length still → HasSettled wire c d input count mine still → KeepsRxMark wire c d input x mine still
     → Asks (turn (seat_of wire c d)) (start (classes_of c) input) (mine ++ still) kept call rest
     → IsFree call × ((IsParked d (mine ++ still) × (is_some kept.parked ≡ true)) ⊎ StaysBy (seat_of wire c d) x kept)
 
 abbrev pub AppStays : Type 0
 AppStays = (c : Config) (a : ℕ) (x : State) (mine still : List Told) (kept : AppKept) (call : Call) (rest : Reply → Script AppKept)
-    → IsApp c a → AllFit c [] (mine ++ still) → AreStill c x still → 64 ≤ length still → KeepsTxMark c a x mine still
+    → IsApp c a → c.closing ≡ None → AllFit c [] (mine ++ still) → AreStill c x still → 64 ≤ length still → KeepsTxMark c a x mine still
     → Asks (app_turn c a) (app_start c) (mine ++ still) kept call rest
     → IsPlain call × AppStaysBy c a x kept
 
@@ -120,7 +120,7 @@ TellsGoneLast = (wire : Wire) (c : Config) (d s : ℕ) (input : List Judged) (l 
     ⊎ ((IsWholeDriverRun wire c d input l → ⊥) × ((telling_of (Gone d) (Comp s) l).told ≡ false)))
 
 abbrev pub KeepsTxTold : Type 0
-KeepsTxTold = (c : Config) (a t : ℕ) (l : List Told) (kept : AppKept) (call : Call) (rest : Reply → Script AppKept) → IsApp c a
+KeepsTxTold = (c : Config) (a t : ℕ) (l : List Told) (kept : AppKept) (call : Call) (rest : Reply → Script AppKept) → IsApp c a → c.closing ≡ None
     → Asks (app_turn c a) (app_start c) l kept call rest
     → ((telling_of (TxDone a) (Tx t) l).told ≡ kept.tx_done)
     × (kept.tx_done ≡ true → (lane : ℕ) → lane < lanes_of c → (draining_of (RxDone (pair_of c a 0) ∷ RxDone (pair_of c a 1) ∷ []) (Rx (rx_of c a lane)) l).empty ≡ true)
@@ -139,7 +139,7 @@ LaysOut = (wire : Wire) (c : Config) (d s : ℕ) (input : List Judged) (l : List
     → (packets : List (List ℕ)) × IsLaidOut c.geometry c.sg packets (submitted_of (Rx s) l) × All (IsSized c) packets
 
 abbrev pub HasPending : Type 0
-HasPending = (c : Config) (a : ℕ) (l : List Told) (lane : ℕ) (kept : AppKept) (call : Call) (rest : Reply → Script AppKept) → IsApp c a → Asks (app_turn c a) (app_start c) l kept call rest → IsFree call
+HasPending = (c : Config) (a : ℕ) (l : List Told) (lane : ℕ) (kept : AppKept) (call : Call) (rest : Reply → Script AppKept) → IsApp c a → c.closing ≡ None → Asks (app_turn c a) (app_start c) l kept call rest → IsFree call
     → lane < lanes_of c → submitted_of (Tx (tx_of c a lane)) l ++ pending_at kept lane ≡ peeked_of (Rx (rx_of c a lane)) l
 
 abbrev pub PendingFew : Type 0
