@@ -1,5 +1,5 @@
 -- What an application puts into rings it took from rings that come before them, and it swaps no more marks than it puts items,
--- but for three at its end.
+-- but for three at its end, and for those of the socket that it closes.
 use Rattle.std.proofs.Common.{◌≡◌, ℕ, zero, suc, ◌+◌, ◌*◌, ◌/◌, ◌<◌, ◌≤◌, Bool, true, false, cond, eqb, Option, Some, None, List, [], ◌∷◌, ◌++◌, length, get_or, set, take, drop, map, replicate, refl, sym, ap, ◌∙◌, arith, length-append, length-take, length-drop, length-set}
 use Rattle.std.proofs.lemmas.List.{length-map}
 use Rattle.xsk_umem.specs.Frame.{Frame}
@@ -10,14 +10,14 @@ use Rattle.xsk_model.specs.Entry.{Told, with_told}
 use Rattle.xsk_model.specs.Legal.{IsLegal}
 use Rattle.xsk_model.specs.History.{Fits, OwnGoesOn}
 use Rattle.xsk_model.specs.declared.call.Ring.TheVariants.{Fill, Comp, Rx, Tx}
-use Rattle.xsk_model.specs.declared.call.Mark.TheVariants.{Kick, TxDone}
+use Rattle.xsk_model.specs.declared.call.Mark.TheVariants.{Kick, TxDone, Cell, Closing}
 use Rattle.xsk_model.specs.declared.call.Call.{Call}
 use Rattle.xsk_model.specs.declared.call.Call.TheVariants.{Submit, Peek, Swap}
 use Rattle.xsk_model.specs.declared.call.Reply.{Reply}
 use Rattle.xsk_model.specs.declared.call.Reply.TheVariants.{Granted, Full, Submitted, Items, Empty, Released, Old}
 use Rattle.xsk_turns.specs.Script.{Script, ask, begun}
 use Rattle.xsk_turns.specs.Turns.{frame_in, frames_in}
-use Rattle.xsk_turns.specs.AppTurns.{AppKept, lanes_of, group_of, pending_at, with_pending, given_on, passed_on, with_back, app_turn, app_start_by, IsAppRunBy}
+use Rattle.xsk_turns.specs.AppTurns.{AppKept, lanes_of, group_of, pair_of, pending_at, back_at, received, drained, with_acked, given_on, passed_on, with_back, app_turn, app_start_by, IsAppRunBy}
 use Rattle.xsk_turns.specs.Mangling.{change_at, taken_by, frames_taken, back_by}
 use Rattle.xsk_turns.specs.declared.manner.Manner.{Manner}
 use Rattle.xsk_turns.specs.declared.manner.Change.{Change}
@@ -26,8 +26,8 @@ use Rattle.xsk_turns.proofs.Mangling.{length-given, back_sides}
 use Rattle.xsk_turns.specs.AppOwned.{IsApp}
 use Rattle.xsk_turns.proofs.AppGroups.{group_front}
 use Rattle.xsk_turns.proofs.Walks.{Premise, MeetAlong}
-use Rattle.xsk_turns.proofs.AppWalk.{Place, Lanes, Ending, Looking, Waking, Looked, Kicking, TxTold, Family, Said, rx_empty, rx_items, rx_released, tx_granted, tx_full, tx_submitted, comp_empty, comp_items, comp_released, fill_granted, fill_full, fill_submitted, looked_rx_done, told_tx_done, looked_gone, looked_need, kicked, no_lanes, has_items, lanes_done, has_frames, all_given, sides_done, looks, rests, skips, begins, without_need, needs_none, needs_kick, told_quietly, told_both, AtCalls, AtEntries, AtPasses, IsLaw, of_run}
-use Rattle.xsk_bounds.specs.Totals.{total, put, steps_put, steps_taken, swapped}
+use Rattle.xsk_turns.proofs.AppWalk.{shut_port, shut_cells, Place, Lanes, Ending, Looking, Waking, Looked, Kicking, TxTold, Lowering, Shutting, Family, Said, rx_empty, rx_items, rx_released, tx_granted, tx_full, tx_submitted, comp_empty, comp_items, comp_released, fill_granted, fill_full, fill_submitted, looked_rx_done, told_tx_done, looked_gone, looked_need, kicked, lowered, told_closing, drain_empty, drain_items, drain_released, looked_acked, no_lanes, has_items, lanes_done, has_frames, all_given, sides_done, looks, rests, skips, begins, without_need, needs_none, needs_kick, told_quietly, told_both, closes, keeps_cell, closed_quietly, closed_kicks, AtCalls, AtEntries, AtPasses, IsLaw, of_run}
+use Rattle.xsk_bounds.specs.Totals.{total, put, steps_put, steps_taken, swapped, cells_swapped, closings_told}
 use Rattle.xsk_bounds.proofs.Totals.{total-push}
 use Rattle.xsk_bounds.proofs.Sums.{Applies}
 
@@ -105,11 +105,12 @@ owed (Waking place need pair) = 1 + owed place
 owed (Looked place need pair n) = 1 + owed place
 owed (Kicking place pair) = 1 + owed place
 owed TxTold = 2
+owed (Shutting shut) = 1
 owed place = 0
 
 pub record Pays (place : Place) (kept : AppKept) (l : List Told) : Type 0 where
   pub spends : total put l + total steps_put l + 4 * pending kept + back kept ≤ total steps_taken l
-  pub swaps : total swapped l + owed place ≤ total put l + done kept.tx_done
+  pub swaps : total swapped l + owed place ≤ total put l + done kept.tx_done + total cells_swapped l + 2 * total closings_told l
   pub sides : length kept.back ≡ 2
 
 applies : (place : Place) (kept : AppKept) (l : List Told) → Pays place kept l → Applies l
@@ -136,7 +137,7 @@ module _ (c : Config) (a who : ℕ) where
       let t : Told = record { call = call; reply = reply } in
       record {
         spends = omega (arith, h.spends, e, f, none.0, none.1, total-push put l t, total-push steps_put l t, total-push steps_taken l t);
-        swaps = omega (arith, h.swaps, same, ap done g, none.0, none.2, total-push put l t, total-push swapped l t);
+        swaps = omega (arith, h.swaps, same, ap done g, none.0, none.2, total-push put l t, total-push swapped l t, total-push cells_swapped l t, total-push closings_told l t);
         sides = sides ∙ h.sides;
       }
 
@@ -144,12 +145,12 @@ module _ (c : Config) (a who : ℕ) where
   calls p noted kept l known h = applies _ _ l h
 
   rx_taken : (lane : ℕ) (r : ℕ) (n : ℕ) (kept : AppKept) (l : List Told) (items : List Item) (place next : Place) → owed next ≡ owed place
-      → Pays place kept l → Pays next (with_pending kept lane items) (with_told l (Peek (Rx r) n) (Items items))
+      → Pays place kept l → Pays next (received c a lane kept items) (with_told l (Peek (Rx r) n) (Items items))
   rx_taken lane r n kept l items place next same h =
       let t : Told = record { call = Peek (Rx r) n; reply = Items items } in
       record {
         spends = omega (arith, h.spends, total_put kept.pending lane items, total-push put l t, total-push steps_put l t, total-push steps_taken l t);
-        swaps = omega (arith, h.swaps, same, total-push put l t, total-push swapped l t);
+        swaps = omega (arith, h.swaps, same, total-push put l t, total-push swapped l t, total-push cells_swapped l t, total-push closings_told l t);
         sides = h.sides;
       }
 
@@ -159,8 +160,43 @@ module _ (c : Config) (a who : ℕ) where
       let t : Told = record { call = Peek (Comp r) n; reply = Items items } in
       record {
         spends = omega (arith, h.spends, few_in items, total_put kept.back side (frames_in items), total-push put l t, total-push steps_put l t, total-push steps_taken l t);
-        swaps = omega (arith, h.swaps, same, total-push put l t, total-push swapped l t);
+        swaps = omega (arith, h.swaps, same, total-push put l t, total-push swapped l t, total-push cells_swapped l t, total-push closings_told l t);
         sides = length-set kept.back side (frames_in items) ∙ h.sides;
+      }
+
+  -- what a closed lane gives goes back
+  drain_taken : (lane : ℕ) (r : ℕ) (n : ℕ) (kept : AppKept) (l : List Told) (items : List Item) (place next : Place) → owed next ≡ owed place
+      → Pays place kept l → Pays next (drained c lane kept items) (with_told l (Peek (Rx r) n) (Items items))
+  drain_taken lane r n kept l items place next same h =
+      let t : Told = record { call = Peek (Rx r) n; reply = Items items } in
+      let side = lane / classes_of c in
+      let all = back_at kept side ++ frames_in items in
+      record {
+        spends = omega (
+          arith,
+          h.spends,
+          few_in items,
+          total_put kept.back side (take 4096 all),
+          length-take 4096 all,
+          length-append (back_at kept side) (frames_in items),
+          total-push put l t,
+          total-push steps_put l t,
+          total-push steps_taken l t,
+        );
+        swaps = omega (arith, h.swaps, same, total-push put l t, total-push swapped l t, total-push cells_swapped l t, total-push closings_told l t);
+        sides = length-set kept.back side (take 4096 all) ∙ h.sides;
+      }
+
+  -- a Swap that lowers a cell or closes a socket
+  closes_more : (place next : Place) (kept : AppKept) (begun : Bool) (l : List Told) (call : Call) (n : ℕ)
+      → (let t : Told = record { call = call; reply = Old n } in (put t ≡ 0) × (steps_put t ≡ 0)) → owed place ≡ 0 → (let t : Told = record { call = call; reply = Old n } in swapped t + owed next ≤ cells_swapped t + 2 * closings_told t)
+      → Pays place kept l → Pays next (record kept { begun = begun }) (with_told l call (Old n))
+  closes_more place next kept begun l call n none here more h =
+      let t : Told = record { call = call; reply = Old n } in
+      record {
+        spends = omega (arith, h.spends, none.0, none.1, total-push put l t, total-push steps_put l t, total-push steps_taken l t);
+        swaps = omega (arith, h.swaps, here, more, none.0, total-push put l t, total-push swapped l t, total-push cells_swapped l t, total-push closings_told l t);
+        sides = h.sides;
       }
 
   tx_put : (lane : ℕ) (r : ℕ) (kept : AppKept) (l : List Told) (place next : Place) → owed next ≤ owed place + length (pending_at kept lane)
@@ -170,7 +206,7 @@ module _ (c : Config) (a who : ℕ) where
       let count = length-given c.geometry kept.manner.mangle kept.number (pending_at kept lane) in
       record {
         spends = omega (arith, h.spends, total_put kept.pending lane [], back_put kept.manner.mangle kept.number (pending_at kept lane) (lane / classes_of c) kept.back, count, total-push put l t, total-push steps_put l t, total-push steps_taken l t);
-        swaps = omega (arith, h.swaps, some, count, total-push put l t, total-push swapped l t);
+        swaps = omega (arith, h.swaps, some, count, total-push put l t, total-push swapped l t, total-push cells_swapped l t, total-push closings_told l t);
         sides = back_sides kept.manner.mangle kept.number (pending_at kept lane) (lane / classes_of c) kept.back ∙ h.sides;
       }
 
@@ -185,7 +221,7 @@ module _ (c : Config) (a who : ℕ) where
       omega (arith, few, is, length-drop n frames, total_set kept.back side (drop n frames) within, total_set kept.back side frames within) in
       record {
         spends = omega (arith, h.spends, fewer, total-push put l t, total-push steps_put l t, total-push steps_taken l t);
-        swaps = omega (arith, h.swaps, some, total-push put l t, total-push swapped l t);
+        swaps = omega (arith, h.swaps, some, total-push put l t, total-push swapped l t, total-push cells_swapped l t, total-push closings_told l t);
         sides = length-set kept.back side (drop n frames) ∙ sides;
       }
 
@@ -220,7 +256,7 @@ module _ (c : Config) (a who : ℕ) where
       let t : Told = record { call = Swap (TxDone a) 1; reply = Old n } in
       record {
         spends = omega (arith, h.spends, total-push put l t, total-push steps_put l t, total-push steps_taken l t);
-        swaps = omega (arith, h.swaps, ap done known.0, total-push put l t, total-push swapped l t);
+        swaps = omega (arith, h.swaps, ap done known.0, total-push put l t, total-push swapped l t, total-push cells_swapped l t, total-push closings_told l t);
         sides = h.sides;
       }
   entries (looked_gone side n) noted kept l known h asked q =
@@ -232,9 +268,15 @@ module _ (c : Config) (a who : ℕ) where
       let t : Told = record { call = Swap (Kick pair) 1; reply = Old n } in
       record {
         spends = omega (arith, h.spends, total-push put l t, total-push steps_put l t, total-push steps_taken l t);
-        swaps = omega (arith, h.swaps, total-push put l t, total-push swapped l t);
+        swaps = omega (arith, h.swaps, total-push put l t, total-push swapped l t, total-push cells_swapped l t, total-push closings_told l t);
         sides = h.sides;
       }
+  entries (lowered shut index n) noted kept l known h asked q = closes_more (Lowering shut index) (Lowering shut (index + 1)) kept kept.begun l (Swap (Cell (shut_port c shut) index) 0) n (refl, refl) refl (omega arith) h
+  entries (told_closing shut n) noted kept l known h asked q = closes_more (Lowering shut (length (shut_cells c shut))) (Shutting shut) kept true l (Swap (Closing shut.socket) 1) n (refl, refl) refl (omega arith) h
+  entries (drain_empty lane) noted kept l known h asked q = still _ _ kept kept l _ Empty refl refl refl refl refl (refl, refl, refl) h
+  entries (drain_items lane items) noted kept l known h asked q = drain_taken lane _ _ kept l items _ _ refl h
+  entries (drain_released lane n) noted kept l known h asked q = still _ _ kept kept l _ Released refl refl refl refl refl (refl, refl, refl) h
+  entries (looked_acked shut n) noted kept l known h asked q = still Ending Ending kept (with_acked kept n) l _ (Old n) refl refl refl refl refl (refl, refl, refl) h
 
   go_to : (place next : Place) (kept : AppKept) (l : List Told) → owed next ≤ owed place → Pays place kept l → Pays next kept l
   go_to place next kept l fewer h = record { spends = h.spends; swaps = omega (arith, h.swaps, fewer); sides = h.sides }
@@ -255,6 +297,10 @@ module _ (c : Config) (a who : ℕ) where
   passes rests noted kept l = λ h e. go_to _ _ kept l (omega arith) h
   passes (skips side) noted kept l = λ h e. go_to _ _ kept l (omega arith) h
   passes begins noted kept l = λ h e. go_to _ _ kept l (omega arith) h
+  passes (closes shut) noted kept l = λ h e. go_to (Lanes 0) (Lowering shut 0) kept l (omega arith) h
+  passes (keeps_cell shut index) noted kept l = λ h e. go_to (Lowering shut index) (Lowering shut (index + 1)) kept l (omega arith) h
+  passes (closed_quietly shut) noted kept l = λ h e. go_to (Shutting shut) (Lanes 0) kept l (omega arith) h
+  passes (closed_kicks shut) noted kept l = λ h e. go_to (Shutting shut) (Kicking (Lanes 0) (pair_of c a shut.side)) kept l (omega arith) h
 
   law : IsLaw c a (Lawful c who) At Asked (λ kept l. Applies l)
   law = record { calls = calls; entries = entries; passes = passes; ends = λ noted kept l done h. applies Ending kept l h }

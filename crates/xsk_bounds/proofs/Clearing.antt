@@ -3,7 +3,7 @@ use Rattle.std.proofs.Common.{◌≡◌, ℕ, ◌<◌, inl, inr, true, false, eq
 use Rattle.std.proofs.lemmas.Bool.{and_from}
 use Rattle.std.proofs.lemmas.List.Sums.{fold_push}
 use Rattle.xsk_umem.specs.Frame.{Frame}
-use Rattle.xsk_model.specs.Config.{Config, classes_of}
+use Rattle.xsk_model.specs.Config.{Config, IsRegular, classes_of}
 use Rattle.xsk_model.specs.Marks.{apps_of}
 use Rattle.xsk_model.specs.Rings.{caller_of, app_of, application_on, port_of, queue_of}
 use Rattle.xsk_model.specs.Opening.{opening}
@@ -22,7 +22,6 @@ use Rattle.xsk_turns.specs.Script.{Script, IsRun, Leaves, Asks}
 use Rattle.xsk_turns.specs.Turns.{Judged, Kept, seat_of, start, turn, IsDriverRun}
 use Rattle.xsk_turns.specs.AppTurns.{AppKept, app_turn, app_start_by, IsAppRunBy}
 use Rattle.xsk_turns.specs.AppOwned.{IsApp}
-use Rattle.xsk_turns.specs.Owned.{IsSteady}
 use Rattle.xsk_turns.specs.declared.manner.Manner.{Manner}
 use Rattle.xsk_turns.specs.declared.wire.Wire.{Wire}
 use Rattle.xsk_turns.proofs.ScriptLemmas.{leaves_front, asked_last}
@@ -115,7 +114,7 @@ own_split who past later e mine =
     own-append who past (e ∷ later) ∙ ap (λ l. own who past ++ l) (own-append who (e ∷ []) later ∙ ap (λ l. l ++ own who later) (own-push_same who [] e mine))
 
 -- the kicks of a history are swapped so where each caller's own calls are a run
-module _ (m : Manner) (wire : Wire) (c : Config) (frames : List Frame) (h : List Entry) (input : ℕ → List Judged) (steady : IsSteady c) (history : IsHistory c frames h)
+module _ (m : Manner) (wire : Wire) (c : Config) (frames : List Frame) (h : List Entry) (input : ℕ → List Judged) (regular : IsRegular c) (history : IsHistory c frames h)
     (drivers : (d : ℕ) → d < length c.pairs → IsDriverRun wire c d (input d) (own d h))
     (apps : (a : ℕ) → a < apps_of c → IsAppRunBy m c a (own (caller_of c a) h)) where
   driver_keeps : (d : ℕ) (past later : List Entry) (e : Entry) (value : ℕ) → d < length c.pairs → h ≡ past ++ e ∷ later → e.call ≡ Swap (Kick d) value → e.who ≡ d
@@ -130,7 +129,7 @@ module _ (m : Manner) (wire : Wire) (c : Config) (frames : List Frame) (h : List
       let who = caller_of c a in
       let run = subst (IsAppRunBy m c a) (ap (own who) split ∙ own_split who past later e mine) (apps a below) in
       let asks = asked_at (app_turn c a) (app_start_by m c) (own who past) (told e) (own who later) run in
-      let one : IsApp c a = record { config = history.opened.config; steady = steady; geometry = history.opened.geometry; known = below } in
+      let one : IsApp c a = record { config = history.opened.config; regular = regular; geometry = history.opened.geometry; known = below } in
       subst Kicks is (app_kicks m c a one (own who past) asks.0 e.call asks.1 asks.2)
 
   pub keeps_kicks : (d : ℕ) → d < length c.pairs → KeepsKicks d h

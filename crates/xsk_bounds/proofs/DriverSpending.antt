@@ -1,5 +1,5 @@
 -- What a driver puts into rings is paid by its packets and by what it took from TX, and it swaps marks no more often than it
--- finds items, or its kick set, or its end, lets it, and once for each packet that bounces.
+-- finds items, or its kick set, or its end, lets it, once for each packet that bounces, and where it acknowledges that its socket is closed.
 use Rattle.std.proofs.Common.{◌≡◌, ℕ, zero, suc, ◌+◌, ◌*◌, ◌%◌, ◌≤◌, Bool, true, false, cond, not, ◌||◌, ◌&&◌, eqb, nat_le, Option, Some, None, is_some, option_to_list, List, [], ◌∷◌, ◌++◌, length, take, drop, map, replicate, refl, ap, subst, ◌∙◌, arith, length-append, length-take, length-drop, eq-eqb, ltb-false}
 use Rattle.std.specs.Int.{div_ceil}
 use Rattle.std.proofs.lemmas.List.{length-map}
@@ -15,19 +15,19 @@ use Rattle.xsk_model.specs.Entry.{Told, with_told}
 use Rattle.xsk_model.specs.History.{OwnGoesOn}
 use Rattle.xsk_model.specs.declared.call.Ring.TheVariants.{Fill, Comp, Rx, Tx}
 use Rattle.xsk_model.specs.declared.call.Mark.{Mark}
-use Rattle.xsk_model.specs.declared.call.Mark.TheVariants.{NeedFill, NeedTx, Kick, RxDone, Gone, TxDone, Bounced as BouncedMark}
+use Rattle.xsk_model.specs.declared.call.Mark.TheVariants.{NeedFill, NeedTx, Kick, RxDone, Gone, TxDone, Acked, Bounced as BouncedMark}
 use Rattle.xsk_model.specs.declared.call.Call.{Call}
 use Rattle.xsk_model.specs.declared.call.Call.TheVariants.{Submit, Peek, Swap, Look}
 use Rattle.xsk_model.specs.declared.call.Reply.{Reply}
 use Rattle.xsk_model.specs.declared.call.Reply.TheVariants.{Granted, Full, Submitted, Items, Empty, Released, Old}
-use Rattle.xsk_turns.specs.Turns.{Seat, Judged, Kept, fresh, awaits, bounced_among, settled, dropped, supplied, with_rx_full, with_fill_empty, with_tx_empty, gathered, woken, pieces_of, limit_of, laid_out, application_of, group_at, returned, seat_of, socket_of, start, turn, IsDriverRun}
+use Rattle.xsk_turns.specs.Turns.{Seat, Judged, Kept, fresh, awaits, bounced_among, settled, dropped, supplied, with_rx_full, with_fill_empty, with_tx_empty, gathered, woken, pieces_of, limit_of, laid_out, application_of, group_at, returned, seat_of, socket_of, with_acked, start, turn, IsDriverRun}
 use Rattle.xsk_turns.specs.declared.wire.Wire.{Wire}
 use Rattle.xsk_turns.specs.declared.disposal.Disposal.{Disposal}
 use Rattle.xsk_turns.specs.declared.disposal.Disposal.TheVariants.{Delivered, NoFrames, RxFull, TooLong, Missed, Bounced}
 use Rattle.xsk_turns.proofs.Layouts.{few_pieces}
 use Rattle.xsk_turns.proofs.Walks.{nothing_due, submit_due, release_due}
-use Rattle.xsk_turns.proofs.DriverWalk.{Place, Receiving, Trying, Lacking, Sending, Idling, Arming, Which, Turning, Again, Parked, Woken, Disarming, Family, first_place, Begins, asked, PeekFill, ReleaseFill, PeekTx, ReleaseTx, ArmTx, DisarmTx, SubmitRx, call_at, told_rx_done, told_bounced, looked_none, looked_long, looked_some, fill_empty, fill_items, fill_released, rx_granted, rx_full, rx_submitted, comp_granted, comp_full, comp_submitted, tx_empty, tx_items, tx_released, looked_tx_done, armed_fill, armed_tx, found_end, found_none, kicked, not_kicked, cleared_kick, disarmed_fill, disarmed_tx, untried, none_comes, too_few, waits, drops_full, drops_frameless, visited, idles, arms, seeks, sought, misses, looks, finds, parks, disarmed, Said, AtCalls, AtEntries, AtPasses, IsLaw, of_run}
-use Rattle.xsk_bounds.specs.Totals.{total, put, steps_put, steps_taken, swapped, took, kick_swaps}
+use Rattle.xsk_turns.proofs.DriverWalk.{Place, Starting, Acking, Receiving, Trying, Lacking, Sending, Idling, Arming, Which, Turning, Again, Parked, Woken, Disarming, Family, first_place, Begins, asked, PeekFill, ReleaseFill, PeekTx, ReleaseTx, ArmTx, DisarmTx, SubmitRx, call_at, saw_fed, saw_closed, told_acked, told_rx_done, told_bounced, looked_none, looked_long, looked_some, fill_empty, fill_items, fill_released, rx_granted, rx_full, rx_submitted, comp_granted, comp_full, comp_submitted, tx_empty, tx_items, tx_released, looked_tx_done, armed_fill, armed_tx, found_end, found_none, kicked, not_kicked, cleared_kick, disarmed_fill, disarmed_tx, receives, untried, none_comes, too_few, waits, drops_full, drops_frameless, visited, idles, arms, seeks, sought, misses, looks, finds, parks, disarmed, Said, AtCalls, AtEntries, AtPasses, IsLaw, of_run}
+use Rattle.xsk_bounds.specs.Totals.{total, put, steps_put, steps_taken, swapped, took, kick_swaps, closings_acked}
 use Rattle.xsk_bounds.proofs.Totals.{total-append, total-push}
 use Rattle.xsk_bounds.proofs.Sums.{Spends, Drives}
 use Rattle.xsk_bounds.proofs.AppSpending.{Lawful, meet_lawful, total_put}
@@ -78,7 +78,7 @@ eleven b = cond b 11 0
 
 -- how often the marks may have been swapped, by what the driver found
 abbrev base : ℕ → Bool → Bool → List Told → ℕ
-base d rx_done tx_done l = 11 * (total took l + total (kick_swaps d 0) l + flag tx_done) + flag rx_done
+base d rx_done tx_done l = 11 * (total took l + total (kick_swaps d 0) l + flag tx_done) + flag rx_done + total closings_acked l
 
 -- at a place there are more Swaps by so many, or fewer by so many
 abbrev more_in : Which → ℕ
@@ -140,7 +140,7 @@ flag_few false = omega arith
 -- what such calls come to
 pub record Spent (d packets : ℕ) (l : List Told) : Type 0 where
   pub spends : Spends l packets
-  pub swaps : total swapped l ≤ 11 * (total took l + total (kick_swaps d 0) l + 2) + 2 + packets
+  pub swaps : total swapped l ≤ 11 * (total took l + total (kick_swaps d 0) l + 2) + 2 + packets + total closings_acked l
   pub kicks : (e : ℕ) → total (kick_swaps e 1) l ≡ 0
 
 -- a packet has no more pieces than 18
@@ -180,7 +180,7 @@ module _ (wire : Wire) (c : Config) (d packets : ℕ) (few : classes_of c ≤ 4)
   abbrev Counts : Place → Place → Bool → Bool → Kept → Kept → Told → Type 0
   Counts place next progress after kept now t =
       swapped t + fewer_at next after + more_at place + 11 * flag kept.tx_done + flag kept.rx_done + length kept.disposals
-      ≤ fewer_at place progress + more_at next + 11 * took t + 11 * kick_swaps d 0 t + 11 * flag now.tx_done + flag now.rx_done + length now.disposals
+      ≤ fewer_at place progress + more_at next + 11 * took t + 11 * kick_swaps d 0 t + 11 * flag now.tx_done + flag now.rx_done + length now.disposals + closings_acked t
 
   step : (place next : Place) (progress after : Bool) (kept now : Kept) (l : List Told) (call : Call) (reply : Reply)
       → (let t : Told = record { call = call; reply = reply } in Costs kept now t × Counts place next progress after kept now t × ((e : ℕ) → kick_swaps e 1 t ≡ 0))
@@ -191,7 +191,7 @@ module _ (wire : Wire) (c : Config) (d packets : ℕ) (few : classes_of c ≤ 4)
       record {
         spends = omega (arith, h.spends, is.0, total-push put l t, total-push steps_put l t, total-push steps_taken l t);
         count = same ∙ h.count;
-        swaps = omega (arith, h.swaps, is.1, total-push swapped l t, total-push took l t, total-push (kick_swaps d 0) l t);
+        swaps = omega (arith, h.swaps, is.1, total-push swapped l t, total-push took l t, total-push (kick_swaps d 0) l t, total-push closings_acked l t);
         quiet = quiet;
         kicks = λ e. omega (arith, h.kicks e, is.2 e, total-push (kick_swaps e 1) l t);
       }
@@ -277,6 +277,12 @@ module _ (wire : Wire) (c : Config) (d packets : ℕ) (few : classes_of c ≤ 4)
   calls p noted kept l known h = spent (asked seat p kept).0 noted.progress kept l (omega arith) h
 
   entries : AtEntries seat (Lawful c d) At Asked
+  entries (saw_fed s n) noted kept l known found h a q =
+      still Starting Receiving noted.progress noted.progress kept kept l _ (Old n) (refl, refl, refl, λ e. refl) refl (omega arith) refl refl (omega arith) (omega arith) tt h
+  entries (saw_closed s n) noted kept l known found h a q =
+      still Starting Acking noted.progress noted.progress kept kept l _ (Old n) (refl, refl, refl, λ e. refl) refl (omega arith) refl refl (omega arith) (omega arith) tt h
+  entries (told_acked s n) noted kept l known found h a q =
+      step Acking Receiving noted.progress noted.progress kept (with_acked kept) l (Swap (Acked s) 1) (Old n) (omega arith, omega arith, λ e. refl) refl tt h
   entries (told_rx_done n) noted kept l known found h a q =
       swaps_mark Receiving (Sending Turning 0 nothing_due) noted.progress true kept (record kept { rx_done = true }) l (RxDone d) 1 n (λ e v. refl) refl refl refl refl (omega (arith, ap flag known.1)) tt h
   entries (told_bounced packet n) noted kept l known found h a q =
@@ -325,7 +331,7 @@ module _ (wire : Wire) (c : Config) (d packets : ℕ) (few : classes_of c ≤ 4)
       step (Sending Turning k (submit_due (Comp d) (length packet))) (Sending Turning k nothing_due) noted.progress true kept (record kept { finished = later }) l (Submit (Comp d) (map returned packet)) Submitted
       (omega (arith, ap all_of known, length-map packet returned), omega arith, λ e. refl) refl tt h
   entries (looked_tx_done n) noted kept l known found h a q =
-      still Idling Receiving noted.progress false kept (record kept { tx_done = kept.tx_done || eqb n 1 }) l _ (Old n) (refl, refl, refl, λ e. refl) refl (omega arith) refl refl (or_more kept.tx_done (eqb n 1)) (omega arith) tt h
+      still Idling Starting noted.progress false kept (record kept { tx_done = kept.tx_done || eqb n 1 }) l _ (Old n) (refl, refl, refl, λ e. refl) refl (omega arith) refl refl (or_more kept.tx_done (eqb n 1)) (omega arith) tt h
   entries (armed_fill n) noted kept l known found h a q =
       swaps_mark Idling (Arming 0) noted.progress noted.progress kept kept l (NeedFill d) 1 n (λ e v. refl) refl refl refl refl (omega arith) (known.3, known.2) h
   entries (armed_tx k n) noted kept l known found h a q =
@@ -364,6 +370,7 @@ module _ (wire : Wire) (c : Config) (d packets : ℕ) (few : classes_of c ≤ 4)
   settles_so kept now x more = omega (arith, ap length more, length-append kept.disposals (x ∷ []))
 
   passes : AtPasses seat (Lawful c d) At
+  passes receives noted kept l = λ h e. go_to Starting Receiving noted.progress noted.progress kept kept l refl (omega arith) refl refl refl (omega arith) tt h
   passes (untried packet later x) noted kept l = λ h e.
       go_to Receiving Receiving noted.progress true kept (settled kept x) l refl (settles_so kept (settled kept x) x refl) (one_fewer kept.disposals x kept.coming packet later e.0) refl refl (omega arith) tt h
   passes none_comes noted kept l = λ h e. go_to _ _ noted.progress noted.progress kept kept l refl (omega arith) refl refl refl (omega arith) tt h
@@ -374,7 +381,7 @@ module _ (wire : Wire) (c : Config) (d packets : ℕ) (few : classes_of c ≤ 4)
   passes (drops_frameless packet s) noted kept l = λ h e.
       go_to (Lacking Turning packet s false) (Sending Turning 0 nothing_due) noted.progress true kept (dropped kept NoFrames) l refl (settles_so kept (dropped kept NoFrames) NoFrames refl) (one_fewer kept.disposals NoFrames kept.coming packet e.0.next.later e.0.next.is) refl refl (omega arith) tt h
   passes visited noted kept l = λ h e. go_to (Sending Turning seat.classes nothing_due) Idling noted.progress noted.progress kept kept l refl (omega arith) refl refl refl (omega arith) tt h
-  passes idles noted kept l = λ h e. go_to Idling Receiving noted.progress false kept kept l refl (omega arith) refl refl refl (omega arith) tt h
+  passes idles noted kept l = λ h e. go_to Idling Starting noted.progress false kept kept l refl (omega arith) refl refl refl (omega arith) tt h
   passes arms noted kept l = λ h e. go_to Idling (Arming 0) noted.progress noted.progress kept kept l refl (omega arith) refl refl refl (omega arith) (e.3, e.2) h
   passes (seeks packet s) noted kept l = λ h e.
       go_to (Arming seat.classes) (Trying Again packet s nothing_due) noted.progress noted.progress kept kept l refl (omega arith) refl refl refl (omega (arith, few, ap eleven h.quiet.0)) h.quiet.1 h
@@ -386,7 +393,7 @@ module _ (wire : Wire) (c : Config) (d packets : ℕ) (few : classes_of c ≤ 4)
       go_to (Sending Again seat.classes nothing_due) (Disarming (awaits noted) 0) noted.progress noted.progress kept kept l refl (omega arith) refl refl refl (omega (arith, ap eleven e)) tt h
   passes parks noted kept l = λ h e.
       go_to (Sending Again seat.classes nothing_due) (Parked (awaits noted)) noted.progress false kept (record kept { parked = Some (awaits noted) }) l refl (omega arith) refl refl refl (omega arith) tt h
-  passes disarmed noted kept l = λ h e. go_to (Disarming false seat.classes) Receiving noted.progress false kept kept l refl (omega arith) refl refl refl (omega (arith, few)) tt h
+  passes disarmed noted kept l = λ h e. go_to (Disarming false seat.classes) Starting noted.progress false kept kept l refl (omega arith) refl refl refl (omega (arith, few)) tt h
 
   law : IsLaw seat (Lawful c d) At Asked (λ kept l. Spent d packets l)
   law = record {
@@ -397,7 +404,7 @@ module _ (wire : Wire) (c : Config) (d packets : ℕ) (few : classes_of c ≤ 4)
         let t : Told = record { call = Swap (Gone d) 1; reply = Old n } in
         record {
           spends = omega (arith, a.spends, total-push put l t, total-push steps_put l t, total-push steps_taken l t);
-          swaps = omega (arith, h.swaps, h.count, flag_few kept.rx_done, flag_few kept.tx_done, total-push swapped l t, total-push took l t, total-push (kick_swaps d 0) l t);
+          swaps = omega (arith, h.swaps, h.count, flag_few kept.rx_done, flag_few kept.tx_done, total-push swapped l t, total-push took l t, total-push (kick_swaps d 0) l t, total-push closings_acked l t);
           kicks = λ e. omega (arith, a.kicks e, total-push (kick_swaps e 1) l t);
         };
   }
@@ -419,7 +426,7 @@ driver_drives wire c d input l few geometry legal run =
     first = record { spends = omega (arith, none (classes_of c)); count = omega arith; swaps = omega arith; quiet = tt; kicks = λ e. refl }
 
     begun_by : (o : Option Bool) (kept : Kept) (m : List Told) → At wire c d (length input) few geometry (first_place o) fresh kept m → Spent d (length input) m
-    begun_by None kept m h = spent wire c d (length input) few geometry Receiving false kept m (omega arith) h
+    begun_by None kept m h = spent wire c d (length input) few geometry Starting false kept m (omega arith) h
     begun_by (Some frames) kept m h = spent wire c d (length input) few geometry (Parked frames) false kept m (omega arith) h
 
     begun : (kept : Kept) (m : List Told) → Begins (At wire c d (length input) few geometry) kept m → Spent d (length input) m

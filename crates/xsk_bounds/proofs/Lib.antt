@@ -3,6 +3,7 @@ pub mod Flow
 pub mod Changing
 pub mod Opened
 pub mod Kicks
+pub mod Closing
 pub mod Sums
 pub mod AppSpending
 pub mod DriverSpending

@@ -1,5 +1,5 @@
 -- From what each caller's own calls come to, to how often the object changes.
-use Rattle.std.proofs.Common.{◌≡◌, ℕ, zero, suc, ◌+◌, ◌*◌, ◌<◌, ◌≤◌, Bool, true, false, cond, eqb, ◌&&◌, List, [], ◌∷◌, length, All, refl, sym, ap, ◌∙◌, ⊎_elim, arith, ne_eqb}
+use Rattle.std.proofs.Common.{◌≡◌, ℕ, zero, suc, ◌+◌, ◌*◌, ◌<◌, ◌≤◌, Bool, true, false, cond, eqb, ◌&&◌, Option, Some, None, List, [], ◌∷◌, length, All, refl, sym, ap, ◌∙◌, ⊎_elim, arith, ne_eqb}
 use Rattle.std.proofs.lemmas.Bool.{cases_eq}
 use Rattle.std.proofs.lemmas.List.Elements.{All-nil, All-head, All-tail, All-push}
 use Rattle.xsk_umem.specs.Frame.{Frame}
@@ -14,9 +14,9 @@ use Rattle.xsk_model.specs.declared.call.Call.{Call}
 use Rattle.xsk_model.specs.declared.call.Call.TheVariants.{Reserve, Submit, Peek, Release, Swap, Look}
 use Rattle.xsk_model.proofs.Along.{Keeps, along}
 use Rattle.xsk_model.proofs.CallTheorems.{callers_exist}
-use Rattle.xsk_bounds.specs.Bounds.{most_changes}
-use Rattle.xsk_bounds.specs.Totals.{total, sum_below, changed, swapped, swap_count, on_ring, put, took, steps_on, steps_put, steps_taken, swaps_kick, kick_swaps}
-use Rattle.xsk_bounds.proofs.Totals.{total-le, sum-le, sum-add, sum-times, sum-const, sum-zero, total_own}
+use Rattle.xsk_bounds.specs.Bounds.{most_changes, closing_changes}
+use Rattle.xsk_bounds.specs.Totals.{total, sum_below, changed, swapped, swap_count, on_ring, put, took, steps_on, steps_put, steps_taken, swaps_kick, kick_swaps, number_of, cell_count, closing_count, cells_swapped, closings_told, closings_acked}
+use Rattle.xsk_bounds.proofs.Totals.{total-le, total-add, sum-le, sum-add, sum-times, sum-const, sum-zero, total_own}
 use Rattle.xsk_bounds.proofs.Flow.{count_on, put_on, took_on, flow}
 use Rattle.xsk_bounds.proofs.Changing.{changes_by}
 use Rattle.xsk_bounds.proofs.Opened.{steps_at, steps_at_place, opening_standing, opening_out, opening_steps, reserved_few}
@@ -112,7 +112,11 @@ up_few : (b : Bool) → cond b 1 0 ≤ 1
 up_few true = omega arith
 up_few false = omega arith
 
-pairs_few : (n number : ℕ) (call : Call) → sum_below n (λ d. cond (swaps_kick d number call) 1 0) ≤ swap_count call
+-- the Swaps that a closing has besides its kick
+abbrev closing_swaps : Call → ℕ
+closing_swaps call = cell_count call + closing_count call
+
+pairs_few : (n number : ℕ) (call : Call) → sum_below n (λ d. cond (swaps_kick d number call) 1 0) + closing_swaps call ≤ swap_count call
 pairs_few n number (Reserve r k) = omega (arith, sum-const n 0)
 pairs_few n number (Submit r items) = omega (arith, sum-const n 0)
 pairs_few n number (Peek r k) = omega (arith, sum-const n 0)
@@ -129,13 +133,15 @@ pairs_few n number (Swap (Closing s) value) = omega (arith, sum-const n 0)
 pairs_few n number (Swap (Acked s) value) = omega (arith, sum-const n 0)
 pairs_few n number (Swap (Bounced d) value) = omega (arith, sum-const n 0)
 
--- all pairs' kicks are set by no more calls than there are Swaps
-kicks_few : (n number : ℕ) (l : List Told) → sum_below n (λ d. total (kick_swaps d number) l) ≤ total swapped l
+-- all pairs' kicks are set by no more calls than there are Swaps that close nothing
+kicks_few : (n number : ℕ) (l : List Told) → sum_below n (λ d. total (kick_swaps d number) l) + total cells_swapped l + total closings_told l ≤ total swapped l
 kicks_few n number l =
     omega (
       arith,
       sum_total n (λ d t. kick_swaps d number t) l,
-      total-le (λ t. sum_below n (λ d. kick_swaps d number t)) swapped l (λ t. pairs_few n number t.call),
+      total-add cells_swapped closings_told l,
+      total-add (λ t. sum_below n (λ d. kick_swaps d number t)) (λ t. closing_swaps t.call) l,
+      total-le (λ t. sum_below n (λ d. kick_swaps d number t) + closing_swaps t.call) swapped l (λ t. pairs_few n number t.call),
     )
 
 sum_swap : (n m : ℕ) (f : ℕ → ℕ → ℕ) → sum_below n (λ d. sum_below m (λ w. f d w)) ≡ sum_below m (λ w. sum_below n (λ d. f d w))
@@ -149,18 +155,29 @@ sum_swap (suc n) m f = omega (arith, sum_swap n m f, sum-add m (λ w. sum_below 
 abbrev pub Spends : List Told → ℕ → Type 0
 Spends l disposed = total put l + total steps_put l ≤ total steps_taken l + 90 * disposed
 
--- a driver swaps marks as often as it finds items, or its kick set, lets it, and once for each packet that bounces; and it sets no kick
+-- a driver swaps marks as often as it finds items, or its kick set, lets it, once for each packet that bounces, and where it acknowledges a
+-- closing; and it sets no kick
 pub record Drives (d disposed : ℕ) (l : List Told) : Type 0 where
   pub spends : Spends l disposed
-  pub swaps : total swapped l ≤ 11 * (total took l + total (kick_swaps d 0) l + 2) + 2 + disposed
+  pub swaps : total swapped l ≤ 11 * (total took l + total (kick_swaps d 0) l + 2) + 2 + disposed + total closings_acked l
   pub kicks : (e : ℕ) → total (kick_swaps e 1) l ≡ 0
 
--- an application swaps at most one for each item that it puts into a ring, and three at its end
+-- an application swaps at most one for each item that it puts into a ring, and three at its end; and cells, and two where it closes a socket
 pub record Applies (l : List Told) : Type 0 where
   pub spends : Spends l 0
-  pub swaps : total swapped l ≤ total put l + 3
+  pub swaps : total swapped l ≤ total put l + 3 + total cells_swapped l + 2 * total closings_told l
 
-module _ (c : Config) (frames : List Frame) (h : List Entry) (disposed : ℕ → ℕ) (history : IsHistory c frames h)
+-- of so many sockets that are closed each has its cells lowered, at most 64, and is closed once and acknowledged once
+pub record AreClosed (c : Config) (sockets : ℕ) (h : List Entry) : Type 0 where
+  pub acked : ℕ → ℕ
+  pub shut : ℕ → ℕ
+  pub acks : (d : ℕ) → d < length c.pairs → total closings_acked (own d h) ≤ acked d
+  pub closings : (a : ℕ) → a < apps_of c → total closings_told (own (length c.pairs + a) h) ≤ shut a
+  pub cells : (a : ℕ) → a < apps_of c → total cells_swapped (own (length c.pairs + a) h) ≤ 64 * shut a
+  pub one_acks : sum_below (length c.pairs) acked ≤ sockets
+  pub one_closes : sum_below (apps_of c) shut ≤ sockets
+
+module _ (c : Config) (frames : List Frame) (h : List Entry) (disposed : ℕ → ℕ) (history : IsHistory c frames h) (sockets : ℕ) (closed : AreClosed c sockets h)
     (drives : (d : ℕ) → d < length c.pairs → Drives d (disposed d) (own d h))
     (applies : (a : ℕ) → a < apps_of c → Applies (own (length c.pairs + a) h))
     (keeps : (d : ℕ) → d < length c.pairs → KeepsKicks d h) where
@@ -221,36 +238,61 @@ module _ (c : Config) (frames : List Frame) (h : List Entry) (disposed : ℕ →
         total_same (λ e. IsKnown c e.call) (put_on c (λ p. 1)) put h known (λ e is. each_put c (told e)),
       )
 
-  -- Swaps
-  apps_swap : apps swapped ≤ apps put + apps_of c * 3
-  apps_swap =
+  -- what a closing adds
+  acks_few : drivers closings_acked ≤ sockets
+  acks_few = omega (arith, sum-le (length c.pairs) (λ d. total closings_acked (own d h)) closed.acked closed.acks, closed.one_acks)
+
+  closings_few : apps closings_told ≤ sockets
+  closings_few = omega (arith, sum-le (apps_of c) (λ a. total closings_told (own (length c.pairs + a) h)) closed.shut closed.closings, closed.one_closes)
+
+  cells_few : apps cells_swapped ≤ 64 * sockets
+  cells_few =
       omega (
         arith,
-        sum-le (apps_of c) (λ a. total swapped (own (length c.pairs + a) h)) (λ a. total put (own (length c.pairs + a) h) + 3) (λ a lt. (applies a lt).swaps),
-        sum-add (apps_of c) (λ a. total put (own (length c.pairs + a) h)) (λ a. 3),
-        sum-const (apps_of c) 3,
+        sum-le (apps_of c) (λ a. total cells_swapped (own (length c.pairs + a) h)) (λ a. 64 * closed.shut a) closed.cells,
+        sum-times (apps_of c) 64 closed.shut,
+        closed.one_closes,
+      )
+
+  -- Swaps
+  apps_swap : apps swapped ≤ apps put + apps_of c * 3 + apps cells_swapped + 2 * apps closings_told
+  apps_swap =
+      let n = apps_of c in
+      omega (
+        arith,
+        sum-le n (λ a. total swapped (own (length c.pairs + a) h)) (λ a. total put (own (length c.pairs + a) h) + 3 + total cells_swapped (own (length c.pairs + a) h) + 2 * total closings_told (own (length c.pairs + a) h))
+            (λ a lt. (applies a lt).swaps),
+        sum-add n (λ a. total put (own (length c.pairs + a) h) + 3 + total cells_swapped (own (length c.pairs + a) h)) (λ a. 2 * total closings_told (own (length c.pairs + a) h)),
+        sum-add n (λ a. total put (own (length c.pairs + a) h) + 3) (λ a. total cells_swapped (own (length c.pairs + a) h)),
+        sum-add n (λ a. total put (own (length c.pairs + a) h)) (λ a. 3),
+        sum-times n 2 (λ a. total closings_told (own (length c.pairs + a) h)),
+        sum-const n 3,
       )
 
   set_by : (d : ℕ) → total (kick_swaps d 1) (all_told h) ≡ apps (kick_swaps d 1)
   set_by d = omega (arith, by_caller (kick_swaps d 1), sum-zero (length c.pairs) (λ e. total (kick_swaps d 1) (own e h)) (λ e lt. (drives e lt).kicks d))
 
-  cleared : sum_below (length c.pairs) (λ d. total (kick_swaps d 0) (own d h)) ≤ apps swapped
+  cleared : sum_below (length c.pairs) (λ d. total (kick_swaps d 0) (own d h)) + apps cells_swapped + apps closings_told ≤ apps swapped
   cleared =
+      let n = length c.pairs in
+      let kicked : ℕ → ℕ = λ a. sum_below n (λ d. total (kick_swaps d 1) (own (n + a) h)) in
       omega (
         arith,
-        sum-le (length c.pairs) (λ d. total (kick_swaps d 0) (own d h)) (λ d. apps (kick_swaps d 1))
+        sum-le n (λ d. total (kick_swaps d 0) (own d h)) (λ d. apps (kick_swaps d 1))
             (λ d lt. omega (arith, own_few (kick_swaps d 0) d h, cleared_few c frames h d lt history (keeps d lt), set_by d)),
-        sum_swap (length c.pairs) (apps_of c) (λ d a. total (kick_swaps d 1) (own (length c.pairs + a) h)),
-        sum-le (apps_of c) (λ a. sum_below (length c.pairs) (λ d. total (kick_swaps d 1) (own (length c.pairs + a) h))) (λ a. total swapped (own (length c.pairs + a) h))
-            (λ a lt. kicks_few (length c.pairs) 1 (own (length c.pairs + a) h)),
+        sum_swap n (apps_of c) (λ d a. total (kick_swaps d 1) (own (n + a) h)),
+        sum-le (apps_of c) (λ a. kicked a + total cells_swapped (own (n + a) h) + total closings_told (own (n + a) h)) (λ a. total swapped (own (n + a) h)) (λ a lt. kicks_few n 1 (own (n + a) h)),
+        sum-add (apps_of c) (λ a. kicked a + total cells_swapped (own (n + a) h)) (λ a. total closings_told (own (n + a) h)),
+        sum-add (apps_of c) kicked (λ a. total cells_swapped (own (n + a) h)),
       )
 
-  drivers_swap : drivers swapped ≤ 11 * (drivers took + sum_below (length c.pairs) (λ d. total (kick_swaps d 0) (own d h)) + 2 * length c.pairs) + 2 * length c.pairs + packets
+  drivers_swap : drivers swapped ≤ 11 * (drivers took + sum_below (length c.pairs) (λ d. total (kick_swaps d 0) (own d h)) + 2 * length c.pairs) + 2 * length c.pairs + packets + drivers closings_acked
   drivers_swap =
       let n = length c.pairs in
       omega (
         arith,
-        sum-le n (λ d. total swapped (own d h)) (λ d. 11 * (total took (own d h) + total (kick_swaps d 0) (own d h) + 2) + 2 + disposed d) (λ d lt. (drives d lt).swaps),
+        sum-le n (λ d. total swapped (own d h)) (λ d. 11 * (total took (own d h) + total (kick_swaps d 0) (own d h) + 2) + 2 + disposed d + total closings_acked (own d h)) (λ d lt. (drives d lt).swaps),
+        sum-add n (λ d. 11 * (total took (own d h) + total (kick_swaps d 0) (own d h) + 2) + 2 + disposed d) (λ d. total closings_acked (own d h)),
         sum-add n (λ d. 11 * (total took (own d h) + total (kick_swaps d 0) (own d h) + 2) + 2) disposed,
         sum-add n (λ d. 11 * (total took (own d h) + total (kick_swaps d 0) (own d h) + 2)) (λ d. 2),
         sum-times n 11 (λ d. total took (own d h) + total (kick_swaps d 0) (own d h) + 2),
@@ -259,7 +301,7 @@ module _ (c : Config) (frames : List Frame) (h : List Entry) (disposed : ℕ →
         sum-const n 2,
       )
 
-  pub few_changes : total changed (all_told h) ≤ most_changes c packets
+  pub few_changes : total changed (all_told h) ≤ most_changes c packets + 78 * sockets
   few_changes =
       omega (
         arith,
@@ -268,6 +310,9 @@ module _ (c : Config) (frames : List Frame) (h : List Entry) (disposed : ℕ →
         reserved_few c frames h history,
         put_few,
         took_few,
+        acks_few,
+        closings_few,
+        cells_few,
         apps_swap,
         cleared,
         drivers_swap,
@@ -275,3 +320,8 @@ module _ (c : Config) (frames : List Frame) (h : List Entry) (disposed : ℕ →
         by_caller took,
         by_caller swapped,
       )
+
+-- a socket to close adds so many
+pub closing_few : (o : Option ℕ) → 78 * number_of o ≤ closing_changes o
+closing_few None = omega arith
+closing_few (Some s) = omega arith

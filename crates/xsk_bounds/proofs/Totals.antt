@@ -16,6 +16,10 @@ pub total-le : {X : Type 0} (f g : X → ℕ) (xs : List X) → ((x : X) → f x
 total-le f g [] h = omega arith
 total-le f g (x ∷ xs) h = omega (arith, h x, total-le f g xs h)
 
+pub total-add : {X : Type 0} (f g : X → ℕ) (xs : List X) → total (λ x. f x + g x) xs ≡ total f xs + total g xs
+total-add f g [] = omega arith
+total-add f g (x ∷ xs) = omega (arith, total-add f g xs)
+
 -- ---- sums of numbers
 
 pub sum-le : (n : ℕ) (f g : ℕ → ℕ) → ((k : ℕ) → k < n → f k ≤ g k) → sum_below n f ≤ sum_below n g

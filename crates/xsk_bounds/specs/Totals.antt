@@ -1,13 +1,13 @@
 -- Sums over calls and their replies: how many change the object, how many items are put into rings and taken from them, and
 -- how many steps of their way the frames of these items have left. All of this is this project's own.
-use Rattle.std.specs.Prelude.{ℕ, zero, suc, ◌+◌, ◌*◌, ◌==◌, Bool, false, ◌&&◌, if◌then◌else◌, List, [], ◌∷◌, length, fold}
+use Rattle.std.specs.Prelude.{ℕ, zero, suc, ◌+◌, ◌*◌, ◌==◌, Bool, false, ◌&&◌, if◌then◌else◌, Option, None, Some, List, [], ◌∷◌, length, fold}
 use Rattle.xsk_model.specs.Marks.{is_mark}
 use Rattle.xsk_model.specs.Object.{submitted, taken}
 use Rattle.xsk_model.specs.Entry.{Told}
 use Rattle.xsk_model.specs.OtherWords.{changes}
 use Rattle.xsk_model.specs.declared.call.Ring.{Ring}
 use Rattle.xsk_model.specs.declared.call.Ring.TheVariants.{Fill, Comp, Rx, Tx}
-use Rattle.xsk_model.specs.declared.call.Mark.TheVariants.{Kick}
+use Rattle.xsk_model.specs.declared.call.Mark.TheVariants.{Kick, Cell, Closing, Acked}
 use Rattle.xsk_model.specs.declared.call.Call.{Call}
 use Rattle.xsk_model.specs.declared.call.Call.TheVariants.{Reserve, Submit, Peek, Release, Swap, Look}
 use Rattle.xsk_model.specs.declared.call.Reply.{Reply}
@@ -95,3 +95,32 @@ swaps_kick d number call = false
 
 abbrev pub kick_swaps : ℕ → ℕ → Told → ℕ
 kick_swaps d number t = if swaps_kick d number t.call then 1 else 0
+
+-- ---- closings
+
+-- how many there are of something that may be there
+abbrev pub number_of : {X : Type 0} → Option X → ℕ
+number_of None = 0
+number_of (Some x) = 1
+
+-- whether a call swaps a cell, closes a socket, or acknowledges that, as numbers
+abbrev pub cell_count : Call → ℕ
+cell_count (Swap (Cell port index) value) = 1
+cell_count call = 0
+
+abbrev pub closing_count : Call → ℕ
+closing_count (Swap (Closing s) value) = 1
+closing_count call = 0
+
+abbrev pub acked_count : Call → ℕ
+acked_count (Swap (Acked s) value) = 1
+acked_count call = 0
+
+abbrev pub cells_swapped : Told → ℕ
+cells_swapped t = cell_count t.call
+
+abbrev pub closings_told : Told → ℕ
+closings_told t = closing_count t.call
+
+abbrev pub closings_acked : Told → ℕ
+closings_acked t = acked_count t.call
