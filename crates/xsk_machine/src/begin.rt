@@ -1,13 +1,11 @@
 //! New drivers of a setting.
 ghost use Rattle.std.specs.Prelude.{◌≡◌, ◌<◌, ◌≤◌, ◌^◌, ◌⊎◌, false, All, List, [], length, IfOk, MatchOption};
 ghost use Rattle.std.specs.List.{concat, slice_index_or};
-ghost use Rattle.xsk_model.specs.Config.{pair_at};
+ghost use Rattle.xsk_model.specs.Config.{IsRegular, pair_at};
 ghost use Rattle.xsk_model.specs.Expected.{nothing};
 ghost use Rattle.xsk_prog.specs.Chain.{AllObey};
 ghost use Rattle.xsk_prog.specs.declared.rule.Verdict.{Verdict as AVerdict};
-ghost use Rattle.xsk_turns.specs.Owned.{IsSteady};
 ghost use Rattle.xsk_turns.specs.Inputs.{inputs_of};
-ghost use Rattle.xsk_turns.specs.Owned.{IsSteady};
 ghost use Rattle.xsk_turns.specs.Verdicts.{EachHas, IsGiven};
 ghost use Rattle.xsk_turns.specs.Workers.{packets_to, AreGiven};
 ghost use Rattle.xsk_driver.specs.Asking.{IsAnswer, verdicts_in};
@@ -26,7 +24,7 @@ use xsk_umem::{OutOfMemory, PacketList};
 /// The packets that can leave by a pair's port on its queue, those that came there and those that came to the paired port, if
 /// both they and their bytes are fewer than 2^32.
 fn leaving_by(config: &Config, packets: &[PacketList], inputs: &Inputs, pair: u32) -> Option<Amount>
-    requires steady { IsSteady config.now }
+    requires regular { IsRegular config.now }
     requires lists { length packets.now ≡ config.now.ports }
     requires inputs { inputs.now ≡ inputs_of config.now packets.now }
     requires pair { pair < length config.now.pairs }
@@ -53,7 +51,7 @@ pub fn driver_for<'a, F: Fn(&[u8], u32) -> Verdict>(
     wire: Wire,
     pair: u32,
 ) -> Result<Driver<'a>, OutOfMemory>
-    requires steady { IsSteady config.now }
+    requires regular { IsRegular config.now }
     requires lists { length packets.now ≡ config.now.ports }
     requires inputs { inputs.now ≡ inputs_of config.now packets.now }
     requires short { All HasShortPackets packets.now }
@@ -93,7 +91,7 @@ pub fn drivers_for<'a, F: Fn(&[u8], u32) -> Verdict>(
     chain: &Chain<F>,
     wire: Wire,
 ) -> Result<Vec<Driver<'a>>, OutOfMemory>
-    requires steady { IsSteady config.now }
+    requires regular { IsRegular config.now }
     requires lists { length packets.now ≡ config.now.ports }
     requires inputs { inputs.now ≡ inputs_of config.now packets.now }
     requires short { All HasShortPackets packets.now }

@@ -1,7 +1,6 @@
 //! The workers of a run: drivers and applications as machines of one type, so that all callers stand in one list.
 ghost use Rattle.std.specs.Prelude.{◌≡◌, ℕ, ◌<◌, ◌≤◌, IfOk, IfSome, IfNone, length};
-ghost use Rattle.xsk_model.specs.Config.{callers_of};
-ghost use Rattle.xsk_turns.specs.Owned.{IsSteady};
+ghost use Rattle.xsk_model.specs.Config.{IsRegular, callers_of};
 ghost use Rattle.xsk_turns.specs.Workers.{Setting};
 ghost use Rattle.xsk_machine.specs.Workers.{IsFresh, IsFreshDriver};
 
@@ -56,7 +55,7 @@ pub fn worker_of<'a>(
     who: u32,
     manner: Manner,
 ) -> Result<AnyWorker<'a>, OutOfMemory>
-    requires steady { IsSteady config.now }
+    requires regular { IsRegular config.now }
     requires caller { who < callers_of config.now }
     requires app { IfNone driver (length config.now.pairs ≤ who) }
     ensures { (s : Setting) → s.config ≡ config.now → s.manner ≡ manner → IfSome driver.entry (IsFreshDriver s who) → IfOk result (IsFresh s who) }

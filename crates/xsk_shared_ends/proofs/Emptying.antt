@@ -47,7 +47,7 @@ pub record IsEmptyUpTo (e : EndsShown) (lane : ℕ) : Type 0 where
 
 pub none_yet : (e : EndsShown) → AreEnds e → both e.kept.seen ≡ true → IsEmptyUpTo e 0
 none_yet e is told =
-    let on = lanes_after_steps e.config e.app is.one is.split.0 (mine_of e.pass) e.kept is.fit is.split.1 in
+    let on = lanes_after_steps e.config e.app is.one is.closes is.split.0 (mine_of e.pass) e.kept is.fit is.split.1 in
     record {
       unseen = λ j. on.unseen j ∙ none_unseen (pair_of e.config e.app 0) (pair_of e.config e.app 1) (is_set e.kept.seen 0) (is_set e.kept.seen 1) told;
       empty = λ j none. absurd (omega (arith, none));
@@ -130,7 +130,7 @@ module _ (app : AppShown) (given : Option Ask) (items : List Item) (p : Holder) 
   has_ended none =
       let over : HasEndedFrom app.config app.app is.start is.past app is.later =
       subst (λ (a : Option Ask). StandsFromWith app.config app.app is.start is.past app (joined_ask a items) is.later) none is.stands in
-      record { steps = is.past; later = is.later; kept = is.start; cut = is.mine; split = is.split; run = (app.kept, over.ends); drained = is.drained }
+      record { closes = over.closes; steps = is.past; later = is.later; kept = is.start; cut = is.mine; split = is.split; run = (app.kept, over.ends); drained = is.drained }
 
   module _ (ask : Ask) (gave : given ≡ Some ask) where
     abbrev call : Call

@@ -35,19 +35,19 @@ origin e step = record { config = e.config; app = e.app; step = step; start = e.
 
 -- what is kept is what the steps left, and so are the lanes
 pub left : (e : EndsShown) → AreEnds e → HasLeft e.config e.kept (mine_of e.pass)
-left e is = split_keeps_frames e.config e.app (mine_of e.pass) e.kept is.one is.fit is.split
+left e is = split_keeps_frames e.config e.app (mine_of e.pass) e.kept is.one is.closes is.fit is.split
 
 pub lanes : (e : EndsShown) → AreEnds e → KeepsLanes e
-lanes e is lane below = split_keeps_lanes e.config e.app (mine_of e.pass) e.kept lane is.one is.fit is.split below
+lanes e is lane below = split_keeps_lanes e.config e.app (mine_of e.pass) e.kept lane is.one is.closes is.fit is.split below
 
 -- it changes nothing
 pub is_plain : (e : EndsShown) → AreEnds e → e.kept.manner ≡ plain
-is_plain e is = (lanes_after_steps e.config e.app is.one is.split.0 (mine_of e.pass) e.kept is.fit is.split.1).keeps
+is_plain e is = (lanes_after_steps e.config e.app is.one is.closes is.split.0 (mine_of e.pass) e.kept is.fit is.split.1).keeps
 
 -- a step begins
 pub begins : (e : EndsShown) (step : SplitStep) → AreEnds e → HasPlace e.config step → At (origin e step) e.pass (piece e.config e.app step e.kept) Moved
 begins e step is place = record {
-  begins = record { one = is.one; place = place; sends = is.sends; left = left e is };
+  begins = record { one = is.one; closes = is.closes; place = place; sends = is.sends; left = left e is };
   config = is.config;
   caller = is.caller;
   rests = is.rests;
@@ -73,6 +73,7 @@ module _ (e : EndsShown) (step : SplitStep) (q : Holder) (now : AppKept) (came :
   pub ends_again : AreEnds ends
   ends_again = record {
     one = is.one;
+    closes = is.closes;
     config = over.config;
     caller = over.caller;
     rests = over.rests;
@@ -97,7 +98,8 @@ are_same_on e f g first second = record { name = second.name ∙ first.name; con
 pub new_ends : (c : Config) (app : ℕ) (p : Holder) (kept : AppKept) → IsConfig c → IsSteady c → IsGeometry c.geometry → app < apps_of c → p.view.setup.config ≡ c → p.who ≡ caller_of c app → p.view.flight ≡ idle → mine_of p ≡ []
     → kept ≡ app_start c → AreEnds (record { config = c; app = app; pass = p; kept = kept })
 new_ends c app p kept lawful steady geometry known config caller rests none is = record {
-  one = record { config = lawful; steady = steady; geometry = geometry; known = known };
+  one = record { config = lawful; regular = steady.regular; geometry = geometry; known = known };
+  closes = steady.closes;
   config = config;
   caller = caller;
   rests = rests;

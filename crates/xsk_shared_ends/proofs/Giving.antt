@@ -106,7 +106,7 @@ group_of c o pool batch home count back same e f group = group_moved pool batch 
 
 -- there are homes, and a batch has a frame
 pub has_pool : (o : Origin) (p : Holder) (script : Script AppKept) (came : Step) → At o p script came → 0 < pool_of o.config
-has_pool o p script came at = at.begins.one.steady.regular.lawful.some
+has_pool o p script came at = at.begins.one.regular.lawful.some
 
 -- what holds before each group
 pub record Gives (c : Config) (old : Holder) (was : List Frame) (now : Holder) (back : List Frame) (items : List Item) : Type 0 where

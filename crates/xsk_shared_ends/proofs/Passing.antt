@@ -10,7 +10,7 @@ use Rattle.xsk_model.specs.declared.call.Reply.TheVariants.{Granted}
 use Rattle.xsk_model.specs.declared.call.Ring.TheVariants.{Rx, Tx}
 use Rattle.xsk_turns.specs.Mangling.{given_by, back_by, number_by}
 use Rattle.xsk_turns.specs.Script.{Script, ask, again, granted_or_full, on_submitted, items_or_empty, on_released}
-use Rattle.xsk_turns.specs.AppTurns.{AppKept, tx_of, rx_of, tx_pair, pending_at, with_pending, wake, pass_on, receive_lane}
+use Rattle.xsk_turns.specs.AppTurns.{AppKept, tx_of, rx_of, tx_pair, pending_at, with_pending, awaited_after, cut_after, received, wake, pass_on, receive_lane}
 use Rattle.xsk_table.specs.Held.{Holder}
 use Rattle.xsk_app.specs.declared.machine.Way.{Way}
 use Rattle.xsk_shared_ends.specs.Standing.{Origin, At, VisitsLane, PassesOn, Wakes, next}
@@ -26,6 +26,17 @@ with_pending-same kept lane = ap (λ (p : List (List Item)). let k : AppKept = r
 -- the same lane with the same items
 pub same_kept : (kept : AppKept) (lane : ℕ) (items : List Item) → items ≡ pending_at kept lane → kept ≡ with_pending kept lane items
 same_kept kept lane items e = sym (with_pending-same kept lane) ∙ ap (with_pending kept lane) (sym e)
+
+-- where no socket is closed, nothing else is kept of what a lane received
+received_open : (c : Config) (a lane : ℕ) (kept : AppKept) (items : List Item) → c.closing ≡ None → received c a lane kept items ≡ with_pending kept lane items
+received_open c a lane kept items none = ap by_closing none
+  where
+    by_closing : Option ℕ → AppKept
+    by_closing closing = record kept {
+      pending = set kept.pending lane items;
+      awaited = awaited_after c a lane closing items kept.awaited;
+      cut = cut_after c a lane closing items kept.cut;
+    }
 
 module _ (o : Origin) (lane : ℕ) (k : AppKept) where
   -- what is left once places were asked for, and once the items were put there
@@ -83,8 +94,10 @@ module _ (o : Origin) (lane : ℕ) (k : AppKept) where
   pub releases_rx : (p : Holder) (rx n : ℕ) (items : List Item) → rx ≡ rx_of o.config o.app lane → n ≡ length items → At o p (receive_lane o.config o.app lane k next items) Moved
       → At o p (ask (with_pending k lane items) (Release (Rx rx) n) (on_released (pass_on o.config o.app lane (with_pending k lane items) next))) Moved
   releases_rx p rx n items e f at =
+      let there = subst (λ (kept : AppKept). At o p (ask kept (Release (Rx (rx_of o.config o.app lane)) (length items)) (on_released (pass_on o.config o.app lane kept next))) Moved)
+      (received_open o.config o.app lane k items at.begins.closes) at in
       subst (λ (t : ℕ). At o p (ask (with_pending k lane items) (Release (Rx t) n) (on_released (pass_on o.config o.app lane (with_pending k lane items) next))) Moved) (sym e)
-      (subst (λ (m : ℕ). At o p (ask (with_pending k lane items) (Release (Rx (rx_of o.config o.app lane)) m) (on_released (pass_on o.config o.app lane (with_pending k lane items) next))) Moved) (sym f) at)
+      (subst (λ (m : ℕ). At o p (ask (with_pending k lane items) (Release (Rx (rx_of o.config o.app lane)) m) (on_released (pass_on o.config o.app lane (with_pending k lane items) next))) Moved) (sym f) there)
 
 module _ (c : Config) (way : Way) (o : Origin) (lane : ℕ) (k : AppKept) where
   -- a visit where items are pending, and where none is

@@ -18,6 +18,7 @@ use Rattle.xsk_turns.specs.AppTurns.{AppKept, kick}
 use Rattle.xsk_turns.specs.AppOwned.{HasOwnFrames}
 use Rattle.xsk_turns.specs.AppSplit.{piece}
 use Rattle.xsk_turns.proofs.AppHomes.{own_frames}
+use Rattle.xsk_turns.proofs.Fitting.{lowered_of_none}
 use Rattle.xsk_turns.proofs.AppSplit.{pieces, fit_join, step_calls_legal}
 use Rattle.xsk_turns.proofs.ScriptLemmas.{leaves_on}
 use Rattle.xsk_table.specs.Held.{Board, Holder, Belongs}
@@ -47,7 +48,7 @@ may_ask b p call belongs asked =
     let o = asked.0 in
     let at = asked.4 in
     let own : HasOwnFrames o.config o.app (o.past ++ at.part) = subst (HasOwnFrames o.config o.app) at.mine at.own in
-    let legal = step_calls_legal o.config o.app o.past o.step o.start at.part asked.1 call asked.2 at.begins.one at.begins.sends at.begins.left at.begins.place at.fit at.leaves own in
+    let legal = step_calls_legal o.config o.app o.past o.step o.start at.part asked.1 call asked.2 at.begins.one at.begins.closes at.begins.sends at.begins.left at.begins.place at.fit at.leaves own in
     record {
       belongs = belongs;
       rests = at.rests;
@@ -82,7 +83,7 @@ goes_on p q call reply served o k rest came at =
       own = subst (HasOwnFrames o.config o.app) (sym given.1) own_now;
       part = at.part ++ t ∷ [];
       mine = given.1 ∙ ap (λ l. l ++ t ∷ []) at.mine ∙ append_assoc o.past at.part (t ∷ []);
-      fit = fit_join o.config o.past at.part (t ∷ []) at.fit (fits, tt);
+      fit = fit_join o.config o.past at.part (t ∷ []) at.fit ((fits, lowered_of_none o.config (o.past ++ at.part) call reply at.begins.closes), tt);
       leaves = leaves_on pieces (piece o.config o.app o.step o.start) at.part (t ∷ []) (ask k call rest) (rest reply) at.leaves (refl, sym (begun_same (rest reply)));
       came_is = ap (λ s. came_by s reply) at.came_is ∙ sym (came_push _ at.part t);
     }

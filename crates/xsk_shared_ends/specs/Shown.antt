@@ -1,5 +1,5 @@
 -- What contracts see of the ends, and what their type keeps.
-use Rattle.std.specs.Prelude.{◌≡◌, ℕ, ◌<◌, false, List, [], ◌++◌}
+use Rattle.std.specs.Prelude.{◌≡◌, ℕ, ◌<◌, false, None, List, [], ◌++◌}
 use Rattle.xsk_model.specs.Config.{Config, batch_of}
 use Rattle.xsk_model.specs.Entry.{Told, with_told}
 use Rattle.xsk_model.specs.Own.{submitted_of, peeked_of}
@@ -36,9 +36,10 @@ abbrev pub no_name : Name
 no_name = record { board = record { table = record { words = 0; slots = 0; views_name = 0; atom = 0; block = 0; offset = 0; slot_names = [] }; setup = no_setup }; who = 0 }
 
 -- What the type of ends keeps: no call of the pass is in flight, the calls and replies of the application are a split run that
--- leaves what is kept, each reply one that fits, and all frames that the application has had are at home with it.
+-- leaves what is kept, each reply one that fits, no socket is closed, and all frames that the application has had are at home with it.
 pub record AreEnds (e : EndsShown) : Type 0 where
   pub one : IsApp e.config e.app
+  pub closes : e.config.closing ≡ None
   pub config : e.pass.view.setup.config ≡ e.config
   pub caller : e.pass.who ≡ caller_of e.config e.app
   pub rests : e.pass.view.flight ≡ idle

@@ -32,6 +32,7 @@ pub record Origin : Type 0 where
 
 pub record Begins (o : Origin) : Type 0 where
   pub one : IsApp o.config o.app
+  pub closes : o.config.closing ≡ None
   pub place : HasPlace o.config o.step
   pub sends : o.start.tx_done ≡ false
   pub left : HasLeft o.config o.start o.past

@@ -15,7 +15,7 @@ returns-clause-new g c manner verdicts given =
     let pair = c.args.pair in
     let known : pair < length s.config.pairs = c.requires.pair in
     let below : pair < length c.pairs.result.now = omega (arith, known, ap (length {A = PairInfo}) c.pairs.ensures.value) in
-    let ports = ports_known s.config c.pairs.result.now (length s.packets) pair c.requires.steady.regular c.pairs.ensures.lawful c.pairs.ensures.value c.requires.lists below in
+    let ports = ports_known s.config c.pairs.result.now (length s.packets) pair c.requires.regular c.pairs.ensures.lawful c.pairs.ensures.value c.requires.lists below in
     let list = c.index-packets-info.result in
     let at : list.packets ≡ packets_of_port s.packets (pair_at s.config.pairs pair).port =
     list_at s.packets (pair_at c.pairs.result.now pair).port list c.index-packets-info.is ports.0
@@ -34,7 +34,7 @@ returns-clause-asked g c =
     let pair = c.args.pair in
     let known : pair < length config.pairs = c.requires.pair in
     let below : pair < length c.pairs.result.now = omega (arith, known, ap (length {A = PairInfo}) c.pairs.ensures.value) in
-    let ports = ports_known config c.pairs.result.now (length lists) pair c.requires.steady.regular c.pairs.ensures.lawful c.pairs.ensures.value c.requires.lists below in
+    let ports = ports_known config c.pairs.result.now (length lists) pair c.requires.regular c.pairs.ensures.lawful c.pairs.ensures.value c.requires.lists below in
     let list = c.index-packets-info.result in
     let at : list.packets ≡ packets_of_port lists (pair_at config.pairs pair).port =
     list_at lists (pair_at c.pairs.result.now pair).port list c.index-packets-info.is ports.0

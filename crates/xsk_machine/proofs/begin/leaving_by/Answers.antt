@@ -8,7 +8,7 @@ use Rattle.xsk_machine.proofs.begin.leaving_by.Goals as goal
 
 pub amount_of-requires : goal.amount_of-requires
 amount_of-requires c = record {
-  known = (own_found c.args.config.now c.args.packets.now c.args.pair c.args.inputs.now c.pairs.result.now c.index-packets-info.result c.pairs.ensures.lawful c.requires.steady.regular c.requires.inputs
+  known = (own_found c.args.config.now c.args.packets.now c.args.pair c.args.inputs.now c.pairs.result.now c.index-packets-info.result c.pairs.ensures.lawful c.requires.regular c.requires.inputs
       c.requires.pair c.requires.lists c.pairs.ensures.value c.index-packets-info.is).known;
 }
 
@@ -18,7 +18,7 @@ returns-in_err-own c =
     let lists = c.args.packets.now in
     let list = c.index-packets-info.result in
     let at = pair_at config.pairs c.args.pair in
-    let own = own_found config lists c.args.pair c.args.inputs.now c.pairs.result.now list c.pairs.ensures.lawful c.requires.steady.regular c.requires.inputs c.requires.pair c.requires.lists
+    let own = own_found config lists c.args.pair c.args.inputs.now c.pairs.result.now list c.pairs.ensures.lawful c.requires.regular c.requires.inputs c.requires.pair c.requires.lists
     c.pairs.ensures.value c.index-packets-info.is in
     rw c.from_residual.ensures
     (first_many 4294967296 list list (received config lists at.port at.queue) (received config lists (paired_port at.port) at.queue) (slice_index_or c.args.inputs.now c.args.pair []) [] own c.in_err-own.ensures)
@@ -26,7 +26,7 @@ returns-in_err-own c =
 pub amount_of-requires-2 : goal.amount_of-requires-2
 amount_of-requires-2 c = record {
   known = (other_found c.args.config.now c.args.packets.now c.args.pair c.args.inputs.now c.pairs.result.now c.paired_port-port.result c.driver_on-driver.result c.index-packets-port.result
-      c.pairs.ensures.lawful c.requires.steady.regular c.requires.inputs c.requires.pair c.requires.lists c.pairs.ensures.value c.paired_port-port.ensures c.driver_on-driver.ensures.value
+      c.pairs.ensures.lawful c.requires.regular c.requires.inputs c.requires.pair c.requires.lists c.pairs.ensures.value c.paired_port-port.ensures c.driver_on-driver.ensures.value
       c.index-packets-port.is).known;
 }
 
@@ -37,10 +37,10 @@ returns-in_err-other c =
     let list = c.index-packets-info.result in
     let list_there = c.index-packets-port.result in
     let at = pair_at config.pairs c.args.pair in
-    let own = own_found config lists c.args.pair c.args.inputs.now c.pairs.result.now list c.pairs.ensures.lawful c.requires.steady.regular c.requires.inputs c.requires.pair c.requires.lists
+    let own = own_found config lists c.args.pair c.args.inputs.now c.pairs.result.now list c.pairs.ensures.lawful c.requires.regular c.requires.inputs c.requires.pair c.requires.lists
     c.pairs.ensures.value c.index-packets-info.is in
     let other = other_found config lists c.args.pair c.args.inputs.now c.pairs.result.now c.paired_port-port.result c.driver_on-driver.result list_there c.pairs.ensures.lawful
-    c.requires.steady.regular c.requires.inputs c.requires.pair c.requires.lists c.pairs.ensures.value c.paired_port-port.ensures c.driver_on-driver.ensures.value c.index-packets-port.is in
+    c.requires.regular c.requires.inputs c.requires.pair c.requires.lists c.pairs.ensures.value c.paired_port-port.ensures c.driver_on-driver.ensures.value c.index-packets-port.is in
     rw c.from_residual-in_err-other.ensures
     (second_many 4294967296 list list_there (received config lists at.port at.queue) (received config lists (paired_port at.port) at.queue) (slice_index_or c.args.inputs.now c.args.pair [])
     (slice_index_or c.args.inputs.now c.driver_on-driver.result []) own other c.in_err-other.ensures)
@@ -52,9 +52,9 @@ returns c =
     let list = c.index-packets-info.result in
     let list_there = c.index-packets-port.result in
     let at = pair_at config.pairs c.args.pair in
-    let own = own_found config lists c.args.pair c.args.inputs.now c.pairs.result.now list c.pairs.ensures.lawful c.requires.steady.regular c.requires.inputs c.requires.pair c.requires.lists
+    let own = own_found config lists c.args.pair c.args.inputs.now c.pairs.result.now list c.pairs.ensures.lawful c.requires.regular c.requires.inputs c.requires.pair c.requires.lists
     c.pairs.ensures.value c.index-packets-info.is in
     let other = other_found config lists c.args.pair c.args.inputs.now c.pairs.result.now c.paired_port-port.result c.driver_on-driver.result list_there c.pairs.ensures.lawful
-    c.requires.steady.regular c.requires.inputs c.requires.pair c.requires.lists c.pairs.ensures.value c.paired_port-port.ensures c.driver_on-driver.ensures.value c.index-packets-port.is in
+    c.requires.regular c.requires.inputs c.requires.pair c.requires.lists c.pairs.ensures.value c.paired_port-port.ensures c.driver_on-driver.ensures.value c.index-packets-port.is in
     sum_of 4294967296 list list_there (received config lists at.port at.queue) (received config lists (paired_port at.port) at.queue) (slice_index_or c.args.inputs.now c.args.pair [])
     (slice_index_or c.args.inputs.now c.driver_on-driver.result []) own other c.in_ok-own.own c.in_ok-other.other c.plus.result c.in_ok-own.ensures c.in_ok-other.ensures c.plus.ensures

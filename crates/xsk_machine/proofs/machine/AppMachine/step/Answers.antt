@@ -1,5 +1,5 @@
 use Rattle.xsk_turns.specs.Stepping.{joined_ask}
-use Rattle.xsk_model.proofs.Replies.{gift_fits}
+use Rattle.xsk_turns.proofs.Fitting.{gift_suits}
 use Rattle.xsk_machine.proofs.Acts.{app_after, app_own, app_has_none}
 use Rattle.xsk_machine.proofs.machine.AppMachine.step.Goals as goal
 
@@ -11,4 +11,4 @@ pub returns-clause-goes_on : goal.returns-clause-goes_on
 returns-clause-goes_on c s who l call r stands some may =
     app_after s who c.args.self.now c.step.new.self (joined_ask c.step.result c.step.new.items) _ stands.config stands.caller
     (app_own s who c.args.self.now l call r stands.caller may) c.step.ensures.same
-    (c.step.ensures.goes_on s.manner s.config c.args.self.now.app l call r stands.stands some (gift_fits s.config l who call r may))
+    (c.step.ensures.goes_on s.manner s.config c.args.self.now.app l call r stands.stands some (gift_suits s.config l who call r may))
