@@ -1,0 +1,5 @@
+pub mod Apart
+pub mod Lanes
+pub mod Ended
+pub mod Within
+pub mod Until
