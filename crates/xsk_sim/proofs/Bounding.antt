@@ -13,13 +13,13 @@ use Rattle.xsk_turns.specs.AppTurns.{app_start_by, app_turn}
 use Rattle.xsk_turns.specs.Workers.{Setting, input_of, IsWorkerRun, IsWholeRun}
 use Rattle.xsk_turns.proofs.ScriptLemmas.{whole_ends}
 use Rattle.xsk_bounds.specs.Totals.{total, sum_below, changed}
-use Rattle.xsk_bounds.specs.Bounds.{packets_of}
+use Rattle.xsk_bounds.specs.Bounds.{packets_of, closing_changes}
 use Rattle.xsk_bounds.proofs.Totals.{total-push, sum-le}
-use Rattle.xsk_bounds.proofs.Bounded.{changes_bounded}
+use Rattle.xsk_bounds.proofs.Bounded.{bounded_with_closings}
 use Rattle.xsk_sim.specs.Rounds.{AreRounds}
 use Rattle.xsk_sim.specs.Stalls.{settled_of, settled_by, AreQuiet, StandStill}
 use Rattle.xsk_sim.specs.Runs.{IsRoundHistory, NeverStill}
-use Rattle.xsk_sim.specs.Bounds.{EndsOrStandsStill}
+use Rattle.xsk_sim.specs.Bounds.{EndsOrStandsStill, EndsOrStandsStillWithClosings}
 use Rattle.xsk_sim.proofs.Settling.{settled_grows, settled_few}
 use Rattle.xsk_sim.proofs.Unique.{Ran, ran_first}
 
@@ -191,8 +191,13 @@ module _ (s : Setting) (frames : List Frame) where
       omega (arith, settled_few s d more.0 more.1 (run.driver below), ap (settled_of s d) more.2))
       (last_of (own d h)))
 
-pub ends_or_stands_still : EndsOrStandsStill
-ends_or_stands_still s frames order count h who steady is below goes never =
+pub ends_with_closings : EndsOrStandsStillWithClosings
+ends_with_closings s frames order count h who regular is below goes never =
     let ran : Ran s frames h = record { legal = is.legal; runs = is.runs } in
     let lasts = rounds_last s frames order count h who is.rounds ran below goes never in
-    omega (arith, lasts.few, lasts.short, changes_bounded s frames h steady is.legal is.runs, settled_all s frames h ran)
+    omega (arith, lasts.few, lasts.short, bounded_with_closings s frames h regular is.legal is.runs, settled_all s frames h ran)
+
+-- where no socket is closed there are none more
+pub ends_or_stands_still : EndsOrStandsStill
+ends_or_stands_still s frames order count h who steady is below goes never =
+    omega (arith, ends_with_closings s frames order count h who steady.regular is below goes never, ap closing_changes steady.closes)

@@ -1,13 +1,12 @@
 -- How a run ends.
 use Rattle.std.proofs.Common.{◌≡◌, ℕ, zero, suc, map, ◌+◌, ◌-◌, ◌<◌, ◌≤◌, List, [], ◌∷◌, ◌++◌, length, length-append, append-nil, append_assoc, get_or, ap, sym, subst, refl, ◌∙◌, arith, ⊎_elim}
 use Rattle.std.specs.Prelude.{flat_map, is_some, Bool}
-use Rattle.xsk_turns.specs.Owned.{IsSteady}
 use Rattle.xsk_turns.specs.Stepping.{joined_ask}
 use Rattle.xsk_umem.specs.Frame.{Frame}
 use Rattle.std.specs.List.{range_with_len}
 use Rattle.std.proofs.lemmas.List.{length-map}
 use Rattle.std.proofs.lemmas.List.FromFn.{get_or-map-range_with_len}
-use Rattle.xsk_model.specs.Config.{callers_of, classes_of}
+use Rattle.xsk_model.specs.Config.{IsRegular, callers_of, classes_of}
 use Rattle.xsk_model.specs.Entry.{Entry, Told, own}
 use Rattle.xsk_model.specs.Stored.{stored_entry}
 use Rattle.xsk_model.specs.History.{IsHistory}
@@ -27,9 +26,8 @@ use Rattle.xsk_plain.proofs.Parts.{length-entries}
 use Rattle.xsk_plain.specs.Engine.{Engine}
 use Rattle.xsk_plain.specs.Log.{calls_of, entries_of, item_of}
 use Rattle.xsk_plain.specs.declared.log.Log.{Log}
-use Rattle.xsk_laws.specs.Woken.{AreWorkerRuns}
-use Rattle.xsk_laws.proofs.Woken.{no_wakes_are_lost}
 use Rattle.xsk_sim.specs.Shown.{Shown}
+use Rattle.xsk_turns.specs.Hands.{IsWholeRunOf}
 use Rattle.xsk_turns.specs.Workers.{Setting, IsWorkerRun, IsWholeRun, input_of}
 use Rattle.xsk_sim.specs.Runs.{HasEnded, HasStalled, NeverStill}
 use Rattle.xsk_sim.specs.Stalls.{StandStill}
@@ -40,7 +38,9 @@ use Rattle.xsk_machine.specs.declared.worker.AnyWorker.TheVariants.{Driver, App}
 use Rattle.xsk_sim.specs.Seats.{EachFrom, own_in, Sits, AreSeated, HadRounds, HaveEnded, kept_lists, kept_figures}
 use Rattle.xsk_sim.specs.declared.rounds.Workers.{Workers}
 use Rattle.xsk_machine.proofs.Acts.{worker_run, sent_at}
-use Rattle.xsk_machine.proofs.Within.{AreWithin, are_within}
+use Rattle.xsk_machine.proofs.Within.{AreWithin, by_one}
+use Rattle.xsk_ended.proofs.Ended.{ended_lose_no_wakes}
+use Rattle.xsk_ended.proofs.Within.{are_within}
 use Rattle.xsk_sim.proofs.Seating.{each_tells, each_change, each_both, all_whole, some_open, IsOpen}
 
 -- each entry of a log is a call
@@ -192,14 +192,14 @@ module _ (s : Setting) (frames : List Frame) (h : List Entry) (w : Workers) (eng
       (each_change w.seats.items 0 _ _ (ended_seats ended) (λ k x low high both. ended_figures s h k x.machine (joined_ask x.ask x.items) within both.0 both.1.0))
 
 -- a run that has ended
-pub ended_run : (s : Setting) (frames : List Frame) (order count : ℕ) (w : Workers) (engine : Engine) (run : Shown) (classes calls : ℕ) (wire : Wire) (mangled : Bool) → IsSteady s.config → (had : HadRounds s frames order count w engine)
+pub ended_run : (s : Setting) (frames : List Frame) (order count : ℕ) (w : Workers) (engine : Engine) (run : Shown) (classes calls : ℕ) (wire : Wire) (mangled : Bool) → IsRegular s.config → (had : HadRounds s frames order count w engine)
     → count ≤ 18446744073709551616 → NeverStill s frames order count → HaveEnded w → run.log ≡ engine.log → run.sent ≡ kept_lists w
     → classes ≡ classes_of s.config → calls ≡ length engine.log → calls ≤ 18446744073709551615 → run.figures ≡ whole_of calls wire (kept_figures classes w) mangled → wire ≡ s.wire → mangled ≡ is_some s.manner.mangle
     → HasEnded s frames order run
-ended_run s frames order count w engine run classes calls wire mangled steady had few never ended log kept sockets number fits figures same manner =
+ended_run s frames order count w engine run classes calls wire mangled regular had few never ended log kept sockets number fits figures same manner =
     let legal : IsHistory s.config frames had.history = had.seated.run.legal in
     let whole = whole_runs s frames had.history w engine had.seated ended in
-    let within : AreWithin s had.history = are_within s frames had.history steady legal whole in
+    let within : AreWithin s had.history = are_within s frames had.history regular legal whole in
     record {
       history = had.history;
       count = count;
@@ -213,8 +213,8 @@ ended_run s frames order count w engine run classes calls wire mangled steady ha
           (ap (λ (n : ℕ). kept_figures n w) sockets ∙ all_figures s frames had.history w engine had.seated ended within);
       sent = λ pair below. ap (λ lists. get_or lists pair []) kept ∙ all_sent s frames had.history w engine had.seated ended within pair below;
       woken = λ past later pair split below.
-          no_wakes_are_lost s frames past later pair
-          (subst (AreWorkerRuns s frames) split (record { steady = steady; history = legal; runs = all_runs s frames had.history w engine had.seated })) below;
+          ended_lose_no_wakes 1 s frames past later pair regular (subst (IsHistory s.config frames) split legal)
+          (subst (λ l. (who : ℕ) → who < callers_of s.config → IsWholeRunOf 1 s who (own who l)) split (λ who known. by_one s who (own who had.history) (whole who known))) below;
     }
 
 -- a run that has stalled

@@ -8,6 +8,7 @@ pub mod Unique
 pub mod Verdicts
 pub mod Forwarded
 pub mod Stalling
+pub mod Lasting
 pub mod Standing
 pub mod Settling
 pub mod Bounding

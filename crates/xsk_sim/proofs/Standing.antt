@@ -65,7 +65,7 @@ gone_none s frames order w engine seated = record { had = record { history = [];
     longer_none zero below more = omega arith
     longer_none (suc longer) below more = more
 
-round_history : (s : Setting) (frames : List Frame) (order count : ℕ) (w : Workers) (engine : Engine) → (had : HadRounds s frames order count w engine) → IsRoundHistory s frames order count had.history
+pub round_history : (s : Setting) (frames : List Frame) (order count : ℕ) (w : Workers) (engine : Engine) → (had : HadRounds s frames order count w engine) → IsRoundHistory s frames order count had.history
 round_history s frames order count w engine had = record { legal = had.seated.run.legal; rounds = had.rounds; runs = all_runs s frames had.history w engine had.seated }
 
 -- one round more

@@ -7,7 +7,7 @@ use Rattle.std.specs.Fn.{Shared}
 use denote.Ref.{Bor}
 use Rattle.xsk_umem.specs.Frame.{Frame}
 use Rattle.xsk_umem.specs.PacketList.{PacketList}
-use Rattle.xsk_model.specs.Config.{Config, callers_of}
+use Rattle.xsk_model.specs.Config.{Config, IsRegular, callers_of}
 use Rattle.xsk_model.specs.Steering.{driver_on}
 use Rattle.xsk_model.specs.Entry.{Entry, own}
 use Rattle.xsk_model.specs.History.{IsHistory, state_after}
@@ -24,6 +24,7 @@ use Rattle.xsk_turns.specs.declared.manner.Manner.{Manner}
 use Rattle.xsk_turns.specs.declared.wire.Wire.{Wire}
 use Rattle.xsk_turns.specs.declared.wire.Wire.TheVariants.{Wait}
 use Rattle.xsk_laws.specs.Laws.{AreForwarded, AreExpected}
+use Rattle.xsk_ended.specs.Until.{AreForwardedUntil, AreExpectedUntil}
 use Rattle.xsk_driver.specs.Asking.{IsAnswer}
 use Rattle.xsk_machine.specs.Acts.{sent_of}
 use Rattle.xsk_machine.specs.Workers.{setting_by}
@@ -103,8 +104,20 @@ abbrev pub StallsAsRuled : Type 0
 StallsAsRuled = (rules : List Rule) (s : Setting) (frames : List Frame) (order round : ℕ) → are_exact rules ≡ true → IsRuled rules s
     → HasStalled s frames order round → HasStalled (ruled_by rules s.wire s.manner s.config s.packets) frames order round
 
--- Where no item is changed, what the driver of a port and queue sent in a run that has ended is what was forwarded by all classes, whatever the wire
--- does, beside what bounced of its own packets, and nothing else. Where the wire waits it is what is expected by them, beside what bounces.
+-- Where no item is changed, what the driver of a port and queue sent in a run that has ended is what was forwarded by all classes, on
+-- each lane until it was cut, whatever the wire does, beside what bounced of its own packets, and nothing else. Where the wire waits it is
+-- what is expected by them, beside what bounces.
+abbrev pub EndedIsForwardedUntil : Type 0
+EndedIsForwardedUntil = (s : Setting) (frames : List Frame) (order : ℕ) (run : Shown) (port queue : ℕ) → s.manner.mangle ≡ None → IsRegular s.config → (ended : HasEnded s frames order run)
+    → port < s.config.ports → queue < s.config.queues
+    → AreForwardedUntil s.wire s.config ended.history s.packets s.verdicts port queue (slice_index_or run.sent (driver_on s.config port queue) [])
+
+abbrev pub EndedIsExpectedUntil : Type 0
+EndedIsExpectedUntil = (s : Setting) (frames : List Frame) (order : ℕ) (run : Shown) (port queue : ℕ) → s.manner.mangle ≡ None → s.wire ≡ Wait → IsRegular s.config → (ended : HasEnded s frames order run)
+    → port < s.config.ports → queue < s.config.queues
+    → AreExpectedUntil s.config ended.history s.packets s.verdicts port queue (slice_index_or run.sent (driver_on s.config port queue) [])
+
+-- where no socket is closed no lane is cut
 abbrev pub EndedIsForwarded : Type 0
 EndedIsForwarded = (s : Setting) (frames : List Frame) (order : ℕ) (run : Shown) (port queue : ℕ) → s.manner.mangle ≡ None → IsSteady s.config → (ended : HasEnded s frames order run)
     → port < s.config.ports → queue < s.config.queues

@@ -1,7 +1,7 @@
 //! The laws of runs, each the contract of a function that does nothing. They are stated in `specs/Runs.antt`.
 
-ghost use Rattle.xsk_sim.specs.Bounds.{EndsOrStandsStill, NoneStandsStill};
-ghost use Rattle.xsk_sim.specs.Runs.{OneHistory, OneLog, OneFigures, EndsOrStalls, OneStall, EndsAsRuled, StallsAsRuled, EndedIsForwarded, EndedIsExpected, EntriesStandInRounds};
+ghost use Rattle.xsk_sim.specs.Bounds.{EndsOrStandsStill, EndsOrStandsStillWithClosings, NoneStandsStill};
+ghost use Rattle.xsk_sim.specs.Runs.{OneHistory, OneLog, OneFigures, EndsOrStalls, OneStall, EndsAsRuled, StallsAsRuled, EndedIsForwarded, EndedIsExpected, EndedIsForwardedUntil, EndedIsExpectedUntil, EntriesStandInRounds};
 
 /// For each number of rounds there is one history in rounds of the workers of a configuration over packets with verdicts.
 pub fn one_history()
@@ -28,14 +28,20 @@ pub fn one_stall()
     ensures { OneStall }
 {}
 
-/// Each run ends or stands still: one that does neither has fewer rounds than a bound by its packets, its frames and its
-/// configuration.
+/// Each run in which no socket is closed ends or stands still: one that does neither has fewer rounds than a bound by its
+/// packets, its frames and its configuration.
 #[tactic(auto, using(crate::proofs::Bounding::ends_or_stands_still))]
 pub fn ends_or_stands_still()
     ensures { EndsOrStandsStill }
 {}
 
-/// Where each ring has 32 entries or more and each pool 18 frames or more, and applications change nothing, no run stands still,
+/// So does each run of a regular configuration: where a socket is closed, its bound is a constant more.
+#[tactic(auto, using(crate::proofs::Bounding::ends_with_closings))]
+pub fn ends_or_stands_still_with_closings()
+    ensures { EndsOrStandsStillWithClosings }
+{}
+
+/// Where each ring has 32 entries or more and each pool 18 frames or more, no socket is closed, and applications change nothing, no run stands still,
 /// whatever the wire does.
 pub fn none_stands_still()
     ensures { NoneStandsStill }
@@ -52,8 +58,8 @@ pub fn stalls_as_ruled()
     ensures { StallsAsRuled }
 {}
 
-/// What each driver sent in a run that has ended is what the paired port's driver delivered, whatever the wire does, and what
-/// bounced of its own packets.
+/// What each driver sent in a run that has ended, where no socket is closed, is what the paired port's driver delivered, whatever the
+/// wire does, and what bounced of its own packets.
 pub fn ended_is_forwarded()
     ensures { EndedIsForwarded }
 {}
@@ -61,6 +67,16 @@ pub fn ended_is_forwarded()
 /// Where the wire waits, it is what is expected of the input, and what bounces.
 pub fn ended_is_expected()
     ensures { EndedIsExpected }
+{}
+
+/// Where a socket is closed, it is what the paired port's driver delivered, on each lane until it was cut, and what bounced.
+pub fn ended_is_forwarded_until()
+    ensures { EndedIsForwardedUntil }
+{}
+
+/// And where the wire waits, what is expected of the input, on each lane until it was cut, and what bounces.
+pub fn ended_is_expected_until()
+    ensures { EndedIsExpectedUntil }
 {}
 
 /// Each entry of a history in rounds stands in the round, counted from 0, whose number is that of its caller's entries before

@@ -1,14 +1,13 @@
 //! A whole simulation: from a configuration and packets to what was sent and the log.
-ghost use Rattle.std.specs.Prelude.{◌≡◌, ◌<◌, ◌≤◌, ◌+◌, ◌⊎◌, ℕ, IsTrue, false, Err, List, [], All, IfSome, IfOk, OnOk, length, map, vec_len};
+ghost use Rattle.std.specs.Prelude.{◌≡◌, ◌<◌, ◌≤◌, ◌+◌, ◌⊎◌, ℕ, IsTrue, false, None, Err, List, [], All, IfSome, IfOk, OnOk, length, map, vec_len};
 ghost use Rattle.std.specs.List.{concat, slice_index_or};
 ghost use Rattle.xsk_umem.specs.Geometry.{IsGeometry};
-ghost use Rattle.xsk_model.specs.Config.{callers_of, classes_of};
+ghost use Rattle.xsk_model.specs.Config.{IsRegular, callers_of, classes_of};
 ghost use Rattle.xsk_model.specs.Opening.{AreFrames};
 ghost use Rattle.xsk_umem.specs.Frame.{Frame};
 ghost use Rattle.xsk_plain.specs.Left.{left_of};
 ghost use Rattle.xsk_plain.specs.Log.{calls_of, entries_of};
 ghost use Rattle.xsk_turns.specs.Mangling.{plain as plain_manner};
-ghost use Rattle.xsk_turns.specs.Owned.{IsSteady};
 ghost use Rattle.xsk_machine.specs.Workers.{AreNew};
 ghost use Rattle.xsk_driver.specs.Sent.{IsShort};
 ghost use Rattle.xsk_sim.specs.Shown.{HasShortPackets, packets_in};
@@ -122,24 +121,26 @@ impl Run {
 /// A run has stalled after so many rounds in which nothing changed.
 const STILL_ROUNDS: u64 = 64;
 
-/// Runs the drivers and applications of a regular configuration, in which no socket is closed, in rounds until all have ended,
-/// over one list of packets for each port, none of which has more than 262,144 bytes. The frames are all frames of its UMEM, the
-/// chain of programs is attached to every port, `wire` says what becomes of a packet that finds too few frames or no room on RX,
-/// `order` is the number of the rounds' order, and `manner` says which items each application changes.
+/// Runs the drivers and applications of a regular configuration in rounds until all have ended, over one list of packets for each
+/// port, none of which has more than 262,144 bytes. The frames are all frames of its UMEM, the chain of programs is attached to
+/// every port, `wire` says what becomes of a packet that finds too few frames or no room on RX, `order` is the number of the
+/// rounds' order, and `manner` says which items each application changes, and after how many items it closes the socket that is to
+/// be closed, if one is.
 ///
 /// Each driver asks the chain once for each of its packets, so there is one list of verdicts for each driver, and all that
 /// is said of the run is said of these. Where its rules leave one verdict for each packet, they are the rules' own
 /// (`laws::ends_as_ruled`). Where no items are changed, what a run that has ended sent is what was delivered to the paired sockets
 /// (`laws::ended_is_forwarded`), and where the wire waits what is expected there (`laws::ended_is_expected`), beside the packets
-/// that bounce by the port on which they came.
+/// that bounce by the port on which they came. Where a socket is closed, on its two lanes these are the first packets, as many as
+/// its application passed on (`laws::ended_is_forwarded_until`, `laws::ended_is_expected_until`).
 ///
 /// It stalls exactly in the first round at which some worker hasn't ended and nothing has changed for 64 rounds, this one among
 /// them: the object was the same after each of their calls, and no packet got its disposal, which it gets in the round of its
-/// driver's next call. Rounds are counted from 0. Each run ends or stands still (`laws::ends_or_stands_still`), and where there
-/// is no memory for the log of its calls, it is given up. A run that has ended, with no such round before, is a legal
+/// driver's next call. Rounds are counted from 0. Each run ends or stands still (`laws::ends_or_stands_still_with_closings`), and where
+/// there is no memory for the log of its calls, it is given up. A run that has ended, with no such round before, is a legal
 /// history in rounds in which each worker's own calls and replies are a whole run of its turns, and one that has stalled is such
 /// a history of all these rounds, in which those of some worker aren't. Where each ring has 32 entries or more, and each pair's pool
-/// 18 frames or more, it never stalls.
+/// 18 frames or more, and no socket is closed, it never stalls.
 pub fn simulate<F: Fn(&[u8], u32) -> Verdict>(
     alloc: Global,
     config: Config,
@@ -150,7 +151,7 @@ pub fn simulate<F: Fn(&[u8], u32) -> Verdict>(
     order: u32,
     manner: Manner,
 ) -> Result<Run, SimError>
-    requires steady { IsSteady config }
+    requires regular { IsRegular config }
     requires frames { AreFrames config.geometry frames.items }
     requires lists { length packets.now ≡ config.ports }
     requires short { All HasShortPackets packets.now }
@@ -159,7 +160,7 @@ pub fn simulate<F: Fn(&[u8], u32) -> Verdict>(
     ensures ended { IfOk result (HasEndedUnder F.Fn chain.now wire manner config packets.now frames.items order) }
     ensures stalled { (round : ℕ) → result ≡ Err (SimError.Stalled round)
         → HasStalledUnder F.Fn chain.now wire manner config packets.now frames.items order round }
-    ensures goes_on { HasAmpleRoom config → manner ≡ plain_manner → (round : ℕ) → result ≡ Err (SimError.Stalled round) → ⊥ }
+    ensures goes_on { HasAmpleRoom config → config.closing ≡ None → manner ≡ plain_manner → (round : ℕ) → result ≡ Err (SimError.Stalled round) → ⊥ }
 {
     let shared = config.copy(alloc)?;
     let inputs = Inputs::split(alloc, &shared, packets)?;
@@ -194,7 +195,7 @@ fn run_workers(
     requires geometry { IsGeometry plain.config.geometry }
     requires ready { AreReady workers plain }
     ensures pairs { (s : Setting) (frames : List Frame) → AreSeated s frames [] workers.entry plain → IfOk result (λ run. run.pairs ≡ length s.config.pairs) }
-    ensures ended { (s : Setting) (frames : List Frame) → IsSteady s.config → AreSeated s frames [] workers.entry plain
+    ensures ended { (s : Setting) (frames : List Frame) → IsRegular s.config → AreSeated s frames [] workers.entry plain
         → classes ≡ classes_of s.config → wire ≡ s.wire → manner ≡ s.manner
         → IfOk result (HasEnded s frames order.number) }
     ensures stalled { (s : Setting) (frames : List Frame) (round : ℕ) → AreSeated s frames [] workers.entry plain
@@ -234,7 +235,7 @@ fn make_rounds(workers: &mut Workers<'_>, plain: &mut Plain, order: Order) -> Re
 {
     let mut order = order;
     let mut still = 0;
-    for round in 0..=u64::MAX {
+    for round in 0..u64::MAX {
         let quiet = workers.round(plain, &mut order)?;
         still = still_after(still, quiet);
         if workers.have_ended() {
@@ -244,8 +245,8 @@ fn make_rounds(workers: &mut Workers<'_>, plain: &mut Plain, order: Order) -> Re
             return Err(SimError::Stalled { round });
         }
     }
-    // The log has a row for each call and counts them in 32 bits, so its room is refused long before.
-    Err(SimError::OutOfMemory)
+    // Runs have fewer rounds: `laws::ends_or_stands_still_with_closings`.
+    unreachable!()
 }
 
 /// For how many rounds nothing has changed, by whether anything changed in the last one.
@@ -264,7 +265,7 @@ fn seat_workers<'a>(
     drivers: Vec<Driver<'a>>,
     manner: Manner,
 ) -> Result<Workers<'a>, OutOfMemory>
-    requires steady { IsSteady config.now }
+    requires regular { IsRegular config.now }
     requires count { length drivers.items ≡ length config.now.pairs }
     requires new { (s : Setting) × (s.config ≡ config.now) × (s.manner ≡ manner) × AreNew s 0 drivers.items }
     ensures count { IfOk result (λ workers. vec_len workers.seats ≡ callers_of config.now) }

@@ -1,6 +1,7 @@
 use Rattle.std.proofs.Common.{◌≡◌, ◌+◌, ◌<◌, ◌≤◌, IsTrue, refl, arith, subst, ◌∙◌, ⊎_elim}
 use Rattle.xsk_sim.specs.Seats.{HaveEnded}
 use Rattle.xsk_sim.proofs.Standing.{decided, gone_none, gone_more, never_more, never_ended, Stops, stops}
+use Rattle.xsk_sim.proofs.Lasting.{never_so_many}
 use Rattle.xsk_sim.proofs.simulation.make_rounds.Goals as goal
 
 pub loop-round-init : goal.loop-round-init
@@ -56,3 +57,16 @@ returns-then-still-eq-STILL_ROUNDS-clause-stalled c s frames round seated is =
     let going : HaveEnded c.round.new.self → ⊥ = λ ended. let yes = c.have_ended.ensures.1 ended in let no = c.if-have_ended.false in cc in
     subst (Stops s frames c.args.order.number c.round.new.self c.round.new.plain) here
     (stops s frames c.args.order.number l.round c.still_after-still.result c.round.new.self c.round.new.plain more.0 going few c.if-still-eq-STILL_ROUNDS.true had.2)
+
+-- runs have fewer rounds
+pub unreachable-requires : goal.unreachable-requires
+unreachable-requires c =
+    let l = c.loop-round in
+    let r = c.requires.ready in
+    let had = l.invariant.rounds r.setting r.frames r.seated in
+    let many : 18446744073709551615 ≤ l.round = omega (arith, c.loop-round-test.false) in
+    omega (
+      arith,
+      many,
+      never_so_many r.setting r.frames c.args.order.number l.round l.still c.args.workers.now l.workers c.args.plain.now l.plain r.seated had.0 had.2 (l.invariant.going (omega (arith, many))),
+    )

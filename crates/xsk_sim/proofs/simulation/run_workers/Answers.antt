@@ -23,14 +23,14 @@ returns-in_err-make_rounds-clause-stalled c s frames round seated is =
     stalled_run s frames c.args.order.number round w engine stalled.0 stalled.1 stalled.2 stalled.3 stalled.4
 
 pub returns-clause-ended : goal.returns-clause-ended
-returns-clause-ended c s frames steady seated classes wire manner =
+returns-clause-ended c s frames regular seated classes wire manner =
     let w = c.make_rounds.new.workers in
     let engine = c.make_rounds.new.plain in
     let ended : (count : ℕ) × (count ≤ 18446744073709551616) × HadRounds s frames c.args.order.number count w engine × HaveEnded w × NeverStill s frames c.args.order.number count =
     c.in_ok-make_rounds.ensures.ended s frames seated in
     let had : HadRounds s frames c.args.order.number ended.0 w engine = ended.2 in
     let calls : c.from-calls.result ≡ length engine.log = c.from-calls.ensures ∙ c.len.ensures ∙ log_count c.log.result.now ∙ ap length c.log.ensures.entries in
-    ended_run s frames c.args.order.number ended.0 w engine _ c.args.classes c.from-calls.result c.args.wire c.is_some.result steady had ended.1 ended.4 ended.3 refl c.in_ok-kept.ensures.sent
+    ended_run s frames c.args.order.number ended.0 w engine _ c.args.classes c.from-calls.result c.args.wire c.is_some.result regular had ended.1 ended.4 ended.3 refl c.in_ok-kept.ensures.sent
     classes calls (search rules) (search rules) wire (c.is_some.ensures ∙ ap (λ (m : Manner). is_some m.mangle) manner)
 
 pub returns-clause-pairs : goal.returns-clause-pairs

@@ -19,7 +19,7 @@ begins : (g : given.Over) (c : goal.After-new g)
 begins g c =
     let copy : Setting = setting_by c.in_ok-shared.shared c.args.wire c.args.manner c.args.packets.now (kept_in c.in_ok-drivers.drivers.items) in
     seated_opened c.args.wire c.args.manner c.args.config c.in_ok-shared.shared c.args.packets.now (kept_in c.in_ok-drivers.drivers.items) c.args.frames.items c.in_ok-workers.workers c.in-Ok.plain
-    c.in_ok-shared.ensures c.geometry-geometry.ensures.lawful (subst IsConfig c.config.view_is c.config.invariant) c.requires.steady.regular.lawful c.requires.frames
+    c.in_ok-shared.ensures c.geometry-geometry.ensures.lawful (subst IsConfig c.config.view_is c.config.invariant) c.requires.regular.lawful c.requires.frames
     c.in-Ok.ensures.config c.in-Ok.ensures.state c.in-Ok.ensures.log.0 (c.in_ok-workers.ensures.seated copy refl refl (c.in_ok-drivers.ensures.new c.args.manner)) c.in_ok-workers.ensures.settled c.in_ok-workers.ensures.count
 
 seated : (g : given.Over) (c : goal.After-drop-shared-inside-4 g)
@@ -27,7 +27,7 @@ seated : (g : given.Over) (c : goal.After-drop-shared-inside-4 g)
 seated g c =
     let copy : Setting = setting_by c.in_ok-shared.shared c.args.wire c.args.manner c.args.packets.now (kept_in c.in_ok-drivers.drivers.items) in
     seated_opened c.args.wire c.args.manner c.args.config c.in_ok-shared.shared c.args.packets.now (kept_in c.in_ok-drivers.drivers.items) c.args.frames.items c.in_ok-workers.workers c.in-Ok.plain
-    c.in_ok-shared.ensures c.geometry-geometry.ensures.lawful (subst IsConfig c.config.view_is c.config.invariant) c.requires.steady.regular.lawful c.requires.frames
+    c.in_ok-shared.ensures c.geometry-geometry.ensures.lawful (subst IsConfig c.config.view_is c.config.invariant) c.requires.regular.lawful c.requires.frames
     c.in-Ok.ensures.config c.in-Ok.ensures.state c.in-Ok.ensures.log.0 (c.in_ok-workers.ensures.seated copy refl refl (c.in_ok-drivers.ensures.new c.args.manner)) c.in_ok-workers.ensures.settled c.in_ok-workers.ensures.count
 
 asked : (g : given.Over) (c : goal.After-drop-shared-inside-4 g)
@@ -45,7 +45,7 @@ returns-clause-ended g c =
     let s : Setting = setting_by c.args.config c.args.wire c.args.manner c.args.packets.now (kept_in c.in_ok-drivers.drivers.items) in
     if_ok c.run_workers.result (HasEnded s c.args.frames.items c.args.order) _ (λ run ended. record { verdicts = s.verdicts; asked = asked g c; ended = ended })
     (subst (λ (number : ℕ). IfOk c.run_workers.result (HasEnded s c.args.frames.items number)) c.new.ensures
-    (c.run_workers.ensures.ended s c.args.frames.items c.requires.steady (seated g c) (c.classes-classes.ensures ∙ ap classes_of c.in_ok-shared.ensures) refl refl))
+    (c.run_workers.ensures.ended s c.args.frames.items c.requires.regular (seated g c) (c.classes-classes.ensures ∙ ap classes_of c.in_ok-shared.ensures) refl refl))
 
 pub returns-clause-pairs : goal.returns-clause-pairs
 returns-clause-pairs g c =
@@ -59,10 +59,10 @@ stalls g c round is =
     subst (λ (number : ℕ). HasStalled s c.args.frames.items number round) c.new.ensures (c.run_workers.ensures.stalled s c.args.frames.items round (seated g c) is)
 
 pub returns-clause-goes_on : goal.returns-clause-goes_on
-returns-clause-goes_on g c ample whole round is =
+returns-clause-goes_on g c ample closes whole round is =
     let s : Setting = setting_by c.args.config c.args.wire c.args.manner c.args.packets.now (kept_in c.in_ok-drivers.drivers.items) in
     let stalled = stalls g c round is in
-    none_stands_still s c.args.frames.items c.args.order round c.requires.steady ample whole (record { past = stalled.past; still = stalled.still })
+    none_stands_still s c.args.frames.items c.args.order round (record { regular = c.requires.regular; closes = closes }) ample whole (record { past = stalled.past; still = stalled.still })
 
 pub returns-clause-stalled : goal.returns-clause-stalled
 returns-clause-stalled g c round is =
