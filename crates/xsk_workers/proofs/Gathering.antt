@@ -6,11 +6,10 @@ use Rattle.std.proofs.lemmas.Bool.{cases_eq, or_cases, eqb-true, ltb-true}
 use Rattle.std.proofs.lemmas.List.{get_or-map, length-map, get_or_append_left, get_or_push}
 use Rattle.std.proofs.lemmas.List.Elements.{All-head, All-tail}
 use Rattle.std.proofs.lemmas.List.FromFn.{length-range_with_len, get_or-range_with_len, fill_by_all}
-use Rattle.xsk_model.specs.Config.{callers_of, classes_of}
+use Rattle.xsk_model.specs.Config.{IsRegular, callers_of, classes_of}
 use Rattle.xsk_model.specs.Entry.{Told, own}
 use Rattle.xsk_model.specs.declared.call.Act.TheVariants.{Ended}
 use Rattle.xsk_model.proofs.CallTheorems.{callers_exist}
-use Rattle.xsk_turns.specs.Owned.{IsSteady}
 use Rattle.xsk_turns.specs.Counted.{capped}
 use Rattle.xsk_turns.specs.Hands.{IsWholeRunOf, IsWholeAppRunOf}
 use Rattle.xsk_turns.specs.AppSplit.{IsWholeSplitRun}
@@ -31,19 +30,19 @@ use Rattle.xsk_table.specs.Opening.{new_passes}
 use Rattle.xsk_model.specs.Rings.{caller_of}
 use Rattle.xsk_workers.specs.Crew.{Seat, IsSeatOn}
 use Rattle.xsk_workers.specs.Shown.{WorkerShown, seat_at, is_alone}
-use Rattle.xsk_workers.specs.Hands.{TeamShown}
+use Rattle.xsk_workers.specs.Hands.{SuitHands, TeamShown}
 use Rattle.xsk_workers.specs.Members.{member_seat, MemberHasRun, pass_in, IsLeftOf, kept_left, figures_left}
 use Rattle.xsk_workers.specs.declared.member.Member.{Member}
 use Rattle.xsk_workers.specs.declared.member.Member.TheVariants.{One, Several}
-use Rattle.xsk_machine.specs.Workers.{Stands, kept_of, figures_kept}
+use Rattle.xsk_machine.specs.Workers.{Stands}
 use Rattle.xsk_umem.specs.Frame.{Frame}
 use Rattle.xsk_model.specs.Config.{Config}
 use Rattle.xsk_model.specs.Entry.{Entry}
 use Rattle.xsk_model.specs.History.{IsHistory}
 use Rattle.xsk_model.proofs.Theorems.{one_holder}
-use Rattle.xsk_laws.specs.Laws.{AreWholeRunsBy}
-use Rattle.xsk_laws.proofs.Woken.{none_is_lost_in_whole_runs}
-use Rattle.xsk_machine.proofs.Within.{by_one, are_within_by, whole_runs_by}
+use Rattle.xsk_machine.proofs.Within.{by_one}
+use Rattle.xsk_ended.proofs.Ended.{ended_lose_no_wakes}
+use Rattle.xsk_ended.proofs.Within.{are_within_by}
 use Rattle.xsk_table.specs.Closing.{AreThere, EndsIn}
 use Rattle.xsk_workers.specs.Forwarded.{HasForwarded}
 use Rattle.xsk_workers.specs.Gathering.{HaveRun, HaveRunFrom, AreTaken, AreGiven, AreKept, AreSent, IsSentOf, AreFiguresOf, IsFiguresOf, calls_in}
@@ -179,11 +178,15 @@ have_run b hands s n [] seats whole = tt
 have_run b hands s n (m ∷ ms) seats whole =
     (ap (λ (xs : List Seat). get_or xs 0 (member_seat m)) seats, All-head MemberHasRun m ms whole, have_run b hands s (n + 1) ms (ap (drop 1) seats) (All-tail MemberHasRun m ms whole))
 
-pub have_run_all : (b : Board) (hands : ℕ) (s : Setting) (ms : List (Member WorkerShown TeamShown)) → s.config ≡ b.setup.config → s.manner ≡ plain
+pub have_run_all : (b : Board) (hands : ℕ) (s : Setting) (ms : List (Member WorkerShown TeamShown)) → s.config ≡ b.setup.config → (hands ≡ 1) ⊎ (s.manner ≡ plain)
     → map member_seat ms ≡ map (seat_at hands s b) (range_with_len 0 (callers_of b.setup.config)) → All MemberHasRun ms → HaveRun b hands s ms
 have_run_all b hands s ms config changes_nothing seats whole =
     let count : length ms ≡ callers_of b.setup.config = seats_count b hands s ms seats in
     record { config = config; plain = changes_nothing; run = have_run b hands s 0 ms (seats ∙ ap (λ n. map (seat_at hands s b) (range_with_len 0 n)) (sym count)) whole }
+
+-- several hands change nothing
+pub unchanged_by : (hands : ℕ) (c : Config) (manner : Manner) → SuitHands hands c manner → (hands ≡ 1) ⊎ (manner ≡ plain)
+unchanged_by hands c manner suit = ⊎_elim (λ (one : hands ≡ 1). inl one) (λ (both : (c.closing ≡ None) × (manner ≡ plain)). inr both.1) suit
 
 -- one machine makes all calls where there is one hand, or of a driver
 alone_by : (hands n pairs : ℕ) → (hands == 1 || nat_lt n pairs) ≡ true → (hands ≡ 1) ⊎ (n < pairs)
@@ -203,14 +206,15 @@ whole_alone hands s n l is run = ⊎_elim
     (alone_by hands n (length s.config.pairs) is)
 
 -- and several hands' whole split run where it isn't
-whole_split : (hands : ℕ) (s : Setting) (n app : ℕ) (l : List Told) → is_alone hands s n ≡ false → s.manner ≡ plain → n ≡ caller_of s.config app → IsWholeSplitRun s.config app l → IsWholeRunOf hands s n l
+whole_split : (hands : ℕ) (s : Setting) (n app : ℕ) (l : List Told) → is_alone hands s n ≡ false → (hands ≡ 1) ⊎ (s.manner ≡ plain) → n ≡ caller_of s.config app → IsWholeSplitRun s.config app l → IsWholeRunOf hands s n l
 whole_split hands s n app l is changes_nothing caller whole =
     let several : hands ≡ 1 → ⊥ = λ one. let no : true ≡ false = ap (λ k. is_alone k s n) (sym one) ∙ is in absurd cc in
+    let manner : s.manner ≡ plain = ⊎_elim (λ (one : hands ≡ 1). absurd (several one)) (λ (same : s.manner ≡ plain). same) changes_nothing in
     record {
       driver = λ below. absurd (omega (arith, below, caller));
       app = λ a at.
           let same : app ≡ a = omega (arith, at, caller) in
-          split_by hands s.manner s.config a l several changes_nothing (subst (λ k. IsWholeSplitRun s.config k l) same whole);
+          split_by hands s.manner s.config a l several manner (subst (λ k. IsWholeSplitRun s.config k l) same whole);
     }
 
 -- the first of them, in the setting and as the caller of its seat
@@ -235,7 +239,7 @@ module _ (b : Board) (hands : ℕ) (s : Setting) (n : ℕ) where
   past t rest run =
       at_seat (λ x k. k ≡ caller_of x.config t.last.app) t.setting t.last.pass.who (ap (λ (x : Seat). x.setting) run.0) (ap (λ (x : Seat). x.who) run.0) run.1.team.caller
 
-  pub whole_here : (m : Member WorkerShown TeamShown) (rest : List (Member WorkerShown TeamShown)) → s.manner ≡ plain → HaveRunFrom b hands s n (m ∷ rest) → IsWholeRunOf hands s n (own n (pass_in m).view.seen)
+  pub whole_here : (m : Member WorkerShown TeamShown) (rest : List (Member WorkerShown TeamShown)) → (hands ≡ 1) ⊎ (s.manner ≡ plain) → HaveRunFrom b hands s n (m ∷ rest) → IsWholeRunOf hands s n (own n (pass_in m).view.seen)
   whole_here (One w) rest changes_nothing run =
       whole_alone hands s n (own n w.pass.view.seen) (sym (ap (λ (x : Seat). x.alone) run.0))
       (at_seat (λ x k. IsWholeRun x k (own k w.pass.view.seen)) w.setting w.pass.who (ap (λ (x : Seat). x.setting) run.0) (ap (λ (x : Seat). x.who) run.0) run.1)
@@ -284,7 +288,7 @@ figures_by_parts calls wire mangled drivers = record { calls = calls; wire = wir
 
 -- in the history in which all passes end each caller's own calls and replies are a whole run, and what was kept as sent, as
 -- figures and as the number of calls is what it should be there
-module _ (b : Board) (hands : ℕ) (s : Setting) (frames : List Frame) (passes : List (Option Holder)) (lists : List (List (List ℕ))) (drivers : List DriverFigures) (calls : ℕ) (wire : Wire) (h : List Entry) (steady : IsSteady s.config)
+module _ (b : Board) (hands : ℕ) (s : Setting) (frames : List Frame) (passes : List (Option Holder)) (lists : List (List (List ℕ))) (drivers : List DriverFigures) (calls : ℕ) (wire : Wire) (h : List Entry) (regular : IsRegular s.config)
     (config : s.config ≡ b.setup.config) (opened : b.setup.frames ≡ frames) (given : AreGiven b hands s (callers_of b.setup.config) passes) (sent : AreSent s (callers_of b.setup.config) passes lists)
     (figured : AreFiguresOf s (callers_of b.setup.config) passes drivers) (counted : calls ≡ capped (calls_in 0 passes)) (same_wire : wire ≡ s.wire) (none_changed : is_some s.manner.mangle ≡ false) (ends : EndsIn b passes h) where
   legal : IsHistory s.config frames h
@@ -310,12 +314,12 @@ module _ (b : Board) (hands : ℕ) (s : Setting) (frames : List Frame) (passes :
       subst (λ l. Is pair l (get_or xs pair none)) (sym mine) at.2
 
   sent_is : (pair : ℕ) → pair < length s.config.pairs → get_or lists pair [] ≡ sent_of s h pair
-  sent_is pair below = kept_is (IsSentOf s) lists sent pair [] below (are_within_by hands s frames h steady legal whole pair below)
+  sent_is pair below = kept_is (IsSentOf s) lists sent pair [] below (are_within_by hands s frames h regular legal whole pair below)
 
   drivers_are : drivers ≡ map (driver_figures_of s h) (range_with_len 0 (length s.config.pairs))
   drivers_are =
       fill_by_all (driver_figures_of s h) drivers (length s.config.pairs) (driver_figures_of s h 0) (figured.all drivers_known)
-      (λ k below. kept_is (IsFiguresOf s) drivers figured k (driver_figures_of s h 0) below (are_within_by hands s frames h steady legal whole k below))
+      (λ k below. kept_is (IsFiguresOf s) drivers figured k (driver_figures_of s h 0) below (are_within_by hands s frames h regular legal whole k below))
 
   calls_is : calls ≡ capped (length h)
   calls_is =
@@ -340,8 +344,8 @@ module _ (b : Board) (hands : ℕ) (s : Setting) (frames : List Frame) (passes :
     sent = sent_is;
     figures = figures_are;
     woken = λ past later pair split below.
-        none_is_lost_in_whole_runs hands s.manner s.wire s.config s.packets s.verdicts frames past later pair
-        (subst (AreWholeRunsBy hands s.manner s.wire s.config s.packets s.verdicts frames) split (whole_runs_by hands s frames h steady legal whole)) below;
+        ended_lose_no_wakes hands s frames past later pair regular (subst (IsHistory s.config frames) split legal)
+        (subst (λ l. (who : ℕ) → who < callers_of s.config → IsWholeRunOf hands s who (own who l)) split whole) below;
   }
 
   pub pairs_are : length lists ≡ length s.config.pairs

@@ -1,8 +1,8 @@
 -- Seats of members.
-use Rattle.std.proofs.Common.{◌≡◌, ◌≤◌, ◌==◌, ◌||◌, nat_lt, ℕ, false, List, length, map, All, sym, ap, subst, ◌∙◌, arith}
+use Rattle.std.proofs.Common.{◌≡◌, ◌≤◌, ◌==◌, nat_lt, ℕ, true, false, List, length, map, All, sym, ap, subst, ◌∙◌, arith}
 use Rattle.std.proofs.lemmas.Bool.{or_parts, ltb-false}
 use Rattle.std.proofs.lemmas.List.{get_or-map, length-map}
-use Rattle.std.proofs.lemmas.List.Elements.{All-map, All-weaker}
+use Rattle.std.proofs.lemmas.List.Elements.{All-map}
 use Rattle.xsk_turns.specs.Workers.{Setting}
 use Rattle.xsk_table.specs.Held.{Board}
 use Rattle.xsk_workers.specs.Crew.{Seat, IsSeatOn}
@@ -22,3 +22,7 @@ all_on {W} seat b ws vs same h =
 -- a caller whose calls several hands make is no driver
 pub is_past : (hands : ℕ) (s : Setting) (who : ℕ) → is_alone hands s who ≡ false → length s.config.pairs ≤ who
 is_past hands s who apart = ltb-false who (length s.config.pairs) (or_parts (hands == 1) (nat_lt who (length s.config.pairs)) apart).1
+
+-- and has several hands
+pub is_several : (hands : ℕ) (s : Setting) (who : ℕ) → is_alone hands s who ≡ false → hands ≡ 1 → ⊥
+is_several hands s who apart one = let no : true ≡ false = ap (λ k. is_alone k s who) (sym one) ∙ apart in absurd cc

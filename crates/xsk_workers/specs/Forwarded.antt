@@ -5,7 +5,7 @@ use Rattle.std.specs.Fn.{Shared}
 use denote.Ref.{Bor}
 use Rattle.xsk_umem.specs.Frame.{Frame}
 use Rattle.xsk_umem.specs.PacketList.{PacketList}
-use Rattle.xsk_model.specs.Config.{Config, callers_of}
+use Rattle.xsk_model.specs.Config.{Config, IsRegular, callers_of}
 use Rattle.xsk_model.specs.Steering.{driver_on}
 use Rattle.xsk_model.specs.Entry.{Entry, own}
 use Rattle.xsk_model.specs.History.{IsHistory, state_after}
@@ -16,6 +16,7 @@ use Rattle.xsk_turns.specs.Owned.{IsSteady}
 use Rattle.xsk_turns.specs.Wakes.{NoWakeIsLost}
 use Rattle.xsk_turns.specs.Hands.{IsWholeRunOf}
 use Rattle.xsk_turns.specs.Workers.{Setting, AreGiven}
+use Rattle.xsk_turns.specs.declared.manner.Manner.{Manner}
 use Rattle.xsk_turns.specs.declared.wire.Wire.{Wire}
 use Rattle.xsk_turns.specs.declared.wire.Wire.TheVariants.{Wait}
 use Rattle.xsk_driver.specs.Asking.{IsAnswer}
@@ -23,8 +24,9 @@ use Rattle.xsk_machine.specs.Acts.{sent_of}
 use Rattle.xsk_machine.specs.Figured.{figures_of}
 use Rattle.xsk_machine.specs.declared.figures.Figures.{Figures}
 pub use Rattle.xsk_machine.specs.Acts.{packets_in}
-pub use Rattle.xsk_machine.specs.Workers.{setting_with}
+pub use Rattle.xsk_machine.specs.Workers.{setting_by}
 use Rattle.xsk_laws.specs.Laws.{AreForwarded, AreExpected}
+use Rattle.xsk_ended.specs.Until.{AreForwardedUntil, AreExpectedUntil}
 
 -- the history that the table's note shows, for each pair the packets that its driver kept as sent, and the figures
 pub record OutcomeShown : Type 0 where
@@ -46,14 +48,23 @@ pub record HasForwarded (hands : ℕ) (s : Setting) (frames : List Frame) (o : O
 
 -- The same under a chain: there are verdicts of each driver's packets, each an answer of the chain that meets its programs'
 -- rules, with which it has forwarded.
-pub record HasForwardedUnder {F : Type 0} (hands : ℕ) (g : Shared F (Bor (List ℕ) × (ℕ × Unit {0})) Verdict) (programs : List (XdpProgram F)) (wire : Wire) (c : Config) (packets : List PacketList) (frames : List Frame) (o : OutcomeShown) : Type 0 where
+pub record HasForwardedUnder {F : Type 0} (hands : ℕ) (g : Shared F (Bor (List ℕ) × (ℕ × Unit {0})) Verdict) (programs : List (XdpProgram F)) (wire : Wire) (manner : Manner) (c : Config) (packets : List PacketList) (frames : List Frame) (o : OutcomeShown) : Type 0 where
   pub verdicts : List (List Verdict)
-  pub asked : AreGiven (IsAnswer g programs) (setting_with c wire packets verdicts)
-  pub forwarded : HasForwarded hands (setting_with c wire packets verdicts) frames o
+  pub asked : AreGiven (IsAnswer g programs) (setting_by c wire manner packets verdicts)
+  pub forwarded : HasForwarded hands (setting_by c wire manner packets verdicts) frames o
 
 -- Where no item is changed, as in each run that `forward` makes, what the driver of a port and queue sent is what was forwarded by
--- all classes, whatever the wire does, beside what bounced of its own packets, and nothing else.
+-- all classes, on each lane until it was cut, whatever the wire does, beside what bounced of its own packets, and nothing else.
 -- Where the wire waits it is what is expected by them, beside what bounces.
+abbrev pub AllAreForwardedUntil : Type 0
+AllAreForwardedUntil = (hands : ℕ) (s : Setting) (frames : List Frame) (o : OutcomeShown) (port queue : ℕ) → s.manner.mangle ≡ None → IsRegular s.config → HasForwarded hands s frames o → port < s.config.ports → queue < s.config.queues
+    → AreForwardedUntil s.wire s.config o.history s.packets s.verdicts port queue (slice_index_or o.sent (driver_on s.config port queue) [])
+
+abbrev pub AllAreExpectedUntil : Type 0
+AllAreExpectedUntil = (hands : ℕ) (s : Setting) (frames : List Frame) (o : OutcomeShown) (port queue : ℕ) → s.manner.mangle ≡ None → s.wire ≡ Wait → IsRegular s.config → HasForwarded hands s frames o → port < s.config.ports → queue < s.config.queues
+    → AreExpectedUntil s.config o.history s.packets s.verdicts port queue (slice_index_or o.sent (driver_on s.config port queue) [])
+
+-- where no socket is closed no lane is cut
 abbrev pub AllAreForwarded : Type 0
 AllAreForwarded = (hands : ℕ) (s : Setting) (frames : List Frame) (o : OutcomeShown) (port queue : ℕ) → s.manner.mangle ≡ None → IsSteady s.config → HasForwarded hands s frames o → port < s.config.ports → queue < s.config.queues
     → AreForwarded s.wire s.config o.history s.packets s.verdicts port queue (slice_index_or o.sent (driver_on s.config port queue) [])

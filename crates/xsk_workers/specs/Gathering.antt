@@ -1,5 +1,5 @@
 -- Members before and after they ran, in the order of their numbers.
-use Rattle.std.specs.Prelude.{◌≡◌, ℕ, ◌+◌, ◌<◌, ◌≤◌, Option, Some, None, List, [], ◌∷◌, length, get_or}
+use Rattle.std.specs.Prelude.{◌≡◌, ◌⊎◌, ℕ, ◌+◌, ◌<◌, ◌≤◌, Option, Some, None, List, [], ◌∷◌, length, get_or}
 use Rattle.xsk_model.specs.Config.{callers_of}
 use Rattle.xsk_model.specs.Entry.{Told, own}
 use Rattle.xsk_turns.specs.Hands.{IsWholeRunOf}
@@ -20,10 +20,10 @@ abbrev pub HaveRunFrom : Board → ℕ → Setting → ℕ → List (Member Work
 HaveRunFrom b hands s n [] = Unit {0}
 HaveRunFrom b hands s n (m ∷ ms) = (member_seat m ≡ seat_at hands s b n) × MemberHasRun m × HaveRunFrom b hands s (n + 1) ms
 
--- those of all callers of a table, in a setting of its configuration whose applications change nothing, by so many hands
+-- those of all callers of a table, in a setting of its configuration, by so many hands; by several, applications change nothing
 pub record HaveRun (b : Board) (hands : ℕ) (s : Setting) (members : List (Member WorkerShown TeamShown)) : Type 0 where
   pub config : s.config ≡ b.setup.config
-  pub plain : s.manner ≡ plain
+  pub plain : (hands ≡ 1) ⊎ (s.manner ≡ plain)
   pub run : HaveRunFrom b hands s 0 members
 
 -- the passes of the first callers are taken, and the others are there, with no call made

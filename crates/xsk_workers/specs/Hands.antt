@@ -1,9 +1,12 @@
 -- An application by several hands.
-use Rattle.std.specs.Prelude.{◌≡◌, ℕ, ◌⊎◌, false}
+use Rattle.std.specs.Prelude.{◌≡◌, ℕ, ◌⊎◌, false, None}
+use Rattle.xsk_model.specs.Config.{Config}
 use Rattle.xsk_model.specs.Rings.{caller_of}
 use Rattle.xsk_turns.specs.AppTurns.{lanes_of}
 use Rattle.xsk_turns.specs.AppSplit.{IsWholeSplitRun}
+use Rattle.xsk_turns.specs.Mangling.{plain}
 use Rattle.xsk_turns.specs.Workers.{Setting}
+use Rattle.xsk_turns.specs.declared.manner.Manner.{Manner}
 use Rattle.xsk_table.specs.Held.{Board}
 use Rattle.xsk_rings.specs.Rounds.{mine_of}
 use Rattle.xsk_shared_ends.specs.Shown.{Name}
@@ -14,6 +17,10 @@ use Rattle.xsk_workers.specs.Shown.{seat_with}
 -- so many hands an application may have
 abbrev pub AreHands : ℕ → Type 0
 AreHands hands = (hands ≡ 1) ⊎ (hands ≡ 2) ⊎ (hands ≡ 4)
+
+-- a configuration and a manner that so many hands can run: several close no socket, and change nothing
+abbrev pub SuitHands : ℕ → Config → Manner → Type 0
+SuitHands hands c manner = (hands ≡ 1) ⊎ ((c.closing ≡ None) × (manner ≡ plain))
 
 -- ends with this name are of this table
 abbrev pub IsNameOn : Board → Name → Type 0

@@ -3,7 +3,6 @@ ghost use Rattle.std.specs.Prelude.{◌≡◌, ℕ, List, [], map, option_map};
 ghost use Rattle.std.specs.List.{slice_get};
 ghost use Rattle.atomic_table.specs.Seated.{TableId};
 ghost use Rattle.xsk_prog.specs.declared.rule.Verdict.{Verdict as AVerdict};
-ghost use Rattle.xsk_turns.specs.Mangling.{plain};
 ghost use Rattle.xsk_turns.specs.Workers.{Setting};
 ghost use Rattle.xsk_workers.specs.Parking.{token_of};
 
@@ -12,6 +11,7 @@ use std::alloc::AllocError;
 use std::marker::{Brand, PhantomData};
 use xsk_driver::Wire;
 use xsk_model::Config;
+use xsk_turns::Manner;
 use xsk_umem::PacketList;
 
 /// A value that shows the setting of a run, by the references that the machines borrow, and what wakes the driver of each pair.
@@ -39,11 +39,12 @@ impl Verdicts for Brand {
     ghost verdicts = { [] };
 }
 
-/// The configuration, the packets of each port, the wire, and what wakes the drivers.
+/// The configuration, the packets of each port, the wire, the applications' manner, and what wakes the drivers.
 pub(crate) struct Source<'a, V: Verdicts> {
     pub(crate) config: &'a Config,
     pub(crate) packets: &'a [PacketList],
     pub(crate) wire: Wire,
+    pub(crate) manner: Manner,
     pub(crate) wakers: &'a [Unparker],
     pub(crate) verdicts: PhantomData<V>,
 }
@@ -57,7 +58,7 @@ impl<V: Verdicts> Clone for Source<'_, V> {
 impl<V: Verdicts> Copy for Source<'_, V> {}
 
 impl<V: Verdicts> Place for Source<'_, V> {
-    ghost setting = { λ s. record { config = s.config.now; wire = s.wire; manner = plain; packets = s.packets.now; verdicts = V.verdicts } };
+    ghost setting = { λ s. record { config = s.config.now; wire = s.wire; manner = s.manner; packets = s.packets.now; verdicts = V.verdicts } };
 
     ghost tokens = { λ s. map token_of s.wakers.now };
 

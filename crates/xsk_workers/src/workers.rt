@@ -1,25 +1,25 @@
 //! A run on threads: drivers and applications over one table, from its opening to its end.
-ghost use Rattle.std.specs.Prelude.{◌≡◌, ℕ, ◌+◌, ◌≤◌, ◌<◌, ◌==◌, ◌||◌, nat_lt, List, [], ◌++◌, map, false, true, All, length, vec_len, vec_capacity, IfOk, IfSome, IfNone};
+ghost use Rattle.std.specs.Prelude.{◌≡◌, ℕ, ◌+◌, ◌≤◌, ◌<◌, ◌==◌, ◌||◌, nat_lt, List, [], ◌++◌, map, None, false, true, All, length, vec_len, vec_capacity, IfOk, IfSome, IfNone};
 ghost use Rattle.std.specs.List.{range_with_len};
 ghost use Rattle.xsk_umem.specs.Frame.{Frame as Body};
-ghost use Rattle.xsk_model.specs.Config.{callers_of, classes_of};
+ghost use Rattle.xsk_model.specs.Config.{IsRegular, callers_of, classes_of};
 ghost use Rattle.xsk_model.specs.Opening.{AreFrames};
 ghost use Rattle.xsk_turns.specs.Owned.{IsSteady};
 ghost use Rattle.xsk_prog.specs.Chain.{AllObey, rules_of};
 ghost use Rattle.xsk_prog.specs.Rules.{are_exact};
 ghost use Rattle.xsk_turns.specs.Counted.{capped};
-ghost use Rattle.xsk_turns.specs.Workers.{Setting, ruled};
+ghost use Rattle.xsk_turns.specs.Workers.{Setting, ruled_by};
 ghost use Rattle.xsk_driver.specs.Sent.{IsShort};
 ghost use Rattle.xsk_machine.specs.Acts.{HasShortPackets};
 ghost use Rattle.xsk_table.specs.View.{idle};
 ghost use Rattle.xsk_table.specs.Held.{Board};
 ghost use Rattle.xsk_table.specs.Opening.{new_passes};
 ghost use Rattle.xsk_workers.specs.Shown.{seat_with, seat_at, is_alone};
-ghost use Rattle.xsk_workers.specs.Hands.{AreHands, team_seat};
+ghost use Rattle.xsk_workers.specs.Hands.{AreHands, SuitHands, team_seat};
 ghost use Rattle.xsk_workers.specs.Members.{member_seat, kept_left, figures_left};
 ghost use Rattle.xsk_workers.specs.Parking.{token_of, token_in, IsParkerOf};
 ghost use Rattle.xsk_workers.specs.Gathering.{HaveRun, AreTaken, AreGiven, AreSent, AreFiguresOf, calls_in};
-ghost use Rattle.xsk_workers.specs.Forwarded.{HasForwarded, HasForwardedUnder, packets_in, setting_with};
+ghost use Rattle.xsk_workers.specs.Forwarded.{HasForwarded, HasForwardedUnder, packets_in, setting_by};
 ghost use Rattle.xsk_machine.specs.Workers.{AreNew, IsFreshDriver};
 
 use crate::crew::{Crew, run_crew};
@@ -106,18 +106,20 @@ impl Outcome {
     }
 }
 
-/// Runs the drivers and applications of a regular configuration, in which no socket is closed, each in a thread of its own where
-/// one can be had, until all have ended, over one list of packets for each port, none of which has more than 262,144 bytes. The
-/// frames are all frames of its UMEM. The chain of programs is attached to every port, and asked once for each packet before a worker starts: the
-/// run is one under the verdicts that it gave, which are its rules' own where these leave one for each packet. The wire says what
-/// becomes of a packet that finds too few frames or no room on RX. Each worker passes the gate before each of its turns. The
-/// applications change no item.
+/// Runs the drivers and applications of a regular configuration, each in a thread of its own where one can be had, until all have
+/// ended, over one list of packets for each port, none of which has more than 262,144 bytes. The frames are all frames of its UMEM.
+/// The chain of programs is attached to every port, and asked once for each packet before a worker starts: the run is one under the
+/// verdicts that it gave, which are its rules' own where these leave one for each packet. The wire says what becomes of a packet that
+/// finds too few frames or no room on RX. Each worker passes the gate before each of its turns. The applications change no item, and
+/// the manner says after how many items one closes the socket that is to be closed, if one is.
 ///
 /// What the drivers sent is what was delivered to the paired sockets (`laws::all_are_forwarded`), and where the wire waits what
-/// is expected there (`laws::all_are_expected`), beside the packets that bounce by the port on which they came.
+/// is expected there (`laws::all_are_expected`), beside the packets that bounce by the port on which they came. Where a socket is
+/// closed, on its two lanes these are the first packets, as many as its application passed on (`laws::all_are_forwarded_until`,
+/// `laws::all_are_expected_until`).
 ///
 /// Each application has so many hands. One hand runs its machine. Several share its ends behind a lock, each in a thread of its own,
-/// and once all have ended one of them goes on alone: then its calls and replies are a whole split run.
+/// and once all have ended one of them goes on alone: then its calls and replies are a whole split run. Several hands close no socket.
 ///
 /// All memory is taken before a worker starts, but for the lock of several hands, without which one does it alone. A worker whose
 /// thread can't be had makes its calls on the caller's thread, in turn with other such workers, and a hand whose thread can't be had
@@ -131,24 +133,27 @@ pub fn forward<R: Threads + Wait + Sync, F: Fn(&[u8], u32) -> Verdict, G: Gate +
     chain: &Chain<F>,
     wire: Wire,
     gate: &G,
+    manner: Manner,
     hands: u32,
 ) -> Result<Outcome, OutOfMemory>
     requires hands { AreHands hands }
-    requires steady { IsSteady config }
+    requires suit { SuitHands hands config manner }
+    requires unchanged { manner.mangle ≡ None }
+    requires regular { IsRegular config }
     requires frames { AreFrames config.geometry frames.items }
     requires lists { length packets.now ≡ config.ports }
     requires short { All HasShortPackets packets.now }
     requires obeys { AllObey F.Fn chain.now }
     ensures pairs { IfOk result (λ outcome. length outcome.sent ≡ length config.pairs) }
     ensures short { IfOk result (λ outcome. All (λ (list : List (List ℕ)). All IsShort list) outcome.sent) }
-    ensures under { IfOk result (HasForwardedUnder hands F.Fn chain.now wire config packets.now frames.items) }
-    ensures forwarded { are_exact (rules_of chain.now) ≡ true → IfOk result (HasForwarded hands (ruled (rules_of chain.now) wire config packets.now) frames.items) }
+    ensures under { IfOk result (HasForwardedUnder hands F.Fn chain.now wire manner config packets.now frames.items) }
+    ensures forwarded { are_exact (rules_of chain.now) ≡ true → IfOk result (HasForwarded hands (ruled_by (rules_of chain.now) wire manner config packets.now) frames.items) }
 {
     let own = config.copy(alloc)?;
     let inputs = Inputs::split(alloc, &own, packets)?;
     let drivers = drivers_for(alloc, &own, packets, &inputs, chain, wire)?;
     let outcome = run_drivers::<Brand, R, G>(
-        rt, alloc, &own, config, frames, packets, wire, gate, hands, drivers,
+        rt, alloc, &own, config, frames, packets, wire, gate, manner, hands, drivers,
     )?;
     Ok(outcome)
 }
@@ -163,17 +168,20 @@ fn run_drivers<'a, V: Verdicts + Send, R: Threads + Wait + Sync, G: Gate + Sync>
     packets: &'a [PacketList],
     wire: Wire,
     gate: &G,
+    manner: Manner,
     hands: u32,
     drivers: Vec<Driver<'a>>,
 ) -> Result<Outcome, OutOfMemory>
     requires own { own.now ≡ config }
-    requires steady { IsSteady config }
+    requires suit { SuitHands hands config manner }
+    requires unchanged { manner.mangle ≡ None }
+    requires regular { IsRegular config }
     requires frames { AreFrames config.geometry frames.items }
     requires count { length drivers.items ≡ length config.pairs }
-    requires new { AreNew (setting_with config wire packets.now V.verdicts) 0 drivers.items }
+    requires new { AreNew (setting_by config wire manner packets.now V.verdicts) 0 drivers.items }
     ensures pairs { IfOk result (λ outcome. length outcome.sent ≡ length config.pairs) }
     ensures short { IfOk result (λ outcome. All (λ (list : List (List ℕ)). All IsShort list) outcome.sent) }
-    ensures forwarded { IfOk result (HasForwarded hands (setting_with config wire packets.now V.verdicts) frames.items) }
+    ensures forwarded { IfOk result (HasForwarded hands (setting_by config wire manner packets.now V.verdicts) frames.items) }
 {
     let classes = own.classes();
     let mut kept = Kept::with_room(alloc, own.pairs().len())?;
@@ -185,6 +193,7 @@ fn run_drivers<'a, V: Verdicts + Send, R: Threads + Wait + Sync, G: Gate + Sync>
         config: own,
         packets,
         wire,
+        manner,
         wakers: wakers.as_slice(),
         verdicts: PhantomData,
     };
@@ -218,15 +227,16 @@ fn seat_members<'a, V: Verdicts>(
     parkers: Vec<Parker>,
     passes: &mut Passes,
 ) -> Result<Vec<Caller<'a, V>>, OutOfMemory>
-    requires steady { IsSteady place.config.now }
+    requires suit { SuitHands hands place.config.now place.manner }
+    requires regular { IsRegular place.config.now }
     requires count { length drivers.items ≡ length place.config.now.pairs }
-    requires new { AreNew (setting_with place.config.now place.wire place.packets.now V.verdicts) 0 drivers.items }
+    requires new { AreNew (setting_by place.config.now place.wire place.manner place.packets.now V.verdicts) 0 drivers.items }
     requires table { shared.now.setup.config ≡ place.config.now }
     requires parkers { map token_in parkers.items ≡ map token_of place.wakers.now }
     requires passes { passes.old ≡ new_passes shared.now }
     ensures taken { IfOk result (λ members. AreTaken shared.now (callers_of shared.now.setup.config) passes.new) }
     ensures seats { IfOk result (λ members. map member_seat members.items
-        ≡ map (seat_at hands (setting_with place.entry.config.now place.entry.wire place.entry.packets.now V.verdicts) shared.now) (range_with_len 0 (callers_of shared.now.setup.config))) }
+        ≡ map (seat_at hands (setting_by place.entry.config.now place.entry.wire place.entry.manner place.entry.packets.now V.verdicts) shared.now) (range_with_len 0 (callers_of shared.now.setup.config))) }
 {
     let callers = place.config.callers();
     let mut members = Vec::with_capacity(alloc, callers as usize)?;
@@ -253,18 +263,19 @@ fn seat_member<'a, V: Verdicts>(
     parker: Option<Parker>,
     pass: Pass,
 ) -> Result<Caller<'a, V>, OutOfMemory>
-    requires steady { IsSteady place.config.now }
+    requires suit { SuitHands hands place.config.now place.manner }
+    requires regular { IsRegular place.config.now }
     requires unused { (pass.view.flight ≡ idle) × (pass.view.seen ≡ []) × (pass.view.setup.config ≡ place.config.now) }
     requires app { IfNone driver (length place.config.now.pairs ≤ pass.who) }
-    requires driver { IfSome driver (IsFreshDriver (setting_with place.config.now place.wire place.packets.now V.verdicts) pass.who) }
+    requires driver { IfSome driver (IsFreshDriver (setting_by place.config.now place.wire place.manner place.packets.now V.verdicts) pass.who) }
     requires parker { IsParkerOf (map token_of place.wakers.now) pass.who parker }
     ensures { IfOk result (λ member. member_seat member
-        ≡ seat_with (setting_with place.entry.config.now place.entry.wire place.entry.packets.now V.verdicts) pass (is_alone hands (setting_with place.entry.config.now place.entry.wire place.entry.packets.now V.verdicts) pass.who)) }
+        ≡ seat_with (setting_by place.entry.config.now place.entry.wire place.entry.manner place.entry.packets.now V.verdicts) pass (is_alone hands (setting_by place.entry.config.now place.entry.wire place.entry.manner place.entry.packets.now V.verdicts) pass.who)) }
 {
     let config = place.config;
     let who = pass.caller();
     if is_alone_in(config, hands, who) {
-        let machine = worker_of(alloc, config, driver, who, Manner::plain())?;
+        let machine = worker_of(alloc, config, driver, who, place.manner)?;
         return Ok(Member::One(Worker::new(place, machine, pass, parker)));
     }
     let team = seat_team(alloc, place, hands, pass)?;
@@ -288,7 +299,7 @@ fn seat_team<'a, V: Verdicts>(
     requires steady { IsSteady place.config.now }
     requires unused { (pass.view.flight ≡ idle) × (pass.view.seen ≡ []) × (pass.view.setup.config ≡ place.config.now) }
     requires app { length place.config.now.pairs ≤ pass.who }
-    ensures { IfOk result (λ team. team_seat team ≡ seat_with (setting_with place.entry.config.now place.entry.wire place.entry.packets.now V.verdicts) pass false) }
+    ensures { IfOk result (λ team. team_seat team ≡ seat_with (setting_by place.entry.config.now place.entry.wire place.entry.manner place.entry.packets.now V.verdicts) pass false) }
 {
     let config = place.config;
     let who = pass.caller();

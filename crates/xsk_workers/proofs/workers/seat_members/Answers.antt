@@ -6,13 +6,11 @@ use Rattle.xsk_model.specs.Config.{callers_of}
 use Rattle.xsk_model.proofs.Counting.{range-push}
 use Rattle.xsk_turns.specs.Workers.{Setting}
 use Rattle.xsk_table.specs.Held.{Holder, new_pass}
-use Rattle.xsk_machine.specs.Workers.{AreNew, IsFreshDriver}
+use Rattle.xsk_machine.specs.Workers.{AreNew, IsFreshDriver, setting_by}
 use Rattle.xsk_machine.proofs.Making.{next_new, past_all, later_new, fewer_left}
 use Rattle.xsk_workers.specs.Crew.{Seat}
 use Rattle.xsk_workers.specs.Shown.{seat_with, seat_at, is_alone}
-use Rattle.xsk_workers.specs.Hands.{TeamShown}
 use Rattle.xsk_workers.specs.Members.{member_seat}
-use Rattle.xsk_workers.specs.Forwarded.{setting_with}
 use Rattle.xsk_workers.specs.Gathering.{AreTaken}
 use Rattle.xsk_workers.specs.Parking.{token_of, IsParkerOf}
 use Rattle.xsk_workers.proofs.Gathering.{taken_none, taken_more, is_new_pass}
@@ -25,7 +23,7 @@ loop-who-init g c = (
   subst (AreTaken c.args.shared.now 0) (sym c.requires.passes) (taken_none c.args.shared.now),
   search rules,
   subst (AreParkersFrom (map token_of c.args.place.wakers.now) 0) (sym c.into_iter-parkers.ensures.rest) (all_parkers (map token_of c.args.place.wakers.now) c.args.parkers.items c.requires.parkers),
-  subst (AreNew (setting_with c.args.place.config.now c.args.place.wire c.args.place.packets.now g.V.Verdicts.verdicts) 0) (sym c.into_iter-drivers.ensures.rest) c.requires.new,
+  subst (AreNew (setting_by c.args.place.config.now c.args.place.wire c.args.place.manner c.args.place.packets.now g.V.Verdicts.verdicts) 0) (sym c.into_iter-drivers.ensures.rest) c.requires.new,
   subst (λ l. length c.args.place.config.now.pairs ≤ 0 + length l) (sym c.into_iter-drivers.ensures.rest) (omega (arith, c.requires.count)),
 )
 
@@ -58,7 +56,7 @@ seat_member-requires-clause-app g c =
 
 pub seat_member-requires-clause-driver : goal.seat_member-requires-clause-driver
 seat_member-requires-clause-driver g c =
-    let s : Setting = setting_with c.args.place.config.now c.args.place.wire c.args.place.packets.now g.V.Verdicts.verdicts in
+    let s : Setting = setting_by c.args.place.config.now c.args.place.wire c.args.place.manner c.args.place.packets.now g.V.Verdicts.verdicts in
     let who : c.loop-who.who ≡ c.in-Some.pass.who = sym (ap (λ (p : Holder). p.who) (new g c)) in
     subst (λ (k : ℕ). IfSome c.next-driver.result (IsFreshDriver s k)) who
     (next_new s c.loop-who.who (into_iter_items c.loop-who.drivers) (into_iter_items c.next-driver.new.self) c.next-driver.result c.next-driver.ensures.items c.loop-who.invariant.3)
@@ -74,7 +72,7 @@ pub loop-who-preserved : goal.loop-who-preserved
 loop-who-preserved g c =
     let b = c.args.shared.now in
     let hands = c.args.hands in
-    let s : Setting = setting_with c.args.place.config.now c.args.place.wire c.args.place.packets.now g.V.Verdicts.verdicts in
+    let s : Setting = setting_by c.args.place.config.now c.args.place.wire c.args.place.manner c.args.place.packets.now g.V.Verdicts.verdicts in
     let who = c.loop-who.who in
     let below : who < callers_of b.setup.config = search rules in
     let is : c.in-Some.pass ≡ new_pass b who = is_new_pass b who c.loop-who.passes c.in-Some.pass below c.loop-who.invariant.0 (search rules) in

@@ -1,11 +1,11 @@
-use Rattle.std.proofs.Common.{arith, ◌≡◌, ◌<◌, ◌∙◌, [], length, ap, subst, sym, false}
+use Rattle.std.proofs.Common.{arith, ◌≡◌, ◌<◌, ◌∙◌, length, ap, subst, sym, false}
 use Rattle.xsk_model.specs.Config.{Config, callers_of}
 use Rattle.xsk_model.specs.Entry.{own}
 use Rattle.xsk_turns.specs.Workers.{Setting}
 use Rattle.xsk_table.specs.Held.{Holder}
 use Rattle.xsk_workers.specs.Shown.{seat_with}
 use Rattle.xsk_workers.specs.Hands.{team_seat}
-use Rattle.xsk_workers.specs.Forwarded.{setting_with}
+use Rattle.xsk_machine.specs.Workers.{setting_by}
 use Rattle.xsk_workers.proofs.workers.seat_team.Goals as goal
 
 pub side_pair-requires-clause-app : goal.side_pair-requires-clause-app
@@ -32,5 +32,5 @@ new-requires-in-Ok g c =
 
 pub returns-in-Ok : goal.returns-in-Ok
 returns-in-Ok g c =
-    let s : Setting = setting_with c.args.place.config.now c.args.place.wire c.args.place.packets.now g.V.Verdicts.verdicts in
+    let s : Setting = setting_by c.args.place.config.now c.args.place.wire c.args.place.manner c.args.place.packets.now g.V.Verdicts.verdicts in
     ap team_seat c.new-in-Ok.ensures ∙ ap (λ (p : Holder). seat_with s p false) c.in-Ok.ensures.ok.0

@@ -1,4 +1,4 @@
-use Rattle.std.proofs.Common.{◌≡◌, ◌∙◌, ap, subst, sym}
+use Rattle.std.proofs.Common.{◌∙◌, ap, subst, sym}
 use Rattle.xsk_shared_ends.specs.Last.{LastShown}
 use Rattle.xsk_workers.specs.Hands.{IsTeam}
 use Rattle.xsk_workers.proofs.Sitting.{team_with, ends_are_team}
