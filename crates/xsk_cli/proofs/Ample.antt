@@ -16,7 +16,7 @@ use Rattle.xsk_still.specs.Still.{HasAmpleRoom}
 use Rattle.xsk_sim.proofs.Stretch.{none_stands_still}
 use Rattle.xsk_cli.specs.Ample.{IsAmple, HasAmple, IsFinished}
 use Rattle.xsk_cli.specs.Ends.{Ends, IsComplete}
-use Rattle.xsk_cli.specs.Outcome.{stalled, setting_of, frames_of, manner_of, IsIllegalIn, IsOnPackets, IsOutcome}
+use Rattle.xsk_cli.specs.Outcome.{stalled, setting_of, frames_of, IsIllegalIn, IsOnPackets, IsOutcome}
 use Rattle.xsk_cli.specs.Streams.{Moment}
 use Rattle.xsk_cli.specs.Words.{Plan, fault_in}
 use Rattle.xsk_cli.specs.declared.words.Work.{Work}
@@ -44,10 +44,10 @@ ample_room l ample = record {
     rings (Tx s) has = subst (λ (k : SocketInfo). 32 ≤ unwrap_or k.tx 0) (sym (get_or-numbered (pairs_in l * l.sockets) (socket_in l) s _ (let count = length-numbered (pairs_in l * l.sockets) (socket_in l) in omega (arith, has.0, count)))) ample.tx
 
 none_stalls : (work : Work) (inputs : List (List ℕ)) (round : ℕ) → fault_in work ≡ None → HasAmple work → IsOutcome work inputs (stalled round) → ⊥
-none_stalls (Simulate layout programs wire mangle order number journal format) inputs round accepted ample is =
+none_stalls (Simulate layout programs wire manner order number journal format) inputs round accepted ample is =
     let lists = is.1.0 in
     let run = is.1.2.1 in
-    none_stands_still (setting_of layout programs wire mangle lists) (frames_of layout) order round (record { regular = regular-regular layout (fits layout accepted); closes = ample.1 }) (ample_room layout ample.2) (ap manner_of ample.0)
+    none_stands_still (setting_of layout programs wire manner lists) (frames_of layout) order round (record { regular = regular-regular layout (fits layout accepted); closes = ample.1 }) (ample_room layout ample.2) ample.0
     (record { past = run.past; still = run.still })
 none_stalls (Generate number) inputs round accepted ample is = is.1.2.1
 none_stalls (Audit layout) inputs round accepted ample is = is.1.1
@@ -60,7 +60,7 @@ never_stalled plan old new status round ends accepted ample is =
 
 -- and work on packets tells of no journal
 none_illegal : (work : Work) (inputs : List (List ℕ)) (line : ℕ) → IsIllegalIn work inputs line → IsOnPackets work → ⊥
-none_illegal (Simulate layout programs wire mangle order number journal format) inputs line is packets = is
+none_illegal (Simulate layout programs wire manner order number journal format) inputs line is packets = is
 none_illegal (Generate number) inputs line is packets = is
 none_illegal (Audit layout) inputs line is packets = packets
 

@@ -3,12 +3,12 @@ use Rattle.std.proofs.Common.{◌≡◌, List, [], ◌∷◌, codes, None, Some,
 use Rattle.std.specs.Prelude.{option_and_then}
 use Rattle.xsk_args.specs.Meaning.{Meaning, meaning}
 use Rattle.xsk_args.specs.Words.{Text}
-use Rattle.xsk_cli.specs.Words.{Plan, audit_options, audit_plan, audit_plan_by, audited_by, files_in}
+use Rattle.xsk_cli.specs.Words.{Plan, audit_options, audit_plan, audit_plan_by, files_in, layout_by, without_files}
 use Rattle.xsk_cli.specs.declared.words.Work.TheVariants.{Audit}
 
 -- the plan of words that name one file
 abbrev pub one_plan : Meaning → Text → Plan
-one_plan said file = record { inputs = file ∷ []; outputs = []; work = Audit (audited_by said) }
+one_plan said file = record { inputs = file ∷ []; outputs = []; work = Audit (without_files (layout_by said)) }
 
 pub planned_one : (words : List Text) (said : Meaning) (file : Text) → meaning (codes "audit") audit_options words ≡ Some said → files_in said ≡ file ∷ [] → audit_plan words ≡ Some (one_plan said file)
 planned_one words said file is one = ap (option_and_then (λ said. audit_plan_by said (files_in said))) is ∙ ap (audit_plan_by said) one

@@ -1,9 +1,9 @@
 -- The one file of all ports: what is read of it, and what is written.
-use Rattle.std.proofs.Common.{◌≡◌, ℕ, zero, suc, ◌+◌, ◌*◌, ◌<◌, ◌≤◌, List, [], ◌∷◌, ◌++◌, length, map, get_or, take, drop, slice_get, Some, Vec, Global, refl, sym, ap, ◌∙◌, subst, arith, inl, inr}
-use Rattle.std.specs.Prelude.{Result, Ok, Err, IfOk, sum_by}
+use Rattle.std.proofs.Common.{◌≡◌, ℕ, zero, suc, ◌+◌, ◌*◌, ◌<◌, ◌≤◌, List, [], ◌∷◌, ◌++◌, length, map, get_or, take, drop, slice_get, Some, refl, sym, ap, ◌∙◌, subst, arith, inl, inr}
+use Rattle.std.specs.Prelude.{sum_by}
 use Rattle.std.specs.List.{concat, range_with_len, AllByRecursion}
 use Rattle.std.proofs.lemmas.Bool.Decides.{eqb_tells}
-use Rattle.std.proofs.lemmas.List.{append-nil, drop_all, drop_more, get_or-drop, get_or-map, length-append, length-drop, length-map, length-take, map-append, take_more}
+use Rattle.std.proofs.lemmas.List.{append-nil, drop_all, drop_more, get_or-drop, get_or-map, length-append, length-drop, length-map, length-take, take_more}
 use Rattle.std.proofs.lemmas.List.Concat.{flat_map-append}
 use Rattle.std.proofs.lemmas.List.FromFn.{length-map-range_with_len}
 use Rattle.std.proofs.lemmas.List.Sums.{sum_by-append}
@@ -20,12 +20,10 @@ use Rattle.xsk_pcapng.specs.declared.reading.BadPcapng.TheVariants.{OutOfMemory 
 use Rattle.xsk_pcapng.proofs.Fits.{read_fits}
 use Rattle.xsk_cli.specs.Format.{HasBadCapture, HasBadFile, IsFile, files_of, joined, outputs_of}
 use Rattle.xsk_cli.specs.Judged.{bytes_in, bytes_of}
-use Rattle.xsk_cli.specs.Outcome.{listed}
 use Rattle.xsk_cli.specs.Steps.{IsUntaken, lists_in}
 use Rattle.xsk_cli.specs.Words.{format_in, ports_in}
 use Rattle.xsk_cli.specs.declared.format.Format.{Format}
 use Rattle.xsk_cli.specs.declared.format.Format.TheVariants.{Pcap, Pcapng}
-use Rattle.xsk_cli.specs.declared.failure.RunFailure.{RunFailure}
 use Rattle.xsk_cli.specs.declared.words.Work.{Work}
 use Rattle.xsk_cli.proofs.Ports.{same_map}
 
@@ -117,24 +115,6 @@ file_small ports bytes lists file few short =
 
 pub count_file : (ports : ℕ) (bytes : List ℕ) (lists : List PacketList) → IsPcapng ports bytes (lists_in lists) → length lists ≡ ports
 count_file ports bytes lists file = sym (length-map lists (λ (l : PacketList). l.packets)) ∙ (read_fits ports bytes (lists_in lists) file).0
-
-pub count_bare : (answer : Result (Vec PacketList Global) RunFailure) (lists : List PacketList) (n : ℕ) → IfOk answer (λ bare. lists_in bare.items ≡ lists_in lists) → length lists ≡ n → IfOk answer (λ bare. length bare.items ≡ n)
-count_bare (Ok bare) lists n same count =
-    sym (length-map bare.items (λ (l : PacketList). l.packets)) ∙ ap length same ∙ length-map lists (λ (l : PacketList). l.packets) ∙ count
-count_bare (Err failure) lists n same count = tt
-
--- ---- one list more without room
-
-pub bare_more : (bare bare' own : List PacketList) (list one : PacketList) → bare' ≡ bare ++ one ∷ [] → one ≡ listed list.packets → lists_in bare ≡ lists_in own → bare ≡ map listed (lists_in bare)
-    → (lists_in bare' ≡ lists_in (own ++ list ∷ [])) × (bare' ≡ map listed (lists_in bare'))
-bare_more bare bare' own list one pushed is same was =
-    let packets : PacketList → List (List ℕ) = λ (l : PacketList). l.packets in
-    let parts : lists_in bare' ≡ lists_in bare ++ one.packets ∷ [] = ap lists_in pushed ∙ map-append packets bare (one ∷ []) in
-    let equal : one.packets ≡ list.packets = ap packets is in
-    let itself : one ≡ listed one.packets = is ∙ ap listed (sym equal) in (
-      parts ∙ ap (λ ls. ls ++ one.packets ∷ []) same ∙ ap (λ p. lists_in own ++ p ∷ []) equal ∙ sym (map-append packets own (list ∷ [])),
-      pushed ∙ ap (λ ls. ls ++ one ∷ []) was ∙ ap (λ l. map listed (lists_in bare) ++ l ∷ []) itself ∙ sym (map-append listed (lists_in bare) (one.packets ∷ [])) ∙ ap (map listed) (sym parts),
-    )
 
 -- ---- what is written
 

@@ -97,12 +97,12 @@ reports_within text zero below short = short
 reports_within text (suc port) below short = absurd (omega (arith, below))
 
 pub reports_are_legal : ReportsAreLegal
-reports_are_legal format layout programs wire mangle order lists texts are short =
-    let s = setting_of layout programs wire mangle lists in
+reports_are_legal format layout programs wire manner order lists texts are short =
+    let s = setting_of layout programs wire manner lists in
     let c = regular_of layout in
     let n = length are.ended.history in
     let journal = journal_of (length c.pairs) are.ended.history in
-    let report = report_of layout programs wire mangle lists are.ended.history in
+    let report = report_of layout programs wire manner lists are.ended.history in
     let alone : IsVerdict c journal (Legal n) = history_legal s (frames_of layout) order are.run are.ended in
     let behind : IsVerdict c (report ++ journal) (Legal n) = behind-legal c report journal n (report-passed c (figures_of s are.ended.history)) alone in (
       λ port below. reports_within texts.report port below short,

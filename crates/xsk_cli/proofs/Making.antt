@@ -4,6 +4,7 @@ use Rattle.std.specs.Prelude.{All, sum_by, Result, Ok, Err, IfErr}
 use Rattle.std.specs.List.{concat, range_with_len}
 use Rattle.std.proofs.lemmas.List.{map-append}
 use Rattle.std.proofs.lemmas.List.FromFn.{sum_by-map-range_with_len_more}
+use Rattle.xsk_turns.specs.declared.manner.Manner.{Manner}
 use Rattle.xsk_umem.specs.PacketList.{PacketList}
 use Rattle.xsk_driver.specs.Sent.{IsShort}
 use Rattle.xsk_gen.specs.Generator.{first, packet}
@@ -30,9 +31,9 @@ few_ports layout accepted = omega (arith, (fits layout accepted).ports)
 
 -- a command reads few inputs
 pub few_read : (work : Work) → fault_in work ≡ None → read_by work ≤ 4
-few_read (Simulate layout programs wire mangle order None journal Pcap) accepted = few_ports layout accepted
-few_read (Simulate layout programs wire mangle order None journal Pcapng) accepted = omega arith
-few_read (Simulate layout programs wire mangle order (Some number) journal format) accepted = omega arith
+few_read (Simulate layout programs wire manner order None journal Pcap) accepted = few_ports layout accepted
+few_read (Simulate layout programs wire manner order None journal Pcapng) accepted = omega arith
+few_read (Simulate layout programs wire manner order (Some number) journal format) accepted = omega arith
 few_read (Generate number) accepted = omega arith
 few_read (Audit layout) accepted = omega arith
 
@@ -85,21 +86,21 @@ made_at number (made ∷ others) list at is =
 
 -- ---- the work's packets
 
-pub untaken_makes : (layout : Layout) (programs : List Program) (wire : Wire) (mangle : Option ℕ) (order : ℕ) (journal : Bool) (inputs : List (List ℕ)) (failure : RunFailure) → AreUntaken inputs failure → MakesNone (Simulate layout programs wire mangle order None journal Pcap) inputs failure
-untaken_makes layout programs wire mangle order journal inputs (Bad port cause) h = (h.0, h.1, tt)
-untaken_makes layout programs wire mangle order journal inputs (Excessive excess) h = h
-untaken_makes layout programs wire mangle order journal inputs (Stalls round) h = absurd h
-untaken_makes layout programs wire mangle order journal inputs NoMemory h = h
-untaken_makes layout programs wire mangle order journal inputs (Breaks line) h = absurd h
-untaken_makes layout programs wire mangle order journal inputs (BadFile cause) h = absurd h
+pub untaken_makes : (layout : Layout) (programs : List Program) (wire : Wire) (manner : Manner) (order : ℕ) (journal : Bool) (inputs : List (List ℕ)) (failure : RunFailure) → AreUntaken inputs failure → MakesNone (Simulate layout programs wire manner order None journal Pcap) inputs failure
+untaken_makes layout programs wire manner order journal inputs (Bad port cause) h = (h.0, h.1, tt)
+untaken_makes layout programs wire manner order journal inputs (Excessive excess) h = h
+untaken_makes layout programs wire manner order journal inputs (Stalls round) h = absurd h
+untaken_makes layout programs wire manner order journal inputs NoMemory h = h
+untaken_makes layout programs wire manner order journal inputs (Breaks line) h = absurd h
+untaken_makes layout programs wire manner order journal inputs (BadFile cause) h = absurd h
 
-pub file_makes : (layout : Layout) (programs : List Program) (wire : Wire) (mangle : Option ℕ) (order : ℕ) (journal : Bool) (inputs : List (List ℕ)) (failure : RunFailure) → IsUntaken layout.ports inputs failure → MakesNone (Simulate layout programs wire mangle order None journal Pcapng) inputs failure
-file_makes layout programs wire mangle order journal inputs (Bad port cause) h = absurd h
-file_makes layout programs wire mangle order journal inputs (Excessive excess) h = h
-file_makes layout programs wire mangle order journal inputs (Stalls round) h = absurd h
-file_makes layout programs wire mangle order journal inputs NoMemory h = h
-file_makes layout programs wire mangle order journal inputs (Breaks line) h = absurd h
-file_makes layout programs wire mangle order journal inputs (BadFile cause) h = h
+pub file_makes : (layout : Layout) (programs : List Program) (wire : Wire) (manner : Manner) (order : ℕ) (journal : Bool) (inputs : List (List ℕ)) (failure : RunFailure) → IsUntaken layout.ports inputs failure → MakesNone (Simulate layout programs wire manner order None journal Pcapng) inputs failure
+file_makes layout programs wire manner order journal inputs (Bad port cause) h = absurd h
+file_makes layout programs wire manner order journal inputs (Excessive excess) h = h
+file_makes layout programs wire manner order journal inputs (Stalls round) h = absurd h
+file_makes layout programs wire manner order journal inputs NoMemory h = h
+file_makes layout programs wire manner order journal inputs (Breaks line) h = absurd h
+file_makes layout programs wire manner order journal inputs (BadFile cause) h = h
 
 pub none_of : {X : Type 0} (xs : List X) → length xs ≡ 0 → xs ≡ []
 none_of [] none = refl
@@ -132,7 +133,7 @@ made_more number port lists list all are bare is pushed =
 
 -- texts of packets are made of the inputs
 pub packets_made : (work : Work) (inputs : List (List ℕ)) (lists : List (List (List ℕ))) (texts : Written) → AreListsOf work inputs lists → excess_of lists ≡ None → AreTextsBy work lists texts → AreMadeOf work inputs texts
-packets_made (Simulate layout programs wire mangle order number journal format) inputs lists texts are within is = (lists, are, (within, is))
+packets_made (Simulate layout programs wire manner order number journal format) inputs lists texts are within is = (lists, are, (within, is))
 packets_made (Generate number) inputs lists texts are within is = (lists, are, (within, is))
 packets_made (Audit layout) inputs lists texts are within is = absurd are
 
@@ -154,12 +155,12 @@ audit_makes (Ok made) layout inputs within h = tt
 audit_makes (Err failure) layout inputs within h = audit_fails layout inputs failure within h
 
 -- a run that gives nothing, as its work gives nothing
-pub run_makes : {A : Type 0} (layout : Layout) (programs : List Program) (wire : Wire) (mangle : Option ℕ) (order : ℕ) (number : Option ℕ) (journal : Bool) (format : Format) (lists : List (List (List ℕ)))
-    (r : Result A RunFailure) → IfErr r (FailsRunning layout programs wire mangle order lists) → IfErr r (FailsMaking (Simulate layout programs wire mangle order number journal format) lists)
-run_makes layout programs wire mangle order number journal format lists (Ok texts) fails = fails
-run_makes layout programs wire mangle order number journal format lists (Err (Stalls round)) fails = fails
-run_makes layout programs wire mangle order number journal format lists (Err NoMemory) fails = tt
-run_makes layout programs wire mangle order number journal format lists (Err (Bad port cause)) fails = absurd fails
-run_makes layout programs wire mangle order number journal format lists (Err (Excessive excess)) fails = absurd fails
-run_makes layout programs wire mangle order number journal format lists (Err (Breaks line)) fails = absurd fails
-run_makes layout programs wire mangle order number journal format lists (Err (BadFile cause)) fails = absurd fails
+pub run_makes : {A : Type 0} (layout : Layout) (programs : List Program) (wire : Wire) (manner : Manner) (order : ℕ) (number : Option ℕ) (journal : Bool) (format : Format) (lists : List (List (List ℕ)))
+    (r : Result A RunFailure) → IfErr r (FailsRunning layout programs wire manner order lists) → IfErr r (FailsMaking (Simulate layout programs wire manner order number journal format) lists)
+run_makes layout programs wire manner order number journal format lists (Ok texts) fails = fails
+run_makes layout programs wire manner order number journal format lists (Err (Stalls round)) fails = fails
+run_makes layout programs wire manner order number journal format lists (Err NoMemory) fails = tt
+run_makes layout programs wire manner order number journal format lists (Err (Bad port cause)) fails = absurd fails
+run_makes layout programs wire manner order number journal format lists (Err (Excessive excess)) fails = absurd fails
+run_makes layout programs wire manner order number journal format lists (Err (Breaks line)) fails = absurd fails
+run_makes layout programs wire manner order number journal format lists (Err (BadFile cause)) fails = absurd fails

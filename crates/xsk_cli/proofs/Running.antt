@@ -1,7 +1,8 @@
 -- What a run of the command sent is what is expected at each port and queue and what goes back there, and fits the captures of the
 -- ports.
-use Rattle.std.proofs.Common.{◌≡◌, ℕ, suc, ◌+◌, ◌*◌, ◌<◌, ◌≤◌, List, [], ◌∷◌, length, map, get_or, take, drop, refl, sym, ap, ◌∙◌, subst, arith, None, append-nil, mul-le-mul_right}
-use Rattle.std.specs.Prelude.{All, ◌++◌, Bool, if◌then◌else◌, Option, ◌⊎◌}
+use Rattle.std.proofs.Common.{◌≡◌, ℕ, suc, ◌+◌, ◌*◌, ◌<◌, ◌≤◌, List, [], ◌∷◌, length, map, get_or, take, drop, refl, sym, ap, ◌∙◌, subst, arith, None, inl, inr, ⊎_elim, append-nil, mul-le-mul_right}
+use Rattle.std.specs.Prelude.{All, ◌++◌, Bool, if◌then◌else◌, Option, Some, is_some, not, true, ◌&&◌, ◌==◌, ◌⊎◌}
+use Rattle.std.proofs.lemmas.Bool.{and_parts, eqb-true, or_cases}
 use Rattle.std.specs.List.{concat, range_with_len}
 use Rattle.std.proofs.lemmas.List.{length-map, get_or-map}
 use Rattle.std.proofs.lemmas.List.Elements.{recursion_from_All}
@@ -24,7 +25,7 @@ use Rattle.xsk_turns.specs.Sending.{bouncing}
 use Rattle.xsk_turns.specs.Turns.{Judged}
 use Rattle.xsk_turns.specs.declared.manner.Manner.{Manner}
 use Rattle.xsk_turns.specs.Hands.{IsWholeRunOf}
-use Rattle.xsk_turns.specs.Workers.{IsRuled, ruled, ruled_by}
+use Rattle.xsk_turns.specs.Workers.{IsRuled, ruled_by}
 use Rattle.xsk_prog.specs.declared.rule.Rule.{Rule}
 use Rattle.xsk_prog.specs.declared.rule.Verdict.{Verdict}
 use Rattle.xsk_args.specs.declared.program.Program.{Program}
@@ -33,17 +34,23 @@ use Rattle.xsk_args.specs.declared.wire.Wire.TheVariants.{Wait}
 use Rattle.xsk_machine.specs.Acts.{sent_of}
 use Rattle.xsk_machine.proofs.Within.{by_one}
 use Rattle.xsk_workers.specs.Forwarded.{OutcomeShown, HasForwarded}
+use Rattle.xsk_workers.specs.Hands.{SuitHands}
+use Rattle.xsk_cli.specs.Forward.{unmangled}
+use Rattle.xsk_cli.specs.Words.{suits_hands}
 use Rattle.xsk_sim.specs.Runs.{HasEnded, HasStalled}
 use Rattle.xsk_sim.specs.Journal.{journal_of}
 use Rattle.xsk_sim.specs.Shown.{HasShortPackets, Shown}
 use Rattle.xsk_sim.proofs.InRounds.{entries_stand_in_rounds}
 use Rattle.xsk_sim.proofs.Journaling.{journal_stored}
 use Rattle.xsk_sim.proofs.Verdicts.{ends_as_ruled, stalls_as_ruled}
-use Rattle.xsk_laws.specs.Laws.{AreExpected, AreForwarded, AreWholeRunsBy}
+use Rattle.xsk_laws.specs.Laws.{AreEndedRunsBy, AreWholeRunsBy}
+use Rattle.xsk_ended.specs.Until.{AreExpectedUntil, AreForwardedUntil}
+use Rattle.xsk_ended.proofs.Ended.{ended_bounced_as_said, ended_is_within}
+use Rattle.xsk_ended.proofs.Until.{all_are_expected, all_are_forwarded, ended_are_expected, ended_are_forwarded}
 use Rattle.xsk_laws.specs.Expected.{bounced_on, received}
 use Rattle.xsk_laws.proofs.Joined.{input_is}
 use Rattle.xsk_laws.proofs.Places.{are_paired}
-use Rattle.xsk_laws.proofs.Theorems.{all_are_forwarded, all_is_expected, all_is_within, bounced_as_said, nothing_else_is_sent}
+use Rattle.xsk_laws.proofs.Theorems.{all_is_expected}
 use Rattle.xsk_socket.specs.declared.layout.Layout.{Layout}
 use Rattle.xsk_socket.specs.Layout.{fault_of, pairs_in}
 use Rattle.xsk_socket.specs.Regular.{pair_in, regular_of}
@@ -54,7 +61,7 @@ use Rattle.xsk_cli.specs.Format.{joined, outputs_of}
 use Rattle.xsk_cli.specs.Judged.{excess_of}
 use Rattle.xsk_cli.specs.declared.format.Format.{Format}
 use Rattle.xsk_stats.specs.Report.{report_text}
-use Rattle.xsk_cli.specs.Outcome.{Written, listed, setting_of, verdicts_by, wire_by, frames_of, sent_on, sent_from, going_on, going_back, rules_by, report_of, told_of, AreTextsIn, AreTextsOf, NoneGoesBack, manner_of, sent_on_by}
+use Rattle.xsk_cli.specs.Outcome.{Written, listed, setting_of, verdicts_by, wire_by, frames_of, sent_on, sent_from, going_on, going_back, rules_by, report_of, told_of, AreTextsIn, AreTextsOf, NoneGoesBack, sent_on_by}
 use Rattle.xsk_cli.specs.Steps.{lists_in}
 use Rattle.xsk_cli.proofs.Going.{bounced_goes_back, classes_are, expected_goes_on, are_exact_by, packets_there}
 use Rattle.xsk_cli.proofs.Judging.{limits_of}
@@ -79,26 +86,27 @@ driver_known ports queues port queue in_ports in_queues = below port queues queu
 
 -- ---- a history in which all runs are whole, and the lists that are shown of it
 
-module _ (hands : ℕ) (layout : Layout) (programs : List Program) (wire : Wire) (mangle : Option ℕ) (lists : List (List (List ℕ))) (accepted : fault_of layout ≡ None) (closes : layout.close ≡ None) (history : List Entry) (legal : IsHistory (regular_of layout) (frames_of layout) history)
-    (whole : (who : ℕ) → who < callers_of (regular_of layout) → IsWholeRunOf hands (setting_of layout programs wire mangle lists) who (own who history)) (all : List (List (List ℕ)))
-    (each : (pair : ℕ) → pair < length (regular_of layout).pairs → get_or all pair [] ≡ sent_of (setting_of layout programs wire mangle lists) history pair) where
+module _ (hands : ℕ) (layout : Layout) (programs : List Program) (wire : Wire) (manner : Manner) (lists : List (List (List ℕ))) (accepted : fault_of layout ≡ None) (history : List Entry) (legal : IsHistory (regular_of layout) (frames_of layout) history)
+    (whole : (who : ℕ) → who < callers_of (regular_of layout) → IsWholeRunOf hands (setting_of layout programs wire manner lists) who (own who history)) (all : List (List (List ℕ)))
+    (each : (pair : ℕ) → pair < length (regular_of layout).pairs → get_or all pair [] ≡ sent_of (setting_of layout programs wire manner lists) history pair) where
   abbrev config : Config
   config = regular_of layout
 
   abbrev verdicts : List (List Verdict)
   verdicts = verdicts_by layout programs lists
 
-  abbrev manner : Manner
-  manner = manner_of mangle
-
   -- all workers have whole runs
-  whole_runs : AreWholeRunsBy hands manner (wire_by wire) config (map listed lists) verdicts (frames_of layout) history
+  whole_runs : AreEndedRunsBy hands manner (wire_by wire) config (map listed lists) verdicts (frames_of layout) history
   whole_runs = record {
-    steady = record { regular = regular-regular layout (fits layout accepted); closes = closes };
+    regular = regular-regular layout (fits layout accepted);
     history = legal;
     drivers = λ d below. (whole d (omega (arith, below))).driver below;
     apps = λ a below. (whole (caller_of config a) (omega (arith, below))).app a refl;
   }
+
+  -- and where no socket is closed
+  steady_runs : layout.close ≡ None → AreWholeRunsBy hands manner (wire_by wire) config (map listed lists) verdicts (frames_of layout) history
+  steady_runs closes = record { steady = record { regular = whole_runs.regular; closes = closes }; history = legal; drivers = whole_runs.drivers; apps = whole_runs.apps }
 
   -- what goes back of what a port received on a queue is what its driver is to bounce
   goes_back_on : (port queue : ℕ) → port < layout.ports → queue < layout.queues → bounced_on config (map listed lists) verdicts port queue ≡ going_back layout programs lists port queue
@@ -133,18 +141,29 @@ module _ (hands : ℕ) (layout : Layout) (programs : List Program) (wire : Wire)
     all_from port in_ports = sent_piece port layout.queues in_ports (omega arith)
 
     -- with one socket on each queue, and where nothing goes back, each driver sent what goes on to its queue
-    one_sent : mangle ≡ None → wire ≡ Wait → layout.sockets ≡ 1 → NoneGoesBack layout programs lists → (port queue : ℕ) → port < layout.ports → queue < layout.queues
+    one_sent : manner.mangle ≡ None → layout.close ≡ None → wire ≡ Wait → layout.sockets ≡ 1 → NoneGoesBack layout programs lists → (port queue : ℕ) → port < layout.ports → queue < layout.queues
         → sent_here port queue ≡ going_on layout programs lists (paired_port port) queue 0
-    one_sent none waits one back port queue in_ports in_queues =
+    one_sent none closes waits one back port queue in_ports in_queues =
         let classes : classes_of config ≡ 1 = classes_are layout (omega (arith, driver_known layout.ports layout.queues port queue in_ports in_queues)) ∙ one in
         ap (λ ps. all_sent config ps history (driver_on config port queue)) (back port queue in_ports in_queues)
         ∙ all_completed config history (driver_on config port queue)
-        ∙ all_is_expected hands manner (wire_by wire) config (map listed lists) verdicts (frames_of layout) history port queue none (ap wire_by waits) whole_runs in_ports in_queues classes
+        ∙ all_is_expected hands manner (wire_by wire) config (map listed lists) verdicts (frames_of layout) history port queue none (ap wire_by waits) (steady_runs closes) in_ports in_queues classes
         ∙ expected_goes_on layout programs lists port queue 0 accepted (record { in_ports = in_ports; in_queues = in_queues; in_classes = omega (arith, classes) })
+
+    -- until lanes were cut, it is what was forwarded there, and what is expected
+    forwarded_here : (port queue : ℕ) → manner.mangle ≡ None → port < layout.ports → queue < layout.queues → AreForwardedUntil (wire_by wire) config history (map listed lists) verdicts port queue (sent_here port queue)
+    forwarded_here port queue none in_ports in_queues =
+        subst (AreForwardedUntil (wire_by wire) config history (map listed lists) verdicts port queue) (sent_as port queue in_ports in_queues)
+        (ended_are_forwarded hands manner (wire_by wire) config (map listed lists) verdicts (frames_of layout) history port queue none whole_runs in_ports in_queues)
+
+    expected_here : (port queue : ℕ) → manner.mangle ≡ None → wire ≡ Wait → port < layout.ports → queue < layout.queues → AreExpectedUntil config history (map listed lists) verdicts port queue (sent_here port queue)
+    expected_here port queue none waits in_ports in_queues =
+        subst (AreExpectedUntil config history (map listed lists) verdicts port queue) (sent_as port queue in_ports in_queues)
+        (ended_are_expected hands manner (wire_by wire) config (map listed lists) verdicts (frames_of layout) history port queue none (ap wire_by waits) whole_runs in_ports in_queues)
 
     pub texts_in : (format : Format) (told : List ℕ) (texts : Written)
         → texts.outputs ≡ outputs_of format (λ port. take layout.queues (drop (port * layout.queues) all)) (range_with_len 0 layout.ports)
-        → texts.report ≡ told → AreTextsIn format layout programs wire mangle lists history told texts
+        → texts.report ≡ told → AreTextsIn format layout programs wire manner lists history told texts
     texts_in format told texts outputs report =
         let is : texts.outputs ≡ outputs_of format (sent_from layout programs lists history) (range_with_len 0 layout.ports) =
         outputs ∙ same_texts format (λ port. take layout.queues (drop (port * layout.queues) all)) (sent_from layout programs lists history) layout.ports all_from in
@@ -152,17 +171,17 @@ module _ (hands : ℕ) (layout : Layout) (programs : List Program) (wire : Wire)
           sent = is;
           bounced = λ port queue in_ports in_queues.
               subst (λ ps. bounced_of ps (own (driver_on config port queue) history) ≡ ps) (goes_back_on port queue in_ports in_queues)
-              (bounced_as_said hands manner (wire_by wire) config (map listed lists) verdicts (frames_of layout) history port queue whole_runs in_ports in_queues);
-          forwarded = λ port queue none in_ports in_queues.
-              subst (AreForwarded (wire_by wire) config history (map listed lists) verdicts port queue) (sent_as port queue in_ports in_queues)
-              (all_are_forwarded hands manner (wire_by wire) config (map listed lists) verdicts (frames_of layout) history port queue none whole_runs in_ports in_queues);
-          redirected = λ port queue none waits in_ports in_queues.
-              subst (AreExpected config (map listed lists) verdicts port queue) (sent_as port queue in_ports in_queues)
-              (nothing_else_is_sent hands manner (wire_by wire) config (map listed lists) verdicts (frames_of layout) history port queue none (ap wire_by waits) whole_runs in_ports in_queues);
-          one_socket = λ none waits one back.
+              (ended_bounced_as_said hands manner (wire_by wire) config (map listed lists) verdicts (frames_of layout) history port queue whole_runs in_ports in_queues);
+          forwarded = λ port queue none closes in_ports in_queues.
+              all_are_forwarded (wire_by wire) config history (map listed lists) verdicts port queue (sent_here port queue) closes (forwarded_here port queue none in_ports in_queues);
+          redirected = λ port queue none closes waits in_ports in_queues.
+              all_are_expected config history (map listed lists) verdicts port queue (sent_here port queue) closes (expected_here port queue none waits in_ports in_queues);
+          forwarded_until = forwarded_here;
+          redirected_until = expected_here;
+          one_socket = λ none closes waits one back.
               is
               ∙ same_texts format (sent_from layout programs lists history) (sent_on_by layout programs lists) layout.ports
-              (λ port h. same_map _ _ 0 layout.queues (λ queue k. one_sent none waits one back port queue h (omega (arith, k))));
+              (λ port h. same_map _ _ 0 layout.queues (λ queue k. one_sent none closes waits one back port queue h (omega (arith, k))));
           report = report;
         }
 
@@ -189,7 +208,7 @@ module _ (hands : ℕ) (layout : Layout) (programs : List Program) (wire : Wire)
           → IsWithin layout.queues (get_or lists port []) (get_or lists (paired_port port) []) queue (sent_here port queue) (sent_here (paired_port port) queue)
       sent_within port queue in_ports in_queues =
           let other : paired_port port < layout.ports = (are_paired layout.ports port (fits layout accepted).ports in_ports).in_ports in
-          let few = all_is_within hands manner (wire_by wire) config (map listed lists) verdicts (frames_of layout) history port queue whole_runs in_ports in_queues in
+          let few = ended_is_within hands manner (wire_by wire) config (map listed lists) verdicts (frames_of layout) history port queue whole_runs in_ports in_queues in
           let mine = sent_as port queue in_ports in_queues in
           let theirs = sent_as (paired_port port) queue other in_queues in
           let here = received_there port queue in
@@ -230,64 +249,77 @@ module _ (hands : ℕ) (layout : Layout) (programs : List Program) (wire : Wire)
 
 -- ---- a run in rounds that has ended
 
-module _ (layout : Layout) (programs : List Program) (wire : Wire) (mangle : Option ℕ) (order : ℕ) (lists : List (List (List ℕ))) (accepted : fault_of layout ≡ None) (closes : layout.close ≡ None) (run : Shown) (ended : HasEnded (setting_of layout programs wire mangle lists) (frames_of layout) order run)
+module _ (layout : Layout) (programs : List Program) (wire : Wire) (manner : Manner) (order : ℕ) (lists : List (List (List ℕ))) (accepted : fault_of layout ≡ None) (run : Shown) (ended : HasEnded (setting_of layout programs wire manner lists) (frames_of layout) order run)
     (pairs : length run.sent ≡ pairs_in layout) where
   -- one hand runs each application
-  whole : (who : ℕ) → who < callers_of (regular_of layout) → IsWholeRunOf 1 (setting_of layout programs wire mangle lists) who (own who ended.history)
-  whole who below = by_one (setting_of layout programs wire mangle lists) who (own who ended.history) (ended.whole who below)
+  whole : (who : ℕ) → who < callers_of (regular_of layout) → IsWholeRunOf 1 (setting_of layout programs wire manner lists) who (own who ended.history)
+  whole who below = by_one (setting_of layout programs wire manner lists) who (own who ended.history) (ended.whole who below)
 
   pub texts_of : (format : Format) (journal : Bool) (texts : Written)
       → texts.outputs ≡ outputs_of format (λ port. take layout.queues (drop (port * layout.queues) run.sent)) (range_with_len 0 layout.ports)
       → run.pairs ≡ pairs_in layout → texts.report ≡ report_text (regular_of layout) run.figures ++ (if journal then journal_of run.pairs run.log else [])
-      → AreTextsOf format layout programs wire mangle order lists journal texts
+      → AreTextsOf format layout programs wire manner order lists journal texts
   texts_of format journal texts outputs drivers report =
       let config : Config = regular_of layout in
       record {
         run = run;
         ended = ended;
         are =
-            texts_in 1 layout programs wire mangle lists accepted closes ended.history ended.is.legal whole run.sent ended.sent pairs format (told_of layout programs wire mangle lists journal ended.history) texts outputs
+            texts_in 1 layout programs wire manner lists accepted ended.history ended.is.legal whole run.sent ended.sent pairs format (told_of layout programs wire manner lists journal ended.history) texts outputs
             (report ∙ ap (λ figures. report_text config figures ++ (if journal then journal_of run.pairs run.log else [])) ended.figures
-            ∙ ap (λ n. report_of layout programs wire mangle lists ended.history ++ (if journal then journal_of n run.log else [])) (drivers ∙ sym (pairs_are layout))
-            ∙ ap (λ h. report_of layout programs wire mangle lists ended.history ++ (if journal then journal_of (length config.pairs) h else [])) ended.log
-            ∙ ap (λ t. report_of layout programs wire mangle lists ended.history ++ (if journal then t else [])) (journal_stored config.geometry config.sg (length config.pairs) ended.history));
-        rounds = entries_stand_in_rounds (setting_of layout programs wire mangle lists) (frames_of layout) order ended.count ended.history ended.is;
+            ∙ ap (λ n. report_of layout programs wire manner lists ended.history ++ (if journal then journal_of n run.log else [])) (drivers ∙ sym (pairs_are layout))
+            ∙ ap (λ h. report_of layout programs wire manner lists ended.history ++ (if journal then journal_of (length config.pairs) h else [])) ended.log
+            ∙ ap (λ t. report_of layout programs wire manner lists ended.history ++ (if journal then t else [])) (journal_stored config.geometry config.sg (length config.pairs) ended.history));
+        rounds = entries_stand_in_rounds (setting_of layout programs wire manner lists) (frames_of layout) order ended.count ended.history ended.is;
       }
 
   pub sent_writable : length lists ≡ layout.ports → excess_of lists ≡ None → ((pair : ℕ) → pair < length run.sent → All IsShort (get_or run.sent pair [])) → (port count : ℕ) → port < layout.ports → count ≤ layout.queues
       → IsWritable (take count (drop (port * layout.queues) run.sent))
-  sent_writable count_is within each_short = all_writable 1 layout programs wire mangle lists accepted closes ended.history ended.is.legal whole run.sent ended.sent pairs count_is within each_short
+  sent_writable count_is within each_short = all_writable 1 layout programs wire manner lists accepted ended.history ended.is.legal whole run.sent ended.sent pairs count_is within each_short
 
   pub sent_in_file : length lists ≡ layout.ports → excess_of lists ≡ None → ((pair : ℕ) → pair < length run.sent → All IsShort (get_or run.sent pair [])) → IsWritableFile (joined layout.ports layout.queues run.sent)
-  sent_in_file count_is within each_short = all_in_file 1 layout programs wire mangle lists accepted closes ended.history ended.is.legal whole run.sent ended.sent pairs count_is within each_short
+  sent_in_file count_is within each_short = all_in_file 1 layout programs wire manner lists accepted ended.history ended.is.legal whole run.sent ended.sent pairs count_is within each_short
 
 -- ---- a run on threads
 
-module _ (layout : Layout) (programs : List Program) (wire : Wire) (lists : List (List (List ℕ))) (accepted : fault_of layout ≡ None) (closes : layout.close ≡ None) (o : OutcomeShown) (shown : HasForwarded layout.hands (setting_of layout programs wire None lists) (frames_of layout) o)
+module _ (layout : Layout) (programs : List Program) (wire : Wire) (manner : Manner) (lists : List (List (List ℕ))) (accepted : fault_of layout ≡ None) (o : OutcomeShown) (shown : HasForwarded layout.hands (setting_of layout programs wire manner lists) (frames_of layout) o)
     (pairs : length o.sent ≡ pairs_in layout) where
   pub texts_shown : (format : Format) (texts : Written)
       → texts.outputs ≡ outputs_of format (λ port. take layout.queues (drop (port * layout.queues) o.sent)) (range_with_len 0 layout.ports)
-      → texts.report ≡ report_text (regular_of layout) o.figures → AreTextsIn format layout programs wire None lists o.history (report_of layout programs wire None lists o.history) texts
+      → texts.report ≡ report_text (regular_of layout) o.figures → AreTextsIn format layout programs wire manner lists o.history (report_of layout programs wire manner lists o.history) texts
   texts_shown format texts outputs report =
-      texts_in layout.hands layout programs wire None lists accepted closes o.history shown.legal shown.whole o.sent shown.sent pairs format (report_of layout programs wire None lists o.history) texts outputs (report ∙ ap (report_text (regular_of layout)) shown.figures)
+      texts_in layout.hands layout programs wire manner lists accepted o.history shown.legal shown.whole o.sent shown.sent pairs format (report_of layout programs wire manner lists o.history) texts outputs (report ∙ ap (report_text (regular_of layout)) shown.figures)
 
   pub shown_writable : length lists ≡ layout.ports → excess_of lists ≡ None → ((pair : ℕ) → pair < length o.sent → All IsShort (get_or o.sent pair [])) → (port count : ℕ) → port < layout.ports → count ≤ layout.queues
       → IsWritable (take count (drop (port * layout.queues) o.sent))
-  shown_writable count_is within each_short = all_writable layout.hands layout programs wire None lists accepted closes o.history shown.legal shown.whole o.sent shown.sent pairs count_is within each_short
+  shown_writable count_is within each_short = all_writable layout.hands layout programs wire manner lists accepted o.history shown.legal shown.whole o.sent shown.sent pairs count_is within each_short
 
   pub shown_in_file : length lists ≡ layout.ports → excess_of lists ≡ None → ((pair : ℕ) → pair < length o.sent → All IsShort (get_or o.sent pair [])) → IsWritableFile (joined layout.ports layout.queues o.sent)
-  shown_in_file count_is within each_short = all_in_file layout.hands layout programs wire None lists accepted closes o.history shown.legal shown.whole o.sent shown.sent pairs count_is within each_short
+  shown_in_file count_is within each_short = all_in_file layout.hands layout programs wire manner lists accepted o.history shown.legal shown.whole o.sent shown.sent pairs count_is within each_short
+
+-- a layout and a manner that go together can be run by the layout's hands
+pub hands_suit : (layout : Layout) (manner : Manner) → suits_hands layout manner ≡ true → SuitHands layout.hands (regular_of layout) (unmangled manner)
+hands_suit layout manner is = ⊎_elim
+    (λ (one : (layout.hands == 1) ≡ true). inl (eqb-true layout.hands 1 one))
+    (λ (rest : (not (is_some layout.close) && manner.after == 0) ≡ true).
+    let both = and_parts (not (is_some layout.close)) (manner.after == 0) rest in
+    inr (nothing layout.close both.0, ap (λ (n : ℕ). (let m : Manner = record { mangle = None; after = n } in m)) (eqb-true manner.after 0 both.1)))
+    (or_cases (layout.hands == 1) (not (is_some layout.close) && manner.after == 0) is)
+  where
+    nothing : (o : Option ℕ) → not (is_some o) ≡ true → o ≡ None
+    nothing None e = refl
+    nothing (Some n) e = absurd (cc)
 
 -- so it is one of the command's setting
-pub forwarded_as : (layout : Layout) (programs : List Program) (wire : Wire) (c : Config) (own : List PacketList) (fs : List Frame) (lists : List (List (List ℕ))) (o : OutcomeShown) → c ≡ regular_of layout → own ≡ map listed lists
+pub forwarded_as : (layout : Layout) (programs : List Program) (wire : Wire) (manner : Manner) (c : Config) (own : List PacketList) (fs : List Frame) (lists : List (List (List ℕ))) (o : OutcomeShown) → c ≡ regular_of layout → own ≡ map listed lists
     → fs ≡ frames_of layout → (own_wire : OwnWire) → own_wire ≡ wire_by wire → (rules : List Rule) → rules ≡ rules_by layout.sockets programs
-    → HasForwarded layout.hands (ruled rules own_wire c own) fs o → HasForwarded layout.hands (setting_of layout programs wire None lists) (frames_of layout) o
-forwarded_as layout programs wire c own fs lists o is_config is_own is_frames own_wire is_wire rules are_rules h =
-    subst (λ f. HasForwarded layout.hands (setting_of layout programs wire None lists) f o) is_frames
-    (subst (λ (l : List PacketList). HasForwarded layout.hands (ruled (rules_by layout.sockets programs) (wire_by wire) (regular_of layout) l) fs o) is_own
-    (subst (λ (k : Config). HasForwarded layout.hands (ruled (rules_by layout.sockets programs) (wire_by wire) k own) fs o) is_config
-    (subst (λ (w : OwnWire). HasForwarded layout.hands (ruled (rules_by layout.sockets programs) w c own) fs o) is_wire
-    (subst (λ (rs : List Rule). HasForwarded layout.hands (ruled rs own_wire c own) fs o) are_rules h))))
+    → HasForwarded layout.hands (ruled_by rules own_wire manner c own) fs o → HasForwarded layout.hands (setting_of layout programs wire manner lists) (frames_of layout) o
+forwarded_as layout programs wire manner c own fs lists o is_config is_own is_frames own_wire is_wire rules are_rules h =
+    subst (λ f. HasForwarded layout.hands (setting_of layout programs wire manner lists) f o) is_frames
+    (subst (λ (l : List PacketList). HasForwarded layout.hands (ruled_by (rules_by layout.sockets programs) (wire_by wire) manner (regular_of layout) l) fs o) is_own
+    (subst (λ (k : Config). HasForwarded layout.hands (ruled_by (rules_by layout.sockets programs) (wire_by wire) manner k own) fs o) is_config
+    (subst (λ (w : OwnWire). HasForwarded layout.hands (ruled_by (rules_by layout.sockets programs) w manner c own) fs o) is_wire
+    (subst (λ (rs : List Rule). HasForwarded layout.hands (ruled_by rs own_wire manner c own) fs o) are_rules h))))
 
 -- the lists of the code
 pub lists_short : (own : List PacketList) → All HasShortPackets own → (pair : ℕ) → pair < length (lists_in own) → All IsShort (get_or (lists_in own) pair [])
@@ -306,18 +338,18 @@ one_list-writable packets short few small = record {
 }
 
 -- a run of the code's configuration, lists and frames
-pub stalled_as : (layout : Layout) (programs : List Program) (wire : Wire) (mangle : Option ℕ) (order : ℕ) (c : Config) (own : List PacketList) (fs : List Frame) (lists : List (List (List ℕ))) (round : ℕ) → c ≡ regular_of layout → own ≡ map listed lists
-    → fs ≡ frames_of layout → (own_wire : OwnWire) → own_wire ≡ wire_by wire → (verdicts : List (List Verdict)) → IsRuled (rules_by layout.sockets programs) (record { config = c; wire = own_wire; manner = manner_of mangle; packets = own; verdicts = verdicts })
-    → HasStalled (record { config = c; wire = own_wire; manner = manner_of mangle; packets = own; verdicts = verdicts }) fs order round → HasStalled (setting_of layout programs wire mangle lists) (frames_of layout) order round
-stalled_as layout programs wire mangle order c own fs lists round is_config is_own is_frames own_wire is_wire verdicts is h =
-    subst (λ f. HasStalled (setting_of layout programs wire mangle lists) f order round) is_frames
-    (subst (λ (l : List PacketList). HasStalled (ruled_by (rules_by layout.sockets programs) (wire_by wire) (manner_of mangle) (regular_of layout) l) fs order round) is_own
-    (subst (λ (k : Config). HasStalled (ruled_by (rules_by layout.sockets programs) (wire_by wire) (manner_of mangle) k own) fs order round) is_config (subst (λ (w : OwnWire). HasStalled (ruled_by (rules_by layout.sockets programs) w (manner_of mangle) c own) fs order round) is_wire (stalls_as_ruled (rules_by layout.sockets programs) (record { config = c; wire = own_wire; manner = manner_of mangle; packets = own; verdicts = verdicts }) fs order round (are_exact_by layout.sockets programs) is h))))
+pub stalled_as : (layout : Layout) (programs : List Program) (wire : Wire) (manner : Manner) (order : ℕ) (c : Config) (own : List PacketList) (fs : List Frame) (lists : List (List (List ℕ))) (round : ℕ) → c ≡ regular_of layout → own ≡ map listed lists
+    → fs ≡ frames_of layout → (own_wire : OwnWire) → own_wire ≡ wire_by wire → (verdicts : List (List Verdict)) → IsRuled (rules_by layout.sockets programs) (record { config = c; wire = own_wire; manner = manner; packets = own; verdicts = verdicts })
+    → HasStalled (record { config = c; wire = own_wire; manner = manner; packets = own; verdicts = verdicts }) fs order round → HasStalled (setting_of layout programs wire manner lists) (frames_of layout) order round
+stalled_as layout programs wire manner order c own fs lists round is_config is_own is_frames own_wire is_wire verdicts is h =
+    subst (λ f. HasStalled (setting_of layout programs wire manner lists) f order round) is_frames
+    (subst (λ (l : List PacketList). HasStalled (ruled_by (rules_by layout.sockets programs) (wire_by wire) manner (regular_of layout) l) fs order round) is_own
+    (subst (λ (k : Config). HasStalled (ruled_by (rules_by layout.sockets programs) (wire_by wire) manner k own) fs order round) is_config (subst (λ (w : OwnWire). HasStalled (ruled_by (rules_by layout.sockets programs) w manner c own) fs order round) is_wire (stalls_as_ruled (rules_by layout.sockets programs) (record { config = c; wire = own_wire; manner = manner; packets = own; verdicts = verdicts }) fs order round (are_exact_by layout.sockets programs) is h))))
 
-pub ended_as : (layout : Layout) (programs : List Program) (wire : Wire) (mangle : Option ℕ) (order : ℕ) (c : Config) (own : List PacketList) (fs : List Frame) (lists : List (List (List ℕ))) (run : Shown) → c ≡ regular_of layout → own ≡ map listed lists
-    → fs ≡ frames_of layout → (own_wire : OwnWire) → own_wire ≡ wire_by wire → (verdicts : List (List Verdict)) → IsRuled (rules_by layout.sockets programs) (record { config = c; wire = own_wire; manner = manner_of mangle; packets = own; verdicts = verdicts })
-    → HasEnded (record { config = c; wire = own_wire; manner = manner_of mangle; packets = own; verdicts = verdicts }) fs order run → HasEnded (setting_of layout programs wire mangle lists) (frames_of layout) order run
-ended_as layout programs wire mangle order c own fs lists run is_config is_own is_frames own_wire is_wire verdicts is h =
-    subst (λ f. HasEnded (setting_of layout programs wire mangle lists) f order run) is_frames
-    (subst (λ (l : List PacketList). HasEnded (ruled_by (rules_by layout.sockets programs) (wire_by wire) (manner_of mangle) (regular_of layout) l) fs order run) is_own
-    (subst (λ (k : Config). HasEnded (ruled_by (rules_by layout.sockets programs) (wire_by wire) (manner_of mangle) k own) fs order run) is_config (subst (λ (w : OwnWire). HasEnded (ruled_by (rules_by layout.sockets programs) w (manner_of mangle) c own) fs order run) is_wire (ends_as_ruled (rules_by layout.sockets programs) (record { config = c; wire = own_wire; manner = manner_of mangle; packets = own; verdicts = verdicts }) fs order run (are_exact_by layout.sockets programs) is h))))
+pub ended_as : (layout : Layout) (programs : List Program) (wire : Wire) (manner : Manner) (order : ℕ) (c : Config) (own : List PacketList) (fs : List Frame) (lists : List (List (List ℕ))) (run : Shown) → c ≡ regular_of layout → own ≡ map listed lists
+    → fs ≡ frames_of layout → (own_wire : OwnWire) → own_wire ≡ wire_by wire → (verdicts : List (List Verdict)) → IsRuled (rules_by layout.sockets programs) (record { config = c; wire = own_wire; manner = manner; packets = own; verdicts = verdicts })
+    → HasEnded (record { config = c; wire = own_wire; manner = manner; packets = own; verdicts = verdicts }) fs order run → HasEnded (setting_of layout programs wire manner lists) (frames_of layout) order run
+ended_as layout programs wire manner order c own fs lists run is_config is_own is_frames own_wire is_wire verdicts is h =
+    subst (λ f. HasEnded (setting_of layout programs wire manner lists) f order run) is_frames
+    (subst (λ (l : List PacketList). HasEnded (ruled_by (rules_by layout.sockets programs) (wire_by wire) manner (regular_of layout) l) fs order run) is_own
+    (subst (λ (k : Config). HasEnded (ruled_by (rules_by layout.sockets programs) (wire_by wire) manner k own) fs order run) is_config (subst (λ (w : OwnWire). HasEnded (ruled_by (rules_by layout.sockets programs) w manner c own) fs order run) is_wire (ends_as_ruled (rules_by layout.sockets programs) (record { config = c; wire = own_wire; manner = manner; packets = own; verdicts = verdicts }) fs order run (are_exact_by layout.sockets programs) is h))))

@@ -123,7 +123,7 @@ refused_outcome work inputs (illegal line) h = absurd h
 
 -- work that is a run is on packets
 pub run_packets : (work : Work) → IsRun work → IsOnPackets work
-run_packets (Simulate layout programs wire mangle order number journal format) runs = tt
+run_packets (Simulate layout programs wire manner order number journal format) runs = tt
 run_packets (Generate number) runs = tt
 run_packets (Audit layout) runs = runs
 
@@ -207,14 +207,14 @@ check_file_shown plan old new (Some o) ends = ends.comes
 
 -- there is a text for each port
 pub shown_count : (work : Work) (lists : List (List (List ℕ))) (o : OutcomeShown) (texts : Written) → AreTextsFrom work lists o texts → length texts.outputs ≡ written_by work
-shown_count (Simulate layout programs wire mangle order number journal format) lists o texts are = ap length are.sent ∙ count_texts format (sent_from layout programs lists o.history) layout.ports
+shown_count (Simulate layout programs wire manner order number journal format) lists o texts are = ap length are.sent ∙ count_texts format (sent_from layout programs lists o.history) layout.ports
 shown_count (Generate number) lists o texts are = absurd are
 shown_count (Audit layout) lists o texts are = absurd are
 
 -- for few ports
 pub few_written : (work : Work) → fault_in work ≡ None → written_by work ≤ 4
-few_written (Simulate layout programs wire mangle order number journal Pcap) accepted = few_ports layout accepted
-few_written (Simulate layout programs wire mangle order number journal Pcapng) accepted = omega arith
+few_written (Simulate layout programs wire manner order number journal Pcap) accepted = few_ports layout accepted
+few_written (Simulate layout programs wire manner order number journal Pcapng) accepted = omega arith
 few_written (Generate number) accepted = omega arith
 few_written (Audit layout) accepted = omega arith
 

@@ -1,6 +1,7 @@
 -- Where no run stalls: each ring has 32 entries or more, each pool 18 frames or more, no socket is closed, and applications change nothing. A batch has 32
 -- items, and a packet 18 frames, at most. The numbers are this project's own.
 use Rattle.std.specs.Prelude.{◌≡◌, ℕ, ◌≤◌, List, Option, Some, None}
+use Rattle.xsk_turns.specs.Mangling.{plain}
 use Rattle.xsk_socket.specs.Layout.{pool_in}
 use Rattle.xsk_socket.specs.declared.layout.Layout.{Layout}
 use Rattle.xsk_cli.specs.Ends.{AreTaken, AreTold, NoneRose}
@@ -21,7 +22,7 @@ pub record IsAmple (layout : Layout) : Type 0 where
 
 -- with such a layout that closes no socket and applications that change nothing, or without a run
 abbrev pub HasAmple : Work → Type 0
-HasAmple (Simulate layout programs wire mangle order number journal format) = (mangle ≡ None) × (layout.close ≡ None) × IsAmple layout
+HasAmple (Simulate layout programs wire manner order number journal format) = (manner ≡ plain) × (layout.close ≡ None) × IsAmple layout
 HasAmple (Generate number) = Unit {0}
 HasAmple (Audit layout) = Unit {0}
 

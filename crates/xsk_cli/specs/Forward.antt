@@ -13,6 +13,7 @@ use Rattle.xsk_io.specs.declared.bay.Stream.TheVariants.{Output, Report}
 use Rattle.xsk_pcap.specs.declared.reading.BadCapture.TheVariants.{OutOfMemory as NoCause}
 use Rattle.xsk_pcapng.specs.declared.reading.BadPcapng.TheVariants.{OutOfMemory as NoFileCause}
 use Rattle.xsk_socket.specs.declared.layout.Unlawful.{Unlawful}
+use Rattle.xsk_turns.specs.declared.manner.Manner.{Manner}
 use Rattle.xsk_workers.specs.Forwarded.{OutcomeShown, HasForwarded}
 use Rattle.xsk_cli.specs.Cause.{IsCaused, IsFault}
 use Rattle.xsk_cli.specs.Ends.{Answers, AreTaken, AreTold, ComesOf, Ends, EndsBy, IsComplete, NoneRose}
@@ -29,7 +30,8 @@ use Rattle.xsk_cli.specs.declared.status.Status.TheVariants.{BadCapture, BadPcap
 
 -- ---- the words
 
--- the options of `forward`: those of `simulate` but the order of the rounds, and the hands of each application
+-- the options of `forward`: those of `simulate` but the order of the rounds, the mangling and the journal, and the threads of each
+-- application
 abbrev pub forward_options : List Key
 forward_options =
     (codes "ports", Number)
@@ -46,6 +48,8 @@ forward_options =
     ∷ (codes "prog", TakesProgram)
     ∷ (codes "wire", TakesWire)
     ∷ (codes "empty", Number)
+    ∷ (codes "close", Number)
+    ∷ (codes "after", Number)
     ∷ (codes "hands", Number)
     ∷ (codes "sg", Nothing)
     ∷ (codes "wakeup", Nothing)
@@ -61,21 +65,25 @@ is_forward (first ∷ rest) = bytes_eq first (codes "forward")
 
 -- ---- the run
 
+-- the manner of its applications, which change no item
+abbrev pub unmangled : Manner → Manner
+unmangled manner = record { mangle = None; after = manner.after }
+
 -- work that is a run
 abbrev pub IsRun : Work → Type 0
-IsRun (Simulate layout programs wire mangle order number journal format) = Unit {0}
+IsRun (Simulate layout programs wire manner order number journal format) = Unit {0}
 IsRun (Generate number) = ⊥
 IsRun (Audit layout) = ⊥
 
 -- a run on threads of the work's packets shows this
 abbrev pub HasShown : Work → List (List (List ℕ)) → OutcomeShown → Type 0
-HasShown (Simulate layout programs wire mangle order number journal format) lists o = HasForwarded layout.hands (setting_of layout programs wire None lists) (frames_of layout) o
+HasShown (Simulate layout programs wire manner order number journal format) lists o = HasForwarded layout.hands (setting_of layout programs wire (unmangled manner) lists) (frames_of layout) o
 HasShown (Generate number) lists o = ⊥
 HasShown (Audit layout) lists o = ⊥
 
 -- these are the texts of its history
 abbrev pub AreTextsFrom : Work → List (List (List ℕ)) → OutcomeShown → Written → Type 0
-AreTextsFrom (Simulate layout programs wire mangle order number journal format) lists o texts = AreTextsIn format layout programs wire None lists o.history (report_of layout programs wire None lists o.history) texts
+AreTextsFrom (Simulate layout programs wire manner order number journal format) lists o texts = AreTextsIn format layout programs wire (unmangled manner) lists o.history (report_of layout programs wire (unmangled manner) lists o.history) texts
 AreTextsFrom (Generate number) lists o texts = ⊥
 AreTextsFrom (Audit layout) lists o texts = ⊥
 

@@ -10,6 +10,7 @@ use Rattle.xsk_args.specs.declared.wire.Wire.{Wire}
 use Rattle.xsk_socket.specs.declared.layout.Layout.{Layout}
 use Rattle.xsk_audit.specs.Telling.{IsVerdict}
 use Rattle.xsk_audit.specs.declared.auditing.Verdicts.TheVariants.{Legal}
+use Rattle.xsk_turns.specs.declared.manner.Manner.{Manner}
 use Rattle.xsk_cli.specs.Outcome.{Written, AreTextsOf, IsOutcome, legal_text, made}
 use Rattle.xsk_cli.specs.Words.{without_files}
 use Rattle.xsk_cli.specs.declared.format.Format.{Format}
@@ -23,6 +24,6 @@ RunsAreLegal = (s : Setting) (frames : List Frame) (order : ℕ) (run : Shown) �
 -- What `simulate --journal` tells, with the report in front, is told by `audit` to be legal, where its layout is the same and the
 -- text isn't too long.
 abbrev pub ReportsAreLegal : Type 0
-ReportsAreLegal = (format : Format) (layout : Layout) (programs : List Program) (wire : Wire) (mangle : Option ℕ) (order : ℕ) (lists : List (List (List ℕ))) (texts : Written)
-    → (are : AreTextsOf format layout programs wire mangle order lists true texts) → length texts.report ≤ 67108864
+ReportsAreLegal = (format : Format) (layout : Layout) (programs : List Program) (wire : Wire) (manner : Manner) (order : ℕ) (lists : List (List (List ℕ))) (texts : Written)
+    → (are : AreTextsOf format layout programs wire manner order lists true texts) → length texts.report ≤ 67108864
     → IsOutcome (Audit (without_files layout)) (texts.report ∷ []) (made (record { outputs = []; report = legal_text (length are.ended.history) }))

@@ -12,6 +12,7 @@ use Rattle.xsk_model.specs.Steering.{packet_class, paired_port, driver_on, socke
 use Rattle.xsk_gen.specs.Generator.{first, packet}
 use Rattle.xsk_laws.specs.Expected.{bounced_on, expected, has_length, leads_to, none_bounces}
 use Rattle.xsk_laws.specs.Laws.{AreExpected, AreForwarded, IsPlace}
+use Rattle.xsk_ended.specs.Until.{AreExpectedUntil, AreForwardedUntil}
 use Rattle.xsk_socket.specs.declared.layout.Layout.{Layout}
 use Rattle.xsk_socket.specs.Layout.{fault_of}
 use Rattle.xsk_socket.specs.Regular.{regular_of}
@@ -72,8 +73,8 @@ made_lists number ports = map (λ port. first 2000 (packet number port)) (range_
 
 -- the packets of all ports: those of the files, or those that are made, where nothing is read
 abbrev pub AreListsOf : Work → List (List ℕ) → List (List (List ℕ)) → Type 0
-AreListsOf (Simulate layout programs wire mangle order None journal format) inputs lists = AreFiles format layout.ports inputs lists
-AreListsOf (Simulate layout programs wire mangle order (Some number) journal format) inputs lists = (inputs ≡ []) × (lists ≡ made_lists number layout.ports)
+AreListsOf (Simulate layout programs wire manner order None journal format) inputs lists = AreFiles format layout.ports inputs lists
+AreListsOf (Simulate layout programs wire manner order (Some number) journal format) inputs lists = (inputs ≡ []) × (lists ≡ made_lists number layout.ports)
 AreListsOf (Generate number) inputs lists = (inputs ≡ []) × (lists ≡ made_lists number 1)
 AreListsOf (Audit layout) inputs lists = ⊥
 
@@ -103,14 +104,10 @@ abbrev pub wire_by : Wire → OwnWire
 wire_by Wait = Waits
 wire_by Drops = DropsNow
 
--- what the applications change of what they send: this project's own
-abbrev pub manner_of : Option ℕ → Manner
-manner_of mangle = record { mangle = mangle; after = 0 }
-
 -- what is run: the layout's configuration and the wire over the packets of all ports, each with the verdict that the programs'
 -- rules give it, with frames of zero bytes, in order
-abbrev pub setting_of : Layout → List Program → Wire → Option ℕ → List (List (List ℕ)) → Setting
-setting_of layout programs wire mangle lists = ruled_by (rules_by layout.sockets programs) (wire_by wire) (manner_of mangle) (regular_of layout) (map listed lists)
+abbrev pub setting_of : Layout → List Program → Wire → Manner → List (List (List ℕ)) → Setting
+setting_of layout programs wire manner lists = ruled_by (rules_by layout.sockets programs) (wire_by wire) manner (regular_of layout) (map listed lists)
 
 -- the verdicts, for each pair those of its packets
 abbrev pub verdicts_by : Layout → List Program → List (List (List ℕ)) → List (List Verdict)
@@ -122,13 +119,13 @@ frames_of layout = fresh layout.chunk layout.frames
 -- ---- the texts
 
 -- the report of a run: its figures, each a count over its history
-abbrev pub report_of : Layout → List Program → Wire → Option ℕ → List (List (List ℕ)) → List Entry → List ℕ
-report_of layout programs wire mangle lists history = report_text (regular_of layout) (figures_of (setting_of layout programs wire mangle lists) history)
+abbrev pub report_of : Layout → List Program → Wire → Manner → List (List (List ℕ)) → List Entry → List ℕ
+report_of layout programs wire manner lists history = report_text (regular_of layout) (figures_of (setting_of layout programs wire manner lists) history)
 
 -- and behind it the journal of its history, where that was asked for
-abbrev pub told_of : Layout → List Program → Wire → Option ℕ → List (List (List ℕ)) → Bool → List Entry → List ℕ
-told_of layout programs wire mangle lists journal history =
-    report_of layout programs wire mangle lists history ++ (if journal then journal_of (length (regular_of layout).pairs) history else [])
+abbrev pub told_of : Layout → List Program → Wire → Manner → List (List (List ℕ)) → Bool → List Entry → List ℕ
+told_of layout programs wire manner lists journal history =
+    report_of layout programs wire manner lists history ++ (if journal then journal_of (length (regular_of layout).pairs) history else [])
 
 -- the one line of packets that were made
 abbrev pub report_on : List (List ℕ) → List ℕ
@@ -186,40 +183,47 @@ NoneGoesBack layout programs lists = (port queue : ℕ) → port < layout.ports 
 
 -- The texts of a history of these packets: what the drivers of each port sent in it, and what is told of it. What the driver of a
 -- queue bounced is all that goes back there, in order, whatever the wire does and applications change. Where applications change
--- nothing, what it sent beside that is what the paired port's driver delivered to the sockets of all classes, whatever the wire
--- does, and nothing else. Where the wire waits it is what is expected there of all classes; with one socket on each queue, and where
--- no packet goes back, each text is then that of all that goes on to its port.
-pub record AreTextsIn (format : Format) (layout : Layout) (programs : List Program) (wire : Wire) (mangle : Option ℕ) (lists : List (List (List ℕ))) (history : List Entry) (told : List ℕ) (texts : Written) : Type 0 where
+-- nothing and no socket is closed, what it sent beside that is what the paired port's driver delivered to the sockets of all classes,
+-- whatever the wire does, and nothing else. Where the wire waits it is what is expected there of all classes; with one socket on each
+-- queue, and where no packet goes back, each text is then that of all that goes on to its port. Where a socket is closed, on its two
+-- lanes these are the first packets, as many as its application passed on.
+pub record AreTextsIn (format : Format) (layout : Layout) (programs : List Program) (wire : Wire) (manner : Manner) (lists : List (List (List ℕ))) (history : List Entry) (told : List ℕ) (texts : Written) : Type 0 where
   pub sent : texts.outputs ≡ outputs_of format (sent_from layout programs lists history) (ports_of layout)
   pub bounced : (port queue : ℕ) → port < layout.ports → queue < layout.queues
       → bounced_of (going_back layout programs lists port queue) (own (driver_on (regular_of layout) port queue) history) ≡ going_back layout programs lists port queue
-  pub forwarded : (port queue : ℕ) → mangle ≡ None → port < layout.ports → queue < layout.queues
+  pub forwarded : (port queue : ℕ) → manner.mangle ≡ None → layout.close ≡ None → port < layout.ports → queue < layout.queues
       → AreForwarded (wire_by wire) (regular_of layout) history (map listed lists) (verdicts_by layout programs lists) port queue
       (sent_on layout programs lists history port queue)
-  pub redirected : (port queue : ℕ) → mangle ≡ None → wire ≡ Wait → port < layout.ports → queue < layout.queues
+  pub redirected : (port queue : ℕ) → manner.mangle ≡ None → layout.close ≡ None → wire ≡ Wait → port < layout.ports → queue < layout.queues
       → AreExpected (regular_of layout) (map listed lists) (verdicts_by layout programs lists) port queue
       (sent_on layout programs lists history port queue)
-  pub one_socket : mangle ≡ None → wire ≡ Wait → layout.sockets ≡ 1 → NoneGoesBack layout programs lists → texts.outputs ≡ outputs_of format (sent_on_by layout programs lists) (ports_of layout)
+  pub forwarded_until : (port queue : ℕ) → manner.mangle ≡ None → port < layout.ports → queue < layout.queues
+      → AreForwardedUntil (wire_by wire) (regular_of layout) history (map listed lists) (verdicts_by layout programs lists) port queue
+      (sent_on layout programs lists history port queue)
+  pub redirected_until : (port queue : ℕ) → manner.mangle ≡ None → wire ≡ Wait → port < layout.ports → queue < layout.queues
+      → AreExpectedUntil (regular_of layout) history (map listed lists) (verdicts_by layout programs lists) port queue
+      (sent_on layout programs lists history port queue)
+  pub one_socket : manner.mangle ≡ None → layout.close ≡ None → wire ≡ Wait → layout.sockets ≡ 1 → NoneGoesBack layout programs lists → texts.outputs ≡ outputs_of format (sent_on_by layout programs lists) (ports_of layout)
   pub report : texts.report ≡ told
 
 -- Those of a run in rounds that has ended: its figures are told, and the journal, which tells of each entry the round in which it
 -- stands.
-pub record AreTextsOf (format : Format) (layout : Layout) (programs : List Program) (wire : Wire) (mangle : Option ℕ) (order : ℕ) (lists : List (List (List ℕ))) (journal : Bool) (texts : Written) : Type 0 where
+pub record AreTextsOf (format : Format) (layout : Layout) (programs : List Program) (wire : Wire) (manner : Manner) (order : ℕ) (lists : List (List (List ℕ))) (journal : Bool) (texts : Written) : Type 0 where
   pub run : Shown
-  pub ended : HasEnded (setting_of layout programs wire mangle lists) (frames_of layout) order run
-  pub are : AreTextsIn format layout programs wire mangle lists ended.history (told_of layout programs wire mangle lists journal ended.history) texts
-  pub rounds : AreInRounds (IsWholeRun (setting_of layout programs wire mangle lists)) (callers_of (regular_of layout)) order ended.count ended.history (rounds_of ended.history)
+  pub ended : HasEnded (setting_of layout programs wire manner lists) (frames_of layout) order run
+  pub are : AreTextsIn format layout programs wire manner lists ended.history (told_of layout programs wire manner lists journal ended.history) texts
+  pub rounds : AreInRounds (IsWholeRun (setting_of layout programs wire manner lists)) (callers_of (regular_of layout)) order ended.count ended.history (rounds_of ended.history)
 
 -- the texts that the work makes of packets: of a run, or of the packets themselves
 abbrev pub AreTextsBy : Work → List (List (List ℕ)) → Written → Type 0
-AreTextsBy (Simulate layout programs wire mangle order number journal format) lists texts = AreTextsOf format layout programs wire mangle order lists journal texts
+AreTextsBy (Simulate layout programs wire manner order number journal format) lists texts = AreTextsOf format layout programs wire manner order lists journal texts
 AreTextsBy (Generate number) lists texts =
     (texts.outputs ≡ map capture_of lists) × (texts.report ≡ report_on (slice_index_or lists 0 []))
 AreTextsBy (Audit layout) lists texts = ⊥
 
 -- the work's run of packets stalls in a round
 abbrev pub IsStalledBy : Work → List (List (List ℕ)) → ℕ → Type 0
-IsStalledBy (Simulate layout programs wire mangle order number journal format) lists round = HasStalled (setting_of layout programs wire mangle lists) (frames_of layout) order round
+IsStalledBy (Simulate layout programs wire manner order number journal format) lists round = HasStalled (setting_of layout programs wire manner lists) (frames_of layout) order round
 IsStalledBy (Generate number) lists round = ⊥
 IsStalledBy (Audit layout) lists round = ⊥
 
@@ -251,19 +255,19 @@ IsAudited layout text outcome = ⊥
 
 -- work on packets, which are read or made, and not on a journal
 abbrev pub IsOnPackets : Work → Type 0
-IsOnPackets (Simulate layout programs wire mangle order number journal format) = Unit {0}
+IsOnPackets (Simulate layout programs wire manner order number journal format) = Unit {0}
 IsOnPackets (Generate number) = Unit {0}
 IsOnPackets (Audit layout) = ⊥
 
 -- the texts that are made of inputs: of their packets, or of their journal
 abbrev pub AreMadeOf : Work → List (List ℕ) → Written → Type 0
-AreMadeOf (Simulate layout programs wire mangle order number journal format) inputs texts = IsOutcomeIn (Simulate layout programs wire mangle order number journal format) inputs (made texts)
+AreMadeOf (Simulate layout programs wire manner order number journal format) inputs texts = IsOutcomeIn (Simulate layout programs wire manner order number journal format) inputs (made texts)
 AreMadeOf (Generate number) inputs texts = IsOutcomeIn (Generate number) inputs (made texts)
 AreMadeOf (Audit layout) inputs texts = IsAudited layout (bytes_of inputs 0) (made texts)
 
 -- their journal isn't legal from a line on
 abbrev pub IsIllegalIn : Work → List (List ℕ) → ℕ → Type 0
-IsIllegalIn (Simulate layout programs wire mangle order number journal format) inputs line = ⊥
+IsIllegalIn (Simulate layout programs wire manner order number journal format) inputs line = ⊥
 IsIllegalIn (Generate number) inputs line = ⊥
 IsIllegalIn (Audit layout) inputs line = IsAudited layout (bytes_of inputs 0) (illegal line)
 

@@ -11,6 +11,7 @@ use Rattle.xsk_pcap.specs.declared.reading.BadCapture.TheVariants.{OutOfMemory a
 use Rattle.xsk_pcapng.specs.Pcapng.{IsRefused as IsRefusedFile}
 use Rattle.xsk_pcapng.specs.declared.reading.BadPcapng.TheVariants.{OutOfMemory as NoFileCause}
 use Rattle.xsk_sim.specs.Runs.{HasStalled}
+use Rattle.xsk_turns.specs.declared.manner.Manner.{Manner}
 use Rattle.xsk_cli.specs.Judged.{AreShort, AreCaptures, IsBadCapture, excess_of, bytes_of}
 use Rattle.xsk_cli.specs.Outcome.{Written, bad, passed, stalled, illegal, IsOutcome, IsAudited, IsStalledBy, setting_of, frames_of, bad_file}
 use Rattle.xsk_cli.specs.Format.{IsBadFile, IsFile, files_of, most_input}
@@ -21,7 +22,7 @@ use Rattle.xsk_args.specs.declared.error.ArgsError.{ArgsError}
 use Rattle.xsk_args.specs.declared.error.ArgsError.TheVariants.{Usage as IsUsage, OutOfMemory as ArgsMemory}
 use Rattle.xsk_cli.specs.declared.texts.Texts.{Texts}
 use Rattle.xsk_cli.specs.declared.words.Plan.{Plan as CodePlan}
-use Rattle.xsk_cli.specs.Words.{Plan, closed_in, fault_in, no_plan}
+use Rattle.xsk_cli.specs.Words.{Plan, fault_in, suits_in, no_plan}
 use Rattle.xsk_cli.specs.Cause.{IsCaused, NeverFalls, NoOthers}
 use Rattle.xsk_cli.specs.Ends.{Ends}
 use Rattle.xsk_cli.specs.declared.words.Work.{Work}
@@ -45,20 +46,20 @@ plan_in plan = record { inputs = map (λ name. name.now) plan.inputs.now; output
 
 -- how many files are read, captures or one journal, and how many are written
 abbrev pub read_by : Work → ℕ
-read_by (Simulate layout programs wire mangle order None journal format) = files_of format layout.ports
-read_by (Simulate layout programs wire mangle order (Some number) journal format) = 0
+read_by (Simulate layout programs wire manner order None journal format) = files_of format layout.ports
+read_by (Simulate layout programs wire manner order (Some number) journal format) = 0
 read_by (Generate number) = 0
 read_by (Audit layout) = 1
 
 abbrev pub written_by : Work → ℕ
-written_by (Simulate layout programs wire mangle order number journal format) = files_of format layout.ports
+written_by (Simulate layout programs wire manner order number journal format) = files_of format layout.ports
 written_by (Generate number) = 1
 written_by (Audit layout) = 0
 
--- a plan whose work is accepted and closes no socket, with as many files as it wants
+-- a plan whose work is accepted, in which an application of several threads closes no socket, with as many files as it wants
 pub record IsReady (plan : Plan) : Type 0 where
   pub accepted : fault_in plan.work ≡ None
-  pub closes : closed_in plan.work ≡ None
+  pub suits : suits_in plan.work ≡ true
   pub inputs : length plan.inputs ≡ read_by plan.work
   pub outputs : length plan.outputs ≡ written_by plan.work
 
@@ -158,10 +159,10 @@ IsRefusal port bytes NoMemory = Unit {0}
 IsRefusal port bytes failure = ⊥
 
 -- why a run of packets gives nothing
-abbrev pub FailsRunning : Layout → List Program → Wire → Option ℕ → ℕ → List (List (List ℕ)) → RunFailure → Type 0
-FailsRunning layout programs wire mangle order lists (Stalls round) = HasStalled (setting_of layout programs wire mangle lists) (frames_of layout) order round
-FailsRunning layout programs wire mangle order lists NoMemory = Unit {0}
-FailsRunning layout programs wire mangle order lists failure = ⊥
+abbrev pub FailsRunning : Layout → List Program → Wire → Manner → ℕ → List (List (List ℕ)) → RunFailure → Type 0
+FailsRunning layout programs wire manner order lists (Stalls round) = HasStalled (setting_of layout programs wire manner lists) (frames_of layout) order round
+FailsRunning layout programs wire manner order lists NoMemory = Unit {0}
+FailsRunning layout programs wire manner order lists failure = ⊥
 
 -- why an audit of a text gives nothing to write
 abbrev pub FailsAudit : Layout → List ℕ → RunFailure → Type 0

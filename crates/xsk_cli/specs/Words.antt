@@ -1,5 +1,5 @@
 -- Which words are a command, and what it does. This project's own.
-use Rattle.std.specs.Prelude.{ℕ, codes, Bool, List, [], ◌∷◌, length, take, drop, Option, None, Some, is_some, option_and_then, option_map, if◌then◌else◌, unwrap_or, nat_lt, true, ◌==◌}
+use Rattle.std.specs.Prelude.{ℕ, codes, Bool, List, [], ◌∷◌, length, take, drop, Option, None, Some, is_some, option_and_then, option_map, if◌then◌else◌, unwrap_or, nat_le, nat_lt, not, true, ◌==◌, ◌&&◌, ◌||◌}
 use Rattle.std.specs.Str.{bytes_eq}
 use Rattle.xsk_args.specs.Words.{Text, is_dashed}
 use Rattle.xsk_args.specs.Number.{number_in}
@@ -11,6 +11,7 @@ use Rattle.xsk_args.specs.declared.wire.Wire.{Wire}
 use Rattle.xsk_args.specs.declared.wire.Wire.TheVariants.{Wait}
 use Rattle.xsk_args.specs.Meaning.{Key, Meaning, meaning, one_value}
 use Rattle.xsk_args.specs.declared.table.Takes.TheVariants.{Nothing, Number, Program as TakesProgram, Wire as TakesWire}
+use Rattle.xsk_turns.specs.declared.manner.Manner.{Manner}
 use Rattle.xsk_socket.specs.declared.layout.Layout.{Layout}
 use Rattle.xsk_socket.specs.declared.layout.Unlawful.{Unlawful}
 use Rattle.xsk_socket.specs.Layout.{fault_of}
@@ -49,6 +50,8 @@ options =
     ∷ (codes "prog", TakesProgram)
     ∷ (codes "wire", TakesWire)
     ∷ (codes "empty", Number)
+    ∷ (codes "close", Number)
+    ∷ (codes "after", Number)
     ∷ (codes "mangle", Number)
     ∷ (codes "sg", Nothing)
     ∷ (codes "wakeup", Nothing)
@@ -102,7 +105,8 @@ wanted_per_port Pcapng made = 0
 
 -- what is asked for: its ports, the queues of each and the sockets of each queue, all over one UMEM (af_xdp.rst,
 -- "XDP_SHARED_UMEM bind flag"); with `sg` packets may have several frames ("XDP_USE_SG bind flag"); with `empty` one cell of
--- each port's XSKMAP holds no socket; with `hands` each application is run by so many threads
+-- each port's XSKMAP holds no socket; with `close` one socket is closed while traffic flows, and with `hands` each application is
+-- so many threads: both this project's own
 abbrev pub layout_by : Meaning → Layout
 layout_by said = record {
   ports = ports_of said;
@@ -120,7 +124,7 @@ layout_by said = record {
   sg = is_some (said (codes "sg"));
   wakeup = is_some (said (codes "wakeup"));
   empty = number_of said (codes "empty");
-  close = None;
+  close = number_of said (codes "close");
   hands = number_or said (codes "hands") 1;
 }
 
@@ -128,11 +132,15 @@ layout_by said = record {
 abbrev pub inputs_named : Meaning → ℕ
 inputs_named said = if are_made said then 0 else files_of (format_of said) (ports_of said)
 
+-- what the applications change of what they send, and after how many packets of its RX a socket is closed: this project's own
+abbrev pub manner_of : Meaning → Manner
+manner_of said = record { mangle = number_of said (codes "mangle"); after = number_or said (codes "after") 0 }
+
 abbrev pub plan_by : Meaning → Plan
 plan_by said = record {
   inputs = take (inputs_named said) (files_in said);
   outputs = drop (inputs_named said) (files_in said);
-  work = Simulate (layout_by said) (programs_of said) (wire_of said) (number_of said (codes "mangle")) (number_or said (codes "order") 0) (number_of said (codes "gen")) (is_some (said (codes "journal"))) (format_of said);
+  work = Simulate (layout_by said) (programs_of said) (wire_of said) (manner_of said) (number_or said (codes "order") 0) (number_of said (codes "gen")) (is_some (said (codes "journal"))) (format_of said);
 }
 
 -- with pcapng there are two files, or one where the packets are made
@@ -143,8 +151,18 @@ are_enough Pcapng made count = count == (if made then 1 else 2)
 abbrev pub has_files : Meaning → Bool
 has_files said = are_enough (format_of said) (are_made said) (length (files_in said))
 
+-- `after` is said of the socket that is closed, whose application is one thread
+abbrev pub go_together : Bool → Bool → ℕ → Bool
+go_together closes after hands = if closes then nat_le hands 1 else not after
+
+abbrev pub do_go_together : Meaning → Bool
+do_go_together said = go_together (is_some (said (codes "close"))) (is_some (said (codes "after"))) (number_or said (codes "hands") 1)
+
+abbrev pub is_planned : Meaning → Bool
+is_planned said = has_files said && do_go_together said
+
 abbrev pub planned_by : Meaning → Option Plan
-planned_by said = if has_files said then Some (plan_by said) else None
+planned_by said = if is_planned said then Some (plan_by said) else None
 
 abbrev pub simulate_plan : List Text → Option Plan
 simulate_plan words = option_and_then planned_by (meaning (codes "simulate") options words)
@@ -183,13 +201,9 @@ audit_options =
 abbrev pub without_files : Layout → Layout
 without_files layout = record layout { files = 0; files_wanted_per_port = 0 }
 
--- with the socket that the run of the journal was to close
-abbrev pub audited_by : Meaning → Layout
-audited_by said = record (without_files (layout_by said)) { close = number_of said (codes "close") }
-
 -- the one file is the journal
 abbrev pub audit_plan_by : Meaning → List Text → Option Plan
-audit_plan_by said (file ∷ []) = Some (record { inputs = file ∷ []; outputs = []; work = Audit (audited_by said) })
+audit_plan_by said (file ∷ []) = Some (record { inputs = file ∷ []; outputs = []; work = Audit (without_files (layout_by said)) })
 audit_plan_by said _ = None
 
 abbrev pub audit_plan : List Text → Option Plan
@@ -206,30 +220,33 @@ plan_of (first ∷ rest) =
 
 -- why the work is refused, where it is
 abbrev pub fault_in : Work → Option Unlawful
-fault_in (Simulate layout programs wire mangle order number journal format) = fault_of layout
+fault_in (Simulate layout programs wire manner order number journal format) = fault_of layout
 fault_in (Generate number) = None
 fault_in (Audit layout) = fault_of layout
 
--- the socket that is closed in its run, if one is
-abbrev pub closed_in : Work → Option ℕ
-closed_in (Simulate layout programs wire mangle order number journal format) = layout.close
-closed_in (Generate number) = None
-closed_in (Audit layout) = None
+-- an application of several threads closes no socket, and so waits for no items to close one
+abbrev pub suits_hands : Layout → Manner → Bool
+suits_hands layout manner = layout.hands == 1 || (not (is_some layout.close) && manner.after == 0)
+
+abbrev pub suits_in : Work → Bool
+suits_in (Simulate layout programs wire manner order number journal format) = suits_hands layout manner
+suits_in (Generate number) = true
+suits_in (Audit layout) = true
 
 -- how many ports have packets
 abbrev pub ports_in : Work → ℕ
-ports_in (Simulate layout programs wire mangle order number journal format) = layout.ports
+ports_in (Simulate layout programs wire manner order number journal format) = layout.ports
 ports_in (Generate number) = 1
 ports_in (Audit layout) = 0
 
 -- the format of the files of packets
 abbrev pub format_in : Work → Format
-format_in (Simulate layout programs wire mangle order number journal format) = format
+format_in (Simulate layout programs wire manner order number journal format) = format
 format_in (Generate number) = Pcap
 format_in (Audit layout) = Pcap
 
 -- the most bytes of one input: of a file of packets, or of a journal
 abbrev pub most_of : Work → ℕ
-most_of (Simulate layout programs wire mangle order number journal format) = most_input format
+most_of (Simulate layout programs wire manner order number journal format) = most_input format
 most_of (Generate number) = most_input Pcap
 most_of (Audit layout) = 67108864

@@ -7,7 +7,7 @@ ghost use Rattle.xsk_socket.specs.Layout.{fault_of};
 ghost use Rattle.xsk_cli.specs.Outcome.{IsAudited, legal_text, made};
 ghost use Rattle.xsk_cli.specs.Steps.{Comes, FailsAudit, written_in};
 ghost use Rattle.xsk_cli.specs.Streams.{status_in};
-ghost use Rattle.xsk_cli.specs.Words.{audit_plan, audited_by, files_in};
+ghost use Rattle.xsk_cli.specs.Words.{audit_plan, files_in, layout_by, without_files};
 
 use crate::Status;
 use crate::failure::RunFailure;
@@ -116,16 +116,15 @@ fn one_file<'w>(args: &Args<'w>) -> Option<&'w str>
     }
 }
 
-/// The layout that was asked for, with the socket to close, unless it is refused. It wants no files.
+/// The layout that was asked for, unless it is refused. It wants no files.
 fn audited_layout(args: &Args<'_>) -> Result<Layout, Unlawful>
-    ensures layout { IfOk result (λ layout. layout ≡ audited_by (under args.now)) }
+    ensures layout { IfOk result (λ layout. layout ≡ without_files (layout_by (under args.now))) }
     ensures accepted { IfOk result (λ layout. fault_of layout ≡ None) }
-    ensures refused { IfErr result (λ unlawful. fault_of (audited_by (under args.now)) ≡ Some unlawful) }
+    ensures refused { IfErr result (λ unlawful. fault_of (without_files (layout_by (under args.now))) ≡ Some unlawful) }
 {
     let mut layout = layout_of(args);
     layout.files = 0;
     layout.files_wanted_per_port = 0;
-    layout.close = args.number("close");
     check_layout(&layout)?;
     Ok(layout)
 }

@@ -65,8 +65,10 @@ fn read_capture(alloc: Global, port: u32, bytes: Vec<u8>) -> Result<PacketList, 
 {
     match read(alloc, bytes) {
         Ok(list) => Ok(without_room(list)),
-        Err(BadCapture::OutOfMemory) => Err(RunFailure::OutOfMemory),
-        Err(cause) => Err(RunFailure::BadCapture { port, cause }),
+        Err(back) => match back.cause {
+            BadCapture::OutOfMemory => Err(RunFailure::OutOfMemory),
+            cause => Err(RunFailure::BadCapture { port, cause }),
+        },
     }
 }
 

@@ -3,7 +3,7 @@
 use xsk_args::{OptionRow, Takes};
 
 /// Each has a number, but `--prog`, `--wire`, and the flags `--sg`, `--wakeup`, `--journal` and `--pcapng`. The number that stands where none was said is [`Plan`](crate::words::Plan)'s.
-pub(crate) const OPTIONS: [OptionRow; 20] = [
+pub(crate) const OPTIONS: [OptionRow; 22] = [
     OptionRow {
         name: "ports",
         takes: Takes::Number,
@@ -62,6 +62,14 @@ pub(crate) const OPTIONS: [OptionRow; 20] = [
     },
     OptionRow {
         name: "empty",
+        takes: Takes::Number,
+    },
+    OptionRow {
+        name: "close",
+        takes: Takes::Number,
+    },
+    OptionRow {
+        name: "after",
         takes: Takes::Number,
     },
     OptionRow {

@@ -21,7 +21,7 @@ use crate::input::read_inputs;
 use crate::line::line;
 use crate::options::OPTIONS;
 use crate::output::write_texts;
-use crate::words::{Plan, Work, check_files, read_gen};
+use crate::words::{Plan, Work, check_words, read_gen};
 use crate::work::work_texts;
 use std::alloc::Global;
 use xsk_args::parse;
@@ -144,7 +144,7 @@ fn run_simulate<B: Bay>(alloc: Global, words: &[String], bay: &mut B) -> Result<
         (status_in result) }
 {
     let args = parse(alloc, "simulate", &OPTIONS, words)?;
-    check_files(&args)?;
+    check_words(&args)?;
     let plan = Plan::of(&args)?;
     run_plan(alloc, &plan, bay)
 }

@@ -1,10 +1,9 @@
 //! The run of a command on threads, and the texts of what it shows.
-ghost use Rattle.std.specs.Prelude.{◌≡◌, ℕ, ◌∷◌, [], ◌+◌, ◌*◌, ◌<◌, ◌≤◌, None, Some, All, List, IfErr, IfOk, OnErr, OnOk, drop, false, length, map, take};
+ghost use Rattle.std.specs.Prelude.{◌≡◌, ℕ, ◌∷◌, [], ◌+◌, ◌*◌, ◌<◌, ◌≤◌, None, Some, All, List, IfErr, IfOk, OnErr, OnOk, drop, false, true, length, map, take};
 ghost use Rattle.std.specs.List.{range_with_len};
 ghost use Rattle.xsk_driver.specs.Sent.{IsShort};
 ghost use Rattle.xsk_machine.specs.Acts.{HasShortPackets};
 ghost use Rattle.xsk_model.specs.Config.{IsRegular};
-ghost use Rattle.xsk_turns.specs.Owned.{IsSteady};
 ghost use Rattle.xsk_model.specs.Opening.{AreFrames};
 ghost use Rattle.xsk_pcap.specs.Written.{IsWritable, written};
 ghost use Rattle.xsk_pcapng.specs.Written.{IsWritable as IsWritableFile, written as written_file};
@@ -12,13 +11,13 @@ ghost use Rattle.xsk_socket.specs.Layout.{fault_of, geometry_of, pairs_in};
 ghost use Rattle.xsk_socket.specs.Regular.{regular_of};
 ghost use Rattle.xsk_stats.specs.Report.{report_text};
 ghost use Rattle.xsk_workers.specs.Forwarded.{HasForwarded, OutcomeShown};
-ghost use Rattle.xsk_cli.specs.Forward.{AreTextsFrom, HasShown, IsRun};
+ghost use Rattle.xsk_cli.specs.Forward.{AreTextsFrom, HasShown, IsRun, unmangled};
 ghost use Rattle.xsk_cli.specs.Format.{joined, outputs_of};
 ghost use Rattle.xsk_cli.specs.Judged.{excess_of};
 ghost use Rattle.xsk_cli.specs.Lent.{IsLent};
 ghost use Rattle.xsk_cli.specs.Outcome.{AreTextsIn, frames_of, listed, report_of, setting_of};
 ghost use Rattle.xsk_cli.specs.Steps.{lists_in, written_in};
-ghost use Rattle.xsk_cli.specs.Words.{closed_in, fault_in, ports_in};
+ghost use Rattle.xsk_cli.specs.Words.{fault_in, ports_in, suits_hands, suits_in};
 
 use crate::failure::RunFailure;
 use crate::files::{file_texts, spare_text};
@@ -38,6 +37,7 @@ use xsk_pcap::Capture;
 use xsk_prog::{Rule, XdpProgram};
 use xsk_socket::Layout;
 use xsk_stats::report;
+use xsk_turns::Manner;
 use xsk_umem::{Frames, OutOfMemory, PacketList};
 use xsk_workers::{Outcome, forward};
 
@@ -52,7 +52,7 @@ pub(crate) fn make_shown<R: Threads + Wait + Sync, G: Gate + Sync>(
     outcome: &mut Option<Outcome>,
 ) -> Result<Lent, RunFailure>
     requires accepted { fault_in work.now ≡ None }
-    requires closes { closed_in work.now ≡ None }
+    requires suits { suits_in work.now ≡ true }
     requires runs { IsRun work.now }
     requires ports { length lists.items ≡ ports_in work.now }
     requires within { excess_of (lists_in lists.items) ≡ None }
@@ -68,10 +68,11 @@ pub(crate) fn make_shown<R: Threads + Wait + Sync, G: Gate + Sync>(
             layout,
             programs,
             wire,
+            manner,
             format,
             ..
         } => run_shown(
-            rt, alloc, *format, layout, programs, *wire, lists, gate, outcome,
+            rt, alloc, *format, layout, programs, *wire, *manner, lists, gate, outcome,
         ),
         Work::Generate { .. } | Work::Audit { .. } => unreachable!(),
     }
@@ -87,20 +88,21 @@ fn run_shown<R: Threads + Wait + Sync, G: Gate + Sync>(
     layout: &Layout,
     programs: &ProgramList,
     wire: Wire,
+    manner: Manner,
     lists: Vec<PacketList>,
     gate: &G,
     outcome: &mut Option<Outcome>,
 ) -> Result<Lent, RunFailure>
     requires accepted { fault_of layout.now ≡ None }
-    requires closes { layout.now.close ≡ None }
+    requires suits { suits_hands layout.now manner ≡ true }
     requires ports { length lists.items ≡ layout.now.ports }
     requires within { excess_of (lists_in lists.items) ≡ None }
     requires listed { lists.items ≡ map listed (lists_in lists.items) }
     requires short { All HasShortPackets lists.items }
     requires none { outcome.old ≡ None }
-    ensures made { IfOk result (λ lent. (o : OutcomeShown) × IsLent lent o × HasForwarded layout.now.hands (setting_of layout.now programs.now wire None (lists_in lists.items)) (frames_of layout.now) o
-        × AreTextsIn format layout.now programs.now wire None (lists_in lists.items) o.history (report_of layout.now programs.now wire None (lists_in lists.items) o.history) (written_in lent.texts)) }
-    ensures shown { (o : OutcomeShown) → outcome.new ≡ Some o → HasForwarded layout.now.hands (setting_of layout.now programs.now wire None (lists_in lists.items)) (frames_of layout.now) o }
+    ensures made { IfOk result (λ lent. (o : OutcomeShown) × IsLent lent o × HasForwarded layout.now.hands (setting_of layout.now programs.now wire (unmangled manner) (lists_in lists.items)) (frames_of layout.now) o
+        × AreTextsIn format layout.now programs.now wire (unmangled manner) (lists_in lists.items) o.history (report_of layout.now programs.now wire (unmangled manner) (lists_in lists.items) o.history) (written_in lent.texts)) }
+    ensures shown { (o : OutcomeShown) → outcome.new ≡ Some o → HasForwarded layout.now.hands (setting_of layout.now programs.now wire (unmangled manner) (lists_in lists.items)) (frames_of layout.now) o }
     ensures failed { IfErr result (λ failure. failure ≡ RunFailure.OutOfMemory) }
 {
     let (config, frames) = set_up(alloc, layout)?;
@@ -113,6 +115,7 @@ fn run_shown<R: Threads + Wait + Sync, G: Gate + Sync>(
         frames,
         programs,
         wire,
+        manner,
         lists.as_slice(),
         gate,
     )?;
@@ -257,7 +260,7 @@ fn lend_shown(
     }
 }
 
-/// Runs the lists of all ports on threads under the programs' rules, with the wire.
+/// Runs the lists of all ports on threads under the programs' rules, with the wire. Applications change no item.
 #[allow(clippy::too_many_arguments)]
 fn forward_lists<R: Threads + Wait + Sync, G: Gate + Sync>(
     rt: &R,
@@ -267,12 +270,14 @@ fn forward_lists<R: Threads + Wait + Sync, G: Gate + Sync>(
     frames: Frames,
     programs: &ProgramList,
     wire: Wire,
+    manner: Manner,
     lists: &[PacketList],
     gate: &G,
 ) -> Result<Outcome, OutOfMemory>
     requires accepted { fault_of layout.now ≡ None }
     requires config { config ≡ regular_of layout.now }
-    requires steady { IsSteady config }
+    requires regular { IsRegular config }
+    requires suits { suits_hands layout.now manner ≡ true }
     requires frames { frames.items ≡ frames_of layout.now }
     requires known { AreFrames (geometry_of layout.now) frames.items }
     requires ports { length lists.now ≡ layout.now.ports }
@@ -280,7 +285,7 @@ fn forward_lists<R: Threads + Wait + Sync, G: Gate + Sync>(
     requires short { All HasShortPackets lists.now }
     ensures pairs { IfOk result (λ o. length o.sent ≡ pairs_in layout.now) }
     ensures short { IfOk result (λ o. All (λ (list : List (List ℕ)). All IsShort list) o.sent) }
-    ensures forwarded { IfOk result (HasForwarded layout.now.hands (setting_of layout.now programs.now wire None (lists_in lists.now)) (frames_of layout.now)) }
+    ensures forwarded { IfOk result (HasForwarded layout.now.hands (setting_of layout.now programs.now wire (unmangled manner) (lists_in lists.now)) (frames_of layout.now)) }
 {
     let chain = chain_of(alloc, programs.as_slice(), layout.sockets, |rule: Rule| {
         XdpProgram::attach(
@@ -289,6 +294,10 @@ fn forward_lists<R: Threads + Wait + Sync, G: Gate + Sync>(
         )
     })?;
     let wire = wire_of(wire);
+    let manner = Manner {
+        mangle: None,
+        after: manner.after,
+    };
     let outcome = forward(
         rt,
         alloc,
@@ -298,6 +307,7 @@ fn forward_lists<R: Threads + Wait + Sync, G: Gate + Sync>(
         &chain,
         wire,
         gate,
+        manner,
         layout.hands,
     )?;
     Ok(outcome)

@@ -10,10 +10,9 @@ ghost use Rattle.xsk_cli.specs.Format.{joined, outputs_of};
 ghost use Rattle.xsk_cli.specs.Judged.{excess_of};
 ghost use Rattle.xsk_cli.specs.Outcome.{AreTextsBy, AreTextsOf, IsOnPackets, capture_of, frames_of, listed, made_lists, setting_of, wire_by};
 ghost use Rattle.xsk_cli.specs.Steps.{FailsMaking, FailsRunning, lists_in, written_by, written_in};
-ghost use Rattle.xsk_cli.specs.Words.{closed_in, fault_in, ports_in};
+ghost use Rattle.xsk_cli.specs.Words.{fault_in, ports_in};
 ghost use Rattle.xsk_cli.specs.declared.words.Work.TheVariants.{Generate};
 ghost use Rattle.xsk_model.specs.Config.{IsRegular};
-ghost use Rattle.xsk_turns.specs.Owned.{IsSteady};
 ghost use Rattle.xsk_model.specs.Opening.{AreFrames};
 ghost use Rattle.xsk_socket.specs.Layout.{fault_of, geometry_of, pairs_in};
 ghost use Rattle.xsk_socket.specs.Regular.{regular_of};
@@ -54,7 +53,6 @@ pub(crate) fn make_texts(
     lists: Vec<PacketList>,
 ) -> Result<Texts, RunFailure>
     requires accepted { fault_in work.now ≡ None }
-    requires closes { closed_in work.now ≡ None }
     requires packets { IsOnPackets work.now }
     requires ports { length lists.items ≡ ports_in work.now }
     requires within { excess_of (lists_in lists.items) ≡ None }
@@ -69,13 +67,13 @@ pub(crate) fn make_texts(
             layout,
             programs,
             wire,
-            mangle,
+            manner,
             order,
             journal,
             format,
             ..
         } => run_texts(
-            alloc, *format, layout, programs, *wire, *mangle, *order, *journal, lists,
+            alloc, *format, layout, programs, *wire, *manner, *order, *journal, lists,
         ),
         Work::Generate { .. } => Ok(made_texts(alloc, &lists[0])?),
         Work::Audit { .. } => unreachable!(),
@@ -90,19 +88,18 @@ fn run_texts(
     layout: &Layout,
     programs: &ProgramList,
     wire: Wire,
-    mangle: Option<u32>,
+    manner: Manner,
     order: u32,
     journal: bool,
     lists: Vec<PacketList>,
 ) -> Result<Texts, RunFailure>
     requires accepted { fault_of layout.now ≡ None }
-    requires closes { layout.now.close ≡ None }
     requires ports { length lists.items ≡ layout.now.ports }
     requires within { excess_of (lists_in lists.items) ≡ None }
     requires listed { lists.items ≡ map listed (lists_in lists.items) }
     requires short { All HasShortPackets lists.items }
-    ensures made { IfOk result (λ texts. AreTextsOf format layout.now programs.now wire mangle order (lists_in lists.items) journal (written_in texts)) }
-    ensures failed { IfErr result (FailsRunning layout.now programs.now wire mangle order (lists_in lists.items)) }
+    ensures made { IfOk result (λ texts. AreTextsOf format layout.now programs.now wire manner order (lists_in lists.items) journal (written_in texts)) }
+    ensures failed { IfErr result (FailsRunning layout.now programs.now wire manner order (lists_in lists.items)) }
 {
     let (config, frames) = set_up(alloc, layout)?;
     let shared = config.copy(alloc)?;
@@ -113,7 +110,7 @@ fn run_texts(
         frames,
         programs,
         wire,
-        mangle,
+        manner,
         order,
         lists.as_slice(),
     )?;
@@ -151,21 +148,21 @@ fn run_lists(
     frames: Frames,
     programs: &ProgramList,
     wire: Wire,
-    mangle: Option<u32>,
+    manner: Manner,
     order: u32,
     lists: &[PacketList],
 ) -> Result<Run, RunFailure>
     requires accepted { fault_of layout.now ≡ None }
     requires config { config ≡ regular_of layout.now }
-    requires steady { IsSteady config }
+    requires regular { IsRegular config }
     requires frames { frames.items ≡ frames_of layout.now }
     requires known { AreFrames (geometry_of layout.now) frames.items }
     requires ports { length lists.now ≡ layout.now.ports }
     requires listed { lists.now ≡ map listed (lists_in lists.now) }
     requires short { All HasShortPackets lists.now }
     ensures pairs { IfOk result (λ run. run.pairs ≡ pairs_in layout.now) }
-    ensures ended { IfOk result (HasEnded (setting_of layout.now programs.now wire mangle (lists_in lists.now)) (frames_of layout.now) order) }
-    ensures failed { IfErr result (FailsRunning layout.now programs.now wire mangle order (lists_in lists.now)) }
+    ensures ended { IfOk result (HasEnded (setting_of layout.now programs.now wire manner (lists_in lists.now)) (frames_of layout.now) order) }
+    ensures failed { IfErr result (FailsRunning layout.now programs.now wire manner order (lists_in lists.now)) }
 {
     let chain = chain_of(alloc, programs.as_slice(), layout.sockets, |rule: Rule| {
         XdpProgram::attach(
@@ -174,7 +171,6 @@ fn run_lists(
         )
     })?;
     let wire = wire_of(wire);
-    let manner = Manner { mangle, after: 0 };
     match simulate(alloc, config, frames, lists, &chain, wire, order, manner) {
         Ok(run) => Ok(run),
         Err(SimError::Stalled { round }) => Err(RunFailure::Stalled { round }),
@@ -263,7 +259,10 @@ fn first_capture(alloc: Global, lists: &mut IntoIter<PacketList>) -> Result<Capt
     ensures rest { OnOk result (into_iter_items lists.new ≡ drop 1 (into_iter_items lists.old)) }
 {
     match lists.next() {
-        Some(list) => Capture::of(alloc, list),
+        Some(list) => match Capture::of(alloc, list) {
+            Ok(capture) => Ok(capture),
+            Err(_) => Err(OutOfMemory),
+        },
         None => Capture::start(alloc),
     }
 }

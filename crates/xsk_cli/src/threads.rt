@@ -22,7 +22,7 @@ use crate::lists::take_lists;
 use crate::output::write_texts;
 use crate::plain::{run_plain, status_of, tell};
 use crate::shown::make_shown;
-use crate::words::{Plan, check_files};
+use crate::words::{Plan, check_words};
 use std::alloc::Global;
 use std::sync::Wait;
 use std::thread::Threads;
@@ -30,8 +30,8 @@ use xsk_args::{OptionRow, Takes, parse};
 use xsk_io::{Bay, Gate};
 use xsk_workers::Outcome;
 
-/// The options of `forward`: those of `simulate` but `--order`, for there are no rounds, and `--hands`.
-const FORWARD_OPTIONS: [OptionRow; 18] = [
+/// The options of `forward`: those of `simulate` but `--order`, for there are no rounds, and the threads of each application.
+const FORWARD_OPTIONS: [OptionRow; 20] = [
     OptionRow {
         name: "ports",
         takes: Takes::Number,
@@ -86,6 +86,14 @@ const FORWARD_OPTIONS: [OptionRow; 18] = [
     },
     OptionRow {
         name: "empty",
+        takes: Takes::Number,
+    },
+    OptionRow {
+        name: "close",
+        takes: Takes::Number,
+    },
+    OptionRow {
+        name: "after",
         takes: Takes::Number,
     },
     OptionRow {
@@ -222,7 +230,7 @@ fn forward_words<R: Threads + Wait + Sync, B: Bay, G: Gate + Sync>(
         (status_in result) }
 {
     let args = parse(alloc, "forward", &FORWARD_OPTIONS, words)?;
-    check_files(&args)?;
+    check_words(&args)?;
     let plan = Plan::of(&args)?;
     forward_plan(rt, alloc, &plan, bay, gate, outcome)
 }

@@ -5,11 +5,12 @@ ghost use Rattle.xsk_args.specs.Words.{is_dashed};
 ghost use Rattle.xsk_socket.specs.Layout.{fault_of};
 ghost use Rattle.xsk_cli.specs.Format.{files_of};
 ghost use Rattle.xsk_cli.specs.Steps.{plan_in};
-ghost use Rattle.xsk_cli.specs.Words.{are_enough, are_made, counted, fault_in, files_counted, files_in, format_of, gen_plan, has_files, layout_by, most_of, plan_by, programs_of as programs_said, wanted_per_port};
+ghost use Rattle.xsk_cli.specs.Words.{are_enough, are_made, counted, do_go_together, fault_in, files_counted, files_in, format_of, gen_plan, go_together, has_files, is_planned, layout_by, manner_of, most_of, plan_by, programs_of as programs_said, wanted_per_port};
 
 use crate::format::Format;
 use xsk_args::{Args, ArgsError, Program, ProgramList, Wire, parse_number};
 use xsk_socket::{Layout, Unlawful, check_layout};
+use xsk_turns::Manner;
 
 /// The most bytes of a journal.
 const MOST_OF_JOURNAL: usize = 67_108_864;
@@ -18,14 +19,14 @@ const MOST_OF_JOURNAL: usize = 67_108_864;
 #[derive(Debug, Drop)]
 pub enum Work {
     /// A run of the layout's workers over the packets of its ports, under programs and with a wire, in rounds with an order
-    /// number. With a number to mangle by, applications change items that they send. With a number of the generator no files are
-    /// read, and the packets are made. The journal follows the report where that was asked for. The packets are read and written
-    /// as files of the format.
+    /// number. The manner says whether applications change items that they send, and when the layout's socket is closed. With a
+    /// number of the generator no files are read, and the packets are made. The journal follows the report where that was asked for.
+    /// The packets are read and written as files of the format.
     Simulate {
         layout: Layout,
         programs: ProgramList,
         wire: Wire,
-        mangle: Option<u32>,
+        manner: Manner,
         order: u32,
         number: Option<u32>,
         journal: bool,
@@ -65,7 +66,7 @@ pub(crate) struct Plan<'p, 'w> {
 impl<'p, 'w> Plan<'p, 'w> {
     /// The plan of parsed words that name as many files as their format wants, unless their layout is refused.
     pub(crate) fn of(args: &'p Args<'w>) -> Result<Plan<'p, 'w>, Unlawful>
-        requires { has_files (under args.now) ≡ true }
+        requires { is_planned (under args.now) ≡ true }
         ensures plan { IfOk result (λ plan. plan_in plan ≡ plan_by (under args.now)) }
         ensures accepted { IfOk result (λ plan. fault_in plan.work ≡ None) }
         ensures refused { IfErr result (λ unlawful. fault_of (layout_by (under args.now)) ≡ Some unlawful) }
@@ -89,7 +90,7 @@ impl<'p, 'w> Plan<'p, 'w> {
                 layout,
                 programs,
                 wire,
-                mangle: args.number("mangle"),
+                manner: manner_of(args),
                 order,
                 number,
                 journal: args.is_said("journal"),
@@ -120,18 +121,49 @@ fn format_said(args: &Args<'_>) -> Format
     }
 }
 
-/// Passes words with as many files as their format wants, where it wants a number of its own: with pcapng an input and an output,
-/// or an output where the packets are made.
-pub(crate) fn check_files(args: &Args<'_>) -> Result<(), ArgsError>
-    ensures passed { OnOk result (has_files (under args.now) ≡ true) }
-    ensures usage { IfErr result (λ error. (error ≡ ArgsError.Usage) × (has_files (under args.now) ≡ false)) }
+/// What the applications change of what they send, and after how many packets of its RX a socket is closed.
+fn manner_of(args: &Args<'_>) -> Manner
+    ensures { result ≡ manner_of (under args.now) }
 {
-    let made = args.number("gen").is_some();
-    if is_enough(format_said(args), made, number_of_files(args)) {
+    Manner {
+        mangle: args.number("mangle"),
+        after: args.number("after").unwrap_or(0),
+    }
+}
+
+/// Passes words that go together and name as many files as their format wants.
+pub(crate) fn check_words(args: &Args<'_>) -> Result<(), ArgsError>
+    ensures passed { OnOk result (is_planned (under args.now) ≡ true) }
+    ensures usage { IfErr result (λ error. (error ≡ ArgsError.Usage) × (is_planned (under args.now) ≡ false)) }
+{
+    if has_files(args) && do_go_together(args) {
         Ok(())
     } else {
         Err(ArgsError::Usage)
     }
+}
+
+/// Whether there are as many files as their format wants, where it wants a number of its own: with pcapng an input and an output,
+/// or an output where the packets are made.
+fn has_files(args: &Args<'_>) -> bool
+    ensures { result ≡ has_files (under args.now) }
+{
+    let made = args.number("gen").is_some();
+    is_enough(format_said(args), made, number_of_files(args))
+}
+
+fn do_go_together(args: &Args<'_>) -> bool
+    ensures { result ≡ do_go_together (under args.now) }
+{
+    let hands = args.number("hands").unwrap_or(1);
+    go_together(args.is_said("close"), args.is_said("after"), hands)
+}
+
+/// Whether a number of items is said of a socket that is closed alone, and the application that closes one is one thread.
+fn go_together(closes: bool, after: bool, hands: u32) -> bool
+    ensures { result ≡ go_together closes after hands }
+{
+    if closes { hands <= 1 } else { !after }
 }
 
 /// Whether so many files are enough for a format.
@@ -165,7 +197,7 @@ pub(crate) fn layout_of(args: &Args<'_>) -> Layout
         sg: args.is_said("sg"),
         wakeup: args.is_said("wakeup"),
         empty: args.number("empty"),
-        close: None,
+        close: args.number("close"),
         hands: args.number("hands").unwrap_or(1),
     }
 }

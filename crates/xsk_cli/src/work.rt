@@ -3,7 +3,7 @@ ghost use Rattle.std.specs.Prelude.{◌≡◌, None, IfErr, IfOk, length, map};
 ghost use Rattle.xsk_cli.specs.Judged.{AreShort};
 ghost use Rattle.xsk_cli.specs.Outcome.{IsOnPackets, IsOutcome, made};
 ghost use Rattle.xsk_cli.specs.Steps.{MakesNone, read_by, written_by, written_in};
-ghost use Rattle.xsk_cli.specs.Words.{closed_in, fault_in, most_of};
+ghost use Rattle.xsk_cli.specs.Words.{fault_in, most_of};
 
 use crate::audit::audit_texts;
 use crate::failure::RunFailure;
@@ -19,7 +19,6 @@ pub(crate) fn work_texts(
     inputs: Vec<Vec<u8>>,
 ) -> Result<Texts, RunFailure>
     requires accepted { fault_in work.now ≡ None }
-    requires closes { closed_in work.now ≡ None }
     requires count { length inputs.items ≡ read_by work.now }
     requires within { AreShort (most_of work.now) (map (λ bytes. bytes.items) inputs.items) (length inputs.items) }
     ensures made { IfOk result (λ texts. IsOutcome work.now (map (λ bytes. bytes.items) inputs.items) (made (written_in texts))) }
@@ -35,7 +34,6 @@ pub(crate) fn work_texts(
 /// Makes what is written of the packets that are read or made.
 fn packet_texts(alloc: Global, work: &Work, inputs: Vec<Vec<u8>>) -> Result<Texts, RunFailure>
     requires accepted { fault_in work.now ≡ None }
-    requires closes { closed_in work.now ≡ None }
     requires packets { IsOnPackets work.now }
     requires count { length inputs.items ≡ read_by work.now }
     requires short { AreShort (most_of work.now) (map (λ bytes. bytes.items) inputs.items) (length inputs.items) }

@@ -5,7 +5,7 @@ use Rattle.xsk_args.specs.Meaning.{Meaning, meaning, under}
 use Rattle.xsk_socket.specs.Layout.{fault_of}
 use Rattle.xsk_cli.specs.Steps.{args_status}
 use Rattle.xsk_cli.specs.Streams.{Moment}
-use Rattle.xsk_cli.specs.Words.{Plan, audit_options, audit_plan, audit_plan_by, audited_by, files_in}
+use Rattle.xsk_cli.specs.Words.{Plan, audit_options, audit_plan, audit_plan_by, files_in, layout_by, without_files}
 use Rattle.xsk_cli.specs.declared.status.Status.TheVariants.{Refused}
 use Rattle.xsk_cli.proofs.Auditing.{one_plan, planned_one, planned_none}
 use Rattle.xsk_cli.proofs.Coming.{args_comes, comes_as, refused_comes, usage_comes}
@@ -34,6 +34,6 @@ returns-in_err-layout g c =
     let said : Meaning = under c.in_ok-args.args in
     let file : Text = c.in-Some.file.now in
     let unlawful = c.in_err-layout.field-0.0 in
-    let fault : fault_of (audited_by said) ≡ Some unlawful = search rules in
+    let fault : fault_of (without_files (layout_by said)) ≡ Some unlawful = search rules in
     comes_as c.from_residual-in_err-layout.result (Refused unlawful) (audit_plan words) now now (search rules)
     (refused_comes (audit_plan words) now c.requires (one_plan said file) unlawful (planned_one words said file c.in_ok-args.ensures.told c.in-Some.ensures.one) fault)

@@ -14,4 +14,4 @@ returns c =
     let at : own.items ≡ bytes =
     text_at (λ (b : Vec ℕ Global). b.items) all 0 own own.items (omega (arith, c.requires)) (ap (λ (b : Vec ℕ Global). b.items) (sym (only_one all c.pop.new.self.items own c.requires last))) in
     let is : IsCause c.args.ports bytes c.in-Err.cause = subst (λ (b : List ℕ). IsCause c.args.ports b c.in-Err.cause) at c.in-Err.ensures.cause in
-    record { found = tt; failed = file_refusal c.args.ports bytes c.in-Err.cause is (search rules) }
+    record { found = tt; listed = tt; failed = file_refusal c.args.ports bytes c.in-Err.cause is (search rules) }

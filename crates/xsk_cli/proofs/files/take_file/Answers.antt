@@ -1,7 +1,7 @@
 use Rattle.std.proofs.Common.{◌≤◌, map, length, arith}
 use Rattle.xsk_cli.specs.Judged.{bytes_in, bytes_of}
 use Rattle.xsk_cli.specs.Steps.{lists_in}
-use Rattle.xsk_cli.proofs.Filing.{count_bare, count_file, file_small}
+use Rattle.xsk_cli.proofs.Filing.{count_file, file_small}
 use Rattle.xsk_cli.proofs.files.take_file.Goals as goal
 
 pub check_limits-requires-clause-few : goal.check_limits-requires-clause-few
@@ -20,4 +20,4 @@ check_limits-requires-clause-small c =
 pub returns-in-Ok-clause-count : goal.returns-in-Ok-clause-count
 returns-in-Ok-clause-count c =
     let bytes = bytes_of (map (λ bytes. bytes.items) c.args.inputs.items) 0 in
-    count_bare c.all_without_room.result c.in_ok-lists.lists.items c.args.ports c.all_without_room.ensures.packets (count_file c.args.ports bytes c.in_ok-lists.lists.items c.in_ok-lists.ensures.found)
+    count_file c.args.ports bytes c.in_ok-lists.lists.items c.in_ok-lists.ensures.found

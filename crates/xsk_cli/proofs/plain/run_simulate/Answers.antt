@@ -21,17 +21,17 @@ returns-in_err-args g c =
     (args_comes planned now c.requires error
     (λ is. let none : meaning (codes "simulate") options words ≡ None = search (rules, is) in ap (option_and_then planned_by) none))
 
-pub returns-in_err-check_files : goal.returns-in_err-check_files
-returns-in_err-check_files g c =
+pub returns-in_err-check_words : goal.returns-in_err-check_words
+returns-in_err-check_words g c =
     let now : Moment = record { is_open = g.B.Bay.is_open c.args.bay.now; asked = g.B.Bay.asked c.args.bay.now; left = g.B.Bay.left c.args.bay.now; held = g.B.Bay.held c.args.bay.now; offers = g.B.Bay.offers c.args.bay.now; faults = g.B.Bay.faults c.args.bay.now } in
     let words : List Text = map string_bytes c.args.words.now in
     let planned : Option Plan = simulate_plan words in
-    let error = c.in_err-check_files.field-0.0 in
-    comes_as c.from_residual-in_err-check_files.result (args_status error) planned now now (search rules)
-    (args_comes planned now c.requires error (λ _. has_no_plan (under c.in_ok-args.args) (meaning (codes "simulate") options words) c.in_ok-args.ensures.told c.in_err-check_files.ensures.usage.1))
+    let error = c.in_err-check_words.field-0.0 in
+    comes_as c.from_residual-in_err-check_words.result (args_status error) planned now now (search rules)
+    (args_comes planned now c.requires error (λ _. has_no_plan (under c.in_ok-args.args) (meaning (codes "simulate") options words) c.in_ok-args.ensures.told c.in_err-check_words.ensures.usage.1))
 
 pub run_plan-requires-clause-ready : goal.run_plan-requires-clause-ready
-run_plan-requires-clause-ready g c = plan_ready (under c.in_ok-args.args) (plan_in c.in_ok-plan.plan) c.in_ok-check_files.ensures.passed c.in_ok-plan.ensures.plan c.in_ok-plan.ensures.accepted
+run_plan-requires-clause-ready g c = plan_ready (under c.in_ok-args.args) (plan_in c.in_ok-plan.plan) c.in_ok-check_words.ensures.passed c.in_ok-plan.ensures.plan c.in_ok-plan.ensures.accepted
 
 pub returns-in_err-plan : goal.returns-in_err-plan
 returns-in_err-plan g c =
@@ -40,7 +40,7 @@ returns-in_err-plan g c =
     let planned : Option Plan = simulate_plan words in
     let unlawful = c.in_err-plan.field-0.0 in
     let fault : fault_of (layout_by (under c.in_ok-args.args)) ≡ Some unlawful = search rules in
-    let is : planned ≡ Some (plan_by (under c.in_ok-args.args)) = has_plan (under c.in_ok-args.args) (meaning (codes "simulate") options words) c.in_ok-args.ensures.told c.in_ok-check_files.ensures.passed in
+    let is : planned ≡ Some (plan_by (under c.in_ok-args.args)) = has_plan (under c.in_ok-args.args) (meaning (codes "simulate") options words) c.in_ok-args.ensures.told c.in_ok-check_words.ensures.passed in
     comes_as c.from_residual-in_err-plan.result (Refused unlawful) planned now now (search rules)
     (refused_comes planned now c.requires (plan_by (under c.in_ok-args.args)) unlawful is fault)
 
@@ -52,6 +52,6 @@ returns g c =
     let planned : Option Plan = simulate_plan words in
     let plan : Plan = plan_in c.in_ok-plan.plan in
     let is : planned ≡ Some plan =
-    has_plan (under c.in_ok-args.args) (meaning (codes "simulate") options words) c.in_ok-args.ensures.told c.in_ok-check_files.ensures.passed ∙ ap Some (sym c.in_ok-plan.ensures.plan) in
+    has_plan (under c.in_ok-args.args) (meaning (codes "simulate") options words) c.in_ok-args.ensures.told c.in_ok-check_words.ensures.passed ∙ ap Some (sym c.in_ok-plan.ensures.plan) in
     plan_comes planned plan old new (status_in c.run_plan.result) is c.in_ok-plan.ensures.accepted c.run_plan.ensures.begun
     c.run_plan.ensures.ends c.run_plan.ensures.silent c.run_plan.ensures.cause c.run_plan.ensures.falls c.run_plan.ensures.others

@@ -7,6 +7,7 @@ use Rattle.xsk_machine.specs.declared.figures.Figures.{Figures}
 use Rattle.xsk_stats.specs.Report.{report_text}
 use Rattle.xsk_socket.specs.Regular.{regular_of}
 use Rattle.xsk_workers.specs.Forwarded.{HasForwarded}
+use Rattle.xsk_cli.specs.Forward.{unmangled}
 use Rattle.xsk_cli.specs.Outcome.{frames_of, setting_of}
 use Rattle.xsk_cli.specs.Steps.{lists_in, written_in}
 use Rattle.xsk_cli.proofs.Making.{few_ports}
@@ -38,7 +39,7 @@ keep_shown-requires-clause-writable g c port count in_ports few =
     let layout = c.args.layout.now in
     let lists : List (List (List ℕ)) = lists_in c.args.lists.items in
     let known : length lists ≡ layout.ports = length-map c.args.lists.items (λ list. list.packets) ∙ c.requires.ports in
-    shown_writable layout c.args.programs.now c.args.wire lists c.requires.accepted c.requires.closes c.in_ok-shown.shown (subst (λ ls. HasForwarded c.args.layout.now.hands (setting_of c.args.layout.now c.args.programs.now c.args.wire None (lists_in ls)) (frames_of c.args.layout.now) c.in_ok-shown.shown) c.as_slice.ensures.value c.in_ok-shown.ensures.forwarded) c.in_ok-shown.ensures.pairs known c.requires.within
+    shown_writable layout c.args.programs.now c.args.wire (unmangled c.args.manner) lists c.requires.accepted c.in_ok-shown.shown (subst (λ ls. HasForwarded c.args.layout.now.hands (setting_of c.args.layout.now c.args.programs.now c.args.wire (unmangled c.args.manner) (lists_in ls)) (frames_of c.args.layout.now) c.in_ok-shown.shown) c.as_slice.ensures.value c.in_ok-shown.ensures.forwarded) c.in_ok-shown.ensures.pairs known c.requires.within
     (λ pair below. c.in_ok-shown.ensures.short pair [] below) port count in_ports few
 
 pub keep_shown-requires-clause-file : goal.keep_shown-requires-clause-file
@@ -46,7 +47,7 @@ keep_shown-requires-clause-file g c =
     let layout = c.args.layout.now in
     let lists : List (List (List ℕ)) = lists_in c.args.lists.items in
     let known : length lists ≡ layout.ports = length-map c.args.lists.items (λ list. list.packets) ∙ c.requires.ports in
-    shown_in_file layout c.args.programs.now c.args.wire lists c.requires.accepted c.requires.closes c.in_ok-shown.shown (subst (λ ls. HasForwarded c.args.layout.now.hands (setting_of c.args.layout.now c.args.programs.now c.args.wire None (lists_in ls)) (frames_of c.args.layout.now) c.in_ok-shown.shown) c.as_slice.ensures.value c.in_ok-shown.ensures.forwarded) c.in_ok-shown.ensures.pairs known c.requires.within
+    shown_in_file layout c.args.programs.now c.args.wire (unmangled c.args.manner) lists c.requires.accepted c.in_ok-shown.shown (subst (λ ls. HasForwarded c.args.layout.now.hands (setting_of c.args.layout.now c.args.programs.now c.args.wire (unmangled c.args.manner) (lists_in ls)) (frames_of c.args.layout.now) c.in_ok-shown.shown) c.as_slice.ensures.value c.in_ok-shown.ensures.forwarded) c.in_ok-shown.ensures.pairs known c.requires.within
     (λ pair below. c.in_ok-shown.ensures.short pair [] below)
 
 pub returns-clause-made : goal.returns-clause-made
@@ -54,15 +55,15 @@ returns-clause-made g c =
     let layout = c.args.layout.now in (
       c.in_ok-shown.shown,
       c.in_ok-lent.ensures.lent,
-      (subst (λ ls. HasForwarded c.args.layout.now.hands (setting_of c.args.layout.now c.args.programs.now c.args.wire None (lists_in ls)) (frames_of c.args.layout.now) c.in_ok-shown.shown) c.as_slice.ensures.value c.in_ok-shown.ensures.forwarded),
-      texts_shown layout c.args.programs.now c.args.wire (lists_in c.args.lists.items) c.requires.accepted c.requires.closes c.in_ok-shown.shown (subst (λ ls. HasForwarded c.args.layout.now.hands (setting_of c.args.layout.now c.args.programs.now c.args.wire None (lists_in ls)) (frames_of c.args.layout.now) c.in_ok-shown.shown) c.as_slice.ensures.value c.in_ok-shown.ensures.forwarded) c.in_ok-shown.ensures.pairs c.args.format
+      (subst (λ ls. HasForwarded c.args.layout.now.hands (setting_of c.args.layout.now c.args.programs.now c.args.wire (unmangled c.args.manner) (lists_in ls)) (frames_of c.args.layout.now) c.in_ok-shown.shown) c.as_slice.ensures.value c.in_ok-shown.ensures.forwarded),
+      texts_shown layout c.args.programs.now c.args.wire (unmangled c.args.manner) (lists_in c.args.lists.items) c.requires.accepted c.in_ok-shown.shown (subst (λ ls. HasForwarded c.args.layout.now.hands (setting_of c.args.layout.now c.args.programs.now c.args.wire (unmangled c.args.manner) (lists_in ls)) (frames_of c.args.layout.now) c.in_ok-shown.shown) c.as_slice.ensures.value c.in_ok-shown.ensures.forwarded) c.in_ok-shown.ensures.pairs c.args.format
           (written_in c.in_ok-lent.lent.texts) c.in_ok-lent.ensures.outputs
           (c.in_ok-lent.ensures.report ∙ ap (λ (k : Config). report_text k c.in_ok-shown.shown.figures) (c.in_ok-shared.ensures ∙ c.in_ok-config.ensures.config)),
     )
 
 pub returns-in_err-lent-clause-shown : goal.returns-in_err-lent-clause-shown
 returns-in_err-lent-clause-shown g c o is =
-    subst (HasForwarded c.args.layout.now.hands (setting_of c.args.layout.now c.args.programs.now c.args.wire None (lists_in c.args.lists.items)) (frames_of c.args.layout.now)) (same_Some c.in_ok-shown.shown o (sym c.in_err-lent.ensures.kept ∙ is)) (subst (λ ls. HasForwarded c.args.layout.now.hands (setting_of c.args.layout.now c.args.programs.now c.args.wire None (lists_in ls)) (frames_of c.args.layout.now) c.in_ok-shown.shown) c.as_slice.ensures.value c.in_ok-shown.ensures.forwarded)
+    subst (HasForwarded c.args.layout.now.hands (setting_of c.args.layout.now c.args.programs.now c.args.wire (unmangled c.args.manner) (lists_in c.args.lists.items)) (frames_of c.args.layout.now)) (same_Some c.in_ok-shown.shown o (sym c.in_err-lent.ensures.kept ∙ is)) (subst (λ ls. HasForwarded c.args.layout.now.hands (setting_of c.args.layout.now c.args.programs.now c.args.wire (unmangled c.args.manner) (lists_in ls)) (frames_of c.args.layout.now) c.in_ok-shown.shown) c.as_slice.ensures.value c.in_ok-shown.ensures.forwarded)
 
-pub forward_lists-requires-clause-steady : goal.forward_lists-requires-clause-steady
-forward_lists-requires-clause-steady g c κs within = record { regular = c.in_ok-config.ensures.regular; closes = ap (λ (k : Config). k.closing) c.in_ok-config.ensures.config ∙ c.requires.closes }
+pub forward_lists-requires-clause-regular : goal.forward_lists-requires-clause-regular
+forward_lists-requires-clause-regular g c κs within = c.in_ok-config.ensures.regular

@@ -14,4 +14,4 @@ pub returns-in-Simulate-clause-failed : goal.returns-in-Simulate-clause-failed
 returns-in-Simulate-clause-failed c =
     let work = c.in-Simulate in
     subst (λ (w : Work). IfErr c.run_texts.result (FailsMaking w (lists_in c.args.lists.items))) (sym work.is)
-    (run_makes work.layout work.programs work.wire work.mangle work.order work.number work.journal work.format (lists_in c.args.lists.items) c.run_texts.result c.run_texts.ensures.failed)
+    (run_makes work.layout work.programs work.wire work.manner work.order work.number work.journal work.format (lists_in c.args.lists.items) c.run_texts.result c.run_texts.ensures.failed)

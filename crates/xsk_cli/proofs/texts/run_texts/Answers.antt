@@ -32,7 +32,7 @@ sent_texts-requires-clause-writable c port count in_ports few =
     let pairs : length run.sent ≡ layout.ports * layout.queues =
     ap length (sym same) ∙ length-map own (λ list. list.packets) ∙ c.into_sent-sent.ensures.pairs ∙ c.in_ok-run.ensures.pairs in
     subst (λ (ls : List (List (List ℕ))). IsWritable (take count (drop (port * layout.queues) ls))) (sym same)
-    (sent_writable layout c.args.programs.now c.args.wire c.args.mangle c.args.order lists c.requires.accepted c.requires.closes run (subst (λ ls. HasEnded (setting_of layout c.args.programs.now c.args.wire c.args.mangle (lists_in ls)) (frames_of layout) c.args.order c.in_ok-run.run') c.as_slice.ensures.value c.in_ok-run.ensures.ended) pairs known c.requires.within
+    (sent_writable layout c.args.programs.now c.args.wire c.args.manner c.args.order lists c.requires.accepted run (subst (λ ls. HasEnded (setting_of layout c.args.programs.now c.args.wire c.args.manner (lists_in ls)) (frames_of layout) c.args.order c.in_ok-run.run') c.as_slice.ensures.value c.in_ok-run.ensures.ended) pairs known c.requires.within
     (subst (λ (ls : List (List (List ℕ))). (pair : ℕ) → pair < length ls → All IsShort (get_or ls pair [])) same (lists_short own c.into_sent-sent.ensures.short)) port count in_ports few)
 
 pub sent_texts-requires-clause-count : goal.sent_texts-requires-clause-count
@@ -54,7 +54,7 @@ sent_texts-requires-clause-file c =
     let pairs : length run.sent ≡ layout.ports * layout.queues =
     ap length (sym same) ∙ length-map own (λ list. list.packets) ∙ c.into_sent-sent.ensures.pairs ∙ c.in_ok-run.ensures.pairs in
     subst (λ (ls : List (List (List ℕ))). IsWritableFile (joined layout.ports layout.queues ls)) (sym same)
-    (sent_in_file layout c.args.programs.now c.args.wire c.args.mangle c.args.order lists c.requires.accepted c.requires.closes run (subst (λ ls. HasEnded (setting_of layout c.args.programs.now c.args.wire c.args.mangle (lists_in ls)) (frames_of layout) c.args.order c.in_ok-run.run') c.as_slice.ensures.value c.in_ok-run.ensures.ended) pairs known c.requires.within
+    (sent_in_file layout c.args.programs.now c.args.wire c.args.manner c.args.order lists c.requires.accepted run (subst (λ ls. HasEnded (setting_of layout c.args.programs.now c.args.wire c.args.manner (lists_in ls)) (frames_of layout) c.args.order c.in_ok-run.run') c.as_slice.ensures.value c.in_ok-run.ensures.ended) pairs known c.requires.within
     (subst (λ (ls : List (List (List ℕ))). (pair : ℕ) → pair < length ls → All IsShort (get_or ls pair [])) same (lists_short own c.into_sent-sent.ensures.short)))
 
 pub returns-clause-made : goal.returns-clause-made
@@ -65,7 +65,7 @@ returns-clause-made c =
     let same : lists_in own ≡ run.sent = c.into_sent-sent.ensures.sent in
     let pairs : length run.sent ≡ layout.ports * layout.queues =
     ap length (sym same) ∙ length-map own (λ list. list.packets) ∙ c.into_sent-sent.ensures.pairs ∙ c.in_ok-run.ensures.pairs in
-    texts_of layout c.args.programs.now c.args.wire c.args.mangle c.args.order (lists_in c.args.lists.items) c.requires.accepted c.requires.closes run (subst (λ ls. HasEnded (setting_of layout c.args.programs.now c.args.wire c.args.mangle (lists_in ls)) (frames_of layout) c.args.order c.in_ok-run.run') c.as_slice.ensures.value c.in_ok-run.ensures.ended) pairs c.args.format c.args.journal
+    texts_of layout c.args.programs.now c.args.wire c.args.manner c.args.order (lists_in c.args.lists.items) c.requires.accepted run (subst (λ ls. HasEnded (setting_of layout c.args.programs.now c.args.wire c.args.manner (lists_in ls)) (frames_of layout) c.args.order c.in_ok-run.run') c.as_slice.ensures.value c.in_ok-run.ensures.ended) pairs c.args.format c.args.journal
     (written_in (record { outputs = c.in_ok-outputs.outputs; report = c.in_ok-report.report }))
     (c.in_ok-outputs.ensures ∙ ap (λ (ls : List (List (List ℕ))). outputs_of c.args.format (λ port. take layout.queues (drop (port * layout.queues) ls)) (range_with_len 0 layout.ports)) same)
     c.in_ok-run.ensures.pairs
@@ -85,7 +85,7 @@ pub returns-in_err-report-clause-failed : goal.returns-in_err-report-clause-fail
 returns-in_err-report-clause-failed c =
     let gives = c.from_residual-in_err-report.ensures in
     let error : c.from_residual-in_err-report.result ≡ Err NoMemory = search (rules, gives) in
-    subst (λ r. IfErr r (FailsRunning c.args.layout.now c.args.programs.now c.args.wire c.args.mangle c.args.order (lists_in c.args.lists.items))) (sym error) tt
+    subst (λ r. IfErr r (FailsRunning c.args.layout.now c.args.programs.now c.args.wire c.args.manner c.args.order (lists_in c.args.lists.items))) (sym error) tt
 
-pub run_lists-requires-clause-steady : goal.run_lists-requires-clause-steady
-run_lists-requires-clause-steady c = record { regular = c.in_ok-config.ensures.regular; closes = ap (λ (k : Config). k.closing) c.in_ok-config.ensures.config ∙ c.requires.closes }
+pub run_lists-requires-clause-regular : goal.run_lists-requires-clause-regular
+run_lists-requires-clause-regular c = c.in_ok-config.ensures.regular

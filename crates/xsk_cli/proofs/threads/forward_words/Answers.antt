@@ -23,18 +23,18 @@ returns-in_err-args g c =
     (args_comes planned now c.requires.closed error
     (λ is. let none : meaning (codes "forward") forward_options words ≡ None = search (rules, is) in ap (option_and_then planned_by) none)) (args_before error)
 
-pub returns-in_err-check_files : goal.returns-in_err-check_files
-returns-in_err-check_files g c =
+pub returns-in_err-check_words : goal.returns-in_err-check_words
+returns-in_err-check_words g c =
     let now : Moment = record { is_open = g.B.Bay.is_open c.args.bay.now; asked = g.B.Bay.asked c.args.bay.now; left = g.B.Bay.left c.args.bay.now; held = g.B.Bay.held c.args.bay.now; offers = g.B.Bay.offers c.args.bay.now; faults = g.B.Bay.faults c.args.bay.now } in
     let words : List Text = map string_bytes c.args.words.now in
     let planned : Option Plan = forward_plan words in
-    let error = c.in_err-check_files.field-0.0 in
-    comes_shown c.from_residual-in_err-check_files.result (args_status error) _ planned now now (search rules) c.requires.none
+    let error = c.in_err-check_words.field-0.0 in
+    comes_shown c.from_residual-in_err-check_words.result (args_status error) _ planned now now (search rules) c.requires.none
     (args_comes planned now c.requires.closed error
-    (λ _. has_no_plan (under c.in_ok-args.args) (meaning (codes "forward") forward_options words) c.in_ok-args.ensures.told c.in_err-check_files.ensures.usage.1)) (args_before error)
+    (λ _. has_no_plan (under c.in_ok-args.args) (meaning (codes "forward") forward_options words) c.in_ok-args.ensures.told c.in_err-check_words.ensures.usage.1)) (args_before error)
 
 pub forward_plan-requires-clause-ready : goal.forward_plan-requires-clause-ready
-forward_plan-requires-clause-ready g c κs within = plan_ready (under c.in_ok-args.args) (plan_in c.in_ok-plan.plan) c.in_ok-check_files.ensures.passed c.in_ok-plan.ensures.plan c.in_ok-plan.ensures.accepted
+forward_plan-requires-clause-ready g c κs within = plan_ready (under c.in_ok-args.args) (plan_in c.in_ok-plan.plan) c.in_ok-check_words.ensures.passed c.in_ok-plan.ensures.plan c.in_ok-plan.ensures.accepted
 
 pub returns-in_err-plan : goal.returns-in_err-plan
 returns-in_err-plan g c =
@@ -43,7 +43,7 @@ returns-in_err-plan g c =
     let planned : Option Plan = forward_plan words in
     let unlawful = c.in_err-plan.field-0.0 in
     let fault : fault_of (layout_by (under c.in_ok-args.args)) ≡ Some unlawful = search rules in
-    let is : planned ≡ Some (plan_by (under c.in_ok-args.args)) = has_plan (under c.in_ok-args.args) (meaning (codes "forward") forward_options words) c.in_ok-args.ensures.told c.in_ok-check_files.ensures.passed in
+    let is : planned ≡ Some (plan_by (under c.in_ok-args.args)) = has_plan (under c.in_ok-args.args) (meaning (codes "forward") forward_options words) c.in_ok-args.ensures.told c.in_ok-check_words.ensures.passed in
     comes_shown c.from_residual-in_err-plan.result (Refused unlawful) _ planned now now (search rules) c.requires.none
     (refused_comes planned now c.requires.closed (plan_by (under c.in_ok-args.args)) unlawful is fault) (λ no. no)
 
@@ -55,6 +55,6 @@ returns g c =
     let planned : Option Plan = forward_plan words in
     let plan : Plan = plan_in c.in_ok-plan.plan in
     let is : planned ≡ Some plan =
-    has_plan (under c.in_ok-args.args) (meaning (codes "forward") forward_options words) c.in_ok-args.ensures.told c.in_ok-check_files.ensures.passed ∙ ap Some (sym c.in_ok-plan.ensures.plan) in
+    has_plan (under c.in_ok-args.args) (meaning (codes "forward") forward_options words) c.in_ok-args.ensures.told c.in_ok-check_words.ensures.passed ∙ ap Some (sym c.in_ok-plan.ensures.plan) in
     plan_comes_to (EndsShown c.forward_plan.new.outcome old new (status_in c.forward_plan.result)) planned plan old new (status_in c.forward_plan.result) is c.in_ok-plan.ensures.accepted c.forward_plan.ensures.begun
     c.forward_plan.ensures.ends c.forward_plan.ensures.silent c.forward_plan.ensures.cause c.forward_plan.ensures.falls c.forward_plan.ensures.others
