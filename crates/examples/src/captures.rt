@@ -45,7 +45,7 @@ fn tell<R: Print>(rt: &R, alloc: Global, bytes: Vec<u8>) -> Result<()> {
                 println!(rt; "{:?}", list.get(i))?;
             }
         }
-        Err(refusal) => println!(rt; "{refusal}")?,
+        Err(back) => println!(rt; "{back}, {} bytes", back.bytes.len())?,
     }
     Ok(())
 }

@@ -1,10 +1,10 @@
 //! xsk_sim: two drivers and an application forward a port's packets in rounds. What was sent has gaps for a capture's headers. The same
 //! where a program of one's own sends each third packet back by the port on which it came.
 ghost use Rattle.std.specs.Prelude.{All, IfOk, OnOk};
+ghost use Rattle.xsk_model.specs.Config.{IsRegular};
 ghost use Rattle.xsk_model.specs.Opening.{AreFrames};
 ghost use Rattle.xsk_prog.specs.Rules.{HasSockets};
 ghost use Rattle.xsk_sim.specs.Shown.{HasShortPackets};
-ghost use Rattle.xsk_turns.specs.Owned.{IsSteady};
 
 use crate::layouts::opened;
 use anyhow::{Result, bail};
@@ -52,7 +52,7 @@ pub fn bounce_every_third<R: Print>(rt: &R, alloc: Global) -> Result<()> {
 
 /// The run in which port 0 of two receives one packet.
 pub fn forwarded(alloc: Global, config: Config, frames: Frames) -> Result<Run>
-    requires steady { IsSteady config }
+    requires regular { IsRegular config }
     requires frames { AreFrames config.geometry frames.items }
 {
     let lists = received(alloc)?;
@@ -68,7 +68,7 @@ fn run_under(
     rule: Rule,
 ) -> Result<Run>
     requires sockets { HasSockets rule }
-    requires steady { IsSteady config }
+    requires regular { IsRegular config }
     requires frames { AreFrames config.geometry frames.items }
     requires short { All HasShortPackets lists.items }
 {

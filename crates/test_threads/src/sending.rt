@@ -1,15 +1,17 @@
 //! Drivers and applications, each on a thread of its own, send what they send in rounds.
-ghost use Rattle.std.specs.Prelude.{◌≡◌, All, IfOk, length};
+ghost use Rattle.std.specs.Prelude.{◌≡◌, All, IfOk, OnOk, length};
 ghost use Rattle.xsk_machine.specs.Acts.{HasShortPackets};
 ghost use Rattle.xsk_prog.specs.Chain.{AllObey};
-ghost use Rattle.xsk_workers.specs.Hands.{AreHands};
+ghost use Rattle.xsk_turns.specs.Mangling.{plain};
+ghost use Rattle.xsk_workers.specs.Hands.{AreHands, SuitHands};
 
-use crate::setting::{are_alike, layout, packets, set_up};
+use crate::setting::{are_alike, are_fronts, layout, packets, set_up};
 use std::alloc::Global;
 use std::sync::Wait;
 use std::test::Fail;
 use std::thread::Threads;
 use xsk_io::{Gate, Open, PairGate};
+use xsk_model::Config;
 use xsk_prog::{Chain, Rule, Verdict, XdpProgram};
 use xsk_sim::{Wire, simulate};
 use xsk_socket::Layout;
@@ -64,6 +66,7 @@ fn sent_on_threads<R: Threads + Wait + Sync, F: Fn(&[u8], u32) -> Verdict, G: Ga
     if lists.len() != config.ports() as usize {
         return Err("there is no list for each port")?;
     }
+    check_hands(&config, hands)?;
     let mut outcome = forward(
         rt,
         alloc,
@@ -73,9 +76,42 @@ fn sent_on_threads<R: Threads + Wait + Sync, F: Fn(&[u8], u32) -> Verdict, G: Ga
         chain,
         Wire::Wait,
         gate,
+        Manner::plain(),
         hands,
     )?;
     Ok(outcome.take_sent(alloc))
+}
+
+/// Passes so many hands, of which several close no socket.
+fn check_hands(config: &Config, hands: u32) -> Result<(), Fail>
+    ensures { OnOk result (SuitHands hands config.now plain) }
+{
+    if hands == 1 {
+        return Ok(());
+    }
+    match config.closing() {
+        None => Ok(()),
+        Some(_) => Err("several hands close no socket")?,
+    }
+}
+
+#[test]
+fn threads_that_close_a_socket_send_the_first(rt: HostRuntime) -> Result<(), Fail> {
+    let alloc = rt.alloc();
+    let lists = vec![in alloc; packets(alloc, 200)?, packets(alloc, 200)?]?;
+    let rule = Rule::Redirect { sockets: 1 };
+    let program = XdpProgram::attach(rule, |bytes: &[u8], queue: u32| rule.verdict(bytes, queue));
+    let chain = Chain::of(alloc, program)?;
+    let mut layout = layout(1, 4);
+    let all = sent_in_rounds(alloc, &layout, lists.as_slice(), &chain)?;
+    layout.close = Some(0);
+    let rounds = sent_in_rounds(alloc, &layout, lists.as_slice(), &chain)?;
+    assert!(rt; are_fronts(rounds.as_slice(), all.as_slice()));
+    for _ in 0..4 {
+        let threads = sent_on_threads(&rt, alloc, &layout, lists.as_slice(), &chain, &Open, 1)?;
+        assert!(rt; are_fronts(threads.as_slice(), all.as_slice()));
+    }
+    Ok(())
 }
 
 #[test]

@@ -1,11 +1,11 @@
 //! The configurations and the packets of these tests.
 ghost use Rattle.std.specs.Prelude.{◌≡◌, ◌/◌, All, IfOk, None, OnOk};
+ghost use Rattle.xsk_model.specs.Config.{IsRegular};
 ghost use Rattle.xsk_model.specs.Opening.{AreFrames};
 ghost use Rattle.xsk_driver.specs.Sent.{IsShort};
 ghost use Rattle.xsk_machine.specs.Acts.{HasShortPackets};
 ghost use Rattle.xsk_socket.specs.Layout.{fault_of, geometry_of};
 ghost use Rattle.xsk_socket.specs.Regular.{regular_of};
-ghost use Rattle.xsk_turns.specs.Owned.{IsSteady};
 
 use std::alloc::Global;
 use std::test::Fail;
@@ -38,7 +38,7 @@ pub(crate) fn layout(queues: u32, entries: u32) -> Layout {
 
 /// The configuration of a layout, and the frames of its UMEM.
 pub(crate) fn set_up(alloc: Global, layout: &Layout) -> Result<(Config, Frames), Fail>
-    ensures steady { IfOk result (λ made. IsSteady made.0) }
+    ensures regular { IfOk result (λ made. IsRegular made.0) }
     ensures frames { IfOk result (λ made. AreFrames made.0.geometry made.1.items) }
 {
     if check_layout(layout).is_err() {
@@ -46,9 +46,6 @@ pub(crate) fn set_up(alloc: Global, layout: &Layout) -> Result<(Config, Frames),
     }
     let (geometry, frames) = register(alloc, layout)?;
     let config = regular(alloc, geometry, layout)?;
-    if config.closing().is_some() {
-        return Err("the layout closes a socket")?;
-    }
     Ok((config, frames))
 }
 
@@ -112,11 +109,28 @@ pub(crate) fn are_alike(one: &[PacketList], other: &[PacketList]) -> bool {
 }
 
 fn are_same(one: &PacketList, other: &PacketList) -> bool {
-    if one.len() != other.len() {
+    one.len() == other.len() && is_front(one, other)
+}
+
+/// Whether these are the first packets of the others, by driver.
+pub(crate) fn are_fronts(fronts: &[PacketList], all: &[PacketList]) -> bool {
+    if fronts.len() != all.len() {
         return false;
     }
-    for place in 0..one.len() {
-        if one.get(place) != other.get(place) {
+    for (front, list) in fronts.iter().zip(all.iter()) {
+        if !is_front(front, list) {
+            return false;
+        }
+    }
+    true
+}
+
+fn is_front(front: &PacketList, all: &PacketList) -> bool {
+    if front.len() > all.len() {
+        return false;
+    }
+    for place in 0..front.len() {
+        if front.get(place) != all.get(place) {
             return false;
         }
     }

@@ -118,7 +118,7 @@ impl Captures {
                 tell_sizes(&list, told);
                 self.read = list;
             }
-            Err(refusal) => told.name(&refusal),
+            Err(back) => told.name(&back.cause),
         }
         Ok(())
     }

@@ -2,7 +2,7 @@
 //!
 //! `new`, `gaps FIRST BEFORE_EACH`, `push BYTES`, `reserve FIRST SECOND MORE` (makes room for two packets, appends both, and MORE
 //! to the second), `get NUMBER`, `size`, `parts` (the gaps, the spans and the text; the list ends), `again` (a list of the spans and
-//! the text that were told last).
+//! the text that were told last), `share` (another list has the text as well), `alone` (that other list goes).
 ghost use Rattle.std.specs.Prelude.{◌≤◌, length};
 
 use crate::case::Case;
@@ -10,12 +10,15 @@ use crate::line::{Fault, Line};
 use crate::runs;
 use crate::told::Told;
 use std::alloc::Global;
+use std::sync::Arc;
 use xsk_umem::{Gaps, PacketList, Parts, Span};
 
 #[derive(Drop)]
 pub struct Packets {
     alloc: Global,
     list: PacketList,
+    /// Has the list's text as well, and no packet.
+    other: PacketList,
 }
 
 impl Packets {
@@ -23,6 +26,7 @@ impl Packets {
         Packets {
             alloc,
             list: PacketList::new(alloc),
+            other: PacketList::new(alloc),
         }
     }
 
@@ -36,6 +40,11 @@ impl Packets {
             "push" => self.push(line),
             "reserve" => reserve(self.alloc, &mut self.list, line),
             "again" => self.again(),
+            "share" => self.share(),
+            "alone" => {
+                self.other = PacketList::new(self.alloc);
+                Ok(())
+            }
             _ => Err(Fault::BadLine),
         }
     }
@@ -55,6 +64,15 @@ impl Packets {
     fn again(&mut self) -> Result<(), Fault> {
         let Parts { text, spans, .. } = self.take().into_parts();
         self.list = PacketList::of_spans(text, spans);
+        Ok(())
+    }
+
+    /// Makes a list of the same packets in the same text, which another list has too.
+    fn share(&mut self) -> Result<(), Fault> {
+        let Parts { text, spans, .. } = self.take().into_parts();
+        let text = Arc::new(self.alloc, text)?;
+        self.other = PacketList::of_shared(self.alloc, &text, Vec::new(self.alloc))?;
+        self.list = PacketList::of_shared(self.alloc, &text, spans)?;
         Ok(())
     }
 }

@@ -2,14 +2,15 @@
 //! `program ether KIND SOCKETS`, `program fixed CELL`, `program atmost CELLS`, `program bounce`, `program bounce KIND`, or
 //! `program even`, which redirects packets to cell 0 whose first byte is even, and drops all others. Without one it is
 //! `program redirect 1`. And what the wire does where a packet finds no frame or no room: by `wire drop` it drops it, and else
-//! it waits. By `mangle K` applications change items.
+//! it waits. By `mangle K` applications change items, and by `after N` they await N items on the RX ring of the socket that is to be
+//! closed before they close it.
 ghost use Rattle.std.specs.Prelude.{◌≡◌, ◌<◌, ◌≤◌, All, IfOk, length};
+ghost use Rattle.xsk_model.specs.Config.{IsRegular};
 ghost use Rattle.xsk_model.specs.Expected.{nothing};
 ghost use Rattle.xsk_model.specs.Opening.{AreFrames};
 ghost use Rattle.xsk_prog.specs.Rules.{HasSockets, IsBelow, IsRuled, Meets};
 ghost use Rattle.xsk_driver.specs.Sent.{IsShort};
 ghost use Rattle.xsk_sim.specs.Shown.{HasShortPackets};
-ghost use Rattle.xsk_turns.specs.Owned.{IsSteady};
 
 use crate::trouble::Trouble;
 use crate::words::{Line, number, one_number, two_numbers};
@@ -56,6 +57,9 @@ pub(crate) fn manner_of(lines: &[Line<'_>]) -> Result<Manner, Trouble> {
     for line in lines {
         if let Some(words) = line.behind("mangle") {
             manner.mangle = Some(one_number(words)?);
+        }
+        if let Some(words) = line.behind("after") {
+            manner.after = one_number(words)?;
         }
     }
     Ok(manner)
@@ -163,7 +167,7 @@ pub(crate) fn driver_of<'a>(
     program: Program,
     room: (u32, u32),
 ) -> Result<Driver<'a>, Trouble>
-    requires steady { IsSteady config.now }
+    requires regular { IsRegular config.now }
     requires pair { pair < length config.now.pairs }
     requires short { All IsShort packets.now.packets }
     ensures { IfOk result (λ d. d.expected ≡ nothing) }
@@ -202,7 +206,7 @@ pub(crate) fn run_of(
     program: Program,
     order: u32,
 ) -> Result<Run, Trouble>
-    requires steady { IsSteady config }
+    requires regular { IsRegular config }
     requires frames { AreFrames config.geometry frames.items }
     requires lists { length packets.now ≡ config.ports }
     requires short { All HasShortPackets packets.now }

@@ -67,6 +67,7 @@ fn set(layout: &mut Layout, name: &str, value: u32) -> Result<(), Trouble> {
         "sg" => layout.sg = value == 1,
         "wakeup" => layout.wakeup = value == 1,
         "empty" => layout.empty = Some(value),
+        "close" => layout.close = Some(value),
         _ => set_ring(layout, name, value)?,
     }
     Ok(())

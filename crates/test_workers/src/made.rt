@@ -1,9 +1,9 @@
 //! The configuration of a script and the frames of its UMEM.
 ghost use Rattle.std.specs.Prelude.{◌≡◌, ◌/◌, None, IfOk};
+ghost use Rattle.xsk_model.specs.Config.{IsRegular};
 ghost use Rattle.xsk_model.specs.Opening.{AreFrames};
 ghost use Rattle.xsk_socket.specs.Layout.{fault_of, geometry_of};
 ghost use Rattle.xsk_socket.specs.Regular.{regular_of};
-ghost use Rattle.xsk_turns.specs.Owned.{IsSteady};
 
 use crate::layout::layout_of;
 use crate::trouble::Trouble;
@@ -15,15 +15,12 @@ use xsk_umem::{Frames, Geometry, Umem};
 
 /// The configuration of a script's layout, and the frames of its UMEM.
 pub(crate) fn set_up(alloc: Global, lines: &[Line<'_>]) -> Result<(Config, Frames), Trouble>
-    ensures steady { IfOk result (λ made. IsSteady made.0) }
+    ensures regular { IfOk result (λ made. IsRegular made.0) }
     ensures frames { IfOk result (λ made. AreFrames made.0.geometry made.1.items) }
 {
     let layout = layout_of(lines)?;
     let (geometry, frames) = register(alloc, &layout)?;
     let config = regular(alloc, geometry, &layout)?;
-    if config.closing().is_some() {
-        return Err(Trouble::BadLayout);
-    }
     Ok((config, frames))
 }
 

@@ -1,7 +1,7 @@
 //! Plays workers by scripts, which are read from standard input with an empty line between two.
 //!
 //! A script's first line is its name, which is printed. Then come its setting (`layout`, `packet`, `packets`, `program`,
-//! `wire`, `mangle`, `frame`: see the modules), a line that says what is played, and what goes on with it:
+//! `wire`, `mangle`, `after`, `frame`: see the modules), a line that says what is played, and what goes on with it:
 //!
 //! - `driver PAIR PACKETS BYTES` and `app NUMBER`: a worker by hand. Each further line is a reply to its last call, in the
 //!   form of the journal, or a question (`parked`, `disposals`, `sent`, `room`). Each call is printed with its reply as the

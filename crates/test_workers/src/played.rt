@@ -1,8 +1,8 @@
 //! Workers that are played by hand.
 ghost use Rattle.std.specs.Prelude.{◌≡◌, ◌<◌, All, length};
+ghost use Rattle.xsk_model.specs.Config.{IsRegular};
 ghost use Rattle.xsk_driver.specs.Sent.{IsShort};
 ghost use Rattle.xsk_sim.specs.Shown.{HasShortPackets};
-ghost use Rattle.xsk_turns.specs.Owned.{IsSteady};
 
 use crate::attached::{driver_of, manner_of, program_of};
 use crate::hand::{Hand, Worker};
@@ -54,7 +54,7 @@ fn drive(
     shelf: &mut Shelf,
     text: &mut String,
 ) -> Result<(), Trouble>
-    requires { IsSteady config.now }
+    requires { IsRegular config.now }
 {
     let lists = lists_of(alloc, lines, config.ports())?;
     let inputs = Inputs::split(alloc, config, lists.as_slice())?;
@@ -83,7 +83,7 @@ fn drive_on(
     shelf: &mut Shelf,
     text: &mut String,
 ) -> Result<(), Trouble>
-    requires steady { IsSteady config.now }
+    requires regular { IsRegular config.now }
     requires short { All HasShortPackets lists.now }
 {
     let (pair, packets, bytes) = three_numbers(words)?;
@@ -109,7 +109,7 @@ fn pass_on(
     shelf: &mut Shelf,
     text: &mut String,
 ) -> Result<(), Trouble>
-    requires { IsSteady config.now }
+    requires { IsRegular config.now }
 {
     let app = one_number(words)?;
     if app >= (config.ports() / 2) * config.queues() {

@@ -8,5 +8,5 @@ pub add-requires : goal.add-requires
 add-requires c =
     let first = c.args.first in
     let second = c.args.second.now in
-    rw c.in_ok-capture.ensures
+    rw c.in_ok-capture.ensures.made
     (two_lists first.list.packets second.list.packets first.short first.few first.small second.short second.few second.small)

@@ -1,5 +1,0 @@
-use Rattle.std.proofs.Common.{rules, ◌≡◌, None}
-use Rattle.test_workers.proofs.made.set_up.Goals as goal
-
-pub returns-clause-steady : goal.returns-clause-steady
-returns-clause-steady c = record { regular = search rules; closes = search rules }
