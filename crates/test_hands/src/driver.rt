@@ -35,15 +35,51 @@ fn item_on(frame: Frame, offset: u32, len: u32) -> Item {
     }
 }
 
-/// The first item of a reply.
-fn first_of(reply: Reply) -> Option<Item> {
-    match reply {
-        Reply::Items(items) => {
-            let mut items = items;
-            items.pop_front()
-        }
+/// Asks for a place of a ring. None where there is none, or the call isn't legal.
+fn reserve(shared: &Shared, pass: &mut CheckedPass, ring: Ring) -> Option<()>
+    requires { Rests shared.now pass.old }
+    ensures { Rests shared.now pass.new }
+{
+    match make(shared, pass, Call::Reserve(ring, 1))? {
+        Reply::Granted => Some(()),
         _ => None,
     }
+}
+
+/// Submits an item. None where that isn't legal.
+fn submit(shared: &Shared, pass: &mut CheckedPass, ring: Ring, item: Item) -> Option<()>
+    requires { Rests shared.now pass.old }
+    ensures { Rests shared.now pass.new }
+{
+    let mut items = Batch::new();
+    items.push(item);
+    make(shared, pass, Call::Submit(ring, items))?;
+    Some(())
+}
+
+/// The next item of a ring. None where there is none, or the call isn't legal.
+fn peek(shared: &Shared, pass: &mut CheckedPass, ring: Ring) -> Option<Item>
+    requires { Rests shared.now pass.old }
+    ensures { Rests shared.now pass.new }
+{
+    match make(shared, pass, Call::Peek(ring, 1))? {
+        Reply::Items(items) => first_of(items),
+        _ => None,
+    }
+}
+
+fn first_of(items: Batch) -> Option<Item> {
+    let mut items = items;
+    items.pop_front()
+}
+
+/// Gives back so many places of a ring. None where that isn't legal.
+fn release(shared: &Shared, pass: &mut CheckedPass, ring: Ring, count: u32) -> Option<()>
+    requires { Rests shared.now pass.old }
+    ensures { Rests shared.now pass.new }
+{
+    make(shared, pass, Call::Release(ring, count))?;
+    Some(())
 }
 
 /// Receives a packet of so many bytes into the next frame of FILL.
@@ -51,15 +87,9 @@ pub(crate) fn receive(shared: &Shared, pass: &mut CheckedPass, pair: u32, len: u
     requires { Rests shared.now pass.old }
     ensures { Rests shared.now pass.new }
 {
-    let reply = make(shared, pass, Call::Reserve(Ring::Rx(pair), 1))?;
-    if !matches!(reply, Reply::Granted) {
-        return None;
-    }
-    let item = first_of(make(shared, pass, Call::Peek(Ring::Fill(pair), 1))?)?;
-    let mut items = Batch::new();
-    items.push(item_on(item.frame?, BEFORE, len));
-    make(shared, pass, Call::Submit(Ring::Rx(pair), items))?;
-    Some(())
+    reserve(shared, pass, Ring::Rx(pair))?;
+    let frame = peek(shared, pass, Ring::Fill(pair))?.frame?;
+    submit(shared, pass, Ring::Rx(pair), item_on(frame, BEFORE, len))
 }
 
 /// Gives back so many places of FILL.
@@ -67,8 +97,26 @@ pub(crate) fn free(shared: &Shared, pass: &mut CheckedPass, pair: u32, count: u3
     requires { Rests shared.now pass.old }
     ensures { Rests shared.now pass.new }
 {
-    make(shared, pass, Call::Release(Ring::Fill(pair), count))?;
-    Some(())
+    release(shared, pass, Ring::Fill(pair), count)
+}
+
+/// Takes the next packet of the TX ring.
+fn take_packet(shared: &Shared, pass: &mut CheckedPass, pair: u32) -> Option<Item>
+    requires { Rests shared.now pass.old }
+    ensures { Rests shared.now pass.new }
+{
+    let item = peek(shared, pass, Ring::Tx(pair))?;
+    release(shared, pass, Ring::Tx(pair), 1)?;
+    Some(item)
+}
+
+/// Tells that a packet's frame was sent.
+fn complete(shared: &Shared, pass: &mut CheckedPass, pair: u32, frame: Frame) -> Option<()>
+    requires { Rests shared.now pass.old }
+    ensures { Rests shared.now pass.new }
+{
+    reserve(shared, pass, Ring::Comp(pair))?;
+    submit(shared, pass, Ring::Comp(pair), item_on(frame, BEFORE, 0))
 }
 
 /// Sends the next packet of the TX ring, and completes it. Gives its length.
@@ -76,13 +124,9 @@ fn send_one(shared: &Shared, pass: &mut CheckedPass, pair: u32) -> Option<u32>
     requires { Rests shared.now pass.old }
     ensures { Rests shared.now pass.new }
 {
-    let item = first_of(make(shared, pass, Call::Peek(Ring::Tx(pair), 1))?)?;
-    make(shared, pass, Call::Release(Ring::Tx(pair), 1))?;
+    let item = take_packet(shared, pass, pair)?;
     let len = item.desc.len;
-    let mut items = Batch::new();
-    items.push(item_on(item.frame?, BEFORE, 0));
-    make(shared, pass, Call::Reserve(Ring::Comp(pair), 1))?;
-    make(shared, pass, Call::Submit(Ring::Comp(pair), items))?;
+    complete(shared, pass, pair, item.frame?)?;
     Some(len)
 }
 

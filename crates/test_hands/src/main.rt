@@ -47,14 +47,36 @@ fn play(
     let Some(mut callers) = Callers::new(alloc, &shared, passes) else {
         return println!(rt; "{name}: want of memory");
     };
+    play_all(rt, alloc, &mut callers, name, lines)
+}
+
+fn play_all(
+    rt: &HostRuntime,
+    alloc: Global,
+    callers: &mut Callers<'_>,
+    name: &str,
+    lines: &[String],
+) -> io::Result<()> {
     for line in lines {
-        let words: Vec<&str> = line.as_str().split_whitespace().collect(alloc)?;
-        if let [table, rest @ ..] = words.as_slice()
-            && *table == name
-        {
-            let answer = callers.answer(alloc, rest)?;
-            println!(rt; "{line} -> {answer}")?;
-        }
+        play_line(rt, alloc, callers, name, line.as_str())?;
+    }
+    Ok(())
+}
+
+/// Does what a line says, if it is one of this table.
+fn play_line(
+    rt: &HostRuntime,
+    alloc: Global,
+    callers: &mut Callers<'_>,
+    name: &str,
+    line: &str,
+) -> io::Result<()> {
+    let words: Vec<&str> = line.split_whitespace().collect(alloc)?;
+    if let [table, rest @ ..] = words.as_slice()
+        && *table == name
+    {
+        let answer = callers.answer(alloc, rest)?;
+        println!(rt; "{line} -> {answer}")?;
     }
     Ok(())
 }

@@ -1,8 +1,10 @@
 //! A table with its drivers and its application.
-ghost use Rattle.std.specs.Prelude.{◌≡◌};
+ghost use Rattle.std.specs.Prelude.{◌≡◌, ◌+◌, IfSome};
 ghost use Rattle.xsk_rings.specs.Rounds.{Rests};
+ghost use Rattle.xsk_table.specs.Held.{Belongs};
 ghost use Rattle.xsk_table.specs.Opening.{new_passes};
 ghost use Rattle.xsk_turns.specs.Owned.{IsSteady};
+ghost use Rattle.test_hands.specs.Taking.{AreLeft};
 
 use crate::application::Application;
 use crate::driver::{free, receive, send, swap};
@@ -118,6 +120,36 @@ fn drive(
     }
 }
 
+/// The pass of the next caller, a driver, if it is there and there is memory.
+fn take_driver(alloc: Global, shared: &Shared, passes: &mut Passes, who: u32) -> Option<CheckedPass>
+    requires { AreLeft shared.now who passes.old }
+    ensures rests { IfSome result (λ pass. Rests shared.now pass) }
+    ensures left { AreLeft shared.now (who + 1) passes.new }
+{
+    let pass = take(shared, passes, who)?;
+    match CheckedPass::new(alloc, shared, pass) {
+        Ok(pass) => Some(pass),
+        Err(_) => None,
+    }
+}
+
+/// The ends of the application, which is the caller behind the drivers.
+fn take_ends<'a>(alloc: Global, shared: &'a Shared, passes: &mut Passes) -> Option<Ends<'a>>
+    requires steady { IsSteady shared.now.setup.config }
+    requires left { AreLeft shared.now 2 passes.old }
+    ensures { IfSome result (λ ends. Belongs shared.now ends.pass) }
+{
+    let pass = take(shared, passes, 2)?;
+    let config = shared.config();
+    if pass.caller() < config.pairs().len() as u32 {
+        return None;
+    }
+    match Ends::new(alloc, config, pass) {
+        Ok(ends) => Some(ends),
+        Err(_) => None,
+    }
+}
+
 impl<'a> Callers<'a> {
     /// The callers of a table, with which no call was made.
     pub(crate) fn new(alloc: Global, shared: &'a Shared, passes: Passes) -> Option<Callers<'a>>
@@ -125,22 +157,9 @@ impl<'a> Callers<'a> {
         requires steady { IsSteady shared.now.setup.config }
     {
         let mut passes = passes;
-        let first = take(shared, &mut passes, 0)?;
-        let second = take(shared, &mut passes, 1)?;
-        let app = take(shared, &mut passes, 2)?;
-        let Ok(first) = CheckedPass::new(alloc, shared, first) else {
-            return None;
-        };
-        let Ok(second) = CheckedPass::new(alloc, shared, second) else {
-            return None;
-        };
-        let config = shared.config();
-        if app.caller() < config.pairs().len() as u32 {
-            return None;
-        }
-        let Ok(ends) = Ends::new(alloc, config, app) else {
-            return None;
-        };
+        let first = take_driver(alloc, shared, &mut passes, 0)?;
+        let second = take_driver(alloc, shared, &mut passes, 1)?;
+        let ends = take_ends(alloc, shared, &mut passes)?;
         Some(Callers {
             shared,
             first,

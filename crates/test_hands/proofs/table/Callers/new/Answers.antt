@@ -8,5 +8,5 @@ use Rattle.test_hands.proofs.table.Callers.new.Goals as goal
 new_at : (b : Board) (w : ℕ) → w < callers_of b.setup.config → get_or (new_passes b) w None ≡ Some (new_pass b w)
 new_at b w lt = get_or-map-range_with_len (λ who. Some (new_pass b who)) 0 (callers_of b.setup.config) w w None lt (omega arith)
 
-pub take-requires : goal.take-requires
-take-requires c who low below = ap (λ (l : List (Option Holder)). get_or l who None) c.requires.passes ∙ new_at c.args.shared.now who below
+pub take_driver-requires : goal.take_driver-requires
+take_driver-requires c who low below = ap (λ (l : List (Option Holder)). get_or l who None) c.requires.passes ∙ new_at c.args.shared.now who below
