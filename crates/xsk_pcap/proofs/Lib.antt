@@ -5,3 +5,4 @@ pub mod CaptureLaws
 pub mod Loops
 pub mod Writing
 pub mod Filling
+pub mod LaidRecords

@@ -1,6 +1,7 @@
 -- Captures as they are written: the fields are those of pcap-savefile(5), and what they hold is this project's own.
 use Rattle.std.specs.Prelude.{ℕ, ◌+◌, ◌/◌, ◌%◌, ◌≤◌, List, [], ◌∷◌, ◌++◌, length}
 use Rattle.std.specs.List.{flat_map, concat, AllByRecursion}
+use Rattle.byteorder.specs.Endian.{little_bytes}
 use Rattle.xsk_pcap.specs.declared.endianness.Endianness.TheVariants.{Little}
 use Rattle.xsk_pcap.specs.Limits.{most_captured, most_packets, most_bytes}
 use Rattle.xsk_pcap.specs.Capture.{Header, header_bytes, Record, record_bytes, IsShort}
@@ -11,6 +12,10 @@ written_header = record { magic = 0xa1b2c3d4; zone = 0; figures = 0; snaplen = m
 -- record k, whose time is k microseconds
 abbrev pub written_record : ℕ → List ℕ → Record
 written_record k packet = record { seconds = k / 1000000; fraction = k % 1000000; original = length packet; packet = packet }
+
+-- the header of record k, of a packet of so many bytes
+abbrev pub header_of : ℕ → ℕ → List ℕ
+header_of k len = little_bytes 4 (k / 1000000) ++ little_bytes 4 (k % 1000000) ++ little_bytes 4 len ++ little_bytes 4 len
 
 -- the records of packets, numbered from k on
 abbrev pub written_records : ℕ → List (List ℕ) → List Record

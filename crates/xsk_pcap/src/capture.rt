@@ -1,23 +1,19 @@
 //! A capture as it is written.
 ghost use Rattle.std.specs.Prelude.{◌≡◌, ◌+◌, ◌*◌, ◌/◌, ◌%◌, ◌^◌, ◌<◌, ◌≤◌, [], ◌∷◌, ◌++◌, length, map, vec_capacity, Some, ◌↔◌, IfErr, IfOk, IsOk, OnOk, OnErr};
 ghost use Rattle.std.specs.List.{concat, AllByRecursion};
-ghost use Rattle.byteorder.specs.Endian.{little_bytes};
 ghost use Rattle.xsk_umem.specs.Span.{at_span};
 ghost use Rattle.xsk_pcap.specs.declared.endianness.Endianness.TheVariants.{Little};
 ghost use Rattle.xsk_pcap.specs.Capture.{record_bytes, IsShort};
 ghost use Rattle.xsk_pcap.specs.Steps.{HasGaps};
 ghost use Rattle.xsk_pcap.specs.Laid.{IsLaid, capture_gaps};
-ghost use Rattle.xsk_pcap.specs.Written.{written, written_record, text_of, IsWritable};
+ghost use Rattle.xsk_pcap.specs.Written.{written, header_of, written_record, text_of, IsWritable};
 
+use crate::reading::{FILE_HEADER, RECORD_HEADER};
 use byteorder::{ByteOrder, LittleEndian};
 use std::alloc::Global;
 use std::marker::Model;
 use thiserror::Error;
 use xsk_umem::{Gaps, OutOfMemory, PacketList, Parts, Span};
-
-const FILE_HEADER: u32 = 24;
-
-const RECORD_HEADER: u32 = 16;
 
 /// The gaps with which a list becomes a capture without a copy: one holds the file header, and the others the headers of
 /// the records.
@@ -27,7 +23,7 @@ pub const GAPS: Gaps = Gaps {
 };
 
 /// Little endian, time stamps of microseconds, version 2.4, a snapshot length of 262,144, and link type Ethernet.
-const WRITTEN_HEADER: [u8; 24] = [
+pub(crate) const WRITTEN_HEADER: [u8; 24] = [
     0xd4, 0xc3, 0xb2, 0xa1, 0x02, 0x00, 0x04, 0x00, 0x00, 0x00, 0x00, 0x00, 0x00, 0x00, 0x00, 0x00,
     0x00, 0x00, 0x04, 0x00, 0x01, 0x00, 0x00, 0x00,
 ];
@@ -233,9 +229,8 @@ fn fill_gaps(text: &mut [u8], spans: &[Span])
 }
 
 /// Seconds, microseconds, captured length and original length.
-fn record_header(number: u32, len: u32) -> [u8; 16]
-    ensures { result ≡ little_bytes 4 (number / 1000000) ++ little_bytes 4 (number % 1000000)
-        ++ little_bytes 4 len ++ little_bytes 4 len }
+pub(crate) fn record_header(number: u32, len: u32) -> [u8; 16]
+    ensures { result ≡ header_of number len }
 {
     let mut header = [0; 16];
     LittleEndian::write_u32(&mut header[..4], number / 1_000_000);

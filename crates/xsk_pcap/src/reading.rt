@@ -10,9 +10,9 @@ use std::alloc::Global;
 use thiserror::Error;
 use xsk_umem::{PacketList, Span};
 
-const FILE_HEADER: usize = 24;
+pub(crate) const FILE_HEADER: u32 = 24;
 
-const RECORD_HEADER: usize = 16;
+pub(crate) const RECORD_HEADER: u32 = 16;
 
 const MOST_CAPTURED: usize = 262_144;
 
@@ -76,7 +76,7 @@ fn check_header(bytes: &[u8]) -> Result<Endianness, BadCapture>
     ensures passed { IfOk result (λ order. PassesHeader order bytes.now) }
     ensures failed { IfErr result (λ e. header_refusal bytes.now ≡ Some e) }
 {
-    if bytes.len() < FILE_HEADER {
+    if bytes.len() < FILE_HEADER as usize {
         return Err(BadCapture::ShortHeader);
     }
     let Some(order) = endianness_of(bytes) else {
@@ -96,14 +96,14 @@ fn split_record(order: Endianness, offset: u64, bytes: &[u8]) -> Result<(&[u8], 
     ensures split { IfOk result (λ parts. BeginsRecord order bytes.now parts.0.now parts.1.now) }
     ensures failed { IfErr result (λ e. record_refusal order offset bytes.now ≡ Some e) }
 {
-    if bytes.len() < RECORD_HEADER {
+    if bytes.len() < RECORD_HEADER as usize {
         return Err(BadCapture::Truncated { at: offset });
     }
     let captured = order.u32_in(&bytes[8..]) as usize;
     if captured > MOST_CAPTURED {
         return Err(BadCapture::RecordTooLong { at: offset });
     }
-    let rest = &bytes[RECORD_HEADER..];
+    let rest = &bytes[RECORD_HEADER as usize..];
     if captured > rest.len() {
         return Err(BadCapture::Truncated { at: offset });
     }
@@ -120,12 +120,12 @@ fn find_packets(alloc: Global, order: Endianness, bytes: &[u8]) -> Result<Vec<Sp
 {
     let mut spans = Vec::new(alloc);
     let mut lacks_room = false;
-    let mut rest = &bytes[FILE_HEADER..];
+    let mut rest = &bytes[FILE_HEADER as usize..];
     while !rest.is_empty() {
         let offset = bytes.len() - rest.len();
         let (packet, after) = split_record(order, offset as u64, rest)?;
         let span = Span {
-            start: offset + RECORD_HEADER,
+            start: offset + RECORD_HEADER as usize,
             len: packet.len(),
         };
         lacks_room |= spans.push(span).is_err();

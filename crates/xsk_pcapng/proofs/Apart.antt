@@ -9,15 +9,7 @@ use Rattle.xsk_umem.specs.declared.packet_list.Span.{Span}
 use Rattle.xsk_pcapng.specs.declared.reading.Found.{Found}
 use Rattle.xsk_pcapng.specs.Blocks.{packets_at}
 use Rattle.xsk_pcapng.specs.Steps.{arrival_in, IsFoundIn, spans_in, spans_at}
-use Rattle.xsk_pcapng.proofs.Listing.{drop_slice_get}
-
-pub apart-push : (from : ℕ) (spans : List Span) (span : Span) → AreFrom from spans → end_of from spans ≤ span.start → AreFrom from (spans ++ span ∷ [])
-apart-push from [] span apart behind = (behind, tt)
-apart-push from (old ∷ spans) span apart behind = (apart.0, apart-push (old.start + old.len) spans span apart.1 behind)
-
-pub end_of-push : (from : ℕ) (spans : List Span) (span : Span) → end_of from (spans ++ span ∷ []) ≡ span.start + span.len
-end_of-push from [] span = refl
-end_of-push from (first ∷ spans) span = end_of-push (first.start + first.len) spans span
+use Rattle.xsk_umem.proofs.Going.{first_left}
 
 module _ (port : ℕ) where
   abbrev is_here : Found → Bool
@@ -54,9 +46,9 @@ module _ (port : ℕ) where
   pub spans_from-here : (found : List Found) (i : ℕ) (f : Found) → slice_get found i ≡ Some f → f.interface ≡ port → spans_from found i ≡ f.span ∷ spans_from found (i + 1)
   spans_from-here found i f e is =
       let same : eqb f.interface port ≡ true = grind (arith, is) in
-      rw (drop_slice_get found i f e, same) refl
+      rw (first_left found i f e, same) refl
 
   pub spans_from-else : (found : List Found) (i : ℕ) (f : Found) → slice_get found i ≡ Some f → (f.interface ≡ port → ⊥) → spans_from found i ≡ spans_from found (i + 1)
   spans_from-else found i f e not_it =
       let other : eqb f.interface port ≡ false = ne_eqb f.interface port not_it in
-      rw (drop_slice_get found i f e, other) refl
+      rw (first_left found i f e, other) refl

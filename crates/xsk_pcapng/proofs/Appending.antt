@@ -8,7 +8,7 @@ use Rattle.byteorder.specs.Endian.{little_bytes}
 use Rattle.xsk_umem.specs.PacketList.{PacketList}
 use Rattle.xsk_pcapng.specs.Blocks.{padded}
 use Rattle.xsk_pcapng.specs.Written.{section_block, written, block_bytes, padding, interface_block, packet_block, list_blocks, lists_blocks, packets_of, all_packets}
-use Rattle.xsk_pcapng.proofs.Listing.{drop_slice_get}
+use Rattle.xsk_umem.proofs.Going.{first_left}
 
 -- ---- interfaces
 
@@ -23,7 +23,7 @@ pub list-next : (text : List ℕ) (interface number i : ℕ) (packets : List (Li
     → text ++ concat (list_blocks interface (number + i) (drop i packets)) ≡ (text ++ packet_block interface (number + i) packet) ++ concat (list_blocks interface (number + (i + 1)) (drop (i + 1) packets))
 list-next text interface number i packets packet e =
     let k : number + i + 1 ≡ number + (i + 1) = omega arith in
-    ap (λ (ps : List (List ℕ)). text ++ concat (list_blocks interface (number + i) ps)) (drop_slice_get packets i packet e)
+    ap (λ (ps : List (List ℕ)). text ++ concat (list_blocks interface (number + i) ps)) (first_left packets i packet e)
     ∙ ap (λ (j : ℕ). text ++ (packet_block interface (number + i) packet ++ concat (list_blocks interface j (drop (i + 1) packets)))) k
     ∙ sym (append_assoc text (packet_block interface (number + i) packet) (concat (list_blocks interface (number + (i + 1)) (drop (i + 1) packets))))
 
@@ -33,7 +33,7 @@ room_of packets = 35 * length packets + length (concat packets)
 
 pub room_of-next : (packets : List (List ℕ)) (i : ℕ) (packet : List ℕ) → slice_get packets i ≡ Some packet → room_of (drop i packets) ≡ 35 + length packet + room_of (drop (i + 1) packets)
 room_of-next packets i packet e =
-    let is = drop_slice_get packets i packet e in
+    let is = first_left packets i packet e in
     omega (arith, ap length is, ap (λ (ps : List (List ℕ)). length (concat ps)) is, length-append packet (concat (drop (i + 1) packets)))
 
 pub room_of-append : (xs ys : List (List ℕ)) → room_of (xs ++ ys) ≡ room_of xs + room_of ys
@@ -46,13 +46,13 @@ abbrev pub all_from : List PacketList → ℕ → List (List ℕ)
 all_from lists i = all_packets (packets_of (drop i lists))
 
 pub all_from-next : (lists : List PacketList) (i : ℕ) (list : PacketList) → slice_get lists i ≡ Some list → all_from lists i ≡ list.packets ++ all_from lists (i + 1)
-all_from-next lists i list e = ap (λ (ls : List PacketList). all_packets (packets_of ls)) (drop_slice_get lists i list e)
+all_from-next lists i list e = ap (λ (ls : List PacketList). all_packets (packets_of ls)) (first_left lists i list e)
 
 pub lists-next : (text : List ℕ) (number i : ℕ) (lists : List PacketList) (list : PacketList) → slice_get lists i ≡ Some list
     → text ++ concat (lists_blocks i number (packets_of (drop i lists))) ≡ (text ++ concat (list_blocks i number list.packets)) ++ concat (lists_blocks (i + 1) (number + length list.packets) (packets_of (drop (i + 1) lists)))
 lists-next text number i lists list e =
     let later = lists_blocks (i + 1) (number + length list.packets) (packets_of (drop (i + 1) lists)) in
-    ap (λ (ls : List PacketList). text ++ concat (lists_blocks i number (packets_of ls))) (drop_slice_get lists i list e)
+    ap (λ (ls : List PacketList). text ++ concat (lists_blocks i number (packets_of ls))) (first_left lists i list e)
     ∙ ap (λ (t : List ℕ). text ++ t) (concat-append (list_blocks i number list.packets) later)
     ∙ sym (append_assoc text (concat (list_blocks i number list.packets)) (concat later))
 

@@ -2,18 +2,12 @@
 use Rattle.std.proofs.Common.{◌≡◌, ℕ, ◌+◌, List, [], ◌∷◌, drop, map, Some, true, refl, ap, ◌∙◌, arith}
 use Rattle.std.specs.Prelude.{slice_get, eqb}
 use Rattle.std.proofs.lemmas.Bool.{ne_eqb}
-use Rattle.std.proofs.lemmas.List.{drop_more}
-use Rattle.std.proofs.lemmas.Option.{slice_get_within, get_or_from_slice_get}
 use Rattle.xsk_umem.specs.Span.{at_span}
+use Rattle.xsk_umem.proofs.Going.{first_left}
 use Rattle.xsk_pcapng.specs.declared.reading.Found.{Found}
 use Rattle.xsk_pcapng.specs.Blocks.{Arrival, packets_at}
 use Rattle.xsk_pcapng.specs.Steps.{arrival_in}
 use Rattle.xsk_pcapng.specs.Written.{bare, packets_of}
-
--- the items from place i on
-pub drop_slice_get : {X : Type 0} (xs : List X) (i : ℕ) (x : X) → slice_get xs i ≡ Some x → drop i xs ≡ x ∷ drop (i + 1) xs
-drop_slice_get {X} xs i x e =
-    drop_more xs i x (slice_get_within xs i x e) ∙ ap (λ (y : X). y ∷ drop (i + 1) xs) (get_or_from_slice_get xs i x x e)
 
 -- the packets of bare lists
 pub packets_of-bare : (lists : List (List (List ℕ))) → packets_of (map bare lists) ≡ lists
@@ -35,11 +29,11 @@ packets_at-else port a arrivals not_it = rw (ne_eqb a.interface port not_it) ref
 -- where the next is one of the port
 pub packets_from-here : (bytes : List ℕ) (found : List Found) (port i : ℕ) (f : Found) → slice_get found i ≡ Some f → f.interface ≡ port → packets_from bytes found port i ≡ at_span bytes f.span ∷ packets_from bytes found port (i + 1)
 packets_from-here bytes found port i f e is =
-    ap (λ (fs : List Found). packets_at port (map (arrival_in bytes) fs)) (drop_slice_get found i f e)
+    ap (λ (fs : List Found). packets_at port (map (arrival_in bytes) fs)) (first_left found i f e)
     ∙ packets_at-here port (arrival_in bytes f) (map (arrival_in bytes) (drop (i + 1) found)) is
 
 -- and where it isn't
 pub packets_from-else : (bytes : List ℕ) (found : List Found) (port i : ℕ) (f : Found) → slice_get found i ≡ Some f → (f.interface ≡ port → ⊥) → packets_from bytes found port i ≡ packets_from bytes found port (i + 1)
 packets_from-else bytes found port i f e not_it =
-    ap (λ (fs : List Found). packets_at port (map (arrival_in bytes) fs)) (drop_slice_get found i f e)
+    ap (λ (fs : List Found). packets_at port (map (arrival_in bytes) fs)) (first_left found i f e)
     ∙ packets_at-else port (arrival_in bytes f) (map (arrival_in bytes) (drop (i + 1) found)) not_it

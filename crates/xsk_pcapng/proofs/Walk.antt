@@ -16,7 +16,7 @@ use Rattle.xsk_umem.specs.Span.{at_span, AreFrom, end_of}
 use Rattle.xsk_pcapng.specs.Blocks.{kind_in, total_in, interfaces_after, interfaces_behind, IsBlock, MayStand, AreBlocks, Arrival, arrivals_of, arrivals_in}
 use Rattle.xsk_pcapng.specs.Pcapng.{PassesHeader, Begins, IsPcapng, lists_of, length_refusal, content_refusal, block_refusal, IsCause}
 use Rattle.xsk_pcapng.specs.Steps.{CutsOff, IsEnds, Holds, arrival_in, IsFoundIn, Finds, spans_in}
-use Rattle.xsk_pcapng.proofs.Apart.{apart-push, end_of-push}
+use Rattle.xsk_umem.proofs.Spans.{apart-push, end_of-push}
 use Rattle.xsk_pcapng.proofs.Blocks.{total_in-append, length_none}
 use Rattle.xsk_pcap.proofs.Loops.{rest_none}
 

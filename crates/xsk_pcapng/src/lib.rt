@@ -6,5 +6,5 @@ mod lists;
 mod reading;
 mod writing;
 
-pub use reading::{BadPcapng, read, take};
+pub use reading::{BadPcapng, TakeRefused, read, take};
 pub use writing::{write, write_over};

@@ -1,5 +1,5 @@
 //! The packets that were found in a file, laid out as a list for each port.
-ghost use Rattle.std.specs.Prelude.{◌≡◌, ◌<◌, ◌≤◌, ◌^◌, ◌++◌, map, length, All, IfOk, IfSome, Some, slice_get};
+ghost use Rattle.std.specs.Prelude.{◌≡◌, ◌<◌, ◌≤◌, ◌^◌, ◌++◌, map, length, All, IfErr, IfOk, IfSome, Some, slice_get, vec_capacity};
 ghost use Rattle.std.specs.Arc.{arc_value};
 ghost use Rattle.std.specs.List.{concat};
 ghost use Rattle.xsk_umem.specs.Span.{at_span, AreFrom};
@@ -37,21 +37,53 @@ pub fn lists_of(
     Ok(lists)
 }
 
-/// The lists of so many ports, which share the bytes as their text.
+/// The lists of so many ports, which share the bytes as their text. Where memory can't be had the bytes come back: room is taken
+/// for a copy of them, before they are shared.
 pub fn lists_in(
     alloc: Global,
     bytes: Vec<u8>,
     found: &[Found],
     ports: u32,
-) -> Result<Vec<PacketList>, OutOfMemory>
+) -> Result<Vec<PacketList>, Vec<u8>>
     requires within { All (IsFoundIn bytes.items) found.now }
     requires apart { AreFrom 0 (spans_in found.now) }
     ensures packets { IfOk result (λ lists. packets_of lists.items ≡ lists_by_port ports (map (arrival_in bytes.items) found.now)) }
     ensures bare { IfOk result (λ lists. lists.items ≡ map bare (packets_of lists.items)) }
+    ensures back { IfErr result (λ back. back.items ≡ bytes.items) }
 {
-    let text = Arc::new(alloc, bytes)?;
-    let lists = lists_over(alloc, &text, found, ports)?;
-    Ok(lists)
+    let Ok(room) = Vec::with_capacity(alloc, bytes.len()) else {
+        return Err(bytes);
+    };
+    let text = match Arc::new(alloc, bytes) {
+        Ok(text) => text,
+        Err(refused) => return Err(refused.value),
+    };
+    match lists_over(alloc, &text, found, ports) {
+        Ok(lists) => Ok(lists),
+        Err(OutOfMemory) => Err(take_back(text, room)),
+    }
+}
+
+/// The text, or a copy of it in the room where something else has it too.
+fn take_back(text: Arc<Vec<u8>>, room: Vec<u8>) -> Vec<u8>
+    requires { length (arc_value text).items ≤ vec_capacity room }
+    ensures { result.items ≡ (arc_value text).items }
+{
+    match Arc::try_unwrap(text) {
+        Ok(text) => text,
+        Err(text) => copy_into(room, text.as_slice()),
+    }
+}
+
+/// The bytes, in the place of what stands in room that is enough.
+fn copy_into(room: Vec<u8>, bytes: &[u8]) -> Vec<u8>
+    requires { length bytes.now ≤ vec_capacity room }
+    ensures { result.items ≡ bytes.now }
+{
+    let mut text = room;
+    text.clear();
+    text.extend_from_slice(bytes).unwrap();
+    text
 }
 
 /// The lists of so many ports over one text.

@@ -1,5 +1,5 @@
 //! Files read as lists of packets, or the first failing check with its place.
-ghost use Rattle.std.specs.Prelude.{◌≡◌, ◌<◌, ◌≤◌, ◌^◌, ℕ, List, None, length, map, All, IfOk, IfErr, MatchResult};
+ghost use Rattle.std.specs.Prelude.{◌≡◌, ◌<◌, ◌≤◌, ◌^◌, ℕ, List, None, Err, length, map, All, IfOk, IfErr, MatchResult};
 ghost use Rattle.xsk_pcapng.specs.Blocks.{IsBlock, MayStand};
 ghost use Rattle.xsk_pcapng.specs.Pcapng.{IsPcapng, IsRefused, IsCause, PassesHeader};
 ghost use Rattle.xsk_pcapng.specs.Pcapng.{order_of, header_refusal, length_refusal, interface_refusal, packet_refusal, kind_refusal, content_refusal};
@@ -81,6 +81,14 @@ pub enum BadPcapng {
     /// All checks pass, but memory for the lists couldn't be had, or 32 bits don't count a list's packets or bytes.
     #[error("out of memory")]
     OutOfMemory,
+}
+
+/// Bytes weren't read as a file. They come back, with the reason.
+#[derive(Debug, Drop, Error)]
+#[error("{cause}")]
+pub struct TakeRefused {
+    pub bytes: Vec<u8>,
+    pub cause: BadPcapng,
 }
 
 /// What a block holds for a reader.
@@ -318,6 +326,15 @@ fn find_packets(
     Ok(found)
 }
 
+/// The packets of all blocks of a file, in order, in either byte order.
+fn packets_in(alloc: Global, ports: u32, bytes: &[u8]) -> Result<Vec<Found>, BadPcapng>
+    ensures found { IfOk result (λ found. (order : Endianness) × Finds order ports bytes.now found.items) }
+    ensures cause { IfErr result (IsCause ports bytes.now) }
+{
+    let order = check_header(bytes)?;
+    find_packets(alloc, order, ports, bytes)
+}
+
 /// Reads a file of one section, in either byte order, and gives the packets of each of so many ports, those of interface
 /// `i` as port `i`'s, in order.
 ///
@@ -337,8 +354,7 @@ pub fn read(alloc: Global, bytes: &[u8], ports: u32) -> Result<Vec<PacketList>, 
     ensures refused { (refusal : BadPcapng) → IsRefused ports bytes.now refusal → result ≡ Err refusal }
     ensures cause { IfErr result (IsCause ports bytes.now) }
 {
-    let order = check_header(bytes)?;
-    let found = find_packets(alloc, order, ports, bytes)?;
+    let found = packets_in(alloc, ports, bytes)?;
     let Ok(lists) = lists_of(alloc, bytes, found.as_slice(), ports) else {
         return Err(BadPcapng::OutOfMemory);
     };
@@ -346,18 +362,26 @@ pub fn read(alloc: Global, bytes: &[u8], ports: u32) -> Result<Vec<PacketList>, 
 }
 
 /// Reads a file as [`read`] does. The lists share the bytes as their text, in which the packets stand as spans: none is copied.
-pub fn take(alloc: Global, bytes: Vec<u8>, ports: u32) -> Result<Vec<PacketList>, BadPcapng>
+/// Where it isn't read the bytes come back.
+pub fn take(alloc: Global, bytes: Vec<u8>, ports: u32) -> Result<Vec<PacketList>, TakeRefused>
     ensures bare { IfOk result (λ lists. lists.items ≡ map bare (packets_of lists.items)) }
     ensures found { IfOk result (λ lists. IsPcapng ports bytes.items (packets_of lists.items)) }
     ensures accepted { (lists : List (List (List ℕ))) → IsPcapng ports bytes.items lists →
-        MatchResult result (λ read. packets_of read.items ≡ lists) (λ e. e ≡ BadPcapng.OutOfMemory) }
-    ensures refused { (refusal : BadPcapng) → IsRefused ports bytes.items refusal → result ≡ Err refusal }
-    ensures cause { IfErr result (IsCause ports bytes.items) }
+        MatchResult result (λ read. packets_of read.items ≡ lists) (λ back. back.cause ≡ BadPcapng.OutOfMemory) }
+    ensures refused { (refusal : BadPcapng) → IsRefused ports bytes.items refusal →
+        result ≡ Err (record { bytes = bytes; cause = refusal }) }
+    ensures cause { IfErr result (λ back. IsCause ports bytes.items back.cause) }
+    ensures back { IfErr result (λ back. back.bytes.items ≡ bytes.items) }
 {
-    let order = check_header(bytes.as_slice())?;
-    let found = find_packets(alloc, order, ports, bytes.as_slice())?;
-    let Ok(lists) = lists_in(alloc, bytes, found.as_slice(), ports) else {
-        return Err(BadPcapng::OutOfMemory);
+    let found = match packets_in(alloc, ports, bytes.as_slice()) {
+        Ok(found) => found,
+        Err(cause) => return Err(TakeRefused { bytes, cause }),
     };
-    Ok(lists)
+    match lists_in(alloc, bytes, found.as_slice(), ports) {
+        Ok(lists) => Ok(lists),
+        Err(bytes) => Err(TakeRefused {
+            bytes,
+            cause: BadPcapng::OutOfMemory,
+        }),
+    }
 }

@@ -3,3 +3,4 @@ pub mod Places
 pub mod Spans
 pub mod Sharing
 pub mod Going
+pub mod Laying

@@ -1,8 +1,8 @@
 -- What a list's spans show after its text has grown.
-use Rattle.std.proofs.Common.{◌≡◌, ℕ, zero, suc, ◌+◌, ◌-◌, ◌*◌, ◌^◌, ◌<◌, ◌≤◌, List, [], ◌∷◌, ◌++◌, length, get_or, set, take, drop, map, refl, sym, ap, ◌∙◌, arith, length-append, length-drop}
-use Rattle.std.specs.Prelude.{All, Option, Some, None, sum_by}
+use Rattle.std.proofs.Common.{◌≡◌, ℕ, zero, suc, ◌+◌, ◌-◌, ◌*◌, ◌^◌, ◌<◌, ◌≤◌, List, [], ◌∷◌, ◌++◌, length, get_or, set, take, drop, map, replicate, append_assoc, append-nil, refl, sym, ap, ◌∙◌, arith, length-append, length-drop}
+use Rattle.std.specs.Prelude.{All, Bool, true, false, Option, Some, None, sum_by}
 use Rattle.std.specs.List.{concat}
-use Rattle.std.proofs.lemmas.List.{drop-append-le, take-append-le, take-append-drop, length-take-le, map-append}
+use Rattle.std.proofs.lemmas.List.{drop-append-le, take-append-le, take-append-drop, length-take-le, length-map, map-append}
 use Rattle.std.proofs.lemmas.List.Elements.{All-head, All-tail, All-cons, All-push, All-set, All-weaker}
 use Rattle.std.proofs.lemmas.List.Sums.{sum_by-cons}
 use Rattle.std.proofs.lemmas.Nat.{mul-lt}
@@ -10,7 +10,7 @@ use Rattle.std.proofs.Math.Seq.{drop-append_seam, take-length}
 use Rattle.xsk_umem.specs.declared.packet_list.Span.{Span}
 use Rattle.xsk_umem.specs.declared.packet_list.Gaps.{Gaps}
 use Rattle.xsk_umem.specs.PacketList.{with_last_extended}
-use Rattle.xsk_umem.specs.Span.{at_span, len_of, IsWithin, AreFrom, AreInText, AreSpans, AreSpaced, HaveGaps, end_of, spans_from, first_gap, gap_before}
+use Rattle.xsk_umem.specs.Span.{at_span, len_of, IsWithin, AreFrom, AreInText, AreSpans, AreSpaced, HaveGaps, HasText, end_of, spans_from, text_of, text_with, first_gap, gap_before}
 
 -- ---- what is shown
 
@@ -208,6 +208,65 @@ pub gaps-spans : (text : List ℕ) (gaps : Option Gaps) (spans : List Span) → 
 gaps-spans text gaps spans have all some is =
     let spaced : AreSpaced some.first some.before_each spans = rw is at have in
     spaced-spans text some.first some.before_each spans spaced all
+
+-- ---- the text with gaps
+
+-- one more packet stands behind its gap at the end
+text_of-push : (gap : ℕ) (packets : List (List ℕ)) (packet : List ℕ) → text_of gap (packets ++ packet ∷ []) ≡ text_of gap packets ++ replicate gap 0 ++ packet
+text_of-push gap [] packet = append-nil (replicate gap 0 ++ packet)
+text_of-push gap (first ∷ packets) packet =
+    let here : List ℕ = replicate gap 0 ++ first in
+    ap (λ (text : List ℕ). here ++ text) (text_of-push gap packets packet)
+    ∙ sym (append_assoc here (text_of gap packets ++ replicate gap 0) packet)
+    ∙ ap (λ (text : List ℕ). text ++ packet) (sym (append_assoc here (text_of gap packets) (replicate gap 0)))
+
+-- and what is appended to the last packet stands at the end
+text_of-extend : (gap : ℕ) (packets : List (List ℕ)) (bytes : List ℕ) → 1 ≤ length packets → text_of gap (with_last_extended packets bytes) ≡ text_of gap packets ++ bytes
+text_of-extend gap [] bytes some = absurd (omega (arith, some))
+text_of-extend gap (packet ∷ []) bytes some =
+    let zeros : List ℕ = replicate gap 0 in
+    append-nil (zeros ++ (packet ++ bytes)) ∙ sym (append_assoc zeros packet bytes) ∙ ap (λ (text : List ℕ). text ++ bytes) (sym (append-nil (zeros ++ packet)))
+text_of-extend gap (packet ∷ next ∷ packets) bytes some =
+    let here : List ℕ = replicate gap 0 ++ packet in
+    ap (λ (text : List ℕ). here ++ text) (text_of-extend gap (next ∷ packets) bytes (omega arith)) ∙ sym (append_assoc here (text_of gap (next ∷ packets)) bytes)
+
+text-push : (laid : Bool) (gaps : Option Gaps) (packets : List (List ℕ)) (packet text : List ℕ) → HasText laid gaps packets text → HasText laid gaps (packets ++ packet ∷ []) (text ++ replicate (gap_before gaps) 0 ++ packet)
+text-push true gaps packets packet text has = tt
+text-push false None packets packet text has = tt
+text-push false (Some gaps) packets packet text has =
+    let is : text ≡ text_with gaps packets = has in
+    let zeros : List ℕ = replicate gaps.first 0 in
+    let gap : List ℕ = replicate gaps.before_each 0 in
+    ap (λ (t : List ℕ). t ++ gap ++ packet) is
+    ∙ ap (λ (t : List ℕ). t ++ packet) (append_assoc zeros (text_of gaps.before_each packets) gap)
+    ∙ append_assoc zeros (text_of gaps.before_each packets ++ gap) packet
+    ∙ ap (λ (t : List ℕ). zeros ++ t) (sym (text_of-push gaps.before_each packets packet))
+
+text-extend : (laid : Bool) (gaps : Option Gaps) (packets : List (List ℕ)) (bytes text : List ℕ) → 1 ≤ length packets → HasText laid gaps packets text → HasText laid gaps (with_last_extended packets bytes) (text ++ bytes)
+text-extend true gaps packets bytes text some has = tt
+text-extend false None packets bytes text some has = tt
+text-extend false (Some gaps) packets bytes text some has =
+    let is : text ≡ text_with gaps packets = has in
+    let zeros : List ℕ = replicate gaps.first 0 in
+    ap (λ (t : List ℕ). t ++ bytes) is ∙ append_assoc zeros (text_of gaps.before_each packets) bytes
+    ∙ ap (λ (t : List ℕ). zeros ++ t) (sym (text_of-extend gaps.before_each packets bytes some))
+
+-- with the packets that the spans show
+pub has-push : (laid : Bool) (gaps : Option Gaps) (text piece : List ℕ) (spans : List Span) (span : Span) (gap : ℕ) → gap ≡ gap_before gaps → All (IsWithin text) spans → span.start ≡ length (text ++ replicate gap 0)
+    → span.len ≡ length piece → HasText laid gaps (map (at_span text) spans) text
+    → HasText laid gaps (map (at_span (text ++ replicate gap 0 ++ piece)) (spans ++ span ∷ [])) (text ++ replicate gap 0 ++ piece)
+has-push laid gaps text piece spans span gap is all start len has =
+    rw (map_at_span-push text (replicate gap 0) piece spans span all start len, is) (text-push laid gaps (map (at_span text) spans) piece text has)
+
+pub has-extend : (laid : Bool) (gaps : Option Gaps) (text piece : List ℕ) (from i : ℕ) (spans : List Span) (d new : Span) → All (IsWithin text) spans → i + 1 ≡ length spans → end_of from spans ≡ length text
+    → new.start ≡ (get_or spans i d).start → new.len ≡ (get_or spans i d).len + length piece → HasText laid gaps (map (at_span text) spans) text
+    → HasText laid gaps (map (at_span (text ++ piece)) (set spans i new)) (text ++ piece)
+has-extend laid gaps text piece from i spans d new all last end start len has =
+    let count : length (map (at_span text) spans) ≡ length spans = length-map spans (at_span text) in
+    rw (map_at_span-extend text piece from i spans d new all last end start len) (text-extend laid gaps (map (at_span text) spans) piece text (omega (arith, last, count)) has)
+
+pub text-is : (laid : Bool) (gaps : Option Gaps) (packets : List (List ℕ)) (text : List ℕ) → HasText laid gaps packets text → laid ≡ false → (some : Gaps) → gaps ≡ Some some → text ≡ text_with some packets
+text-is laid gaps packets text has clean some is = rw (clean, is) at has
 
 -- ---- how many bytes
 

@@ -1,5 +1,5 @@
 -- The packets of a list, as parts of a text.
-use Rattle.std.specs.Prelude.{◌≡◌, ℕ, ◌+◌, ◌≤◌, All, Option, Some, None, List, [], ◌∷◌, length, take, drop}
+use Rattle.std.specs.Prelude.{◌≡◌, ℕ, ◌+◌, ◌≤◌, All, Bool, true, false, Option, Some, None, List, [], ◌∷◌, ◌++◌, length, take, drop, replicate}
 use Rattle.xsk_umem.specs.declared.packet_list.Span.{Span}
 use Rattle.xsk_umem.specs.declared.packet_list.Gaps.{Gaps}
 
@@ -58,3 +58,24 @@ gap_before (Some gaps) = gaps.before_each
 abbrev pub HaveGaps : Option Gaps → List Span → Type 0
 HaveGaps None spans = Unit {0}
 HaveGaps (Some gaps) spans = AreSpaced gaps.first gaps.before_each spans
+
+-- packets one behind the other, each behind a gap of zeros
+abbrev pub text_of : ℕ → List (List ℕ) → List ℕ
+text_of gap [] = []
+text_of gap (packet ∷ packets) = replicate gap 0 ++ packet ++ text_of gap packets
+
+-- behind the first gap
+abbrev pub text_with : Gaps → List (List ℕ) → List ℕ
+text_with gaps packets = replicate gaps.first 0 ++ text_of gaps.before_each packets
+
+-- a text with these gaps has nothing but zeros in them, where no headers were laid there; one that was handed in may have
+-- anything between its spans
+abbrev pub HasText : Bool → Option Gaps → List (List ℕ) → List ℕ → Type 0
+HasText true gaps packets text = Unit {0}
+HasText false None packets text = Unit {0}
+HasText false (Some gaps) packets text = text ≡ text_with gaps packets
+
+-- packets one behind the other, numbered from a place on, each behind the header of its number and its length
+abbrev pub laid_from : (ℕ → ℕ → List ℕ) → ℕ → List (List ℕ) → List ℕ
+laid_from header number [] = []
+laid_from header number (packet ∷ packets) = header number (length packet) ++ packet ++ laid_from header (number + 1) packets

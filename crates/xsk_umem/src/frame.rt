@@ -1,5 +1,9 @@
 //! Frames, each a number and its chunk, and queues of frames.
+//!
+//! A frame tells its number and not its UMEM. Who registers two UMEMs keeps their frames apart: a frame of the one passes for the
+//! other's frame of the same number, and what is then read at an address are bytes of the wrong area.
 ghost use Rattle.std.specs.Prelude.{◌≡◌, ◌+◌, ◌<◌, ◌≤◌, [], ◌∷◌, ◌++◌, length, replicate, ◌↔◌, IsTrue, IfOk, IsNone, IfSome, IfNone};
+ghost use Rattle.std.specs.List.Sorted.{IsPermutation, IsNonDecreasingBy};
 ghost use Rattle.std.specs.VecDeque.{deque_capacity};
 ghost use Rattle.xsk_umem.specs.Frame.{Frame as Body, IsFrame, written_at};
 ghost use Rattle.xsk_umem.specs.Frames.{Frames as Queue};
@@ -125,6 +129,17 @@ impl Frames {
         ensures limit { self.new.limit ≡ self.old.limit }
     {
         self.items.pop_front()
+    }
+
+    /// Puts the frames in the order of their numbers. It takes no memory.
+    pub fn sort(&mut self)
+        ensures same { IsPermutation self.old.items self.new.items }
+        ensures ordered { IsNonDecreasingBy (λ (frame : Body). frame.number) self.new.items }
+        ensures limit { self.new.limit ≡ self.old.limit }
+    {
+        self.items
+            .make_contiguous()
+            .sort_unstable_by_key(|frame| frame.number());
     }
 
     /// Appends a frame. Fewer frames than those of the UMEM must stand in the queue.

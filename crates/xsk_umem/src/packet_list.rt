@@ -1,14 +1,18 @@
 //! Lists of packets, as spans of one text.
-ghost use Rattle.std.specs.Prelude.{ℕ, ◌≡◌, ◌+◌, ◌<◌, ◌≤◌, ◌^◌, List, [], ◌∷◌, ◌++◌, length, map, replicate, sum_by, None, Some, slice_get, ◌↔◌, IsTrue, IfOk, OnOk, OnErr, vec_len, vec_capacity};
+ghost use Rattle.std.specs.Prelude.{ℕ, ◌≡◌, ◌+◌, ◌<◌, ◌≤◌, ◌^◌, All, List, [], ◌∷◌, ◌++◌, length, map, replicate, sum_by, None, Some, false, slice_get, ◌↔◌, IsTrue, IfOk, IfSome, IsSome, OnOk, OnErr, vec_len, vec_capacity};
+ghost use Rattle.std.specs.Borrow.{sem};
+ghost use Rattle.std.specs.Io.BufRead.{Rests};
 ghost use Rattle.std.specs.List.{concat};
+ghost use Rattle.xsk_umem.specs.contracts.packet_list.PacketList.{the_row};
 ghost use Rattle.xsk_umem.specs.declared.packet_list.Gaps.{Gaps};
 ghost use Rattle.std.specs.Arc.{arc_value};
 ghost use Rattle.xsk_umem.specs.PacketList.{PacketList as Packets, no_gaps, with_last_extended};
 ghost use Rattle.xsk_umem.specs.Shared.{bytes_of, MaySpare};
-ghost use Rattle.xsk_umem.specs.Span.{at_span, len_of, AreInText, end_of, spans_from, first_gap, gap_before};
+ghost use Rattle.xsk_umem.specs.Span.{at_span, len_of, AreInText, end_of, spans_from, text_with, laid_from, AreSpans, HaveGaps, HasText, IsWithin, first_gap, gap_before};
 
 use crate::OutOfMemory;
 use crate::front::Front;
+use crate::headers::{Headers, Zeros};
 use std::alloc::Global;
 use std::marker::Model;
 use std::sync::Arc;
@@ -55,6 +59,8 @@ pub struct PacketList {
     front: Option<Front>,
     spans: Vec<Span>,
     gaps: Option<Gaps>,
+    /// Whether headers may stand in the gaps.
+    laid: bool,
     spare_packets: u32,
     spare_bytes: u64,
 }
@@ -66,7 +72,7 @@ impl Model for PacketList {
     ghost Value = { Packets };
 
     ghost use Rattle.xsk_umem.specs.Shared.{bytes_of, MaySpare};
-    ghost use Rattle.xsk_umem.specs.Span.{at_span, AreSpans, HaveGaps, first_gap, gap_before};
+    ghost use Rattle.xsk_umem.specs.Span.{at_span, AreSpans, HaveGaps, HasText, first_gap, gap_before};
 
     ghost view = { λ p. record { packets = map (at_span (bytes_of p.text.items p.front)) p.spans.items; gaps = p.gaps; spare_packets = p.spare_packets; spare_bytes = p.spare_bytes } };
 
@@ -76,7 +82,8 @@ impl Model for PacketList {
         × (vec_len p.text + (p.spare_packets * gap_before p.gaps + p.spare_bytes) ≤ vec_capacity p.text)
         × (vec_len p.spans + p.spare_packets < 2 ^ 32)
         × MaySpare p.front p.spare_packets
-        × MaySpare p.front p.spare_bytes };
+        × MaySpare p.front p.spare_bytes
+        × HasText p.laid p.gaps (map (at_span (bytes_of p.text.items p.front)) p.spans.items) (bytes_of p.text.items p.front) };
 }
 
 impl PacketList {
@@ -89,6 +96,7 @@ impl PacketList {
             front: None,
             spans: Vec::new(alloc),
             gaps: Some(NO_GAPS),
+            laid: false,
             spare_packets: 0,
             spare_bytes: 0,
         }
@@ -105,6 +113,7 @@ impl PacketList {
             front: None,
             spans: Vec::new(alloc),
             gaps: Some(gaps),
+            laid: false,
             spare_packets: 0,
             spare_bytes: 0,
         })
@@ -124,6 +133,7 @@ impl PacketList {
             front: None,
             spans,
             gaps: None,
+            laid: false,
             spare_packets: 0,
             spare_bytes: 0,
         }
@@ -146,25 +156,44 @@ impl PacketList {
             front: Some(front),
             spans,
             gaps: None,
+            laid: false,
             spare_packets: 0,
             spare_bytes: 0,
         })
     }
 
     /// What the list is made of: a text that ends with the last packet, or with the first gap where there is none, and the
-    /// packets' spans, in order and apart, which the gaps tell exactly. It takes no memory.
+    /// packets' spans, in order and apart. The gaps tell both exactly, and have nothing but zeros in them. It takes no memory.
     pub fn into_parts(self) -> Parts
         ensures packets { map (at_span result.text.items) result.spans.items ≡ self.packets }
         ensures spans { AreInText result.text.items result.spans.items }
         ensures kept { result.gaps ≡ self.gaps }
         ensures end { end_of (first_gap result.gaps) result.spans.items ≡ length result.text.items }
         ensures gaps { (gaps : Gaps) → result.gaps ≡ Some gaps → result.spans.items ≡ spans_from gaps.first gaps.before_each self.packets }
+        ensures text { (gaps : Gaps) → result.gaps ≡ Some gaps → result.text.items ≡ text_with gaps self.packets }
     {
+        let text = own_text(self.text, self.front);
         Parts {
-            text: own_text(self.text, self.front),
+            text: cleared(text, self.spans.as_slice(), self.gaps, self.laid),
             spans: self.spans,
             gaps: self.gaps,
         }
+    }
+
+    /// The packets as they stand in the list's own text, with the headers written into its gaps, exactly where these have
+    /// the headers' sizes. It copies no packet and takes no memory, and the list stays as it was.
+    pub fn lay<H: Headers>(&mut self, headers: &H) -> Option<&[u8]>
+        ensures* same { sem 𝓛 (Rests the_row self.entry (λ list. list ≡ self.old)) }
+        ensures gaps { IsSome result ↔ (self.old.gaps ≡ Some (H.sizes_of headers.now)) }
+        ensures text { IfSome result (λ text. text.now ≡ H.first headers.now ++ laid_from (H.before headers.now) 0 self.old.packets) }
+    {
+        if self.gaps != Some(headers.sizes()) {
+            return None;
+        }
+        make_own(&mut self.text, &mut self.front);
+        self.laid = true;
+        fill(self.text.as_mut_slice(), self.spans.as_slice(), headers);
+        Some(self.text.as_slice())
     }
 
     /// The gaps that the list keeps in its text: none where it was made of spans.
@@ -361,6 +390,41 @@ fn append_zeros(text: &mut Vec<u8>, count: u32)
     for _ in 0..count {
         text.push_reserved(0);
     }
+}
+
+/// Writes headers into the gaps of a text.
+fn fill<H: Headers>(text: &mut [u8], spans: &[Span], headers: &H)
+    requires within { All (IsWithin text.old) spans.now }
+    requires spaced { spans.now ≡ spans_from (H.sizes_of headers.now).first (H.sizes_of headers.now).before_each (map (at_span text.old) spans.now) }
+    requires end { end_of (H.sizes_of headers.now).first spans.now ≡ length text.old }
+    requires few { length spans.now < 2 ^ 32 }
+    ensures { text.new ≡ H.first headers.now ++ laid_from (H.before headers.now) 0 (map (at_span text.old) spans.now) }
+{
+    let sizes = headers.sizes();
+    headers.write_first(&mut text[..sizes.first as usize]);
+    for number in 0..spans.len() as u32 {
+        let span = spans[number as usize];
+        let start = span.start - sizes.before_each as usize;
+        headers.write_before(number, span.len, &mut text[start..span.start]);
+    }
+}
+
+/// A list's text without the headers that may have been laid into its gaps.
+fn cleared(text: Vec<u8>, spans: &[Span], gaps: Option<Gaps>, laid: bool) -> Vec<u8>
+    requires spans { AreSpans (first_gap gaps) text.items spans.now }
+    requires gaps { HaveGaps gaps spans.now }
+    requires text { HasText laid gaps (map (at_span text.items) spans.now) text.items }
+    requires few { length spans.now < 2 ^ 32 }
+    ensures packets { map (at_span result.items) spans.now ≡ map (at_span text.items) spans.now }
+    ensures len { length result.items ≡ length text.items }
+    ensures text { HasText false gaps (map (at_span text.items) spans.now) result.items }
+{
+    let mut text = text;
+    match gaps {
+        Some(sizes) if laid => fill(text.as_mut_slice(), spans, &Zeros { sizes }),
+        _ => {}
+    }
+    text
 }
 
 /// Where the last span ends, and 0 where there is none.

@@ -8,18 +8,18 @@ use Rattle.xsk_pcapng.proofs.lists.lists_in.Goals as goal
 
 pub lists_over-requires-clause-within : goal.lists_over-requires-clause-within
 lists_over-requires-clause-within c =
-    subst (λ (text : Vec ℕ Global). All (IsFoundIn text.items) c.args.found.now) (sym c.in_ok-text.ensures.ok) c.requires.within
+    subst (λ (text : Vec ℕ Global). All (IsFoundIn text.items) c.args.found.now) (sym c.in-Ok-new.ensures.ok) c.requires.within
 
-pub returns-clause-packets : goal.returns-clause-packets
-returns-clause-packets c =
+pub returns-in-Ok-lists_over-clause-packets : goal.returns-in-Ok-lists_over-clause-packets
+returns-in-Ok-lists_over-clause-packets c =
     let lists : List (List (List ℕ)) = lists_of c.args.ports (map (arrival_in c.args.bytes.items) c.args.found.now) in
-    let are : c.in_ok-lists.lists.items ≡ map bare lists =
-    c.in_ok-lists.ensures ∙ ap (λ (text : Vec ℕ Global). map bare (lists_of c.args.ports (map (arrival_in text.items) c.args.found.now))) c.in_ok-text.ensures.ok in
+    let are : c.in-Ok-lists_over.lists.items ≡ map bare lists =
+    c.in-Ok-lists_over.ensures ∙ ap (λ (text : Vec ℕ Global). map bare (lists_of c.args.ports (map (arrival_in text.items) c.args.found.now))) c.in-Ok-new.ensures.ok in
     ap packets_of are ∙ packets_of-bare lists
 
-pub returns-clause-bare : goal.returns-clause-bare
-returns-clause-bare c =
+pub returns-in-Ok-lists_over-clause-bare : goal.returns-in-Ok-lists_over-clause-bare
+returns-in-Ok-lists_over-clause-bare c =
     let lists : List (List (List ℕ)) = lists_of c.args.ports (map (arrival_in c.args.bytes.items) c.args.found.now) in
-    let are : c.in_ok-lists.lists.items ≡ map bare lists =
-    c.in_ok-lists.ensures ∙ ap (λ (text : Vec ℕ Global). map bare (lists_of c.args.ports (map (arrival_in text.items) c.args.found.now))) c.in_ok-text.ensures.ok in
+    let are : c.in-Ok-lists_over.lists.items ≡ map bare lists =
+    c.in-Ok-lists_over.ensures ∙ ap (λ (text : Vec ℕ Global). map bare (lists_of c.args.ports (map (arrival_in text.items) c.args.found.now))) c.in-Ok-new.ensures.ok in
     are ∙ ap (map bare) (sym (ap packets_of are ∙ packets_of-bare lists))

@@ -3,7 +3,7 @@ use Rattle.std.proofs.lemmas.List.{length-map}
 use Rattle.xsk_umem.specs.declared.packet_list.Span.{Span}
 use Rattle.xsk_umem.specs.Shared.{bytes_of}
 use Rattle.xsk_umem.proofs.Sharing.{bytes_of-append, spare_less}
-use Rattle.xsk_umem.proofs.Spans.{map_at_span-extend, spans-extend, gaps-extend}
+use Rattle.xsk_umem.proofs.Spans.{map_at_span-extend, spans-extend, gaps-extend, has-extend}
 use Rattle.xsk_umem.proofs.packet_list.PacketList.extend_last.Goals as goal
 
 pub invariant_of-self : goal.invariant_of-self
@@ -24,6 +24,10 @@ invariant_of-self c =
       search rules,
       c.self.invariant.5,
       spare_less front c.self.inside.spare_bytes _ c.self.invariant.6 (search rules),
+      rw grown (has-extend c.self.inside.laid c.self.inside.gaps _ _ _ (c.len-last.result - 1) _ c.index_mut.result.now _ c.self.invariant.0.within last c.self.invariant.0.end
+          (ap (λ (s : Span). s.start) c.index_mut.ensures.value)
+          (ap (λ (s : Span). s.len + length c.args.bytes.now) c.index_mut.ensures.value)
+          c.self.invariant.7),
     )
 
 pub returns-clause-packets : goal.returns-clause-packets

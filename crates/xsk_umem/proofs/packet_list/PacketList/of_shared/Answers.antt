@@ -23,7 +23,7 @@ invariant_of-result c =
     let text = arc_value c.args.text.now in
     let end : c.end.result ≡ end_of 0 c.args.spans.items = c.end.ensures ∙ ap (end_of 0) c.as_slice.ensures.value in
     let cut : front_of c.in_ok-front.front ≡ take (end_of 0 c.args.spans.items) text.items = c.in_ok-front.ensures ∙ ap (λ n. take n text.items) end in
-    (subst (λ (bytes : List ℕ). AreSpans 0 bytes c.args.spans.items) (sym cut) (cut-spans text.items c.args.spans.items c.requires.spans), tt, search rules, search rules, search rules, refl, refl)
+    (subst (λ (bytes : List ℕ). AreSpans 0 bytes c.args.spans.items) (sym cut) (cut-spans text.items c.args.spans.items c.requires.spans), tt, search rules, search rules, search rules, refl, refl, tt)
 
 pub returns : goal.returns
 returns c =

@@ -13,7 +13,7 @@ pub invariant_of-result : goal.invariant_of-result
 invariant_of-result c =
     let end : c.end.result ≡ end_of 0 c.args.spans.items = c.end.ensures ∙ ap (end_of 0) c.as_slice.ensures.value in
     let cut : c.truncate.new.self.items ≡ take (end_of 0 c.args.spans.items) c.args.text.items = c.truncate.ensures.items ∙ ap (λ n. take n c.args.text.items) end in
-    (rw cut (cut-spans c.args.text.items c.args.spans.items c.requires.spans), tt, search rules, search rules, search rules, tt, tt)
+    (rw cut (cut-spans c.args.text.items c.args.spans.items c.requires.spans), tt, search rules, search rules, search rules, tt, tt, tt)
 
 pub returns : goal.returns
 returns c =

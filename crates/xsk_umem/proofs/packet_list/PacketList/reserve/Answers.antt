@@ -13,4 +13,5 @@ invariant_of-self-in_err-reserve_own c =
       search rules,
       rw c.reserve_own.ensures.own tt,
       rw c.reserve_own.ensures.own tt,
+      rw (c.reserve.ensures.items, c.reserve_own.ensures.bytes) c.self.invariant.7,
     )
