@@ -27,7 +27,9 @@ use Rattle.xsk_turns.specs.AppOwned.{IsApp}
 use Rattle.xsk_turns.proofs.AppGroups.{group_front}
 use Rattle.xsk_turns.proofs.Walks.{Premise, MeetAlong}
 use Rattle.xsk_turns.proofs.AppWalk.{shut_port, shut_cells, Place, Lanes, Ending, Looking, Waking, Looked, Kicking, TxTold, Lowering, Shutting, Family, Said, rx_empty, rx_items, rx_released, tx_granted, tx_full, tx_submitted, comp_empty, comp_items, comp_released, fill_granted, fill_full, fill_submitted, looked_rx_done, told_tx_done, looked_gone, looked_need, kicked, lowered, told_closing, drain_empty, drain_items, drain_released, looked_acked, no_lanes, has_items, lanes_done, has_frames, all_given, sides_done, looks, rests, skips, begins, without_need, needs_none, needs_kick, told_quietly, told_both, closes, keeps_cell, closed_quietly, closed_kicks, AtCalls, AtEntries, AtPasses, IsLaw, of_run}
-use Rattle.xsk_bounds.specs.Totals.{total, put, steps_put, steps_taken, swapped, cells_swapped, closings_told}
+use Rattle.xsk_turns.proofs.Owned.{frames_few}
+use Rattle.xsk_turns.specs.Totals.{total}
+use Rattle.xsk_bounds.specs.Totals.{put, steps_put, steps_taken, swapped, cells_swapped, closings_told}
 use Rattle.xsk_bounds.proofs.Totals.{total-push}
 use Rattle.xsk_bounds.proofs.Sums.{Applies}
 
@@ -54,14 +56,6 @@ total_set : {X : Type 0} (xss : List (List X)) (i : ℕ) (xs : List X) → i < l
 total_set [] i xs lt = absurd (omega (arith, lt))
 total_set (ys ∷ xss) zero xs lt = omega arith
 total_set (ys ∷ xss) (suc i) xs lt = omega (arith, total_set xss i xs (omega (arith, lt)))
-
-few_in : (items : List Item) → length (frames_in items) ≤ length items
-few_in [] = omega arith
-few_in (item ∷ items) = omega (arith, length-append (frame_in item.frame) (frames_in items), one item.frame, few_in items)
-  where
-    one : (frame : Option Frame) → length (frame_in frame) ≤ 1
-    one (Some frame) = omega arith
-    one None = omega arith
 
 -- frames that are taken from items are no more than the items
 few_by : (change : Option Change) (item : Item) → length (taken_by change item) ≤ 1
@@ -159,7 +153,7 @@ module _ (c : Config) (a who : ℕ) where
   comp_taken side r n kept l items place next same h =
       let t : Told = record { call = Peek (Comp r) n; reply = Items items } in
       record {
-        spends = omega (arith, h.spends, few_in items, total_put kept.back side (frames_in items), total-push put l t, total-push steps_put l t, total-push steps_taken l t);
+        spends = omega (arith, h.spends, frames_few items, total_put kept.back side (frames_in items), total-push put l t, total-push steps_put l t, total-push steps_taken l t);
         swaps = omega (arith, h.swaps, same, total-push put l t, total-push swapped l t, total-push cells_swapped l t, total-push closings_told l t);
         sides = length-set kept.back side (frames_in items) ∙ h.sides;
       }
@@ -175,7 +169,7 @@ module _ (c : Config) (a who : ℕ) where
         spends = omega (
           arith,
           h.spends,
-          few_in items,
+          frames_few items,
           total_put kept.back side (take 4096 all),
           length-take 4096 all,
           length-append (back_at kept side) (frames_in items),

@@ -22,7 +22,8 @@ use Rattle.xsk_model.proofs.Histories.{IsSound}
 use Rattle.xsk_model.proofs.Places.{is_ring-self, place_below}
 use Rattle.xsk_model.proofs.Sound.{few_items}
 use Rattle.xsk_model.proofs.Counts.{within_ring}
-use Rattle.xsk_bounds.specs.Totals.{total, changed, swapped, swap_count, put}
+use Rattle.xsk_turns.specs.Totals.{total}
+use Rattle.xsk_bounds.specs.Totals.{changed, swapped, swap_count, put}
 use Rattle.xsk_bounds.proofs.Totals.{total-push}
 
 -- what a ring still changes by what stands there: an item that is out is taken and released, one that is held is released;

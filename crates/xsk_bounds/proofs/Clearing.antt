@@ -26,7 +26,8 @@ use Rattle.xsk_turns.specs.declared.manner.Manner.{Manner}
 use Rattle.xsk_turns.specs.declared.wire.Wire.{Wire}
 use Rattle.xsk_turns.proofs.ScriptLemmas.{leaves_front, asked_last}
 use Rattle.xsk_turns.proofs.Walks.{Anything, meet_anything}
-use Rattle.xsk_turns.proofs.DriverWalk.{Woken, Family, Said, ClearKick, kicked, none_comes, IsLaw, AtCalls, AtEntries, AtPasses, at_call}
+use Rattle.xsk_turns.proofs.DriverPlaces.{Woken, Family, Said, ClearKick, kicked, none_comes, IsLaw, AtCalls, AtEntries, AtPasses}
+use Rattle.xsk_turns.proofs.DriverWalk.{at_call}
 use Rattle.xsk_turns.proofs.AppWalk as walk
 use Rattle.xsk_bounds.specs.Totals.{saw_kick, saw_last}
 use Rattle.xsk_bounds.proofs.Kicks.{KeepsKicks}

@@ -20,9 +20,11 @@ use Rattle.xsk_turns.specs.declared.manner.Manner.{Manner}
 use Rattle.xsk_turns.specs.declared.wire.Wire.{Wire}
 use Rattle.xsk_turns.proofs.AppShut.{shut_mine, no_shut, shut_port_below, shut_app}
 use Rattle.xsk_turns.proofs.Walks.{Anything, meet_anything}
-use Rattle.xsk_turns.proofs.DriverWalk as drive
+use Rattle.xsk_turns.proofs.DriverPlaces as drive
+use Rattle.xsk_turns.proofs.DriverWalk as along
 use Rattle.xsk_turns.proofs.AppWalk.{Place, Looking, Waking, Looked, Kicking, Lowering, Family, Said, TellClosing, shut_port, shut_cells, asked, leads, kept_before, call_at, point_of, reply_of, lowered, told_closing, looked_rx_done, looked_gone, closes, keeps_cell, AtCalls, AtEntries, AtPasses, IsLaw, of_run}
-use Rattle.xsk_bounds.specs.Totals.{total, sum_below, number_of, cell_count, closing_count, cells_swapped, closings_told, closings_acked}
+use Rattle.xsk_turns.specs.Totals.{total}
+use Rattle.xsk_bounds.specs.Totals.{sum_below, number_of, cell_count, closing_count, cells_swapped, closings_told, closings_acked}
 use Rattle.xsk_bounds.proofs.Totals.{total-push, sum-zero}
 
 abbrev flag : Bool → ℕ
@@ -177,7 +179,7 @@ module _ (wire : Wire) (c : Config) (d : ℕ) where
 
 pub driver_acks : (wire : Wire) (c : Config) (d : ℕ) (input : List Judged) (l : List Told) → IsDriverRun wire c d input l → Acks wire c d l
 driver_acks wire c d input l run =
-    drive.of_run (seat_of wire c d) Anything (AtDriver wire c d) (AskedDriver wire c d) (λ kept l. Acks wire c d l) (driver_law wire c d) (start (classes_of c) input) (omega arith, omega arith) l
+    along.of_run (seat_of wire c d) Anything (AtDriver wire c d) (AskedDriver wire c d) (λ kept l. Acks wire c d l) (driver_law wire c d) (start (classes_of c) input) (omega arith, omega arith) l
     (meet_anything (turn (seat_of wire c d)) (turn (seat_of wire c d) (start (classes_of c) input)) [] l)
     (Acks wire c d) (λ kept m h. begun kept.parked m (flag kept.acked) h) (λ kept call m h. h) (λ kept m h. h) run
   where

@@ -3,7 +3,6 @@
 use Rattle.std.proofs.Common.{◌≡◌, ℕ, zero, suc, ◌+◌, ◌*◌, ◌%◌, ◌≤◌, Bool, true, false, cond, not, ◌||◌, ◌&&◌, eqb, nat_le, Option, Some, None, is_some, option_to_list, List, [], ◌∷◌, ◌++◌, length, take, drop, map, replicate, refl, ap, subst, ◌∙◌, arith, length-append, length-take, length-drop, eq-eqb, ltb-false}
 use Rattle.std.specs.Int.{div_ceil}
 use Rattle.std.proofs.lemmas.List.{length-map}
-use Rattle.xsk_umem.specs.Frame.{Frame}
 use Rattle.xsk_umem.specs.Geometry.{Geometry, IsGeometry, payload_of}
 use Rattle.xsk_umem.specs.declared.batch.Item.{Item}
 use Rattle.xsk_model.specs.Limits.{most_fragments}
@@ -24,11 +23,14 @@ use Rattle.xsk_turns.specs.Turns.{Seat, Judged, Kept, fresh, awaits, bounced_amo
 use Rattle.xsk_turns.specs.declared.wire.Wire.{Wire}
 use Rattle.xsk_turns.specs.declared.disposal.Disposal.{Disposal}
 use Rattle.xsk_turns.specs.declared.disposal.Disposal.TheVariants.{Delivered, NoFrames, RxFull, TooLong, Missed, Bounced}
-use Rattle.xsk_turns.proofs.Layouts.{few_pieces}
+use Rattle.xsk_turns.proofs.Layouts.{few_pieces, length-laid_out}
 use Rattle.xsk_turns.proofs.Walks.{nothing_due, submit_due, release_due}
-use Rattle.xsk_turns.proofs.DriverWalk.{Place, Starting, Acking, Receiving, Trying, Lacking, Sending, Idling, Arming, Which, Turning, Again, Parked, Woken, Disarming, Family, first_place, Begins, asked, PeekFill, ReleaseFill, PeekTx, ReleaseTx, ArmTx, DisarmTx, SubmitRx, call_at, saw_fed, saw_closed, told_acked, told_rx_done, told_bounced, looked_none, looked_long, looked_some, fill_empty, fill_items, fill_released, rx_granted, rx_full, rx_submitted, comp_granted, comp_full, comp_submitted, tx_empty, tx_items, tx_released, looked_tx_done, armed_fill, armed_tx, found_end, found_none, kicked, not_kicked, cleared_kick, disarmed_fill, disarmed_tx, receives, untried, none_comes, too_few, waits, drops_full, drops_frameless, visited, idles, arms, seeks, sought, misses, looks, finds, parks, disarmed, Said, AtCalls, AtEntries, AtPasses, IsLaw, of_run}
-use Rattle.xsk_bounds.specs.Totals.{total, put, steps_put, steps_taken, swapped, took, kick_swaps, closings_acked}
-use Rattle.xsk_bounds.proofs.Totals.{total-append, total-push}
+use Rattle.xsk_turns.proofs.DriverPlaces.{Place, Starting, Acking, Receiving, Trying, Lacking, Sending, Idling, Arming, Which, Turning, Again, Parked, Woken, Disarming, Family, first_place, Begins, asked, PeekFill, ReleaseFill, PeekTx, ReleaseTx, ArmTx, DisarmTx, SubmitRx, call_at, saw_fed, saw_closed, told_acked, told_rx_done, told_bounced, looked_none, looked_long, looked_some, fill_empty, fill_items, fill_released, rx_granted, rx_full, rx_submitted, comp_granted, comp_full, comp_submitted, tx_empty, tx_items, tx_released, looked_tx_done, armed_fill, armed_tx, found_end, found_none, kicked, not_kicked, cleared_kick, disarmed_fill, disarmed_tx, receives, untried, none_comes, too_few, waits, drops_full, drops_frameless, visited, idles, arms, seeks, sought, misses, looks, finds, parks, disarmed, Said, AtCalls, AtEntries, AtPasses, IsLaw}
+use Rattle.xsk_turns.proofs.DriverWalk.{of_run}
+use Rattle.xsk_turns.specs.Totals.{total}
+use Rattle.xsk_bounds.specs.Totals.{put, steps_put, steps_taken, swapped, took, kick_swaps, closings_acked}
+use Rattle.xsk_turns.proofs.Totals.{total-append}
+use Rattle.xsk_bounds.proofs.Totals.{total-push}
 use Rattle.xsk_bounds.proofs.Sums.{Spends, Drives}
 use Rattle.xsk_bounds.proofs.AppSpending.{Lawful, meet_lawful, total_put}
 
@@ -144,10 +146,6 @@ pub record Spent (d packets : ℕ) (l : List Told) : Type 0 where
   pub kicks : (e : ℕ) → total (kick_swaps e 1) l ≡ 0
 
 -- a packet has no more pieces than 18
-length-laid_out : (g : Geometry) (packet : List ℕ) (frames : List Frame) → length (laid_out g packet frames) ≡ length frames
-length-laid_out g packet [] = refl
-length-laid_out g packet (frame ∷ frames) = omega (arith, length-laid_out g (drop (payload_of g) packet) frames)
-
 pieces_few : (c : Config) → IsGeometry c.geometry → (packet : List ℕ) → length packet ≤ packet_limit c → div_ceil (length packet) (payload_of c.geometry) ≤ 18
 pieces_few c geometry packet short = by c.sg refl
   where

@@ -16,7 +16,7 @@ use Rattle.xsk_model.proofs.Along.{Keeps, along}
 use Rattle.xsk_model.proofs.Folds.{all_told-append}
 use Rattle.xsk_model.proofs.Moves.{ring_reply, ring_after-out}
 use Rattle.xsk_model.proofs.Places.{place_below}
-use Rattle.xsk_bounds.specs.Totals.{total}
+use Rattle.xsk_turns.specs.Totals.{total}
 use Rattle.xsk_bounds.proofs.Totals.{total-push}
 
 -- the items that are out, each counted with the number of its ring's place

@@ -21,7 +21,8 @@ use Rattle.xsk_model.proofs.Folds.{all_told-append, own-push_same, own-push_othe
 use Rattle.xsk_model.proofs.FrameTheorems.{opening_is}
 use Rattle.xsk_model.proofs.Histories.{IsSound}
 use Rattle.xsk_model.proofs.Closings.{is_mark-true, is_mark-self}
-use Rattle.xsk_bounds.specs.Totals.{total, old_of, looks_at_kick, saw_kick, saw_last, swaps_kick, kick_swaps}
+use Rattle.xsk_turns.specs.Totals.{total}
+use Rattle.xsk_bounds.specs.Totals.{old_of, looks_at_kick, saw_kick, saw_last, swaps_kick, kick_swaps}
 use Rattle.xsk_bounds.proofs.Totals.{total-push}
 
 -- whoever sets the kick of a pair, to whatever number: it is set to 1, or cleared by the driver, whose last look saw it set

@@ -21,10 +21,11 @@ use Rattle.xsk_model.proofs.Histories.{IsSound, history_sound}
 use Rattle.xsk_model.proofs.Moves.{ring_after-within}
 use Rattle.xsk_model.proofs.Opened.{get_or-blanks, length-home_rings, length-frames}
 use Rattle.xsk_model.proofs.Places.{is_ring-self}
+use Rattle.xsk_model.proofs.RingSizes.{size_few}
 use Rattle.xsk_model.proofs.Sound.{few_items}
-use Rattle.xsk_desc.proofs.Going.{size_few}
-use Rattle.xsk_bounds.specs.Totals.{total, steps_left}
-use Rattle.xsk_bounds.proofs.Totals.{total-append}
+use Rattle.xsk_turns.specs.Totals.{total}
+use Rattle.xsk_bounds.specs.Totals.{steps_left}
+use Rattle.xsk_turns.proofs.Totals.{total-append}
 use Rattle.xsk_bounds.proofs.Flow.{out_from}
 use Rattle.xsk_bounds.proofs.Changing.{standing, reserved}
 

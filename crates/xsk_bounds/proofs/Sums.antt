@@ -15,7 +15,8 @@ use Rattle.xsk_model.specs.declared.call.Call.TheVariants.{Reserve, Submit, Peek
 use Rattle.xsk_model.proofs.Along.{Keeps, along}
 use Rattle.xsk_model.proofs.CallTheorems.{callers_exist}
 use Rattle.xsk_bounds.specs.Bounds.{most_changes, closing_changes}
-use Rattle.xsk_bounds.specs.Totals.{total, sum_below, changed, swapped, swap_count, on_ring, put, took, steps_on, steps_put, steps_taken, swaps_kick, kick_swaps, number_of, cell_count, closing_count, cells_swapped, closings_told, closings_acked}
+use Rattle.xsk_turns.specs.Totals.{total}
+use Rattle.xsk_bounds.specs.Totals.{sum_below, changed, swapped, swap_count, on_ring, put, took, steps_on, steps_put, steps_taken, swaps_kick, kick_swaps, number_of, cell_count, closing_count, cells_swapped, closings_told, closings_acked}
 use Rattle.xsk_bounds.proofs.Totals.{total-le, total-add, sum-le, sum-add, sum-times, sum-const, sum-zero, total_own}
 use Rattle.xsk_bounds.proofs.Flow.{count_on, put_on, took_on, flow}
 use Rattle.xsk_bounds.proofs.Changing.{changes_by}

@@ -3,11 +3,9 @@ use Rattle.std.proofs.Common.{◌≡◌, ◌≢◌, ℕ, zero, suc, ◌+◌, ◌
 use Rattle.std.proofs.lemmas.Bool.{cases_eq}
 use Rattle.std.proofs.lemmas.List.Elements.{All-head, All-tail}
 use Rattle.xsk_model.specs.Entry.{Told, Entry, told, own, all_told}
-use Rattle.xsk_bounds.specs.Totals.{total, sum_below}
-
-pub total-append : {X : Type 0} (f : X → ℕ) (xs ys : List X) → total f (xs ++ ys) ≡ total f xs + total f ys
-total-append f [] ys = omega arith
-total-append f (x ∷ xs) ys = omega (arith, total-append f xs ys)
+use Rattle.xsk_turns.specs.Totals.{total}
+use Rattle.xsk_turns.proofs.Totals.{total-append}
+use Rattle.xsk_bounds.specs.Totals.{sum_below}
 
 pub total-push : {X : Type 0} (f : X → ℕ) (xs : List X) (x : X) → total f (xs ++ x ∷ []) ≡ total f xs + f x
 total-push f xs x = omega (arith, total-append f xs (x ∷ []))

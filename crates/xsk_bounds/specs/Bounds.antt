@@ -9,7 +9,8 @@ use Rattle.xsk_model.specs.Entry.{Entry, own, all_told}
 use Rattle.xsk_model.specs.History.{IsHistory}
 use Rattle.xsk_turns.specs.Owned.{IsSteady}
 use Rattle.xsk_turns.specs.Workers.{Setting, input_of, IsWorkerRun}
-use Rattle.xsk_bounds.specs.Totals.{total, sum_below, changed}
+use Rattle.xsk_turns.specs.Totals.{total}
+use Rattle.xsk_bounds.specs.Totals.{sum_below, changed}
 
 -- the packets of all drivers
 abbrev pub packets_of : Setting → ℕ

@@ -1,6 +1,6 @@
 -- Sums over calls and their replies: how many change the object, how many items are put into rings and taken from them, and
 -- how many steps of their way the frames of these items have left. All of this is this project's own.
-use Rattle.std.specs.Prelude.{ℕ, zero, suc, ◌+◌, ◌*◌, ◌==◌, Bool, false, ◌&&◌, if◌then◌else◌, Option, None, Some, List, [], ◌∷◌, length, fold}
+use Rattle.std.specs.Prelude.{ℕ, zero, suc, ◌+◌, ◌*◌, ◌==◌, Bool, false, ◌&&◌, if◌then◌else◌, Option, None, Some, List, length, fold}
 use Rattle.xsk_model.specs.Marks.{is_mark}
 use Rattle.xsk_model.specs.Object.{submitted, taken}
 use Rattle.xsk_model.specs.Entry.{Told}
@@ -13,11 +13,7 @@ use Rattle.xsk_model.specs.declared.call.Call.TheVariants.{Reserve, Submit, Peek
 use Rattle.xsk_model.specs.declared.call.Reply.{Reply}
 use Rattle.xsk_model.specs.declared.call.Reply.TheVariants.{Old}
 
--- a measure of elements, summed up; and a number for each of the first so many, summed up
-abbrev pub total : {X : Type 0} → (X → ℕ) → List X → ℕ
-total f [] = 0
-total f (x ∷ xs) = f x + total f xs
-
+-- a number for each of the first so many, summed up
 abbrev pub sum_below : ℕ → (ℕ → ℕ) → ℕ
 sum_below zero f = 0
 sum_below (suc n) f = sum_below n f + f n

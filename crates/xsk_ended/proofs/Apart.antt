@@ -11,9 +11,11 @@ use Rattle.xsk_turns.specs.declared.wire.Wire.{Wire}
 use Rattle.xsk_turns.specs.declared.disposal.Disposal.{Disposal}
 use Rattle.xsk_turns.specs.declared.disposal.Disposal.TheVariants.{Delivered, NoFrames, RxFull, TooLong, Missed, Bounced}
 use Rattle.xsk_turns.proofs.Walks.{Anything, meet_anything}
-use Rattle.xsk_turns.proofs.DriverWalk.{Family, IsNext, told_rx_done, told_bounced, looked_none, looked_long, rx_submitted, looked_tx_done, found_end, untried, drops_full, drops_frameless, untried_has, AtEntries, AtPasses, IsLaw, at_end}
+use Rattle.xsk_turns.proofs.DriverPlaces.{Family, IsNext, told_rx_done, told_bounced, looked_none, looked_long, rx_submitted, looked_tx_done, found_end, untried, drops_full, drops_frameless, untried_has, AtEntries, AtPasses, IsLaw}
+use Rattle.xsk_turns.proofs.DriverWalk.{at_end}
 use Rattle.xsk_turns.proofs.Disposing.{IsOver, over_later, disposes_all}
-use Rattle.xsk_laws.proofs.Totals.{total, total-cond, cond_few, is_from, delivered_from}
+use Rattle.xsk_turns.specs.Totals.{total}
+use Rattle.xsk_laws.proofs.Totals.{total-cond, cond_few, is_from, delivered_from}
 
 -- ---- packets and their disposals
 

@@ -31,7 +31,8 @@ use Rattle.xsk_laws.proofs.Altered.{IsMeasured, altered_few}
 use Rattle.xsk_laws.proofs.Joined as joined
 use Rattle.xsk_laws.proofs.Machines.{workers}
 use Rattle.xsk_laws.proofs.Places.{ArePaired, app_on, app_below, lane_on, lane_below, lane_rx, lane_tx}
-use Rattle.xsk_laws.proofs.Totals.{total, total-append}
+use Rattle.xsk_turns.specs.Totals.{total}
+use Rattle.xsk_turns.proofs.Totals.{total-append}
 
 -- ---- several hands
 

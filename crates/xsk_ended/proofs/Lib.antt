@@ -3,3 +3,4 @@ pub mod Lanes
 pub mod Ended
 pub mod Within
 pub mod Until
+pub mod Shown

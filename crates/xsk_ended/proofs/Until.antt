@@ -17,8 +17,8 @@ use Rattle.xsk_laws.specs.Laws.{AreEndedRunsBy, AreOfClasses, IsPlace}
 use Rattle.xsk_laws.proofs.Cut.{nothing_is_cut, sent_is_forwarded_until, sent_is_expected_until}
 use Rattle.xsk_laws.proofs.Joined as joined
 use Rattle.xsk_laws.proofs.Machines.{workers}
+use Rattle.xsk_laws.proofs.Within.{sorted_all}
 use Rattle.xsk_ended.specs.Until.{EndedAreForwarded, EndedAreExpected, AllAreForwarded, AllAreExpected}
-use Rattle.xsk_ended.proofs.Ended.{sorted_all}
 use Rattle.xsk_ended.proofs.Lanes.{one_or_open}
 
 -- ---- a lane

@@ -17,7 +17,7 @@ use Rattle.xsk_turns.specs.Sending.{bouncing}
 use Rattle.xsk_turns.specs.Verdicts.{judged}
 use Rattle.xsk_turns.specs.Workers.{Setting, IsWholeRun}
 use Rattle.xsk_machine.proofs.Acts.{IsWithin}
-use Rattle.xsk_machine.proofs.Within.{AreWithin, by_one}
+use Rattle.xsk_machine.proofs.Within.{AreWithin, each_within, by_one}
 use Rattle.xsk_ended.proofs.Ended.{ended_is_within}
 
 -- by any number of hands
@@ -32,22 +32,9 @@ module _ (hands : ℕ) (s : Setting) (frames : List Frame) (h : List Entry) (reg
   }
 
   pub are_within_by : AreWithin s h
-  are_within_by d below =
-      let p = (pair_at s.config.pairs d).port in
-      let q = (pair_at s.config.pairs d).queue in
-      let seat = regular.seats d below in
-      let some : 0 < s.config.queues = omega (arith, legal.opened.config.queues) in
-      let here : driver_on s.config p q ≡ d = ap (λ n. n * s.config.queues + q) seat.0 ∙ ap (λ n. (d / s.config.queues) * s.config.queues + n) seat.1 ∙ div-add-mod' d s.config.queues in
-      let port : p < s.config.ports = subst (λ n. n < s.config.ports) (sym seat.0) (div_below d s.config.queues s.config.ports some (omega (arith, below, regular.pairs))) in
-      let queue : q < s.config.queues = subst (λ n. n < s.config.queues) (sym seat.1) (mod_below d s.config.queues some) in
-      let few = ended_is_within hands s.manner s.wire s.config s.packets s.verdicts frames h p q ended_runs_by port queue in
-      let mine = received s.config s.packets p q in
-      let others = received s.config s.packets (paired_port p) q in
-      subst (λ k. IsWithin s d (all_sent s.config (bouncing (judged mine (slice_index_or s.verdicts k []))) h k)) here
-      (record {
-        count = omega (arith, few.0, length-append mine others);
-        bytes = omega (arith, few.1, ap length (concat-append mine others), length-append (concat mine) (concat others));
-      })
+  are_within_by =
+      each_within s frames h regular legal
+      (λ p q port queue. ended_is_within hands s.manner s.wire s.config s.packets s.verdicts frames h p q ended_runs_by port queue)
 
 -- and by one
 module _ (s : Setting) (frames : List Frame) (h : List Entry) (regular : IsRegular s.config) (legal : IsHistory s.config frames h)

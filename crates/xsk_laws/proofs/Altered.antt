@@ -17,7 +17,8 @@ use Rattle.xsk_turns.specs.Mangling.{made_of}
 use Rattle.xsk_turns.proofs.Mangling.{outside_umem}
 use Rattle.xsk_turns.specs.declared.manner.Change.{Change}
 use Rattle.xsk_turns.specs.declared.manner.Change.TheVariants.{NoBytes, WholeChunk, UnknownOption, Outside, GoesOn}
-use Rattle.xsk_laws.proofs.Totals.{total, total-append}
+use Rattle.xsk_turns.specs.Totals.{total}
+use Rattle.xsk_turns.proofs.Totals.{total-append}
 
 -- an item that was laid out stands behind the headroom of its chunk
 pub record IsPiece (g : Geometry) (item : Item) : Type 0 where

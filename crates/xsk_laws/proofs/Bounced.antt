@@ -25,7 +25,9 @@ use Rattle.xsk_turns.specs.Verdicts.{judged, EachHas, IsGiven}
 use Rattle.xsk_laws.specs.Expected.{may_bounce, none_bounces}
 use Rattle.xsk_laws.specs.Lost.{is_lost}
 use Rattle.xsk_laws.proofs.Losing.{IsFair, AreFair}
-use Rattle.xsk_laws.proofs.Totals.{total, total-append, total-cond, cond_few, is_from, delivered_from}
+use Rattle.xsk_turns.specs.Totals.{total}
+use Rattle.xsk_turns.proofs.Totals.{total-append}
+use Rattle.xsk_laws.proofs.Totals.{total-cond, cond_few, is_from, delivered_from}
 
 -- ---- of no packets none is bounced
 

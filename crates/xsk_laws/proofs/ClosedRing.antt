@@ -2,9 +2,8 @@
 -- closing was acknowledged, and it holds nothing of it.
 use Rattle.std.proofs.Common.{◌≡◌, ℕ, zero, suc, ◌+◌, ◌-◌, ◌*◌, ◌/◌, ◌%◌, ◌<◌, ◌⊎◌, inl, inr, ⊎_elim, Bool, true, false, cond, ◌&&◌, ◌||◌, not, eqb, Some, List, [], ◌∷◌, length, set, refl, sym, ap, ◌∙◌, arith, eq-eqb}
 use Rattle.std.proofs.lemmas.Bool.{cases_eq, and_parts}
-use Rattle.xsk_turns.proofs.Object.{Config, classes_of, Draining, are_none, unseen_after, draining_of, draining_after, is_on, taken, held_of, held_step}
+use Rattle.xsk_turns.proofs.Object.{Config, classes_of, Draining, are_none, unseen_after, draining_of, draining_after, is_on, taken, held_of}
 use Rattle.xsk_model.specs.Own.{released}
-use Rattle.xsk_model.proofs.Folds.{part_of-push}
 use Rattle.xsk_turns.proofs.Calls.{Item, Told, with_told, Ring, Rx, Mark, RxDone, Gone, Call, Peek, Release, Swap, Look, Reply, Granted, Full, Submitted, Items, Empty, Released, Old}
 use Rattle.xsk_model.specs.Marks.{is_mark}
 use Rattle.xsk_model.specs.declared.call.Mark.TheVariants.{NeedFill, NeedTx, Kick, Acked}
@@ -18,6 +17,7 @@ use Rattle.xsk_turns.proofs.AppShut.{IsShut, shut_mine, shut_socket}
 use Rattle.xsk_turns.proofs.Draining.{draining_told, same_unseen, when_found, found_here}
 use Rattle.xsk_turns.proofs.Walks.{release_due, Anything, meet_anything}
 use Rattle.xsk_turns.proofs.AppWalk as walk
+use Rattle.xsk_turns.proofs.Acknowledging.{held_now}
 
 -- ---- the lane
 
@@ -75,9 +75,6 @@ other_need : (x : ℕ) (m : Mark) → walk.is_need m ≡ true → is_mark (Acked
 other_need x (NeedFill d) e = refl
 other_need x (NeedTx s) e = refl
 other_need x m e = absurd (cc)
-
-held_now : (r : Ring) (l : List Told) (call : Call) (reply : Reply) → held_of r (with_told l call reply) ≡ cond (is_on r call) (held_of r l + length (taken reply) - released call) (held_of r l)
-held_now r l call reply = part_of-push held_step r 0 l (record { call = call; reply = reply })
 
 held_still : (r : Ring) (l : List Told) (call : Call) (reply : Reply) (n : ℕ) → taken reply ≡ [] → released call ≡ 0 → held_of r l ≡ n → held_of r (with_told l call reply) ≡ n
 held_still r l call reply n e f h = held_now r l call reply ∙ by (is_on r call)

@@ -1,10 +1,9 @@
 -- All frames of an application come home: at its end it has nothing, and each of its Submits is one on TX, or one on FILL of frames that
 -- are at home there. On the lanes of a socket that is closed nothing is pending.
-use Rattle.std.proofs.Common.{sum_by, ◌≡◌, ℕ, zero, suc, ◌+◌, ◌-◌, ◌*◌, ◌/◌, ◌%◌, ◌<◌, ◌≤◌, ◌⊎◌, inl, inr, ⊎_elim, Bool, true, false, cond, ◌||◌, eqb, eq-eqb, ne_eqb, Option, Some, None, List, [], ◌∷◌, ◌++◌, append-nil, append_assoc, length, map, flat_map, set, get_or, get_or-set_other, take, take_while, refl, sym, ap, ◌∙◌, subst, arith, one-add}
+use Rattle.std.proofs.Common.{sum_by, ◌≡◌, ℕ, zero, suc, ◌+◌, ◌-◌, ◌/◌, ◌%◌, ◌<◌, ◌≤◌, ◌⊎◌, inl, inr, ⊎_elim, Bool, true, false, cond, eqb, eq-eqb, ne_eqb, Option, Some, None, List, [], ◌∷◌, ◌++◌, append-nil, append_assoc, length, map, flat_map, set, get_or, get_or-set_other, take, take_while, refl, sym, ap, ◌∙◌, subst, arith, one-add}
 use Rattle.std.proofs.lemmas.Bool.{and_parts, eqb-true}
 use Rattle.std.proofs.lemmas.List.Sums.{sum_by_push}
-use Rattle.std.proofs.lemmas.Nat.{div-mul-add}
-use Rattle.std.proofs.Math.Nat.{mod-eq-sub-div-mul}
+use Rattle.std.proofs.lemmas.Nat.{div-mul-add, mod-mul-add}
 use Rattle.std.specs.List.{prefix_len}
 use Rattle.xsk_umem.specs.Frame.{Frame}
 use Rattle.xsk_model.specs.Homes.{home_pair}
@@ -27,10 +26,12 @@ use Rattle.xsk_turns.proofs.LegalCalls.{had_told}
 use Rattle.xsk_turns.proofs.Walks.{Anything, meet_anything, meet_fitting}
 use Rattle.xsk_turns.proofs.AppWalk as walk
 use Rattle.xsk_turns.proofs.AppLanes as lanes
+use Rattle.xsk_turns.proofs.AppLanes.{either}
 use Rattle.xsk_turns.proofs.AppOwning as owning
 use Rattle.xsk_laws.specs.Closed.{on_tx, on_home, times_taken, times_on_tx, times_home, AllComeHome}
 use Rattle.xsk_laws.proofs.Closed.{app_of_whole}
 use Rattle.xsk_laws.proofs.ClosedRing.{from_is}
+use Rattle.xsk_laws.proofs.Places.{side_lane}
 
 -- ---- lists
 
@@ -104,22 +105,6 @@ all_or_none false m h = omega (arith, h refl)
 
 -- ---- the lanes of a socket that is closed
 
-lane_below : (s w k : ℕ) → s < 2 → k < w → s * w + k < 2 * w
-lane_below zero w k h e = omega (arith, e)
-lane_below (suc zero) w k h e = omega (arith, e)
-lane_below (suc (suc s)) w k h e = absurd (omega (arith, h))
-
-mod_of : (s w k : ℕ) → k < w → (s * w + k) / w ≡ s → (s * w + k) % w ≡ k
-mod_of s w k h e = omega (arith, mod-eq-sub-div-mul (s * w + k) w, ap (λ (n : ℕ). n * w) e)
-
-either : (r t s : ℕ) → (eqb r s || eqb t s) ≡ true → (r ≡ s) ⊎ (t ≡ s)
-either r t s e = by (eqb r s) (eqb t s) refl refl e
-  where
-    by : (x y : Bool) → eqb r s ≡ x → eqb t s ≡ y → (x || y) ≡ true → (r ≡ s) ⊎ (t ≡ s)
-    by true y f g e = inl (eqb-true r s f)
-    by false true f g e = inr (eqb-true t s g)
-    by false false f g e = absurd (cc)
-
 module _ (c : Config) (a : ℕ) (one : IsApp c a) (shut : Shut) (is : IsShut c a shut) where
   abbrev to : ℕ
   to = lane_to c shut
@@ -134,7 +119,7 @@ module _ (c : Config) (a : ℕ) (one : IsApp c a) (shut : Shut) (is : IsShut c a
   side_is = div-mul-add (1 - shut.side) (classes_of c) (shut.socket % classes_of c) class_low
 
   class_is : to % classes_of c ≡ shut.socket % classes_of c
-  class_is = mod_of (1 - shut.side) (classes_of c) (shut.socket % classes_of c) class_low side_is
+  class_is = mod-mul-add (1 - shut.side) (classes_of c) (shut.socket % classes_of c) class_low
 
   side_back : 1 - (1 - shut.side) ≡ shut.side
   side_back = omega (arith, is.side)
@@ -145,7 +130,7 @@ module _ (c : Config) (a : ℕ) (one : IsApp c a) (shut : Shut) (is : IsShut c a
       ∙ ap (side_socket c a shut.side) class_is ∙ shut_socket c a one shut is
 
   to_below : to < lanes_of c
-  to_below = lane_below (1 - shut.side) (classes_of c) (shut.socket % classes_of c) side_low class_low
+  to_below = side_lane (1 - shut.side) (classes_of c) (shut.socket % classes_of c) side_low class_low
 
   -- it is one of them
   closed_lane : (lane : ℕ) → lane < lanes_of c → is_closed c a lane c.closing ≡ true → (lane ≡ lane_from c shut) ⊎ (lane ≡ to)

@@ -20,7 +20,8 @@ use Rattle.xsk_turns.proofs.Saying.{in-untried, in-bounced, in-cell}
 use Rattle.xsk_turns.proofs.Delivering.{IsGiven, bytes_if}
 use Rattle.xsk_turns.proofs.Delivering as delivering
 use Rattle.xsk_turns.proofs.Walks.{Premise, MeetAlong, Fitting}
-use Rattle.xsk_turns.proofs.DriverWalk.{Family, Point, Known, TellRxDone, PeekFill, ReleaseFill, ReserveRx, SubmitRx, asked, call_at, kept_at, IsNext, IsTried, told_bounced, looked_none, looked_long, rx_submitted, point_of, untried, too_few, waits, drops_full, drops_frameless, seeks, Said, AtEntries, AtPasses, IsLaw, together, at_end, of_run}
+use Rattle.xsk_turns.proofs.DriverPlaces.{Family, Point, Known, TellRxDone, PeekFill, ReleaseFill, ReserveRx, SubmitRx, asked, call_at, kept_at, IsNext, IsTried, told_bounced, looked_none, looked_long, rx_submitted, point_of, untried, too_few, waits, drops_full, drops_frameless, seeks, Said, AtEntries, AtPasses, IsLaw, together}
+use Rattle.xsk_turns.proofs.DriverWalk.{at_end, of_run}
 
 -- ---- a law stands under a stronger premise
 
@@ -43,10 +44,10 @@ module _ (seat : Seat) (P Q : Premise Kept) (weaker : (kept : Kept) (l : List To
 
   module _ (At : Family) (A : Said) (E : Kept → List Told → Type 0) (is : IsLaw seat P At A E) where
     passes_weaker : AtPasses seat Q At
-    passes_weaker (too_few packet s) noted kept l = λ h e. is.passes (too_few packet s) noted kept l h (tried_weaker kept.coming packet s e.0, e.1)
+    passes_weaker (too_few packet s) noted kept l = λ h e. is.passes (too_few packet s) noted kept l h (tried_weaker kept.coming packet s e.0, e.1, e.2, e.3)
     passes_weaker (waits packet s full) noted kept l = λ h e. is.passes (waits packet s full) noted kept l h (tried_weaker kept.coming packet s e.0, e.1)
     passes_weaker (drops_full packet s) noted kept l = λ h e. is.passes (drops_full packet s) noted kept l h (tried_weaker kept.coming packet s e.0, e.1)
-    passes_weaker (drops_frameless packet s) noted kept l = λ h e. is.passes (drops_frameless packet s) noted kept l h (tried_weaker kept.coming packet s e.0, e.1)
+    passes_weaker (drops_frameless packet s) noted kept l = λ h e. is.passes (drops_frameless packet s) noted kept l h (tried_weaker kept.coming packet s e.0, e.1, e.2)
     passes_weaker (seeks packet s) noted kept l = λ h e. is.passes (seeks packet s) noted kept l h (tried_weaker kept.coming packet s e.0, e.1)
     passes_weaker p noted kept l = λ h e. is.passes p noted kept l h e
 

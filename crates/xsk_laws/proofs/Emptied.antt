@@ -87,7 +87,7 @@ cond_same : {A : Type 0} (b : Bool) (x : A) → cond b x x ≡ x
 cond_same true x = refl
 cond_same false x = refl
 
-cond_told : (b : Bool) (t u : Telling) → u.told ≡ t.told → (cond b u t).told ≡ t.told
+pub cond_told : (b : Bool) (t u : Telling) → u.told ≡ t.told → (cond b u t).told ≡ t.told
 cond_told true t u h = h
 cond_told false t u h = refl
 

@@ -48,7 +48,7 @@ use Rattle.xsk_model.proofs.Closings.{is_mark-self}
 use Rattle.xsk_laws.proofs.Emptied.{has_mark}
 use Rattle.xsk_laws.proofs.Passed.{IsDrained, passed}
 use Rattle.xsk_laws.proofs.Altered.{IsMeasured, altered_few}
-use Rattle.xsk_laws.proofs.Totals.{total}
+use Rattle.xsk_turns.specs.Totals.{total}
 use Rattle.xsk_laws.proofs.Wholes.{wholes}
 use Rattle.xsk_laws.proofs.Filters.{IsBoundTo, seat_at, delivered_is}
 use Rattle.xsk_model.proofs.Seats.{IsAt, is_at}

@@ -10,6 +10,7 @@ pub mod Machines
 pub mod Totals
 pub mod Sockets
 pub mod Sorted
+pub mod Within
 pub mod Theorems
 pub mod OneQueue
 pub mod Losing

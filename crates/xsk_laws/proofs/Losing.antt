@@ -20,7 +20,8 @@ use Rattle.xsk_turns.specs.declared.wire.Wire.{Wire}
 use Rattle.xsk_turns.specs.declared.disposal.Disposal.{Disposal}
 use Rattle.xsk_turns.specs.declared.disposal.Disposal.TheVariants.{Delivered, NoFrames, RxFull, TooLong, Runt, Missed, Passed, Dropped, Bounced}
 use Rattle.xsk_turns.proofs.Walks.{Fitting, meet_fitting}
-use Rattle.xsk_turns.proofs.DriverWalk.{Family, IsTried, told_rx_done, told_bounced, looked_none, looked_long, rx_submitted, looked_tx_done, found_end, untried, drops_full, drops_frameless, untried_has, AtEntries, AtPasses, IsLaw, at_end}
+use Rattle.xsk_turns.proofs.DriverPlaces.{Family, IsTried, told_rx_done, told_bounced, looked_none, looked_long, rx_submitted, looked_tx_done, found_end, untried, drops_full, drops_frameless, untried_has, AtEntries, AtPasses, IsLaw}
+use Rattle.xsk_turns.proofs.DriverWalk.{at_end}
 use Rattle.xsk_turns.proofs.Disposing.{IsOver, over_later, disposes_all}
 use Rattle.xsk_turns.proofs.Saying.{in-untried, in-bounced, to_none, to_some, to_tried}
 use Rattle.xsk_model.proofs.Seats.{IsAt, is_at}

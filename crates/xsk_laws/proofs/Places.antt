@@ -69,13 +69,14 @@ side_pair c p q side o queue e =
 abbrev pub lane_on : Config → ℕ → ℕ → ℕ
 lane_on c o k = (o % 2) * classes_of c + k
 
+-- the lane of a side and a class
+pub side_lane : (side n k : ℕ) → side < 2 → k < n → side * n + k < 2 * n
+side_lane side n k h e =
+    let most : suc side * n ≤ 2 * n = mul-le-mul_right n h in
+    below side n k (2 * n) e most
+
 pub lane_below : (c : Config) (o k : ℕ) → k < classes_of c → lane_on c o k < lanes_of c
-lane_below c o k class = lanes (o % 2) (classes_of c) k (omega arith) class
-  where
-    lanes : (side n k : ℕ) → side < 2 → k < n → side * n + k < 2 * n
-    lanes side n k h e =
-        let most : suc side * n ≤ 2 * n = mul-le-mul_right n h in
-        below side n k (2 * n) e most
+lane_below c o k class = side_lane (o % 2) (classes_of c) k (omega arith) class
 
 pub lane_rx : (c : Config) (p q k o : ℕ) → q < c.queues → k < classes_of c → o ≡ 2 * (p / 2) + o % 2 → rx_of c (app_on c p q) (lane_on c o k) ≡ socket_on c o q k
 lane_rx c p q k o queue class e =

@@ -13,21 +13,15 @@ use Rattle.xsk_model.specs.declared.call.Ring.TheVariants.{Fill, Comp, Rx, Tx}
 use Rattle.xsk_model.specs.declared.call.Call.{Call}
 use Rattle.xsk_model.specs.declared.call.Call.TheVariants.{Reserve, Submit, Peek, Release, Swap, Look}
 use Rattle.xsk_prog.specs.declared.rule.Verdict.{Verdict}
+use Rattle.xsk_turns.specs.Totals.{total}
 use Rattle.xsk_turns.specs.Turns.{Judged}
 use Rattle.xsk_turns.specs.Verdicts.{judged}
 use Rattle.xsk_turns.specs.Disposals.{is_to, with_disposal}
 use Rattle.xsk_turns.specs.declared.disposal.Disposal.{Disposal}
 use Rattle.xsk_turns.specs.declared.disposal.Disposal.TheVariants.{Delivered, NoFrames, RxFull, TooLong, Runt, Missed, Passed, Dropped, Bounced}
+use Rattle.xsk_turns.proofs.Totals.{total-append}
 
--- ---- a measure of packets, summed up
-
-abbrev pub total : {X : Type 0} → (X → ℕ) → List X → ℕ
-total f [] = 0
-total f (x ∷ xs) = f x + total f xs
-
-pub total-append : {X : Type 0} (f : X → ℕ) (xs ys : List X) → total f (xs ++ ys) ≡ total f xs + total f ys
-total-append f [] ys = omega arith
-total-append f (x ∷ xs) ys = omega (arith, total-append f xs ys)
+-- ---- how many packets, and their bytes
 
 pub total-one : (xs : List (List ℕ)) → total (λ _. 1) xs ≡ length xs
 total-one [] = refl

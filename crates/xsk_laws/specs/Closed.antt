@@ -42,7 +42,7 @@ pub record HasWholeApp (m : Manner) (c : Config) (a : ℕ) (frames : List Frame)
 
 -- where it closed a socket, nothing stands in the socket's RX ring at the end, and nothing is held of it
 abbrev pub ClosedIsEmpty : Type 0
-ClosedIsEmpty = (m : Manner) (c : Config) (a s : ℕ) (frames : List Frame) (h : List Entry) → HasWholeApp m c a frames h → c.closing ≡ Some s → last_set (Closing s) (own (caller_of c a) h) ≡ Some 1
+ClosedIsEmpty = (m : Manner) (c : Config) (a s : ℕ) (frames : List Frame) (h : List Entry) → HasWholeApp m c a frames h → last_set (Closing s) (own (caller_of c a) h) ≡ Some 1
     → ((ring_at c (state_after c frames h) (Rx s)).out ≡ []) × ((ring_at c (state_after c frames h) (Rx s)).held ≡ [])
 
 -- how many whole packets were submitted on a TX ring

@@ -1,3 +1,3 @@
 pub mod Reasons
-pub mod Walk
+pub mod Asking
 pub mod Theorems

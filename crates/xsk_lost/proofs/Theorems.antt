@@ -8,7 +8,8 @@ use Rattle.xsk_turns.proofs.Disposing.{keeps_disposals, disposes_all}
 use Rattle.xsk_turns.proofs.Fitting.{fit_in_history}
 use Rattle.xsk_turns.proofs.Object.{Config}
 use Rattle.xsk_turns.proofs.ScriptLemmas.{leaves_told}
-use Rattle.xsk_turns.proofs.Walks.{MeetAlong, says_left}
+use Rattle.xsk_turns.proofs.DriverWalk.{at_call, at_end}
+use Rattle.xsk_turns.proofs.Walks.{MeetAlong}
 use Rattle.xsk_turns.specs.Disposals.{Disposed}
 use Rattle.xsk_turns.specs.Disposes.{HasDisposed, finished_with}
 use Rattle.xsk_turns.specs.Owned.{AllFit}
@@ -19,7 +20,7 @@ use Rattle.xsk_laws.specs.Expected.{received_judged}
 use Rattle.xsk_laws.proofs.Joined.{input_is}
 use Rattle.xsk_lost.specs.Reasons.{AreReasoned, LosesForReason, LosesForReasonInHistories, LostForReason, LostForReasonInRuns}
 use Rattle.xsk_lost.proofs.Reasons.{reasoned_passed}
-use Rattle.xsk_lost.proofs.Walk.{Meets, law, go_turn, begins_good}
+use Rattle.xsk_lost.proofs.Asking.{Meets, At, Asked, Ended, law, first}
 
 -- ---- what each call and its reply meet
 
@@ -53,7 +54,7 @@ pub loses_for_reason : LosesForReason
 loses_for_reason wire c d input l kept call rest fit asks =
     let seat = seat_of wire c d in
     let begins = start (classes_of c) input in
-    let said = says_left (Meets wire c d input) (law wire c d input) (turn seat) (go_turn wire c d input) begins l (ask kept call rest) (begins_good wire c d input) (meets wire c d input l (ask kept call rest) fit asks) asks in
+    let said = at_call seat (Meets wire c d input) (At wire c d input) (Asked wire c d input) (Ended wire c d input) (law wire c d input) begins (first wire c d input) l (meets wire c d input l (ask kept call rest) fit asks) kept call rest asks in
     subst (λ (x : Disposed). AreReasoned seat input l x.disposals) (keeps_disposals wire c d input l kept call rest asks).all (reasoned_passed seat input l kept.disposals kept.coming said)
 
 pub loses_for_reason_in_histories : LosesForReasonInHistories
@@ -63,8 +64,8 @@ pub lost_for_reason : LostForReason
 lost_for_reason wire c d input l kept fit ends =
     let seat = seat_of wire c d in
     let begins = start (classes_of c) input in
-    let said = says_left (Meets wire c d input) (law wire c d input) (turn seat) (go_turn wire c d input) begins l (ended kept) (begins_good wire c d input) (meets wire c d input l (ended kept) fit ends) ends in
-    subst (AreReasoned seat input l) (disposes_all wire c d input l kept ends).disposals said.reasoned
+    let said = at_end seat (Meets wire c d input) (At wire c d input) (Asked wire c d input) (Ended wire c d input) (law wire c d input) begins (first wire c d input) l (meets wire c d input l (ended kept) fit ends) kept ends in
+    subst (AreReasoned seat input l) (disposes_all wire c d input l kept ends).disposals said
 
 pub lost_for_reason_in_runs : LostForReasonInRuns
 lost_for_reason_in_runs hands manner wire c lists verdicts frames h p q run port queue =

@@ -28,16 +28,16 @@ use Rattle.xsk_model.specs.declared.call.Call.TheVariants.{Reserve, Submit, Peek
 use Rattle.xsk_model.specs.declared.call.Reply.{Reply}
 use Rattle.xsk_model.specs.declared.call.Reply.TheVariants.{Granted, Full, Submitted, Items, Empty, Released, Old}
 
-abbrev bare_items : List Item → List Item
+abbrev pub bare_items : List Item → List Item
 bare_items items = map bare_item items
 
 -- ---- numbers and addresses
 
-number_of-bare : (frame : Option Frame) → number_of (option_map bare_frame frame) ≡ number_of frame
+pub number_of-bare : (frame : Option Frame) → number_of (option_map bare_frame frame) ≡ number_of frame
 number_of-bare None = refl
 number_of-bare (Some frame) = refl
 
-numbers-bare : (items : List Item) → numbers (bare_items items) ≡ numbers items
+pub numbers-bare : (items : List Item) → numbers (bare_items items) ≡ numbers items
 numbers-bare [] = refl
 numbers-bare (item ∷ items) =
     ap (λ ns. ns ++ numbers (bare_items items)) (number_of-bare item.frame) ∙ ap (λ ns. number_of item.frame ++ ns) (numbers-bare items)
@@ -46,7 +46,7 @@ addresses-bare : (items : List Item) → map (λ (i : Item). i.desc.addr) (bare_
 addresses-bare [] = refl
 addresses-bare (item ∷ items) = ap (λ addresses. item.desc.addr ∷ addresses) (addresses-bare items)
 
-submitted-bare : (call : Call) → submitted (bare_call call) ≡ bare_items (submitted call)
+pub submitted-bare : (call : Call) → submitted (bare_call call) ≡ bare_items (submitted call)
 submitted-bare (Reserve r n) = refl
 submitted-bare (Submit r items) = refl
 submitted-bare (Peek r n) = refl
@@ -69,10 +69,10 @@ numbers-submitted call = ap numbers (submitted-bare call) ∙ numbers-bare (subm
 numbers-taken : (reply : Reply) → numbers (taken (bare_reply reply)) ≡ numbers (taken reply)
 numbers-taken reply = ap numbers (taken-bare reply) ∙ numbers-bare (taken reply)
 
-length-submitted : (call : Call) → length (submitted (bare_call call)) ≡ length (submitted call)
+pub length-submitted : (call : Call) → length (submitted (bare_call call)) ≡ length (submitted call)
 length-submitted call = ap length (submitted-bare call) ∙ length-map (submitted call) bare_item
 
-length-taken : (reply : Reply) → length (taken (bare_reply reply)) ≡ length (taken reply)
+pub length-taken : (reply : Reply) → length (taken (bare_reply reply)) ≡ length (taken reply)
 length-taken reply = ap length (taken-bare reply) ∙ length-map (taken reply) bare_item
 
 -- ---- folds
@@ -81,7 +81,7 @@ fold-bare : {A : Type 0} (f : A → Told → A) → ((a : A) (t : Told) → f a 
 fold-bare f h a [] = refl
 fold-bare f h a (t ∷ mine) = ap (λ x. fold f x (map bare mine)) (h a t) ∙ fold-bare f h (f a t) mine
 
-is_on-bare : (r : Ring) (call : Call) → is_on r (bare_call call) ≡ is_on r call
+pub is_on-bare : (r : Ring) (call : Call) → is_on r (bare_call call) ≡ is_on r call
 is_on-bare r (Reserve s n) = refl
 is_on-bare r (Submit s items) = refl
 is_on-bare r (Peek s n) = refl
@@ -130,7 +130,7 @@ is_fill_peek-bare (Release r n) = refl
 is_fill_peek-bare (Swap m value) = refl
 is_fill_peek-bare (Look m) = refl
 
-had-bare : (mine : List Told) → had_of (map bare mine) ≡ had_of mine
+pub had-bare : (mine : List Told) → had_of (map bare mine) ≡ had_of mine
 had-bare mine = fold-bare had_step
     (λ had t.
     ap (λ ns. without ns had ++ numbers (taken (bare_reply t.reply))) (numbers-submitted t.call)

@@ -94,7 +94,7 @@ sets_or_leaves m (Swap n value) = ⊎_elim
     ))
     (cases_Bool (is_mark m n))
 
-set_push : (m : Mark) (mine : List Told) (t : Told) → last_set m (mine ++ t ∷ []) ≡ set_after m (last_set m mine) t.call
+pub set_push : (m : Mark) (mine : List Told) (t : Told) → last_set m (mine ++ t ∷ []) ≡ set_after m (last_set m mine) t.call
 set_push m mine t = fold_push (set_step m) None mine t
 
 -- what a caller set last is as it was after an entry that leaves the mark
@@ -180,11 +180,11 @@ record IsSeen (c : Config) (x : ℕ) (s : State) (past : List Entry) : Type 0 wh
   seen : (who : ℕ) → last_seen (Closing x) (own who past) ≡ Some 1 → mark_at c s (Closing x) ≡ 1
   acked : mark_at c s (Acked x) ≡ 1 → mark_at c s (Closing x) ≡ 1
 
-seen_push : (m : Mark) (mine : List Told) (t : Told) → last_seen m (mine ++ t ∷ []) ≡ seen_after m (last_seen m mine) t.call t.reply
+pub seen_push : (m : Mark) (mine : List Told) (t : Told) → last_seen m (mine ++ t ∷ []) ≡ seen_after m (last_seen m mine) t.call t.reply
 seen_push m mine t = fold_push (seen_step m) None mine t
 
 -- what a call leaves as seen was seen before, or is so now
-seen_now : (c : Config) (s : State) (m : Mark) (before : Option ℕ) (call : Call) (reply : Reply) → reply ≡ reply_at c s call → (before ≡ Some 1 → mark_at c s m ≡ 1)
+pub seen_now : (c : Config) (s : State) (m : Mark) (before : Option ℕ) (call : Call) (reply : Reply) → reply ≡ reply_at c s call → (before ≡ Some 1 → mark_at c s m ≡ 1)
     → seen_after m before call reply ≡ Some 1 → mark_at c s m ≡ 1
 seen_now c s m before (Reserve r n) reply is was h = was h
 seen_now c s m before (Submit r items) reply is was h = was h
@@ -225,11 +225,18 @@ module _ (c : Config) (frames : List Frame) (x : ℕ) (config : IsConfig c) (has
             }
       ]
 
-pub acked_is_closed : AckedIsClosed
-acked_is_closed c frames h x history has acked =
+is_seen : (c : Config) (frames : List Frame) (h : List Entry) (x : ℕ) → IsHistory c frames h → HasMark c (Acked x) → IsSeen c x (state_after c frames h) h
+is_seen c frames h x history has =
     let first : mark_at c (opening c frames) (Acked x) ≡ 0 = opening_mark_is c frames (Acked x) history.opened.config has in
-    (along (IsSeen c x) c frames h history (keeps_seen c frames x history.opened.config has)
-    (record { seen = λ who is. absurd (cc); acked = λ is. absurd (omega (arith, first, is)) })).acked acked
+    along (IsSeen c x) c frames h history (keeps_seen c frames x history.opened.config has)
+    (record { seen = λ who is. absurd (cc); acked = λ is. absurd (omega (arith, first, is)) })
+
+pub acked_is_closed : AckedIsClosed
+acked_is_closed c frames h x history has acked = (is_seen c frames h x history has).acked acked
+
+pub seen_is_closed : (c : Config) (frames : List Frame) (h : List Entry) (x who : ℕ) → IsHistory c frames h → HasMark c (Closing x) → last_seen (Closing x) (own who h) ≡ Some 1
+    → mark_at c (state_after c frames h) (Closing x) ≡ 1
+seen_is_closed c frames h x who history has is = (is_seen c frames h x history has).seen who is
 
 -- ---- ended rings
 
@@ -519,7 +526,7 @@ all_completed c h d = from (sockets_of c d) [] (own d h)
         ∙ ap (λ xs. xs ++ all_sent_from c sockets [] (past ++ t ∷ []) mine) (append-nil here)
         ∙ ap (λ xs. here ++ xs) (from sockets (past ++ t ∷ []) mine)
 
-all_sent-push : (c : Config) (sockets : List ℕ) (bounces : List (List ℕ)) (past mine : List Told) (t : Told)
+pub all_sent-push : (c : Config) (sockets : List ℕ) (bounces : List (List ℕ)) (past mine : List Told) (t : Told)
     → all_sent_from c sockets bounces past (mine ++ t ∷ [])
     ≡ all_sent_from c sockets bounces past mine ++ (map (bytes_of c.geometry c.sg) (completed_in c sockets (past ++ mine) t.call) ++ bounced_in bounces t.call)
 all_sent-push c sockets bounces past [] t =

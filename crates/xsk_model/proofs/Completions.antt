@@ -467,7 +467,7 @@ whole_of_packets c (whole items ∷ ps) h =
     (whole_of_packets c ps (All-tail (IsPacket c.geometry c.sg) (whole items) ps h))
 whole_of_packets c (bad items ∷ ps) h = whole_of_packets c ps (All-tail (IsPacket c.geometry c.sg) (bad items) ps h)
 
-waiting_whole : (c : Config) (u : Sending) (packet : List Item) (later : List (List Item)) → waiting c u ≡ packet ∷ later → IsWhole c.geometry c.sg packet
+pub waiting_whole : (c : Config) (u : Sending) (packet : List Item) (later : List (List Item)) → waiting c u ≡ packet ∷ later → IsWhole c.geometry c.sg packet
 waiting_whole c u packet later e =
     let all = whole_of_packets c (packets c.geometry c.sg u.peeked) (packets-made c.geometry c.sg u.peeked).0 in
     All-head (IsWhole c.geometry c.sg) packet later (subst (λ ws. All (IsWhole c.geometry c.sg) ws) e (All-drop (IsWhole c.geometry c.sg) u.completed (wholes c u) all))

@@ -6,7 +6,8 @@ use Rattle.std.proofs.lemmas.List.{get_or_default}
 use Rattle.xsk_model.specs.Numbers.{times}
 use Rattle.xsk_model.proofs.Counting.{its_own}
 
-elsewhere : (x n : ℕ) → (x ≡ n → ⊥) → ◌≡◌ {A = ℕ} (cond (eqb x n) 1 0) 0
+-- another number counts for nothing
+pub elsewhere : (x n : ℕ) → (x ≡ n → ⊥) → ◌≡◌ {A = ℕ} (cond (eqb x n) 1 0) 0
 elsewhere x n h = grind (arith, nat_tests)
 
 -- a number stands in a list exactly where it stands there once at least

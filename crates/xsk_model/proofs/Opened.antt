@@ -3,10 +3,11 @@ use Rattle.std.proofs.Common.{◌≡◌, ℕ, zero, suc, ◌+◌, ◌-◌, ◌*�
 use Rattle.std.specs.List.{range_with_len}
 use Rattle.std.proofs.lemmas.List.{length-map, length-replicate, get_or_past, get_or-map, map-append, nil_from_length}
 use Rattle.std.proofs.lemmas.List.Concat.{flat_map-append}
-use Rattle.std.proofs.lemmas.List.Elements.{All-nil, All-map, All-take, All-drop, All-head, All-tail}
+use Rattle.std.proofs.lemmas.List.Elements.{All-nil, All-push, All-map, All-take, All-drop, All-head, All-tail}
 use Rattle.std.proofs.lemmas.List.FromFn.{length-range_with_len, get_or-range_with_len}
 use Rattle.xsk_umem.specs.Frame.{Frame}
 use Rattle.xsk_umem.specs.Geometry.{Geometry, IsGeometry, frame_of}
+use Rattle.xsk_umem.specs.Registration.{fresh}
 use Rattle.xsk_umem.specs.declared.batch.Item.{Item}
 use Rattle.xsk_model.specs.Config.{Config, IsConfig, IsMap, HasRing, size_of, pool_of, callers_of}
 use Rattle.xsk_model.specs.Numbers.{times, numbers}
@@ -18,6 +19,7 @@ use Rattle.xsk_model.specs.Opening.{AreFrames, IsOpened, home_item, home_rings, 
 use Rattle.xsk_model.specs.Holders.{holders, out_numbers}
 use Rattle.xsk_model.specs.declared.call.Ring.{Ring}
 use Rattle.xsk_model.specs.declared.call.Ring.TheVariants.{Fill, Comp, Rx, Tx}
+use Rattle.xsk_model.proofs.Counting.{range-push}
 use Rattle.xsk_model.proofs.Sound.{IsRingSound}
 
 -- ---- lists that end in blanks
@@ -32,6 +34,23 @@ get_or-blanks (x ∷ xs) m (suc k) d = get_or-blanks xs m k d
 flat_map-blanks : {X : Type 0} (f : X → List ℕ) (m : ℕ) (d : X) → f d ≡ [] → flat_map f (replicate m d) ≡ []
 flat_map-blanks f zero d h = refl
 flat_map-blanks f (suc m) d h = ap (λ xs. xs ++ flat_map f (replicate m d)) h ∙ flat_map-blanks f m d h
+
+-- ---- the frames of a registration are all frames of the UMEM
+
+fresh-numbers : (chunk n : ℕ) → map (λ (f : Frame). f.number) (fresh chunk n) ≡ range_with_len 0 n
+fresh-numbers chunk zero = refl
+fresh-numbers chunk (suc n) =
+    map-append (λ (f : Frame). f.number) (fresh chunk n) ((record { number = n; bytes = replicate chunk 0 }) ∷ [])
+    ∙ ap (λ ks. ks ++ n ∷ []) (fresh-numbers chunk n)
+    ∙ (let e : n ≡ 0 + n = omega arith in ap (λ k. range_with_len 0 n ++ k ∷ []) e) ∙ sym (range-push 0 n)
+
+fresh-bodies : (chunk n : ℕ) → All (λ (f : Frame). length f.bytes ≡ chunk) (fresh chunk n)
+fresh-bodies chunk zero = All-nil (λ (f : Frame). length f.bytes ≡ chunk)
+fresh-bodies chunk (suc n) =
+    All-push (λ (f : Frame). length f.bytes ≡ chunk) (fresh chunk n) (record { number = n; bytes = replicate chunk 0 }) (fresh-bodies chunk n) (length-replicate {A = ℕ} chunk 0)
+
+pub fresh-frames : (g : Geometry) → AreFrames g (fresh g.chunk g.frames)
+fresh-frames g = record { numbers = fresh-numbers g.chunk g.frames; bodies = fresh-bodies g.chunk g.frames }
 
 -- ---- the frames that are handed in
 

@@ -1,10 +1,13 @@
--- The sizes of rings as a test.
-use Rattle.std.proofs.Common.{◌≡◌, ℕ, zero, suc, ◌+◌, ◌^◌, ◌<◌, ◌≤◌, ◌⊎◌, Bool, true, eqb, leb, refl, sym, arith, inl, inr, ◌∙◌, IsTrue}
+-- The sizes of rings: as a test, and that they are few.
+use Rattle.std.proofs.Common.{◌≡◌, ℕ, zero, suc, ◌+◌, ◌^◌, ◌<◌, ◌≤◌, true, eqb, leb, Option, None, Some, refl, arith, inl, inr}
 use Rattle.std.specs.List.{list_any, range_with_len}
+use Rattle.std.specs.Prelude.{IfSome, unwrap_or}
 use Rattle.std.proofs.lemmas.Bool.{cases_Bool, eqb-true}
 use Rattle.std.proofs.lemmas.Bool.Decides.{nat_tests}
 use Rattle.std.proofs.Math.Nat.{pow-le-pow_right}
-use Rattle.xsk_model.specs.Config.{IsRingSize}
+use Rattle.xsk_model.specs.Config.{Config, IsConfig, IsBound, IsServed, IsRingSize, HasRing, size_of, pair_at, socket_at}
+use Rattle.xsk_model.specs.declared.call.Ring.{Ring}
+use Rattle.xsk_model.specs.declared.call.Ring.TheVariants.{Fill, Comp, Rx, Tx}
 
 power_in : (a n size : ℕ) → list_any (λ k. eqb size (2 ^ k)) (range_with_len a n) ≡ true → (k : ℕ) × (size ≡ 2 ^ k) × (a ≤ k) × (k < a + n)
 power_in a zero size is = absurd (cc)
@@ -59,3 +62,23 @@ size_of_power size is =
       least = rw found.1 least;
       most = rw found.1 most;
     }
+
+-- ---- the rings of a configuration
+
+most_of : (size : Option ℕ) → IfSome size IsRingSize → unwrap_or size 0 ≤ 2048
+most_of None h = omega arith
+most_of (Some size) h = h.most
+
+pub size_few : (c : Config) (r : Ring) → IsConfig c → HasRing c r → size_of c r ≤ 2048
+size_few c (Fill d) config h =
+    let served : IsServed c.sockets (pair_at c.pairs d) = config.served d (record { port = 0; queue = 0; fill = 0; comp = 0 }) h in
+    served.fill.most
+size_few c (Comp d) config h =
+    let served : IsServed c.sockets (pair_at c.pairs d) = config.served d (record { port = 0; queue = 0; fill = 0; comp = 0 }) h in
+    served.comp.most
+size_few c (Rx s) config h =
+    let bound : IsBound c.ports c.queues c.pairs (socket_at c.sockets s) = config.bound s (record { port = 0; queue = 0; rx = None; tx = None }) h.0 in
+    most_of (socket_at c.sockets s).rx bound.rx
+size_few c (Tx s) config h =
+    let bound : IsBound c.ports c.queues c.pairs (socket_at c.sockets s) = config.bound s (record { port = 0; queue = 0; rx = None; tx = None }) h.0 in
+    most_of (socket_at c.sockets s).tx bound.tx

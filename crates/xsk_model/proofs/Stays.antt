@@ -150,7 +150,7 @@ keeps_homed c frames config s past e sound legal reply h =
 -- ---- the opening
 
 -- a number of a pool has its pair as home
-in_pool : (pool d n : ℕ) → 1 ≤ times n (range_with_len (d * pool) pool) → n / pool ≡ d
+pub in_pool : (pool d n : ℕ) → 1 ≤ times n (range_with_len (d * pool) pool) → n / pool ≡ d
 in_pool pool d n some =
     let low : d * pool ≤ n = ⊎_elim
     (λ (h : n < d * pool). absurd (omega (arith, some, times-range_below n (d * pool) pool h)))

@@ -90,6 +90,7 @@ impl Config {
         ensures value { result.now ≡ self.now.geometry }
         ensures lawful { IsGeometry self.now.geometry }
     {
+        // For the proof: it is a geometry (IsGeometry).
         let _frames = self.geometry.frames();
         &self.geometry
     }

@@ -74,6 +74,7 @@ pub fn driver_on(config: &Config, port: u32, queue: u32) -> u32
     ensures value { result ≡ driver_of_queue config.now port queue }
     ensures few { result < 16 }
 {
+    // For the proof: it is a configuration (IsConfig).
     let _ports = config.ports();
     port * config.queues() + queue
 }
@@ -105,6 +106,7 @@ pub fn application_on(config: &Config, port: u32, queue: u32) -> u32
     ensures value { result ≡ application_of_queue config.now port queue }
     ensures exists { result < apps_of config.now }
 {
+    // For the proof: it is a configuration (IsConfig).
     let _ports = config.ports();
     (port / 2) * config.queues() + queue
 }
@@ -116,6 +118,7 @@ pub fn port_on(config: &Config, app: u32, side: u32) -> u32
     ensures value { result ≡ port_of_side config.now app side }
     ensures exists { result < config.now.ports }
 {
+    // For the proof: it is a configuration (IsConfig).
     let _ports = config.ports();
     2 * (app / config.queues()) + side
 }

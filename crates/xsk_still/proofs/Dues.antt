@@ -2,8 +2,7 @@
 use Rattle.std.proofs.Common.{◌≡◌, ℕ, ◌+◌, ◌-◌, Bool, true, false, cond, List, [], length, take, refl, ap, ◌∙◌, arith, length-take-le, leb-true}
 use Rattle.std.proofs.lemmas.List.{length-map}
 use Rattle.xsk_turns.proofs.Object.{Config, classes_of, home_item, is_ring, is_on, submitted, taken}
-use Rattle.xsk_model.specs.Own.{granted, released, room_step, held_step, room_of, held_of}
-use Rattle.xsk_model.proofs.Folds.{part_of-push}
+use Rattle.xsk_model.specs.Own.{granted, released, room_of, held_of}
 use Rattle.xsk_model.specs.declared.call.Mark.TheVariants.{Kick}
 use Rattle.xsk_turns.proofs.Calls.{Item, Told, with_told, Ring, Call, Reserve, Submit, Peek, Release, Swap, Reply, Granted, Submitted, Items, Released, Old}
 use Rattle.xsk_turns.specs.Turns.{Seat, seat_of, start, turn, pieces_of, returned}
@@ -11,8 +10,10 @@ use Rattle.xsk_turns.proofs.Mangling.{length-given}
 use Rattle.xsk_turns.specs.AppTurns.{AppKept, AppNoted, pending_at, app_turn, app_start}
 use Rattle.xsk_turns.proofs.Layouts.{length-laid_out}
 use Rattle.xsk_turns.proofs.Walks.{Due, nothing_due, submit_due, release_due, Anything, meet_anything}
-use Rattle.xsk_turns.proofs.DriverWalk as walk
+use Rattle.xsk_turns.proofs.DriverPlaces as walk
+use Rattle.xsk_turns.proofs.DriverWalk as along
 use Rattle.xsk_turns.proofs.AppWalk as app
+use Rattle.xsk_turns.proofs.Acknowledging.{room_now, held_now}
 use Rattle.xsk_still.specs.Own.{IsFree, HasNothingDue, DriverIsFree, DriverEndsFree, AppIsFree}
 
 -- ---- what is due, on each ring
@@ -21,12 +22,6 @@ abbrev pub IsDueOn : Due → List Told → Type 0
 IsDueOn nothing_due l = HasNothingDue l
 IsDueOn (submit_due q n) l = (r : Ring) → (room_of r l ≡ cond (is_ring r q) n 0) × (held_of r l ≡ 0)
 IsDueOn (release_due q n) l = (r : Ring) → (room_of r l ≡ 0) × (held_of r l ≡ cond (is_ring r q) n 0)
-
-room_now : (r : Ring) (l : List Told) (call : Call) (reply : Reply) → room_of r (with_told l call reply) ≡ cond (is_on r call) (room_of r l + granted call reply - length (submitted call)) (room_of r l)
-room_now r l call reply = part_of-push room_step r 0 l (record { call = call; reply = reply })
-
-held_now : (r : Ring) (l : List Told) (call : Call) (reply : Reply) → held_of r (with_told l call reply) ≡ cond (is_on r call) (held_of r l + length (taken reply) - released call) (held_of r l)
-held_now r l call reply = part_of-push held_step r 0 l (record { call = call; reply = reply })
 
 stays : (b : Bool) (n g s : ℕ) → g ≡ 0 → s ≡ 0 → cond b (n + g - s) n ≡ n
 stays true n g s e f = omega (arith, e, f)
@@ -134,12 +129,12 @@ none_due r = (refl, refl)
 pub driver_is_free : DriverIsFree
 driver_is_free wire c d input l kept call rest is fit asks =
     let seat = seat_of wire c d in
-    walk.at_call seat Anything At Asked (λ kept l. HasNothingDue l) (law seat) (start (classes_of c) input) none_due l (meet_anything (turn seat) (turn seat (start (classes_of c) input)) [] l) kept call rest asks
+    along.at_call seat Anything At Asked (λ kept l. HasNothingDue l) (law seat) (start (classes_of c) input) none_due l (meet_anything (turn seat) (turn seat (start (classes_of c) input)) [] l) kept call rest asks
 
 pub driver_ends_free : DriverEndsFree
 driver_ends_free wire c d input l is fit whole =
     let seat = seat_of wire c d in
-    walk.at_end seat Anything At Asked (λ kept l. HasNothingDue l) (law seat) (start (classes_of c) input) none_due l (meet_anything (turn seat) (turn seat (start (classes_of c) input)) [] l) whole.0 whole.1
+    along.at_end seat Anything At Asked (λ kept l. HasNothingDue l) (law seat) (start (classes_of c) input) none_due l (meet_anything (turn seat) (turn seat (start (classes_of c) input)) [] l) whole.0 whole.1
 
 -- ---- an application
 

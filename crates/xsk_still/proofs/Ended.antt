@@ -1,6 +1,6 @@
 -- Where there is ample room and further calls change nothing, all workers have ended: an application that hadn't would be told that
 -- its drivers have ended, or that they have no further packet, and each of them would have all frames of its pool.
-use Rattle.std.proofs.Common.{◌≡◌, ◌≢◌, ◌⊎◌, inl, inr, ℕ, zero, suc, ◌+◌, ◌-◌, ◌*◌, ◌/◌, ◌%◌, ◌<◌, ◌≤◌, Bool, true, false, cond, is_some, All, List, [], ◌∷◌, ◌++◌, length, get_or, flat_map, refl, sym, ap, ◌∙◌, subst, ⊎_elim, arith, append-nil, lt-ltb, le-ltb, mul-le-mul_right, eqb, ne_eqb}
+use Rattle.std.proofs.Common.{◌≡◌, ◌≢◌, ◌⊎◌, inl, inr, ℕ, zero, suc, ◌+◌, ◌-◌, ◌*◌, ◌/◌, ◌%◌, ◌<◌, ◌≤◌, Bool, true, false, cond, is_some, All, List, [], ◌∷◌, ◌++◌, length, get_or, flat_map, refl, sym, ap, ◌∙◌, subst, ⊎_elim, arith, append-nil, lt-ltb, le-ltb, mul-le-mul_right}
 use Rattle.std.proofs.lemmas.Bool.{cases_eq, cases_lt, cases_Bool, or_left, or_right}
 use Rattle.std.proofs.lemmas.List.{length-map}
 use Rattle.std.proofs.lemmas.List.Elements.{All-head, All-tail, All-weaker}
@@ -20,6 +20,7 @@ use Rattle.xsk_model.specs.Rings.{queue_of}
 use Rattle.xsk_model.specs.Steering.{packet_limit}
 use Rattle.xsk_model.specs.declared.call.Ring.{Ring}
 use Rattle.xsk_model.proofs.Closings.{is_mark-self}
+use Rattle.xsk_model.proofs.Distinct.{elsewhere}
 use Rattle.xsk_model.proofs.FrameTheorems.{frames_stay}
 use Rattle.xsk_model.proofs.MarkNumbers.{opening_mark_is}
 use Rattle.xsk_turns.specs.AppTurns.{pair_of, side_socket, rx_of, tx_of, lanes_of, pending_at, IsWholeAppRun, IsWholeAppRunBy}
@@ -77,11 +78,8 @@ module _ (s : Setting) (frames : List Frame) (past es : List Entry) (are : AreWo
   spare_homes d n [] below all some = absurd (omega (arith, some))
   spare_homes d n (frame ∷ fs) below all some = ⊎_elim
       (λ (e : frame.number ≡ n). subst (λ k. k / pool_of s.config ≡ d) e (spare_home s frames (past ++ es) d frame st.unchanged are below (All-head (IsSpare s.config (own d (past ++ es))) frame fs all)))
-      (λ (e : frame.number ≡ n → ⊥). spare_homes d n fs below (All-tail (IsSpare s.config (own d (past ++ es))) frame fs all) (omega (arith, some, off frame.number n e)))
+      (λ (e : frame.number ≡ n → ⊥). spare_homes d n fs below (All-tail (IsSpare s.config (own d (past ++ es))) frame fs all) (omega (arith, some, elsewhere frame.number n e)))
       (cases_eq frame.number n)
-    where
-      off : (x n : ℕ) → (x ≡ n → ⊥) → ◌≡◌ {A = ℕ} (cond (eqb x n) 1 0) 0
-      off x n h = ap {B = ℕ} (λ b. cond b 1 0) (ne_eqb x n h)
 
   module _ (a : ℕ) (known : a < apps_of s.config) (w : stand.OpenApp s frames past es are ample st a) where
     abbrev c : Config

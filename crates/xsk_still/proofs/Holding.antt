@@ -1,6 +1,6 @@
 -- Who has a frame after a history: a caller or a ring, each of the frame's own application; and which pairs and sockets an
 -- application has.
-use Rattle.std.proofs.Common.{◌≡◌, ◌⊎◌, inl, inr, ℕ, zero, suc, ◌+◌, ◌-◌, ◌*◌, ◌/◌, ◌%◌, ◌<◌, ◌≤◌, List, [], ◌∷◌, ◌++◌, length, get_or, flat_map, sym, ap, ◌∙◌, subst, ⊎_elim, arith, refl, append-nil, mul-le-mul_right}
+use Rattle.std.proofs.Common.{◌≡◌, ◌⊎◌, inl, inr, ℕ, zero, suc, ◌+◌, ◌-◌, ◌*◌, ◌/◌, ◌%◌, ◌<◌, ◌≤◌, List, [], ◌∷◌, ◌++◌, length, get_or, flat_map, sym, ap, ◌∙◌, subst, ⊎_elim, arith, refl, append-nil}
 use Rattle.std.proofs.lemmas.Bool.{cases_lt}
 use Rattle.std.proofs.lemmas.Nat.{div-mul-add, mod-mul-add, div_below, div-add-mod'}
 use Rattle.xsk_umem.specs.Frame.{Frame}
@@ -19,6 +19,7 @@ use Rattle.xsk_model.proofs.Theorems.{one_holder, frames_by_own}
 use Rattle.xsk_turns.specs.AppOwned.{IsApp}
 use Rattle.xsk_turns.specs.AppTurns.{pair_of, side_socket, lanes_of}
 use Rattle.xsk_turns.proofs.AppPlaces.{pairs_apart}
+use Rattle.xsk_laws.proofs.Places.{side_lane}
 
 -- ---- where a number stands in joined lists
 
@@ -118,13 +119,7 @@ module _ (c : Config) (a : ℕ) (one : IsApp c a) where
   -- the lane of a side and a class
   pub lane_at : (side class : ℕ) → side < 2 → class < classes_of c → (lane : ℕ) × (lane < lanes_of c) × (lane / classes_of c ≡ side) × (lane % classes_of c ≡ class)
   lane_at side class h k =
-      (side * classes_of c + class, lanes side (classes_of c) class h k, div-mul-add side (classes_of c) class k, mod-mul-add side (classes_of c) class k)
-    where
-      lanes : (side n k : ℕ) → side < 2 → k < n → side * n + k < 2 * n
-      lanes side n k h e =
-          let most : suc side * n ≤ 2 * n = mul-le-mul_right n h in
-          let next : suc side * n ≡ side * n + n = grind arith in
-          omega (arith, most, next, e)
+      (side * classes_of c + class, side_lane side (classes_of c) class h k, div-mul-add side (classes_of c) class k, mod-mul-add side (classes_of c) class k)
 
   -- the two sides have two pairs
   pub sides_apart : (i j : ℕ) → i < 2 → j < 2 → pair_of c a i ≡ pair_of c a j → i ≡ j

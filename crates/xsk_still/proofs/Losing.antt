@@ -12,7 +12,8 @@ use Rattle.xsk_turns.specs.declared.wire.Wire.{Wire}
 use Rattle.xsk_turns.proofs.Owned.{peeked_none, sockets_apart}
 use Rattle.xsk_turns.proofs.Owning.{no_group}
 use Rattle.xsk_turns.proofs.Walks.{Anything, meet_anything}
-use Rattle.xsk_turns.proofs.DriverWalk as walk
+use Rattle.xsk_turns.proofs.DriverPlaces as walk
+use Rattle.xsk_turns.proofs.DriverWalk as along
 use Rattle.xsk_still.specs.Own.{LosesNone}
 
 none_front : {X : Type 0} (xs ys : List X) → xs ++ ys ≡ [] → xs ≡ []
@@ -145,6 +146,6 @@ pub loses_none : LosesNone
 loses_none wire c d input l kept call rest is fit asks none =
     let seat = seat_of wire c d in
     let begins = start (classes_of c) input in
-    walk.at_call seat Anything (At wire c d) (Said wire c d) (Nothing wire c d) (law wire c d) begins
+    along.at_call seat Anything (At wire c d) (Said wire c d) (Nothing wire c d) (law wire c d) begins
     (record { classes = length-replicate (classes_of c) []; rests = λ class within. no_group (classes_of c) class; none = λ none. refl }) l
     (meet_anything (turn seat) (turn seat begins) [] l) kept call rest asks none

@@ -17,6 +17,7 @@ use Rattle.xsk_model.proofs.Along.{Keeps, along}
 use Rattle.xsk_model.proofs.Folds.{own-append, own-push_same}
 use Rattle.xsk_model.proofs.Closings.{is_mark-true}
 use Rattle.xsk_laws.proofs.Waking.{own_fold, left, now_set}
+use Rattle.xsk_laws.proofs.Emptied.{cond_told}
 use Rattle.xsk_still.specs.Own.{SetsOne, SetsOnes}
 use Rattle.xsk_still.specs.Laws.{MarkIsTold}
 
@@ -35,10 +36,6 @@ or_false false c e = e
 or_true : (b c : Bool) → c ≡ true → (b || c) ≡ true
 or_true true c e = refl
 or_true false c e = e
-
-same_told : (b : Bool) (t u : Telling) → u.told ≡ t.told → (cond b u t).told ≡ t.told
-same_told true t u e = e
-same_told false t u e = refl
 
 module _ (c : Config) (frames : List Frame) (config : IsConfig c) (m : Mark) (r : Ring) (who : ℕ) (has : HasMark c m) (owns : (other : ℕ) → IsMarkOwner c other m → other ≡ who) where
   abbrev tells : List Entry → Telling
@@ -59,7 +56,7 @@ module _ (c : Config) (frames : List Frame) (config : IsConfig c) (m : Mark) (r 
     where
       moves_on : (call : Call) → (mark_at c (after c s e.who call) m ≡ mark_at c s m) → (telling_after m r (tells past) call).told ≡ (tells past).told → mark_at c s m ≡ cond (tells past).told 1 0
           → mark_at c (after c s e.who call) m ≡ cond (cond (eqb e.who who) (telling_after m r (tells past) call) (tells past)).told 1 0
-      moves_on call f g was = f ∙ was ∙ ap (λ b. cond b 1 0) (sym (same_told (eqb e.who who) (tells past) (telling_after m r (tells past) call) g))
+      moves_on call f g was = f ∙ was ∙ ap (λ b. cond b 1 0) (sym (cond_told (eqb e.who who) (tells past) (telling_after m r (tells past) call) g))
 
       swap : (n : Mark) (value : ℕ) (b : Bool) → is_mark m n ≡ b → e.call ≡ Swap n value → mark_at c s m ≡ cond (tells past).told 1 0
           → mark_at c (after c s e.who (Swap n value)) m ≡ cond (cond (eqb e.who who) (telling_after m r (tells past) (Swap n value)) (tells past)).told 1 0

@@ -1,7 +1,6 @@
 -- On FILL of a pair there are only frames of its pool, so its driver receives into these alone; and how many there are.
 use Rattle.std.proofs.Common.{◌≡◌, ℕ, zero, suc, ◌+◌, ◌-◌, ◌*◌, ◌/◌, ◌<◌, ◌≤◌, Bool, true, false, cond, eqb, Option, Some, None, All, List, [], ◌∷◌, ◌++◌, length, map, get_or, refl, sym, ap, ◌∙◌, subst, ⊎_elim, arith, eq-eqb, append_assoc}
 use Rattle.std.specs.List.{range_with_len}
-use Rattle.std.proofs.Math.Nat.{div-eq_of_lt-le}
 use Rattle.std.proofs.lemmas.Nat.{div-add-mod'}
 use Rattle.std.proofs.lemmas.Bool.{cases_eq, cases_lt}
 use Rattle.std.proofs.lemmas.Bool.Decides.{nat_tests}
@@ -19,11 +18,13 @@ use Rattle.xsk_model.specs.Own.{part_of}
 use Rattle.xsk_model.specs.Numbers.{without_one}
 use Rattle.xsk_model.specs.declared.call.Ring.{Ring}
 use Rattle.xsk_model.proofs.Completions.{times-numbers-append}
-use Rattle.xsk_model.proofs.Counting.{times-without_one, times-range_below, times-range_past, length-by_times, its_own}
+use Rattle.xsk_model.proofs.Counting.{times-without_one, length-by_times, its_own}
 use Rattle.xsk_model.proofs.Folds.{part_of-append}
 use Rattle.xsk_model.proofs.FrameTheorems.{opening_is}
 use Rattle.xsk_model.proofs.Legality.{from_fill_last}
 use Rattle.xsk_model.proofs.Theorems.{in_order, items_by_own, own_entries}
+use Rattle.xsk_model.proofs.Distinct.{elsewhere}
+use Rattle.xsk_model.proofs.Stays.{in_pool}
 use Rattle.xsk_turns.specs.AppTurns.{home_of}
 use Rattle.xsk_turns.specs.Owned.{IsSeat, IsSpare, frame_numbers}
 use Rattle.xsk_turns.specs.Wakes.{app_for}
@@ -39,18 +40,6 @@ use Rattle.xsk_still.specs.Laws.{OnlyHomes}
 use Rattle.xsk_still.proofs.Setting.{fills_homes}
 
 -- ---- numbers of one pool
-
-in_pool : (pool d n : ℕ) → 1 ≤ times n (range_with_len (d * pool) pool) → n / pool ≡ d
-in_pool pool d n some =
-    let low : d * pool ≤ n = ⊎_elim
-    (λ (h : n < d * pool). absurd (omega (arith, some, times-range_below n (d * pool) pool h)))
-    (λ (h : d * pool ≤ n). h)
-    (cases_lt n (d * pool)) in
-    let high : n < d * pool + pool = ⊎_elim
-    (λ (h : n < d * pool + pool). h)
-    (λ (h : d * pool + pool ≤ n). absurd (omega (arith, some, times-range_past n (d * pool) pool h)))
-    (cases_lt n (d * pool + pool)) in
-    div-eq_of_lt-le pool low (let e : (d + 1) * pool ≡ d * pool + pool = grind arith in omega (arith, high, e))
 
 -- numbers less by as much
 below_all : (b x : ℕ) (xs : List ℕ) → ((n : ℕ) → 1 ≤ times n (x ∷ xs) → b ≤ n) → (n : ℕ) → 1 ≤ times n xs → b ≤ n
@@ -110,11 +99,8 @@ home_here c d n (Some other) frame e home some =
     let same : other ≡ frame = cc in
     ⊎_elim
     (λ (is : other.number ≡ n). ap (λ k. k / pool_of c) (sym is) ∙ ap (λ (f : Frame). home_of (pool_of c) f) same ∙ home)
-    (λ (apart : other.number ≡ n → ⊥). absurd (omega (arith, some, off other.number n apart)))
+    (λ (apart : other.number ≡ n → ⊥). absurd (omega (arith, some, elsewhere other.number n apart)))
     (cases_eq other.number n)
-  where
-    off : (x n : ℕ) → (x ≡ n → ⊥) → ◌≡◌ {A = ℕ} (cond (eqb x n) 1 0) 0
-    off x n h = grind (arith, nat_tests)
 
 pub home_numbers : (c : Config) (d n : ℕ) (items : List Item) → All (IsHomeItem c d) items → 1 ≤ times n (numbers items) → n / pool_of c ≡ d
 home_numbers c d n [] all some = absurd (omega (arith, some))

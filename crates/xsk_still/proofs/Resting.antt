@@ -11,7 +11,8 @@ use Rattle.xsk_turns.proofs.Layouts.{few_pieces}
 use Rattle.xsk_turns.proofs.Parking.{parked_looks}
 use Rattle.xsk_turns.proofs.Walks.{Anything, meet_anything}
 use Rattle.xsk_turns.proofs.Watching.{watching_told, swaps, set_stays, set_now, is_true}
-use Rattle.xsk_turns.proofs.DriverWalk as walk
+use Rattle.xsk_turns.proofs.DriverPlaces as walk
+use Rattle.xsk_turns.proofs.DriverWalk as along
 use Rattle.xsk_still.specs.Own.{ParkedRests}
 
 -- what holds of a call that is the look at a kick
@@ -262,9 +263,9 @@ parked_rests wire c d input l frames kept call rest is fit asks parked =
     let begins = start (classes_of c) input in
     let kicked : call ≡ Look (Kick d) = (parked_looks wire c d input l kept call rest asks).0 (ap is_some parked) in
     let meets = meet_anything (turn s) (turn s begins) [] l in
-    let flag = walk.at_call s Anything (FillAt s) (FillAsked s) (Nothing s) (fill_law s) begins refl l meets kept call rest asks in
-    let flags = walk.at_call s Anything (TxAt s) (TxAsked s) (Nothing s) (tx_law s) begins tt l meets kept call rest asks in
-    let waits = walk.at_call s Anything (At wire c d is) (Asked wire c d is) (Nothing s) (law wire c d is) begins tt l meets kept call rest asks in
+    let flag = along.at_call s Anything (FillAt s) (FillAsked s) (Nothing s) (fill_law s) begins refl l meets kept call rest asks in
+    let flags = along.at_call s Anything (TxAt s) (TxAsked s) (Nothing s) (tx_law s) begins tt l meets kept call rest asks in
+    let waits = along.at_call s Anything (At wire c d is) (Asked wire c d is) (Nothing s) (law wire c d is) begins tt l meets kept call rest asks in
     let flagged = subst (λ x. AtKick (Flagged s s.classes l) x) kicked flags in
     let now = subst (λ x. AtKick ((b : Bool) → kept.parked ≡ Some b → (kept.finished ≡ []) × (b ≡ false → IsOver wire c d is kept) × (b ≡ true → Lacks wire c d is kept)) x) kicked waits frames parked in
     record {

@@ -12,7 +12,8 @@ use Rattle.xsk_turns.specs.AppTurns.{AppKept, AppNoted, app_turn, app_start, hom
 use Rattle.xsk_model.specs.declared.call.Mark.TheVariants.{Kick}
 use Rattle.xsk_turns.proofs.Owned.{none_submitted, other_submitted}
 use Rattle.xsk_turns.proofs.Walks.{Anything, meet_anything}
-use Rattle.xsk_turns.proofs.DriverWalk as walk
+use Rattle.xsk_turns.proofs.DriverPlaces as walk
+use Rattle.xsk_turns.proofs.DriverWalk as along
 use Rattle.xsk_turns.proofs.AppWalk as app
 use Rattle.xsk_still.specs.Own.{SetsOne, SetsOnes, EndsSetOnce, AppSetsOnce, IsHomeItem, FillsHomes}
 
@@ -55,7 +56,7 @@ module _ (seat : Seat) where
 pub ends_set_once : EndsSetOnce
 ends_set_once wire c d input l run =
     let seat = seat_of wire c d in
-    walk.of_run seat Anything (At seat) (λ kept call l. Ones seat l) (λ kept l. Ones seat l) (law seat) (start (classes_of c) input)
+    along.of_run seat Anything (At seat) (λ kept call l. Ones seat l) (λ kept l. Ones seat l) (law seat) (start (classes_of c) input)
     (All-nil (λ (t : Told). SetsOne (RxDone d) t.call), All-nil (λ (t : Told). SetsOne (Gone d) t.call)) l (meet_anything (turn seat) _ [] l)
     (Ones seat) (λ kept m h. h) (λ kept call m h. h) (λ kept m h. h) run
 

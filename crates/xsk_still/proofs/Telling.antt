@@ -15,7 +15,8 @@ use Rattle.xsk_turns.proofs.Draining.{draining_told}
 use Rattle.xsk_turns.proofs.ReceivingLaws.{telling_told, now_told, and_off}
 use Rattle.xsk_turns.proofs.ScriptLemmas.{leaves_one}
 use Rattle.xsk_turns.proofs.Walks.{Law, Says, Anything, meet_anything, says_left}
-use Rattle.xsk_turns.proofs.DriverWalk as walk
+use Rattle.xsk_turns.proofs.DriverPlaces as walk
+use Rattle.xsk_turns.proofs.DriverWalk as along
 use Rattle.xsk_turns.proofs.AppWalk as app
 use Rattle.xsk_still.specs.Own.{TellsGoneLast, SeesGone}
 
@@ -83,7 +84,7 @@ module _ (seat : Seat) (s : ℕ) where
 
   says : (begins : Kept) (l : List Told) (left : Script Kept) → Leaves (turn seat) (turn seat begins) l left → Says law left l
   says begins l left leaves =
-      says_left Anything law (turn seat) (walk.go_turn seat Anything At said Last is_law) begins l left (refl, refl) (meet_anything (turn seat) _ [] l) leaves
+      says_left Anything law (turn seat) (along.go_turn seat Anything At said Last is_law) begins l left (refl, refl) (meet_anything (turn seat) _ [] l) leaves
 
 pub tells_gone_last : TellsGoneLast
 tells_gone_last wire c d s input l run = by run.0 run.2 run.1

@@ -1,9 +1,11 @@
 -- What holds at each call of a worker that makes calls that change nothing, by its own calls and replies.
 use Rattle.std.specs.Prelude.{◌≡◌, ◌⊎◌, ℕ, ◌<◌, ◌≤◌, Bool, true, false, All, None, Some, List, [], ◌∷◌, ◌++◌, length, is_some}
 use Rattle.xsk_umem.specs.Frame.{Frame}
+use Rattle.xsk_umem.specs.Limits.{most_items}
 use Rattle.xsk_umem.specs.declared.batch.Item.{Item}
 use Rattle.xsk_model.specs.Config.{Config, classes_of, pool_of}
 use Rattle.xsk_model.specs.Packets.{packets}
+use Rattle.xsk_model.specs.Limits.{most_fragments}
 use Rattle.xsk_model.specs.Marks.{is_mark}
 use Rattle.xsk_model.specs.Object.{State, mark_at}
 use Rattle.xsk_model.specs.Entry.{Told}
@@ -97,7 +99,7 @@ pub record Rests (seat : Seat) (frames : Bool) (kept : Kept) (l : List Told) : T
   pub flagged : seat.config.wakeup ≡ true
   pub sent : kept.finished ≡ []
   pub none : frames ≡ false → (kept.coming ≡ []) × (kept.rx_done ≡ true)
-  pub lacks : frames ≡ true → (packet : Judged) × (later : List Judged) × (kept.coming ≡ packet ∷ later) × (length kept.spare < 18)
+  pub lacks : frames ≡ true → (packet : Judged) × (later : List Judged) × (kept.coming ≡ packet ∷ later) × (length kept.spare < most_fragments)
   pub fill : (watching_of (NeedFill seat.pair) (Fill seat.pair) (Kick seat.pair) l).set ≡ frames
   pub tx : (class : ℕ) → class < seat.classes
       → (watching_of (NeedTx (socket_at_class seat.config seat.pair class)) (Tx (socket_at_class seat.config seat.pair class)) (Kick seat.pair) l).set ≡ true
@@ -144,7 +146,7 @@ HasPending = (c : Config) (a : ℕ) (l : List Told) (lane : ℕ) (kept : AppKept
 
 abbrev pub PendingFew : Type 0
 PendingFew = (c : Config) (a : ℕ) (l : List Told) (lane : ℕ) (kept : AppKept) (call : Call) (rest : Reply → Script AppKept) → IsApp c a → AllFit c [] l
-    → Asks (app_turn c a) (app_start c) l kept call rest → length (pending_at kept lane) ≤ 32
+    → Asks (app_turn c a) (app_start c) l kept call rest → length (pending_at kept lane) ≤ most_items
 
 -- where no packet was bad no frame is lost
 abbrev pub LosesNone : Type 0

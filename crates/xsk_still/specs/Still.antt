@@ -2,8 +2,10 @@
 -- such calls alone stays as it is. All of this is this project's own.
 use Rattle.std.specs.Prelude.{◌≡◌, ◌≢◌, ◌⊎◌, ℕ, ◌<◌, ◌≤◌, true, false, All, List, [], ◌∷◌, length, None, Some, if◌then◌else◌}
 use Rattle.xsk_umem.specs.Frame.{Frame}
+use Rattle.xsk_umem.specs.Limits.{most_items}
 use Rattle.xsk_umem.specs.declared.batch.Item.{Item}
 use Rattle.xsk_model.specs.Config.{Config, HasRing, size_of, pool_of, batch_of}
+use Rattle.xsk_model.specs.Limits.{most_fragments}
 use Rattle.xsk_model.specs.Object.{State, ring_at, mark_at, free, reply_at}
 use Rattle.xsk_model.specs.OtherWords.{changes}
 use Rattle.xsk_model.specs.Entry.{Told}
@@ -19,12 +21,12 @@ use Rattle.xsk_turns.specs.Owned.{socket_at_class}
 
 -- the most frames of a packet: 18, or without XDP_USE_SG one
 abbrev pub most_pieces : Config → ℕ
-most_pieces c = if c.sg then 18 else 1
+most_pieces c = if c.sg then most_fragments else 1
 
 -- each ring has 32 entries or more, and each pair's pool 18 frames or more
 pub record HasAmpleRoom (c : Config) : Type 0 where
-  pub rings : (r : Ring) → HasRing c r → 32 ≤ size_of c r
-  pub pool : 18 ≤ pool_of c
+  pub rings : (r : Ring) → HasRing c r → most_items ≤ size_of c r
+  pub pool : most_fragments ≤ pool_of c
 
 -- ---- calls that change nothing
 

@@ -7,11 +7,11 @@ use Rattle.std.proofs.lemmas.Bool.{eqb-true}
 use Rattle.std.proofs.lemmas.Bool.Decides.{nat_tests}
 use Rattle.std.proofs.lemmas.List.Sums.{fold_push}
 use Rattle.xsk_map.specs.declared.cell.Miss.TheVariants.{EmptyCell, OtherQueue}
-use Rattle.xsk_turns.proofs.Object.{Config, pair_at, classes_of, socket_at, map_of, is_ring, is_on, submitted, room_of, room_step, IsFed}
+use Rattle.xsk_turns.proofs.Object.{Config, pair_at, classes_of, socket_at, map_of, is_ring, is_on, submitted, taken, room_of, room_step, held_of, held_step, IsFed}
 use Rattle.xsk_turns.proofs.Calls.{Item, Told, with_told, Ring, Rx, Cell, Call, Reserve, Submit, Swap, Look, Reply, Granted, Full, Submitted, Empty, Old}
 use Rattle.xsk_model.specs.declared.call.Mark.TheVariants.{Closing, Acked}
 use Rattle.xsk_model.specs.Marks.{HoldsClosing}
-use Rattle.xsk_model.specs.Own.{granted}
+use Rattle.xsk_model.specs.Own.{granted, released}
 use Rattle.xsk_model.specs.Swaps.{set_after, set_step, last_set, seen_after, seen_step, last_seen, MayFeed}
 use Rattle.xsk_model.proofs.Folds.{part_of-push, part_of-push_other}
 use Rattle.xsk_turns.specs.Script.{Script, Asks}
@@ -21,7 +21,8 @@ use Rattle.xsk_turns.specs.declared.wire.Wire.{Wire}
 use Rattle.xsk_turns.proofs.Layouts.{length-laid_out}
 use Rattle.xsk_turns.proofs.Places.{classes_some, class_here}
 use Rattle.xsk_turns.proofs.Walks.{MeetAlong, Suiting, submit_due, meet_suiting}
-use Rattle.xsk_turns.proofs.DriverWalk.{Place, Acking, Trying, Which, Turning, Again, Family, TellAcked, ReserveRx, SubmitRx, call_at, saw_closed, told_acked, saw_fed, looked_some, rx_granted, rx_submitted, comp_granted, comp_submitted, fill_empty, rx_full, point_of, reply_of, too_few, seeks, Said, AtCalls, AtEntries, AtPasses, IsLaw, at_call}
+use Rattle.xsk_turns.proofs.DriverPlaces.{Place, Acking, Trying, Which, Turning, Again, Family, TellAcked, ReserveRx, SubmitRx, call_at, saw_closed, told_acked, saw_fed, looked_some, rx_granted, rx_submitted, comp_granted, comp_submitted, fill_empty, rx_full, point_of, reply_of, too_few, seeks, Said, AtCalls, AtEntries, AtPasses, IsLaw}
+use Rattle.xsk_turns.proofs.DriverWalk.{at_call}
 
 -- ---- a packet that goes to a socket
 
@@ -99,8 +100,12 @@ set_told s l call reply = fold_push (set_step (Acked s)) None l (record { call =
 seen_told : (s : ℕ) (l : List Told) (call : Call) (reply : Reply) → last_seen (Closing s) (with_told l call reply) ≡ seen_after (Closing s) (last_seen (Closing s) l) call reply
 seen_told s l call reply = fold_push (seen_step (Closing s)) None l (record { call = call; reply = reply })
 
-room_now : (r : Ring) (l : List Told) (call : Call) (reply : Reply) → room_of r (with_told l call reply) ≡ cond (is_on r call) (room_of r l + granted call reply - length (submitted call)) (room_of r l)
+-- what a call leaves of the room and of the items held on a ring
+pub room_now : (r : Ring) (l : List Told) (call : Call) (reply : Reply) → room_of r (with_told l call reply) ≡ cond (is_on r call) (room_of r l + granted call reply - length (submitted call)) (room_of r l)
 room_now r l call reply = part_of-push room_step r 0 l (record { call = call; reply = reply })
+
+pub held_now : (r : Ring) (l : List Told) (call : Call) (reply : Reply) → held_of r (with_told l call reply) ≡ cond (is_on r call) (held_of r l + length (taken reply) - released call) (held_of r l)
+held_now r l call reply = part_of-push held_step r 0 l (record { call = call; reply = reply })
 
 module _ (wire : Wire) (c : Config) (pair : ℕ) (is : IsSeat c pair) where
   abbrev seat : Seat

@@ -134,7 +134,7 @@ at_last manner c a noted upto kept l done h = record {
   drained = λ lane k. (h.over done lane k).1;
 }
 
-either : (r t s : ℕ) → (eqb r s || eqb t s) ≡ true → (r ≡ s) ⊎ (t ≡ s)
+pub either : (r t s : ℕ) → (eqb r s || eqb t s) ≡ true → (r ≡ s) ⊎ (t ≡ s)
 either r t s e = by (eqb r s) (eqb t s) refl refl e
   where
     by : (x y : Bool) → eqb r s ≡ x → eqb t s ≡ y → (x || y) ≡ true → (r ≡ s) ⊎ (t ≡ s)

@@ -1,10 +1,10 @@
 -- Which rings and marks an application has: those of its lanes and sides.
 use Rattle.std.proofs.Common.{◌≡◌, ℕ, suc, ◌+◌, ◌-◌, ◌*◌, ◌/◌, ◌%◌, ◌<◌, ◌≤◌, ◌⊎◌, ⊎_elim, None, length, sym, ap, ◌∙◌, subst, arith, mul-le-mul_right}
-use Rattle.std.proofs.Math.Nat.{mod-eq-sub-div-mul}
-use Rattle.std.proofs.lemmas.Nat.{div-mul-add, div_below, div-add-mod'}
+use Rattle.std.proofs.lemmas.Nat.{div-mul-add, mod-mul-add, div_below, div-add-mod'}
 use Rattle.xsk_turns.proofs.Object.{Config, HasRing, pool_of, batch_of, classes_of, callers_of, caller_of, application_on, producer, consumer, apps_of, IsBound, socket_at, port_of, queue_of}
 use Rattle.xsk_model.specs.Rings.{driver_of}
 use Rattle.xsk_model.proofs.Roles.{pair_on_only}
+use Rattle.xsk_model.proofs.Seats.{below as in_row}
 use Rattle.xsk_model.specs.declared.call.Ring.TheVariants.{Comp, Rx, Tx}
 use Rattle.xsk_turns.specs.AppTurns.{pair_of, side_socket, rx_of, tx_of, lanes_of}
 use Rattle.xsk_turns.specs.AppOwned.{IsApp}
@@ -22,9 +22,6 @@ pub record AppSeats (c : Config) (a : ℕ) : Type 0 where
 
 -- ---- numbers
 
-mod-mul-add : (a w b : ℕ) → b < w → (a * w + b) % w ≡ b
-mod-mul-add a w b h = omega (arith, mod-eq-sub-div-mul (a * w + b) w, ap (λ (n : ℕ). n * w) (div-mul-add a w b h))
-
 -- the side of a lane
 pub side_below : (classes lane : ℕ) → (classes ≡ 1) ⊎ (classes ≡ 2) ⊎ (classes ≡ 4) → lane < 2 * classes → lane / classes < 2
 side_below classes lane few h =
@@ -35,9 +32,6 @@ side_below classes lane few h =
 
 side_port : (x side ports : ℕ) → (ports ≡ 2) ⊎ (ports ≡ 4) → x < ports / 2 → side < 2 → suc (2 * x + side) ≤ ports
 side_port x side ports even h k = omega (arith, even)
-
-within : (x q r n : ℕ) → r < q → suc x * q ≤ n → x * q + r < n
-within x q r n h k = omega arith
 
 -- ---- the pair of a side
 
@@ -54,7 +48,7 @@ module _ (c : Config) (a : ℕ) (one : IsApp c a) where
       let low : x < c.ports / 2 = div_below a c.queues (c.ports / 2) some one.known in
       let ports : suc (2 * x + side) ≤ c.ports = side_port x side c.ports one.config.ports low h in
       let most : suc (2 * x + side) * c.queues ≤ c.ports * c.queues = mul-le-mul_right c.queues ports in
-      within (2 * x + side) c.queues (a % c.queues) (length c.pairs) rest (omega (arith, most, one.regular.pairs))
+      in_row (2 * x + side) c.queues (a % c.queues) (length c.pairs) rest (omega (arith, most, one.regular.pairs))
 
   -- the pairs of the two sides are two
   pub pairs_apart : pair_of c a 0 ≡ pair_of c a 1 → ⊥
@@ -95,7 +89,7 @@ module _ (c : Config) (a : ℕ) (one : IsApp c a) where
   socket_below side class h k =
       let below = pair_below side h in
       let most : suc (pair_of c a side) * classes_of c ≤ length c.pairs * classes_of c = mul-le-mul_right (classes_of c) below in
-      within (pair_of c a side) (classes_of c) class (length c.sockets) k (omega (arith, most, one.regular.sockets))
+      in_row (pair_of c a side) (classes_of c) class (length c.sockets) k (omega (arith, most, one.regular.sockets))
 
   pub socket_pair : (side class : ℕ) → class < classes_of c → side_socket c a side class / classes_of c ≡ pair_of c a side
   socket_pair side class k = div-mul-add (pair_of c a side) (classes_of c) class k

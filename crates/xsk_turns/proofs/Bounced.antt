@@ -15,7 +15,8 @@ use Rattle.xsk_prog.specs.declared.rule.Verdict.{Verdict}
 use Rattle.xsk_prog.specs.declared.rule.Verdict.TheVariants.{Drop, Pass, Redirect, Bounce}
 use Rattle.xsk_turns.proofs.Walks.{Anything, meet_anything}
 use Rattle.xsk_turns.proofs.Disposing.{IsOver, over_later}
-use Rattle.xsk_turns.proofs.DriverWalk.{Family, IsBouncing, SubmitRx, TellBounced, call_at, told_rx_done, told_bounced, looked_none, looked_long, rx_submitted, looked_tx_done, found_end, point_of, reply_of, untried, drops_full, drops_frameless, untried_has, Said, AtCalls, AtEntries, AtPasses, IsLaw, at_call, at_end}
+use Rattle.xsk_turns.proofs.DriverPlaces.{Family, IsBouncing, SubmitRx, TellBounced, call_at, told_rx_done, told_bounced, looked_none, looked_long, rx_submitted, looked_tx_done, found_end, point_of, reply_of, untried, drops_full, drops_frameless, untried_has, Said, AtCalls, AtEntries, AtPasses, IsLaw}
+use Rattle.xsk_turns.proofs.DriverWalk.{at_call, at_end}
 
 -- ---- packets that bounce, and those that don't
 

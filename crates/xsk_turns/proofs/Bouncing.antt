@@ -9,7 +9,7 @@ use Rattle.xsk_turns.specs.Turns.{Seat, Kept, bounce_of, bounced_among}
 use Rattle.xsk_turns.specs.declared.disposal.Disposal.{Disposal}
 use Rattle.xsk_turns.specs.declared.disposal.Disposal.TheVariants.{Delivered, NoFrames, RxFull, TooLong, Missed, Bounced}
 use Rattle.xsk_turns.proofs.Walks.{Premise}
-use Rattle.xsk_turns.proofs.DriverWalk.{Family, SubmitRx, TellRxDone, call_at, told_bounced, looked_none, looked_long, rx_submitted, point_of, reply_of, untried, drops_full, drops_frameless, untried_has, Said, AtCalls, AtEntries, AtPasses, IsLaw}
+use Rattle.xsk_turns.proofs.DriverPlaces.{Family, SubmitRx, TellRxDone, call_at, told_bounced, looked_none, looked_long, rx_submitted, point_of, reply_of, untried, drops_full, drops_frameless, untried_has, Said, AtCalls, AtEntries, AtPasses, IsLaw}
 
 module _ (seat : Seat) (Q : Premise Kept) where
   abbrev pub counted : List Told → ℕ

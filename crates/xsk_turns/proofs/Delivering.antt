@@ -22,7 +22,8 @@ use Rattle.xsk_turns.proofs.Layouts.{layout, one_piece, length-laid_out}
 use Rattle.xsk_turns.proofs.Disposing.{IsOver, over_later, disposes_all}
 use Rattle.xsk_turns.proofs.Saying.{disposed_as_said}
 use Rattle.xsk_turns.proofs.Walks.{Fitting, meet_fitting}
-use Rattle.xsk_turns.proofs.DriverWalk.{Family, Begins, TellRxDone, IsTried, call_at, told_rx_done, told_bounced, looked_none, looked_long, fill_items, rx_submitted, comp_submitted, looked_tx_done, found_end, point_of, reply_of, untried, drops_full, drops_frameless, parks, untried_has, AtCalls, AtEntries, AtPasses, IsLaw, at_call, at_end}
+use Rattle.xsk_turns.proofs.DriverPlaces.{Family, Begins, TellRxDone, IsTried, call_at, told_rx_done, told_bounced, looked_none, looked_long, fill_items, rx_submitted, comp_submitted, looked_tx_done, found_end, point_of, reply_of, untried, drops_full, drops_frameless, parks, untried_has, AtCalls, AtEntries, AtPasses, IsLaw}
+use Rattle.xsk_turns.proofs.DriverWalk.{at_call, at_end}
 
 -- ---- lists of layouts
 

@@ -9,7 +9,8 @@ use Rattle.xsk_turns.proofs.Object.{classes_of, Draining, are_none, unseen_after
 use Rattle.xsk_turns.specs.Turns.{Seat, Kept, Noted, seat_of, start, turn, socket_of, application_of, cell_of}
 use Rattle.xsk_turns.specs.Law.{DrainsTx}
 use Rattle.xsk_turns.proofs.Walks.{Anything, meet_anything}
-use Rattle.xsk_turns.proofs.DriverWalk.{Place, Turning, Again, Sending, Idling, Family, call_at, told_rx_done, told_bounced, looked_none, looked_long, looked_some, rx_submitted, comp_full, comp_submitted, tx_empty, tx_items, tx_released, looked_tx_done, armed_fill, found_end, found_none, kicked, not_kicked, point_of, reply_of, leads, none_comes, waits, drops_full, drops_frameless, visited, idles, arms, AtEntries, AtPasses, IsLaw, at_end, saw_fed, saw_closed}
+use Rattle.xsk_turns.proofs.DriverPlaces.{Place, Turning, Again, Sending, Idling, Family, call_at, told_rx_done, told_bounced, looked_none, looked_long, looked_some, rx_submitted, comp_full, comp_submitted, tx_empty, tx_items, tx_released, looked_tx_done, armed_fill, found_end, found_none, kicked, not_kicked, point_of, reply_of, leads, none_comes, waits, drops_full, drops_frameless, visited, idles, arms, AtEntries, AtPasses, IsLaw, saw_fed, saw_closed}
+use Rattle.xsk_turns.proofs.DriverWalk.{at_end}
 use Rattle.xsk_model.specs.declared.call.Mark.TheVariants.{Closing}
 
 pub draining_told : (ms : List Mark) (r : Ring) (l : List Told) (call : Call) (reply : Reply)

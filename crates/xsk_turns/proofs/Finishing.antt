@@ -10,7 +10,8 @@ use Rattle.xsk_turns.specs.declared.wire.Wire.{Wire}
 use Rattle.xsk_turns.proofs.Places.{batch_few}
 use Rattle.xsk_turns.proofs.Counting.{four_classes}
 use Rattle.xsk_turns.proofs.Walks.{Fitting, meet_fitting}
-use Rattle.xsk_turns.proofs.DriverWalk.{Family, Idling, Arming, Which, Turning, Again, Trying, Lacking, Sending, PeekFill, ReleaseFill, PeekTx, ReleaseTx, comp_full, comp_submitted, tx_empty, tx_items, looked_tx_done, armed_fill, found_end, found_none, visited, idles, arms, seeks, looks, finds, parks, Said, AtCalls, AtEntries, AtPasses, IsLaw, SubmitComp, LookTxDone, TellGone, ArmFill, ArmTx, LookEnd, at_call}
+use Rattle.xsk_turns.proofs.DriverPlaces.{Family, Idling, Arming, Which, Turning, Again, Trying, Lacking, Sending, PeekFill, ReleaseFill, PeekTx, ReleaseTx, comp_full, comp_submitted, tx_empty, tx_items, looked_tx_done, armed_fill, found_end, found_none, visited, idles, arms, seeks, looks, finds, parks, Said, AtCalls, AtEntries, AtPasses, IsLaw, SubmitComp, LookTxDone, TellGone, ArmFill, ArmTx, LookEnd}
+use Rattle.xsk_turns.proofs.DriverWalk.{at_call}
 
 -- each item ends one packet at most
 one_ended : (o : Option Packet) → length (whole_packets (option_to_list o)) ≤ 1

@@ -1,28 +1,23 @@
 -- A caller's own calls and replies in a history fit, and show cells as lowered.
-use Rattle.std.proofs.Common.{◌≡◌, ℕ, inl, inr, ⊎_elim, Bool, true, false, cond, Option, Some, None, List, [], ◌∷◌, ◌++◌, refl, sym, ap, ◌∙◌, subst, append_assoc, append-nil, eq-eqb, ne_eqb}
+use Rattle.std.proofs.Common.{◌≡◌, ℕ, ⊎_elim, cond, Some, None, List, [], ◌∷◌, ◌++◌, sym, ap, ◌∙◌, subst, append_assoc, append-nil, eq-eqb, ne_eqb}
 use Rattle.std.proofs.lemmas.Bool.{cases_eq}
-use Rattle.std.proofs.lemmas.List.Sums.{fold_push}
 use Rattle.std.specs.Prelude.{IfSome}
 use Rattle.xsk_umem.specs.Frame.{Frame}
 use Rattle.xsk_model.specs.Config.{Config, IsConfig, IsClosable}
 use Rattle.xsk_model.specs.Rings.{port_of}
-use Rattle.xsk_model.specs.Marks.{HasMark, HoldsClosing, is_mark}
-use Rattle.xsk_model.specs.Object.{State, mark_at, reply_at, after}
+use Rattle.xsk_model.specs.Marks.{HasMark, HoldsClosing}
+use Rattle.xsk_model.specs.Object.{mark_at, reply_at}
 use Rattle.xsk_model.specs.Entry.{Told, Entry, told, own}
 use Rattle.xsk_model.specs.Legal.{IsLegal}
 use Rattle.xsk_model.specs.Opening.{opening}
 use Rattle.xsk_model.specs.History.{MayGive, OwnGoesOn, IsHistory, state_after}
-use Rattle.xsk_model.specs.Swaps.{number_in, seen_after, seen_step, last_seen}
 use Rattle.xsk_model.specs.declared.call.Ring.TheVariants.{Rx}
-use Rattle.xsk_model.specs.declared.call.Mark.{Mark}
 use Rattle.xsk_model.specs.declared.call.Mark.TheVariants.{Cell, Closing}
 use Rattle.xsk_model.specs.declared.call.Call.{Call}
-use Rattle.xsk_model.specs.declared.call.Call.TheVariants.{Reserve, Submit, Peek, Release, Swap, Look}
+use Rattle.xsk_model.specs.declared.call.Call.TheVariants.{Look}
 use Rattle.xsk_model.specs.declared.call.Reply.{Reply}
 use Rattle.xsk_model.specs.declared.call.Reply.TheVariants.{Old}
-use Rattle.xsk_model.proofs.Along.{Keeps, along}
-use Rattle.xsk_model.proofs.Changes.{mark_set, mark_stays}
-use Rattle.xsk_model.proofs.Closings.{is_mark-true, sets_or_leaves, closed_cells}
+use Rattle.xsk_model.proofs.Closings.{closed_cells, seen_is_closed}
 use Rattle.xsk_model.proofs.Folds.{own-push_same, own-push_other}
 use Rattle.xsk_model.proofs.Histories.{history_first, goes_rest}
 use Rattle.xsk_model.proofs.Theorems.{fitting_replies}
@@ -38,56 +33,6 @@ lowered_of_none c past call reply none = tt
 pub fit_of_none : (c : Config) (who : ℕ) (past l : List Told) → c.closing ≡ None → OwnGoesOn c who past l → AllFit c past l
 fit_of_none c who past [] none goes = tt
 fit_of_none c who past (t ∷ l) none goes = ((goes.1, lowered_of_none c past t.call t.reply none), fit_of_none c who (past ++ t ∷ []) l none goes.2)
-
--- ---- who has seen that a socket is closed
-
-record IsSeen (c : Config) (x : ℕ) (s : State) (past : List Entry) : Type 0 where
-  seen : (who : ℕ) → last_seen (Closing x) (own who past) ≡ Some 1 → mark_at c s (Closing x) ≡ 1
-
-seen_push : (m : Mark) (mine : List Told) (t : Told) → last_seen m (mine ++ t ∷ []) ≡ seen_after m (last_seen m mine) t.call t.reply
-seen_push m mine t = fold_push (seen_step m) None mine t
-
--- what a call leaves as seen was seen before, or is so now
-seen_now : (c : Config) (s : State) (m : Mark) (before : Option ℕ) (call : Call) (reply : Reply) → reply ≡ reply_at c s call → (before ≡ Some 1 → mark_at c s m ≡ 1)
-    → seen_after m before call reply ≡ Some 1 → mark_at c s m ≡ 1
-seen_now c s m before (Reserve r n) reply is was h = was h
-seen_now c s m before (Submit r items) reply is was h = was h
-seen_now c s m before (Peek r n) reply is was h = was h
-seen_now c s m before (Release r n) reply is was h = was h
-seen_now c s m before (Swap n value) reply is was h = was h
-seen_now c s m before (Look n) reply is was h = by (is_mark m n) refl (ap (λ y. cond (is_mark m n) (number_in before y) before) (sym is) ∙ h)
-  where
-    by : (b : Bool) → b ≡ is_mark m n → cond b (Some (mark_at c s n)) before ≡ Some 1 → mark_at c s m ≡ 1
-    by true e k =
-        let one : mark_at c s n ≡ 1 = cc in
-        ap (mark_at c s) (is_mark-true m n (sym e)) ∙ one
-    by false e k = was k
-
-module _ (c : Config) (frames : List Frame) (x : ℕ) (config : IsConfig c) (has : HasMark c (Closing x)) where
-  keeps_seen : Keeps c frames (IsSeen c x)
-  keeps_seen s past e sound legal reply h =
-      elim (sets_or_leaves (Closing x) e.call) [
-        | inl set ↦
-            let now : mark_at c (after c s e.who e.call) (Closing x) ≡ 1 =
-            ap (λ y. mark_at c (after c s e.who y) (Closing x)) set.1.0 ∙ mark_set c s e.who (Closing x) set.0 config has sound.marks
-            ∙ (subst (IsLegal c (own e.who past) e.who) set.1.0 legal).role.1.0 in
-            record { seen = λ who is. now }
-        | inr leaves ↦
-            let stays = mark_stays c s (own e.who past) e.who e.call (Closing x) config has legal leaves.0 in
-            record {
-              seen = λ who is. stays ∙ ⊎_elim
-                  (λ (by : e.who ≡ who).
-                  seen_now c s (Closing x) (last_seen (Closing x) (own who past)) e.call e.reply reply (h.seen who)
-                  (sym (ap (last_seen (Closing x)) (own-push_same who past e by) ∙ seen_push (Closing x) (own who past) (told e)) ∙ is))
-                  (λ (other : e.who ≡ who → ⊥). h.seen who (sym (ap (last_seen (Closing x)) (own-push_other who past e other)) ∙ is))
-                  (cases_eq e.who who);
-            }
-      ]
-
-pub seen_is_closed : (c : Config) (frames : List Frame) (h : List Entry) (x who : ℕ) → IsHistory c frames h → HasMark c (Closing x) → last_seen (Closing x) (own who h) ≡ Some 1
-    → mark_at c (state_after c frames h) (Closing x) ≡ 1
-seen_is_closed c frames h x who history has is =
-    (along (IsSeen c x) c frames h history (keeps_seen c frames x history.opened.config has) (record { seen = λ w e. absurd (cc) })).seen who is
 
 -- ---- a history's entries
 

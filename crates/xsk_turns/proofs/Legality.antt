@@ -1,18 +1,19 @@
 -- Each call that a driver gives is legal, and what it keeps goes on.
-use Rattle.std.proofs.Common.{◌≡◌, ℕ, zero, suc, ◌+◌, ◌*◌, ◌<◌, ◌≤◌, ◌⊎◌, Bool, true, false, cond, eqb, inl, inr, List, [], ◌∷◌, ◌++◌, length, get_or, take, drop, map, flat_map, All, refl, sym, ap, subst, ◌∙◌, ⊎_elim, arith, append-nil, length-append, length-take-le, eq-eqb, ne_eqb, IsTrue}
+use Rattle.std.proofs.Common.{◌≡◌, ℕ, zero, suc, ◌+◌, ◌*◌, ◌<◌, ◌≤◌, ◌⊎◌, Bool, true, false, cond, inl, inr, List, [], ◌∷◌, ◌++◌, length, get_or, take, drop, map, flat_map, All, refl, sym, ap, subst, ◌∙◌, ⊎_elim, arith, append-nil, length-append, length-take-le, eq-eqb, ne_eqb, IsTrue}
 use Rattle.std.specs.Int.{div_ceil}
 use Rattle.std.proofs.lemmas.Bool.{cases_eq}
 use Rattle.std.proofs.lemmas.List.{length-map, length-drop, nil_from_length}
 use Rattle.std.proofs.lemmas.List.Elements.{All-nil, All-cons, All-head, All-tail, All-take, All-drop, All-weaker}
 use Rattle.xsk_turns.proofs.Object.{payload_of, Frame, Config, classes_of, times, numbers, IsLayout, IsWhole, room_of, is_from_fill, completed_by, waiting, sending_of, IsFed, IsLegal, AreReceived, sockets_of}
 use Rattle.xsk_turns.proofs.Calls.{Item, Told, Comp, Rx, Submit}
-use Rattle.xsk_model.proofs.Completions.{one_completion}
+use Rattle.xsk_model.proofs.Completions.{waiting_whole, one_completion}
 use Rattle.xsk_model.proofs.Counting.{times-append}
+use Rattle.xsk_model.proofs.Distinct.{elsewhere}
 use Rattle.xsk_model.specs.Steering.{packet_limit}
 use Rattle.xsk_turns.specs.Turns.{Kept, laid_out, returned}
 use Rattle.xsk_turns.specs.Owned.{IsHere}
 use Rattle.xsk_turns.specs.Owned.{IsSeat, of_class, socket_at_class, frame_numbers, IsSpare, Owned}
-use Rattle.xsk_turns.proofs.Completing.{waiting_whole, whole_some, waiting_lawful, numbers-returned, all_returned, are_completed, completes}
+use Rattle.xsk_turns.proofs.Completing.{whole_some, waiting_lawful, numbers-returned, all_returned, are_completed, completes}
 use Rattle.xsk_turns.proofs.Layouts.{layout, items_on, pieces_some, one_piece, length-laid_out, numbers-laid_out}
 use Rattle.xsk_turns.proofs.Owned.{HasKept, times-kept, sockets_apart}
 use Rattle.xsk_turns.proofs.Places.{class_here, class_among, rx_ring, caller_known}
@@ -31,9 +32,6 @@ spare_from c l n (frame ∷ frames) all some = ⊎_elim
     (λ (e : frame.number ≡ n). ap (λ (k : ℕ). is_from_fill k l) (sym e) ∙ (All-head (IsSpare c l) frame frames all).from_fill)
     (λ (e : frame.number ≡ n → ⊥). spare_from c l n frames (All-tail (IsSpare c l) frame frames all) (omega (arith, some, elsewhere frame.number n e)))
     (cases_eq frame.number n)
-  where
-    elsewhere : (x n : ℕ) → (x ≡ n → ⊥) → ◌≡◌ {A = ℕ} (cond (eqb x n) 1 0) 0
-    elsewhere x n h = ap {B = ℕ} (λ (b : Bool). cond b 1 0) (ne_eqb x n h)
 
 -- ---- the packets that wait
 
@@ -67,7 +65,7 @@ module _ (c : Config) (pair : ℕ) (kept : Kept) (l : List Told) (h : HasKept c 
   first_waits = sym (of_class-first h.origins kept.finished h.each some) ∙ h.waits first_class first_known
 
   pub first_whole : IsWhole c.geometry c.sg (get_or kept.finished 0 [])
-  first_whole = waiting_whole c (sending_of c (socket_at_class c pair first_class) l) (get_or kept.finished 0 []) behind_first first_waits
+  first_whole = waiting_whole c (sending_of c (socket_at_class c pair first_class) l) (get_or kept.finished 0 []) behind_first (sym first_waits)
 
 -- ---- a packet on RX
 

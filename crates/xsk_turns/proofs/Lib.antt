@@ -19,6 +19,8 @@ pub mod Completing
 pub mod Counting
 pub mod Counts
 pub mod Disposing
+pub mod Appending
+pub mod DriverPlaces
 pub mod DriverWalk
 pub mod Layouts
 pub mod Mangling
@@ -36,6 +38,7 @@ pub mod Walks
 pub mod Saying
 pub mod Sending
 pub mod Stranding
+pub mod Totals
 pub mod ReceivingLaws
 pub mod Delivering
 pub mod Draining

@@ -193,7 +193,7 @@ pub from_fill-here : (n pair k : ℕ) (l : List Told) (items : List Item) → 1 
 from_fill-here n pair k l items some =
     from_fill-push n l (Peek (Fill pair) k) (Items items) ∙ ap (λ (b : Bool). cond b true (is_from_fill n l)) (lt-ltb 0 (times n (numbers items)) some)
 
-frames_few : (items : List Item) → length (frames_in items) ≤ length items
+pub frames_few : (items : List Item) → length (frames_in items) ≤ length items
 frames_few [] = omega arith
 frames_few (item ∷ items) = omega (arith, frames_few items, length-append (frame_in item.frame) (frames_in items), one item.frame)
   where

@@ -23,7 +23,8 @@ use Rattle.xsk_turns.proofs.Places.{batch_some, batch_few, class_here, rx_ring, 
 use Rattle.xsk_turns.proofs.Rooms.{fill_frames, all_whole, lost_few}
 use Rattle.xsk_turns.proofs.Acknowledging.{redirects, closing_is, closing_here, IsReady, ready_at}
 use Rattle.xsk_turns.proofs.Walks.{Premise, MeetAlong, release_due, meet_weaker}
-use Rattle.xsk_turns.proofs.DriverWalk.{Place, Trying, Sending, Idling, Family, Point, Known, asked, LookClosing, TellAcked, TellRxDone, TellBounced, LookCell, PeekFill, ReleaseFill, ReserveRx, SubmitRx, ReserveComp, SubmitComp, PeekTx, ReleaseTx, LookTxDone, TellGone, ArmFill, ArmTx, LookEnd, LookKick, ClearKick, DisarmFill, DisarmTx, call_at, kept_at, IsTried, fill_items, tx_items, rx_granted, comp_granted, comp_full, point_of, reply_of, visited, idles, arms, seeks, misses, looks, finds, parks, disarmed, Said, AtEntries, AtPasses, IsLaw, together, at_call, at_end, meets_said}
+use Rattle.xsk_turns.proofs.DriverPlaces.{Place, Trying, Sending, Idling, Family, Point, Known, asked, LookClosing, TellAcked, TellRxDone, TellBounced, LookCell, PeekFill, ReleaseFill, ReserveRx, SubmitRx, ReserveComp, SubmitComp, PeekTx, ReleaseTx, LookTxDone, TellGone, ArmFill, ArmTx, LookEnd, LookKick, ClearKick, DisarmFill, DisarmTx, call_at, kept_at, IsTried, fill_items, tx_items, rx_granted, comp_granted, comp_full, point_of, reply_of, visited, idles, arms, seeks, misses, looks, finds, parks, disarmed, Said, AtEntries, AtPasses, IsLaw, together}
+use Rattle.xsk_turns.proofs.DriverWalk.{at_call, at_end, meets_said}
 
 -- ---- a packet that goes to a socket
 

@@ -5,7 +5,8 @@ use Rattle.xsk_model.specs.Config.{classes_of}
 use Rattle.xsk_turns.specs.Turns.{Seat, Kept, seat_of, start, turn}
 use Rattle.xsk_turns.specs.Watching.{ParkedLooks, EndsAwake}
 use Rattle.xsk_turns.proofs.Walks.{Anything, meet_anything}
-use Rattle.xsk_turns.proofs.DriverWalk.{Family, Parked, LookKick, found_none, kicked, parks, Said, AtCalls, AtEntries, AtPasses, IsLaw, at_call, at_end}
+use Rattle.xsk_turns.proofs.DriverPlaces.{Family, Parked, LookKick, found_none, kicked, parks, Said, AtCalls, AtEntries, AtPasses, IsLaw}
+use Rattle.xsk_turns.proofs.DriverWalk.{at_call, at_end}
 
 module _ (seat : Seat) where
   abbrev At : Family

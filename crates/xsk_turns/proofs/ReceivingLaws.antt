@@ -11,7 +11,8 @@ use Rattle.xsk_turns.specs.Turns.{Seat, Judged, Kept, seat_of, start, turn, retu
 use Rattle.xsk_turns.specs.declared.wire.Wire.{Wire}
 use Rattle.xsk_turns.specs.Law.{NothingReceivedLate, TellsRxDone}
 use Rattle.xsk_turns.proofs.Walks.{Anything, meet_anything}
-use Rattle.xsk_turns.proofs.DriverWalk.{Family, Begins, TellRxDone, SubmitRx, call_at, told_rx_done, told_bounced, looked_none, looked_long, rx_submitted, comp_submitted, looked_tx_done, armed_fill, armed_tx, found_end, cleared_kick, disarmed_fill, disarmed_tx, point_of, reply_of, untried, drops_full, drops_frameless, Said, AtCalls, AtEntries, AtPasses, IsLaw, at_call, at_end, of_run, told_acked}
+use Rattle.xsk_turns.proofs.DriverPlaces.{Family, Begins, TellRxDone, SubmitRx, call_at, told_rx_done, told_bounced, looked_none, looked_long, rx_submitted, comp_submitted, looked_tx_done, armed_fill, armed_tx, found_end, cleared_kick, disarmed_fill, disarmed_tx, point_of, reply_of, untried, drops_full, drops_frameless, Said, AtCalls, AtEntries, AtPasses, IsLaw, told_acked}
+use Rattle.xsk_turns.proofs.DriverWalk.{at_call, at_end, of_run}
 use Rattle.xsk_model.specs.declared.call.Mark.TheVariants.{Acked}
 
 pub telling_told : (m : Mark) (r : Ring) (l : List Told) (call : Call) (reply : Reply) → telling_of m r (with_told l call reply) ≡ telling_after m r (telling_of m r l) call

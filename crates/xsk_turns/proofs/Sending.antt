@@ -5,6 +5,7 @@ use Rattle.xsk_turns.proofs.Object.{Config, times, bytes_of, taken, completed_by
 use Rattle.xsk_model.specs.Sent.{all_sent_from, bounced_in}
 use Rattle.xsk_turns.proofs.Calls.{Told, with_told, Comp, Call, Submit, Reply}
 use Rattle.xsk_model.specs.declared.call.Act.TheVariants.{Call as Gave, Ended as IsEnded}
+use Rattle.xsk_model.proofs.Closings.{all_sent-push}
 use Rattle.xsk_model.proofs.Completions.{one_completion}
 use Rattle.xsk_turns.specs.Turns.{Judged, Kept, seat_of, returned}
 use Rattle.xsk_turns.specs.Owned.{IsSeat, socket_at_class, Owned}
@@ -37,21 +38,6 @@ only_part f x s (y ∷ xs) e some few = ⊎_elim
     (cases_eq y s)
 
 -- ---- what is sent
-
--- one call more sends what it completes, and what it bounces
-pub sent_push : (c : Config) (sockets : List ℕ) (bounces : List (List ℕ)) (past mine : List Told) (t : Told)
-    → all_sent_from c sockets bounces past (mine ++ t ∷ [])
-    ≡ all_sent_from c sockets bounces past mine ++ (map (bytes_of c.geometry c.sg) (completed_in c sockets (past ++ mine) t.call) ++ bounced_in bounces t.call)
-sent_push c sockets bounces past [] t =
-    let new : List Told → List (List ℕ) = λ l. map (bytes_of c.geometry c.sg) (completed_in c sockets l t.call) ++ bounced_in bounces t.call in
-    append-nil (new past) ∙ ap new (sym (append-nil past))
-sent_push c sockets bounces past (u ∷ mine) t =
-    let here : List (List ℕ) = map (bytes_of c.geometry c.sg) (completed_in c sockets past u.call) ++ bounced_in bounces u.call in
-    let rest : List (List ℕ) = all_sent_from c sockets bounces (past ++ u ∷ []) mine in
-    let new : List Told → List (List ℕ) = λ l. map (bytes_of c.geometry c.sg) (completed_in c sockets l t.call) ++ bounced_in bounces t.call in
-    ap (λ xs. here ++ xs) (sent_push c sockets bounces (past ++ u ∷ []) mine t)
-    ∙ ap (λ l. here ++ (rest ++ new l)) (append_assoc past (u ∷ []) mine)
-    ∙ sym (append_assoc here rest (new (past ++ u ∷ mine)))
 
 -- ---- the first finished packet
 
@@ -91,7 +77,7 @@ module _ (c : Config) (pair : ℕ) (seat : IsSeat c pair) (l : List Told) (kept 
       let completed : List (List ℕ) = map (bytes_of c.geometry c.sg) (completed_in c (sockets_of c pair) l call) in
       let bounced : List (List ℕ) = bounced_in (bouncing input) call in
       let now : List (List ℕ) = map (bytes_of c.geometry c.sg) (completed_in c (sockets_of c pair) (with_told l call reply) next) in
-      ap (λ xs. xs ++ now) (sent_push c (sockets_of c pair) (bouncing input) [] l (record { call = call; reply = reply }) ∙ sym (append_assoc sent completed bounced))
+      ap (λ xs. xs ++ now) (all_sent-push c (sockets_of c pair) (bouncing input) [] l (record { call = call; reply = reply }) ∙ sym (append_assoc sent completed bounced))
       ∙ append_assoc (sent ++ completed) bounced now
       ∙ ap (λ xs. (sent ++ completed) ++ (bounced ++ xs)) (by_call next (is_completing next) refl completing lawful)
 
@@ -100,7 +86,7 @@ module _ (c : Config) (pair : ℕ) (seat : IsSeat c pair) (l : List Told) (kept 
       let sent : List (List ℕ) = all_sent_from c (sockets_of c pair) (bouncing input) [] l in
       let completed : List (List ℕ) = map (bytes_of c.geometry c.sg) (completed_in c (sockets_of c pair) l call) in
       let bounced : List (List ℕ) = bounced_in (bouncing input) call in
-      sent_push c (sockets_of c pair) (bouncing input) [] l (record { call = call; reply = reply }) ∙ sym (append_assoc sent completed bounced)
+      all_sent-push c (sockets_of c pair) (bouncing input) [] l (record { call = call; reply = reply }) ∙ sym (append_assoc sent completed bounced)
       ∙ ap (λ xs. (sent ++ completed) ++ xs) (sym (append-nil bounced))
 
 -- no packet is sent before the first call, and none by it

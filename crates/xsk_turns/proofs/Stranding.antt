@@ -20,7 +20,8 @@ use Rattle.xsk_turns.proofs.Owned.{has_tx}
 use Rattle.xsk_turns.proofs.Owning.{meet_owned, no_group, has_ended}
 use Rattle.xsk_turns.proofs.Rooms.{lost_few}
 use Rattle.xsk_turns.proofs.Walks.{Premise}
-use Rattle.xsk_turns.proofs.DriverWalk.{Family, SubmitComp, call_at, comp_submitted, tx_items, point_of, reply_of, visited, Said, AtCalls, AtEntries, AtPasses, IsLaw, at_call, at_end}
+use Rattle.xsk_turns.proofs.DriverPlaces.{Family, SubmitComp, call_at, comp_submitted, tx_items, point_of, reply_of, visited, Said, AtCalls, AtEntries, AtPasses, IsLaw}
+use Rattle.xsk_turns.proofs.DriverWalk.{at_call, at_end}
 
 -- ---- items with frames
 

@@ -14,7 +14,8 @@ use Rattle.xsk_turns.specs.Watching.{Watching, peeked, watching_after, watching_
 use Rattle.xsk_turns.specs.declared.wire.Wire.{Wire}
 use Rattle.xsk_turns.proofs.ScriptLemmas.{leaves_front, asked_last}
 use Rattle.xsk_turns.proofs.Walks.{Anything, meet_anything}
-use Rattle.xsk_turns.proofs.DriverWalk.{Family, Begins, Starting, Acking, Arming, Again, Trying, Lacking, Sending, Parked, Woken, Disarming, LookKick, saw_fed, saw_closed, told_acked, told_rx_done, fill_empty, fill_items, fill_released, tx_empty, tx_items, tx_released, looked_tx_done, armed_fill, armed_tx, found_end, found_none, kicked, not_kicked, cleared_kick, disarmed_fill, disarmed_tx, receives, idles, arms, seeks, sought, misses, looks, finds, parks, disarmed, call_at, point_of, reply_of, Said, AtCalls, AtEntries, AtPasses, IsLaw, at_call}
+use Rattle.xsk_turns.proofs.DriverPlaces.{Family, Begins, Starting, Acking, Arming, Again, Trying, Lacking, Sending, Parked, Woken, Disarming, LookKick, saw_fed, saw_closed, told_acked, told_rx_done, fill_empty, fill_items, fill_released, tx_empty, tx_items, tx_released, looked_tx_done, armed_fill, armed_tx, found_end, found_none, kicked, not_kicked, cleared_kick, disarmed_fill, disarmed_tx, receives, idles, arms, seeks, sought, misses, looks, finds, parks, disarmed, call_at, point_of, reply_of, Said, AtCalls, AtEntries, AtPasses, IsLaw}
+use Rattle.xsk_turns.proofs.DriverWalk.{at_call}
 
 -- ---- the folds
 

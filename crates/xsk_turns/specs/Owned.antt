@@ -5,6 +5,7 @@ use Rattle.xsk_umem.specs.Frame.{Frame}
 use Rattle.xsk_umem.specs.Geometry.{IsGeometry}
 use Rattle.xsk_umem.specs.declared.batch.Item.{Item}
 use Rattle.xsk_model.specs.Config.{Config, IsConfig, IsRegular, pair_at, classes_of, socket_at}
+use Rattle.xsk_model.specs.Limits.{most_fragments}
 use Rattle.xsk_model.specs.Packets.{rest}
 use Rattle.xsk_model.specs.Numbers.{times, numbers}
 use Rattle.xsk_model.specs.Object.{submitted}
@@ -79,7 +80,7 @@ pub record Owned (c : Config) (pair : ℕ) (kept : Kept) (call : Call) (l : List
   pub own : OwnGoesOn c pair [] l
   pub frames : (n : ℕ) → times n (numbers_kept kept) + times n (numbers (submitted call)) ≡ times n (had_of l)
   pub spare : All (IsSpare c l) kept.spare
-  pub few : length kept.spare ≤ 18
+  pub few : length kept.spare ≤ most_fragments
   pub classes : length kept.groups ≡ classes_of c
   pub groups : (class : ℕ) → class < classes_of c → group_at kept class ≡ rest c.geometry c.sg (peeked_of (Tx (socket_at_class c pair class)) l)
   pub queue : IsQueue c pair kept.finished call l

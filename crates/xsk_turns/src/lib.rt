@@ -2,6 +2,7 @@
 #![tactic(auto)]
 
 mod disposal;
+pub mod giving;
 pub mod laws;
 mod manner;
 pub mod stepping;

@@ -1,5 +1,4 @@
-use Rattle.std.proofs.Common.{◌≡◌, true, rules}
-use Rattle.std.specs.Prelude.{IsTrue}
+use Rattle.std.proofs.Common.{rules}
 use Rattle.xsk_model.proofs.RingSizes.{power_of_size, size_of_power}
 use Rattle.xsk_model.proofs.parts.is_ring_size.Goals as goal
 
