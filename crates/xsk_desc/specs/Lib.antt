@@ -1,15 +1,4 @@
 pub mod Fault
 pub mod Gather
-pub mod Given
-pub mod Kept
+pub mod Gathering
 pub mod Laws
-pub mod Marked
-pub mod Noted
-pub mod Noting
-pub mod Standing
-pub mod StandingLaws
-pub mod Queue
-pub mod Roles
-pub mod Setting
-pub mod Pieces
-pub mod Why

@@ -1,7 +1,8 @@
 //! Which descriptors are valid, the fault of those that aren't, and the number of pieces of a packet.
-ghost use Rattle.std.specs.Prelude.{◌≡◌, ℕ, ◌≤◌, List, length, is_ok};
+ghost use Rattle.std.specs.Prelude.{◌≡◌, ℕ, ◌≤◌, ◌%◌, List, length, is_ok};
 ghost use Rattle.std.specs.Int.{div_ceil};
 ghost use Rattle.std.specs.Result.{result_err};
+ghost use Rattle.xsk_umem.specs.Geometry.{IsChunkSize};
 ghost use Rattle.xsk_model.specs.Descriptor.{is_valid};
 ghost use Rattle.xsk_model.specs.Packets.{IsCut};
 ghost use Rattle.xsk_desc.specs.Fault.{fault_of};
@@ -38,13 +39,26 @@ pub fn validate(desc: XdpDesc, geometry: &Geometry, sg: bool) -> Result<(), Desc
     if desc.len == 0 {
         return Err(DescError::ZeroLength);
     }
-    if desc.addr % chunk + u64::from(desc.len) > chunk {
+    if offset_in(desc.addr, geometry.chunk()) + u64::from(desc.len) > chunk {
         return Err(DescError::CrossesChunk);
     }
     if desc.options > XDP_PKT_CONTD || desc.options == XDP_PKT_CONTD && !sg {
         return Err(DescError::UnknownOptions);
     }
     Ok(())
+}
+
+/// How far behind the first byte of its chunk an address lies. Each size of a chunk is a constant here, as a division by
+/// a number that the compiler doesn't know is slow.
+pub(crate) fn offset_in(addr: u64, chunk: u32) -> u64
+    requires { IsChunkSize chunk }
+    ensures { result ≡ addr % chunk }
+{
+    if chunk == 4096 {
+        addr % 4096
+    } else {
+        addr % 2048
+    }
 }
 
 /// In how many pieces a packet of `len` bytes is cut, where a frame holds `payload` bytes.

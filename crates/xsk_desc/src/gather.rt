@@ -4,7 +4,7 @@ ghost use Rattle.xsk_umem.specs.Geometry.{Geometry as Numbers};
 ghost use Rattle.xsk_umem.specs.declared.batch.Item.{Item as AnItem};
 ghost use Rattle.xsk_model.specs.Limits.{most_fragments};
 ghost use Rattle.xsk_model.specs.Packets.{ended_by, group_after, packets};
-ghost use Rattle.xsk_desc.specs.Kept.{Kept};
+ghost use Rattle.xsk_desc.specs.Gathering.{Gathering};
 ghost use Rattle.xsk_desc.specs.Gather.{packet_by};
 
 use crate::descriptor::validate;
@@ -60,9 +60,9 @@ pub struct Gather {
 
 impl Model for Gather {
     ghost use Rattle.std.specs.Prelude.{◌≤◌, length};
-    ghost use Rattle.xsk_desc.specs.Kept.{Kept};
+    ghost use Rattle.xsk_desc.specs.Gathering.{Gathering};
 
-    ghost Value = { Kept };
+    ghost Value = { Gathering };
 
     ghost view = { λ g. record { items = g.items; sg = g.sg } };
 
@@ -108,6 +108,7 @@ impl Gather {
         ensures value { result ≡ length self.now.items }
         ensures few { length self.now.items ≤ most_fragments }
     {
+        // For the proof: the items that are kept are 18 at most.
         let _items = &self.items;
         self.items.len()
     }

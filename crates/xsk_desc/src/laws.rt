@@ -1,8 +1,6 @@
-//! Laws of cutting and gathering, and of what a standing stands for. A function here does nothing: its contract is the
-//! law.
+//! Laws of cutting and gathering. A function here does nothing: its contract is the law.
 
 ghost use Rattle.xsk_desc.specs.Laws.{ValidHasNoFault, HasOneCut, CutsAnywhere, KeepsEachItem, AreWholeOrBad, HasNoOtherPackets, LayoutIsPacket};
-ghost use Rattle.xsk_desc.specs.StandingLaws.{NeedsNoNote, BeginsWithNone, CanBeNoted, FailsNotLegal};
 
 /// A descriptor is valid exactly where it has no fault.
 pub fn valid_has_no_fault()
@@ -39,26 +37,4 @@ pub fn no_other_packets()
 /// The layout of a packet in at most 18 frames has one packet, which is whole and has its bytes.
 pub fn packet_of_a_layout()
     ensures { LayoutIsPacket }
-{}
-
-/// A Swap of a flag, a Look but at Closing, a Reserve that found too few places free and a Peek that found nothing need no
-/// note: with such a legal call and a fitting reply a standing stands for the longer list as it is.
-pub fn some_calls_need_no_note()
-    ensures { NeedsNoNote }
-{}
-
-/// A standing that stands for a list stands for it and no item of a Submit, and for it and no item of a Peek.
-pub fn notes_begin_with_no_item()
-    ensures { BeginsWithNone }
-{}
-
-/// What was legal, with a reply that the object may give, can be noted.
-pub fn what_is_told_can_be_noted()
-    ensures { CanBeNoted }
-{}
-
-/// A call of which a condition fails isn't legal.
-#[tactic(auto, using(crate::proofs::Whys::fails_not_legal))]
-pub fn what_fails_is_not_legal()
-    ensures { FailsNotLegal }
 {}

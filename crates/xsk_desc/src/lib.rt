@@ -5,16 +5,8 @@
 mod descriptor;
 mod gather;
 pub mod laws;
-mod marked;
-mod noting;
 mod payload;
-mod queue;
-mod roles;
-mod standing;
-mod why;
 
 pub use descriptor::{DescError, fragments, validate};
 pub use gather::{Ending, Gather, Gathered, judge};
 pub use payload::payload_of;
-pub use standing::Standing;
-pub use why::Illegal;

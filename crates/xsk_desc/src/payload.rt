@@ -2,7 +2,7 @@
 ghost use Rattle.std.specs.Prelude.{◌≡◌};
 ghost use Rattle.xsk_model.specs.Descriptor.{payload};
 
-use crate::validate;
+use crate::descriptor::{offset_in, validate};
 use xsk_umem::{Geometry, Item};
 
 /// The bytes of an item's packet in its frame: those that its descriptor names where it is valid, and none elsewhere.
@@ -17,7 +17,7 @@ pub fn payload_of<'a>(item: &'a Item, geometry: &Geometry, sg: bool) -> &'a [u8]
         None => &[],
         Some(frame) => {
             let bytes = frame.bytes();
-            let start = ((desc.addr % u64::from(geometry.chunk())) as usize).min(bytes.len());
+            let start = (offset_in(desc.addr, geometry.chunk()) as usize).min(bytes.len());
             let end = (start + desc.len as usize).min(bytes.len());
             &bytes[start..end]
         }

@@ -6,8 +6,8 @@ use Rattle.xsk_model.specs.Legal.{IsLegal}
 use Rattle.xsk_model.specs.History.{MayGive}
 use Rattle.xsk_model.specs.declared.call.Call.{Call}
 use Rattle.xsk_model.specs.declared.call.Reply.{Reply}
-use Rattle.xsk_desc.specs.Noted.{Noted}
-use Rattle.xsk_desc.specs.Standing.{StandsFor}
+use Rattle.xsk_legal.specs.Noted.{Noted}
+use Rattle.xsk_legal.specs.Standing.{StandsFor}
 use Rattle.xsk_table.specs.View.{Setup, View}
 use Rattle.xsk_table.specs.Held.{Board, Holder, Belongs}
 use Rattle.xsk_rings.specs.Serving.{Served}

@@ -1,8 +1,8 @@
 -- What holds of a pass that tells which of its caller's calls are legal.
 use Rattle.std.specs.Prelude.{◌≡◌}
 use Rattle.xsk_model.specs.Entry.{own}
-use Rattle.xsk_desc.specs.Noted.{Noted}
-use Rattle.xsk_desc.specs.Standing.{StandsFor}
+use Rattle.xsk_legal.specs.Noted.{Noted}
+use Rattle.xsk_legal.specs.Standing.{StandsFor}
 use Rattle.xsk_table.specs.View.{idle}
 use Rattle.xsk_table.specs.Held.{Holder}
 

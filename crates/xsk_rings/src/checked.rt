@@ -17,7 +17,7 @@ use crate::serving;
 use std::alloc::Global;
 use std::marker::{Brand, Model};
 use std::sync::ledger::{Blank, Ledger};
-use xsk_desc::Standing;
+use xsk_legal::Standing;
 use xsk_model::{Answer, Ask, Call, Reply, Ring};
 use xsk_table::{Note, Pass, Shared, Steps};
 use xsk_umem::Batch;

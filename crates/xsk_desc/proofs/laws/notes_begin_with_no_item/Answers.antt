@@ -1,5 +1,0 @@
-use Rattle.xsk_desc.proofs.Quiet.{begins_with_none}
-use Rattle.xsk_desc.proofs.laws.notes_begin_with_no_item.Goals as goal
-
-pub returns : goal.returns
-returns c = begins_with_none

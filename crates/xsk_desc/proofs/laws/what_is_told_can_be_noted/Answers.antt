@@ -1,5 +1,0 @@
-use Rattle.xsk_desc.proofs.Quiet.{can_be_noted}
-use Rattle.xsk_desc.proofs.laws.what_is_told_can_be_noted.Goals as goal
-
-pub returns : goal.returns
-returns c = can_be_noted

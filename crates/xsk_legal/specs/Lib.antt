@@ -1,0 +1,11 @@
+pub mod Given
+pub mod Marked
+pub mod Noted
+pub mod Noting
+pub mod Pieces
+pub mod Queue
+pub mod Roles
+pub mod Setting
+pub mod Standing
+pub mod StandingLaws
+pub mod Why
