@@ -14,7 +14,7 @@ use Rattle.xsk_model.specs.declared.call.Mark.{Mark}
 use Rattle.xsk_model.specs.declared.call.Mark.TheVariants.{NeedFill, NeedTx, Kick, RxDone, Gone, TxDone, Cell, Closing, Acked, Bounced}
 use Rattle.xsk_model.specs.declared.call.Call.{Call}
 use Rattle.xsk_model.specs.declared.call.Call.TheVariants.{Reserve, Submit, Peek, Release, Swap, Look}
-use Rattle.xsk_plain.specs.Line.{who_text, ring_text, mark_text, desc_text, item_text, items_text, call_text, reply_text, line_of}
+use Rattle.xsk_log.specs.Line.{who_text, ring_text, mark_text, desc_text, item_text, items_text, call_text, reply_text, line_of}
 use Rattle.xsk_audit.specs.Lines.{begins_digit}
 use Rattle.xsk_audit.specs.Reading.{small_at, numbered, word_at, who_at, ring_at, cell_at, mark_at, other_mark_at, desc_at, items_at, begins_item, counted_at, swap_at, submit_at, call_at, line_at, read_items, read_call}
 use Rattle.xsk_audit.specs.Telling.{Timed, journal_line}

@@ -9,7 +9,7 @@ use Rattle.xsk_umem.specs.Geometry.{Geometry}
 use Rattle.xsk_umem.specs.declared.batch.Item.{Item}
 use Rattle.xsk_model.specs.Config.{Config, size_of, pool_of}
 use Rattle.xsk_model.specs.Rings.{place}
-use Rattle.xsk_model.specs.Numbers.{number_of, numbers, without}
+use Rattle.xsk_model.specs.Numbers.{numbers, without}
 use Rattle.xsk_model.specs.Object.{RingState, State, empty_ring, ring_at, had_by, had_after, free, reserve_reply, peek_reply, reply_at, call_ring, ring_after, rings_after, marks_after, after, submitted, taken}
 use Rattle.xsk_model.specs.Entry.{Told, Entry, told, own}
 use Rattle.xsk_model.specs.History.{after_all, IsHistory, state_after}
@@ -20,10 +20,7 @@ use Rattle.xsk_model.specs.declared.call.Call.{Call}
 use Rattle.xsk_model.specs.declared.call.Call.TheVariants.{Reserve, Submit, Peek, Release, Swap, Look}
 use Rattle.xsk_model.specs.declared.call.Reply.{Reply}
 use Rattle.xsk_model.specs.declared.call.Reply.TheVariants.{Granted, Full, Items}
-use Rattle.xsk_model.proofs.Bodies.{taken-bare}
-
-abbrev pub bare_items : List Item → List Item
-bare_items items = map bare_item items
+use Rattle.xsk_model.proofs.Bodies.{bare_items, numbers-bare, submitted-bare, taken-bare}
 
 abbrev pub bare_entry : Entry → Entry
 bare_entry e = record { who = e.who; call = bare_call e.call; reply = bare_reply e.reply }
@@ -47,25 +44,6 @@ own-bare who (e ∷ es) = own-cond (e.who == who) e (own who es) (own who (map b
 
 pub own-alike : (who : ℕ) (h other : List Entry) → map bare_entry h ≡ map bare_entry other → map bare (own who h) ≡ map bare (own who other)
 own-alike who h other same = own-bare who h ∙ ap (own who) same ∙ sym (own-bare who other)
-
--- ---- items
-
-number-bare : (frame : Option Frame) → number_of (option_map bare_frame frame) ≡ number_of frame
-number-bare None = refl
-number-bare (Some frame) = refl
-
-pub numbers-bare : (items : List Item) → numbers (bare_items items) ≡ numbers items
-numbers-bare [] = refl
-numbers-bare (item ∷ items) =
-    ap (λ ns. ns ++ numbers (bare_items items)) (number-bare item.frame) ∙ ap (λ ns. number_of item.frame ++ ns) (numbers-bare items)
-
-pub submitted-bare : (call : Call) → submitted (bare_call call) ≡ bare_items (submitted call)
-submitted-bare (Reserve r n) = refl
-submitted-bare (Submit r items) = refl
-submitted-bare (Peek r n) = refl
-submitted-bare (Release r n) = refl
-submitted-bare (Swap m value) = refl
-submitted-bare (Look m) = refl
 
 -- ---- replies
 

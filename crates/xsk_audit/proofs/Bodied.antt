@@ -22,7 +22,7 @@ use Rattle.xsk_model.specs.declared.call.Ring.TheVariants.{Fill, Comp, Rx, Tx}
 use Rattle.xsk_model.specs.declared.call.Call.{Call}
 use Rattle.xsk_model.specs.declared.call.Call.TheVariants.{Reserve, Submit, Peek, Release, Swap, Look}
 use Rattle.xsk_model.proofs.Shapes.{layout_shape, shape_layout}
-use Rattle.xsk_audit.proofs.Alike.{bare_items, numbers-bare}
+use Rattle.xsk_model.proofs.Bodies.{bare_items, numbers-bare}
 
 abbrev pub descs : List Item → List XdpDesc
 descs items = map (λ (i : Item). i.desc) items

@@ -19,17 +19,18 @@ use Rattle.xsk_model.specs.declared.call.Reply.{Reply}
 use Rattle.xsk_model.specs.declared.call.Reply.TheVariants.{Granted, Full, Submitted, Items, Empty, Released, Old}
 use Rattle.xsk_model.proofs.Histories.{history_first}
 use Rattle.xsk_model.proofs.Replies.{history_entry}
+use Rattle.xsk_model.proofs.Bodies.{bare_items}
 use Rattle.xsk_model.proofs.CallTheorems.{bodies_dont_matter}
 use Rattle.xsk_plain.specs.Engine.{Engine}
-use Rattle.xsk_plain.specs.Line.{who_text, ring_text, item_text, items_text, call_text, reply_text, line_of}
+use Rattle.xsk_log.specs.Line.{who_text, ring_text, item_text, items_text, call_text, reply_text, line_of}
 use Rattle.xsk_audit.specs.Reading.{Said, line_at}
 use Rattle.xsk_audit.specs.Telling.{Timed, entries, journal_line, NeverFalls, TellHistory, last_of, IsMissed, Tells, AreTold, IsStuck, StopsAt, AreMade, AreSame, EndsAt}
 use Rattle.xsk_audit.specs.Playing.{Plays}
 use Rattle.xsk_audit.proofs.Numbers.{some-value}
-use Rattle.xsk_audit.proofs.Alike.{bare_items, bare_entry, own-alike, openings-alike, states-alike, replies-alike}
+use Rattle.xsk_audit.proofs.Alike.{bare_entry, own-alike, openings-alike, states-alike, replies-alike}
 use Rattle.xsk_audit.proofs.Complete.{SameLines, same-lines, reads, read-alike}
 use Rattle.xsk_audit.proofs.Sound.{Again, unstored}
-use Rattle.xsk_plain.proofs.StoredLines.{line_stored}
+use Rattle.xsk_log.proofs.StoredLines.{line_stored}
 
 -- ---- a line tells no bytes
 

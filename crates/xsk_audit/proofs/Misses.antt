@@ -8,7 +8,7 @@ use Rattle.xsk_model.specs.Config.{Config, IsConfig}
 use Rattle.xsk_model.specs.Entry.{Entry, own}
 use Rattle.xsk_model.specs.Legal.{IsLegal}
 use Rattle.xsk_model.specs.declared.call.Call.{Call}
-use Rattle.xsk_plain.specs.Line.{line_of}
+use Rattle.xsk_log.specs.Line.{line_of}
 use Rattle.xsk_audit.specs.Lines.{in_front, lines_of}
 use Rattle.xsk_audit.specs.Reading.{Said, number_at, word_at, line_at, read_call}
 use Rattle.xsk_audit.specs.Telling.{journal_line, IsMissed, Tells, AreTold, IsStuck}

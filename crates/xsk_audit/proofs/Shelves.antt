@@ -1,9 +1,8 @@
 -- Frames that are taken from a shelf and put there.
-use Rattle.std.proofs.Common.{◌≡◌, ℕ, zero, suc, ◌+◌, ◌<◌, ◌≤◌, List, [], ◌∷◌, ◌++◌, length, take, drop, set, All, Option, Some, None, refl, sym, ap, subst, ◌∙◌, arith, inl, inr, append-nil, append_assoc, length-set, cond, eqb}
+use Rattle.std.proofs.Common.{◌≡◌, ℕ, zero, suc, ◌+◌, ◌<◌, ◌≤◌, List, [], ◌∷◌, ◌++◌, length, take, drop, set, All, Option, Some, None, refl, sym, ap, subst, ◌∙◌, arith, inl, inr, append-nil, append_assoc, length-set}
 use Rattle.std.specs.Prelude.{IfSome, slice_get}
 use Rattle.std.specs.Option.{option_map}
 use Rattle.std.proofs.lemmas.Bool.{cases_eq, cases_lt}
-use Rattle.std.proofs.lemmas.Bool.Decides.{nat_tests}
 use Rattle.std.proofs.lemmas.List.{map-append, take-append-drop}
 use Rattle.std.proofs.lemmas.List.Elements.{All-head, All-tail, All-push}
 use Rattle.xsk_umem.specs.Frame.{Frame}
@@ -12,6 +11,7 @@ use Rattle.xsk_umem.specs.declared.batch.Item.{Item}
 use Rattle.xsk_umem.specs.declared.batch.XdpDesc.{XdpDesc}
 use Rattle.xsk_model.specs.Numbers.{times, number_of, numbers}
 use Rattle.xsk_model.proofs.Counting.{times-append, numbers-append, its_own}
+use Rattle.xsk_model.proofs.Distinct.{elsewhere}
 use Rattle.xsk_audit.specs.Shelf.{Places, frame_at, one, has, AreInPlace, with_frame, without_frame, listed, needed, descs_of, HasItsFrame, IsLent, Lacks}
 
 -- what lies in a place after another was set
@@ -38,9 +38,6 @@ pub none-behind : (places : Places) (n : ℕ) → length places ≤ n → frame_
 none-behind [] n past = refl
 none-behind (p ∷ places) zero past = absurd (omega (arith, past))
 none-behind (p ∷ places) (suc n) past = none-behind places n (omega (arith, past))
-
-pub elsewhere : (x n : ℕ) → (x ≡ n → ⊥) → ◌≡◌ {A = ℕ} (cond (eqb x n) 1 0) 0
-elsewhere x n h = grind (arith, nat_tests)
 
 module _ (g : Geometry) where
   abbrev IsThere : ℕ → Option Frame → Type 0

@@ -12,9 +12,9 @@ use Rattle.xsk_model.specs.Stored.{stored, stored_entry}
 use Rattle.xsk_model.proofs.Histories.{history_first}
 use Rattle.xsk_plain.specs.Engine.{Engine}
 use Rattle.xsk_plain.specs.Histories.{IsRun}
-use Rattle.xsk_plain.specs.Line.{line_of}
+use Rattle.xsk_log.specs.Line.{line_of}
 use Rattle.xsk_audit.specs.Telling.{Timed, entries, journal_line, NeverFalls, TellHistory, last_of, AreSame}
-use Rattle.xsk_plain.proofs.StoredLines.{line_stored}
+use Rattle.xsk_log.proofs.StoredLines.{line_stored}
 
 module _ (g : Geometry) (sg : Bool) where
   -- entries of a history in place of those that are stored

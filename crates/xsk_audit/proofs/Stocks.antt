@@ -15,13 +15,14 @@ use Rattle.xsk_model.specs.History.{IsHistory, state_after}
 use Rattle.xsk_model.specs.declared.call.Call.{Call}
 use Rattle.xsk_model.specs.declared.call.Call.TheVariants.{Reserve, Submit, Peek, Release, Swap, Look}
 use Rattle.xsk_model.proofs.Counting.{times-append, times-without}
+use Rattle.xsk_model.proofs.Distinct.{elsewhere}
 use Rattle.xsk_model.proofs.Folds.{own-push_same, own-push_other, had_of-push}
 use Rattle.xsk_model.proofs.Histories.{history_sound, history_first}
 use Rattle.xsk_model.proofs.Replies.{times-had}
 use Rattle.xsk_model.proofs.FrameTheorems.{frames_below, submits_own}
 use Rattle.xsk_audit.specs.Shelf.{Places, frame_at, one, has, AreInPlace, with_frame, with_items, needed, descs_of, HasItsFrame, Lacks}
 use Rattle.xsk_audit.specs.Playing.{IsStocked}
-use Rattle.xsk_audit.proofs.Shelves.{set-here, set-other, elsewhere, places-with, numbers-needed, none-behind}
+use Rattle.xsk_audit.proofs.Shelves.{set-here, set-other, places-with, numbers-needed, none-behind}
 use Rattle.xsk_audit.proofs.Bodied.{its-frame}
 
 -- ---- frames that are put there

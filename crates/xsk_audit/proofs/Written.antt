@@ -17,7 +17,7 @@ use Rattle.xsk_model.specs.declared.call.Call.{Call}
 use Rattle.xsk_model.specs.declared.call.Call.TheVariants.{Reserve, Submit, Peek, Release, Swap, Look}
 use Rattle.xsk_model.specs.declared.call.Reply.{Reply}
 use Rattle.xsk_model.specs.declared.call.Reply.TheVariants.{Granted, Full, Submitted, Items, Empty, Released, Old}
-use Rattle.xsk_plain.specs.Line.{who_text, ring_text, mark_text, desc_text, item_text, items_text, call_text, reply_text}
+use Rattle.xsk_log.specs.Line.{who_text, ring_text, mark_text, desc_text, item_text, items_text, call_text, reply_text}
 use Rattle.xsk_audit.specs.Lines.{lines_of, begins_digit, journal_of}
 use Rattle.xsk_audit.specs.Telling.{Timed, entries, journal_line, NeverFalls, AreLegal, IsVerdict}
 use Rattle.xsk_audit.specs.declared.auditing.Verdicts.TheVariants.{Legal}

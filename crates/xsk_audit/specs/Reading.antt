@@ -1,4 +1,4 @@
--- How a line of a journal is read: its round, its caller and its call. The line's text itself is that of `xsk_plain`, with the
+-- How a line of a journal is read: its round, its caller and its call. The line's text itself is that of `xsk_log`, with the
 -- round and a space in front; a reader gives what it read, and the text behind it.
 use Rattle.std.specs.Prelude.{ℕ, zero, suc, ◌+◌, ◌-◌, ◌*◌, ◌^◌, ◌==◌, ◌&&◌, Bool, false, not, nat_le, nat_lt, if◌then◌else◌, Option, None, Some, List, [], ◌∷◌, codes, drop, map}
 use Rattle.std.specs.Char.{is_ascii_digit}

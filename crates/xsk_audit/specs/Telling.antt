@@ -6,7 +6,7 @@ use Rattle.xsk_model.specs.Config.{Config}
 use Rattle.xsk_model.specs.Entry.{Entry, own}
 use Rattle.xsk_model.specs.Legal.{IsLegal}
 use Rattle.xsk_model.specs.History.{IsHistory}
-use Rattle.xsk_plain.specs.Line.{line_of}
+use Rattle.xsk_log.specs.Line.{line_of}
 use Rattle.xsk_audit.specs.Lines.{lines_of, journal_of, report_of}
 use Rattle.xsk_audit.specs.Reading.{line_at, read_call}
 use Rattle.xsk_audit.specs.declared.auditing.Verdicts.{Verdicts}
@@ -20,7 +20,7 @@ pub record Timed : Type 0 where
 abbrev pub entries : List Timed → List Entry
 entries timed = map (λ (t : Timed). t.entry) timed
 
--- the line of an entry, where the configuration has so many pairs: the round stands before the line of `xsk_plain`
+-- the line of an entry, where the configuration has so many pairs: the round stands before the line of `xsk_log`
 abbrev pub journal_line : ℕ → Timed → List ℕ
 journal_line pairs t = decimal t.round ++ codes " " ++ line_of pairs t.entry
 

@@ -3,10 +3,10 @@ ghost use Rattle.std.specs.Prelude.{◌≡◌, ◌≢◌, ◌+◌, ◌++◌, ◌
 ghost use Rattle.std.specs.Fmt.{decimal};
 ghost use Rattle.xsk_model.specs.Config.{IsLawful};
 ghost use Rattle.xsk_model.specs.Opening.{AreFrames};
-ghost use Rattle.xsk_plain.specs.Log.{entries_of};
+ghost use Rattle.xsk_log.specs.Log.{entries_of};
 ghost use Rattle.xsk_audit.specs.Lines.{lines_of};
 ghost use Rattle.xsk_audit.specs.Telling.{AreSame, IsMissed, IsPassed, IsVerdict};
-ghost use Rattle.xsk_plain.specs.Left.{left_of};
+ghost use Rattle.xsk_log.specs.Left.{left_of};
 
 use crate::cutting::{first_line, pass_report};
 use crate::number::number;
@@ -14,8 +14,9 @@ use crate::playing::play;
 use crate::shelf::Shelf;
 use crate::words::word;
 use std::alloc::Global;
+use xsk_log::{LineBuffer, Lines, Log};
 use xsk_model::Config;
-use xsk_plain::{Checked, LineBuffer, Lines, Log};
+use xsk_plain::Checked;
 use xsk_umem::{Frames, OutOfMemory};
 
 /// What an audit finds.
@@ -44,6 +45,7 @@ pub fn audit(
     let Ok(mut checked) = Checked::open(alloc, config, frames) else {
         return Err(OutOfMemory);
     };
+    // For the proof: the length of a text is a number of 64 bits.
     let _bytes = text.len();
     let (passed, journal) = pass_report(text);
     play(alloc, &mut checked, &mut shelf, journal)?;

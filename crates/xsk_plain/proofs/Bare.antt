@@ -14,9 +14,9 @@ use Rattle.xsk_model.specs.declared.call.Call.TheVariants.{Reserve, Submit, Peek
 use Rattle.xsk_model.specs.declared.call.Reply.{Reply}
 use Rattle.xsk_model.specs.declared.call.Reply.TheVariants.{Granted, Full, Submitted, Items, Empty, Released, Old}
 use Rattle.xsk_model.proofs.CallTheorems.{bodies_dont_matter}
-use Rattle.xsk_desc.specs.Why.{Fails}
-use Rattle.xsk_desc.specs.declared.why.Illegal.{Illegal}
-use Rattle.xsk_desc.proofs.Whys.{fails_there}
+use Rattle.xsk_legal.specs.Why.{Fails}
+use Rattle.xsk_legal.specs.declared.why.Illegal.{Illegal}
+use Rattle.xsk_legal.proofs.Whys.{fails_there}
 use Rattle.xsk_plain.specs.Laws.{LogDecides}
 
 module _ (g : Geometry) (sg : Bool) where

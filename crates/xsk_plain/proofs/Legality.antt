@@ -1,18 +1,13 @@
 -- The laws of the object on one thread.
-use Rattle.std.proofs.Common.{◌≡◌, ℕ, zero, suc, ◌+◌, ◌≤◌, Option, Some, None, List, [], ◌∷◌, ◌++◌, length, map, replicate, flat_map, refl, sym, ap, subst, ◌∙◌, arith, length-append}
-use Rattle.std.specs.Prelude.{All}
-use Rattle.std.specs.List.{range_with_len}
-use Rattle.std.proofs.lemmas.List.{map-append, length-replicate}
-use Rattle.std.proofs.lemmas.List.Elements.{All-nil, All-push}
+use Rattle.std.proofs.Common.{◌≡◌, ℕ, ◌+◌, ◌≤◌, Option, Some, None, List, [], ◌∷◌, ◌++◌, length, map, flat_map, refl, sym, ap, subst, ◌∙◌, arith, length-append}
 use Rattle.xsk_umem.specs.Frame.{Frame}
-use Rattle.xsk_umem.specs.Registration.{fresh}
 use Rattle.xsk_umem.specs.declared.batch.Item.{Item}
 use Rattle.xsk_model.specs.Numbers.{number_of, numbers}
 use Rattle.xsk_model.specs.Holders.{out_numbers}
 use Rattle.xsk_model.specs.Object.{RingState}
 use Rattle.xsk_model.specs.History.{state_after}
 use Rattle.xsk_model.specs.declared.call.Call.TheVariants.{Reserve, Submit, Peek, Release, Swap, Look}
-use Rattle.xsk_model.proofs.Counting.{range-push}
+use Rattle.xsk_model.proofs.Opened.{fresh-frames}
 use Rattle.xsk_model.proofs.Places.{is_ring-self}
 use Rattle.xsk_model.proofs.Theorems.{legal_within_ring, few_in_rings}
 use Rattle.xsk_plain.specs.Engine.{Part, seen, frames_of, frames_in, frames_out}
@@ -57,17 +52,5 @@ few_frames_out frames h engine history shows =
     let same : length (frames_out (map seen (state_after engine.config frames h).rings)) ≡ length (frames_out engine.rings) = ap (λ (ps : List Part). length (frames_out ps)) shows.rings in
     omega (arith, few, same, count_rings (state_after engine.config frames h).rings)
 
-fresh_numbers : (chunk n : ℕ) → map (λ (f : Frame). f.number) (fresh chunk n) ≡ range_with_len 0 n
-fresh_numbers chunk zero = refl
-fresh_numbers chunk (suc n) =
-    map-append (λ (f : Frame). f.number) (fresh chunk n) ((record { number = n; bytes = replicate chunk 0 }) ∷ [])
-    ∙ ap (λ ks. ks ++ n ∷ []) (fresh_numbers chunk n)
-    ∙ (let e : n ≡ 0 + n = omega arith in ap (λ k. range_with_len 0 n ++ k ∷ []) e) ∙ sym (range-push 0 n)
-
-fresh_bodies : (chunk n : ℕ) → All (λ (f : Frame). length f.bytes ≡ chunk) (fresh chunk n)
-fresh_bodies chunk zero = All-nil (λ (f : Frame). length f.bytes ≡ chunk)
-fresh_bodies chunk (suc n) =
-    All-push (λ (f : Frame). length f.bytes ≡ chunk) (fresh chunk n) (record { number = n; bytes = replicate chunk 0 }) (fresh_bodies chunk n) (length-replicate {A = ℕ} chunk 0)
-
 pub fresh_are_frames : FreshAreFrames
-fresh_are_frames g = record { numbers = fresh_numbers g.chunk g.frames; bodies = fresh_bodies g.chunk g.frames }
+fresh_are_frames = fresh-frames

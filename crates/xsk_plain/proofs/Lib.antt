@@ -1,6 +1,4 @@
 pub mod Payloads
-pub mod Parts
-pub mod Places
 pub mod StoreSteps
 pub mod Openings
 pub mod Moves
@@ -9,7 +7,3 @@ pub mod Closing
 pub mod Legality
 pub mod Bare
 pub mod Running
-pub mod RowLines
-pub mod RowPlaces
-pub mod StoredLines
-pub mod RowDigits

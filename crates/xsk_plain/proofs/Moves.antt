@@ -9,42 +9,33 @@ use Rattle.xsk_umem.specs.declared.batch.Item.{Item}
 use Rattle.xsk_model.specs.Config.{Config}
 use Rattle.xsk_model.specs.Descriptor.{payload}
 use Rattle.xsk_model.specs.Stored.{stored_item}
-use Rattle.xsk_plain.specs.declared.log.Piece.{Piece}
-use Rattle.xsk_plain.specs.declared.log.Span.{Span}
+use Rattle.xsk_log.specs.declared.log.Piece.{Piece}
+use Rattle.xsk_log.specs.declared.log.Extent.{Extent}
 use Rattle.xsk_plain.specs.declared.ring_store.RingStore.{RingStore}
 use Rattle.xsk_plain.specs.declared.ring_store.Stored.{Stored}
 use Rattle.xsk_plain.specs.Kept.{IsNotedAt, IsKept, AreKept, AllKept, IsHeld, AreHeld}
-use Rattle.xsk_plain.specs.Notes.{Notes, NotesGrow}
-use Rattle.xsk_plain.specs.Repeats.{KeepsValues}
-use Rattle.xsk_plain.specs.Log.{frame_at, item_of}
-use Rattle.xsk_plain.specs.Spans.{at_span, IsWithin, Grows}
+use Rattle.xsk_log.specs.Notes.{Notes, NotesGrow}
+use Rattle.xsk_log.specs.Repeats.{KeepsValues}
+use Rattle.xsk_log.specs.Log.{frame_at, item_of}
+use Rattle.xsk_log.specs.Extents.{at_extent, IsWithin, Grows}
 use Rattle.xsk_plain.specs.Stores.{stored_item_of, piece_of}
 use Rattle.std.proofs.lemmas.Option.{slice_get_within}
-use Rattle.xsk_plain.proofs.Places.{slice_get-append}
-use Rattle.xsk_plain.proofs.Parts.{at_span-append}
+use Rattle.xsk_log.proofs.Places.{slice_get-append}
+use Rattle.xsk_log.proofs.Parts.{at_extent-append}
 
 -- ---- payloads
-
-pub grows_none : (bytes : List ℕ) → Grows bytes bytes
-grows_none bytes = record { more = []; is = sym (append-nil bytes) }
-
-pub grows_more : (old bytes new more : List ℕ) → Grows old bytes → new ≡ bytes ++ more → Grows old new
-grows_more old bytes new more h is = record { more = h.more ++ more; is = is ∙ ap (λ xs. xs ++ more) h.is ∙ append_assoc old h.more more }
-
-pub grows_on : (old bytes new : List ℕ) → Grows old bytes → Grows bytes new → Grows old new
-grows_on old bytes new h k = grows_more old bytes new k.more h k.is
 
 noted_grown : (old new : List Piece) (piece : Piece) (place : Option ℕ) → KeepsValues old new → IsNotedAt old piece place → IsNotedAt new piece place
 noted_grown old new piece None grows h = h
 noted_grown old new piece (Some place) grows h = ap (λ vs. slice_get vs place) grows.is ∙ slice_get-append old grows.more place (slice_get_within old place piece h) ∙ h
 
-within_grown : (old new : List ℕ) (span : Span) → Grows old new → IsWithin old span → IsWithin new span
-within_grown old new span grows h = omega (arith, h, ap length grows.is, length-append old grows.more)
+within_grown : (old new : List ℕ) (extent : Extent) → Grows old new → IsWithin old extent → IsWithin new extent
+within_grown old new extent grows h = omega (arith, h, ap length grows.is, length-append old grows.more)
 
 kept_grown : (c : Config) (old new : Notes) (stored : Stored) → NotesGrow old new → IsKept c old stored → IsKept c new stored
 kept_grown c old new stored grows h = record {
   within = within_grown old.bytes new.bytes stored.payload grows.bytes h.within;
-  shows = ap (λ (xs : List ℕ). at_span xs stored.payload) grows.bytes.is ∙ at_span-append old.bytes grows.bytes.more stored.payload h.within ∙ h.shows;
+  shows = ap (λ (xs : List ℕ). at_extent xs stored.payload) grows.bytes.is ∙ at_extent-append old.bytes grows.bytes.more stored.payload h.within ∙ h.shows;
   noted = noted_grown old.values new.values (piece_of stored) stored.place grows.values h.noted;
 }
 
@@ -72,31 +63,13 @@ all_kept_grown c old new stores grows h = All-weaker (AreKept c old) (AreKept c 
 
 -- ---- pieces and payloads behind others
 
-pub keeps_same : {T : Type 0} (old new : List T) → new ≡ old → KeepsValues old new
-keeps_same old new is = record { more = []; is = is ∙ sym (append-nil old) }
-
-pub grows_same : (old new : List ℕ) → new ≡ old → Grows old new
-grows_same old new is = record { more = []; is = is ∙ sym (append-nil old) }
-
-pub notes_none : (notes : Notes) → NotesGrow notes notes
-notes_none notes = record { bytes = grows_same notes.bytes notes.bytes refl; values = keeps_same notes.values notes.values refl }
-
-keeps_on : {T : Type 0} (old now new : List T) → KeepsValues old now → KeepsValues now new → KeepsValues old new
-keeps_on old now new h k = record { more = h.more ++ k.more; is = k.is ∙ ap (λ xs. xs ++ k.more) h.is ∙ append_assoc old h.more k.more }
-
-pub notes_on : (old now new : Notes) → NotesGrow old now → NotesGrow now new → NotesGrow old new
-notes_on old now new h k = record {
-  bytes = grows_on old.bytes now.bytes new.bytes h.bytes k.bytes;
-  values = keeps_on old.values now.values new.values h.values k.values;
-}
-
-frame_kept : (bytes shown : List ℕ) (span : Span) (frame : Option Frame) → at_span bytes span ≡ shown
-    → option_map (frame_at bytes span) (option_map (λ (f : Frame). f.number) frame) ≡ option_map (λ (f : Frame). record f { bytes = shown }) frame
-frame_kept bytes shown span None is = refl
-frame_kept bytes shown span (Some f) is = ap (λ (xs : List ℕ). Some (record { number = f.number; bytes = xs })) is
+frame_kept : (bytes shown : List ℕ) (extent : Extent) (frame : Option Frame) → at_extent bytes extent ≡ shown
+    → option_map (frame_at bytes extent) (option_map (λ (f : Frame). f.number) frame) ≡ option_map (λ (f : Frame). record f { bytes = shown }) frame
+frame_kept bytes shown extent None is = refl
+frame_kept bytes shown extent (Some f) is = ap (λ (xs : List ℕ). Some (record { number = f.number; bytes = xs })) is
 
 -- what the log shows of an item whose payload is kept
-pub item_kept : (c : Config) (bytes : List ℕ) (stored : Stored) (piece : Piece) → piece ≡ piece_of stored → at_span bytes stored.payload ≡ payload c.geometry c.sg stored.item → item_of bytes piece ≡ stored_item c.geometry c.sg stored.item
+pub item_kept : (c : Config) (bytes : List ℕ) (stored : Stored) (piece : Piece) → piece ≡ piece_of stored → at_extent bytes stored.payload ≡ payload c.geometry c.sg stored.item → item_of bytes piece ≡ stored_item c.geometry c.sg stored.item
 item_kept c bytes stored piece is shows =
     ap (item_of bytes) is
     ∙ ap (λ (f : Option Frame). record { frame = f; desc = stored.item.desc }) (frame_kept bytes (payload c.geometry c.sg stored.item) stored.payload stored.item.frame shows)

@@ -19,7 +19,7 @@ use Rattle.xsk_model.specs.Opening.{AreFrames, home_item, home_ring, home_rings,
 use Rattle.xsk_model.proofs.Opened.{length-frames, get_or-blanks, length-home_rings}
 use Rattle.xsk_plain.specs.declared.ring_store.RingStore.{RingStore}
 use Rattle.xsk_plain.specs.Engine.{seen, no_part}
-use Rattle.xsk_plain.specs.Notes.{Notes}
+use Rattle.xsk_log.specs.Notes.{Notes}
 use Rattle.xsk_plain.specs.Kept.{IsKept, AreKept, AllKept}
 use Rattle.xsk_model.specs.Sizes.{sizes_of}
 use Rattle.xsk_plain.specs.Stores.{stored_item_of, home_stored, part_of, parts_of, size_in, sizes_in, IsBlank, Has}
@@ -155,7 +155,7 @@ opened_all c frames [] sizes places filled blank =
     )))
 opened_all c frames (ring ∷ rings) sizes places filled blank = opened_parts c frames (ring ∷ rings) ring sizes places filled blank
 
--- ---- the spans of the frames on FILL, which have no payload
+-- ---- the extents of the frames on FILL, which have no payload
 
 no_payload : (valid : Bool) (bytes : List ℕ) → valid ≡ false → cond valid bytes [] ≡ []
 no_payload valid bytes h = ap (λ b. cond b bytes []) h

@@ -16,12 +16,12 @@ use Rattle.xsk_model.specs.declared.call.Call.{Call}
 use Rattle.xsk_model.specs.declared.call.Reply.{Reply}
 use Rattle.xsk_model.proofs.Folds.{own-push_same, own-push_other}
 use Rattle.xsk_model.proofs.Histories.{goes_push, after_all-append}
-use Rattle.xsk_desc.specs.Noted.{Noted}
-use Rattle.xsk_desc.specs.declared.why.Illegal.{Illegal}
-use Rattle.xsk_desc.specs.Why.{Fails}
-use Rattle.xsk_desc.proofs.Whys.{fails_not_legal}
-use Rattle.xsk_desc.specs.Standing.{StandsFor}
-use Rattle.xsk_desc.specs.Given.{StandsGiven}
+use Rattle.xsk_legal.specs.Noted.{Noted}
+use Rattle.xsk_legal.specs.declared.why.Illegal.{Illegal}
+use Rattle.xsk_legal.specs.Why.{Fails}
+use Rattle.xsk_legal.proofs.Whys.{fails_not_legal}
+use Rattle.xsk_legal.specs.Standing.{StandsFor}
+use Rattle.xsk_legal.specs.Given.{StandsGiven}
 use Rattle.xsk_plain.specs.Engine.{Engine, Shows}
 use Rattle.xsk_plain.specs.Histories.{HasRun, NotesOwn, EachNotesOwn}
 use Rattle.xsk_plain.specs.Rooms.{Enters}

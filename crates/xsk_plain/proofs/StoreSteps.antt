@@ -17,7 +17,7 @@ use Rattle.xsk_plain.specs.Engine.{Part, no_part, part_in}
 use Rattle.xsk_plain.specs.Steps.{free_in, part_after, parts_after}
 use Rattle.xsk_model.specs.Sizes.{sizes_of, fill_size, comp_size, rx_size, tx_size}
 use Rattle.xsk_plain.specs.Stores.{stored_item_of, part_of, parts_of, size_in, sizes_in, Has}
-use Rattle.xsk_plain.specs.Notes.{Notes}
+use Rattle.xsk_log.specs.Notes.{Notes}
 use Rattle.xsk_plain.specs.Kept.{IsKept, AreKept, AllKept}
 use Rattle.xsk_model.proofs.InRow.{in_first, in_second, in_third, in_fourth}
 

@@ -6,8 +6,8 @@ use Rattle.xsk_model.specs.Config.{Config, callers_of}
 use Rattle.xsk_model.specs.Entry.{Entry, own}
 use Rattle.xsk_model.specs.History.{IsHistory, state_after}
 use Rattle.xsk_model.specs.Stored.{stored}
-use Rattle.xsk_desc.specs.Noted.{Noted}
-use Rattle.xsk_desc.specs.Standing.{StandsFor}
+use Rattle.xsk_legal.specs.Noted.{Noted}
+use Rattle.xsk_legal.specs.Standing.{StandsFor}
 use Rattle.xsk_plain.specs.Engine.{Engine, Shows}
 
 -- the log is a legal history from the opening with these frames, as it is stored, and the engine shows the state that

@@ -3,17 +3,8 @@ pub mod Engine
 pub mod Histories
 pub mod Kept
 pub mod Laws
-pub mod Left
-pub mod Line
-pub mod Log
-pub mod Notes
 pub mod Object
-pub mod Pieces
-pub mod Repeats
 pub mod Rooms
-pub mod RowCodes
-pub mod Rows
 pub mod Sound
-pub mod Spans
 pub mod Steps
 pub mod Stores

@@ -1,5 +1,7 @@
 -- What the steps of the object change.
-use Rattle.std.specs.Prelude.{◌≡◌, Some}
+use Rattle.std.specs.Prelude.{◌≡◌, ℕ, ◌+◌, Some}
+use Rattle.xsk_log.specs.Log.{entries_of, calls_of, entry_room, byte_room}
+use Rattle.xsk_log.specs.declared.log.Log.{Log}
 use Rattle.xsk_model.specs.declared.call.Ring.{Ring}
 use Rattle.xsk_model.specs.declared.call.Call.{Call}
 use Rattle.xsk_plain.specs.Steps.{parts_after}
@@ -16,3 +18,10 @@ pub record ChangesRing (old new : Object) (r : Ring) (call : Call) : Type 0 wher
 pub record KeepsRings (old new : Object) : Type 0 where
   pub config : new.config ≡ old.config
   pub rings : new.rings.items ≡ old.rings.items
+
+-- items were noted in the log, so many payload bytes were kept, and all else stays
+pub record NotesItems (old new : Log) (bytes : ℕ) : Type 0 where
+  pub entries : entries_of new ≡ entries_of old
+  pub calls : calls_of new ≡ calls_of old
+  pub spare_entries : entry_room new ≡ entry_room old
+  pub spare_bytes : byte_room new + bytes ≡ byte_room old

@@ -6,7 +6,7 @@ use Rattle.xsk_umem.specs.Frame.{Frame}
 use Rattle.xsk_umem.specs.Geometry.{Geometry}
 use Rattle.xsk_model.specs.Opening.{home_item}
 use Rattle.xsk_plain.specs.Engine.{Part}
-use Rattle.xsk_plain.specs.declared.log.Piece.{Piece}
+use Rattle.xsk_log.specs.declared.log.Piece.{Piece}
 use Rattle.xsk_plain.specs.declared.ring_store.RingStore.{RingStore}
 use Rattle.xsk_plain.specs.declared.ring_store.Stored.{Stored}
 

@@ -1,10 +1,10 @@
 //! The object on one thread, with a standing for each caller that tells which of its calls are legal.
-use crate::log::Log;
 use crate::noting::{new_standings, serve_noted};
 use crate::plain::{OpenRefused, Plain};
 use std::alloc::Global;
 use std::marker::Model;
-use xsk_desc::{Illegal, Standing};
+use xsk_legal::{Illegal, Standing};
+use xsk_log::{LineBuffer, Lines, Log};
 use xsk_model::{Answer, Ask, Call, Config, Reply};
 use xsk_umem::{Batch, Frames, OutOfMemory};
 
@@ -31,7 +31,7 @@ impl Model for Checked {
 }
 
 impl Checked {
-    ghost use Rattle.std.specs.Prelude.{◌≡◌, ◌+◌, ◌≤◌, ◌↔◌, [], ◌∷◌, ◌++◌, OnOk, IfOk, IfErr, IfSome, IsNone, IsTrue};
+    ghost use Rattle.std.specs.Prelude.{◌≡◌, ◌+◌, ◌<◌, ◌≤◌, ◌↔◌, [], ◌∷◌, ◌++◌, length, OnOk, IfOk, IfErr, IfSome, IsNone, IsTrue};
     ghost use Rattle.xsk_model.specs.Asks.{joined_call, joined_reply, HasAsked, HasAnswered};
     ghost use Rattle.xsk_model.specs.Config.{IsLawful};
     ghost use Rattle.xsk_model.specs.Entry.{own};
@@ -41,9 +41,11 @@ impl Checked {
     ghost use Rattle.xsk_model.specs.Opening.{AreFrames, opening};
     ghost use Rattle.xsk_model.specs.Stored.{stored_entry};
     ghost use Rattle.xsk_plain.specs.Engine.{Shows, frames_out};
-    ghost use Rattle.xsk_desc.specs.Why.{Fails};
+    ghost use Rattle.xsk_legal.specs.Why.{Fails};
     ghost use Rattle.xsk_plain.specs.Histories.{IsRun};
-    ghost use Rattle.xsk_plain.specs.Log.{calls_of, entries_of};
+    ghost use Rattle.xsk_log.specs.Left.{left_of};
+    ghost use Rattle.xsk_log.specs.Line.{IsLineAt};
+    ghost use Rattle.xsk_log.specs.Log.{calls_of, entries_of};
     ghost use Rattle.xsk_plain.specs.Rooms.{payload_bytes};
 
     /// The object in its opening state, as `Plain::open` has it, in which no caller has made a call. All memory is taken
@@ -81,6 +83,23 @@ impl Checked {
         ensures history { IsRun self.now }
     {
         self.plain.log()
+    }
+
+    /// Goes over all calls so far with their replies, and writes the journal's line of each.
+    pub fn lines(&self) -> Lines<'_>
+        ensures pairs { result.pairs ≡ length self.now.config.pairs }
+        ensures all { left_of result ≡ self.now.log }
+        ensures history { IsRun self.now }
+    {
+        self.plain.lines()
+    }
+
+    /// Puts the line of entry `i`, counted from 0, in place of what the buffer held, as `Plain::write_line` does.
+    pub fn write_line(&self, i: u32, out: &mut LineBuffer)
+        requires { i < self.now.calls }
+        ensures { IsLineAt (length self.now.config.pairs) self.now.log i out.new }
+    {
+        self.plain.write_line(i, out);
     }
 
     /// The configuration.

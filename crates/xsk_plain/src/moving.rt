@@ -5,22 +5,23 @@ ghost use Rattle.xsk_model.specs.Config.{Config as Parts};
 ghost use Rattle.xsk_model.specs.Stored.{stored_item};
 ghost use Rattle.xsk_plain.specs.Engine.{frames_in, frames_of};
 ghost use Rattle.xsk_plain.specs.Kept.{AreKept, IsHeld, AreHeld};
-ghost use Rattle.xsk_plain.specs.Log.{NotesItems, NotesPiece, noted_in, notes_of};
-ghost use Rattle.xsk_plain.specs.Notes.{NotesGrow};
+ghost use Rattle.xsk_log.specs.Log.{NotesPiece, noted_in, notes_of, entry_room, byte_room};
+ghost use Rattle.xsk_log.specs.Notes.{NotesGrow};
+ghost use Rattle.xsk_plain.specs.Object.{NotesItems};
 ghost use Rattle.xsk_plain.specs.Rooms.{items_bytes};
 ghost use Rattle.xsk_plain.specs.Stores.{part_of, stored_item_of, piece_of};
 
-use crate::log::Log;
 use crate::ring_store::{RingStore, Stored};
 use xsk_desc::payload_of;
+use xsk_log::Log;
 use xsk_model::Config;
 use xsk_umem::{Batch, Frame, Frames, Item};
 
 /// Moves the items into reserved places of the ring, and notes each with its payload.
 pub(crate) fn put_items(store: &mut RingStore, log: &mut Log, config: &Config, items: &mut Batch)
-    requires spare { 1 ≤ log.old.spare_entries }
-    requires start { length log.old.pieces.items ≡ log.old.begun }
-    requires bytes { items_bytes config.now items.old ≤ log.old.spare_bytes }
+    requires spare { 1 ≤ entry_room log.old }
+    requires start { noted_in log.old ≡ [] }
+    requires bytes { items_bytes config.now items.old ≤ byte_room log.old }
     requires room { length items.old ≤ store.old.room }
     ensures log { NotesItems log.old log.new (items_bytes config.now items.old) }
     ensures noted { noted_in log.new ≡ map (stored_item config.now.geometry config.now.sg) items.old }
@@ -58,8 +59,8 @@ fn number_of(item: &Item) -> u32 {
 /// Takes at most so many items from the ring into an empty batch, and notes each.
 pub(crate) fn take_items(store: &mut RingStore, log: &mut Log, count: u32, items: &mut Batch)
     requires empty { items.old ≡ [] }
-    requires spare { 1 ≤ log.old.spare_entries }
-    requires start { length log.old.pieces.items ≡ log.old.begun }
+    requires spare { 1 ≤ entry_room log.old }
+    requires start { noted_in log.old ≡ [] }
     requires few { count ≤ most_items }
     requires held { AreHeld (notes_of log.old) store.old }
     ensures log { NotesItems log.old log.new 0 }
@@ -80,8 +81,8 @@ pub(crate) fn take_items(store: &mut RingStore, log: &mut Log, count: u32, items
 /// Notes an item that is taken: its piece stands at its place, unless it was there at the opening.
 #[inline(always)]
 fn note_stored(log: &mut Log, stored: &Stored)
-    requires spare { 1 ≤ log.old.spare_entries }
-    requires few { length log.old.pieces.items < log.old.begun + most_items }
+    requires spare { 1 ≤ entry_room log.old }
+    requires few { length (noted_in log.old) < most_items }
     requires held { IsHeld (notes_of log.old) stored.now }
     ensures { NotesPiece log.old log.new (piece_of stored.now) }
 {

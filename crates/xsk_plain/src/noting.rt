@@ -11,7 +11,7 @@ ghost use Rattle.xsk_plain.specs.Steps.{FollowsObject};
 
 use crate::plain::Plain;
 use std::alloc::Global;
-use xsk_desc::Standing;
+use xsk_legal::Standing;
 use xsk_model::{Answer, Ask, Config};
 use xsk_umem::{Batch, OutOfMemory};
 

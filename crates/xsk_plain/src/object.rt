@@ -4,12 +4,12 @@ ghost use Rattle.xsk_model.specs.Marks.{mark_places_of};
 ghost use Rattle.xsk_model.specs.Sizes.{sizes_of};
 ghost use Rattle.xsk_plain.specs.Stores.{sizes_in};
 
-use crate::log::Log;
 use crate::moving::{give_back, put_items, take_items};
 use crate::opening::{fill_pools, open_marks, open_rings};
 use crate::ring_store::RingStore;
 use std::alloc::Global;
 use std::mem;
+use xsk_log::Log;
 use xsk_model::placement::{has_mark, has_ring, mark_place, ring_place};
 use xsk_model::{Call, Config, Mark, Ring};
 use xsk_umem::{Batch, Frames, MOST_ITEMS};
@@ -36,9 +36,9 @@ impl Object {
     ghost use Rattle.xsk_model.specs.declared.call.Call.TheVariants.{Reserve, Submit, Peek, Release, Swap};
     ghost use Rattle.xsk_plain.specs.Engine.{seen, part_in, CanPerform, frames_out};
     ghost use Rattle.xsk_plain.specs.Kept.{AllKept};
-    ghost use Rattle.xsk_plain.specs.Log.{NotesItems, noted_in, notes_of};
-    ghost use Rattle.xsk_plain.specs.Notes.{Notes};
-    ghost use Rattle.xsk_plain.specs.Object.{ChangesRing, KeepsRings};
+    ghost use Rattle.xsk_log.specs.Log.{noted_in, notes_of, entry_room, byte_room};
+    ghost use Rattle.xsk_log.specs.Notes.{Notes};
+    ghost use Rattle.xsk_plain.specs.Object.{ChangesRing, KeepsRings, NotesItems};
     ghost use Rattle.xsk_plain.specs.Rooms.{items_bytes};
     ghost use Rattle.xsk_plain.specs.Steps.{free_in};
     ghost use Rattle.xsk_plain.specs.Stores.{IsBlank, parts_of};
@@ -92,9 +92,9 @@ impl Object {
     #[inline(always)]
     pub(crate) fn submit(&mut self, ring: Ring, items: &mut Batch, log: &mut Log)
         requires can { CanPerform self.old.config (parts_of self.old.rings.items) (Submit ring items.old) }
-        requires spare { 1 ≤ log.old.spare_entries }
-        requires start { length log.old.pieces.items ≡ log.old.begun }
-        requires bytes { items_bytes self.old.config items.old ≤ log.old.spare_bytes }
+        requires spare { 1 ≤ entry_room log.old }
+        requires start { noted_in log.old ≡ [] }
+        requires bytes { items_bytes self.old.config items.old ≤ byte_room log.old }
         requires kept { AllKept self.old.config (notes_of log.old) self.old.rings.items }
         ensures changes { ChangesRing self.old self.new ring (Submit ring items.old) }
         ensures kept { AllKept self.old.config (notes_of log.new) self.new.rings.items }
@@ -111,8 +111,8 @@ impl Object {
     pub(crate) fn peek(&mut self, ring: Ring, count: u32, log: &mut Log, items: &mut Batch)
         requires empty { items.old ≡ [] }
         requires can { CanPerform self.old.config (parts_of self.old.rings.items) (Peek ring count) }
-        requires spare { 1 ≤ log.old.spare_entries }
-        requires start { length log.old.pieces.items ≡ log.old.begun }
+        requires spare { 1 ≤ entry_room log.old }
+        requires start { noted_in log.old ≡ [] }
         requires kept { AllKept self.old.config (notes_of log.old) self.old.rings.items }
         ensures changes { ChangesRing self.old self.new ring (Peek ring count) }
         ensures kept { AllKept self.old.config (notes_of log.new) self.new.rings.items }

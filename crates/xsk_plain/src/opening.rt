@@ -6,7 +6,7 @@ ghost use Rattle.xsk_model.specs.Marks.{mark_places_of};
 ghost use Rattle.xsk_model.specs.Opening.{AreFrames, opening, opening_cells};
 ghost use Rattle.xsk_plain.specs.Engine.{seen};
 ghost use Rattle.xsk_plain.specs.Kept.{AllKept};
-ghost use Rattle.xsk_plain.specs.Notes.{Notes};
+ghost use Rattle.xsk_log.specs.Notes.{Notes};
 ghost use Rattle.xsk_model.specs.Sizes.{sizes_of, fill_size, comp_size, rx_size, tx_size};
 ghost use Rattle.xsk_plain.specs.Stores.{IsBlank, Has, home_stored, parts_of, sizes_in};
 

@@ -1,5 +1,5 @@
 //! The object on one thread, as other crates use it.
-ghost use Rattle.std.specs.Prelude.{◌≡◌, ◌+◌, ◌*◌, ◌≤◌, [], ◌∷◌, ◌++◌, ◌↔◌, length, OnOk, IfOk, IfErr, IsTrue};
+ghost use Rattle.std.specs.Prelude.{◌≡◌, ◌+◌, ◌*◌, ◌<◌, ◌≤◌, [], ◌∷◌, ◌++◌, ◌↔◌, length, OnOk, IfOk, IfErr, IsTrue};
 ghost use Rattle.xsk_umem.specs.Geometry.{IsGeometry};
 ghost use Rattle.xsk_model.specs.Asks.{joined_call, joined_reply, HasAsked, HasAnswered};
 ghost use Rattle.xsk_model.specs.Config.{Config as Parts, IsLawful};
@@ -9,15 +9,17 @@ ghost use Rattle.xsk_model.specs.Object.{State, reply_at, after, submitted};
 ghost use Rattle.xsk_model.specs.Opening.{AreFrames, opening};
 ghost use Rattle.xsk_model.specs.Stored.{stored_entry};
 ghost use Rattle.xsk_plain.specs.Engine.{Shows, CanPerform, frames_out};
-ghost use Rattle.xsk_plain.specs.Log.{calls_of, entries_of};
+ghost use Rattle.xsk_log.specs.Left.{left_of};
+ghost use Rattle.xsk_log.specs.Line.{IsLineAt};
+ghost use Rattle.xsk_log.specs.Log.{calls_of, entries_of};
 ghost use Rattle.xsk_plain.specs.Rooms.{Enters, payload_bytes, items_bytes};
 ghost use Rattle.xsk_plain.specs.Steps.{FollowsObject};
 
-use crate::log::{Event, Log};
 use crate::object::Object;
 use std::alloc::Global;
 use std::marker::Model;
 use thiserror::Error;
+use xsk_log::{Event, LineBuffer, Lines, Log};
 use xsk_model::{Answer, Ask, Call, Config, Mark, Reply, Ring};
 use xsk_umem::{Batch, Frames, OutOfMemory};
 
@@ -104,6 +106,23 @@ impl Plain {
         ensures calls { calls_of result.now ≡ self.now.calls }
     {
         &self.log
+    }
+
+    /// Goes over all calls so far with their replies, and writes the journal's line of each.
+    pub fn lines(&self) -> Lines<'_>
+        ensures pairs { result.pairs ≡ length self.now.config.pairs }
+        ensures all { left_of result ≡ self.now.log }
+    {
+        self.log.lines(self.object.config.pairs().len() as u32)
+    }
+
+    /// Puts the line of entry `i`, counted from 0, in place of what the buffer held, as `Log::write_line` has it.
+    pub fn write_line(&self, i: u32, out: &mut LineBuffer)
+        requires { i < self.now.calls }
+        ensures { IsLineAt (length self.now.config.pairs) self.now.log i out.new }
+    {
+        let pairs = self.object.config.pairs().len() as u32;
+        self.log.write_line(pairs, i, out);
     }
 
     /// Whether a call can be performed: its ring or mark exists, a Submit has at most as many items as places are

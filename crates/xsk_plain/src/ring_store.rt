@@ -2,16 +2,16 @@
 ghost use Rattle.std.specs.Prelude.{◌≡◌, ◌+◌, ◌≤◌, length};
 ghost use Rattle.std.specs.VecDeque.{deque_len, deque_capacity};
 
-use crate::log::{Piece, Span};
 use std::alloc::Global;
 use std::collections::VecDeque;
+use xsk_log::{Extent, Piece};
 use xsk_umem::{Item, OutOfMemory};
 
 /// An item that stands in a ring, and where the log has its payload.
 #[derive(Debug, Drop)]
 pub(crate) struct Stored {
     pub(crate) item: Item,
-    pub(crate) payload: Span,
+    pub(crate) payload: Extent,
     /// The place of its piece in the log, where it was noted.
     pub(crate) place: Option<u32>,
 }
@@ -64,7 +64,7 @@ impl RingStore {
     pub(crate) fn len(&self) -> u32
         ensures { result ≡ length self.now.out.items }
     {
-        // For the proof: what the type keeps, which a read of a field tells.
+        // For the proof, a read of a field tells what the type keeps: no more items are out than the ring has places.
         let _size = self.size;
         self.out.len() as u32
     }
@@ -107,7 +107,7 @@ impl RingStore {
     {
         self.out.push_back_reserved(Stored {
             item,
-            payload: Span::default(),
+            payload: Extent::default(),
             place: None,
         });
     }

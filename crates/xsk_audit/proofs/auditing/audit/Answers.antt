@@ -1,5 +1,5 @@
 use Rattle.std.proofs.Common.{◌∙◌, ◌+◌, ℕ, List, ap, subst, length, replicate, None}
-use Rattle.xsk_plain.specs.Log.{entries_of}
+use Rattle.xsk_log.specs.Log.{entries_of}
 use Rattle.xsk_umem.specs.Geometry.{Geometry}
 use Rattle.xsk_model.specs.Opening.{IsOpened}
 use Rattle.xsk_audit.specs.Telling.{EndsAt}

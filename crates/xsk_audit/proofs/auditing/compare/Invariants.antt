@@ -1,6 +1,6 @@
 use Rattle.std.proofs.Common.{◌≡◌, ◌+◌, ◌≤◌, ◌++◌, List, length, map}
-use Rattle.xsk_plain.specs.Left.{left_of}
-use Rattle.xsk_plain.specs.Log.{entries_of}
+use Rattle.xsk_log.specs.Left.{left_of}
+use Rattle.xsk_log.specs.Log.{entries_of}
 use Rattle.xsk_audit.specs.Lines.{lines_of}
 use Rattle.xsk_audit.specs.Telling.{Timed, entries, journal_line, NeverFalls, last_of}
 use Rattle.xsk_audit.proofs.auditing.compare.Given as goal

@@ -1,4 +1,4 @@
-use Rattle.xsk_plain.specs.Left.{left_of}
+use Rattle.xsk_log.specs.Left.{left_of}
 use Rattle.xsk_audit.specs.Lines.{lines_of}
 use Rattle.xsk_audit.proofs.Cuts.{no-lines}
 use Rattle.xsk_audit.proofs.Misses.{none-first, round-falls}

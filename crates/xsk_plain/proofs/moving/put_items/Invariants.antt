@@ -1,9 +1,9 @@
 use Rattle.std.proofs.Common.{◌≡◌, ◌+◌, ◌≤◌, ◌++◌, length, map}
 use Rattle.xsk_model.specs.Stored.{stored_item}
 use Rattle.xsk_plain.specs.Kept.{AreKept}
-use Rattle.xsk_plain.specs.Log.{entries_of, noted_in, notes_of}
+use Rattle.xsk_log.specs.Log.{entries_of, calls_of, noted_in, notes_of, entry_room, byte_room}
 use Rattle.xsk_plain.specs.Rooms.{items_bytes}
-use Rattle.xsk_plain.specs.Notes.{NotesGrow}
+use Rattle.xsk_log.specs.Notes.{NotesGrow}
 use Rattle.xsk_plain.specs.Stores.{stored_item_of}
 use Rattle.xsk_plain.proofs.moving.put_items.Given as goal
 
@@ -12,11 +12,10 @@ abbrev pub invariant-loop : goal.invariant-loop
 invariant-loop l = record {
   entries : entries_of l.log ≡ entries_of l.initial.log;
   noted : noted_in l.log ++ map (stored_item l.config.geometry l.config.sg) l.items ≡ map (stored_item l.config.geometry l.config.sg) l.initial.items;
-  len : length l.log.rows.items ≡ length l.initial.log.rows.items;
-  begun : l.log.begun ≡ l.initial.log.begun;
-  pieces : length l.log.pieces.items ≡ l.log.begun + l.counter;
-  spare_entries : l.log.spare_entries ≡ l.initial.log.spare_entries;
-  spare_bytes : l.log.spare_bytes + items_bytes l.config l.initial.items ≡ l.initial.log.spare_bytes + items_bytes l.config l.items;
+  calls : calls_of l.log ≡ calls_of l.initial.log;
+  done : length (noted_in l.log) ≡ l.counter;
+  spare_entries : entry_room l.log ≡ entry_room l.initial.log;
+  spare_bytes : byte_room l.log + items_bytes l.config l.initial.items ≡ byte_room l.initial.log + items_bytes l.config l.items;
   notes : NotesGrow (notes_of l.initial.log) (notes_of l.log);
   rest : length l.items + l.counter ≡ length l.initial.items;
   few : length l.initial.items ≤ 32;

@@ -2,8 +2,8 @@ use Rattle.std.proofs.Common.{subst, ◌∙◌}
 use Rattle.xsk_model.specs.Asks.{joined_call, joined_reply}
 use Rattle.xsk_model.specs.Config.{Config}
 use Rattle.xsk_model.specs.Entry.{own, with_told}
-use Rattle.xsk_desc.specs.Standing.{StandsFor}
-use Rattle.xsk_desc.specs.Given.{StandsGiven}
+use Rattle.xsk_legal.specs.Standing.{StandsFor}
+use Rattle.xsk_legal.specs.Given.{StandsGiven}
 use Rattle.xsk_plain.specs.Rooms.{Enters, payload_bytes}
 use Rattle.xsk_plain.specs.Steps.{FollowsObject}
 use Rattle.xsk_plain.proofs.Legality.{legal_can_perform}

@@ -3,7 +3,7 @@ use Rattle.xsk_model.specs.Opening.{home_ring}
 use Rattle.xsk_plain.specs.declared.ring_store.RingStore.{RingStore}
 use Rattle.xsk_plain.specs.Engine.{seen}
 use Rattle.xsk_plain.specs.Kept.{AllKept}
-use Rattle.xsk_plain.specs.Notes.{Notes}
+use Rattle.xsk_log.specs.Notes.{Notes}
 use Rattle.xsk_plain.specs.Stores.{IsBlank, part_of, sizes_in}
 use Rattle.xsk_plain.proofs.opening.fill_pools.Given as goal
 

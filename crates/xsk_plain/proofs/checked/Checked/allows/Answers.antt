@@ -3,8 +3,8 @@ use Rattle.std.specs.Prelude.{IsTrue}
 use Rattle.xsk_model.specs.Config.{Config}
 use Rattle.xsk_model.specs.Entry.{own}
 use Rattle.xsk_model.specs.Legal.{IsLegal}
-use Rattle.xsk_desc.specs.Noting.{IsFor}
-use Rattle.xsk_desc.proofs.Able.{stands_for}
+use Rattle.xsk_legal.specs.Noting.{IsFor}
+use Rattle.xsk_legal.proofs.Able.{stands_for}
 use Rattle.xsk_plain.specs.Engine.{Engine}
 use Rattle.xsk_plain.specs.Histories.{NotesOwn}
 use Rattle.xsk_plain.proofs.Running.{noted_at, allowed}

@@ -3,9 +3,9 @@ use Rattle.std.specs.Prelude.{IfSome, IsNone}
 use Rattle.xsk_model.specs.Config.{Config}
 use Rattle.xsk_model.specs.Entry.{own}
 use Rattle.xsk_model.specs.Legal.{IsLegal}
-use Rattle.xsk_desc.specs.Noting.{IsFor}
-use Rattle.xsk_desc.specs.Why.{Fails}
-use Rattle.xsk_desc.proofs.Able.{stands_for}
+use Rattle.xsk_legal.specs.Noting.{IsFor}
+use Rattle.xsk_legal.specs.Why.{Fails}
+use Rattle.xsk_legal.proofs.Able.{stands_for}
 use Rattle.xsk_plain.specs.Engine.{Engine}
 use Rattle.xsk_plain.specs.Histories.{NotesOwn}
 use Rattle.xsk_plain.proofs.Running.{noted_at, told_why, none_is_legal, told_in_log}

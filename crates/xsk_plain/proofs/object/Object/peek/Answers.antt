@@ -2,7 +2,7 @@ use Rattle.std.proofs.Common.{◌≡◌, ◌+◌, ◌<◌, length, take, drop, m
 use Rattle.xsk_model.specs.declared.call.Call.TheVariants.{Peek}
 use Rattle.xsk_plain.specs.Engine.{Part}
 use Rattle.xsk_plain.specs.Stores.{stored_item_of}
-use Rattle.xsk_plain.specs.Log.{notes_of}
+use Rattle.xsk_log.specs.Log.{notes_of}
 use Rattle.xsk_plain.proofs.Moves.{all_kept_grown}
 use Rattle.xsk_plain.proofs.StoreSteps.{sizes-set, kept-set, parts-set, part_here, length-rings, kept_here}
 use Rattle.xsk_plain.proofs.object.Object.peek.Goals as goal

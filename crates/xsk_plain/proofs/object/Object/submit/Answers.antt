@@ -1,7 +1,7 @@
 use Rattle.std.proofs.Common.{◌<◌, length, refl, arith, ◌∙◌}
 use Rattle.xsk_model.specs.declared.call.Call.TheVariants.{Submit}
 use Rattle.xsk_plain.proofs.StoreSteps.{sizes-set, kept-set, parts-set, room_here, kept_here, length-rings}
-use Rattle.xsk_plain.specs.Log.{notes_of}
+use Rattle.xsk_log.specs.Log.{notes_of}
 use Rattle.xsk_plain.proofs.Moves.{all_kept_grown}
 use Rattle.xsk_plain.proofs.object.Object.submit.Goals as goal
 

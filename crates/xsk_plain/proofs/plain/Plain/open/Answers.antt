@@ -2,7 +2,7 @@ use Rattle.std.proofs.Common.{◌≡◌, ◌≤◌, length, arith, ap, ◌∙◌
 use Rattle.xsk_umem.specs.Frames.{Frames}
 use Rattle.xsk_model.specs.Config.{Config}
 use Rattle.xsk_model.proofs.Opened.{length-frames}
-use Rattle.xsk_plain.specs.Log.{notes_of}
+use Rattle.xsk_log.specs.Log.{notes_of}
 use Rattle.xsk_plain.proofs.plain.Plain.open.Goals as goal
 
 pub invariant_of-result : goal.invariant_of-result

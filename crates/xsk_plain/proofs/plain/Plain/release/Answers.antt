@@ -1,16 +1,16 @@
-use Rattle.std.proofs.Common.{sym, refl, subst}
+use Rattle.std.proofs.Common.{refl, subst}
 use Rattle.xsk_model.specs.declared.call.Call.TheVariants.{Release}
 use Rattle.xsk_model.specs.declared.call.Reply.TheVariants.{Released}
 use Rattle.xsk_plain.specs.Engine.{Engine}
 use Rattle.xsk_plain.specs.Sound.{engine_of}
-use Rattle.xsk_plain.specs.Log.{notes_of}
+use Rattle.xsk_log.specs.Log.{notes_of}
 use Rattle.xsk_plain.specs.Steps.{FollowsObject}
 use Rattle.xsk_plain.proofs.Follows.{follows}
 use Rattle.xsk_plain.proofs.plain.Plain.release.Goals as goal
 
 pub invariant_of-self : goal.invariant_of-self
 invariant_of-self c = record {
-  noted = sym c.enter.ensures.begun;
+  noted = c.enter.ensures.noted;
   kept = rw (c.release.ensures.changes.config, c.enter.ensures.notes) (c.release.ensures.kept (notes_of c.self.inside.log) c.self.invariant.kept);
   home = c.self.invariant.home;
   limit = rw c.release.ensures.changes.config c.self.invariant.limit;

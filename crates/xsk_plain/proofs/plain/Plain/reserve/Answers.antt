@@ -1,10 +1,10 @@
-use Rattle.std.proofs.Common.{sym, refl, subst}
+use Rattle.std.proofs.Common.{refl, subst}
 use Rattle.xsk_model.specs.Config.{size_of}
 use Rattle.xsk_model.specs.declared.call.Call.TheVariants.{Reserve}
 use Rattle.xsk_model.specs.declared.call.Reply.TheVariants.{Granted, Full}
 use Rattle.xsk_plain.specs.Engine.{Engine, part_in}
 use Rattle.xsk_plain.specs.Sound.{engine_of}
-use Rattle.xsk_plain.specs.Log.{notes_of}
+use Rattle.xsk_log.specs.Log.{notes_of}
 use Rattle.xsk_plain.specs.Steps.{FollowsObject, free_in}
 use Rattle.xsk_plain.specs.Stores.{parts_of}
 use Rattle.xsk_plain.proofs.Follows.{follows, reply_granted, reply_full}
@@ -12,7 +12,7 @@ use Rattle.xsk_plain.proofs.plain.Plain.reserve.Goals as goal
 
 pub invariant_of-self : goal.invariant_of-self
 invariant_of-self c = record {
-  noted = sym c.enter.ensures.begun;
+  noted = c.enter.ensures.noted;
   kept = rw (c.reserve.ensures.changes.config, c.enter.ensures.notes) (c.reserve.ensures.kept (notes_of c.self.inside.log) c.self.invariant.kept);
   home = c.self.invariant.home;
   limit = rw c.reserve.ensures.changes.config c.self.invariant.limit;
@@ -20,7 +20,7 @@ invariant_of-self c = record {
 
 pub invariant_of-self-in-Err : goal.invariant_of-self-in-Err
 invariant_of-self-in-Err c = record {
-  noted = sym c.enter-in-Err.ensures.begun;
+  noted = c.enter-in-Err.ensures.noted;
   kept = rw (c.reserve.ensures.changes.config, c.enter-in-Err.ensures.notes) (c.reserve.ensures.kept (notes_of c.self.inside.log) c.self.invariant.kept);
   home = c.self.invariant.home;
   limit = rw c.reserve.ensures.changes.config c.self.invariant.limit;

@@ -1,0 +1,9 @@
+pub mod Extents
+pub mod Left
+pub mod Line
+pub mod Log
+pub mod Notes
+pub mod Pieces
+pub mod Repeats
+pub mod RowCodes
+pub mod Rows
