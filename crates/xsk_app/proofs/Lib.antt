@@ -1,7 +1,9 @@
 pub mod Fresh
+pub mod Giving
 pub mod Steps
 pub mod TurnLemmas
 pub mod Runs
 pub mod Resumed
 pub mod Taking
 pub mod Shutting
+pub mod Ways

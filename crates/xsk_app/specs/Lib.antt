@@ -1,3 +1,4 @@
+pub mod Frames
 pub mod Resumed
 pub mod Runs
 pub mod Shown

@@ -1,7 +1,9 @@
 //! The application, as other crates use it.
-ghost use Rattle.std.specs.Prelude.{◌≡◌, None, Some, List, ℕ, ◌+◌, ◌++◌, ◌-◌, ◌*◌, ◌/◌, ◌%◌, ◌<◌, ◌≤◌, IfOk, [], ◌∷◌, length, replicate, vec_len, slice_index};
+ghost use Rattle.std.specs.Prelude.{◌≡◌, None, Some, List, ℕ, ◌+◌, ◌++◌, ◌-◌, ◌*◌, ◌/◌, ◌%◌, ◌<◌, ◌≤◌, IfOk, [], ◌∷◌, length, replicate, flat_map, vec_len, slice_index};
 ghost use Rattle.std.specs.List.{slice_index_or};
+ghost use Rattle.xsk_umem.specs.Frame.{Frame as AFrame};
 ghost use Rattle.xsk_turns.specs.AppTurns.{AppKept};
+ghost use Rattle.xsk_turns.specs.Giving.{with_frames};
 ghost use Rattle.xsk_turns.specs.Owned.{Suits};
 ghost use Rattle.xsk_model.specs.Marks.{apps_of};
 ghost use Rattle.xsk_app.specs.declared.machine.Way.{Way};
@@ -24,8 +26,9 @@ use std::marker::Model;
 use xsk_model::steering::{driver_on, port_on, queue_on};
 use xsk_model::{Act, Answer, Ask, Config, Reply};
 use xsk_turns::Manner;
+use xsk_turns::giving::give_batches;
 use xsk_turns::stepping::{join_ask, split_reply};
-use xsk_umem::{Batch, OutOfMemory};
+use xsk_umem::{Batch, Frames, OutOfMemory};
 
 /// The application of one queue of two paired ports, as a worker that makes one call at a time.
 #[derive(Drop)]
@@ -45,8 +48,12 @@ impl<'a> Model for App<'a> {
 }
 
 impl<'a> App<'a> {
-    ghost use Rattle.xsk_app.specs.Runs.{IsNew, Stands, StandsWith, TellsWith};
+    ghost use Rattle.xsk_app.specs.Runs.{IsNew, Stands, StandsWith, HasEnded, TellsWith};
     ghost use Rattle.xsk_app.specs.Resumed.{IsResumed, StandsFrom, StandsFromWith};
+    ghost use Rattle.xsk_turns.specs.Owned.{frame_numbers};
+    ghost use Rattle.xsk_model.specs.Numbers.{times};
+    ghost use Rattle.xsk_model.specs.Own.{had_of};
+    ghost use Rattle.xsk_app.specs.Frames.{app_frames};
 
     /// The application with this number, of a regular configuration that has it. By its manner it changes items that it submits
     /// on TX, or none, and closes the socket that is to be closed, where it is one of its own, once so many items came.
@@ -61,6 +68,7 @@ impl<'a> App<'a> {
         ensures expected { IfOk result (λ a. a.expected ≡ nothing) }
         ensures new { IfOk result (λ a. IsNew manner config.now app a) }
     {
+        // The geometry is lawful, and so is the configuration.
         let _geometry = config.geometry();
         let _queues = config.queues();
         let queue = queue_on(config, app);
@@ -154,6 +162,19 @@ impl<'a> App<'a> {
     {
         self.machine.step(answer, items)
     }
+
+    /// All frames that it has go behind those of the queue, each with its bytes: those of the items that are pending, lane by lane,
+    /// and those that it has yet to give back, side by side. A queue of the application's UMEM has room for them; beyond its room
+    /// no frame is appended. Where it has ended they are all that it peeked and didn't submit.
+    pub fn into_frames(self, frames: &mut Frames)
+        ensures frames { frames.new ≡ with_frames frames.old (app_frames self.entry.kept) }
+        ensures ended { (m : AManner) (c : AConfig) (app : ℕ) (l : List Told) → HasEnded m c app self.entry l → (n : ℕ) → times n (frame_numbers (app_frames self.entry.kept)) ≡ times n (had_of l) }
+    {
+        let App { machine } = self;
+        let Machine { pending, backs, .. } = machine;
+        give_batches(frames, pending);
+        give_backs(frames, backs);
+    }
 }
 
 /// The lanes, by side and class: from each class of each side's pair to the same class of the other side's.
@@ -205,6 +226,15 @@ fn new_backs(alloc: Global) -> Result<Vec<Back>, OutOfMemory>
     backs.push(Back::new(alloc)?)?;
     backs.push(Back::new(alloc)?)?;
     Ok(backs)
+}
+
+/// Appends the frames that are to be given back, side by side.
+fn give_backs(frames: &mut Frames, backs: Vec<Back>)
+    ensures { frames.new ≡ with_frames frames.old (flat_map (λ (back : List AFrame). back) backs.items) }
+{
+    for back in backs {
+        back.give_all(frames);
+    }
 }
 
 /// An application may be sent to another thread.

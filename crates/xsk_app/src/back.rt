@@ -9,7 +9,8 @@ use std::alloc::Global;
 use std::collections::VecDeque;
 use std::marker::Model;
 use xsk_model::home_item;
-use xsk_umem::{Batch, Frame, Geometry, OutOfMemory};
+use xsk_turns::giving::give_frames;
+use xsk_umem::{Batch, Frame, Frames, Geometry, OutOfMemory};
 
 /// The most frames that a side has to give back: as many as a UMEM may have.
 const MOST_BACK: usize = 4096;
@@ -34,6 +35,7 @@ impl Model for Back {
 
 impl Back {
     ghost use Rattle.xsk_turns.specs.Turns.{frame_in, frames_in};
+    ghost use Rattle.xsk_turns.specs.Giving.{with_frames};
     ghost use Rattle.xsk_app.specs.Ways.{IsGroup};
 
     /// None, with room for all frames of a UMEM.
@@ -109,6 +111,14 @@ impl Back {
             let frame = self.frames.pop_front().unwrap();
             items.push(home_item(geometry, frame));
         }
+    }
+
+    /// Appends all frames to the queue, as many as it has room for.
+    pub(crate) fn give_all(self, frames: &mut Frames)
+        ensures { frames.new ≡ with_frames frames.old self }
+    {
+        let Back { frames: back } = self;
+        give_frames(frames, back);
     }
 }
 

@@ -56,6 +56,7 @@ impl<'a> Machine<'a> {
         ensures goes { GoesOn self.old.config.now self.old.app self.new (act.Call (joined_call result [])) (close_first self.old.config.now self.old.app (Some (shut_with self.old.config.now self.old.app socket)) (kept_by self.old) (turn_lanes self.old.config.now self.old.app)) }
         ensures same { IsSame self.old self.new }
     {
+        // The configuration is lawful.
         let _sockets = self.config.sockets();
         if self.may_close(socket) {
             self.lower_from(socket, 0)
@@ -330,6 +331,7 @@ fn keep_behind(back: &mut Back, items: &mut Batch)
     ensures back { back.new ≡ take most_frames (back.old ++ frames_in items.old) }
     ensures items { items.new ≡ [] }
 {
+    // No more stand there than a UMEM may have.
     let _kept = back.len();
     while let Some(item) = items.pop_front() {
         back.add(item.frame);

@@ -59,8 +59,10 @@ impl<'a> App<'a> {
         requires app { app < apps_of config.now }
         requires lanes { length kept.pending.items ≡ lanes_of config.now }
         ensures expected { result.expected ≡ nothing }
+        ensures kept { result.kept ≡ kept_in kept }
         ensures resumed { (past : List Told) → HasLeft config.now (kept_in kept) past → IsResumed config.now app (kept_in kept) past result }
     {
+        // The geometry is lawful, and so is the configuration.
         let _geometry = config.geometry();
         let _queues = config.queues();
         let pairs = [side_pair(config, app, 0), side_pair(config, app, 1)];

@@ -464,6 +464,7 @@ impl<'a> Machine<'a> {
         ensures rest { HasSameRest self.old self.new }
     {
         let pending = &mut self.pending[lane];
+        // At most 32 items are pending.
         let _count = pending.len();
         items.append(pending);
     }

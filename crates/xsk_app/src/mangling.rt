@@ -25,6 +25,7 @@ pub(crate) fn mangle(
     ensures pending { pending.new ≡ [] }
     ensures back { back.new ≡ take most_frames (back.old ++ frames_taken every number pending.old) }
 {
+    // No more stand there than a UMEM may have.
     let _kept = back.len();
     let mut number = number;
     while let Some(mut item) = pending.pop_front() {
@@ -39,6 +40,7 @@ fn change(geometry: &Geometry, every: u32, number: u64, item: &mut Item, back: &
     ensures item { item.new ≡ made_by geometry.now (change_of_item every number) item.old }
     ensures back { back.new ≡ take most_frames (back.old ++ taken_by (change_of_item every number) item.old) }
 {
+    // No more stand there than a UMEM may have.
     let _kept = back.len();
     if let Some(change) = change_at(every, number) {
         back.add(apply(change, geometry, item));

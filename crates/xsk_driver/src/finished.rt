@@ -1,12 +1,12 @@
 //! The packets that a driver put together and didn't complete yet.
-ghost use Rattle.std.specs.Prelude.{◌≡◌, ℕ, ◌+◌, List, [], ◌∷◌, ◌++◌, ◌<◌, ◌≤◌, length, map, take, drop, false, IfOk, MatchOption};
+ghost use Rattle.std.specs.Prelude.{◌≡◌, ℕ, ◌+◌, List, [], ◌∷◌, ◌++◌, ◌<◌, ◌≤◌, length, map, flat_map, take, drop, false, IfOk, MatchOption};
 ghost use Rattle.std.specs.List.{slice_index_or};
 ghost use Rattle.std.specs.VecDeque.{deque_capacity};
 ghost use Rattle.xsk_umem.specs.Geometry.{IsGeometry};
 ghost use Rattle.xsk_model.specs.Packets.{bytes_of};
 ghost use Rattle.xsk_turns.specs.Counted.{capped};
 ghost use Rattle.xsk_turns.specs.Stranded.{items_in};
-ghost use Rattle.xsk_turns.specs.Turns.{returned as item_returned};
+ghost use Rattle.xsk_turns.specs.Turns.{frames_in, returned as item_returned};
 ghost use Rattle.xsk_driver.specs.Sent.{Sends, last_length};
 ghost use Rattle.xsk_driver.specs.Sendings.{sendings_of};
 
@@ -67,6 +67,14 @@ impl Finished {
         ensures { result ≡ capped (items_in self.now) }
     {
         self.items.len() as u64
+    }
+
+    /// The items of its packets, one after the other.
+    pub(crate) fn into_items(self) -> VecDeque<Item>
+        ensures { frames_in result.items ≡ flat_map frames_in self }
+    {
+        let Finished { items, .. } = self;
+        items
     }
 
     /// Appends a packet of the batch's items and its last one, and leaves the batch empty.

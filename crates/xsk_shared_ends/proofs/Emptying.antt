@@ -1,5 +1,5 @@
 -- Lanes that are found empty one after the other, and the machine's run behind them.
-use Rattle.std.proofs.Common.{◌≡◌, ℕ, ◌+◌, ◌<◌, ◌≤◌, true, eqb, Option, Some, None, List, [], ◌∷◌, ◌++◌, append_assoc, append-nil, sym, ap, ◌∙◌, subst, ⊎_elim, arith, eq-eqb}
+use Rattle.std.proofs.Common.{false, ◌≡◌, ℕ, ◌+◌, ◌<◌, ◌≤◌, true, eqb, Option, Some, None, List, [], ◌∷◌, ◌++◌, append_assoc, append-nil, sym, ap, ◌∙◌, subst, ⊎_elim, arith, eq-eqb}
 use Rattle.std.proofs.lemmas.Bool.{cases_eq}
 use Rattle.xsk_umem.specs.declared.batch.Item.{Item}
 use Rattle.xsk_model.specs.Asks.{joined_call, HasAsked}
@@ -187,10 +187,10 @@ module _ (app : AppShown) (given : Option Ask) (items : List Item) (p : Holder) 
           left_of next after left is.start is.past (with_told is.later call reply) q app.config app.app served.rests awaits given_back
           (now ∙ ap (λ l. l ++ told ∷ []) is.mine ∙ append_assoc is.past is.later (told ∷ [])) config same rest
 
-      pub stays : (next : AppShown) (x : LastShown) → record { config = app.config; app = app.app; pass = p } ≡ x → next.config ≡ app.config → next.app ≡ app.app
-          → StaysLast x (record { config = next.config; app = next.app; pass = q })
+      pub stays : (next : AppShown) (x : LastShown) → record { config = app.config; app = app.app; pass = p; has_ends = false } ≡ x → next.config ≡ app.config → next.app ≡ app.app
+          → StaysLast x (record { config = next.config; app = next.app; pass = q; has_ends = false })
       stays next x shown config same =
-          let old : LastShown = record { config = app.config; app = app.app; pass = p } in
-          let new : LastShown = record { config = next.config; app = next.app; pass = q } in
+          let old : LastShown = record { config = app.config; app = app.app; pass = p; has_ends = false } in
+          let new : LastShown = record { config = next.config; app = next.app; pass = q; has_ends = false } in
           let now : StaysLast old new = record { config = config; app = same; table = served.table; setup = served.history.setup; who = served.who } in
           subst (λ (y : LastShown). StaysLast y new) shown now

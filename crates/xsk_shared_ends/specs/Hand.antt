@@ -1,4 +1,5 @@
 -- Where the last hand stands.
+use Rattle.std.specs.Prelude.{false}
 use Rattle.xsk_table.specs.View.{no_setup}
 use Rattle.xsk_table.specs.Held.{new_pass}
 use Rattle.xsk_rings.specs.Rounds.{mine_of}
@@ -10,8 +11,8 @@ use Rattle.xsk_shared_ends.specs.declared.last.State.TheVariants.{Sharing, Leavi
 -- it has the ends, or runs the machine
 abbrev pub shown_in : State → LastShown
 shown_in (Sharing ends) = shown_of_ends ends
-shown_in (Leaving run) = run
-shown_in Gone = record { config = no_setup.config; app = 0; pass = new_pass no_name.board 0 }
+shown_in (Leaving run) = record run { has_ends = false }
+shown_in Gone = record { config = no_setup.config; app = 0; pass = new_pass no_name.board 0; has_ends = false }
 
 abbrev pub IsThere : State → Type 0
 IsThere (Sharing ends) = Unit {0}

@@ -1,5 +1,5 @@
 -- The last hand: it makes turns on the ends alone, and then runs the application's machine from what they left.
-use Rattle.std.specs.Prelude.{◌≡◌, ℕ, ◌<◌, true, Option, List, [], ◌∷◌, ◌++◌}
+use Rattle.std.specs.Prelude.{◌≡◌, ℕ, ◌<◌, Bool, true, Option, List, [], ◌∷◌, ◌++◌}
 use Rattle.xsk_umem.specs.declared.batch.Item.{Item}
 use Rattle.xsk_model.specs.Config.{Config}
 use Rattle.xsk_model.specs.Ends.{draining_of}
@@ -24,11 +24,12 @@ use Rattle.xsk_shared_ends.specs.Shown.{EndsShown}
 abbrev pub AreDrained : Config → ℕ → List Told → Type 0
 AreDrained c app l = (lane : ℕ) → lane < lanes_of c → (draining_of (RxDone (pair_of c app 0) ∷ RxDone (pair_of c app 1) ∷ []) (Rx (rx_of c app lane)) l).empty ≡ true
 
--- an application with its pass
+-- an application with its pass, and whether its ends are there
 pub record LastShown : Type 0 where
   pub config : Config
   pub app : ℕ
   pub pass : Holder
+  pub has_ends : Bool
 
 -- What the type of the application's run keeps: its calls and replies are steps, by which each lane was found empty, and those of the
 -- machine that stands for the rest.
@@ -49,7 +50,7 @@ pub record AreLeft (app : AppShown) (ask : Option Ask) (items : List Item) (p : 
 
 -- what is seen of ends
 abbrev pub shown_of_ends : EndsShown → LastShown
-shown_of_ends e = record { config = e.config; app = e.app; pass = e.pass }
+shown_of_ends e = record { config = e.config; app = e.app; pass = e.pass; has_ends = true }
 
 -- the application stays, and its pass that of its caller on its table
 pub record StaysLast (old new : LastShown) : Type 0 where

@@ -82,6 +82,7 @@ impl<'a> Ends<'a> {
         ensures ok { IfOk result (λ ends. (ends.pass ≡ pass) × (ends.config ≡ config.now) × (caller_of config.now ends.app ≡ pass.who) × (ends.kept ≡ app_start config.now)) }
         ensures refused { IfErr result (λ back. back.pass ≡ pass) }
     {
+        // The geometry is lawful.
         let _geometry = config.geometry();
         let app = pass.caller() - config.pairs().len() as u32;
         match Kept::new(alloc, config) {
@@ -180,6 +181,7 @@ impl<'a> Ends<'a> {
         ensures left { HasLeft self.now.config self.now.kept (mine_of self.now.pass) }
         ensures lanes { KeepsLanes self.now }
     {
+        // What the type keeps is known once a field is read.
         let _app = self.app;
     }
 

@@ -1,11 +1,11 @@
 //! The last hand of an application: it has the ends to itself.
-ghost use Rattle.std.specs.Prelude.{◌≡◌, length, IfOk, IfErr};
+ghost use Rattle.std.specs.Prelude.{◌≡◌, ◌↔◌, false, true, length, IsOk, IfOk, IfErr};
 ghost use Rattle.xsk_table.specs.View.{idle};
 ghost use Rattle.xsk_table.specs.Held.{Belongs};
 ghost use Rattle.xsk_rings.specs.Rounds.{mine_of};
 ghost use Rattle.xsk_turns.specs.AppSplit.{IsWholeSplitRun};
 ghost use Rattle.xsk_turns.specs.Counted.{capped};
-ghost use Rattle.xsk_shared_ends.specs.Last.{StaysLast, shown_of_ends};
+ghost use Rattle.xsk_shared_ends.specs.Last.{AreDrained, StaysLast, shown_of_ends};
 ghost use Rattle.xsk_shared_ends.specs.Hand.{shown_in, IsThere, HasDrained};
 ghost use Rattle.xsk_shared_ends.specs.declared.last.Turned.TheVariants.{Ended};
 
@@ -73,6 +73,8 @@ impl<'a> LastHand<'a> {
         requires belongs { Belongs shared.now self.old.pass }
         ensures same { StaysLast self.old self.new }
         ensures whole { result ≡ Ended → IsWholeSplitRun self.new.config self.new.app (mine_of self.new.pass) }
+        ensures ends { self.new.has_ends ≡ true → self.old.has_ends ≡ true }
+        ensures left { self.new.has_ends ≡ false → self.old.has_ends ≡ true → AreDrained self.new.config self.new.app (mine_of self.new.pass) }
     {
         match &mut self.state {
             State::Sharing(ends) => {
@@ -87,8 +89,9 @@ impl<'a> LastHand<'a> {
         Turned::Moved
     }
 
-    /// The ends, while it has them.
+    /// The ends, exactly while it has them.
     pub fn into_ends(self) -> Result<Ends<'a>, LastHand<'a>>
+        ensures has { IsOk result ↔ (self.entry.has_ends ≡ true) }
         ensures ends { IfOk result (λ ends. shown_of_ends ends ≡ self.entry) }
         ensures back { IfErr result (λ hand. hand ≡ self.entry) }
     {
@@ -118,7 +121,7 @@ impl<'a> LastHand<'a> {
 fn leave(state: &mut State<'_>)
     requires drained { HasDrained state.old }
     ensures there { IsThere state.new }
-    ensures same { shown_in state.new ≡ shown_in state.old }
+    ensures same { shown_in state.new ≡ record (shown_in state.old) { has_ends = false } }
 {
     match mem::replace(state, State::Gone) {
         State::Sharing(ends) => *state = State::Leaving(Leaving::new(ends)),

@@ -1,5 +1,5 @@
 //! An application's machine that goes on from what steps left, with its pass.
-ghost use Rattle.std.specs.Prelude.{◌≡◌, length};
+ghost use Rattle.std.specs.Prelude.{◌≡◌, false, length};
 ghost use Rattle.xsk_table.specs.View.{idle};
 ghost use Rattle.xsk_table.specs.Held.{Belongs};
 ghost use Rattle.xsk_rings.specs.Rounds.{mine_of};
@@ -31,7 +31,9 @@ impl<'a> Model for Leaving<'a> {
 
     ghost Value = { LastShown };
 
-    ghost view = { λ r. record { config = r.app.config; app = r.app.app; pass = r.pass } };
+    ghost use Rattle.std.specs.Prelude.{false};
+
+    ghost view = { λ r. record { config = r.app.config; app = r.app.app; pass = r.pass; has_ends = false } };
 
     ghost invariant = { λ r. AreLeft r.app r.ask r.items r.pass };
 }
@@ -40,7 +42,7 @@ impl<'a> Leaving<'a> {
     /// The machine that goes on from these ends, whose lanes were all found empty.
     pub(crate) fn new(ends: Ends<'a>) -> Leaving<'a>
         requires drained { AreDrained ends.config ends.app (mine_of ends.pass) }
-        ensures { result ≡ shown_of_ends ends.entry }
+        ensures { result ≡ record (shown_of_ends ends.entry) { has_ends = false } }
     {
         let (app, pass) = ends.leave();
         let mut app = app;

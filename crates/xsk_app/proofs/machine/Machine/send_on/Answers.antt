@@ -1,11 +1,10 @@
-use Rattle.std.proofs.Common.{arith, ◌≡◌, ◌<◌, length, ap, ◌∙◌}
-use Rattle.std.proofs.lemmas.List.{get_or_default}
+use Rattle.std.proofs.Common.{arith, ap, ◌∙◌}
 use Rattle.xsk_turns.proofs.Calls.{Tx, Submit}
 use Rattle.xsk_turns.specs.Script.{ask}
-use Rattle.xsk_turns.specs.AppTurns.{tx_of}
 use Rattle.xsk_app.specs.Stands.{noted_by, kept_by, left}
 use Rattle.xsk_app.specs.declared.machine.Wait.TheVariants.{SubmitTx}
 use Rattle.xsk_app.proofs.Steps.{submit_lane}
+use Rattle.xsk_app.proofs.Ways.{way_read}
 use Rattle.xsk_app.proofs.machine.Machine.send_on.Goals as goal
 
 pub returns-clause-goes : goal.returns-clause-goes
@@ -15,8 +14,7 @@ returns-clause-goes c =
     let k = m.config.now in
     let now = kept_by c.put_out.new.self in
     let call = Submit (Tx c.index.result.now.tx) c.put_out.new.items in
-    let here : lane < length m.ways.items = omega (arith, c.requires.lane, m.lanes, m.ways_are.count) in
-    let tx : c.index.result.now.tx ≡ tx_of k m.app lane = ap (λ w. w.tx) (c.index.ensures ∙ get_or_default m.ways.items lane c.index.result.now c.index.result.now here) ∙ m.ways_are.tx lane c.index.result.now here in
+    let way = way_read k m.app lane m.ways.items c.index.result.now m.ways_are (omega (arith, c.requires.lane, m.lanes)) c.index.ensures in
     ap (λ w. ask now call (left k m.app w (noted_by c.put_out.new.self.turn) now)) c.put_out.ensures.rest.wait
     ∙ ap (λ t. ask now call (left k m.app (SubmitTx lane) (noted_by t) now)) c.put_out.ensures.rest.turn
-    ∙ submit_lane k m.app lane (noted_by m.turn) (kept_by m) now c.put_out.new.items c.index.result.now.tx c.put_out.ensures.kept c.put_out.ensures.items tx
+    ∙ submit_lane k m.app lane (noted_by m.turn) (kept_by m) now c.put_out.new.items c.index.result.now.tx c.put_out.ensures.kept c.put_out.ensures.items way.tx

@@ -3,7 +3,8 @@ use Rattle.std.proofs.lemmas.Bool.{true≢false}
 use Rattle.std.proofs.lemmas.List.Elements.{All-push}
 use Rattle.xsk_driver.specs.Sent.{IsShort}
 use Rattle.xsk_driver.specs.Sendings.{sendings_of}
-use Rattle.xsk_driver.proofs.Sent.{length_concat-push, add_over, add_within}
+use Rattle.xsk_umem.proofs.Lengths.{length_concat-push}
+use Rattle.xsk_driver.proofs.Sent.{add_over, add_within}
 use Rattle.xsk_driver.proofs.sending.Sending.add.Goals as goal
 use Rattle.xsk_driver.proofs.sending.Sending.add.Goals.{then-self-via-then-self, then-self-via-else-self+then-self-eq0, then-self-via-else-self+else-self-eq0+then-bytes-self}
 
