@@ -1,5 +1,5 @@
 -- The configuration of a sound setup whose sockets are all bound.
-use Rattle.std.proofs.Common.{◌≡◌, ℕ, zero, suc, ◌+◌, ◌-◌, ◌<◌, ◌≤◌, ◌&&◌, Bool, true, false, cond, eqb, ltb, List, [], ◌∷◌, ◌++◌, length, map, get_or, refl, sym, ap, ap₂, ◌∙◌, subst, inl, inr, arith, Option, Some, None, add-zero, append-nil}
+use Rattle.std.proofs.Common.{◌≡◌, ℕ, zero, suc, ◌+◌, ◌-◌, ◌<◌, ◌≤◌, ◌&&◌, Bool, true, false, cond, eqb, ltb, List, [], ◌∷◌, ◌++◌, length, map, get_or, refl, sym, ap, ap₂, ◌∙◌, subst, inl, inr, arith, Option, Some, None, append-nil}
 use Rattle.std.specs.Prelude.{All, count_by, filter, IfSome, is_some}
 use Rattle.std.specs.List.{flat_map, list_all, range_with_len, sum_by}
 use Rattle.std.proofs.lemmas.Bool.{cases_Bool}
@@ -11,6 +11,7 @@ use Rattle.std.proofs.lemmas.List.FromFn.{filter_of_map_range_with_len_more}
 use Rattle.std.proofs.lemmas.List.Sums.{AllPass-from_list_all, count_by-le-length, length-filter, sum_by-cons}
 use Rattle.xsk_model.specs.Config.{IsBound, IsConfig, IsMap, IsServed, pairs_at}
 use Rattle.xsk_model.specs.declared.config.PairInfo.{PairInfo}
+use Rattle.xsk_model.proofs.Counting.{range-push}
 use Rattle.xsk_socket.specs.declared.socket.Place.{Place}
 use Rattle.xsk_socket.specs.declared.socket.Socket.{Socket}
 use Rattle.xsk_socket.specs.Bound.{bound_in, info_in, map_on}
@@ -23,17 +24,11 @@ use Rattle.xsk_socket.proofs.Setups.{some_counted}
 
 -- ---- lists
 
-range_suc : (a n : ℕ) → range_with_len a (suc n) ≡ range_with_len a n ++ (a + n) ∷ []
-range_suc a zero = ap (λ k. k ∷ []) (sym (add-zero a))
-range_suc a (suc n) =
-    let next : a + 1 + n ≡ a + suc n = omega arith in
-    ap (λ xs. a ∷ xs) (range_suc (a + 1) n) ∙ ap (λ k. a ∷ (range_with_len (a + 1) n ++ k ∷ [])) next
-
 range_more : (n : ℕ) → range_with_len 0 (n + 1) ≡ range_with_len 0 n ++ n ∷ []
 range_more n =
     let next : suc n ≡ n + 1 = omega arith in
     let last : 0 + n ≡ n = omega arith in
-    subst (λ k. range_with_len 0 k ≡ range_with_len 0 n ++ n ∷ []) next (range_suc 0 n ∙ ap (λ k. range_with_len 0 n ++ k ∷ []) last)
+    subst (λ k. range_with_len 0 k ≡ range_with_len 0 n ++ n ∷ []) next (range-push 0 n ∙ ap (λ k. range_with_len 0 n ++ k ∷ []) last)
 
 pub filter_more : {A : Type 0} (p : A → Bool) (n : ℕ) (f : ℕ → A) → filter p (numbered (n + 1) f) ≡ filter p (numbered n f) ++ cond (p (f n)) (f n ∷ []) []
 filter_more p n f = filter_of_map_range_with_len_more p f 0 n n (omega arith)

@@ -5,12 +5,7 @@ ghost use Rattle.xsk_socket.specs.Fits.{HasCounts};
 ghost use Rattle.xsk_socket.specs.Layout.{cells_in, fault_of, first_unmet, is_count, is_port_count, is_ring_size, on_close, on_counts, on_empty, on_rings, on_umem, sockets_in};
 
 use thiserror::Error;
-
-/// The bytes at the start of each chunk that never hold a packet's data.
-const RESERVED: u32 = 256;
-
-/// The most frames of one UMEM.
-const MOST_FRAMES: u32 = 4096;
+use xsk_umem::{MOST_FRAMES, RESERVED};
 
 /// A layout: how many ports, queues and sockets there are, the UMEM, and the size of each kind of ring.
 ///

@@ -18,7 +18,7 @@ use Rattle.xsk_model.specs.declared.call.Ring.{Ring}
 use Rattle.xsk_model.specs.declared.call.Ring.TheVariants.{Fill, Comp, Rx, Tx}
 use Rattle.xsk_model.proofs.Places.{place_below}
 use Rattle.xsk_model.proofs.FirstState.{opening_ring_is}
-use Rattle.xsk_words.specs.Layout.{widths_of, ring_base}
+use Rattle.xsk_words.specs.Layout.{widths_of, ring_base, most_ring_words}
 use Rattle.xsk_words.proofs.Rows.{length-widths_of, few_words}
 use Rattle.xsk_table.specs.View.{Setup, idle}
 use Rattle.xsk_table.specs.Rule.{wrapped, opened}
@@ -86,7 +86,7 @@ begins_app k who (Tx s) n pool opened_is h lt app pool_is is = absurd (omega ari
 
 -- ---- all rings
 
-wide_at : (k : Setup) (who : ℕ) (r : Ring) (count base mask : ℕ) → base ≡ ring_base k.config r → base ≤ 1056768 → mask + 1 ≡ size_of k.config r → Begins k who r count
+wide_at : (k : Setup) (who : ℕ) (r : Ring) (count base mask : ℕ) → base ≡ ring_base k.config r → base ≤ most_ring_words → mask + 1 ≡ size_of k.config r → Begins k who r count
     → EndHolds k who [] r (record { near = count; far = count; base = base; mask = mask; known = 0 })
 wide_at k who r count base mask at few size begins = record {
   base_is = at;
@@ -103,7 +103,7 @@ first_none k who = record { wide = refl; each = λ r h lt. absurd (omega arith);
 pub known_more : (ends : List End) (e : End) (p : ℕ) → e.known ≡ 0 → known_in ends ≡ replicate p 0 → known_in (ends ++ e ∷ []) ≡ replicate (p + 1) 0
 known_more ends e p none are = map-append (λ (x : End). x.known) ends (e ∷ []) ∙ (λ i. are i ++ none i ∷ []) ∙ replicate_more p 0
 
-pub first_more : (k : Setup) (who p base mask count : ℕ) (ends : List End) → base ≡ sum (take p (widths_of k.config)) → base ≤ 1056768
+pub first_more : (k : Setup) (who p base mask count : ℕ) (ends : List End) → base ≡ sum (take p (widths_of k.config)) → base ≤ most_ring_words
     → ((r : Ring) → HasRing k.config r → place k.config r ≡ p → mask + 1 ≡ size_of k.config r) → ((r : Ring) → HasRing k.config r → place k.config r ≡ p → Begins k who r count)
     → AreFirst k who p ends → AreFirst k who (p + 1) (ends ++ (record { near = count; far = count; base = base; mask = mask; known = 0 }) ∷ [])
 first_more k who p base mask count ends at few masks begins ok =
@@ -137,7 +137,7 @@ first_all c first who p ends all each frames opened_is =
     let ok = each frames opened_is in
     (record { wide = ok.wide ∙ all; each = λ r h. ok.each r h (subst (λ n. place c r < n) (sym all) (place_below c r h)) }, ok.known ∙ ap (λ n. replicate n 0) all)
 
-pub base_small : (c : Config) (base p : ℕ) → IsConfig c → p < places_of c → base ≤ 4128 * p → base ≤ 1056768
+pub base_small : (c : Config) (base p : ℕ) → IsConfig c → p < places_of c → base ≤ 4128 * p → base ≤ most_ring_words
 base_small c base p config lt le = let few = (few_words c config).0 in omega arith
 
 pub mask_is : (c : Config) (r s : Ring) (size : ℕ) → IsConfig c → HasRing c r → r ≡ s → size ≡ size_of c s → size - 1 + 1 ≡ size_of c r

@@ -23,6 +23,7 @@ use Rattle.xsk_table.specs.View.{Setup, Flight, idle, taking, View}
 use Rattle.xsk_table.specs.Rule.{wrapped, opened, lying}
 use Rattle.xsk_table.specs.Plays.{Extends, still, items_reply}
 use Rattle.xsk_table.specs.Held.{AreLeft, EndHolds, EndsHold, PassHolds, no_end}
+use Rattle.xsk_words.specs.Layout.{most_ring_words}
 use Rattle.xsk_table.specs.declared.end.End.{End}
 use Rattle.xsk_table.proofs.Peeking.{lying_still}
 
@@ -73,7 +74,7 @@ module _ (k : Setup) (who : ℕ) (mine : List Told) (r : Ring) (call : Call) (re
       let held : ℕ = held_of r mine in
       record {
         base_is = base ∙ ok.base_is;
-        base_few = subst (λ (m : ℕ). m ≤ 1056768) (sym base) ok.base_few;
+        base_few = subst (λ (m : ℕ). m ≤ most_ring_words) (sym base) ok.base_few;
         mask_is = ap (λ m. m + 1) mask ∙ ok.mask_is;
         fills = λ is.
             let f = fills is in

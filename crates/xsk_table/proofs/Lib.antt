@@ -26,4 +26,3 @@ pub mod Laying
 pub mod NewTable
 pub mod FirstEnds
 pub mod Deals
-pub mod FreshFrames

@@ -7,7 +7,7 @@ use Rattle.std.proofs.lemmas.Bool.{cases_eq}
 use Rattle.std.proofs.lemmas.List.{length-set}
 use Rattle.atomic_table.specs.Table.{State, step, keeps, Allows}
 use Rattle.xsk_umem.specs.Frame.{Frame}
-use Rattle.xsk_model.specs.Config.{HasRing, callers_of}
+use Rattle.xsk_model.specs.Config.{IsConfig, HasRing, callers_of}
 use Rattle.xsk_model.specs.Numbers.{times, numbers}
 use Rattle.xsk_model.specs.Rings as rings
 use Rattle.xsk_model.specs.Rings.{place}
@@ -25,7 +25,7 @@ use Rattle.xsk_model.specs.declared.call.Reply.{Reply}
 use Rattle.xsk_model.specs.declared.call.Reply.TheVariants.{Old}
 use Rattle.xsk_model.proofs.Folds.{own-push_other, part_of_own-push_other}
 use Rattle.xsk_model.proofs.CallTheorems.{one_more, marks_after_entry}
-use Rattle.xsk_words.specs.Layout.{mark, word_at}
+use Rattle.xsk_words.specs.Layout.{mark, word_at, words_of}
 use Rattle.xsk_words.proofs.Rows.{own_words}
 use Rattle.xsk_table.specs.View.{Setup, Flight, idle, View}
 use Rattle.xsk_table.specs.Rule.{at, opened, written, lying, aloft, AllHome, Rule}
@@ -37,6 +37,14 @@ use Rattle.xsk_table.proofs.Changed.{Change, now, ring_now, flight_of}
 use Rattle.xsk_table.proofs.Knowing.{known, legal_now}
 use Rattle.xsk_table.proofs.Adding.{later, ring_else, acts}
 use Rattle.xsk_table.proofs.Holding.{end_else, idle_taking}
+
+-- where a mark's word stands, by a setup that is another's
+pub mark_word_at : (v k : Setup) (m : Mark) (word words : ℕ) → v ≡ k → IsConfig v.config → HasMark v.config m → words ≡ words_of k.config → word ≡ word_at k.config (mark m)
+    → (word ≡ word_at k.config (mark m)) × (word < words)
+mark_word_at v k m word words same config has all is =
+    let below : Setup → Type 0 = λ t. word_at t.config (mark m) < words_of t.config in
+    let here : word_at k.config (mark m) < words_of k.config = subst below same (own_words v.config (mark m) (mark m) config has has).0 in
+    (is, let P : ℕ × ℕ → Type 0 = λ t. t.0 < t.1 in subst P (λ i. (sym is i, sym all i)) here)
 
 same_mark : (m n : Mark) → mark m ≡ mark n → m ≡ n
 same_mark m n e = cc

@@ -12,7 +12,8 @@ use Rattle.xsk_model.specs.History.{IsHistory}
 use Rattle.xsk_model.specs.declared.call.Ring.{Ring}
 use Rattle.xsk_model.specs.declared.call.Call.{Call}
 use Rattle.xsk_model.specs.declared.call.Call.TheVariants.{Reserve, Submit, Peek, Release, Swap, Look}
-use Rattle.xsk_words.specs.Layout.{ring_base, marks_base, words_of}
+use Rattle.xsk_words.specs.Layout.{ring_base, mark_bases, words_of, most_ring_words}
+use Rattle.xsk_words.specs.declared.bases.MarkBases.{MarkBases}
 use Rattle.xsk_table.specs.View.{Setup, taking, View, newcomer}
 use Rattle.xsk_table.specs.Rule.{wrapped, opened, lying}
 use Rattle.xsk_table.specs.declared.end.End.{End}
@@ -75,7 +76,7 @@ known_in ends = map (λ (e : End). e.known) ends
 -- reserved; on one that it empties what it released, and that with what it holds
 pub record EndHolds (k : Setup) (who : ℕ) (mine : List Told) (r : Ring) (e : End) : Type 0 where
   pub base_is : e.base ≡ ring_base k.config r
-  pub base_few : e.base ≤ 1056768
+  pub base_few : e.base ≤ most_ring_words
   pub mask_is : e.mask + 1 ≡ size_of k.config r
   pub fills : who ≡ producer k.config r
       → (e.near ≡ wrapped k (opened k r + given_of r mine)) × (e.far ≡ wrapped k (opened k r + given_of r mine + room_of r mine))
@@ -100,11 +101,11 @@ pub record PassHolds (v : View) (slots : List (ℕ × Option Frame)) (who : ℕ)
   pub left : (r : Ring) (items : List Item) → v.flight ≡ taking r items → AreLeft v.setup.config who (own who v.seen) r items
   pub history : IsHistory v.setup.config v.setup.frames v.seen
 
--- what holds of a table: the words before the marks' are counted, it has a word for each of the layout, and an empty queue with room for all frames
-pub record TableHolds (c : Config) (marks : ℕ) (k : Setup) (table : TableId) (home : Frames) : Type 0 where
+-- what holds of a table: it knows where the first marks stand, and has a word for each of the layout and an empty queue with
+-- room for all frames
+pub record TableHolds (c : Config) (marks : MarkBases) (k : Setup) (table : TableId) (home : Frames) : Type 0 where
   pub config_is : c ≡ k.config
-  pub marks_is : marks ≡ marks_base k.config
-  pub marks_few : marks ≤ 1056768
+  pub marks_is : marks ≡ mark_bases k.config
   pub words : table.words ≡ words_of k.config
   pub some : 1 ≤ table.words
   pub home_is : home.items ≡ []

@@ -17,7 +17,6 @@ use atomic_table::Play;
 use std::marker::{Brand, PhantomData};
 use xsk_model::Mark;
 use xsk_umem::Frame;
-use xsk_words::mark_word_from;
 
 /// The swap of a mark's word.
 pub struct Swapping<J> {
@@ -107,7 +106,7 @@ impl Pass {
         ensures flight { self.new.view.flight ≡ idle }
         ensures history { Extends self.old.view.setup self.old.who (Swap mark value) (Old result) self.old.view self.new.view }
     {
-        let word = mark_word_from(&shared.config, shared.marks, mark);
+        let word = shared.marks.word(mark);
         swap_mark(&shared.board, &mut self.seat, self.who, mark, value, word)
     }
 
@@ -121,7 +120,7 @@ impl Pass {
         ensures flight { self.new.view.flight ≡ idle }
         ensures history { Extends self.old.view.setup self.old.who (Look mark) (Old result) self.old.view self.new.view }
     {
-        let word = mark_word_from(&shared.config, shared.marks, mark);
+        let word = shared.marks.word(mark);
         look_at_mark(&shared.board, &mut self.seat, self.who, mark, word)
     }
 }

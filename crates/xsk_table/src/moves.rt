@@ -10,7 +10,7 @@ ghost use Rattle.xsk_model.specs.Entry.{own};
 ghost use Rattle.xsk_model.specs.Own.{given_of};
 ghost use Rattle.xsk_model.specs.Legal.{IsItemOn};
 ghost use Rattle.xsk_words.specs.Words.{second_word};
-ghost use Rattle.xsk_words.specs.Layout.{entry_words as words_of_entry, ring_base, producer, word_at};
+ghost use Rattle.xsk_words.specs.Layout.{entry_words as words_of_entry, ring_base, producer, word_at, most_ring_words, last_entry_word};
 ghost use Rattle.xsk_table.specs.View.{taking, fetching, writing, placing};
 ghost use Rattle.xsk_table.specs.Rule.{wrapped, entry_of, second_of, opened, lying};
 ghost use Rattle.xsk_table.specs.Plays.{Placed, Lifted, PutIn, Fetched, Settled, CanPlace, IsPlacing, IsTaken, IsFirst, Emptied, TakenOut, ask_for, ask_item, emptied};
@@ -33,9 +33,9 @@ fn entry_place(count: u32, mask: u32) -> usize
 /// The first word of the entry of a count, in the ring that begins at `base`.
 fn entry_word(base: usize, ring: Ring, count: u32, mask: u32) -> usize
     requires size { IsRingSize (mask + 1) }
-    requires base { base ≤ 1056768 }
+    requires base { base ≤ most_ring_words }
     ensures value { result ≡ base + (32 + words_of_entry ring * (count % (mask + 1))) }
-    ensures few { result ≤ 1060894 }
+    ensures few { result ≤ last_entry_word }
 {
     base + (ENTRIES + entry_words(ring) * entry_place(count, mask))
 }
@@ -91,9 +91,9 @@ fn take_slot(
     word: usize,
 )
     requires table { seat.old.table_id ≡ board.now.table }
-    requires base { (base ≡ ring_base board.now.setup.config ring) × (base + 8 < board.now.table.words) × (base ≤ 1056768) }
+    requires base { (base ≡ ring_base board.now.setup.config ring) × (base + 8 < board.now.table.words) × (base ≤ most_ring_words) }
     requires word { word ≡ word_at board.now.setup.config (entry_of board.now.setup.config ring (board.now.setup.first + (opened board.now.setup ring + given_of ring (own who seat.old.me.0.seen) + length (lying seat.old.me.0.flight)))) }
-    requires within { (word + words_of_entry ring ≤ board.now.table.words) × (word ≤ 1060894) }
+    requires within { (word + words_of_entry ring ≤ board.now.table.words) × (word ≤ last_entry_word) }
     requires can { CanPlace (ask_item board.now.setup who ring item.now) seat.old.me.0 }
     requires flight { IsPlacing ring seat.old.me.0.flight }
     ensures same { (seat.new.table_id ≡ seat.old.table_id) × (seat.new.id ≡ seat.old.id) }
@@ -151,7 +151,7 @@ pub(crate) fn place(
 )
     requires table { seat.old.table_id ≡ board.now.table }
     requires size { (mask + 1 ≡ size_of board.now.setup.config ring) × IsRingSize (mask + 1) }
-    requires base { (base ≡ ring_base board.now.setup.config ring) × (base + (32 + words_of_entry ring * (mask + 1)) ≤ board.now.table.words) × (base ≤ 1056768) }
+    requires base { (base ≡ ring_base board.now.setup.config ring) × (base + (32 + words_of_entry ring * (mask + 1)) ≤ board.now.table.words) × (base ≤ most_ring_words) }
     requires near { near ≡ wrapped board.now.setup (opened board.now.setup ring + given_of ring (own who seat.old.me.0.seen)) }
     requires placed { placed ≡ length (lying seat.old.me.0.flight) }
     requires can { CanPlace (ask_item board.now.setup who ring item) seat.old.me.0 }
@@ -223,7 +223,7 @@ fn read_desc(
     requires caller { (seat.old.me.0.callers ≡ who ∷ []) × HasRing board.now.setup.config ring × (who ≡ consumer board.now.setup.config ring) × (who < callers_of board.now.setup.config) }
     requires alone { seat.old.me.0.others ≡ [] }
     requires flight { (x : Thing) × (left : List Thing) × (seat.old.me.0.flight ≡ fetching ring x left) × IsFirst x.frame None seat.old.me.1 × ((count : ℕ) × (count + length (x ∷ left) ≡ emptied (ask_for board.now.setup who ring 0) seat.old.me.0) × (word ≡ word_at board.now.setup.config (entry_of board.now.setup.config ring (board.now.setup.first + count)))) }
-    requires within { (word + words_of_entry ring ≤ board.now.table.words) × (word ≤ 1060894) }
+    requires within { (word + words_of_entry ring ≤ board.now.table.words) × (word ≤ last_entry_word) }
     ensures same { (seat.new.table_id ≡ seat.old.table_id) × (seat.new.id ≡ seat.old.id) }
     ensures told { (x : Thing) (left : List Thing) → seat.old.me.0.flight ≡ fetching ring x left → addr ≡ x.desc.addr → IsItemOn board.now.setup.config.geometry ring x → Settled (ask_for board.now.setup who ring 0) x left seat.old.me seat.new.me × (result ≡ x.desc) }
 {
@@ -281,7 +281,7 @@ pub(crate) fn fetch(
 ) -> Item
     requires table { (seat.old.table_id ≡ board.now.table) × (geometry.now ≡ board.now.setup.config.geometry) }
     requires size { (mask + 1 ≡ size_of board.now.setup.config ring) × IsRingSize (mask + 1) }
-    requires base { (base ≡ ring_base board.now.setup.config ring) × (base + (32 + words_of_entry ring * (mask + 1)) ≤ board.now.table.words) × (base ≤ 1056768) }
+    requires base { (base ≡ ring_base board.now.setup.config ring) × (base + (32 + words_of_entry ring * (mask + 1)) ≤ board.now.table.words) × (base ≤ most_ring_words) }
     requires caller { (seat.old.me.0.callers ≡ who ∷ []) × HasRing board.now.setup.config ring × (who ≡ consumer board.now.setup.config ring) × (who < callers_of board.now.setup.config) }
     requires alone { seat.old.me.0.others ≡ [] }
     requires flight { (x : Thing) × (left : List Thing) × (seat.old.me.0.flight ≡ taking ring (x ∷ left)) }

@@ -23,7 +23,7 @@ use thiserror::Error;
 use xsk_model::placement::ring_place;
 use xsk_model::{Config, Ring};
 use xsk_umem::{Frame, Frames, OutOfMemory};
-use xsk_words::marks_base;
+use xsk_words::MarkBases;
 
 /// Memory for the table couldn't be had. What was handed in comes back.
 #[derive(Debug, Drop, Error)]
@@ -39,8 +39,8 @@ pub struct SharedRefused {
 pub struct Shared {
     pub(crate) board: Board,
     pub(crate) config: Config,
-    /// The words before those of the marks.
-    pub(crate) marks: usize,
+    /// The words of the first marks.
+    pub(crate) marks: MarkBases,
     /// The queue from which the frames came, empty.
     pub(crate) home: Frames,
 }
@@ -185,7 +185,7 @@ impl Shared {
         // For the proof: its geometry is one (IsGeometry), and it is a configuration (IsConfig).
         let _geometry = config.geometry();
         let _ports = config.ports();
-        let marks = marks_base(&config);
+        let marks = MarkBases::of(&config);
         let mut home = frames;
         move_out(&mut home, &mut slots);
         match Board::open(words.as_slice(), slots, alloc, &key) {

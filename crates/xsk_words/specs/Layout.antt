@@ -13,6 +13,8 @@ use Rattle.xsk_model.specs.declared.config.PairInfo.{PairInfo}
 use Rattle.xsk_model.specs.declared.call.Ring.{Ring}
 use Rattle.xsk_model.specs.declared.call.Ring.TheVariants.{Fill, Comp, Rx, Tx}
 use Rattle.xsk_model.specs.declared.call.Mark.{Mark}
+use Rattle.xsk_model.specs.declared.call.Mark.TheVariants.{NeedFill, NeedTx, Kick, RxDone, Gone, TxDone, Cell, Closing, Acked, Bounced}
+use Rattle.xsk_words.specs.declared.bases.MarkBases.{MarkBases}
 
 -- ---- widths
 
@@ -59,6 +61,14 @@ ring_base c r = sum (take (place c r) (widths_of c))
 abbrev pub marks_base : Config → ℕ
 marks_base c = sum (widths_of c)
 
+-- the most words of all rings: 256 rings of 2,048 entries of two words
+abbrev pub most_ring_words : ℕ
+most_ring_words = 1056768
+
+-- the last word in which an entry may begin, of a ring behind all others
+abbrev pub last_entry_word : ℕ
+last_entry_word = 1060894
+
 -- the number of words
 abbrev pub words_of : Config → ℕ
 words_of c = marks_base c + 8 * mark_places_of c
@@ -85,6 +95,21 @@ word_at c (consumer r) = ring_base c r + 24
 word_at c (entry r i) = ring_base c r + (32 + entry_words r * i)
 word_at c (second r i) = ring_base c r + (33 + entry_words r * i)
 word_at c (mark m) = marks_base c + (8 * mark_place c m + 7)
+
+-- where the first mark of each kind stands
+abbrev pub mark_bases : Config → MarkBases
+mark_bases c = record {
+  need_fill = word_at c (mark (NeedFill 0));
+  need_tx = word_at c (mark (NeedTx 0));
+  kick = word_at c (mark (Kick 0));
+  rx_done = word_at c (mark (RxDone 0));
+  gone = word_at c (mark (Gone 0));
+  tx_done = word_at c (mark (TxDone 0));
+  cells = word_at c (mark (Cell 0 0));
+  closing = word_at c (mark (Closing 0));
+  acked = word_at c (mark (Acked 0));
+  bounced = word_at c (mark (Bounced 0));
+}
 
 -- each word has a place of its own
 abbrev pub OwnWords : Type 0

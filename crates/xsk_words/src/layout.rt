@@ -4,7 +4,7 @@ ghost use Rattle.std.specs.List.{sum};
 ghost use Rattle.xsk_model.specs.Config.{IsConfig, HasRing};
 ghost use Rattle.xsk_model.specs.Rings.{places_of};
 ghost use Rattle.xsk_model.specs.Marks.{HasMark};
-ghost use Rattle.xsk_words.specs.Layout.{mark as word_of_mark, entry_words as words_of_entry, ring_base as base_of_ring, marks_base as base_of_marks, widths_of, width, width_or_none, words_of, word_at};
+ghost use Rattle.xsk_words.specs.Layout.{mark as word_of_mark, entry_words as words_of_entry, ring_base as base_of_ring, marks_base as base_of_marks, widths_of, width, width_or_none, words_of, word_at, most_ring_words};
 
 use xsk_model::placement::{mark_place, mark_places, ring_place, ring_places};
 use xsk_model::{Config, Mark, Ring};
@@ -19,7 +19,7 @@ pub const CONSUMER: usize = 24;
 pub const ENTRIES: usize = 32;
 
 /// The words of a mark. It stands in the last of them.
-const MARK: usize = 8;
+pub(crate) const MARK: usize = 8;
 
 /// The words of an entry: one on FILL and COMPLETION, an address, and two on RX and TX, a packed descriptor.
 pub fn entry_words(ring: Ring) -> usize
@@ -73,7 +73,7 @@ pub fn place_width(config: &Config, place: usize) -> usize
 fn words_before(config: &Config, places: usize) -> usize
     requires { places ≤ places_of config.now }
     ensures value { result ≡ sum (take places (widths_of config.now)) }
-    ensures few { result ≤ 1056768 }
+    ensures few { result ≤ most_ring_words }
     ensures lawful { IsConfig config.now }
 {
     let _ports = config.ports();
@@ -88,7 +88,7 @@ fn words_before(config: &Config, places: usize) -> usize
 pub fn ring_base(config: &Config, ring: Ring) -> usize
     requires { HasRing config.now ring }
     ensures value { result ≡ base_of_ring config.now ring }
-    ensures few { result ≤ 1056768 }
+    ensures few { result ≤ most_ring_words }
 {
     words_before(config, ring_place(config, ring))
 }
@@ -96,7 +96,7 @@ pub fn ring_base(config: &Config, ring: Ring) -> usize
 /// The words of all rings, before those of the marks.
 pub fn marks_base(config: &Config) -> usize
     ensures value { result ≡ base_of_marks config.now }
-    ensures few { result ≤ 1056768 }
+    ensures few { result ≤ most_ring_words }
     ensures lawful { IsConfig config.now }
 {
     words_before(config, ring_places(config))
@@ -108,19 +108,7 @@ pub fn mark_word(config: &Config, mark: Mark) -> usize
     ensures value { result ≡ word_at config.now (word_of_mark mark) }
     ensures within { result < words_of config.now }
 {
-    mark_word_from(config, marks_base(config), mark)
-}
-
-/// The same with the words before those of the marks, which are counted once.
-#[inline(always)]
-pub fn mark_word_from(config: &Config, base: usize, mark: Mark) -> usize
-    requires mark { HasMark config.now mark }
-    requires base { (base ≡ base_of_marks config.now) × (base ≤ 1056768) }
-    ensures value { result ≡ word_at config.now (word_of_mark mark) }
-    ensures within { result < words_of config.now }
-{
-    let _ports = config.ports();
-    base + MARK * mark_place(config, mark) + (MARK - 1)
+    marks_base(config) + MARK * mark_place(config, mark) + (MARK - 1)
 }
 
 /// The number of words.

@@ -7,7 +7,7 @@ use Rattle.xsk_model.specs.Legal.{IsLegal}
 use Rattle.xsk_table.specs.View.{Setup}
 use Rattle.xsk_table.specs.Plays.{Extends}
 use Rattle.xsk_table.specs.Held.{Board, Holder}
-use Rattle.xsk_table.proofs.Marking.{pass_marked}
+use Rattle.xsk_table.proofs.Marking.{pass_marked, mark_word_at}
 use Rattle.xsk_table.proofs.Knowledge.{pass_quiet}
 use Rattle.xsk_table.proofs.pass.Pass.look_step.Goals as goal
 
@@ -22,3 +22,12 @@ invariant_of-self c =
       pass_quiet v c.look_at_mark.new.seat.me.0 c.self.inside.who c.self.inside.ends.items (Look c.args.mark) (Old c.look_at_mark.result) ex (subst (λ (h : Holder). IsLegal h.view.setup.config (own h.who h.view.seen) h.who (Look c.args.mark)) is c.requires.legal) c.self.invariant.1 refl refl,
       left_quiet v c.look_at_mark.new.seat.me.0 c.self.inside.who c.self.inside.ends.items (Look c.args.mark) (Old c.look_at_mark.result) ex c.self.invariant.2 refl refl,
     )
+
+pub look_at_mark-requires-clause-word : goal.look_at_mark-requires-clause-word
+look_at_mark-requires-clause-word c =
+    let is = c.self.view_is in
+    let v = c.self.inside.seat.me.0 in
+    let k = c.shared.inside.board.setup in
+    let setup : v.setup ≡ k = ap (λ (h : Holder). h.view.setup) is ∙ c.requires.belongs.setup ∙ ap (λ (b : Board). b.setup) (sym c.shared.view_is) in
+    let legal = subst (λ (h : Holder). IsLegal h.view.setup.config (own h.who h.view.seen) h.who (Look c.args.mark)) (sym is) c.requires.legal in
+    mark_word_at v.setup k c.args.mark c.word-word.result c.shared.inside.board.table.words setup c.self.invariant.0.history.opened.config legal.known c.shared.invariant.words (c.word-word.ensures k.config c.shared.invariant.marks_is)

@@ -41,7 +41,6 @@ invariant_of-shared c =
     record {
       config_is = search rules;
       marks_is = search rules;
-      marks_few = search rules;
       words = search rules;
       some = search rules;
       home_is = ap (λ (q : Frames). q.items) home;
