@@ -1,0 +1,5 @@
+use Rattle.xsk_rings.specs.Rounds.{Rests}
+use Rattle.bench_rings.proofs.counting.gets_item.Given as goal
+
+abbrev pub invariant-tries : goal.invariant-tries
+invariant-tries l = Rests l.shared l.pass

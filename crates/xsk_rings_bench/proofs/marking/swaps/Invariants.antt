@@ -1,6 +1,0 @@
-use Rattle.std.proofs.Common.{◌≡◌, []}
-use Rattle.xsk_rings.specs.Rounds.{Rests}
-use Rattle.xsk_rings_bench.proofs.marking.swaps.Given as goal
-
-abbrev pub invariant-rounds : goal.invariant-rounds
-invariant-rounds l = Rests l.shared l.pass × (l.pass.who ≡ 0) × (l.items ≡ [])

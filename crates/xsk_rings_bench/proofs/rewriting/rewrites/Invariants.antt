@@ -1,5 +1,0 @@
-use Rattle.xsk_rings_bench.proofs.Loops.{Moving}
-use Rattle.xsk_rings_bench.proofs.rewriting.rewrites.Given as goal
-
-abbrev pub invariant-items : goal.invariant-items
-invariant-items l = Moving l.fn.offset l.fn.len l.counter l.fn.items l.items
