@@ -1,11 +1,26 @@
 -- What a call of a bay does to its streams. This project's own.
-use Rattle.std.specs.Prelude.{◌≡◌, ◌≢◌, ℕ, ◌-◌, ◌^◌, ◌<◌, ◌⊎◌, ◌==◌, Bool, true, List, [], ◌∷◌, ◌++◌, Option, None, Result, Ok, Err, length, take, option_map, if◌then◌else◌}
+use Rattle.std.specs.Prelude.{◌≡◌, ◌≢◌, ℕ, ◌-◌, ◌^◌, ◌<◌, ◌⊎◌, ◌==◌, Bool, false, true, List, [], ◌∷◌, ◌++◌, Option, None, Result, Ok, Err, length, take, option_map, if◌then◌else◌}
 use Rattle.std.specs.Io.KnownBytes.{append_known, prepend_known}
 use Rattle.xsk_io.specs.declared.bay.Stream.{Stream}
 use Rattle.xsk_io.specs.declared.bay.Stream.TheVariants.{Input, Output, Report}
 use Rattle.xsk_io.specs.declared.bay.Kind.{Kind}
 use Rattle.xsk_io.specs.declared.bay.Offer.{Offer}
 use Rattle.xsk_io.specs.declared.bay.BayFailed.{BayFailed}
+
+-- what a bay tells of its streams: which are open, and the report needs no opening; the name with which a stream was last asked
+-- for; the bytes that are left of an input; those that an output or the report holds; the writes that were made to a stream, in
+-- order; and how many calls of a kind have failed on a stream, of which a count that stands at 2^64 - 1 stays there
+pub record Moment : Type 0 where
+  pub is_open : Stream → Bool
+  pub asked : Stream → Option (List ℕ)
+  pub left : Stream → Option (List ℕ)
+  pub held : Stream → Option (List ℕ)
+  pub offers : Stream → Option (List Offer)
+  pub faults : Kind → Stream → ℕ
+
+-- no stream is open
+abbrev pub NoneOpen : Moment → Type 0
+NoneOpen moment = (stream : Stream) → moment.is_open stream ≡ false
 
 -- inputs and outputs are numbered below four
 abbrev pub HasNumber : Stream → Type 0

@@ -1,5 +1,5 @@
 -- Streams in memory of which stated calls fail. This project's own.
-use Rattle.std.specs.Prelude.{ℕ, ◌+◌, ◌-◌, ◌^◌, ◌==◌, Bool, true, false, nat_lt, List, [], ◌∷◌, ◌++◌, Option, None, Some, length, min, option_and_then, slice_index_or, slice_set, if◌then◌else◌}
+use Rattle.std.specs.Prelude.{ℕ, ◌+◌, ◌-◌, ◌^◌, ◌==◌, Bool, true, false, nat_lt, List, [], ◌∷◌, ◌++◌, Option, None, Some, filter, length, min, option_and_then, option_map, slice_index_or, slice_set, if◌then◌else◌}
 use Rattle.std.specs.List.{list_any}
 use Rattle.xsk_io.specs.declared.bay.Stream.{Stream}
 use Rattle.xsk_io.specs.declared.bay.Stream.TheVariants.{Input, Output, Report}
@@ -8,8 +8,9 @@ use Rattle.xsk_io.specs.declared.bay.Kind.{Kind}
 use Rattle.xsk_io.specs.declared.bay.Kind.TheVariants.{Open, Read, Write}
 use Rattle.xsk_io.specs.declared.failing.Fail.{Fail}
 use Rattle.xsk_io.specs.declared.failing.Fail.TheVariants.{Open as FailOpen, Read as FailRead, Write as FailWrite}
+use Rattle.xsk_io.specs.Bay.{Moment}
 use Rattle.xsk_io.specs.Files.{StreamCounts, no_counts, count_of}
-use Rattle.xsk_io.specs.Memory.{MemoryState, new_memory, input_at, output_at, told_name, after_open}
+use Rattle.xsk_io.specs.Memory.{MemoryState, new_memory, input_at, output_at, is_open_of, asked_of, left_of, held_of, told_name, after_open}
 
 -- the calls of one kind so far, and how many of them failed on each stream
 pub record Calls : Type 0 where
@@ -116,3 +117,13 @@ is_stream _ _ = false
 -- the write was to this stream
 abbrev pub is_to : Stream → Offer → Bool
 is_to stream offer = is_stream stream offer.stream
+
+abbrev pub failing_moment : FailingState → Moment
+failing_moment bay = record {
+  is_open = is_open_of bay.memory;
+  asked = asked_of bay.memory;
+  left = left_of bay.memory;
+  held = held_of bay.memory;
+  offers = λ stream. option_map (filter (is_to stream)) bay.offers;
+  faults = faults_of bay;
+}

@@ -1,9 +1,10 @@
 -- Streams that are files. This project's own.
-use Rattle.std.specs.Prelude.{ℕ, Bool, false, List, replicate, slice_index_or}
+use Rattle.std.specs.Prelude.{ℕ, Bool, false, List, None, replicate, slice_index_or}
 use Rattle.xsk_io.specs.declared.bay.Stream.{Stream}
 use Rattle.xsk_io.specs.declared.bay.Stream.TheVariants.{Input, Output, Report}
 use Rattle.xsk_io.specs.declared.bay.Kind.{Kind}
 use Rattle.xsk_io.specs.declared.bay.Kind.TheVariants.{Open, Read, Write}
+use Rattle.xsk_io.specs.Bay.{Moment}
 
 -- one count for each stream
 pub record StreamCounts : Type 0 where
@@ -45,3 +46,14 @@ abbrev pub file_faults : FilesState → Kind → Stream → ℕ
 file_faults files Open = count_of files.opens
 file_faults files Read = count_of files.reads
 file_faults files Write = count_of files.writes
+
+-- no name, byte or write is told
+abbrev pub files_moment : FilesState → Moment
+files_moment files = record {
+  is_open = is_file_open files;
+  asked = λ stream. None;
+  left = λ stream. None;
+  held = λ stream. None;
+  offers = λ stream. None;
+  faults = file_faults files;
+}

@@ -2,4 +2,3 @@ pub mod Bay
 pub mod Memory
 pub mod Files
 pub mod Failing
-pub mod Gates

@@ -2,6 +2,7 @@
 use Rattle.std.specs.Prelude.{◌≡◌, ℕ, ◌+◌, Bool, true, false, nat_le, List, [], ◌∷◌, ◌++◌, Option, None, Some, length, drop, replicate, if◌then◌else◌, slice_index_or, slice_set, option_and_then}
 use Rattle.xsk_io.specs.declared.bay.Stream.{Stream}
 use Rattle.xsk_io.specs.declared.bay.Stream.TheVariants.{Input, Output, Report}
+use Rattle.xsk_io.specs.Bay.{Moment}
 
 pub record InputState : Type 0 where
   pub is_open : Bool
@@ -71,6 +72,17 @@ abbrev pub held_of : MemoryState → Stream → Option (List ℕ)
 held_of memory (Input n) = None
 held_of memory (Output n) = (output_at memory n).held
 held_of memory Report = memory.report.held
+
+-- the writes aren't told, and no call fails
+abbrev pub steady_moment : MemoryState → Moment
+steady_moment memory = record {
+  is_open = is_open_of memory;
+  asked = asked_of memory;
+  left = left_of memory;
+  held = held_of memory;
+  offers = λ stream. None;
+  faults = λ kind stream. 0;
+}
 
 -- a name is told where it has at most 256 bytes
 abbrev pub told_name : List ℕ → Option (List ℕ)

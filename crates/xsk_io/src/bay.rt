@@ -4,7 +4,7 @@ ghost use Rattle.std.specs.Io.KnownBytes.{prepend_known, IsAtEnd};
 ghost use Rattle.xsk_io.specs.declared.bay.Stream.{Stream};
 ghost use Rattle.xsk_io.specs.declared.bay.Kind.{Kind};
 ghost use Rattle.xsk_io.specs.declared.bay.Offer.{Offer as AnOffer};
-ghost use Rattle.xsk_io.specs.Bay.{HasNumber, IsInput, TakesWrites, Same, SameBut, Grows, Adds, AddsNoneBut, offer_of, Rose, CountsOnly};
+ghost use Rattle.xsk_io.specs.Bay.{HasNumber, IsInput, TakesWrites, Same, SameBut, Grows, Adds, AddsNoneBut, Moment, offer_of, Rose, CountsOnly};
 
 use std::error::Error;
 use std::fmt;
@@ -51,100 +51,85 @@ impl Error for BayFailed {}
 /// A bay tells what it knows of its streams' names, bytes and writes: files tell nothing, memory tells what it
 /// keeps. What a bay tells is true.
 pub trait Bay {
-    // Whether a stream is open. The report needs no opening.
-    ghost is_open: { Self → Stream → Bool };
-
-    // The name that the stream's last open was asked with, where the bay tells that.
-    ghost asked: { Self → Stream → Option (List ℕ) };
-
-    // The bytes that are left of an input, where the bay tells that.
-    ghost left: { Self → Stream → Option (List ℕ) };
-
-    // The bytes that an output or the report holds, where the bay tells that.
-    ghost held: { Self → Stream → Option (List ℕ) };
-
-    // The writes that were made to a stream, in order, where the bay tells that.
-    ghost offers: { Self → Stream → Option (List AnOffer) };
-
-    // How many calls of a kind have failed on a stream. A count that stands at 2^64 - 1 stays there.
-    ghost faults: { Self → Kind → Stream → ℕ };
+    // What the bay tells of its streams.
+    ghost moment: { Self → Moment };
 
     /// Opens an input or an output by a name. An output is then empty; of an input nothing is read yet.
     fn open(&mut self, stream: Stream, name: &str) -> Result<(), BayFailed>
         requires numbered { HasNumber stream }
         requires not_report { stream ≢ Stream.Report }
-        requires closed { is_open self.old stream ≡ false }
-        ensures opened { is_open self.new stream ≡ is_ok result }
-        ensures opened_others { SameBut stream (is_open self.old) (is_open self.new) }
+        requires closed { (moment self.old).is_open stream ≡ false }
+        ensures opened { (moment self.new).is_open stream ≡ is_ok result }
+        ensures opened_others { SameBut stream (moment self.old).is_open (moment self.new).is_open }
 
         // The name is that of this call, whether or not it succeeded.
-        ensures name { IfSome (asked self.new stream) (λ word. word ≡ name.now) }
-        ensures other_names { SameBut stream (asked self.old) (asked self.new) }
+        ensures name { IfSome ((moment self.new).asked stream) (λ word. word ≡ name.now) }
+        ensures other_names { SameBut stream (moment self.old).asked (moment self.new).asked }
 
-        ensures emptied { OnOk result (IfSome (held self.new stream) (λ bytes. bytes ≡ [])) }
-        ensures failed { OnErr result (held self.new stream ≡ held self.old stream) }
-        ensures held_others { SameBut stream (held self.old) (held self.new) }
-        ensures left { Same (left self.old) (left self.new) }
-        ensures offers { Same (offers self.old) (offers self.new) }
+        ensures emptied { OnOk result (IfSome ((moment self.new).held stream) (λ bytes. bytes ≡ [])) }
+        ensures failed { OnErr result ((moment self.new).held stream ≡ (moment self.old).held stream) }
+        ensures held_others { SameBut stream (moment self.old).held (moment self.new).held }
+        ensures left { Same (moment self.old).left (moment self.new).left }
+        ensures offers { Same (moment self.old).offers (moment self.new).offers }
 
         ensures cause { OnErr result
-            (Rose (faults self.old Kind.Open stream) (faults self.new Kind.Open stream)) }
+            (Rose ((moment self.old).faults Kind.Open stream) ((moment self.new).faults Kind.Open stream)) }
         ensures no_fault { OnOk result
-            (faults self.new Kind.Open stream ≡ faults self.old Kind.Open stream) }
-        ensures never_falls { faults self.old Kind.Open stream ≤ faults self.new Kind.Open stream }
-        ensures counts { CountsOnly Kind.Open stream (faults self.old) (faults self.new) };
+            ((moment self.new).faults Kind.Open stream ≡ (moment self.old).faults Kind.Open stream) }
+        ensures never_falls { (moment self.old).faults Kind.Open stream ≤ (moment self.new).faults Kind.Open stream }
+        ensures counts { CountsOnly Kind.Open stream (moment self.old).faults (moment self.new).faults };
 
     /// Fills the front of `buf` with the next bytes of an open input, and gives their number.
     fn read(&mut self, stream: Stream, buf: &mut [u8]) -> Result<usize, BayFailed>
         requires numbered { HasNumber stream }
         requires input { IsInput stream }
-        requires opened { is_open self.old stream ≡ true }
+        requires opened { (moment self.old).is_open stream ≡ true }
         ensures bound { IfOk result (λ count. count ≤ length buf.new) }
         ensures bytes { IfOk result
-            (λ count. left self.old stream ≡ prepend_known (take count buf.new) (left self.new stream)) }
+            (λ count. (moment self.old).left stream ≡ prepend_known (take count buf.new) ((moment self.new).left stream)) }
 
         // None come only at the end of the input, or where there is no room for any.
         ensures end { IfOk result
-            (λ count. count ≡ 0 → 0 < length buf.new → IsAtEnd (left self.old stream)) }
-        ensures failed { OnErr result (left self.new stream ≡ left self.old stream) }
-        ensures left_others { SameBut stream (left self.old) (left self.new) }
+            (λ count. count ≡ 0 → 0 < length buf.new → IsAtEnd ((moment self.old).left stream)) }
+        ensures failed { OnErr result ((moment self.new).left stream ≡ (moment self.old).left stream) }
+        ensures left_others { SameBut stream (moment self.old).left (moment self.new).left }
 
-        ensures opened { Same (is_open self.old) (is_open self.new) }
-        ensures names { Same (asked self.old) (asked self.new) }
-        ensures held { Same (held self.old) (held self.new) }
-        ensures offers { Same (offers self.old) (offers self.new) }
+        ensures opened { Same (moment self.old).is_open (moment self.new).is_open }
+        ensures names { Same (moment self.old).asked (moment self.new).asked }
+        ensures held { Same (moment self.old).held (moment self.new).held }
+        ensures offers { Same (moment self.old).offers (moment self.new).offers }
 
         ensures cause { OnErr result
-            (Rose (faults self.old Kind.Read stream) (faults self.new Kind.Read stream)) }
+            (Rose ((moment self.old).faults Kind.Read stream) ((moment self.new).faults Kind.Read stream)) }
         ensures no_fault { OnOk result
-            (faults self.new Kind.Read stream ≡ faults self.old Kind.Read stream) }
-        ensures never_falls { faults self.old Kind.Read stream ≤ faults self.new Kind.Read stream }
-        ensures counts { CountsOnly Kind.Read stream (faults self.old) (faults self.new) };
+            ((moment self.new).faults Kind.Read stream ≡ (moment self.old).faults Kind.Read stream) }
+        ensures never_falls { (moment self.old).faults Kind.Read stream ≤ (moment self.new).faults Kind.Read stream }
+        ensures counts { CountsOnly Kind.Read stream (moment self.old).faults (moment self.new).faults };
 
     /// Appends the front of `piece` to an open output or to the report, and gives the number of bytes that
     /// it took.
     fn write(&mut self, stream: Stream, piece: &[u8]) -> Result<usize, BayFailed>
         requires numbered { HasNumber stream }
-        requires writable { TakesWrites stream (is_open self.old stream) }
+        requires writable { TakesWrites stream ((moment self.old).is_open stream) }
         ensures bound { IfOk result (λ count. count ≤ length piece.now) }
         ensures some { IfOk result (λ count. 0 < length piece.now → 0 < count) }
         ensures bytes { IfOk result
-            (λ count. Grows (held self.old stream) (held self.new stream) (take count piece.now)) }
-        ensures failed { OnErr result (held self.new stream ≡ held self.old stream) }
-        ensures held_others { SameBut stream (held self.old) (held self.new) }
+            (λ count. Grows ((moment self.old).held stream) ((moment self.new).held stream) (take count piece.now)) }
+        ensures failed { OnErr result ((moment self.new).held stream ≡ (moment self.old).held stream) }
+        ensures held_others { SameBut stream (moment self.old).held (moment self.new).held }
 
         // The call is noted, whether or not it succeeded.
-        ensures offered { Adds (offers self.old stream) (offers self.new stream) (offer_of stream (length piece.now) result ∷ []) }
-        ensures other_offers { AddsNoneBut stream (offers self.old) (offers self.new) }
+        ensures offered { Adds ((moment self.old).offers stream) ((moment self.new).offers stream) (offer_of stream (length piece.now) result ∷ []) }
+        ensures other_offers { AddsNoneBut stream (moment self.old).offers (moment self.new).offers }
 
-        ensures opened { Same (is_open self.old) (is_open self.new) }
-        ensures names { Same (asked self.old) (asked self.new) }
-        ensures left { Same (left self.old) (left self.new) }
+        ensures opened { Same (moment self.old).is_open (moment self.new).is_open }
+        ensures names { Same (moment self.old).asked (moment self.new).asked }
+        ensures left { Same (moment self.old).left (moment self.new).left }
 
         ensures cause { OnErr result
-            (Rose (faults self.old Kind.Write stream) (faults self.new Kind.Write stream)) }
+            (Rose ((moment self.old).faults Kind.Write stream) ((moment self.new).faults Kind.Write stream)) }
         ensures no_fault { OnOk result
-            (faults self.new Kind.Write stream ≡ faults self.old Kind.Write stream) }
-        ensures never_falls { faults self.old Kind.Write stream ≤ faults self.new Kind.Write stream }
-        ensures counts { CountsOnly Kind.Write stream (faults self.old) (faults self.new) };
+            ((moment self.new).faults Kind.Write stream ≡ (moment self.old).faults Kind.Write stream) }
+        ensures never_falls { (moment self.old).faults Kind.Write stream ≤ (moment self.new).faults Kind.Write stream }
+        ensures counts { CountsOnly Kind.Write stream (moment self.old).faults (moment self.new).faults };
 }

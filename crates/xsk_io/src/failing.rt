@@ -5,9 +5,9 @@ ghost use Rattle.std.specs.List.{list_any};
 ghost use Rattle.xsk_io.specs.declared.bay.Stream.{Stream};
 ghost use Rattle.xsk_io.specs.declared.bay.Kind.{Kind};
 ghost use Rattle.xsk_io.specs.Bay.{HasNumber, IsInput, TakesWrites, SameBut, Rose, CountsOnly, offer_of};
-ghost use Rattle.xsk_io.specs.Memory.{HasStreams, is_open_of, asked_of, left_of, held_of, after_read, after_write};
+ghost use Rattle.xsk_io.specs.Memory.{HasStreams, left_of, held_of, after_read, after_write};
 ghost use Rattle.xsk_io.specs.Files.{count_of};
-ghost use Rattle.xsk_io.specs.Failing.{FailingState, Calls as CallsSo, no_calls, new_failing, faults_of, is_fail, is_next_failing, one_more, counted, begun, opened, taken_of, noted, is_to};
+ghost use Rattle.xsk_io.specs.Failing.{FailingState, Calls as CallsSo, no_calls, new_failing, faults_of, is_fail, is_next_failing, one_more, counted, begun, opened, taken_of, noted, failing_moment};
 
 use crate::counts::Counts;
 use crate::memory::Memory;
@@ -256,17 +256,7 @@ impl MemoryBay {
 
 // Each call says exactly what it gives and leaves, and the trait's clauses follow.
 impl Bay for MemoryBay {
-    ghost is_open = { λ bay. is_open_of bay.memory };
-
-    ghost asked = { λ bay. asked_of bay.memory };
-
-    ghost left = { λ bay. left_of bay.memory };
-
-    ghost held = { λ bay. held_of bay.memory };
-
-    ghost offers = { λ bay stream. option_map (filter (is_to stream)) bay.offers };
-
-    ghost faults = { faults_of };
+    ghost moment = { failing_moment };
 
     fn open(&mut self, stream: Stream, name: &str) -> Result<(), BayFailed>
         requires numbered { HasNumber stream }

@@ -1,7 +1,7 @@
 //! The bay over real files and the standard output.
 ghost use Rattle.std.specs.Prelude.{◌≡◌, ◌≢◌, ℕ, ◌+◌, ◌-◌, ◌^◌, ◌<◌, ◌≤◌, false, true, None, min, length, replicate, is_some, IsSome, IfOk, OnOk, OnErr, slice_index, slice_index_or, slice_set};
 ghost use Rattle.xsk_io.specs.Bay.{HasNumber, SameBut};
-ghost use Rattle.xsk_io.specs.Files.{StreamCounts, FilesState, no_counts, no_files, count_of, is_file_open, file_faults};
+ghost use Rattle.xsk_io.specs.Files.{StreamCounts, FilesState, no_counts, no_files, count_of, files_moment};
 
 use crate::counts::Counts;
 use crate::{Bay, BayFailed, Stream};
@@ -199,17 +199,7 @@ impl<R: Files + Drop> FileBay<R> {
 }
 
 impl<R: Files + Print + Drop> Bay for FileBay<R> {
-    ghost is_open = { is_file_open };
-
-    ghost asked = { λ bay stream. None };
-
-    ghost left = { λ bay stream. None };
-
-    ghost held = { λ bay stream. None };
-
-    ghost offers = { λ bay stream. None };
-
-    ghost faults = { file_faults };
+    ghost moment = { files_moment };
 
     fn open(&mut self, stream: Stream, name: &str) -> Result<(), BayFailed> {
         let outcome = open_again(&self.rt, stream, name);

@@ -3,7 +3,7 @@ ghost use Rattle.std.specs.Prelude.{◌≡◌, ◌≢◌, ℕ, ◌<◌, ◌⊎�
 ghost use Rattle.std.specs.Option.{option_map};
 ghost use Rattle.xsk_io.specs.declared.bay.Stream.{Stream};
 ghost use Rattle.xsk_io.specs.Bay.{HasNumber, IsInput, TakesWrites};
-ghost use Rattle.xsk_io.specs.Memory.{MemoryState, HasStreams, new_memory, is_open_of, asked_of, left_of, held_of, after_open, after_read, after_write};
+ghost use Rattle.xsk_io.specs.Memory.{MemoryState, HasStreams, new_memory, left_of, held_of, after_open, after_read, after_write, steady_moment};
 
 use crate::memory::Memory;
 use crate::{Bay, BayFailed, Stream};
@@ -50,17 +50,7 @@ impl SteadyBay {
 
 // Each call says exactly what it gives and leaves, and the trait's clauses follow.
 impl Bay for SteadyBay {
-    ghost is_open = { is_open_of };
-
-    ghost asked = { asked_of };
-
-    ghost left = { left_of };
-
-    ghost held = { held_of };
-
-    ghost offers = { λ bay stream. None };
-
-    ghost faults = { λ bay kind stream. 0 };
+    ghost moment = { steady_moment };
 
     fn open(&mut self, stream: Stream, name: &str) -> Result<(), BayFailed>
         requires numbered { HasNumber stream }

@@ -58,27 +58,27 @@ pub fn read_whole<B: Bay>(
 ) -> Result<Vec<u8>, ReadError>
     requires numbered { HasNumber stream }
     requires input { IsInput stream }
-    requires opened { B.is_open bay.old stream ≡ true }
+    requires opened { (B.moment bay.old).is_open stream ≡ true }
     ensures whole { IfOk result
-        (λ bytes. IfSome (B.left bay.old stream) (λ all. all ≡ bytes.items)) }
+        (λ bytes. IfSome ((B.moment bay.old).left stream) (λ all. all ≡ bytes.items)) }
     ensures within { IfOk result (λ bytes. length bytes.items ≤ limit) }
-    ensures end { OnOk result (IsAtEnd (B.left bay.new stream)) }
+    ensures end { OnOk result (IsAtEnd ((B.moment bay.new).left stream)) }
     ensures too_long { IsErrOf result ReadError.TooLong →
-        IfSome (B.left bay.old stream) (λ all. limit < length all) }
-    ensures taken { LosesFront (B.left bay.old stream) (B.left bay.new stream) }
-    ensures left_others { SameBut stream (B.left bay.old) (B.left bay.new) }
+        IfSome ((B.moment bay.old).left stream) (λ all. limit < length all) }
+    ensures taken { LosesFront ((B.moment bay.old).left stream) ((B.moment bay.new).left stream) }
+    ensures left_others { SameBut stream (B.moment bay.old).left (B.moment bay.new).left }
 
-    ensures opened { Same (B.is_open bay.old) (B.is_open bay.new) }
-    ensures names { Same (B.asked bay.old) (B.asked bay.new) }
-    ensures held { Same (B.held bay.old) (B.held bay.new) }
-    ensures offers { Same (B.offers bay.old) (B.offers bay.new) }
+    ensures opened { Same (B.moment bay.old).is_open (B.moment bay.new).is_open }
+    ensures names { Same (B.moment bay.old).asked (B.moment bay.new).asked }
+    ensures held { Same (B.moment bay.old).held (B.moment bay.new).held }
+    ensures offers { Same (B.moment bay.old).offers (B.moment bay.new).offers }
 
     ensures cause { IsErrOf result ReadError.Fault →
-        Rose (B.faults bay.old Kind.Read stream) (B.faults bay.new Kind.Read stream) }
+        Rose ((B.moment bay.old).faults Kind.Read stream) ((B.moment bay.new).faults Kind.Read stream) }
     ensures no_fault { IsErrOf result ReadError.Fault ⊎
-        (B.faults bay.new Kind.Read stream ≡ B.faults bay.old Kind.Read stream) }
-    ensures never_falls { B.faults bay.old Kind.Read stream ≤ B.faults bay.new Kind.Read stream }
-    ensures counts { CountsOnly Kind.Read stream (B.faults bay.old) (B.faults bay.new) }
+        ((B.moment bay.new).faults Kind.Read stream ≡ (B.moment bay.old).faults Kind.Read stream) }
+    ensures never_falls { (B.moment bay.old).faults Kind.Read stream ≤ (B.moment bay.new).faults Kind.Read stream }
+    ensures counts { CountsOnly Kind.Read stream (B.moment bay.old).faults (B.moment bay.new).faults }
 {
     let mut piece = new_piece(alloc)?;
     let mut bytes = Vec::new(alloc);
@@ -103,24 +103,24 @@ fn new_piece(alloc: Global) -> Result<Vec<u8>, AllocError>
 /// again.
 pub fn write_whole<B: Bay>(bay: &mut B, stream: Stream, text: &[u8]) -> Result<(), BayFailed>
     requires numbered { HasNumber stream }
-    requires writable { TakesWrites stream (B.is_open bay.old stream) }
-    ensures whole { OnOk result (Grows (B.held bay.old stream) (B.held bay.new stream) text.now) }
+    requires writable { TakesWrites stream ((B.moment bay.old).is_open stream) }
+    ensures whole { OnOk result (Grows ((B.moment bay.old).held stream) ((B.moment bay.new).held stream) text.now) }
     ensures part { OnErr result
-        (GrowsByPart (B.held bay.old stream) (B.held bay.new stream) text.now) }
-    ensures held_others { SameBut stream (B.held bay.old) (B.held bay.new) }
-    ensures offered { IsOffered (B.offers bay.old stream) (B.offers bay.new stream) (length text.now) }
-    ensures other_offers { AddsNoneBut stream (B.offers bay.old) (B.offers bay.new) }
+        (GrowsByPart ((B.moment bay.old).held stream) ((B.moment bay.new).held stream) text.now) }
+    ensures held_others { SameBut stream (B.moment bay.old).held (B.moment bay.new).held }
+    ensures offered { IsOffered ((B.moment bay.old).offers stream) ((B.moment bay.new).offers stream) (length text.now) }
+    ensures other_offers { AddsNoneBut stream (B.moment bay.old).offers (B.moment bay.new).offers }
 
-    ensures opened { Same (B.is_open bay.old) (B.is_open bay.new) }
-    ensures names { Same (B.asked bay.old) (B.asked bay.new) }
-    ensures left { Same (B.left bay.old) (B.left bay.new) }
+    ensures opened { Same (B.moment bay.old).is_open (B.moment bay.new).is_open }
+    ensures names { Same (B.moment bay.old).asked (B.moment bay.new).asked }
+    ensures left { Same (B.moment bay.old).left (B.moment bay.new).left }
 
     ensures cause { OnErr result
-        (Rose (B.faults bay.old Kind.Write stream) (B.faults bay.new Kind.Write stream)) }
+        (Rose ((B.moment bay.old).faults Kind.Write stream) ((B.moment bay.new).faults Kind.Write stream)) }
     ensures no_fault { OnOk result
-        (B.faults bay.new Kind.Write stream ≡ B.faults bay.old Kind.Write stream) }
-    ensures never_falls { B.faults bay.old Kind.Write stream ≤ B.faults bay.new Kind.Write stream }
-    ensures counts { CountsOnly Kind.Write stream (B.faults bay.old) (B.faults bay.new) }
+        ((B.moment bay.new).faults Kind.Write stream ≡ (B.moment bay.old).faults Kind.Write stream) }
+    ensures never_falls { (B.moment bay.old).faults Kind.Write stream ≤ (B.moment bay.new).faults Kind.Write stream }
+    ensures counts { CountsOnly Kind.Write stream (B.moment bay.old).faults (B.moment bay.new).faults }
 {
     let mut at = 0;
     while at < text.len() {

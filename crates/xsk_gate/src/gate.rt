@@ -1,7 +1,6 @@
-//! Gates: what each worker on a thread of its own passes before each of its turns. They are for tests, which see by them that
-//! workers run at once.
+//! What each worker on a thread of its own passes before each of its turns.
 ghost use Rattle.std.specs.Prelude.{◌≡◌, ◌≢◌, ◌≤◌, ◌^◌, nat_lt, false, if◌then◌else◌};
-ghost use Rattle.xsk_io.specs.Gates.{most_looks};
+ghost use Rattle.xsk_gate.specs.Gates.{most_looks};
 
 use std::marker::Model;
 use std::sync::atomic::{AtomicU64, Ordering};
@@ -40,7 +39,7 @@ pub struct PairGate {
 }
 
 impl Model for PairGate {
-    ghost use Rattle.xsk_io.specs.Gates.{Pair};
+    ghost use Rattle.xsk_gate.specs.Gates.{Pair};
 
     ghost Value = { Pair };
 
@@ -132,7 +131,7 @@ pub struct HoldGate {
 }
 
 impl Model for HoldGate {
-    ghost use Rattle.xsk_io.specs.Gates.{Hold};
+    ghost use Rattle.xsk_gate.specs.Gates.{Hold};
 
     ghost Value = { Hold };
 
