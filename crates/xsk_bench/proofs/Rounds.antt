@@ -4,6 +4,7 @@ use Rattle.std.specs.List.{range_with_len}
 use Rattle.xsk_umem.specs.Frame.{Frame}
 use Rattle.xsk_umem.specs.declared.memory.OutOfMemory.{OutOfMemory}
 use Rattle.xsk_model.specs.Entry.{Entry, own}
+use Rattle.xsk_model.proofs.Counting.{range-push}
 use Rattle.xsk_turns.specs.Workers.{Setting, IsWholeRun}
 use Rattle.xsk_sim.specs.Stalls.{settled_of, AreQuiet}
 use Rattle.xsk_sim.proofs.RunSteps.{run_same}
@@ -49,10 +50,6 @@ had_both s frames h ws vs p q a b c both had more = record {
   quiet = told_both s frames h had.entries more.entries a b c both had.quiet more.quiet;
 }
 
-pub range_more : (a n : ℕ) → range_with_len a (suc n) ≡ range_with_len a n ++ (a + n) ∷ []
-range_more a zero = let e : a ≡ a + 0 = omega arith in ap (λ (k : ℕ). k ∷ []) e
-range_more a (suc n) = let e : a + 1 + n ≡ a + suc n = omega arith in ap (λ (l : List ℕ). a ∷ l) (range_more (a + 1) n ∙ ap (λ (k : ℕ). range_with_len (a + 1) n ++ k ∷ []) e)
-
 -- one driver more
 pub had_more : (s : Setting) (frames : List Frame) (h : List Entry) (who : ℕ) (p q : Play) (a b c : Bool) → IsTrue c ↔ (IsTrue a × IsTrue b)
     → (had : HadTurns s frames h (range_with_len 0 who) p a) → HadTurns s frames (h ++ had.entries) (who ∷ []) q b → HadTurns s frames h (range_with_len 0 (who + 1)) q c
@@ -60,7 +57,7 @@ had_more s frames h who p q a b c both had more =
     let e : suc who ≡ who + 1 = omega arith in
     let f : 0 + who ≡ who = omega arith in
     let all : range_with_len 0 who ++ who ∷ [] ≡ range_with_len 0 (who + 1) =
-    ap (λ (k : ℕ). range_with_len 0 who ++ k ∷ []) (sym f) ∙ sym (range_more 0 who) ∙ ap (range_with_len 0) e in
+    ap (λ (k : ℕ). range_with_len 0 who ++ k ∷ []) (sym f) ∙ sym (range-push 0 who) ∙ ap (range_with_len 0) e in
     subst (λ ws. HadTurns s frames h ws q c) all (had_both s frames h (range_with_len 0 who) (who ∷ []) p q a b c both had more)
 
 -- drivers that had turns go on

@@ -23,7 +23,7 @@ use Rattle.xsk_machine.specs.Acts.{IsActAfter}
 use Rattle.xsk_sim.specs.Rounds.{IsTurn}
 use Rattle.xsk_sim.specs.Stalls.{settled_of, settled_by, IsQuiet, AreQuiet}
 use Rattle.xsk_sim.specs.Turning.{Notes}
-use Rattle.xsk_sim.proofs.Stalling.{settled_at}
+use Rattle.xsk_sim.proofs.Stalling.{settled_at, driver_quiet, turn_who}
 use Rattle.xsk_sim.proofs.Seating.{each_at}
 use Rattle.xsk_bench.specs.Drives.{Drives}
 use Rattle.xsk_bench.specs.Played.{act_of, IsSeated, HasPlayed}
@@ -53,40 +53,8 @@ settled_told s h e who d act mine is stands =
     ap (settled_of s who) (own-push_same who h e mine)
     ∙ settled_at (turn seat) (turn seat (start (classes_of s.config) (input_of s who))) (own who h) 0 d.kept e.call (left seat d.wait d.noted d.kept) (told e) gave.asks
 
-either : (b : Bool) → (b ≡ true) ⊎ (b ≡ false)
-either true = inl refl
-either false = inr refl
-
 module _ (s : Setting) (frames : List Frame) where
-  -- a driver's call changes nothing exactly where it is told so
-  call_quiet : (h : List Entry) (e : Entry) (who before now : ℕ) (still : Bool) → IsHistory s.config frames (h ++ e ∷ []) → e.who ≡ who → who < length s.config.pairs
-      → before ≡ settled_by s h who → settled_by s (h ++ e ∷ []) who ≡ now → IsTrue still ↔ ((changes e.call e.reply ≡ false) × (now ≡ before)) → IsTrue still ↔ IsQuiet s frames h e
-  call_quiet h e who before now still legal mine known was is told = (
-    λ yes. record {
-      object = leaves_state s.config frames h e legal (told.0 yes).0;
-      settled = λ pair below. ⊎_elim
-          (λ (same : pair ≡ who). subst (λ (k : ℕ). settled_by s (h ++ e ∷ []) k ≡ settled_by s h k) (sym same) (is ∙ (told.0 yes).1 ∙ was))
-          (λ (differs : pair ≡ who → ⊥). ap (settled_of s pair) (own-push_other pair h e (λ is. differs (sym is ∙ mine))))
-          (cases_eq pair who);
-    },
-    λ quiet. told.1 (
-      ⊎_elim
-          (λ (yes : changes e.call e.reply ≡ true). absurd (changes_state s.config frames h e legal yes quiet.object))
-          (λ (no : changes e.call e.reply ≡ false). no)
-          (either (changes e.call e.reply)),
-      sym is ∙ quiet.settled who known ∙ sym was,
-    ),
-  )
-
-  turn_who : (Whole : ℕ → List Told → Type 0) (h : List Entry) (who : ℕ) (e : Entry) (es : List Entry) → IsTurn Whole h who (e ∷ es) → (e.who ≡ who) × (es ≡ [])
-  turn_who Whole h who e es (inl past) = let no : e ∷ es ≡ [] = past.1 in cc
-  turn_who Whole h who e es (inr made) =
-      let is : e ∷ es ≡ made.1.0 ∷ [] = made.1.2 in
-      let first : e ≡ made.1.0 = cc in
-      let rest : es ≡ [] = cc in
-      (ap (λ (x : Entry). x.who) first ∙ made.1.1, rest)
-
-  -- and so does its turn
+  -- a driver's turn changes nothing exactly where it is told so
   pub turn_quiet : (Whole : ℕ → List Told → Type 0) (h : List Entry) (who : ℕ) (es : List Entry) (d : DriverShown) (act : Act) (before noted : ℕ) (still : Bool)
       → IsTurn Whole h who es → IsHistory s.config frames (h ++ es) → who < length s.config.pairs → Drives s who d act (own who h) → before ≡ settled_by s h who
       → Notes act before (length d.kept.disposals) noted still es → (IsTrue still ↔ AreQuiet s frames h es) × (noted ≡ settled_by s (h ++ es) who)
@@ -95,7 +63,7 @@ module _ (s : Setting) (frames : List Frame) where
   turn_quiet Whole h who (e ∷ []) d act before noted still turns legal known stands was notes =
       let mine = (turn_who Whole h who e [] turns).0 in
       let is = settled_told s h e who d act mine notes.0 stands in
-      let quiet = call_quiet h e who before (length d.kept.disposals) still legal mine known was is notes.2 in
+      let quiet = driver_quiet s frames h e who legal mine before (length d.kept.disposals) still known was is notes.2 in
       ((λ yes. (quiet.0 yes, tt), λ all. quiet.1 all.0), notes.1 ∙ sym is)
   turn_quiet Whole h who (e ∷ f ∷ es) d act before noted still turns legal known stands was notes =
       let no : f ∷ es ≡ [] = (turn_who Whole h who e (f ∷ es) turns).1 in cc

@@ -5,11 +5,12 @@ use crate::play::Play;
 use std::alloc::Global;
 use std::marker::Model;
 use thiserror::Error;
-use xsk_desc::Illegal;
 use xsk_driver::Wire;
+use xsk_legal::Illegal;
+use xsk_log::{Lines, Log};
 use xsk_machine::{Amount, DriverFigures};
 use xsk_model::{Answer, Ask, Config};
-use xsk_plain::{Checked, Lines, Log};
+use xsk_plain::Checked;
 use xsk_prog::{Chain, Verdict};
 use xsk_umem::{Batch, Frames, OutOfMemory, PacketList};
 
@@ -64,8 +65,8 @@ impl<'a> Bench<'a> {
     ghost use Rattle.xsk_machine.specs.Figures.{figures_in};
     ghost use Rattle.xsk_machine.specs.Workers.{setting_with};
     ghost use Rattle.xsk_plain.specs.Engine.{frames_out};
-    ghost use Rattle.xsk_plain.specs.Left.{left_of};
-    ghost use Rattle.xsk_plain.specs.Log.{calls_of, entries_of};
+    ghost use Rattle.xsk_log.specs.Left.{left_of};
+    ghost use Rattle.xsk_log.specs.Log.{calls_of, entries_of};
     ghost use Rattle.xsk_bench.specs.Played.{HasPlayed, IsGoing, act_of};
     ghost use Rattle.xsk_bench.specs.declared.seat.Seat.{Seat as ASeat};
     ghost use Rattle.xsk_bench.specs.Playing.{HadRound, HadRounds};
@@ -100,6 +101,7 @@ impl<'a> Bench<'a> {
             wire,
             room,
         )?;
+        // For the proof: the geometry is lawful, and so are the parts of the configuration.
         let _geometry = config.geometry();
         let _ports = config.ports();
         let copy = config.copy(alloc)?;
@@ -170,8 +172,7 @@ impl<'a> Bench<'a> {
         ensures pairs { result.pairs ≡ length self.now.checked.config.pairs }
         ensures all { left_of result ≡ self.now.checked.log }
     {
-        let pairs = self.play.checked.config().pairs().len() as u32;
-        self.play.checked.log().lines(pairs)
+        self.play.checked.lines()
     }
 
     /// What the driver of a pair sent so far, with the packets that it bounced; a packet whose frames its next call gives back

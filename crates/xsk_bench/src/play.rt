@@ -15,7 +15,7 @@ ghost use Rattle.xsk_bench.specs.Serving.{Serves, IsIllegal, TellsWhy};
 use crate::Unserved;
 use crate::seat::Seat;
 use std::mem;
-use xsk_desc::Illegal;
+use xsk_legal::Illegal;
 use xsk_machine::Amount;
 use xsk_model::steering::applications;
 use xsk_model::{Answer, Ask};
@@ -57,6 +57,7 @@ impl Play<'_> {
             return Err(Unserved::StrayItems);
         }
         let config = self.checked.config();
+        // For the proof: the geometry is lawful, and the log is a legal history.
         let _geometry = config.geometry();
         let _log = self.checked.log();
         if app >= applications(config) {
@@ -104,6 +105,7 @@ impl Play<'_> {
         let Ok(()) = self.checked.reserve_log(count, count * MOST_PAYLOAD) else {
             return Err(OutOfMemory);
         };
+        // For the proof: the geometry is lawful, so no chunk has more than 4,096 bytes.
         let _geometry = self.checked.config().geometry();
         let mut still = true;
         for who in 0..count {

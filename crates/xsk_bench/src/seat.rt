@@ -22,7 +22,8 @@ ghost use Rattle.xsk_bench.specs.Drives.{Drives};
 
 use std::mem;
 use xsk_driver::Driver;
-use xsk_model::{Answer, Ask};
+use xsk_machine::is_quiet;
+use xsk_model::Ask;
 use xsk_plain::Checked;
 use xsk_umem::Batch;
 
@@ -78,6 +79,7 @@ impl<'a> Seat<'a> {
         let Some(ask) = self.ask else {
             return true;
         };
+        // For the proof: a batch has at most 32 items.
         let _count = self.items.len();
         let settled = self.driver.disposals().len();
         let call = ask.joined(mem::replace(&mut self.items, Batch::new()));
@@ -87,37 +89,5 @@ impl<'a> Seat<'a> {
         self.settled = settled;
         self.ask = self.driver.step(Some(answer), &mut self.items);
         still
-    }
-}
-
-/// Whether a call with its answer changed nothing, neither the object nor the number of settled packets.
-fn is_quiet(ask: Ask, answer: Answer, before: usize, settled: usize) -> bool
-    ensures { (items later : List Item) → IsTrue result ↔ ((changes (joined_call ask items) (joined_reply answer later) ≡ false) × (settled ≡ before)) }
-{
-    if has_changed(ask, answer) {
-        return false;
-    }
-    settled == before
-}
-
-/// Whether a call with its answer changed the object.
-fn has_changed(ask: Ask, answer: Answer) -> bool
-    ensures { (items later : List Item) → result ≡ changes (joined_call ask items) (joined_reply answer later) }
-{
-    match ask {
-        Ask::Look(_) => false,
-        Ask::Swap(_, value) => match answer {
-            Answer::Old(old) => old != value,
-            Answer::Full(_) | Answer::Empty => false,
-            Answer::Granted | Answer::Submitted | Answer::Items | Answer::Released => true,
-        },
-        Ask::Reserve(..) | Ask::Submit(_) | Ask::Peek(..) | Ask::Release(..) => match answer {
-            Answer::Full(_) | Answer::Empty => false,
-            Answer::Granted
-            | Answer::Submitted
-            | Answer::Items
-            | Answer::Released
-            | Answer::Old(_) => true,
-        },
     }
 }

@@ -4,17 +4,14 @@ use Rattle.std.specs.List.{concat, slice_index_or}
 use Rattle.std.proofs.lemmas.List.Folds.{concat-append}
 use Rattle.std.proofs.lemmas.Nat.{div-add-mod', div_below, mod_below}
 use Rattle.xsk_umem.specs.Frame.{Frame}
-use Rattle.xsk_model.specs.Config.{callers_of, pair_at}
-use Rattle.xsk_model.specs.Rings.{caller_of}
-use Rattle.xsk_model.specs.Entry.{Told, Entry, own}
+use Rattle.xsk_model.specs.Config.{IsRegular, pair_at}
+use Rattle.xsk_model.specs.Entry.{Told, Entry}
 use Rattle.xsk_model.specs.History.{IsHistory}
 use Rattle.xsk_model.specs.Sent.{all_sent}
 use Rattle.xsk_model.specs.Steering.{paired_port, driver_on}
 use Rattle.xsk_laws.specs.Expected.{received}
-use Rattle.xsk_laws.specs.Laws.{AreWholeRuns, AreWholeRunsBy}
-use Rattle.xsk_laws.proofs.Theorems.{all_is_within}
+use Rattle.xsk_laws.proofs.Within.{AreBothWithin}
 use Rattle.xsk_turns.specs.Hands.{IsWholeRunOf}
-use Rattle.xsk_turns.specs.Owned.{IsSteady}
 use Rattle.xsk_turns.specs.Sending.{bouncing}
 use Rattle.xsk_turns.specs.Verdicts.{judged}
 use Rattle.xsk_turns.specs.Workers.{Setting, IsWholeRun}
@@ -25,43 +22,26 @@ use Rattle.xsk_machine.proofs.Acts.{IsWithin}
 abbrev pub AreWithin : Setting → List Entry → Type 0
 AreWithin s h = (d : ℕ) → d < length s.config.pairs → IsWithin s d (sent_of s h d)
 
--- by any number of hands
-module _ (hands : ℕ) (s : Setting) (frames : List Frame) (h : List Entry) (steady : IsSteady s.config) (legal : IsHistory s.config frames h)
-    (whole : (who : ℕ) → who < callers_of s.config → IsWholeRunOf hands s who (own who h)) where
-  pub whole_runs_by : AreWholeRunsBy hands s.manner s.wire s.config s.packets s.verdicts frames h
-  whole_runs_by = record {
-    steady = steady;
-    history = legal;
-    drivers = λ d below. (whole d (omega (arith, below))).driver below;
-    apps = λ a below. (whole (caller_of s.config a) (omega (arith, below))).app a refl;
-  }
+-- so they are where those of each port and the paired port are
+pub each_within : (s : Setting) (frames : List Frame) (h : List Entry) → IsRegular s.config → IsHistory s.config frames h
+    → ((p q : ℕ) → p < s.config.ports → q < s.config.queues → AreBothWithin s.config s.packets s.verdicts h p q) → AreWithin s h
+each_within s frames h regular legal both d below =
+    let p = (pair_at s.config.pairs d).port in
+    let q = (pair_at s.config.pairs d).queue in
+    let seat = regular.seats d below in
+    let some : 0 < s.config.queues = omega (arith, legal.opened.config.queues) in
+    let here : driver_on s.config p q ≡ d = ap (λ n. n * s.config.queues + q) seat.0 ∙ ap (λ n. (d / s.config.queues) * s.config.queues + n) seat.1 ∙ div-add-mod' d s.config.queues in
+    let port : p < s.config.ports = subst (λ n. n < s.config.ports) (sym seat.0) (div_below d s.config.queues s.config.ports some (omega (arith, below, regular.pairs))) in
+    let queue : q < s.config.queues = subst (λ n. n < s.config.queues) (sym seat.1) (mod_below d s.config.queues some) in
+    let few = both p q port queue in
+    let mine = received s.config s.packets p q in
+    let others = received s.config s.packets (paired_port p) q in
+    subst (λ k. IsWithin s d (all_sent s.config (bouncing (judged mine (slice_index_or s.verdicts k []))) h k)) here
+    (record {
+      count = omega (arith, few.0, length-append mine others);
+      bytes = omega (arith, few.1, ap length (concat-append mine others), length-append (concat mine) (concat others));
+    })
 
-  pub are_within_by : AreWithin s h
-  are_within_by d below =
-      let p = (pair_at s.config.pairs d).port in
-      let q = (pair_at s.config.pairs d).queue in
-      let seat = steady.regular.seats d below in
-      let some : 0 < s.config.queues = omega (arith, legal.opened.config.queues) in
-      let here : driver_on s.config p q ≡ d = ap (λ n. n * s.config.queues + q) seat.0 ∙ ap (λ n. (d / s.config.queues) * s.config.queues + n) seat.1 ∙ div-add-mod' d s.config.queues in
-      let port : p < s.config.ports = subst (λ n. n < s.config.ports) (sym seat.0) (div_below d s.config.queues s.config.ports some (omega (arith, below, steady.regular.pairs))) in
-      let queue : q < s.config.queues = subst (λ n. n < s.config.queues) (sym seat.1) (mod_below d s.config.queues some) in
-      let few = all_is_within hands s.manner s.wire s.config s.packets s.verdicts frames h p q whole_runs_by port queue in
-      let mine = received s.config s.packets p q in
-      let others = received s.config s.packets (paired_port p) q in
-      subst (λ k. IsWithin s d (all_sent s.config (bouncing (judged mine (slice_index_or s.verdicts k []))) h k)) here
-      (record {
-        count = omega (arith, few.0, length-append mine others);
-        bytes = omega (arith, few.1, ap length (concat-append mine others), length-append (concat mine) (concat others));
-      })
-
--- and by one
+-- whole runs by one hand
 pub by_one : (s : Setting) (who : ℕ) (l : List Told) → IsWholeRun s who l → IsWholeRunOf 1 s who l
 by_one s who l run = record { driver = run.driver; app = run.app }
-
-module _ (s : Setting) (frames : List Frame) (h : List Entry) (steady : IsSteady s.config) (legal : IsHistory s.config frames h)
-    (whole : (who : ℕ) → who < callers_of s.config → IsWholeRun s who (own who h)) where
-  pub whole_runs : AreWholeRuns s.manner s.wire s.config s.packets s.verdicts frames h
-  whole_runs = whole_runs_by 1 s frames h steady legal (λ who below. by_one s who (own who h) (whole who below))
-
-  pub are_within : AreWithin s h
-  are_within = are_within_by 1 s frames h steady legal (λ who below. by_one s who (own who h) (whole who below))

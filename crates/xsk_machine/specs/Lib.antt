@@ -1,4 +1,5 @@
 pub mod Acts
 pub mod Figured
 pub mod Figures
+pub mod Sent
 pub mod Workers

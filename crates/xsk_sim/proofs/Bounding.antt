@@ -12,7 +12,8 @@ use Rattle.xsk_turns.specs.Turns.{seat_of, start, turn as driver_turn}
 use Rattle.xsk_turns.specs.AppTurns.{app_start_by, app_turn}
 use Rattle.xsk_turns.specs.Workers.{Setting, input_of, IsWorkerRun, IsWholeRun}
 use Rattle.xsk_turns.proofs.ScriptLemmas.{whole_ends}
-use Rattle.xsk_bounds.specs.Totals.{total, sum_below, changed}
+use Rattle.xsk_turns.specs.Totals.{total}
+use Rattle.xsk_bounds.specs.Totals.{sum_below, changed}
 use Rattle.xsk_bounds.specs.Bounds.{packets_of, closing_changes}
 use Rattle.xsk_bounds.proofs.Totals.{total-push, sum-le}
 use Rattle.xsk_bounds.proofs.Bounded.{bounded_with_closings}

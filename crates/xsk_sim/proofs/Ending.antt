@@ -22,10 +22,10 @@ use Rattle.xsk_machine.specs.declared.figures.Figures.{Figures}
 use Rattle.xsk_machine.proofs.Figured.{figures_at_end}
 use Rattle.xsk_model.specs.declared.call.Act.{Act}
 use Rattle.xsk_model.specs.declared.call.Act.TheVariants.{Ended as IsEnd}
-use Rattle.xsk_plain.proofs.Parts.{length-entries}
+use Rattle.xsk_log.proofs.Parts.{length-entries}
 use Rattle.xsk_plain.specs.Engine.{Engine}
-use Rattle.xsk_plain.specs.Log.{calls_of, entries_of, item_of}
-use Rattle.xsk_plain.specs.declared.log.Log.{Log}
+use Rattle.xsk_log.specs.Log.{calls_of, entries_of, item_of}
+use Rattle.xsk_log.specs.declared.log.Log.{Log}
 use Rattle.xsk_sim.specs.Shown.{Shown}
 use Rattle.xsk_turns.specs.Hands.{IsWholeRunOf}
 use Rattle.xsk_turns.specs.Workers.{Setting, IsWorkerRun, IsWholeRun, input_of}

@@ -8,10 +8,10 @@ use Rattle.xsk_umem.specs.Geometry.{Geometry}
 use Rattle.xsk_model.specs.Entry.{Told, Entry, told, own}
 use Rattle.xsk_model.specs.Stored.{stored, stored_entry}
 use Rattle.xsk_model.proofs.Folds.{own-push_same, own-push_other}
-use Rattle.xsk_plain.specs.Line.{line_of, TakesLine}
+use Rattle.xsk_log.specs.Line.{line_of, TakesLine}
 use Rattle.xsk_sim.specs.Counts.{AreCounts}
 use Rattle.xsk_sim.specs.Journal.{round_of, journal_line, journal_from, journal_of}
-use Rattle.xsk_plain.proofs.StoredLines.{line_stored}
+use Rattle.xsk_log.proofs.StoredLines.{line_stored}
 
 -- one more line
 pub journal_push : (pairs : ℕ) (past es : List Entry) (e : Entry) → journal_from pairs past (es ++ e ∷ []) ≡ journal_from pairs past es ++ journal_line pairs (past ++ es) e

@@ -16,7 +16,8 @@ use Rattle.xsk_turns.specs.Turns.{Judged, seat_of, start, turn, IsWholeDriverRun
 use Rattle.xsk_turns.specs.Workers.{Setting, input_of}
 use Rattle.xsk_turns.specs.declared.wire.Wire.{Wire}
 use Rattle.xsk_turns.proofs.Walks.{Anything, meet_anything}
-use Rattle.xsk_turns.proofs.DriverWalk.{Family, Said, IsLaw, AtPasses, none_comes, at_end}
+use Rattle.xsk_turns.proofs.DriverPlaces.{Family, Said, IsLaw, AtPasses, none_comes}
+use Rattle.xsk_turns.proofs.DriverWalk.{at_end}
 use Rattle.xsk_bounds.specs.Bounds.{closing_changes, packets_of}
 use Rattle.xsk_bounds.proofs.Totals.{sum-le, sum-const}
 use Rattle.xsk_machine.specs.Acts.{IsActAfter}

@@ -13,7 +13,8 @@ use Rattle.xsk_turns.specs.declared.disposal.Disposal.TheVariants.{Delivered, No
 use Rattle.xsk_turns.proofs.Disposing.{keeps_disposals}
 use Rattle.xsk_turns.proofs.ScriptLemmas.{leaves_on, leaves_front, asked_last}
 use Rattle.xsk_turns.proofs.Walks.{Premise, MeetAlong}
-use Rattle.xsk_turns.proofs.DriverWalk as walk
+use Rattle.xsk_turns.proofs.DriverPlaces as walk
+use Rattle.xsk_turns.proofs.DriverWalk as along
 use Rattle.xsk_sim.specs.Stalls.{settled_of}
 use Rattle.xsk_sim.proofs.Stalling.{settled_at}
 
@@ -90,7 +91,7 @@ module _ (s : Setting) (d : ℕ) where
 
   settles_more : (l : List Told) (kept : Kept) (call : Call) (rest : Reply → Script Kept) → Asks (turn seat) begins l kept call rest → settled_of s d l ≤ length kept.disposals
   settles_more l kept call rest asks =
-      walk.at_call seat Q At Asked (λ kept l. Unit {0}) law begins (omega arith) l
+      along.at_call seat Q At Asked (λ kept l. Unit {0}) law begins (omega arith) l
       (meet_asked (turn seat) begins (turn seat begins) [] l (ask kept call rest) refl asks) kept call rest asks
 
   -- one call more

@@ -56,6 +56,15 @@ pub both_true : (a b : Bool) → IsTrue (a && b) ↔ (IsTrue a × IsTrue b)
 both_true true b = (λ yes. (refl, yes), λ both. both.1)
 both_true false b = (λ no. let e : false ≡ true = no in cc, λ both. both.0)
 
+-- an entry of a turn is its caller's, and the only one
+pub turn_who : (Whole : ℕ → List Told → Type 0) (h : List Entry) (who : ℕ) (e : Entry) (es : List Entry) → IsTurn Whole h who (e ∷ es) → (e.who ≡ who) × (es ≡ [])
+turn_who Whole h who e es (inl past) = let no : e ∷ es ≡ [] = past.1 in cc
+turn_who Whole h who e es (inr made) =
+    let is : e ∷ es ≡ made.1.0 ∷ [] = made.1.2 in
+    let first : e ≡ made.1.0 = cc in
+    let rest : es ≡ [] = cc in
+    (ap (λ (x : Entry). x.who) first ∙ made.1.1, rest)
+
 module _ (s : Setting) (frames : List Frame) where
   module _ (h : List Entry) (e : Entry) (who : ℕ) (legal : IsHistory s.config frames (h ++ e ∷ [])) (mine : e.who ≡ who) where
     others_settled : (pair : ℕ) → (pair ≡ who → ⊥) → settled_by s (h ++ e ∷ []) pair ≡ settled_by s h pair
@@ -67,7 +76,7 @@ module _ (s : Setting) (frames : List Frame) where
         (λ (no : changes e.call e.reply ≡ false). no)
         (either (changes e.call e.reply))
 
-    driver_quiet : (before now : ℕ) (still : Bool) → who < length s.config.pairs → before ≡ settled_by s h who → settled_by s (h ++ e ∷ []) who ≡ now
+    pub driver_quiet : (before now : ℕ) (still : Bool) → who < length s.config.pairs → before ≡ settled_by s h who → settled_by s (h ++ e ∷ []) who ≡ now
         → IsTrue still ↔ ((changes e.call e.reply ≡ false) × (now ≡ before)) → IsTrue still ↔ IsQuiet s frames h e
     driver_quiet before now still known was is told = (
       λ yes. record {
@@ -88,14 +97,6 @@ module _ (s : Setting) (frames : List Frame) where
       },
       λ quiet. told.1 (changes_none quiet, refl),
     )
-
-  turn_who : (Whole : ℕ → List Told → Type 0) (h : List Entry) (who : ℕ) (e : Entry) (es : List Entry) → IsTurn Whole h who (e ∷ es) → (e.who ≡ who) × (es ≡ [])
-  turn_who Whole h who e es (inl past) = let no : e ∷ es ≡ [] = past.1 in cc
-  turn_who Whole h who e es (inr made) =
-      let is : e ∷ es ≡ made.1.0 ∷ [] = made.1.2 in
-      let first : e ≡ made.1.0 = cc in
-      let rest : es ≡ [] = cc in
-      (ap (λ (x : Entry). x.who) first ∙ made.1.1, rest)
 
   -- a driver's turn
   pub driver_notes : (Whole : ℕ → List Told → Type 0) (h : List Entry) (who : ℕ) (es : List Entry) (d : DriverShown) (act : Act) (before noted : ℕ) (still : Bool)

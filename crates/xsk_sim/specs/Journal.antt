@@ -2,7 +2,7 @@
 use Rattle.std.specs.Prelude.{ℕ, List, [], ◌∷◌, ◌++◌, codes, length}
 use Rattle.std.specs.Fmt.{decimal}
 use Rattle.xsk_model.specs.Entry.{Entry, own}
-use Rattle.xsk_plain.specs.Line.{line_of}
+use Rattle.xsk_log.specs.Line.{line_of}
 
 -- The round of an entry after past ones, counted from 0: each caller makes one call in each round until it has ended, so it is
 -- the number of the calls that the entry's caller made before (`laws::entries_stand_in_rounds`).

@@ -9,7 +9,7 @@ ghost use Rattle.xsk_sim.specs.Journal.{journal_of, round_of};
 use crate::simulation::Run;
 use itoa::Buffer;
 use std::alloc::Global;
-use xsk_plain::LineBuffer;
+use xsk_log::LineBuffer;
 use xsk_umem::OutOfMemory;
 
 /// The journal of a run: for each call, in order, the line `<round> <who> <call> -> <reply>` with a line feed. Rounds are

@@ -17,8 +17,8 @@ ghost use Rattle.xsk_sim.specs.Given.{IsGivenBack-prop};
 ghost use Rattle.xsk_sim.specs.Rooms.{most_payload};
 ghost use Rattle.xsk_sim.specs.Turning.{HasRun, TakesTurn, Notes};
 
-use xsk_machine::Machine;
-use xsk_model::{Answer, Ask};
+use xsk_machine::{Machine, is_quiet};
+use xsk_model::Ask;
 use xsk_plain::Plain;
 use xsk_umem::Batch;
 
@@ -93,37 +93,5 @@ impl<M: Machine> Seat<M> {
         self.settled = settled;
         self.ask = self.machine.step(Some(answer), &mut self.items);
         still
-    }
-}
-
-/// Whether a call with its answer changed nothing, neither the object nor the number of settled packets.
-fn is_quiet(ask: Ask, answer: Answer, before: usize, settled: usize) -> bool
-    ensures { (items later : List Item) → IsTrue result ↔ ((changes (joined_call ask items) (joined_reply answer later) ≡ false) × (settled ≡ before)) }
-{
-    if has_changed(ask, answer) {
-        return false;
-    }
-    settled == before
-}
-
-/// Whether a call with its answer changed the object.
-fn has_changed(ask: Ask, answer: Answer) -> bool
-    ensures { (items later : List Item) → result ≡ changes (joined_call ask items) (joined_reply answer later) }
-{
-    match ask {
-        Ask::Look(_) => false,
-        Ask::Swap(_, value) => match answer {
-            Answer::Old(old) => old != value,
-            Answer::Full(_) | Answer::Empty => false,
-            Answer::Granted | Answer::Submitted | Answer::Items | Answer::Released => true,
-        },
-        Ask::Reserve(..) | Ask::Submit(_) | Ask::Peek(..) | Ask::Release(..) => match answer {
-            Answer::Full(_) | Answer::Empty => false,
-            Answer::Granted
-            | Answer::Submitted
-            | Answer::Items
-            | Answer::Released
-            | Answer::Old(_) => true,
-        },
     }
 }

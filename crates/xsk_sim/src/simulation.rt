@@ -5,8 +5,8 @@ ghost use Rattle.xsk_umem.specs.Geometry.{IsGeometry};
 ghost use Rattle.xsk_model.specs.Config.{IsRegular, callers_of, classes_of};
 ghost use Rattle.xsk_model.specs.Opening.{AreFrames};
 ghost use Rattle.xsk_umem.specs.Frame.{Frame};
-ghost use Rattle.xsk_plain.specs.Left.{left_of};
-ghost use Rattle.xsk_plain.specs.Log.{calls_of, entries_of};
+ghost use Rattle.xsk_log.specs.Left.{left_of};
+ghost use Rattle.xsk_log.specs.Log.{calls_of, entries_of};
 ghost use Rattle.xsk_turns.specs.Mangling.{plain as plain_manner};
 ghost use Rattle.xsk_machine.specs.Workers.{AreNew};
 ghost use Rattle.xsk_driver.specs.Sent.{IsShort};
@@ -26,9 +26,10 @@ use std::alloc::Global;
 use std::marker::Model;
 use thiserror::Error;
 use xsk_driver::{Driver, Wire};
-use xsk_machine::{FigureList, Figures, Inputs, Kept, drivers_for, worker_of};
+use xsk_log::{Lines, Log};
+use xsk_machine::{Collected, Figures, Inputs, Sent, drivers_for, worker_of};
 use xsk_model::Config;
-use xsk_plain::{Lines, Log, Plain};
+use xsk_plain::Plain;
 use xsk_prog::{Chain, Verdict};
 use xsk_turns::Manner;
 use xsk_umem::{Frames, OutOfMemory, PacketList};
@@ -59,19 +60,18 @@ impl From<OutOfMemory> for SimError {
 #[derive(Drop)]
 pub struct Run {
     plain: Plain,
-    sent: Vec<PacketList>,
-    figures: Figures,
+    sent: Sent,
 }
 
 impl Model for Run {
-    ghost use Rattle.std.specs.Prelude.{All, map, vec_len, ◌<◌, ◌^◌};
-    ghost use Rattle.xsk_sim.specs.Shown.{Shown, HasShortPackets, packets_in};
+    ghost use Rattle.std.specs.Prelude.{length, ◌<◌, ◌^◌};
+    ghost use Rattle.xsk_sim.specs.Shown.{Shown};
 
     ghost Value = { Shown };
 
-    ghost view = { λ r. record { calls = r.plain.calls; pairs = vec_len r.sent; log = r.plain.log; sent = map packets_in r.sent.items; figures = r.figures } };
+    ghost view = { λ r. record { calls = r.plain.calls; pairs = length r.sent.lists; log = r.plain.log; sent = r.sent.lists; figures = r.sent.figures } };
 
-    ghost invariant = { λ r. All HasShortPackets r.sent.items × (vec_len r.sent < 2 ^ 32) };
+    ghost invariant = { λ r. length r.sent.lists < 2 ^ 32 };
 }
 
 impl Run {
@@ -88,14 +88,14 @@ impl Run {
         ensures pairs { result.pairs ≡ self.now.pairs }
         ensures all { left_of result ≡ self.now.log }
     {
-        self.plain.log().lines(self.sent.len() as u32)
+        self.plain.log().lines(self.sent.pairs() as u32)
     }
 
     /// What the run comes to in numbers, each a count over its calls and replies.
     pub fn figures(&self) -> &Figures
         ensures { result.now ≡ self.now.figures }
     {
-        &self.figures
+        self.sent.figures()
     }
 
     /// What the drivers sent, by their pairs. The log is given up.
@@ -105,7 +105,7 @@ impl Run {
         ensures sent { map packets_in result.items ≡ self.sent }
     {
         let Run { sent, .. } = self;
-        sent
+        sent.into_lists()
     }
 
     /// What the driver of a pair sent. The pair must exist.
@@ -114,7 +114,7 @@ impl Run {
         ensures short { All IsShort result.now.packets }
         ensures sent { result.now.packets ≡ slice_index_or self.now.sent pair [] }
     {
-        &self.sent[pair as usize]
+        self.sent.sent(pair)
     }
 }
 
@@ -206,19 +206,8 @@ fn run_workers(
     make_rounds(&mut workers, &mut plain, order)?;
     let calls = u64::from(plain.log().len());
     let kept = collect(alloc, workers, classes)?;
-    let Kept { figures, sent } = kept;
-    let drivers = FigureList::of(figures);
-    let figures = Figures {
-        calls,
-        wire,
-        drivers,
-        mangled: manner.mangle.is_some(),
-    };
-    Ok(Run {
-        plain,
-        sent,
-        figures,
-    })
+    let sent = kept.into_sent(calls, wire, manner.mangle.is_some());
+    Ok(Run { plain, sent })
 }
 
 /// Makes rounds until all workers have ended, or nothing has changed for too long.
@@ -284,13 +273,13 @@ fn seat_workers<'a>(
 }
 
 /// What is kept of workers that have ended, each of whose queues has so many sockets.
-fn collect(alloc: Global, workers: Workers<'_>, classes: u32) -> Result<Kept, OutOfMemory>
+fn collect(alloc: Global, workers: Workers<'_>, classes: u32) -> Result<Collected, OutOfMemory>
     ensures short { IfOk result (λ kept. All HasShortPackets kept.sent.items) }
     ensures sent { IfOk result (λ kept. map packets_in kept.sent.items ≡ kept_lists workers.entry) }
     ensures figures { IfOk result (λ kept. kept.figures.items ≡ kept_figures classes workers.entry) }
 {
     let Workers { seats } = workers;
-    let mut kept = Kept::with_room(alloc, seats.len())?;
+    let mut kept = Collected::with_room(alloc, seats.len())?;
     for seat in seats {
         kept.keep(seat.into_machine(), classes);
     }

@@ -1,10 +1,11 @@
 -- How a text grows.
-use Rattle.std.proofs.Common.{◌≡◌, ◌∙◌, sym, ap, ℕ, zero, suc, ◌+◌, List, [], ◌∷◌, ◌++◌, append_assoc, arith}
+use Rattle.std.proofs.Common.{◌≡◌, ◌∙◌, sym, ap, ℕ, suc, ◌+◌, List, [], ◌∷◌, ◌++◌, append_assoc, arith}
 use Rattle.std.specs.Prelude.{flat_map}
 use Rattle.std.specs.List.{range_with_len}
 use Rattle.std.proofs.lemmas.List.{flat_map_more}
 use Rattle.xsk_model.specs.Config.{Config, pair_at, classes_of}
 use Rattle.xsk_model.specs.declared.config.PairInfo.{PairInfo}
+use Rattle.xsk_model.proofs.Counting.{range-push}
 use Rattle.xsk_machine.specs.declared.figures.DriverFigures.{DriverFigures}
 use Rattle.xsk_machine.specs.declared.figures.Figures.{Figures}
 use Rattle.xsk_stats.specs.Report.{setting_line, calls_line, driver_line, pair_line, socket_lines, lines_of, total_line, stranded_line, totals_of, figures_at, report_text}
@@ -14,12 +15,11 @@ use Rattle.xsk_stats.specs.declared.totals.Statistics.{Statistics}
 pub after : (t a b u v : List ℕ) → u ≡ t ++ a → v ≡ u ++ b → v ≡ t ++ (a ++ b)
 after t a b u v e h = h ∙ ap (λ (text : List ℕ). text ++ b) e ∙ append_assoc t a b
 
-last : (a n j : ℕ) → a + n ≡ j → range_with_len a (suc n) ≡ range_with_len a n ++ j ∷ []
-last a zero j e = let same : a ≡ j = omega arith in ap (λ k. k ∷ []) same
-last a (suc n) j e = ap (λ l. a ∷ l) (last (a + 1) n j (omega arith))
-
 one_more : (n : ℕ) → range_with_len 0 (n + 1) ≡ range_with_len 0 n ++ n ∷ []
-one_more n = let on : n + 1 ≡ suc n = omega arith in ap (range_with_len 0) on ∙ last 0 n n (omega arith)
+one_more n =
+    let on : n + 1 ≡ suc n = omega arith in
+    let last : 0 + n ≡ n = omega arith in
+    ap (range_with_len 0) on ∙ range-push 0 n ∙ ap (λ k. range_with_len 0 n ++ k ∷ []) last
 
 -- one line more, by its number
 pub line_more : (f : ℕ → List ℕ) (n : ℕ) (t u v : List ℕ) → u ≡ t ++ flat_map f (range_with_len 0 n) → v ≡ u ++ f n → v ≡ t ++ flat_map f (range_with_len 0 (n + 1))

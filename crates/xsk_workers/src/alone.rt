@@ -3,16 +3,17 @@ ghost use Rattle.std.specs.Prelude.{◌≡◌};
 ghost use Rattle.xsk_workers.specs.Crew.{IsSeatOn};
 ghost use Rattle.xsk_workers.specs.Shown.{seat_of};
 
-use crate::place::Place;
-use crate::worker::{Pace, Worker};
+use crate::context::Context;
+use crate::pace::Pace;
+use crate::worker::Worker;
 use crossbeam_utils::Backoff;
 use std::sync::Wait;
-use xsk_io::Gate;
+use xsk_gate::Gate;
 use xsk_machine::Machine;
 use xsk_table::Shared;
 
 /// Makes turns of a worker, each behind the gate, until it has ended.
-pub(crate) fn run_alone<R: Wait, M: Machine + Drop, P: Place, G: Gate>(
+pub(crate) fn run_alone<R: Wait, M: Machine + Drop, P: Context, G: Gate>(
     rt: &R,
     shared: &Shared,
     gate: &G,

@@ -13,7 +13,7 @@ use std::sync::Wait;
 use std::sync::atomic::{AtomicU64, Ordering};
 use std::thread;
 use std::thread::{PromisedHandle, Scope, Threads};
-use xsk_io::Gate;
+use xsk_gate::Gate;
 use xsk_table::Shared;
 
 /// Workers before they start, with room for them to come back to, which is taken before any of them starts.

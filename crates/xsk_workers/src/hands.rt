@@ -7,7 +7,7 @@ use crate::works::Works;
 use crossbeam_utils::Backoff;
 use crossbeam_utils::sync::Unparker;
 use std::sync::Wait;
-use xsk_io::Gate;
+use xsk_gate::Gate;
 use xsk_lock::{Hand, Lock};
 use xsk_table::Shared;
 

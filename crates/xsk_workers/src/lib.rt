@@ -2,13 +2,14 @@
 #![tactic(auto)]
 
 mod alone;
+mod context;
 mod crew;
 mod hands;
 pub mod laws;
 mod member;
+mod pace;
 mod pairs;
 mod parking;
-mod place;
 mod plan;
 mod runner;
 mod running;

@@ -1,21 +1,21 @@
 //! A member of a crew: a worker, or an application by several hands.
-ghost use Rattle.std.specs.Prelude.{◌≡◌, true};
-ghost use Rattle.xsk_shared_ends.specs.declared.last.Turned.TheVariants.{Ended};
+ghost use Rattle.std.specs.Prelude.{◌≡◌};
 ghost use Rattle.xsk_table.specs.View.{idle};
 ghost use Rattle.xsk_workers.specs.Shown.{AreCounted};
 ghost use Rattle.xsk_workers.specs.Members.{member_seat, MemberHasRun, pass_in, IsLeftOf};
 
 use crate::alone::run_alone;
-use crate::place::Place;
-use crate::plan::{Plan, Rest};
+use crate::context::Context;
+use crate::pace::Pace;
+use crate::plan::{HandsPlan, Rest};
 use crate::runner::{Opens, Runner};
 use crate::team::{Team, run_last};
 use crate::worker::Worker;
 use crossbeam_utils::sync::Unparker;
 use std::sync::Wait;
-use xsk_io::Gate;
+use xsk_gate::Gate;
 use xsk_machine::Machine;
-use xsk_shared_ends::{Ends, Turned};
+use xsk_shared_ends::Ends;
 use xsk_table::{Pass, Shared};
 
 /// A caller of a run: a driver or an application by itself, or an application by several hands.
@@ -25,7 +25,7 @@ pub(crate) enum Member<A, B> {
     Several(B),
 }
 
-impl<'a, M: Machine + Drop, P: Place> Runner for Member<Worker<M, P>, Team<'a, P>> {
+impl<'a, M: Machine + Drop, P: Context> Runner for Member<Worker<M, P>, Team<'a, P>> {
     ghost use Rattle.xsk_workers.specs.Members.{member_seat, MemberHasRun};
 
     ghost seat = { member_seat };
@@ -39,10 +39,10 @@ impl<'a, M: Machine + Drop, P: Place> Runner for Member<Worker<M, P>, Team<'a, P
         }
     }
 
-    fn turn(&mut self, shared: &Shared) -> bool {
+    fn turn(&mut self, shared: &Shared) -> Pace {
         match self {
-            Member::One(worker) => worker.turn(shared).is_end(),
-            Member::Several(team) => has_ended(team.turn(shared)),
+            Member::One(worker) => worker.turn(shared),
+            Member::Several(team) => Pace::of_last(team.turn(shared)),
         }
     }
 
@@ -54,7 +54,7 @@ impl<'a, M: Machine + Drop, P: Place> Runner for Member<Worker<M, P>, Team<'a, P
     }
 }
 
-impl<'a, M: Machine + Drop, P: Place> Opens for Member<Worker<M, P>, Team<'a, P>> {
+impl<'a, M: Machine + Drop, P: Context> Opens for Member<Worker<M, P>, Team<'a, P>> {
     ghost use Rattle.std.specs.Prelude.{◌≡◌};
     ghost use Rattle.xsk_shared_ends.specs.Shown.{name_of};
     ghost use Rattle.xsk_workers.specs.Hands.{named_seat, GoesWith};
@@ -78,7 +78,7 @@ impl<'a, M: Machine + Drop, P: Place> Opens for Member<Worker<M, P>, Team<'a, P>
         }
     }
 
-    fn plan(rest: &Rest<P>) -> Plan {
+    fn plan(rest: &Rest<P>) -> HandsPlan {
         rest.plan
     }
 
@@ -94,7 +94,7 @@ impl<'a, M: Machine + Drop, P: Place> Opens for Member<Worker<M, P>, Team<'a, P>
     }
 }
 
-impl<'a, M: Machine + Drop, P: Place> Member<Worker<M, P>, Team<'a, P>> {
+impl<'a, M: Machine + Drop, P: Context> Member<Worker<M, P>, Team<'a, P>> {
     /// What is left of a member, its pass, and the number of its calls: of a worker its machine, of several hands none.
     pub(crate) fn into_parts(self) -> (Option<M>, Pass, u64)
         ensures left { IsLeftOf M.stands self.entry result.0 }
@@ -113,11 +113,4 @@ impl<'a, M: Machine + Drop, P: Place> Member<Worker<M, P>, Team<'a, P>> {
             }
         }
     }
-}
-
-/// Whether an application by several hands had ended before a turn.
-fn has_ended(turned: Turned) -> bool
-    ensures { result ≡ true → turned ≡ Ended }
-{
-    matches!(turned, Turned::Ended)
 }

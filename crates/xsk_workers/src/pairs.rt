@@ -11,17 +11,17 @@ use std::sync::Wait;
 use std::sync::atomic::{AtomicU64, Ordering};
 use std::thread;
 use std::thread::{Promise, Scope, Threads};
-use xsk_io::Gate;
+use xsk_gate::Gate;
 use xsk_lock::{Hand, Lock};
 use xsk_table::Shared;
 
 /// What is promised of a hand that comes back from its thread.
-pub(crate) struct Handed<T: Works> {
+pub(crate) struct HandBack<T: Works> {
     lock: Snapshot<Lock<T>>,
     hand: Snapshot<Hand<T>>,
 }
 
-impl<T: Works> Drop for Handed<T> {
+impl<T: Works> Drop for HandBack<T> {
     fn drop(self) {
         let Self { lock, hand } = self;
         drop(lock);
@@ -29,7 +29,7 @@ impl<T: Works> Drop for Handed<T> {
     }
 }
 
-impl<T: Works> Promise<Hand<T>> for Handed<T> {
+impl<T: Works> Promise<Hand<T>> for HandBack<T> {
     ghost use Rattle.std.specs.Prelude.{◌≡◌};
     ghost use Rattle.xsk_lock.specs.Rule.{mine};
     ghost use Rattle.xsk_lock.specs.Held.{Belongs, IsOff};
@@ -38,13 +38,13 @@ impl<T: Works> Promise<Hand<T>> for Handed<T> {
 }
 
 /// What is promised of two hands that come back from their thread.
-pub(crate) struct HandedBoth<T: Works> {
+pub(crate) struct HandsBack<T: Works> {
     lock: Snapshot<Lock<T>>,
     first: Snapshot<Hand<T>>,
     second: Snapshot<Hand<T>>,
 }
 
-impl<T: Works> Drop for HandedBoth<T> {
+impl<T: Works> Drop for HandsBack<T> {
     fn drop(self) {
         let Self {
             lock,
@@ -57,7 +57,7 @@ impl<T: Works> Drop for HandedBoth<T> {
     }
 }
 
-impl<T: Works> Promise<(Hand<T>, Hand<T>)> for HandedBoth<T> {
+impl<T: Works> Promise<(Hand<T>, Hand<T>)> for HandsBack<T> {
     ghost use Rattle.std.specs.Prelude.{◌≡◌};
     ghost use Rattle.xsk_lock.specs.Rule.{mine};
     ghost use Rattle.xsk_lock.specs.Held.{Belongs, IsOff};
@@ -144,7 +144,7 @@ pub(crate) fn run_two<T: Works + Send, R: Threads + Wait + Sync, G: Gate + Sync>
             ensures second { Belongs lock.entry.now result.1 × IsOff result.1 × (mine result.1.view ≡ mine second.view) }
         {
             let (first, second) = (first, second);
-            let promise = Handed {
+            let promise = HandBack {
                 lock: Snapshot::of(lock),
                 hand: Snapshot::of(&second),
             };
@@ -245,7 +245,7 @@ pub(crate) fn run_four<T: Works + Send, R: Threads + Wait + Sync, G: Gate + Sync
             ensures fourth { Belongs lock.entry.now result.1.1 × IsOff result.1.1 × (mine result.1.1.view ≡ mine fourth.view) }
         {
             let (first, second, third, fourth) = (first, second, third, fourth);
-            let promise = HandedBoth {
+            let promise = HandsBack {
                 lock: Snapshot::of(lock),
                 first: Snapshot::of(&third),
                 second: Snapshot::of(&fourth),

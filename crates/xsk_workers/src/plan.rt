@@ -4,7 +4,7 @@ use std::alloc::Global;
 /// How an application is run by several hands: how many it has and with what memory their lock is made, the number from which on the
 /// gate knows them, and the pairs of its sides.
 #[derive(Clone, Copy)]
-pub(crate) struct Plan {
+pub(crate) struct HandsPlan {
     pub(crate) alloc: Global,
     pub(crate) hands: u32,
     pub(crate) base: u32,
@@ -16,5 +16,5 @@ pub(crate) struct Plan {
 pub(crate) struct Rest<P> {
     pub(crate) place: P,
     pub(crate) who: u32,
-    pub(crate) plan: Plan,
+    pub(crate) plan: HandsPlan,
 }

@@ -1,13 +1,15 @@
 //! What a crew runs: the calls of a caller, in a thread of its own or one after another beside others.
-ghost use Rattle.std.specs.Prelude.{◌≡◌, true, IfOk, IfErr};
+ghost use Rattle.std.specs.Prelude.{◌≡◌, IfOk, IfErr};
 ghost use Rattle.xsk_table.specs.Held.{Board};
 ghost use Rattle.xsk_workers.specs.Crew.{Seat, IsSeatOn};
+ghost use Rattle.xsk_workers.specs.declared.pace.Pace.TheVariants.{Ended};
 
-use crate::plan::Plan;
+use crate::pace::Pace;
+use crate::plan::HandsPlan;
 use crate::works::Works;
 use crossbeam_utils::sync::Unparker;
 use std::sync::Wait;
-use xsk_io::Gate;
+use xsk_gate::Gate;
 use xsk_table::Shared;
 
 /// The calls of one caller of a setting, to their end.
@@ -22,11 +24,11 @@ pub(crate) trait Runner {
     fn caller(&self) -> u32
         ensures { result ≡ (seat self.now).who };
 
-    /// Makes a turn. Says whether it had ended before.
-    fn turn(&mut self, shared: &Shared) -> bool
+    /// Makes a turn.
+    fn turn(&mut self, shared: &Shared) -> Pace
         requires { IsSeatOn shared.now (seat self.old) }
         ensures seat { seat self.new ≡ seat self.old }
-        ensures whole { result ≡ true → has_run self.new };
+        ensures whole { result ≡ Ended → has_run self.new };
 
     /// Makes turns, each behind the gate, until it has ended.
     fn run<R: Wait, G: Gate>(self, rt: &R, shared: &Shared, gate: &G) -> Self
@@ -55,7 +57,7 @@ pub(crate) trait Opens: Runner {
         ensures back { IfErr result (λ back. Self.seat back ≡ Self.seat self) };
 
     /// How its hands are run.
-    fn plan(rest: &Self::Rest) -> Plan;
+    fn plan(rest: &Self::Rest) -> HandsPlan;
 
     /// What wakes the drivers, by their pairs, where they sleep.
     fn wakers(rest: &Self::Rest) -> &[Unparker];

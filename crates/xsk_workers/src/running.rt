@@ -1,14 +1,17 @@
 //! Members of a crew to their ends: one in its thread, or several by turns.
-ghost use Rattle.std.specs.Prelude.{◌≡◌, ℕ, true, map, All, vec_len};
+ghost use Rattle.std.specs.Prelude.{◌≡◌, ℕ, map, All, vec_len};
 ghost use Rattle.xsk_workers.specs.Crew.{IsSeatOn};
+ghost use Rattle.xsk_workers.specs.declared.pace.Pace.TheVariants.{Ended};
 
+use crate::pace::Pace;
 use crate::runner::{Opens, Runner};
 use crate::teams::share_ends;
+use crossbeam_utils::Backoff;
 use std::snapshot::Snapshot;
 use std::sync::Wait;
 use std::sync::atomic::{AtomicU64, Ordering};
 use std::thread::{Promise, Threads};
-use xsk_io::Gate;
+use xsk_gate::Gate;
 use xsk_table::Shared;
 
 /// What is promised of a member that comes back from its thread: it is the caller of the same setting and table.
@@ -58,25 +61,24 @@ fn run_hands<R: Threads + Wait + Sync, W: Opens, G: Gate + Sync>(
     }
 }
 
-/// Makes a turn of each member that hasn't ended. Says whether all have ended.
-fn take_turns<W: Runner>(shared: &Shared, members: &mut Vec<W>) -> bool
+/// Makes a turn of each member that hasn't ended. Says what came of all of them together.
+fn take_turns<W: Runner>(shared: &Shared, members: &mut Vec<W>) -> Pace
     requires { All (λ w. IsSeatOn shared.now (W.seat w)) members.old.items }
     ensures belong { All (λ w. IsSeatOn shared.now (W.seat w)) members.new.items }
     ensures count { vec_len members.new ≡ vec_len members.old }
     ensures seats { map W.seat members.new.items ≡ map W.seat members.old.items }
-    ensures whole { result ≡ true → All W.has_run members.new.items }
+    ensures whole { result ≡ Ended → All W.has_run members.new.items }
 {
-    let mut ended = true;
+    let mut together = Pace::Ended;
     for i in 0..members.len() {
         let member = &mut members[i];
-        if !member.turn(shared) {
-            ended = false;
-        }
+        let pace = member.turn(shared);
+        together = together.and(pace);
     }
-    ended
+    together
 }
 
-/// Runs members to their ends, one turn after another.
+/// Runs members to their ends, one turn after another. It backs off while none of them moves anything, and doesn't sleep.
 pub(crate) fn finish<R: Wait, W: Runner>(rt: &R, shared: &Shared, members: &mut Vec<W>)
     requires { All (λ w. IsSeatOn shared.now (W.seat w)) members.old.items }
     ensures count { vec_len members.new ≡ vec_len members.old }
@@ -84,9 +86,12 @@ pub(crate) fn finish<R: Wait, W: Runner>(rt: &R, shared: &Shared, members: &mut 
     ensures belong { All (λ w. IsSeatOn shared.now (W.seat w)) members.new.items }
     ensures whole { All W.has_run members.new.items }
 {
+    let backoff = Backoff::new();
     for _ in rt.forever() {
-        if take_turns(shared, members) {
-            break;
+        match take_turns(shared, members) {
+            Pace::Ended => break,
+            Pace::Moved => backoff.reset(),
+            Pace::Waited | Pace::Parked => backoff.snooze(),
         }
     }
 }

@@ -9,14 +9,14 @@ ghost use Rattle.xsk_shared_ends.specs.declared.last.Turned.TheVariants.{Ended};
 ghost use Rattle.xsk_workers.specs.Crew.{IsSeatOn};
 ghost use Rattle.xsk_workers.specs.Hands.{team_seat, TeamHasRun, GoesWith};
 
+use crate::context::Context;
 use crate::hands::wake_sides;
-use crate::place::Place;
 use crate::plan::Rest;
 use crate::works::Works;
 use crossbeam_utils::Backoff;
 use std::marker::Model;
 use std::sync::Wait;
-use xsk_io::Gate;
+use xsk_gate::Gate;
 use xsk_shared_ends::{Ends, LastHand, Step, Turned};
 use xsk_table::{Pass, Shared};
 
@@ -48,12 +48,12 @@ impl<'a> Works for Ends<'a> {
 
 /// An application by several hands, as a caller of a setting: what its last hand has, and the rest.
 #[derive(Drop)]
-pub(crate) struct Team<'a, P: Place> {
+pub(crate) struct Team<'a, P: Context> {
     last: LastHand<'a>,
     rest: Rest<P>,
 }
 
-impl<'a, P: Place> Model for Team<'a, P> {
+impl<'a, P: Context> Model for Team<'a, P> {
     ghost use Rattle.std.specs.Prelude.{◌≡◌};
     ghost use Rattle.xsk_workers.specs.Hands.{TeamShown, IsTeam};
 
@@ -64,7 +64,7 @@ impl<'a, P: Place> Model for Team<'a, P> {
     ghost invariant = { λ t. IsTeam (record { setting = P.setting t.rest.place; last = t.last }) × (t.rest.who ≡ t.last.pass.who) };
 }
 
-impl<'a, P: Place> Team<'a, P> {
+impl<'a, P: Context> Team<'a, P> {
     /// The team of these ends, whose application is one of the setting.
     pub(crate) fn new(rest: Rest<P>, ends: Ends<'a>) -> Team<'a, P>
         requires { GoesWith (P.setting rest.place) rest.who (name_of ends) }
@@ -124,7 +124,7 @@ impl<'a, P: Place> Team<'a, P> {
 }
 
 /// Runs the last hand of a team to its end.
-pub(crate) fn run_last<'a, R: Wait, P: Place, G: Gate>(
+pub(crate) fn run_last<'a, R: Wait, P: Context, G: Gate>(
     rt: &R,
     shared: &Shared,
     gate: &G,

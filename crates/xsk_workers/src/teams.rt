@@ -3,14 +3,14 @@ ghost use Rattle.std.specs.Prelude.{◌≡◌};
 
 use crate::hands::Share;
 use crate::pairs::{run_four, run_two};
-use crate::plan::Plan;
+use crate::plan::HandsPlan;
 use crate::works::Works;
 use crossbeam_utils::sync::Unparker;
 use std::alloc::Global;
 use std::sync::Wait;
 use std::sync::atomic::AtomicU64;
 use std::thread::Threads;
-use xsk_io::Gate;
+use xsk_gate::Gate;
 use xsk_lock::Lock;
 use xsk_table::Shared;
 
@@ -20,7 +20,7 @@ pub(crate) fn share_ends<T: Works + Send, R: Threads + Wait + Sync, G: Gate + Sy
     shared: &Shared,
     gate: &G,
     wakers: &[Unparker],
-    plan: Plan,
+    plan: HandsPlan,
     ends: T,
 ) -> T
     requires { T.is_on shared.now (T.name ends) }

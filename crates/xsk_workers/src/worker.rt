@@ -1,5 +1,5 @@
 //! A worker: a machine with its pass, which runs to its end in any thread.
-ghost use Rattle.std.specs.Prelude.{◌≡◌, ℕ, true, false, List, []};
+ghost use Rattle.std.specs.Prelude.{◌≡◌, ℕ, List, []};
 ghost use Rattle.xsk_model.specs.Entry.{own};
 ghost use Rattle.xsk_model.specs.Expected.{nothing};
 ghost use Rattle.xsk_model.specs.declared.call.Act.TheVariants.{Ended as HasEnded};
@@ -10,9 +10,10 @@ ghost use Rattle.xsk_model.specs.declared.ask.Answer.TheVariants.{Old};
 ghost use Rattle.xsk_model.specs.declared.call.Mark.TheVariants.{Kick};
 ghost use Rattle.xsk_table.specs.Held.{Board, Belongs};
 ghost use Rattle.xsk_workers.specs.Parking.{token_of, IsParkerOf, IsAsleep, IsLastOf, woken_by};
-ghost use Rattle.xsk_workers.specs.declared.worker.Pace.TheVariants.{Parked, Ended};
+ghost use Rattle.xsk_workers.specs.declared.pace.Pace.TheVariants.{Parked, Ended};
 
-use crate::place::Place;
+use crate::context::Context;
+use crate::pace::Pace;
 use crossbeam_utils::Backoff;
 use crossbeam_utils::sync::{Parker, Unparker};
 use std::marker::Model;
@@ -23,32 +24,10 @@ use xsk_rings::RingCalls;
 use xsk_table::{Pass, Shared};
 use xsk_umem::Batch;
 
-/// What came of a worker's turn.
-#[derive(Clone, Copy, Debug, PartialEq, Eq)]
-pub enum Pace {
-    /// Its call moved something.
-    Moved,
-    /// It found a ring full or empty, or looked at a mark.
-    Waited,
-    /// Its driver found that it wasn't kicked, and looks again.
-    Parked,
-    /// It had ended before.
-    Ended,
-}
-
-impl Pace {
-    /// Whether the worker had ended.
-    pub(crate) fn is_end(self) -> bool
-        ensures { result ≡ true → self ≡ Ended }
-    {
-        matches!(self, Pace::Ended)
-    }
-}
-
 /// A machine that runs over its pass, with what it asks next, as a caller of a setting, and the number of its calls, which
 /// stays at 2^64 - 1. A driver has what it sleeps on, where drivers sleep. Contracts see setting, pass and the next call.
 #[derive(Drop)]
-pub(crate) struct Worker<M: Machine + Drop, P: Place> {
+pub(crate) struct Worker<M: Machine + Drop, P: Context> {
     machine: M,
     ask: Option<Ask>,
     items: Batch,
@@ -58,7 +37,7 @@ pub(crate) struct Worker<M: Machine + Drop, P: Place> {
     calls: u64,
 }
 
-impl<M: Machine + Drop, P: Place> Model for Worker<M, P> {
+impl<M: Machine + Drop, P: Context> Model for Worker<M, P> {
     ghost use Rattle.xsk_workers.specs.Shown.{WorkerShown, IsGoing, AreCounted};
     ghost use Rattle.xsk_workers.specs.Parking.{IsParkerOf};
 
@@ -70,7 +49,7 @@ impl<M: Machine + Drop, P: Place> Model for Worker<M, P> {
         × IsParkerOf (P.tokens w.place) w.pass.who w.parker };
 }
 
-impl<M: Machine + Drop, P: Place> Worker<M, P> {
+impl<M: Machine + Drop, P: Context> Worker<M, P> {
     ghost use Rattle.xsk_workers.specs.Shown.{seat_of, HasRun, AreCounted};
 
     /// A new machine of a caller, with the caller's pass, with which no call was made, and its parker.
@@ -151,7 +130,7 @@ impl<M: Machine + Drop, P: Place> Worker<M, P> {
 }
 
 /// Wakes the driver that a caller's last call has kicked.
-fn wake<P: Place>(place: &P, pass: &Pass, ask: Ask)
+fn wake<P: Context>(place: &P, pass: &Pass, ask: Ask)
     requires { IsLastOf pass.now ask }
 {
     if let Some(waker) = waker_for(place, ask) {
@@ -160,7 +139,7 @@ fn wake<P: Place>(place: &P, pass: &Pass, ask: Ask)
 }
 
 /// What wakes the driver that a call kicks.
-fn waker_for<P: Place>(place: &P, ask: Ask) -> Option<&Unparker>
+fn waker_for<P: Context>(place: &P, ask: Ask) -> Option<&Unparker>
     ensures { option_map (λ waker. token_of waker.now) result ≡ woken_by (P.tokens place.now) ask }
 {
     match ask {

@@ -22,23 +22,22 @@ ghost use Rattle.xsk_workers.specs.Gathering.{HaveRun, AreTaken, AreGiven, AreSe
 ghost use Rattle.xsk_workers.specs.Forwarded.{HasForwarded, HasForwardedUnder, packets_in, setting_by};
 ghost use Rattle.xsk_machine.specs.Workers.{AreNew, IsFreshDriver};
 
+use crate::context::{Source, Verdicts};
 use crate::crew::{Crew, run_crew};
 use crate::member::Member;
 use crate::parking::parkers_for;
-use crate::place::{Source, Verdicts};
-use crate::plan::{Plan, Rest};
+use crate::plan::{HandsPlan, Rest};
 use crate::team::Team;
 use crate::worker::Worker;
 use crossbeam_utils::sync::Parker;
 use std::alloc::Global;
 use std::marker::{Brand, Model, PhantomData};
-use std::mem;
 use std::sync::Wait;
 use std::thread::Threads;
 use xsk_app::side_pair;
 use xsk_driver::{Driver, Wire};
-use xsk_io::Gate;
-use xsk_machine::{AnyWorker, FigureList, Figures, Inputs, Kept, drivers_for, worker_of};
+use xsk_gate::Gate;
+use xsk_machine::{AnyWorker, Collected, Figures, Inputs, Sent, drivers_for, worker_of};
 use xsk_model::Config;
 use xsk_prog::{Chain, Verdict};
 use xsk_shared_ends::Ends;
@@ -53,20 +52,15 @@ type Caller<'a, V> = Member<Worker<AnyWorker<'a>, Source<'a, V>>, Team<'a, Sourc
 #[derive(Drop)]
 pub struct Outcome {
     note: Note,
-    sent: Vec<PacketList>,
-    figures: Figures,
+    sent: Sent,
 }
 
 impl Model for Outcome {
-    ghost use Rattle.std.specs.Prelude.{map, All};
-    ghost use Rattle.xsk_machine.specs.Acts.{HasShortPackets};
-    ghost use Rattle.xsk_workers.specs.Forwarded.{OutcomeShown, packets_in};
+    ghost use Rattle.xsk_workers.specs.Forwarded.{OutcomeShown};
 
     ghost Value = { OutcomeShown };
 
-    ghost view = { λ o. record { history = o.note.seen; sent = map packets_in o.sent.items; figures = o.figures } };
-
-    ghost invariant = { λ o. All HasShortPackets o.sent.items };
+    ghost view = { λ o. record { history = o.note.seen; sent = o.sent.lists; figures = o.sent.figures } };
 }
 
 impl Outcome {
@@ -78,14 +72,14 @@ impl Outcome {
         ensures short { All IsShort result.now.packets }
         ensures sent { result.now.packets ≡ slice_index_or self.now.sent pair [] }
     {
-        &self.sent[pair as usize]
+        self.sent.sent(pair)
     }
 
     /// What the run comes to in numbers, each a count over the calls and replies of its history.
     pub fn figures(&self) -> &Figures
         ensures { result.now ≡ self.now.figures }
     {
-        &self.figures
+        self.sent.figures()
     }
 
     /// Takes the lists of what the drivers sent, one for each pair. The outcome has none then. It takes no memory.
@@ -94,7 +88,7 @@ impl Outcome {
         ensures short { All HasShortPackets result.items }
         ensures left { self.new ≡ record self.old { sent = [] } }
     {
-        mem::replace(&mut self.sent, Vec::new(alloc))
+        self.sent.take_lists(alloc)
     }
 
     /// Puts lists in the place of those that the outcome has. It takes no memory.
@@ -102,7 +96,7 @@ impl Outcome {
         requires short { All HasShortPackets sent.items }
         ensures { self.new ≡ record self.old { sent = map packets_in sent.items } }
     {
-        self.sent = sent;
+        self.sent.put_lists(sent);
     }
 }
 
@@ -184,7 +178,7 @@ fn run_drivers<'a, V: Verdicts + Send, R: Threads + Wait + Sync, G: Gate + Sync>
     ensures forwarded { IfOk result (HasForwarded hands (setting_by config wire manner packets.now V.verdicts) frames.items) }
 {
     let classes = own.classes();
-    let mut kept = Kept::with_room(alloc, own.pairs().len())?;
+    let mut kept = Collected::with_room(alloc, own.pairs().len())?;
     let (parkers, wakers) = parkers_for(alloc, own)?;
     let Ok((shared, mut passes)) = Shared::open(alloc, config, frames, 0) else {
         return Err(OutOfMemory);
@@ -202,18 +196,8 @@ fn run_drivers<'a, V: Verdicts + Send, R: Threads + Wait + Sync, G: Gate + Sync>
     let members = run_crew(rt, &shared, gate, crew);
     let calls = give_back(&shared, members, classes, &mut passes, &mut kept);
     let (_frames, note) = shared.close(passes);
-    let Kept { figures, sent } = kept;
-    let drivers = FigureList::of(figures);
-    Ok(Outcome {
-        note,
-        sent,
-        figures: Figures {
-            calls,
-            wire,
-            drivers,
-            mangled: false,
-        },
-    })
+    let sent = kept.into_sent(calls, wire, false);
+    Ok(Outcome { note, sent })
 }
 
 /// A member for each caller, with its pass: the drivers of all pairs, each with its parker where they sleep, and then the
@@ -304,7 +288,7 @@ fn seat_team<'a, V: Verdicts>(
     let config = place.config;
     let who = pass.caller();
     let app = who - config.pairs().len() as u32;
-    let plan = Plan {
+    let plan = HandsPlan {
         alloc,
         hands,
         base: config.callers().saturating_add(app.saturating_mul(hands)),
@@ -323,7 +307,7 @@ fn give_back<'a, V: Verdicts>(
     members: Vec<Caller<'a, V>>,
     classes: u32,
     passes: &mut Passes,
-    kept: &mut Kept,
+    kept: &mut Collected,
 ) -> u64
     requires run { (hands : ℕ) × (s : Setting) × HaveRun shared.now hands s members.items }
     requires count { length members.items ≡ callers_of shared.now.setup.config }
@@ -348,7 +332,7 @@ fn give_back<'a, V: Verdicts>(
 }
 
 /// Keeps what is left of a member, where each queue has so many sockets.
-fn keep(kept: &mut Kept, left: Option<AnyWorker<'_>>, classes: u32)
+fn keep(kept: &mut Collected, left: Option<AnyWorker<'_>>, classes: u32)
     requires figures { vec_len kept.old.figures + length (figures_left classes left) ≤ vec_capacity kept.old.figures }
     requires sent { vec_len kept.old.sent + length (kept_left left) ≤ vec_capacity kept.old.sent }
     ensures short { All HasShortPackets kept.old.sent.items → All HasShortPackets kept.new.sent.items }

@@ -2,8 +2,8 @@ use Rattle.std.proofs.Common.{◌≡◌, ◌+◌, ◌<◌, List, [], ◌∷◌, 
 use Rattle.std.specs.Prelude.{codes}
 use Rattle.std.specs.Fmt.{decimal}
 use Rattle.xsk_model.specs.Entry.{Entry}
-use Rattle.xsk_plain.specs.Left.{left_of}
-use Rattle.xsk_plain.specs.Line.{line_of}
+use Rattle.xsk_log.specs.Left.{left_of}
+use Rattle.xsk_log.specs.Line.{line_of}
 use Rattle.xsk_sim.specs.Journal.{round_of, journal_line, journal_of}
 use Rattle.xsk_sim.proofs.Ending.{log_count}
 use Rattle.xsk_sim.proofs.Journaling.{taken, none_taken, none_left, all_passed, own_few, journal_push}

@@ -1,6 +1,6 @@
 use Rattle.std.proofs.Common.{◌≡◌, List, length, ◌++◌}
 use Rattle.xsk_model.specs.Entry.{Entry}
-use Rattle.xsk_plain.specs.Left.{left_of}
+use Rattle.xsk_log.specs.Left.{left_of}
 use Rattle.xsk_sim.specs.Counts.{AreCounts}
 use Rattle.xsk_sim.specs.Journal.{journal_of}
 use Rattle.xsk_sim.proofs.journal.append_journal.Given as goal

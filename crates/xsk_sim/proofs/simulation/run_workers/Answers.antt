@@ -1,14 +1,13 @@
-use Rattle.std.proofs.Common.{◌≡◌, ℕ, List, length, map, ◌+◌, ◌≤◌, Err, sym, ap, ◌∙◌, refl, rules, arith}
-use Rattle.std.proofs.lemmas.List.{length-map}
+use Rattle.std.proofs.Common.{◌≡◌, ℕ, List, length, ◌+◌, ◌≤◌, Err, sym, ap, ◌∙◌, refl, rules, arith}
 use Rattle.std.specs.Prelude.{is_some}
 use Rattle.xsk_turns.specs.declared.manner.Manner.{Manner}
+use Rattle.xsk_machine.specs.Sent.{SentShown}
 use Rattle.xsk_machine.specs.declared.figures.DriverFigures.{DriverFigures}
-use Rattle.xsk_sim.specs.Shown.{packets_in}
 use Rattle.xsk_sim.specs.declared.simulation.SimError.TheVariants.{Stalled}
 use Rattle.xsk_sim.specs.Runs.{NeverStill}
 use Rattle.xsk_sim.specs.Seats.{HadRounds, HaveEnded}
 use Rattle.xsk_sim.specs.Stalls.{StandStill}
-use Rattle.xsk_sim.proofs.Ending.{ended_run, figures_number, lists_kept, log_count, stalled_run}
+use Rattle.xsk_sim.proofs.Ending.{ended_run, figures_number, lists_kept, log_count, stalled_run, whole_of}
 use Rattle.xsk_sim.proofs.simulation.run_workers.Goals as goal
 
 pub returns-in_err-make_rounds-clause-stalled : goal.returns-in_err-make_rounds-clause-stalled
@@ -30,8 +29,9 @@ returns-clause-ended c s frames regular seated classes wire manner =
     c.in_ok-make_rounds.ensures.ended s frames seated in
     let had : HadRounds s frames c.args.order.number ended.0 w engine = ended.2 in
     let calls : c.from-calls.result ≡ length engine.log = c.from-calls.ensures ∙ c.len.ensures ∙ log_count c.log.result.now ∙ ap length c.log.ensures.entries in
-    ended_run s frames c.args.order.number ended.0 w engine _ c.args.classes c.from-calls.result c.args.wire c.is_some.result regular had ended.1 ended.4 ended.3 refl c.in_ok-kept.ensures.sent
-    classes calls (search rules) (search rules) wire (c.is_some.ensures ∙ ap (λ (m : Manner). is_some m.mangle) manner)
+    let figures = ap (λ (x : SentShown). x.figures) c.into_sent-sent.ensures ∙ ap (λ (ds : List DriverFigures). whole_of c.from-calls.result c.args.wire ds c.is_some.result) c.in_ok-kept.ensures.figures in
+    ended_run s frames c.args.order.number ended.0 w engine _ c.args.classes c.from-calls.result c.args.wire c.is_some.result regular had ended.1 ended.4 ended.3 refl
+    (ap (λ (x : SentShown). x.lists) c.into_sent-sent.ensures ∙ c.in_ok-kept.ensures.sent) classes calls (search rules) figures wire (c.is_some.ensures ∙ ap (λ (m : Manner). is_some m.mangle) manner)
 
 pub returns-clause-pairs : goal.returns-clause-pairs
 returns-clause-pairs c s frames seated =
@@ -40,12 +40,10 @@ returns-clause-pairs c s frames seated =
     let ended : (count : ℕ) × (count ≤ 18446744073709551616) × HadRounds s frames c.args.order.number count w engine × HaveEnded w × NeverStill s frames c.args.order.number count =
     c.in_ok-make_rounds.ensures.ended s frames seated in
     let had : HadRounds s frames c.args.order.number ended.0 w engine = ended.2 in
-    let kept = c.in_ok-kept.kept in
-    let all : length (map packets_in kept.sent.items) ≡ length s.config.pairs = ap (length {A = List (List ℕ)}) c.in_ok-kept.ensures.sent ∙ lists_kept s frames had.history w engine had.seated in
-    omega (arith, all, length-map kept.sent.items packets_in, kept.sent.ok.0)
+    ap (length {A = List (List ℕ)}) (ap (λ (x : SentShown). x.lists) c.into_sent-sent.ensures ∙ c.in_ok-kept.ensures.sent) ∙ lists_kept s frames had.history w engine had.seated
 
-pub of-drivers-requires : goal.of-drivers-requires
-of-drivers-requires c =
+pub into_sent-sent-requires-clause-few : goal.into_sent-sent-requires-clause-few
+into_sent-sent-requires-clause-few c =
     let r = c.requires.ready in
     let s = r.setting in
     let w = c.make_rounds.new.workers in
@@ -54,7 +52,7 @@ of-drivers-requires c =
     c.in_ok-make_rounds.ensures.ended s r.frames r.seated in
     let had : HadRounds s r.frames c.args.order.number ended.0 w engine = ended.2 in
     let all : length c.in_ok-kept.kept.figures.items ≡ length s.config.pairs = ap (length {A = DriverFigures}) c.in_ok-kept.ensures.figures ∙ figures_number s r.frames had.history w engine had.seated c.args.classes in
-    omega (arith, all, had.seated.run.legal.opened.config.pairs_few)
+    omega (arith, all, c.in_ok-kept.kept.figures.ok.0, had.seated.run.legal.opened.config.pairs_few)
 
 pub invariant_of-result : goal.invariant_of-result
 invariant_of-result c =
@@ -65,6 +63,6 @@ invariant_of-result c =
     let ended : (count : ℕ) × (count ≤ 18446744073709551616) × HadRounds s r.frames c.args.order.number count w engine × HaveEnded w × NeverStill s r.frames c.args.order.number count =
     c.in_ok-make_rounds.ensures.ended s r.frames r.seated in
     let had : HadRounds s r.frames c.args.order.number ended.0 w engine = ended.2 in
-    let kept = c.in_ok-kept.kept in
-    let all : length (map packets_in kept.sent.items) ≡ length s.config.pairs = ap (length {A = List (List ℕ)}) c.in_ok-kept.ensures.sent ∙ lists_kept s r.frames had.history w engine had.seated in
-    (c.in_ok-kept.ensures.short, omega (arith, all, length-map kept.sent.items packets_in, kept.sent.ok.0, had.seated.run.legal.opened.config.pairs_few))
+    let all : length c.into_sent-sent.result.lists ≡ length s.config.pairs =
+    ap (length {A = List (List ℕ)}) (ap (λ (x : SentShown). x.lists) c.into_sent-sent.ensures ∙ c.in_ok-kept.ensures.sent) ∙ lists_kept s r.frames had.history w engine had.seated in
+    omega (arith, all, had.seated.run.legal.opened.config.pairs_few)

@@ -1,4 +1,4 @@
-use Rattle.std.proofs.Common.{rules, ◌≡◌, ◌<◌, true, length, ◌∙◌, ap}
+use Rattle.std.proofs.Common.{rules, ◌≡◌, ◌<◌, length, ◌∙◌, ap}
 use Rattle.std.specs.List.{slice_index_or}
 use Rattle.std.proofs.Math.Seq.{map-set_same}
 use Rattle.std.proofs.lemmas.List.Elements.{AllWithin-more_set, All-set}
@@ -14,10 +14,10 @@ loop-i-preserved g c =
     let items = c.loop-i.members.items in
     let at : old ≡ slice_index_or items c.loop-i.i old = search rules in
     let low : c.loop-i.i < length items = search rules in
-    let both : c.if-not-turn.ended ≡ true → (c.loop-i.ended ≡ true) × (c.turn.result ≡ true) = search rules in
-    let on : IsSeatOn c.args.shared.now (seat c.turn.new.self) = still_on c.args.shared.now (seat old) (seat c.turn.new.self) c.turn.ensures.seat (search rules) in (
-      All-set (λ w. IsSeatOn c.args.shared.now (seat w)) items c.loop-i.i c.turn.new.self on was.0,
-      map-set_same seat items c.loop-i.i c.turn.new.self old (c.turn.ensures.seat ∙ ap seat at) ∙ was.1,
+    let both = c.and-together.ensures.ended.0 in
+    let on : IsSeatOn c.args.shared.now (seat c.turn-pace.new.self) = still_on c.args.shared.now (seat old) (seat c.turn-pace.new.self) c.turn-pace.ensures.seat (search rules) in (
+      All-set (λ w. IsSeatOn c.args.shared.now (seat w)) items c.loop-i.i c.turn-pace.new.self on was.0,
+      map-set_same seat items c.loop-i.i c.turn-pace.new.self old (c.turn-pace.ensures.seat ∙ ap seat at) ∙ was.1,
       search rules,
-      λ e. AllWithin-more_set items c.loop-i.i c.turn.new.self low g.W.Runner.has_run (was.3 (both e).0) (c.turn.ensures.whole (both e).1),
+      λ e. AllWithin-more_set items c.loop-i.i c.turn-pace.new.self low g.W.Runner.has_run (was.3 (both e).0) (c.turn-pace.ensures.whole (both e).1),
     )

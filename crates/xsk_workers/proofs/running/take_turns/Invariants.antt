@@ -1,6 +1,7 @@
-use Rattle.std.proofs.Common.{◌≡◌, true, vec_len, vec_items, map, All}
+use Rattle.std.proofs.Common.{◌≡◌, vec_len, vec_items, map, All}
 use Rattle.std.specs.List.{AllWithin}
 use Rattle.xsk_workers.specs.Crew.{IsSeatOn}
+use Rattle.xsk_workers.specs.declared.pace.Pace.TheVariants.{Ended}
 use Rattle.xsk_workers.proofs.running.take_turns.Given as goal
 
 abbrev pub invariant-loop-i : goal.invariant-loop-i
@@ -8,4 +9,4 @@ invariant-loop-i g l =
     All (λ w. IsSeatOn l.shared (g.W.Runner.seat w)) (vec_items l.members)
     × (map g.W.Runner.seat (vec_items l.members) ≡ map g.W.Runner.seat (vec_items l.initial.members))
     × (vec_len l.members ≡ vec_len l.initial.members)
-    × (l.ended ≡ true → AllWithin g.W.Runner.has_run (vec_items l.members) 0 l.i)
+    × (l.together ≡ Ended → AllWithin g.W.Runner.has_run (vec_items l.members) 0 l.i)

@@ -10,6 +10,7 @@ use Rattle.xsk_workers.specs.Hands.{SuitHands}
 use Rattle.xsk_workers.specs.Members.{member_seat}
 use Rattle.xsk_workers.specs.Forwarded.{packets_in, HasForwarded, OutcomeShown, setting_by}
 use Rattle.xsk_machine.specs.Workers.{AreNew}
+use Rattle.xsk_machine.specs.Sent.{SentShown}
 use Rattle.xsk_workers.proofs.Gathering.{are_on, have_run_all, unchanged_by, seats_count, are_there, has_forwarded, pairs_are}
 use Rattle.xsk_workers.proofs.workers.run_drivers.Goals as goal
 
@@ -59,7 +60,8 @@ returns-clause-pairs g c =
     let have = have_run_all c.in-Ok.shared c.args.hands s c.run_crew-members.result.items config (unchanged_by c.args.hands c.args.config c.args.manner c.requires.suit) seats c.run_crew-members.ensures.whole in
     let regular : IsRegular s.config = subst IsRegular (sym is) c.requires.regular in
     let frames : c.in-Ok.shared.setup.frames ≡ c.args.frames.items = search rules in
-    pairs_are c.in-Ok.shared c.args.hands s c.args.frames.items c.give_back-calls.new.passes (map packets_in c.give_back-calls.new.kept.sent.items) c.give_back-calls.new.kept.figures.items c.give_back-calls.result c.args.wire c.close-frames.result.1.seen regular config frames
+    ap (λ (x : SentShown). length x.lists) c.into_sent-sent.ensures
+    ∙ pairs_are c.in-Ok.shared c.args.hands s c.args.frames.items c.give_back-calls.new.passes (map packets_in c.give_back-calls.new.kept.sent.items) c.give_back-calls.new.kept.figures.items c.give_back-calls.result c.args.wire c.close-frames.result.1.seen regular config frames
     (c.give_back-calls.ensures.given c.args.hands s have) (c.give_back-calls.ensures.sent c.args.hands s have) (c.give_back-calls.ensures.figures c.args.hands s have) c.give_back-calls.ensures.calls refl (ap (λ (m : Option ℕ). is_some m) c.requires.unchanged) c.close-frames.ensures.history
     ∙ ap (λ (k : Config). length k.pairs) is
 
@@ -74,25 +76,28 @@ returns-clause-forwarded g c =
     let regular : IsRegular s.config = subst IsRegular (sym is) c.requires.regular in
     let frames : c.in-Ok.shared.setup.frames ≡ c.args.frames.items = search rules in
     let kept = c.give_back-calls.new.kept in
-    let outcome : OutcomeShown = record {
-      history = c.close-frames.result.1.seen;
-      sent = map packets_in kept.sent.items;
-      figures = record { calls = c.give_back-calls.result; wire = c.args.wire; drivers = c.of-drivers.result; mangled = false };
+    let shown : SentShown → OutcomeShown = λ x. record { history = c.close-frames.result.1.seen; sent = x.lists; figures = x.figures } in
+    let sent : SentShown = record {
+      lists = map packets_in kept.sent.items;
+      figures = record { calls = c.give_back-calls.result; wire = c.args.wire; drivers = kept.figures.items; mangled = false };
     } in
-    subst (λ (k : Config). HasForwarded c.args.hands (setting_by k c.args.wire c.args.manner c.args.packets.now g.V.Verdicts.verdicts) c.args.frames.items outcome) is
-    (subst (λ ds. HasForwarded c.args.hands s c.args.frames.items (record { history = c.close-frames.result.1.seen; sent = map packets_in kept.sent.items; figures = record { calls = c.give_back-calls.result; wire = c.args.wire; drivers = ds; mangled = false } })) (sym c.of-drivers.ensures)
+    let is_sent : c.into_sent-sent.result ≡ sent = c.into_sent-sent.ensures in
+    subst (λ (k : Config). HasForwarded c.args.hands (setting_by k c.args.wire c.args.manner c.args.packets.now g.V.Verdicts.verdicts) c.args.frames.items (shown c.into_sent-sent.result)) is
+    (subst (λ (x : SentShown). HasForwarded c.args.hands s c.args.frames.items (shown x)) (sym is_sent)
     (has_forwarded c.in-Ok.shared c.args.hands s c.args.frames.items c.give_back-calls.new.passes (map packets_in kept.sent.items) kept.figures.items c.give_back-calls.result c.args.wire c.close-frames.result.1.seen regular config frames
     (c.give_back-calls.ensures.given c.args.hands s have) (c.give_back-calls.ensures.sent c.args.hands s have) (c.give_back-calls.ensures.figures c.args.hands s have) c.give_back-calls.ensures.calls refl (ap (λ (m : Option ℕ). is_some m) c.requires.unchanged) c.close-frames.ensures.history))
 
 pub returns-clause-short : goal.returns-clause-short
-returns-clause-short g c = All-map (λ (list : List (List ℕ)). All IsShort list) packets_in c.give_back-calls.new.kept.sent.items c.give_back-calls.ensures.short
+returns-clause-short g c =
+    subst (λ lists. All (λ (list : List (List ℕ)). All IsShort list) lists) (sym (ap (λ (x : SentShown). x.lists) c.into_sent-sent.ensures))
+    (All-map (λ (list : List (List ℕ)). All IsShort list) packets_in c.give_back-calls.new.kept.sent.items c.give_back-calls.ensures.short)
 
-pub of-drivers-requires : goal.of-drivers-requires
-of-drivers-requires g c =
+pub into_sent-sent-requires-clause-few : goal.into_sent-sent-requires-clause-few
+into_sent-sent-requires-clause-few g c =
     let s : Setting = setting_by c.args.own.now c.args.wire c.args.manner c.args.packets.now g.V.Verdicts.verdicts in
     let config : s.config ≡ c.in-Ok.shared.setup.config = search rules in
     let seats : map member_seat c.run_crew-members.result.items ≡ map (seat_at c.args.hands s c.in-Ok.shared) (range_with_len 0 (callers_of c.in-Ok.shared.setup.config)) =
     c.run_crew-members.ensures.seats ∙ ap (λ k. k.seats) c.in_ok-crew.ensures ∙ c.in_ok-members.ensures.seats in
     let have = have_run_all c.in-Ok.shared c.args.hands s c.run_crew-members.result.items config (unchanged_by c.args.hands c.args.config c.args.manner c.requires.suit) seats c.run_crew-members.ensures.whole in
     let past : length s.config.pairs ≤ callers_of c.in-Ok.shared.setup.config = omega (arith, ap (λ (k : Config). callers_of k) config) in
-    omega (arith, (c.give_back-calls.ensures.figures c.args.hands s have).all past, ap (λ (k : Config). length k.pairs) config, c.close-frames.ensures.history.legal.opened.config.pairs_few)
+    omega (arith, c.give_back-calls.new.kept.figures.ok.0, (c.give_back-calls.ensures.figures c.args.hands s have).all past, ap (λ (k : Config). length k.pairs) config, c.close-frames.ensures.history.legal.opened.config.pairs_few)

@@ -12,7 +12,7 @@ returns-in-One-clause-back g c = sym (ap (λ (m : Member WorkerShown TeamShown).
 
 pub returns-in-Ok-clause-seat : goal.returns-in-Ok-clause-seat
 returns-in-Ok-clause-seat g c =
-    opened_seat (g.P.Place.setting c.in-Ok.parts.1.place) c.in-Ok.parts.0 c.in-Several.team c.in-Ok.ensures.ends c.in-Ok.ensures.setting
+    opened_seat (g.P.Context.setting c.in-Ok.parts.1.place) c.in-Ok.parts.0 c.in-Several.team c.in-Ok.ensures.ends c.in-Ok.ensures.setting
     ∙ sym (ap (λ (m : Member WorkerShown TeamShown). member_seat m) c.in-Several.is)
 
 pub returns-in-Ok-clause-on : goal.returns-in-Ok-clause-on

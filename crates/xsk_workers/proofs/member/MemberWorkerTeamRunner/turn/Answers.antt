@@ -15,7 +15,7 @@ pub returns-in-One-clause-seat : goal.returns-in-One-clause-seat
 returns-in-One-clause-seat g c = c.turn.ensures.seat ∙ sym (ap (λ (m : Member WorkerShown TeamShown). member_seat m) c.in-One.is)
 
 pub returns-in-One-clause-whole : goal.returns-in-One-clause-whole
-returns-in-One-clause-whole g c is = c.turn.ensures.whole (c.is_end.ensures is)
+returns-in-One-clause-whole g c is = c.turn.ensures.whole is
 
 pub turn-requires-in-Several : goal.turn-requires-in-Several
 turn-requires-in-Several g c = subst (λ (m : Member WorkerShown TeamShown). IsSeatOn c.args.shared.now (member_seat m)) c.in-Several.is c.requires
@@ -24,4 +24,4 @@ pub returns-in-Several-clause-seat : goal.returns-in-Several-clause-seat
 returns-in-Several-clause-seat g c = c.turn-in-Several.ensures.seat ∙ sym (ap (λ (m : Member WorkerShown TeamShown). member_seat m) c.in-Several.is)
 
 pub returns-in-Several-clause-whole : goal.returns-in-Several-clause-whole
-returns-in-Several-clause-whole g c is = c.turn-in-Several.ensures.whole (c.has_ended.ensures is)
+returns-in-Several-clause-whole g c is = c.turn-in-Several.ensures.whole (c.of_last.ensures.ended.0 is)

@@ -6,10 +6,10 @@ use Rattle.xsk_workers.proofs.team.Team.new.Goals as goal
 
 pub invariant_of-result : goal.invariant_of-result
 invariant_of-result g c =
-    let s = g.P.Place.setting c.args.rest.place in (
+    let s = g.P.Context.setting c.args.rest.place in (
       subst (λ (l : LastShown). IsTeam (team_with s l)) (sym c.new.ensures) (ends_are_team s c.args.ends c.keeps.ensures.ends c.requires.1),
       c.requires.0 ∙ sym (ap (λ (l : LastShown). l.pass.who) c.new.ensures),
     )
 
 pub returns : goal.returns
-returns g c = ap (team_with (g.P.Place.setting c.args.rest.place)) c.new.ensures
+returns g c = ap (team_with (g.P.Context.setting c.args.rest.place)) c.new.ensures

@@ -5,7 +5,7 @@ use Rattle.xsk_model.specs.declared.ask.Ask.TheVariants.{Look}
 use Rattle.xsk_model.specs.declared.ask.Answer.TheVariants.{Old}
 use Rattle.xsk_model.specs.declared.call.Mark.TheVariants.{Kick}
 use Rattle.xsk_workers.specs.Parking.{IsParkerOf}
-use Rattle.xsk_workers.specs.declared.worker.Pace.TheVariants.{Parked}
+use Rattle.xsk_workers.specs.declared.pace.Pace.TheVariants.{Parked}
 use Rattle.xsk_workers.proofs.Sleeping.{sleeps, slept}
 use Rattle.xsk_workers.proofs.Going.{stood, may_come, comes, goes_on, one_more}
 use Rattle.xsk_workers.proofs.worker.Worker.turn.Goals as goal
@@ -17,7 +17,7 @@ step-self-inside-requires-clause-comes g c =
 
 pub invariant_of-self : goal.invariant_of-self
 invariant_of-self g c =
-    let s = g.P.Place.setting c.self.inside.place in
+    let s = g.P.Context.setting c.self.inside.place in
     let p = c.self.inside.pass in
     let ask = c.in-Some.ask in
     let call = joined_call ask c.self.inside.items in
@@ -31,7 +31,7 @@ invariant_of-self g c =
           (stood g.M.Machine.stands (g.M.Machine.expected c.self.inside.machine) s c.self.inside.machine c.self.inside.ask c.self.inside.items p going ask c.in-Some.is) refl
           (may_come g.M.Machine.stands (g.M.Machine.expected c.self.inside.machine) s c.self.inside.machine c.self.inside.ask c.self.inside.items p going ask c.in-Some.is c.serve-answer.new.self reply served)),
       one_more p call reply c.serve-answer.new.self c.self.inside.calls c.saturating_add-self-inside.result c.self.invariant.1 served c.saturating_add-self-inside.ensures,
-      subst (λ (who : ℕ). IsParkerOf (g.P.Place.tokens c.self.inside.place) who c.self.inside.parker) (sym served.who) c.self.invariant.2,
+      subst (λ (who : ℕ). IsParkerOf (g.P.Context.tokens c.self.inside.place) who c.self.inside.parker) (sym served.who) c.self.invariant.2,
     )
 
 pub returns-clause-parked : goal.returns-clause-parked

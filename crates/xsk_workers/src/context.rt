@@ -15,7 +15,7 @@ use xsk_turns::Manner;
 use xsk_umem::PacketList;
 
 /// A value that shows the setting of a run, by the references that the machines borrow, and what wakes the driver of each pair.
-pub(crate) trait Place: Copy {
+pub(crate) trait Context: Copy {
     ghost setting: { Self → Setting };
 
     // The tokens of the parkers of the pairs' drivers, and none where drivers don't sleep.
@@ -57,7 +57,7 @@ impl<V: Verdicts> Clone for Source<'_, V> {
 
 impl<V: Verdicts> Copy for Source<'_, V> {}
 
-impl<V: Verdicts> Place for Source<'_, V> {
+impl<V: Verdicts> Context for Source<'_, V> {
     ghost setting = { λ s. record { config = s.config.now; wire = s.wire; manner = s.manner; packets = s.packets.now; verdicts = V.verdicts } };
 
     ghost tokens = { λ s. map token_of s.wakers.now };

@@ -1,26 +1,27 @@
 //! What is kept of workers that have ended.
-ghost use Rattle.std.specs.Prelude.{◌≡◌, ◌+◌, ◌≤◌, [], ◌++◌, All, IfOk, length, map, vec_len, vec_capacity};
+ghost use Rattle.std.specs.Prelude.{◌≡◌, ◌+◌, ◌<◌, ◌≤◌, ◌^◌, [], ◌++◌, All, IfOk, length, map, vec_len, vec_capacity};
 ghost use Rattle.xsk_machine.specs.Acts.{HasShortPackets, packets_in};
 ghost use Rattle.xsk_machine.specs.Workers.{figures_kept, kept_of};
 
-use crate::{AnyWorker, DriverFigures};
+use crate::{AnyWorker, DriverFigures, FigureList, Figures, Sent};
 use std::alloc::{AllocError, Global};
+use xsk_driver::Wire;
 use xsk_umem::PacketList;
 
 /// Of the drivers of a run that have ended the figures, and what each sent.
 #[derive(Drop)]
-pub struct Kept {
+pub struct Collected {
     pub figures: Vec<DriverFigures>,
     pub sent: Vec<PacketList>,
 }
 
-impl Kept {
+impl Collected {
     /// Nothing, with room for so many drivers.
-    pub fn with_room(alloc: Global, drivers: usize) -> Result<Kept, AllocError>
+    pub fn with_room(alloc: Global, drivers: usize) -> Result<Collected, AllocError>
         ensures figures { IfOk result (λ kept. (kept.figures.items ≡ []) × (drivers ≤ vec_capacity kept.figures)) }
         ensures sent { IfOk result (λ kept. (kept.sent.items ≡ []) × (drivers ≤ vec_capacity kept.sent)) }
     {
-        Ok(Kept {
+        Ok(Collected {
             figures: Vec::with_capacity(alloc, drivers)?,
             sent: Vec::with_capacity(alloc, drivers)?,
         })
@@ -40,5 +41,26 @@ impl Kept {
                 .push_reserved(DriverFigures::of_driver(&driver, classes));
             self.sent.push_reserved(driver.into_sent());
         }
+    }
+
+    /// What the run comes to, in which so many calls were made on the shared object, and whose applications changed items or didn't. It
+    /// takes no memory.
+    pub fn into_sent(self, calls: u64, wire: Wire, mangled: bool) -> Sent
+        requires short { All HasShortPackets self.sent.items }
+        requires few { vec_len self.figures < 2 ^ 32 }
+        ensures { result ≡ record {
+          lists = map packets_in self.sent.items;
+          figures = record { calls = calls; wire = wire; drivers = self.figures.items; mangled = mangled };
+        } }
+    {
+        let Collected { figures, sent } = self;
+        let drivers = FigureList::of(figures);
+        let figures = Figures {
+            calls,
+            wire,
+            drivers,
+            mangled,
+        };
+        Sent::new(sent, figures)
     }
 }

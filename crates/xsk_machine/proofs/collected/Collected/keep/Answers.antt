@@ -5,7 +5,7 @@ use Rattle.xsk_machine.specs.Acts.{HasShortPackets}
 use Rattle.xsk_machine.specs.Workers.{figures_kept}
 use Rattle.xsk_machine.specs.declared.figures.DriverFigures.{DriverFigures}
 use Rattle.xsk_machine.specs.declared.worker.AnyWorker.{AnyWorker}
-use Rattle.xsk_machine.proofs.kept.Kept.keep.Goals as goal
+use Rattle.xsk_machine.proofs.collected.Collected.keep.Goals as goal
 
 pub returns-in-Driver-clause-short : goal.returns-in-Driver-clause-short
 returns-in-Driver-clause-short c was =
