@@ -1,5 +1,6 @@
 pub mod Cutting
 pub mod Listing
+pub mod Tables
 pub mod Spelling
 pub mod Building
 pub mod Reading

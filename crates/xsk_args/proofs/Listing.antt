@@ -1,7 +1,7 @@
 -- Programs with commas between them.
-use Rattle.std.proofs.Common.{if◌then◌else◌, ◌≡◌, ◌≢◌, ◌∙◌, ◌<◌, ◌≤◌, ◌+◌, ◌++◌, ℕ, suc, zero, Bool, cond, true, false, eqb, leb, nat_le, refl, sym, ap, subst, arith, List, [], ◌∷◌, length, get_or, length-append, append-nil, append_assoc, Option, Some, None}
+use Rattle.std.proofs.Common.{if◌then◌else◌, ◌≡◌, ◌≢◌, ◌∙◌, ◌<◌, ◌+◌, ◌++◌, ℕ, suc, Bool, true, false, eqb, nat_le, refl, sym, ap, arith, List, [], ◌∷◌, length, get_or, length-append, append-nil, append_assoc, Option, Some, None}
 use Rattle.std.specs.Option.{option_map, option_and_then}
-use Rattle.std.specs.List.{onto_first, slice_split}
+use Rattle.std.specs.List.{onto_first}
 use Rattle.std.proofs.lemmas.List.Splits.{slice_split-cons_no}
 use Rattle.std.proofs.lemmas.Bool.{ne_eqb, lt-leb, le-leb}
 use Rattle.xsk_args.specs.Words.{Text}

@@ -13,7 +13,7 @@ use Rattle.clap.specs.declared.parser.matches.MatchedArg.{MatchedArg}
 use Rattle.clap.proofs.WalkLemmas.{both, first_value-rows, raw_values-rows}
 use Rattle.xsk_args.specs.Words.{Text, said_of, spoken}
 use Rattle.xsk_args.specs.Number.{number_in}
-use Rattle.xsk_args.specs.Meaning.{Meaning, fits, fits_by, fitting, is_taken, key_of, meant, one_value, stated, stated_by, under}
+use Rattle.xsk_args.specs.Meaning.{Meaning, asked, fits, fits_by, fitting, is_taken, key_of, meant, one_value, stated, stated_by, under}
 use Rattle.xsk_args.specs.Rules.{IsToldBy, said_by}
 use Rattle.xsk_args.specs.declared.table.OptionRow.{OptionRow}
 use Rattle.clap.specs.declared.parser.matches.ArgMatches.{ArgMatches}
@@ -105,5 +105,5 @@ meant_unspoken table words none =
     ∙ ap (option_and_then (λ said. fitting (map key_of table) (λ name. said_of name said))) none
 
 pub fits_said : (said : Meaning) (row : OptionRow) (value : Option Text) → value ≡ one_value (said row.name.now)
-    → option_map_or (is_taken row.takes) value true ≡ fits said row
-fits_said said row value told = ap (λ o. option_map_or (is_taken row.takes) o true) told
+    → option_map_or (is_taken (asked row.takes)) value true ≡ fits said row
+fits_said said row value told = ap (λ o. option_map_or (is_taken (asked row.takes)) o true) told

@@ -1,6 +1,5 @@
 pub mod Words
 pub mod Number
 pub mod Program
-pub mod Wire
 pub mod Meaning
 pub mod Rules

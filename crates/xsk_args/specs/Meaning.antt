@@ -1,33 +1,47 @@
 -- What the words of a command mean. This project's own.
 use Rattle.std.specs.Prelude.{◌≡◌, codes, Bool, true, false, List, [], ◌∷◌, Option, Some, None, is_some, find, map, slice_get, option_and_then, option_map, if◌then◌else◌}
-use Rattle.std.specs.List.{list_all}
+use Rattle.std.specs.List.{list_all, list_any}
 use Rattle.std.specs.Option.{option_map_or}
 use Rattle.std.specs.Str.{bytes_eq}
 use Rattle.xsk_args.specs.Words.{Text, Stated, Said, said_of, spoken}
 use Rattle.xsk_args.specs.Number.{number_in}
 use Rattle.xsk_args.specs.Program.{programs_in}
-use Rattle.xsk_args.specs.Wire.{wire_in}
 use Rattle.xsk_args.specs.declared.table.OptionRow.{OptionRow}
 use Rattle.xsk_args.specs.declared.table.Takes.{Takes}
-use Rattle.xsk_args.specs.declared.table.Takes.TheVariants.{Nothing, Number, Program, Wire, AnyText}
+use Rattle.xsk_args.specs.declared.table.Takes.TheVariants.{Nothing, Number, Program, OneOf, AnyText}
 
-abbrev pub has_value : Takes → Bool
-has_value Nothing = false
-has_value Number = true
-has_value Program = true
-has_value Wire = true
-has_value AnyText = true
+-- what value an option takes: none, a number, programs, one of some words, or any word
+pub data Asked : Type 0 where
+  nothing : Asked
+  a_number : Asked
+  a_program : Asked
+  one_of : List Text → Asked
+  any_text : Asked
+
+abbrev pub asked : Takes → Asked
+asked Nothing = nothing
+asked Number = a_number
+asked Program = a_program
+asked (OneOf words) = one_of (map (λ word. word.now) words.now)
+asked AnyText = any_text
+
+abbrev pub has_value : Asked → Bool
+has_value nothing = false
+has_value a_number = true
+has_value a_program = true
+has_value (one_of words) = true
+has_value any_text = true
 
 -- an option by its name and by what it takes
 abbrev pub Key : Type 0
-Key = Text × Takes
+Key = Text × Asked
 
 abbrev pub stated_by : Key → Stated
 stated_by key = record { name = key.0; has_value = has_value key.1 }
 
 -- the key of a row
 abbrev pub key_of : OptionRow → Key
-key_of row = (row.name.now, row.takes)
+key_of row = (row.name.now, asked row.takes)
 
 abbrev pub stated : OptionRow → Stated
 stated row = stated_by (key_of row)
@@ -41,12 +55,12 @@ abbrev pub one_value : Option (List Text) → Option Text
 one_value = option_and_then (λ values. slice_get values 0)
 
 -- the option takes this value
-abbrev pub is_taken : Takes → Text → Bool
-is_taken Nothing value = true
-is_taken Number value = is_some (number_in value)
-is_taken Program value = is_some (programs_in value)
-is_taken Wire value = is_some (wire_in value)
-is_taken AnyText value = true
+abbrev pub is_taken : Asked → Text → Bool
+is_taken nothing value = true
+is_taken a_number value = is_some (number_in value)
+is_taken a_program value = is_some (programs_in value)
+is_taken (one_of words) value = list_any (bytes_eq value) words
+is_taken any_text value = true
 
 -- what was said under the option's name is what it takes
 abbrev pub fits_by : Meaning → Key → Bool

@@ -1,17 +1,16 @@
-//! A command's words, read by its table of options.
+//! A command's words, read by its tables of options.
 ghost use Rattle.std.specs.Prelude.{◌≡◌, None, Some, IfOk, IsErrOf, codes, is_some, map, option_and_then, option_map, string_bytes};
-ghost use Rattle.std.specs.List.{list_all};
+ghost use Rattle.std.specs.List.{flat_map, list_all, list_any};
+ghost use Rattle.std.specs.Str.{bytes_eq};
 ghost use Rattle.clap.specs.Words.{all_of, found_of, rows_of};
 ghost use Rattle.xsk_args.specs.Number.{number_in};
-ghost use Rattle.xsk_args.specs.Meaning.{HasNoFileRow, fits, is_taken, key_of, meaning, meant, one_value, under};
+ghost use Rattle.xsk_args.specs.Meaning.{HasNoFileRow, asked, fits, is_taken, key_of, meaning, meant, one_value, under};
 ghost use Rattle.xsk_args.specs.Program.{programs_in};
-ghost use Rattle.xsk_args.specs.Wire.{wire_in};
 
 use crate::command::{FILES, matches};
 use crate::number::parse_number;
 use crate::program_list::{ProgramList, parse_programs};
-use crate::wire::parse_wire;
-use crate::{ArgsError, OptionRow, Takes, Wire};
+use crate::{ArgsError, OptionRow, Takes};
 use clap::ArgMatches;
 use std::alloc::Global;
 use std::marker::Model;
@@ -37,18 +36,18 @@ impl<'a> Model for Args<'a> {
 ///
 /// An option is `--` and its name. Its value stands after `=` or is the next word, which doesn't begin with `-` then,
 /// unless it is that one character. Each option comes once at most. `--` ends the options, and the words behind it are
-/// files. There is at least one file. No row of the table is named `FILE`.
+/// files. There is at least one file. The options are those of all tables, and none of them is named `FILE`.
 ///
 /// `Usage` comes exactly where the words break one of these rules, unless memory can't be had first.
 pub fn parse<'a>(
     alloc: Global,
     name: &str,
-    table: &[OptionRow],
+    tables: &[&[OptionRow]],
     words: &'a [String],
 ) -> Result<Args<'a>, ArgsError>
-    requires { HasNoFileRow table.now }
-    ensures told { IfOk result (λ args. meaning name.now (map key_of table.now) (map string_bytes words.now) ≡ Some (under args)) }
-    ensures usage { IsErrOf result ArgsError.Usage → meaning name.now (map key_of table.now) (map string_bytes words.now) ≡ None }
+    requires { HasNoFileRow (flat_map (λ table. table.now) tables.now) }
+    ensures told { IfOk result (λ args. meaning name.now (map key_of (flat_map (λ table. table.now) tables.now)) (map string_bytes words.now) ≡ Some (under args)) }
+    ensures usage { IsErrOf result ArgsError.Usage → meaning name.now (map key_of (flat_map (λ table. table.now) tables.now)) (map string_bytes words.now) ≡ None }
 {
     let Some((first, rest)) = words.split_first() else {
         return Err(ArgsError::Usage);
@@ -56,28 +55,39 @@ pub fn parse<'a>(
     if first.as_str() != name {
         return Err(ArgsError::Usage);
     }
-    parse_behind(alloc, table, rest)
+    parse_behind(alloc, tables, rest)
 }
 
 /// Reads the words behind the command's name.
 fn parse_behind<'a>(
     alloc: Global,
-    table: &[OptionRow],
+    tables: &[&[OptionRow]],
     words: &'a [String],
 ) -> Result<Args<'a>, ArgsError>
-    requires { HasNoFileRow table.now }
-    ensures told { IfOk result (λ args. meant (map key_of table.now) (map string_bytes words.now) ≡ Some (under args)) }
-    ensures usage { IsErrOf result ArgsError.Usage → meant (map key_of table.now) (map string_bytes words.now) ≡ None }
+    requires { HasNoFileRow (flat_map (λ table. table.now) tables.now) }
+    ensures told { IfOk result (λ args. meant (map key_of (flat_map (λ table. table.now) tables.now)) (map string_bytes words.now) ≡ Some (under args)) }
+    ensures usage { IsErrOf result ArgsError.Usage → meant (map key_of (flat_map (λ table. table.now) tables.now)) (map string_bytes words.now) ≡ None }
 {
-    let matches = matches(alloc, table, words)?;
-    if !all_fit(&matches, table) {
+    let matches = matches(alloc, tables, words)?;
+    if !all_fit(&matches, tables) {
         return Err(ArgsError::Usage);
     }
     Ok(Args { matches })
 }
 
 /// Whether each option has a value that it takes.
-fn all_fit(matches: &ArgMatches<'_>, table: &[OptionRow]) -> bool
+fn all_fit(matches: &ArgMatches<'_>, tables: &[&[OptionRow]]) -> bool
+    ensures { result ≡ list_all (fits (λ name. all_of name (rows_of (found_of matches.now)))) (flat_map (λ table. table.now) tables.now) }
+{
+    for table in tables {
+        if !table_fits(matches, table) {
+            return false;
+        }
+    }
+    true
+}
+
+fn table_fits(matches: &ArgMatches<'_>, table: &[OptionRow]) -> bool
     ensures { result ≡ list_all (fits (λ name. all_of name (rows_of (found_of matches.now)))) table.now }
 {
     for row in table {
@@ -99,14 +109,25 @@ fn fits_row(matches: &ArgMatches<'_>, row: OptionRow) -> bool
 
 /// Whether an option that takes such values takes this one.
 fn takes_text(takes: Takes, text: &str) -> bool
-    ensures { result ≡ is_taken takes text.now }
+    ensures { result ≡ is_taken (asked takes) text.now }
 {
     match takes {
         Takes::Number => parse_number(text).is_some(),
         Takes::Program => parse_programs(text).is_some(),
-        Takes::Wire => parse_wire(text).is_some(),
+        Takes::OneOf(words) => is_one_of(words, text),
         Takes::Nothing | Takes::AnyText => true,
     }
+}
+
+fn is_one_of(words: &[&str], text: &str) -> bool
+    ensures { result ≡ list_any (bytes_eq text.now) (map (λ word. word.now) words.now) }
+{
+    for word in words {
+        if text == *word {
+            return true;
+        }
+    }
+    false
 }
 
 impl<'a> Args<'a> {
@@ -122,13 +143,6 @@ impl<'a> Args<'a> {
         ensures { result ≡ option_and_then programs_in (one_value (under self.now name.now)) }
     {
         parse_programs(self.text(name)?)
-    }
-
-    /// The wire that was said under the name, where one was.
-    pub fn wire(&self, name: &str) -> Option<Wire>
-        ensures { result ≡ option_and_then wire_in (one_value (under self.now name.now)) }
-    {
-        parse_wire(self.text(name)?)
     }
 
     /// The value that was said under the name, where one was.

@@ -1,5 +1,6 @@
 //! The command that clap is given, and what it finds in the words.
 ghost use Rattle.std.specs.Prelude.{◌≡◌, false, fold, map, string_bytes, IfOk, None, IsErrOf};
+ghost use Rattle.std.specs.List.{flat_map};
 ghost use Rattle.clap.specs.Words.{app_of, rule_of, with_rule};
 ghost use Rattle.xsk_args.specs.Words.{spoken};
 ghost use Rattle.xsk_args.specs.Meaning.{HasNoFileRow, stated};
@@ -16,15 +17,15 @@ pub(crate) const FILES: &str = "FILE";
 /// What clap finds in the words behind the command's name.
 pub(crate) fn matches<'a>(
     alloc: Global,
-    table: &[OptionRow],
+    tables: &[&[OptionRow]],
     words: &'a [String],
 ) -> Result<ArgMatches<'a>, ArgsError>
-    requires { HasNoFileRow table.now }
-    ensures told { IfOk result (λ m. IsToldBy m (spoken (map stated table.now) (map string_bytes words.now))) }
-    ensures usage { IsErrOf result ArgsError.Usage → spoken (map stated table.now) (map string_bytes words.now) ≡ None }
+    requires { HasNoFileRow (flat_map (λ table. table.now) tables.now) }
+    ensures told { IfOk result (λ m. IsToldBy m (spoken (map stated (flat_map (λ table. table.now) tables.now)) (map string_bytes words.now))) }
+    ensures usage { IsErrOf result ArgsError.Usage → spoken (map stated (flat_map (λ table. table.now) tables.now)) (map string_bytes words.now) ≡ None }
 {
     note_texts(words);
-    let command = command(alloc, table)?;
+    let command = command(alloc, tables)?;
     match command.try_get_matches_from(words) {
         Ok(matches) => Ok(matches),
         Err(error) => match error.kind() {
@@ -43,9 +44,9 @@ fn note_texts(words: &[String])
     }
 }
 
-/// The command, with the options of the table and no others, and at least one file.
-fn command<'a>(alloc: Global, table: &[OptionRow]) -> Result<Command<'a>, AllocError>
-    ensures { IfOk result (λ c. app_of c ≡ command_app (map stated table.now)) }
+/// The command, with the options of the tables and no others, and at least one file.
+fn command<'a>(alloc: Global, tables: &[&[OptionRow]]) -> Result<Command<'a>, AllocError>
+    ensures { IfOk result (λ c. app_of c ≡ command_app (map stated (flat_map (λ table. table.now) tables.now))) }
 {
     let files = Arg::new(alloc, FILES)
         .action(ArgAction::Append)
@@ -54,8 +55,22 @@ fn command<'a>(alloc: Global, table: &[OptionRow]) -> Result<Command<'a>, AllocE
         .no_binary_name(true)
         .disable_help_flag(true)
         .disable_help_subcommand(true);
-    let command = with_options(alloc, command, table)?;
+    let command = with_tables(alloc, command, tables)?;
     command.arg(files)
+}
+
+fn with_tables<'a>(
+    alloc: Global,
+    command: Command<'a>,
+    tables: &[&[OptionRow]],
+) -> Result<Command<'a>, AllocError>
+    ensures { IfOk result (λ c. app_of c ≡ fold (λ app row. with_rule app (option_rule (stated row))) (app_of command.entry) (flat_map (λ table. table.now) tables.now)) }
+{
+    let mut command = command;
+    for table in tables {
+        command = with_options(alloc, command, table)?;
+    }
+    Ok(command)
 }
 
 fn with_options<'a>(
@@ -81,6 +96,6 @@ fn option<'a>(alloc: Global, row: OptionRow) -> Arg<'a>
         .action(ArgAction::Set);
     match row.takes {
         Takes::Nothing => option.num_args(0),
-        Takes::Number | Takes::Program | Takes::Wire | Takes::AnyText => option,
+        Takes::Number | Takes::Program | Takes::OneOf(_) | Takes::AnyText => option,
     }
 }

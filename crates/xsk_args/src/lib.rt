@@ -1,4 +1,4 @@
-//! The words of a command, read with `clap` by a table of the command's options.
+//! The words of a command, read with `clap` by tables of the command's options.
 #![tactic(auto)]
 
 mod args;
@@ -8,7 +8,6 @@ mod number;
 mod program;
 mod program_list;
 mod table;
-mod wire;
 
 pub use args::{Args, parse};
 pub use error::ArgsError;
@@ -16,4 +15,3 @@ pub use number::parse_number;
 pub use program::{Program, parse_program};
 pub use program_list::{ProgramList, parse_programs};
 pub use table::{OptionRow, Takes};
-pub use wire::{Wire, parse_wire};

@@ -1,4 +1,5 @@
-//! The table of a command's options.
+//! The tables of a command's options.
+
 /// What value an option takes.
 #[derive(Clone, Copy, Debug, PartialEq, Eq)]
 pub enum Takes {
@@ -8,8 +9,8 @@ pub enum Takes {
     Number,
     /// One to eight of `redirect`, `pass`, `drop`, `type:HHHH`, `fixed:N`, `bounce` and `bounce:HHHH`, with commas between them.
     Program,
-    /// `wait` or `drop`.
-    Wire,
+    /// One of these words.
+    OneOf(&'static [&'static str]),
     /// Any word.
     AnyText,
 }

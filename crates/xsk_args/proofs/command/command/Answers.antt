@@ -1,4 +1,5 @@
 use Rattle.std.proofs.Common.{rules, ◌≡◌, ◌∙◌, ap, ap₂, fold, false, map}
+use Rattle.std.specs.List.{flat_map}
 use Rattle.clap.specs.Built.{AddsArg}
 use Rattle.clap.specs.Words.{App, app_of, rule_of, with_rule}
 use Rattle.xsk_args.specs.Meaning.{stated}
@@ -13,7 +14,7 @@ returns c =
     let local : c.required-files.result.global ≡ false = search rules in
     let rule : rule_of c.required-files.result ≡ files_rule = search rules in
     let start : app_of c.disable_help_subcommand-command.result ≡ no_options = search rules in
-    let app_is : app_of c.in_ok-command.command ≡ with_more no_options (map option_rule (map stated c.args.table.now)) =
-    c.in_ok-command.ensures ∙ ap (λ a. fold f a c.args.table.now) start ∙ added c.args.table.now no_options in
-    if_ok (AddsArg c.in_ok-command.command c.required-files.result) (λ r. app_of r ≡ command_app (map stated c.args.table.now))
+    let app_is : app_of c.in_ok-command.command ≡ with_more no_options (map option_rule (map stated (flat_map (λ table. table.now) c.args.tables.now))) =
+    c.in_ok-command.ensures ∙ ap (λ a. fold f a (flat_map (λ table. table.now) c.args.tables.now)) start ∙ added (flat_map (λ table. table.now) c.args.tables.now) no_options in
+    if_ok (AddsArg c.in_ok-command.command c.required-files.result) (λ r. app_of r ≡ command_app (map stated (flat_map (λ table. table.now) c.args.tables.now)))
     (λ r adds. adds.shape local ∙ ap₂ with_rule app_is rule) c.arg.result c.arg.ensures

@@ -1,4 +1,4 @@
-use Rattle.std.proofs.Common.{◌≡◌, ◌∙◌, [], Some, ap, sym, refl, rules, arith}
+use Rattle.std.proofs.Common.{◌∙◌, [], Some, ap, sym, refl, rules, arith}
 use Rattle.std.proofs.lemmas.Str.Pattern.{split_parts}
 use Rattle.xsk_args.specs.Program.{between_commas}
 use Rattle.xsk_args.proofs.Listing.{cut_at, last_more, listed_first, listed_with, none_beyond, none_here, one_more, uncut}
