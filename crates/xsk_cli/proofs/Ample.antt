@@ -17,7 +17,7 @@ use Rattle.xsk_sim.proofs.Stretch.{none_stands_still}
 use Rattle.xsk_cli.specs.Ample.{IsAmple, HasAmple, IsFinished}
 use Rattle.xsk_cli.specs.Ends.{Ends, IsComplete}
 use Rattle.xsk_cli.specs.Outcome.{stalled, setting_of, frames_of, IsIllegalIn, IsOnPackets, IsOutcome}
-use Rattle.xsk_cli.specs.Streams.{Moment}
+use Rattle.xsk_io.specs.Bay.{Moment}
 use Rattle.xsk_cli.specs.Words.{Plan, fault_in}
 use Rattle.xsk_cli.specs.declared.words.Work.{Work}
 use Rattle.xsk_cli.specs.declared.words.Work.TheVariants.{Simulate, Generate, Audit}

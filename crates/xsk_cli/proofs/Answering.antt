@@ -9,7 +9,8 @@ use Rattle.xsk_cli.specs.Ends.{ComesOf, EndsBy, Ends, AreTold, Answers, AreTaken
 use Rattle.xsk_cli.specs.Judged.{bytes_of, excess_of}
 use Rattle.xsk_cli.specs.Outcome.{Written, Outcome, long, bad, passed, stalled, made, illegal, made_lists, IsOutcome, IsOutcomeIn, bad_file}
 use Rattle.xsk_pcapng.specs.declared.reading.BadPcapng.{BadPcapng as FileCause}
-use Rattle.xsk_cli.specs.Streams.{Moment, Reach, IsTold}
+use Rattle.xsk_io.specs.Bay.{Moment}
+use Rattle.xsk_cli.specs.Streams.{Reach, IsTold}
 use Rattle.xsk_cli.specs.Words.{Plan, fault_in, most_of}
 use Rattle.xsk_cli.specs.declared.words.Work.{Work}
 use Rattle.xsk_cli.specs.declared.words.Work.TheVariants.{Simulate, Generate, Audit}

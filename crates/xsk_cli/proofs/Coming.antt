@@ -11,7 +11,8 @@ use Rattle.xsk_cli.specs.Ends.{Ends}
 use Rattle.xsk_cli.specs.Steps.{ComesTo, Comes, args_status}
 use Rattle.xsk_args.specs.declared.error.ArgsError.{ArgsError}
 use Rattle.xsk_args.specs.declared.error.ArgsError.TheVariants.{Usage as IsUsage, OutOfMemory as ArgsMemory}
-use Rattle.xsk_cli.specs.Streams.{Moment, HasLine, IsAtOnce, IsSilent, status_in}
+use Rattle.xsk_io.specs.Bay.{Moment}
+use Rattle.xsk_cli.specs.Streams.{HasLine, IsAtOnce, IsSilent, status_in}
 use Rattle.xsk_cli.specs.Words.{Plan, fault_in, no_plan}
 use Rattle.xsk_cli.specs.declared.status.Status.{Status}
 use Rattle.xsk_cli.specs.declared.status.Status.TheVariants.{Usage, Refused, OutOfMemory}

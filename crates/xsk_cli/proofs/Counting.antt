@@ -1,14 +1,15 @@
 -- Which counts of faults have changed.
-use Rattle.std.proofs.Common.{◌≡◌, ℕ, inl, inr, refl, sym, ap, ◌∙◌, subst, ⊎_elim}
+use Rattle.std.proofs.Common.{◌≡◌, ℕ, List, length, inl, inr, refl, sym, ap, ◌∙◌, subst, ⊎_elim}
 use Rattle.std.specs.Prelude.{◌≢◌, ◌⊎◌}
 use Rattle.std.proofs.lemmas.Bool.{cases_eq}
-use Rattle.xsk_io.specs.Bay.{CountsOnly}
+use Rattle.xsk_io.specs.Bay.{CountsOnly, Grows, GrowsByPart, Moment, Rose, Same}
+use Rattle.xsk_io.proofs.Steps.{IsOffered-earlier, Rose-earlier, Rose-later}
 use Rattle.xsk_io.specs.declared.bay.Kind.{Kind}
 use Rattle.xsk_io.specs.declared.bay.Kind.TheVariants.{Open, Read, Write}
 use Rattle.xsk_io.specs.declared.bay.Stream.{Stream}
 use Rattle.xsk_io.specs.declared.bay.Stream.TheVariants.{Input, Output, Report}
-use Rattle.xsk_cli.specs.Cause.{IsFault, NoOthers, Unchanged}
-use Rattle.xsk_cli.specs.Streams.{HasLine, IsOfLine}
+use Rattle.xsk_cli.specs.Cause.{IsCaused, IsFault, NeverFalls, NoOthers, Unchanged}
+use Rattle.xsk_cli.specs.Streams.{GotLine, HasLine, IsOfLine, IsSilent}
 use Rattle.xsk_cli.specs.declared.status.Status.{Status}
 use Rattle.xsk_cli.specs.declared.status.Status.TheVariants.{Done, Usage, BadCapture, ReadFault, WriteFault, OpenFault, Refused, Stalled, TooMuch, OutOfMemory, NotLegal, BadPcapng}
 
@@ -80,3 +81,31 @@ told_others old mid new status others counts silent kind stream fault line = ⊎
     (λ (has : HasLine status). but_its_own Write Report mid new counts kind stream (λ h. line (has, h.0, h.1)) ∙ others kind stream fault)
     (λ (none : HasLine status → ⊥). silent none kind stream ∙ others kind stream fault)
     (has_line status)
+
+-- the fault that was told stays told
+pub caused_then : (old mid new : Kind → Stream → ℕ) (status : Status) → NeverFalls old mid → IsCaused old mid status → NeverFalls mid new → IsCaused old new status
+caused_then old mid new Done low caused high = tt
+caused_then old mid new Usage low caused high = tt
+caused_then old mid new (BadCapture port cause) low caused high = tt
+caused_then old mid new (ReadFault port) low caused high = Rose-later _ _ _ (low Read (Input port)) caused (high Read (Input port))
+caused_then old mid new (WriteFault stream) low caused high = Rose-later _ _ _ (low Write stream) caused (high Write stream)
+caused_then old mid new (OpenFault stream) low caused high = Rose-later _ _ _ (low Open stream) caused (high Open stream)
+caused_then old mid new (Refused unlawful) low caused high = tt
+caused_then old mid new (Stalled round) low caused high = tt
+caused_then old mid new (NotLegal line) low caused high = tt
+caused_then old mid new (TooMuch excess) low caused high = tt
+caused_then old mid new OutOfMemory low caused high = tt
+caused_then old mid new (BadPcapng cause) low caused high = tt
+
+pub uncounted_then : (old mid new : Kind → Stream → ℕ) → ((kind : Kind) → Same (old kind) (mid kind)) → CountsOnly Write Report mid new → CountsOnly Write Report old new
+uncounted_then old mid new same counts =
+    (λ other differs stream. counts.0 other differs stream ∙ same other stream, λ stream differs. counts.1 stream differs ∙ same Write stream)
+
+-- a line that comes after silence
+pub line_then : (line : List ℕ) (old mid new : Moment) → NeverFalls old.faults mid.faults → IsSilent old mid → GotLine line mid new → GotLine line old new
+line_then line old mid new low silent got = (grown got.0, IsOffered-earlier _ _ _ (length line) silent.1 got.1)
+  where
+    grown : Grows (mid.held Report) (new.held Report) line ⊎ (GrowsByPart (mid.held Report) (new.held Report) line × Rose (mid.faults Write Report) (new.faults Write Report))
+        → Grows (old.held Report) (new.held Report) line ⊎ (GrowsByPart (old.held Report) (new.held Report) line × Rose (old.faults Write Report) (new.faults Write Report))
+    grown (inl whole) = inl (subst (λ held. Grows held (new.held Report) line) silent.0 whole)
+    grown (inr part) = inr (subst (λ held. GrowsByPart held (new.held Report) line) silent.0 part.0, Rose-earlier _ _ _ (low Write Report) part.1)

@@ -15,7 +15,7 @@ pub mod Making
 pub mod Outputs
 pub mod Counting
 pub mod Planning
-pub mod Lending
+pub mod Laying
 pub mod Ample
 pub mod Auditing
 pub mod Reports

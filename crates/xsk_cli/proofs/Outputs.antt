@@ -2,11 +2,11 @@
 use Rattle.std.proofs.Common.{◌≡◌, ℕ, ◌+◌, ◌<◌, ◌≤◌, ltb, true, false, List, [], length, get_or, sym, ◌∙◌, subst, ⊎_elim, arith}
 use Rattle.std.specs.Prelude.{◌≢◌}
 use Rattle.std.proofs.lemmas.Bool.{cases_eq}
-use Rattle.xsk_io.specs.Bay.{Adds, AddsNoneBut, IsOffered, SameBut}
+use Rattle.xsk_io.specs.Bay.{Adds, AddsNoneBut, IsOffered, SameBut, Moment}
 use Rattle.xsk_io.proofs.Steps.{Adds-then, IsOffered-later, IsOffered-earlier}
 use Rattle.xsk_io.specs.declared.bay.Stream.{Stream}
 use Rattle.xsk_io.specs.declared.bay.Stream.TheVariants.{Output}
-use Rattle.xsk_cli.specs.Streams.{Moment, IsTold, IsFront, AreWritten}
+use Rattle.xsk_cli.specs.Streams.{IsTold, IsFront, AreWritten}
 use Rattle.xsk_cli.specs.Steps.{FailsOutput, FailsOutputs}
 use Rattle.xsk_cli.specs.declared.failure.WriteFailure.{WriteFailure}
 use Rattle.xsk_cli.specs.declared.failure.WriteFailure.TheVariants.{Unopened, Unwritten}

@@ -8,7 +8,7 @@ use Rattle.xsk_args.specs.Meaning.{Meaning, one_value}
 use Rattle.xsk_args.specs.Number.{number_in}
 use Rattle.xsk_args.specs.Words.{Text}
 use Rattle.xsk_args.specs.declared.program.Program.{Program}
-use Rattle.xsk_args.specs.declared.wire.Wire.{Wire}
+use Rattle.xsk_turns.specs.declared.wire.Wire.{Wire}
 use Rattle.xsk_socket.specs.declared.layout.Layout.{Layout}
 use Rattle.xsk_socket.specs.Fits.{IsCount}
 use Rattle.xsk_socket.specs.Layout.{fault_of}

@@ -15,7 +15,8 @@ use Rattle.xsk_pcap.specs.Written.{IsWritable, all_packets}
 use Rattle.xsk_pcapng.specs.Written.{IsWritable as IsWritableFile}
 use Rattle.xsk_model.specs.Steering.{packet_queue, paired_port}
 use Rattle.xsk_turns.specs.Inputs.{packets_of_queue}
-use Rattle.xsk_laws.proofs.Totals.{total, total-one, total-bytes}
+use Rattle.xsk_turns.specs.Totals.{total}
+use Rattle.xsk_laws.proofs.Totals.{total-one, total-bytes}
 use Rattle.xsk_cli.specs.Judged.{packets_in, bytes_in}
 use Rattle.xsk_cli.specs.Steps.{lists_in}
 use Rattle.xsk_cli.proofs.Ports.{same_lists}

@@ -4,7 +4,7 @@ use Rattle.std.specs.Prelude.{◌≢◌, IfSome, IfErr, Result, Err}
 use Rattle.std.specs.Io.KnownBytes.{IsAtEnd}
 use Rattle.std.proofs.lemmas.Bool.{cases_eq}
 use Rattle.std.proofs.lemmas.List.{get_or-map, length-map}
-use Rattle.xsk_io.specs.Bay.{Adds, Rose, Same, SameBut}
+use Rattle.xsk_io.specs.Bay.{Adds, Rose, Same, SameBut, Moment}
 use Rattle.xsk_io.proofs.Steps.{Adds-none, Rose-earlier}
 use Rattle.xsk_io.specs.declared.bay.Kind.TheVariants.{Open, Read}
 use Rattle.xsk_io.specs.declared.bay.Stream.{Stream}
@@ -12,7 +12,7 @@ use Rattle.xsk_io.specs.declared.bay.Stream.TheVariants.{Input, Output, Report}
 use Rattle.xsk_cli.specs.Cause.{IsCaused, NeverFalls}
 use Rattle.xsk_cli.specs.Ends.{ComesOf, Ends}
 use Rattle.xsk_cli.specs.Outcome.{Written}
-use Rattle.xsk_cli.specs.Streams.{Moment, IsTold, at_input, Reaches, AreRead, AreWritten, IsReported, name_of}
+use Rattle.xsk_cli.specs.Streams.{IsTold, at_input, Reaches, AreRead, AreWritten, IsReported, name_of}
 use Rattle.xsk_cli.specs.Steps.{FailsReading, HaveRead, args_status, read_status}
 use Rattle.xsk_args.specs.declared.error.ArgsError.{ArgsError}
 use Rattle.xsk_args.specs.declared.error.ArgsError.TheVariants.{Usage as IsUsage, OutOfMemory as ArgsMemory}

@@ -19,7 +19,6 @@ use Rattle.xsk_model.specs.Sent.{all_sent, bounced_of}
 use Rattle.xsk_model.specs.Steering.{paired_port, driver_on, socket_on}
 use Rattle.xsk_model.proofs.Closings.{all_completed}
 use Rattle.xsk_model.proofs.Seats.{IsAt, below, is_at}
-use Rattle.xsk_turns.specs.declared.wire.Wire.{Wire as OwnWire}
 use Rattle.xsk_turns.specs.Inputs.{packets_of_queue}
 use Rattle.xsk_turns.specs.Sending.{bouncing}
 use Rattle.xsk_turns.specs.Turns.{Judged}
@@ -29,8 +28,8 @@ use Rattle.xsk_turns.specs.Workers.{IsRuled, ruled_by}
 use Rattle.xsk_prog.specs.declared.rule.Rule.{Rule}
 use Rattle.xsk_prog.specs.declared.rule.Verdict.{Verdict}
 use Rattle.xsk_args.specs.declared.program.Program.{Program}
-use Rattle.xsk_args.specs.declared.wire.Wire.{Wire}
-use Rattle.xsk_args.specs.declared.wire.Wire.TheVariants.{Wait}
+use Rattle.xsk_turns.specs.declared.wire.Wire.{Wire}
+use Rattle.xsk_turns.specs.declared.wire.Wire.TheVariants.{Wait}
 use Rattle.xsk_machine.specs.Acts.{sent_of}
 use Rattle.xsk_machine.proofs.Within.{by_one}
 use Rattle.xsk_workers.specs.Forwarded.{OutcomeShown, HasForwarded}
@@ -61,7 +60,7 @@ use Rattle.xsk_cli.specs.Format.{joined, outputs_of}
 use Rattle.xsk_cli.specs.Judged.{excess_of}
 use Rattle.xsk_cli.specs.declared.format.Format.{Format}
 use Rattle.xsk_stats.specs.Report.{report_text}
-use Rattle.xsk_cli.specs.Outcome.{Written, listed, setting_of, verdicts_by, wire_by, frames_of, sent_on, sent_from, going_on, going_back, rules_by, report_of, told_of, AreTextsIn, AreTextsOf, NoneGoesBack, sent_on_by}
+use Rattle.xsk_cli.specs.Outcome.{Written, listed, setting_of, verdicts_by, frames_of, sent_on, sent_from, going_on, going_back, rules_by, report_of, told_of, AreTextsIn, AreTextsOf, NoneGoesBack, sent_on_by}
 use Rattle.xsk_cli.specs.Steps.{lists_in}
 use Rattle.xsk_cli.proofs.Going.{bounced_goes_back, classes_are, expected_goes_on, are_exact_by, packets_there}
 use Rattle.xsk_cli.proofs.Judging.{limits_of}
@@ -96,7 +95,7 @@ module _ (hands : ℕ) (layout : Layout) (programs : List Program) (wire : Wire)
   verdicts = verdicts_by layout programs lists
 
   -- all workers have whole runs
-  whole_runs : AreEndedRunsBy hands manner (wire_by wire) config (map listed lists) verdicts (frames_of layout) history
+  whole_runs : AreEndedRunsBy hands manner wire config (map listed lists) verdicts (frames_of layout) history
   whole_runs = record {
     regular = regular-regular layout (fits layout accepted);
     history = legal;
@@ -105,7 +104,7 @@ module _ (hands : ℕ) (layout : Layout) (programs : List Program) (wire : Wire)
   }
 
   -- and where no socket is closed
-  steady_runs : layout.close ≡ None → AreWholeRunsBy hands manner (wire_by wire) config (map listed lists) verdicts (frames_of layout) history
+  steady_runs : layout.close ≡ None → AreWholeRunsBy hands manner wire config (map listed lists) verdicts (frames_of layout) history
   steady_runs closes = record { steady = record { regular = whole_runs.regular; closes = closes }; history = legal; drivers = whole_runs.drivers; apps = whole_runs.apps }
 
   -- what goes back of what a port received on a queue is what its driver is to bounce
@@ -147,19 +146,19 @@ module _ (hands : ℕ) (layout : Layout) (programs : List Program) (wire : Wire)
         let classes : classes_of config ≡ 1 = classes_are layout (omega (arith, driver_known layout.ports layout.queues port queue in_ports in_queues)) ∙ one in
         ap (λ ps. all_sent config ps history (driver_on config port queue)) (back port queue in_ports in_queues)
         ∙ all_completed config history (driver_on config port queue)
-        ∙ all_is_expected hands manner (wire_by wire) config (map listed lists) verdicts (frames_of layout) history port queue none (ap wire_by waits) (steady_runs closes) in_ports in_queues classes
+        ∙ all_is_expected hands manner wire config (map listed lists) verdicts (frames_of layout) history port queue none waits (steady_runs closes) in_ports in_queues classes
         ∙ expected_goes_on layout programs lists port queue 0 accepted (record { in_ports = in_ports; in_queues = in_queues; in_classes = omega (arith, classes) })
 
     -- until lanes were cut, it is what was forwarded there, and what is expected
-    forwarded_here : (port queue : ℕ) → manner.mangle ≡ None → port < layout.ports → queue < layout.queues → AreForwardedUntil (wire_by wire) config history (map listed lists) verdicts port queue (sent_here port queue)
+    forwarded_here : (port queue : ℕ) → manner.mangle ≡ None → port < layout.ports → queue < layout.queues → AreForwardedUntil wire config history (map listed lists) verdicts port queue (sent_here port queue)
     forwarded_here port queue none in_ports in_queues =
-        subst (AreForwardedUntil (wire_by wire) config history (map listed lists) verdicts port queue) (sent_as port queue in_ports in_queues)
-        (ended_are_forwarded hands manner (wire_by wire) config (map listed lists) verdicts (frames_of layout) history port queue none whole_runs in_ports in_queues)
+        subst (AreForwardedUntil wire config history (map listed lists) verdicts port queue) (sent_as port queue in_ports in_queues)
+        (ended_are_forwarded hands manner wire config (map listed lists) verdicts (frames_of layout) history port queue none whole_runs in_ports in_queues)
 
     expected_here : (port queue : ℕ) → manner.mangle ≡ None → wire ≡ Wait → port < layout.ports → queue < layout.queues → AreExpectedUntil config history (map listed lists) verdicts port queue (sent_here port queue)
     expected_here port queue none waits in_ports in_queues =
         subst (AreExpectedUntil config history (map listed lists) verdicts port queue) (sent_as port queue in_ports in_queues)
-        (ended_are_expected hands manner (wire_by wire) config (map listed lists) verdicts (frames_of layout) history port queue none (ap wire_by waits) whole_runs in_ports in_queues)
+        (ended_are_expected hands manner wire config (map listed lists) verdicts (frames_of layout) history port queue none waits whole_runs in_ports in_queues)
 
     pub texts_in : (format : Format) (told : List ℕ) (texts : Written)
         → texts.outputs ≡ outputs_of format (λ port. take layout.queues (drop (port * layout.queues) all)) (range_with_len 0 layout.ports)
@@ -171,9 +170,9 @@ module _ (hands : ℕ) (layout : Layout) (programs : List Program) (wire : Wire)
           sent = is;
           bounced = λ port queue in_ports in_queues.
               subst (λ ps. bounced_of ps (own (driver_on config port queue) history) ≡ ps) (goes_back_on port queue in_ports in_queues)
-              (ended_bounced_as_said hands manner (wire_by wire) config (map listed lists) verdicts (frames_of layout) history port queue whole_runs in_ports in_queues);
+              (ended_bounced_as_said hands manner wire config (map listed lists) verdicts (frames_of layout) history port queue whole_runs in_ports in_queues);
           forwarded = λ port queue none closes in_ports in_queues.
-              all_are_forwarded (wire_by wire) config history (map listed lists) verdicts port queue (sent_here port queue) closes (forwarded_here port queue none in_ports in_queues);
+              all_are_forwarded wire config history (map listed lists) verdicts port queue (sent_here port queue) closes (forwarded_here port queue none in_ports in_queues);
           redirected = λ port queue none closes waits in_ports in_queues.
               all_are_expected config history (map listed lists) verdicts port queue (sent_here port queue) closes (expected_here port queue none waits in_ports in_queues);
           forwarded_until = forwarded_here;
@@ -208,7 +207,7 @@ module _ (hands : ℕ) (layout : Layout) (programs : List Program) (wire : Wire)
           → IsWithin layout.queues (get_or lists port []) (get_or lists (paired_port port) []) queue (sent_here port queue) (sent_here (paired_port port) queue)
       sent_within port queue in_ports in_queues =
           let other : paired_port port < layout.ports = (are_paired layout.ports port (fits layout accepted).ports in_ports).in_ports in
-          let few = ended_is_within hands manner (wire_by wire) config (map listed lists) verdicts (frames_of layout) history port queue whole_runs in_ports in_queues in
+          let few = ended_is_within hands manner wire config (map listed lists) verdicts (frames_of layout) history port queue whole_runs in_ports in_queues in
           let mine = sent_as port queue in_ports in_queues in
           let theirs = sent_as (paired_port port) queue other in_queues in
           let here = received_there port queue in
@@ -312,14 +311,13 @@ hands_suit layout manner is = ⊎_elim
 
 -- so it is one of the command's setting
 pub forwarded_as : (layout : Layout) (programs : List Program) (wire : Wire) (manner : Manner) (c : Config) (own : List PacketList) (fs : List Frame) (lists : List (List (List ℕ))) (o : OutcomeShown) → c ≡ regular_of layout → own ≡ map listed lists
-    → fs ≡ frames_of layout → (own_wire : OwnWire) → own_wire ≡ wire_by wire → (rules : List Rule) → rules ≡ rules_by layout.sockets programs
-    → HasForwarded layout.hands (ruled_by rules own_wire manner c own) fs o → HasForwarded layout.hands (setting_of layout programs wire manner lists) (frames_of layout) o
-forwarded_as layout programs wire manner c own fs lists o is_config is_own is_frames own_wire is_wire rules are_rules h =
+    → fs ≡ frames_of layout → (rules : List Rule) → rules ≡ rules_by layout.sockets programs
+    → HasForwarded layout.hands (ruled_by rules wire manner c own) fs o → HasForwarded layout.hands (setting_of layout programs wire manner lists) (frames_of layout) o
+forwarded_as layout programs wire manner c own fs lists o is_config is_own is_frames rules are_rules h =
     subst (λ f. HasForwarded layout.hands (setting_of layout programs wire manner lists) f o) is_frames
-    (subst (λ (l : List PacketList). HasForwarded layout.hands (ruled_by (rules_by layout.sockets programs) (wire_by wire) manner (regular_of layout) l) fs o) is_own
-    (subst (λ (k : Config). HasForwarded layout.hands (ruled_by (rules_by layout.sockets programs) (wire_by wire) manner k own) fs o) is_config
-    (subst (λ (w : OwnWire). HasForwarded layout.hands (ruled_by (rules_by layout.sockets programs) w manner c own) fs o) is_wire
-    (subst (λ (rs : List Rule). HasForwarded layout.hands (ruled_by rs own_wire manner c own) fs o) are_rules h))))
+    (subst (λ (l : List PacketList). HasForwarded layout.hands (ruled_by (rules_by layout.sockets programs) wire manner (regular_of layout) l) fs o) is_own
+    (subst (λ (k : Config). HasForwarded layout.hands (ruled_by (rules_by layout.sockets programs) wire manner k own) fs o) is_config
+    (subst (λ (rs : List Rule). HasForwarded layout.hands (ruled_by rs wire manner c own) fs o) are_rules h)))
 
 -- the lists of the code
 pub lists_short : (own : List PacketList) → All HasShortPackets own → (pair : ℕ) → pair < length (lists_in own) → All IsShort (get_or (lists_in own) pair [])
@@ -339,17 +337,17 @@ one_list-writable packets short few small = record {
 
 -- a run of the code's configuration, lists and frames
 pub stalled_as : (layout : Layout) (programs : List Program) (wire : Wire) (manner : Manner) (order : ℕ) (c : Config) (own : List PacketList) (fs : List Frame) (lists : List (List (List ℕ))) (round : ℕ) → c ≡ regular_of layout → own ≡ map listed lists
-    → fs ≡ frames_of layout → (own_wire : OwnWire) → own_wire ≡ wire_by wire → (verdicts : List (List Verdict)) → IsRuled (rules_by layout.sockets programs) (record { config = c; wire = own_wire; manner = manner; packets = own; verdicts = verdicts })
-    → HasStalled (record { config = c; wire = own_wire; manner = manner; packets = own; verdicts = verdicts }) fs order round → HasStalled (setting_of layout programs wire manner lists) (frames_of layout) order round
-stalled_as layout programs wire manner order c own fs lists round is_config is_own is_frames own_wire is_wire verdicts is h =
+    → fs ≡ frames_of layout → (verdicts : List (List Verdict)) → IsRuled (rules_by layout.sockets programs) (record { config = c; wire = wire; manner = manner; packets = own; verdicts = verdicts })
+    → HasStalled (record { config = c; wire = wire; manner = manner; packets = own; verdicts = verdicts }) fs order round → HasStalled (setting_of layout programs wire manner lists) (frames_of layout) order round
+stalled_as layout programs wire manner order c own fs lists round is_config is_own is_frames verdicts is h =
     subst (λ f. HasStalled (setting_of layout programs wire manner lists) f order round) is_frames
-    (subst (λ (l : List PacketList). HasStalled (ruled_by (rules_by layout.sockets programs) (wire_by wire) manner (regular_of layout) l) fs order round) is_own
-    (subst (λ (k : Config). HasStalled (ruled_by (rules_by layout.sockets programs) (wire_by wire) manner k own) fs order round) is_config (subst (λ (w : OwnWire). HasStalled (ruled_by (rules_by layout.sockets programs) w manner c own) fs order round) is_wire (stalls_as_ruled (rules_by layout.sockets programs) (record { config = c; wire = own_wire; manner = manner; packets = own; verdicts = verdicts }) fs order round (are_exact_by layout.sockets programs) is h))))
+    (subst (λ (l : List PacketList). HasStalled (ruled_by (rules_by layout.sockets programs) wire manner (regular_of layout) l) fs order round) is_own
+    (subst (λ (k : Config). HasStalled (ruled_by (rules_by layout.sockets programs) wire manner k own) fs order round) is_config (stalls_as_ruled (rules_by layout.sockets programs) (record { config = c; wire = wire; manner = manner; packets = own; verdicts = verdicts }) fs order round (are_exact_by layout.sockets programs) is h)))
 
 pub ended_as : (layout : Layout) (programs : List Program) (wire : Wire) (manner : Manner) (order : ℕ) (c : Config) (own : List PacketList) (fs : List Frame) (lists : List (List (List ℕ))) (run : Shown) → c ≡ regular_of layout → own ≡ map listed lists
-    → fs ≡ frames_of layout → (own_wire : OwnWire) → own_wire ≡ wire_by wire → (verdicts : List (List Verdict)) → IsRuled (rules_by layout.sockets programs) (record { config = c; wire = own_wire; manner = manner; packets = own; verdicts = verdicts })
-    → HasEnded (record { config = c; wire = own_wire; manner = manner; packets = own; verdicts = verdicts }) fs order run → HasEnded (setting_of layout programs wire manner lists) (frames_of layout) order run
-ended_as layout programs wire manner order c own fs lists run is_config is_own is_frames own_wire is_wire verdicts is h =
+    → fs ≡ frames_of layout → (verdicts : List (List Verdict)) → IsRuled (rules_by layout.sockets programs) (record { config = c; wire = wire; manner = manner; packets = own; verdicts = verdicts })
+    → HasEnded (record { config = c; wire = wire; manner = manner; packets = own; verdicts = verdicts }) fs order run → HasEnded (setting_of layout programs wire manner lists) (frames_of layout) order run
+ended_as layout programs wire manner order c own fs lists run is_config is_own is_frames verdicts is h =
     subst (λ f. HasEnded (setting_of layout programs wire manner lists) f order run) is_frames
-    (subst (λ (l : List PacketList). HasEnded (ruled_by (rules_by layout.sockets programs) (wire_by wire) manner (regular_of layout) l) fs order run) is_own
-    (subst (λ (k : Config). HasEnded (ruled_by (rules_by layout.sockets programs) (wire_by wire) manner k own) fs order run) is_config (subst (λ (w : OwnWire). HasEnded (ruled_by (rules_by layout.sockets programs) w manner c own) fs order run) is_wire (ends_as_ruled (rules_by layout.sockets programs) (record { config = c; wire = own_wire; manner = manner; packets = own; verdicts = verdicts }) fs order run (are_exact_by layout.sockets programs) is h))))
+    (subst (λ (l : List PacketList). HasEnded (ruled_by (rules_by layout.sockets programs) wire manner (regular_of layout) l) fs order run) is_own
+    (subst (λ (k : Config). HasEnded (ruled_by (rules_by layout.sockets programs) wire manner k own) fs order run) is_config (ends_as_ruled (rules_by layout.sockets programs) (record { config = c; wire = wire; manner = manner; packets = own; verdicts = verdicts }) fs order run (are_exact_by layout.sockets programs) is h)))

@@ -13,17 +13,19 @@ use Rattle.xsk_cli.specs.Cause.{IsCaused}
 use Rattle.xsk_cli.specs.Ends.{Answers, AreTaken, AreTold, Ends, IsComplete, NoneRose}
 use Rattle.std.proofs.lemmas.List.FromFn.{length-map-range_with_len}
 use Rattle.xsk_pcap.specs.Written.{written}
-use Rattle.xsk_cli.specs.Forward.{AreTextsFrom, ComesShown, EndsShown, IsAfterRun, IsRefusedAs, IsRun, IsShown}
+use Rattle.xsk_cli.specs.Forward.{AreTextsFrom, ComesShown, EndsShown, IsAfterRun, IsRefusedAs, IsRun, IsShown, ended_in}
 use Rattle.xsk_cli.specs.Judged.{AreShort, excess_of}
 use Rattle.xsk_cli.specs.Outcome.{AreListsOf, IsOnPackets, IsOutcome, Outcome, Written, sent_from, bad, long, made, passed, stalled, illegal, bad_file}
 use Rattle.xsk_cli.specs.Steps.{Comes, ComesTo, HaveRead, IsBeforeRun, args_status, read_status, run_status, written_by}
-use Rattle.xsk_cli.specs.Streams.{Moment, Reach, status_in}
+use Rattle.xsk_io.specs.Bay.{Moment}
+use Rattle.xsk_cli.specs.Streams.{Reach}
 use Rattle.xsk_cli.specs.Words.{Plan, fault_in, most_of, no_plan}
 use Rattle.xsk_cli.specs.declared.format.Format.TheVariants.{Pcap, Pcapng}
 use Rattle.xsk_cli.specs.declared.failure.ReadFailure.{ReadFailure}
 use Rattle.xsk_cli.specs.declared.failure.ReadFailure.TheVariants.{Unopened as NoInput, Unread, TooLong, OutOfMemory as NoRoom}
 use Rattle.xsk_cli.specs.declared.failure.RunFailure.{RunFailure}
 use Rattle.xsk_cli.specs.declared.failure.RunFailure.TheVariants.{BadCapture as Bad, TooMuch as Excessive, Stalled as Stalls, OutOfMemory as NoMemory, NotLegal as Breaks, BadPcapng as BadFile}
+use Rattle.xsk_cli.specs.declared.threads.Ended.{Ended}
 use Rattle.xsk_cli.specs.declared.words.Work.{Work}
 use Rattle.xsk_cli.specs.declared.words.Work.TheVariants.{Simulate, Generate, Audit}
 use Rattle.xsk_cli.specs.declared.status.Status.{Status}
@@ -98,17 +100,15 @@ run_before NoMemory before wrong = wrong
 run_before (Breaks line) before wrong = wrong
 run_before (BadFile cause) before wrong = wrong
 
--- an answer with such a status, where this was shown
-pub status_shown : (answer : Result Unit Status) (status : Status) (shown other : Option OutcomeShown) (plan : Plan) (old new : Moment) → answer ≡ Err status → other ≡ shown → EndsShown shown old new status plan
-    → EndsShown other old new (status_in answer) plan
-status_shown answer status shown other plan old new is same ends =
-    subst (λ o. EndsShown o old new (status_in answer) plan) (sym same) (subst (λ r. EndsShown shown old new (status_in r) plan) (sym is) ends)
+-- an answer with such a status alone
+pub status_shown : (answer : Result Ended Status) (status : Status) (plan : Plan) (old new : Moment) → answer ≡ Err status → EndsShown None old new status plan
+    → EndsShown (ended_in answer).outcome old new (ended_in answer).status plan
+status_shown answer status plan old new is ends = subst (λ r. EndsShown (ended_in r).outcome old new (ended_in r).status plan) (sym is) ends
 
-pub comes_shown : (answer : Result Unit Status) (status : Status) (other : Option OutcomeShown) (planned : Option Plan) (old new : Moment) → answer ≡ Err status → other ≡ None → Comes planned old new status → (IsAfterRun status → ⊥)
-    → ComesTo (EndsShown other old new (status_in answer)) planned old new (status_in answer)
-comes_shown answer status other planned old new is same comes before =
-    subst (λ o. ComesTo (EndsShown o old new (status_in answer)) planned old new (status_in answer)) (sym same)
-    (subst (λ r. ComesTo (EndsShown None old new (status_in r)) planned old new (status_in r)) (sym is) (comes_before planned old new status comes before))
+pub comes_shown : (answer : Result Ended Status) (status : Status) (planned : Option Plan) (old new : Moment) → answer ≡ Err status → Comes planned old new status → (IsAfterRun status → ⊥)
+    → ComesTo (EndsShown (ended_in answer).outcome old new (ended_in answer).status) planned old new (ended_in answer).status
+comes_shown answer status planned old new is comes before =
+    subst (λ r. ComesTo (EndsShown (ended_in r).outcome old new (ended_in r).status) planned old new (ended_in r).status) (sym is) (comes_before planned old new status comes before)
 
 -- ---- what is answered
 
@@ -219,10 +219,7 @@ few_written (Generate number) accepted = omega arith
 few_written (Audit layout) accepted = omega arith
 
 -- no memory for the run, or for its texts
-module _ (answer : Result Unit Status) (plan : Plan) (bytes : List (List ℕ)) (old mid new : Moment) (have : HaveRead (most_of plan.work) plan.inputs bytes (length plan.inputs) old mid) where
-  ran_out_of : (shown : Option OutcomeShown) → ((o : OutcomeShown) → shown ≡ Some o → IsShown plan.work bytes o) → EndsShown shown old mid OutOfMemory plan
-  ran_out_of None each = ran_out_by plan bytes old mid new have (ComesShown plan.work None) ((λ no. no), tt)
-  ran_out_of (Some o) each = ran_out_by plan bytes old mid new have (ComesShown plan.work (Some o)) (each o refl)
-
-  pub ran_out_shown : (shown : Option OutcomeShown) → ((o : OutcomeShown) → shown ≡ Some o → IsShown plan.work bytes o) → answer ≡ Err OutOfMemory → EndsShown shown old mid (status_in answer) plan
-  ran_out_shown shown each is = status_shown answer OutOfMemory shown shown plan old mid is refl (ran_out_of shown each)
+module _ (plan : Plan) (bytes : List (List ℕ)) (old mid new : Moment) (have : HaveRead (most_of plan.work) plan.inputs bytes (length plan.inputs) old mid) where
+  pub ran_out_shown : (shown : Option OutcomeShown) → ((o : OutcomeShown) → shown ≡ Some o → IsShown plan.work bytes o) → EndsShown shown old mid OutOfMemory plan
+  ran_out_shown None each = ran_out_by plan bytes old mid new have (ComesShown plan.work None) ((λ no. no), tt)
+  ran_out_shown (Some o) each = ran_out_by plan bytes old mid new have (ComesShown plan.work (Some o)) (each o refl)

@@ -15,7 +15,7 @@ use Rattle.xsk_cli.specs.Words.{format_in, most_of, ports_in}
 use Rattle.xsk_cli.specs.declared.format.Format.{Format}
 use Rattle.xsk_cli.specs.declared.format.Format.TheVariants.{Pcap, Pcapng}
 use Rattle.xsk_args.specs.declared.program.Program.{Program}
-use Rattle.xsk_args.specs.declared.wire.Wire.{Wire}
+use Rattle.xsk_turns.specs.declared.wire.Wire.{Wire}
 use Rattle.xsk_cli.specs.declared.words.Work.{Work}
 use Rattle.xsk_cli.specs.declared.words.Work.TheVariants.{Simulate, Generate, Audit}
 use Rattle.xsk_socket.specs.declared.layout.Layout.{Layout}

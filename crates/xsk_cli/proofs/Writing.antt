@@ -2,7 +2,7 @@
 use Rattle.std.proofs.Common.{◌≡◌, ℕ, ◌+◌, Bool, cond, ltb, true, false, Option, Some, None, List, [], length, get_or, refl, sym, ap, ◌∙◌, subst, arith}
 use Rattle.std.specs.Prelude.{◌≢◌, Result, Err}
 use Rattle.std.specs.Io.KnownBytes.{IsAtEnd}
-use Rattle.xsk_io.specs.Bay.{Adds, AddsNoneBut, Grows, GrowsByPart, IsOffered, Same, SameBut}
+use Rattle.xsk_io.specs.Bay.{Adds, AddsNoneBut, Grows, GrowsByPart, IsOffered, Same, SameBut, Moment}
 use Rattle.xsk_io.specs.declared.bay.Stream.{Stream}
 use Rattle.xsk_io.specs.declared.bay.Stream.TheVariants.{Input, Output, Report}
 use Rattle.xsk_io.proofs.Steps.{Adds-then, IsOffered-later}
@@ -10,7 +10,7 @@ use Rattle.xsk_cli.specs.Ends.{ComesOf, EndsBy, Ends}
 use Rattle.xsk_cli.specs.Judged.{packets_in, bytes_in, excess_of}
 use Rattle.xsk_cli.specs.declared.status.Excess.{Excess}
 use Rattle.xsk_cli.specs.Outcome.{Written, made, IsOutcome, AreTextsBy, capture_of, sent_from}
-use Rattle.xsk_cli.specs.Streams.{Moment, IsTold, IsFront, at_output, at_input, Reaches, AreRead, AreWritten, HasLine, IsReported, IsSilent, name_of, status_in}
+use Rattle.xsk_cli.specs.Streams.{IsTold, IsFront, at_output, at_input, Reaches, AreRead, AreWritten, HasLine, IsReported, IsSilent, name_of, status_in}
 use Rattle.xsk_cli.specs.Steps.{FailsWriting, HaveRead, MakesNone, run_status, write_status, written_by}
 use Rattle.xsk_cli.specs.declared.words.Work.{Work}
 use Rattle.xsk_cli.specs.declared.words.Work.TheVariants.{Simulate, Generate, Audit}

@@ -6,7 +6,7 @@ use Rattle.xsk_socket.specs.Layout.{pool_in}
 use Rattle.xsk_socket.specs.declared.layout.Layout.{Layout}
 use Rattle.xsk_cli.specs.Ends.{AreTaken, AreTold, NoneRose}
 use Rattle.xsk_cli.specs.Outcome.{IsOnPackets}
-use Rattle.xsk_cli.specs.Streams.{Moment}
+use Rattle.xsk_io.specs.Bay.{Moment}
 use Rattle.xsk_cli.specs.Words.{Plan, fault_in}
 use Rattle.xsk_cli.specs.declared.words.Work.{Work}
 use Rattle.xsk_cli.specs.declared.words.Work.TheVariants.{Simulate, Generate, Audit}

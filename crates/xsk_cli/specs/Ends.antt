@@ -1,6 +1,6 @@
 -- How a command ends: what it did to its streams, and why. What it makes of its inputs is a function of their bytes.
 use Rattle.std.specs.Prelude.{◌≡◌, ℕ, ◌<◌, length, List, [], Some, None, IfSome}
-use Rattle.xsk_io.specs.Bay.{Rose}
+use Rattle.xsk_io.specs.Bay.{Rose, Moment}
 use Rattle.xsk_io.specs.declared.bay.Kind.{Kind}
 use Rattle.xsk_io.specs.declared.bay.Stream.{Stream}
 use Rattle.xsk_io.specs.declared.bay.Stream.TheVariants.{Input, Output}
@@ -9,7 +9,7 @@ use Rattle.xsk_cli.specs.declared.words.Work.{Work}
 use Rattle.xsk_cli.specs.declared.words.Work.TheVariants.{Simulate, Audit}
 use Rattle.xsk_cli.specs.Judged.{bytes_of, AreShort, AreCaptures, excess_of}
 use Rattle.xsk_cli.specs.Outcome.{Written, Outcome, long, bad, passed, stalled, made, illegal, IsOutcome, bad_file}
-use Rattle.xsk_cli.specs.Streams.{Moment, IsTold, Reach, Reaches, AreRead, AreWritten, IsReported, name_of}
+use Rattle.xsk_cli.specs.Streams.{IsTold, Reach, Reaches, AreRead, AreWritten, IsReported, name_of}
 use Rattle.xsk_cli.specs.declared.status.Excess.TheVariants.{Input as TooLong}
 use Rattle.xsk_cli.specs.declared.status.Status.{Status}
 use Rattle.xsk_cli.specs.declared.status.Status.TheVariants.{Done, Usage, BadCapture, WriteFault, OpenFault, Refused, Stalled, TooMuch, OutOfMemory, NotLegal, BadPcapng}

@@ -1,11 +1,10 @@
 -- The command `forward`: the run of `simulate` by workers in threads of their own, and not in rounds. What is read, judged,
 -- refused and written is as for `simulate`; the texts are those of the history that the run on threads shows.
-use Rattle.std.specs.Prelude.{◌≡◌, ℕ, ◌⊎◌, codes, Bool, false, List, [], ◌∷◌, length, Option, Some, None, option_and_then, unwrap_or}
+use Rattle.std.specs.Prelude.{◌≡◌, ℕ, ◌⊎◌, codes, Bool, false, List, [], ◌∷◌, ◌++◌, length, Option, Some, None, option_and_then, unwrap_or, Result, Ok, Err}
 use Rattle.std.specs.Str.{bytes_eq}
 use Rattle.xsk_args.specs.Words.{Text}
 use Rattle.xsk_args.specs.Meaning.{Key, meaning}
-use Rattle.xsk_args.specs.declared.table.Takes.TheVariants.{Nothing, Number, Program as TakesProgram, Wire as TakesWire}
-use Rattle.xsk_io.specs.Bay.{CountsOnly}
+use Rattle.xsk_io.specs.Bay.{CountsOnly, Moment}
 use Rattle.xsk_io.specs.declared.bay.Kind.{Kind}
 use Rattle.xsk_io.specs.declared.bay.Kind.TheVariants.{Write}
 use Rattle.xsk_io.specs.declared.bay.Stream.{Stream}
@@ -21,8 +20,9 @@ use Rattle.xsk_cli.specs.Judged.{AreShort, excess_of}
 use Rattle.xsk_cli.specs.Line.{line_of}
 use Rattle.xsk_cli.specs.Outcome.{AreListsOf, AreTextsIn, IsOutcome, Outcome, Written, bad, frames_of, long, made, passed, report_of, setting_of, stalled, illegal, bad_file}
 use Rattle.xsk_cli.specs.Steps.{written_by}
-use Rattle.xsk_cli.specs.Streams.{GotLine, HasLine, IsAtOnce, IsOfLine, Moment}
-use Rattle.xsk_cli.specs.Words.{Plan, fault_in, most_of, no_plan, planned_by, ports_in}
+use Rattle.xsk_cli.specs.Streams.{GotLine, HasLine, IsAtOnce, IsOfLine}
+use Rattle.xsk_cli.specs.Words.{Plan, fault_in, layout_options, most_of, no_plan, planned_by, ports_in, run_options, threads_options}
+use Rattle.xsk_cli.specs.declared.threads.Ended.{Ended}
 use Rattle.xsk_cli.specs.declared.words.Work.{Work}
 use Rattle.xsk_cli.specs.declared.words.Work.TheVariants.{Simulate, Generate, Audit}
 use Rattle.xsk_cli.specs.declared.status.Status.{Status}
@@ -30,31 +30,8 @@ use Rattle.xsk_cli.specs.declared.status.Status.TheVariants.{BadCapture, BadPcap
 
 -- ---- the words
 
--- the options of `forward`: those of `simulate` but the order of the rounds, the mangling and the journal, and the threads of each
--- application
 abbrev pub forward_options : List Key
-forward_options =
-    (codes "ports", Number)
-    ∷ (codes "queues", Number)
-    ∷ (codes "sockets", Number)
-    ∷ (codes "frames", Number)
-    ∷ (codes "chunk", Number)
-    ∷ (codes "headroom", Number)
-    ∷ (codes "rx", Number)
-    ∷ (codes "tx", Number)
-    ∷ (codes "fill", Number)
-    ∷ (codes "comp", Number)
-    ∷ (codes "gen", Number)
-    ∷ (codes "prog", TakesProgram)
-    ∷ (codes "wire", TakesWire)
-    ∷ (codes "empty", Number)
-    ∷ (codes "close", Number)
-    ∷ (codes "after", Number)
-    ∷ (codes "hands", Number)
-    ∷ (codes "sg", Nothing)
-    ∷ (codes "wakeup", Nothing)
-    ∷ (codes "pcapng", Nothing)
-    ∷ []
+forward_options = layout_options ++ run_options ++ threads_options
 
 abbrev pub forward_plan : List Text → Option Plan
 forward_plan words = option_and_then planned_by (meaning (codes "forward") forward_options words)
@@ -135,22 +112,33 @@ IsRefusedAs work inputs (stalled round) = ⊥
 IsRefusedAs work inputs (made texts) = ⊥
 IsRefusedAs work inputs (illegal line) = ⊥
 
+-- how a command ended that gave this: where it gives a status alone no run on threads has ended
+abbrev pub ended_in : Result Ended Status → Ended
+ended_in (Ok ended) = ended
+ended_in (Err status) = record { status = status; outcome = None }
+
 -- ---- the answer
 
 -- What a command answers, where this is the plan that its words ask for, a plan ends so, and inputs come to an outcome so.
 pub record IsAnswer (Ending : Plan → Type 0) (ComesTo : Work → List (List ℕ) → Outcome → Type 0) (planned : Option Plan) (old new : Moment) (status : Status) : Type 0 where
   pub usage : status ≡ Usage → planned ≡ None
   pub unplanned : planned ≡ None → (status ≡ Usage) ⊎ (status ≡ OutOfMemory)
+  -- the layout is refused for its fault alone, and exactly where it has one
   pub refusal : (unlawful : Unlawful) → status ≡ Refused unlawful → fault_in (unwrap_or planned no_plan).work ≡ Some unlawful
   pub refused : (plan : Plan) (unlawful : Unlawful) → planned ≡ Some plan → fault_in plan.work ≡ Some unlawful → (status ≡ Refused unlawful) ⊎ (status ≡ OutOfMemory)
   pub cause : IsCaused old.faults new.faults status
+  -- no call failed but the one that is told, and a write of the line
   pub others : (kind : Kind) (stream : Stream) → (IsFault status kind stream → ⊥) → (IsOfLine status kind stream → ⊥) → new.faults kind stream ≡ old.faults kind stream
   pub uncounted : IsAtOnce status → CountsOnly Write Report old.faults new.faults
+  -- what the streams are, and why; where the words are no command it has no streams
   pub ends : Ending (unwrap_or planned no_plan)
   pub line : HasLine status → GotLine (line_of status) old new
   pub check : (port : ℕ) → status ≡ BadCapture port NoCause → ⊥
   pub check_file : status ≡ BadPcapng NoFileCause → ⊥
+  -- inputs whose bytes the bay tells are answered with their outcome, of which there is one
   pub answers : (plan : Plan) (inputs : List (List ℕ)) (outcome : Outcome) → planned ≡ Some plan → AreTold plan inputs old → ComesTo plan.work inputs outcome → Answers plan.work outcome status
+  -- files within the limits, and packets that are made, come to texts or stall, and a journal to its verdict, where the layout is
+  -- accepted, no count of faults has risen and memory can be had
   pub complete : (plan : Plan) (inputs : List (List ℕ)) → planned ≡ Some plan → fault_in plan.work ≡ None → AreTold plan inputs old → AreTaken plan.work inputs → NoneRose old.faults new.faults → IsComplete status
 
 -- that of `run_plain`

@@ -6,7 +6,7 @@ use Rattle.xsk_sim.specs.Journal.{journal_of}
 use Rattle.xsk_sim.specs.Runs.{HasEnded}
 use Rattle.xsk_sim.specs.Shown.{Shown}
 use Rattle.xsk_args.specs.declared.program.Program.{Program}
-use Rattle.xsk_args.specs.declared.wire.Wire.{Wire}
+use Rattle.xsk_turns.specs.declared.wire.Wire.{Wire}
 use Rattle.xsk_socket.specs.declared.layout.Layout.{Layout}
 use Rattle.xsk_audit.specs.Telling.{IsVerdict}
 use Rattle.xsk_audit.specs.declared.auditing.Verdicts.TheVariants.{Legal}

@@ -4,9 +4,9 @@ use Rattle.std.specs.Fmt.{decimal}
 use Rattle.xsk_io.specs.declared.bay.Stream.{Stream}
 use Rattle.xsk_io.specs.declared.bay.Stream.TheVariants.{Input, Output, Report}
 use Rattle.xsk_pcap.specs.declared.reading.BadCapture.{BadCapture as Cause}
-use Rattle.xsk_pcap.specs.declared.reading.BadCapture.TheVariants.{ShortHeader, BadMagic, BadVersion, BadLink, Truncated, RecordTooLong, OutOfMemory as NoMemory}
+use Rattle.xsk_pcap.specs.declared.reading.BadCapture.TheVariants.{ShortHeader, BadMagic, BadVersion, BadLink, Truncated, RecordTooLong, OutOfMemory as NoCause}
 use Rattle.xsk_pcapng.specs.declared.reading.BadPcapng.{BadPcapng as FileCause}
-use Rattle.xsk_pcapng.specs.declared.reading.BadPcapng.TheVariants.{ShortHeader as NoHeader, BadMagic as BadFileMagic, BadVersion as BadFileVersion, Truncated as CutShort, BadBlock, SecondSection, BadLink as BadFileLink, TooManyInterfaces, OtherPacket, NoInterface, RecordTooLong as PacketTooLong, OutOfMemory as NoFileMemory}
+use Rattle.xsk_pcapng.specs.declared.reading.BadPcapng.TheVariants.{ShortHeader as NoHeader, BadMagic as BadFileMagic, BadVersion as BadFileVersion, Truncated as CutShort, BadBlock, SecondSection, BadLink as BadFileLink, TooManyInterfaces, OtherPacket, NoInterface, RecordTooLong as PacketTooLong, OutOfMemory as NoFileCause}
 use Rattle.xsk_socket.specs.declared.layout.Unlawful.{Unlawful}
 use Rattle.xsk_socket.specs.declared.layout.Unlawful.TheVariants.{Ports, Queues, Sockets, Files, Chunk, Headroom, Frames, Rx, Tx, Fill, Comp, Pool, Empty, Close, Hands}
 use Rattle.xsk_cli.specs.declared.status.Excess.{Excess}
@@ -21,7 +21,7 @@ cause_text BadVersion = codes "bad version"
 cause_text BadLink = codes "bad link"
 cause_text (Truncated at) = codes "truncated " ++ decimal at
 cause_text (RecordTooLong at) = codes "record too long " ++ decimal at
-cause_text NoMemory = codes "out of memory"
+cause_text NoCause = codes "out of memory"
 
 abbrev pub file_cause_text : FileCause → List ℕ
 file_cause_text NoHeader = codes "short header"
@@ -35,7 +35,7 @@ file_cause_text (TooManyInterfaces at) = codes "too many interfaces " ++ decimal
 file_cause_text (OtherPacket at) = codes "other packet " ++ decimal at
 file_cause_text (NoInterface at) = codes "no interface " ++ decimal at
 file_cause_text (PacketTooLong at) = codes "record too long " ++ decimal at
-file_cause_text NoFileMemory = codes "out of memory"
+file_cause_text NoFileCause = codes "out of memory"
 
 abbrev pub stream_text : Stream → List ℕ
 stream_text (Input port) = codes "input " ++ decimal port

@@ -23,8 +23,6 @@ use Rattle.xsk_sim.specs.Rounds.{AreInRounds}
 use Rattle.xsk_sim.specs.Shown.{Shown}
 use Rattle.xsk_args.specs.declared.program.Program.{Program}
 use Rattle.xsk_args.specs.declared.program.Program.TheVariants.{Redirect, Pass, Drop, EtherType, Fixed, Bounce, BounceType}
-use Rattle.xsk_args.specs.declared.wire.Wire.{Wire}
-use Rattle.xsk_args.specs.declared.wire.Wire.TheVariants.{Wait, Drop as Drops}
 use Rattle.xsk_prog.specs.Rules.{chain_verdict_of}
 use Rattle.xsk_prog.specs.declared.rule.Rule.{Rule}
 use Rattle.xsk_prog.specs.declared.rule.Rule.TheVariants.{Redirect as ByClass, Pass as PassAll, Drop as DropAll, EtherType as TypeByClass, Fixed as ByCell, Bounce as BounceAll, BounceType as BounceByType}
@@ -32,8 +30,8 @@ use Rattle.xsk_turns.specs.Inputs.{packets_of_queue}
 use Rattle.xsk_turns.specs.Turns.{bounces}
 use Rattle.xsk_prog.specs.declared.rule.Verdict.{Verdict}
 use Rattle.xsk_turns.specs.Workers.{Setting, IsWholeRun, ruled_by, verdicts_to}
-use Rattle.xsk_turns.specs.declared.wire.Wire.{Wire as OwnWire}
-use Rattle.xsk_turns.specs.declared.wire.Wire.TheVariants.{Wait as Waits, Drop as DropsNow}
+use Rattle.xsk_turns.specs.declared.wire.Wire.{Wire}
+use Rattle.xsk_turns.specs.declared.wire.Wire.TheVariants.{Wait}
 use Rattle.xsk_sim.specs.Runs.{HasEnded, HasStalled}
 use Rattle.xsk_pcap.specs.Written.{written}
 use Rattle.xsk_pcap.specs.declared.reading.BadCapture.{BadCapture as Cause}
@@ -98,16 +96,10 @@ rule_by sockets (BounceType kind) = BounceByType kind
 abbrev pub rules_by : ℕ → List Program → List Rule
 rules_by sockets programs = map (rule_by sockets) programs
 
--- what the wire does with a packet that finds too few frames on FILL or no room on RX (af_xdp.rst, "XDP_STATISTICS
--- getsockopt": rx_dropped, rx_ring_full; that it may wait is this project's own)
-abbrev pub wire_by : Wire → OwnWire
-wire_by Wait = Waits
-wire_by Drops = DropsNow
-
 -- what is run: the layout's configuration and the wire over the packets of all ports, each with the verdict that the programs'
 -- rules give it, with frames of zero bytes, in order
 abbrev pub setting_of : Layout → List Program → Wire → Manner → List (List (List ℕ)) → Setting
-setting_of layout programs wire manner lists = ruled_by (rules_by layout.sockets programs) (wire_by wire) manner (regular_of layout) (map listed lists)
+setting_of layout programs wire manner lists = ruled_by (rules_by layout.sockets programs) wire manner (regular_of layout) (map listed lists)
 
 -- the verdicts, for each pair those of its packets
 abbrev pub verdicts_by : Layout → List Program → List (List (List ℕ)) → List (List Verdict)
@@ -192,13 +184,13 @@ pub record AreTextsIn (format : Format) (layout : Layout) (programs : List Progr
   pub bounced : (port queue : ℕ) → port < layout.ports → queue < layout.queues
       → bounced_of (going_back layout programs lists port queue) (own (driver_on (regular_of layout) port queue) history) ≡ going_back layout programs lists port queue
   pub forwarded : (port queue : ℕ) → manner.mangle ≡ None → layout.close ≡ None → port < layout.ports → queue < layout.queues
-      → AreForwarded (wire_by wire) (regular_of layout) history (map listed lists) (verdicts_by layout programs lists) port queue
+      → AreForwarded wire (regular_of layout) history (map listed lists) (verdicts_by layout programs lists) port queue
       (sent_on layout programs lists history port queue)
   pub redirected : (port queue : ℕ) → manner.mangle ≡ None → layout.close ≡ None → wire ≡ Wait → port < layout.ports → queue < layout.queues
       → AreExpected (regular_of layout) (map listed lists) (verdicts_by layout programs lists) port queue
       (sent_on layout programs lists history port queue)
   pub forwarded_until : (port queue : ℕ) → manner.mangle ≡ None → port < layout.ports → queue < layout.queues
-      → AreForwardedUntil (wire_by wire) (regular_of layout) history (map listed lists) (verdicts_by layout programs lists) port queue
+      → AreForwardedUntil wire (regular_of layout) history (map listed lists) (verdicts_by layout programs lists) port queue
       (sent_on layout programs lists history port queue)
   pub redirected_until : (port queue : ℕ) → manner.mangle ≡ None → wire ≡ Wait → port < layout.ports → queue < layout.queues
       → AreExpectedUntil (regular_of layout) history (map listed lists) (verdicts_by layout programs lists) port queue

@@ -1,8 +1,8 @@
 -- What the steps of a command answer, and what they leave.
-use Rattle.std.specs.Prelude.{◌≡◌, ◌≢◌, ℕ, ◌+◌, ◌<◌, ◌⊎◌, true, false, length, List, [], map, IfSome, Option, Some, None, unwrap_or}
+use Rattle.std.specs.Prelude.{◌≡◌, ◌≢◌, ℕ, ◌+◌, ◌<◌, ◌⊎◌, true, false, length, List, [], ◌++◌, map, IfSome, Option, Some, None, unwrap_or}
 use Rattle.std.specs.List.{slice_index_or}
 use Rattle.xsk_umem.specs.PacketList.{PacketList}
-use Rattle.xsk_io.specs.Bay.{Adds, GrowsByPart, IsOffered, Rose, Same}
+use Rattle.xsk_io.specs.Bay.{Adds, GrowsByPart, IsOffered, Rose, Same, Moment}
 use Rattle.xsk_io.specs.declared.bay.Kind.{Kind}
 use Rattle.xsk_io.specs.declared.bay.Kind.TheVariants.{Open, Read, Write}
 use Rattle.xsk_io.specs.declared.bay.Stream.TheVariants.{Input, Output, Report}
@@ -13,11 +13,11 @@ use Rattle.xsk_pcapng.specs.declared.reading.BadPcapng.TheVariants.{OutOfMemory 
 use Rattle.xsk_sim.specs.Runs.{HasStalled}
 use Rattle.xsk_turns.specs.declared.manner.Manner.{Manner}
 use Rattle.xsk_cli.specs.Judged.{AreShort, AreCaptures, IsBadCapture, excess_of, bytes_of}
-use Rattle.xsk_cli.specs.Outcome.{Written, bad, passed, stalled, illegal, IsOutcome, IsAudited, IsStalledBy, setting_of, frames_of, bad_file}
+use Rattle.xsk_cli.specs.Outcome.{Written, capture_of, bad, passed, stalled, illegal, IsOutcome, IsAudited, IsStalledBy, setting_of, frames_of, bad_file}
 use Rattle.xsk_cli.specs.Format.{IsBadFile, IsFile, files_of, most_input}
 use Rattle.xsk_cli.specs.declared.format.Format.TheVariants.{Pcap, Pcapng}
 use Rattle.xsk_args.specs.declared.program.Program.{Program}
-use Rattle.xsk_args.specs.declared.wire.Wire.{Wire}
+use Rattle.xsk_turns.specs.declared.wire.Wire.{Wire}
 use Rattle.xsk_args.specs.declared.error.ArgsError.{ArgsError}
 use Rattle.xsk_args.specs.declared.error.ArgsError.TheVariants.{Usage as IsUsage, OutOfMemory as ArgsMemory}
 use Rattle.xsk_cli.specs.declared.texts.Texts.{Texts}
@@ -29,7 +29,7 @@ use Rattle.xsk_cli.specs.declared.words.Work.{Work}
 use Rattle.xsk_cli.specs.declared.words.Work.TheVariants.{Simulate, Generate, Audit}
 use Rattle.xsk_socket.specs.declared.layout.Layout.{Layout}
 use Rattle.xsk_socket.specs.declared.layout.Unlawful.{Unlawful}
-use Rattle.xsk_cli.specs.Streams.{Moment, HasLine, IsAtOnce, IsTold, IsFront, IsSilent, AreRead, AreWritten}
+use Rattle.xsk_cli.specs.Streams.{HasLine, IsAtOnce, IsTold, IsFront, IsSilent, AreRead, AreWritten}
 use Rattle.xsk_cli.specs.declared.failure.ReadFailure.{ReadFailure}
 use Rattle.xsk_cli.specs.declared.failure.ReadFailure.TheVariants.{Unopened as NoInput, Unread, TooLong, OutOfMemory as NoRoom}
 use Rattle.xsk_cli.specs.declared.failure.RunFailure.{RunFailure}
@@ -192,6 +192,14 @@ MakesNone work inputs (BadFile cause) = IsOutcome work inputs (bad_file cause)
 
 abbrev pub written_in : Texts → Written
 written_in texts = record { outputs = map (λ text. text.items) texts.outputs.items; report = texts.report.items }
+
+-- the captures of lists, and then texts
+abbrev pub outputs_with : List PacketList → List (List ℕ) → List (List ℕ)
+outputs_with lists texts = map capture_of (lists_in lists) ++ texts
+
+-- what is written where these are the outputs
+abbrev pub written_with : List PacketList → Texts → Written
+written_with lists texts = record { outputs = outputs_with lists (written_in texts).outputs; report = texts.report.items }
 
 -- ---- writing
 

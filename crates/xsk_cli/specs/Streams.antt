@@ -1,28 +1,18 @@
 -- What a command did to its streams, once it has ended. It opens its files one after another: the inputs, of which each is
 -- read to its end before the next, and then the outputs, of which each is written before the next. After them comes the
 -- report.
-use Rattle.std.specs.Prelude.{◌≡◌, ℕ, ◌+◌, ◌<◌, ◌≤◌, ◌⊎◌, nat_lt, Bool, List, [], length, take, Option, IfSome, Result, Ok, Err}
+use Rattle.std.specs.Prelude.{◌≡◌, ℕ, ◌+◌, ◌<◌, ◌≤◌, ◌⊎◌, nat_lt, List, [], length, take, Option, IfSome, Result, Ok, Err}
 use Rattle.std.specs.Io.KnownBytes.{IsAtEnd}
 use Rattle.std.specs.List.{slice_index_or}
-use Rattle.xsk_io.specs.Bay.{Adds, Grows, GrowsByPart, IsOffered, Rose}
+use Rattle.xsk_io.specs.Bay.{Adds, Grows, GrowsByPart, IsOffered, Moment, Rose}
 use Rattle.xsk_io.specs.declared.bay.Kind.{Kind}
 use Rattle.xsk_io.specs.declared.bay.Kind.TheVariants.{Write}
-use Rattle.xsk_io.specs.declared.bay.Offer.{Offer}
 use Rattle.xsk_io.specs.declared.bay.Stream.{Stream}
 use Rattle.xsk_io.specs.declared.bay.Stream.TheVariants.{Input, Output, Report}
 use Rattle.xsk_cli.specs.declared.status.Excess.TheVariants.{Input as TooLong}
 use Rattle.xsk_cli.specs.declared.status.Status.{Status}
 use Rattle.xsk_cli.specs.declared.status.Status.TheVariants.{Done, Usage, BadCapture, ReadFault, WriteFault, OpenFault, Refused, Stalled, TooMuch, OutOfMemory, NotLegal, BadPcapng}
 use Rattle.xsk_cli.specs.Words.{Plan}
-
--- what a bay tells of its streams at a moment
-pub record Moment : Type 0 where
-  pub is_open : Stream → Bool
-  pub asked : Stream → Option (List ℕ)
-  pub left : Stream → Option (List ℕ)
-  pub held : Stream → Option (List ℕ)
-  pub offers : Stream → Option (List Offer)
-  pub faults : Kind → Stream → ℕ
 
 -- the name is the text, where the bay tells it; and so of what a stream holds
 abbrev pub IsTold : Option (List ℕ) → List ℕ → Type 0

@@ -1,17 +1,15 @@
 -- Which words are a command, and what it does. This project's own.
-use Rattle.std.specs.Prelude.{ℕ, codes, Bool, List, [], ◌∷◌, length, take, drop, Option, None, Some, is_some, option_and_then, option_map, if◌then◌else◌, unwrap_or, nat_le, nat_lt, not, true, ◌==◌, ◌&&◌, ◌||◌}
+use Rattle.std.specs.Prelude.{ℕ, codes, Bool, List, [], ◌∷◌, ◌++◌, length, take, drop, Option, None, Some, is_some, option_and_then, option_map, if◌then◌else◌, unwrap_or, nat_le, nat_lt, not, true, ◌==◌, ◌&&◌, ◌||◌}
 use Rattle.std.specs.Str.{bytes_eq}
 use Rattle.xsk_args.specs.Words.{Text, is_dashed}
 use Rattle.xsk_args.specs.Number.{number_in}
 use Rattle.xsk_args.specs.Program.{programs_in}
 use Rattle.xsk_args.specs.declared.program.Program.{Program}
 use Rattle.xsk_args.specs.declared.program.Program.TheVariants.{Redirect}
-use Rattle.xsk_args.specs.Wire.{wire_in}
-use Rattle.xsk_args.specs.declared.wire.Wire.{Wire}
-use Rattle.xsk_args.specs.declared.wire.Wire.TheVariants.{Wait}
-use Rattle.xsk_args.specs.Meaning.{Key, Meaning, meaning, one_value}
-use Rattle.xsk_args.specs.declared.table.Takes.TheVariants.{Nothing, Number, Program as TakesProgram, Wire as TakesWire}
+use Rattle.xsk_args.specs.Meaning.{Key, Meaning, a_number, a_program, meaning, nothing, one_of, one_value}
 use Rattle.xsk_turns.specs.declared.manner.Manner.{Manner}
+use Rattle.xsk_turns.specs.declared.wire.Wire.{Wire}
+use Rattle.xsk_turns.specs.declared.wire.Wire.TheVariants.{Wait, Drop as Drops}
 use Rattle.xsk_socket.specs.declared.layout.Layout.{Layout}
 use Rattle.xsk_socket.specs.declared.layout.Unlawful.{Unlawful}
 use Rattle.xsk_socket.specs.Layout.{fault_of}
@@ -30,34 +28,53 @@ pub record Plan : Type 0 where
 abbrev pub no_plan : Plan
 no_plan = record { inputs = []; outputs = []; work = Generate 0 }
 
+-- ---- the options
+
+-- those that make the configuration
+abbrev pub layout_options : List Key
+layout_options =
+    (codes "ports", a_number)
+    ∷ (codes "queues", a_number)
+    ∷ (codes "sockets", a_number)
+    ∷ (codes "frames", a_number)
+    ∷ (codes "chunk", a_number)
+    ∷ (codes "headroom", a_number)
+    ∷ (codes "rx", a_number)
+    ∷ (codes "tx", a_number)
+    ∷ (codes "fill", a_number)
+    ∷ (codes "comp", a_number)
+    ∷ (codes "empty", a_number)
+    ∷ (codes "close", a_number)
+    ∷ (codes "sg", nothing)
+    ∷ (codes "wakeup", nothing)
+    ∷ []
+
+-- those of a run
+abbrev pub run_options : List Key
+run_options =
+    (codes "gen", a_number)
+    ∷ (codes "prog", a_program)
+    ∷ (codes "wire", one_of (codes "wait" ∷ codes "drop" ∷ []))
+    ∷ (codes "after", a_number)
+    ∷ (codes "pcapng", nothing)
+    ∷ []
+
+-- those of a run in rounds
+abbrev pub rounds_options : List Key
+rounds_options =
+    (codes "order", a_number)
+    ∷ (codes "mangle", a_number)
+    ∷ (codes "journal", nothing)
+    ∷ []
+
+-- those of a run on threads
+abbrev pub threads_options : List Key
+threads_options = (codes "hands", a_number) ∷ []
+
 -- ---- `simulate`
 
--- the options of `simulate`, each with a number but the program, the wire and the flags
 abbrev pub options : List Key
-options =
-    (codes "ports", Number)
-    ∷ (codes "queues", Number)
-    ∷ (codes "sockets", Number)
-    ∷ (codes "frames", Number)
-    ∷ (codes "chunk", Number)
-    ∷ (codes "headroom", Number)
-    ∷ (codes "rx", Number)
-    ∷ (codes "tx", Number)
-    ∷ (codes "fill", Number)
-    ∷ (codes "comp", Number)
-    ∷ (codes "order", Number)
-    ∷ (codes "gen", Number)
-    ∷ (codes "prog", TakesProgram)
-    ∷ (codes "wire", TakesWire)
-    ∷ (codes "empty", Number)
-    ∷ (codes "close", Number)
-    ∷ (codes "after", Number)
-    ∷ (codes "mangle", Number)
-    ∷ (codes "sg", Nothing)
-    ∷ (codes "wakeup", Nothing)
-    ∷ (codes "journal", Nothing)
-    ∷ (codes "pcapng", Nothing)
-    ∷ []
+options = layout_options ++ run_options ++ rounds_options
 
 -- the number that was said under a name, or the one that stands where none was said
 abbrev pub number_of : Meaning → Text → Option ℕ
@@ -70,9 +87,14 @@ number_or said name standing = unwrap_or (number_of said name) standing
 abbrev pub programs_of : Meaning → List Program
 programs_of said = unwrap_or (option_and_then programs_in (one_value (said (codes "prog")))) (Redirect ∷ [])
 
--- the wire that was said, or the one that waits
+-- what the wire does with a packet that finds too few frames on FILL or no room on RX (af_xdp.rst, "XDP_STATISTICS
+-- getsockopt": rx_dropped, rx_ring_full; that it may wait is this project's own): it drops it where `drop` was said, and else waits
+abbrev pub wire_named : Option Text → Wire
+wire_named None = Wait
+wire_named (Some word) = if bytes_eq word (codes "drop") then Drops else Wait
+
 abbrev pub wire_of : Meaning → Wire
-wire_of said = unwrap_or (option_and_then wire_in (one_value (said (codes "wire")))) Wait
+wire_of said = wire_named (one_value (said (codes "wire")))
 
 abbrev pub files_in : Meaning → List Text
 files_in said = unwrap_or (said (codes "FILE")) []
@@ -178,25 +200,6 @@ gen_plan _ = None
 
 -- ---- `audit`
 
--- the options of `audit`: those of `simulate` that make the configuration
-abbrev pub audit_options : List Key
-audit_options =
-    (codes "ports", Number)
-    ∷ (codes "queues", Number)
-    ∷ (codes "sockets", Number)
-    ∷ (codes "frames", Number)
-    ∷ (codes "chunk", Number)
-    ∷ (codes "headroom", Number)
-    ∷ (codes "rx", Number)
-    ∷ (codes "tx", Number)
-    ∷ (codes "fill", Number)
-    ∷ (codes "comp", Number)
-    ∷ (codes "empty", Number)
-    ∷ (codes "close", Number)
-    ∷ (codes "sg", Nothing)
-    ∷ (codes "wakeup", Nothing)
-    ∷ []
-
 -- a layout that wants no files of its ports
 abbrev pub without_files : Layout → Layout
 without_files layout = record layout { files = 0; files_wanted_per_port = 0 }
@@ -207,7 +210,7 @@ audit_plan_by said (file ∷ []) = Some (record { inputs = file ∷ []; outputs 
 audit_plan_by said _ = None
 
 abbrev pub audit_plan : List Text → Option Plan
-audit_plan words = option_and_then (λ said. audit_plan_by said (files_in said)) (meaning (codes "audit") audit_options words)
+audit_plan words = option_and_then (λ said. audit_plan_by said (files_in said)) (meaning (codes "audit") layout_options words)
 
 -- ---- all
 

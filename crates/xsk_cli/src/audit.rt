@@ -1,8 +1,8 @@
 //! The command `audit`: whether a journal is that of a legal history, for the configuration that the words ask for.
-ghost use Rattle.std.specs.Prelude.{◌≡◌, ◌∷◌, [], ◌≢◌, None, Some, IfErr, IfOk, IfSome, IfNone, false, map, string_bytes};
+ghost use Rattle.std.specs.Prelude.{◌≡◌, ◌∷◌, [], ◌≢◌, None, Some, IfErr, IfOk, IfSome, IfNone, map, string_bytes};
 ghost use Rattle.xsk_args.specs.Meaning.{under};
 ghost use Rattle.xsk_args.specs.Words.{Text};
-ghost use Rattle.xsk_io.specs.declared.bay.Stream.{Stream as AStream};
+ghost use Rattle.xsk_io.specs.Bay.{NoneOpen};
 ghost use Rattle.xsk_socket.specs.Layout.{fault_of};
 ghost use Rattle.xsk_cli.specs.Outcome.{IsAudited, legal_text, made};
 ghost use Rattle.xsk_cli.specs.Steps.{Comes, FailsAudit, written_in};
@@ -11,87 +11,25 @@ ghost use Rattle.xsk_cli.specs.Words.{audit_plan, files_in, layout_by, without_f
 
 use crate::Status;
 use crate::failure::RunFailure;
+use crate::options::LAYOUT;
 use crate::plain::run_plan;
 use crate::setup::set_up;
 use crate::texts::Texts;
 use crate::words::{Plan, Work, layout_of};
 use std::alloc::Global;
 use std::fmt::Write;
-use xsk_args::{Args, OptionRow, Takes, parse};
+use xsk_args::{Args, parse};
 use xsk_audit::{Verdicts, audit};
 use xsk_io::Bay;
 use xsk_socket::{Layout, Unlawful, check_layout};
 use xsk_umem::OutOfMemory;
 
-/// The options of `audit`: those of `simulate` that make the configuration.
-const AUDIT_OPTIONS: [OptionRow; 14] = [
-    OptionRow {
-        name: "ports",
-        takes: Takes::Number,
-    },
-    OptionRow {
-        name: "queues",
-        takes: Takes::Number,
-    },
-    OptionRow {
-        name: "sockets",
-        takes: Takes::Number,
-    },
-    OptionRow {
-        name: "frames",
-        takes: Takes::Number,
-    },
-    OptionRow {
-        name: "chunk",
-        takes: Takes::Number,
-    },
-    OptionRow {
-        name: "headroom",
-        takes: Takes::Number,
-    },
-    OptionRow {
-        name: "rx",
-        takes: Takes::Number,
-    },
-    OptionRow {
-        name: "tx",
-        takes: Takes::Number,
-    },
-    OptionRow {
-        name: "fill",
-        takes: Takes::Number,
-    },
-    OptionRow {
-        name: "comp",
-        takes: Takes::Number,
-    },
-    OptionRow {
-        name: "empty",
-        takes: Takes::Number,
-    },
-    OptionRow {
-        name: "close",
-        takes: Takes::Number,
-    },
-    OptionRow {
-        name: "sg",
-        takes: Takes::Nothing,
-    },
-    OptionRow {
-        name: "wakeup",
-        takes: Takes::Nothing,
-    },
-];
-
 /// Does what words say that begin with `audit`.
 pub(crate) fn run_audit<B: Bay>(alloc: Global, words: &[String], bay: &mut B) -> Result<(), Status>
-    requires { (stream : AStream) → B.is_open bay.old stream ≡ false }
-    ensures { Comes (audit_plan (map string_bytes words.now))
-        (record { is_open = B.is_open bay.old; asked = B.asked bay.old; left = B.left bay.old; held = B.held bay.old; offers = B.offers bay.old; faults = B.faults bay.old })
-        (record { is_open = B.is_open bay.new; asked = B.asked bay.new; left = B.left bay.new; held = B.held bay.new; offers = B.offers bay.new; faults = B.faults bay.new })
-        (status_in result) }
+    requires { NoneOpen (B.moment bay.old) }
+    ensures { Comes (audit_plan (map string_bytes words.now)) (B.moment bay.old) (B.moment bay.new) (status_in result) }
 {
-    let args = parse(alloc, "audit", &AUDIT_OPTIONS, words)?;
+    let args = parse(alloc, "audit", &[&LAYOUT], words)?;
     let Some(file) = one_file(&args) else {
         return Err(Status::Usage);
     };

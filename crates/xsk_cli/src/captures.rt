@@ -1,7 +1,6 @@
 //! The captures of the inputs, judged.
-ghost use Rattle.std.specs.Prelude.{◌≡◌, ℕ, ◌<◌, ◌≤◌, ◌^◌, None, Some, List, IfErr, IfOk, OnOk, length, map};
-ghost use Rattle.std.specs.List.{concat};
-ghost use Rattle.xsk_pcap.specs.Capture.{IsCapture, IsRefused};
+ghost use Rattle.std.specs.Prelude.{◌≡◌, ◌<◌, ◌≤◌, ◌^◌, None, Some, IfErr, IfOk, OnOk, length, map};
+ghost use Rattle.xsk_pcap.specs.Capture.{IsCapture};
 ghost use Rattle.xsk_umem.specs.PacketList.{PacketList as Packets};
 ghost use Rattle.xsk_cli.specs.Format.{most_input};
 ghost use Rattle.xsk_cli.specs.Judged.{AreCaptures, AreShort, bytes_in, excess_of, packets_in};

@@ -1,6 +1,5 @@
 //! The one file of all ports: its packets read and judged, and what the drivers sent written as one.
-ghost use Rattle.std.specs.Prelude.{◌≡◌, ◌≢◌, ◌+◌, ◌*◌, ◌∷◌, ◌<◌, ◌≤◌, ◌^◌, ◌++◌, [], None, IfErr, IfOk, OnOk, drop, length, map, take};
-ghost use Rattle.std.specs.List.{concat};
+ghost use Rattle.std.specs.Prelude.{◌≡◌, ◌+◌, ◌*◌, ◌∷◌, ◌<◌, ◌≤◌, ◌++◌, [], None, IfErr, IfOk, OnOk, drop, length, map, take};
 ghost use Rattle.xsk_pcap.specs.Written.{all_packets};
 ghost use Rattle.xsk_pcapng.specs.Pcapng.{IsPcapng};
 ghost use Rattle.xsk_pcapng.specs.Written.{IsWritable as IsWritableFile, written as written_file};
@@ -50,8 +49,10 @@ fn read_file(alloc: Global, inputs: Vec<Vec<u8>>, ports: u32) -> Result<Vec<Pack
     let bytes = inputs.pop().unwrap();
     match take(alloc, bytes, ports) {
         Ok(lists) => Ok(lists),
-        Err(BadPcapng::OutOfMemory) => Err(RunFailure::OutOfMemory),
-        Err(cause) => Err(RunFailure::BadPcapng(cause)),
+        Err(back) => match back.cause {
+            BadPcapng::OutOfMemory => Err(RunFailure::OutOfMemory),
+            cause => Err(RunFailure::BadPcapng(cause)),
+        },
     }
 }
 
@@ -166,8 +167,9 @@ fn join_from(
 }
 
 /// Appends the packets of a list to another.
-fn append(all: &mut PacketList, list: &PacketList) -> Result<(), OutOfMemory>
-    ensures { OnOk result (all.new.packets ≡ all.old.packets ++ list.now.packets) }
+pub(crate) fn append(all: &mut PacketList, list: &PacketList) -> Result<(), OutOfMemory>
+    ensures packets { OnOk result (all.new.packets ≡ all.old.packets ++ list.now.packets) }
+    ensures gaps { all.new.gaps ≡ all.old.gaps }
 {
     let bytes = u32::try_from(list.bytes()).map_err(|_| OutOfMemory)?;
     all.reserve(list.len(), bytes)?;

@@ -1,8 +1,7 @@
 //! The inputs of a command, read to their ends.
-ghost use Rattle.std.specs.Prelude.{◌≡◌, ℕ, ◌<◌, ◌≤◌, false, true, length, map, vec_len, IfErr, IfOk, OnOk};
+ghost use Rattle.std.specs.Prelude.{◌≡◌, ◌<◌, ◌≤◌, false, true, length, map, IfErr, IfOk, OnOk};
 ghost use Rattle.std.specs.Io.KnownBytes.{IsAtEnd};
-ghost use Rattle.xsk_io.specs.Bay.{Same, SameBut};
-ghost use Rattle.xsk_io.specs.declared.bay.Stream.{Stream as AStream};
+ghost use Rattle.xsk_io.specs.Bay.{Same, SameBut, NoneOpen};
 ghost use Rattle.xsk_cli.specs.Cause.{IsCaused, NeverFalls, NoOthers, Unchanged};
 ghost use Rattle.xsk_cli.specs.Ends.{Ends};
 ghost use Rattle.xsk_cli.specs.Steps.{FailsReading, HaveRead, read_status};
@@ -22,20 +21,15 @@ pub(crate) fn read_inputs<B: Bay>(
 ) -> Result<Vec<Vec<u8>>, ReadFailure>
     requires few { length names.now ≤ 4 }
     requires most { most ≤ 67108864 }
-    requires closed { (stream : AStream) → B.is_open bay.old stream ≡ false }
-    ensures read { IfOk result (λ inputs. HaveRead most (map (λ name. name.now) names.now) (map (λ bytes. bytes.items) inputs.items) (length names.now)
-        (record { is_open = B.is_open bay.old; asked = B.asked bay.old; left = B.left bay.old; held = B.held bay.old; offers = B.offers bay.old; faults = B.faults bay.old })
-        (record { is_open = B.is_open bay.new; asked = B.asked bay.new; left = B.left bay.new; held = B.held bay.new; offers = B.offers bay.new; faults = B.faults bay.new })) }
-    ensures failed { (plan : Plan) → plan.inputs ≡ map (λ name. name.now) names.now → most_of plan.work ≡ most → IfErr result (λ failure. Ends plan
-        (record { is_open = B.is_open bay.old; asked = B.asked bay.old; left = B.left bay.old; held = B.held bay.old; offers = B.offers bay.old; faults = B.faults bay.old })
-        (record { is_open = B.is_open bay.new; asked = B.asked bay.new; left = B.left bay.new; held = B.held bay.new; offers = B.offers bay.new; faults = B.faults bay.new })
-        (read_status failure)) }
-    ensures report { B.held bay.new Stream.Report ≡ B.held bay.old Stream.Report }
-    ensures offers { Same (B.offers bay.old) (B.offers bay.new) }
-    ensures falls { NeverFalls (B.faults bay.old) (B.faults bay.new) }
-    ensures unchanged { OnOk result (Unchanged (B.faults bay.old) (B.faults bay.new)) }
-    ensures others { IfErr result (λ failure. NoOthers (B.faults bay.old) (B.faults bay.new) (read_status failure)) }
-    ensures cause { IfErr result (λ failure. IsCaused (B.faults bay.old) (B.faults bay.new) (read_status failure)) }
+    requires closed { NoneOpen (B.moment bay.old) }
+    ensures read { IfOk result (λ inputs. HaveRead most (map (λ name. name.now) names.now) (map (λ bytes. bytes.items) inputs.items) (length names.now) (B.moment bay.old) (B.moment bay.new)) }
+    ensures failed { (plan : Plan) → plan.inputs ≡ map (λ name. name.now) names.now → most_of plan.work ≡ most → IfErr result (λ failure. Ends plan (B.moment bay.old) (B.moment bay.new) (read_status failure)) }
+    ensures report { (B.moment bay.new).held Stream.Report ≡ (B.moment bay.old).held Stream.Report }
+    ensures offers { Same (B.moment bay.old).offers (B.moment bay.new).offers }
+    ensures falls { NeverFalls (B.moment bay.old).faults (B.moment bay.new).faults }
+    ensures unchanged { OnOk result (Unchanged (B.moment bay.old).faults (B.moment bay.new).faults) }
+    ensures others { IfErr result (λ failure. NoOthers (B.moment bay.old).faults (B.moment bay.new).faults (read_status failure)) }
+    ensures cause { IfErr result (λ failure. IsCaused (B.moment bay.old).faults (B.moment bay.new).faults (read_status failure)) }
 {
     let mut inputs = Vec::with_capacity(alloc, names.len())?;
     for port in 0..names.len() as u32 {
@@ -55,23 +49,21 @@ fn read_input<B: Bay>(
 ) -> Result<Vec<u8>, ReadFailure>
     requires port { port < 4 }
     requires most { most ≤ 67108864 }
-    requires closed { B.is_open bay.old (Stream.Input port) ≡ false }
-    ensures bytes { IfOk result (λ bytes. IsTold (B.left bay.old (Stream.Input port)) bytes.items) }
+    requires closed { (B.moment bay.old).is_open (Stream.Input port) ≡ false }
+    ensures bytes { IfOk result (λ bytes. IsTold ((B.moment bay.old).left (Stream.Input port)) bytes.items) }
     ensures short { IfOk result (λ bytes. length bytes.items ≤ most) }
-    ensures failed { IfErr result (FailsReading most port
-        (record { is_open = B.is_open bay.old; asked = B.asked bay.old; left = B.left bay.old; held = B.held bay.old; offers = B.offers bay.old; faults = B.faults bay.old })
-        (record { is_open = B.is_open bay.new; asked = B.asked bay.new; left = B.left bay.new; held = B.held bay.new; offers = B.offers bay.new; faults = B.faults bay.new })) }
-    ensures end { OnOk result (IsAtEnd (B.left bay.new (Stream.Input port))) }
-    ensures open { OnOk result (B.is_open bay.new (Stream.Input port) ≡ true) }
-    ensures asked { IsTold (B.asked bay.new (Stream.Input port)) name.now }
-    ensures left { SameBut (Stream.Input port) (B.left bay.old) (B.left bay.new) }
-    ensures opened { SameBut (Stream.Input port) (B.is_open bay.old) (B.is_open bay.new) }
-    ensures unchanged { OnOk result (Unchanged (B.faults bay.old) (B.faults bay.new)) }
-    ensures others { IfErr result (λ failure. NoOthers (B.faults bay.old) (B.faults bay.new) (read_status failure)) }
-    ensures asked_others { SameBut (Stream.Input port) (B.asked bay.old) (B.asked bay.new) }
-    ensures held { SameBut (Stream.Input port) (B.held bay.old) (B.held bay.new) }
-    ensures offers { Same (B.offers bay.old) (B.offers bay.new) }
-    ensures falls { NeverFalls (B.faults bay.old) (B.faults bay.new) }
+    ensures failed { IfErr result (FailsReading most port (B.moment bay.old) (B.moment bay.new)) }
+    ensures end { OnOk result (IsAtEnd ((B.moment bay.new).left (Stream.Input port))) }
+    ensures open { OnOk result ((B.moment bay.new).is_open (Stream.Input port) ≡ true) }
+    ensures asked { IsTold ((B.moment bay.new).asked (Stream.Input port)) name.now }
+    ensures left { SameBut (Stream.Input port) (B.moment bay.old).left (B.moment bay.new).left }
+    ensures opened { SameBut (Stream.Input port) (B.moment bay.old).is_open (B.moment bay.new).is_open }
+    ensures unchanged { OnOk result (Unchanged (B.moment bay.old).faults (B.moment bay.new).faults) }
+    ensures others { IfErr result (λ failure. NoOthers (B.moment bay.old).faults (B.moment bay.new).faults (read_status failure)) }
+    ensures asked_others { SameBut (Stream.Input port) (B.moment bay.old).asked (B.moment bay.new).asked }
+    ensures held { SameBut (Stream.Input port) (B.moment bay.old).held (B.moment bay.new).held }
+    ensures offers { Same (B.moment bay.old).offers (B.moment bay.new).offers }
+    ensures falls { NeverFalls (B.moment bay.old).faults (B.moment bay.new).faults }
 {
     let stream = Stream::Input(port);
     if bay.open(stream, name).is_err() {

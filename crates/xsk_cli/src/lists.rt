@@ -1,8 +1,8 @@
 //! The packets of all ports, from files or made.
-ghost use Rattle.std.specs.Prelude.{◌≡◌, ◌≤◌, None, IfErr, IfOk, length, map};
+ghost use Rattle.std.specs.Prelude.{◌≡◌, None, IfErr, IfOk, length, map};
 ghost use Rattle.xsk_cli.specs.Judged.{AreShort, excess_of};
 ghost use Rattle.xsk_cli.specs.Outcome.{AreListsOf, IsOnPackets, listed};
-ghost use Rattle.xsk_cli.specs.Steps.{IsBeforeRun, MakesNone, lists_in, read_by, written_by};
+ghost use Rattle.xsk_cli.specs.Steps.{IsBeforeRun, MakesNone, lists_in, read_by};
 ghost use Rattle.xsk_cli.specs.Words.{fault_in, most_of, ports_in};
 
 use crate::captures::take_captures;

@@ -1,9 +1,10 @@
-//! The options of `simulate`.
+//! The options of the commands, in tables of those that belong together.
 
 use xsk_args::{OptionRow, Takes};
 
-/// Each has a number, but `--prog`, `--wire`, and the flags `--sg`, `--wakeup`, `--journal` and `--pcapng`. The number that stands where none was said is [`Plan`](crate::words::Plan)'s.
-pub(crate) const OPTIONS: [OptionRow; 22] = [
+/// Those that make the configuration, which `audit` has alone. The number that stands where none was said is
+/// [`layout_of`](crate::words::layout_of)'s.
+pub(crate) const LAYOUT: [OptionRow; 14] = [
     OptionRow {
         name: "ports",
         takes: Takes::Number,
@@ -45,35 +46,11 @@ pub(crate) const OPTIONS: [OptionRow; 22] = [
         takes: Takes::Number,
     },
     OptionRow {
-        name: "order",
-        takes: Takes::Number,
-    },
-    OptionRow {
-        name: "gen",
-        takes: Takes::Number,
-    },
-    OptionRow {
-        name: "prog",
-        takes: Takes::Program,
-    },
-    OptionRow {
-        name: "wire",
-        takes: Takes::Wire,
-    },
-    OptionRow {
         name: "empty",
         takes: Takes::Number,
     },
     OptionRow {
         name: "close",
-        takes: Takes::Number,
-    },
-    OptionRow {
-        name: "after",
-        takes: Takes::Number,
-    },
-    OptionRow {
-        name: "mangle",
         takes: Takes::Number,
     },
     OptionRow {
@@ -84,12 +61,50 @@ pub(crate) const OPTIONS: [OptionRow; 22] = [
         name: "wakeup",
         takes: Takes::Nothing,
     },
+];
+
+/// Those of a run, which `simulate` and `forward` have besides.
+pub(crate) const RUN: [OptionRow; 5] = [
     OptionRow {
-        name: "journal",
-        takes: Takes::Nothing,
+        name: "gen",
+        takes: Takes::Number,
+    },
+    OptionRow {
+        name: "prog",
+        takes: Takes::Program,
+    },
+    OptionRow {
+        name: "wire",
+        takes: Takes::OneOf(&["wait", "drop"]),
+    },
+    OptionRow {
+        name: "after",
+        takes: Takes::Number,
     },
     OptionRow {
         name: "pcapng",
         takes: Takes::Nothing,
     },
 ];
+
+/// Those of a run in rounds: `simulate`'s.
+pub(crate) const ROUNDS: [OptionRow; 3] = [
+    OptionRow {
+        name: "order",
+        takes: Takes::Number,
+    },
+    OptionRow {
+        name: "mangle",
+        takes: Takes::Number,
+    },
+    OptionRow {
+        name: "journal",
+        takes: Takes::Nothing,
+    },
+];
+
+/// Those of a run on threads: `forward`'s.
+pub(crate) const THREADS: [OptionRow; 1] = [OptionRow {
+    name: "hands",
+    takes: Takes::Number,
+}];

@@ -14,43 +14,42 @@ ghost use Rattle.xsk_workers.specs.Forwarded.{HasForwarded, OutcomeShown};
 ghost use Rattle.xsk_cli.specs.Forward.{AreTextsFrom, HasShown, IsRun, unmangled};
 ghost use Rattle.xsk_cli.specs.Format.{joined, outputs_of};
 ghost use Rattle.xsk_cli.specs.Judged.{excess_of};
-ghost use Rattle.xsk_cli.specs.Lent.{IsLent};
+ghost use Rattle.xsk_cli.specs.Laid.{CanBeLaid, Shows};
 ghost use Rattle.xsk_cli.specs.Outcome.{AreTextsIn, frames_of, listed, report_of, setting_of};
-ghost use Rattle.xsk_cli.specs.Steps.{lists_in, written_in};
+ghost use Rattle.xsk_cli.specs.Steps.{lists_in, written_with};
 ghost use Rattle.xsk_cli.specs.Words.{fault_in, ports_in, suits_hands, suits_in};
 
-use crate::failure::RunFailure;
 use crate::files::{file_texts, spare_text};
 use crate::format::Format;
-use crate::lent::{Lent, lend};
+use crate::laid::{Shown, lay_sent};
 use crate::programs::chain_of;
 use crate::setup::set_up;
-use crate::texts::{Texts, wire_of};
+use crate::texts::Texts;
+use crate::thread_run::ThreadRun;
 use crate::words::Work;
 use std::alloc::Global;
 use std::sync::Wait;
 use std::thread::Threads;
-use xsk_args::{ProgramList, Wire};
-use xsk_io::Gate;
+use xsk_args::ProgramList;
+use xsk_gate::Gate;
 use xsk_model::Config;
 use xsk_pcap::Capture;
 use xsk_prog::{Rule, XdpProgram};
 use xsk_socket::Layout;
 use xsk_stats::report;
-use xsk_turns::Manner;
+use xsk_turns::{Manner, Wire};
 use xsk_umem::{Frames, OutOfMemory, PacketList};
-use xsk_workers::{Outcome, forward};
+use xsk_workers::forward;
 
-/// Runs the packets of all ports on threads, and makes the texts of what the run shows. This is kept where there is no memory
-/// for them.
+/// Runs the packets of all ports on threads, and makes the texts of what the run shows. Where there is no memory for
+/// them this comes back, and nothing where there was none for the run.
 pub(crate) fn make_shown<R: Threads + Wait + Sync, G: Gate + Sync>(
     rt: &R,
     alloc: Global,
     work: &Work,
     lists: Vec<PacketList>,
     gate: &G,
-    outcome: &mut Option<Outcome>,
-) -> Result<Lent, RunFailure>
+) -> Result<Shown, Option<ThreadRun>>
     requires accepted { fault_in work.now ≡ None }
     requires suits { suits_in work.now ≡ true }
     requires runs { IsRun work.now }
@@ -58,10 +57,9 @@ pub(crate) fn make_shown<R: Threads + Wait + Sync, G: Gate + Sync>(
     requires within { excess_of (lists_in lists.items) ≡ None }
     requires listed { lists.items ≡ map listed (lists_in lists.items) }
     requires short { All HasShortPackets lists.items }
-    requires none { outcome.old ≡ None }
-    ensures made { IfOk result (λ lent. (o : OutcomeShown) × IsLent lent o × HasShown work.now (lists_in lists.items) o × AreTextsFrom work.now (lists_in lists.items) o (written_in lent.texts)) }
-    ensures shown { (o : OutcomeShown) → outcome.new ≡ Some o → HasShown work.now (lists_in lists.items) o }
-    ensures failed { IfErr result (λ failure. failure ≡ RunFailure.OutOfMemory) }
+    ensures made { IfOk result (λ made. (o : OutcomeShown) × Shows made o × HasShown work.now (lists_in lists.items) o × AreTextsFrom work.now (lists_in lists.items) o (written_with made.lists.items made.texts)) }
+    ensures laid { IfOk result (λ made. All CanBeLaid made.lists.items) }
+    ensures shown { IfErr result (λ outcome. (o : OutcomeShown) → outcome ≡ Some o → HasShown work.now (lists_in lists.items) o) }
 {
     match work {
         Work::Simulate {
@@ -72,14 +70,14 @@ pub(crate) fn make_shown<R: Threads + Wait + Sync, G: Gate + Sync>(
             format,
             ..
         } => run_shown(
-            rt, alloc, *format, layout, programs, *wire, *manner, lists, gate, outcome,
+            rt, alloc, *format, layout, programs, *wire, *manner, lists, gate,
         ),
         Work::Generate { .. } | Work::Audit { .. } => unreachable!(),
     }
 }
 
-/// Runs the packets of all ports on threads, and makes the texts of what the run shows. This is kept where there is no memory
-/// for them.
+/// Runs the packets of all ports on threads, and makes the texts of what the run shows. Where there is no memory for
+/// them this comes back, and nothing where there was none for the run.
 #[allow(clippy::too_many_arguments)]
 fn run_shown<R: Threads + Wait + Sync, G: Gate + Sync>(
     rt: &R,
@@ -91,23 +89,25 @@ fn run_shown<R: Threads + Wait + Sync, G: Gate + Sync>(
     manner: Manner,
     lists: Vec<PacketList>,
     gate: &G,
-    outcome: &mut Option<Outcome>,
-) -> Result<Lent, RunFailure>
+) -> Result<Shown, Option<ThreadRun>>
     requires accepted { fault_of layout.now ≡ None }
     requires suits { suits_hands layout.now manner ≡ true }
     requires ports { length lists.items ≡ layout.now.ports }
     requires within { excess_of (lists_in lists.items) ≡ None }
     requires listed { lists.items ≡ map listed (lists_in lists.items) }
     requires short { All HasShortPackets lists.items }
-    requires none { outcome.old ≡ None }
-    ensures made { IfOk result (λ lent. (o : OutcomeShown) × IsLent lent o × HasForwarded layout.now.hands (setting_of layout.now programs.now wire (unmangled manner) (lists_in lists.items)) (frames_of layout.now) o
-        × AreTextsIn format layout.now programs.now wire (unmangled manner) (lists_in lists.items) o.history (report_of layout.now programs.now wire (unmangled manner) (lists_in lists.items) o.history) (written_in lent.texts)) }
-    ensures shown { (o : OutcomeShown) → outcome.new ≡ Some o → HasForwarded layout.now.hands (setting_of layout.now programs.now wire (unmangled manner) (lists_in lists.items)) (frames_of layout.now) o }
-    ensures failed { IfErr result (λ failure. failure ≡ RunFailure.OutOfMemory) }
+    ensures made { IfOk result (λ made. (o : OutcomeShown) × Shows made o × HasForwarded layout.now.hands (setting_of layout.now programs.now wire (unmangled manner) (lists_in lists.items)) (frames_of layout.now) o
+        × AreTextsIn format layout.now programs.now wire (unmangled manner) (lists_in lists.items) o.history (report_of layout.now programs.now wire (unmangled manner) (lists_in lists.items) o.history) (written_with made.lists.items made.texts)) }
+    ensures laid { IfOk result (λ made. All CanBeLaid made.lists.items) }
+    ensures shown { IfErr result (λ outcome. (o : OutcomeShown) → outcome ≡ Some o → HasForwarded layout.now.hands (setting_of layout.now programs.now wire (unmangled manner) (lists_in lists.items)) (frames_of layout.now) o) }
 {
-    let (config, frames) = set_up(alloc, layout)?;
-    let shared = config.copy(alloc)?;
-    let shown = forward_lists(
+    let Ok((config, frames)) = set_up(alloc, layout) else {
+        return Err(None);
+    };
+    let Ok(shared) = config.copy(alloc) else {
+        return Err(None);
+    };
+    let Ok(shown) = forward_lists(
         rt,
         alloc,
         layout,
@@ -118,42 +118,13 @@ fn run_shown<R: Threads + Wait + Sync, G: Gate + Sync>(
         manner,
         lists.as_slice(),
         gate,
-    )?;
+    ) else {
+        return Err(None);
+    };
     let spare = spare_text(alloc, lists);
-    let lent = keep_shown(alloc, format, layout, &shared, spare, shown, outcome)?;
-    Ok(lent)
-}
-
-/// Makes the texts of what a run shows, and keeps that where there is no memory for them.
-fn keep_shown(
-    alloc: Global,
-    format: Format,
-    layout: &Layout,
-    config: &Config,
-    spare: Vec<u8>,
-    shown: Outcome,
-    outcome: &mut Option<Outcome>,
-) -> Result<Lent, OutOfMemory>
-    requires regular { IsRegular config.now }
-    requires drivers { length shown.figures.drivers ≡ length config.now.pairs }
-    requires ports { layout.now.ports ≤ 4 }
-    requires few { layout.now.ports * layout.now.queues < 4294967296 }
-    requires sent { length shown.sent ≡ pairs_in layout.now }
-    requires short { All (λ (list : List (List ℕ)). All IsShort list) shown.sent }
-    requires writable { (port count : ℕ) → port < layout.now.ports → count ≤ layout.now.queues → IsWritable (take count (drop (port * layout.now.queues) shown.sent)) }
-    requires file { IsWritableFile (joined layout.now.ports layout.now.queues shown.sent) }
-    ensures lent { IfOk result (λ lent. IsLent lent shown) }
-    ensures outputs { IfOk result (λ lent. (written_in lent.texts).outputs ≡ outputs_of format (λ port. take layout.now.queues (drop (port * layout.now.queues) shown.sent)) (range_with_len 0 layout.now.ports)) }
-    ensures report { IfOk result (λ lent. (written_in lent.texts).report ≡ report_text config.now shown.figures) }
-    ensures kept { OnErr result (outcome.new ≡ Some shown) }
-    ensures unkept { OnOk result (outcome.new ≡ outcome.old) }
-{
-    match text_shown(alloc, format, layout, config, spare, shown) {
-        Ok(lent) => Ok(lent),
-        Err(shown) => {
-            *outcome = Some(shown);
-            Err(OutOfMemory)
-        }
+    match text_shown(alloc, format, layout, &shared, spare, shown) {
+        Ok(made) => Ok(made),
+        Err(shown) => Err(Some(shown)),
     }
 }
 
@@ -165,8 +136,8 @@ fn text_shown(
     layout: &Layout,
     config: &Config,
     spare: Vec<u8>,
-    shown: Outcome,
-) -> Result<Lent, Outcome>
+    shown: ThreadRun,
+) -> Result<Shown, ThreadRun>
     requires regular { IsRegular config.now }
     requires drivers { length shown.figures.drivers ≡ length config.now.pairs }
     requires ports { layout.now.ports ≤ 4 }
@@ -175,13 +146,14 @@ fn text_shown(
     requires short { All (λ (list : List (List ℕ)). All IsShort list) shown.sent }
     requires writable { (port count : ℕ) → port < layout.now.ports → count ≤ layout.now.queues → IsWritable (take count (drop (port * layout.now.queues) shown.sent)) }
     requires file { IsWritableFile (joined layout.now.ports layout.now.queues shown.sent) }
-    ensures lent { IfOk result (λ lent. IsLent lent shown) }
-    ensures outputs { IfOk result (λ lent. (written_in lent.texts).outputs ≡ outputs_of format (λ port. take layout.now.queues (drop (port * layout.now.queues) shown.sent)) (range_with_len 0 layout.now.ports)) }
-    ensures report { IfOk result (λ lent. (written_in lent.texts).report ≡ report_text config.now shown.figures) }
+    ensures shows { IfOk result (λ made. Shows made shown) }
+    ensures laid { IfOk result (λ made. All CanBeLaid made.lists.items) }
+    ensures outputs { IfOk result (λ made. (written_with made.lists.items made.texts).outputs ≡ outputs_of format (λ port. take layout.now.queues (drop (port * layout.now.queues) shown.sent)) (range_with_len 0 layout.now.ports)) }
+    ensures report { IfOk result (λ made. (written_with made.lists.items made.texts).report ≡ report_text config.now shown.figures) }
     ensures refused { IfErr result (λ other. other ≡ shown) }
 {
     match format {
-        Format::Pcap => lend_shown(alloc, layout, config, shown),
+        Format::Pcap => lay_shown(alloc, layout, config, shown),
         Format::Pcapng => file_shown(alloc, layout, config, spare, shown),
     }
 }
@@ -193,17 +165,18 @@ fn file_shown(
     layout: &Layout,
     config: &Config,
     spare: Vec<u8>,
-    shown: Outcome,
-) -> Result<Lent, Outcome>
+    shown: ThreadRun,
+) -> Result<Shown, ThreadRun>
     requires regular { IsRegular config.now }
     requires drivers { length shown.figures.drivers ≡ length config.now.pairs }
     requires ports { layout.now.ports ≤ 4 }
     requires few { layout.now.ports * layout.now.queues < 4294967296 }
     requires sent { length shown.sent ≡ pairs_in layout.now }
     requires file { IsWritableFile (joined layout.now.ports layout.now.queues shown.sent) }
-    ensures lent { IfOk result (λ lent. IsLent lent shown) }
-    ensures outputs { IfOk result (λ lent. (written_in lent.texts).outputs ≡ written_file (joined layout.now.ports layout.now.queues shown.sent) ∷ []) }
-    ensures report { IfOk result (λ lent. (written_in lent.texts).report ≡ report_text config.now shown.figures) }
+    ensures shows { IfOk result (λ made. Shows made shown) }
+    ensures laid { IfOk result (λ made. All CanBeLaid made.lists.items) }
+    ensures outputs { IfOk result (λ made. (written_with made.lists.items made.texts).outputs ≡ written_file (joined layout.now.ports layout.now.queues shown.sent) ∷ []) }
+    ensures report { IfOk result (λ made. (written_with made.lists.items made.texts).report ≡ report_text config.now shown.figures) }
     ensures refused { IfErr result (λ other. other ≡ shown) }
 {
     let Ok(report) = report(alloc, config, shown.figures()) else {
@@ -214,24 +187,24 @@ fn file_shown(
     let outputs = file_texts(alloc, layout.ports, layout.queues, spare, sent.as_slice());
     shown.put_sent(sent);
     match outputs {
-        Ok(outputs) => Ok(Lent {
+        Ok(outputs) => Ok(Shown {
             texts: Texts { outputs, report },
+            lists: Vec::new(alloc),
             outcome: shown,
-            loan: None,
         }),
         Err(OutOfMemory) => Err(shown),
     }
 }
 
-/// Makes the texts of what a run shows: a capture for each port, and the report. With one queue a port the captures are the
-/// lists' own texts.
+/// Makes the texts of what a run shows: a capture for each port, and the report. With one queue a port the captures are written
+/// where the lists stand.
 #[allow(clippy::result_large_err)]
-fn lend_shown(
+fn lay_shown(
     alloc: Global,
     layout: &Layout,
     config: &Config,
-    shown: Outcome,
-) -> Result<Lent, Outcome>
+    shown: ThreadRun,
+) -> Result<Shown, ThreadRun>
     requires regular { IsRegular config.now }
     requires drivers { length shown.figures.drivers ≡ length config.now.pairs }
     requires ports { layout.now.ports ≤ 4 }
@@ -239,22 +212,23 @@ fn lend_shown(
     requires sent { length shown.sent ≡ pairs_in layout.now }
     requires short { All (λ (list : List (List ℕ)). All IsShort list) shown.sent }
     requires writable { (port count : ℕ) → port < layout.now.ports → count ≤ layout.now.queues → IsWritable (take count (drop (port * layout.now.queues) shown.sent)) }
-    ensures lent { IfOk result (λ lent. IsLent lent shown) }
-    ensures outputs { IfOk result (λ lent. (written_in lent.texts).outputs ≡ map (λ port. written (take layout.now.queues (drop (port * layout.now.queues) shown.sent))) (range_with_len 0 layout.now.ports)) }
-    ensures report { IfOk result (λ lent. (written_in lent.texts).report ≡ report_text config.now shown.figures) }
+    ensures shows { IfOk result (λ made. Shows made shown) }
+    ensures laid { IfOk result (λ made. All CanBeLaid made.lists.items) }
+    ensures outputs { IfOk result (λ made. (written_with made.lists.items made.texts).outputs ≡ map (λ port. written (take layout.now.queues (drop (port * layout.now.queues) shown.sent))) (range_with_len 0 layout.now.ports)) }
+    ensures report { IfOk result (λ made. (written_with made.lists.items made.texts).report ≡ report_text config.now shown.figures) }
     ensures refused { IfErr result (λ other. other ≡ shown) }
 {
     let Ok(report) = report(alloc, config, shown.figures()) else {
         return Err(shown);
     };
     if layout.queues == 1 {
-        return lend(alloc, layout.ports, report, shown);
+        return lay_sent(alloc, report, shown);
     }
     match shown_outputs(alloc, layout.ports, layout.queues, &shown) {
-        Ok(outputs) => Ok(Lent {
+        Ok(outputs) => Ok(Shown {
             texts: Texts { outputs, report },
+            lists: Vec::new(alloc),
             outcome: shown,
-            loan: None,
         }),
         Err(OutOfMemory) => Err(shown),
     }
@@ -273,7 +247,7 @@ fn forward_lists<R: Threads + Wait + Sync, G: Gate + Sync>(
     manner: Manner,
     lists: &[PacketList],
     gate: &G,
-) -> Result<Outcome, OutOfMemory>
+) -> Result<ThreadRun, OutOfMemory>
     requires accepted { fault_of layout.now ≡ None }
     requires config { config ≡ regular_of layout.now }
     requires regular { IsRegular config }
@@ -293,7 +267,6 @@ fn forward_lists<R: Threads + Wait + Sync, G: Gate + Sync>(
             move |packet: &[u8], queue: u32| rule.verdict(packet, queue),
         )
     })?;
-    let wire = wire_of(wire);
     let manner = Manner {
         mangle: None,
         after: manner.after,
@@ -310,7 +283,7 @@ fn forward_lists<R: Threads + Wait + Sync, G: Gate + Sync>(
         manner,
         layout.hands,
     )?;
-    Ok(outcome)
+    Ok(ThreadRun { outcome })
 }
 
 /// The captures of what the drivers sent, one for each port.
@@ -319,7 +292,7 @@ fn shown_outputs(
     alloc: Global,
     ports: u32,
     queues: u32,
-    outcome: &Outcome,
+    outcome: &ThreadRun,
 ) -> Result<Vec<Vec<u8>>, OutOfMemory>
     requires ports { ports ≤ 4 }
     requires sent { length outcome.now.sent ≡ ports * queues }
@@ -338,7 +311,7 @@ fn shown_outputs(
 /// The capture of what so many drivers sent, from one on.
 fn shown_output(
     alloc: Global,
-    outcome: &Outcome,
+    outcome: &ThreadRun,
     first: u32,
     count: u32,
 ) -> Result<Vec<u8>, OutOfMemory>

@@ -8,7 +8,7 @@ ghost use Rattle.xsk_sim.specs.Runs.{HasEnded};
 ghost use Rattle.xsk_sim.specs.Shown.{HasShortPackets};
 ghost use Rattle.xsk_cli.specs.Format.{joined, outputs_of};
 ghost use Rattle.xsk_cli.specs.Judged.{excess_of};
-ghost use Rattle.xsk_cli.specs.Outcome.{AreTextsBy, AreTextsOf, IsOnPackets, capture_of, frames_of, listed, made_lists, setting_of, wire_by};
+ghost use Rattle.xsk_cli.specs.Outcome.{AreTextsBy, AreTextsOf, IsOnPackets, capture_of, frames_of, listed, made_lists, setting_of};
 ghost use Rattle.xsk_cli.specs.Steps.{FailsMaking, FailsRunning, lists_in, written_by, written_in};
 ghost use Rattle.xsk_cli.specs.Words.{fault_in, ports_in};
 ghost use Rattle.xsk_cli.specs.declared.words.Work.TheVariants.{Generate};
@@ -29,14 +29,14 @@ use crate::setup::set_up;
 use crate::words::Work;
 use std::alloc::Global;
 use std::vec::IntoIter;
-use xsk_args::{ProgramList, Wire};
+use xsk_args::ProgramList;
 use xsk_model::Config;
 use xsk_pcap::Capture;
 use xsk_prog::{Rule, XdpProgram};
 use xsk_sim::{Run, SimError, append_journal, simulate};
 use xsk_socket::Layout;
 use xsk_stats::report;
-use xsk_turns::Manner;
+use xsk_turns::{Manner, Wire};
 use xsk_umem::{Frames, OutOfMemory, PacketList};
 
 /// What is written: a text for each output, and the report.
@@ -170,21 +170,10 @@ fn run_lists(
             move |packet: &[u8], queue: u32| rule.verdict(packet, queue),
         )
     })?;
-    let wire = wire_of(wire);
     match simulate(alloc, config, frames, lists, &chain, wire, order, manner) {
         Ok(run) => Ok(run),
         Err(SimError::Stalled { round }) => Err(RunFailure::Stalled { round }),
         Err(SimError::OutOfMemory) => Err(RunFailure::OutOfMemory),
-    }
-}
-
-/// The wire of the workers.
-pub(crate) fn wire_of(wire: Wire) -> xsk_sim::Wire
-    ensures { result ≡ wire_by wire }
-{
-    match wire {
-        Wire::Wait => xsk_sim::Wire::Wait,
-        Wire::Drop => xsk_sim::Wire::Drop,
     }
 }
 

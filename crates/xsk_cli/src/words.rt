@@ -1,16 +1,16 @@
 //! What the words of a command ask for.
-ghost use Rattle.std.specs.Prelude.{◌≡◌, None, Some, [], ◌∷◌, Bool, IfErr, IfOk, IfSome, IfNone, IsTrue, ◌↔◌, OnOk, false, if◌then◌else◌, length, map, string_bytes, true};
+ghost use Rattle.std.specs.Prelude.{◌≡◌, None, Some, [], ◌∷◌, IfErr, IfOk, IfSome, IfNone, OnOk, false, if◌then◌else◌, length, map, string_bytes, true};
 ghost use Rattle.xsk_args.specs.Meaning.{under};
 ghost use Rattle.xsk_args.specs.Words.{is_dashed};
 ghost use Rattle.xsk_socket.specs.Layout.{fault_of};
 ghost use Rattle.xsk_cli.specs.Format.{files_of};
 ghost use Rattle.xsk_cli.specs.Steps.{plan_in};
-ghost use Rattle.xsk_cli.specs.Words.{are_enough, are_made, counted, do_go_together, fault_in, files_counted, files_in, format_of, gen_plan, go_together, has_files, is_planned, layout_by, manner_of, most_of, plan_by, programs_of as programs_said, wanted_per_port};
+ghost use Rattle.xsk_cli.specs.Words.{are_enough, counted, do_go_together, fault_in, files_counted, files_in, format_of, gen_plan, go_together, has_files, is_planned, layout_by, manner_of, most_of, plan_by, programs_of as programs_said, wanted_per_port, wire_of};
 
 use crate::format::Format;
-use xsk_args::{Args, ArgsError, Program, ProgramList, Wire, parse_number};
+use xsk_args::{Args, ArgsError, Program, ProgramList, parse_number};
 use xsk_socket::{Layout, Unlawful, check_layout};
-use xsk_turns::Manner;
+use xsk_turns::{Manner, Wire};
 
 /// The most bytes of a journal.
 const MOST_OF_JOURNAL: usize = 67_108_864;
@@ -77,7 +77,7 @@ impl<'p, 'w> Plan<'p, 'w> {
             return Err(Unlawful::Files(0));
         };
         let programs = programs_of(args);
-        let wire = args.wire("wire").unwrap_or(Wire::Wait);
+        let wire = wire_of(args);
         let order = args.number("order").unwrap_or(0);
         let number = args.number("gen");
         let format = format_said(args);
@@ -107,6 +107,16 @@ fn programs_of(args: &Args<'_>) -> ProgramList
     match args.programs("prog") {
         Some(programs) => programs,
         None => ProgramList::one(Program::Redirect),
+    }
+}
+
+/// The wire that was asked for, or the one that waits.
+fn wire_of(args: &Args<'_>) -> Wire
+    ensures { result ≡ wire_of (under args.now) }
+{
+    match args.text("wire") {
+        Some("drop") => Wire::Drop,
+        _ => Wire::Wait,
     }
 }
 

@@ -4,7 +4,8 @@ use Rattle.xsk_args.specs.Words.{Text}
 use Rattle.xsk_workers.specs.Forwarded.{OutcomeShown}
 use Rattle.xsk_cli.specs.Forward.{IsPlainAnswer, IsShownAnswer, forward_plan, is_forward}
 use Rattle.xsk_cli.specs.Line.{line_of}
-use Rattle.xsk_cli.specs.Streams.{GotLine, HasLine, Moment}
+use Rattle.xsk_io.specs.Bay.{Moment}
+use Rattle.xsk_cli.specs.Streams.{GotLine, HasLine}
 use Rattle.xsk_cli.specs.Words.{plan_of}
 use Rattle.xsk_cli.specs.declared.status.Status.{Status}
 

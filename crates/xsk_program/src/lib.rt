@@ -1,8 +1,8 @@
 //! The program: the words behind its name, and the command over files.
 #![tactic(auto)]
 
-ghost use Rattle.std.specs.Prelude.{◌≡◌, false, map, string_bytes, MatchResult};
-ghost use Rattle.xsk_io.specs.declared.bay.Stream.{Stream as AStream};
+ghost use Rattle.std.specs.Prelude.{map, string_bytes, MatchResult};
+ghost use Rattle.xsk_io.specs.Bay.{NoneOpen};
 ghost use Rattle.xsk_program.specs.Answering.{IsAnswered, IsTold};
 
 use std::alloc::Global;
@@ -11,8 +11,9 @@ use std::io::ErrorKind;
 use std::rt::{Env, Files};
 use std::sync::Wait;
 use std::thread::Threads;
-use xsk_cli::{Status, tell};
-use xsk_io::{Bay, FileBay, Open};
+use xsk_cli::{Ended, Status, tell};
+use xsk_gate::Open;
+use xsk_io::{Bay, FileBay};
 
 /// Does what the program's words say, over files, with a thread for each worker where the command is `forward`. A refusal is told
 /// in one line on standard output, also that of words which aren't UTF-8. The program ends with the status's number.
@@ -28,19 +29,19 @@ pub fn answer<R: Threads + Wait + Sync, B: Bay>(
     words: Result<Vec<String>, Status>,
     bay: &mut B,
 ) -> Status
-    requires { (stream : AStream) → B.is_open bay.old stream ≡ false }
+    requires { NoneOpen (B.moment bay.old) }
     ensures { MatchResult words
-        (λ given. IsAnswered (map string_bytes given.items)
-        (record { is_open = B.is_open bay.old; asked = B.asked bay.old; left = B.left bay.old; held = B.held bay.old; offers = B.offers bay.old; faults = B.faults bay.old })
-        (record { is_open = B.is_open bay.new; asked = B.asked bay.new; left = B.left bay.new; held = B.held bay.new; offers = B.offers bay.new; faults = B.faults bay.new })
-        result)
-        (λ why. IsTold why
-        (record { is_open = B.is_open bay.old; asked = B.asked bay.old; left = B.left bay.old; held = B.held bay.old; offers = B.offers bay.old; faults = B.faults bay.old })
-        (record { is_open = B.is_open bay.new; asked = B.asked bay.new; left = B.left bay.new; held = B.held bay.new; offers = B.offers bay.new; faults = B.faults bay.new })
-        result) }
+        (λ given. IsAnswered (map string_bytes given.items) (B.moment bay.old) (B.moment bay.new) result)
+        (λ why. IsTold why (B.moment bay.old) (B.moment bay.new) result) }
 {
     match words {
-        Ok(words) => xsk_cli::run(rt, alloc, words.as_slice(), bay, &Open).status,
+        Ok(words) => {
+            let Ended { status, outcome } = xsk_cli::run(rt, alloc, words.as_slice(), bay, &Open);
+            if let Some(run) = outcome {
+                run.give_up();
+            }
+            status
+        }
         Err(status) => {
             tell(bay, &status);
             status

@@ -4,8 +4,8 @@ use Rattle.xsk_args.specs.Words.{Text}
 use Rattle.xsk_args.specs.Meaning.{Meaning, meaning, under}
 use Rattle.xsk_socket.specs.Layout.{fault_of}
 use Rattle.xsk_cli.specs.Steps.{args_status}
-use Rattle.xsk_cli.specs.Streams.{Moment}
-use Rattle.xsk_cli.specs.Words.{Plan, audit_options, audit_plan, audit_plan_by, files_in, layout_by, without_files}
+use Rattle.xsk_io.specs.Bay.{Moment}
+use Rattle.xsk_cli.specs.Words.{Plan, layout_options, audit_plan, audit_plan_by, files_in, layout_by, without_files}
 use Rattle.xsk_cli.specs.declared.status.Status.TheVariants.{Refused}
 use Rattle.xsk_cli.proofs.Auditing.{one_plan, planned_one, planned_none}
 use Rattle.xsk_cli.proofs.Coming.{args_comes, comes_as, refused_comes, usage_comes}
@@ -13,23 +13,23 @@ use Rattle.xsk_cli.proofs.audit.run_audit.Goals as goal
 
 pub returns-in_err-args : goal.returns-in_err-args
 returns-in_err-args g c =
-    let now : Moment = record { is_open = g.B.Bay.is_open c.args.bay.now; asked = g.B.Bay.asked c.args.bay.now; left = g.B.Bay.left c.args.bay.now; held = g.B.Bay.held c.args.bay.now; offers = g.B.Bay.offers c.args.bay.now; faults = g.B.Bay.faults c.args.bay.now } in
+    let now : Moment = g.B.Bay.moment c.args.bay.now in
     let words : List Text = map string_bytes c.args.words.now in
     let planned : Option Plan = audit_plan words in
     let error = c.in_err-args.field-0.0 in
     comes_as c.from_residual.result (args_status error) planned now now (search rules)
     (args_comes planned now c.requires error
-    (λ is. let none : meaning (codes "audit") audit_options words ≡ None = search (rules, is) in ap (option_and_then (λ said. audit_plan_by said (files_in said))) none))
+    (λ is. let none : meaning (codes "audit") layout_options words ≡ None = search (rules, is) in ap (option_and_then (λ said. audit_plan_by said (files_in said))) none))
 
 pub returns-in_default : goal.returns-in_default
 returns-in_default g c =
-    let now : Moment = record { is_open = g.B.Bay.is_open c.args.bay.now; asked = g.B.Bay.asked c.args.bay.now; left = g.B.Bay.left c.args.bay.now; held = g.B.Bay.held c.args.bay.now; offers = g.B.Bay.offers c.args.bay.now; faults = g.B.Bay.faults c.args.bay.now } in
+    let now : Moment = g.B.Bay.moment c.args.bay.now in
     let words : List Text = map string_bytes c.args.words.now in
     usage_comes (audit_plan words) now c.requires (planned_none words (under c.in_ok-args.args) c.in_ok-args.ensures.told c.in_default.ensures.none)
 
 pub returns-in_err-layout : goal.returns-in_err-layout
 returns-in_err-layout g c =
-    let now : Moment = record { is_open = g.B.Bay.is_open c.args.bay.now; asked = g.B.Bay.asked c.args.bay.now; left = g.B.Bay.left c.args.bay.now; held = g.B.Bay.held c.args.bay.now; offers = g.B.Bay.offers c.args.bay.now; faults = g.B.Bay.faults c.args.bay.now } in
+    let now : Moment = g.B.Bay.moment c.args.bay.now in
     let words : List Text = map string_bytes c.args.words.now in
     let said : Meaning = under c.in_ok-args.args in
     let file : Text = c.in-Some.file.now in

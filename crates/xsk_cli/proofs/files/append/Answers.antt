@@ -21,6 +21,7 @@ loop-i-preserved c =
       so_far =
           ap (λ ps. ps ++ rest) pushed.packets ∙ append_assoc c.loop-i.all.packets (packet ∷ []) rest
           ∙ ap (λ ps. c.loop-i.all.packets ++ ps) (sym next) ∙ c.loop-i.invariant.so_far;
+      gaps = pushed.gaps ∙ c.loop-i.invariant.gaps;
       packets = omega (arith, ap length next, c.loop-i.invariant.packets, pushed.spare_packets);
       bytes = omega (arith, ap (λ ps. length (concat ps)) next, length-append packet (concat rest), c.loop-i.invariant.bytes, pushed.spare_bytes);
     }

@@ -9,4 +9,4 @@ loop-place-preserved c =
     let list = c.index-lists-first.result in
     let below : c.args.first + place < length lists = omega (arith, c.requires.known, c.loop-place-test.true) in
     let at : list ≡ get_or lists (c.args.first + place) list = search rules in
-    c.in_ok-append.ensures ∙ ap (λ ps. ps ++ list.packets) c.loop-place.invariant ∙ join_more lists c.args.first place list list below at
+    c.in_ok-append.ensures.packets ∙ ap (λ ps. ps ++ list.packets) c.loop-place.invariant ∙ join_more lists c.args.first place list list below at

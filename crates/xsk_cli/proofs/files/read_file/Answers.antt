@@ -13,5 +13,5 @@ returns c =
     let last : all ≡ c.pop.new.self.items ++ own ∷ [] = rw c.unwrap-bytes.ensures at c.pop.ensures.items in
     let at : own.items ≡ bytes =
     text_at (λ (b : Vec ℕ Global). b.items) all 0 own own.items (omega (arith, c.requires)) (ap (λ (b : Vec ℕ Global). b.items) (sym (only_one all c.pop.new.self.items own c.requires last))) in
-    let is : IsCause c.args.ports bytes c.in-Err.cause = subst (λ (b : List ℕ). IsCause c.args.ports b c.in-Err.cause) at c.in-Err.ensures.cause in
-    record { found = tt; listed = tt; failed = file_refusal c.args.ports bytes c.in-Err.cause is (search rules) }
+    let is : IsCause c.args.ports bytes c.in-Err.back.cause = subst (λ (b : List ℕ). IsCause c.args.ports b c.in-Err.back.cause) at c.in-Err.ensures.cause in
+    record { found = tt; listed = tt; failed = file_refusal c.args.ports bytes c.in-Err.back.cause is (search rules) }

@@ -2,7 +2,8 @@ use Rattle.std.proofs.Common.{rules, ◌<◌, ◌+◌, length, map, [], ◌∷�
 use Rattle.std.proofs.lemmas.List.{map-append}
 use Rattle.xsk_io.specs.declared.bay.Stream.TheVariants.{Input}
 use Rattle.xsk_cli.specs.Steps.{FailsReading, HaveRead}
-use Rattle.xsk_cli.specs.Streams.{Moment, IsTold}
+use Rattle.xsk_io.specs.Bay.{Moment}
+use Rattle.xsk_cli.specs.Streams.{IsTold}
 use Rattle.xsk_cli.specs.declared.failure.ReadFailure.TheVariants.{OutOfMemory}
 use Rattle.xsk_cli.proofs.Counting.{unchanged_then}
 use Rattle.xsk_cli.proofs.Reading.{Touched, read_more, reading_fails, ends_at_once, answer_ends, told_name, known_name}
@@ -10,14 +11,14 @@ use Rattle.xsk_cli.proofs.input.read_inputs.Goals as goal
 
 pub returns-in_err-inputs-clause-failed : goal.returns-in_err-inputs-clause-failed
 returns-in_err-inputs-clause-failed g c plan e same =
-    let now : Moment = record { is_open = g.B.Bay.is_open c.args.bay.now; asked = g.B.Bay.asked c.args.bay.now; left = g.B.Bay.left c.args.bay.now; held = g.B.Bay.held c.args.bay.now; offers = g.B.Bay.offers c.args.bay.now; faults = g.B.Bay.faults c.args.bay.now } in
+    let now : Moment = g.B.Bay.moment c.args.bay.now in
     answer_ends c.from_residual.result OutOfMemory plan now now (search rules) (ends_at_once plan now c.requires.closed)
 
 pub returns-in_err-bytes-clause-failed : goal.returns-in_err-bytes-clause-failed
 returns-in_err-bytes-clause-failed g c plan e same =
-    let old : Moment = record { is_open = g.B.Bay.is_open c.args.bay.now; asked = g.B.Bay.asked c.args.bay.now; left = g.B.Bay.left c.args.bay.now; held = g.B.Bay.held c.args.bay.now; offers = g.B.Bay.offers c.args.bay.now; faults = g.B.Bay.faults c.args.bay.now } in
-    let mid : Moment = record { is_open = g.B.Bay.is_open c.loop-port.bay; asked = g.B.Bay.asked c.loop-port.bay; left = g.B.Bay.left c.loop-port.bay; held = g.B.Bay.held c.loop-port.bay; offers = g.B.Bay.offers c.loop-port.bay; faults = g.B.Bay.faults c.loop-port.bay } in
-    let new : Moment = record { is_open = g.B.Bay.is_open c.read_input.new.bay; asked = g.B.Bay.asked c.read_input.new.bay; left = g.B.Bay.left c.read_input.new.bay; held = g.B.Bay.held c.read_input.new.bay; offers = g.B.Bay.offers c.read_input.new.bay; faults = g.B.Bay.faults c.read_input.new.bay } in
+    let old : Moment = g.B.Bay.moment c.args.bay.now in
+    let mid : Moment = g.B.Bay.moment c.loop-port.bay in
+    let new : Moment = g.B.Bay.moment c.read_input.new.bay in
     let port = c.loop-port.port in
     let names = map (λ name. name.now) c.args.names.now in
     let bytes = map (λ bytes. bytes.items) c.loop-port.inputs.items in
@@ -31,9 +32,9 @@ returns-in_err-bytes-clause-failed g c plan e same =
 
 pub loop-port-preserved : goal.loop-port-preserved
 loop-port-preserved g c =
-    let old : Moment = record { is_open = g.B.Bay.is_open c.args.bay.now; asked = g.B.Bay.asked c.args.bay.now; left = g.B.Bay.left c.args.bay.now; held = g.B.Bay.held c.args.bay.now; offers = g.B.Bay.offers c.args.bay.now; faults = g.B.Bay.faults c.args.bay.now } in
-    let mid : Moment = record { is_open = g.B.Bay.is_open c.loop-port.bay; asked = g.B.Bay.asked c.loop-port.bay; left = g.B.Bay.left c.loop-port.bay; held = g.B.Bay.held c.loop-port.bay; offers = g.B.Bay.offers c.loop-port.bay; faults = g.B.Bay.faults c.loop-port.bay } in
-    let new : Moment = record { is_open = g.B.Bay.is_open c.read_input.new.bay; asked = g.B.Bay.asked c.read_input.new.bay; left = g.B.Bay.left c.read_input.new.bay; held = g.B.Bay.held c.read_input.new.bay; offers = g.B.Bay.offers c.read_input.new.bay; faults = g.B.Bay.faults c.read_input.new.bay } in
+    let old : Moment = g.B.Bay.moment c.args.bay.now in
+    let mid : Moment = g.B.Bay.moment c.loop-port.bay in
+    let new : Moment = g.B.Bay.moment c.read_input.new.bay in
     let port = c.loop-port.port in
     let names = map (λ name. name.now) c.args.names.now in
     let bytes = map (λ bytes. bytes.items) c.loop-port.inputs.items in

@@ -1,37 +1,37 @@
 use Rattle.std.proofs.Common.{rules, length, map, sym, subst}
 use Rattle.std.proofs.lemmas.List.{length-map}
-use Rattle.xsk_io.specs.Bay.{GrowsByPart, IsOffered}
+use Rattle.xsk_io.specs.Bay.{GrowsByPart, IsOffered, Moment}
 use Rattle.xsk_io.proofs.Steps.{IsOffered-earlier}
 use Rattle.xsk_io.specs.declared.bay.Stream.TheVariants.{Output, Report}
-use Rattle.xsk_cli.specs.Streams.{Moment, AreWritten}
-use Rattle.xsk_cli.specs.Steps.{written_in}
+use Rattle.xsk_cli.specs.Streams.{AreWritten}
+use Rattle.xsk_cli.specs.Steps.{outputs_with, written_with}
 use Rattle.xsk_cli.proofs.Writing.{still_written}
 use Rattle.xsk_cli.proofs.output.write_texts.Goals as goal
 
 pub returns-then-is_err-clause-failed : goal.returns-then-is_err-clause-failed
 returns-then-is_err-clause-failed g c =
-    let old : Moment = record { is_open = g.B.Bay.is_open c.args.bay.now; asked = g.B.Bay.asked c.args.bay.now; left = g.B.Bay.left c.args.bay.now; held = g.B.Bay.held c.args.bay.now; offers = g.B.Bay.offers c.args.bay.now; faults = g.B.Bay.faults c.args.bay.now } in
-    let mid : Moment = record { is_open = g.B.Bay.is_open c.write_outputs.new.bay; asked = g.B.Bay.asked c.write_outputs.new.bay; left = g.B.Bay.left c.write_outputs.new.bay; held = g.B.Bay.held c.write_outputs.new.bay; offers = g.B.Bay.offers c.write_outputs.new.bay; faults = g.B.Bay.faults c.write_outputs.new.bay } in
-    let new : Moment = record { is_open = g.B.Bay.is_open c.write_whole.new.bay; asked = g.B.Bay.asked c.write_whole.new.bay; left = g.B.Bay.left c.write_whole.new.bay; held = g.B.Bay.held c.write_whole.new.bay; offers = g.B.Bay.offers c.write_whole.new.bay; faults = g.B.Bay.faults c.write_whole.new.bay } in
+    let old : Moment = g.B.Bay.moment c.args.bay.now in
+    let mid : Moment = g.B.Bay.moment c.write_outputs.new.bay in
+    let new : Moment = g.B.Bay.moment c.write_whole.new.bay in
     let names = map (λ name. name.now) c.args.names.now in
     let n = length c.args.names.now in
-    let are : AreWritten names (written_in c.args.texts.now).outputs n n old mid =
-    subst (λ ts. AreWritten names (map (λ text. text.items) ts) n n old mid) c.as_slice.ensures.value c.in_ok-write_outputs.ensures.written in
-    let still : AreWritten names (written_in c.args.texts.now).outputs n n old new = still_written names (written_in c.args.texts.now).outputs n n old mid new are c.write_whole.ensures.opened c.write_whole.ensures.names
+    let are : AreWritten names (written_with c.args.lists.now c.args.texts.now).outputs n n old mid =
+    subst (λ ts. AreWritten names (outputs_with c.args.lists.now (map (λ text. text.items) ts)) n n old mid) c.as_slice.ensures.value c.in_ok-write_outputs.ensures.written in
+    let still : AreWritten names (written_with c.args.lists.now c.args.texts.now).outputs n n old new = still_written names (written_with c.args.lists.now c.args.texts.now).outputs n n old mid new are c.write_whole.ensures.opened c.write_whole.ensures.names
     (λ port. c.write_whole.ensures.held_others (Output port) (λ e. cc)) (λ port. c.write_whole.ensures.other_offers (Output port) (λ e. cc)) in
-    let offered : IsOffered (old.offers Report) (new.offers Report) (length (written_in c.args.texts.now).report) = search (rules, IsOffered-earlier) in
-    let part : GrowsByPart (old.held Report) (new.held Report) (written_in c.args.texts.now).report = search rules in
-    (subst (λ k. AreWritten names (written_in c.args.texts.now).outputs k k old new) (sym (length-map c.args.names.now (λ name. name.now))) still, part, offered)
+    let offered : IsOffered (old.offers Report) (new.offers Report) (length (written_with c.args.lists.now c.args.texts.now).report) = search (rules, IsOffered-earlier) in
+    let part : GrowsByPart (old.held Report) (new.held Report) (written_with c.args.lists.now c.args.texts.now).report = search rules in
+    (subst (λ k. AreWritten names (written_with c.args.lists.now c.args.texts.now).outputs k k old new) (sym (length-map c.args.names.now (λ name. name.now))) still, part, offered)
 
 pub returns-clause-written : goal.returns-clause-written
 returns-clause-written g c =
-    let old : Moment = record { is_open = g.B.Bay.is_open c.args.bay.now; asked = g.B.Bay.asked c.args.bay.now; left = g.B.Bay.left c.args.bay.now; held = g.B.Bay.held c.args.bay.now; offers = g.B.Bay.offers c.args.bay.now; faults = g.B.Bay.faults c.args.bay.now } in
-    let mid : Moment = record { is_open = g.B.Bay.is_open c.write_outputs.new.bay; asked = g.B.Bay.asked c.write_outputs.new.bay; left = g.B.Bay.left c.write_outputs.new.bay; held = g.B.Bay.held c.write_outputs.new.bay; offers = g.B.Bay.offers c.write_outputs.new.bay; faults = g.B.Bay.faults c.write_outputs.new.bay } in
-    let new : Moment = record { is_open = g.B.Bay.is_open c.write_whole.new.bay; asked = g.B.Bay.asked c.write_whole.new.bay; left = g.B.Bay.left c.write_whole.new.bay; held = g.B.Bay.held c.write_whole.new.bay; offers = g.B.Bay.offers c.write_whole.new.bay; faults = g.B.Bay.faults c.write_whole.new.bay } in
+    let old : Moment = g.B.Bay.moment c.args.bay.now in
+    let mid : Moment = g.B.Bay.moment c.write_outputs.new.bay in
+    let new : Moment = g.B.Bay.moment c.write_whole.new.bay in
     let names = map (λ name. name.now) c.args.names.now in
     let n = length c.args.names.now in
-    let are : AreWritten names (written_in c.args.texts.now).outputs n n old mid =
-    subst (λ ts. AreWritten names (map (λ text. text.items) ts) n n old mid) c.as_slice.ensures.value c.in_ok-write_outputs.ensures.written in
-    let still : AreWritten names (written_in c.args.texts.now).outputs n n old new = still_written names (written_in c.args.texts.now).outputs n n old mid new are c.write_whole.ensures.opened c.write_whole.ensures.names
+    let are : AreWritten names (written_with c.args.lists.now c.args.texts.now).outputs n n old mid =
+    subst (λ ts. AreWritten names (outputs_with c.args.lists.now (map (λ text. text.items) ts)) n n old mid) c.as_slice.ensures.value c.in_ok-write_outputs.ensures.written in
+    let still : AreWritten names (written_with c.args.lists.now c.args.texts.now).outputs n n old new = still_written names (written_with c.args.lists.now c.args.texts.now).outputs n n old mid new are c.write_whole.ensures.opened c.write_whole.ensures.names
     (λ port. c.write_whole.ensures.held_others (Output port) (λ e. cc)) (λ port. c.write_whole.ensures.other_offers (Output port) (λ e. cc)) in
     still

@@ -1,78 +1,52 @@
 use Rattle.std.proofs.Common.{◌≡◌, map, string_bytes, sym, ap, ◌∙◌, subst}
-use Rattle.std.specs.Prelude.{◌⊎◌, unwrap_or}
-use Rattle.xsk_cli.specs.declared.status.Status.TheVariants.{BadCapture, BadPcapng, Refused, OutOfMemory}
+use Rattle.std.specs.Prelude.{unwrap_or}
+use Rattle.xsk_cli.specs.declared.status.Status.TheVariants.{BadCapture, BadPcapng, Refused}
 use Rattle.xsk_pcap.specs.declared.reading.BadCapture.TheVariants.{OutOfMemory as NoCause}
 use Rattle.xsk_pcapng.specs.declared.reading.BadPcapng.TheVariants.{OutOfMemory as NoFileCause}
 use Rattle.xsk_io.proofs.Steps.{Rose-later}
-use Rattle.xsk_cli.specs.Cause.{IsCaused, NoOthers}
 use Rattle.xsk_cli.specs.Ends.{Ends, NoneRose}
-use Rattle.xsk_cli.specs.Streams.{Moment}
+use Rattle.xsk_cli.specs.Steps.{Comes}
+use Rattle.xsk_io.specs.Bay.{Moment}
+use Rattle.xsk_cli.specs.Line.{line_of}
 use Rattle.xsk_cli.specs.Words.{no_plan, plan_of}
 use Rattle.xsk_cli.proofs.Ample.{finished, never_illegal, never_stalled}
 use Rattle.xsk_cli.proofs.Answering.{answered, completes}
-use Rattle.xsk_cli.proofs.Counting.{told_others}
+use Rattle.xsk_cli.proofs.Counting.{caused_then, line_then, told_others, uncounted_then}
 use Rattle.xsk_cli.proofs.Filing.{no_check, no_file_check}
 use Rattle.xsk_cli.proofs.Writing.{told_ends}
 use Rattle.xsk_cli.proofs.plain.run_plain.Goals as goal
 
-pub returns-clause-refused : goal.returns-clause-refused
-returns-clause-refused g c plan unlawful is fault =
-    subst (λ s. (s ≡ Refused unlawful) ⊎ (s ≡ OutOfMemory)) (sym c.status_of-status.ensures) (c.run_words.ensures.refused plan unlawful is fault)
-
-pub returns-clause-ends : goal.returns-clause-ends
-returns-clause-ends g c =
-    let old : Moment = record { is_open = g.B.Bay.is_open c.args.bay.now; asked = g.B.Bay.asked c.args.bay.now; left = g.B.Bay.left c.args.bay.now; held = g.B.Bay.held c.args.bay.now; offers = g.B.Bay.offers c.args.bay.now; faults = g.B.Bay.faults c.args.bay.now } in
-    let mid : Moment = record { is_open = g.B.Bay.is_open c.run_words.new.bay; asked = g.B.Bay.asked c.run_words.new.bay; left = g.B.Bay.left c.run_words.new.bay; held = g.B.Bay.held c.run_words.new.bay; offers = g.B.Bay.offers c.run_words.new.bay; faults = g.B.Bay.faults c.run_words.new.bay } in
-    let new : Moment = record { is_open = g.B.Bay.is_open c.tell.new.bay; asked = g.B.Bay.asked c.tell.new.bay; left = g.B.Bay.left c.tell.new.bay; held = g.B.Bay.held c.tell.new.bay; offers = g.B.Bay.offers c.tell.new.bay; faults = g.B.Bay.faults c.tell.new.bay } in
-    let plan = unwrap_or (plan_of (map string_bytes c.args.words.now)) no_plan in
-    let ends : Ends plan old mid c.status_of-status.result = subst (λ s. Ends plan old mid s) (sym c.status_of-status.ensures) c.run_words.ensures.ends in
-    told_ends plan old mid new c.status_of-status.result ends c.tell.ensures.opened c.tell.ensures.asked c.tell.ensures.left c.tell.ensures.held c.tell.ensures.offers c.tell.ensures.silent
-
-pub returns-clause-check : goal.returns-clause-check
-returns-clause-check g c port is =
-    let old : Moment = record { is_open = g.B.Bay.is_open c.args.bay.now; asked = g.B.Bay.asked c.args.bay.now; left = g.B.Bay.left c.args.bay.now; held = g.B.Bay.held c.args.bay.now; offers = g.B.Bay.offers c.args.bay.now; faults = g.B.Bay.faults c.args.bay.now } in
-    let mid : Moment = record { is_open = g.B.Bay.is_open c.run_words.new.bay; asked = g.B.Bay.asked c.run_words.new.bay; left = g.B.Bay.left c.run_words.new.bay; held = g.B.Bay.held c.run_words.new.bay; offers = g.B.Bay.offers c.run_words.new.bay; faults = g.B.Bay.faults c.run_words.new.bay } in
-    let plan = unwrap_or (plan_of (map string_bytes c.args.words.now)) no_plan in
-    let ends : Ends plan old mid (BadCapture port NoCause) = subst (λ s. Ends plan old mid s) (sym c.status_of-status.ensures ∙ is) c.run_words.ensures.ends in
-    no_check plan.work ends.inputs port ends.comes.1
-
-pub returns-clause-check_file : goal.returns-clause-check_file
-returns-clause-check_file g c is =
-    let old : Moment = record { is_open = g.B.Bay.is_open c.args.bay.now; asked = g.B.Bay.asked c.args.bay.now; left = g.B.Bay.left c.args.bay.now; held = g.B.Bay.held c.args.bay.now; offers = g.B.Bay.offers c.args.bay.now; faults = g.B.Bay.faults c.args.bay.now } in
-    let mid : Moment = record { is_open = g.B.Bay.is_open c.run_words.new.bay; asked = g.B.Bay.asked c.run_words.new.bay; left = g.B.Bay.left c.run_words.new.bay; held = g.B.Bay.held c.run_words.new.bay; offers = g.B.Bay.offers c.run_words.new.bay; faults = g.B.Bay.faults c.run_words.new.bay } in
-    let plan = unwrap_or (plan_of (map string_bytes c.args.words.now)) no_plan in
-    let ends : Ends plan old mid (BadPcapng NoFileCause) = subst (λ s. Ends plan old mid s) (sym c.status_of-status.ensures ∙ is) c.run_words.ensures.ends in
-    no_file_check plan.work ends.inputs ends.comes.1
-
-pub returns-clause-others : goal.returns-clause-others
-returns-clause-others g c =
-    told_others _ _ _ c.status_of-status.result (subst (NoOthers (g.B.Bay.faults c.args.bay.now) (g.B.Bay.faults c.run_words.new.bay)) (sym c.status_of-status.ensures) c.run_words.ensures.others)
-    c.tell.ensures.counts c.tell.ensures.unchanged
-
-pub returns-clause-answers : goal.returns-clause-answers
-returns-clause-answers g c plan inputs outcome is told h =
-    let old : Moment = record { is_open = g.B.Bay.is_open c.args.bay.now; asked = g.B.Bay.asked c.args.bay.now; left = g.B.Bay.left c.args.bay.now; held = g.B.Bay.held c.args.bay.now; offers = g.B.Bay.offers c.args.bay.now; faults = g.B.Bay.faults c.args.bay.now } in
-    let mid : Moment = record { is_open = g.B.Bay.is_open c.run_words.new.bay; asked = g.B.Bay.asked c.run_words.new.bay; left = g.B.Bay.left c.run_words.new.bay; held = g.B.Bay.held c.run_words.new.bay; offers = g.B.Bay.offers c.run_words.new.bay; faults = g.B.Bay.faults c.run_words.new.bay } in
-    let planned : unwrap_or (plan_of (map string_bytes c.args.words.now)) no_plan ≡ plan = ap (λ o. unwrap_or o no_plan) is in
-    let ends : Ends plan old mid c.status_of-status.result =
-    subst (λ p. Ends p old mid c.status_of-status.result) planned (subst (λ s. Ends (unwrap_or (plan_of (map string_bytes c.args.words.now)) no_plan) old mid s) (sym c.status_of-status.ensures) c.run_words.ensures.ends) in
-    answered plan old mid inputs told c.status_of-status.result outcome ends (λ u. let none = sym is ∙ c.run_words.ensures.usage (sym c.status_of-status.ensures ∙ u) in cc) h
-
-pub returns-clause-complete : goal.returns-clause-complete
-returns-clause-complete g c plan inputs is accepted told taken none =
-    let old : Moment = record { is_open = g.B.Bay.is_open c.args.bay.now; asked = g.B.Bay.asked c.args.bay.now; left = g.B.Bay.left c.args.bay.now; held = g.B.Bay.held c.args.bay.now; offers = g.B.Bay.offers c.args.bay.now; faults = g.B.Bay.faults c.args.bay.now } in
-    let mid : Moment = record { is_open = g.B.Bay.is_open c.run_words.new.bay; asked = g.B.Bay.asked c.run_words.new.bay; left = g.B.Bay.left c.run_words.new.bay; held = g.B.Bay.held c.run_words.new.bay; offers = g.B.Bay.offers c.run_words.new.bay; faults = g.B.Bay.faults c.run_words.new.bay } in
-    let planned : unwrap_or (plan_of (map string_bytes c.args.words.now)) no_plan ≡ plan = ap (λ o. unwrap_or o no_plan) is in
-    let ends : Ends plan old mid c.status_of-status.result =
-    subst (λ p. Ends p old mid c.status_of-status.result) planned (subst (λ s. Ends (unwrap_or (plan_of (map string_bytes c.args.words.now)) no_plan) old mid s) (sym c.status_of-status.ensures) c.run_words.ensures.ends) in
-    let caused : IsCaused old.faults mid.faults c.status_of-status.result = subst (IsCaused old.faults mid.faults) (sym c.status_of-status.ensures) c.run_words.ensures.cause in
-    let quiet : NoneRose old.faults mid.faults = λ kind stream rose. none kind stream (Rose-later _ _ _ (c.run_words.ensures.falls kind stream) rose (c.tell.ensures.falls kind stream)) in
-    completes plan old mid inputs told c.status_of-status.result ends (λ u. let no_words = sym is ∙ c.run_words.ensures.usage (sym c.status_of-status.ensures ∙ u) in cc) accepted taken quiet caused
+pub returns-clause-answer : goal.returns-clause-answer
+returns-clause-answer g c =
+    let old : Moment = g.B.Bay.moment c.args.bay.now in
+    let mid : Moment = g.B.Bay.moment c.run_words.new.bay in
+    let new : Moment = g.B.Bay.moment c.tell.new.bay in
+    let status = c.status_of-status.result in
+    let planned = plan_of (map string_bytes c.args.words.now) in
+    let plan = unwrap_or planned no_plan in
+    let comes : Comes planned old mid status = subst (λ s. Comes planned old mid s) (sym c.status_of-status.ensures) c.run_words.ensures in record {
+      usage = comes.usage;
+      unplanned = comes.unplanned;
+      refusal = λ unlawful is. (let ends : Ends plan old mid (Refused unlawful) = subst (λ s. Ends plan old mid s) is comes.ends in ends.comes);
+      refused = comes.refused;
+      cause = caused_then _ _ _ status comes.falls comes.cause c.tell.ensures.falls;
+      others = told_others _ _ _ status comes.others c.tell.ensures.counts c.tell.ensures.unchanged;
+      uncounted = λ at_once. uncounted_then _ _ _ (comes.uncounted at_once) c.tell.ensures.counts;
+      ends = told_ends plan old mid new status comes.ends c.tell.ensures.opened c.tell.ensures.asked c.tell.ensures.left c.tell.ensures.held c.tell.ensures.offers c.tell.ensures.silent;
+      line = λ has. line_then (line_of status) old mid new comes.falls (comes.silent has) (c.tell.ensures.line has);
+      check = λ port is. (let ends : Ends plan old mid (BadCapture port NoCause) = subst (λ s. Ends plan old mid s) is comes.ends in no_check plan.work ends.inputs port ends.comes.1);
+      check_file = λ is. (let ends : Ends plan old mid (BadPcapng NoFileCause) = subst (λ s. Ends plan old mid s) is comes.ends in no_file_check plan.work ends.inputs ends.comes.1);
+      answers = λ one inputs outcome is told h.
+          answered one old mid inputs told status outcome (subst (λ p. Ends p old mid status) (ap (λ o. unwrap_or o no_plan) is) comes.ends) (λ u. let none = sym is ∙ comes.usage u in cc) h;
+      complete = λ one inputs is accepted told taken none.
+          completes one old mid inputs told status (subst (λ p. Ends p old mid status) (ap (λ o. unwrap_or o no_plan) is) comes.ends) (λ u. let no_words = sym is ∙ comes.usage u in cc) accepted taken
+          (λ kind stream rose. none kind stream (Rose-later _ _ _ (comes.falls kind stream) rose (c.tell.ensures.falls kind stream))) comes.cause;
+    }
 
 pub returns-clause-goes_on : goal.returns-clause-goes_on
 returns-clause-goes_on g c plan round is accepted ample stalled =
-    let old : Moment = record { is_open = g.B.Bay.is_open c.args.bay.now; asked = g.B.Bay.asked c.args.bay.now; left = g.B.Bay.left c.args.bay.now; held = g.B.Bay.held c.args.bay.now; offers = g.B.Bay.offers c.args.bay.now; faults = g.B.Bay.faults c.args.bay.now } in
-    let mid : Moment = record { is_open = g.B.Bay.is_open c.run_words.new.bay; asked = g.B.Bay.asked c.run_words.new.bay; left = g.B.Bay.left c.run_words.new.bay; held = g.B.Bay.held c.run_words.new.bay; offers = g.B.Bay.offers c.run_words.new.bay; faults = g.B.Bay.faults c.run_words.new.bay } in
+    let old : Moment = g.B.Bay.moment c.args.bay.now in
+    let mid : Moment = g.B.Bay.moment c.run_words.new.bay in
     let planned : unwrap_or (plan_of (map string_bytes c.args.words.now)) no_plan ≡ plan = ap (λ o. unwrap_or o no_plan) is in
     let ends : Ends plan old mid c.status_of-status.result =
     subst (λ p. Ends p old mid c.status_of-status.result) planned (subst (λ s. Ends (unwrap_or (plan_of (map string_bytes c.args.words.now)) no_plan) old mid s) (sym c.status_of-status.ensures) c.run_words.ensures.ends) in
@@ -80,10 +54,10 @@ returns-clause-goes_on g c plan round is accepted ample stalled =
 
 pub returns-clause-finishes : goal.returns-clause-finishes
 returns-clause-finishes g c plan inputs is accepted ample told taken none =
-    let old : Moment = record { is_open = g.B.Bay.is_open c.args.bay.now; asked = g.B.Bay.asked c.args.bay.now; left = g.B.Bay.left c.args.bay.now; held = g.B.Bay.held c.args.bay.now; offers = g.B.Bay.offers c.args.bay.now; faults = g.B.Bay.faults c.args.bay.now } in
-    let mid : Moment = record { is_open = g.B.Bay.is_open c.run_words.new.bay; asked = g.B.Bay.asked c.run_words.new.bay; left = g.B.Bay.left c.run_words.new.bay; held = g.B.Bay.held c.run_words.new.bay; offers = g.B.Bay.offers c.run_words.new.bay; faults = g.B.Bay.faults c.run_words.new.bay } in
+    let old : Moment = g.B.Bay.moment c.args.bay.now in
+    let mid : Moment = g.B.Bay.moment c.run_words.new.bay in
     let planned : unwrap_or (plan_of (map string_bytes c.args.words.now)) no_plan ≡ plan = ap (λ o. unwrap_or o no_plan) is in
     let ends : Ends plan old mid c.status_of-status.result =
     subst (λ p. Ends p old mid c.status_of-status.result) planned (subst (λ s. Ends (unwrap_or (plan_of (map string_bytes c.args.words.now)) no_plan) old mid s) (sym c.status_of-status.ensures) c.run_words.ensures.ends) in
-    finished plan.work c.status_of-status.result (returns-clause-complete g c plan inputs is accepted told taken none) (λ round. returns-clause-goes_on g c plan round is accepted ample)
+    finished plan.work c.status_of-status.result ((returns-clause-answer g c).complete plan inputs is accepted told taken none) (λ round. returns-clause-goes_on g c plan round is accepted ample)
     (λ line. never_illegal plan old mid c.status_of-status.result line ends)

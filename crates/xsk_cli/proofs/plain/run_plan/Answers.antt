@@ -3,7 +3,8 @@ use Rattle.std.proofs.lemmas.List.{length-map}
 use Rattle.xsk_cli.specs.Judged.{AreShort}
 use Rattle.xsk_cli.specs.Outcome.{made, IsOutcome, AreListsOf, AreTextsBy}
 use Rattle.xsk_cli.specs.Steps.{HaveRead, MakesNone, plan_in, read_status, run_status, write_status, written_in, FailsMaking, lists_in}
-use Rattle.xsk_cli.specs.Streams.{Moment, AreWritten}
+use Rattle.xsk_io.specs.Bay.{Moment}
+use Rattle.xsk_cli.specs.Streams.{AreWritten}
 use Rattle.xsk_cli.proofs.Making.{few_read, making_fails}
 use Rattle.xsk_cli.proofs.Writing.{SameInputs, run_fails, unwritten_ends, done_ends, status_ends, texts_count}
 use Rattle.xsk_cli.specs.Words.{most_of, ports_in}
@@ -19,16 +20,16 @@ read_inputs-requires-clause-few g c =
 
 pub returns-in_err-inputs-clause-ends : goal.returns-in_err-inputs-clause-ends
 returns-in_err-inputs-clause-ends g c =
-    let old : Moment = record { is_open = g.B.Bay.is_open c.args.bay.now; asked = g.B.Bay.asked c.args.bay.now; left = g.B.Bay.left c.args.bay.now; held = g.B.Bay.held c.args.bay.now; offers = g.B.Bay.offers c.args.bay.now; faults = g.B.Bay.faults c.args.bay.now } in
-    let mid : Moment = record { is_open = g.B.Bay.is_open c.read_inputs.new.bay; asked = g.B.Bay.asked c.read_inputs.new.bay; left = g.B.Bay.left c.read_inputs.new.bay; held = g.B.Bay.held c.read_inputs.new.bay; offers = g.B.Bay.offers c.read_inputs.new.bay; faults = g.B.Bay.faults c.read_inputs.new.bay } in
+    let old : Moment = g.B.Bay.moment c.args.bay.now in
+    let mid : Moment = g.B.Bay.moment c.read_inputs.new.bay in
     let plan = plan_in c.args.plan.now in
     let failure = c.in_err-inputs.field-0.0 in
     status_ends c.from_residual.result (read_status failure) plan old mid (search rules) (c.in_err-inputs.ensures.failed plan (search rules) (sym c.most_input.ensures))
 
 pub work_texts-requires-clause-within : goal.work_texts-requires-clause-within
 work_texts-requires-clause-within g c =
-    let old : Moment = record { is_open = g.B.Bay.is_open c.args.bay.now; asked = g.B.Bay.asked c.args.bay.now; left = g.B.Bay.left c.args.bay.now; held = g.B.Bay.held c.args.bay.now; offers = g.B.Bay.offers c.args.bay.now; faults = g.B.Bay.faults c.args.bay.now } in
-    let mid : Moment = record { is_open = g.B.Bay.is_open c.read_inputs.new.bay; asked = g.B.Bay.asked c.read_inputs.new.bay; left = g.B.Bay.left c.read_inputs.new.bay; held = g.B.Bay.held c.read_inputs.new.bay; offers = g.B.Bay.offers c.read_inputs.new.bay; faults = g.B.Bay.faults c.read_inputs.new.bay } in
+    let old : Moment = g.B.Bay.moment c.args.bay.now in
+    let mid : Moment = g.B.Bay.moment c.read_inputs.new.bay in
     let plan = plan_in c.args.plan.now in
     let bytes = map (λ bytes. bytes.items) c.in_ok-inputs.inputs.items in
     let have : HaveRead (most_of plan.work) plan.inputs bytes (length plan.inputs) old mid =
@@ -38,8 +39,8 @@ work_texts-requires-clause-within g c =
 
 pub returns-in_err-texts-clause-ends : goal.returns-in_err-texts-clause-ends
 returns-in_err-texts-clause-ends g c =
-    let old : Moment = record { is_open = g.B.Bay.is_open c.args.bay.now; asked = g.B.Bay.asked c.args.bay.now; left = g.B.Bay.left c.args.bay.now; held = g.B.Bay.held c.args.bay.now; offers = g.B.Bay.offers c.args.bay.now; faults = g.B.Bay.faults c.args.bay.now } in
-    let mid : Moment = record { is_open = g.B.Bay.is_open c.read_inputs.new.bay; asked = g.B.Bay.asked c.read_inputs.new.bay; left = g.B.Bay.left c.read_inputs.new.bay; held = g.B.Bay.held c.read_inputs.new.bay; offers = g.B.Bay.offers c.read_inputs.new.bay; faults = g.B.Bay.faults c.read_inputs.new.bay } in
+    let old : Moment = g.B.Bay.moment c.args.bay.now in
+    let mid : Moment = g.B.Bay.moment c.read_inputs.new.bay in
     let plan = plan_in c.args.plan.now in
     let bytes = map (λ bytes. bytes.items) c.in_ok-inputs.inputs.items in
     let failure = c.in_err-texts.field-0.0 in
@@ -65,9 +66,9 @@ write_texts-requires-clause-texts g c =
 
 pub returns-in_err-write_texts-clause-ends : goal.returns-in_err-write_texts-clause-ends
 returns-in_err-write_texts-clause-ends g c =
-    let old : Moment = record { is_open = g.B.Bay.is_open c.args.bay.now; asked = g.B.Bay.asked c.args.bay.now; left = g.B.Bay.left c.args.bay.now; held = g.B.Bay.held c.args.bay.now; offers = g.B.Bay.offers c.args.bay.now; faults = g.B.Bay.faults c.args.bay.now } in
-    let mid : Moment = record { is_open = g.B.Bay.is_open c.read_inputs.new.bay; asked = g.B.Bay.asked c.read_inputs.new.bay; left = g.B.Bay.left c.read_inputs.new.bay; held = g.B.Bay.held c.read_inputs.new.bay; offers = g.B.Bay.offers c.read_inputs.new.bay; faults = g.B.Bay.faults c.read_inputs.new.bay } in
-    let new : Moment = record { is_open = g.B.Bay.is_open c.write_texts.new.bay; asked = g.B.Bay.asked c.write_texts.new.bay; left = g.B.Bay.left c.write_texts.new.bay; held = g.B.Bay.held c.write_texts.new.bay; offers = g.B.Bay.offers c.write_texts.new.bay; faults = g.B.Bay.faults c.write_texts.new.bay } in
+    let old : Moment = g.B.Bay.moment c.args.bay.now in
+    let mid : Moment = g.B.Bay.moment c.read_inputs.new.bay in
+    let new : Moment = g.B.Bay.moment c.write_texts.new.bay in
     let plan = plan_in c.args.plan.now in
     let bytes = map (λ bytes. bytes.items) c.in_ok-inputs.inputs.items in
     let texts = written_in c.in_ok-texts.texts in
@@ -82,9 +83,9 @@ returns-in_err-write_texts-clause-ends g c =
 
 pub returns-clause-ends : goal.returns-clause-ends
 returns-clause-ends g c =
-    let old : Moment = record { is_open = g.B.Bay.is_open c.args.bay.now; asked = g.B.Bay.asked c.args.bay.now; left = g.B.Bay.left c.args.bay.now; held = g.B.Bay.held c.args.bay.now; offers = g.B.Bay.offers c.args.bay.now; faults = g.B.Bay.faults c.args.bay.now } in
-    let mid : Moment = record { is_open = g.B.Bay.is_open c.read_inputs.new.bay; asked = g.B.Bay.asked c.read_inputs.new.bay; left = g.B.Bay.left c.read_inputs.new.bay; held = g.B.Bay.held c.read_inputs.new.bay; offers = g.B.Bay.offers c.read_inputs.new.bay; faults = g.B.Bay.faults c.read_inputs.new.bay } in
-    let new : Moment = record { is_open = g.B.Bay.is_open c.write_texts.new.bay; asked = g.B.Bay.asked c.write_texts.new.bay; left = g.B.Bay.left c.write_texts.new.bay; held = g.B.Bay.held c.write_texts.new.bay; offers = g.B.Bay.offers c.write_texts.new.bay; faults = g.B.Bay.faults c.write_texts.new.bay } in
+    let old : Moment = g.B.Bay.moment c.args.bay.now in
+    let mid : Moment = g.B.Bay.moment c.read_inputs.new.bay in
+    let new : Moment = g.B.Bay.moment c.write_texts.new.bay in
     let plan = plan_in c.args.plan.now in
     let bytes = map (λ bytes. bytes.items) c.in_ok-inputs.inputs.items in
     let texts = written_in c.in_ok-texts.texts in

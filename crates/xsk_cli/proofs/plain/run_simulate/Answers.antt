@@ -4,7 +4,8 @@ use Rattle.xsk_args.specs.Words.{Text}
 use Rattle.xsk_args.specs.Meaning.{meaning, under}
 use Rattle.xsk_socket.specs.Layout.{fault_of}
 use Rattle.xsk_cli.specs.Steps.{args_status, plan_in}
-use Rattle.xsk_cli.specs.Streams.{Moment, status_in}
+use Rattle.xsk_io.specs.Bay.{Moment}
+use Rattle.xsk_cli.specs.Streams.{status_in}
 use Rattle.xsk_cli.specs.Words.{Plan, layout_by, options, plan_by, planned_by, simulate_plan}
 use Rattle.xsk_cli.specs.declared.status.Status.TheVariants.{Refused}
 use Rattle.xsk_cli.proofs.Coming.{args_comes, comes_as, plan_comes, refused_comes}
@@ -13,7 +14,7 @@ use Rattle.xsk_cli.proofs.plain.run_simulate.Goals as goal
 
 pub returns-in_err-args : goal.returns-in_err-args
 returns-in_err-args g c =
-    let now : Moment = record { is_open = g.B.Bay.is_open c.args.bay.now; asked = g.B.Bay.asked c.args.bay.now; left = g.B.Bay.left c.args.bay.now; held = g.B.Bay.held c.args.bay.now; offers = g.B.Bay.offers c.args.bay.now; faults = g.B.Bay.faults c.args.bay.now } in
+    let now : Moment = g.B.Bay.moment c.args.bay.now in
     let words : List Text = map string_bytes c.args.words.now in
     let planned : Option Plan = simulate_plan words in
     let error = c.in_err-args.field-0.0 in
@@ -23,7 +24,7 @@ returns-in_err-args g c =
 
 pub returns-in_err-check_words : goal.returns-in_err-check_words
 returns-in_err-check_words g c =
-    let now : Moment = record { is_open = g.B.Bay.is_open c.args.bay.now; asked = g.B.Bay.asked c.args.bay.now; left = g.B.Bay.left c.args.bay.now; held = g.B.Bay.held c.args.bay.now; offers = g.B.Bay.offers c.args.bay.now; faults = g.B.Bay.faults c.args.bay.now } in
+    let now : Moment = g.B.Bay.moment c.args.bay.now in
     let words : List Text = map string_bytes c.args.words.now in
     let planned : Option Plan = simulate_plan words in
     let error = c.in_err-check_words.field-0.0 in
@@ -35,7 +36,7 @@ run_plan-requires-clause-ready g c = plan_ready (under c.in_ok-args.args) (plan_
 
 pub returns-in_err-plan : goal.returns-in_err-plan
 returns-in_err-plan g c =
-    let now : Moment = record { is_open = g.B.Bay.is_open c.args.bay.now; asked = g.B.Bay.asked c.args.bay.now; left = g.B.Bay.left c.args.bay.now; held = g.B.Bay.held c.args.bay.now; offers = g.B.Bay.offers c.args.bay.now; faults = g.B.Bay.faults c.args.bay.now } in
+    let now : Moment = g.B.Bay.moment c.args.bay.now in
     let words : List Text = map string_bytes c.args.words.now in
     let planned : Option Plan = simulate_plan words in
     let unlawful = c.in_err-plan.field-0.0 in
@@ -46,8 +47,8 @@ returns-in_err-plan g c =
 
 pub returns : goal.returns
 returns g c =
-    let old : Moment = record { is_open = g.B.Bay.is_open c.args.bay.now; asked = g.B.Bay.asked c.args.bay.now; left = g.B.Bay.left c.args.bay.now; held = g.B.Bay.held c.args.bay.now; offers = g.B.Bay.offers c.args.bay.now; faults = g.B.Bay.faults c.args.bay.now } in
-    let new : Moment = record { is_open = g.B.Bay.is_open c.run_plan.new.bay; asked = g.B.Bay.asked c.run_plan.new.bay; left = g.B.Bay.left c.run_plan.new.bay; held = g.B.Bay.held c.run_plan.new.bay; offers = g.B.Bay.offers c.run_plan.new.bay; faults = g.B.Bay.faults c.run_plan.new.bay } in
+    let old : Moment = g.B.Bay.moment c.args.bay.now in
+    let new : Moment = g.B.Bay.moment c.run_plan.new.bay in
     let words : List Text = map string_bytes c.args.words.now in
     let planned : Option Plan = simulate_plan words in
     let plan : Plan = plan_in c.in_ok-plan.plan in

@@ -31,7 +31,7 @@ pub returns-clause-forwarded : goal.returns-clause-forwarded
 returns-clause-forwarded g c =
     let are : rules_of c.in_ok-chain.chain ≡ rules_by c.args.layout.now.sockets c.args.programs.now = c.in_ok-chain.ensures.rules ∙ ap (rules_by c.args.layout.now.sockets) c.as_slice.ensures.value in
     forwarded_as c.args.layout.now c.args.programs.now c.args.wire (unmangled c.args.manner) c.args.config c.args.lists.now c.args.frames.items (lists_in c.args.lists.now) c.in_ok-outcome.outcome
-    c.requires.config c.requires.listed c.requires.frames c.wire_of-wire.result c.wire_of-wire.ensures (rules_of c.in_ok-chain.chain)
+    c.requires.config c.requires.listed c.requires.frames (rules_of c.in_ok-chain.chain)
     are (c.in_ok-outcome.ensures.forwarded (subst (λ (rs : List Rule). are_exact rs ≡ true) (sym are) (are_exact_by c.args.layout.now.sockets c.args.programs.now)))
 
 pub returns-clause-short : goal.returns-clause-short

@@ -15,15 +15,15 @@ chain_of-requires-clause-sockets c =
 pub returns-in-Err-Stalled-clause-failed : goal.returns-in-Err-Stalled-clause-failed
 returns-in-Err-Stalled-clause-failed c =
     let under = c.in-Err-Stalled.ensures.stalled c.in-Err-Stalled.round (ap Err c.in-Err-Stalled.field-0-is) in
-    let s : Setting = record { config = c.args.config; wire = c.wire_of-wire.result; manner = c.args.manner; packets = c.args.lists.now; verdicts = under.verdicts } in
+    let s : Setting = record { config = c.args.config; wire = c.args.wire; manner = c.args.manner; packets = c.args.lists.now; verdicts = under.verdicts } in
     stalled_as c.args.layout.now c.args.programs.now c.args.wire c.args.manner c.args.order c.args.config c.args.lists.now c.args.frames.items (lists_in c.args.lists.now) c.in-Err-Stalled.round
-    c.requires.config c.requires.listed c.requires.frames c.wire_of-wire.result c.wire_of-wire.ensures under.verdicts
+    c.requires.config c.requires.listed c.requires.frames under.verdicts
     (subst (λ rules. IsRuled rules s) (c.in_ok-chain.ensures.rules ∙ ap (rules_by c.args.layout.now.sockets) c.as_slice.ensures.value) (asked_ruled _ c.in_ok-chain.chain s under.asked)) under.stalled
 
 pub returns-in-Ok-clause-ended : goal.returns-in-Ok-clause-ended
 returns-in-Ok-clause-ended c =
     let under = c.in-Ok.ensures.ended in
-    let s : Setting = record { config = c.args.config; wire = c.wire_of-wire.result; manner = c.args.manner; packets = c.args.lists.now; verdicts = under.verdicts } in
+    let s : Setting = record { config = c.args.config; wire = c.args.wire; manner = c.args.manner; packets = c.args.lists.now; verdicts = under.verdicts } in
     ended_as c.args.layout.now c.args.programs.now c.args.wire c.args.manner c.args.order c.args.config c.args.lists.now c.args.frames.items (lists_in c.args.lists.now) c.in-Ok.run'
-    c.requires.config c.requires.listed c.requires.frames c.wire_of-wire.result c.wire_of-wire.ensures under.verdicts
+    c.requires.config c.requires.listed c.requires.frames under.verdicts
     (subst (λ rules. IsRuled rules s) (c.in_ok-chain.ensures.rules ∙ ap (rules_by c.args.layout.now.sockets) c.as_slice.ensures.value) (asked_ruled _ c.in_ok-chain.chain s under.asked)) under.ended

@@ -3,9 +3,9 @@ use Rattle.std.specs.Prelude.{option_map, option_and_then}
 use Rattle.xsk_args.specs.Words.{Text}
 use Rattle.xsk_args.specs.Meaning.{meaning, under}
 use Rattle.xsk_socket.specs.Layout.{fault_of}
-use Rattle.xsk_cli.specs.Forward.{EndsShown, forward_options, forward_plan}
+use Rattle.xsk_cli.specs.Forward.{EndsShown, ended_in, forward_options, forward_plan}
 use Rattle.xsk_cli.specs.Steps.{args_status, plan_in}
-use Rattle.xsk_cli.specs.Streams.{Moment, status_in}
+use Rattle.xsk_io.specs.Bay.{Moment}
 use Rattle.xsk_cli.specs.Words.{Plan, layout_by, plan_by, planned_by}
 use Rattle.xsk_cli.specs.declared.status.Status.TheVariants.{Refused}
 use Rattle.xsk_cli.proofs.Coming.{args_comes, plan_comes_to, refused_comes}
@@ -15,22 +15,22 @@ use Rattle.xsk_cli.proofs.threads.forward_words.Goals as goal
 
 pub returns-in_err-args : goal.returns-in_err-args
 returns-in_err-args g c =
-    let now : Moment = record { is_open = g.B.Bay.is_open c.args.bay.now; asked = g.B.Bay.asked c.args.bay.now; left = g.B.Bay.left c.args.bay.now; held = g.B.Bay.held c.args.bay.now; offers = g.B.Bay.offers c.args.bay.now; faults = g.B.Bay.faults c.args.bay.now } in
+    let now : Moment = g.B.Bay.moment c.args.bay.now in
     let words : List Text = map string_bytes c.args.words.now in
     let planned : Option Plan = forward_plan words in
     let error = c.in_err-args.field-0.0 in
-    comes_shown c.from_residual.result (args_status error) _ planned now now (search rules) c.requires.none
-    (args_comes planned now c.requires.closed error
+    comes_shown c.from_residual.result (args_status error) planned now now (search rules)
+    (args_comes planned now c.requires error
     (λ is. let none : meaning (codes "forward") forward_options words ≡ None = search (rules, is) in ap (option_and_then planned_by) none)) (args_before error)
 
 pub returns-in_err-check_words : goal.returns-in_err-check_words
 returns-in_err-check_words g c =
-    let now : Moment = record { is_open = g.B.Bay.is_open c.args.bay.now; asked = g.B.Bay.asked c.args.bay.now; left = g.B.Bay.left c.args.bay.now; held = g.B.Bay.held c.args.bay.now; offers = g.B.Bay.offers c.args.bay.now; faults = g.B.Bay.faults c.args.bay.now } in
+    let now : Moment = g.B.Bay.moment c.args.bay.now in
     let words : List Text = map string_bytes c.args.words.now in
     let planned : Option Plan = forward_plan words in
     let error = c.in_err-check_words.field-0.0 in
-    comes_shown c.from_residual-in_err-check_words.result (args_status error) _ planned now now (search rules) c.requires.none
-    (args_comes planned now c.requires.closed error
+    comes_shown c.from_residual-in_err-check_words.result (args_status error) planned now now (search rules)
+    (args_comes planned now c.requires error
     (λ _. has_no_plan (under c.in_ok-args.args) (meaning (codes "forward") forward_options words) c.in_ok-args.ensures.told c.in_err-check_words.ensures.usage.1)) (args_before error)
 
 pub forward_plan-requires-clause-ready : goal.forward_plan-requires-clause-ready
@@ -38,23 +38,23 @@ forward_plan-requires-clause-ready g c κs within = plan_ready (under c.in_ok-ar
 
 pub returns-in_err-plan : goal.returns-in_err-plan
 returns-in_err-plan g c =
-    let now : Moment = record { is_open = g.B.Bay.is_open c.args.bay.now; asked = g.B.Bay.asked c.args.bay.now; left = g.B.Bay.left c.args.bay.now; held = g.B.Bay.held c.args.bay.now; offers = g.B.Bay.offers c.args.bay.now; faults = g.B.Bay.faults c.args.bay.now } in
+    let now : Moment = g.B.Bay.moment c.args.bay.now in
     let words : List Text = map string_bytes c.args.words.now in
     let planned : Option Plan = forward_plan words in
     let unlawful = c.in_err-plan.field-0.0 in
     let fault : fault_of (layout_by (under c.in_ok-args.args)) ≡ Some unlawful = search rules in
     let is : planned ≡ Some (plan_by (under c.in_ok-args.args)) = has_plan (under c.in_ok-args.args) (meaning (codes "forward") forward_options words) c.in_ok-args.ensures.told c.in_ok-check_words.ensures.passed in
-    comes_shown c.from_residual-in_err-plan.result (Refused unlawful) _ planned now now (search rules) c.requires.none
-    (refused_comes planned now c.requires.closed (plan_by (under c.in_ok-args.args)) unlawful is fault) (λ no. no)
+    comes_shown c.from_residual-in_err-plan.result (Refused unlawful) planned now now (search rules)
+    (refused_comes planned now c.requires (plan_by (under c.in_ok-args.args)) unlawful is fault) (λ no. no)
 
 pub returns : goal.returns
 returns g c =
-    let old : Moment = record { is_open = g.B.Bay.is_open c.args.bay.now; asked = g.B.Bay.asked c.args.bay.now; left = g.B.Bay.left c.args.bay.now; held = g.B.Bay.held c.args.bay.now; offers = g.B.Bay.offers c.args.bay.now; faults = g.B.Bay.faults c.args.bay.now } in
-    let new : Moment = record { is_open = g.B.Bay.is_open c.forward_plan.new.bay; asked = g.B.Bay.asked c.forward_plan.new.bay; left = g.B.Bay.left c.forward_plan.new.bay; held = g.B.Bay.held c.forward_plan.new.bay; offers = g.B.Bay.offers c.forward_plan.new.bay; faults = g.B.Bay.faults c.forward_plan.new.bay } in
+    let old : Moment = g.B.Bay.moment c.args.bay.now in
+    let new : Moment = g.B.Bay.moment c.forward_plan.new.bay in
     let words : List Text = map string_bytes c.args.words.now in
     let planned : Option Plan = forward_plan words in
     let plan : Plan = plan_in c.in_ok-plan.plan in
     let is : planned ≡ Some plan =
     has_plan (under c.in_ok-args.args) (meaning (codes "forward") forward_options words) c.in_ok-args.ensures.told c.in_ok-check_words.ensures.passed ∙ ap Some (sym c.in_ok-plan.ensures.plan) in
-    plan_comes_to (EndsShown c.forward_plan.new.outcome old new (status_in c.forward_plan.result)) planned plan old new (status_in c.forward_plan.result) is c.in_ok-plan.ensures.accepted c.forward_plan.ensures.begun
+    plan_comes_to (EndsShown (ended_in c.forward_plan.result).outcome old new (ended_in c.forward_plan.result).status) planned plan old new (ended_in c.forward_plan.result).status is c.in_ok-plan.ensures.accepted c.forward_plan.ensures.begun
     c.forward_plan.ensures.ends c.forward_plan.ensures.silent c.forward_plan.ensures.cause c.forward_plan.ensures.falls c.forward_plan.ensures.others

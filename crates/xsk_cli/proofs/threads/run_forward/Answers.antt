@@ -1,75 +1,42 @@
 use Rattle.std.proofs.Common.{◌≡◌, map, string_bytes, sym, ap, ◌∙◌, subst}
-use Rattle.std.specs.Prelude.{◌⊎◌, unwrap_or}
+use Rattle.std.specs.Prelude.{unwrap_or}
 use Rattle.xsk_io.proofs.Steps.{Rose-later}
-use Rattle.xsk_cli.specs.Cause.{IsCaused, NoOthers}
-use Rattle.xsk_cli.specs.Ends.{NoneRose}
 use Rattle.xsk_cli.specs.Forward.{ComesShown, EndsShown, forward_plan}
-use Rattle.xsk_cli.specs.Streams.{Moment}
+use Rattle.xsk_cli.specs.Steps.{ComesTo}
+use Rattle.xsk_io.specs.Bay.{Moment}
+use Rattle.xsk_cli.specs.Line.{line_of}
+use Rattle.xsk_cli.specs.declared.threads.Ended.{Ended}
 use Rattle.xsk_cli.specs.Words.{no_plan}
-use Rattle.xsk_cli.specs.declared.status.Status.TheVariants.{Refused, OutOfMemory}
-use Rattle.xsk_cli.proofs.Counting.{told_others}
+use Rattle.xsk_cli.proofs.Counting.{caused_then, line_then, told_others, uncounted_then}
 use Rattle.xsk_cli.proofs.Showing.{answered_shown, check_file_shown, check_shown, completes_shown, refusal_shown}
 use Rattle.xsk_cli.proofs.Writing.{told_by}
 use Rattle.xsk_cli.proofs.threads.run_forward.Goals as goal
 
-pub returns-clause-refused : goal.returns-clause-refused
-returns-clause-refused g c plan unlawful is fault =
-    subst (λ s. (s ≡ Refused unlawful) ⊎ (s ≡ OutOfMemory)) (sym c.status_of-status.ensures) (c.forward_words.ensures.refused plan unlawful is fault)
-
-pub returns-clause-refusal : goal.returns-clause-refusal
-returns-clause-refusal g c unlawful is =
-    let old : Moment = record { is_open = g.B.Bay.is_open c.args.bay.now; asked = g.B.Bay.asked c.args.bay.now; left = g.B.Bay.left c.args.bay.now; held = g.B.Bay.held c.args.bay.now; offers = g.B.Bay.offers c.args.bay.now; faults = g.B.Bay.faults c.args.bay.now } in
-    let mid : Moment = record { is_open = g.B.Bay.is_open c.forward_words.new.bay; asked = g.B.Bay.asked c.forward_words.new.bay; left = g.B.Bay.left c.forward_words.new.bay; held = g.B.Bay.held c.forward_words.new.bay; offers = g.B.Bay.offers c.forward_words.new.bay; faults = g.B.Bay.faults c.forward_words.new.bay } in
-    let plan = unwrap_or (forward_plan (map string_bytes c.args.words.now)) no_plan in
-    refusal_shown plan old mid c.forward_words.new.outcome unlawful (subst (λ s. EndsShown c.forward_words.new.outcome old mid s plan) (sym c.status_of-status.ensures ∙ is) c.forward_words.ensures.ends)
-
-pub returns-clause-check : goal.returns-clause-check
-returns-clause-check g c port is =
-    let old : Moment = record { is_open = g.B.Bay.is_open c.args.bay.now; asked = g.B.Bay.asked c.args.bay.now; left = g.B.Bay.left c.args.bay.now; held = g.B.Bay.held c.args.bay.now; offers = g.B.Bay.offers c.args.bay.now; faults = g.B.Bay.faults c.args.bay.now } in
-    let mid : Moment = record { is_open = g.B.Bay.is_open c.forward_words.new.bay; asked = g.B.Bay.asked c.forward_words.new.bay; left = g.B.Bay.left c.forward_words.new.bay; held = g.B.Bay.held c.forward_words.new.bay; offers = g.B.Bay.offers c.forward_words.new.bay; faults = g.B.Bay.faults c.forward_words.new.bay } in
-    let plan = unwrap_or (forward_plan (map string_bytes c.args.words.now)) no_plan in
-    check_shown plan old mid c.forward_words.new.outcome port (subst (λ s. EndsShown c.forward_words.new.outcome old mid s plan) (sym c.status_of-status.ensures ∙ is) c.forward_words.ensures.ends)
-
-pub returns-clause-check_file : goal.returns-clause-check_file
-returns-clause-check_file g c is =
-    let old : Moment = record { is_open = g.B.Bay.is_open c.args.bay.now; asked = g.B.Bay.asked c.args.bay.now; left = g.B.Bay.left c.args.bay.now; held = g.B.Bay.held c.args.bay.now; offers = g.B.Bay.offers c.args.bay.now; faults = g.B.Bay.faults c.args.bay.now } in
-    let mid : Moment = record { is_open = g.B.Bay.is_open c.forward_words.new.bay; asked = g.B.Bay.asked c.forward_words.new.bay; left = g.B.Bay.left c.forward_words.new.bay; held = g.B.Bay.held c.forward_words.new.bay; offers = g.B.Bay.offers c.forward_words.new.bay; faults = g.B.Bay.faults c.forward_words.new.bay } in
-    let plan = unwrap_or (forward_plan (map string_bytes c.args.words.now)) no_plan in
-    check_file_shown plan old mid c.forward_words.new.outcome (subst (λ s. EndsShown c.forward_words.new.outcome old mid s plan) (sym c.status_of-status.ensures ∙ is) c.forward_words.ensures.ends)
-
-pub returns-clause-ends : goal.returns-clause-ends
-returns-clause-ends g c =
-    let old : Moment = record { is_open = g.B.Bay.is_open c.args.bay.now; asked = g.B.Bay.asked c.args.bay.now; left = g.B.Bay.left c.args.bay.now; held = g.B.Bay.held c.args.bay.now; offers = g.B.Bay.offers c.args.bay.now; faults = g.B.Bay.faults c.args.bay.now } in
-    let mid : Moment = record { is_open = g.B.Bay.is_open c.forward_words.new.bay; asked = g.B.Bay.asked c.forward_words.new.bay; left = g.B.Bay.left c.forward_words.new.bay; held = g.B.Bay.held c.forward_words.new.bay; offers = g.B.Bay.offers c.forward_words.new.bay; faults = g.B.Bay.faults c.forward_words.new.bay } in
-    let new : Moment = record { is_open = g.B.Bay.is_open c.tell.new.bay; asked = g.B.Bay.asked c.tell.new.bay; left = g.B.Bay.left c.tell.new.bay; held = g.B.Bay.held c.tell.new.bay; offers = g.B.Bay.offers c.tell.new.bay; faults = g.B.Bay.faults c.tell.new.bay } in
-    let plan = unwrap_or (forward_plan (map string_bytes c.args.words.now)) no_plan in
-    let shown = c.forward_words.new.outcome in
-    let ends : EndsShown shown old mid c.status_of-status.result plan = subst (λ s. EndsShown shown old mid s plan) (sym c.status_of-status.ensures) c.forward_words.ensures.ends in
-    told_by (ComesShown plan.work shown) plan old mid new c.status_of-status.result ends c.tell.ensures.opened c.tell.ensures.asked c.tell.ensures.left c.tell.ensures.held c.tell.ensures.offers c.tell.ensures.silent
-
-pub returns-clause-others : goal.returns-clause-others
-returns-clause-others g c =
-    told_others _ _ _ c.status_of-status.result (subst (NoOthers (g.B.Bay.faults c.args.bay.now) (g.B.Bay.faults c.forward_words.new.bay)) (sym c.status_of-status.ensures) c.forward_words.ensures.others)
-    c.tell.ensures.counts c.tell.ensures.unchanged
-
-pub returns-clause-answers : goal.returns-clause-answers
-returns-clause-answers g c plan inputs outcome is told h =
-    let old : Moment = record { is_open = g.B.Bay.is_open c.args.bay.now; asked = g.B.Bay.asked c.args.bay.now; left = g.B.Bay.left c.args.bay.now; held = g.B.Bay.held c.args.bay.now; offers = g.B.Bay.offers c.args.bay.now; faults = g.B.Bay.faults c.args.bay.now } in
-    let mid : Moment = record { is_open = g.B.Bay.is_open c.forward_words.new.bay; asked = g.B.Bay.asked c.forward_words.new.bay; left = g.B.Bay.left c.forward_words.new.bay; held = g.B.Bay.held c.forward_words.new.bay; offers = g.B.Bay.offers c.forward_words.new.bay; faults = g.B.Bay.faults c.forward_words.new.bay } in
-    let shown = c.forward_words.new.outcome in
-    let planned : unwrap_or (forward_plan (map string_bytes c.args.words.now)) no_plan ≡ plan = ap (λ o. unwrap_or o no_plan) is in
-    let ends : EndsShown shown old mid c.status_of-status.result plan =
-    subst (EndsShown shown old mid c.status_of-status.result) planned (subst (λ s. EndsShown shown old mid s (unwrap_or (forward_plan (map string_bytes c.args.words.now)) no_plan)) (sym c.status_of-status.ensures) c.forward_words.ensures.ends) in
-    answered_shown plan old mid inputs told shown c.status_of-status.result outcome ends (λ u. let none = sym is ∙ c.forward_words.ensures.usage (sym c.status_of-status.ensures ∙ u) in cc) h
-
-pub returns-clause-complete : goal.returns-clause-complete
-returns-clause-complete g c plan inputs is accepted told taken none =
-    let old : Moment = record { is_open = g.B.Bay.is_open c.args.bay.now; asked = g.B.Bay.asked c.args.bay.now; left = g.B.Bay.left c.args.bay.now; held = g.B.Bay.held c.args.bay.now; offers = g.B.Bay.offers c.args.bay.now; faults = g.B.Bay.faults c.args.bay.now } in
-    let mid : Moment = record { is_open = g.B.Bay.is_open c.forward_words.new.bay; asked = g.B.Bay.asked c.forward_words.new.bay; left = g.B.Bay.left c.forward_words.new.bay; held = g.B.Bay.held c.forward_words.new.bay; offers = g.B.Bay.offers c.forward_words.new.bay; faults = g.B.Bay.faults c.forward_words.new.bay } in
-    let shown = c.forward_words.new.outcome in
-    let planned : unwrap_or (forward_plan (map string_bytes c.args.words.now)) no_plan ≡ plan = ap (λ o. unwrap_or o no_plan) is in
-    let ends : EndsShown shown old mid c.status_of-status.result plan =
-    subst (EndsShown shown old mid c.status_of-status.result) planned (subst (λ s. EndsShown shown old mid s (unwrap_or (forward_plan (map string_bytes c.args.words.now)) no_plan)) (sym c.status_of-status.ensures) c.forward_words.ensures.ends) in
-    let caused : IsCaused old.faults mid.faults c.status_of-status.result = subst (IsCaused old.faults mid.faults) (sym c.status_of-status.ensures) c.forward_words.ensures.cause in
-    let quiet : NoneRose old.faults mid.faults = λ kind stream rose. none kind stream (Rose-later _ _ _ (c.forward_words.ensures.falls kind stream) rose (c.tell.ensures.falls kind stream)) in
-    completes_shown plan old mid inputs told shown c.status_of-status.result ends (λ u. let no_words = sym is ∙ c.forward_words.ensures.usage (sym c.status_of-status.ensures ∙ u) in cc) accepted taken quiet caused
+pub returns : goal.returns
+returns g c =
+    let old : Moment = g.B.Bay.moment c.args.bay.now in
+    let mid : Moment = g.B.Bay.moment c.forward_words.new.bay in
+    let new : Moment = g.B.Bay.moment c.tell.new.bay in
+    let status = c.ended_by-ended.result.status in
+    let shown = c.ended_by-ended.result.outcome in
+    let planned = forward_plan (map string_bytes c.args.words.now) in
+    let plan = unwrap_or planned no_plan in
+    let comes : ComesTo (EndsShown shown old mid status) planned old mid status =
+    subst (λ (e : Ended). ComesTo (EndsShown e.outcome old mid e.status) planned old mid e.status) (sym c.ended_by-ended.ensures) c.forward_words.ensures in record {
+      usage = comes.usage;
+      unplanned = comes.unplanned;
+      refusal = λ unlawful is. refusal_shown plan old mid shown unlawful (subst (λ s. EndsShown shown old mid s plan) is comes.ends);
+      refused = comes.refused;
+      cause = caused_then _ _ _ status comes.falls comes.cause c.tell.ensures.falls;
+      others = told_others _ _ _ status comes.others c.tell.ensures.counts c.tell.ensures.unchanged;
+      uncounted = λ at_once. uncounted_then _ _ _ (comes.uncounted at_once) c.tell.ensures.counts;
+      ends = told_by (ComesShown plan.work shown) plan old mid new status comes.ends c.tell.ensures.opened c.tell.ensures.asked c.tell.ensures.left c.tell.ensures.held c.tell.ensures.offers c.tell.ensures.silent;
+      line = λ has. line_then (line_of status) old mid new comes.falls (comes.silent has) (c.tell.ensures.line has);
+      check = λ port is. check_shown plan old mid shown port (subst (λ s. EndsShown shown old mid s plan) is comes.ends);
+      check_file = λ is. check_file_shown plan old mid shown (subst (λ s. EndsShown shown old mid s plan) is comes.ends);
+      answers = λ one inputs outcome is told h. answered_shown one old mid inputs told shown status outcome
+          (subst (EndsShown shown old mid status) (ap (λ o. unwrap_or o no_plan) is) comes.ends) (λ u. let none = sym is ∙ comes.usage u in cc) h;
+      complete = λ one inputs is accepted told taken none. completes_shown one old mid inputs told shown status
+          (subst (EndsShown shown old mid status) (ap (λ o. unwrap_or o no_plan) is) comes.ends) (λ u. let no_words = sym is ∙ comes.usage u in cc) accepted taken
+          (λ kind stream rose. none kind stream (Rose-later _ _ _ (comes.falls kind stream) rose (c.tell.ensures.falls kind stream))) comes.cause;
+    }
