@@ -8,8 +8,8 @@ use crate::runs::LAYOUT;
 use anyhow::{Context, Result, bail};
 use std::alloc::Global;
 use xsk_bench::{Amount, Bench, Traffic, Wire};
+use xsk_log::LineBuffer;
 use xsk_model::{Answer, Ask, Ring};
-use xsk_plain::LineBuffer;
 use xsk_prog::{Chain, Rule, XdpProgram};
 use xsk_umem::{Batch, Item, PacketList};
 
@@ -78,11 +78,10 @@ fn take(bench: &mut Bench<'_>, ring: Ring) -> Result<Option<Item>> {
 
 /// Puts an item into a ring.
 fn put(bench: &mut Bench<'_>, ring: Ring, item: Item, reserves: bool) -> Result<()> {
-    let reserve = Ask::Reserve(ring, 1);
-    if reserves && bench.serve(0, reserve, &mut Batch::new())? != Answer::Granted {
+    let mut items = Batch::new();
+    if reserves && bench.serve(0, Ask::Reserve(ring, 1), &mut items)? != Answer::Granted {
         bail!("the ring is full");
     }
-    let mut items = Batch::new();
     items.push(item);
     bench.serve(0, Ask::Submit(ring), &mut items)?;
     Ok(())

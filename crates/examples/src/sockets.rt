@@ -8,7 +8,7 @@ use std::alloc::Global;
 use xsk_model::{Call, Config, Reply, Ring};
 use xsk_plain::{Checked, payload_room};
 use xsk_socket::{RingKind, Setup, XDP_COPY, XDP_SHARED_UMEM};
-use xsk_umem::{Frames, Geometry, Umem};
+use xsk_umem::{Frames, Geometry, MOST_ITEMS, Umem};
 
 pub fn from_socket_to_traffic<R: Print>(rt: &R, alloc: Global) -> Result<()> {
     let (geometry, frames) = eight_frames(alloc)?;
@@ -53,7 +53,7 @@ fn add_rings(setup: &mut Setup, socket: u32, kind: RingKind) -> Result<()>
 
 /// Makes a caller's Peek where it is legal, and else tells why it isn't.
 fn peek<R: Print>(rt: &R, checked: &mut Checked, who: u32, ring: Ring) -> Result<()> {
-    let call = Call::Peek(ring, 32);
+    let call = Call::Peek(ring, MOST_ITEMS);
     let _chunk = checked.config().geometry();
     checked.reserve_log(1, payload_room(&call))?;
     match checked.why_not(who, &call) {

@@ -26,31 +26,13 @@ struct Cell {
     value: u32,
 }
 
-/// What a case has where it says nothing.
-const DEFAULTS: Layout = Layout {
-    ports: 2,
-    queues: 1,
-    sockets: 1,
-    files: 4,
-    files_wanted_per_port: 2,
-    chunk: 4096,
-    headroom: 0,
-    frames: 256,
-    rx: 2048,
-    tx: 2048,
-    fill: 2048,
-    comp: 2048,
-    sg: false,
-    wakeup: false,
-    empty: None,
-    close: None,
-    hands: 1,
-};
-
 /// The setup of a case's options, which are words and numbers.
 pub fn setting_of(options: &str) -> Option<Setting> {
     let mut setting = Setting {
-        layout: DEFAULTS,
+        layout: Layout {
+            files_wanted_per_port: 2,
+            ..Layout::default()
+        },
         cell: None,
         times: 1,
     };

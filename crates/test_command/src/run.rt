@@ -1,6 +1,7 @@
 //! A command over a bay in memory. What its contract says is proved of the command; a case looks at its status, its streams and
 //! its writes alone.
 ghost use Rattle.std.specs.Prelude.{◌≡◌, false, IfOk};
+ghost use Rattle.xsk_io.specs.Bay.{NoneOpen};
 ghost use Rattle.xsk_io.specs.declared.bay.Stream.{Stream as AStream};
 ghost use Rattle.xsk_io.specs.Memory.{is_open_of};
 
@@ -12,8 +13,16 @@ use std::fmt::Write;
 use std::rt::Files;
 use std::sync::Wait;
 use std::thread::Threads;
-use xsk_cli::{Ended, Status, run_plain};
-use xsk_io::{Bay, FileBay, Gate, HoldGate, MemoryBay, Open, PairGate};
+use xsk_cli::{Ended, Status, ThreadRun, run_plain};
+use xsk_gate::{Gate, HoldGate, Open, PairGate};
+use xsk_io::{Bay, FileBay, MemoryBay};
+
+/// How a command ended, and what its run on threads shows.
+#[derive(Drop)]
+struct Told {
+    status: Status,
+    shown: Shown,
+}
 
 /// Runs the command of a line, with threads for `forward`, and tells how it ended and what it left.
 pub(crate) fn run<R: Threads + Wait + Sync>(
@@ -45,8 +54,7 @@ pub(crate) fn run<R: Threads + Wait + Sync>(
             ended
         }
     };
-    let shown = shown_by(&ended);
-    show(alloc, case, ended.status, shown, &bay, &mut told)?;
+    show(alloc, case, ended.status, ended.shown, &bay, &mut told)?;
     Ok(told)
 }
 
@@ -129,8 +137,8 @@ fn run_pair<R: Threads + Wait + Sync, B: Bay>(
     first: u32,
     second: u32,
     told: &mut String,
-) -> Result<Ended>
-    requires { (stream : AStream) → B.is_open bay.old stream ≡ false }
+) -> Result<Told>
+    requires { NoneOpen (B.moment bay.old) }
 {
     if first == second {
         return Err(anyhow!("a worker doesn't meet itself"));
@@ -148,23 +156,32 @@ fn through<R: Threads + Wait + Sync, B: Bay, G: Gate + Sync>(
     words: &[String],
     bay: &mut B,
     gate: &G,
-) -> Ended
-    requires { (stream : AStream) → B.is_open bay.old stream ≡ false }
+) -> Told
+    requires { NoneOpen (B.moment bay.old) }
 {
-    xsk_cli::run(rt, alloc, words, bay, gate)
+    let Ended { status, outcome } = xsk_cli::run(rt, alloc, words, bay, gate);
+    Told {
+        status,
+        shown: shown_by(outcome),
+    }
 }
 
 fn alone<B: Bay>(alloc: Global, words: &[String], bay: &mut B) -> Status
-    requires { (stream : AStream) → B.is_open bay.old stream ≡ false }
+    requires { NoneOpen (B.moment bay.old) }
 {
     run_plain(alloc, words, bay)
 }
 
-/// What a run on threads shows.
-fn shown_by(ended: &Ended) -> Shown {
-    match &ended.outcome {
-        None => Shown::Nothing,
-        Some(outcome) if outcome.figures().calls == 0 => Shown::NoCalls,
-        Some(_) => Shown::Calls,
+/// What a run on threads shows, which is given up.
+fn shown_by(outcome: Option<ThreadRun>) -> Shown {
+    let Some(run) = outcome else {
+        return Shown::Nothing;
+    };
+    let calls = run.figures().calls;
+    run.give_up();
+    if calls == 0 {
+        Shown::NoCalls
+    } else {
+        Shown::Calls
     }
 }

@@ -5,10 +5,10 @@ use crate::run::{ended_alone, words_in};
 use anyhow::{Result, anyhow};
 use std::alloc::Global;
 use std::fmt::Write;
-use xsk_args::{Args, ArgsError, OptionRow, Takes, Wire, parse};
+use xsk_args::{Args, ArgsError, OptionRow, Takes, parse};
 use xsk_cli::Status;
 
-/// The options of `simulate`.
+/// Options of `simulate`, all but those of a socket that is closed, `mangle` and `pcapng`.
 static OPTIONS: [OptionRow; 18] = [
     OptionRow {
         name: "ports",
@@ -64,7 +64,7 @@ static OPTIONS: [OptionRow; 18] = [
     },
     OptionRow {
         name: "wire",
-        takes: Takes::Wire,
+        takes: Takes::OneOf(&["wait", "drop"]),
     },
     OptionRow {
         name: "empty",
@@ -100,7 +100,7 @@ static SMALL: [OptionRow; 5] = [
     },
     OptionRow {
         name: "wire",
-        takes: Takes::Wire,
+        takes: Takes::OneOf(&["wait", "drop"]),
     },
     OptionRow {
         name: "sg",
@@ -113,7 +113,7 @@ static SMALL: [OptionRow; 5] = [
 pub(crate) fn meaning(alloc: Global, case: &Case, line: &str) -> Result<String> {
     let words = words_in(alloc, line)?;
     let mut told = format!(in alloc; "{line} => ")?;
-    let means = match parse(alloc, "simulate", OPTIONS.as_slice(), words.as_slice()) {
+    let means = match parse(alloc, "simulate", &[OPTIONS.as_slice()], words.as_slice()) {
         Ok(args) => {
             tell_meaning(&args, OPTIONS.as_slice(), &mut told)?;
             true
@@ -132,7 +132,7 @@ pub(crate) fn meaning(alloc: Global, case: &Case, line: &str) -> Result<String> 
 pub(crate) fn meaning_by_small_table(alloc: Global, line: &str) -> Result<String> {
     let words = words_in(alloc, line)?;
     let mut told = format!(in alloc; "{line} => ")?;
-    match parse(alloc, "simulate", SMALL.as_slice(), words.as_slice()) {
+    match parse(alloc, "simulate", &[SMALL.as_slice()], words.as_slice()) {
         Ok(args) => tell_meaning(&args, SMALL.as_slice(), &mut told)?,
         Err(error) => {
             tell_refusal(error, &mut told)?;
@@ -173,21 +173,10 @@ fn tell_option(args: &Args<'_>, row: OptionRow, told: &mut String) -> Result<()>
         && let Some(number) = args.number(name)
     {
         write!(told, "{name}={number} ")?;
-    } else if row.takes == Takes::Wire
-        && let Some(wire) = args.wire(name)
-    {
-        write!(told, "{name}={} ", word_of(wire))?;
     } else if let Some(text) = args.text(name) {
         write!(told, "{name}={text} ")?;
     } else if args.is_said(name) {
         write!(told, "{name} ")?;
     }
     Ok(())
-}
-
-fn word_of(wire: Wire) -> &'static str {
-    match wire {
-        Wire::Wait => "wait",
-        Wire::Drop => "drop",
-    }
 }

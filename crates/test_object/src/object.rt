@@ -1,8 +1,9 @@
 //! The object on one thread, as a script has it.
 use crate::reply::Asked;
 use std::alloc::Global;
+use xsk_log::{LineBuffer, Lines, Log};
 use xsk_model::{Call, Config};
-use xsk_plain::{Checked, LineBuffer, Log, Plain, payload_room};
+use xsk_plain::{Checked, Plain, payload_room};
 use xsk_umem::{Frames, OutOfMemory};
 
 /// The engine that tells which calls are legal, the same where it is asked why one isn't, or the one that makes each call that
@@ -56,6 +57,13 @@ impl Object {
         }
     }
 
+    fn lines(&self) -> Lines<'_> {
+        match self {
+            Object::Checked(checked) | Object::Why(checked) => checked.lines(),
+            Object::Plain(plain) => plain.lines(),
+        }
+    }
+
     /// Makes a call where it is legal, or can be made.
     pub(crate) fn ask(&mut self, who: u32, call: Call) -> Result<Asked, OutOfMemory> {
         match self {
@@ -75,9 +83,12 @@ impl Object {
 
     /// Puts the line of the last call, if there is one, in the buffer.
     pub(crate) fn tell_last(&self, line: &mut LineBuffer) {
-        let log = self.log();
-        if let Some(last) = log.len().checked_sub(1) {
-            log.write_line(self.config(), last, line);
+        let Some(last) = self.log().len().checked_sub(1) else {
+            return;
+        };
+        match self {
+            Object::Checked(checked) | Object::Why(checked) => checked.write_line(last, line),
+            Object::Plain(plain) => plain.write_line(last, line),
         }
     }
 
@@ -87,7 +98,7 @@ impl Object {
         let mut line = LineBuffer::new();
         let mut text = Vec::new(alloc);
         let mut callers = Vec::new(alloc);
-        let mut lines = self.log().lines(self.config().pairs().len() as u32);
+        let mut lines = self.lines();
         for _ in 0..self.log().len() {
             if let Some(who) = lines.write_next(&mut line) {
                 text.extend_from_slice(line.bytes())?;

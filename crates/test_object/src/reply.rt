@@ -1,7 +1,7 @@
 //! What comes of a call, in words.
 use std::alloc::Global;
 use std::string::String;
-use xsk_desc::Illegal;
+use xsk_legal::Illegal;
 use xsk_model::{Call, Reply};
 use xsk_umem::{Batch, OutOfMemory};
 

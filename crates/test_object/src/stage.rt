@@ -7,8 +7,8 @@ use crate::words::{Move, Thing, Who};
 use std::alloc::Global;
 use std::str;
 use std::string::String;
+use xsk_log::LineBuffer;
 use xsk_model::Ring;
-use xsk_plain::LineBuffer;
 use xsk_umem::OutOfMemory;
 
 /// What came of a call that both engines made.

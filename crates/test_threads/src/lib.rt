@@ -1,13 +1,20 @@
 //! Tests of what data can't say: values that may be sent to other threads, threads that meet and move frames at once, and
-//! programs that are closures of one's own on threads.
+//! programs that are closures of one's own on threads; the bay over real files, folders, a device that is full, the standard
+//! output, and files whose calls are interrupted; and gates whose workers come one after the other.
 #![tactic(auto)]
 
 #[cfg(test)]
 mod circling;
 #[cfg(test)]
+mod files;
+#[cfg(test)]
+mod gates;
+#[cfg(test)]
 mod going;
 #[cfg(test)]
 mod handing;
+#[cfg(test)]
+mod interrupted;
 #[cfg(test)]
 mod moving;
 #[cfg(test)]

@@ -10,7 +10,7 @@ use std::alloc::Global;
 use std::sync::Wait;
 use std::test::Fail;
 use std::thread::Threads;
-use xsk_io::{Gate, Open, PairGate};
+use xsk_gate::{Gate, Open, PairGate};
 use xsk_model::Config;
 use xsk_prog::{Chain, Rule, Verdict, XdpProgram};
 use xsk_sim::{Wire, simulate};

@@ -5,6 +5,7 @@
 //! and `report BYTES..` (writes each text to the report). Each bay is a new one. The outcomes are told, what the output or the report
 //! holds, and the writes: how many bytes were taken, of how many that were offered.
 ghost use Rattle.std.specs.Prelude.{◌≡◌, false, IfOk};
+ghost use Rattle.xsk_io.specs.Bay.{NoneOpen};
 ghost use Rattle.xsk_io.specs.declared.bay.Stream.{Stream};
 ghost use Rattle.xsk_io.specs.Memory.{is_open_of};
 
@@ -163,7 +164,7 @@ fn tell_copied_steadily(alloc: Global, bay: SteadyBay, limit: u32, told: &mut To
 
 /// Copies an input to an output, over any bay.
 fn copy<B: Bay>(alloc: Global, bay: &mut B, limit: usize) -> Result<(), ReadError>
-    requires none_open { (stream : Stream) → B.is_open bay.old stream ≡ false }
+    requires none_open { NoneOpen (B.moment bay.old) }
 {
     bay.open(Stream::Input(0), "in")?;
     let text = read_whole(alloc, bay, Stream::Input(0), limit)?;

@@ -4,8 +4,10 @@ use crate::captures::Captures;
 use crate::descriptors::Descriptors;
 use crate::frames::Frames;
 use crate::generated::Generated;
+use crate::interfaces::Interfaces;
 use crate::layouts::Layouts;
 use crate::line::{Fault, Line};
+use crate::locks::Locks;
 use crate::packets::Packets;
 use crate::programs::Programs;
 use crate::reports::Reports;
@@ -45,6 +47,8 @@ fn go_through(alloc: Global, kind: &str, lines: &str, told: &mut Told) {
         "layout" => run(Layouts::new(alloc), lines, told),
         "descriptors" => run(Descriptors::new(alloc), lines, told),
         "capture" => run(Captures::new(alloc), lines, told),
+        "pcapng" => run(Interfaces::new(alloc), lines, told),
+        "lock" => run(Locks::new(alloc), lines, told),
         "report" => run(Reports::new(alloc), lines, told),
         "frames" => run(Frames::new(alloc), lines, told),
         "packets" => run(Packets::new(alloc), lines, told),

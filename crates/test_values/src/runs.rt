@@ -1,5 +1,5 @@
-//! Bytes in words: parts behind one another with a `.` between, each of them bytes as hex, or one byte as hex, an `x` and how
-//! often it stands. `0102.07x60` has 62 bytes, and `-` none.
+//! Bytes in words: parts behind one another with a `.` between, each of them bytes as hex, and behind some an `x` and how often
+//! they stand. `0102.07x60` has 62 bytes, and `-` none.
 use crate::line::{Fault, Line, number_in};
 use crate::told::Told;
 use std::alloc::Global;
@@ -21,19 +21,16 @@ pub fn append(bytes: &mut Vec<u8>, word: &str) -> Result<(), Fault> {
     }
     for part in word.split('.') {
         match part.split_once('x') {
-            Some((byte, times)) => push_times(bytes, byte, times)?,
+            Some((digits, times)) => push_times(bytes, digits, times)?,
             None => push_digits(bytes, part)?,
         }
     }
     Ok(())
 }
 
-fn push_times(bytes: &mut Vec<u8>, byte: &str, times: &str) -> Result<(), Fault> {
-    let Ok(byte) = u8::from_str_radix(byte, 16) else {
-        return Err(Fault::BadLine);
-    };
+fn push_times(bytes: &mut Vec<u8>, digits: &str, times: &str) -> Result<(), Fault> {
     for _ in 0..number_in(times)? {
-        bytes.push(byte)?;
+        push_digits(bytes, digits)?;
     }
     Ok(())
 }

@@ -15,6 +15,7 @@ ghost use Rattle.xsk_sim.specs.Shown.{HasShortPackets};
 use crate::trouble::Trouble;
 use crate::words::{Line, number, one_number, two_numbers};
 use std::alloc::Global;
+use std::cell::Cell;
 use xsk_driver::{Driver, Wire};
 use xsk_machine::Inputs;
 use xsk_model::Config;
@@ -157,7 +158,7 @@ fn by_first_byte(packet: &[u8], cells: u32) -> Verdict
     }
 }
 
-/// The driver of a pair, with room for so many sent packets and bytes.
+/// The driver of a pair, with room for so many sent packets and bytes. Each time its program is asked is counted.
 pub(crate) fn driver_of<'a>(
     alloc: Global,
     config: &'a Config,
@@ -165,6 +166,7 @@ pub(crate) fn driver_of<'a>(
     packets: &'a PacketList,
     inputs: &'a Inputs,
     program: Program,
+    asked: &Cell<u64>,
     room: (u32, u32),
 ) -> Result<Driver<'a>, Trouble>
     requires regular { IsRegular config.now }
@@ -179,10 +181,10 @@ pub(crate) fn driver_of<'a>(
         ..
     } = program;
     let rule = attachable(rule)?;
-    let program = XdpProgram::attach(
-        rule,
-        |packet: &[u8], queue: u32| decided(rule, even, packet, queue),
-    );
+    let program = XdpProgram::attach(rule, |packet: &[u8], queue: u32| {
+        asked.set(asked.get().saturating_add(1));
+        decided(rule, even, packet, queue)
+    });
     let chain = Chain::of(alloc, program)?;
     Ok(Driver::new(
         alloc,

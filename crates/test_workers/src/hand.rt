@@ -8,6 +8,7 @@ use std::mem;
 use xsk_app::App;
 use xsk_driver::{Disposal, Driver};
 use xsk_model::{Act, Call, Reply};
+use xsk_umem::Frames;
 
 pub(crate) trait Worker: Drop {
     // What it waits for.
@@ -20,6 +21,9 @@ pub(crate) trait Worker: Drop {
 
     /// Answers a question. False where the line is none.
     fn tell(&self, line: &str, text: &mut String) -> Result<bool, Trouble>;
+
+    /// Gives back the frames that it has.
+    fn give_back(self, frames: &mut Frames);
 }
 
 impl Worker for Driver<'_> {
@@ -37,6 +41,10 @@ impl Worker for Driver<'_> {
             _ => return Ok(false),
         }
         Ok(true)
+    }
+
+    fn give_back(self, frames: &mut Frames) {
+        let _sent = self.into_parts(frames);
     }
 }
 
@@ -77,6 +85,10 @@ impl Worker for App<'_> {
 
     fn tell(&self, _line: &str, _text: &mut String) -> Result<bool, Trouble> {
         Ok(false)
+    }
+
+    fn give_back(self, frames: &mut Frames) {
+        self.into_frames(frames);
     }
 }
 
@@ -142,5 +154,11 @@ impl<M: Worker> Hand<M> {
         let reply = fitting(call, reply)?;
         let next = self.worker.next(Some(reply));
         Some(mem::replace(&mut self.act, next))
+    }
+
+    /// Gives back the frames that the worker has.
+    pub(crate) fn give_back(self, frames: &mut Frames) {
+        let Hand { worker, .. } = self;
+        worker.give_back(frames);
     }
 }

@@ -1,31 +1,11 @@
-//! The layout of a script: `layout NAME=NUMBER ..`, with the names of the layout's fields. What isn't named is as in
-//! `PLAIN`: two ports with one queue and one socket each.
+//! The layout of a script: `layout NAME=NUMBER ..`, with the names of the layout's fields. What isn't named is as
+//! by default: two ports with one queue and one socket each.
 ghost use Rattle.std.specs.Prelude.{◌≡◌, None, IfOk};
 ghost use Rattle.xsk_socket.specs.Layout.{fault_of};
 
 use crate::trouble::Trouble;
 use crate::words::{Line, halves, number};
 use xsk_socket::{Layout, check_layout};
-
-const PLAIN: Layout = Layout {
-    ports: 2,
-    queues: 1,
-    sockets: 1,
-    files: 0,
-    files_wanted_per_port: 0,
-    chunk: 4096,
-    headroom: 0,
-    frames: 256,
-    rx: 2048,
-    tx: 2048,
-    fill: 2048,
-    comp: 2048,
-    sg: false,
-    wakeup: false,
-    empty: None,
-    close: None,
-    hands: 1,
-};
 
 /// The layout of a script, which is accepted.
 pub(crate) fn layout_of(lines: &[Line<'_>]) -> Result<Layout, Trouble>
@@ -39,7 +19,7 @@ pub(crate) fn layout_of(lines: &[Line<'_>]) -> Result<Layout, Trouble>
 }
 
 fn layout_in(lines: &[Line<'_>]) -> Result<Layout, Trouble> {
-    let mut layout = PLAIN;
+    let mut layout = Layout::default();
     for line in lines {
         if let Some(words) = line.behind("layout") {
             set_all(&mut layout, words)?;

@@ -5,7 +5,8 @@
 //!
 //! - `driver PAIR PACKETS BYTES` and `app NUMBER`: a worker by hand. Each further line is a reply to its last call, in the
 //!   form of the journal, or a question (`parked`, `disposals`, `sent`, `room`). Each call is printed with its reply as the
-//!   journal has it, and the last one, which got none, with `?`.
+//!   journal has it, and the last one, which got none, with `?`. A line `frames` prints the frames that the worker has, and ends
+//!   the script. A line `asked` before it prints how often the driver's program was asked.
 //! - `run ORDER`: all workers in rounds, with what came of it. A further line `journal` prints all calls, and `find TEXT`
 //!   says whether the journal has the text.
 //! - `config`: the configuration. Further lines ask for its parts.

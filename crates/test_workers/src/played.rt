@@ -10,9 +10,11 @@ use crate::made::set_up;
 use crate::packets::lists_of;
 use crate::replies::reply_of;
 use crate::shelf::Shelf;
+use crate::texts::tell_last;
 use crate::trouble::Trouble;
 use crate::words::{Line, one_number, three_numbers};
 use std::alloc::Global;
+use std::cell::Cell;
 use xsk_app::App;
 use xsk_machine::Inputs;
 use xsk_model::Config;
@@ -94,9 +96,14 @@ fn drive_on(
         return Err(Trouble::NoWorker);
     };
     let program = program_of(lines)?;
-    let driver = driver_of(alloc, config, pair, list, inputs, program, (packets, bytes))?;
-    let mut hand = Hand::new("d", pair, driver);
-    play(alloc, &mut hand, rest, shelf, text)
+    let asked = Cell::new(0);
+    let room = (packets, bytes);
+    let driver = driver_of(alloc, config, pair, list, inputs, program, &asked, room)?;
+    if lines.iter().any(|line| line.text == "asked") {
+        tell_last("asked: ", asked.get(), text)?;
+    }
+    let hand = Hand::new("d", pair, driver);
+    play(alloc, hand, rest, shelf, text)
 }
 
 /// Plays an application of a configuration.
@@ -115,21 +122,27 @@ fn pass_on(
     if app >= (config.ports() / 2) * config.queues() {
         return Err(Trouble::NoWorker);
     }
-    let mut hand = Hand::new("a", app, App::new(alloc, config, app, manner)?);
-    play(alloc, &mut hand, rest, shelf, text)
+    let hand = Hand::new("a", app, App::new(alloc, config, app, manner)?);
+    play(alloc, hand, rest, shelf, text)
 }
 
-/// Goes over replies and questions, and then tells what the worker's last call was.
+/// Goes over replies and questions, and then tells what the worker's last call was, and behind a last line `frames` which frames
+/// it has.
 fn play<M: Worker>(
     alloc: Global,
-    hand: &mut Hand<M>,
+    hand: Hand<M>,
     lines: &[Line<'_>],
     shelf: &mut Shelf,
     text: &mut String,
 ) -> Result<(), Trouble> {
+    let mut hand = hand;
     for line in lines {
+        if line.text == "frames" {
+            hand.tell_call("?", text)?;
+            return shelf.tell_back(hand, text);
+        }
         if !hand.tell(line.text, text)? {
-            step(alloc, hand, line.text, shelf, text)?;
+            step(alloc, &mut hand, line.text, shelf, text)?;
         }
     }
     hand.tell_call("?", text)

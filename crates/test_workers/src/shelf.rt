@@ -1,5 +1,7 @@
 //! The frames that a worker doesn't have, by their numbers.
 
+use crate::hand::{Hand, Worker};
+use crate::texts::tell_number;
 use crate::trouble::Trouble;
 use crate::words::{Line, three_numbers};
 use std::alloc::Global;
@@ -9,6 +11,8 @@ use xsk_umem::{Batch, Frame, Frames};
 #[derive(Drop)]
 pub(crate) struct Shelf {
     frames: Vec<Option<Frame>>,
+    /// The UMEM's queue, where a worker puts its frames at its end.
+    queue: Frames,
     /// The bytes of a frame.
     chunk: u32,
 }
@@ -16,12 +20,16 @@ pub(crate) struct Shelf {
 impl Shelf {
     /// All frames of a UMEM.
     pub(crate) fn new(alloc: Global, frames: Frames, chunk: u32) -> Result<Shelf, Trouble> {
-        let mut all = frames;
+        let mut queue = frames;
         let mut frames = Vec::new(alloc);
-        for _ in 0..all.len() {
-            frames.push(all.pop_front())?;
+        for _ in 0..queue.len() {
+            frames.push(queue.pop_front())?;
         }
-        Ok(Shelf { frames, chunk })
+        Ok(Shelf {
+            frames,
+            queue,
+            chunk,
+        })
     }
 
     /// Writes the bytes that a script gives by `frame ADDRESS LEN BYTE`.
@@ -69,6 +77,23 @@ impl Shelf {
         if let Some(place) = self.frames.get_mut(number) {
             *place = Some(frame);
         }
+    }
+
+    /// Tells the numbers of the frames that a worker has at its end, in the order in which they come back.
+    pub(crate) fn tell_back<M: Worker>(
+        &mut self,
+        hand: Hand<M>,
+        text: &mut String,
+    ) -> Result<(), Trouble> {
+        hand.give_back(&mut self.queue);
+        text.push_str("frames:")?;
+        for _ in 0..self.queue.len() {
+            if let Some(frame) = self.queue.pop_front() {
+                tell_number(" ", u64::from(frame.number()), text)?;
+            }
+        }
+        text.push('\n')?;
+        Ok(())
     }
 
     /// Puts back the frames that a worker gave away by a call.

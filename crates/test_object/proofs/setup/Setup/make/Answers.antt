@@ -3,7 +3,7 @@ use Rattle.xsk_umem.specs.Frame.{Frame}
 use Rattle.xsk_umem.specs.Geometry.{Geometry}
 use Rattle.xsk_umem.specs.Registration.{fresh}
 use Rattle.xsk_model.specs.Opening.{AreFrames}
-use Rattle.xsk_table.proofs.FreshFrames.{fresh-frames}
+use Rattle.xsk_model.proofs.Opened.{fresh-frames}
 use Rattle.test_object.proofs.setup.Setup.make.Goals as goal
 
 -- the frames of a registration are all frames of its geometry

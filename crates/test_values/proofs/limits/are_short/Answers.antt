@@ -1,6 +1,6 @@
 use Rattle.std.proofs.Common.{arith}
-use Rattle.test_pcapng.proofs.Lists.{all_from_here}
-use Rattle.test_pcapng.proofs.limits.are_short.Goals as goal
+use Rattle.test_values.proofs.Lists.{all_from_here}
+use Rattle.test_values.proofs.limits.are_short.Goals as goal
 
 pub loop-i-preserved : goal.loop-i-preserved
 loop-i-preserved c = λ later.

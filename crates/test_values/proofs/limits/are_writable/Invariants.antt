@@ -2,7 +2,7 @@ use Rattle.std.proofs.Common.{◌≡◌, ◌+◌, ◌≤◌, length}
 use Rattle.std.specs.List.{concat, AllByRecursion}
 use Rattle.xsk_pcapng.specs.Written.{IsShort}
 use Rattle.xsk_pcapng.proofs.Appending.{all_from}
-use Rattle.test_pcapng.proofs.limits.are_writable.Given as goal
+use Rattle.test_values.proofs.limits.are_writable.Given as goal
 
 abbrev pub invariant-loop-i : goal.invariant-loop-i
 invariant-loop-i l = record {

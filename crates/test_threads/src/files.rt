@@ -1,6 +1,5 @@
 //! Files are copied and refused, a folder fails at its first read, and the report is printed.
-ghost use Rattle.std.specs.Prelude.{◌≡◌, false};
-ghost use Rattle.xsk_io.specs.declared.bay.Stream.{Stream};
+ghost use Rattle.xsk_io.specs.Bay.{NoneOpen};
 
 use std::alloc::Global;
 use std::fs;
@@ -9,7 +8,7 @@ use xsk_io::{Bay, BayFailed, FileBay, ReadError, Stream, read_whole, write_whole
 
 /// Copies a text of at most five bytes, over any bay.
 fn copy_over<B: Bay>(alloc: Global, bay: &mut B, from: &str, to: &str) -> Result<(), ReadError>
-    requires none_open { (stream : Stream) → B.is_open bay.old stream ≡ false }
+    requires none_open { NoneOpen (B.moment bay.old) }
 {
     bay.open(Stream::Input(0), from)?;
     let text = read_whole(alloc, bay, Stream::Input(0), 5)?;

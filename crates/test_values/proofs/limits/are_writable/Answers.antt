@@ -4,8 +4,8 @@ use Rattle.std.proofs.lemmas.List.{length-append}
 use Rattle.std.proofs.lemmas.List.Folds.{concat-append}
 use Rattle.std.proofs.lemmas.Option.{slice_get_read}
 use Rattle.xsk_pcapng.proofs.Appending.{all_from, all_from-next}
-use Rattle.test_pcapng.proofs.Lists.{all_of_both}
-use Rattle.test_pcapng.proofs.limits.are_writable.Goals as goal
+use Rattle.test_values.proofs.Lists.{all_of_both}
+use Rattle.test_values.proofs.limits.are_writable.Goals as goal
 
 pub loop-i-preserved : goal.loop-i-preserved
 loop-i-preserved c =

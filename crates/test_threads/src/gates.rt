@@ -1,6 +1,6 @@
 //! Gates whose workers come one after the other, on one thread.
 
-use xsk_io::{Gate, HoldGate, PairGate};
+use xsk_gate::{Gate, HoldGate, PairGate};
 
 #[test]
 fn a_worker_whose_other_never_comes_is_let_through(rt: HostRuntime) {
