@@ -1,4 +1,4 @@
-use Rattle.xsk_table.proofs.FreshFrames.{fresh-frames}
+use Rattle.xsk_model.proofs.Opened.{fresh-frames}
 use Rattle.test_hands.proofs.setting.all_frames.Goals as goal
 
 pub returns-in-Ok-clause-frames : goal.returns-in-Ok-clause-frames
