@@ -83,12 +83,17 @@ impl Object {
 
     /// Puts the line of the last call, if there is one, in the buffer.
     pub(crate) fn tell_last(&self, line: &mut LineBuffer) {
-        let Some(last) = self.log().len().checked_sub(1) else {
-            return;
-        };
         match self {
-            Object::Checked(checked) | Object::Why(checked) => checked.write_line(last, line),
-            Object::Plain(plain) => plain.write_line(last, line),
+            Object::Checked(checked) | Object::Why(checked) => {
+                if let Some(last) = checked.log().len().checked_sub(1) {
+                    checked.write_line(last, line);
+                }
+            }
+            Object::Plain(plain) => {
+                if let Some(last) = plain.log().len().checked_sub(1) {
+                    plain.write_line(last, line);
+                }
+            }
         }
     }
 
