@@ -30,7 +30,7 @@ use Rattle.xsk_model.proofs.Folds.{part_of-push_same, part_of-push_other}
 use Rattle.xsk_model.proofs.Theorems.{fitting_replies}
 use Rattle.xsk_model.proofs.Completions.{times-had_of-push}
 use Rattle.xsk_model.proofs.CallTheorems.{shapes_decide}
-use Rattle.xsk_table.specs.View.{Setup}
+use Rattle.xsk_table.specs.View.{Basis}
 use Rattle.xsk_table.specs.Plays.{entry}
 use Rattle.xsk_table.specs.Held.{Board, Holder}
 use Rattle.xsk_rings.specs.Serving.{MayAsk, Served}
@@ -102,7 +102,7 @@ held_put p q source sink items n reply apart s h = subst (λ k. n ≤ k) (sym (h
 fresh_items : (p q : Holder) (r : Ring) (n : ℕ) (items : List Item) (s : Served p q (Peek r n) (Items items)) → AreFresh p.view.setup.config (own p.who (p.view.seen ++ s.history.between)) r n items
 fresh_items p q r n items s =
     let h = s.history in
-    let k : Setup = p.view.setup in
+    let k : Basis = p.view.setup in
     fitting_replies k.config k.frames (p.view.seen ++ h.between) [] (entry p.who (Peek r n) (Items items)) (subst (IsHistory k.config k.frames) h.seen h.legal)
 
 pub took : (p q : Holder) (r : Ring) (n : ℕ) (items : List Item) → Served p q (Peek r n) (Items items) → Took q r n items
@@ -111,7 +111,7 @@ took p q r n items s =
     record {
       before = mine_of p;
       mine = mine_after p q (Peek r n) (Items items) s;
-      lawful = subst (λ (k : Setup). All (IsItemOn k.config.geometry r) items) (sym s.history.setup) fresh.lawful;
+      lawful = subst (λ (k : Basis). All (IsItemOn k.config.geometry r) items) (sym s.history.setup) fresh.lawful;
       some = fresh.some;
       few = fresh.few;
     }
@@ -138,7 +138,7 @@ whole_by r (Some f) desc h = (number_by (nat_lt desc.addr 4194304) f.number desc
 -- what was taken has whole frames
 pub whole_took : (b : Board) (p : Holder) (r : Ring) (n : ℕ) (items : List Item) → b.setup.config ≡ moving → Rests b p → Took p r n items → All IsWhole items
 whole_took b p r n items opened rests t =
-    let lawful : All (IsItemOn geometry r) items = subst (λ (c : Config). All (IsItemOn c.geometry r) items) (ap (λ (k : Setup). k.config) rests.0.setup ∙ opened) t.lawful in
+    let lawful : All (IsItemOn geometry r) items = subst (λ (c : Config). All (IsItemOn c.geometry r) items) (ap (λ (k : Basis). k.config) rests.0.setup ∙ opened) t.lawful in
     All-weaker (IsItemOn geometry r) IsWhole (λ x h. whole_by r x.frame x.desc h) items lawful
 
 frame_at : (n off address : ℕ) → address ≡ n * 2048 + off → n < 2048 → off < 2048 → frame_of geometry address ≡ Some n

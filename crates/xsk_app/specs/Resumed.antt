@@ -17,11 +17,11 @@ use Rattle.xsk_turns.specs.AppSplit.{HasLeft}
 use Rattle.xsk_turns.specs.Mangling.{plain}
 use Rattle.xsk_app.specs.Shown.{Shown}
 use Rattle.xsk_app.specs.Stands.{left}
-use Rattle.xsk_app.specs.declared.kept.Kept.{Kept}
+use Rattle.xsk_app.specs.declared.kept.Carried.{Carried}
 use Rattle.xsk_app.specs.declared.machine.Wait.TheVariants.{Start}
 
 -- what it keeps between steps, where it hasn't told that it sends nothing more, and changes nothing
-abbrev pub kept_in : Kept → AppKept
+abbrev pub kept_in : Carried → AppKept
 kept_in k = record {
   pending = k.pending.items;
   back = k.back0 ∷ k.back1 ∷ [];

@@ -24,7 +24,7 @@ use xsk_umem::{Batch, OutOfMemory};
 /// that it has yet to give back, and whether the side's driver told that it has no further packet. It has all memory that its
 /// application needs.
 #[derive(Drop)]
-pub struct Kept {
+pub struct Carried {
     pub pending: Vec<Batch>,
     pub back0: Back,
     pub back1: Back,
@@ -33,13 +33,13 @@ pub struct Kept {
     room: Room,
 }
 
-impl Kept {
+impl Carried {
     /// What a new application keeps: one empty batch for each lane, no frame, and neither side has told. It takes all memory.
-    pub fn new(alloc: Global, config: &Config) -> Result<Kept, OutOfMemory>
+    pub fn new(alloc: Global, config: &Config) -> Result<Carried, OutOfMemory>
         ensures { IfOk result (λ kept. kept_in kept ≡ app_start config.now) }
     {
         let classes = config.sockets().len() / config.pairs().len();
-        Ok(Kept {
+        Ok(Carried {
             pending: new_pending(alloc, 2 * classes)?,
             back0: Back::new(alloc)?,
             back1: Back::new(alloc)?,
@@ -54,7 +54,7 @@ impl<'a> App<'a> {
     /// The application that goes on from what its earlier calls left it, at the start of a turn: with these items and frames, and
     /// what it has seen of its drivers. It changes no item. The configuration is a regular one that has it and in which no socket is closed, and there
     /// is one batch for each lane. It takes no memory.
-    pub fn resume(config: &'a Config, app: u32, kept: Kept) -> App<'a>
+    pub fn resume(config: &'a Config, app: u32, kept: Carried) -> App<'a>
         requires steady { IsSteady config.now }
         requires app { app < apps_of config.now }
         requires lanes { length kept.pending.items ≡ lanes_of config.now }
@@ -66,7 +66,7 @@ impl<'a> App<'a> {
         let _geometry = config.geometry();
         let _queues = config.queues();
         let pairs = [side_pair(config, app, 0), side_pair(config, app, 1)];
-        let Kept {
+        let Carried {
             pending,
             back0,
             back1,

@@ -13,7 +13,7 @@ mod room;
 
 pub use app::App;
 pub use back::Back;
-pub use kept::{Kept, lane_way, resumed_tells, side_pair};
+pub use kept::{Carried, lane_way, resumed_tells, side_pair};
 pub use machine::Way;
 pub use xsk_model::Act;
 pub use xsk_turns::Manner;

@@ -8,7 +8,7 @@ use Rattle.xsk_model.specs.declared.call.Call.{Call}
 use Rattle.xsk_model.specs.declared.call.Reply.{Reply}
 use Rattle.xsk_legal.specs.Noted.{Noted}
 use Rattle.xsk_legal.specs.Standing.{StandsFor}
-use Rattle.xsk_table.specs.View.{Setup, View}
+use Rattle.xsk_table.specs.View.{Basis, View}
 use Rattle.xsk_table.specs.Held.{Board, Holder, Belongs}
 use Rattle.xsk_rings.specs.Serving.{Served}
 use Rattle.xsk_rings.specs.Rounds.{mine_of}
@@ -17,7 +17,7 @@ use Rattle.xsk_rings.proofs.Telling.{may_give_served}
 
 module _ (b : Board) (c : Config) (p : Holder) (kept : Noted) (same : c ≡ b.setup.config) (of : Belongs b p) (noted : NotesOwn p kept) where
   config_is : p.view.setup.config ≡ c
-  config_is = ap (λ (k : Setup). k.config) of.setup ∙ sym same
+  config_is = ap (λ (k : Basis). k.config) of.setup ∙ sym same
 
   pub stands : StandsFor c kept (mine_of p)
   stands = subst (λ (g : Config). StandsFor g kept (mine_of p)) config_is noted.stands
@@ -37,7 +37,7 @@ module _ (b : Board) (c : Config) (p : Holder) (kept : Noted) (same : c ≡ b.se
     pub noted_then : StandsFor c next (with_told (mine_of p) call reply) → NotesOwn q next
     noted_then stands_for =
         let P : Config × List Told → Type 0 = λ t. StandsFor t.0 next t.1 in
-        let config_then : c ≡ q.view.setup.config = sym config_is ∙ ap (λ (k : Setup). k.config) (sym s.history.setup) in
+        let config_then : c ≡ q.view.setup.config = sym config_is ∙ ap (λ (k : Basis). k.config) (sym s.history.setup) in
         record {
           caller = same_caller ∙ noted.caller ∙ sym s.who;
           stands = subst P (λ i. (config_then i, sym (may_give_served p q call reply s).1 i)) stands_for;

@@ -10,7 +10,7 @@ use Rattle.xsk_model.specs.declared.call.Call.{Call}
 use Rattle.xsk_model.specs.declared.call.Call.TheVariants.{Submit, Peek}
 use Rattle.xsk_model.specs.declared.call.Reply.{Reply}
 use Rattle.xsk_model.specs.declared.call.Reply.TheVariants.{Items, Empty}
-use Rattle.xsk_table.specs.View.{Setup, Flight, idle, placing, writing, taking, fetching, View}
+use Rattle.xsk_table.specs.View.{Basis, Flight, idle, placing, writing, taking, fetching, View}
 use Rattle.xsk_table.specs.Rule.{lying}
 use Rattle.xsk_table.specs.Plays.{Extends, IsPlacing, entry, still, items_reply}
 use Rattle.xsk_table.specs.Held.{Board, Holder, Belongs}
@@ -64,7 +64,7 @@ submits_belongs b p q r all rest of s = record { table = s.table ∙ of.table; s
 pub submits_legal : (p q : Holder) (r : Ring) (all rest : List Item) → IsLegal p.view.setup.config (own p.who p.view.seen) p.who (Submit r all) → Submits p q r all rest
     → IsLegal q.view.setup.config (own q.who q.view.seen) q.who (Submit r (lying q.view.flight ++ rest))
 submits_legal p q r all rest legal s =
-    let P : Setup × ℕ × List Entry × List Item → Type 0 = λ t. IsLegal t.0.config (own t.1 t.2) t.1 (Submit r t.3) in
+    let P : Basis × ℕ × List Entry × List Item → Type 0 = λ t. IsLegal t.0.config (own t.1 t.2) t.1 (Submit r t.3) in
     subst P (λ i. (sym s.setup i, sym s.who i, sym s.seen i, sym s.items i)) legal
 
 is_placing : (r : Ring) (f : Flight) → IsPlacing r f → 0 < length (lying f) → f ≡ placing r (lying f)
@@ -82,7 +82,7 @@ pub placing_all : (p q : Holder) (r : Ring) (all rest : List Item) → IsLegal p
 placing_all p q r all rest legal s none =
     is_placing r q.view.flight s.flight (let n : 1 ≤ length all = legal.counted.0 in omega (arith, ap (length {A = Item}) (all_placed p q r all rest s none)))
 
-extends_from : (k : Setup) (who : ℕ) (call : Call) (reply : Reply) (v v' w : View) → v'.seen ≡ v.seen → v'.callers ≡ v.callers → v'.setup ≡ v.setup → v'.others ≡ v.others
+extends_from : (k : Basis) (who : ℕ) (call : Call) (reply : Reply) (v v' w : View) → v'.seen ≡ v.seen → v'.callers ≡ v.callers → v'.setup ≡ v.setup → v'.others ≡ v.others
     → Extends k who call reply v' w → Extends k who call reply v w
 extends_from k who call reply v v' w seen callers setup others ex = record {
   between = ex.between;
@@ -98,7 +98,7 @@ extends_from k who call reply v v' w seen callers setup others ex = record {
 pub submits_served : (p q z : Holder) (r : Ring) (all rest : List Item) (reply : Reply) → Submits p q r all rest → rest ≡ [] → z.table ≡ q.table → z.who ≡ q.who → z.view.flight ≡ idle
     → Extends q.view.setup q.who (Submit r (lying q.view.flight)) reply q.view z.view → Served p z (Submit r all) reply
 submits_served p q z r all rest reply s none table who rests ex =
-    let P : Setup × ℕ × List Item → Type 0 = λ t. Extends t.0 t.1 (Submit r t.2) reply q.view z.view in
+    let P : Basis × ℕ × List Item → Type 0 = λ t. Extends t.0 t.1 (Submit r t.2) reply q.view z.view in
     let now : Extends p.view.setup p.who (Submit r all) reply q.view z.view = subst P (λ i. (s.setup i, s.who i, all_placed p q r all rest s none i)) ex in
     record {
       table = table ∙ s.table;
@@ -216,5 +216,5 @@ taken_few n [] (x ∷ xs) e = absurd (cc)
 taken_few n (y ∷ out) (x ∷ xs) e = let same : x ∷ xs ≡ take n (y ∷ out) = ap taken e in omega (arith, ap (length {A = Item}) same, length-take n (y ∷ out))
 
 -- they are no more than were asked for
-pub peeks_few : (k : Setup) (who : ℕ) (r : Ring) (n : ℕ) (items : List Item) (v w : View) → Extends k who (Peek r n) (items_reply items) v w → length items ≤ n
+pub peeks_few : (k : Basis) (who : ℕ) (r : Ring) (n : ℕ) (items : List Item) (v w : View) → Extends k who (Peek r n) (items_reply items) v w → length items ≤ n
 peeks_few k who r n items v w ex = taken_few n _ items ex.given

@@ -4,7 +4,7 @@ use Rattle.xsk_model.specs.Entry.{own, with_told}
 use Rattle.xsk_model.specs.Legal.{IsLegal}
 use Rattle.xsk_model.specs.declared.call.Call.{Call}
 use Rattle.xsk_model.specs.declared.call.Reply.{Reply}
-use Rattle.xsk_table.specs.View.{Setup}
+use Rattle.xsk_table.specs.View.{Basis}
 use Rattle.xsk_table.specs.Held.{Board, Holder}
 use Rattle.xsk_rings.specs.Serving.{MayAsk, Served}
 use Rattle.xsk_rings.specs.Rounds.{Rests, mine_of}
@@ -13,7 +13,7 @@ pub may_ask : (b : Board) (p : Holder) (call : Call) → Rests b p → IsLegal b
 may_ask b p call rests legal = record {
   belongs = rests.0;
   rests = rests.1;
-  legal = subst (λ (k : Setup). IsLegal k.config (mine_of p) p.who call) (sym rests.0.setup) legal;
+  legal = subst (λ (k : Basis). IsLegal k.config (mine_of p) p.who call) (sym rests.0.setup) legal;
 }
 
 pub served_rests : (b : Board) (p q : Holder) (call : Call) (reply : Reply) → Rests b p → Served p q call reply → Rests b q

@@ -18,7 +18,7 @@ use Rattle.xsk_model.specs.declared.call.Reply.TheVariants.{Granted, Full, Submi
 use Rattle.xsk_model.proofs.Places.{is_ring-self}
 use Rattle.xsk_model.proofs.Folds.{part_of-push_same}
 use Rattle.xsk_model.proofs.Theorems.{in_order, items_by_own}
-use Rattle.xsk_table.specs.View.{Setup, View}
+use Rattle.xsk_table.specs.View.{Basis, View}
 use Rattle.xsk_table.specs.Plays.{entry}
 use Rattle.xsk_table.specs.Known.{free_after, out_after}
 use Rattle.xsk_table.specs.Held.{Holder, known_on, with_known, is_covered}
@@ -96,7 +96,7 @@ tells_mark v (Look m) reply is = is
 peek_gives : (p q : Holder) (r : Ring) (n : ℕ) (reply : Reply) → IsLegal p.view.setup.config (own p.who p.view.seen) p.who (Peek r n) → Served p q (Peek r n) reply → GivesSubmitted p q.view (Peek r n) reply
 peek_gives p q r n reply legal s =
     let h = s.history in
-    let k : Setup = p.view.setup in
+    let k : Basis = p.view.setup in
     let seen = q.view.seen in
     let left : List Item = (ring_at k.config (state_after k.config k.frames seen) r).out in
     let order : peeked_of r (all_told seen) ++ left ≡ (ring_at k.config (opening k.config k.frames) r).out ++ submitted_of r (all_told seen) = in_order k.config k.frames seen r h.legal legal.known in
@@ -106,7 +106,7 @@ peek_gives p q r n reply legal s =
     let mine : peeked_of r (all_told seen) ≡ peeked_of r (own p.who p.view.seen) ++ taken reply = by_own.0 ∙ ap (λ w. peeked_of r (own w seen)) (sym legal.role) ∙ grown in
     let whole : (ring_at k.config (opening k.config k.frames) r).out ++ submitted_of r (own (producer k.config r) seen) ≡ (peeked_of r (own p.who p.view.seen) ++ taken reply) ++ left =
     ap (λ l. (ring_at k.config (opening k.config k.frames) r).out ++ l) (sym by_own.1) ∙ sym order ∙ ap (λ l. l ++ left) mine in
-    let P : Setup → Type 0 = λ j. (ring_at j.config (opening j.config j.frames) r).out ++ submitted_of r (own (producer j.config r) seen)
+    let P : Basis → Type 0 = λ j. (ring_at j.config (opening j.config j.frames) r).out ++ submitted_of r (own (producer j.config r) seen)
     ≡ (peeked_of r (own p.who p.view.seen) ++ taken reply) ++ (ring_at j.config (state_after j.config j.frames seen) r).out in
     subst P (sym h.setup) whole
 
@@ -132,7 +132,7 @@ served_mark p q call reply s = tells_mark q.view call reply (replied p q call re
 pub may_give_served : MayGiveServed
 may_give_served p q call reply s =
     let h = s.history in
-    let k : Setup = p.view.setup in
+    let k : Basis = p.view.setup in
     (record { frames = k.frames; history = q.view.seen; legal = h.legal; entries = h.mine }, ap (λ w. own w q.view.seen) s.who ∙ h.mine)
 
 -- ---- all that a call tells

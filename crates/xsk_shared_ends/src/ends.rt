@@ -18,7 +18,7 @@ use crate::serving::look;
 use crate::visiting::{Step, visit_lane, visit_side};
 use std::alloc::Global;
 use std::marker::Model;
-use xsk_app::{App, Kept, lane_way, side_pair};
+use xsk_app::{App, Carried, lane_way, side_pair};
 use xsk_lock::Named;
 use xsk_model::{Config, Mark};
 use xsk_table::{Pass, Shared};
@@ -37,7 +37,7 @@ pub struct Ends<'a> {
     config: &'a Config,
     app: u32,
     pass: Counted,
-    kept: Kept,
+    kept: Carried,
 }
 
 impl<'a> Model for Ends<'a> {
@@ -85,7 +85,7 @@ impl<'a> Ends<'a> {
         // The geometry is lawful.
         let _geometry = config.geometry();
         let app = pass.caller() - config.pairs().len() as u32;
-        match Kept::new(alloc, config) {
+        match Carried::new(alloc, config) {
             Ok(kept) => Ok(Ends {
                 config,
                 app,
@@ -234,7 +234,7 @@ impl<'a> Ends<'a> {
 }
 
 /// Whether both drivers have told that they have no further packet, as far as it was seen.
-fn have_told(kept: &Kept) -> bool
+fn have_told(kept: &Carried) -> bool
     ensures { result ≡ both (kept_in kept.now).seen }
 {
     kept.seen0 && kept.seen1

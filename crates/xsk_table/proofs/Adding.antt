@@ -29,7 +29,7 @@ use Rattle.xsk_model.proofs.Moves.{ring_at-after_same, ring_at-after_other, not_
 use Rattle.xsk_model.proofs.Histories.{history_sound, after_all-append}
 use Rattle.xsk_model.proofs.CallTheorems.{one_more}
 use Rattle.xsk_words.specs.Layout.{mark}
-use Rattle.xsk_table.specs.View.{Setup, Flight, idle, View}
+use Rattle.xsk_table.specs.View.{Basis, Flight, idle, View}
 use Rattle.xsk_table.specs.Rule.{at, opened, given, released, written, lying, aloft, AllHome, RingHolds, IsInFlight, Rule}
 use Rattle.xsk_table.specs.Plays.{Extends, entry}
 use Rattle.xsk_table.proofs.WordRows.{SameWords}
@@ -46,7 +46,7 @@ held_stays c size q mine who (Release s n) r role on other = absurd (other (ap (
 held_stays c size q mine who (Swap m value) r role on other = refl
 held_stays c size q mine who (Look m) r role on other = refl
 
-module _ (k : Setup) (s : State (Option Frame) View) (rule : Rule k s) (e : Entry) (legal : IsLegal k.config (own e.who rule.log) e.who e.call) where
+module _ (k : Basis) (s : State (Option Frame) View) (rule : Rule k s) (e : Entry) (legal : IsLegal k.config (own e.who rule.log) e.who e.call) where
   abbrev pub later : object.State
   later = state_after k.config k.frames (rule.log ++ e ∷ [])
 
@@ -147,7 +147,7 @@ module _ (k : Setup) (s : State (Option Frame) View) (rule : Rule k s) (e : Entr
         }
 
 -- what a call with one more entry tells
-extends_now : (k : Setup) (s : State (Option Frame) View) (rule : Rule k s) (id who : ℕ) (call : Call) (v w : View) → get_elem? s.views id ≡ some v → Known k s rule who v
+extends_now : (k : Basis) (s : State (Option Frame) View) (rule : Rule k s) (id who : ℕ) (call : Call) (v w : View) → get_elem? s.views id ≡ some v → Known k s rule who v
     → IsLegal k.config (own who rule.log) who call → w.seen ≡ rule.log ++ entry who call (reply_at k.config (now k s rule) call) ∷ []
     → w.callers ≡ v.callers → w.others ≡ v.others → w.setup ≡ v.setup → Extends k who call (reply_at k.config (now k s rule) call) v w
 extends_now k s rule id who call v w at_id kn legal seen callers others setup =
@@ -165,7 +165,7 @@ extends_now k s rule id who call v w at_id kn legal seen callers others setup =
     }
 
 -- the rule after the step, and what the step tells
-pub acts : (k : Setup) (s : State (Option Frame) View) (rule : Rule k s) (id who : ℕ) (call : Call) (v : View) (words' : List ℕ) (fl' : Flight)
+pub acts : (k : Basis) (s : State (Option Frame) View) (rule : Rule k s) (id who : ℕ) (call : Call) (v : View) (words' : List ℕ) (fl' : Flight)
     → get_elem? s.views id ≡ some v → v.callers ≡ who ∷ [] → v.others ≡ [] → Known k s rule who v → IsLegal k.config (own who rule.log) who call
     → Change k s rule who (λ r. is_on r call) words' s.homes (rule.log ++ entry who call (reply_at k.config (now k s rule) call) ∷ []) fl'
     → let w : View = record v { seen = rule.log ++ entry who call (reply_at k.config (now k s rule) call) ∷ []; flight = fl' } in

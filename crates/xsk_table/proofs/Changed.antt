@@ -18,7 +18,7 @@ use Rattle.xsk_model.specs.History.{IsHistory, state_after}
 use Rattle.xsk_model.specs.declared.call.Ring.{Ring}
 use Rattle.xsk_model.specs.declared.call.Mark.{Mark}
 use Rattle.xsk_words.specs.Layout.{mark}
-use Rattle.xsk_table.specs.View.{Setup, Flight, idle, placing, writing, taking, fetching, View}
+use Rattle.xsk_table.specs.View.{Basis, Flight, idle, placing, writing, taking, fetching, View}
 use Rattle.xsk_table.specs.Rule.{at, given, released, Written, written, lying, aloft, Homes, IsVacant, AllHome, RingHolds, HasAll, IsInFlight, StartsWith, Knows, Rule}
 use Rattle.xsk_table.proofs.WordRows.{SameWords, ring_size}
 use Rattle.xsk_table.proofs.Seating.{seats_after, apart_after}
@@ -27,7 +27,7 @@ below_size : (n size : ℕ) → 0 < size → n % size < size
 below_size n size h = omega arith
 
 -- a ring whose words, state and counts stay
-pub same_ring : (k : Setup) (words words' : List ℕ) (r : Ring) (q q' : RingState) (a a' b b' : ℕ) (l l' : Written) → 0 < size_of k.config r → SameWords k.config words words' r
+pub same_ring : (k : Basis) (words words' : List ℕ) (r : Ring) (q q' : RingState) (a a' b b' : ℕ) (l l' : Written) → 0 < size_of k.config r → SameWords k.config words words' r
     → q' ≡ q → a' ≡ a → b' ≡ b → l' ≡ l → RingHolds k words r q a b l → RingHolds k words' r q' a' b' l'
 same_ring k words words' r q q' a a' b b' l l' some_size same eq ea eb el ok =
     let P : RingState × ℕ × ℕ × Written → Type 0 = λ t. RingHolds k words' r t.0 t.1 t.2 t.3 in
@@ -44,7 +44,7 @@ same_ring k words words' r q q' a a' b b' l l' some_size same eq ea eb el ok =
       half = λ x there two. same.seconds ((k.first + (a + length l.whole)) % size) (below_size (k.first + (a + length l.whole)) size some_size) two ∙ ok.half x there two;
     }
 
-module _ (k : Setup) (s : State (Option Frame) View) (rule : Rule k s) where
+module _ (k : Basis) (s : State (Option Frame) View) (rule : Rule k s) where
   -- the object as the rule has it, its rings, and the calls in flight
   abbrev pub now : object.State
   now = state_after k.config k.frames rule.log
@@ -56,7 +56,7 @@ module _ (k : Setup) (s : State (Option Frame) View) (rule : Rule k s) where
   flight_of w = get_or rule.flights w idle
 
 -- one step of a caller on some rings, or on none: the history, words, slots and flight afterwards
-pub record Change (k : Setup) (s : State (Option Frame) View) (rule : Rule k s) (who : ℕ) (on : Ring → Bool) (words' : List ℕ) (homes' : Homes)
+pub record Change (k : Basis) (s : State (Option Frame) View) (rule : Rule k s) (who : ℕ) (on : Ring → Bool) (words' : List ℕ) (homes' : Homes)
     (log' : List Entry) (fl' : Flight) : Type 0 where
   pub caller : who < callers_of k.config
   pub legal : IsHistory k.config k.frames log'
@@ -80,7 +80,7 @@ pub record Change (k : Setup) (s : State (Option Frame) View) (rule : Rule k s) 
       → ((r : Ring) → HasRing k.config r → times n (numbers (ring_at k.config (state_after k.config k.frames log') r).out) ≡ 0)
       → times n (numbers (aloft fl')) ≡ 0 → ((w : ℕ) → w ≢ who → times n (numbers (aloft (flight_of k s rule w))) ≡ 0) → IsVacant homes' n
 
-flight_stays : (k : Setup) (s s' : object.State) (mine mine' : List Told) (w : ℕ) (f : Flight) → mine' ≡ mine
+flight_stays : (k : Basis) (s s' : object.State) (mine mine' : List Told) (w : ℕ) (f : Flight) → mine' ≡ mine
     → ((r : Ring) → HasRing k.config r → rings.consumer k.config r ≡ w → (ring_at k.config s' r).held ≡ (ring_at k.config s r).held)
     → IsInFlight k s mine w f → IsInFlight k s' mine' w f
 flight_stays k s s' mine mine' w idle e same h = tt
@@ -89,7 +89,7 @@ flight_stays k s s' mine mine' w (writing r items x) e same h = (h.0, h.1, subst
 flight_stays k s s' mine mine' w (taking r items) e same h = (h.0, h.1, subst (HasAll items) (sym e) h.2, (h.3.0, same r h.0 (sym h.1) ∙ h.3.1))
 flight_stays k s s' mine mine' w (fetching r x left) e same h = (h.0, h.1, subst (HasAll (x ∷ left)) (sym e) h.2, (h.3.0, same r h.0 (sym h.1) ∙ h.3.1))
 
-pub changed : (k : Setup) (s : State (Option Frame) View) (rule : Rule k s) (who id : ℕ) (on : Ring → Bool) (words' : List ℕ) (homes' : Homes) (log' : List Entry) (fl' : Flight) (v w : View)
+pub changed : (k : Basis) (s : State (Option Frame) View) (rule : Rule k s) (who id : ℕ) (on : Ring → Bool) (words' : List ℕ) (homes' : Homes) (log' : List Entry) (fl' : Flight) (v w : View)
     → Change k s rule who on words' homes' log' fl'
     → get_elem? s.views id ≡ some v → v.callers ≡ who ∷ [] → w.callers ≡ v.callers → w.others ≡ v.others → Knows log' (set rule.flights who fl') w
     → Rule k (record { words = words'; homes = homes'; views = set s.views id w })

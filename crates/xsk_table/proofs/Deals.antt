@@ -10,7 +10,7 @@ use Rattle.xsk_umem.specs.Frame.{Frame}
 use Rattle.xsk_model.specs.Config.{Config, callers_of}
 use Rattle.xsk_model.specs.declared.call.Ring.{Ring}
 use Rattle.xsk_model.specs.Opening.{IsOpened}
-use Rattle.xsk_table.specs.View.{Setup, idle, taking, View, newcomer, first_caller, other_callers}
+use Rattle.xsk_table.specs.View.{Basis, idle, taking, View, newcomer, first_caller, other_callers}
 use Rattle.xsk_model.specs.Rings.{place, places_of}
 use Rattle.xsk_table.specs.Known.{AreSure, AllIsLeft}
 use Rattle.xsk_table.specs.Held.{Board, Holder, PassHolds, known_in, new_pass}
@@ -58,16 +58,16 @@ from_set c first from lists x h w ends le e = ⊎_elim
 range_first : (from count rest : ℕ) → count ≡ suc rest → range_with_len from count ≡ from ∷ range_with_len (from + 1) rest
 range_first from count rest e = ap (range_with_len from) e
 
-pub seat_first : (k : Setup) (from count : ℕ) → 1 ≤ count → first_caller (newcomer k (range_with_len from count)) ≡ newcomer k (from ∷ [])
+pub seat_first : (k : Basis) (from count : ℕ) → 1 ≤ count → first_caller (newcomer k (range_with_len from count)) ≡ newcomer k (from ∷ [])
 seat_first k from count some_left = ap (λ l. first_caller (newcomer k l)) (range_first from count (count - 1) (omega arith))
 
-pub seat_others : (k : Setup) (from count : ℕ) → 1 ≤ count → other_callers (newcomer k (range_with_len from count)) ≡ newcomer k (range_with_len (from + 1) (count - 1))
+pub seat_others : (k : Basis) (from count : ℕ) → 1 ≤ count → other_callers (newcomer k (range_with_len from count)) ≡ newcomer k (range_with_len (from + 1) (count - 1))
 seat_others k from count some_left = ap (λ l. other_callers (newcomer k l)) (range_first from count (count - 1) (omega arith))
 
 idle_taking : {r : Ring} {items : List Item} → idle ≡ taking r items → ⊥
 idle_taking e = cc
 
-pub new_holds : (k : Setup) (who : ℕ) (v : View) (slots : List (ℕ × Option Frame)) (ends : List End) → who < callers_of k.config → IsOpened k.config k.frames → FirstEnds k.config k.first who ends → v ≡ newcomer k (who ∷ []) → slots ≡ [] → PassHolds v slots who ends 0
+pub new_holds : (k : Basis) (who : ℕ) (v : View) (slots : List (ℕ × Option Frame)) (ends : List End) → who < callers_of k.config → IsOpened k.config k.frames → FirstEnds k.config k.first who ends → v ≡ newcomer k (who ∷ []) → slots ≡ [] → PassHolds v slots who ends 0
 new_holds k who v slots ends few opened first is none =
     let P : View → Type 0 = λ u. PassHolds u slots who ends 0 in
     subst P (sym is) record {
@@ -87,14 +87,14 @@ all_same (suc n) zero z = refl
 all_same (suc n) (suc i) z = all_same n i z
 
 -- nothing is known of any ring
-pub new_sure : (k : Setup) (who : ℕ) (v : View) (ends : List End) → IsOpened k.config k.frames → FirstEnds k.config k.first who ends → v ≡ newcomer k (who ∷ []) → AreSure v.setup who v.seen (known_in ends)
+pub new_sure : (k : Basis) (who : ℕ) (v : View) (ends : List End) → IsOpened k.config k.frames → FirstEnds k.config k.first who ends → v ≡ newcomer k (who ∷ []) → AreSure v.setup who v.seen (known_in ends)
 new_sure k who v ends opened first is =
     let P : View → Type 0 = λ u. AreSure u.setup who u.seen (known_in ends) in
     subst P (sym is) (λ r has.
     let none : get_or (known_in ends) (place k.config r) 0 ≡ 0 = ap (λ l. get_or l (place k.config r) 0) (first k.frames opened).1 ∙ all_same (places_of k.config) (place k.config r) 0 in
     sure_now k who [] r (get_or (known_in ends) (place k.config r) 0) (record { opened = opened; legal = tt }) has (λ is. omega arith) (λ is. omega arith))
 
-pub new_left : (k : Setup) (who : ℕ) (v : View) (ends : List End) → IsOpened k.config k.frames → FirstEnds k.config k.first who ends → v ≡ newcomer k (who ∷ []) → AllIsLeft v.setup who v.seen (known_in ends)
+pub new_left : (k : Basis) (who : ℕ) (v : View) (ends : List End) → IsOpened k.config k.frames → FirstEnds k.config k.first who ends → v ≡ newcomer k (who ∷ []) → AllIsLeft v.setup who v.seen (known_in ends)
 new_left k who v ends opened first is =
     let P : View → Type 0 = λ u. AllIsLeft u.setup who u.seen (known_in ends) in
     subst P (sym is) (λ r has. left_new k who r (get_or (known_in ends) (place k.config r) 0) (ap (λ l. get_or l (place k.config r) 0) (first k.frames opened).1 ∙ all_same (places_of k.config) (place k.config r) 0))

@@ -22,7 +22,7 @@ use Rattle.xsk_model.specs.declared.call.Ring.TheVariants.{Fill, Comp, Rx, Tx}
 use Rattle.xsk_model.proofs.Counting.{times-append, range-push, times-range_within}
 use Rattle.xsk_model.proofs.Folds.{own-append}
 use Rattle.xsk_model.proofs.Histories.{goes_rest}
-use Rattle.xsk_table.specs.View.{Setup, Flight, idle, View, told_of}
+use Rattle.xsk_table.specs.View.{Basis, Flight, idle, View, told_of}
 use Rattle.xsk_table.specs.Rule.{StartsWith, aloft, Homes, IsHome, AllHome, Rule}
 use Rattle.xsk_table.specs.Plays.{Seated}
 use Rattle.xsk_table.specs.Held.{Board, Holder}
@@ -68,7 +68,7 @@ only_callers c s past (e ∷ h) go nobody =
     let it = nobody e.who go.0.caller in absurd (cc)
 
 -- a seat of all callers has seen the whole history
-longest : (k : Setup) (s : State (Option Frame) View) (rule : Rule k s) (id : ℕ) (v : View) → get_elem? s.views id ≡ some v → ((w : ℕ) → w < callers_of k.config → 0 < times w v.callers) → v.seen ≡ rule.log
+longest : (k : Basis) (s : State (Option Frame) View) (rule : Rule k s) (id : ℕ) (v : View) → get_elem? s.views id ≡ some v → ((w : ℕ) → w < callers_of k.config → 0 < times w v.callers) → v.seen ≡ rule.log
 longest k s rule id v at every =
     let knows = rule.seats id v at in
     let more = knows.seen.0 in
@@ -94,7 +94,7 @@ joined_first passes h v at is ok =
 in_range : (w n : ℕ) → w < n → 0 < times w (range_with_len 0 n)
 in_range w n lt = omega (arith, times-range_within w 0 n (omega arith) (omega arith))
 
-pub joined_more : (k : Setup) (passes : List (Option Holder)) (who : ℕ) (h : Holder) (v : View) (slots : List (ℕ × Option Frame)) (m : Seated) → Joined passes who v → get_or passes who None ≡ Some h
+pub joined_more : (k : Basis) (passes : List (Option Holder)) (who : ℕ) (h : Holder) (v : View) (slots : List (ℕ × Option Frame)) (m : Seated) → Joined passes who v → get_or passes who None ≡ Some h
     → h.view.callers ≡ who ∷ [] → Met k (told_of v h.view, slots) m → Joined passes (who + 1) m.0
 joined_more k passes who h v slots m all at one did =
     let same : (w : ℕ) (g : Holder) → w ≡ who → get_or passes w None ≡ Some g → h ≡ g = λ w g is e.
@@ -137,7 +137,7 @@ module _ (homes : Homes) (xs : List (Option Frame)) (same : (n : ℕ) (y : Optio
   all_there (x ∷ items) h = (is_there x.frame h.0, all_there items h.1)
 
 -- where one seat has all callers and none has a call in flight
-pub ends : (k : Setup) (id : ℕ) (v : View) (words : List ℕ) (xs : List (Option Frame)) → ((w : ℕ) → w < callers_of k.config → 0 < times w v.callers) → v.flight ≡ idle → Final (Seen (Rule k) id v) words xs
+pub ends : (k : Basis) (id : ℕ) (v : View) (words : List ℕ) (xs : List (Option Frame)) → ((w : ℕ) → w < callers_of k.config → 0 < times w v.callers) → v.flight ≡ idle → Final (Seen (Rule k) id v) words xs
     → Rests k v.seen xs
 ends k id v words xs every rests final =
     let s = final.0 in
@@ -273,7 +273,7 @@ rises (Some g ∷ xs) a h =
     (rising_cons g (flat_map list_of xs) (a + 1) (omega arith) t.1 t.0, least_cons g (flat_map list_of xs) a (omega arith) t.1)
 
 -- what lies in a slot is out in a ring
-slot_is_out : (k : Setup) (log : List Entry) (xs : List (Option Frame)) → Rests k log xs → (n : ℕ) (f : Frame) → get_elem? xs n ≡ some (Some f)
+slot_is_out : (k : Basis) (log : List Entry) (xs : List (Option Frame)) → Rests k log xs → (n : ℕ) (f : Frame) → get_elem? xs n ≡ some (Some f)
     → IsOut k.config (state_after k.config k.frames log) f × (f.number ≡ n)
 slot_is_out k log xs ok n f e =
     let c = k.config in
@@ -290,7 +290,7 @@ slot_is_out k log xs ok n f e =
     absurd (let z : None ≡ Some f = some-injective None (Some f) (sym (ok.others n lt none) ∙ e) in cc))
     (some_ring c (λ r. times n (numbers (ring_at c s r).out)))
 
-pub frames_are_out : (k : Setup) (log : List Entry) (xs : List (Option Frame)) → Rests k log xs → AreFramesOut k.config (state_after k.config k.frames log) (flat_map list_of xs)
+pub frames_are_out : (k : Basis) (log : List Entry) (xs : List (Option Frame)) → Rests k log xs → AreFramesOut k.config (state_after k.config k.frames log) (flat_map list_of xs)
 frames_are_out k log xs ok = record {
   all = λ f o. contains_slot xs f.number f (there_by xs (ring_at k.config (state_after k.config k.frames log) o.ring).out o.item f o.stands o.frame (ok.outs o.ring o.has));
   only = λ f h. let t = slot_of xs f h.0 h.1 h.2 in (slot_is_out k log xs ok t.0 f t.1).0;

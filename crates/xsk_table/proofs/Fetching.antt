@@ -20,9 +20,9 @@ use Rattle.xsk_model.specs.declared.call.Ring.{Ring}
 use Rattle.xsk_model.proofs.Roles.{two_owners}
 use Rattle.xsk_words.specs.Words.{second_word}
 use Rattle.xsk_words.specs.Layout.{entry_words, word_at}
-use Rattle.xsk_table.specs.View.{Setup, Flight, idle, taking, fetching, View}
+use Rattle.xsk_table.specs.View.{Basis, Flight, idle, taking, fetching, View}
 use Rattle.xsk_table.specs.Rule.{entry_of, second_of, Lies, AreLast, given, released, written, lying, aloft, Homes, IsHome, AllHome, HasAll, IsInFlight, RingHolds, Rule}
-use Rattle.xsk_table.specs.Plays.{Seated, Ask, still, emptied, IsFirst, Fetched, fetches, Settled, settles, reads}
+use Rattle.xsk_table.specs.Plays.{Seated, Purpose, still, emptied, IsFirst, Fetched, fetches, Settled, settles, reads}
 use Rattle.xsk_table.proofs.WordRows.{same_words}
 use Rattle.xsk_table.proofs.Changed.{now, ring_now, flight_of}
 use Rattle.xsk_table.proofs.Slots.{numbers-cons, IsFree, Has, has_one, free_one, homes_put, put_else, vacant_else, vacant_here, takes_of, gives_of, taken_homes, taken_slots, given_homes, gives_valid, given_slots, had_once}
@@ -57,7 +57,7 @@ stands_at [] left more x = refl
 stands_at (y ∷ done) left more x = stands_at done left more x
 
 -- the item lies in the entry of its count
-lies_first : (k : Setup) (s : State (Option Frame) View) (rule : Rule k s) (id who : ℕ) (v : View) (r : Ring) (x : Item) (left : List Item) (count : ℕ) → get_elem? s.views id ≡ some v → v.callers ≡ who ∷ [] → who < callers_of k.config
+lies_first : (k : Basis) (s : State (Option Frame) View) (rule : Rule k s) (id who : ℕ) (v : View) (r : Ring) (x : Item) (left : List Item) (count : ℕ) → get_elem? s.views id ≡ some v → v.callers ≡ who ∷ [] → who < callers_of k.config
     → HasRing k.config r → who ≡ rings.consumer k.config r → AreLast (x ∷ left) (ring_now k s rule r).held → count + length (x ∷ left) ≡ released_of r (own who v.seen) + held_of r (own who v.seen)
     → Lies k.config s.words r (k.first + count) x
 lies_first k s rule id who v r x left count at_id one caller has_ring role last at_count =
@@ -74,7 +74,7 @@ lies_first k s rule id who v r x left count at_id one caller has_ring role last 
     lies_at c s.words r (k.first + released k r rule.log + length done) (k.first + count) x spot ((rule.rings r has_ring).entries (length done) x there)
 
 -- the read of the address word
-pub fetches_keep : (slots id : ℕ) (me : Seated) (a : Ask) (x : Item) (left : List Item) (word : ℕ) → me.0.callers ≡ a.who ∷ [] → me.0.others ≡ [] → HasRing a.setup.config a.ring → a.who ≡ rings.consumer a.setup.config a.ring
+pub fetches_keep : (slots id : ℕ) (me : Seated) (a : Purpose) (x : Item) (left : List Item) (word : ℕ) → me.0.callers ≡ a.who ∷ [] → me.0.others ≡ [] → HasRing a.setup.config a.ring → a.who ≡ rings.consumer a.setup.config a.ring
     → me.0.flight ≡ taking a.ring (x ∷ left) → (count : ℕ) → count + length (x ∷ left) ≡ emptied a me.0 → word ≡ word_at a.setup.config (entry_of a.setup.config a.ring (a.setup.first + count))
     → a.who < callers_of a.setup.config
     → Allows (Rule a.setup) slots id me word (λ n. n) (fetches a (step slots word 0 0 none) me)
@@ -121,7 +121,7 @@ fetches_keep slots id me a x left word one nobody has_ring role flies count at_c
     )
 
 -- the look that gives the slot home
-pub settles_keep : (slots id : ℕ) (me : Seated) (a : Ask) (x : Item) (left : List Item) (word : ℕ) → me.0.callers ≡ a.who ∷ [] → me.0.others ≡ [] → HasRing a.setup.config a.ring → a.who ≡ rings.consumer a.setup.config a.ring
+pub settles_keep : (slots id : ℕ) (me : Seated) (a : Purpose) (x : Item) (left : List Item) (word : ℕ) → me.0.callers ≡ a.who ∷ [] → me.0.others ≡ [] → HasRing a.setup.config a.ring → a.who ≡ rings.consumer a.setup.config a.ring
     → me.0.flight ≡ fetching a.ring x left → IsFirst x.frame None me.1 → a.who < callers_of a.setup.config
     → Allows (Rule a.setup) slots id me word (λ n. n) (settles a (step slots word 0 0 none) me)
 settles_keep slots id me a x left word one nobody has_ring role flies first caller s rule wide at_id small =
@@ -167,7 +167,7 @@ settles_keep slots id me a x left word one nobody has_ring role flies first call
     )
 
 -- the read of the second word, which gives it home too
-pub reads_keep : (slots id : ℕ) (me : Seated) (a : Ask) (x : Item) (left : List Item) (word : ℕ) → entry_words a.ring ≡ 2 → me.0.callers ≡ a.who ∷ [] → me.0.others ≡ [] → HasRing a.setup.config a.ring → a.who ≡ rings.consumer a.setup.config a.ring
+pub reads_keep : (slots id : ℕ) (me : Seated) (a : Purpose) (x : Item) (left : List Item) (word : ℕ) → entry_words a.ring ≡ 2 → me.0.callers ≡ a.who ∷ [] → me.0.others ≡ [] → HasRing a.setup.config a.ring → a.who ≡ rings.consumer a.setup.config a.ring
     → me.0.flight ≡ fetching a.ring x left → IsFirst x.frame None me.1 → (count : ℕ) → count + length (x ∷ left) ≡ emptied a me.0 → word ≡ word_at a.setup.config (second_of a.setup.config a.ring (a.setup.first + count))
     → a.who < callers_of a.setup.config
     → Allows (Rule a.setup) slots id me word (λ n. n) (reads a (step slots word 0 0 none) me)

@@ -20,7 +20,7 @@ use Rattle.xsk_model.proofs.Places.{place_below}
 use Rattle.xsk_model.proofs.FirstState.{opening_ring_is}
 use Rattle.xsk_words.specs.Layout.{widths_of, ring_base, most_ring_words}
 use Rattle.xsk_words.proofs.Rows.{length-widths_of, few_words}
-use Rattle.xsk_table.specs.View.{Setup, idle}
+use Rattle.xsk_table.specs.View.{Basis, idle}
 use Rattle.xsk_table.specs.Rule.{wrapped, opened}
 use Rattle.xsk_table.specs.Opening.{first_count, Begins, AreFirst, FirstEnds, AtRest}
 use Rattle.xsk_table.specs.Held.{Holder, EndHolds, known_in, no_end}
@@ -54,28 +54,28 @@ only_tx c p (Comp e) d h at le is = absurd (omega arith)
 only_tx c p (Rx e) d h at le is = absurd (let lt = h.0 in omega arith)
 only_tx c p (Tx e) d h at le is = ap Tx (omega arith)
 
-opened_count : (k : Setup) (r : Ring) → IsOpened k.config k.frames → HasRing k.config r → opened k r ≡ first_count k.config r
+opened_count : (k : Basis) (r : Ring) → IsOpened k.config k.frames → HasRing k.config r → opened k r ≡ first_count k.config r
 opened_count k r opened_is h = ap (λ (q : RingState). length q.out) (opening_ring_is k.config k.frames r h) ∙ opened_is_first k.config k.frames r opened_is h
 
-begins_plain : (k : Setup) (who : ℕ) (r : Ring) → IsOpened k.config k.frames → HasRing k.config r → k.first < 2 ^ 32 → (who ≡ rings.producer k.config r → first_count k.config r ≡ 0) → Begins k who r k.first
+begins_plain : (k : Basis) (who : ℕ) (r : Ring) → IsOpened k.config k.frames → HasRing k.config r → k.first < 2 ^ 32 → (who ≡ rings.producer k.config r → first_count k.config r ≡ 0) → Begins k who r k.first
 begins_plain k who r opened_is h small none = (
   λ is. let count = opened_count k r opened_is h in let z = none is in omega (arith, small, count, z),
   λ is. omega (arith, small),
 )
 
-pub begins_else : (k : Setup) (who : ℕ) (r : Ring) → IsOpened k.config k.frames → HasRing k.config r → k.first < 2 ^ 32 → length k.config.pairs ≤ place k.config r → Begins k who r k.first
+pub begins_else : (k : Basis) (who : ℕ) (r : Ring) → IsOpened k.config k.frames → HasRing k.config r → k.first < 2 ^ 32 → length k.config.pairs ≤ place k.config r → Begins k who r k.first
 begins_else k who (Fill d) opened_is h small le = absurd (omega arith)
 begins_else k who (Comp d) opened_is h small le = begins_plain k who (Comp d) opened_is h small (λ is. refl)
 begins_else k who (Rx s) opened_is h small le = begins_plain k who (Rx s) opened_is h small (λ is. refl)
 begins_else k who (Tx s) opened_is h small le = begins_plain k who (Tx s) opened_is h small (λ is. refl)
 
-pub begins_driver : (k : Setup) (who : ℕ) (r : Ring) → IsOpened k.config k.frames → HasRing k.config r → k.first < 2 ^ 32 → place k.config r < length k.config.pairs → who < length k.config.pairs → Begins k who r k.first
+pub begins_driver : (k : Basis) (who : ℕ) (r : Ring) → IsOpened k.config k.frames → HasRing k.config r → k.first < 2 ^ 32 → place k.config r < length k.config.pairs → who < length k.config.pairs → Begins k who r k.first
 begins_driver k who (Fill d) opened_is h small lt driver = begins_plain k who (Fill d) opened_is h small (λ is. absurd (omega arith))
 begins_driver k who (Comp d) opened_is h small lt driver = absurd (omega arith)
 begins_driver k who (Rx s) opened_is h small lt driver = absurd (omega arith)
 begins_driver k who (Tx s) opened_is h small lt driver = absurd (omega arith)
 
-pub begins_app : (k : Setup) (who : ℕ) (r : Ring) (n pool : ℕ) → IsOpened k.config k.frames → HasRing k.config r → place k.config r < length k.config.pairs → length k.config.pairs ≤ who → pool ≡ pool_of k.config → n ≡ (k.first + pool) % 2 ^ 32 → Begins k who r n
+pub begins_app : (k : Basis) (who : ℕ) (r : Ring) (n pool : ℕ) → IsOpened k.config k.frames → HasRing k.config r → place k.config r < length k.config.pairs → length k.config.pairs ≤ who → pool ≡ pool_of k.config → n ≡ (k.first + pool) % 2 ^ 32 → Begins k who r n
 begins_app k who (Fill d) n pool opened_is h lt app pool_is is = (
   λ fills. is ∙ ap (λ m. (k.first + m) % 2 ^ 32) (pool_is ∙ sym (opened_count k (Fill d) opened_is h)),
   λ empties. absurd (omega arith),
@@ -86,7 +86,7 @@ begins_app k who (Tx s) n pool opened_is h lt app pool_is is = absurd (omega ari
 
 -- ---- all rings
 
-wide_at : (k : Setup) (who : ℕ) (r : Ring) (count base mask : ℕ) → base ≡ ring_base k.config r → base ≤ most_ring_words → mask + 1 ≡ size_of k.config r → Begins k who r count
+wide_at : (k : Basis) (who : ℕ) (r : Ring) (count base mask : ℕ) → base ≡ ring_base k.config r → base ≤ most_ring_words → mask + 1 ≡ size_of k.config r → Begins k who r count
     → EndHolds k who [] r (record { near = count; far = count; base = base; mask = mask; known = 0 })
 wide_at k who r count base mask at few size begins = record {
   base_is = at;
@@ -96,14 +96,14 @@ wide_at k who r count base mask at few size begins = record {
   empties = λ is. (begins.1 is, begins.1 is);
 }
 
-pub first_none : (k : Setup) (who : ℕ) → AreFirst k who 0 []
+pub first_none : (k : Basis) (who : ℕ) → AreFirst k who 0 []
 first_none k who = record { wide = refl; each = λ r h lt. absurd (omega arith); known = refl }
 
 -- no look was made
 pub known_more : (ends : List End) (e : End) (p : ℕ) → e.known ≡ 0 → known_in ends ≡ replicate p 0 → known_in (ends ++ e ∷ []) ≡ replicate (p + 1) 0
 known_more ends e p none are = map-append (λ (x : End). x.known) ends (e ∷ []) ∙ (λ i. are i ++ none i ∷ []) ∙ replicate_more p 0
 
-pub first_more : (k : Setup) (who p base mask count : ℕ) (ends : List End) → base ≡ sum (take p (widths_of k.config)) → base ≤ most_ring_words
+pub first_more : (k : Basis) (who p base mask count : ℕ) (ends : List End) → base ≡ sum (take p (widths_of k.config)) → base ≤ most_ring_words
     → ((r : Ring) → HasRing k.config r → place k.config r ≡ p → mask + 1 ≡ size_of k.config r) → ((r : Ring) → HasRing k.config r → place k.config r ≡ p → Begins k who r count)
     → AreFirst k who p ends → AreFirst k who (p + 1) (ends ++ (record { near = count; far = count; base = base; mask = mask; known = 0 }) ∷ [])
 first_more k who p base mask count ends at few masks begins ok =
@@ -133,7 +133,7 @@ width_more c p base width lt at is =
 
 pub first_all : (c : Config) (first who p : ℕ) (ends : List End) → p ≡ places_of c → ((frames : List Frame) → IsOpened c frames → AreFirst (record { config = c; first = first; frames = frames }) who p ends) → FirstEnds c first who ends
 first_all c first who p ends all each frames opened_is =
-    let k : Setup = record { config = c; first = first; frames = frames } in
+    let k : Basis = record { config = c; first = first; frames = frames } in
     let ok = each frames opened_is in
     (record { wide = ok.wide ∙ all; each = λ r h. ok.each r h (subst (λ n. place c r < n) (sym all) (place_below c r h)) }, ok.known ∙ ap (λ n. replicate n 0) all)
 

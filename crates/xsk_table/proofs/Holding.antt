@@ -19,7 +19,7 @@ use Rattle.xsk_model.specs.declared.call.Reply.TheVariants.{Submitted, Released}
 use Rattle.xsk_model.proofs.Places.{is_ring-true, is_ring-self, place_below, places_apart}
 use Rattle.xsk_model.proofs.Folds.{part_of-push_same, part_of-push_other}
 use Rattle.xsk_model.proofs.Roles.{two_owners}
-use Rattle.xsk_table.specs.View.{Setup, Flight, idle, taking, View}
+use Rattle.xsk_table.specs.View.{Basis, Flight, idle, taking, View}
 use Rattle.xsk_table.specs.Rule.{wrapped, opened, lying}
 use Rattle.xsk_table.specs.Plays.{Extends, still, items_reply}
 use Rattle.xsk_table.specs.Held.{AreLeft, EndHolds, EndsHold, PassHolds, no_end}
@@ -27,13 +27,13 @@ use Rattle.xsk_words.specs.Layout.{most_ring_words}
 use Rattle.xsk_table.specs.declared.end.End.{End}
 use Rattle.xsk_table.proofs.Peeking.{lying_still}
 
-more : (k : Setup) (a n : ℕ) → (wrapped k a + n) % 2 ^ 32 ≡ wrapped k (a + n)
+more : (k : Basis) (a n : ℕ) → (wrapped k a + n) % 2 ^ 32 ≡ wrapped k (a + n)
 more k a n = omega arith
 
-stays : (k : Setup) (a n : ℕ) → n ≡ wrapped k a → n ≡ (n + 0) % 2 ^ 32
+stays : (k : Basis) (a n : ℕ) → n ≡ wrapped k a → n ≡ (n + 0) % 2 ^ 32
 stays k a n is = omega (arith, is)
 
-module _ (k : Setup) (who : ℕ) (mine : List Told) (r : Ring) (call : Call) (reply : Reply) where
+module _ (k : Basis) (who : ℕ) (mine : List Told) (r : Ring) (call : Call) (reply : Reply) where
   abbrev then_told : List Told
   then_told = with_told mine call reply
 
@@ -93,7 +93,7 @@ module _ (k : Setup) (who : ℕ) (mine : List Told) (r : Ring) (call : Call) (re
       }
 
 -- all counts after a call on one ring
-ends_on : (k : Setup) (who : ℕ) (mine : List Told) (ends : List End) (call : Call) (reply : Reply) (rc : Ring) (new : End) → HasRing k.config rc → ((r : Ring) → is_on r call ≡ is_ring r rc)
+ends_on : (k : Basis) (who : ℕ) (mine : List Told) (ends : List End) (call : Call) (reply : Reply) (rc : Ring) (new : End) → HasRing k.config rc → ((r : Ring) → is_on r call ≡ is_ring r rc)
     → EndHolds k who (with_told mine call reply) rc new → EndsHold k who mine ends → EndsHold k who (with_told mine call reply) (set ends (place k.config rc) new)
 ends_on k who mine ends call reply rc new has on_is ok all =
     let c = k.config in
@@ -144,12 +144,12 @@ module _ (v : View) (slots : List (ℕ × Option Frame)) (who : ℕ) (ends : Lis
       record {
         one = ex.callers ∙ ok.one;
         alone = ex.others ∙ ok.alone;
-        few = subst (λ (t : Setup). who < callers_of t.config) (sym ex.setup) ok.few;
-        ends_hold = let P : Setup × List Told × ℕ → Type 0 = λ t. EndsHold t.0 who t.1 (set ends t.2 new) in subst P (λ i. (sym ex.setup i, sym ex.mine i, sym at_place i)) all;
+        few = subst (λ (t : Basis). who < callers_of t.config) (sym ex.setup) ok.few;
+        ends_hold = let P : Basis × List Told × ℕ → Type 0 = λ t. EndsHold t.0 who t.1 (set ends t.2 new) in subst P (λ i. (sym ex.setup i, sym ex.mine i, sym at_place i)) all;
         flying_is = flies;
         slots_are = same ∙ ok.slots_are;
-        left = λ s items is_taking. let P : Setup × List Told → Type 0 = λ t. AreLeft t.0.config who t.1 s items in subst P (λ i. (sym ex.setup i, sym ex.mine i)) (left s items is_taking);
-        history = subst (λ (t : Setup). IsHistory t.config t.frames w.seen) (sym ex.setup) ex.legal;
+        left = λ s items is_taking. let P : Basis × List Told → Type 0 = λ t. AreLeft t.0.config who t.1 s items in subst P (λ i. (sym ex.setup i, sym ex.mine i)) (left s items is_taking);
+        history = subst (λ (t : Basis). IsHistory t.config t.frames w.seen) (sym ex.setup) ex.legal;
       }
 
   config : IsConfig v.setup.config

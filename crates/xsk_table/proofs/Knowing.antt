@@ -15,7 +15,7 @@ use Rattle.xsk_model.specs.Legal.{IsLegal}
 use Rattle.xsk_model.specs.declared.call.Ring.{Ring}
 use Rattle.xsk_model.specs.declared.call.Call.{Call}
 use Rattle.xsk_model.proofs.Theorems.{parts_by_own, within_size, counts_agree}
-use Rattle.xsk_table.specs.View.{Setup, Flight, idle, View}
+use Rattle.xsk_table.specs.View.{Basis, Flight, idle, View}
 use Rattle.xsk_table.specs.Rule.{opened, given, released, StartsWith, Knows, Rule}
 use Rattle.xsk_table.proofs.Seating.{sole, sole_counts}
 use Rattle.xsk_table.proofs.Changed.{ring_now, flight_of}
@@ -46,30 +46,30 @@ pub whole_log : (log : List Entry) → StartsWith log log
 whole_log log = ([], sym (append-nil log))
 
 -- what a seat of one caller knows before its call
-pub record Known (k : Setup) (s : State (Option Frame) View) (rule : Rule k s) (who : ℕ) (v : View) : Type 0 where
+pub record Known (k : Basis) (s : State (Option Frame) View) (rule : Rule k s) (who : ℕ) (v : View) : Type 0 where
   pub mine : own who rule.log ≡ own who v.seen
   pub flight : flight_of k s rule who ≡ v.flight
   pub below : who < length rule.flights
 
-pub known : (k : Setup) (s : State (Option Frame) View) (rule : Rule k s) (id who : ℕ) (v : View) → get_elem? s.views id ≡ some v → v.callers ≡ who ∷ [] → who < callers_of k.config → Known k s rule who v
+pub known : (k : Basis) (s : State (Option Frame) View) (rule : Rule k s) (id who : ℕ) (v : View) → get_elem? s.views id ≡ some v → v.callers ≡ who ∷ [] → who < callers_of k.config → Known k s rule who v
 known k s rule id who v at one caller = let knows = rule.seats id v at in record {
   mine = own_is rule.log rule.flights who v one knows;
   flight = flight_is rule.log rule.flights who v one knows;
   below = omega (arith, caller, rule.flights_len);
 }
 
-pub legal_now : (k : Setup) (s : State (Option Frame) View) (rule : Rule k s) (who : ℕ) (call : Call) (v : View) → Known k s rule who v
+pub legal_now : (k : Basis) (s : State (Option Frame) View) (rule : Rule k s) (who : ℕ) (call : Call) (v : View) → Known k s rule who v
     → IsLegal k.config (own who v.seen) who call → IsLegal k.config (own who rule.log) who call
 legal_now k s rule who call v kn legal = subst (λ (l : List Told). IsLegal k.config l who call) (sym kn.mine) legal
 
 -- the numbers of a ring
-pub record Numbers (k : Setup) (s : State (Option Frame) View) (rule : Rule k s) (r : Ring) : Type 0 where
+pub record Numbers (k : Basis) (s : State (Option Frame) View) (rule : Rule k s) (r : Ring) : Type 0 where
   pub room : (ring_now k s rule r).room ≡ room_of r (own (rings.producer k.config r) rule.log)
   pub held : length (ring_now k s rule r).held ≡ held_of r (own (rings.consumer k.config r) rule.log)
   pub within : length (ring_now k s rule r).out + length (ring_now k s rule r).held + (ring_now k s rule r).room ≤ size_of k.config r
   pub counts : given k r rule.log ≡ released k r rule.log + length (ring_now k s rule r).held + length (ring_now k s rule r).out
 
-pub numbers_are : (k : Setup) (s : State (Option Frame) View) (rule : Rule k s) (r : Ring) → HasRing k.config r → Numbers k s rule r
+pub numbers_are : (k : Basis) (s : State (Option Frame) View) (rule : Rule k s) (r : Ring) → HasRing k.config r → Numbers k s rule r
 numbers_are k s rule r has = record {
   room = (parts_by_own k.config k.frames rule.log r rule.legal has).0;
   held = (parts_by_own k.config k.frames rule.log r rule.legal has).1;
@@ -78,7 +78,7 @@ numbers_are k s rule r has = record {
 }
 
 -- what a ring's producer and its consumer know of its numbers
-module _ (k : Setup) (s : State (Option Frame) View) (rule : Rule k s) (who : ℕ) (v : View) (kn : Known k s rule who v) (r : Ring) (has : HasRing k.config r) where
+module _ (k : Basis) (s : State (Option Frame) View) (rule : Rule k s) (who : ℕ) (v : View) (kn : Known k s rule who v) (r : Ring) (has : HasRing k.config r) where
   pub given_seen : who ≡ rings.producer k.config r → given k r rule.log ≡ opened k r + given_of r (own who v.seen)
   given_seen role = ap (λ n. opened k r + given_of r (own n rule.log)) (sym role) ∙ ap (λ l. opened k r + given_of r l) kn.mine
 

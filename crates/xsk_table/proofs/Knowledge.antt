@@ -19,7 +19,7 @@ use Rattle.xsk_model.specs.declared.call.Reply.{Reply}
 use Rattle.xsk_model.proofs.Places.{is_ring-true, is_ring-self, place_below, places_apart}
 use Rattle.xsk_model.proofs.Folds.{part_of-push_same, part_of-push_other}
 use Rattle.xsk_model.proofs.Theorems.{parts_by_own, within_size, counts_agree}
-use Rattle.xsk_table.specs.View.{Setup, View}
+use Rattle.xsk_table.specs.View.{Basis, View}
 use Rattle.xsk_table.specs.Rule.{opened, given, released, StartsWith}
 use Rattle.xsk_table.specs.Known.{free_after, out_after, IsSure, AreSure}
 use Rattle.xsk_table.specs.Plays.{Extends, HasRoom, HasItems, ask_for, items_reply, entry}
@@ -30,7 +30,7 @@ use Rattle.xsk_table.proofs.Growing.{given_grows, released_grows}
 -- ---- one ring
 
 -- what a legal history leaves on a ring is there
-pub sure_now : (k : Setup) (who : ℕ) (seen : List Entry) (r : Ring) (n : ℕ) → IsHistory k.config k.frames seen → HasRing k.config r
+pub sure_now : (k : Basis) (who : ℕ) (seen : List Entry) (r : Ring) (n : ℕ) → IsHistory k.config k.frames seen → HasRing k.config r
     → (who ≡ producer k.config r → n ≤ free_after k seen r) → (who ≡ consumer k.config r → n ≤ out_after k seen r) → IsSure k who seen r n
 sure_now k who seen r n history has few_free few_out =
     let parts = parts_by_own k.config k.frames seen r history has in
@@ -42,7 +42,7 @@ sure_now k who seen r n history has few_free few_out =
     }
 
 -- so is what was there before, less what the caller has had since
-pub sure_later : (k : Setup) (who : ℕ) (seen seen' : List Entry) (r : Ring) (n n' : ℕ) → StartsWith seen' seen
+pub sure_later : (k : Basis) (who : ℕ) (seen seen' : List Entry) (r : Ring) (n n' : ℕ) → StartsWith seen' seen
     → (who ≡ producer k.config r → given_of r (own who seen') + room_of r (own who seen') + n' ≤ given_of r (own who seen) + room_of r (own who seen) + n)
     → (who ≡ consumer k.config r → released_of r (own who seen') + held_of r (own who seen') + n' ≤ released_of r (own who seen) + held_of r (own who seen) + n)
     → IsSure k who seen r n → IsSure k who seen' r n'
@@ -73,7 +73,7 @@ few_on c mine (Release s n) r counted on = (omega arith, subst (λ (q : Ring). n
 few_on c mine (Swap m value) r counted on = absurd (cc)
 few_on c mine (Look m) r counted on = absurd (cc)
 
-module _ (k : Setup) (who : ℕ) (call : Call) (reply : Reply) (v w : View) (ex : Extends k who call reply v w) where
+module _ (k : Basis) (who : ℕ) (call : Call) (reply : Reply) (v w : View) (ex : Extends k who call reply v w) where
   pub starts : StartsWith w.seen v.seen
   starts = (ex.between ++ entry who call reply ∷ [], ex.seen ∙ append_assoc v.seen ex.between (entry who call reply ∷ []))
 
@@ -124,7 +124,7 @@ module _ (k : Setup) (who : ℕ) (call : Call) (reply : Reply) (v w : View) (ex 
       (cases_Bool (is_ring r rc))
 
 -- after a meet
-pub sure_met : (k : Setup) (who : ℕ) (seen seen' : List Entry) (known : List ℕ) → StartsWith seen' seen → own who seen' ≡ own who seen → AreSure k who seen known → AreSure k who seen' known
+pub sure_met : (k : Basis) (who : ℕ) (seen seen' : List Entry) (known : List ℕ) → StartsWith seen' seen → own who seen' ≡ own who seen → AreSure k who seen known → AreSure k who seen' known
 sure_met k who seen seen' known grows same sure r has =
     sure_later k who seen seen' r _ _ grows
     (λ is. let a = ap (given_of r) same in let b = ap (room_of r) same in omega arith)
@@ -140,7 +140,7 @@ known_stays ends p e new is same = map-set_same (λ (x : End). x.known) ends p n
 pub known_set : (ends : List End) (p : ℕ) (new : End) → known_in (set ends p new) ≡ set (known_in ends) p new.known
 known_set ends p new = map-set (λ (x : End). x.known) ends p new
 
-pub in_row : (k : Setup) (who : ℕ) (mine : List Told) (ends : List End) (r : Ring) (p : ℕ) → EndsHold k who mine ends → HasRing k.config r → p ≡ place k.config r → p < length ends
+pub in_row : (k : Basis) (who : ℕ) (mine : List Told) (ends : List End) (r : Ring) (p : ℕ) → EndsHold k who mine ends → HasRing k.config r → p ≡ place k.config r → p < length ends
 in_row k who mine ends r p all has at_place = let lt = place_below k.config r has in let wide = all.wide in omega arith
 
 -- what is known of the ring of an end
@@ -148,13 +148,13 @@ pub known_at : (ends : List End) (p q : ℕ) (e : End) → e ≡ get_or ends p e
 known_at ends p q e is wide at_place = ap (λ (x : End). x.known) is ∙ sym (get_or-map (λ (x : End). x.known) ends p e 0 wide) ∙ ap (λ i. get_or (known_in ends) i 0) at_place
 
 -- so a call of no more has what it asks for
-pub has_room : (k : Setup) (who : ℕ) (r : Ring) (n known : ℕ) (v : View) → who ≡ producer k.config r → n ≤ known → IsSure k who v.seen r known → HasRoom (ask_for k who r n) v
+pub has_room : (k : Basis) (who : ℕ) (r : Ring) (n known : ℕ) (v : View) → who ≡ producer k.config r → n ≤ known → IsSure k who v.seen r known → HasRoom (ask_for k who r n) v
 has_room k who r n known v role few sure =
     let h = sure.fills role in
     let is : given k r v.seen ≡ opened k r + given_of r (own who v.seen) = ap (λ w. opened k r + given_of r (own w v.seen)) (sym role) in
     omega arith
 
-pub has_items : (k : Setup) (who : ℕ) (r : Ring) (n known : ℕ) (v : View) → who ≡ consumer k.config r → n ≤ known → IsSure k who v.seen r known → HasItems (ask_for k who r n) v
+pub has_items : (k : Basis) (who : ℕ) (r : Ring) (n known : ℕ) (v : View) → who ≡ consumer k.config r → n ≤ known → IsSure k who v.seen r known → HasItems (ask_for k who r n) v
 has_items k who r n known v role few sure =
     let h = sure.empties role in
     let is : released k r v.seen ≡ released_of r (own who v.seen) = ap (λ w. released_of r (own w v.seen)) (sym role) in
@@ -162,7 +162,7 @@ has_items k who r n known v role few sure =
 
 -- what a look leaves: the free places that it found less those that it granted, and the items that it found less those
 -- that it took
-pub places_left : (k t : Setup) (seen : List Entry) (r : Ring) (n places got : ℕ) (reply : Reply) → t ≡ k → places ≡ free_after k seen r + granted (Reserve r n) (reserve_reply n places) → reply ≡ reserve_reply n places
+pub places_left : (k t : Basis) (seen : List Entry) (r : Ring) (n places got : ℕ) (reply : Reply) → t ≡ k → places ≡ free_after k seen r + granted (Reserve r n) (reserve_reply n places) → reply ≡ reserve_reply n places
     → got ≡ granted (Reserve r n) reply → places - got ≡ free_after t seen r
 places_left k t seen r n places got reply setup left is got_is =
     let g : ℕ = granted (Reserve r n) (reserve_reply n places) in
@@ -170,18 +170,18 @@ places_left k t seen r n places got reply setup left is got_is =
     let h : ℕ = free_after k seen r in
     let left' : places ≡ h + g = left in
     let less : places - got ≡ h = omega arith in
-    less ∙ ap (λ (s : Setup). free_after s seen r) (sym setup)
+    less ∙ ap (λ (s : Basis). free_after s seen r) (sym setup)
 
-pub items_left : (k t : Setup) (seen : List Entry) (r : Ring) (n out got : ℕ) → t ≡ k → out ≡ min n out + out_after k seen r → got ≡ min n out → out - got ≡ out_after t seen r
+pub items_left : (k t : Basis) (seen : List Entry) (r : Ring) (n out got : ℕ) → t ≡ k → out ≡ min n out + out_after k seen r → got ≡ min n out → out - got ≡ out_after t seen r
 items_left k t seen r n out got setup left is =
     let h : ℕ = out_after k seen r in
     let less : out - got ≡ h = omega arith in
-    less ∙ ap (λ (s : Setup). out_after s seen r) (sym setup)
+    less ∙ ap (λ (s : Basis). out_after s seen r) (sym setup)
 
 module _ (v w : View) (who : ℕ) (ends : List End) (call : Call) (reply : Reply) (ex : Extends v.setup who call reply v w) (legal : IsLegal v.setup.config (own who v.seen) who call)
     (sure : AreSure v.setup who v.seen (known_in ends)) where
   setup_now : (known : List ℕ) → AreSure v.setup who w.seen known → AreSure w.setup who w.seen known
-  setup_now known h = subst (λ (t : Setup). AreSure t who w.seen known) (sym ex.setup) h
+  setup_now known h = subst (λ (t : Basis). AreSure t who w.seen known) (sym ex.setup) h
 
   -- a call that gets neither places nor items, and leaves the ends
   pub pass_quiet : granted call reply ≡ 0 → taken reply ≡ [] → AreSure w.setup who w.seen (known_in ends)

@@ -13,7 +13,7 @@ use Rattle.xsk_model.specs.declared.call.Call.{Call}
 use Rattle.xsk_model.specs.declared.call.Reply.{Reply}
 use Rattle.xsk_model.proofs.Places.{is_ring-true, is_ring-self, places_apart}
 use Rattle.xsk_model.proofs.Folds.{part_of-push_same, part_of-push_other}
-use Rattle.xsk_table.specs.View.{Setup, View}
+use Rattle.xsk_table.specs.View.{Basis, View}
 use Rattle.xsk_table.specs.Rule.{StartsWith}
 use Rattle.xsk_table.specs.Known.{free_after, out_after, got_step, got_of, gets_on, found, IsLeft, AllIsLeft}
 use Rattle.xsk_table.specs.Plays.{Extends, entry}
@@ -27,7 +27,7 @@ nothing_snoc : (before : List Entry) (e : Entry) → [] ≡ before ++ e ∷ [] �
 nothing_snoc [] e is = cc
 nothing_snoc (x ∷ before) e is = cc
 
-module _ (k : Setup) (who : ℕ) (r : Ring) (before : List Entry) (e : Entry) where
+module _ (k : Basis) (who : ℕ) (r : Ring) (before : List Entry) (e : Entry) where
   pub found_free : (seen : List Entry) → seen ≡ before ++ e ∷ [] → who ≡ producer k.config r → found k who r seen ≡ free_after k seen r
   found_free [] is role = absurd (nothing_snoc before e is)
   found_free (x ∷ xs) is role = ap (λ b. cond b (free_after k (x ∷ xs) r) (out_after k (x ∷ xs) r)) (eq-eqb who (producer k.config r) role)
@@ -39,7 +39,7 @@ module _ (k : Setup) (who : ℕ) (r : Ring) (before : List Entry) (e : Entry) wh
 -- ---- one ring
 
 -- what the caller had since is taken off
-pub left_later : (k : Setup) (who : ℕ) (seen seen' : List Entry) (r : Ring) (n n' : ℕ) → StartsWith seen' seen → n' + got_of r (own who seen') ≡ n + got_of r (own who seen) → IsLeft k who seen r n → IsLeft k who seen' r n'
+pub left_later : (k : Basis) (who : ℕ) (seen seen' : List Entry) (r : Ring) (n n' : ℕ) → StartsWith seen' seen → n' + got_of r (own who seen') ≡ n + got_of r (own who seen) → IsLeft k who seen r n → IsLeft k who seen' r n'
 left_later k who seen seen' r n n' grows same l = record {
   upto = l.upto;
   later = l.later ++ grows.0;
@@ -48,7 +48,7 @@ left_later k who seen seen' r n n' grows same l = record {
   left = same ∙ l.left;
 }
 
-module _ (k : Setup) (who : ℕ) (call : Call) (reply : Reply) (v w : View) (ex : Extends k who call reply v w) where
+module _ (k : Basis) (who : ℕ) (call : Call) (reply : Reply) (v w : View) (ex : Extends k who call reply v w) where
   -- a ring after a call on it
   left_on : (r : Ring) (n n' : ℕ) → is_on r call ≡ true → n' + (granted call reply + length (taken reply)) ≡ n → IsLeft k who v.seen r n → IsLeft k who w.seen r n'
   left_on r n n' on less l =
@@ -96,19 +96,19 @@ module _ (k : Setup) (who : ℕ) (call : Call) (reply : Reply) (v w : View) (ex 
       (cases_Bool (is_ring r rc))
 
 -- after a meet
-pub left_met : (k : Setup) (who : ℕ) (seen seen' : List Entry) (known : List ℕ) → StartsWith seen' seen → own who seen' ≡ own who seen → AllIsLeft k who seen known → AllIsLeft k who seen' known
+pub left_met : (k : Basis) (who : ℕ) (seen seen' : List Entry) (known : List ℕ) → StartsWith seen' seen → own who seen' ≡ own who seen → AllIsLeft k who seen known → AllIsLeft k who seen' known
 left_met k who seen seen' known grows same left r has =
     left_later k who seen seen' r _ _ grows (ap (λ (l : List Told). get_or known (place k.config r) 0 + got_of r l) same) (left r has)
 
 -- before the first call
-pub left_new : (k : Setup) (who : ℕ) (r : Ring) (n : ℕ) → n ≡ 0 → IsLeft k who [] r n
+pub left_new : (k : Basis) (who : ℕ) (r : Ring) (n : ℕ) → n ≡ 0 → IsLeft k who [] r n
 left_new k who r n none = record { upto = []; later = []; split = refl; looked = inl refl; left = ap (λ (m : ℕ). m + got_of r []) none }
 
 -- ---- what a pass keeps of it
 
 module _ (v w : View) (who : ℕ) (ends : List End) (call : Call) (reply : Reply) (ex : Extends v.setup who call reply v w) (left : AllIsLeft v.setup who v.seen (known_in ends)) where
   setup_now : (known : List ℕ) → AllIsLeft v.setup who w.seen known → AllIsLeft w.setup who w.seen known
-  setup_now known h = subst (λ (t : Setup). AllIsLeft t who w.seen known) (sym ex.setup) h
+  setup_now known h = subst (λ (t : Basis). AllIsLeft t who w.seen known) (sym ex.setup) h
 
   -- a call that gets neither places nor items, and leaves the ends
   pub left_quiet : granted call reply ≡ 0 → taken reply ≡ [] → AllIsLeft w.setup who w.seen (known_in ends)

@@ -27,9 +27,9 @@ use Rattle.xsk_model.proofs.Folds.{own-push_other, part_of_own-push_other}
 use Rattle.xsk_model.proofs.CallTheorems.{one_more, marks_after_entry}
 use Rattle.xsk_words.specs.Layout.{mark, word_at, words_of}
 use Rattle.xsk_words.proofs.Rows.{own_words}
-use Rattle.xsk_table.specs.View.{Setup, Flight, idle, View}
+use Rattle.xsk_table.specs.View.{Basis, Flight, idle, View}
 use Rattle.xsk_table.specs.Rule.{at, opened, written, lying, aloft, AllHome, Rule}
-use Rattle.xsk_table.specs.Plays.{Seated, Ask, IsReady, Extends, swaps, looks, entry}
+use Rattle.xsk_table.specs.Plays.{Seated, Purpose, IsReady, Extends, swaps, looks, entry}
 use Rattle.xsk_table.specs.Held.{EndsHold, PassHolds, no_end}
 use Rattle.xsk_table.specs.declared.end.End.{End}
 use Rattle.xsk_table.proofs.WordRows.{SameWords, same_words, write_here, write_else, write_other_ring, ring_word}
@@ -39,10 +39,10 @@ use Rattle.xsk_table.proofs.Adding.{later, ring_else, acts}
 use Rattle.xsk_table.proofs.Holding.{end_else, idle_taking}
 
 -- where a mark's word stands, by a setup that is another's
-pub mark_word_at : (v k : Setup) (m : Mark) (word words : ℕ) → v ≡ k → IsConfig v.config → HasMark v.config m → words ≡ words_of k.config → word ≡ word_at k.config (mark m)
+pub mark_word_at : (v k : Basis) (m : Mark) (word words : ℕ) → v ≡ k → IsConfig v.config → HasMark v.config m → words ≡ words_of k.config → word ≡ word_at k.config (mark m)
     → (word ≡ word_at k.config (mark m)) × (word < words)
 mark_word_at v k m word words same config has all is =
-    let below : Setup → Type 0 = λ t. word_at t.config (mark m) < words_of t.config in
+    let below : Basis → Type 0 = λ t. word_at t.config (mark m) < words_of t.config in
     let here : word_at k.config (mark m) < words_of k.config = subst below same (own_words v.config (mark m) (mark m) config has has).0 in
     (is, let P : ℕ × ℕ → Type 0 = λ t. t.0 < t.1 in subst P (λ i. (sym is i, sym all i)) here)
 
@@ -56,7 +56,7 @@ no_swap : (m n : Mark) (b : ℕ) → Look m ≡ Swap n b → ⊥
 no_swap m n b e = cc
 
 -- a step that adds an entry on no ring, by a caller with no call in flight
-module _ (k : Setup) (s : State (Option Frame) View) (rule : Rule k s) (e : Entry) (legal : IsLegal k.config (own e.who rule.log) e.who e.call) (off : (r : Ring) → is_on r e.call ≡ false) where
+module _ (k : Basis) (s : State (Option Frame) View) (rule : Rule k s) (e : Entry) (legal : IsLegal k.config (own e.who rule.log) e.who e.call) (off : (r : Ring) → is_on r e.call ≡ false) where
   stays : (r : Ring) → HasRing k.config r → ring_at k.config (later k s rule e legal) r ≡ ring_now k s rule r
   stays r has = ring_else k s rule e legal r has (off r)
 
@@ -93,7 +93,7 @@ module _ (k : Setup) (s : State (Option Frame) View) (rule : Rule k s) (e : Entr
             (λ w. ⊎_elim (λ (is : w ≡ e.who). ap (λ x. times n (numbers (aloft (flight_of k s rule x)))) is ∙ ap (λ (f : Flight). times n (numbers (aloft f))) rests) (λ (no : w ≢ e.who). no_call w no) (cases_eq w e.who));
       }
 
-pub swaps_keep : (slots id : ℕ) (me : Seated) (a : Ask) (word : ℕ) → IsReady a (Swap a.mark a.count) me.0 → me.0.flight ≡ idle → word ≡ word_at a.setup.config (mark a.mark)
+pub swaps_keep : (slots id : ℕ) (me : Seated) (a : Purpose) (word : ℕ) → IsReady a (Swap a.mark a.count) me.0 → me.0.flight ≡ idle → word ≡ word_at a.setup.config (mark a.mark)
     → Allows (Rule a.setup) slots id me word (λ _. a.count) (swaps a (step slots word a.count 0 none) me)
 swaps_keep slots id me a word ready rests at_word s rule wide at_id small =
     let k = a.setup in
@@ -130,7 +130,7 @@ swaps_keep slots id me a word ready rests at_word s rule wide at_id small =
       record { extends = subst (λ (n : ℕ). Extends k who call (Old n) v w) (sym found_is) did.1; slots = refl; flight = refl },
     )
 
-pub looks_keep : (slots id : ℕ) (me : Seated) (a : Ask) (word : ℕ) → IsReady a (Look a.mark) me.0 → me.0.flight ≡ idle → word ≡ word_at a.setup.config (mark a.mark)
+pub looks_keep : (slots id : ℕ) (me : Seated) (a : Purpose) (word : ℕ) → IsReady a (Look a.mark) me.0 → me.0.flight ≡ idle → word ≡ word_at a.setup.config (mark a.mark)
     → Allows (Rule a.setup) slots id me word (λ n. n) (looks a (step slots word 0 0 none) me)
 looks_keep slots id me a word ready rests at_word s rule wide at_id small =
     let k = a.setup in
@@ -170,10 +170,10 @@ pass_marked v w slots slots' who ends flying call reply ok off ex same rests now
     record {
       one = ex.callers ∙ ok.one;
       alone = ex.others ∙ ok.alone;
-      few = subst (λ (t : Setup). who < callers_of t.config) (sym ex.setup) ok.few;
-      ends_hold = let P : Setup × List Told → Type 0 = λ t. EndsHold t.0 who t.1 ends in subst P (λ i. (sym ex.setup i, sym ex.mine i)) all;
+      few = subst (λ (t : Basis). who < callers_of t.config) (sym ex.setup) ok.few;
+      ends_hold = let P : Basis × List Told → Type 0 = λ t. EndsHold t.0 who t.1 ends in subst P (λ i. (sym ex.setup i, sym ex.mine i)) all;
       flying_is = ok.flying_is ∙ ap (λ (f : Flight). length (lying f)) (rests ∙ sym now_idle);
       slots_are = same ∙ ok.slots_are;
       left = λ r items is_taking. absurd (idle_taking r items (sym now_idle ∙ is_taking));
-      history = subst (λ (t : Setup). IsHistory t.config t.frames w.seen) (sym ex.setup) ex.legal;
+      history = subst (λ (t : Basis). IsHistory t.config t.frames w.seen) (sym ex.setup) ex.legal;
     }

@@ -11,9 +11,9 @@ use Rattle.xsk_model.specs.Numbers.{times}
 use Rattle.xsk_model.specs.Entry.{Entry, Told, own}
 use Rattle.xsk_model.specs.History.{IsHistory}
 use Rattle.xsk_model.proofs.Counting.{times-append}
-use Rattle.xsk_table.specs.View.{Setup, Flight, idle, View, note_of, told_of, spent}
+use Rattle.xsk_table.specs.View.{Basis, Flight, idle, View, note_of, told_of, spent}
 use Rattle.xsk_table.specs.Rule.{Knows, Rule}
-use Rattle.xsk_table.specs.Plays.{Seated, Ask}
+use Rattle.xsk_table.specs.Plays.{Seated, Purpose}
 use Rattle.xsk_table.specs.Known.{AreSure, AllIsLeft}
 use Rattle.xsk_table.specs.Held.{AreLeft, EndsHold, PassHolds, known_in}
 use Rattle.xsk_table.specs.Meeting.{Met, Meets, meets}
@@ -24,7 +24,7 @@ use Rattle.xsk_table.proofs.Knowledge.{sure_met}
 use Rattle.xsk_table.proofs.Lefts.{left_met}
 
 -- a note is split off
-pub notes : (k : Setup) (id : ℕ) (v : View) → Splits (Rule k) id v v (note_of v)
+pub notes : (k : Basis) (id : ℕ) (v : View) → Splits (Rule k) id v v (note_of v)
 notes k id v s rule at =
     let knows = rule.seats id v at in
     let right = note_of v in
@@ -43,7 +43,7 @@ knows_nothing : (log : List Entry) (flights : List Flight) → Knows log flights
 knows_nothing log flights = record { seen = (log, refl); told = (log, refl); mine = λ w p. absurd (omega arith); others = λ w p. absurd (omega arith) }
 
 -- a seat is put into another, which is told of what it has seen
-pub tells : (k : Setup) (id other : ℕ) (v u : View) → v.others ≡ [] → u.others ≡ [] → ((w : ℕ) → 0 < times w u.callers → u.flight ≡ idle) → Joins (Rule k) id v other u (told_of v u) spent
+pub tells : (k : Basis) (id other : ℕ) (v u : View) → v.others ≡ [] → u.others ≡ [] → ((w : ℕ) → 0 < times w u.callers → u.flight ≡ idle) → Joins (Rule k) id v other u (told_of v u) spent
 tells k id other v u alone nobody rests s rule at off there' =
     let there : get_elem? s.views other ≡ some u = sym (set_else s.views id other (told_of v u) off) ∙ there' in
     let f = rule.seats id v at in
@@ -70,7 +70,7 @@ tells k id other v u alone nobody rests s rule at off there' =
     ))
 
 -- the look after it: what the seat was told of and what it has seen become one
-pub meets_keep : (slots id : ℕ) (me : Seated) (a : Ask) (word : ℕ) → ((w : ℕ) → 0 < times w me.0.others → me.0.flight ≡ idle) → Allows (Rule a.setup) slots id me word (λ n. n) (meets a (step slots word 0 0 none) me)
+pub meets_keep : (slots id : ℕ) (me : Seated) (a : Purpose) (word : ℕ) → ((w : ℕ) → 0 < times w me.0.others → me.0.flight ≡ idle) → Allows (Rule a.setup) slots id me word (λ n. n) (meets a (step slots word 0 0 none) me)
 meets_keep slots id me a word rests s rule wide at small =
     let v = me.0 in
     let knows = rule.seats id v at in
@@ -97,7 +97,7 @@ meets_keep slots id me a word rests s rule wide at small =
 
 -- ---- a pass that has met a note
 
-module _ (k : Setup) (v w : View) (u : View) (slots slots' : List (ℕ × Option Frame)) (who : ℕ) (ends : List End) (flying : ℕ) (ok : PassHolds v slots who ends flying) (setup : v.setup ≡ k)
+module _ (k : Basis) (v w : View) (u : View) (slots slots' : List (ℕ × Option Frame)) (who : ℕ) (ends : List End) (flying : ℕ) (ok : PassHolds v slots who ends flying) (setup : v.setup ≡ k)
     (nobody : u.callers ≡ []) (did : Met k (told_of v u, slots) (w, slots')) where
   no_more : own who w.seen ≡ own who v.seen
   no_more = did.mine who (subst (λ (l : List ℕ). 0 < times who l) (sym ok.one) (sole_counts who))
@@ -107,7 +107,7 @@ module _ (k : Setup) (v w : View) (u : View) (slots slots' : List (ℕ × Option
   met_view = did.view ∙ (λ i. record v { callers = ((ap (λ l. v.callers ++ l) nobody) ∙ append-nil v.callers) i; seen = w.seen; told = []; others = sym ok.alone i })
 
   pub met_history : Meets v.setup who v.seen u.seen w.seen
-  met_history = record { mine = did.seen; note = did.told; legal = subst (λ (t : Setup). IsHistory t.config t.frames w.seen) (sym setup) did.legal; no_more = no_more }
+  met_history = record { mine = did.seen; note = did.told; legal = subst (λ (t : Basis). IsHistory t.config t.frames w.seen) (sym setup) did.legal; no_more = no_more }
 
   pub pass_met : PassHolds w slots' who ends flying
   pass_met =
@@ -125,7 +125,7 @@ module _ (k : Setup) (v w : View) (u : View) (slots slots' : List (ℕ × Option
       }
 
   pub known_met : AreSure v.setup who v.seen (known_in ends) → AreSure w.setup who w.seen (known_in ends)
-  known_met sure = subst (λ (t : Setup). AreSure t who w.seen (known_in ends)) (ap (λ (x : View). x.setup) (sym met_view)) (sure_met v.setup who v.seen w.seen (known_in ends) did.seen no_more sure)
+  known_met sure = subst (λ (t : Basis). AreSure t who w.seen (known_in ends)) (ap (λ (x : View). x.setup) (sym met_view)) (sure_met v.setup who v.seen w.seen (known_in ends) did.seen no_more sure)
 
   pub met_left : AllIsLeft v.setup who v.seen (known_in ends) → AllIsLeft w.setup who w.seen (known_in ends)
-  met_left left = subst (λ (t : Setup). AllIsLeft t who w.seen (known_in ends)) (ap (λ (x : View). x.setup) (sym met_view)) (left_met v.setup who v.seen w.seen (known_in ends) did.seen no_more left)
+  met_left left = subst (λ (t : Basis). AllIsLeft t who w.seen (known_in ends)) (ap (λ (x : View). x.setup) (sym met_view)) (left_met v.setup who v.seen w.seen (known_in ends) did.seen no_more left)

@@ -14,11 +14,11 @@ use Rattle.xsk_model.specs.declared.call.Ring.TheVariants.{Fill, Comp, Rx, Tx}
 use Rattle.xsk_words.specs.Words.{second_word, unpacked}
 use Rattle.xsk_words.specs.Layout.{entry_words, ring_base, word_at}
 use Rattle.xsk_words.proofs.Counts.{packed_back}
-use Rattle.xsk_table.specs.View.{Setup, Flight, taking, View}
+use Rattle.xsk_table.specs.View.{Basis, Flight, taking, View}
 use Rattle.xsk_model.specs.Entry.{Entry, own}
 use Rattle.xsk_model.specs.Own.{given_of, released_of, held_of}
 use Rattle.xsk_table.specs.Rule.{wrapped, entry_of, second_of, opened, lying}
-use Rattle.xsk_table.specs.Plays.{Seated, Ask, with_slot, without_slot, IsFirst, Lifted, Fetched, Settled, Emptied, TakenOut, still, emptied, ask_for}
+use Rattle.xsk_table.specs.Plays.{Seated, Purpose, with_slot, without_slot, IsFirst, Lifted, Fetched, Settled, Emptied, TakenOut, still, emptied, ask_for}
 use Rattle.xsk_table.proofs.WordRows.{divides}
 use Rattle.xsk_table.proofs.Placing.{gone}
 
@@ -30,13 +30,13 @@ masked count mask h =
     let is : mask ≡ 2 ^ k - 1 = (let e : mask + 1 ≡ 2 ^ k = h.power.1 in omega arith) in
     ap (bit_and count) is ∙ and_mask count k ∙ ap (λ n. count % n) (sym h.power.1)
 
-pub next_place : (k : Setup) (size a near placed : ℕ) → IsRingSize size → near ≡ wrapped k a → ((near + placed) % 2 ^ 32) % size ≡ (k.first + (a + placed)) % size
+pub next_place : (k : Basis) (size a near placed : ℕ) → IsRingSize size → near ≡ wrapped k a → ((near + placed) % 2 ^ 32) % size ≡ (k.first + (a + placed)) % size
 next_place k size a near placed h is =
     let m : ℕ = k.first in
     let wraps : (near + placed) % 2 ^ 32 ≡ (m + (a + placed)) % 2 ^ 32 = omega arith in
     ap (λ n. n % size) wraps ∙ divides size (m + (a + placed)) h
 
-pub this_place : (k : Setup) (size a position : ℕ) → IsRingSize size → position ≡ wrapped k a → position % size ≡ (k.first + a) % size
+pub this_place : (k : Basis) (size a position : ℕ) → IsRingSize size → position ≡ wrapped k a → position % size ≡ (k.first + a) % size
 this_place k size a position h is = ap (λ n. n % size) is ∙ divides size (k.first + a) h
 
 -- an entry has one word or two
@@ -130,7 +130,7 @@ first_with (Some f) value slots = refl
 
 -- ---- an item that comes out
 
-pub fetched_front : (a : Ask) (x : Item) (left : List Item) (m m' : Seated) (found : ℕ) → Fetched a x left m found m'
+pub fetched_front : (a : Purpose) (x : Item) (left : List Item) (m m' : Seated) (found : ℕ) → Fetched a x left m found m'
     → (option_map (λ (g : Frame). g.number) x.frame ≡ frame_of a.setup.config.geometry found) × IsFirst x.frame x.frame m'.1
 fetched_front a x left m m' found h = (
   h.lawful.frame ∙ ap (frame_of a.setup.config.geometry) (sym h.found_is),
@@ -152,12 +152,12 @@ pub desc_two : (g : Geometry) (r : Ring) (x : Item) (addr second : ℕ) → addr
 desc_two g r x addr second a b h = (λ i. unpacked (a i) (b i)) ∙ packed_back x.desc h.len
 
 -- its count is the same once its slot is taken
-pub still_position : (k : Setup) (who : ℕ) (r : Ring) (v w : View) (count : ℕ) (x : Item) (left : List Item) → v.flight ≡ taking r (x ∷ left) → w.seen ≡ v.seen
+pub still_position : (k : Basis) (who : ℕ) (r : Ring) (v w : View) (count : ℕ) (x : Item) (left : List Item) → v.flight ≡ taking r (x ∷ left) → w.seen ≡ v.seen
     → count + length (lying v.flight) ≡ emptied (ask_for k who r 0) v → count + length (x ∷ left) ≡ emptied (ask_for k who r 0) w
 still_position k who r v w count x left flies same at_count =
     ap (λ (f : Flight). count + length (lying f)) (sym flies) ∙ at_count ∙ ap (λ (l : List Entry). released_of r (own who l) + held_of r (own who l)) (sym same)
 
-pub out : (a : Ask) (x : Item) (left : List Item) (m m' m'' n : Seated) (found : ℕ) (result : Option Frame) (desc : XdpDesc) → Fetched a x left m found m' → Emptied x.frame m' result m'' → Settled a x left m'' n → desc ≡ x.desc
+pub out : (a : Purpose) (x : Item) (left : List Item) (m m' m'' n : Seated) (found : ℕ) (result : Option Frame) (desc : XdpDesc) → Fetched a x left m found m' → Emptied x.frame m' result m'' → Settled a x left m'' n → desc ≡ x.desc
     → TakenOut a.ring x left (record { frame = result; desc = desc }) m n
 out a x left m m' m'' n found result desc h e down same = record {
   item = λ i. record { frame = e.frame i; desc = same i };
@@ -166,7 +166,7 @@ out a x left m m' m'' n found result desc h e down same = record {
 }
 
 -- the entry behind the items that are placed
-pub placed_word : (a : Ask) (m : Seated) (base mask near placed word : ℕ) → base ≡ ring_base a.setup.config a.ring → mask + 1 ≡ size_of a.setup.config a.ring → IsRingSize (mask + 1)
+pub placed_word : (a : Purpose) (m : Seated) (base mask near placed word : ℕ) → base ≡ ring_base a.setup.config a.ring → mask + 1 ≡ size_of a.setup.config a.ring → IsRingSize (mask + 1)
     → near ≡ wrapped a.setup (opened a.setup a.ring + given_of a.ring (own a.who m.0.seen)) → placed ≡ length (lying m.0.flight) → word ≡ base + (32 + entry_words a.ring * (((near + placed) % 2 ^ 32) % (mask + 1)))
     → word ≡ word_at a.setup.config (entry_of a.setup.config a.ring (a.setup.first + (opened a.setup a.ring + given_of a.ring (own a.who m.0.seen) + length (lying m.0.flight))))
 placed_word a m base mask near placed word at size power near_is placed_is here =
@@ -178,7 +178,7 @@ placed_word a m base mask near placed word at size power near_is placed_is here 
     first_word k.config r base mask _ (k.first + (n + length (lying m.0.flight))) word at size place here
 
 -- it is the same once the slot is taken
-pub lifted_word : (a : Ask) (m m' : Seated) (word : ℕ) → Lifted a m m'
+pub lifted_word : (a : Purpose) (m m' : Seated) (word : ℕ) → Lifted a m m'
     → word ≡ word_at a.setup.config (entry_of a.setup.config a.ring (a.setup.first + (opened a.setup a.ring + given_of a.ring (own a.who m.0.seen) + length (lying m.0.flight))))
     → word ≡ word_at a.setup.config (entry_of a.setup.config a.ring (a.setup.first + (opened a.setup a.ring + given_of a.ring (own a.who m'.0.seen) + length (lying m'.0.flight))))
 lifted_word a m m' word did is =

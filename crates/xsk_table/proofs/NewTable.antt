@@ -30,7 +30,7 @@ use Rattle.xsk_model.proofs.FirstState.{opening_ring_is, opening_numbers, pool_n
 use Rattle.xsk_model.proofs.MarkNumbers.{opening_mark_is}
 use Rattle.xsk_model.proofs.Replies.{times-row}
 use Rattle.xsk_model.proofs.Theorems.{lawful_items}
-use Rattle.xsk_table.specs.View.{Setup, Flight, idle, View, newcomer}
+use Rattle.xsk_table.specs.View.{Basis, Flight, idle, View, newcomer}
 use Rattle.xsk_table.specs.Rule.{at, entry_of, opened, Lies, nothing, RingHolds, Homes, IsHome, AllHome, lying, written, IsInFlight, Knows, Rule, all_callers}
 use Rattle.xsk_table.specs.Opening.{WordsOpen, first_count}
 
@@ -109,7 +109,7 @@ opened_is_first c frames (Comp d) opened_is h = refl
 opened_is_first c frames (Rx s) opened_is h = refl
 opened_is_first c frames (Tx s) opened_is h = refl
 
-module _ (k : Setup) (words : List ℕ) (opened_is : IsOpened k.config k.frames) (small : k.first < 2 ^ 32) (w : WordsOpen k.config k.first words) where
+module _ (k : Basis) (words : List ℕ) (opened_is : IsOpened k.config k.frames) (small : k.first < 2 ^ 32) (w : WordsOpen k.config k.first words) where
   abbrev homes : Homes
   homes = slots k.config k.frames opened_is
 
@@ -155,12 +155,12 @@ module _ (k : Setup) (words : List ℕ) (opened_is : IsOpened k.config k.frames)
         half = λ x e two. absurd (some-ne-none x (sym e));
       }
 
-one_seat : (k : Setup) (j : ℕ) (v : View) → get_elem? (newcomer k (all_callers k) ∷ []) j ≡ some v → Knows [] (replicate (callers_of k.config) idle) v
+one_seat : (k : Basis) (j : ℕ) (v : View) → get_elem? (newcomer k (all_callers k) ∷ []) j ≡ some v → Knows [] (replicate (callers_of k.config) idle) v
 one_seat k zero v e = subst (Knows [] (replicate (callers_of k.config) idle)) (some-injective (newcomer k (all_callers k)) v e)
     (record { seen = ([], refl); told = ([], refl); mine = λ w p. (refl, all_idle (callers_of k.config) w); others = λ w p. absurd (omega arith) })
 one_seat k (suc j) v e = absurd (some-ne-none v (sym e))
 
-pub opens : (k : Setup) (words : List ℕ) → IsOpened k.config k.frames → k.first < 2 ^ 32 → WordsOpen k.config k.first words
+pub opens : (k : Basis) (words : List ℕ) → IsOpened k.config k.frames → k.first < 2 ^ 32 → WordsOpen k.config k.first words
     → Rule k (opening words (map (λ (f : Frame). Some f) k.frames) (newcomer k (all_callers k)))
 opens k words opened_is small w =
     let c = k.config in

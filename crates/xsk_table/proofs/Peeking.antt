@@ -24,10 +24,10 @@ use Rattle.xsk_model.proofs.Roles.{two_owners}
 use Rattle.xsk_words.specs.Words.{used_of}
 use Rattle.xsk_words.specs.Layout.{producer, word_at}
 use Rattle.xsk_words.proofs.Counts.{used_is}
-use Rattle.xsk_table.specs.View.{Setup, Flight, idle, View}
+use Rattle.xsk_table.specs.View.{Basis, Flight, idle, View}
 use Rattle.xsk_table.specs.Rule.{wrapped, nothing, given, released, written, lying, aloft, AllHome, Homes, HasAll, AreLast, IsInFlight, RingHolds, Rule}
 use Rattle.xsk_table.specs.Known.{out_after}
-use Rattle.xsk_table.specs.Plays.{Seated, Ask, IsReady, Extends, HasItems, peeks, gives, still, items_reply, emptied, entry}
+use Rattle.xsk_table.specs.Plays.{Seated, Purpose, IsReady, Extends, HasItems, peeks, gives, still, items_reply, emptied, entry}
 use Rattle.xsk_table.proofs.WordRows.{same_words, ring_size}
 use Rattle.xsk_table.proofs.Changed.{Change, now, ring_now}
 use Rattle.xsk_table.proofs.Knowing.{known, legal_now, numbers_are, released_seen, held_seen}
@@ -64,12 +64,12 @@ pub written_still : (r r' : Ring) (items : List Item) → written r' (still r it
 written_still r r' [] = refl
 written_still r r' (x ∷ xs) = refl
 
-pub flies_still : (k : Setup) (s : object.State) (mine : List Told) (who : ℕ) (r : Ring) (items : List Item) → HasRing k.config r → who ≡ rings.consumer k.config r → HasAll items mine
+pub flies_still : (k : Basis) (s : object.State) (mine : List Told) (who : ℕ) (r : Ring) (items : List Item) → HasRing k.config r → who ≡ rings.consumer k.config r → HasAll items mine
     → AreLast items (ring_at k.config s r).held → IsInFlight k s mine who (still r items)
 flies_still k s mine who r [] has role all last = tt
 flies_still k s mine who r (x ∷ xs) has role all last = (has, role, all, last)
 
-module _ (a : Ask) (s : State (Option Frame) View) (rule : Rule a.setup s) (id : ℕ) (v : View) (at : get_elem? s.views id ≡ some v) (ready : IsReady a (Peek a.ring a.count) v)
+module _ (a : Purpose) (s : State (Option Frame) View) (rule : Rule a.setup s) (id : ℕ) (v : View) (at : get_elem? s.views id ≡ some v) (ready : IsReady a (Peek a.ring a.count) v)
     (rests : v.flight ≡ idle) where
   -- the items that it gets
   abbrev got : List Item
@@ -140,7 +140,7 @@ module _ (a : Ask) (s : State (Option Frame) View) (rule : Rule a.setup s) (id :
       ap (length {A = Item}) (sym (take-append-drop a.count out)) ∙ length-append got (drop a.count out)
       ∙ ap (λ (x : RingState). length got + length x.out) (sym (ring_here k s rule (entry a.who (Peek a.ring a.count) reply_now) legal a.ring legal.known (λ r. refl)))
 
-pub peeks_keep : (slots id : ℕ) (me : Seated) (a : Ask) (word : ℕ) → IsReady a (Peek a.ring a.count) me.0 → me.0.flight ≡ idle → word ≡ word_at a.setup.config (producer a.ring)
+pub peeks_keep : (slots id : ℕ) (me : Seated) (a : Purpose) (word : ℕ) → IsReady a (Peek a.ring a.count) me.0 → me.0.flight ≡ idle → word ≡ word_at a.setup.config (producer a.ring)
     → Allows (Rule a.setup) slots id me word (λ n. n) (peeks a (step slots word 0 0 none) me)
 peeks_keep slots id me a word ready rests at_word s rule wide at small =
     let k = a.setup in
@@ -175,7 +175,7 @@ peeks_keep slots id me a word ready rests at_word s rule wide at small =
     )
 
 -- the items that are known to be out are out
-pub gives_keep : (slots id : ℕ) (me : Seated) (a : Ask) (word : ℕ) → IsReady a (Peek a.ring a.count) me.0 → me.0.flight ≡ idle → HasItems a me.0
+pub gives_keep : (slots id : ℕ) (me : Seated) (a : Purpose) (word : ℕ) → IsReady a (Peek a.ring a.count) me.0 → me.0.flight ≡ idle → HasItems a me.0
     → Allows (Rule a.setup) slots id me word (λ n. n) (gives a (step slots word 0 0 none) me)
 gives_keep slots id me a word ready rests there s rule wide at small =
     let k = a.setup in

@@ -25,9 +25,9 @@ use Rattle.xsk_model.specs.declared.call.Mark.{Mark}
 use Rattle.xsk_model.proofs.Roles.{two_owners}
 use Rattle.xsk_words.specs.Words.{second_word}
 use Rattle.xsk_words.specs.Layout.{entry_words, words_of, Word, producer, consumer, mark, HasWord, word_at}
-use Rattle.xsk_table.specs.View.{Setup, Flight, idle, placing, writing, taking, fetching, View}
+use Rattle.xsk_table.specs.View.{Basis, Flight, idle, placing, writing, taking, fetching, View}
 use Rattle.xsk_table.specs.Rule.{at, entry_of, second_of, opened, given, released, Lies, Written, nothing, written, standing, lying, aloft, Homes, IsHome, AllHome, HasAll, RingHolds, Rule}
-use Rattle.xsk_table.specs.Plays.{Seated, Ask, IsPlacing, CanPlace, IsFirst, with_slot, without_slot, Lifted, lifts, Placed, places, IsTaken, PutIn}
+use Rattle.xsk_table.specs.Plays.{Seated, Purpose, IsPlacing, CanPlace, IsFirst, with_slot, without_slot, Lifted, lifts, Placed, places, IsTaken, PutIn}
 use Rattle.xsk_table.proofs.WordRows.{SameWords, same_words, write_here, write_else, write_other_ring, write_no_mark, other_ring, ring_word, place_in}
 use Rattle.xsk_table.proofs.Changed.{ring_now, flight_of}
 use Rattle.xsk_table.proofs.Slots.{numbers-last, IsFree, Has, has_one, free_one, homes_put, put_else, vacant_else, takes_of, gives_of, taken_homes, taken_slots, given_homes, gives_valid, given_slots, had_once, is_frame, vacant_had}
@@ -63,7 +63,7 @@ entries_differ c r a b enough lt near e = places_differ a b (size_of c r) enough
 seconds_differ : (c : Config) (r : Ring) (a b : ℕ) → 0 < size_of c r → a < b → b < a + size_of c r → second_of c r a ≡ second_of c r b → ⊥
 seconds_differ c r a b enough lt near e = places_differ a b (size_of c r) enough lt near (ap place_in e)
 
-pub whole_ring : (k : Setup) (words : List ℕ) (r : Ring) (q : RingState) (a b : ℕ) (items : List Item) (x : Item) → IsConfig k.config → HasRing k.config r → length words ≡ words_of k.config
+pub whole_ring : (k : Basis) (words : List ℕ) (r : Ring) (q : RingState) (a b : ℕ) (items : List Item) (x : Item) → IsConfig k.config → HasRing k.config r → length words ≡ words_of k.config
     → IsItemOn k.config.geometry r x → a ≡ b + length q.held + length q.out → length q.out + length q.held + q.room ≤ size_of k.config r
     → RingHolds k words r q a b (record { whole = items; half = x ∷ [] })
     → RingHolds k (set words (word_at k.config (entry_of k.config r (k.first + (a + length items)))) x.desc.addr) r q a b (record { whole = items ++ x ∷ []; half = [] })
@@ -99,7 +99,7 @@ whole_ring k words r q a b items x config has wide lawful counts room ok =
     }
 
 -- where entries have one word, nothing of an item is written before its address
-pub half_ring : (k : Setup) (words : List ℕ) (r : Ring) (q : RingState) (a b : ℕ) (items : List Item) (x : Item) → entry_words r ≡ 1 → length items + 1 ≤ q.room
+pub half_ring : (k : Basis) (words : List ℕ) (r : Ring) (q : RingState) (a b : ℕ) (items : List Item) (x : Item) → entry_words r ≡ 1 → length items + 1 ≤ q.room
     → RingHolds k words r q a b (record { whole = items; half = [] }) → RingHolds k words r q a b (record { whole = items; half = x ∷ [] })
 half_ring k words r q a b items x one room ok = record {
   producer_is = ok.producer_is;
@@ -115,7 +115,7 @@ within_list (y ∷ l) zero x e = omega arith
 within_list (y ∷ l) (suc i) x e = let h = within_list l i x e in omega arith
 
 -- where they have two, the second is written first
-second_ring : (k : Setup) (words : List ℕ) (r : Ring) (q : RingState) (a b : ℕ) (items : List Item) (x : Item) → IsConfig k.config → HasRing k.config r → length words ≡ words_of k.config
+second_ring : (k : Basis) (words : List ℕ) (r : Ring) (q : RingState) (a b : ℕ) (items : List Item) (x : Item) → IsConfig k.config → HasRing k.config r → length words ≡ words_of k.config
     → entry_words r ≡ 2 → a ≡ b + length q.held + length q.out → length q.out + length q.held + q.room ≤ size_of k.config r → length items + 1 ≤ q.room
     → RingHolds k words r q a b (record { whole = items; half = [] })
     → RingHolds k (set words (word_at k.config (second_of k.config r (k.first + (a + length items)))) (second_word x.desc)) r q a b (record { whole = items; half = x ∷ [] })
@@ -172,7 +172,7 @@ free_last mine items x all once = free_one x.frame items mine (λ n. omega (arit
 -- ---- the slot is taken
 
 -- by a step that writes words of its ring at most, and leaves the ring as it was
-lifts_by : (id : ℕ) (me : Seated) (a : Ask) → CanPlace a me.0 → IsPlacing a.ring me.0.flight → (s : State (Option Frame) View) (rule : Rule a.setup s) → get_elem? s.views id ≡ some me.0 → (words' : List ℕ) → length words' ≡ length s.words
+lifts_by : (id : ℕ) (me : Seated) (a : Purpose) → CanPlace a me.0 → IsPlacing a.ring me.0.flight → (s : State (Option Frame) View) (rule : Rule a.setup s) → get_elem? s.views id ≡ some me.0 → (words' : List ℕ) → length words' ≡ length s.words
     → ((r' : Ring) → HasRing a.setup.config r' → is_ring r' a.ring ≡ false → SameWords a.setup.config s.words words' r')
     → ((m : Mark) → HasMark a.setup.config m → at a.setup.config words' (mark m) ≡ at a.setup.config s.words (mark m))
     → (RingHolds a.setup s.words a.ring (ring_now a.setup s rule a.ring) (given a.setup a.ring rule.log) (released a.setup a.ring rule.log) (record { whole = lying me.0.flight; half = [] })
@@ -216,7 +216,7 @@ lifts_by id me a can is_placing s rule at_id words' words_len words_same marks_s
     )
 
 -- by a look, where entries have one word
-pub lifts_look : (slots id : ℕ) (me : Seated) (a : Ask) (word : ℕ) → entry_words a.ring ≡ 1 → CanPlace a me.0 → IsPlacing a.ring me.0.flight
+pub lifts_look : (slots id : ℕ) (me : Seated) (a : Purpose) (word : ℕ) → entry_words a.ring ≡ 1 → CanPlace a me.0 → IsPlacing a.ring me.0.flight
     → Allows (Rule a.setup) slots id me word (λ n. n) (lifts a (step slots word 0 0 none) me)
 lifts_look slots id me a word one can is_placing s rule wide at_id small =
     let k = a.setup in
@@ -232,7 +232,7 @@ lifts_look slots id me a word one can is_placing s rule wide at_id small =
     (t.0, t.1, t.2, subst (λ (ws : List ℕ). Rule k record { words = ws; homes = homes_after s.homes me.1 t.1; views = set s.views id t.0 }) (sym (set-get_or s.words word 0)) t.3, t.4)
 
 -- by the write of the second word, where they have two
-pub lifts_store : (slots id : ℕ) (me : Seated) (a : Ask) (word new : ℕ) → entry_words a.ring ≡ 2 → new ≡ second_word a.item.desc → CanPlace a me.0 → IsPlacing a.ring me.0.flight
+pub lifts_store : (slots id : ℕ) (me : Seated) (a : Purpose) (word new : ℕ) → entry_words a.ring ≡ 2 → new ≡ second_word a.item.desc → CanPlace a me.0 → IsPlacing a.ring me.0.flight
     → word ≡ word_at a.setup.config (second_of a.setup.config a.ring (a.setup.first + (opened a.setup a.ring + given_of a.ring (own a.who me.0.seen) + length (lying me.0.flight))))
     → Allows (Rule a.setup) slots id me word (λ _. new) (λ _. lifts a (step slots word new 0 none) me new)
 lifts_store slots id me a word new two new_is can is_placing at_word s rule wide at_id small =
@@ -269,7 +269,7 @@ home_placed homes (Some f) lt = set_here homes f.number (some (Some f)) (lt f re
 has_number : (mine : List Told) (f : Option Frame) (g : Frame) → f ≡ Some g → Has f mine → 0 < times g.number (had_of mine)
 has_number mine f g e h = let P : Option Frame → Type 0 = λ t. Has t mine in subst P e h
 
-pub writes_keep : (slots id : ℕ) (me : Seated) (a : Ask) (word new : ℕ) → CanPlace a me.0 → me.0.flight ≡ writing a.ring (lying me.0.flight) a.item → IsFirst a.item.frame a.item.frame me.1 → new ≡ a.item.desc.addr
+pub writes_keep : (slots id : ℕ) (me : Seated) (a : Purpose) (word new : ℕ) → CanPlace a me.0 → me.0.flight ≡ writing a.ring (lying me.0.flight) a.item → IsFirst a.item.frame a.item.frame me.1 → new ≡ a.item.desc.addr
     → word ≡ word_at a.setup.config (entry_of a.setup.config a.ring (a.setup.first + (opened a.setup a.ring + given_of a.ring (own a.who me.0.seen) + length (lying me.0.flight))))
     → Allows (Rule a.setup) slots id me word (λ _. new) (λ _. places a (step slots word new 0 none) me new)
 writes_keep slots id me a word new can writes first new_is at_word s rule wide at_id small =
@@ -326,7 +326,7 @@ writes_keep slots id me a word new can writes first new_is at_word s rule wide a
     )
 
 -- the same, where the frame was moved into the slot that was taken last
-pub writes_first : (slots id : ℕ) (me old : Seated) (a : Ask) (f : Frame) (n word : ℕ) → CanPlace a old.0 → old.0.flight ≡ writing a.ring (lying old.0.flight) a.item → a.item.frame ≡ Some f → n ≡ f.number → me ≡ (old.0, (n, Some f) ∷ rest old.1)
+pub writes_first : (slots id : ℕ) (me old : Seated) (a : Purpose) (f : Frame) (n word : ℕ) → CanPlace a old.0 → old.0.flight ≡ writing a.ring (lying old.0.flight) a.item → a.item.frame ≡ Some f → n ≡ f.number → me ≡ (old.0, (n, Some f) ∷ rest old.1)
     → word ≡ word_at a.setup.config (entry_of a.setup.config a.ring (a.setup.first + (opened a.setup a.ring + given_of a.ring (own a.who old.0.seen) + length (lying old.0.flight))))
     → Allows (Rule a.setup) slots id me word (λ _. a.item.desc.addr) (λ _. places a (step slots word a.item.desc.addr 0 none) me a.item.desc.addr)
 writes_first slots id me old a f n word can writes is number moved at_word =
@@ -335,14 +335,14 @@ writes_first slots id me old a f n word can writes is number moved at_word =
     let first : IsFirst a.item.frame a.item.frame now.1 = subst (λ (g : Option Frame). IsFirst g g now.1) (sym is) refl in
     subst P (sym (moved ∙ (λ i. (old.0, (number i, Some f) ∷ rest old.1)))) (writes_keep slots id now a word a.item.desc.addr can writes first refl at_word)
 
-pub placed_moved : (a : Ask) (me old m' : Seated) (f : Frame) (n : ℕ) → a.item.frame ≡ Some f → me ≡ (old.0, (n, Some f) ∷ rest old.1) → Placed a me m' → Placed a old m'
+pub placed_moved : (a : Purpose) (me old m' : Seated) (f : Frame) (n : ℕ) → a.item.frame ≡ Some f → me ≡ (old.0, (n, Some f) ∷ rest old.1) → Placed a me m' → Placed a old m'
 placed_moved a me old m' f n is moved did = record {
   view = did.view ∙ ap (λ (m : Seated). record m.0 { flight = placing a.ring (lying m.0.flight ++ a.item ∷ []) }) moved;
   slots = did.slots ∙ ap (λ g. without_slot g me.1) is ∙ ap (λ (m : Seated). rest m.1) moved ∙ ap (λ g. without_slot g old.1) (sym is);
 }
 
 -- an item may still be placed once its slot is taken
-pub can_write : (a : Ask) (m m' : Seated) → CanPlace a m.0 → Lifted a m m' → CanPlace a m'.0 × (m'.0.flight ≡ writing a.ring (lying m'.0.flight) a.item)
+pub can_write : (a : Purpose) (m m' : Seated) → CanPlace a m.0 → Lifted a m m' → CanPlace a m'.0 × (m'.0.flight ≡ writing a.ring (lying m'.0.flight) a.item)
 can_write a m m' can did =
     let P : View → Type 0 = λ v. CanPlace a v × (v.flight ≡ writing a.ring (lying v.flight) a.item) in
     subst P (sym did.view) (record { one = can.one; alone = can.alone; ring = can.ring; role = can.role; lawful = can.lawful; room = can.room; has = can.has }, refl)
@@ -351,14 +351,14 @@ taken_is : (f : Option Frame) (slots slots' : List (ℕ × Option Frame)) → sl
 taken_is None slots slots' e = tt
 taken_is (Some f) slots slots' e = (None, e ∙ ap (λ l. (f.number, None) ∷ l) (sym (ap rest e)))
 
-pub taken_lifted : (a : Ask) (m m' : Seated) → Lifted a m m' → IsTaken a.item.frame m'.1
+pub taken_lifted : (a : Purpose) (m m' : Seated) → Lifted a m m' → IsTaken a.item.frame m'.1
 taken_lifted a m m' did = taken_is a.item.frame m.1 m'.1 did.slots
 
 pub gone : (f value : Option Frame) (slots : List (ℕ × Option Frame)) → without_slot f (with_slot f value slots) ≡ slots
 gone None value slots = refl
 gone (Some f) value slots = refl
 
-pub put_in : (a : Ask) (m m' m'' : Seated) → Lifted a m m' → Placed a m' m'' → PutIn a.ring a.item m m''
+pub put_in : (a : Purpose) (m m' m'' : Seated) → Lifted a m m' → Placed a m' m'' → PutIn a.ring a.item m m''
 put_in a m m' m'' up down = record {
   view = down.view ∙ ap (λ (v : View). record v { flight = placing a.ring (lying v.flight ++ a.item ∷ []) }) up.view;
   slots = down.slots ∙ ap (without_slot a.item.frame) up.slots ∙ gone a.item.frame None m.1;

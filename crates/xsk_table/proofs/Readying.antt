@@ -14,7 +14,7 @@ use Rattle.xsk_model.specs.declared.call.Call.TheVariants.{Submit}
 use Rattle.xsk_model.proofs.Counting.{times-append, numbers-append}
 use Rattle.xsk_words.specs.Layout.{entry_words, ring_base, marks_base, words_of}
 use Rattle.xsk_words.proofs.Rows.{base_within}
-use Rattle.xsk_table.specs.View.{Setup, Flight, placing, taking, View}
+use Rattle.xsk_table.specs.View.{Basis, Flight, placing, taking, View}
 use Rattle.xsk_table.specs.Rule.{wrapped, lying}
 use Rattle.xsk_table.specs.Plays.{ask_for, ask_item, CanPlace, PutIn, still, emptied}
 use Rattle.xsk_table.specs.Held.{AreLeft, EndHolds, PassHolds}
@@ -107,7 +107,7 @@ pass_fetched v w slots slots' who ends flying r x left ok flies now same =
     }
 
 -- a ring's entries lie among the words
-pub entries_within : (k : Setup) (who : ℕ) (r : Ring) (e : End) (words : ℕ) → HasRing k.config r → e.base ≡ ring_base k.config r → e.mask + 1 ≡ size_of k.config r → words ≡ words_of k.config
+pub entries_within : (k : Basis) (who : ℕ) (r : Ring) (e : End) (words : ℕ) → HasRing k.config r → e.base ≡ ring_base k.config r → e.mask + 1 ≡ size_of k.config r → words ≡ words_of k.config
     → e.base + (32 + entry_words r * (e.mask + 1)) ≤ words
 entries_within k who r e words has base mask is =
     let within = base_within k.config r has in

@@ -15,14 +15,14 @@ use Rattle.xsk_model.proofs.Roles.{two_owners}
 use Rattle.xsk_words.specs.Layout.{consumer, word_at}
 use Rattle.xsk_table.specs.View.{Flight, idle, View}
 use Rattle.xsk_table.specs.Rule.{wrapped, given, released, written, aloft, RingHolds, Rule}
-use Rattle.xsk_table.specs.Plays.{Seated, Ask, IsReady, releases, entry}
+use Rattle.xsk_table.specs.Plays.{Seated, Purpose, IsReady, releases, entry}
 use Rattle.xsk_table.proofs.WordRows.{write_other_ring, write_no_mark, other_ring, ring_word}
 use Rattle.xsk_table.proofs.Changed.{Change, ring_now}
 use Rattle.xsk_table.proofs.Knowing.{known, legal_now, released_seen, held_seen}
 use Rattle.xsk_table.proofs.Adding.{adds, acts}
 use Rattle.xsk_table.proofs.RingSteps.{release_ring}
 
-pub releases_keep : (slots id : ℕ) (me : Seated) (a : Ask) (word new : ℕ) → IsReady a (Release a.ring a.count) me.0 → me.0.flight ≡ idle → word ≡ word_at a.setup.config (consumer a.ring)
+pub releases_keep : (slots id : ℕ) (me : Seated) (a : Purpose) (word new : ℕ) → IsReady a (Release a.ring a.count) me.0 → me.0.flight ≡ idle → word ≡ word_at a.setup.config (consumer a.ring)
     → new ≡ wrapped a.setup (released_of a.ring (own a.who me.0.seen) + a.count)
     → Allows (Rule a.setup) slots id me word (λ _. new) (λ _. releases a (step slots word new 0 none) me new)
 releases_keep slots id me a word new ready rests at_word new_is s rule wide at small =

@@ -21,7 +21,7 @@ use Rattle.xsk_words.proofs.Counts.{used_is}
 use Rattle.xsk_table.specs.View.{Flight, idle, View}
 use Rattle.xsk_table.specs.Rule.{wrapped, nothing, given, released, written, aloft, AllHome, RingHolds, Rule}
 use Rattle.xsk_table.specs.Known.{free_after}
-use Rattle.xsk_table.specs.Plays.{Seated, Ask, IsReady, Extends, HasRoom, reserves, grants, filled, entry}
+use Rattle.xsk_table.specs.Plays.{Seated, Purpose, IsReady, Extends, HasRoom, reserves, grants, filled, entry}
 use Rattle.xsk_table.proofs.WordRows.{same_words, ring_size}
 use Rattle.xsk_table.proofs.Changed.{Change, now, ring_now}
 use Rattle.xsk_table.proofs.Knowing.{known, legal_now, numbers_are, given_seen, room_seen, flight_here, flight_then}
@@ -42,7 +42,7 @@ granted_by n places le = by_test (nat_le n places) refl
     by_test true e = refl
     by_test false e = absurd (let lt = leb-false n places e in omega arith)
 
-module _ (a : Ask) (s : State (Option Frame) View) (rule : Rule a.setup s) (id : ℕ) (v : View) (at : get_elem? s.views id ≡ some v) (ready : IsReady a (Reserve a.ring a.count) v)
+module _ (a : Purpose) (s : State (Option Frame) View) (rule : Rule a.setup s) (id : ℕ) (v : View) (at : get_elem? s.views id ≡ some v) (ready : IsReady a (Reserve a.ring a.count) v)
     (rests : v.flight ≡ idle) where
   -- the object's reply
   abbrev reply_now : Reply
@@ -99,7 +99,7 @@ module _ (a : Ask) (s : State (Option Frame) View) (rule : Rule a.setup s) (id :
       left_by a.ring (nat_le a.count (free size q)) size a.count q refl
       ∙ ap (λ (x : RingState). free size x + granted (Reserve a.ring a.count) reply_now) (sym (ring_here k s rule (entry a.who (Reserve a.ring a.count) reply_now) legal a.ring legal.known (λ r. refl)))
 
-pub reserves_keep : (slots id : ℕ) (me : Seated) (a : Ask) (word : ℕ) → IsReady a (Reserve a.ring a.count) me.0 → me.0.flight ≡ idle → word ≡ word_at a.setup.config (consumer a.ring)
+pub reserves_keep : (slots id : ℕ) (me : Seated) (a : Purpose) (word : ℕ) → IsReady a (Reserve a.ring a.count) me.0 → me.0.flight ≡ idle → word ≡ word_at a.setup.config (consumer a.ring)
     → Allows (Rule a.setup) slots id me word (λ n. n) (reserves a (step slots word 0 0 none) me)
 reserves_keep slots id me a word ready rests at_word s rule wide at small =
     let k = a.setup in
@@ -133,7 +133,7 @@ reserves_keep slots id me a word ready rests at_word s rule wide at small =
     )
 
 -- the places that are known to be free are free
-pub grants_keep : (slots id : ℕ) (me : Seated) (a : Ask) (word : ℕ) → IsReady a (Reserve a.ring a.count) me.0 → me.0.flight ≡ idle → HasRoom a me.0
+pub grants_keep : (slots id : ℕ) (me : Seated) (a : Purpose) (word : ℕ) → IsReady a (Reserve a.ring a.count) me.0 → me.0.flight ≡ idle → HasRoom a me.0
     → Allows (Rule a.setup) slots id me word (λ n. n) (grants a (step slots word 0 0 none) me)
 grants_keep slots id me a word ready rests room s rule wide at small =
     let k = a.setup in

@@ -11,7 +11,7 @@ use Rattle.xsk_model.specs.declared.call.Call.TheVariants.{Reserve, Submit, Peek
 use Rattle.xsk_model.proofs.Places.{is_ring-self}
 use Rattle.xsk_model.proofs.Moves.{cond-held, cond-out}
 use Rattle.xsk_words.specs.Layout.{words_of, Word, producer, consumer, HasWord, word_at}
-use Rattle.xsk_table.specs.View.{Setup, placing, writing}
+use Rattle.xsk_table.specs.View.{Basis, placing, writing}
 use Rattle.xsk_table.specs.Rule.{wrapped, entry_of, second_of, Lies, Written, nothing, written, standing, RingHolds}
 use Rattle.xsk_table.proofs.WordRows.{ring_size, write_here, write_else}
 
@@ -56,7 +56,7 @@ module _ {A : Type 0} where
   at_drop (y ∷ l) m (suc n) j (suc i) x e lt at_j = at_drop l m n j i x (omega arith) (omega arith) at_j
 
 -- a ring whose items stand as before
-pub ring_like : (k : Setup) (words : List ℕ) (r : Ring) (q q' : RingState) (a a' b b' : ℕ) (w : Written) → a' ≡ a → b' ≡ b → standing q' w.whole ≡ standing q w.whole → length w.whole + length w.half ≤ q'.room
+pub ring_like : (k : Basis) (words : List ℕ) (r : Ring) (q q' : RingState) (a a' b b' : ℕ) (w : Written) → a' ≡ a → b' ≡ b → standing q' w.whole ≡ standing q w.whole → length w.whole + length w.half ≤ q'.room
     → RingHolds k words r q a b w → RingHolds k words r q' a' b' w
 ring_like k words r q q' a a' b b' w ea eb same within ok =
     let P : ℕ × ℕ → Type 0 = λ t. RingHolds k words r q' t.0 t.1 w in
@@ -70,14 +70,14 @@ ring_like k words r q q' a a' b b' w ea eb same within ok =
 
 -- ---- calls
 
-pub reserve_ring : (k : Setup) (words : List ℕ) (r : Ring) (q : RingState) (size a b n : ℕ) → RingHolds k words r q a b nothing
+pub reserve_ring : (k : Basis) (words : List ℕ) (r : Ring) (q : RingState) (size a b n : ℕ) → RingHolds k words r q a b nothing
     → RingHolds k words r (ring_after size q (Reserve r n)) (a + 0) (b + 0) nothing
 reserve_ring k words r q size a b n ok =
     let t : Bool = nat_le n (free size q) in
     ring_like k words r q (ring_after size q (Reserve r n)) a (a + 0) b (b + 0) nothing (omega arith) (omega arith)
     (λ i. cond-held t q n i ++ (cond-out t q n i ++ [])) (omega arith) ok
 
-pub peek_ring : (k : Setup) (words : List ℕ) (r : Ring) (q : RingState) (size a b n : ℕ) (w : Written) → RingHolds k words r q a b w
+pub peek_ring : (k : Basis) (words : List ℕ) (r : Ring) (q : RingState) (size a b n : ℕ) (w : Written) → RingHolds k words r q a b w
     → RingHolds k words r (ring_after size q (Peek r n)) (a + 0) (b + 0) w
 peek_ring k words r q size a b n w ok =
     let whole : take n q.out ++ drop n q.out ≡ q.out = take-append-drop n q.out in
@@ -85,7 +85,7 @@ peek_ring k words r q size a b n w ok =
     ∙ ap (λ m. q.held ++ m) (sym (append_assoc (take n q.out) (drop n q.out) w.whole) ∙ ap (λ m. m ++ w.whole) whole) in
     ring_like k words r q (ring_after size q (Peek r n)) a (a + 0) b (b + 0) w (omega arith) (omega arith) same ok.within ok
 
-pub release_ring : (k : Setup) (words : List ℕ) (r : Ring) (q : RingState) (size a b n v : ℕ) (w : Written) → IsConfig k.config → HasRing k.config r → length words ≡ words_of k.config
+pub release_ring : (k : Basis) (words : List ℕ) (r : Ring) (q : RingState) (size a b n v : ℕ) (w : Written) → IsConfig k.config → HasRing k.config r → length words ≡ words_of k.config
     → n ≤ length q.held → v ≡ wrapped k (b + n) → RingHolds k words r q a b w
     → RingHolds k (set words (word_at k.config (consumer r)) v) r (ring_after size q (Release r n)) (a + 0) (b + n) w
 release_ring k words r q size a b n v w config has wide le is ok =
@@ -101,7 +101,7 @@ release_ring k words r q size a b n v w config has wide le is ok =
       half = λ x there two. write_else c words (consumer r) v config has (second_of c r (k.first + (a + length w.whole))) (has, place_below c r (k.first + (a + length w.whole)) config has, two) (λ e. cc) ∙ ok.half x there two;
     }
 
-pub submit_ring : (k : Setup) (words : List ℕ) (r : Ring) (q : RingState) (size a b v : ℕ) (items : List Item) → IsConfig k.config → HasRing k.config r → length words ≡ words_of k.config
+pub submit_ring : (k : Basis) (words : List ℕ) (r : Ring) (q : RingState) (size a b v : ℕ) (items : List Item) → IsConfig k.config → HasRing k.config r → length words ≡ words_of k.config
     → v ≡ wrapped k (a + length items) → RingHolds k words r q a b (record { whole = items; half = [] })
     → RingHolds k (set words (word_at k.config (producer r)) v) r (ring_after size q (Submit r items)) (a + length items) (b + 0) nothing
 submit_ring k words r q size a b v items config has wide is ok =

@@ -10,7 +10,7 @@ use Rattle.xsk_umem.specs.Frame.{Frame}
 use Rattle.xsk_model.specs.Numbers.{times}
 use Rattle.xsk_model.specs.Entry.{Entry, own}
 use Rattle.xsk_model.proofs.Counting.{times-append}
-use Rattle.xsk_table.specs.View.{Setup, Flight, idle, View, first_caller, other_callers}
+use Rattle.xsk_table.specs.View.{Basis, Flight, idle, View, first_caller, other_callers}
 use Rattle.xsk_table.specs.Rule.{StartsWith, Knows, callers_in, Rule}
 
 abbrev pub seated : List View → List ℕ
@@ -91,7 +91,7 @@ apart_after views id v w at callers others apart n =
 -- ---- a seat cut in two
 
 -- the rule speaks of the views by the seats alone
-pub reseated : (k : Setup) (s : State (Option Frame) View) (rule : Rule k s) (views : List View) → ((j : ℕ) (u : View) → get_elem? views j ≡ some u → Knows rule.log rule.flights u)
+pub reseated : (k : Basis) (s : State (Option Frame) View) (rule : Rule k s) (views : List View) → ((j : ℕ) (u : View) → get_elem? views j ≡ some u → Knows rule.log rule.flights u)
     → ((w : ℕ) → times w (seated views) ≤ 1) → Rule k (record { words = s.words; homes = s.homes; views = views })
 reseated k s rule views seats apart = record {
   log = rule.log;
@@ -115,7 +115,7 @@ dealt w [] = refl
 dealt w (x ∷ xs) = omega arith
 
 -- the first caller gets a seat of its own, after any history
-pub deals : (k : Setup) (id : ℕ) (v : View) → Splits (Rule k) id v (other_callers v) (first_caller v)
+pub deals : (k : Basis) (id : ℕ) (v : View) → Splits (Rule k) id v (other_callers v) (first_caller v)
 deals k id v s rule at =
     let knows = rule.seats id v at in
     let left = other_callers v in

@@ -17,14 +17,14 @@ use Rattle.xsk_model.specs.declared.call.Ring.{Ring}
 use Rattle.xsk_model.specs.declared.call.Mark.{Mark}
 use Rattle.xsk_model.proofs.Places.{is_ring-true}
 use Rattle.xsk_words.specs.Layout.{mark}
-use Rattle.xsk_table.specs.View.{Setup, Flight, idle, View}
+use Rattle.xsk_table.specs.View.{Basis, Flight, idle, View}
 use Rattle.xsk_table.specs.Rule.{at, given, released, written, lying, aloft, IsVacant, AllHome, RingHolds, IsInFlight, Rule}
 use Rattle.xsk_table.proofs.WordRows.{SameWords}
 use Rattle.xsk_table.proofs.Changed.{Change, changed, now, ring_now, flight_of}
 use Rattle.xsk_table.proofs.Slots.{Has, homes_put, put_len, put_else, free_ring, free_call}
 use Rattle.xsk_table.proofs.Knowing.{Known, knows_now}
 
-module _ (k : Setup) (s : State (Option Frame) View) (rule : Rule k s) (id who : ℕ) (r : Ring) (v : View) (at_id : get_elem? s.views id ≡ some v) (one : v.callers ≡ who ∷ []) (nobody : v.others ≡ [])
+module _ (k : Basis) (s : State (Option Frame) View) (rule : Rule k s) (id who : ℕ) (r : Ring) (v : View) (at_id : get_elem? s.views id ≡ some v) (one : v.callers ≡ who ∷ []) (nobody : v.others ≡ [])
     (caller : who < callers_of k.config) (kn : Known k s rule who v) (there : HasRing k.config r) where
   pub shifted : (words' : List ℕ) (fl' : Flight) (f : Option Frame) (y : Frame → maybe.Option (Option Frame)) → Has f (own who rule.log)
       → length words' ≡ length s.words

@@ -20,7 +20,7 @@ use Rattle.xsk_model.specs.declared.call.Ring.{Ring}
 use Rattle.xsk_model.specs.declared.call.Ring.TheVariants.{Fill}
 use Rattle.xsk_model.proofs.Counting.{times-append, numbers-append}
 use Rattle.xsk_model.proofs.FrameTheorems.{frames_apart, frames_below}
-use Rattle.xsk_table.specs.View.{Setup, Flight, idle, placing, writing, taking, fetching, View}
+use Rattle.xsk_table.specs.View.{Basis, Flight, idle, placing, writing, taking, fetching, View}
 use Rattle.xsk_table.specs.Rule.{lying, aloft, Homes, IsHome, IsVacant, AllHome, IsInFlight, Rule}
 use Rattle.xsk_table.specs.Plays.{IsFirst, with_slot, without_slot}
 use Rattle.xsk_table.proofs.Changed.{now, ring_now, flight_of}
@@ -131,7 +131,7 @@ flight-past [] i h = refl
 flight-past (x ∷ xs) zero h = absurd (omega arith)
 flight-past (x ∷ xs) (suc i) h = flight-past xs i (omega arith)
 
-within_had : (n : ℕ) (k : Setup) (s : object.State) (mine : List Told) (w : ℕ) (f : Flight) → IsInFlight k s mine w f → times n (numbers (aloft f)) ≤ times n (had_of mine)
+within_had : (n : ℕ) (k : Basis) (s : object.State) (mine : List Told) (w : ℕ) (f : Flight) → IsInFlight k s mine w f → times n (numbers (aloft f)) ≤ times n (had_of mine)
 within_had n k s mine w idle h = omega arith
 within_had n k s mine w (placing r items) h = h.2 n
 within_had n k s mine w (writing r items x) h = h.2 n
@@ -146,7 +146,7 @@ lying_aloft n (writing r items x) h = omega (arith, numbers-last n items x)
 lying_aloft n (taking r items) h = h
 lying_aloft n (fetching r x left) h = omega (arith, numbers-cons n x left)
 
-module _ (k : Setup) (s : State (Option Frame) View) (rule : Rule k s) (who : ℕ) where
+module _ (k : Basis) (s : State (Option Frame) View) (rule : Rule k s) (who : ℕ) where
   pub had_once : (n : ℕ) → times n (had_of (own who rule.log)) ≤ 1
   had_once n = let t = (frames_apart k.config k.frames rule.log rule.legal).1 who (Fill 0) n in omega arith
 

@@ -15,7 +15,7 @@ use Rattle.xsk_model.proofs.Counting.{times-append, numbers-append}
 use Rattle.xsk_words.specs.Layout.{producer, word_at}
 use Rattle.xsk_table.specs.View.{Flight, idle, placing, View}
 use Rattle.xsk_table.specs.Rule.{wrapped, opened, given, released, Written, written, lying, aloft, AllHome, Homes, RingHolds, Rule}
-use Rattle.xsk_table.specs.Plays.{Seated, Ask, IsReady, Ended, submits, entry}
+use Rattle.xsk_table.specs.Plays.{Seated, Purpose, IsReady, Ended, submits, entry}
 use Rattle.xsk_table.proofs.WordRows.{write_other_ring, write_no_mark, other_ring, ring_word}
 use Rattle.xsk_table.proofs.Changed.{Change, ring_now}
 use Rattle.xsk_table.proofs.Knowing.{known, legal_now, given_seen, flight_here, flight_then}
@@ -26,7 +26,7 @@ pub home-append : (homes : Homes) (xs ys : List Item) → AllHome homes xs → A
 home-append homes [] ys h i = i
 home-append homes (x ∷ xs) ys h i = (h.0, home-append homes xs ys h.1 i)
 
-pub submits_keep : (slots id : ℕ) (me : Seated) (a : Ask) (items : List Item) (word new : ℕ) → IsReady a (Submit a.ring items) me.0 → me.0.flight ≡ placing a.ring items → word ≡ word_at a.setup.config (producer a.ring)
+pub submits_keep : (slots id : ℕ) (me : Seated) (a : Purpose) (items : List Item) (word new : ℕ) → IsReady a (Submit a.ring items) me.0 → me.0.flight ≡ placing a.ring items → word ≡ word_at a.setup.config (producer a.ring)
     → new ≡ wrapped a.setup (opened a.setup a.ring + given_of a.ring (own a.who me.0.seen) + length items)
     → Allows (Rule a.setup) slots id me word (λ _. new) (λ _. submits a (step slots word new 0 none) me new)
 submits_keep slots id me a items word new ready flies at_word new_is s rule wide at small =

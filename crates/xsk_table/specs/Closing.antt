@@ -12,7 +12,7 @@ use Rattle.xsk_model.specs.Object.{ring_at}
 use Rattle.xsk_model.specs.Entry.{Entry, own}
 use Rattle.xsk_model.specs.History.{IsHistory, state_after}
 use Rattle.xsk_model.specs.declared.call.Ring.{Ring}
-use Rattle.xsk_table.specs.View.{Setup, idle, View}
+use Rattle.xsk_table.specs.View.{Basis, idle, View}
 use Rattle.xsk_table.specs.Rule.{StartsWith}
 use Rattle.xsk_table.specs.Held.{Board, Holder, Belongs}
 
@@ -63,7 +63,7 @@ AllThere slots (x ∷ xs) = IsThere slots x.frame × AllThere slots xs
 
 -- after a legal history, with no call in flight, the frames that are out in rings are in their slots, and each other
 -- slot is empty
-pub record Rests (k : Setup) (log : List Entry) (slots : List (Option Frame)) : Type 0 where
+pub record Rests (k : Basis) (log : List Entry) (slots : List (Option Frame)) : Type 0 where
   pub legal : IsHistory k.config k.frames log
   pub count : length slots ≡ k.config.geometry.frames
   pub outs : (r : Ring) → HasRing k.config r → AllThere slots (ring_at k.config (state_after k.config k.frames log) r).out

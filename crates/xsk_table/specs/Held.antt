@@ -14,14 +14,14 @@ use Rattle.xsk_model.specs.declared.call.Call.{Call}
 use Rattle.xsk_model.specs.declared.call.Call.TheVariants.{Reserve, Submit, Peek, Release, Swap, Look}
 use Rattle.xsk_words.specs.Layout.{ring_base, mark_bases, words_of, most_ring_words}
 use Rattle.xsk_words.specs.declared.bases.MarkBases.{MarkBases}
-use Rattle.xsk_table.specs.View.{Setup, taking, View, newcomer}
+use Rattle.xsk_table.specs.View.{Basis, taking, View, newcomer}
 use Rattle.xsk_table.specs.Rule.{wrapped, opened, lying}
 use Rattle.xsk_table.specs.declared.end.End.{End}
 
--- a table as its callers see it: which one it is, and its setup
+-- a table as its callers see it: which one it is, and its basis
 pub record Board : Type 0 where
   pub table : TableId
-  pub setup : Setup
+  pub setup : Basis
 
 -- a pass as its caller sees it: the table to which it belongs, the caller, what the caller has seen, and what it knows of
 -- the other side of each ring, by the rings' places
@@ -74,7 +74,7 @@ known_in ends = map (λ (e : End). e.known) ends
 
 -- where a ring's words stand and its size; on a ring that the caller fills what it gave, and that with what it has
 -- reserved; on one that it empties what it released, and that with what it holds
-pub record EndHolds (k : Setup) (who : ℕ) (mine : List Told) (r : Ring) (e : End) : Type 0 where
+pub record EndHolds (k : Basis) (who : ℕ) (mine : List Told) (r : Ring) (e : End) : Type 0 where
   pub base_is : e.base ≡ ring_base k.config r
   pub base_few : e.base ≤ most_ring_words
   pub mask_is : e.mask + 1 ≡ size_of k.config r
@@ -82,7 +82,7 @@ pub record EndHolds (k : Setup) (who : ℕ) (mine : List Told) (r : Ring) (e : E
       → (e.near ≡ wrapped k (opened k r + given_of r mine)) × (e.far ≡ wrapped k (opened k r + given_of r mine + room_of r mine))
   pub empties : who ≡ consumer k.config r → (e.near ≡ wrapped k (released_of r mine)) × (e.far ≡ wrapped k (released_of r mine + held_of r mine))
 
-pub record EndsHold (k : Setup) (who : ℕ) (mine : List Told) (ends : List End) : Type 0 where
+pub record EndsHold (k : Basis) (who : ℕ) (mine : List Told) (ends : List End) : Type 0 where
   pub wide : length ends ≡ places_of k.config
   pub each : (r : Ring) → HasRing k.config r → EndHolds k who mine r (get_or ends (place k.config r) no_end)
 
@@ -103,7 +103,7 @@ pub record PassHolds (v : View) (slots : List (ℕ × Option Frame)) (who : ℕ)
 
 -- what holds of a table: it knows where the first marks stand, and has a word for each of the layout and an empty queue with
 -- room for all frames
-pub record TableHolds (c : Config) (marks : MarkBases) (k : Setup) (table : TableId) (home : Frames) : Type 0 where
+pub record TableHolds (c : Config) (marks : MarkBases) (k : Basis) (table : TableId) (home : Frames) : Type 0 where
   pub config_is : c ≡ k.config
   pub marks_is : marks ≡ mark_bases k.config
   pub words : table.words ≡ words_of k.config

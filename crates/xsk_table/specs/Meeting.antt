@@ -6,9 +6,9 @@ use Rattle.xsk_umem.specs.Frame.{Frame}
 use Rattle.xsk_model.specs.Numbers.{times}
 use Rattle.xsk_model.specs.Entry.{Entry, own}
 use Rattle.xsk_model.specs.History.{IsHistory}
-use Rattle.xsk_table.specs.View.{Setup}
+use Rattle.xsk_table.specs.View.{Basis}
 use Rattle.xsk_table.specs.Rule.{StartsWith}
-use Rattle.xsk_table.specs.Plays.{Seated, Ask}
+use Rattle.xsk_table.specs.Plays.{Seated, Purpose}
 use Rattle.xsk_table.specs.Held.{Holder}
 
 -- a note as its holder sees it: the table to which it belongs, and what the caller who took it had seen
@@ -21,7 +21,7 @@ note_by p = record { table = p.table; seen = p.view.seen }
 
 -- After a meet a caller has seen a legal history that begins with all that it had seen, and with all that the note shows.
 -- Of its own entries the history has those that it had, and no further one.
-pub record Meets (k : Setup) (who : ℕ) (before noted after : List Entry) : Type 0 where
+pub record Meets (k : Basis) (who : ℕ) (before noted after : List Entry) : Type 0 where
   pub mine : StartsWith after before
   pub note : StartsWith after noted
   pub legal : IsHistory k.config k.frames after
@@ -29,7 +29,7 @@ pub record Meets (k : Setup) (who : ℕ) (before noted after : List Entry) : Typ
 
 -- a look that adds nothing: the seat has then seen all that it had seen, and all that it was told of, and the others
 -- whose entries stood there are callers of its own
-pub record Met (k : Setup) (m m' : Seated) : Type 0 where
+pub record Met (k : Basis) (m m' : Seated) : Type 0 where
   pub seen : StartsWith m'.0.seen m.0.seen
   pub told : StartsWith m'.0.seen m.0.told
   pub legal : IsHistory k.config k.frames m'.0.seen
@@ -38,5 +38,5 @@ pub record Met (k : Setup) (m m' : Seated) : Type 0 where
   pub view : m'.0 ≡ record m.0 { callers = m.0.callers ++ m.0.others; seen = m'.0.seen; told = []; others = [] }
   pub slots : m'.1 ≡ m.1
 
-abbrev pub meets : Ask → Step (Option Frame) → Seated → ℕ → Seated → Type 0
+abbrev pub meets : Purpose → Step (Option Frame) → Seated → ℕ → Seated → Type 0
 meets a st m found m' = Met a.setup m m'

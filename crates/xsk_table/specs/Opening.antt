@@ -14,7 +14,7 @@ use Rattle.xsk_model.specs.declared.call.Ring.TheVariants.{Fill, Comp, Rx, Tx}
 use Rattle.xsk_model.specs.declared.call.Mark.{Mark}
 use Rattle.xsk_model.specs.declared.call.Mark.TheVariants.{Cell}
 use Rattle.xsk_words.specs.Layout.{words_of, Word, producer, consumer, entry, second, mark, HasWord}
-use Rattle.xsk_table.specs.View.{Setup, idle}
+use Rattle.xsk_table.specs.View.{Basis, idle}
 use Rattle.xsk_table.specs.Rule.{at, wrapped, opened, entry_of, all_callers}
 use Rattle.xsk_model.specs.Opening.{IsOpened}
 use Rattle.xsk_table.specs.declared.end.End.{End}
@@ -84,11 +84,11 @@ IsFilled c first d words = (at c words (producer (Fill d)) ≡ (first + pool_of 
 -- ---- what the passes keep
 
 -- the count at which a caller begins on a ring
-abbrev pub Begins : Setup → ℕ → Ring → ℕ → Type 0
+abbrev pub Begins : Basis → ℕ → Ring → ℕ → Type 0
 Begins k who r n = (who ≡ rings.producer k.config r → n ≡ wrapped k (opened k r)) × (who ≡ rings.consumer k.config r → n ≡ wrapped k 0)
 
 -- the first counts stand for rings on which no call was made
-pub record AreFirst (k : Setup) (who : ℕ) (count : ℕ) (ends : List End) : Type 0 where
+pub record AreFirst (k : Basis) (who : ℕ) (count : ℕ) (ends : List End) : Type 0 where
   pub wide : length ends ≡ count
   pub each : (r : Ring) → HasRing k.config r → place k.config r < count → EndHolds k who [] r (get_or ends (place k.config r) no_end)
   pub known : known_in ends ≡ replicate count 0

@@ -20,7 +20,7 @@ use Rattle.xsk_model.specs.declared.call.Call.TheVariants.{Reserve, Submit, Peek
 use Rattle.xsk_model.specs.declared.call.Reply.{Reply}
 use Rattle.xsk_model.specs.declared.call.Reply.TheVariants.{Granted, Submitted, Items, Empty, Released, Old}
 use Rattle.xsk_words.specs.Words.{used_of, second_word}
-use Rattle.xsk_table.specs.View.{Setup, Flight, idle, placing, writing, taking, fetching, View}
+use Rattle.xsk_table.specs.View.{Basis, Flight, idle, placing, writing, taking, fetching, View}
 use Rattle.xsk_table.specs.Rule.{wrapped, opened, given, released, lying, HasAll}
 use Rattle.xsk_table.specs.Known.{free_after, out_after}
 
@@ -28,22 +28,22 @@ use Rattle.xsk_table.specs.Known.{free_after, out_after}
 abbrev pub Seated : Type 0
 Seated = Me (Option Frame) View
 
--- what a step is for: the table's setup, the caller, its ring or its mark, a number and an item
-pub record Ask : Type 0 where
-  pub setup : Setup
+-- what a step is for: the table's basis, the caller, its ring or its mark, a number and an item
+pub record Purpose : Type 0 where
+  pub setup : Basis
   pub who : ℕ
   pub ring : Ring
   pub mark : Mark
   pub count : ℕ
   pub item : Item
 
-abbrev pub ask_for : Setup → ℕ → Ring → ℕ → Ask
+abbrev pub ask_for : Basis → ℕ → Ring → ℕ → Purpose
 ask_for k who r n = record { setup = k; who = who; ring = r; mark = Kick 0; count = n; item = blank }
 
-abbrev pub ask_item : Setup → ℕ → Ring → Item → Ask
+abbrev pub ask_item : Basis → ℕ → Ring → Item → Purpose
 ask_item k who r x = record { setup = k; who = who; ring = r; mark = Kick 0; count = 0; item = x }
 
-abbrev pub ask_mark : Setup → ℕ → Mark → ℕ → Ask
+abbrev pub ask_mark : Basis → ℕ → Mark → ℕ → Purpose
 ask_mark k who m value = record { setup = k; who = who; ring = Fill 0; mark = m; count = value; item = blank }
 
 abbrev pub entry : ℕ → Call → Reply → Entry
@@ -53,7 +53,7 @@ entry who call reply = record { who = who; call = call; reply = reply }
 
 -- The call with its reply stands at the end of a legal history, which begins with all that was seen before. The reply is
 -- the object's at that place. Of the caller's entries the history has those that were seen and this one.
-pub record Extends (k : Setup) (who : ℕ) (call : Call) (reply : Reply) (v w : View) : Type 0 where
+pub record Extends (k : Basis) (who : ℕ) (call : Call) (reply : Reply) (v w : View) : Type 0 where
   pub between : List Entry
   pub seen : w.seen ≡ (v.seen ++ between) ++ entry who call reply ∷ []
   pub legal : IsHistory k.config k.frames w.seen
@@ -64,20 +64,20 @@ pub record Extends (k : Setup) (who : ℕ) (call : Call) (reply : Reply) (v w : 
   pub setup : w.setup ≡ v.setup
 
 -- a seat of one caller, whose next call is legal
-pub record IsReady (a : Ask) (call : Call) (v : View) : Type 0 where
+pub record IsReady (a : Purpose) (call : Call) (v : View) : Type 0 where
   pub one : v.callers ≡ a.who ∷ []
   pub alone : v.others ≡ []
   pub legal : IsLegal a.setup.config (own a.who v.seen) a.who call
 
 -- how many a producer gave and has reserved, and how many a consumer released and holds, from the opening on
-abbrev pub filled : Ask → View → ℕ
+abbrev pub filled : Purpose → View → ℕ
 filled a v = opened a.setup a.ring + given_of a.ring (own a.who v.seen) + room_of a.ring (own a.who v.seen)
 
-abbrev pub emptied : Ask → View → ℕ
+abbrev pub emptied : Purpose → View → ℕ
 emptied a v = released_of a.ring (own a.who v.seen) + held_of a.ring (own a.who v.seen)
 
 -- the look of a Reserve: the consumer word tells how many places are free
-pub record Reserved (a : Ask) (m : Seated) (found : ℕ) (m' : Seated) : Type 0 where
+pub record Reserved (a : Purpose) (m : Seated) (found : ℕ) (m' : Seated) : Type 0 where
   pub free : ℕ
   pub extends : Extends a.setup a.who (Reserve a.ring a.count) (reserve_reply a.count free) m.0 m'.0
   pub left : free ≡ free_after a.setup m'.0.seen a.ring + granted (Reserve a.ring a.count) (reserve_reply a.count free)
@@ -86,19 +86,19 @@ pub record Reserved (a : Ask) (m : Seated) (found : ℕ) (m' : Seated) : Type 0 
   pub slots : m'.1 ≡ m.1
   pub flight : m'.0.flight ≡ idle
 
-abbrev pub reserves : Ask → Step (Option Frame) → Seated → ℕ → Seated → Type 0
+abbrev pub reserves : Purpose → Step (Option Frame) → Seated → ℕ → Seated → Type 0
 reserves a st m found m' = Reserved a m found m'
 
 -- a step that ends a call whose reply is known before
-pub record Ended (a : Ask) (call : Call) (reply : Reply) (m m' : Seated) : Type 0 where
+pub record Ended (a : Purpose) (call : Call) (reply : Reply) (m m' : Seated) : Type 0 where
   pub extends : Extends a.setup a.who call reply m.0 m'.0
   pub slots : m'.1 ≡ m.1
   pub flight : m'.0.flight ≡ idle
 
-abbrev pub releases : Ask → Step (Option Frame) → Seated → ℕ → Seated → Type 0
+abbrev pub releases : Purpose → Step (Option Frame) → Seated → ℕ → Seated → Type 0
 releases a st m found m' = Ended a (Release a.ring a.count) Released m m'
 
-abbrev pub submits : Ask → Step (Option Frame) → Seated → ℕ → Seated → Type 0
+abbrev pub submits : Purpose → Step (Option Frame) → Seated → ℕ → Seated → Type 0
 submits a st m found m' = (items : List Item) → m.0.flight ≡ placing a.ring items → Ended a (Submit a.ring items) Submitted m m'
 
 -- a Peek whose items aren't all fetched
@@ -111,7 +111,7 @@ items_reply [] = Empty
 items_reply (x ∷ xs) = Items (x ∷ xs)
 
 -- the look of a Peek: the producer word tells how many items are out
-pub record Peeked (a : Ask) (m : Seated) (found : ℕ) (m' : Seated) : Type 0 where
+pub record Peeked (a : Purpose) (m : Seated) (found : ℕ) (m' : Seated) : Type 0 where
   pub items : List Item
   pub extends : Extends a.setup a.who (Peek a.ring a.count) (items_reply items) m.0 m'.0
   pub count : length items ≡ min a.count (used_of found (wrapped a.setup (emptied a m.0)))
@@ -120,45 +120,45 @@ pub record Peeked (a : Ask) (m : Seated) (found : ℕ) (m' : Seated) : Type 0 wh
   pub slots : m'.1 ≡ m.1
   pub flight : m'.0.flight ≡ still a.ring items
 
-abbrev pub peeks : Ask → Step (Option Frame) → Seated → ℕ → Seated → Type 0
+abbrev pub peeks : Purpose → Step (Option Frame) → Seated → ℕ → Seated → Type 0
 peeks a st m found m' = Peeked a m found m'
 
 -- ---- calls that what is known covers
 
 -- by what a producer has seen there is room for so many more
-abbrev pub HasRoom : Ask → View → Type 0
+abbrev pub HasRoom : Purpose → View → Type 0
 HasRoom a v = filled a v + a.count ≤ released a.setup a.ring v.seen + size_of a.setup.config a.ring
 
 -- by what a consumer has seen so many items are out
-abbrev pub HasItems : Ask → View → Type 0
+abbrev pub HasItems : Purpose → View → Type 0
 HasItems a v = emptied a v + a.count ≤ given a.setup a.ring v.seen
 
-abbrev pub grants : Ask → Step (Option Frame) → Seated → ℕ → Seated → Type 0
+abbrev pub grants : Purpose → Step (Option Frame) → Seated → ℕ → Seated → Type 0
 grants a st m found m' = Ended a (Reserve a.ring a.count) Granted m m'
 
 -- a Peek that gets all that it asks for
-pub record PeekedAll (a : Ask) (m m' : Seated) : Type 0 where
+pub record PeekedAll (a : Purpose) (m m' : Seated) : Type 0 where
   pub items : List Item
   pub extends : Extends a.setup a.who (Peek a.ring a.count) (items_reply items) m.0 m'.0
   pub count : length items ≡ a.count
   pub slots : m'.1 ≡ m.1
   pub flight : m'.0.flight ≡ still a.ring items
 
-abbrev pub gives : Ask → Step (Option Frame) → Seated → ℕ → Seated → Type 0
+abbrev pub gives : Purpose → Step (Option Frame) → Seated → ℕ → Seated → Type 0
 gives a st m found m' = PeekedAll a m m'
 
 -- ---- marks
 
 -- a step that ends a call on a mark, which replies with the number found
-pub record Answered (a : Ask) (call : Call) (m : Seated) (found : ℕ) (m' : Seated) : Type 0 where
+pub record Answered (a : Purpose) (call : Call) (m : Seated) (found : ℕ) (m' : Seated) : Type 0 where
   pub extends : Extends a.setup a.who call (Old found) m.0 m'.0
   pub slots : m'.1 ≡ m.1
   pub flight : m'.0.flight ≡ idle
 
-abbrev pub swaps : Ask → Step (Option Frame) → Seated → ℕ → Seated → Type 0
+abbrev pub swaps : Purpose → Step (Option Frame) → Seated → ℕ → Seated → Type 0
 swaps a st m found m' = Answered a (Swap a.mark a.count) m found m'
 
-abbrev pub looks : Ask → Step (Option Frame) → Seated → ℕ → Seated → Type 0
+abbrev pub looks : Purpose → Step (Option Frame) → Seated → ℕ → Seated → Type 0
 looks a st m found m' = Answered a (Look a.mark) m found m'
 
 -- ---- how frames move
@@ -172,7 +172,7 @@ IsPlacing r (taking s items) = ⊥
 IsPlacing r (fetching s x left) = ⊥
 
 -- an item may be placed behind those that a Submit in flight has placed: there is room, and the caller has the frames
-pub record CanPlace (a : Ask) (v : View) : Type 0 where
+pub record CanPlace (a : Purpose) (v : View) : Type 0 where
   pub one : v.callers ≡ a.who ∷ []
   pub alone : v.others ≡ []
   pub ring : HasRing a.setup.config a.ring
@@ -196,41 +196,41 @@ IsFirst None value slots = Unit {0}
 IsFirst (Some f) value slots = slots ≡ (f.number, value) ∷ rest slots
 
 -- the empty slot of an item's frame is taken
-pub record Lifted (a : Ask) (m m' : Seated) : Type 0 where
+pub record Lifted (a : Purpose) (m m' : Seated) : Type 0 where
   pub view : m'.0 ≡ record m.0 { flight = writing a.ring (lying m.0.flight) a.item }
   pub slots : m'.1 ≡ with_slot a.item.frame None m.1
 
-abbrev pub lifts : Ask → Step (Option Frame) → Seated → ℕ → Seated → Type 0
+abbrev pub lifts : Purpose → Step (Option Frame) → Seated → ℕ → Seated → Type 0
 lifts a st m found m' = Lifted a m m'
 
 -- it goes home with the frame in it
-pub record Placed (a : Ask) (m m' : Seated) : Type 0 where
+pub record Placed (a : Purpose) (m m' : Seated) : Type 0 where
   pub view : m'.0 ≡ record m.0 { flight = placing a.ring (lying m.0.flight ++ a.item ∷ []) }
   pub slots : m'.1 ≡ without_slot a.item.frame m.1
 
-abbrev pub places : Ask → Step (Option Frame) → Seated → ℕ → Seated → Type 0
+abbrev pub places : Purpose → Step (Option Frame) → Seated → ℕ → Seated → Type 0
 places a st m found m' = Placed a m m'
 
 -- the first item that a Peek has left is read, and the slot of its frame is taken with the frame in it
-pub record Fetched (a : Ask) (x : Item) (left : List Item) (m : Seated) (found : ℕ) (m' : Seated) : Type 0 where
+pub record Fetched (a : Purpose) (x : Item) (left : List Item) (m : Seated) (found : ℕ) (m' : Seated) : Type 0 where
   pub found_is : found ≡ x.desc.addr
   pub lawful : IsItemOn a.setup.config.geometry a.ring x
   pub view : m'.0 ≡ record m.0 { flight = fetching a.ring x left }
   pub slots : m'.1 ≡ with_slot x.frame x.frame m.1
 
-abbrev pub fetches : Ask → Step (Option Frame) → Seated → ℕ → Seated → Type 0
+abbrev pub fetches : Purpose → Step (Option Frame) → Seated → ℕ → Seated → Type 0
 fetches a st m found m' = (x : Item) (left : List Item) → m.0.flight ≡ taking a.ring (x ∷ left) → Fetched a x left m found m'
 
 -- the slot goes home empty
-pub record Settled (a : Ask) (x : Item) (left : List Item) (m m' : Seated) : Type 0 where
+pub record Settled (a : Purpose) (x : Item) (left : List Item) (m m' : Seated) : Type 0 where
   pub view : m'.0 ≡ record m.0 { flight = still a.ring left }
   pub slots : m'.1 ≡ without_slot x.frame m.1
 
-abbrev pub settles : Ask → Step (Option Frame) → Seated → ℕ → Seated → Type 0
+abbrev pub settles : Purpose → Step (Option Frame) → Seated → ℕ → Seated → Type 0
 settles a st m found m' = (x : Item) (left : List Item) → m.0.flight ≡ fetching a.ring x left → Settled a x left m m'
 
 -- the same by the read of the entry's second word
-abbrev pub reads : Ask → Step (Option Frame) → Seated → ℕ → Seated → Type 0
+abbrev pub reads : Purpose → Step (Option Frame) → Seated → ℕ → Seated → Type 0
 reads a st m found m' = (x : Item) (left : List Item) → m.0.flight ≡ fetching a.ring x left → Settled a x left m m' × (found ≡ second_word x.desc)
 
 -- the slot of an item's frame was taken last, whatever lies in it

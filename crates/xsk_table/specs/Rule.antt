@@ -23,23 +23,23 @@ use Rattle.xsk_model.specs.declared.call.Ring.{Ring}
 use Rattle.xsk_model.specs.declared.call.Mark.{Mark}
 use Rattle.xsk_words.specs.Words.{second_word}
 use Rattle.xsk_words.specs.Layout.{entry_words, words_of, Word, producer, consumer, entry, second, mark, word_at}
-use Rattle.xsk_table.specs.View.{Setup, Flight, idle, placing, writing, taking, fetching, View}
+use Rattle.xsk_table.specs.View.{Basis, Flight, idle, placing, writing, taking, fetching, View}
 
 -- ---- counts
 
 -- a count in its word
-abbrev pub wrapped : Setup → ℕ → ℕ
+abbrev pub wrapped : Basis → ℕ → ℕ
 wrapped k n = (k.first + n) % 2 ^ 32
 
 -- the items of a ring at the opening
-abbrev pub opened : Setup → Ring → ℕ
+abbrev pub opened : Basis → Ring → ℕ
 opened k r = length (ring_at k.config (opening k.config k.frames) r).out
 
 -- the items that came into a ring, and those whose places were given back
-abbrev pub given : Setup → Ring → List Entry → ℕ
+abbrev pub given : Basis → Ring → List Entry → ℕ
 given k r log = opened k r + given_of r (own (rings.producer k.config r) log)
 
-abbrev pub released : Setup → Ring → List Entry → ℕ
+abbrev pub released : Basis → Ring → List Entry → ℕ
 released k r log = released_of r (own (rings.consumer k.config r) log)
 
 -- ---- words
@@ -82,7 +82,7 @@ abbrev pub standing : RingState → List Item → List Item
 standing q items = q.held ++ (q.out ++ items)
 
 -- the words of a ring stand for its state
-pub record RingHolds (k : Setup) (words : List ℕ) (r : Ring) (q : RingState) (given released : ℕ) (w : Written) : Type 0 where
+pub record RingHolds (k : Basis) (words : List ℕ) (r : Ring) (q : RingState) (given released : ℕ) (w : Written) : Type 0 where
   pub producer_is : at k.config words (producer r) ≡ wrapped k given
   pub consumer_is : at k.config words (consumer r) ≡ wrapped k released
   pub within : length w.whole + length w.half ≤ q.room
@@ -137,7 +137,7 @@ AreLast items held = (done : List Item) × (held ≡ done ++ items)
 
 -- A Submit in flight has its ring's producer as caller, which has the frames; a Peek in flight has the consumer, and
 -- its items are the last that the ring holds.
-abbrev pub IsInFlight : Setup → object.State → List Told → ℕ → Flight → Type 0
+abbrev pub IsInFlight : Basis → object.State → List Told → ℕ → Flight → Type 0
 IsInFlight k s mine who idle = Unit {0}
 IsInFlight k s mine who (placing r items) = HasRing k.config r × (who ≡ rings.producer k.config r) × HasAll items mine
 IsInFlight k s mine who (writing r items x) = HasRing k.config r × (who ≡ rings.producer k.config r) × HasAll (items ++ x ∷ []) mine
@@ -161,7 +161,7 @@ abbrev pub callers_in : View → List ℕ
 callers_in v = v.callers ++ v.others
 
 -- all callers, with whom the first seat begins
-abbrev pub all_callers : Setup → List ℕ
+abbrev pub all_callers : Basis → List ℕ
 all_callers k = range_with_len 0 (callers_of k.config)
 
 -- ---- the rule
@@ -170,7 +170,7 @@ all_callers k = range_with_len 0 (callers_of k.config)
 -- and no caller stands twice in the seats; each ring's words stand for its state, and each mark's word is the mark; the
 -- frames that are out in rings, and those of calls in flight, lie in their slots; and each other slot that no call in
 -- flight has is empty.
-pub record Rule (k : Setup) (s : State (Option Frame) View) : Type 0 where
+pub record Rule (k : Basis) (s : State (Option Frame) View) : Type 0 where
   pub log : List Entry
   pub flights : List Flight
   pub legal : IsHistory k.config k.frames log

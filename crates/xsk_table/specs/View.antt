@@ -7,7 +7,7 @@ use Rattle.xsk_model.specs.Entry.{Entry}
 use Rattle.xsk_model.specs.declared.call.Ring.{Ring}
 
 -- the configuration, the count at which all words start, and the frames that were handed in
-pub record Setup : Type 0 where
+pub record Basis : Type 0 where
   pub config : Config
   pub first : ℕ
   pub frames : List Frame
@@ -25,7 +25,7 @@ pub data Flight : Type 0 where
 -- what a seat knows: its callers, the history that they have seen, and their call in flight; and a history that it was
 -- told of, with the callers of whom all is told there
 pub record View : Type 0 where
-  pub setup : Setup
+  pub setup : Basis
   pub callers : List ℕ
   pub seen : List Entry
   pub flight : Flight
@@ -33,7 +33,7 @@ pub record View : Type 0 where
   pub others : List ℕ
 
 -- a seat of these callers, before any call
-abbrev pub newcomer : Setup → List ℕ → View
+abbrev pub newcomer : Basis → List ℕ → View
 newcomer k callers = record { setup = k; callers = callers; seen = []; flight = idle; told = []; others = [] }
 
 -- the seat of the first caller, and that of the others
@@ -51,8 +51,8 @@ note_of v = record (newcomer v.setup []) { seen = v.seen }
 abbrev pub told_of : View → View → View
 told_of v u = record v { told = u.seen; others = u.callers }
 
--- a setup of nothing
-abbrev pub no_setup : Setup
+-- a basis of nothing
+abbrev pub no_setup : Basis
 no_setup = record {
   config = record { geometry = record { frames = 0; chunk = 0; headroom = 0 }; ports = 0; queues = 0; sockets = []; pairs = []; cells = []; sg = false; wakeup = false; closing = None };
   first = 0;

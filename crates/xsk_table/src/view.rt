@@ -28,9 +28,9 @@ pub struct Key {
 }
 
 impl Model for Key {
-    ghost use Rattle.xsk_table.specs.View.{Setup};
+    ghost use Rattle.xsk_table.specs.View.{Basis};
 
-    ghost Value = { Setup };
+    ghost Value = { Basis };
 
     ghost view = { λ k. record { config = k.config.value; first = k.first; frames = k.frames.value.items } };
 }
@@ -49,9 +49,9 @@ impl TableRule<Option<Frame>, View, Key> for Law {
 
 /// What a step is for. Each call of a step picks it.
 pub trait Asking {
-    ghost use Rattle.xsk_table.specs.Plays.{Ask};
+    ghost use Rattle.xsk_table.specs.Plays.{Purpose};
 
-    ghost ask: { Ask };
+    ghost ask: { Purpose };
 }
 
 impl Asking for Brand {

@@ -2,7 +2,7 @@ use Rattle.std.proofs.Common.{◌≤◌, [], ◌∷◌, refl, ap, ◌∙◌, lit
 use Rattle.std.proofs.lemmas.List.Elements.{All-cons, All-nil}
 use Rattle.xsk_model.specs.Config.{IsLawful, pool_of}
 use Rattle.xsk_model.specs.declared.config.PairInfo.{PairInfo}
-use Rattle.xsk_table.specs.View.{Setup}
+use Rattle.xsk_table.specs.View.{Basis}
 use Rattle.xsk_model.proofs.Opened.{fresh-frames}
 use Rattle.bench_rings.specs.Moving.{moving, moving_on, pair_on}
 use Rattle.bench_rings.proofs.opening.opened.Goals as goal
@@ -19,4 +19,4 @@ pub open-requires-clause-frames : goal.open-requires-clause-frames
 open-requires-clause-frames c = rw (c.in-Ok-config_on.ensures, c.in-Ok.ensures.geometry, c.in-Ok.ensures.frames) (fresh-frames _)
 
 pub returns-clause-config : goal.returns-clause-config
-returns-clause-config c = ap (λ (k : Setup). k.config) c.in-Ok-open.ensures.setup ∙ c.in-Ok-config_on.ensures ∙ ap moving_on c.in-Ok.ensures.geometry
+returns-clause-config c = ap (λ (k : Basis). k.config) c.in-Ok-open.ensures.setup ∙ c.in-Ok-config_on.ensures ∙ ap moving_on c.in-Ok.ensures.geometry

@@ -1,6 +1,6 @@
 use Rattle.std.proofs.Common.{rules, ◌+◌, ◌<◌, sym, subst, arith}
 use Rattle.xsk_model.specs.Rings.{places_of}
-use Rattle.xsk_table.specs.View.{Setup}
+use Rattle.xsk_table.specs.View.{Basis}
 use Rattle.xsk_table.specs.Opening.{AreFirst}
 use Rattle.xsk_table.proofs.FirstEnds.{first_more, width_more, base_small}
 use Rattle.xsk_table.proofs.opening.lay_ends.Goals as goal
@@ -14,7 +14,7 @@ loop-place-preserved c =
       search rules,
       search rules,
       λ frames opened.
-          let k : Setup = record { config = c.args.config.now; first = c.args.first; frames = frames } in
+          let k : Basis = record { config = c.args.config.now; first = c.args.first; frames = frames } in
           let more = first_more k c.args.who c.loop-place.place c.loop-place.base _ _ _ inv.0 (base_small c.args.config.now c.loop-place.base c.loop-place.place opened.config lt inv.1)
           c.mask_at.ensures (λ r has at. c.count_at-count.ensures frames r opened has at) (inv.4 frames opened) in
           subst (AreFirst k c.args.who (c.loop-place.place + 1)) (sym c.push_reserved.ensures.items) more,

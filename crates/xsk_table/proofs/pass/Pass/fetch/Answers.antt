@@ -5,7 +5,7 @@ use Rattle.xsk_model.specs.Config.{HasRing, size_of, callers_of}
 use Rattle.xsk_model.specs.Rings.{place, consumer}
 use Rattle.xsk_model.proofs.Roles.{two_owners}
 use Rattle.xsk_words.specs.Layout.{ring_base}
-use Rattle.xsk_table.specs.View.{Setup, taking, View}
+use Rattle.xsk_table.specs.View.{Basis, taking, View}
 use Rattle.xsk_table.specs.Known.{AreSure}
 use Rattle.xsk_table.specs.Rule.{wrapped, lying}
 use Rattle.xsk_table.specs.Plays.{still, emptied, ask_for}
@@ -23,7 +23,7 @@ fetch-item-requires-clause-caller c =
     let left = c.self.invariant.0.left c.args.ring (f.0 ∷ f.1) f.2 in
     let setup : v.setup ≡ c.shared.inside.board.setup = ap (λ (h : Holder). h.view.setup) (sym is) ∙ c.requires.belongs.setup ∙ ap (λ (b : Board). b.setup) (sym c.shared.view_is) in
     let below = (two_owners v.setup.config c.args.ring c.self.invariant.0.history.opened.config left.0).1 in
-    let P : Setup → Type 0 = λ k. (v.callers ≡ c.self.inside.who ∷ []) × HasRing k.config c.args.ring × (c.self.inside.who ≡ consumer k.config c.args.ring) × (c.self.inside.who < callers_of k.config) in
+    let P : Basis → Type 0 = λ k. (v.callers ≡ c.self.inside.who ∷ []) × HasRing k.config c.args.ring × (c.self.inside.who ≡ consumer k.config c.args.ring) × (c.self.inside.who < callers_of k.config) in
     subst P setup (c.self.invariant.0.one, left.0, left.1, subst (λ (n : ℕ). n < callers_of v.setup.config) (sym left.1) below)
 
 pub fetch-item-requires-clause-base : goal.fetch-item-requires-clause-base
@@ -35,11 +35,11 @@ fetch-item-requires-clause-base c =
     let f = subst L is c.requires.flight in
     let there = (c.self.invariant.0.left c.args.ring (f.0 ∷ f.1) f.2).0 in
     let setup : v.setup ≡ k = ap (λ (h : Holder). h.view.setup) (sym is) ∙ c.requires.belongs.setup ∙ ap (λ (b : Board). b.setup) (sym c.shared.view_is) in
-    let at = c.requires.at.0 ∙ ap (λ (b : Board). place b.setup.config c.args.ring) (sym c.shared.view_is) ∙ ap (λ (k : Setup). place k.config c.args.ring) (sym setup) in
+    let at = c.requires.at.0 ∙ ap (λ (b : Board). place b.setup.config c.args.ring) (sym c.shared.view_is) ∙ ap (λ (k : Basis). place k.config c.args.ring) (sym setup) in
     let end = end_holds v _ _ _ _ c.self.invariant.0 c.args.ring _ c.index-end.result.now there at c.index-end.ensures in
-    let has : HasRing k.config c.args.ring = subst (λ (s : Setup). HasRing s.config c.args.ring) setup there in
-    let base = end.base_is ∙ ap (λ (s : Setup). ring_base s.config c.args.ring) setup in
-    let mask = end.mask_is ∙ ap (λ (s : Setup). size_of s.config c.args.ring) setup in
+    let has : HasRing k.config c.args.ring = subst (λ (s : Basis). HasRing s.config c.args.ring) setup there in
+    let base = end.base_is ∙ ap (λ (s : Basis). ring_base s.config c.args.ring) setup in
+    let mask = end.mask_is ∙ ap (λ (s : Basis). size_of s.config c.args.ring) setup in
     (base, entries_within k c.self.inside.who c.args.ring c.index-end.result.now _ has base mask c.shared.invariant.words, end.base_few)
 
 pub fetch-item-requires-clause-position : goal.fetch-item-requires-clause-position
@@ -50,10 +50,10 @@ fetch-item-requires-clause-position c =
     let f = subst L is c.requires.flight in
     let there = (c.self.invariant.0.left c.args.ring (f.0 ∷ f.1) f.2).0 in
     let setup : v.setup ≡ c.shared.inside.board.setup = ap (λ (h : Holder). h.view.setup) (sym is) ∙ c.requires.belongs.setup ∙ ap (λ (b : Board). b.setup) (sym c.shared.view_is) in
-    let at = c.requires.at.0 ∙ ap (λ (b : Board). place b.setup.config c.args.ring) (sym c.shared.view_is) ∙ ap (λ (k : Setup). place k.config c.args.ring) (sym setup) in
+    let at = c.requires.at.0 ∙ ap (λ (b : Board). place b.setup.config c.args.ring) (sym c.shared.view_is) ∙ ap (λ (k : Basis). place k.config c.args.ring) (sym setup) in
     let end = end_holds v _ _ _ _ c.self.invariant.0 c.args.ring _ c.index-end.result.now there at c.index-end.ensures in
     let next = next_position v _ _ _ _ c.args.ring f.0 f.1 c.index-end.result.now c.self.invariant.0 end f.2 (let z : c.self.inside.flying < 2 ^ 32 = omega arith in z) in
-    let P : Setup → Type 0 = λ k. (count : ℕ) × (count + length (lying v.flight) ≡ emptied (ask_for k c.self.inside.who c.args.ring 0) v) × ((c.index-end.result.now.far + (2 ^ 32 - c.self.inside.flying)) % 2 ^ 32 ≡ wrapped k count) in
+    let P : Basis → Type 0 = λ k. (count : ℕ) × (count + length (lying v.flight) ≡ emptied (ask_for k c.self.inside.who c.args.ring 0) v) × ((c.index-end.result.now.far + (2 ^ 32 - c.self.inside.flying)) % 2 ^ 32 ≡ wrapped k count) in
     subst P setup next
 
 pub invariant_of-self : goal.invariant_of-self

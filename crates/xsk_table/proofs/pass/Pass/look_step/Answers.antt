@@ -4,7 +4,7 @@ use Rattle.xsk_model.specs.declared.call.Call.TheVariants.{Look}
 use Rattle.xsk_model.specs.declared.call.Reply.TheVariants.{Old}
 use Rattle.xsk_model.specs.Entry.{own}
 use Rattle.xsk_model.specs.Legal.{IsLegal}
-use Rattle.xsk_table.specs.View.{Setup}
+use Rattle.xsk_table.specs.View.{Basis}
 use Rattle.xsk_table.specs.Plays.{Extends}
 use Rattle.xsk_table.specs.Held.{Board, Holder}
 use Rattle.xsk_table.proofs.Marking.{pass_marked, mark_word_at}
@@ -16,7 +16,7 @@ invariant_of-self c =
     let is = sym c.self.view_is in
     let v = c.self.inside.seat.me.0 in
     let setup : v.setup ≡ c.shared.inside.board.setup = ap (λ (h : Holder). h.view.setup) (sym is) ∙ c.requires.belongs.setup ∙ ap (λ (b : Board). b.setup) (sym c.shared.view_is) in
-    let E : Setup → Type 0 = λ k. Extends k c.self.inside.who (Look c.args.mark) (Old c.look_at_mark.result) v c.look_at_mark.new.seat.me.0 in
+    let E : Basis → Type 0 = λ k. Extends k c.self.inside.who (Look c.args.mark) (Old c.look_at_mark.result) v c.look_at_mark.new.seat.me.0 in
     let ex = subst E (sym setup) c.look_at_mark.ensures.history in (
       pass_marked v _ _ _ _ _ _ (Look c.args.mark) (Old c.look_at_mark.result) c.self.invariant.0 (λ r. refl) (subst E (sym setup) c.look_at_mark.ensures.history) c.look_at_mark.ensures.slots (ap (λ (h : Holder). h.view.flight) (sym is) ∙ c.requires.rests) c.look_at_mark.ensures.flight,
       pass_quiet v c.look_at_mark.new.seat.me.0 c.self.inside.who c.self.inside.ends.items (Look c.args.mark) (Old c.look_at_mark.result) ex (subst (λ (h : Holder). IsLegal h.view.setup.config (own h.who h.view.seen) h.who (Look c.args.mark)) is c.requires.legal) c.self.invariant.1 refl refl,

@@ -5,7 +5,7 @@ use Rattle.xsk_model.specs.Entry.{own}
 use Rattle.xsk_model.specs.Legal.{IsLegal}
 use Rattle.xsk_model.specs.declared.call.Call.TheVariants.{Submit}
 use Rattle.xsk_model.specs.declared.call.Reply.TheVariants.{Submitted}
-use Rattle.xsk_table.specs.View.{Setup}
+use Rattle.xsk_table.specs.View.{Basis}
 use Rattle.xsk_table.specs.Rule.{lying}
 use Rattle.xsk_table.specs.Plays.{Extends}
 use Rattle.xsk_table.specs.Held.{Board, Holder}
@@ -20,8 +20,8 @@ invariant_of-self c =
     let L : Holder → Type 0 = λ h. IsLegal h.view.setup.config (own h.who h.view.seen) h.who (Submit c.args.ring (lying h.view.flight)) in
     let legal = subst L is c.requires.legal in
     let setup : v.setup ≡ c.shared.inside.board.setup = ap (λ (h : Holder). h.view.setup) (sym is) ∙ c.requires.belongs.setup ∙ ap (λ (b : Board). b.setup) (sym c.shared.view_is) in
-    let at = c.requires.at.0 ∙ ap (λ (b : Board). place b.setup.config c.args.ring) (sym c.shared.view_is) ∙ ap (λ (k : Setup). place k.config c.args.ring) (sym setup) in
-    let E : Setup → Type 0 = λ k. Extends k c.self.inside.who (Submit c.args.ring (lying v.flight)) Submitted v c.raise_producer.new.seat.me.0 in (
+    let at = c.requires.at.0 ∙ ap (λ (b : Board). place b.setup.config c.args.ring) (sym c.shared.view_is) ∙ ap (λ (k : Basis). place k.config c.args.ring) (sym setup) in
+    let E : Basis → Type 0 = λ k. Extends k c.self.inside.who (Submit c.args.ring (lying v.flight)) Submitted v c.raise_producer.new.seat.me.0 in (
       pass_raised v _ _ _ _ c.self.invariant.0 c.args.ring _ c.index-end.result.now legal.known at c.index-end.ensures _ _ legal (subst E (sym setup) c.raise_producer.ensures.history) c.raise_producer.ensures.slots c.raise_producer.ensures.flight,
       pass_kept v c.raise_producer.new.seat.me.0 c.self.inside.who c.self.inside.ends.items (Submit c.args.ring (lying v.flight)) Submitted (subst E (sym setup) c.raise_producer.ensures.history) legal c.self.invariant.1 _ c.index-end.result.now _ refl refl c.index-end.ensures refl,
       left_kept v c.raise_producer.new.seat.me.0 c.self.inside.who c.self.inside.ends.items (Submit c.args.ring (lying v.flight)) Submitted (subst E (sym setup) c.raise_producer.ensures.history) c.self.invariant.2 _ c.index-end.result.now _ refl refl c.index-end.ensures refl,

@@ -5,7 +5,7 @@ use Rattle.xsk_model.specs.Entry.{own}
 use Rattle.xsk_model.specs.Legal.{IsLegal}
 use Rattle.xsk_model.specs.declared.call.Call.TheVariants.{Reserve}
 use Rattle.xsk_model.specs.declared.call.Reply.TheVariants.{Granted}
-use Rattle.xsk_table.specs.View.{Setup}
+use Rattle.xsk_table.specs.View.{Basis}
 use Rattle.xsk_table.specs.Plays.{Extends}
 use Rattle.xsk_table.specs.Held.{Board, Holder, known_on, with_known, known_in}
 use Rattle.xsk_table.proofs.Holding.{pass_reserved}
@@ -19,10 +19,10 @@ invariant_of-self c =
     let L : Holder → Type 0 = λ h. IsLegal h.view.setup.config (own h.who h.view.seen) h.who (Reserve c.args.ring c.args.n) in
     let legal = subst L is c.requires.legal in
     let setup : v.setup ≡ c.shared.inside.board.setup = ap (λ (h : Holder). h.view.setup) (sym is) ∙ c.requires.belongs.setup ∙ ap (λ (b : Board). b.setup) (sym c.shared.view_is) in
-    let at = c.requires.at.0 ∙ ap (λ (b : Board). place b.setup.config c.args.ring) (sym c.shared.view_is) ∙ ap (λ (k : Setup). place k.config c.args.ring) (sym setup) in
+    let at = c.requires.at.0 ∙ ap (λ (b : Board). place b.setup.config c.args.ring) (sym c.shared.view_is) ∙ ap (λ (k : Basis). place k.config c.args.ring) (sym setup) in
     let known = known_at c.self.inside.ends.items _ _ c.index-end.result.now c.index-end.ensures (in_row v.setup c.self.inside.who _ c.self.inside.ends.items c.args.ring _ c.self.invariant.0.ends_hold legal.known at) at in
     let few : c.args.n ≤ c.index-end.result.now.known = rw known (subst (λ (h : Holder). c.args.n ≤ known_on h c.args.ring) is c.requires.covered) in
-    let E : Setup → Type 0 = λ k. Extends k c.self.inside.who (Reserve c.args.ring c.args.n) Granted v c.grant.new.seat.me.0 in
+    let E : Basis → Type 0 = λ k. Extends k c.self.inside.who (Reserve c.args.ring c.args.n) Granted v c.grant.new.seat.me.0 in
     let rests = ap (λ (h : Holder). h.view.flight) (sym is) ∙ c.requires.rests in
     let ex = subst E (sym setup) c.grant.ensures.history in
     let call = Reserve c.args.ring c.args.n in (
@@ -40,6 +40,6 @@ returns-clause-known c =
     let L : Holder → Type 0 = λ h. IsLegal h.view.setup.config (own h.who h.view.seen) h.who (Reserve c.args.ring c.args.n) in
     let legal = subst L is c.requires.legal in
     let setup : v.setup ≡ c.shared.inside.board.setup = ap (λ (h : Holder). h.view.setup) (sym is) ∙ c.requires.belongs.setup ∙ ap (λ (b : Board). b.setup) (sym c.shared.view_is) in
-    let at = c.requires.at.0 ∙ ap (λ (b : Board). place b.setup.config c.args.ring) (sym c.shared.view_is) ∙ ap (λ (k : Setup). place k.config c.args.ring) (sym setup) in
+    let at = c.requires.at.0 ∙ ap (λ (b : Board). place b.setup.config c.args.ring) (sym c.shared.view_is) ∙ ap (λ (k : Basis). place k.config c.args.ring) (sym setup) in
     let known = known_at c.self.inside.ends.items _ _ c.index-end.result.now c.index-end.ensures (in_row v.setup c.self.inside.who _ c.self.inside.ends.items c.args.ring _ c.self.invariant.0.ends_hold legal.known at) at in
     known_set c.self.inside.ends.items _ _ ∙ (λ i. set (known_in c.self.inside.ends.items) (at i) (known i - c.args.n)) ∙ ap (λ (h : Holder). with_known h c.args.ring (known_on h c.args.ring - c.args.n)) c.self.view_is

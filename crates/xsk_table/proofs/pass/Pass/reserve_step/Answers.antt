@@ -5,7 +5,7 @@ use Rattle.xsk_model.specs.Rings.{place}
 use Rattle.xsk_model.specs.Entry.{own}
 use Rattle.xsk_model.specs.Legal.{IsLegal}
 use Rattle.xsk_model.specs.declared.call.Call.TheVariants.{Reserve}
-use Rattle.xsk_table.specs.View.{Setup}
+use Rattle.xsk_table.specs.View.{Basis}
 use Rattle.xsk_table.specs.Known.{free_after}
 use Rattle.xsk_table.specs.Plays.{Extends}
 use Rattle.xsk_model.specs.declared.call.Reply.{Reply}
@@ -22,8 +22,8 @@ invariant_of-self g c =
     let L : Holder → Type 0 = λ h. IsLegal h.view.setup.config (own h.who h.view.seen) h.who (Reserve c.args.ring c.args.n) in
     let legal = subst L is c.requires.legal in
     let setup : v.setup ≡ c.shared.inside.board.setup = ap (λ (h : Holder). h.view.setup) (sym is) ∙ c.requires.belongs.setup ∙ ap (λ (b : Board). b.setup) (sym c.shared.view_is) in
-    let at = c.requires.at.0 ∙ ap (λ (b : Board). place b.setup.config c.args.ring) (sym c.shared.view_is) ∙ ap (λ (k : Setup). place k.config c.args.ring) (sym setup) in
-    let E : Setup → Type 0 = λ k. Extends k c.self.inside.who (Reserve c.args.ring c.args.n) c.reply_by-reply.result v c.reserve_step-free.new.seat.me.0 in
+    let at = c.requires.at.0 ∙ ap (λ (b : Board). place b.setup.config c.args.ring) (sym c.shared.view_is) ∙ ap (λ (k : Basis). place k.config c.args.ring) (sym setup) in
+    let E : Basis → Type 0 = λ k. Extends k c.self.inside.who (Reserve c.args.ring c.args.n) c.reply_by-reply.result v c.reserve_step-free.new.seat.me.0 in
     let rests = ap (λ (h : Holder). h.view.flight) (sym is) ∙ c.requires.rests in
     let ex = subst E (sym setup) (subst (λ (t : Reply). Extends c.shared.inside.board.setup c.self.inside.who (Reserve c.args.ring c.args.n) t v c.reserve_step-free.new.seat.me.0) (sym c.reply_by-reply.ensures) c.reserve_step-free.ensures.history) in
     let call = Reserve c.args.ring c.args.n in (
@@ -41,6 +41,6 @@ returns-clause-known g c =
     let is = sym c.self.view_is in
     let v = c.self.inside.seat.me.0 in
     let setup : v.setup ≡ c.shared.inside.board.setup = ap (λ (h : Holder). h.view.setup) (sym is) ∙ c.requires.belongs.setup ∙ ap (λ (b : Board). b.setup) (sym c.shared.view_is) in
-    let at = c.requires.at.0 ∙ ap (λ (b : Board). place b.setup.config c.args.ring) (sym c.shared.view_is) ∙ ap (λ (k : Setup). place k.config c.args.ring) (sym setup) in
+    let at = c.requires.at.0 ∙ ap (λ (b : Board). place b.setup.config c.args.ring) (sym c.shared.view_is) ∙ ap (λ (k : Basis). place k.config c.args.ring) (sym setup) in
     let left = places_left c.shared.inside.board.setup v.setup c.reserve_step-free.new.seat.me.0.seen c.args.ring c.args.n _ _ c.reply_by-reply.result setup c.reserve_step-free.ensures.left c.reply_by-reply.ensures (c.granted_by-got.ensures c.args.ring) in
     known_set c.self.inside.ends.items _ _ ∙ (λ i. set (known_in c.self.inside.ends.items) (at i) (left i)) ∙ ap (λ (h : Holder). with_known h c.args.ring (free_after h.view.setup c.reserve_step-free.new.seat.me.0.seen c.args.ring)) c.self.view_is

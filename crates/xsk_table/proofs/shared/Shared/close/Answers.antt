@@ -5,7 +5,7 @@ use Rattle.xsk_umem.specs.Frames.{Frames}
 use Rattle.xsk_model.specs.Config.{callers_of}
 use Rattle.xsk_model.specs.Entry.{Entry}
 use Rattle.xsk_model.specs.History.{IsHistory, state_after}
-use Rattle.xsk_table.specs.View.{View, Setup}
+use Rattle.xsk_table.specs.View.{View, Basis}
 use Rattle.xsk_table.specs.Plays.{Seated}
 use Rattle.xsk_table.specs.Held.{Board}
 use Rattle.xsk_table.specs.Meeting.{Noted}
@@ -33,8 +33,8 @@ returns-clause-history c =
 
 pub returns-clause-frames : goal.returns-clause-frames
 returns-clause-frames c =
-    let k : Setup = c.self.inside.board.setup in
+    let k : Basis = c.self.inside.board.setup in
     let slots = slots_items c.finish.result.slots in
     let log : c.take_note-note.new.seat.me.0.seen ≡ c.take_note-note.result.seen = ap (λ (m : Seated). m.0.seen) c.take_note-note.ensures.same.2 ∙ sym (ap (λ (n : Noted). n.seen) c.take_note-note.ensures.note) in
-    let P : Setup × List Entry × List Frame → Type 0 = λ t. AreFramesOut t.0.config (state_after t.0.config t.0.frames t.1) t.2 in
+    let P : Basis × List Entry × List Frame → Type 0 = λ t. AreFramesOut t.0.config (state_after t.0.config t.0.frames t.1) t.2 in
     subst P (λ i. (ap (λ (t : Board). t.setup) c.self.view_is i, log i, sym (ap (λ (q : Frames). q.items) c.bring_home.ensures) i)) (frames_are_out k c.take_note-note.new.seat.me.0.seen slots c.finish.ensures.rests)
