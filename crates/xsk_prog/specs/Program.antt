@@ -1,9 +1,10 @@
 -- What a closure answers, and what it must do to be attached as a program under a rule.
-use Rattle.std.specs.Prelude.{◌≡◌, ℕ, List}
+use Rattle.std.specs.Prelude.{◌≡◌, ℕ, ◌+◌, ◌%◌, ◌^◌, List}
 use Rattle.std.specs.Fn.{Shared}
 use denote.Ref.{Bor}
 use Rattle.xsk_prog.specs.declared.rule.Rule.{Rule}
 use Rattle.xsk_prog.specs.declared.rule.Verdict.{Verdict}
+use Rattle.xsk_prog.specs.declared.program.XdpProgram.{XdpProgram}
 use Rattle.xsk_prog.specs.Rules.{IsRuled, Meets}
 
 -- what a closure may answer of a packet on a queue
@@ -16,3 +17,11 @@ pub record Answers {F : Type 0} (g : Shared F (Bor (List ℕ) × (ℕ × Unit {0
 pub record Obeys {F : Type 0} (g : Shared F (Bor (List ℕ) × (ℕ × Unit {0})) Verdict) (rule : Rule) (f : F) : Type 0 where
   pub takes : (packet : Bor (List ℕ)) (queue : ℕ) → IsRuled packet.now queue → g.pre f (packet, (queue, tt))
   pub meets : (packet : Bor (List ℕ)) (queue : ℕ) (verdict : Verdict) → IsRuled packet.now queue → g.post f (packet, (queue, tt)) verdict → Meets rule packet.now queue verdict
+
+-- a program that was asked once more
+abbrev pub once_more : {F : Type 0} → XdpProgram F → XdpProgram F
+once_more program = record { rule = program.rule; decide = program.decide; asked = (program.asked + 1) % 2 ^ 64 }
+
+-- and however often it was
+abbrev pub unasked : {F : Type 0} → XdpProgram F → XdpProgram F
+unasked program = record { rule = program.rule; decide = program.decide; asked = 0 }

@@ -1,7 +1,7 @@
 //! Programs in a chain, of which the first that doesn't pass a packet on decides.
 ghost use Rattle.std.specs.Prelude.{◌≡◌, ◌≤◌, ◌<◌, List, [], ◌∷◌, ◌++◌, length, map, OnOk, OnErr, IfErr, IfOk, Err};
 ghost use Rattle.xsk_prog.specs.Rules.{IsRuled, MeetsChain};
-ghost use Rattle.xsk_prog.specs.Chain.{AllObey, ChainAnswers, rules_of};
+ghost use Rattle.xsk_prog.specs.Chain.{AllObey, AskedOnce, ChainAnswers, rules_of};
 ghost use Rattle.xsk_prog.specs.Program.{Obeys};
 ghost use Rattle.xsk_prog.specs.declared.chain.ChainError.TheVariants.{TooLong};
 
@@ -83,13 +83,22 @@ impl<F: Fn(&[u8], u32) -> Verdict> Chain<F> {
         Ok(())
     }
 
+    /// The programs, in order; each tells how often it was asked.
+    pub fn programs(&self) -> &[XdpProgram<F>]
+        ensures { result.now ≡ self.now }
+    {
+        self.programs.as_slice()
+    }
+
     /// What the chain answers of a packet of 14 to 262,144 bytes on a queue below 4: the first answer that isn't Pass, and Pass
-    /// where there is none. No program behind that one is asked.
-    pub fn verdict(&self, packet: &[u8], queue: u32) -> Verdict
+    /// where there is none. Each program down to that one is asked once, and none behind it.
+    pub fn verdict(&mut self, packet: &[u8], queue: u32) -> Verdict
         requires packet { IsRuled packet.now queue }
-        requires obeys { AllObey F.Fn self.now }
-        ensures asked { ChainAnswers F.Fn self.now packet.now queue result }
-        ensures meets { MeetsChain (rules_of self.now) packet.now queue result }
+        requires obeys { AllObey F.Fn self.old }
+        ensures asked { ChainAnswers F.Fn self.old packet.now queue result }
+        ensures meets { MeetsChain (rules_of self.old) packet.now queue result }
+        ensures once { AskedOnce F.Fn packet.now queue result self.old self.new }
+        ensures obeys { AllObey F.Fn self.new }
     {
         for place in 0..self.programs.len() {
             let verdict = self.programs[place].verdict(packet, queue);
