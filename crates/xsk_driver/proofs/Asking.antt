@@ -1,5 +1,6 @@
 -- The verdicts of a driver's packets: one more, and what they are of a new driver's packets.
-use Rattle.std.proofs.Common.{◌≡◌, ℕ, ◌+◌, ◌<◌, List, [], ◌∷◌, ◌++◌, length, take, drop, map, get_or, slice_get, Some, refl, sym, ap, ◌∙◌, subst, append-nil, length-append}
+use Rattle.std.proofs.Common.{◌≡◌, ℕ, ◌+◌, ◌<◌, Bool, true, false, nat_lt, List, [], ◌∷◌, ◌++◌, length, take, drop, map, get_or, slice_get, Some, refl, sym, ap, ◌∙◌, subst, append-nil, length-append}
+use Rattle.std.proofs.lemmas.Bool.{ltb-true, ltb-false}
 use Rattle.std.proofs.lemmas.List.{take_more, map-append}
 use Rattle.std.proofs.lemmas.List.Folds.{concat-append}
 use Rattle.std.specs.List.{concat}
@@ -7,14 +8,16 @@ use Rattle.std.proofs.lemmas.Option.{get_or_from_slice_get}
 use Rattle.std.specs.Fn.{Shared}
 use denote.Ref.{Bor}
 use Rattle.xsk_umem.specs.PacketList.{PacketList}
-use Rattle.xsk_prog.specs.Chain.{rules_of}
+use Rattle.xsk_prog.specs.Chain.{SamePrograms, rules_of}
 use Rattle.xsk_prog.specs.Rules.{MeetsChain}
+use Rattle.xsk_prog.proofs.Same.{same_once, same_answers, same_rules}
+use Rattle.xsk_prog.specs.Program.{unasked}
 use Rattle.xsk_prog.specs.declared.program.XdpProgram.{XdpProgram}
 use Rattle.xsk_prog.specs.declared.rule.Verdict.{Verdict}
 use Rattle.xsk_turns.specs.Turns.{Judged}
 use Rattle.xsk_turns.specs.declared.disposal.Disposal.{Disposal}
 use Rattle.xsk_turns.specs.Verdicts.{judged, EachHas, IsGiven}
-use Rattle.xsk_driver.specs.Asking.{packets_by, IsAnswer}
+use Rattle.xsk_driver.specs.Asking.{packets_by, AreAsked, IsAnswer, IsAsked, Question, questions_on}
 use Rattle.xsk_driver.specs.Stands.{packet_at}
 
 each-push : (P : List ℕ → Verdict → Type 0) (packets : List (List ℕ)) (verdicts : List Verdict) (packet : List ℕ) (verdict : Verdict) → EachHas P packets verdicts → P packet verdict
@@ -73,3 +76,61 @@ pub new_verdicts : (P : List ℕ → Verdict → Type 0) (packets : List (List �
     → map (λ (p : Judged). p.verdict) (drop (length disposals) (judged packets verdicts)) ≡ verdicts
 new_verdicts P packets verdicts disposals none h =
     ap (λ (ds : List Disposal). map (λ (p : Judged). p.verdict) (drop (length ds) (judged packets verdicts))) none ∙ verdicts-judged P packets verdicts h
+
+-- ---- the programs, as they are asked
+
+module _ {F : Type 0} (g : Shared F (Bor (List ℕ) × (ℕ × Unit {0})) Verdict) where
+  -- they stay the same but for how often they were asked
+  pub same_asked : (question : Question) (verdict : Verdict) (before after : List (XdpProgram F)) → IsAsked g question verdict before after → SamePrograms before after
+  same_asked question verdict before after h = by (nat_lt (length question.packet) 14) refl
+    where
+      by : (short : Bool) → nat_lt (length question.packet) 14 ≡ short → SamePrograms before after
+      by true e = ap (map unasked) (h.runt (ltb-true (length question.packet) 14 e))
+      by false e = same_once g question.packet question.queue verdict before after (h.once (ltb-false (length question.packet) 14 e))
+
+  -- so an answer of theirs is one of those that they were
+  pub given_before : (queue : ℕ) (packet : List ℕ) (verdict : Verdict) (before after : List (XdpProgram F)) → SamePrograms before after
+      → IsGiven (IsAnswer g after queue) packet verdict → IsGiven (IsAnswer g before queue) packet verdict
+  given_before queue packet verdict before after same h = record {
+    asked = λ long.
+        let a : IsAnswer g after queue packet verdict = h.asked long in record {
+          answers = same_answers g packet queue verdict before after same a.answers;
+          meets = subst (λ rules. MeetsChain rules packet queue verdict) (same_rules before after same) a.meets;
+        };
+    runt = h.runt;
+  }
+
+  -- further questions
+  pub asked-append : (questions more : List Question) (verdicts given : List Verdict) (before between after : List (XdpProgram F)) → AreAsked g questions verdicts before between
+      → AreAsked g more given between after → AreAsked g (questions ++ more) (verdicts ++ given) before after
+  asked-append [] more [] given before between after h k = subst (λ ps. AreAsked g more given ps after) h k
+  asked-append [] more (v ∷ verdicts) given before between after h k = absurd h
+  asked-append (q ∷ questions) more [] given before between after h k = absurd h
+  asked-append (q ∷ questions) more (v ∷ verdicts) given before between after (next, asked, h) k =
+      (next, asked, asked-append questions more verdicts given next between after h k)
+
+  pub asked-taken : (queue : ℕ) (list : PacketList) (numbers : List ℕ) (verdicts : List Verdict) (i : ℕ) (packet : List ℕ) (verdict : Verdict) (before between after : List (XdpProgram F))
+      → i < length numbers → slice_get list.packets (get_or numbers i 0) ≡ Some packet → AreAsked g (questions_on queue (packets_by list (take i numbers))) verdicts before between
+      → IsAsked g (record { queue = queue; packet = packet }) verdict between after
+      → AreAsked g (questions_on queue (packets_by list (take (i + 1) numbers))) (verdicts ++ verdict ∷ []) before after
+  asked-taken queue list numbers verdicts i packet verdict before between after within got h k =
+      let question : Question = record { queue = queue; packet = packet } in
+      let more : questions_on queue (packets_by list (take (i + 1) numbers)) ≡ questions_on queue (packets_by list (take i numbers)) ++ question ∷ [] =
+      ap (questions_on queue) (packets-taken list numbers i packet within got) ∙ map-append (λ (p : List ℕ). let q : Question = record { queue = queue; packet = p } in q) (packets_by list (take i numbers)) (packet ∷ []) in
+      subst (λ qs. AreAsked g qs (verdicts ++ verdict ∷ []) before after) (sym more)
+      (asked-append (questions_on queue (packets_by list (take i numbers))) (question ∷ []) verdicts (verdict ∷ []) before between after h (after, k, refl))
+
+  pub asked_none : (verdicts : List Verdict) (before after : List (XdpProgram F)) → AreAsked g [] verdicts before after → after ≡ before
+  asked_none [] before after h = h
+  asked_none (v ∷ verdicts) before after h = absurd h
+
+  pub same_all : (questions : List Question) (verdicts : List Verdict) (before after : List (XdpProgram F)) → AreAsked g questions verdicts before after → SamePrograms before after
+  same_all [] [] before after h = ap (map unasked) h
+  same_all [] (v ∷ verdicts) before after h = absurd h
+  same_all (q ∷ questions) [] before after h = absurd h
+  same_all (q ∷ questions) (v ∷ verdicts) before after (next, asked, h) = same_all questions verdicts next after h ∙ same_asked q v before next asked
+
+  pub all_given_before : (queue : ℕ) (packets : List (List ℕ)) (verdicts : List Verdict) (before after : List (XdpProgram F)) → SamePrograms before after
+      → EachHas (IsGiven (IsAnswer g after queue)) packets verdicts → EachHas (IsGiven (IsAnswer g before queue)) packets verdicts
+  all_given_before queue packets verdicts before after same h =
+      each-weaker (IsGiven (IsAnswer g after queue)) (IsGiven (IsAnswer g before queue)) (λ packet verdict. given_before queue packet verdict before after same) packets verdicts h
