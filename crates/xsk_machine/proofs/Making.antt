@@ -1,22 +1,30 @@
 -- Drivers are made, each with the verdicts that it keeps, and handed out in their order.
-use Rattle.std.proofs.Common.{◌≡◌, ℕ, ◌+◌, ◌<◌, ◌≤◌, Option, Some, None, IfSome, IfNone, List, [], ◌∷◌, ◌++◌, length, length-append, refl, sym, ap, subst, ◌∙◌, suc, arith, ⊎_elim}
-use Rattle.std.specs.List.{slice_get, slice_index_or}
+use Rattle.std.proofs.Common.{◌≡◌, ℕ, ◌+◌, ◌<◌, ◌≤◌, Option, Some, None, IfSome, IfNone, List, [], ◌∷◌, ◌++◌, length, length-append, take, append-nil, refl, sym, ap, subst, ◌∙◌, suc, arith, ⊎_elim}
+use Rattle.std.specs.List.{flat_map, slice_get, slice_index_or}
+use Rattle.std.specs.Fn.{Shared}
+use denote.Ref.{Bor}
+use Rattle.std.proofs.Math.Seq.{take-length}
+use Rattle.std.proofs.lemmas.Grind.{flat_map-append}
 use Rattle.std.specs.Option.{option_to_list}
 use Rattle.std.proofs.lemmas.Bool.{cases_eq}
-use Rattle.std.proofs.lemmas.List.{get_or-map, get_or_push, get_or_append_left, length-map}
+use Rattle.std.proofs.lemmas.List.{get_or-map, get_or_push, get_or_append_left, length-map, take_more}
 use Rattle.std.proofs.lemmas.Option.{slice_get_within, slice_get_read, slice_get_cases, get_or_from_slice_get}
 use Rattle.xsk_umem.specs.PacketList.{PacketList}
 use Rattle.xsk_model.specs.Config.{Config, pair_at}
+use Rattle.xsk_model.specs.declared.config.PairInfo.{PairInfo}
 use Rattle.xsk_model.specs.Expected.{nothing}
+use Rattle.xsk_prog.specs.Chain.{AllObey, SamePrograms}
+use Rattle.xsk_prog.specs.declared.program.XdpProgram.{XdpProgram}
 use Rattle.xsk_prog.specs.declared.rule.Verdict.{Verdict}
 use Rattle.xsk_turns.specs.Verdicts.{EachHas, IsGiven}
 use Rattle.xsk_turns.specs.Workers.{Setting, AreGiven, packets_to}
 use Rattle.xsk_turns.specs.declared.manner.Manner.{Manner}
 use Rattle.xsk_turns.specs.declared.wire.Wire.{Wire}
-use Rattle.xsk_driver.specs.Asking.{verdicts_in}
+use Rattle.xsk_driver.specs.Asking.{AreAsked, Question, verdicts_in}
+use Rattle.xsk_driver.proofs.Asking.{asked-append, same_all}
 use Rattle.xsk_driver.specs.Shown.{Shown}
 use Rattle.xsk_machine.specs.Acts.{IsDriver}
-use Rattle.xsk_machine.specs.Workers.{kept_in, IsFreshDriver, AreNew, setting_by}
+use Rattle.xsk_machine.specs.Workers.{kept_in, IsFreshDriver, AreNew, IsAskedOnce, questions_to, setting_by}
 
 -- what is known of one driver that was made: it is that of each setting with its verdicts
 pub record IsMade (By : ℕ → List ℕ → Verdict → Type 0) (c : Config) (wire : Wire) (packets : List PacketList) (pair : ℕ) (d : Shown) : Type 0 where
@@ -61,6 +69,38 @@ module _ (By : ℕ → List ℕ → Verdict → Type 0) (c : Config) (wire : Wir
           (λ (past : (length drivers ≤ pair) × (slice_get drivers pair ≡ None)). absurd (let over = past.0 in omega (arith, over, count, below)))
           (slice_get_cases drivers pair).1;
     }
+
+-- ---- what the chain was asked
+
+module _ {F : Type 0} (g : Shared F (Bor (List ℕ) × (ℕ × Unit {0})) Verdict) (c : Config) (lists : List PacketList) (programs : List (XdpProgram F)) where
+  -- of the packets of the first pairs
+  pub record AskedFirst (n : ℕ) (now : List (XdpProgram F)) : Type 0 where
+    pub once : (verdicts : List Verdict) × AreAsked g (flat_map (questions_to c lists) (take n c.pairs)) verdicts programs now
+    pub same : SamePrograms programs now
+    pub obeys : AllObey g now
+
+  pub asked_none : AllObey g programs → AskedFirst 0 programs
+  asked_none obeys = record { once = ([], refl); same = refl; obeys = obeys }
+
+  pub asked_next : (n : ℕ) (now after : List (XdpProgram F)) (verdicts : List Verdict) → n < length c.pairs → AskedFirst n now → AreAsked g (questions_to c lists (pair_at c.pairs n)) verdicts now after → AllObey g after
+      → AskedFirst (n + 1) after
+  asked_next n now after verdicts below h asked obeys =
+      let none : PairInfo = record { port = 0; queue = 0; fill = 0; comp = 0 } in
+      let questions : PairInfo → List Question = questions_to c lists in
+      let more : flat_map questions (take (n + 1) c.pairs) ≡ flat_map questions (take n c.pairs) ++ questions (pair_at c.pairs n) =
+      ap (flat_map questions) (take_more c.pairs n none below) ∙ flat_map-append questions (take n c.pairs) (pair_at c.pairs n ∷ [])
+      ∙ ap (λ qs. flat_map questions (take n c.pairs) ++ qs) (append-nil (questions (pair_at c.pairs n))) in record {
+        once = (
+          h.once.0 ++ verdicts,
+          subst (λ qs. AreAsked g qs (h.once.0 ++ verdicts) programs after) (sym more)
+              (asked-append g (flat_map questions (take n c.pairs)) (questions (pair_at c.pairs n)) h.once.0 verdicts programs now after h.once.1 asked),
+        );
+        same = same_all g (questions (pair_at c.pairs n)) verdicts now after asked ∙ h.same;
+        obeys = obeys;
+      }
+
+  pub asked_all : (n : ℕ) (now : List (XdpProgram F)) → n ≡ length c.pairs → AskedFirst n now → IsAskedOnce g c lists programs now
+  asked_all n now all h = (h.once.0, subst (λ ps. AreAsked g (flat_map (questions_to c lists) ps) h.once.0 programs now) (ap (λ k. take k c.pairs) all ∙ take-length c.pairs) h.once.1)
 
 -- the next driver, where there is one, is that of the pair, and those that are left are those of the pairs after it
 module _ (s : Setting) (n : ℕ) (all rest : List Shown) where

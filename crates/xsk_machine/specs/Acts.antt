@@ -1,5 +1,5 @@
 -- Where the workers of a setting stand, each for its own calls and replies, and what each gave after them.
-use Rattle.std.specs.Prelude.{◌≡◌, ℕ, ◌<◌, All, List, [], ◌++◌, length}
+use Rattle.std.specs.Prelude.{◌≡◌, ℕ, ◌<◌, All, List, [], ◌++◌, Some, length}
 use Rattle.std.specs.List.{concat}
 use Rattle.xsk_model.specs.Config.{Config, pair_at}
 use Rattle.xsk_model.specs.Rings.{caller_of}
@@ -13,7 +13,7 @@ use Rattle.xsk_turns.specs.Sending.{bouncing}
 use Rattle.xsk_turns.specs.Workers.{Setting, input_of, IsWorkerRun, IsWholeRun}
 use Rattle.xsk_laws.specs.Expected.{received}
 use Rattle.xsk_umem.specs.PacketList.{PacketList}
-use Rattle.xsk_driver.specs.Sent.{IsShort}
+use Rattle.xsk_driver.specs.Sent.{IsShort, sent_gaps}
 use Rattle.xsk_driver.specs.Shown.{Shown as DriverShown}
 use Rattle.xsk_driver.specs.Runs.{IsNew as IsNewDriver, StandsWith}
 use Rattle.xsk_app.specs.Shown.{Shown as AppShown}
@@ -22,6 +22,10 @@ use Rattle.xsk_app.specs.Runs.{IsNew as IsNewApp, StandsWith as AppStandsWith}
 -- no packet of a list is longer than a record of a capture
 abbrev pub HasShortPackets : PacketList → Type 0
 HasShortPackets list = All IsShort list.packets
+
+-- a list has the gaps of what a driver sent
+abbrev pub HasSentGaps : PacketList → Type 0
+HasSentGaps list = list.gaps ≡ Some sent_gaps
 
 -- its packets
 abbrev pub packets_in : PacketList → List (List ℕ)

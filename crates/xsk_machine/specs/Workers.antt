@@ -1,17 +1,21 @@
 -- A driver or an application as a caller of a setting: each as it is said of its own kind.
 use Rattle.std.specs.Prelude.{◌≡◌, ℕ, ◌+◌, Some, List, [], ◌∷◌, length, map}
-use Rattle.std.specs.List.{slice_get}
+use Rattle.std.specs.List.{flat_map, slice_get}
+use Rattle.std.specs.Fn.{Shared}
+use denote.Ref.{Bor}
 use Rattle.xsk_umem.specs.PacketList.{PacketList}
 use Rattle.xsk_model.specs.Config.{Config}
+use Rattle.xsk_model.specs.declared.config.PairInfo.{PairInfo}
 use Rattle.xsk_model.specs.Entry.{Told}
 use Rattle.xsk_model.specs.Expected.{Expected, nothing}
 use Rattle.xsk_model.specs.declared.call.Act.{Act}
+use Rattle.xsk_prog.specs.declared.program.XdpProgram.{XdpProgram}
 use Rattle.xsk_prog.specs.declared.rule.Verdict.{Verdict}
-use Rattle.xsk_turns.specs.Workers.{Setting}
+use Rattle.xsk_turns.specs.Workers.{Setting, packets_to}
 use Rattle.xsk_turns.specs.Mangling.{plain}
 use Rattle.xsk_turns.specs.declared.manner.Manner.{Manner}
 use Rattle.xsk_turns.specs.declared.wire.Wire.{Wire}
-use Rattle.xsk_driver.specs.Asking.{verdicts_in}
+use Rattle.xsk_driver.specs.Asking.{AreAsked, Question, questions_on, verdicts_in}
 use Rattle.xsk_driver.specs.Shown.{Shown as DriverShown}
 use Rattle.xsk_machine.specs.Acts.{IsDriver, DriverStands, IsApp, AppStands}
 use Rattle.xsk_machine.specs.Figures.{figures_in}
@@ -73,3 +77,16 @@ kept_in drivers = map (λ (d : DriverShown). verdicts_in d.kept) drivers
 -- those of a setting, from a pair on
 abbrev pub AreNew : Setting → ℕ → List DriverShown → Type 0
 AreNew s n drivers = (k : ℕ) (d : DriverShown) → slice_get drivers k ≡ Some d → IsFreshDriver s (n + k) d
+
+-- ---- what a chain is asked
+
+-- the packets of a pair, each on its queue, and those of all pairs in order
+abbrev pub questions_to : Config → List PacketList → PairInfo → List Question
+questions_to c lists pair = questions_on pair.queue (packets_to c lists pair)
+
+abbrev pub questions_of : Config → List PacketList → List Question
+questions_of c lists = flat_map (questions_to c lists) c.pairs
+
+-- a chain before and after it was asked once of each of them that has an Ethernet header, whatever it answered
+abbrev pub IsAskedOnce : {F : Type 0} → Shared F (Bor (List ℕ) × (ℕ × Unit {0})) Verdict → Config → List PacketList → List (XdpProgram F) → List (XdpProgram F) → Type 0
+IsAskedOnce g c lists before after = (verdicts : List Verdict) × AreAsked g (questions_of c lists) verdicts before after

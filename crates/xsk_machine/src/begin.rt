@@ -1,16 +1,16 @@
 //! New drivers of a setting.
-ghost use Rattle.std.specs.Prelude.{◌≡◌, ◌<◌, ◌≤◌, ◌^◌, ◌⊎◌, false, All, List, [], length, IfOk, MatchOption};
+ghost use Rattle.std.specs.Prelude.{◌≡◌, ◌<◌, ◌≤◌, ◌^◌, ◌⊎◌, false, All, List, [], length, IfOk, MatchOption, OnErr};
 ghost use Rattle.std.specs.List.{concat, slice_index_or};
 ghost use Rattle.xsk_model.specs.Config.{IsRegular, pair_at};
 ghost use Rattle.xsk_model.specs.Expected.{nothing};
-ghost use Rattle.xsk_prog.specs.Chain.{AllObey};
+ghost use Rattle.xsk_prog.specs.Chain.{AllObey, SamePrograms};
 ghost use Rattle.xsk_prog.specs.declared.rule.Verdict.{Verdict as AVerdict};
 ghost use Rattle.xsk_turns.specs.Inputs.{inputs_of};
 ghost use Rattle.xsk_turns.specs.Verdicts.{EachHas, IsGiven};
 ghost use Rattle.xsk_turns.specs.Workers.{packets_to, AreGiven};
-ghost use Rattle.xsk_driver.specs.Asking.{IsAnswer, verdicts_in};
+ghost use Rattle.xsk_driver.specs.Asking.{AreAsked, IsAnswer, verdicts_in};
 ghost use Rattle.xsk_machine.specs.Acts.{IsDriver, HasShortPackets, leaving};
-ghost use Rattle.xsk_machine.specs.Workers.{AreNew, kept_in, setting_by};
+ghost use Rattle.xsk_machine.specs.Workers.{AreNew, IsAskedOnce, kept_in, questions_to, setting_by};
 ghost use Rattle.xsk_turns.specs.declared.manner.Manner.{Manner as AManner};
 
 use crate::{Amount, Inputs};
@@ -41,13 +41,13 @@ fn leaving_by(config: &Config, packets: &[PacketList], inputs: &Inputs, pair: u3
 
 /// The driver of a pair with a wire, and with room to send all packets that its port and the paired port received on its queue.
 /// There is one list of packets for each port, none of which has more than 262,144 bytes, and the inputs are those of these lists.
-/// The chain is asked once for each of the driver's packets.
+/// The chain is asked once for each of the driver's packets that has an Ethernet header, and nothing where memory can't be had.
 pub fn driver_for<'a, F: Fn(&[u8], u32) -> Verdict>(
     alloc: Global,
     config: &'a Config,
     packets: &'a [PacketList],
     inputs: &'a Inputs,
-    chain: &Chain<F>,
+    chain: &mut Chain<F>,
     wire: Wire,
     pair: u32,
 ) -> Result<Driver<'a>, OutOfMemory>
@@ -55,12 +55,15 @@ pub fn driver_for<'a, F: Fn(&[u8], u32) -> Verdict>(
     requires lists { length packets.now ≡ config.now.ports }
     requires inputs { inputs.now ≡ inputs_of config.now packets.now }
     requires short { All HasShortPackets packets.now }
-    requires obeys { AllObey F.Fn chain.now }
+    requires obeys { AllObey F.Fn chain.old }
     requires pair { pair < length config.now.pairs }
     ensures new { IfOk result (λ d. (manner : AManner) (verdicts : List (List AVerdict)) → slice_index_or verdicts pair [] ≡ verdicts_in d.kept
         → IsDriver (setting_by config.now wire manner packets.now verdicts) pair d) }
-    ensures asked { IfOk result (λ d. EachHas (IsGiven (IsAnswer F.Fn chain.now (pair_at config.now.pairs pair).queue))
+    ensures asked { IfOk result (λ d. EachHas (IsGiven (IsAnswer F.Fn chain.old (pair_at config.now.pairs pair).queue))
         (packets_to config.now packets.now (pair_at config.now.pairs pair)) (verdicts_in d.kept)) }
+    ensures once { IfOk result (λ d. AreAsked F.Fn (questions_to config.now packets.now (pair_at config.now.pairs pair)) (verdicts_in d.kept) chain.old chain.new) }
+    ensures refused { OnErr result (chain.new ≡ chain.old) }
+    ensures obeys { AllObey F.Fn chain.new }
     ensures expected { IfOk result (λ d. d.expected ≡ nothing) }
 {
     let info = config.pairs()[pair as usize];
@@ -82,22 +85,26 @@ pub fn driver_for<'a, F: Fn(&[u8], u32) -> Verdict>(
     Ok(driver)
 }
 
-/// A driver for each pair. The chain is asked once for each packet.
+/// A driver for each pair. The chain is asked once for each packet that has an Ethernet header, those of the first pair first;
+/// where memory can't be had, it was asked of the packets of the pairs before.
 pub fn drivers_for<'a, F: Fn(&[u8], u32) -> Verdict>(
     alloc: Global,
     config: &'a Config,
     packets: &'a [PacketList],
     inputs: &'a Inputs,
-    chain: &Chain<F>,
+    chain: &mut Chain<F>,
     wire: Wire,
 ) -> Result<Vec<Driver<'a>>, OutOfMemory>
     requires regular { IsRegular config.now }
     requires lists { length packets.now ≡ config.now.ports }
     requires inputs { inputs.now ≡ inputs_of config.now packets.now }
     requires short { All HasShortPackets packets.now }
-    requires obeys { AllObey F.Fn chain.now }
+    requires obeys { AllObey F.Fn chain.old }
     ensures new { IfOk result (λ drivers. (manner : AManner) → AreNew (setting_by config.now wire manner packets.now (kept_in drivers.items)) 0 drivers.items) }
-    ensures asked { IfOk result (λ drivers. (manner : AManner) → AreGiven (IsAnswer F.Fn chain.now) (setting_by config.now wire manner packets.now (kept_in drivers.items))) }
+    ensures asked { IfOk result (λ drivers. (manner : AManner) → AreGiven (IsAnswer F.Fn chain.old) (setting_by config.now wire manner packets.now (kept_in drivers.items))) }
+    ensures once { IfOk result (λ drivers. IsAskedOnce F.Fn config.now packets.now chain.old chain.new) }
+    ensures same { SamePrograms chain.old chain.new }
+    ensures obeys { AllObey F.Fn chain.new }
     ensures count { IfOk result (λ drivers. length drivers.items ≡ length config.now.pairs) }
 {
     let count = config.pairs().len() as u32;

@@ -1,6 +1,6 @@
 //! What is kept of workers that have ended.
 ghost use Rattle.std.specs.Prelude.{◌≡◌, ◌+◌, ◌<◌, ◌≤◌, ◌^◌, [], ◌++◌, All, IfOk, length, map, vec_len, vec_capacity};
-ghost use Rattle.xsk_machine.specs.Acts.{HasShortPackets, packets_in};
+ghost use Rattle.xsk_machine.specs.Acts.{HasSentGaps, HasShortPackets, packets_in};
 ghost use Rattle.xsk_machine.specs.Workers.{figures_kept, kept_of};
 
 use crate::{AnyWorker, DriverFigures, FigureList, Figures, Sent};
@@ -13,6 +13,8 @@ use xsk_umem::PacketList;
 pub struct Collected {
     pub figures: Vec<DriverFigures>,
     pub sent: Vec<PacketList>,
+    ghost short: { All HasShortPackets sent.items },
+    ghost gaps: { All HasSentGaps sent.items },
 }
 
 impl Collected {
@@ -31,7 +33,6 @@ impl Collected {
     pub fn keep(&mut self, worker: AnyWorker<'_>, classes: u32)
         requires figures { vec_len self.old.figures + length (figures_kept classes worker) ≤ vec_capacity self.old.figures }
         requires sent { vec_len self.old.sent + length (kept_of worker) ≤ vec_capacity self.old.sent }
-        ensures short { All HasShortPackets self.old.sent.items → All HasShortPackets self.new.sent.items }
         ensures room { (vec_capacity self.new.figures ≡ vec_capacity self.old.figures) × (vec_capacity self.new.sent ≡ vec_capacity self.old.sent) }
         ensures figures { self.new.figures.items ≡ self.old.figures.items ++ figures_kept classes worker.entry }
         ensures sent { map packets_in self.new.sent.items ≡ map packets_in self.old.sent.items ++ kept_of worker.entry }
@@ -46,7 +47,6 @@ impl Collected {
     /// What the run comes to, in which so many calls were made on the shared object, and whose applications changed items or didn't. It
     /// takes no memory.
     pub fn into_sent(self, calls: u64, wire: Wire, mangled: bool) -> Sent
-        requires short { All HasShortPackets self.sent.items }
         requires few { vec_len self.figures < 2 ^ 32 }
         ensures { result ≡ record {
           lists = map packets_in self.sent.items;

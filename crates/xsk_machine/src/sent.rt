@@ -1,14 +1,16 @@
 //! What a run comes to, on whatever engine.
-ghost use Rattle.std.specs.Prelude.{◌≡◌, ◌<◌, [], All, length, map};
+ghost use Rattle.std.specs.Prelude.{◌≡◌, ◌↔◌, ◌<◌, [], ◌++◌, All, IfSome, IsSome, length, map};
+ghost use Rattle.std.specs.Borrow.{sem};
+ghost use Rattle.std.specs.Io.BufRead.{Rests};
 ghost use Rattle.std.specs.List.{slice_index_or};
-ghost use Rattle.xsk_driver.specs.Sent.{IsShort};
-ghost use Rattle.xsk_machine.specs.Acts.{HasShortPackets, packets_in};
+ghost use Rattle.xsk_umem.specs.Span.{laid_from};
+ghost use Rattle.xsk_driver.specs.Sent.{IsShort, sent_gaps};
+ghost use Rattle.xsk_machine.specs.Acts.{HasSentGaps, HasShortPackets, packets_in};
+ghost use Rattle.xsk_machine.specs.contracts.sent.Sent.{the_row};
 
 use crate::Figures;
-use std::alloc::Global;
 use std::marker::Model;
-use std::mem;
-use xsk_umem::PacketList;
+use xsk_umem::{Headers, PacketList};
 
 /// What each driver of a run sent, and the run's figures.
 #[derive(Drop)]
@@ -19,20 +21,21 @@ pub struct Sent {
 
 impl Model for Sent {
     ghost use Rattle.std.specs.Prelude.{All, map};
-    ghost use Rattle.xsk_machine.specs.Acts.{HasShortPackets, packets_in};
+    ghost use Rattle.xsk_machine.specs.Acts.{HasSentGaps, HasShortPackets, packets_in};
     ghost use Rattle.xsk_machine.specs.Sent.{SentShown};
 
     ghost Value = { SentShown };
 
     ghost view = { λ s. record { lists = map packets_in s.lists.items; figures = s.figures } };
 
-    ghost invariant = { λ s. All HasShortPackets s.lists.items };
+    ghost invariant = { λ s. All HasShortPackets s.lists.items × All HasSentGaps s.lists.items };
 }
 
 impl Sent {
     /// These lists, one for each pair, and these figures.
     pub(crate) fn new(lists: Vec<PacketList>, figures: Figures) -> Sent
-        requires { All HasShortPackets lists.items }
+        requires short { All HasShortPackets lists.items }
+        requires gaps { All HasSentGaps lists.items }
         ensures { result ≡ record { lists = map packets_in lists.items; figures = figures } }
     {
         Sent { lists, figures }
@@ -61,26 +64,31 @@ impl Sent {
         &self.figures
     }
 
-    /// Takes the lists of what the drivers sent, one for each pair. It has none then. It takes no memory.
-    pub fn take_lists(&mut self, alloc: Global) -> Vec<PacketList>
-        ensures lists { map packets_in result.items ≡ self.old.lists }
-        ensures short { All HasShortPackets result.items }
-        ensures left { self.new ≡ record self.old { lists = [] } }
+    /// What the drivers sent, by their pairs.
+    pub fn lists(&self) -> &[PacketList]
+        ensures short { All HasShortPackets result.now }
+        ensures gaps { All HasSentGaps result.now }
+        ensures lists { map packets_in result.now ≡ self.now.lists }
     {
-        mem::replace(&mut self.lists, Vec::new(alloc))
+        self.lists.as_slice()
     }
 
-    /// Puts lists in the place of those that it has. It takes no memory.
-    pub fn put_lists(&mut self, lists: Vec<PacketList>)
-        requires short { All HasShortPackets lists.items }
-        ensures { self.new ≡ record self.old { lists = map packets_in lists.items } }
+    /// The packets that the driver of a pair sent as they stand in their list, with the headers written into its gaps, exactly where
+    /// these have the sizes of the gaps: those of a capture. The pair must exist. It copies no packet and takes no memory, and all
+    /// that was sent stays as it was.
+    pub fn lay<H: Headers>(&mut self, pair: u32, headers: &H) -> Option<&[u8]>
+        requires { pair < length self.old.lists }
+        ensures* same { sem 𝓛 (Rests the_row self.entry (λ sent. sent ≡ self.old)) }
+        ensures gaps { IsSome result ↔ (H.sizes_of headers.now ≡ sent_gaps) }
+        ensures text { IfSome result (λ text. text.now ≡ H.first headers.now ++ laid_from (H.before headers.now) 0 (slice_index_or self.old.lists pair [])) }
     {
-        self.lists = lists;
+        self.lists[pair as usize].lay(headers)
     }
 
     /// What the drivers sent, by their pairs.
     pub fn into_lists(self) -> Vec<PacketList>
         ensures short { All HasShortPackets result.items }
+        ensures gaps { All HasSentGaps result.items }
         ensures lists { map packets_in result.items ≡ self.lists }
     {
         let Sent { lists, .. } = self;

@@ -8,11 +8,11 @@ ghost use Rattle.xsk_umem.specs.Frame.{Frame};
 ghost use Rattle.xsk_log.specs.Left.{left_of};
 ghost use Rattle.xsk_log.specs.Log.{calls_of, entries_of};
 ghost use Rattle.xsk_turns.specs.Mangling.{plain as plain_manner};
-ghost use Rattle.xsk_machine.specs.Workers.{AreNew};
+ghost use Rattle.xsk_machine.specs.Workers.{AreNew, IsAskedOnce};
 ghost use Rattle.xsk_driver.specs.Sent.{IsShort};
 ghost use Rattle.xsk_sim.specs.Shown.{HasShortPackets, packets_in};
 ghost use Rattle.xsk_turns.specs.Stepping.{joined_ask};
-ghost use Rattle.xsk_prog.specs.Chain.{AllObey};
+ghost use Rattle.xsk_prog.specs.Chain.{AllObey, SamePrograms};
 ghost use Rattle.xsk_turns.specs.Workers.{Setting};
 ghost use Rattle.xsk_sim.specs.Runs.{HasEnded, HasStalled, NeverStill, HasEndedUnder, HasStalledUnder};
 ghost use Rattle.xsk_sim.specs.Stalls.{StandStill};
@@ -64,14 +64,14 @@ pub struct Run {
 }
 
 impl Model for Run {
-    ghost use Rattle.std.specs.Prelude.{length, ◌<◌, ◌^◌};
+    ghost use Rattle.std.specs.Prelude.{length, ◌≡◌};
     ghost use Rattle.xsk_sim.specs.Shown.{Shown};
 
     ghost Value = { Shown };
 
     ghost view = { λ r. record { calls = r.plain.calls; pairs = length r.sent.lists; log = r.plain.log; sent = r.sent.lists; figures = r.sent.figures } };
 
-    ghost invariant = { λ r. length r.sent.lists < 2 ^ 32 };
+    ghost invariant = { λ r. length r.sent.lists ≡ length r.plain.config.pairs };
 }
 
 impl Run {
@@ -88,7 +88,7 @@ impl Run {
         ensures pairs { result.pairs ≡ self.now.pairs }
         ensures all { left_of result ≡ self.now.log }
     {
-        self.plain.log().lines(self.sent.pairs() as u32)
+        self.plain.lines()
     }
 
     /// What the run comes to in numbers, each a count over its calls and replies.
@@ -98,14 +98,13 @@ impl Run {
         self.sent.figures()
     }
 
-    /// What the drivers sent, by their pairs. The log is given up.
-    pub fn into_sent(self) -> Vec<PacketList>
-        ensures pairs { length result.items ≡ self.pairs }
-        ensures short { All HasShortPackets result.items }
-        ensures sent { map packets_in result.items ≡ self.sent }
+    /// What the run comes to. The log is given up.
+    pub fn into_sent(self) -> Sent
+        ensures pairs { length result.lists ≡ self.pairs }
+        ensures sent { result ≡ record { lists = self.sent; figures = self.figures } }
     {
         let Run { sent, .. } = self;
-        sent.into_lists()
+        sent
     }
 
     /// What the driver of a pair sent. The pair must exist.
@@ -127,7 +126,7 @@ const STILL_ROUNDS: u64 = 64;
 /// rounds' order, and `manner` says which items each application changes, and after how many items it closes the socket that is to
 /// be closed, if one is.
 ///
-/// Each driver asks the chain once for each of its packets, so there is one list of verdicts for each driver, and all that
+/// Each driver asks the chain once for each of its packets that has an Ethernet header, and all do before the first round, so there is one list of verdicts for each driver, and all that
 /// is said of the run is said of these. Where its rules leave one verdict for each packet, they are the rules' own
 /// (`laws::ends_as_ruled`). Where no items are changed, what a run that has ended sent is what was delivered to the paired sockets
 /// (`laws::ended_is_forwarded`), and where the wire waits what is expected there (`laws::ended_is_expected`), beside the packets
@@ -146,7 +145,7 @@ pub fn simulate<F: Fn(&[u8], u32) -> Verdict>(
     config: Config,
     frames: Frames,
     packets: &[PacketList],
-    chain: &Chain<F>,
+    chain: &mut Chain<F>,
     wire: Wire,
     order: u32,
     manner: Manner,
@@ -155,11 +154,14 @@ pub fn simulate<F: Fn(&[u8], u32) -> Verdict>(
     requires frames { AreFrames config.geometry frames.items }
     requires lists { length packets.now ≡ config.ports }
     requires short { All HasShortPackets packets.now }
-    requires obeys { AllObey F.Fn chain.now }
+    requires obeys { AllObey F.Fn chain.old }
+    ensures once { IfOk result (λ run. IsAskedOnce F.Fn config packets.now chain.old chain.new) }
+    ensures same { SamePrograms chain.old chain.new }
+    ensures obeys { AllObey F.Fn chain.new }
     ensures pairs { IfOk result (λ run. run.pairs ≡ length config.pairs) }
-    ensures ended { IfOk result (HasEndedUnder F.Fn chain.now wire manner config packets.now frames.items order) }
+    ensures ended { IfOk result (HasEndedUnder F.Fn chain.old wire manner config packets.now frames.items order) }
     ensures stalled { (round : ℕ) → result ≡ Err (SimError.Stalled round)
-        → HasStalledUnder F.Fn chain.now wire manner config packets.now frames.items order round }
+        → HasStalledUnder F.Fn chain.old wire manner config packets.now frames.items order round }
     ensures goes_on { HasAmpleRoom config → config.closing ≡ None → manner ≡ plain_manner → (round : ℕ) → result ≡ Err (SimError.Stalled round) → ⊥ }
 {
     let shared = config.copy(alloc)?;
@@ -274,7 +276,6 @@ fn seat_workers<'a>(
 
 /// What is kept of workers that have ended, each of whose queues has so many sockets.
 fn collect(alloc: Global, workers: Workers<'_>, classes: u32) -> Result<Collected, OutOfMemory>
-    ensures short { IfOk result (λ kept. All HasShortPackets kept.sent.items) }
     ensures sent { IfOk result (λ kept. map packets_in kept.sent.items ≡ kept_lists workers.entry) }
     ensures figures { IfOk result (λ kept. kept.figures.items ≡ kept_figures classes workers.entry) }
 {

@@ -6,7 +6,7 @@ use Rattle.xsk_model.specs.Config.{Config}
 use Rattle.xsk_turns.specs.AppSplit.{IsWholeSplitRun}
 use Rattle.xsk_turns.specs.AppTurns.{lanes_of}
 use Rattle.xsk_turns.specs.Workers.{Setting}
-use Rattle.xsk_table.specs.View.{Setup}
+use Rattle.xsk_table.specs.View.{Basis}
 use Rattle.xsk_table.specs.Held.{Board, Holder, Belongs}
 use Rattle.xsk_rings.specs.Rounds.{mine_of}
 use Rattle.xsk_shared_ends.specs.Shown.{EndsShown, AreEnds, name_of}
@@ -31,14 +31,14 @@ pub seat_belongs : (b : Board) (t : TeamShown) → IsSeatOn b (team_seat t) → 
 seat_belongs b t on = record { table = on.0; setup = on.1 }
 
 -- a seat of several hands by its parts
-abbrev seat_by : Setting → TableId → Setup → ℕ → Seat
+abbrev seat_by : Setting → TableId → Basis → ℕ → Seat
 seat_by s table setup who = record { setting = s; table = table; setup = setup; who = who; alone = false }
 
 -- a pass of the same caller on the same table has the same seat
 same_pass : (s : Setting) (p q : Holder) → q.table ≡ p.table → q.view.setup ≡ p.view.setup → q.who ≡ p.who → seat_with s q false ≡ seat_with s p false
 same_pass s p q table setup who =
     ap (λ (x : TableId). seat_by s x q.view.setup q.who) table
-    ∙ ap (λ (x : Setup). seat_by s p.table x q.who) setup
+    ∙ ap (λ (x : Basis). seat_by s p.table x q.who) setup
     ∙ ap (λ (x : ℕ). seat_by s p.table p.view.setup x) who
 
 pub seat_stays : (s : Setting) (old new : LastShown) → StaysLast old new → team_seat (team_with s new) ≡ team_seat (team_with s old)
@@ -47,7 +47,7 @@ seat_stays s old new stays = same_pass s old.pass new.pass stays.table stays.set
 pub team_stays : (s : Setting) (old new : LastShown) → StaysLast old new → IsTeam (team_with s old) → IsTeam (team_with s new)
 team_stays s old new stays team = record {
   config = stays.config ∙ team.config;
-  setup = ap (λ (x : Setup). x.config) stays.setup ∙ team.setup;
+  setup = ap (λ (x : Basis). x.config) stays.setup ∙ team.setup;
   caller = stays.who ∙ team.caller ∙ ap (caller_of s.config) (sym stays.app);
 }
 

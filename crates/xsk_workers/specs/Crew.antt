@@ -5,7 +5,7 @@ use Rattle.std.specs.declared.vec.Vec.{Vec}
 use Rattle.std.specs.declared.alloc.Global.{Global}
 use Rattle.atomic_table.specs.Seated.{TableId}
 use Rattle.xsk_turns.specs.Workers.{Setting}
-use Rattle.xsk_table.specs.View.{Setup}
+use Rattle.xsk_table.specs.View.{Basis}
 use Rattle.xsk_table.specs.Held.{Board}
 
 -- What of a caller never changes: its setting, its table and the table's setup, its number, and whether one machine makes all of its
@@ -13,7 +13,7 @@ use Rattle.xsk_table.specs.Held.{Board}
 pub record Seat : Type 0 where
   pub setting : Setting
   pub table : TableId
-  pub setup : Setup
+  pub setup : Basis
   pub who : ℕ
   pub alone : Bool
 

@@ -6,7 +6,7 @@ ghost use Rattle.xsk_workers.specs.declared.pace.Pace.TheVariants.{Moved, Parked
 use xsk_shared_ends::Turned;
 
 /// What came of a turn.
-#[derive(Clone, Copy, Debug, PartialEq, Eq)]
+#[derive(Clone, Copy)]
 pub(crate) enum Pace {
     /// Its call moved something.
     Moved,

@@ -1,15 +1,18 @@
 //! A run on threads: drivers and applications over one table, from its opening to its end.
-ghost use Rattle.std.specs.Prelude.{◌≡◌, ℕ, ◌+◌, ◌≤◌, ◌<◌, ◌==◌, ◌||◌, nat_lt, List, [], ◌++◌, map, None, false, true, All, length, vec_len, vec_capacity, IfOk, IfSome, IfNone};
+ghost use Rattle.std.specs.Prelude.{◌≡◌, ◌↔◌, ℕ, ◌+◌, ◌≤◌, ◌<◌, ◌==◌, ◌||◌, nat_lt, List, [], ◌++◌, map, None, false, true, All, length, vec_len, vec_capacity, IfOk, IfSome, IfNone, IsSome};
+ghost use Rattle.std.specs.Borrow.{sem};
+ghost use Rattle.std.specs.Io.BufRead.{Rests};
 ghost use Rattle.std.specs.List.{range_with_len};
 ghost use Rattle.xsk_umem.specs.Frame.{Frame as Body};
+ghost use Rattle.xsk_umem.specs.Span.{laid_from};
 ghost use Rattle.xsk_model.specs.Config.{IsRegular, callers_of, classes_of};
 ghost use Rattle.xsk_model.specs.Opening.{AreFrames};
 ghost use Rattle.xsk_turns.specs.Owned.{IsSteady};
-ghost use Rattle.xsk_prog.specs.Chain.{AllObey, rules_of};
+ghost use Rattle.xsk_prog.specs.Chain.{AllObey, SamePrograms, rules_of};
 ghost use Rattle.xsk_prog.specs.Rules.{are_exact};
 ghost use Rattle.xsk_turns.specs.Counted.{capped};
 ghost use Rattle.xsk_turns.specs.Workers.{Setting, ruled_by};
-ghost use Rattle.xsk_driver.specs.Sent.{IsShort};
+ghost use Rattle.xsk_driver.specs.Sent.{IsShort, sent_gaps};
 ghost use Rattle.xsk_machine.specs.Acts.{HasShortPackets};
 ghost use Rattle.xsk_table.specs.View.{idle};
 ghost use Rattle.xsk_table.specs.Held.{Board};
@@ -20,7 +23,7 @@ ghost use Rattle.xsk_workers.specs.Members.{member_seat, kept_left, figures_left
 ghost use Rattle.xsk_workers.specs.Parking.{token_of, token_in, IsParkerOf};
 ghost use Rattle.xsk_workers.specs.Gathering.{HaveRun, AreTaken, AreGiven, AreSent, AreFiguresOf, calls_in};
 ghost use Rattle.xsk_workers.specs.Forwarded.{HasForwarded, HasForwardedUnder, packets_in, setting_by};
-ghost use Rattle.xsk_machine.specs.Workers.{AreNew, IsFreshDriver};
+ghost use Rattle.xsk_machine.specs.Workers.{AreNew, IsAskedOnce, IsFreshDriver};
 
 use crate::context::{Source, Verdicts};
 use crate::crew::{Crew, run_crew};
@@ -43,7 +46,7 @@ use xsk_prog::{Chain, Verdict};
 use xsk_shared_ends::Ends;
 use xsk_table::{Note, Pass, Passes, Shared};
 use xsk_turns::Manner;
-use xsk_umem::{Frames, OutOfMemory, PacketList};
+use xsk_umem::{Frames, Headers, OutOfMemory, PacketList};
 
 /// A caller of a run: a driver or an application by itself, or an application by several hands.
 type Caller<'a, V> = Member<Worker<AnyWorker<'a>, Source<'a, V>>, Team<'a, Source<'a, V>>>;
@@ -65,6 +68,7 @@ impl Model for Outcome {
 
 impl Outcome {
     ghost use Rattle.std.specs.List.{slice_index_or};
+    ghost use Rattle.xsk_workers.specs.contracts.workers.Outcome.{the_row};
 
     /// The packets that the driver of a pair sent, in order.
     pub fn sent(&self, pair: u32) -> &PacketList
@@ -82,21 +86,24 @@ impl Outcome {
         self.sent.figures()
     }
 
-    /// Takes the lists of what the drivers sent, one for each pair. The outcome has none then. It takes no memory.
-    pub fn take_sent(&mut self, alloc: Global) -> Vec<PacketList>
-        ensures lists { map packets_in result.items ≡ self.old.sent }
-        ensures short { All HasShortPackets result.items }
-        ensures left { self.new ≡ record self.old { sent = [] } }
+    /// What the drivers sent, by their pairs.
+    pub fn lists(&self) -> &[PacketList]
+        ensures short { All HasShortPackets result.now }
+        ensures lists { map packets_in result.now ≡ self.now.sent }
     {
-        self.sent.take_lists(alloc)
+        self.sent.lists()
     }
 
-    /// Puts lists in the place of those that the outcome has. It takes no memory.
-    pub fn put_sent(&mut self, sent: Vec<PacketList>)
-        requires short { All HasShortPackets sent.items }
-        ensures { self.new ≡ record self.old { sent = map packets_in sent.items } }
+    /// The packets that the driver of a pair sent as they stand in their list, with the headers written into its gaps, exactly where
+    /// these have the sizes of the gaps: those of a capture. The pair must exist. It copies no packet and takes no memory, and the
+    /// outcome stays as it was.
+    pub fn lay<H: Headers>(&mut self, pair: u32, headers: &H) -> Option<&[u8]>
+        requires { pair < length self.old.sent }
+        ensures* same { sem 𝓛 (Rests the_row self.entry (λ outcome. outcome ≡ self.old)) }
+        ensures gaps { IsSome result ↔ (H.sizes_of headers.now ≡ sent_gaps) }
+        ensures text { IfSome result (λ text. text.now ≡ H.first headers.now ++ laid_from (H.before headers.now) 0 (slice_index_or self.old.sent pair [])) }
     {
-        self.sent.put_lists(sent);
+        self.sent.lay(pair, headers)
     }
 }
 
@@ -124,7 +131,7 @@ pub fn forward<R: Threads + Wait + Sync, F: Fn(&[u8], u32) -> Verdict, G: Gate +
     config: Config,
     frames: Frames,
     packets: &[PacketList],
-    chain: &Chain<F>,
+    chain: &mut Chain<F>,
     wire: Wire,
     gate: &G,
     manner: Manner,
@@ -137,11 +144,14 @@ pub fn forward<R: Threads + Wait + Sync, F: Fn(&[u8], u32) -> Verdict, G: Gate +
     requires frames { AreFrames config.geometry frames.items }
     requires lists { length packets.now ≡ config.ports }
     requires short { All HasShortPackets packets.now }
-    requires obeys { AllObey F.Fn chain.now }
+    requires obeys { AllObey F.Fn chain.old }
+    ensures once { IfOk result (λ outcome. IsAskedOnce F.Fn config packets.now chain.old chain.new) }
+    ensures same { SamePrograms chain.old chain.new }
+    ensures obeys { AllObey F.Fn chain.new }
     ensures pairs { IfOk result (λ outcome. length outcome.sent ≡ length config.pairs) }
     ensures short { IfOk result (λ outcome. All (λ (list : List (List ℕ)). All IsShort list) outcome.sent) }
-    ensures under { IfOk result (HasForwardedUnder hands F.Fn chain.now wire manner config packets.now frames.items) }
-    ensures forwarded { are_exact (rules_of chain.now) ≡ true → IfOk result (HasForwarded hands (ruled_by (rules_of chain.now) wire manner config packets.now) frames.items) }
+    ensures under { IfOk result (HasForwardedUnder hands F.Fn chain.old wire manner config packets.now frames.items) }
+    ensures forwarded { are_exact (rules_of chain.old) ≡ true → IfOk result (HasForwarded hands (ruled_by (rules_of chain.old) wire manner config packets.now) frames.items) }
 {
     let own = config.copy(alloc)?;
     let inputs = Inputs::split(alloc, &own, packets)?;
@@ -319,7 +329,6 @@ fn give_back<'a, V: Verdicts>(
     ensures sent { (hands : ℕ) (s : Setting) → HaveRun shared.now hands s members.entry.items → AreSent s (callers_of shared.now.setup.config) passes.new (map packets_in kept.new.sent.items) }
     ensures figures { (hands : ℕ) (s : Setting) → HaveRun shared.now hands s members.entry.items → AreFiguresOf s (callers_of shared.now.setup.config) passes.new kept.new.figures.items }
     ensures calls { result ≡ capped (calls_in 0 passes.new) }
-    ensures short { All HasShortPackets kept.new.sent.items }
 {
     let mut calls = 0u64;
     for member in members {
@@ -335,7 +344,6 @@ fn give_back<'a, V: Verdicts>(
 fn keep(kept: &mut Collected, left: Option<AnyWorker<'_>>, classes: u32)
     requires figures { vec_len kept.old.figures + length (figures_left classes left) ≤ vec_capacity kept.old.figures }
     requires sent { vec_len kept.old.sent + length (kept_left left) ≤ vec_capacity kept.old.sent }
-    ensures short { All HasShortPackets kept.old.sent.items → All HasShortPackets kept.new.sent.items }
     ensures room { (vec_capacity kept.new.figures ≡ vec_capacity kept.old.figures) × (vec_capacity kept.new.sent ≡ vec_capacity kept.old.sent) }
     ensures figures { kept.new.figures.items ≡ kept.old.figures.items ++ figures_left classes left.entry }
     ensures sent { map packets_in kept.new.sent.items ≡ map packets_in kept.old.sent.items ++ kept_left left.entry }

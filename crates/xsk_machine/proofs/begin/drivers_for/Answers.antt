@@ -1,17 +1,35 @@
-use Rattle.std.proofs.Common.{rules, ◌≡◌, ◌+◌, [], ◌∷◌, length, length-append, sym, ap, subst, ◌∙◌}
-use Rattle.xsk_driver.specs.Asking.{IsAnswer}
-use Rattle.xsk_machine.proofs.Making.{AreMade, made_more, all_new, all_asked}
+use Rattle.std.proofs.Common.{rules, ◌≡◌, ◌<◌, ◌+◌, [], ◌∷◌, length, length-append, sym, ap, subst, ◌∙◌}
+use Rattle.xsk_model.specs.Config.{pair_at}
+use Rattle.xsk_turns.specs.Workers.{packets_to}
+use Rattle.xsk_driver.specs.Asking.{IsAnswer, verdicts_in}
+use Rattle.xsk_driver.proofs.Asking.{all_given_before, same_all}
+use Rattle.xsk_machine.specs.Workers.{questions_to}
+use Rattle.xsk_machine.proofs.Making.{AreMade, made_more, all_new, all_asked, asked_none, asked_next, asked_all}
 use Rattle.xsk_machine.proofs.begin.drivers_for.Goals as goal
+
+pub loop-pair-init : goal.loop-pair-init
+loop-pair-init g c = (search rules, search rules, asked_none g.F.Fn c.args.config.now c.args.packets.now c.args.chain.now c.requires.obeys)
 
 pub loop-pair-preserved : goal.loop-pair-preserved
 loop-pair-preserved g c =
     let By = IsAnswer g.F.Fn c.args.chain.now in
     let driver = c.in_ok-driver_for.field-0 in
+    let at = pair_at c.args.config.now.pairs c.loop-pair.pair in
+    let below : c.loop-pair.pair < length c.args.config.now.pairs = search rules in
+    let asked = all_given_before g.F.Fn at.queue (packets_to c.args.config.now c.args.packets.now at) (verdicts_in driver.kept) c.args.chain.now c.loop-pair.chain c.loop-pair.invariant.2.same
+    c.in_ok-driver_for.ensures.asked in
     let made = made_more By c.args.config.now c.args.wire c.args.packets.now c.loop-pair.drivers.items c.loop-pair.pair driver c.loop-pair.invariant.1 c.loop-pair.invariant.0
-    (record { new = c.in_ok-driver_for.ensures.new; asked = c.in_ok-driver_for.ensures.asked; expected = c.in_ok-driver_for.ensures.expected }) in (
+    (record { new = c.in_ok-driver_for.ensures.new; asked = asked; expected = c.in_ok-driver_for.ensures.expected }) in (
       subst (AreMade By c.args.config.now c.args.wire c.args.packets.now) (sym c.in_ok-push.ensures.items) made,
       ap length c.in_ok-push.ensures.items ∙ length-append c.loop-pair.drivers.items (driver ∷ []) ∙ ap (λ n. n + 1) c.loop-pair.invariant.1,
+      asked_next g.F.Fn c.args.config.now c.args.packets.now c.args.chain.now c.loop-pair.pair c.loop-pair.chain c.driver_for.new.chain (verdicts_in driver.kept) below c.loop-pair.invariant.2
+          c.in_ok-driver_for.ensures.once c.driver_for.ensures.obeys,
     )
+
+pub returns-in_err-push-clause-same : goal.returns-in_err-push-clause-same
+returns-in_err-push-clause-same g c =
+    same_all g.F.Fn (questions_to c.args.config.now c.args.packets.now (pair_at c.args.config.now.pairs c.loop-pair.pair)) (verdicts_in c.in_ok-driver_for.field-0.kept) c.loop-pair.chain c.driver_for.new.chain
+    c.in_ok-driver_for.ensures.once ∙ c.loop-pair.invariant.2.same
 
 pub returns-clause-new : goal.returns-clause-new
 returns-clause-new g c =
@@ -21,3 +39,8 @@ pub returns-clause-asked : goal.returns-clause-asked
 returns-clause-asked g c =
     let count : length c.loop-pair.drivers.items ≡ length c.args.config.now.pairs = search rules in
     λ manner. all_asked (IsAnswer g.F.Fn c.args.chain.now) c.args.config.now c.args.wire c.args.packets.now c.loop-pair.drivers.items c.loop-pair.invariant.0 manner count
+
+pub returns-clause-once : goal.returns-clause-once
+returns-clause-once g c =
+    let all : c.loop-pair.pair ≡ length c.args.config.now.pairs = search rules in
+    asked_all g.F.Fn c.args.config.now c.args.packets.now c.args.chain.now c.loop-pair.pair c.loop-pair.chain all c.loop-pair.invariant.2

@@ -33,7 +33,6 @@ loop-seat-preserved c =
     ∙ ap (λ m. flat_map (λ s. figures_kept c.args.classes s.machine) c.loop-seat.yielded ++ figures_kept c.args.classes m) c.into_machine.ensures
     ∙ sym (flat_more (λ s. figures_kept c.args.classes s.machine) c.loop-seat.yielded seat) in
     record {
-      short = c.keep.ensures.short was.short;
       sent = sent;
       figures = figures;
       few_sent = omega (

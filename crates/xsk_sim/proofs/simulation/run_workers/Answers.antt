@@ -1,5 +1,6 @@
 use Rattle.std.proofs.Common.{◌≡◌, ℕ, List, length, ◌+◌, ◌≤◌, Err, sym, ap, ◌∙◌, refl, rules, arith}
 use Rattle.std.specs.Prelude.{is_some}
+use Rattle.xsk_model.specs.Config.{Config}
 use Rattle.xsk_turns.specs.declared.manner.Manner.{Manner}
 use Rattle.xsk_machine.specs.Sent.{SentShown}
 use Rattle.xsk_machine.specs.declared.figures.DriverFigures.{DriverFigures}
@@ -42,8 +43,8 @@ returns-clause-pairs c s frames seated =
     let had : HadRounds s frames c.args.order.number ended.0 w engine = ended.2 in
     ap (length {A = List (List ℕ)}) (ap (λ (x : SentShown). x.lists) c.into_sent-sent.ensures ∙ c.in_ok-kept.ensures.sent) ∙ lists_kept s frames had.history w engine had.seated
 
-pub into_sent-sent-requires-clause-few : goal.into_sent-sent-requires-clause-few
-into_sent-sent-requires-clause-few c =
+pub into_sent-sent-requires : goal.into_sent-sent-requires
+into_sent-sent-requires c =
     let r = c.requires.ready in
     let s = r.setting in
     let w = c.make_rounds.new.workers in
@@ -65,4 +66,4 @@ invariant_of-result c =
     let had : HadRounds s r.frames c.args.order.number ended.0 w engine = ended.2 in
     let all : length c.into_sent-sent.result.lists ≡ length s.config.pairs =
     ap (length {A = List (List ℕ)}) (ap (λ (x : SentShown). x.lists) c.into_sent-sent.ensures ∙ c.in_ok-kept.ensures.sent) ∙ lists_kept s r.frames had.history w engine had.seated in
-    omega (arith, all, had.seated.run.legal.opened.config.pairs_few)
+    all ∙ ap (λ (k : Config). length k.pairs) (sym had.seated.run.config)

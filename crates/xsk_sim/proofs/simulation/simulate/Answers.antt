@@ -3,7 +3,7 @@ use Rattle.std.specs.Prelude.{IfOk}
 use Rattle.xsk_model.specs.Config.{Config, IsConfig, classes_of}
 use Rattle.xsk_turns.specs.Workers.{Setting, AreGiven}
 use Rattle.xsk_driver.specs.Asking.{IsAnswer}
-use Rattle.xsk_machine.specs.Workers.{kept_in, setting_by}
+use Rattle.xsk_machine.specs.Workers.{kept_in, setting_by, IsAskedOnce}
 use Rattle.xsk_sim.proofs.Verdicts.{if_ok}
 use Rattle.xsk_sim.specs.Runs.{HasEnded, HasStalled}
 use Rattle.xsk_sim.specs.Seats.{AreSeated}
@@ -46,6 +46,12 @@ returns-clause-ended g c =
     if_ok c.run_workers.result (HasEnded s c.args.frames.items c.args.order) _ (λ run ended. record { verdicts = s.verdicts; asked = asked g c; ended = ended })
     (subst (λ (number : ℕ). IfOk c.run_workers.result (HasEnded s c.args.frames.items number)) c.new.ensures
     (c.run_workers.ensures.ended s c.args.frames.items c.requires.regular (seated g c) (c.classes-classes.ensures ∙ ap classes_of c.in_ok-shared.ensures) refl refl))
+
+pub returns-clause-once : goal.returns-clause-once
+returns-clause-once g c =
+    let s : Setting = setting_by c.args.config c.args.wire c.args.manner c.args.packets.now (kept_in c.in_ok-drivers.drivers.items) in
+    if_ok c.run_workers.result _ _ (λ run pairs. subst (λ (k : Config). IsAskedOnce g.F.Fn k c.args.packets.now c.args.chain.now c.drivers_for.new.chain) c.in_ok-shared.ensures c.in_ok-drivers.ensures.once)
+    (c.run_workers.ensures.pairs s c.args.frames.items (seated g c))
 
 pub returns-clause-pairs : goal.returns-clause-pairs
 returns-clause-pairs g c =

@@ -1,9 +1,6 @@
 use Rattle.std.proofs.Common.{rules, ◌≡◌, ℕ, ◌+◌, ◌<◌, Some, None, [], ◌∷◌, ◌++◌, length, set, map, get_or, sym, ap, subst, ◌∙◌, arith, length-append}
 use Rattle.std.specs.Vec.Iter.{into_iter_items}
-use Rattle.std.specs.Prelude.{All}
 use Rattle.std.proofs.lemmas.List.{length-map}
-use Rattle.std.proofs.lemmas.List.Elements.{All-nil}
-use Rattle.xsk_machine.specs.Acts.{HasShortPackets}
 use Rattle.xsk_model.specs.Config.{callers_of, classes_of}
 use Rattle.xsk_model.specs.Entry.{own}
 use Rattle.xsk_turns.specs.Counted.{capped}
@@ -29,7 +26,6 @@ loop-member-init g c =
       ap capped (sym (calls_none 0 c.args.passes.now (λ w below. taken.gone w (omega (arith, below, taken.length_is))))),
       c.requires.room.0,
       c.requires.room.1,
-      subst (All HasShortPackets) (sym c.requires.none.1) (All-nil HasShortPackets),
     )
 
 pub give-requires-clause-place : goal.give-requires-clause-place
@@ -130,5 +126,4 @@ loop-member-preserved g c =
           ∙ ap capped (sym (ap (calls_in 0) passes ∙ more)),
       omega (arith, c.loop-member.invariant.3, c.keep.ensures.room.0),
       omega (arith, c.loop-member.invariant.4, c.keep.ensures.room.1),
-      c.keep.ensures.short c.loop-member.invariant.5,
     )

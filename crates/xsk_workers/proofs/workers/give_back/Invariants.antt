@@ -1,9 +1,8 @@
-use Rattle.std.proofs.Common.{◌≡◌, ℕ, ◌+◌, ◌≤◌, length, map, vec_items, vec_capacity, All}
+use Rattle.std.proofs.Common.{◌≡◌, ℕ, ◌+◌, ◌≤◌, length, map, vec_items, vec_capacity}
 use Rattle.std.specs.Vec.Iter.{into_iter_items}
 use Rattle.xsk_turns.specs.Counted.{capped}
 use Rattle.xsk_turns.specs.Workers.{Setting}
 use Rattle.xsk_model.specs.Config.{callers_of}
-use Rattle.xsk_machine.specs.Acts.{HasShortPackets}
 use Rattle.xsk_workers.specs.Gathering.{HaveRun, HaveRunFrom, AreGiven, AreSent, AreFiguresOf, calls_in}
 use Rattle.xsk_workers.specs.Forwarded.{packets_in}
 use Rattle.xsk_workers.proofs.workers.give_back.Given as goal
@@ -19,4 +18,3 @@ invariant-loop-member g l =
     × (l.calls ≡ capped (calls_in 0 l.passes))
     × (length l.shared.setup.config.pairs ≤ vec_capacity l.kept.figures)
     × (length l.shared.setup.config.pairs ≤ vec_capacity l.kept.sent)
-    × All HasShortPackets (vec_items l.kept.sent)

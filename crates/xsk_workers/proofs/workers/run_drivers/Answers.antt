@@ -90,10 +90,10 @@ returns-clause-forwarded g c =
 pub returns-clause-short : goal.returns-clause-short
 returns-clause-short g c =
     subst (λ lists. All (λ (list : List (List ℕ)). All IsShort list) lists) (sym (ap (λ (x : SentShown). x.lists) c.into_sent-sent.ensures))
-    (All-map (λ (list : List (List ℕ)). All IsShort list) packets_in c.give_back-calls.new.kept.sent.items c.give_back-calls.ensures.short)
+    (All-map (λ (list : List (List ℕ)). All IsShort list) packets_in c.give_back-calls.new.kept.sent.items c.give_back-calls.new.kept.short)
 
-pub into_sent-sent-requires-clause-few : goal.into_sent-sent-requires-clause-few
-into_sent-sent-requires-clause-few g c =
+pub into_sent-sent-requires : goal.into_sent-sent-requires
+into_sent-sent-requires g c =
     let s : Setting = setting_by c.args.own.now c.args.wire c.args.manner c.args.packets.now g.V.Verdicts.verdicts in
     let config : s.config ≡ c.in-Ok.shared.setup.config = search rules in
     let seats : map member_seat c.run_crew-members.result.items ≡ map (seat_at c.args.hands s c.in-Ok.shared) (range_with_len 0 (callers_of c.in-Ok.shared.setup.config)) =
