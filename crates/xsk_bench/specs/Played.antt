@@ -1,7 +1,7 @@
 -- Histories in which drivers make their calls in rounds, and an application makes calls of its own between them: each driver's
 -- own calls and replies are a run of its turns, and the application's are whatever legal calls it made. All of this is this
 -- project's own.
-use Rattle.std.specs.Prelude.{◌≡◌, ◌⊎◌, ℕ, zero, suc, ◌+◌, ◌<◌, List, [], ◌++◌, length, vec_len}
+use Rattle.std.specs.Prelude.{◌≡◌, ◌⊎◌, ℕ, zero, suc, ◌+◌, ◌<◌, List, [], ◌++◌, flat_map, length, vec_len}
 use Rattle.std.specs.List.{range_with_len}
 use Rattle.xsk_umem.specs.Frame.{Frame}
 use Rattle.xsk_model.specs.Config.{Config}
@@ -9,6 +9,7 @@ use Rattle.xsk_model.specs.Entry.{Entry, own}
 use Rattle.xsk_model.specs.declared.call.Act.{Act}
 use Rattle.xsk_turns.specs.Stepping.{joined_ask, IsGivenBack}
 use Rattle.xsk_turns.specs.Workers.{Setting, IsWholeRun}
+use Rattle.xsk_driver.specs.Frames.{frames_kept}
 use Rattle.xsk_machine.specs.declared.inputs.Amount.{Amount}
 use Rattle.xsk_sim.specs.Rounds.{AreTurns}
 use Rattle.xsk_sim.specs.Seats.{EachFrom}
@@ -21,6 +22,10 @@ use Rattle.xsk_bench.specs.declared.seat.Seat.{Seat}
 -- a driver's next call, or its end
 abbrev pub act_of : Seat → Act
 act_of seat = joined_ask seat.ask seat.items
+
+-- the frames that the drivers have, by their pairs
+abbrev pub frames_with : List Seat → List Frame
+frames_with seats = flat_map (λ (seat : Seat). frames_kept seat.driver.kept) seats
 
 -- The driver of a pair stands at its seat for its own entries of a history. It is noted how many of its packets had their disposals
 -- at its last call, the batch is as it was given back, and there is room for so many sent packets and bytes.

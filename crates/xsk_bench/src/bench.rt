@@ -1,7 +1,12 @@
 //! The bench: drivers with their packets, and calls that are served.
+ghost use Rattle.std.specs.Prelude.{◌≡◌};
+ghost use Rattle.xsk_turns.specs.Giving.{with_frames};
+ghost use Rattle.xsk_bench.specs.Played.{frames_with};
+
 use crate::Traffic;
 use crate::begin::seat_drivers;
 use crate::play::Play;
+use crate::seat::Seat;
 use std::alloc::Global;
 use std::marker::Model;
 use thiserror::Error;
@@ -56,18 +61,19 @@ impl<'a> Bench<'a> {
     ghost use Rattle.xsk_model.specs.Legal.{IsLegal};
     ghost use Rattle.xsk_model.specs.Opening.{AreFrames};
     ghost use Rattle.xsk_model.specs.Rings.{caller_of};
-    ghost use Rattle.xsk_prog.specs.Chain.{AllObey};
+    ghost use Rattle.xsk_prog.specs.Chain.{AllObey, SamePrograms};
     ghost use Rattle.xsk_prog.specs.declared.rule.Verdict.{Verdict as AVerdict};
     ghost use Rattle.xsk_turns.specs.Workers.{Setting, AreGiven, input_of};
     ghost use Rattle.xsk_turns.specs.Sending.{sent_by_act};
     ghost use Rattle.xsk_driver.specs.Asking.{IsAnswer};
     ghost use Rattle.xsk_driver.specs.Sent.{Exceeds};
     ghost use Rattle.xsk_machine.specs.Figures.{figures_in};
-    ghost use Rattle.xsk_machine.specs.Workers.{setting_with};
+    ghost use Rattle.xsk_machine.specs.Workers.{IsAskedOnce, setting_with};
     ghost use Rattle.xsk_plain.specs.Engine.{frames_out};
     ghost use Rattle.xsk_log.specs.Left.{left_of};
     ghost use Rattle.xsk_log.specs.Log.{calls_of, entries_of};
-    ghost use Rattle.xsk_bench.specs.Played.{HasPlayed, IsGoing, act_of};
+    ghost use Rattle.xsk_bench.specs.Played.{HasPlayed, IsGoing, act_of, frames_with};
+    ghost use Rattle.xsk_turns.specs.Giving.{with_frames};
     ghost use Rattle.xsk_bench.specs.declared.seat.Seat.{Seat as ASeat};
     ghost use Rattle.xsk_bench.specs.Playing.{HadRound, HadRounds};
     ghost use Rattle.xsk_bench.specs.Serving.{Serves, IsIllegal, TellsWhy};
@@ -80,16 +86,19 @@ impl<'a> Bench<'a> {
         alloc: Global,
         traffic: &'a Traffic,
         frames: Frames,
-        chain: &Chain<F>,
+        chain: &mut Chain<F>,
         wire: Wire,
         room: Amount,
     ) -> Result<Bench<'a>, OutOfMemory>
         requires frames { AreFrames traffic.now.config.geometry frames.items }
-        requires obeys { AllObey F.Fn chain.now }
+        requires obeys { AllObey F.Fn chain.old }
         ensures opened { IfOk result (λ bench. (verdicts : List (List AVerdict))
-            × AreGiven (IsAnswer F.Fn chain.now) (setting_with traffic.now.config wire traffic.now.packets verdicts)
+            × AreGiven (IsAnswer F.Fn chain.old) (setting_with traffic.now.config wire traffic.now.packets verdicts)
             × HasPlayed (setting_with traffic.now.config wire traffic.now.packets verdicts) frames.items [] bench) }
         ensures room { IfOk result (λ bench. bench.room ≡ room) }
+        ensures once { IfOk result (λ bench. IsAskedOnce F.Fn traffic.now.config traffic.now.packets chain.old chain.new) }
+        ensures same { SamePrograms chain.old chain.new }
+        ensures obeys { AllObey F.Fn chain.new }
     {
         let config = traffic.config();
         let seats = seat_drivers(
@@ -211,13 +220,25 @@ impl<'a> Bench<'a> {
         Some(figures)
     }
 
-    /// Ends it all. The frames that stand in rings come back, ring by ring and in order; those that drivers and applications have
-    /// don't.
+    /// Ends it all. The frames that stand in rings come back, ring by ring and in order, in a queue that has room for all frames, and
+    /// behind them those that the drivers have, by their pairs. Those that applications have don't.
     pub fn close(self) -> Frames
-        ensures { result.items ≡ frames_out self.entry.checked.rings }
+        ensures frames { result ≡ with_frames (record result { items = frames_out self.entry.checked.rings }) (frames_with self.entry.seats.items) }
+        ensures limit { self.entry.checked.config.geometry.frames ≤ result.limit }
     {
         let Bench { play } = self;
-        let Play { checked, .. } = play;
-        checked.close()
+        let Play { checked, seats, .. } = play;
+        let mut frames = checked.close();
+        give_all(&mut frames, seats);
+        frames
+    }
+}
+
+/// Appends the frames that the drivers have, as many as there is room for.
+fn give_all(frames: &mut Frames, seats: Vec<Seat<'_>>)
+    ensures { frames.new ≡ with_frames frames.old (frames_with seats.entry.items) }
+{
+    for seat in seats {
+        seat.give_frames(frames);
     }
 }

@@ -11,10 +11,12 @@ ghost use Rattle.xsk_model.specs.Legal.{IsLegal};
 ghost use Rattle.xsk_model.specs.OtherWords.{changes};
 ghost use Rattle.xsk_model.specs.declared.call.Act.TheVariants.{Call as Calls};
 ghost use Rattle.xsk_model.specs.declared.call.Call.{Call as ACall};
+ghost use Rattle.xsk_turns.specs.Giving.{with_frames};
 ghost use Rattle.xsk_turns.specs.Stepping.{joined_ask, IsGivenBack};
 ghost use Rattle.xsk_turns.specs.Turns.{Judged};
 ghost use Rattle.xsk_turns.specs.Workers.{Setting};
 ghost use Rattle.xsk_turns.specs.declared.wire.Wire.{Wire as AWire};
+ghost use Rattle.xsk_driver.specs.Frames.{frames_kept};
 ghost use Rattle.xsk_driver.specs.Runs.{IsNew, StandsWith};
 ghost use Rattle.xsk_sim.specs.Rooms.{most_payload};
 ghost use Rattle.xsk_sim.specs.Turning.{HasRun, TakesTurn, Notes};
@@ -25,7 +27,7 @@ use xsk_driver::Driver;
 use xsk_machine::is_quiet;
 use xsk_model::Ask;
 use xsk_plain::Checked;
-use xsk_umem::Batch;
+use xsk_umem::{Batch, Frames};
 
 /// A driver with the call that it makes next (none where it has ended) and the batch in which the items of a Submit stand. It is
 /// noted how many of its packets had their disposals at its last call.
@@ -89,5 +91,13 @@ impl<'a> Seat<'a> {
         self.settled = settled;
         self.ask = self.driver.step(Some(answer), &mut self.items);
         still
+    }
+
+    /// Gives up the driver. The frames that it has go behind those of the queue, as many as it has room for.
+    pub(crate) fn give_frames(self, frames: &mut Frames)
+        ensures { frames.new ≡ with_frames frames.old (frames_kept self.entry.driver.kept) }
+    {
+        let Seat { driver, .. } = self;
+        let _sent = driver.into_parts(frames);
     }
 }
