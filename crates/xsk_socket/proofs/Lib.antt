@@ -1,4 +1,5 @@
 pub mod Accepted
+pub mod AllFrames
 pub mod Numbered
 pub mod Outcomes
 pub mod Refused

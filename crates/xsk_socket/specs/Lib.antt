@@ -1,5 +1,6 @@
 pub mod Bound
 pub mod Fits
+pub mod InPlace
 pub mod Layout
 pub mod Refusals
 pub mod Regular

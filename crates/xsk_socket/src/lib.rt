@@ -2,6 +2,7 @@
 #![tactic(auto)]
 
 mod error;
+mod frames;
 mod layout;
 mod numbering;
 mod seal;
@@ -9,6 +10,7 @@ mod setup;
 mod socket;
 
 pub use error::SetupError;
+pub use frames::all_frames;
 pub use layout::{Layout, Unlawful, check_layout};
 pub use numbering::regular;
 pub use setup::{
