@@ -4,5 +4,4 @@ pub mod Unique
 pub mod CaptureLaws
 pub mod Loops
 pub mod Writing
-pub mod Filling
 pub mod LaidRecords

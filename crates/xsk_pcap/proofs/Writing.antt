@@ -88,12 +88,6 @@ IsKept-lists text counts number lists t c n writable =
       },
     )
 
--- what is kept of one list
-pub IsKept-one : (text counts : List ℕ) (number : ℕ) (list : List (List ℕ)) → text ≡ written (list ∷ []) → counts ≡ number ∷ [] → number ≡ length list → IsWritable (list ∷ [])
-    → (lists_in text counts number ≡ list ∷ []) × IsKept text counts number
-IsKept-one text counts number list t c n writable =
-    IsKept-lists text counts number (list ∷ []) t (c ∙ ap (λ (k : ℕ). k ∷ []) n) (n ∙ ap length (sym (append-nil list))) writable
-
 -- one list more
 pub IsKept-push : (text counts text' counts' : List ℕ) (number n : ℕ) (old : List (List (List ℕ))) (list : List (List ℕ)) → lists_in text counts number ≡ old → IsKept text counts number → IsWritable (old ++ list ∷ [])
     → text' ≡ text ++ text_of number list → counts' ≡ counts ++ n ∷ [] → n ≡ length list

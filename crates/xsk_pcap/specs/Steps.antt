@@ -1,6 +1,6 @@
--- What the steps of reading a capture find, and what those of writing one into gaps begin with.
+-- What the steps of reading a capture find.
 use Rattle.std.specs.Prelude.{◌≡◌, ℕ, ◌≤◌, IsTrue, List, [], ◌++◌, length, drop, map}
-use Rattle.xsk_umem.specs.Span.{at_span, AreInText, end_of, spans_from}
+use Rattle.xsk_umem.specs.Span.{at_span, AreInText}
 use Rattle.xsk_umem.specs.declared.packet_list.Span.{Span}
 use Rattle.xsk_pcap.specs.declared.endianness.Endianness.{Endianness}
 use Rattle.xsk_pcap.specs.Numbers.{number_in}
@@ -25,9 +25,3 @@ pub record BeginsRecord (order : Endianness) (bytes packet rest : List ℕ) : Ty
 pub record Finds (order : Endianness) (bytes : List ℕ) (spans : List Span) : Type 0 where
   pub begins : Begins order bytes (map (at_span bytes) spans) []
   pub are : AreInText bytes spans
-
--- the packets stand in the text behind the gaps of a capture's headers, and there is nothing else
-pub record HasGaps (text : List ℕ) (spans : List Span) : Type 0 where
-  pub are : AreInText text spans
-  pub spaced : spans ≡ spans_from 24 16 (map (at_span text) spans)
-  pub end : end_of 24 spans ≡ length text

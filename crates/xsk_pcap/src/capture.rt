@@ -1,22 +1,18 @@
-//! A capture as it is written.
-ghost use Rattle.std.specs.Prelude.{◌≡◌, ◌+◌, ◌*◌, ◌/◌, ◌%◌, ◌^◌, ◌<◌, ◌≤◌, [], ◌∷◌, ◌++◌, length, map, vec_capacity, Some, ◌↔◌, IfErr, IfOk, IsOk, OnOk, OnErr};
+//! A capture as it is written of lists that are copied into it.
+ghost use Rattle.std.specs.Prelude.{◌≡◌, ◌+◌, ◌*◌, ◌/◌, ◌%◌, ◌^◌, ◌<◌, ◌≤◌, [], ◌∷◌, ◌++◌, length, vec_capacity, IfOk, OnOk, OnErr};
 ghost use Rattle.std.specs.List.{concat, AllByRecursion};
-ghost use Rattle.xsk_umem.specs.Span.{at_span};
 ghost use Rattle.xsk_pcap.specs.declared.endianness.Endianness.TheVariants.{Little};
 ghost use Rattle.xsk_pcap.specs.Capture.{record_bytes, IsShort};
-ghost use Rattle.xsk_pcap.specs.Steps.{HasGaps};
-ghost use Rattle.xsk_pcap.specs.Laid.{IsLaid, capture_gaps};
 ghost use Rattle.xsk_pcap.specs.Written.{written, header_of, written_record, text_of, IsWritable};
 
 use crate::reading::{FILE_HEADER, RECORD_HEADER};
 use byteorder::{ByteOrder, LittleEndian};
 use std::alloc::Global;
 use std::marker::Model;
-use thiserror::Error;
-use xsk_umem::{Gaps, OutOfMemory, PacketList, Parts, Span};
+use xsk_umem::{Gaps, OutOfMemory, PacketList};
 
-/// The gaps with which a list becomes a capture without a copy: one holds the file header, and the others the headers of
-/// the records.
+/// The gaps with which a list becomes a capture where it stands ([`lay`](crate::lay)): one holds the file header, and the
+/// others the headers of the records.
 pub const GAPS: Gaps = Gaps {
     first: FILE_HEADER,
     before_each: RECORD_HEADER,
@@ -27,13 +23,6 @@ pub(crate) const WRITTEN_HEADER: [u8; 24] = [
     0xd4, 0xc3, 0xb2, 0xa1, 0x02, 0x00, 0x04, 0x00, 0x00, 0x00, 0x00, 0x00, 0x00, 0x00, 0x00, 0x00,
     0x00, 0x00, 0x04, 0x00, 0x01, 0x00, 0x00, 0x00,
 ];
-
-/// Memory for a capture couldn't be had. The list comes back.
-#[derive(Debug, Drop, Error)]
-#[error("out of memory")]
-pub struct CaptureRefused {
-    pub list: PacketList,
-}
 
 /// A capture that is being written, seen as the lists of packets that have been added.
 #[derive(Debug, Drop)]
@@ -70,53 +59,6 @@ impl Capture {
         })
     }
 
-    /// A capture of the packets of one list, within the limits of [`add`](Capture::add). Where the list has the [`GAPS`] the
-    /// headers are written into them, and no packet is copied. It is refused for want of memory alone.
-    pub fn of(alloc: Global, list: PacketList) -> Result<Capture, CaptureRefused>
-        requires { IsWritable (list.packets ∷ []) }
-        ensures made { IfOk result (λ capture. capture ≡ list.packets ∷ []) }
-        ensures refused { IfErr result (λ back. back.list ≡ list) }
-    {
-        let Ok(counts) = Vec::with_capacity(alloc, 1) else {
-            return Err(CaptureRefused { list });
-        };
-        match write_in_gaps(list) {
-            Ok(laid) => Ok(Capture::of_laid(counts, laid)),
-            Err(list) => match Capture::copied(alloc, &list) {
-                Ok(capture) => Ok(capture),
-                Err(_) => Err(CaptureRefused { list }),
-            },
-        }
-    }
-
-    /// A capture of the packets of one list, which are copied into it.
-    fn copied(alloc: Global, list: &PacketList) -> Result<Capture, OutOfMemory>
-        requires { IsWritable (list.now.packets ∷ []) }
-        ensures { IfOk result (λ capture. capture ≡ list.now.packets ∷ []) }
-    {
-        let mut capture = Capture::start(alloc)?;
-        capture.add(list)?;
-        Ok(capture)
-    }
-
-    /// A capture of the one list that has been laid out as one, with room for its number of packets.
-    fn of_laid(counts: Vec<u32>, laid: Laid) -> Capture
-        requires laid { IsLaid (map (at_span laid.text.items) laid.spans.items) laid.text.items laid.spans.items }
-        requires writable { IsWritable (map (at_span laid.text.items) laid.spans.items ∷ []) }
-        requires room { (counts.items ≡ []) × (1 ≤ vec_capacity counts) }
-        ensures { result ≡ map (at_span laid.text.items) laid.spans.items ∷ [] }
-    {
-        let Laid { text, spans } = laid;
-        let number = spans.len() as u32;
-        let mut counts = counts;
-        counts.push_reserved(number);
-        Capture {
-            text,
-            counts,
-            number,
-        }
-    }
-
     /// Adds the packets of a list. Each has at most 262,144 bytes, and all that are added have at most 65,536 packets and
     /// 33,554,432 bytes. Where memory can't be had the capture stays as it was.
     pub fn add(&mut self, list: &PacketList) -> Result<(), OutOfMemory>
@@ -140,41 +82,6 @@ impl Capture {
     {
         self.text
     }
-}
-
-/// What a list has become in whose gaps the headers of its capture are.
-#[derive(Debug, Drop)]
-pub struct Laid {
-    /// The bytes of the capture.
-    pub text: Vec<u8>,
-    /// Where the list's packets stand in it.
-    pub spans: Vec<Span>,
-}
-
-/// Writes the capture of a list, within the limits of [`Capture::add`], into the list's own text, exactly where it has the
-/// [`GAPS`] for the headers. A list without them comes back as it was. It copies no packet and takes no memory.
-pub fn write_in_gaps(list: PacketList) -> Result<Laid, PacketList>
-    requires { IsWritable (list.packets ∷ []) }
-    ensures gaps { IsOk result ↔ (list.gaps ≡ Some capture_gaps) }
-    ensures laid { IfOk result (λ laid. IsLaid list.packets laid.text.items laid.spans.items) }
-    ensures refused { IfErr result (λ other. other ≡ list) }
-{
-    if list.gaps() != Some(GAPS) {
-        return Err(list);
-    }
-    let Parts { text, spans, .. } = list.into_parts();
-    Ok(lay(text, spans))
-}
-
-/// Writes the headers of a capture into the gaps of a text.
-fn lay(text: Vec<u8>, spans: Vec<Span>) -> Laid
-    requires gaps { HasGaps text.items spans.items }
-    requires writable { IsWritable (map (at_span text.items) spans.items ∷ []) }
-    ensures { IsLaid (map (at_span text.items) spans.items) result.text.items result.spans.items }
-{
-    let mut text = text;
-    fill_gaps(text.as_mut_slice(), spans.as_slice());
-    Laid { text, spans }
 }
 
 /// The bytes of the records of a list's packets.
@@ -211,21 +118,6 @@ fn append_record(text: &mut Vec<u8>, number: u32, packet: &[u8])
     let header = record_header(number, packet.len() as u32);
     text.extend_from_slice(&header).unwrap();
     text.extend_from_slice(packet).unwrap();
-}
-
-/// Writes the file header and the headers of the records into the gaps of a text.
-fn fill_gaps(text: &mut [u8], spans: &[Span])
-    requires gaps { HasGaps text.old spans.now }
-    requires short { AllByRecursion IsShort (map (at_span text.old) spans.now) }
-    requires few { length spans.now < 2 ^ 32 }
-    ensures { text.new ≡ written (map (at_span text.old) spans.now ∷ []) }
-{
-    text[..FILE_HEADER as usize].copy_from_slice(&WRITTEN_HEADER);
-    for number in 0..spans.len() as u32 {
-        let span = spans[number as usize];
-        let header = record_header(number, span.len as u32);
-        text[span.start - RECORD_HEADER as usize..span.start].copy_from_slice(&header);
-    }
 }
 
 /// Seconds, microseconds, captured length and original length.

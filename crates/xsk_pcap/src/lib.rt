@@ -7,7 +7,7 @@ mod headers;
 pub mod laws;
 mod reading;
 
-pub use capture::{Capture, CaptureRefused, GAPS, Laid, write_in_gaps};
+pub use capture::{Capture, GAPS};
 pub use endianness::Endianness;
 pub use headers::{CaptureHeaders, lay};
 pub use reading::{BadCapture, ReadRefused, read};
