@@ -1,5 +1,5 @@
 //! The command that clap is given, and what it finds in the words.
-ghost use Rattle.std.specs.Prelude.{◌≡◌, false, fold, map, string_bytes, IfOk, None, IsErrOf};
+ghost use Rattle.std.specs.Prelude.{◌≡◌, false, true, fold, map, string_bytes, IfOk, None, IsErrOf};
 ghost use Rattle.std.specs.List.{flat_map};
 ghost use Rattle.clap.specs.Words.{app_of, rule_of, with_rule};
 ghost use Rattle.xsk_args.specs.Words.{spoken};
@@ -91,11 +91,18 @@ fn option<'a>(alloc: Global, row: OptionRow) -> Arg<'a>
     ensures rule { rule_of result ≡ option_rule (stated row) }
     ensures local { result.global ≡ false }
 {
-    let option = Arg::new(alloc, row.name)
-        .long(row.name)
-        .action(ArgAction::Set);
     match row.takes {
-        Takes::Nothing => option.num_args(0),
-        Takes::Number | Takes::Program | Takes::OneOf(_) | Takes::AnyText => option,
+        Takes::Nothing => valued(alloc, row.name).num_args(0),
+        Takes::Number | Takes::Program | Takes::OneOf(_) | Takes::AnyText => {
+            valued(alloc, row.name)
+        }
     }
+}
+
+/// An option of this name that has one value.
+fn valued<'a>(alloc: Global, name: &'static str) -> Arg<'a>
+    ensures rule { rule_of result ≡ option_rule (record { name = name.now; has_value = true }) }
+    ensures local { result.global ≡ false }
+{
+    Arg::new(alloc, name).long(name).action(ArgAction::Set)
 }

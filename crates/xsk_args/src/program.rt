@@ -7,7 +7,7 @@ ghost use Rattle.xsk_args.specs.Program.{behind, bouncing_in, ether_type_in, fix
 use crate::number::parse_number;
 
 /// What decides of each packet, as an option names it.
-#[derive(Clone, Copy, Debug, Default, PartialEq, Eq)]
+#[derive(Clone, Copy, Default)]
 pub enum Program {
     /// `redirect`: each packet is redirected.
     #[default]

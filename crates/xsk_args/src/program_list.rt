@@ -10,7 +10,7 @@ use std::marker::Model;
 const MOST_PROGRAMS: usize = 8;
 
 /// At most eight programs, in the order in which they are asked. Contracts see the list of them.
-#[derive(Debug, Drop)]
+#[derive(Drop)]
 pub struct ProgramList {
     list: ArrayVec<Program, MOST_PROGRAMS>,
 }

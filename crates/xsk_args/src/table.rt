@@ -1,7 +1,7 @@
 //! The tables of a command's options.
 
 /// What value an option takes.
-#[derive(Clone, Copy, Debug, PartialEq, Eq)]
+#[derive(Clone, Copy)]
 pub enum Takes {
     /// None: the option is a flag.
     Nothing,
@@ -16,7 +16,7 @@ pub enum Takes {
 }
 
 /// An option that a command has.
-#[derive(Clone, Copy, Debug, PartialEq, Eq)]
+#[derive(Clone, Copy)]
 pub struct OptionRow {
     /// The name without its two hyphens.
     pub name: &'static str,

@@ -91,12 +91,32 @@ who_at pairs xs =
     choose (word_at (codes "d") xs) (λ rest. small_at rest >>= driver_of pairs)
     (choose (word_at (codes "a") xs) (λ rest. small_at rest >>= application_of pairs) None)
 
+-- the ring of this one's kind with a number
+abbrev pub ring_like : Ring → ℕ → Ring
+ring_like (Fill _) n = Fill n
+ring_like (Comp _) n = Comp n
+ring_like (Rx _) n = Rx n
+ring_like (Tx _) n = Tx n
+
 unfoldable pub ring_at : List ℕ → Reads Ring
 ring_at xs =
     choose (word_at (codes "fill.") xs) (numbered Fill)
     (choose (word_at (codes "comp.") xs) (numbered Comp)
     (choose (word_at (codes "rx.") xs) (numbered Rx)
     (choose (word_at (codes "tx.") xs) (numbered Tx) None)))
+
+-- the mark of this one's kind with a number, of a cell its second
+abbrev pub mark_like : Mark → ℕ → Mark
+mark_like (NeedFill _) n = NeedFill n
+mark_like (NeedTx _) n = NeedTx n
+mark_like (Kick _) n = Kick n
+mark_like (RxDone _) n = RxDone n
+mark_like (Gone _) n = Gone n
+mark_like (TxDone _) n = TxDone n
+mark_like (Cell port _) n = Cell port n
+mark_like (Closing _) n = Closing n
+mark_like (Acked _) n = Acked n
+mark_like (Bounced _) n = Bounced n
 
 unfoldable pub cell_at : List ℕ → Reads Mark
 cell_at xs = small_at xs >>= λ port. word_at (codes ".") port.1 >>= λ rest. small_at rest >>= λ index. Some (Cell port.0 index.0, index.1)

@@ -62,7 +62,7 @@ pub fn audit(
 }
 
 /// How many lines of a text are those of a log's entries, up to the first that isn't, and whether these are all its lines.
-#[derive(Clone, Copy, Debug)]
+#[derive(Clone, Copy)]
 struct Compared {
     same: u64,
     whole: bool,

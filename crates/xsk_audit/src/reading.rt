@@ -12,7 +12,7 @@ use xsk_model::{Ask, Ring};
 use xsk_umem::{Batch, Item};
 
 /// What a line tells, but for its reply. The items of a Submit stand in a batch beside it, without frames.
-#[derive(Clone, Copy, Debug)]
+#[derive(Clone, Copy)]
 pub(crate) struct Reading {
     pub(crate) round: u64,
     pub(crate) who: u32,

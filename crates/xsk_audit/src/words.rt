@@ -1,6 +1,6 @@
 //! The words of a journal's line: callers, rings, marks and items.
 ghost use Rattle.std.specs.Prelude.{◌≡◌};
-ghost use Rattle.xsk_audit.specs.Reading.{read_view, text_view, word_at, who_at, ring_at, cell_at, mark_at, other_mark_at, desc_at, begins_item};
+ghost use Rattle.xsk_audit.specs.Reading.{read_view, text_view, word_at, who_at, ring_at, ring_like, cell_at, mark_at, mark_like, numbered, other_mark_at, desc_at, begins_item};
 
 use crate::number::{number, small};
 use xsk_model::{Mark, Ring};
@@ -45,20 +45,36 @@ pub(crate) fn ring(text: &[u8]) -> Option<(Ring, &[u8])>
     ensures { read_view result ≡ ring_at text.now }
 {
     if let Some(rest) = word(text, b"fill.".as_slice()) {
-        let (pair, rest) = small(rest)?;
-        return Some((Ring::Fill(pair), rest));
+        return numbered_ring(Ring::Fill(0), rest);
     }
     if let Some(rest) = word(text, b"comp.".as_slice()) {
-        let (pair, rest) = small(rest)?;
-        return Some((Ring::Comp(pair), rest));
+        return numbered_ring(Ring::Comp(0), rest);
     }
     if let Some(rest) = word(text, b"rx.".as_slice()) {
-        let (socket, rest) = small(rest)?;
-        return Some((Ring::Rx(socket), rest));
+        return numbered_ring(Ring::Rx(0), rest);
     }
     let rest = word(text, b"tx.".as_slice())?;
-    let (socket, rest) = small(rest)?;
-    Some((Ring::Tx(socket), rest))
+    numbered_ring(Ring::Tx(0), rest)
+}
+
+/// A ring of this one's kind, with the number at the front of a text.
+fn numbered_ring(kind: Ring, text: &[u8]) -> Option<(Ring, &[u8])>
+    ensures { read_view result ≡ numbered (ring_like kind) text.now }
+{
+    let (number, rest) = small(text)?;
+    Some((ring_like(kind, number), rest))
+}
+
+/// The ring of this one's kind with a number.
+fn ring_like(kind: Ring, number: u32) -> Ring
+    ensures { result ≡ ring_like kind number }
+{
+    match kind {
+        Ring::Fill(_) => Ring::Fill(number),
+        Ring::Comp(_) => Ring::Comp(number),
+        Ring::Rx(_) => Ring::Rx(number),
+        Ring::Tx(_) => Ring::Tx(number),
+    }
 }
 
 #[tactic(auto, unfolding(crate::specs::Reading::mark_at))]
@@ -66,28 +82,22 @@ pub(crate) fn mark(text: &[u8]) -> Option<(Mark, &[u8])>
     ensures { read_view result ≡ mark_at text.now }
 {
     if let Some(rest) = word(text, b"need.fill.".as_slice()) {
-        let (pair, rest) = small(rest)?;
-        return Some((Mark::NeedFill(pair), rest));
+        return numbered_mark(Mark::NeedFill(0), rest);
     }
     if let Some(rest) = word(text, b"need.tx.".as_slice()) {
-        let (socket, rest) = small(rest)?;
-        return Some((Mark::NeedTx(socket), rest));
+        return numbered_mark(Mark::NeedTx(0), rest);
     }
     if let Some(rest) = word(text, b"kick.".as_slice()) {
-        let (pair, rest) = small(rest)?;
-        return Some((Mark::Kick(pair), rest));
+        return numbered_mark(Mark::Kick(0), rest);
     }
     if let Some(rest) = word(text, b"rxdone.".as_slice()) {
-        let (pair, rest) = small(rest)?;
-        return Some((Mark::RxDone(pair), rest));
+        return numbered_mark(Mark::RxDone(0), rest);
     }
     if let Some(rest) = word(text, b"gone.".as_slice()) {
-        let (pair, rest) = small(rest)?;
-        return Some((Mark::Gone(pair), rest));
+        return numbered_mark(Mark::Gone(0), rest);
     }
     if let Some(rest) = word(text, b"txdone.".as_slice()) {
-        let (application, rest) = small(rest)?;
-        return Some((Mark::TxDone(application), rest));
+        return numbered_mark(Mark::TxDone(0), rest);
     }
     other_mark(text)
 }
@@ -101,16 +111,39 @@ fn other_mark(text: &[u8]) -> Option<(Mark, &[u8])>
         return cell(rest);
     }
     if let Some(rest) = word(text, b"closing.".as_slice()) {
-        let (socket, rest) = small(rest)?;
-        return Some((Mark::Closing(socket), rest));
+        return numbered_mark(Mark::Closing(0), rest);
     }
     if let Some(rest) = word(text, b"acked.".as_slice()) {
-        let (socket, rest) = small(rest)?;
-        return Some((Mark::Acked(socket), rest));
+        return numbered_mark(Mark::Acked(0), rest);
     }
     let rest = word(text, b"bounced.".as_slice())?;
-    let (pair, rest) = small(rest)?;
-    Some((Mark::Bounced(pair), rest))
+    numbered_mark(Mark::Bounced(0), rest)
+}
+
+/// A mark of this one's kind, with the number at the front of a text. A cell keeps its port.
+fn numbered_mark(kind: Mark, text: &[u8]) -> Option<(Mark, &[u8])>
+    ensures { read_view result ≡ numbered (mark_like kind) text.now }
+{
+    let (number, rest) = small(text)?;
+    Some((mark_like(kind, number), rest))
+}
+
+/// The mark of this one's kind with a number. A cell keeps its port.
+fn mark_like(kind: Mark, number: u32) -> Mark
+    ensures { result ≡ mark_like kind number }
+{
+    match kind {
+        Mark::NeedFill(_) => Mark::NeedFill(number),
+        Mark::NeedTx(_) => Mark::NeedTx(number),
+        Mark::Kick(_) => Mark::Kick(number),
+        Mark::RxDone(_) => Mark::RxDone(number),
+        Mark::Gone(_) => Mark::Gone(number),
+        Mark::TxDone(_) => Mark::TxDone(number),
+        Mark::Cell(port, _) => Mark::Cell(port, number),
+        Mark::Closing(_) => Mark::Closing(number),
+        Mark::Acked(_) => Mark::Acked(number),
+        Mark::Bounced(_) => Mark::Bounced(number),
+    }
 }
 
 #[tactic(auto, unfolding(crate::specs::Reading::cell_at))]

@@ -18,7 +18,7 @@ pub enum Stream {
 }
 
 /// The kinds of calls, each of which has its own counts of faults.
-#[derive(Clone, Copy, Debug, PartialEq, Eq)]
+#[derive(Clone, Copy)]
 pub enum Kind {
     Open,
     Read,
@@ -27,7 +27,7 @@ pub enum Kind {
 
 /// A write that was made: how many bytes it offered to a stream, and how many of them were taken, which are none where it
 /// failed.
-#[derive(Clone, Copy, Debug, PartialEq, Eq)]
+#[derive(Clone, Copy)]
 pub struct Offer {
     pub stream: Stream,
     pub len: usize,

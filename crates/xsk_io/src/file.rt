@@ -1,7 +1,7 @@
 //! The bay over real files and the standard output.
 ghost use Rattle.std.specs.Prelude.{◌≡◌, ◌≢◌, ℕ, ◌+◌, ◌-◌, ◌^◌, ◌<◌, ◌≤◌, false, true, None, min, length, replicate, is_some, IsSome, IfOk, OnOk, OnErr, slice_index, slice_index_or, slice_set};
 ghost use Rattle.xsk_io.specs.Bay.{HasNumber, SameBut};
-ghost use Rattle.xsk_io.specs.Files.{StreamCounts, FilesState, no_counts, no_files, count_of, files_moment};
+ghost use Rattle.xsk_io.specs.Files.{StreamCounts, FilesState, no_counts, no_files, count_of, files_moment, is_file_open};
 
 use crate::counts::Counts;
 use crate::{Bay, BayFailed, Stream};
@@ -112,16 +112,23 @@ fn write_open<F: Write>(slot: &mut Option<F>, piece: &[u8]) -> Result<usize, Bay
     }
 }
 
+/// Opens an input, or makes an output, once.
+fn open_once<R: Files>(rt: &R, stream: Stream, name: &str) -> io::Result<R::File> {
+    match stream {
+        Stream::Input(_) => fs::open(rt, name),
+        Stream::Output(_) | Stream::Report => fs::create(rt, name),
+    }
+}
+
 fn open_again<R: Files>(rt: &R, stream: Stream, name: &str) -> Result<R::File, BayFailed> {
     for _ in 0..TRIES {
-        let opened = match stream {
-            Stream::Input(_) => fs::open(rt, name),
-            Stream::Output(_) | Stream::Report => fs::create(rt, name),
-        };
-        match opened {
+        match open_once(rt, stream, name) {
             Ok(file) => return Ok(file),
-            Err(error) if error.kind() == ErrorKind::Interrupted => {}
-            Err(_) => break,
+            Err(error) => {
+                if is_final(&error) {
+                    break;
+                }
+            }
         }
     }
     Err(BayFailed)
@@ -133,8 +140,11 @@ fn read_again<F: Read>(file: &mut F, buf: &mut [u8]) -> Result<usize, BayFailed>
     for _ in 0..TRIES {
         match file.read(buf) {
             Ok(count) => return Ok(count),
-            Err(error) if error.kind() == ErrorKind::Interrupted => {}
-            Err(_) => break,
+            Err(error) => {
+                if is_final(&error) {
+                    break;
+                }
+            }
         }
     }
     Err(BayFailed)
@@ -148,11 +158,19 @@ fn write_again<F: Write>(file: &mut F, piece: &[u8]) -> Result<usize, BayFailed>
         match file.write(piece) {
             Ok(0) if !piece.is_empty() => break,
             Ok(count) => return Ok(count),
-            Err(error) if error.kind() == ErrorKind::Interrupted => {}
-            Err(_) => break,
+            Err(error) => {
+                if is_final(&error) {
+                    break;
+                }
+            }
         }
     }
     Err(BayFailed)
+}
+
+/// Whether a call that failed so isn't made again: it wasn't interrupted.
+fn is_final(error: &io::Error) -> bool {
+    error.kind() != ErrorKind::Interrupted
 }
 
 /// The bay over real files and the standard output, which is the report.
@@ -196,6 +214,21 @@ impl<R: Files + Drop> FileBay<R> {
             writes: Counts::new(),
         }
     }
+
+    /// Keeps the file of an input or an output.
+    fn keep(&mut self, stream: Stream, file: R::File)
+        requires numbered { HasNumber stream }
+        requires not_report { stream ≢ Stream.Report }
+        ensures opened { is_file_open self.new stream ≡ true }
+        ensures others { SameBut stream (is_file_open self.old) (is_file_open self.new) }
+        ensures counts { (self.new.opens ≡ self.old.opens) × (self.new.reads ≡ self.old.reads) × (self.new.writes ≡ self.old.writes) }
+    {
+        match stream {
+            Stream::Input(number) => self.inputs.put(number, file),
+            Stream::Output(number) => self.outputs.put(number, file),
+            Stream::Report => unreachable!(),
+        }
+    }
 }
 
 impl<R: Files + Print + Drop> Bay for FileBay<R> {
@@ -204,11 +237,7 @@ impl<R: Files + Print + Drop> Bay for FileBay<R> {
     fn open(&mut self, stream: Stream, name: &str) -> Result<(), BayFailed> {
         let outcome = open_again(&self.rt, stream, name);
         let file = self.opens.note(stream, outcome)?;
-        match stream {
-            Stream::Input(number) => self.inputs.put(number, file),
-            Stream::Output(number) => self.outputs.put(number, file),
-            Stream::Report => unreachable!(),
-        }
+        self.keep(stream, file);
         Ok(())
     }
 

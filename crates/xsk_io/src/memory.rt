@@ -1,5 +1,5 @@
 //! Streams that are kept in memory, for the bays that stand over none but memory.
-ghost use Rattle.std.specs.Prelude.{◌≡◌, ◌≢◌, ℕ, ◌<◌, false, true, None, [], min, length, take, drop, map, replicate, slice_index_or, IfOk, IfErr, IfSome};
+ghost use Rattle.std.specs.Prelude.{◌≡◌, ◌≢◌, ℕ, ◌<◌, false, true, Some, None, [], min, length, nat_le, if◌then◌else◌, take, drop, map, replicate, slice_index_or, IfOk, IfErr, IfSome};
 ghost use Rattle.std.specs.Vec.Iter.{into_iter_items};
 ghost use Rattle.std.specs.Option.{option_map};
 ghost use Rattle.xsk_io.specs.Bay.{HasNumber, IsInput, TakesWrites};
@@ -44,15 +44,20 @@ impl Name {
     fn keep(&mut self, name: &str)
         ensures { self.new ≡ told_name name.now }
     {
-        let word = name.as_bytes();
-        let len = word.len();
-        if len <= LONGEST_NAME {
-            self.bytes[..len].copy_from_slice(word);
-            self.len = Some(len);
-        } else {
-            self.len = None;
-        }
+        self.len = put_front(name.as_bytes(), &mut self.bytes);
     }
+}
+
+/// Puts a text at the front of a room in which it finds place, and gives its length.
+fn put_front(text: &[u8], room: &mut [u8]) -> Option<usize>
+    ensures { option_map (λ len. take len room.new) result ≡ (if nat_le (length text.now) (length room.old) then Some text.now else None) }
+{
+    let len = text.len();
+    if len > room.len() {
+        return None;
+    }
+    room[..len].copy_from_slice(text);
+    Some(len)
 }
 
 /// An input, read up to `at`.
@@ -105,12 +110,20 @@ impl Source {
         ensures bytes { take result buf.new ≡ take result self.old.left }
         ensures after { self.new ≡ read_input self.old result }
     {
-        let rest = &self.bytes.as_slice()[self.at..];
-        let count = buf.len().min(rest.len());
-        buf[..count].copy_from_slice(&rest[..count]);
+        let count = copy_front(&self.bytes.as_slice()[self.at..], buf);
         self.at += count;
         count
     }
+}
+
+/// Copies the front of a text that finds place in a buffer, and tells how long it is.
+fn copy_front(text: &[u8], buf: &mut [u8]) -> usize
+    ensures count { result ≡ min (length buf.old) (length text.now) }
+    ensures bytes { take result buf.new ≡ take result text.now }
+{
+    let count = buf.len().min(text.len());
+    buf[..count].copy_from_slice(&text[..count]);
+    count
 }
 
 /// An output or the report, told until a write has passed its room.

@@ -80,7 +80,7 @@ pub fn read_whole<B: Bay>(
     ensures never_falls { (B.moment bay.old).faults Kind.Read stream ≤ (B.moment bay.new).faults Kind.Read stream }
     ensures counts { CountsOnly Kind.Read stream (B.moment bay.old).faults (B.moment bay.new).faults }
 {
-    let mut piece = new_piece(alloc)?;
+    let mut piece = new_piece(alloc, PIECE)?;
     let mut bytes = Vec::new(alloc);
     while bytes.len() <= limit {
         let count = bay.read(stream, piece.as_mut_slice())?;
@@ -92,11 +92,11 @@ pub fn read_whole<B: Bay>(
     Err(ReadError::TooLong)
 }
 
-/// Room for one read. What it holds is of no account.
-fn new_piece(alloc: Global) -> Result<Vec<u8>, AllocError>
-    ensures { IfOk result (λ piece. 0 < length piece.items) }
+/// Room for one read of so many bytes. What it holds is of no account.
+fn new_piece(alloc: Global, len: usize) -> Result<Vec<u8>, AllocError>
+    ensures { IfOk result (λ piece. length piece.items ≡ len) }
 {
-    vec![in alloc; 0u8; PIECE]
+    vec![in alloc; 0u8; len]
 }
 
 /// Appends a text to an open output or to the report: as one piece, and after a short write the rest

@@ -7,7 +7,7 @@ ghost use Rattle.xsk_stats.specs.Report.{of_sockets, totals_of};
 use xsk_machine::{DriverFigures, FigureList};
 
 /// The statistics of sockets, in the order of if_xdp.h, `struct xdp_statistics`.
-#[derive(Clone, Copy, Debug, Default, PartialEq, Eq)]
+#[derive(Clone, Copy, Default)]
 pub(crate) struct Statistics {
     pub(crate) rx_dropped: u64,
     pub(crate) rx_invalid_descs: u64,
