@@ -10,7 +10,7 @@ use Rattle.xsk_cli.specs.Cause.{IsCaused, NeverFalls, NoOthers}
 use Rattle.xsk_cli.specs.Ends.{Ends}
 use Rattle.xsk_cli.specs.Steps.{ComesTo, Comes, args_status}
 use Rattle.xsk_args.specs.declared.error.ArgsError.{ArgsError}
-use Rattle.xsk_args.specs.declared.error.ArgsError.TheVariants.{Usage as IsUsage, OutOfMemory as ArgsMemory}
+use Rattle.xsk_args.specs.declared.error.ArgsError.TheVariants.{Usage as IsUsage, OutOfMemory as NoMemory}
 use Rattle.xsk_io.specs.Bay.{Moment}
 use Rattle.xsk_cli.specs.Streams.{HasLine, IsAtOnce, IsSilent, status_in}
 use Rattle.xsk_cli.specs.Words.{Plan, fault_in, no_plan}
@@ -47,7 +47,7 @@ module _ (planned : Option Plan) (old : Moment) (closed : (stream : Stream) → 
 
   pub args_comes : (error : ArgsError) → (error ≡ IsUsage → planned ≡ None) → Comes planned old old (args_status error)
   args_comes IsUsage none = usage_comes (none refl)
-  args_comes ArgsMemory none = memory_comes
+  args_comes NoMemory none = memory_comes
 
   pub refused_comes : (plan : Plan) (unlawful : Unlawful) → planned ≡ Some plan → fault_in plan.work ≡ Some unlawful → Comes planned old old (Refused unlawful)
   refused_comes plan unlawful is fault = record {

@@ -1,6 +1,5 @@
 -- The one file of all ports: what is read of it, and what is written.
-use Rattle.std.proofs.Common.{◌≡◌, ℕ, zero, suc, ◌+◌, ◌*◌, ◌<◌, ◌≤◌, List, [], ◌∷◌, ◌++◌, length, map, get_or, take, drop, slice_get, Some, refl, sym, ap, ◌∙◌, subst, arith, inl, inr}
-use Rattle.std.specs.Prelude.{sum_by}
+use Rattle.std.proofs.Common.{◌≡◌, ℕ, zero, suc, ◌+◌, ◌*◌, ◌<◌, ◌≤◌, List, [], ◌∷◌, ◌++◌, length, map, get_or, take, drop, slice_get, Some, refl, sym, ap, ◌∙◌, arith, inl, inr}
 use Rattle.std.specs.List.{concat, range_with_len, AllByRecursion}
 use Rattle.std.proofs.lemmas.Bool.Decides.{eqb_tells}
 use Rattle.std.proofs.lemmas.List.{append-nil, drop_all, drop_more, get_or-drop, get_or-map, length-append, length-drop, length-map, length-take, take_more}
@@ -12,15 +11,15 @@ use Rattle.xsk_umem.specs.PacketList.{PacketList}
 use Rattle.xsk_pcap.specs.Written.{written, all_packets}
 use Rattle.xsk_pcap.specs.declared.endianness.Endianness.{Endianness}
 use Rattle.xsk_pcap.specs.declared.reading.BadCapture.TheVariants.{OutOfMemory as NoCause}
-use Rattle.xsk_pcapng.specs.Blocks.{kind_in, captured_in, interface_in, Arrival, arrivals_of, arrivals_in, packets_at}
+use Rattle.xsk_pcapng.specs.Blocks.{kind_in, captured_in, Arrival, arrivals_of, arrivals_in, packets_at}
 use Rattle.xsk_pcapng.specs.Pcapng.{IsPcapng, IsRefused, IsCause, lists_of}
 use Rattle.xsk_pcapng.specs.Written.{written as written_file}
 use Rattle.xsk_pcapng.specs.declared.reading.BadPcapng.{BadPcapng as FileCause}
 use Rattle.xsk_pcapng.specs.declared.reading.BadPcapng.TheVariants.{OutOfMemory as NoFileCause}
 use Rattle.xsk_pcapng.proofs.Fits.{read_fits}
-use Rattle.xsk_cli.specs.Format.{HasBadCapture, HasBadFile, IsFile, files_of, joined, outputs_of}
-use Rattle.xsk_cli.specs.Judged.{bytes_in, bytes_of}
-use Rattle.xsk_cli.specs.Steps.{IsUntaken, lists_in}
+use Rattle.xsk_cli.specs.Format.{HasBadCapture, HasBadFile, files_of, joined, outputs_of}
+use Rattle.xsk_cli.specs.Judged.{bytes_in}
+use Rattle.xsk_cli.specs.Steps.{lists_in}
 use Rattle.xsk_cli.specs.Words.{format_in, ports_in}
 use Rattle.xsk_cli.specs.declared.format.Format.{Format}
 use Rattle.xsk_cli.specs.declared.format.Format.TheVariants.{Pcap, Pcapng}

@@ -1,6 +1,6 @@
 -- Packets that are made are within the limits, and may be written.
-use Rattle.std.proofs.Common.{◌≡◌, ℕ, zero, suc, ◌+◌, ◌*◌, ◌≤◌, List, [], ◌∷◌, ◌++◌, get_or, length, map, refl, ap, ◌∙◌, subst, sym, arith, le-ltb, None, Some, Bool, Option}
-use Rattle.std.specs.Prelude.{All, sum_by, Result, Ok, Err, IfErr}
+use Rattle.std.proofs.Common.{◌≡◌, ℕ, zero, suc, ◌+◌, ◌*◌, ◌≤◌, List, [], ◌∷◌, ◌++◌, length, map, refl, ap, ◌∙◌, subst, sym, arith, le-ltb, None, Some, Bool, Option}
+use Rattle.std.specs.Prelude.{All, sum_by, Result, Ok, Err, IfErr, IfOk}
 use Rattle.std.specs.List.{concat, range_with_len}
 use Rattle.std.proofs.lemmas.List.{map-append}
 use Rattle.std.proofs.lemmas.List.FromFn.{sum_by-map-range_with_len_more}
@@ -13,8 +13,9 @@ use Rattle.xsk_socket.specs.declared.layout.Layout.{Layout}
 use Rattle.xsk_socket.specs.Layout.{fault_of}
 use Rattle.xsk_socket.proofs.Accepted.{fits}
 use Rattle.xsk_cli.specs.Judged.{bytes_of, AreShort, packets_in, bytes_in, excess_of}
-use Rattle.xsk_cli.specs.Outcome.{listed, made_lists, Written, AreListsOf, AreMadeOf, AreTextsBy, IsOnPackets}
-use Rattle.xsk_cli.specs.Steps.{AreUntaken, FailsAudit, FailsMaking, FailsRunning, MakesNone, lists_in, read_by, IsUntaken}
+use Rattle.xsk_cli.specs.Outcome.{listed, made, made_lists, Written, AreListsOf, AreMadeOf, AreTextsBy, IsAudited, IsOutcome}
+use Rattle.xsk_cli.specs.Steps.{AreUntaken, FailsAudit, FailsMaking, FailsRunning, MakesNone, lists_in, read_by, written_in, IsUntaken}
+use Rattle.xsk_cli.specs.declared.texts.Texts.{Texts}
 use Rattle.xsk_cli.specs.Words.{fault_in, most_of}
 use Rattle.xsk_cli.specs.declared.failure.RunFailure.{RunFailure}
 use Rattle.xsk_cli.specs.declared.failure.RunFailure.TheVariants.{BadCapture as Bad, TooMuch as Excessive, Stalled as Stalls, OutOfMemory as NoMemory, NotLegal as Breaks, BadPcapng as BadFile}
@@ -73,16 +74,12 @@ pub record IsMade (packets : List (List ℕ)) : Type 0 where
   pub few : length packets ≤ 65536
   pub small : length (concat packets) ≤ 33554432
 
-pub made_at : (number : ℕ) (lists : List PacketList) (list : PacketList) → list ≡ get_or lists 0 list → lists_in lists ≡ made_lists number 1 → IsMade list.packets
-made_at number [] list at is = absurd cc
-made_at number (made ∷ others) list at is =
-    let first_is : made.packets ≡ first 2000 (packet number 0) = cc in
-    let here : list.packets ≡ first 2000 (packet number 0) = ap (λ (l : PacketList). l.packets) at ∙ first_is in
-    subst IsMade (sym here) (record {
-      short = all_first IsShort 2000 (packet number 0) (λ i. omega (arith, length-packet number 0 i));
-      few = omega (arith, made_few number 0);
-      small = omega (arith, made_small number 0);
-    })
+pub is_made : (number : ℕ) (list : PacketList) → list ≡ listed (first 2000 (packet number 0)) → IsMade list.packets
+is_made number list is = subst IsMade (sym (ap (λ (l : PacketList). l.packets) is)) (record {
+  short = all_first IsShort 2000 (packet number 0) (λ i. omega (arith, length-packet number 0 i));
+  few = omega (arith, made_few number 0);
+  small = omega (arith, made_small number 0);
+})
 
 -- ---- the work's packets
 
@@ -106,8 +103,17 @@ pub none_of : {X : Type 0} (xs : List X) → length xs ≡ 0 → xs ≡ []
 none_of [] none = refl
 none_of (x ∷ xs) none = absurd (omega (arith, none))
 
-pub made_of : (work : Work) (number : ℕ) (inputs : List (List ℕ)) (lists : List (List (List ℕ))) → work ≡ Generate number → AreListsOf work inputs lists → lists ≡ made_lists number 1
-made_of work number inputs lists is are = (subst (λ k. AreListsOf k inputs lists) is are).1
+-- the texts of packets that are made are the outcome of no inputs
+pub made_outcome : (work : Work) (number : ℕ) (inputs : List (List ℕ)) (texts : Written) → work ≡ Generate number → length inputs ≡ 0 → AreTextsBy (Generate number) (made_lists number 1) texts → IsOutcome work inputs (made texts)
+made_outcome work number inputs texts is none are = subst (λ (w : Work). IsOutcome w inputs (made texts)) (sym is)
+    ((λ port below. absurd (omega (arith, below, none))), (made_lists number 1, (none_of inputs none, refl), (made_within number 1 (omega arith), are)))
+
+-- those of an audit are that of the inputs
+pub audit_made : (answer : Result Texts RunFailure) (work : Work) (layout : Layout) (inputs : List (List ℕ)) → work ≡ Audit layout → AreShort (most_of work) inputs (length inputs)
+    → IfOk answer (λ texts. IsAudited layout (bytes_of inputs 0) (made (written_in [] texts))) → IfOk answer (λ texts. IsOutcome work inputs (made (written_in [] texts)))
+audit_made (Ok texts) work layout inputs is within h =
+    subst (λ (w : Work). IsOutcome w inputs (made (written_in [] texts))) (sym is) (subst (λ (w : Work). AreShort (most_of w) inputs (length inputs)) is within, h)
+audit_made (Err failure) work layout inputs is within h = tt
 
 pub making_fails : (work : Work) (inputs : List (List ℕ)) (lists : List (List (List ℕ))) (failure : RunFailure) → AreShort (most_of work) inputs (length inputs) → AreListsOf work inputs lists → excess_of lists ≡ None
     → FailsMaking work lists failure → MakesNone work inputs failure
@@ -151,7 +157,7 @@ audit_fails layout inputs NoMemory within h = tt
 audit_fails layout inputs (Breaks line) within h = (within, h)
 
 pub audit_makes : {A : Type 0} (answer : Result A RunFailure) (layout : Layout) (inputs : List (List ℕ)) → AreShort (most_of (Audit layout)) inputs (length inputs) → IfErr answer (FailsAudit layout (bytes_of inputs 0)) → IfErr answer (MakesNone (Audit layout) inputs)
-audit_makes (Ok made) layout inputs within h = tt
+audit_makes (Ok texts) layout inputs within h = tt
 audit_makes (Err failure) layout inputs within h = audit_fails layout inputs failure within h
 
 -- a run that gives nothing, as its work gives nothing

@@ -5,8 +5,7 @@ use Rattle.std.specs.Prelude.{All, ◌⊎◌, sum_by}
 use Rattle.std.specs.List.{concat, range_with_len}
 use Rattle.std.proofs.lemmas.Bool.Decides.{nat_tests}
 use Rattle.std.proofs.Math.Nat.{eq-or-lt_of_le}
-use Rattle.std.proofs.lemmas.List.{drop-map, length-drop, length-take-le, get_or-drop, get_or-take, take_more}
-use Rattle.std.proofs.Math.Seq.{take-add}
+use Rattle.std.proofs.lemmas.List.{length-drop, length-map, length-take-le, get_or-drop, get_or-map, get_or-take, take_more}
 use Rattle.std.proofs.lemmas.List.Elements.{All-append, recursion_from_All}
 use Rattle.std.proofs.lemmas.List.FromFn.{length-map-range_with_len, get_or-map-range_with_len}
 use Rattle.xsk_umem.specs.PacketList.{PacketList}
@@ -31,22 +30,20 @@ piece {X} d xs n k within =
     let below : i < k = omega (arith, h, all) in
     get_or-take k (drop n xs) i d below ∙ get_or-drop n xs i d ∙ sym (get_or-map-range_with_len f 0 k i i d below (omega arith)))
 
--- lists that are taken one after another
-pub next_list : (all rest : List PacketList) (n : ℕ) → rest ≡ drop n all → take n (lists_in all) ++ take 1 (lists_in rest) ≡ take (n + 1) (lists_in all)
-next_list all rest n is =
-    ap (λ ls. take n (lists_in all) ++ take 1 (lists_in ls)) is
-    ∙ ap (λ ls. take n (lists_in all) ++ take 1 ls) (sym (drop-map (λ (list : PacketList). list.packets) n all))
-    ∙ sym (take-add n 1 (lists_in all))
-
-pub rest_lists : (all rest : List PacketList) (n : ℕ) → rest ≡ drop n all → lists_in rest ≡ drop n (lists_in all)
-rest_lists all rest n is = ap lists_in is ∙ sym (drop-map (λ (list : PacketList). list.packets) n all)
-
 -- what one driver more sent stands behind what those before it did
-pub one_more_sent : (all so_far : List (List (List ℕ))) (first place : ℕ) (packets : List (List ℕ)) → first + place < length all → so_far ≡ take place (drop first all) → packets ≡ get_or all (first + place) []
+one_more_sent : (all so_far : List (List (List ℕ))) (first place : ℕ) (packets : List (List ℕ)) → first + place < length all → so_far ≡ take place (drop first all) → packets ≡ get_or all (first + place) []
     → so_far ++ packets ∷ [] ≡ take (place + 1) (drop first all)
 one_more_sent all so_far first place packets below was is =
     let here : place < length (drop first all) = omega (arith, below, length-drop first all) in
     ap (λ ls. ls ++ packets ∷ []) was ∙ ap (λ x. take place (drop first all) ++ x ∷ []) (is ∙ sym (get_or-drop first all place [])) ∙ sym (take_more (drop first all) place [] here)
+
+-- so of the code's lists
+pub one_more_list : (lists : List PacketList) (so_far : List (List (List ℕ))) (first place : ℕ) (list : PacketList) → first + place < length lists → so_far ≡ take place (drop first (lists_in lists)) → list ≡ get_or lists (first + place) list
+    → so_far ++ list.packets ∷ [] ≡ take (place + 1) (drop first (lists_in lists))
+one_more_list lists so_far first place list below was is =
+    let packets : PacketList → List (List ℕ) = λ (l : PacketList). l.packets in
+    one_more_sent (lists_in lists) so_far first place list.packets (omega (arith, below, length-map lists packets)) was
+    (ap packets is ∙ sym (get_or-map packets lists (first + place) list [] below))
 
 -- ---- a number of each queue, summed up over so many queues
 

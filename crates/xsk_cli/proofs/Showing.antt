@@ -10,13 +10,12 @@ use Rattle.xsk_args.specs.declared.error.ArgsError.TheVariants.{Usage as IsUsage
 use Rattle.xsk_socket.specs.declared.layout.Unlawful.{Unlawful}
 use Rattle.xsk_workers.specs.Forwarded.{OutcomeShown}
 use Rattle.xsk_cli.specs.Cause.{IsCaused}
-use Rattle.xsk_cli.specs.Ends.{Answers, AreTaken, AreTold, Ends, IsComplete, NoneRose}
-use Rattle.std.proofs.lemmas.List.FromFn.{length-map-range_with_len}
-use Rattle.xsk_pcap.specs.Written.{written}
-use Rattle.xsk_cli.specs.Forward.{AreTextsFrom, ComesShown, EndsShown, IsAfterRun, IsRefusedAs, IsRun, IsShown, ended_in}
-use Rattle.xsk_cli.specs.Judged.{AreShort, excess_of}
-use Rattle.xsk_cli.specs.Outcome.{AreListsOf, IsOnPackets, IsOutcome, Outcome, Written, sent_from, bad, long, made, passed, stalled, illegal, bad_file}
-use Rattle.xsk_cli.specs.Steps.{Comes, ComesTo, HaveRead, IsBeforeRun, args_status, read_status, run_status, written_by}
+use Rattle.xsk_cli.specs.Ends.{Answers, AreTaken, AreTold, ComesOf, Ends, IsComplete, NoneRose}
+use Rattle.xsk_cli.specs.Forward.{AreTextsFrom, ComesShown, EndsShown, IsAfterRun, IsRefusedAs, IsShown, ended_in}
+use Rattle.xsk_cli.specs.Judged.{excess_of}
+use Rattle.xsk_cli.specs.Outcome.{IsOutcome, Outcome, Written, sent_from, bad, long, made, passed, stalled, illegal, bad_file}
+use Rattle.xsk_cli.specs.Steps.{Comes, ComesTo, IsBeforeRun, MakesNo, MakesNone, args_status, read_status, written_by}
+use Rattle.xsk_cli.specs.declared.status.Excess.TheVariants.{Input as LongInput, Packets, Bytes}
 use Rattle.xsk_io.specs.Bay.{Moment}
 use Rattle.xsk_cli.specs.Streams.{Reach}
 use Rattle.xsk_cli.specs.Words.{Plan, fault_in, most_of, no_plan}
@@ -33,41 +32,17 @@ use Rattle.xsk_cli.specs.declared.status.Status.TheVariants.{Done, Usage, BadCap
 use Rattle.xsk_cli.proofs.Answering.{answered, completes, same_inputs_by}
 use Rattle.xsk_cli.proofs.Making.{few_ports}
 use Rattle.xsk_cli.proofs.Filing.{count_texts, no_check, no_file_check}
-use Rattle.xsk_cli.proofs.Writing.{ran_out_by}
+use Rattle.xsk_cli.proofs.Writing.{ends_as, none_come}
 use Rattle.xsk_cli.proofs.Unique.{bad_file_not_packets, bad_not_packets, long_not_short, none_some, same_packets}
 
 -- ---- before any run
 
 -- a command that ends before any run ends so by either
-pub shown_none : (plan : Plan) (old new : Moment) (status : Status) → Ends plan old new status → (IsAfterRun status → ⊥) → EndsShown None old new status plan
-shown_none plan old new status ends before = record {
-  inputs = ends.inputs;
-  texts = ends.texts;
-  reach = ends.reach;
-  reaches = ends.reaches;
-  count = ends.count;
-  short = ends.short;
-  reads = ends.reads;
-  writes = ends.writes;
-  reported = ends.reported;
-  asked = ends.asked;
-  comes = (before, ends.comes);
-}
+shown_none : (plan : Plan) (old new : Moment) (status : Status) → Ends plan old new status → (IsAfterRun status → ⊥) → EndsShown None old new status plan
+shown_none plan old new status ends before = ends_as (ComesOf plan.work) (ComesShown plan.work None) plan old new status (λ inputs texts is. (before, is)) ends
 
 plain_of : (plan : Plan) (old new : Moment) (status : Status) → EndsShown None old new status plan → Ends plan old new status
-plain_of plan old new status ends = record {
-  inputs = ends.inputs;
-  texts = ends.texts;
-  reach = ends.reach;
-  reaches = ends.reaches;
-  count = ends.count;
-  short = ends.short;
-  reads = ends.reads;
-  writes = ends.writes;
-  reported = ends.reported;
-  asked = ends.asked;
-  comes = ends.comes.1;
-}
+plain_of plan old new status ends = ends_as (ComesShown plan.work None) (ComesOf plan.work) plan old new status (λ inputs texts is. is.1) ends
 
 pub comes_before : (planned : Option Plan) (old new : Moment) (status : Status) → Comes planned old new status → (IsAfterRun status → ⊥) → ComesTo (EndsShown None old new status) planned old new status
 comes_before planned old new status comes before = record {
@@ -92,19 +67,7 @@ read_before (Unread port) wrong = wrong
 read_before (TooLong port) wrong = wrong
 read_before NoRoom wrong = wrong
 
-pub run_before : (failure : RunFailure) → IsBeforeRun failure → IsAfterRun (run_status failure) → ⊥
-run_before (Bad port cause) before wrong = wrong
-run_before (Excessive excess) before wrong = wrong
-run_before (Stalls round) before wrong = before
-run_before NoMemory before wrong = wrong
-run_before (Breaks line) before wrong = wrong
-run_before (BadFile cause) before wrong = wrong
-
 -- an answer with such a status alone
-pub status_shown : (answer : Result Ended Status) (status : Status) (plan : Plan) (old new : Moment) → answer ≡ Err status → EndsShown None old new status plan
-    → EndsShown (ended_in answer).outcome old new (ended_in answer).status plan
-status_shown answer status plan old new is ends = subst (λ r. EndsShown (ended_in r).outcome old new (ended_in r).status plan) (sym is) ends
-
 pub comes_shown : (answer : Result Ended Status) (status : Status) (planned : Option Plan) (old new : Moment) → answer ≡ Err status → Comes planned old new status → (IsAfterRun status → ⊥)
     → ComesTo (EndsShown (ended_in answer).outcome old new (ended_in answer).status) planned old new (ended_in answer).status
 comes_shown answer status planned old new is comes before =
@@ -120,12 +83,6 @@ refused_outcome work inputs (passed excess) h = h
 refused_outcome work inputs (stalled round) h = absurd h
 refused_outcome work inputs (made texts) h = absurd h
 refused_outcome work inputs (illegal line) h = absurd h
-
--- work that is a run is on packets
-pub run_packets : (work : Work) → IsRun work → IsOnPackets work
-run_packets (Simulate layout programs wire manner order number journal format) runs = tt
-run_packets (Generate number) runs = tt
-run_packets (Audit layout) runs = runs
 
 -- inputs whose packets were run aren't refused
 shown_not_refused : (work : Work) (inputs : List (List ℕ)) (o : OutcomeShown) (outcome : Outcome) → IsShown work inputs o → IsRefusedAs work inputs outcome → ⊥
@@ -218,8 +175,20 @@ few_written (Simulate layout programs wire manner order number journal Pcapng) a
 few_written (Generate number) accepted = omega arith
 few_written (Audit layout) accepted = omega arith
 
+-- ---- what a run on threads comes to
+
+-- why there was no run
+pub none_come_shown : (work : Work) (inputs : List (List ℕ)) (failure : RunFailure) → MakesNone work inputs failure → IsBeforeRun failure → MakesNo (ComesShown work None inputs) failure
+none_come_shown work inputs (Bad port cause) h before = λ old. ((λ no. no), h)
+none_come_shown work inputs (Excessive (LongInput port)) h before = none_come work inputs (Excessive (LongInput port)) h
+none_come_shown work inputs (Excessive (Packets n)) h before = λ old. ((λ no. no), h)
+none_come_shown work inputs (Excessive (Bytes n)) h before = λ old. ((λ no. no), h)
+none_come_shown work inputs (Stalls round) h before = absurd before
+none_come_shown work inputs NoMemory h before = λ old. ((λ no. no), tt)
+none_come_shown work inputs (Breaks line) h before = λ old. ((λ no. no), h)
+none_come_shown work inputs (BadFile cause) h before = λ old. ((λ no. no), h)
+
 -- no memory for the run, or for its texts
-module _ (plan : Plan) (bytes : List (List ℕ)) (old mid new : Moment) (have : HaveRead (most_of plan.work) plan.inputs bytes (length plan.inputs) old mid) where
-  pub ran_out_shown : (shown : Option OutcomeShown) → ((o : OutcomeShown) → shown ≡ Some o → IsShown plan.work bytes o) → EndsShown shown old mid OutOfMemory plan
-  ran_out_shown None each = ran_out_by plan bytes old mid new have (ComesShown plan.work None) ((λ no. no), tt)
-  ran_out_shown (Some o) each = ran_out_by plan bytes old mid new have (ComesShown plan.work (Some o)) (each o refl)
+pub ran_out_shown : (work : Work) (inputs : List (List ℕ)) (shown : Option OutcomeShown) → ((o : OutcomeShown) → shown ≡ Some o → IsShown work inputs o) → MakesNo (ComesShown work shown inputs) NoMemory
+ran_out_shown work inputs None each = λ old. ((λ no. no), tt)
+ran_out_shown work inputs (Some o) each = λ old. each o refl

@@ -1,6 +1,6 @@
 -- How a command ends once its inputs were read.
 use Rattle.std.proofs.Common.{◌≡◌, ℕ, ◌+◌, Bool, cond, ltb, true, false, Option, Some, None, List, [], length, get_or, refl, sym, ap, ◌∙◌, subst, arith}
-use Rattle.std.specs.Prelude.{◌≢◌, Result, Err}
+use Rattle.std.specs.Prelude.{◌≢◌}
 use Rattle.std.specs.Io.KnownBytes.{IsAtEnd}
 use Rattle.xsk_io.specs.Bay.{Adds, AddsNoneBut, Grows, GrowsByPart, IsOffered, Same, SameBut, Moment}
 use Rattle.xsk_io.specs.declared.bay.Stream.{Stream}
@@ -10,8 +10,8 @@ use Rattle.xsk_cli.specs.Ends.{ComesOf, EndsBy, Ends}
 use Rattle.xsk_cli.specs.Judged.{packets_in, bytes_in, excess_of}
 use Rattle.xsk_cli.specs.declared.status.Excess.{Excess}
 use Rattle.xsk_cli.specs.Outcome.{Written, made, IsOutcome, AreTextsBy, capture_of, sent_from}
-use Rattle.xsk_cli.specs.Streams.{IsTold, IsFront, at_output, at_input, Reaches, AreRead, AreWritten, HasLine, IsReported, IsSilent, name_of, status_in}
-use Rattle.xsk_cli.specs.Steps.{FailsWriting, HaveRead, MakesNone, run_status, write_status, written_by}
+use Rattle.xsk_cli.specs.Streams.{IsTold, IsFront, at_output, at_input, Reaches, AreRead, AreWritten, HasLine, IsReported, IsSilent, name_of}
+use Rattle.xsk_cli.specs.Steps.{FailsWriting, HasTexts, HaveRead, MakesNo, MakesNone, no_texts, run_status, write_status, written_by}
 use Rattle.xsk_cli.specs.declared.words.Work.{Work}
 use Rattle.xsk_cli.specs.declared.words.Work.TheVariants.{Simulate, Generate, Audit}
 use Rattle.std.proofs.lemmas.List.{length-map}
@@ -78,9 +78,6 @@ no_long : (lists : List (List (List ℕ))) (port : ℕ) → excess_of lists ≡ 
 no_long lists port h = no_long_in (ltb 65536 (packets_in lists)) (ltb 33554432 (bytes_in lists)) (packets_in lists) (bytes_in lists) port h
 
 module _ (plan : Plan) (bytes : List (List ℕ)) (old mid new : Moment) (have : HaveRead (most_of plan.work) plan.inputs bytes (length plan.inputs) old mid) where
-  abbrev no_texts : Written
-  no_texts = record { outputs = []; report = [] }
-
   -- no texts were made, whatever it comes of
   pub refused_by : (Comes : List (List ℕ) → Written → Moment → Status → Type 0) (status : Status) → Reaches (length plan.inputs) (length plan.outputs) status (at_input (length plan.inputs) (length plan.inputs)) → IsReported [] status old mid
       → ((stream : Stream) → status ≡ OpenFault stream → ⊥) → Comes bytes no_texts old status → EndsBy Comes plan old mid status
@@ -98,22 +95,18 @@ module _ (plan : Plan) (bytes : List (List ℕ)) (old mid new : Moment) (have : 
     comes = comes;
   }
 
-  refused : (status : Status) → Reaches (length plan.inputs) (length plan.outputs) status (at_input (length plan.inputs) (length plan.inputs)) → IsReported [] status old mid
-      → ((stream : Stream) → status ≡ OpenFault stream → ⊥) → ComesOf plan.work bytes no_texts old status → Ends plan old mid status
-  refused status reaches reported other comes = refused_by (ComesOf plan.work) status reaches reported other comes
-
   pub ran_out_by : (Comes : List (List ℕ) → Written → Moment → Status → Type 0) → Comes bytes no_texts old OutOfMemory → EndsBy Comes plan old mid OutOfMemory
   ran_out_by Comes comes = refused_by Comes OutOfMemory (record { known = omega arith; ends = omega arith; last = omega arith; outputs = refl; wholes = refl }) tt (λ stream e. cc) comes
 
-  pub run_fails : (failure : RunFailure) → MakesNone plan.work bytes failure → Ends plan old mid (run_status failure)
-  run_fails (Bad port cause) h = refused (BadCapture port cause) refl tt (λ stream e. cc) h
-  run_fails (Excessive (LongInput port)) h = absurd (no_long h.1.0 port h.1.2)
-  run_fails (Excessive (Packets n)) h = refused (TooMuch (Packets n)) refl tt (λ stream e. cc) h
-  run_fails (Excessive (Bytes n)) h = refused (TooMuch (Bytes n)) refl tt (λ stream e. cc) h
-  run_fails (Stalls round) h = refused (Stalled round) refl tt (λ stream e. cc) h
-  run_fails (Breaks line) h = refused (NotLegal line) refl tt (λ stream e. cc) h
-  run_fails NoMemory h = refused OutOfMemory (record { known = omega arith; ends = omega arith; last = omega arith; outputs = refl; wholes = refl }) tt (λ stream e. cc) tt
-  run_fails (BadFile cause) h = refused (BadPcapng cause) refl tt (λ stream e. cc) h
+  pub unmade_by : (Comes : List (List ℕ) → Written → Moment → Status → Type 0) (failure : RunFailure) → MakesNo (Comes bytes) failure → EndsBy Comes plan old mid (run_status failure)
+  unmade_by Comes (Bad port cause) h = refused_by Comes (BadCapture port cause) refl tt (λ stream e. cc) (h old)
+  unmade_by Comes (Excessive (LongInput port)) h = absurd h
+  unmade_by Comes (Excessive (Packets n)) h = refused_by Comes (TooMuch (Packets n)) refl tt (λ stream e. cc) (h old)
+  unmade_by Comes (Excessive (Bytes n)) h = refused_by Comes (TooMuch (Bytes n)) refl tt (λ stream e. cc) (h old)
+  unmade_by Comes (Stalls round) h = refused_by Comes (Stalled round) refl tt (λ stream e. cc) (h old)
+  unmade_by Comes (Breaks line) h = refused_by Comes (NotLegal line) refl tt (λ stream e. cc) (h old)
+  unmade_by Comes NoMemory h = ran_out_by Comes (h old)
+  unmade_by Comes (BadFile cause) h = refused_by Comes (BadPcapng cause) refl tt (λ stream e. cc) (h old)
 
   -- whatever it comes of
   module _ (Comes : List (List ℕ) → Written → Moment → Status → Type 0) (texts : Written) (same : SameInputs mid new) where
@@ -153,12 +146,35 @@ module _ (plan : Plan) (bytes : List (List ℕ)) (old mid new : Moment) (have : 
     unwritten_by written opened (Unwritten Report) h =
         wrote (WriteFault Report) (length plan.outputs) (length plan.outputs) refl h.0 (subst (λ m. GrowsByPart m (new.held Report) texts.report) have.report h.1, since_offered h.2) (λ stream e. absurd (cc)) (written Report)
 
-  module _ (texts : Written) (is : IsOutcome plan.work bytes (made texts)) (same : SameInputs mid new) where
-    pub done_ends : AreWritten plan.outputs texts.outputs (length plan.outputs) (length plan.outputs) mid new → Grows (mid.held Report) (new.held Report) texts.report → IsOffered (mid.offers Report) (new.offers Report) (length texts.report) → Ends plan old new Done
-    done_ends writes grown offered = done_by (ComesOf plan.work) texts same is writes grown offered
+-- ---- what a work comes to
 
-    pub unwritten_ends : (failure : WriteFailure) → FailsWriting plan.outputs texts mid new failure → Ends plan old new (write_status failure)
-    unwritten_ends failure h = unwritten_by (ComesOf plan.work) texts same (λ stream. is) (λ port. is) failure h
+-- texts that are those of inputs
+pub texts_come : (work : Work) (inputs : List (List ℕ)) (texts : Written) → IsOutcome work inputs (made texts) → (old : Moment) (status : Status) → HasTexts status → ComesOf work inputs texts old status
+texts_come work inputs texts is old Done has = is
+texts_come work inputs texts is old (WriteFault stream) has = is
+texts_come work inputs texts is old (OpenFault (Output port)) has = is
+texts_come work inputs texts is old (OpenFault (Input port)) has = absurd has
+texts_come work inputs texts is old (OpenFault Report) has = absurd has
+texts_come work inputs texts is old Usage has = absurd has
+texts_come work inputs texts is old (BadCapture port cause) has = absurd has
+texts_come work inputs texts is old (ReadFault port) has = absurd has
+texts_come work inputs texts is old (Refused unlawful) has = absurd has
+texts_come work inputs texts is old (Stalled round) has = absurd has
+texts_come work inputs texts is old (TooMuch excess) has = absurd has
+texts_come work inputs texts is old OutOfMemory has = absurd has
+texts_come work inputs texts is old (NotLegal line) has = absurd has
+texts_come work inputs texts is old (BadPcapng cause) has = absurd has
+
+-- why they have none
+pub none_come : (work : Work) (inputs : List (List ℕ)) (failure : RunFailure) → MakesNone work inputs failure → MakesNo (ComesOf work inputs) failure
+none_come work inputs (Bad port cause) h = λ old. h
+none_come work inputs (Excessive (LongInput port)) h = no_long h.1.0 port h.1.2
+none_come work inputs (Excessive (Packets n)) h = λ old. h
+none_come work inputs (Excessive (Bytes n)) h = λ old. h
+none_come work inputs (Stalls round) h = λ old. h
+none_come work inputs NoMemory h = λ old. tt
+none_come work inputs (Breaks line) h = λ old. h
+none_come work inputs (BadFile cause) h = λ old. h
 
 -- ---- and then the line of a refusal, which changes the report alone
 
@@ -208,9 +224,22 @@ pub told_ends : (plan : Plan) (old mid new : Moment) (status : Status) → Ends 
     → AddsNoneBut Report mid.offers new.offers → ((HasLine status → ⊥) → IsSilent mid new) → Ends plan old new status
 told_ends plan old mid new status ends opened asked left held offers silent = told_by (ComesOf plan.work) plan old mid new status ends opened asked left held offers silent
 
--- an answer with such a status
-pub status_ends : (answer : Result Unit Status) (status : Status) (plan : Plan) (old new : Moment) → answer ≡ Err status → Ends plan old new status → Ends plan old new (status_in answer)
-status_ends answer status plan old new is ends = subst (λ r. Ends plan old new (status_in r)) (sym is) ends
+-- what ends so ends as what it comes to as well
+pub ends_as : (Comes Others : List (List ℕ) → Written → Moment → Status → Type 0) (plan : Plan) (old new : Moment) (status : Status) → ((inputs : List (List ℕ)) (texts : Written) → Comes inputs texts old status → Others inputs texts old status)
+    → EndsBy Comes plan old new status → EndsBy Others plan old new status
+ends_as Comes Others plan old new status says ends = record {
+  inputs = ends.inputs;
+  texts = ends.texts;
+  reach = ends.reach;
+  reaches = ends.reaches;
+  count = ends.count;
+  short = ends.short;
+  reads = ends.reads;
+  writes = ends.writes;
+  reported = ends.reported;
+  asked = ends.asked;
+  comes = says ends.inputs ends.texts ends.comes;
+}
 
 -- there is a text for each port
 pub texts_count : (work : Work) (lists : List (List (List ℕ))) (texts : Written) → AreTextsBy work lists texts → length lists ≡ ports_in work → length texts.outputs ≡ written_by work

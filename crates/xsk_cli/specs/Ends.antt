@@ -7,7 +7,7 @@ use Rattle.xsk_io.specs.declared.bay.Stream.TheVariants.{Input, Output}
 use Rattle.xsk_cli.specs.Words.{Plan, fault_in, most_of}
 use Rattle.xsk_cli.specs.declared.words.Work.{Work}
 use Rattle.xsk_cli.specs.declared.words.Work.TheVariants.{Simulate, Audit}
-use Rattle.xsk_cli.specs.Judged.{bytes_of, AreShort, AreCaptures, excess_of}
+use Rattle.xsk_cli.specs.Judged.{bytes_of, AreShort, excess_of}
 use Rattle.xsk_cli.specs.Outcome.{Written, Outcome, long, bad, passed, stalled, made, illegal, IsOutcome, bad_file}
 use Rattle.xsk_cli.specs.Streams.{IsTold, Reach, Reaches, AreRead, AreWritten, IsReported, name_of}
 use Rattle.xsk_cli.specs.declared.status.Excess.TheVariants.{Input as TooLong}

@@ -7,7 +7,7 @@ use Rattle.xsk_pcap.specs.declared.reading.BadCapture.{BadCapture as Cause}
 use Rattle.xsk_pcapng.specs.Pcapng.{IsPcapng, IsRefused}
 use Rattle.xsk_pcapng.specs.Written.{written as written_file}
 use Rattle.xsk_pcapng.specs.declared.reading.BadPcapng.{BadPcapng as FileCause}
-use Rattle.xsk_pcapng.specs.declared.reading.BadPcapng.TheVariants.{OutOfMemory as NoFileCause}
+use Rattle.xsk_pcapng.specs.declared.reading.BadPcapng.TheVariants.{OutOfMemory as NoMemory}
 use Rattle.xsk_cli.specs.Judged.{bytes_of, AreCaptures, IsBadCapture}
 use Rattle.xsk_cli.specs.declared.format.Format.{Format}
 use Rattle.xsk_cli.specs.declared.format.Format.TheVariants.{Pcap, Pcapng}
@@ -33,7 +33,7 @@ pub record IsFile (ports : ℕ) (inputs : List (List ℕ)) (lists : List (List (
 pub record IsBadFile (ports : ℕ) (inputs : List (List ℕ)) (cause : FileCause) : Type 0 where
   pub known : 0 < length inputs
   pub refused : IsRefused ports (bytes_of inputs 0) cause
-  pub check : cause ≢ NoFileCause
+  pub check : cause ≢ NoMemory
 
 -- the inputs are files of the format, with these lists for so many ports
 abbrev pub AreFiles : Format → ℕ → List (List ℕ) → List (List (List ℕ)) → Type 0

@@ -19,7 +19,6 @@ use Rattle.xsk_cli.specs.Ends.{Answers, AreTaken, AreTold, ComesOf, Ends, EndsBy
 use Rattle.xsk_cli.specs.Judged.{AreShort, excess_of}
 use Rattle.xsk_cli.specs.Line.{line_of}
 use Rattle.xsk_cli.specs.Outcome.{AreListsOf, AreTextsIn, IsOutcome, Outcome, Written, bad, frames_of, long, made, passed, report_of, setting_of, stalled, illegal, bad_file}
-use Rattle.xsk_cli.specs.Steps.{written_by}
 use Rattle.xsk_cli.specs.Streams.{GotLine, HasLine, IsAtOnce, IsOfLine}
 use Rattle.xsk_cli.specs.Words.{Plan, fault_in, layout_options, most_of, no_plan, planned_by, ports_in, run_options, threads_options}
 use Rattle.xsk_cli.specs.declared.threads.Ended.{Ended}

@@ -1,5 +1,5 @@
 -- The journals of runs are legal, as `audit` reads them.
-use Rattle.std.specs.Prelude.{ℕ, ◌≤◌, true, List, [], ◌∷◌, length, Option}
+use Rattle.std.specs.Prelude.{ℕ, ◌≤◌, true, List, [], ◌∷◌, length}
 use Rattle.xsk_umem.specs.Frame.{Frame}
 use Rattle.xsk_turns.specs.Workers.{Setting}
 use Rattle.xsk_sim.specs.Journal.{journal_of}

@@ -5,7 +5,7 @@ use Rattle.std.specs.Prelude.{◌≡◌, ◌≢◌, ℕ, ◌<◌, ◌≤◌, nat
 use Rattle.std.specs.List.{concat, slice_index_or}
 use Rattle.xsk_pcap.specs.Capture.{IsCapture, IsRefused}
 use Rattle.xsk_pcap.specs.declared.reading.BadCapture.{BadCapture as Cause}
-use Rattle.xsk_pcap.specs.declared.reading.BadCapture.TheVariants.{OutOfMemory as NoCause}
+use Rattle.xsk_pcap.specs.declared.reading.BadCapture.TheVariants.{OutOfMemory as NoMemory}
 use Rattle.xsk_cli.specs.declared.status.Excess.{Excess}
 use Rattle.xsk_cli.specs.declared.status.Excess.TheVariants.{Packets, Bytes}
 
@@ -33,7 +33,7 @@ pub record IsBadCapture (inputs : List (List ℕ)) (port : ℕ) (cause : Cause) 
   pub known : port < length inputs
   pub before : (lower : ℕ) → lower < port → (packets : List (List ℕ)) × IsCapture (bytes_of inputs lower) packets
   pub refused : IsRefused (bytes_of inputs port) cause
-  pub check : cause ≢ NoCause
+  pub check : cause ≢ NoMemory
 
 -- the packets, and captured bytes, of all inputs together
 abbrev pub packets_in : List (List (List ℕ)) → ℕ

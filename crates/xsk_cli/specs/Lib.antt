@@ -9,6 +9,5 @@ pub mod Line
 pub mod Ends
 pub mod Steps
 pub mod Forward
-pub mod Laid
 pub mod Ample
 pub mod Journals

@@ -1,5 +1,5 @@
 -- What the steps of a command answer, and what they leave.
-use Rattle.std.specs.Prelude.{◌≡◌, ◌≢◌, ℕ, ◌+◌, ◌<◌, ◌⊎◌, true, false, length, List, [], ◌++◌, map, IfSome, Option, Some, None, unwrap_or}
+use Rattle.std.specs.Prelude.{◌≡◌, ◌≢◌, ℕ, ◌+◌, ◌<◌, ◌⊎◌, true, false, All, length, List, [], ◌∷◌, map, IfSome, Option, Some, None, unwrap_or}
 use Rattle.std.specs.List.{slice_index_or}
 use Rattle.xsk_umem.specs.PacketList.{PacketList}
 use Rattle.xsk_io.specs.Bay.{Adds, GrowsByPart, IsOffered, Rose, Same, Moment}
@@ -7,12 +7,13 @@ use Rattle.xsk_io.specs.declared.bay.Kind.{Kind}
 use Rattle.xsk_io.specs.declared.bay.Kind.TheVariants.{Open, Read, Write}
 use Rattle.xsk_io.specs.declared.bay.Stream.TheVariants.{Input, Output, Report}
 use Rattle.xsk_pcap.specs.Capture.{IsRefused}
+use Rattle.xsk_pcap.specs.Written.{IsWritable}
 use Rattle.xsk_pcap.specs.declared.reading.BadCapture.TheVariants.{OutOfMemory as NoCause}
 use Rattle.xsk_pcapng.specs.Pcapng.{IsRefused as IsRefusedFile}
 use Rattle.xsk_pcapng.specs.declared.reading.BadPcapng.TheVariants.{OutOfMemory as NoFileCause}
 use Rattle.xsk_sim.specs.Runs.{HasStalled}
 use Rattle.xsk_turns.specs.declared.manner.Manner.{Manner}
-use Rattle.xsk_cli.specs.Judged.{AreShort, AreCaptures, IsBadCapture, excess_of, bytes_of}
+use Rattle.xsk_cli.specs.Judged.{AreShort, AreCaptures, IsBadCapture, excess_of}
 use Rattle.xsk_cli.specs.Outcome.{Written, capture_of, bad, passed, stalled, illegal, IsOutcome, IsAudited, IsStalledBy, setting_of, frames_of, bad_file}
 use Rattle.xsk_cli.specs.Format.{IsBadFile, IsFile, files_of, most_input}
 use Rattle.xsk_cli.specs.declared.format.Format.TheVariants.{Pcap, Pcapng}
@@ -20,6 +21,8 @@ use Rattle.xsk_args.specs.declared.program.Program.{Program}
 use Rattle.xsk_turns.specs.declared.wire.Wire.{Wire}
 use Rattle.xsk_args.specs.declared.error.ArgsError.{ArgsError}
 use Rattle.xsk_args.specs.declared.error.ArgsError.TheVariants.{Usage as IsUsage, OutOfMemory as ArgsMemory}
+use Rattle.xsk_cli.specs.declared.texts.Outputs.{Outputs}
+use Rattle.xsk_cli.specs.declared.texts.Outputs.TheVariants.{Copied, Laid}
 use Rattle.xsk_cli.specs.declared.texts.Texts.{Texts}
 use Rattle.xsk_cli.specs.declared.words.Plan.{Plan as CodePlan}
 use Rattle.xsk_cli.specs.Words.{Plan, fault_in, suits_in, no_plan}
@@ -38,7 +41,7 @@ use Rattle.xsk_cli.specs.declared.failure.WriteFailure.{WriteFailure}
 use Rattle.xsk_cli.specs.declared.failure.WriteFailure.TheVariants.{Unopened, Unwritten}
 use Rattle.xsk_cli.specs.declared.status.Excess.TheVariants.{Input as LongInput}
 use Rattle.xsk_cli.specs.declared.status.Status.{Status}
-use Rattle.xsk_cli.specs.declared.status.Status.TheVariants.{Usage, BadCapture, ReadFault, WriteFault, OpenFault, Refused, Stalled, TooMuch, OutOfMemory, NotLegal, BadPcapng}
+use Rattle.xsk_cli.specs.declared.status.Status.TheVariants.{Done, Usage, BadCapture, ReadFault, WriteFault, OpenFault, Refused, Stalled, TooMuch, OutOfMemory, NotLegal, BadPcapng}
 
 -- the plan that the code has
 abbrev pub plan_in : CodePlan → Plan
@@ -190,16 +193,33 @@ MakesNone work inputs NoMemory = Unit {0}
 MakesNone work inputs (Breaks line) = IsOutcome work inputs (illegal line)
 MakesNone work inputs (BadFile cause) = IsOutcome work inputs (bad_file cause)
 
-abbrev pub written_in : Texts → Written
-written_in texts = record { outputs = map (λ text. text.items) texts.outputs.items; report = texts.report.items }
+-- the outputs, where the drivers sent this: the captures of it, where it stands, or texts
+abbrev pub outputs_in : List (List (List ℕ)) → Outputs → List (List ℕ)
+outputs_in sent Laid = map capture_of sent
+outputs_in sent (Copied texts) = map (λ text. text.items) texts.items
 
--- the captures of lists, and then texts
-abbrev pub outputs_with : List PacketList → List (List ℕ) → List (List ℕ)
-outputs_with lists texts = map capture_of (lists_in lists) ++ texts
+abbrev pub written_in : List (List (List ℕ)) → Texts → Written
+written_in sent texts = record { outputs = outputs_in sent texts.outputs; report = texts.report.items }
 
--- what is written where these are the outputs
-abbrev pub written_with : List PacketList → Texts → Written
-written_with lists texts = record { outputs = outputs_with lists (written_in texts).outputs; report = texts.report.items }
+-- captures that are written where the packets stand are within the limits of a capture
+abbrev pub CanBeLaid : List (List (List ℕ)) → Outputs → Type 0
+CanBeLaid sent Laid = All (λ (list : List (List ℕ)). IsWritable (list ∷ [])) sent
+CanBeLaid sent (Copied texts) = Unit {0}
+
+-- a status that tells of texts
+abbrev pub HasTexts : Status → Type 0
+HasTexts Done = Unit {0}
+HasTexts (WriteFault stream) = Unit {0}
+HasTexts (OpenFault (Output port)) = Unit {0}
+HasTexts status = ⊥
+
+abbrev pub no_texts : Written
+no_texts = record { outputs = []; report = [] }
+
+-- why there are no texts of inputs that were read, where a status comes so of them
+abbrev pub MakesNo : (Written → Moment → Status → Type 0) → RunFailure → Type 0
+MakesNo Comes (Excessive (LongInput port)) = ⊥
+MakesNo Comes failure = (old : Moment) → Comes no_texts old (run_status failure)
 
 -- ---- writing
 

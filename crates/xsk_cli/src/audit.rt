@@ -5,17 +5,18 @@ ghost use Rattle.xsk_args.specs.Words.{Text};
 ghost use Rattle.xsk_io.specs.Bay.{NoneOpen};
 ghost use Rattle.xsk_socket.specs.Layout.{fault_of};
 ghost use Rattle.xsk_cli.specs.Outcome.{IsAudited, legal_text, made};
-ghost use Rattle.xsk_cli.specs.Steps.{Comes, FailsAudit, written_in};
+ghost use Rattle.xsk_cli.specs.Steps.{CanBeLaid, Comes, FailsAudit, written_in};
 ghost use Rattle.xsk_cli.specs.Streams.{status_in};
 ghost use Rattle.xsk_cli.specs.Words.{audit_plan, files_in, layout_by, without_files};
 
 use crate::Status;
+use crate::chain::{Chained, run_plan};
 use crate::failure::RunFailure;
 use crate::options::LAYOUT;
-use crate::plain::run_plan;
 use crate::setup::set_up;
-use crate::texts::Texts;
+use crate::texts::{Outputs, Texts};
 use crate::words::{Plan, Work, layout_of};
+use crate::work::WithoutRun;
 use std::alloc::Global;
 use std::fmt::Write;
 use xsk_args::{Args, parse};
@@ -40,7 +41,11 @@ pub(crate) fn run_audit<B: Bay>(alloc: Global, words: &[String], bay: &mut B) ->
         outputs: &[],
         work: Work::Audit { layout },
     };
-    run_plan(alloc, &plan, bay)
+    let Chained {
+        result,
+        left: _nothing,
+    } = run_plan(alloc, &plan, &WithoutRun, bay);
+    result
 }
 
 /// The file, where exactly one was named.
@@ -70,7 +75,8 @@ fn audited_layout(args: &Args<'_>) -> Result<Layout, Unlawful>
 /// The line that tells a legal journal, or the line from which on it isn't legal.
 pub(crate) fn audit_texts(alloc: Global, layout: &Layout, text: &[u8]) -> Result<Texts, RunFailure>
     requires { fault_of layout.now ≡ None }
-    ensures made { IfOk result (λ texts. IsAudited layout.now text.now (made (written_in texts))) }
+    ensures made { IfOk result (λ texts. IsAudited layout.now text.now (made (written_in [] texts))) }
+    ensures laid { IfOk result (λ texts. CanBeLaid [] texts.outputs) }
     ensures failed { IfErr result (FailsAudit layout.now text.now) }
 {
     let (config, frames) = set_up(alloc, layout)?;
@@ -82,12 +88,13 @@ pub(crate) fn audit_texts(alloc: Global, layout: &Layout, text: &[u8]) -> Result
 
 /// The one line of a journal that is legal, with so many entries.
 fn legal_texts(alloc: Global, entries: u64) -> Result<Texts, OutOfMemory>
-    ensures { IfOk result (λ texts. written_in texts ≡ record { outputs = []; report = legal_text entries }) }
+    ensures legal { IfOk result (λ texts. written_in [] texts ≡ record { outputs = []; report = legal_text entries }) }
+    ensures laid { IfOk result (λ texts. CanBeLaid [] texts.outputs) }
 {
     let mut report = String::new(alloc);
     writeln!(report, "legal {entries}")?;
     Ok(Texts {
-        outputs: Vec::new(alloc),
+        outputs: Outputs::Copied(Vec::new(alloc)),
         report: report.into_bytes(),
     })
 }

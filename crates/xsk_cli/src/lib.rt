@@ -3,12 +3,13 @@
 
 mod audit;
 mod captures;
+mod chain;
 mod failure;
 mod files;
 mod format;
 mod input;
-mod laid;
 pub mod laws;
+mod leaves;
 mod line;
 mod lists;
 mod made;
@@ -16,6 +17,7 @@ mod options;
 mod output;
 mod plain;
 mod programs;
+mod rounds;
 mod setup;
 mod shown;
 mod status;

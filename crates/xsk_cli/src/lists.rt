@@ -1,7 +1,8 @@
 //! The packets of all ports, from files or made.
 ghost use Rattle.std.specs.Prelude.{◌≡◌, None, IfErr, IfOk, length, map};
+ghost use Rattle.xsk_cli.specs.Forward.{IsRun};
 ghost use Rattle.xsk_cli.specs.Judged.{AreShort, excess_of};
-ghost use Rattle.xsk_cli.specs.Outcome.{AreListsOf, IsOnPackets, listed};
+ghost use Rattle.xsk_cli.specs.Outcome.{AreListsOf, listed};
 ghost use Rattle.xsk_cli.specs.Steps.{IsBeforeRun, MakesNone, lists_in, read_by};
 ghost use Rattle.xsk_cli.specs.Words.{fault_in, most_of, ports_in};
 
@@ -21,7 +22,7 @@ pub(crate) fn take_lists(
     inputs: Vec<Vec<u8>>,
 ) -> Result<Vec<PacketList>, RunFailure>
     requires accepted { fault_in work.now ≡ None }
-    requires packets { IsOnPackets work.now }
+    requires runs { IsRun work.now }
     requires count { length inputs.items ≡ read_by work.now }
     requires short { AreShort (most_of work.now) (map (λ bytes. bytes.items) inputs.items) (length inputs.items) }
     ensures taken { IfOk result (λ lists. AreListsOf work.now (map (λ bytes. bytes.items) inputs.items) (lists_in lists.items)) }
@@ -46,7 +47,6 @@ pub(crate) fn take_lists(
             number: Some(number),
             ..
         } => Ok(make_lists(alloc, *number, layout.ports)?),
-        Work::Generate { number } => Ok(make_lists(alloc, *number, 1)?),
-        Work::Audit { .. } => unreachable!(),
+        Work::Generate { .. } | Work::Audit { .. } => unreachable!(),
     }
 }

@@ -4,11 +4,12 @@ ghost use Rattle.std.specs.Fmt.{decimal};
 ghost use Rattle.std.specs.List.{concat};
 ghost use Rattle.xsk_driver.specs.Sent.{IsShort};
 ghost use Rattle.xsk_gen.specs.Generator.{first, packet};
-ghost use Rattle.xsk_cli.specs.Outcome.{capture_of, listed, made_lists, report_on};
-ghost use Rattle.xsk_cli.specs.Steps.{lists_in, written_in};
+ghost use Rattle.xsk_cli.specs.Outcome.{AreTextsBy, capture_of, listed, made_lists, report_on};
+ghost use Rattle.xsk_cli.specs.Steps.{CanBeLaid, lists_in, outputs_in, written_in};
+ghost use Rattle.xsk_cli.specs.declared.words.Work.TheVariants.{Generate};
 
 use crate::captures::without_room;
-use crate::texts::{Texts, capture_text};
+use crate::texts::{Outputs, Texts, capture_text};
 use std::alloc::Global;
 use std::fmt::Write;
 use xsk_gen::generate;
@@ -42,19 +43,32 @@ fn make_list(alloc: Global, number: u32, port: u32) -> Result<PacketList, OutOfM
     Ok(without_room(list))
 }
 
+/// The capture of the packets that are made of a number for the first port, and the line that counts them.
+pub(crate) fn generated_texts(alloc: Global, number: u32) -> Result<Texts, OutOfMemory>
+    ensures made { IfOk result (λ texts. AreTextsBy (Generate number) (made_lists number 1) (written_in [] texts)) }
+    ensures laid { IfOk result (λ texts. CanBeLaid [] texts.outputs) }
+{
+    let list = make_list(alloc, number, 0)?;
+    made_texts(alloc, &list)
+}
+
 /// The capture of packets, and the line that counts them.
-pub(crate) fn made_texts(alloc: Global, list: &PacketList) -> Result<Texts, OutOfMemory>
+fn made_texts(alloc: Global, list: &PacketList) -> Result<Texts, OutOfMemory>
     requires short { All IsShort list.now.packets }
     requires few { length list.now.packets ≤ 65536 }
     requires small { length (concat list.now.packets) ≤ 33554432 }
-    ensures outputs { IfOk result (λ texts. (written_in texts).outputs ≡ capture_of list.now.packets ∷ []) }
-    ensures report { IfOk result (λ texts. (written_in texts).report ≡ report_on list.now.packets) }
+    ensures outputs { IfOk result (λ texts. outputs_in [] texts.outputs ≡ capture_of list.now.packets ∷ []) }
+    ensures laid { IfOk result (λ texts. CanBeLaid [] texts.outputs) }
+    ensures report { IfOk result (λ texts. texts.report.items ≡ report_on list.now.packets) }
 {
-    let mut outputs = Vec::with_capacity(alloc, 1)?;
+    let mut texts = Vec::with_capacity(alloc, 1)?;
     let text = capture_text(alloc, list)?;
-    outputs.push_reserved(text);
+    texts.push_reserved(text);
     let report = count_text(alloc, list.len(), list.bytes())?;
-    Ok(Texts { outputs, report })
+    Ok(Texts {
+        outputs: Outputs::Copied(texts),
+        report,
+    })
 }
 
 /// The one line of the report.

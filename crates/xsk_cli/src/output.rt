@@ -1,35 +1,34 @@
 //! The outputs of a command, and its report.
-ghost use Rattle.std.specs.Prelude.{◌≡◌, ℕ, ◌+◌, ◌<◌, ◌≤◌, [], All, false, true, length, map, IfErr, OnOk};
+ghost use Rattle.std.specs.Prelude.{◌≡◌, ℕ, ◌<◌, ◌≤◌, ◌∷◌, [], false, true, length, map, IfErr, OnOk};
 ghost use Rattle.std.specs.List.{slice_index_or};
+ghost use Rattle.xsk_pcap.specs.Written.{IsWritable};
 ghost use Rattle.xsk_io.specs.Bay.{Adds, AddsNoneBut, Same, SameBut, Grows, IsOffered};
 ghost use Rattle.xsk_cli.specs.Cause.{IsCaused, NeverFalls, NoOthers, Unchanged};
-ghost use Rattle.xsk_cli.specs.Laid.{CanBeLaid};
 ghost use Rattle.xsk_cli.specs.Outcome.{capture_of};
-ghost use Rattle.xsk_cli.specs.Steps.{FailsOutput, FailsOutputs, FailsWriting, outputs_with, write_status, written_with};
+ghost use Rattle.xsk_cli.specs.Steps.{CanBeLaid, FailsOutput, FailsOutputs, FailsWriting, outputs_in, write_status, written_in};
 ghost use Rattle.xsk_cli.specs.Streams.{AreWritten, IsTold};
 
 use crate::failure::WriteFailure;
-use crate::texts::Texts;
+use crate::leaves::Leaves;
+use crate::texts::{Outputs, Texts};
 use xsk_io::{Bay, Stream, write_whole};
-use xsk_pcap::lay;
-use xsk_umem::PacketList;
 
-/// Opens the outputs by their names and writes them, one after another: the captures of the lists, where these stand, and then the
-/// texts. Then it writes the report.
-pub(crate) fn write_texts<B: Bay>(
+/// Opens the outputs by their names and writes them, one after another, and then the report. Captures of what a run left are
+/// written where its lists stand.
+pub(crate) fn write_texts<B: Bay, L: Leaves>(
     bay: &mut B,
     names: &[&str],
-    lists: &mut [PacketList],
+    left: &mut L,
     texts: &Texts,
 ) -> Result<(), WriteFailure>
     requires few { length names.now ≤ 4 }
-    requires texts { length lists.old + length texts.now.outputs.items ≡ length names.now }
-    requires laid { All CanBeLaid lists.old }
+    requires texts { length (outputs_in (L.sent left.old) texts.now.outputs) ≡ length names.now }
+    requires laid { CanBeLaid (L.sent left.old) texts.now.outputs }
     requires closed { (port : ℕ) → (B.moment bay.old).is_open (Stream.Output port) ≡ false }
-    ensures written { OnOk result (AreWritten (map (λ name. name.now) names.now) (written_with lists.old texts.now).outputs (length names.now) (length names.now) (B.moment bay.old) (B.moment bay.new)) }
-    ensures report { OnOk result (Grows ((B.moment bay.old).held Stream.Report) ((B.moment bay.new).held Stream.Report) (written_with lists.old texts.now).report) }
-    ensures offered { OnOk result (IsOffered ((B.moment bay.old).offers Stream.Report) ((B.moment bay.new).offers Stream.Report) (length (written_with lists.old texts.now).report)) }
-    ensures failed { IfErr result (FailsWriting (map (λ name. name.now) names.now) (written_with lists.old texts.now) (B.moment bay.old) (B.moment bay.new)) }
+    ensures written { OnOk result (AreWritten (map (λ name. name.now) names.now) (written_in (L.sent left.old) texts.now).outputs (length names.now) (length names.now) (B.moment bay.old) (B.moment bay.new)) }
+    ensures report { OnOk result (Grows ((B.moment bay.old).held Stream.Report) ((B.moment bay.new).held Stream.Report) (written_in (L.sent left.old) texts.now).report) }
+    ensures offered { OnOk result (IsOffered ((B.moment bay.old).offers Stream.Report) ((B.moment bay.new).offers Stream.Report) (length (written_in (L.sent left.old) texts.now).report)) }
+    ensures failed { IfErr result (FailsWriting (map (λ name. name.now) names.now) (written_in (L.sent left.old) texts.now) (B.moment bay.old) (B.moment bay.new)) }
     ensures opened { (port : ℕ) → (B.moment bay.new).is_open (Stream.Input port) ≡ (B.moment bay.old).is_open (Stream.Input port) }
     ensures asked { (port : ℕ) → (B.moment bay.new).asked (Stream.Input port) ≡ (B.moment bay.old).asked (Stream.Input port) }
     ensures left { Same (B.moment bay.old).left (B.moment bay.new).left }
@@ -37,9 +36,9 @@ pub(crate) fn write_texts<B: Bay>(
     ensures unchanged { OnOk result (Unchanged (B.moment bay.old).faults (B.moment bay.new).faults) }
     ensures others { IfErr result (λ failure. NoOthers (B.moment bay.old).faults (B.moment bay.new).faults (write_status failure)) }
     ensures cause { IfErr result (λ failure. IsCaused (B.moment bay.old).faults (B.moment bay.new).faults (write_status failure)) }
-    ensures lists { lists.new ≡ lists.old }
+    ensures kept { left.new ≡ left.old }
 {
-    write_outputs(bay, names, lists, texts.outputs.as_slice())?;
+    write_outputs(bay, names, left, &texts.outputs)?;
     if write_whole(bay, Stream::Report, texts.report.as_slice()).is_err() {
         return Err(WriteFailure::Unwritten(Stream::Report));
     }
@@ -47,18 +46,18 @@ pub(crate) fn write_texts<B: Bay>(
 }
 
 /// Opens the outputs by their names and writes them, one after another.
-fn write_outputs<B: Bay>(
+fn write_outputs<B: Bay, L: Leaves>(
     bay: &mut B,
     names: &[&str],
-    lists: &mut [PacketList],
-    texts: &[Vec<u8>],
+    left: &mut L,
+    outputs: &Outputs,
 ) -> Result<(), WriteFailure>
     requires few { length names.now ≤ 4 }
-    requires texts { length lists.old + length texts.now ≡ length names.now }
-    requires laid { All CanBeLaid lists.old }
+    requires outputs { length (outputs_in (L.sent left.old) outputs.now) ≡ length names.now }
+    requires laid { CanBeLaid (L.sent left.old) outputs.now }
     requires closed { (port : ℕ) → (B.moment bay.old).is_open (Stream.Output port) ≡ false }
-    ensures written { OnOk result (AreWritten (map (λ name. name.now) names.now) (outputs_with lists.old (map (λ text. text.items) texts.now)) (length names.now) (length names.now) (B.moment bay.old) (B.moment bay.new)) }
-    ensures failed { IfErr result (FailsOutputs (map (λ name. name.now) names.now) (outputs_with lists.old (map (λ text. text.items) texts.now)) (B.moment bay.old) (B.moment bay.new)) }
+    ensures written { OnOk result (AreWritten (map (λ name. name.now) names.now) (outputs_in (L.sent left.old) outputs.now) (length names.now) (length names.now) (B.moment bay.old) (B.moment bay.new)) }
+    ensures failed { IfErr result (FailsOutputs (map (λ name. name.now) names.now) (outputs_in (L.sent left.old) outputs.now) (B.moment bay.old) (B.moment bay.new)) }
     ensures report { (B.moment bay.new).held Stream.Report ≡ (B.moment bay.old).held Stream.Report }
     ensures unoffered { Adds ((B.moment bay.old).offers Stream.Report) ((B.moment bay.new).offers Stream.Report) [] }
     ensures opened { (port : ℕ) → (B.moment bay.new).is_open (Stream.Input port) ≡ (B.moment bay.old).is_open (Stream.Input port) }
@@ -68,31 +67,31 @@ fn write_outputs<B: Bay>(
     ensures unchanged { OnOk result (Unchanged (B.moment bay.old).faults (B.moment bay.new).faults) }
     ensures others { IfErr result (λ failure. NoOthers (B.moment bay.old).faults (B.moment bay.new).faults (write_status failure)) }
     ensures cause { IfErr result (λ failure. IsCaused (B.moment bay.old).faults (B.moment bay.new).faults (write_status failure)) }
-    ensures lists { lists.new ≡ lists.old }
+    ensures kept { left.new ≡ left.old }
 {
     for port in 0..names.len() as u32 {
-        write_next(bay, port, names[port as usize], lists, texts)?;
+        write_next(bay, port, names[port as usize], left, outputs)?;
     }
     Ok(())
 }
 
-/// Opens the output of a port and writes the capture of its list, or its text behind all lists.
-fn write_next<B: Bay>(
+/// Opens the output of a port and writes it.
+fn write_next<B: Bay, L: Leaves>(
     bay: &mut B,
     port: u32,
     name: &str,
-    lists: &mut [PacketList],
-    texts: &[Vec<u8>],
+    left: &mut L,
+    outputs: &Outputs,
 ) -> Result<(), WriteFailure>
     requires port { port < 4 }
-    requires known { port < length lists.old + length texts.now }
-    requires laid { All CanBeLaid lists.old }
+    requires known { port < length (outputs_in (L.sent left.old) outputs.now) }
+    requires laid { CanBeLaid (L.sent left.old) outputs.now }
     requires closed { (B.moment bay.old).is_open (Stream.Output port) ≡ false }
-    ensures whole { OnOk result (IsTold ((B.moment bay.new).held (Stream.Output port)) (slice_index_or (outputs_with lists.old (map (λ text. text.items) texts.now)) port [])) }
-    ensures offered { OnOk result (IsOffered ((B.moment bay.old).offers (Stream.Output port)) ((B.moment bay.new).offers (Stream.Output port)) (length (slice_index_or (outputs_with lists.old (map (λ text. text.items) texts.now)) port []))) }
+    ensures whole { OnOk result (IsTold ((B.moment bay.new).held (Stream.Output port)) (slice_index_or (outputs_in (L.sent left.old) outputs.now) port [])) }
+    ensures offered { OnOk result (IsOffered ((B.moment bay.old).offers (Stream.Output port)) ((B.moment bay.new).offers (Stream.Output port)) (length (slice_index_or (outputs_in (L.sent left.old) outputs.now) port []))) }
     ensures unoffered { AddsNoneBut (Stream.Output port) (B.moment bay.old).offers (B.moment bay.new).offers }
     ensures open { OnOk result ((B.moment bay.new).is_open (Stream.Output port) ≡ true) }
-    ensures failed { IfErr result (FailsOutput port (slice_index_or (outputs_with lists.old (map (λ text. text.items) texts.now)) port []) (B.moment bay.old) (B.moment bay.new)) }
+    ensures failed { IfErr result (FailsOutput port (slice_index_or (outputs_in (L.sent left.old) outputs.now) port []) (B.moment bay.old) (B.moment bay.new)) }
     ensures asked { IsTold ((B.moment bay.new).asked (Stream.Output port)) name.now }
     ensures held { SameBut (Stream.Output port) (B.moment bay.old).held (B.moment bay.new).held }
     ensures opened { SameBut (Stream.Output port) (B.moment bay.old).is_open (B.moment bay.new).is_open }
@@ -101,31 +100,31 @@ fn write_next<B: Bay>(
     ensures falls { NeverFalls (B.moment bay.old).faults (B.moment bay.new).faults }
     ensures unchanged { OnOk result (Unchanged (B.moment bay.old).faults (B.moment bay.new).faults) }
     ensures others { IfErr result (λ failure. NoOthers (B.moment bay.old).faults (B.moment bay.new).faults (write_status failure)) }
-    ensures lists { lists.new ≡ lists.old }
+    ensures kept { left.new ≡ left.old }
 {
-    let place = port as usize;
-    if place < lists.len() {
-        write_list(bay, port, name, &mut lists[place])
-    } else {
-        write_output(bay, port, name, texts[place - lists.len()].as_slice())
+    match outputs {
+        Outputs::Laid => write_laid(bay, port, name, left),
+        Outputs::Copied(texts) => write_output(bay, port, name, texts[port as usize].as_slice()),
     }
 }
 
-/// Opens the output of a port and writes the capture of a list, where the list stands.
-fn write_list<B: Bay>(
+/// Opens the output of a port and writes the capture of what the driver of a pair sent, where its list stands. The pairs are the
+/// ports.
+fn write_laid<B: Bay, L: Leaves>(
     bay: &mut B,
     port: u32,
     name: &str,
-    list: &mut PacketList,
+    left: &mut L,
 ) -> Result<(), WriteFailure>
     requires port { port < 4 }
-    requires laid { CanBeLaid list.old }
+    requires known { port < length (L.sent left.old) }
+    requires writable { IsWritable (slice_index_or (L.sent left.old) port [] ∷ []) }
     requires closed { (B.moment bay.old).is_open (Stream.Output port) ≡ false }
-    ensures whole { OnOk result (IsTold ((B.moment bay.new).held (Stream.Output port)) (capture_of list.old.packets)) }
-    ensures offered { OnOk result (IsOffered ((B.moment bay.old).offers (Stream.Output port)) ((B.moment bay.new).offers (Stream.Output port)) (length (capture_of list.old.packets))) }
+    ensures whole { OnOk result (IsTold ((B.moment bay.new).held (Stream.Output port)) (capture_of (slice_index_or (L.sent left.old) port []))) }
+    ensures offered { OnOk result (IsOffered ((B.moment bay.old).offers (Stream.Output port)) ((B.moment bay.new).offers (Stream.Output port)) (length (capture_of (slice_index_or (L.sent left.old) port [])))) }
     ensures unoffered { AddsNoneBut (Stream.Output port) (B.moment bay.old).offers (B.moment bay.new).offers }
     ensures open { OnOk result ((B.moment bay.new).is_open (Stream.Output port) ≡ true) }
-    ensures failed { IfErr result (FailsOutput port (capture_of list.old.packets) (B.moment bay.old) (B.moment bay.new)) }
+    ensures failed { IfErr result (FailsOutput port (capture_of (slice_index_or (L.sent left.old) port [])) (B.moment bay.old) (B.moment bay.new)) }
     ensures asked { IsTold ((B.moment bay.new).asked (Stream.Output port)) name.now }
     ensures held { SameBut (Stream.Output port) (B.moment bay.old).held (B.moment bay.new).held }
     ensures opened { SameBut (Stream.Output port) (B.moment bay.old).is_open (B.moment bay.new).is_open }
@@ -134,9 +133,9 @@ fn write_list<B: Bay>(
     ensures falls { NeverFalls (B.moment bay.old).faults (B.moment bay.new).faults }
     ensures unchanged { OnOk result (Unchanged (B.moment bay.old).faults (B.moment bay.new).faults) }
     ensures others { IfErr result (λ failure. NoOthers (B.moment bay.old).faults (B.moment bay.new).faults (write_status failure)) }
-    ensures list { list.new ≡ list.old }
+    ensures kept { left.new ≡ left.old }
 {
-    match lay(list) {
+    match left.lay(port) {
         Some(text) => write_output(bay, port, name, text),
         None => unreachable!(),
     }

@@ -3,22 +3,21 @@ ghost use Rattle.std.specs.Prelude.{◌≡◌, Some, map, string_bytes};
 ghost use Rattle.xsk_io.specs.Bay.{AddsNoneBut, CountsOnly, Same, SameBut, NoneOpen};
 ghost use Rattle.xsk_io.specs.declared.bay.Kind.{Kind};
 ghost use Rattle.xsk_cli.specs.Ample.{Finishes, GoesOn};
-ghost use Rattle.xsk_cli.specs.Cause.{IsCaused, NeverFalls, NoOthers, Unchanged};
-ghost use Rattle.xsk_cli.specs.Ends.{Ends};
+ghost use Rattle.xsk_cli.specs.Cause.{NeverFalls, Unchanged};
 ghost use Rattle.xsk_cli.specs.Forward.{IsPlainAnswer};
 ghost use Rattle.xsk_cli.specs.Line.{line_of};
-ghost use Rattle.xsk_cli.specs.Steps.{Comes, IsReady, plan_in};
-ghost use Rattle.xsk_cli.specs.Streams.{GotLine, HasLine, IsAtOnce, IsSilent, status_in};
+ghost use Rattle.xsk_cli.specs.Steps.{Comes};
+ghost use Rattle.xsk_cli.specs.Streams.{GotLine, HasLine, IsSilent, status_in};
 ghost use Rattle.xsk_cli.specs.Words.{gen_plan, plan_of, simulate_plan};
 
 use crate::Status;
 use crate::audit::run_audit;
-use crate::input::read_inputs;
+use crate::chain::{Chained, run_plan};
 use crate::line::line;
 use crate::options::{LAYOUT, ROUNDS, RUN};
-use crate::output::write_texts;
+use crate::rounds::InRounds;
 use crate::words::{Plan, Work, check_words, read_gen};
-use crate::work::work_texts;
+use crate::work::WithoutRun;
 use std::alloc::Global;
 use xsk_args::parse;
 use xsk_io::{Bay, Stream, write_whole};
@@ -86,7 +85,11 @@ fn run_gen<B: Bay>(alloc: Global, words: &[String], bay: &mut B) -> Result<(), S
         outputs: &outputs,
         work: Work::Generate { number },
     };
-    run_plan(alloc, &plan, bay)
+    let Chained {
+        result,
+        left: _nothing,
+    } = run_plan(alloc, &plan, &WithoutRun, bay);
+    result
 }
 
 /// Does what words say that begin with `simulate`.
@@ -97,28 +100,11 @@ fn run_simulate<B: Bay>(alloc: Global, words: &[String], bay: &mut B) -> Result<
     let args = parse(alloc, "simulate", &[&LAYOUT, &RUN, &ROUNDS], words)?;
     check_words(&args)?;
     let plan = Plan::of(&args)?;
-    run_plan(alloc, &plan, bay)
-}
-
-/// Reads the inputs, makes texts of them, and writes the outputs and the report.
-pub(crate) fn run_plan<B: Bay>(
-    alloc: Global,
-    plan: &Plan<'_, '_>,
-    bay: &mut B,
-) -> Result<(), Status>
-    requires ready { IsReady (plan_in plan.now) }
-    requires closed { NoneOpen (B.moment bay.old) }
-    ensures begun { IsAtOnce (status_in result) → ⊥ }
-    ensures ends { Ends (plan_in plan.now) (B.moment bay.old) (B.moment bay.new) (status_in result) }
-    ensures silent { HasLine (status_in result) → IsSilent (B.moment bay.old) (B.moment bay.new) }
-    ensures cause { IsCaused (B.moment bay.old).faults (B.moment bay.new).faults (status_in result) }
-    ensures others { NoOthers (B.moment bay.old).faults (B.moment bay.new).faults (status_in result) }
-    ensures falls { NeverFalls (B.moment bay.old).faults (B.moment bay.new).faults }
-{
-    let inputs = read_inputs(alloc, bay, plan.inputs, plan.work.most_input())?;
-    let texts = work_texts(alloc, &plan.work, inputs)?;
-    write_texts(bay, plan.outputs, &mut [], &texts)?;
-    Ok(())
+    let Chained {
+        result,
+        left: _sent,
+    } = run_plan(alloc, &plan, &InRounds, bay);
+    result
 }
 
 /// Writes the line of a refusal to the report. A fault there changes nothing.

@@ -1,10 +1,8 @@
 //! What a run on threads shows, from where it has ended.
-ghost use Rattle.std.specs.Prelude.{◌≡◌, ◌<◌, [], All, length, map};
+ghost use Rattle.std.specs.Prelude.{◌≡◌, ◌<◌, [], All, length};
 ghost use Rattle.std.specs.List.{slice_index_or};
 ghost use Rattle.xsk_driver.specs.Sent.{IsShort};
-ghost use Rattle.xsk_machine.specs.Acts.{HasShortPackets, packets_in};
 
-use std::alloc::Global;
 use std::marker::Model;
 use xsk_machine::Figures;
 use xsk_umem::PacketList;
@@ -39,23 +37,6 @@ impl ThreadRun {
         ensures { result.now ≡ self.now.figures }
     {
         self.outcome.figures()
-    }
-
-    /// Takes the lists of what the drivers sent, one for each pair. The run has none then. It takes no memory.
-    pub(crate) fn take_sent(&mut self, alloc: Global) -> Vec<PacketList>
-        ensures lists { map packets_in result.items ≡ self.old.sent }
-        ensures short { All HasShortPackets result.items }
-        ensures left { self.new ≡ record self.old { sent = [] } }
-    {
-        self.outcome.take_sent(alloc)
-    }
-
-    /// Puts lists in the place of those that the run has. It takes no memory.
-    pub(crate) fn put_sent(&mut self, sent: Vec<PacketList>)
-        requires short { All HasShortPackets sent.items }
-        ensures { self.new ≡ record self.old { sent = map packets_in sent.items } }
-    {
-        self.outcome.put_sent(sent);
     }
 
     /// Gives up what the run shows.

@@ -16,7 +16,7 @@ use xsk_turns::{Manner, Wire};
 const MOST_OF_JOURNAL: usize = 67_108_864;
 
 /// What is made of the files that a command reads.
-#[derive(Debug, Drop)]
+#[derive(Drop)]
 pub enum Work {
     /// A run of the layout's workers over the packets of its ports, under programs and with a wire, in rounds with an order
     /// number. The manner says whether applications change items that they send, and when the layout's socket is closed. With a
@@ -56,7 +56,7 @@ impl Work {
 }
 
 /// The files that a command reads, those that it writes, and what it does between.
-#[derive(Debug, Drop)]
+#[derive(Drop)]
 pub(crate) struct Plan<'p, 'w> {
     pub(crate) inputs: &'p [&'w str],
     pub(crate) outputs: &'p [&'w str],

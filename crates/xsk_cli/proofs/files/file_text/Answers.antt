@@ -1,9 +1,5 @@
-use Rattle.std.proofs.Common.{rules, IfOk, ◌≡◌, ◌*◌, List, ℕ, length, sym, subst, ◌∙◌, arith}
-use Rattle.std.proofs.lemmas.List.{length-map}
-use Rattle.xsk_umem.specs.PacketList.{PacketList}
+use Rattle.std.proofs.Common.{rules, IfOk, ◌≡◌, List, ℕ, sym, subst}
 use Rattle.xsk_pcapng.specs.Written.{IsWritable, written as written_file}
-use Rattle.xsk_cli.specs.Format.{joined}
-use Rattle.xsk_cli.specs.Steps.{lists_in}
 use Rattle.xsk_cli.proofs.Filing.{joined_as_is}
 use Rattle.xsk_cli.proofs.files.file_text.Goals as goal
 

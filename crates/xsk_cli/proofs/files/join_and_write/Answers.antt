@@ -1,6 +1,5 @@
-use Rattle.std.proofs.Common.{rules, IfOk, ◌≡◌, List, ℕ, sym, ap, subst, ◌∙◌}
+use Rattle.std.proofs.Common.{IfOk, ◌≡◌, List, ℕ, ap, subst, ◌∙◌}
 use Rattle.xsk_pcapng.specs.Written.{written as written_file}
-use Rattle.xsk_cli.specs.Format.{joined}
 use Rattle.xsk_cli.specs.Steps.{lists_in}
 use Rattle.xsk_cli.proofs.files.join_and_write.Goals as goal
 

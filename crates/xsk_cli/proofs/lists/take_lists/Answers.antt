@@ -1,4 +1,4 @@
-use Rattle.std.proofs.Common.{◌≡◌, None, sym, ◌∙◌, ap, arith}
+use Rattle.std.proofs.Common.{◌≡◌, None, sym, ◌∙◌, ap}
 use Rattle.xsk_socket.specs.Layout.{fault_of}
 use Rattle.xsk_cli.specs.Judged.{excess_of}
 use Rattle.xsk_cli.specs.Words.{fault_in}
@@ -10,7 +10,3 @@ returns-in_ok-make_lists-in-Simulate-default-default-default-default-default-Som
     let made = c.in-Simulate-default-default-default-default-default-Some-default-default in
     let accepted : fault_of made.layout ≡ None = ap fault_in (sym made.is) ∙ c.requires.accepted in
     ap excess_of (c.in_ok-make_lists-in-Simulate-default-default-default-default-default-Some-default-default.ensures.lists) ∙ made_within _ made.layout.ports (few_ports made.layout accepted)
-
-pub returns-in_ok-make_lists-in-Generate-clause-within : goal.returns-in_ok-make_lists-in-Generate-clause-within
-returns-in_ok-make_lists-in-Generate-clause-within c =
-    ap excess_of (c.in_ok-make_lists-in-Generate.ensures.lists) ∙ made_within c.in-Generate.number 1 (omega arith)

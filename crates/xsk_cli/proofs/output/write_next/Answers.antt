@@ -1,47 +1,29 @@
-use Rattle.std.proofs.Common.{rules, ◌≡◌, ◌<◌, ◌≤◌, ◌+◌, ◌-◌, ℕ, List, length, map, [], get_or, ap, sym, ◌∙◌, arith}
-use Rattle.std.proofs.lemmas.List.{get_or-map}
-use Rattle.xsk_umem.specs.PacketList.{PacketList}
+use Rattle.std.proofs.Common.{◌≡◌, [], get_or}
 use Rattle.xsk_cli.specs.Outcome.{capture_of}
-use Rattle.xsk_cli.specs.Steps.{outputs_with}
-use Rattle.xsk_cli.proofs.Laying.{output_of_list, output_behind}
+use Rattle.xsk_cli.specs.Steps.{outputs_in}
+use Rattle.xsk_cli.proofs.Laying.{laid_here, laid_known, laid_output}
 use Rattle.xsk_cli.proofs.output.write_next.Goals as goal
 
-pub returns-then-place-lists-clause-offered : goal.returns-then-place-lists-clause-offered
-returns-then-place-lists-clause-offered g c =
-    let texts : List (List ℕ) = map (λ text. text.items) c.args.texts.now in
-    let list : PacketList = c.index-lists-place.result in
-    let item : list ≡ get_or c.args.lists.now c.args.port list = search rules in
-    let is : get_or (outputs_with c.args.lists.now texts) c.args.port [] ≡ capture_of (get_or c.args.lists.now c.args.port list).packets =
-    output_of_list c.args.lists.now texts c.args.port list (search rules) item ∙ ap (λ (l : PacketList). capture_of l.packets) item in
-    rw is c.write_list.ensures.offered
+pub write_laid-requires-clause-known : goal.write_laid-requires-clause-known
+write_laid-requires-clause-known g c = laid_known (g.L.Leaves.sent c.args.left.now) c.args.outputs.now c.args.port c.in-Laid.is c.requires.known
 
-pub returns-then-place-lists-clause-failed : goal.returns-then-place-lists-clause-failed
-returns-then-place-lists-clause-failed g c =
-    let texts : List (List ℕ) = map (λ text. text.items) c.args.texts.now in
-    let list : PacketList = c.index-lists-place.result in
-    let item : list ≡ get_or c.args.lists.now c.args.port list = search rules in
-    let is : get_or (outputs_with c.args.lists.now texts) c.args.port [] ≡ capture_of (get_or c.args.lists.now c.args.port list).packets =
-    output_of_list c.args.lists.now texts c.args.port list (search rules) item ∙ ap (λ (l : PacketList). capture_of l.packets) item in
-    rw is c.write_list.ensures.failed
+pub write_laid-requires-clause-writable : goal.write_laid-requires-clause-writable
+write_laid-requires-clause-writable g c = laid_here (g.L.Leaves.sent c.args.left.now) c.args.outputs.now c.args.port c.in-Laid.is c.requires.known c.requires.laid
 
-pub returns-else-place-lists-clause-offered : goal.returns-else-place-lists-clause-offered
-returns-else-place-lists-clause-offered g c =
-    let texts : List (List ℕ) = map (λ text. text.items) c.args.texts.now in
-    let place : ℕ = c.args.port - length c.args.lists.now in
-    let behind : length c.args.lists.now ≤ c.args.port = search rules in
-    let item : c.index-texts-place.result ≡ get_or c.args.texts.now place c.index-texts-place.result = search rules in
-    let is : get_or (outputs_with c.args.lists.now texts) c.args.port [] ≡ c.as_slice.result.now =
-    output_behind c.args.lists.now texts c.args.port behind ∙ get_or-map (λ text. text.items) c.args.texts.now place c.index-texts-place.result [] (omega (arith, behind, c.requires.known))
-    ∙ ap (λ text. text.items) (sym item) ∙ sym c.as_slice.ensures.value in
-    rw is c.write_output.ensures.offered
+pub returns-in-Laid-clause-whole : goal.returns-in-Laid-clause-whole
+returns-in-Laid-clause-whole g c =
+    let is : get_or (outputs_in (g.L.Leaves.sent c.args.left.now) c.args.outputs.now) c.args.port [] ≡ capture_of (get_or (g.L.Leaves.sent c.args.left.now) c.args.port []) =
+    laid_output (g.L.Leaves.sent c.args.left.now) c.args.outputs.now c.args.port c.in-Laid.is c.requires.known in
+    rw is c.write_laid.ensures.whole
 
-pub returns-else-place-lists-clause-failed : goal.returns-else-place-lists-clause-failed
-returns-else-place-lists-clause-failed g c =
-    let texts : List (List ℕ) = map (λ text. text.items) c.args.texts.now in
-    let place : ℕ = c.args.port - length c.args.lists.now in
-    let behind : length c.args.lists.now ≤ c.args.port = search rules in
-    let item : c.index-texts-place.result ≡ get_or c.args.texts.now place c.index-texts-place.result = search rules in
-    let is : get_or (outputs_with c.args.lists.now texts) c.args.port [] ≡ c.as_slice.result.now =
-    output_behind c.args.lists.now texts c.args.port behind ∙ get_or-map (λ text. text.items) c.args.texts.now place c.index-texts-place.result [] (omega (arith, behind, c.requires.known))
-    ∙ ap (λ text. text.items) (sym item) ∙ sym c.as_slice.ensures.value in
-    rw is c.write_output.ensures.failed
+pub returns-in-Laid-clause-offered : goal.returns-in-Laid-clause-offered
+returns-in-Laid-clause-offered g c =
+    let is : get_or (outputs_in (g.L.Leaves.sent c.args.left.now) c.args.outputs.now) c.args.port [] ≡ capture_of (get_or (g.L.Leaves.sent c.args.left.now) c.args.port []) =
+    laid_output (g.L.Leaves.sent c.args.left.now) c.args.outputs.now c.args.port c.in-Laid.is c.requires.known in
+    rw is c.write_laid.ensures.offered
+
+pub returns-in-Laid-clause-failed : goal.returns-in-Laid-clause-failed
+returns-in-Laid-clause-failed g c =
+    let is : get_or (outputs_in (g.L.Leaves.sent c.args.left.now) c.args.outputs.now) c.args.port [] ≡ capture_of (get_or (g.L.Leaves.sent c.args.left.now) c.args.port []) =
+    laid_output (g.L.Leaves.sent c.args.left.now) c.args.outputs.now c.args.port c.in-Laid.is c.requires.known in
+    rw is c.write_laid.ensures.failed

@@ -4,7 +4,7 @@ use Rattle.xsk_io.specs.Bay.{GrowsByPart, IsOffered, Moment}
 use Rattle.xsk_io.proofs.Steps.{IsOffered-earlier}
 use Rattle.xsk_io.specs.declared.bay.Stream.TheVariants.{Output, Report}
 use Rattle.xsk_cli.specs.Streams.{AreWritten}
-use Rattle.xsk_cli.specs.Steps.{outputs_with, written_with}
+use Rattle.xsk_cli.specs.Steps.{written_in}
 use Rattle.xsk_cli.proofs.Writing.{still_written}
 use Rattle.xsk_cli.proofs.output.write_texts.Goals as goal
 
@@ -15,13 +15,13 @@ returns-then-is_err-clause-failed g c =
     let new : Moment = g.B.Bay.moment c.write_whole.new.bay in
     let names = map (λ name. name.now) c.args.names.now in
     let n = length c.args.names.now in
-    let are : AreWritten names (written_with c.args.lists.now c.args.texts.now).outputs n n old mid =
-    subst (λ ts. AreWritten names (outputs_with c.args.lists.now (map (λ text. text.items) ts)) n n old mid) c.as_slice.ensures.value c.in_ok-write_outputs.ensures.written in
-    let still : AreWritten names (written_with c.args.lists.now c.args.texts.now).outputs n n old new = still_written names (written_with c.args.lists.now c.args.texts.now).outputs n n old mid new are c.write_whole.ensures.opened c.write_whole.ensures.names
+    let are : AreWritten names (written_in (g.L.Leaves.sent c.args.left.now) c.args.texts.now).outputs n n old mid =
+    c.in_ok-write_outputs.ensures.written in
+    let still : AreWritten names (written_in (g.L.Leaves.sent c.args.left.now) c.args.texts.now).outputs n n old new = still_written names (written_in (g.L.Leaves.sent c.args.left.now) c.args.texts.now).outputs n n old mid new are c.write_whole.ensures.opened c.write_whole.ensures.names
     (λ port. c.write_whole.ensures.held_others (Output port) (λ e. cc)) (λ port. c.write_whole.ensures.other_offers (Output port) (λ e. cc)) in
-    let offered : IsOffered (old.offers Report) (new.offers Report) (length (written_with c.args.lists.now c.args.texts.now).report) = search (rules, IsOffered-earlier) in
-    let part : GrowsByPart (old.held Report) (new.held Report) (written_with c.args.lists.now c.args.texts.now).report = search rules in
-    (subst (λ k. AreWritten names (written_with c.args.lists.now c.args.texts.now).outputs k k old new) (sym (length-map c.args.names.now (λ name. name.now))) still, part, offered)
+    let offered : IsOffered (old.offers Report) (new.offers Report) (length (written_in (g.L.Leaves.sent c.args.left.now) c.args.texts.now).report) = search (rules, IsOffered-earlier) in
+    let part : GrowsByPart (old.held Report) (new.held Report) (written_in (g.L.Leaves.sent c.args.left.now) c.args.texts.now).report = search rules in
+    (subst (λ k. AreWritten names (written_in (g.L.Leaves.sent c.args.left.now) c.args.texts.now).outputs k k old new) (sym (length-map c.args.names.now (λ name. name.now))) still, part, offered)
 
 pub returns-clause-written : goal.returns-clause-written
 returns-clause-written g c =
@@ -30,8 +30,8 @@ returns-clause-written g c =
     let new : Moment = g.B.Bay.moment c.write_whole.new.bay in
     let names = map (λ name. name.now) c.args.names.now in
     let n = length c.args.names.now in
-    let are : AreWritten names (written_with c.args.lists.now c.args.texts.now).outputs n n old mid =
-    subst (λ ts. AreWritten names (outputs_with c.args.lists.now (map (λ text. text.items) ts)) n n old mid) c.as_slice.ensures.value c.in_ok-write_outputs.ensures.written in
-    let still : AreWritten names (written_with c.args.lists.now c.args.texts.now).outputs n n old new = still_written names (written_with c.args.lists.now c.args.texts.now).outputs n n old mid new are c.write_whole.ensures.opened c.write_whole.ensures.names
+    let are : AreWritten names (written_in (g.L.Leaves.sent c.args.left.now) c.args.texts.now).outputs n n old mid =
+    c.in_ok-write_outputs.ensures.written in
+    let still : AreWritten names (written_in (g.L.Leaves.sent c.args.left.now) c.args.texts.now).outputs n n old new = still_written names (written_in (g.L.Leaves.sent c.args.left.now) c.args.texts.now).outputs n n old mid new are c.write_whole.ensures.opened c.write_whole.ensures.names
     (λ port. c.write_whole.ensures.held_others (Output port) (λ e. cc)) (λ port. c.write_whole.ensures.other_offers (Output port) (λ e. cc)) in
     still

@@ -4,7 +4,7 @@ use Rattle.xsk_cli.specs.declared.status.Status.TheVariants.{BadCapture, BadPcap
 use Rattle.xsk_pcap.specs.declared.reading.BadCapture.TheVariants.{OutOfMemory as NoCause}
 use Rattle.xsk_pcapng.specs.declared.reading.BadPcapng.TheVariants.{OutOfMemory as NoFileCause}
 use Rattle.xsk_io.proofs.Steps.{Rose-later}
-use Rattle.xsk_cli.specs.Ends.{Ends, NoneRose}
+use Rattle.xsk_cli.specs.Ends.{Ends}
 use Rattle.xsk_cli.specs.Steps.{Comes}
 use Rattle.xsk_io.specs.Bay.{Moment}
 use Rattle.xsk_cli.specs.Line.{line_of}

@@ -1,28 +1,22 @@
-use Rattle.std.proofs.Common.{◌≡◌, ◌+◌, ◌++◌, take, drop, sym, ap, subst, ◌∙◌, arith}
-use Rattle.std.proofs.lemmas.List.{drop-drop}
-use Rattle.std.specs.Vec.Iter.{into_iter_items}
+use Rattle.std.proofs.Common.{rules, ◌≡◌, ◌+◌, ◌<◌, length, get_or, sym, subst, ◌∙◌, arith}
 use Rattle.xsk_pcap.specs.Written.{IsWritable}
-use Rattle.xsk_cli.specs.Steps.{lists_in}
-use Rattle.xsk_cli.proofs.Queues.{next_list}
+use Rattle.xsk_umem.specs.PacketList.{PacketList}
+use Rattle.xsk_cli.proofs.Queues.{one_more_list}
 use Rattle.xsk_cli.proofs.texts.port_text.Goals as goal
 
-pub add_next-requires : goal.add_next-requires
-add_next-requires c =
-    let all = into_iter_items c.args.lists.now in
-    let rest = into_iter_items c.loop-queue.lists in
-    let queue = c.loop-queue._queue in
-    let is : c.loop-queue.capture ++ take 1 (lists_in rest) ≡ take (queue + 1) (lists_in all) =
-    ap (λ ls. ls ++ take 1 (lists_in rest)) c.loop-queue.invariant.added ∙ next_list all rest queue c.loop-queue.invariant.rest in
-    subst IsWritable (sym is) (c.requires.writable (queue + 1) (omega (arith, c.loop-queue-test.true)))
+pub add-requires : goal.add-requires
+add-requires c =
+    let place = c.loop-place.place in
+    let list : PacketList = c.index-sent-first.result in
+    let below : c.args.first + place < length c.args.sent.now = omega (arith, c.requires.known, c.loop-place-test.true) in
+    let item : list ≡ get_or c.args.sent.now (c.args.first + place) list = search rules in
+    let is = one_more_list c.args.sent.now c.loop-place.capture c.args.first place list below c.loop-place.invariant item in
+    subst IsWritable (sym is) (c.requires.writable (place + 1) (omega (arith, c.loop-place-test.true)))
 
-pub loop-queue-preserved : goal.loop-queue-preserved
-loop-queue-preserved c =
-    let all = into_iter_items c.args.lists.now in
-    let rest = into_iter_items c.loop-queue.lists in
-    let queue = c.loop-queue._queue in
-    record {
-      added =
-          c.in_ok-add_next.ensures.added ∙ ap (λ ls. ls ++ take 1 (lists_in rest)) c.loop-queue.invariant.added
-          ∙ next_list all rest queue c.loop-queue.invariant.rest;
-      rest = c.in_ok-add_next.ensures.rest ∙ ap (drop 1) c.loop-queue.invariant.rest ∙ drop-drop 1 queue all;
-    }
+pub loop-place-preserved : goal.loop-place-preserved
+loop-place-preserved c =
+    let place = c.loop-place.place in
+    let list : PacketList = c.index-sent-first.result in
+    let below : c.args.first + place < length c.args.sent.now = omega (arith, c.requires.known, c.loop-place-test.true) in
+    let item : list ≡ get_or c.args.sent.now (c.args.first + place) list = search rules in
+    c.in_ok-add.ensures.added ∙ one_more_list c.args.sent.now c.loop-place.capture c.args.first place list below c.loop-place.invariant item

@@ -1,11 +1,13 @@
-use Rattle.std.proofs.Common.{rules, ◌≡◌, map, string_bytes, ap, codes, None, Some, Option, List, sym, ◌∙◌}
-use Rattle.std.specs.Prelude.{option_map, option_and_then}
+use Rattle.std.proofs.Common.{rules, ◌≡◌, map, string_bytes, ap, codes, None, Some, Option, List, sym, subst, ◌∙◌}
+use Rattle.std.specs.Prelude.{option_and_then}
 use Rattle.xsk_args.specs.Words.{Text}
 use Rattle.xsk_args.specs.Meaning.{meaning, under}
 use Rattle.xsk_socket.specs.Layout.{fault_of}
-use Rattle.xsk_cli.specs.Forward.{EndsShown, ended_in, forward_options, forward_plan}
-use Rattle.xsk_cli.specs.Steps.{args_status, plan_in}
+use Rattle.xsk_cli.specs.Forward.{EndsShown, forward_options, forward_plan}
+use Rattle.xsk_cli.specs.Steps.{ComesTo, args_status, plan_in}
 use Rattle.xsk_io.specs.Bay.{Moment}
+use Rattle.xsk_cli.specs.Streams.{status_in}
+use Rattle.xsk_cli.specs.declared.status.Status.{Status}
 use Rattle.xsk_cli.specs.Words.{Plan, layout_by, plan_by, planned_by}
 use Rattle.xsk_cli.specs.declared.status.Status.TheVariants.{Refused}
 use Rattle.xsk_cli.proofs.Coming.{args_comes, plan_comes_to, refused_comes}
@@ -33,8 +35,8 @@ returns-in_err-check_words g c =
     (args_comes planned now c.requires error
     (λ _. has_no_plan (under c.in_ok-args.args) (meaning (codes "forward") forward_options words) c.in_ok-args.ensures.told c.in_err-check_words.ensures.usage.1)) (args_before error)
 
-pub forward_plan-requires-clause-ready : goal.forward_plan-requires-clause-ready
-forward_plan-requires-clause-ready g c κs within = plan_ready (under c.in_ok-args.args) (plan_in c.in_ok-plan.plan) c.in_ok-check_words.ensures.passed c.in_ok-plan.ensures.plan c.in_ok-plan.ensures.accepted
+pub forward_plan-result-requires-clause-ready : goal.forward_plan-result-requires-clause-ready
+forward_plan-result-requires-clause-ready g c κs within = plan_ready (under c.in_ok-args.args) (plan_in c.in_ok-plan.plan) c.in_ok-check_words.ensures.passed c.in_ok-plan.ensures.plan c.in_ok-plan.ensures.accepted
 
 pub returns-in_err-plan : goal.returns-in_err-plan
 returns-in_err-plan g c =
@@ -50,11 +52,14 @@ returns-in_err-plan g c =
 pub returns : goal.returns
 returns g c =
     let old : Moment = g.B.Bay.moment c.args.bay.now in
-    let new : Moment = g.B.Bay.moment c.forward_plan.new.bay in
+    let new : Moment = g.B.Bay.moment c.forward_plan-result.new.bay in
     let words : List Text = map string_bytes c.args.words.now in
     let planned : Option Plan = forward_plan words in
     let plan : Plan = plan_in c.in_ok-plan.plan in
+    let left = c.forward_plan-result.result.left in
+    let status : Status = status_in c.forward_plan-result.result.result in
     let is : planned ≡ Some plan =
     has_plan (under c.in_ok-args.args) (meaning (codes "forward") forward_options words) c.in_ok-args.ensures.told c.in_ok-check_words.ensures.passed ∙ ap Some (sym c.in_ok-plan.ensures.plan) in
-    plan_comes_to (EndsShown (ended_in c.forward_plan.result).outcome old new (ended_in c.forward_plan.result).status) planned plan old new (ended_in c.forward_plan.result).status is c.in_ok-plan.ensures.accepted c.forward_plan.ensures.begun
-    c.forward_plan.ensures.ends c.forward_plan.ensures.silent c.forward_plan.ensures.cause c.forward_plan.ensures.falls c.forward_plan.ensures.others
+    subst (λ (s : Status). ComesTo (EndsShown left old new s) planned old new s) (sym c.status_of.ensures)
+    (plan_comes_to (EndsShown left old new status) planned plan old new status is c.in_ok-plan.ensures.accepted c.forward_plan-result.ensures.begun
+    c.forward_plan-result.ensures.ends c.forward_plan-result.ensures.silent c.forward_plan-result.ensures.cause c.forward_plan-result.ensures.falls c.forward_plan-result.ensures.others)

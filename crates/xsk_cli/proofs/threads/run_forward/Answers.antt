@@ -1,4 +1,4 @@
-use Rattle.std.proofs.Common.{◌≡◌, map, string_bytes, sym, ap, ◌∙◌, subst}
+use Rattle.std.proofs.Common.{map, string_bytes, sym, ap, ◌∙◌, subst}
 use Rattle.std.specs.Prelude.{unwrap_or}
 use Rattle.xsk_io.proofs.Steps.{Rose-later}
 use Rattle.xsk_cli.specs.Forward.{ComesShown, EndsShown, forward_plan}

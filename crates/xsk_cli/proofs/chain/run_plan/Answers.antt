@@ -1,0 +1,101 @@
+use Rattle.std.proofs.Common.{rules, ◌≡◌, length, map, sym, ◌∙◌, subst, arith, None, Some}
+use Rattle.std.proofs.lemmas.List.{length-map}
+use Rattle.xsk_io.specs.Bay.{Moment}
+use Rattle.xsk_cli.specs.Ends.{ComesOf, EndsBy}
+use Rattle.xsk_cli.specs.Judged.{AreShort}
+use Rattle.xsk_cli.specs.Outcome.{Written}
+use Rattle.xsk_cli.specs.Steps.{HaveRead, plan_in, read_status, write_status, written_in}
+use Rattle.xsk_cli.specs.Streams.{AreWritten}
+use Rattle.xsk_cli.specs.Words.{most_of}
+use Rattle.xsk_cli.specs.declared.status.Status.TheVariants.{Done, OpenFault, WriteFault}
+use Rattle.xsk_io.specs.declared.bay.Stream.TheVariants.{Output}
+use Rattle.xsk_cli.proofs.Making.{few_read}
+use Rattle.xsk_cli.proofs.Showing.{few_written, read_before}
+use Rattle.xsk_cli.proofs.Writing.{SameInputs, done_by, ends_as, unmade_by, unwritten_by}
+use Rattle.xsk_cli.proofs.chain.run_plan.Goals as goal
+
+pub read_inputs-requires-clause-few : goal.read_inputs-requires-clause-few
+read_inputs-requires-clause-few g c =
+    omega (arith, few_read c.args.plan.now.work c.requires.ready.accepted, c.requires.ready.inputs, length-map c.args.plan.now.inputs.now (λ name. name.now))
+
+pub returns-in-Err-clause-ends : goal.returns-in-Err-clause-ends
+returns-in-Err-clause-ends g c =
+    let old : Moment = g.B.Bay.moment c.args.bay.now in
+    let mid : Moment = g.B.Bay.moment c.read_inputs.new.bay in
+    let plan = plan_in c.args.plan.now in
+    let failure = c.in-Err.failure in
+    let comes = g.M.Maker.comes plan.work None in
+    subst (λ s. EndsBy comes plan old mid s) (sym c.from.ensures)
+    (ends_as (ComesOf plan.work) comes plan old mid (read_status failure)
+    (λ inputs texts is. g.met.M.Maker.early plan.work inputs texts old (read_status failure) (read_before failure) is)
+    (c.in-Err.ensures.failed plan (search rules) (sym c.most_input.ensures)))
+
+pub make-requires-clause-short : goal.make-requires-clause-short
+make-requires-clause-short g c =
+    let old : Moment = g.B.Bay.moment c.args.bay.now in
+    let mid : Moment = g.B.Bay.moment c.read_inputs.new.bay in
+    let plan = plan_in c.args.plan.now in
+    let bytes = map (λ bytes. bytes.items) c.in-Ok.inputs.items in
+    let have : HaveRead (most_of plan.work) plan.inputs bytes (length plan.inputs) old mid =
+    subst (λ m. HaveRead m plan.inputs bytes (length plan.inputs) old mid) c.most_input.ensures
+    (subst (λ n. HaveRead c.most_input.result plan.inputs bytes n old mid) (sym (length-map c.args.plan.now.inputs.now (λ name. name.now))) c.in-Ok.ensures.read) in
+    subst (AreShort (most_of plan.work) bytes) (sym have.count_is ∙ length-map c.in-Ok.inputs.items (λ bytes. bytes.items)) have.short
+
+pub returns-in-Err-make-clause-ends : goal.returns-in-Err-make-clause-ends
+returns-in-Err-make-clause-ends g c =
+    let old : Moment = g.B.Bay.moment c.args.bay.now in
+    let mid : Moment = g.B.Bay.moment c.read_inputs.new.bay in
+    let plan = plan_in c.args.plan.now in
+    let bytes = map (λ bytes. bytes.items) c.in-Ok.inputs.items in
+    let failure = c.in-Err-make.field-0.failure in
+    let comes = g.M.Maker.comes plan.work c.in-Err-make.field-0.left in
+    let have : HaveRead (most_of plan.work) plan.inputs bytes (length plan.inputs) old mid =
+    subst (λ m. HaveRead m plan.inputs bytes (length plan.inputs) old mid) c.most_input.ensures
+    (subst (λ n. HaveRead c.most_input.result plan.inputs bytes n old mid) (sym (length-map c.args.plan.now.inputs.now (λ name. name.now))) c.in-Ok.ensures.read) in
+    subst (λ s. EndsBy comes plan old mid s) (sym c.from-in-Err-make.ensures) (unmade_by plan bytes old mid mid have comes failure c.in-Err-make.ensures.failed)
+
+pub write_texts-requires-clause-few : goal.write_texts-requires-clause-few
+write_texts-requires-clause-few g c =
+    omega (arith, few_written c.args.plan.now.work c.requires.ready.accepted, c.requires.ready.outputs, length-map c.args.plan.now.outputs.now (λ name. name.now))
+
+pub write_texts-requires-clause-texts : goal.write_texts-requires-clause-texts
+write_texts-requires-clause-texts g c = c.in-Ok-make.ensures.count ∙ sym c.requires.ready.outputs ∙ length-map c.args.plan.now.outputs.now (λ name. name.now)
+
+pub returns-clause-ends : goal.returns-clause-ends
+returns-clause-ends g c =
+    let old : Moment = g.B.Bay.moment c.args.bay.now in
+    let mid : Moment = g.B.Bay.moment c.read_inputs.new.bay in
+    let new : Moment = g.B.Bay.moment c.write_texts.new.bay in
+    let plan = plan_in c.args.plan.now in
+    let bytes = map (λ bytes. bytes.items) c.in-Ok.inputs.items in
+    let left = c.in-Ok-make.field-0.left in
+    let texts : Written = written_in (g.M.Left.Leaves.sent left) c.in-Ok-make.field-0.texts in
+    let failure = c.in-Err-write_texts.failure in
+    let have : HaveRead (most_of plan.work) plan.inputs bytes (length plan.inputs) old mid =
+    subst (λ m. HaveRead m plan.inputs bytes (length plan.inputs) old mid) c.most_input.ensures
+    (subst (λ n. HaveRead c.most_input.result plan.inputs bytes n old mid) (sym (length-map c.args.plan.now.inputs.now (λ name. name.now))) c.in-Ok.ensures.read) in
+    let same : SameInputs mid new = record { opened = c.write_texts.ensures.opened; asked = c.write_texts.ensures.asked; left = λ port. c.write_texts.ensures.left _ } in
+    let comes = g.M.Maker.comes plan.work (Some left) in
+    subst (λ s. EndsBy (g.M.Maker.comes plan.work (Some c.write_texts.new.left)) plan old new s) (sym c.from-in-Err-write_texts.ensures)
+    (subst (λ l. EndsBy (g.M.Maker.comes plan.work (Some l)) plan old new (write_status failure)) (sym c.write_texts.ensures.kept)
+    (unwritten_by plan bytes old mid new have comes texts same (λ stream. c.in-Ok-make.ensures.made old (WriteFault stream) tt) (λ port. c.in-Ok-make.ensures.made old (OpenFault (Output port)) tt) failure c.in-Err-write_texts.ensures.failed))
+
+pub returns-in-Ok-write_texts-clause-ends : goal.returns-in-Ok-write_texts-clause-ends
+returns-in-Ok-write_texts-clause-ends g c =
+    let old : Moment = g.B.Bay.moment c.args.bay.now in
+    let mid : Moment = g.B.Bay.moment c.read_inputs.new.bay in
+    let new : Moment = g.B.Bay.moment c.write_texts.new.bay in
+    let plan = plan_in c.args.plan.now in
+    let bytes = map (λ bytes. bytes.items) c.in-Ok.inputs.items in
+    let left = c.in-Ok-make.field-0.left in
+    let texts : Written = written_in (g.M.Left.Leaves.sent left) c.in-Ok-make.field-0.texts in
+    let have : HaveRead (most_of plan.work) plan.inputs bytes (length plan.inputs) old mid =
+    subst (λ m. HaveRead m plan.inputs bytes (length plan.inputs) old mid) c.most_input.ensures
+    (subst (λ n. HaveRead c.most_input.result plan.inputs bytes n old mid) (sym (length-map c.args.plan.now.inputs.now (λ name. name.now))) c.in-Ok.ensures.read) in
+    let same : SameInputs mid new = record { opened = c.write_texts.ensures.opened; asked = c.write_texts.ensures.asked; left = λ port. c.write_texts.ensures.left _ } in
+    let comes = g.M.Maker.comes plan.work (Some left) in
+    let count : length plan.outputs ≡ length c.args.plan.now.outputs.now = length-map c.args.plan.now.outputs.now (λ name. name.now) in
+    let writes : AreWritten plan.outputs texts.outputs (length plan.outputs) (length plan.outputs) mid new =
+    subst (λ n. AreWritten plan.outputs texts.outputs n n mid new) (sym count) c.in-Ok-write_texts.ensures.written in
+    subst (λ l. EndsBy (g.M.Maker.comes plan.work (Some l)) plan old new Done) (sym c.write_texts.ensures.kept)
+    (done_by plan bytes old mid new have comes texts same (c.in-Ok-make.ensures.made old Done tt) writes c.in-Ok-write_texts.ensures.report c.in-Ok-write_texts.ensures.offered)

@@ -1,0 +1,220 @@
+//! The run of a command in rounds, and the texts that it leaves.
+ghost use Rattle.std.specs.Prelude.{◌≡◌, ◌++◌, [], None, All, IfErr, IfOk, if◌then◌else◌, length, map};
+ghost use Rattle.xsk_machine.specs.Acts.{HasShortPackets};
+ghost use Rattle.xsk_model.specs.Config.{IsRegular};
+ghost use Rattle.xsk_model.specs.Opening.{AreFrames};
+ghost use Rattle.xsk_sim.specs.Journal.{journal_of};
+ghost use Rattle.xsk_sim.specs.Runs.{HasEnded};
+ghost use Rattle.xsk_socket.specs.Layout.{fault_of, geometry_of, pairs_in};
+ghost use Rattle.xsk_socket.specs.Regular.{regular_of};
+ghost use Rattle.xsk_stats.specs.Report.{report_text};
+ghost use Rattle.xsk_cli.specs.Forward.{IsRun};
+ghost use Rattle.xsk_cli.specs.Judged.{AreShort, excess_of};
+ghost use Rattle.xsk_cli.specs.Outcome.{AreTextsBy, AreTextsOf, IsOutcome, frames_of, listed, made, setting_of};
+ghost use Rattle.xsk_cli.specs.Steps.{CanBeLaid, FailsMaking, FailsRunning, MakesNone, lists_in, outputs_in, read_by, written_by, written_in};
+ghost use Rattle.xsk_cli.specs.Words.{fault_in, most_of, ports_in};
+
+use crate::chain::{Made, Maker, Unmade};
+use crate::failure::RunFailure;
+use crate::files::spare_text;
+use crate::format::Format;
+use crate::lists::take_lists;
+use crate::programs::chain_of;
+use crate::setup::set_up;
+use crate::texts::{Texts, sent_outputs};
+use crate::words::Work;
+use std::alloc::Global;
+use xsk_args::ProgramList;
+use xsk_machine::Sent;
+use xsk_model::Config;
+use xsk_prog::{Rule, XdpProgram};
+use xsk_sim::{Run, SimError, append_journal, simulate};
+use xsk_socket::Layout;
+use xsk_stats::report;
+use xsk_turns::{Manner, Wire};
+use xsk_umem::{Frames, OutOfMemory, PacketList};
+
+/// It makes texts by a run in rounds.
+#[derive(Drop)]
+pub(crate) struct InRounds;
+
+impl Maker for InRounds {
+    ghost use Rattle.xsk_cli.specs.Ends.{ComesOf};
+    ghost use Rattle.xsk_cli.specs.Forward.{IsRun};
+
+    type Left = Sent;
+
+    ghost does = { IsRun };
+
+    ghost comes = { λ work _ inputs texts old status. ComesOf work inputs texts old status };
+
+    ghost early = { λ work inputs texts old status before is. is };
+
+    fn make(
+        &self,
+        alloc: Global,
+        work: &Work,
+        inputs: Vec<Vec<u8>>,
+    ) -> Result<Made<Sent>, Unmade<Sent>> {
+        match run_inputs(alloc, work, inputs) {
+            Ok(ran) => Ok(ran),
+            Err(failure) => Err(Unmade {
+                failure,
+                left: None,
+            }),
+        }
+    }
+}
+
+/// Runs the packets of inputs, and makes what is written.
+fn run_inputs(alloc: Global, work: &Work, inputs: Vec<Vec<u8>>) -> Result<Made<Sent>, RunFailure>
+    requires accepted { fault_in work.now ≡ None }
+    requires runs { IsRun work.now }
+    requires count { length inputs.items ≡ read_by work.now }
+    requires short { AreShort (most_of work.now) (map (λ bytes. bytes.items) inputs.items) (length inputs.items) }
+    ensures made { IfOk result (λ ran. IsOutcome work.now (map (λ bytes. bytes.items) inputs.items) (made (written_in ran.left.lists ran.texts))) }
+    ensures count { IfOk result (λ ran. length (outputs_in ran.left.lists ran.texts.outputs) ≡ written_by work.now) }
+    ensures laid { IfOk result (λ ran. CanBeLaid ran.left.lists ran.texts.outputs) }
+    ensures failed { IfErr result (MakesNone work.now (map (λ bytes. bytes.items) inputs.items)) }
+{
+    let lists = take_lists(alloc, work, inputs)?;
+    let ran = run_work(alloc, work, lists)?;
+    Ok(ran)
+}
+
+/// Runs the packets of all ports, and makes what is written.
+fn run_work(alloc: Global, work: &Work, lists: Vec<PacketList>) -> Result<Made<Sent>, RunFailure>
+    requires accepted { fault_in work.now ≡ None }
+    requires runs { IsRun work.now }
+    requires ports { length lists.items ≡ ports_in work.now }
+    requires within { excess_of (lists_in lists.items) ≡ None }
+    requires listed { lists.items ≡ map listed (lists_in lists.items) }
+    requires short { All HasShortPackets lists.items }
+    ensures made { IfOk result (λ ran. AreTextsBy work.now (lists_in lists.items) (written_in ran.left.lists ran.texts)) }
+    ensures laid { IfOk result (λ ran. CanBeLaid ran.left.lists ran.texts.outputs) }
+    ensures failed { IfErr result (FailsMaking work.now (lists_in lists.items)) }
+{
+    match work {
+        Work::Simulate {
+            layout,
+            programs,
+            wire,
+            manner,
+            order,
+            journal,
+            format,
+            ..
+        } => run_texts(
+            alloc, *format, layout, programs, *wire, *manner, *order, *journal, lists,
+        ),
+        Work::Generate { .. } | Work::Audit { .. } => unreachable!(),
+    }
+}
+
+/// Runs the packets of all ports, and makes what is written. The log is given up before the outputs are made.
+#[allow(clippy::too_many_arguments)]
+fn run_texts(
+    alloc: Global,
+    format: Format,
+    layout: &Layout,
+    programs: &ProgramList,
+    wire: Wire,
+    manner: Manner,
+    order: u32,
+    journal: bool,
+    lists: Vec<PacketList>,
+) -> Result<Made<Sent>, RunFailure>
+    requires accepted { fault_of layout.now ≡ None }
+    requires ports { length lists.items ≡ layout.now.ports }
+    requires within { excess_of (lists_in lists.items) ≡ None }
+    requires listed { lists.items ≡ map listed (lists_in lists.items) }
+    requires short { All HasShortPackets lists.items }
+    ensures made { IfOk result (λ ran. AreTextsOf format layout.now programs.now wire manner order (lists_in lists.items) journal (written_in ran.left.lists ran.texts)) }
+    ensures laid { IfOk result (λ ran. CanBeLaid ran.left.lists ran.texts.outputs) }
+    ensures failed { IfErr result (FailsRunning layout.now programs.now wire manner order (lists_in lists.items)) }
+{
+    let (config, frames) = set_up(alloc, layout)?;
+    let shared = config.copy(alloc)?;
+    let run = run_lists(
+        alloc,
+        layout,
+        config,
+        frames,
+        programs,
+        wire,
+        manner,
+        order,
+        lists.as_slice(),
+    )?;
+    let report = told_text(alloc, &shared, &run, journal)?;
+    let spare = spare_text(alloc, lists);
+    let left = run.into_sent();
+    let outputs = sent_outputs(
+        alloc,
+        format,
+        layout.ports,
+        layout.queues,
+        spare,
+        left.lists(),
+    )?;
+    let texts = Texts { outputs, report };
+    Ok(Made { texts, left })
+}
+
+/// The report of a run, and behind it the journal, where that was asked for.
+fn told_text(
+    alloc: Global,
+    config: &Config,
+    run: &Run,
+    journal: bool,
+) -> Result<Vec<u8>, OutOfMemory>
+    requires regular { IsRegular config.now }
+    requires drivers { length run.now.figures.drivers ≡ length config.now.pairs }
+    ensures { IfOk result (λ text. text.items ≡ report_text config.now run.now.figures ++ (if journal then journal_of run.now.pairs run.now.log else [])) }
+{
+    let mut text = report(alloc, config, run.figures())?;
+    if journal {
+        append_journal(alloc, &mut text, run)?;
+    }
+    Ok(text)
+}
+
+/// Runs the lists of all ports under the programs' rules, with the wire.
+#[allow(clippy::too_many_arguments)]
+fn run_lists(
+    alloc: Global,
+    layout: &Layout,
+    config: Config,
+    frames: Frames,
+    programs: &ProgramList,
+    wire: Wire,
+    manner: Manner,
+    order: u32,
+    lists: &[PacketList],
+) -> Result<Run, RunFailure>
+    requires accepted { fault_of layout.now ≡ None }
+    requires config { config ≡ regular_of layout.now }
+    requires regular { IsRegular config }
+    requires frames { frames.items ≡ frames_of layout.now }
+    requires known { AreFrames (geometry_of layout.now) frames.items }
+    requires ports { length lists.now ≡ layout.now.ports }
+    requires listed { lists.now ≡ map listed (lists_in lists.now) }
+    requires short { All HasShortPackets lists.now }
+    ensures pairs { IfOk result (λ run. run.pairs ≡ pairs_in layout.now) }
+    ensures ended { IfOk result (HasEnded (setting_of layout.now programs.now wire manner (lists_in lists.now)) (frames_of layout.now) order) }
+    ensures failed { IfErr result (FailsRunning layout.now programs.now wire manner order (lists_in lists.now)) }
+{
+    let mut chain = chain_of(alloc, programs.as_slice(), layout.sockets, |rule: Rule| {
+        XdpProgram::attach(
+            rule,
+            move |packet: &[u8], queue: u32| rule.verdict(packet, queue),
+        )
+    })?;
+    match simulate(
+        alloc, config, frames, lists, &mut chain, wire, order, manner,
+    ) {
+        Ok(run) => Ok(run),
+        Err(SimError::Stalled { round }) => Err(RunFailure::Stalled { round }),
+        Err(SimError::OutOfMemory) => Err(RunFailure::OutOfMemory),
+    }
+}
