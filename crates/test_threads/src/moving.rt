@@ -210,6 +210,9 @@ fn moves(alloc: Global, shared: &Shared, pass: CheckedPass, way: Way, count: u32
 pub(crate) fn open(alloc: Global, entries: u32, first: u32) -> Result<(Shared, Passes), Fail>
     ensures { IfOk result (λ made. made.1 ≡ new_passes made.0) }
 {
+    if entries > 2048 {
+        return Err("a ring has at most 2048 entries")?;
+    }
     let (config, frames) = set_up(alloc, &layout(1, entries))?;
     match Shared::open(alloc, config, frames, first) {
         Ok(made) => Ok(made),

@@ -11,23 +11,25 @@ use std::sync::Wait;
 use std::test::Fail;
 use std::thread::Threads;
 use xsk_gate::{Gate, Open, PairGate};
+use xsk_machine::Sent;
 use xsk_model::Config;
 use xsk_prog::{Chain, Rule, Verdict, XdpProgram};
 use xsk_sim::{Wire, simulate};
 use xsk_socket::Layout;
 use xsk_turns::Manner;
 use xsk_umem::PacketList;
-use xsk_workers::forward;
+use xsk_workers::{Outcome, forward};
 
-/// What each driver sends in rounds.
+/// What a run in rounds comes to.
 fn sent_in_rounds<F: Fn(&[u8], u32) -> Verdict>(
     alloc: Global,
     layout: &Layout,
     lists: &[PacketList],
-    chain: &Chain<F>,
-) -> Result<Vec<PacketList>, Fail>
+    chain: &mut Chain<F>,
+) -> Result<Sent, Fail>
     requires short { All HasShortPackets lists.now }
-    requires obeys { AllObey F.Fn chain.now }
+    requires obeys { AllObey F.Fn chain.old }
+    ensures obeys { AllObey F.Fn chain.new }
 {
     let (config, frames) = set_up(alloc, layout)?;
     if lists.len() != config.ports() as usize {
@@ -48,26 +50,27 @@ fn sent_in_rounds<F: Fn(&[u8], u32) -> Verdict>(
     }
 }
 
-/// What each driver sends on threads, where each application has so many hands.
+/// What a run on threads shows, where each application has so many hands.
 fn sent_on_threads<R: Threads + Wait + Sync, F: Fn(&[u8], u32) -> Verdict, G: Gate + Sync>(
     rt: &R,
     alloc: Global,
     layout: &Layout,
     lists: &[PacketList],
-    chain: &Chain<F>,
+    chain: &mut Chain<F>,
     gate: &G,
     hands: u32,
-) -> Result<Vec<PacketList>, Fail>
+) -> Result<Outcome, Fail>
     requires hands { AreHands hands }
     requires short { All HasShortPackets lists.now }
-    requires obeys { AllObey F.Fn chain.now }
+    requires obeys { AllObey F.Fn chain.old }
+    ensures obeys { AllObey F.Fn chain.new }
 {
     let (config, frames) = set_up(alloc, layout)?;
     if lists.len() != config.ports() as usize {
         return Err("there is no list for each port")?;
     }
     check_hands(&config, hands)?;
-    let mut outcome = forward(
+    let outcome = forward(
         rt,
         alloc,
         config,
@@ -79,7 +82,7 @@ fn sent_on_threads<R: Threads + Wait + Sync, F: Fn(&[u8], u32) -> Verdict, G: Ga
         Manner::plain(),
         hands,
     )?;
-    Ok(outcome.take_sent(alloc))
+    Ok(outcome)
 }
 
 /// Passes so many hands, of which several close no socket.
@@ -95,22 +98,57 @@ fn check_hands(config: &Config, hands: u32) -> Result<(), Fail>
     }
 }
 
+/// Whether a run on threads, by one hand, sends the first packets of each list.
+fn sends_fronts<R: Threads + Wait + Sync, F: Fn(&[u8], u32) -> Verdict>(
+    rt: &R,
+    alloc: Global,
+    layout: &Layout,
+    lists: &[PacketList],
+    chain: &mut Chain<F>,
+    all: &Sent,
+) -> Result<bool, Fail>
+    requires short { All HasShortPackets lists.now }
+    requires obeys { AllObey F.Fn chain.old }
+    ensures obeys { AllObey F.Fn chain.new }
+{
+    let threads = sent_on_threads(rt, alloc, layout, lists, chain, &Open, 1)?;
+    Ok(are_fronts(threads.lists(), all.lists()))
+}
+
+/// Whether a run on threads, by one hand, sends what a run in rounds did.
+fn sends_alike<R: Threads + Wait + Sync, F: Fn(&[u8], u32) -> Verdict>(
+    rt: &R,
+    alloc: Global,
+    layout: &Layout,
+    lists: &[PacketList],
+    chain: &mut Chain<F>,
+    rounds: &Sent,
+) -> Result<bool, Fail>
+    requires short { All HasShortPackets lists.now }
+    requires obeys { AllObey F.Fn chain.old }
+    ensures obeys { AllObey F.Fn chain.new }
+{
+    let threads = sent_on_threads(rt, alloc, layout, lists, chain, &Open, 1)?;
+    Ok(are_alike(threads.lists(), rounds.lists()))
+}
+
 #[test]
 fn threads_that_close_a_socket_send_the_first(rt: HostRuntime) -> Result<(), Fail> {
     let alloc = rt.alloc();
     let lists = vec![in alloc; packets(alloc, 200)?, packets(alloc, 200)?]?;
     let rule = Rule::Redirect { sockets: 1 };
     let program = XdpProgram::attach(rule, |bytes: &[u8], queue: u32| rule.verdict(bytes, queue));
-    let chain = Chain::of(alloc, program)?;
+    let mut chain = Chain::of(alloc, program)?;
     let mut layout = layout(1, 4);
-    let all = sent_in_rounds(alloc, &layout, lists.as_slice(), &chain)?;
+    let all = sent_in_rounds(alloc, &layout, lists.as_slice(), &mut chain)?;
     layout.close = Some(0);
-    let rounds = sent_in_rounds(alloc, &layout, lists.as_slice(), &chain)?;
-    assert!(rt; are_fronts(rounds.as_slice(), all.as_slice()));
-    for _ in 0..4 {
-        let threads = sent_on_threads(&rt, alloc, &layout, lists.as_slice(), &chain, &Open, 1)?;
-        assert!(rt; are_fronts(threads.as_slice(), all.as_slice()));
-    }
+    let rounds = sent_in_rounds(alloc, &layout, lists.as_slice(), &mut chain)?;
+    assert!(rt; are_fronts(rounds.lists(), all.lists()));
+    let first = sends_fronts(&rt, alloc, &layout, lists.as_slice(), &mut chain, &all)?;
+    let second = sends_fronts(&rt, alloc, &layout, lists.as_slice(), &mut chain, &all)?;
+    let third = sends_fronts(&rt, alloc, &layout, lists.as_slice(), &mut chain, &all)?;
+    let fourth = sends_fronts(&rt, alloc, &layout, lists.as_slice(), &mut chain, &all)?;
+    assert!(rt; first && second && third && fourth);
     Ok(())
 }
 
@@ -120,14 +158,20 @@ fn threads_send_what_rounds_send(rt: HostRuntime) -> Result<(), Fail> {
     let lists = vec![in alloc; packets(alloc, 200)?, packets(alloc, 200)?]?;
     let rule = Rule::Redirect { sockets: 1 };
     let program = XdpProgram::attach(rule, |bytes: &[u8], queue: u32| rule.verdict(bytes, queue));
-    let chain = Chain::of(alloc, program)?;
+    let mut chain = Chain::of(alloc, program)?;
     let layout = layout(2, 4);
-    let rounds = sent_in_rounds(alloc, &layout, lists.as_slice(), &chain)?;
-    assert!(rt; rounds.iter().all(|list| list.len() == 100));
-    for _ in 0..2 {
-        let threads = sent_on_threads(&rt, alloc, &layout, lists.as_slice(), &chain, &Open, 1)?;
-        assert!(rt; are_alike(threads.as_slice(), rounds.as_slice()));
-    }
+    let rounds = sent_in_rounds(alloc, &layout, lists.as_slice(), &mut chain)?;
+    assert!(rt; rounds.lists().iter().all(|list| list.len() == 100));
+    let first = sends_alike(&rt, alloc, &layout, lists.as_slice(), &mut chain, &rounds)?;
+    let second = sends_alike(&rt, alloc, &layout, lists.as_slice(), &mut chain, &rounds)?;
+    assert!(rt; first && second);
+    // Three runs over 200 packets for each of two ports.
+    assert!(rt;
+        chain
+            .programs()
+            .iter()
+            .all(|program| program.asked() == 1200)
+    );
     Ok(())
 }
 
@@ -142,12 +186,12 @@ fn threads_send_what_a_closure_of_ones_own_redirects(rt: HostRuntime) -> Result<
             Verdict::Drop
         }
     });
-    let chain = Chain::of(alloc, program)?;
+    let mut chain = Chain::of(alloc, program)?;
     let layout = layout(1, 4);
-    let rounds = sent_in_rounds(alloc, &layout, lists.as_slice(), &chain)?;
-    let threads = sent_on_threads(&rt, alloc, &layout, lists.as_slice(), &chain, &Open, 1)?;
-    assert!(rt; rounds.iter().all(|list| list.len() == 100));
-    assert!(rt; are_alike(threads.as_slice(), rounds.as_slice()));
+    let rounds = sent_in_rounds(alloc, &layout, lists.as_slice(), &mut chain)?;
+    let threads = sent_on_threads(&rt, alloc, &layout, lists.as_slice(), &mut chain, &Open, 1)?;
+    assert!(rt; rounds.lists().iter().all(|list| list.len() == 100));
+    assert!(rt; are_alike(threads.lists(), rounds.lists()));
     Ok(())
 }
 
@@ -159,20 +203,20 @@ fn two_drivers_meet_at_the_gate(rt: HostRuntime) -> Result<(), Fail> {
     let sent = vec![in alloc; packets(alloc, 0)?, packets(alloc, 1)?]?;
     let rule = Rule::Redirect { sockets: 1 };
     let program = XdpProgram::attach(rule, |bytes: &[u8], queue: u32| rule.verdict(bytes, queue));
-    let chain = Chain::of(alloc, program)?;
+    let mut chain = Chain::of(alloc, program)?;
     let gate = PairGate::new();
     let threads = sent_on_threads(
         &rt,
         alloc,
         &layout(1, 4),
         lists.as_slice(),
-        &chain,
+        &mut chain,
         &gate,
         1,
     )?;
     assert!(rt; gate.entered(0) && gate.entered(1));
     assert!(rt; !gate.limit_met());
-    assert!(rt; are_alike(threads.as_slice(), sent.as_slice()));
+    assert!(rt; are_alike(threads.lists(), sent.as_slice()));
     Ok(())
 }
 
@@ -182,16 +226,17 @@ fn several_send_alike<R: Threads + Wait + Sync, F: Fn(&[u8], u32) -> Verdict>(
     alloc: Global,
     layout: &Layout,
     lists: &[PacketList],
-    chain: &Chain<F>,
+    chain: &mut Chain<F>,
 ) -> Result<bool, Fail>
     requires short { All HasShortPackets lists.now }
-    requires obeys { AllObey F.Fn chain.now }
+    requires obeys { AllObey F.Fn chain.old }
+    ensures obeys { AllObey F.Fn chain.new }
 {
     let rounds = sent_in_rounds(alloc, layout, lists, chain)?;
     let two = sent_on_threads(rt, alloc, layout, lists, chain, &Open, 2)?;
     let four = sent_on_threads(rt, alloc, layout, lists, chain, &Open, 4)?;
-    let alike = are_alike(two.as_slice(), rounds.as_slice());
-    Ok(alike && are_alike(four.as_slice(), rounds.as_slice()))
+    let alike = are_alike(two.lists(), rounds.lists());
+    Ok(alike && are_alike(four.lists(), rounds.lists()))
 }
 
 /// Two queues with an application of several hands each, where drivers sleep and where they don't.
@@ -201,15 +246,15 @@ fn several_hands_send_what_rounds_send(rt: HostRuntime) -> Result<(), Fail> {
     let lists = vec![in alloc; packets(alloc, 200)?, packets(alloc, 200)?]?;
     let rule = Rule::Redirect { sockets: 1 };
     let program = XdpProgram::attach(rule, |bytes: &[u8], queue: u32| rule.verdict(bytes, queue));
-    let chain = Chain::of(alloc, program)?;
+    let mut chain = Chain::of(alloc, program)?;
     let awake = layout(2, 4);
     let asleep = Layout {
         wakeup: true,
         ..layout(2, 4)
     };
-    let alike = several_send_alike(&rt, alloc, &awake, lists.as_slice(), &chain)?;
+    let alike = several_send_alike(&rt, alloc, &awake, lists.as_slice(), &mut chain)?;
     assert!(rt; alike);
-    let alike = several_send_alike(&rt, alloc, &asleep, lists.as_slice(), &chain)?;
+    let alike = several_send_alike(&rt, alloc, &asleep, lists.as_slice(), &mut chain)?;
     assert!(rt; alike);
     Ok(())
 }
@@ -223,19 +268,19 @@ fn two_hands_meet_at_the_gate(rt: HostRuntime) -> Result<(), Fail> {
     let sent = vec![in alloc; packets(alloc, 0)?, packets(alloc, 1)?]?;
     let rule = Rule::Redirect { sockets: 1 };
     let program = XdpProgram::attach(rule, |bytes: &[u8], queue: u32| rule.verdict(bytes, queue));
-    let chain = Chain::of(alloc, program)?;
+    let mut chain = Chain::of(alloc, program)?;
     let gate = PairGate::of(3, 4);
     let threads = sent_on_threads(
         &rt,
         alloc,
         &layout(1, 4),
         lists.as_slice(),
-        &chain,
+        &mut chain,
         &gate,
         2,
     )?;
     assert!(rt; gate.entered(3) && gate.entered(4));
     assert!(rt; !gate.limit_met());
-    assert!(rt; are_alike(threads.as_slice(), sent.as_slice()));
+    assert!(rt; are_alike(threads.lists(), sent.as_slice()));
     Ok(())
 }

@@ -2,14 +2,14 @@
 //!
 //! `bytes BYTES` (the file), `more BYTES` (behind it), `byte PLACE BYTES` (overwrites it from PLACE on), `read LEN` (its first LEN
 //! bytes) and `read`, and then `packet NUMBER` of what was read. `gaps FIRST BEFORE_EACH` and `push BYTES` make a list, and `next` begins
-//! a second one. `copies` writes both into one capture, `of` makes the first the capture and adds the second, and `laid` writes the
-//! first into its own gaps, after which its packets are read. What was written is the file then. `show FROM LEN` tells its bytes.
+//! a second one. `copies` writes both into one capture, and `laid` writes the one that is being made into its own gaps, after which
+//! its packets are told. What was written is the file then. `show FROM LEN` tells its bytes.
 use crate::case::Case;
 use crate::line::{Fault, Line, number_in};
 use crate::packets::{gaps_in, tell_packet, tell_sizes};
 use crate::runs;
 use crate::told::Told;
-use crate::written::{Short, copies, laid, of};
+use crate::written::{Short, copies, laid};
 use std::alloc::Global;
 use std::mem;
 use xsk_pcap::read;
@@ -84,17 +84,26 @@ impl Captures {
         mem::replace(&mut self.before, Short::empty(self.alloc))
     }
 
-    fn write(&mut self, word: &str, told: &mut Told) -> Result<(), Fault> {
+    fn copy(&mut self, told: &mut Told) -> Result<(), Fault> {
         let first = self.take_first();
-        self.file = write(self.alloc, word, first, &self.list)?;
+        self.file = copies(self.alloc, &first, &self.list)?;
         told.count(self.file.len());
         told.say(" bytes");
         Ok(())
     }
 
     fn lay(&mut self, told: &mut Told) -> Result<(), Fault> {
-        let (len, list) = laid(self.take_list());
-        tell_laid(len, list.len(), told);
+        let (text, list) = laid(self.alloc, self.take_list())?;
+        match text {
+            Some(text) => {
+                told.count(text.len());
+                told.say(" bytes, ");
+                self.file = text;
+            }
+            None => told.say("no such gaps, "),
+        }
+        told.number(list.len());
+        told.say(" packets");
         self.read = list;
         Ok(())
     }
@@ -130,7 +139,7 @@ impl Case for Captures {
             "read" => self.read(line, told),
             "packet" => tell_packet(&self.read, line.number()?, told),
             "show" => runs::show(self.file.as_slice(), line, told),
-            "copies" | "of" => self.write(word, told),
+            "copies" => self.copy(told),
             "laid" => self.lay(told),
             _ => {
                 self.change(word, line)?;
@@ -138,26 +147,6 @@ impl Case for Captures {
                 Ok(())
             }
         }
-    }
-}
-
-fn tell_laid(len: Option<usize>, packets: u32, told: &mut Told) {
-    match len {
-        Some(len) => {
-            told.count(len);
-            told.say(" bytes, ");
-        }
-        None => told.say("no such gaps, "),
-    }
-    told.number(packets);
-    told.say(" packets");
-}
-
-fn write(alloc: Global, word: &str, first: Short, second: &Short) -> Result<Vec<u8>, Fault> {
-    if word == "of" {
-        of(alloc, first, second)
-    } else {
-        copies(alloc, &first, second)
     }
 }
 

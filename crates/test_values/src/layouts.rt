@@ -3,17 +3,19 @@
 //! `check [NAME VALUE]..` judges the least layout with these changes, `usual [NAME VALUE]..` the default one and `also
 //! [NAME VALUE]..` the last one with them; `says` tells what is wrong with the last in words, and `regular` makes the
 //! configuration of the last, about which there are then the questions.
-ghost use Rattle.std.specs.Prelude.{◌≡◌, None, IfOk, OnOk};
+ghost use Rattle.std.specs.Prelude.{IfOk};
 ghost use Rattle.xsk_model.specs.Config.{IsRegular};
+ghost use Rattle.xsk_model.specs.Opening.{AreFrames};
 
 use crate::case::Case;
 use crate::configs;
 use crate::line::{Fault, Line};
 use crate::told::Told;
+use fixtures::{opened, with_field};
 use std::alloc::Global;
 use xsk_model::Config;
-use xsk_socket::{Layout, check_layout, regular};
-use xsk_umem::Umem;
+use xsk_socket::{Layout, check_layout};
+use xsk_umem::Frames;
 
 /// Two ports with one queue and one socket each, over 256 frames of 4,096 bytes, all rings with 2,048 entries.
 pub const LEAST: Layout = Layout {
@@ -100,21 +102,23 @@ fn say(layout: &Layout, told: &mut Told) {
     }
 }
 
-/// The regular configuration of a layout that is accepted.
-pub fn configure(alloc: Global, layout: &Layout) -> Result<Config, Fault>
-    ensures { IfOk result IsRegular }
+/// The regular configuration of a layout that is accepted, and all frames of its UMEM.
+pub fn set_up(alloc: Global, layout: &Layout) -> Result<(Config, Frames), Fault>
+    ensures regular { IfOk result (λ made. IsRegular made.0) }
+    ensures frames { IfOk result (λ made. AreFrames made.0.geometry made.1.items) }
 {
     if check_layout(layout).is_err() {
         return Err(Fault::NotLegal);
     }
-    let len = u64::from(layout.frames) * u64::from(layout.chunk);
-    let Ok((geometry, _frames)) = Umem::register(alloc, len, layout.chunk, layout.headroom) else {
-        return Err(Fault::NotLegal);
-    };
-    if geometry.frames() != layout.frames {
-        return Err(Fault::NotLegal);
-    }
-    Ok(regular(alloc, geometry, layout)?)
+    Ok(opened(alloc, layout)?)
+}
+
+/// The regular configuration of a layout that is accepted.
+pub fn configure(alloc: Global, layout: &Layout) -> Result<Config, Fault>
+    ensures { IfOk result IsRegular }
+{
+    let (config, _frames) = set_up(alloc, layout)?;
+    Ok(config)
 }
 
 /// The layout with the changes of a line.
@@ -129,26 +133,11 @@ pub fn changed(layout: Layout, line: &mut Line<'_>) -> Result<Layout, Fault> {
     Ok(layout)
 }
 
-fn change(layout: &mut Layout, word: &str, number: u32) -> Result<(), Fault> {
-    match word {
-        "ports" => layout.ports = number,
-        "queues" => layout.queues = number,
-        "sockets" => layout.sockets = number,
-        "files" => layout.files = number,
-        "wanted" => layout.files_wanted_per_port = number,
-        "chunk" => layout.chunk = number,
-        "headroom" => layout.headroom = number,
-        "frames" => layout.frames = number,
-        "rx" => layout.rx = number,
-        "tx" => layout.tx = number,
-        "fill" => layout.fill = number,
-        "comp" => layout.comp = number,
-        "sg" => layout.sg = number == 1,
-        "wakeup" => layout.wakeup = number == 1,
-        "empty" => layout.empty = Some(number),
-        "close" => layout.close = Some(number),
-        "hands" => layout.hands = number,
-        _ => return Err(Fault::BadLine),
+/// Sets the field of a layout that has this name.
+pub fn change(layout: &mut Layout, name: &str, number: u32) -> Result<(), Fault> {
+    match with_field(*layout, name, number) {
+        Some(changed) => *layout = changed,
+        None => return Err(Fault::BadLine),
     }
     Ok(())
 }

@@ -1,7 +1,6 @@
 //! The words of a line.
 use std::alloc::{AllocError, AllocFailed, Global};
 use std::str::SplitWhitespace;
-use xsk_pcap::CaptureRefused;
 use xsk_umem::{Frames, Geometry, OutOfMemory, Umem, UmemError, XdpDesc};
 
 /// Why a line has no answer.
@@ -38,12 +37,6 @@ impl<T: Drop> From<AllocFailed<T>> for Fault {
 
 impl From<OutOfMemory> for Fault {
     fn from(_error: OutOfMemory) -> Fault {
-        Fault::OutOfMemory
-    }
-}
-
-impl From<CaptureRefused> for Fault {
-    fn from(_refused: CaptureRefused) -> Fault {
         Fault::OutOfMemory
     }
 }

@@ -158,14 +158,17 @@ fn attached(rule: Rule, packet: &[u8], queue: u32) -> Verdict
     requires sockets { HasSockets rule }
     requires packet { IsRuled packet.now queue }
 {
-    let program = XdpProgram::attach(rule, |bytes: &[u8], queue: u32| rule.verdict(bytes, queue));
+    let mut program = XdpProgram::attach(
+        rule,
+        |bytes: &[u8], queue: u32| rule.verdict(bytes, queue),
+    );
     program.verdict(packet, queue)
 }
 
 fn own(packet: &[u8], queue: u32) -> Verdict
     requires packet { IsRuled packet.now queue }
 {
-    let program = XdpProgram::attach(Rule::AtMost(1), |bytes: &[u8], _queue: u32| {
+    let mut program = XdpProgram::attach(Rule::AtMost(1), |bytes: &[u8], _queue: u32| {
         if bytes[0] % 2 == 0 {
             Verdict::Redirect(0)
         } else {

@@ -5,7 +5,7 @@ ghost use Rattle.xsk_pcap.specs.Capture.{IsShort};
 
 use crate::line::Fault;
 use std::alloc::Global;
-use xsk_pcap::{Capture, write_in_gaps};
+use xsk_pcap::{Capture, lay};
 use xsk_umem::{Gaps, PacketList};
 
 /// A list of at most 32,000 packets, each of at most 262,144 bytes, and together of at most 16,000,000.
@@ -53,20 +53,13 @@ pub fn copies(alloc: Global, first: &Short, second: &Short) -> Result<Vec<u8>, F
     Ok(capture.into_bytes())
 }
 
-/// The capture that a list becomes, with another list behind it.
-pub fn of(alloc: Global, first: Short, second: &Short) -> Result<Vec<u8>, Fault> {
-    let mut capture = Capture::of(alloc, first.list)?;
-    capture.add(&second.list)?;
-    Ok(capture.into_bytes())
-}
-
-/// The list again, once its capture was written into its gaps, and the capture's length. A list without the gaps comes back.
-pub fn laid(first: Short) -> (Option<usize>, PacketList) {
-    match write_in_gaps(first.list) {
-        Ok(laid) => {
-            let len = laid.text.len();
-            (Some(len), PacketList::of_spans(laid.text, laid.spans))
-        }
-        Err(list) => (None, list),
-    }
+/// A copy of the capture that a list has become in its own gaps, and the list, which stays. There is none where it has other gaps.
+pub fn laid(alloc: Global, first: Short) -> Result<(Option<Vec<u8>>, PacketList), Fault> {
+    let Short { list } = first;
+    let mut list = list;
+    let text = match lay(&mut list) {
+        Some(text) => Some(Vec::from_slice(alloc, text)?),
+        None => None,
+    };
+    Ok((text, list))
 }

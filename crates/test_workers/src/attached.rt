@@ -158,7 +158,8 @@ fn by_first_byte(packet: &[u8], cells: u32) -> Verdict
     }
 }
 
-/// The driver of a pair, with room for so many sent packets and bytes. Each time its program is asked is counted.
+/// The driver of a pair, with room for so many sent packets and bytes. Each call of its program's closure is counted, and the
+/// program's own count has to be the same.
 pub(crate) fn driver_of<'a>(
     alloc: Global,
     config: &'a Config,
@@ -185,18 +186,26 @@ pub(crate) fn driver_of<'a>(
         asked.set(asked.get().saturating_add(1));
         decided(rule, even, packet, queue)
     });
-    let chain = Chain::of(alloc, program)?;
-    Ok(Driver::new(
+    let mut chain = Chain::of(alloc, program)?;
+    let driver = Driver::new(
         alloc,
         config,
         pair,
         packets,
         inputs.of_pair(pair),
-        &chain,
+        &mut chain,
         wire,
         room.0,
         room.1,
-    )?)
+    )?;
+    if chain
+        .programs()
+        .iter()
+        .any(|program| program.asked() != asked.get())
+    {
+        return Err(Trouble::Miscounted);
+    }
+    Ok(driver)
 }
 
 /// A run of all workers in rounds.
@@ -225,6 +234,8 @@ pub(crate) fn run_of(
         rule,
         |packet: &[u8], queue: u32| decided(rule, even, packet, queue),
     );
-    let chain = Chain::of(alloc, program)?;
-    Ok(simulate(alloc, config, frames, packets, &chain, wire, order, manner)?)
+    let mut chain = Chain::of(alloc, program)?;
+    Ok(simulate(
+        alloc, config, frames, packets, &mut chain, wire, order, manner,
+    )?)
 }

@@ -5,6 +5,7 @@ ghost use Rattle.xsk_socket.specs.Layout.{fault_of};
 
 use crate::trouble::Trouble;
 use crate::words::{Line, halves, number};
+use fixtures::with_field;
 use xsk_socket::{Layout, check_layout};
 
 /// The layout of a script, which is accepted.
@@ -31,35 +32,7 @@ fn layout_in(lines: &[Line<'_>]) -> Result<Layout, Trouble> {
 fn set_all(layout: &mut Layout, words: &[&str]) -> Result<(), Trouble> {
     for word in words {
         let (name, value) = halves(word, '=')?;
-        set(layout, name, number(value)?)?;
-    }
-    Ok(())
-}
-
-fn set(layout: &mut Layout, name: &str, value: u32) -> Result<(), Trouble> {
-    match name {
-        "ports" => layout.ports = value,
-        "queues" => layout.queues = value,
-        "sockets" => layout.sockets = value,
-        "chunk" => layout.chunk = value,
-        "headroom" => layout.headroom = value,
-        "frames" => layout.frames = value,
-        "sg" => layout.sg = value == 1,
-        "wakeup" => layout.wakeup = value == 1,
-        "empty" => layout.empty = Some(value),
-        "close" => layout.close = Some(value),
-        _ => set_ring(layout, name, value)?,
-    }
-    Ok(())
-}
-
-fn set_ring(layout: &mut Layout, name: &str, value: u32) -> Result<(), Trouble> {
-    match name {
-        "rx" => layout.rx = value,
-        "tx" => layout.tx = value,
-        "fill" => layout.fill = value,
-        "comp" => layout.comp = value,
-        _ => return Err(Trouble::BadLine),
+        *layout = with_field(*layout, name, number(value)?).ok_or(Trouble::BadLine)?;
     }
     Ok(())
 }

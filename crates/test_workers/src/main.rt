@@ -11,10 +11,12 @@
 //!   says whether the journal has the text.
 //! - `config`: the configuration. Further lines ask for its parts.
 //! - `traffic FRAMES`: sockets set up one by one, and the object opened over them.
+//! - `ends`: the ends of an application by hand, beside drivers of a table.
 #![tactic(auto)]
 
 mod attached;
 mod cells;
+mod ends;
 mod hand;
 mod layout;
 mod made;

@@ -1,6 +1,7 @@
 //! One script.
 
 use crate::cells::tell_config;
+use crate::ends::play_ends;
 use crate::played::play_hand;
 use crate::rounds::play_run;
 use crate::traffic::play_traffic;
@@ -55,6 +56,7 @@ fn play_work(
         "run" => play_run(alloc, lines, words, rest, text)?,
         "config" => tell_config(alloc, lines, rest, text)?,
         "traffic" => play_traffic(alloc, words, rest, text)?,
+        "ends" => play_ends(alloc, words, rest, text)?,
         _ => return Ok(false),
     }
     Ok(true)

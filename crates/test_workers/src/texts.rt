@@ -7,7 +7,7 @@ use xsk_model::{Act, Call, Mark, Ring};
 use xsk_umem::{Batch, PacketList};
 
 /// What kind of ring it is, and its number.
-fn ring_parts(ring: Ring) -> (&'static str, u32) {
+pub(crate) fn ring_parts(ring: Ring) -> (&'static str, u32) {
     match ring {
         Ring::Fill(pair) => (" fill.", pair),
         Ring::Comp(pair) => (" comp.", pair),

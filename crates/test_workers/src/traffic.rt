@@ -4,10 +4,10 @@
 ghost use Rattle.std.specs.Prelude.{◌≡◌, IfOk};
 ghost use Rattle.xsk_model.specs.Config.{IsLawful};
 
-use crate::made::all_frames;
 use crate::texts::tell_items;
 use crate::trouble::Trouble;
 use crate::words::{Line, number, one_number, three_numbers};
+use fixtures::registered;
 use std::alloc::Global;
 use xsk_model::{Call, Config, Reply, Ring};
 use xsk_plain::{Checked, payload_room};
@@ -50,7 +50,9 @@ fn peek(checked: &mut Checked, words: &[&str], text: &mut String) -> Result<(), 
 /// The object over the sockets, and all frames of a UMEM.
 fn opened(alloc: Global, count: u32, lines: &[Line<'_>]) -> Result<Checked, Trouble> {
     let len = u64::from(count) * u64::from(CHUNK);
-    let (geometry, frames) = all_frames(alloc, len, CHUNK, 0)?;
+    let Ok((geometry, frames)) = registered(alloc, len, CHUNK, 0) else {
+        return Err(Trouble::BadLayout);
+    };
     let config = sealed(alloc, geometry, lines)?;
     match Checked::open(alloc, config, frames) {
         Ok(checked) => Ok(checked),

@@ -15,6 +15,7 @@ pub(crate) enum Trouble {
     BadReply,
     NoPlace,
     BadSetup,
+    Miscounted,
     Stalled(u64),
 }
 
@@ -29,6 +30,7 @@ impl Trouble {
             Trouble::BadReply => "that reply can't come",
             Trouble::NoPlace => "there is no such cell, ring or port",
             Trouble::BadSetup => "the sockets can't be set up",
+            Trouble::Miscounted => "a program counts other calls than its closure",
             Trouble::Stalled(_) => "stalled in round ",
         }
     }

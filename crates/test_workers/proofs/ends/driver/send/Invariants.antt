@@ -1,0 +1,5 @@
+use Rattle.xsk_rings.specs.Rounds.{Rests}
+use Rattle.test_workers.proofs.ends.driver.send.Given as goal
+
+abbrev pub invariant-packets : goal.invariant-packets
+invariant-packets l = Rests l.shared l.pass

@@ -1,0 +1,72 @@
+//! The next turn of a resumed application, where every ring is full, or empty.
+ghost use Rattle.std.specs.Prelude.{◌≡◌, IfSome};
+ghost use Rattle.xsk_model.specs.Expected.{CanCome, IsReplyTo, expected_of, nothing};
+
+use crate::texts::ring_parts;
+use std::alloc::AllocError;
+use std::fmt::Write;
+use xsk_app::{Act, App};
+use xsk_model::{Call, Mark, Reply, Ring};
+
+/// Writes the calls of the turn, up to its end.
+pub(crate) fn write_calls(app: App<'_>, text: &mut String) -> Result<(), AllocError>
+    requires { app.expected ≡ nothing }
+{
+    let start = text.len();
+    let mut app = app;
+    let mut act = go_on(&mut app, None);
+    'calls: for _ in 0..16 {
+        let Act::Call(call) = &act else {
+            break;
+        };
+        tell(call, start, text)?;
+        let Some(reply) = reply_to(call) else {
+            break;
+        };
+        act = go_on(&mut app, Some(reply));
+    }
+    Ok(())
+}
+
+/// Goes on with the reply to the last call, if there was one.
+fn go_on(app: &mut App<'_>, reply: Option<Reply>) -> Act
+    requires { CanCome app.old.expected reply }
+    ensures { app.new.expected ≡ expected_of result }
+{
+    app.next(reply)
+}
+
+/// The reply that a call gets: None at the turn's end.
+fn reply_to(call: &Call) -> Option<Reply>
+    ensures { IfSome result (λ reply. IsReplyTo call.now reply) }
+{
+    match call {
+        Call::Reserve(..) => Some(Reply::Full(0)),
+        Call::Peek(..) => Some(Reply::Empty),
+        _ => None,
+    }
+}
+
+/// Writes a call behind those that were written since the text had this length. Of a mark it writes only that an end is looked at,
+/// or told.
+fn tell(call: &Call, start: usize, text: &mut String) -> Result<(), AllocError> {
+    let gap = if text.len() == start { "" } else { ", " };
+    match call {
+        Call::Reserve(ring, count) => tell_ring(gap, "reserve", *ring, *count, text),
+        Call::Peek(ring, count) => tell_ring(gap, "peek", *ring, *count, text),
+        Call::Look(Mark::RxDone(pair)) => write!(text, "{gap}look rx_done.{pair}"),
+        Call::Swap(Mark::TxDone(app), value) => write!(text, "{gap}swap tx_done.{app} {value}"),
+        _ => Ok(()),
+    }
+}
+
+fn tell_ring(
+    gap: &str,
+    verb: &str,
+    ring: Ring,
+    count: u32,
+    text: &mut String,
+) -> Result<(), AllocError> {
+    let (name, index) = ring_parts(ring);
+    write!(text, "{gap}{verb}{name}{index} {count}")
+}
