@@ -1,5 +1,6 @@
 //! Setups and scripts, each a line with a name and the lines behind it.
 use crate::run::{Makers, run};
+use crate::text::{joined, push_all};
 use crate::words::number;
 use std::alloc::{AllocError, Global};
 use std::string::String;
@@ -47,12 +48,14 @@ pub(crate) fn told(alloc: Global, blocks: &[Block], block: &Block) -> Result<Str
     let ["script", name, setup, counts @ ..] = words.as_slice() else {
         return Ok(String::new(alloc));
     };
-    let mut out = format!(in alloc; "script {name}\n")?;
-    match setup_named(blocks, setup) {
-        Some(setup) => all_runs(alloc, setup, block.lines.as_slice(), counts, &mut out)?,
-        None => out.push_str("no such setup\n")?,
-    }
-    out.push_str("\n")?;
+    let mut out = joined(alloc, &["script ", name, "\n"])?;
+    push_runs(
+        alloc,
+        setup_named(blocks, setup),
+        block.lines.as_slice(),
+        counts,
+        &mut out,
+    )?;
     Ok(out)
 }
 
@@ -65,6 +68,20 @@ fn makers(word: &str) -> Makers {
     }
 }
 
+fn push_runs(
+    alloc: Global,
+    setup: Option<&[String]>,
+    script: &[String],
+    counts: &[&str],
+    out: &mut String,
+) -> Result<(), OutOfMemory> {
+    match setup {
+        Some(setup) => all_runs(alloc, setup, script, counts, out)?,
+        None => out.push_str("no such setup\n")?,
+    }
+    Ok(out.push_str("\n")?)
+}
+
 /// Runs a script from each starting count. The first run is printed, and each other one where it differs.
 fn all_runs(
     alloc: Global,
@@ -73,24 +90,42 @@ fn all_runs(
     counts: &[&str],
     out: &mut String,
 ) -> Result<(), OutOfMemory> {
-    let mut told = None;
-    for count in counts {
-        let text = run(alloc, setup, script, makers(count))?;
-        let text = match text {
-            Some(text) => text,
-            None => format!(in alloc; "no configuration\n")?,
-        };
-        match &told {
-            None => {
-                out.push_str(text.as_str())?;
-                told = Some(text);
-            }
-            Some(first) => {
-                if *first != text {
-                    out.push_str(format!(in alloc; "from {count}:\n{text}")?.as_str())?;
-                }
-            }
-        }
+    let Some((first, others)) = counts.split_first() else {
+        return Ok(());
+    };
+    let told = text_of(alloc, setup, script, first)?;
+    out.push_str(told.as_str())?;
+    for count in others {
+        push_other(alloc, setup, script, count, told.as_str(), out)?;
     }
     Ok(())
+}
+
+/// The run from a starting count, where it isn't as the first.
+fn push_other(
+    alloc: Global,
+    setup: &[String],
+    script: &[String],
+    count: &str,
+    told: &str,
+    out: &mut String,
+) -> Result<(), OutOfMemory> {
+    let text = text_of(alloc, setup, script, count)?;
+    if text.as_str() == told {
+        return Ok(());
+    }
+    Ok(push_all(out, &["from ", count, ":\n", text.as_str()])?)
+}
+
+/// What is printed of a run from a starting count.
+fn text_of(
+    alloc: Global,
+    setup: &[String],
+    script: &[String],
+    count: &str,
+) -> Result<String, OutOfMemory> {
+    match run(alloc, setup, script, makers(count))? {
+        Some(text) => Ok(text),
+        None => Ok(joined(alloc, &["no configuration\n"])?),
+    }
 }

@@ -4,6 +4,7 @@ ghost use Rattle.std.specs.Prelude.{◌≤◌, ◌<◌};
 use crate::hand::Known;
 use crate::reply::NOT_LEGAL;
 use crate::stage::Stage;
+use crate::text::{push_all, push_number};
 use crate::words::{Body, Move, Thing, read_thing};
 use std::alloc::Global;
 use std::string::String;
@@ -77,54 +78,43 @@ impl Draw {
     }
 }
 
+/// The kinds of replies that are counted, and last all others.
+const KINDS: [&str; 6] = ["granted", "full", "submitted", "items", "empty", "others"];
+
 /// How many replies of each kind were given.
 #[derive(Drop)]
 struct Tally {
-    granted: u32,
-    full: u32,
-    submitted: u32,
-    items: u32,
-    empty: u32,
-    others: u32,
+    counts: [u32; 6],
 }
 
 impl Tally {
-    fn new() -> Tally {
-        Tally {
-            granted: 0,
-            full: 0,
-            submitted: 0,
-            items: 0,
-            empty: 0,
-            others: 0,
+    fn count(&mut self, words: &str) {
+        let kind = kind_of(words);
+        self.counts[kind] = self.counts[kind].saturating_add(1);
+    }
+
+    /// Puts the numbers with their names behind a text.
+    fn push_to(&self, text: &mut String) -> Result<(), OutOfMemory> {
+        for kind in 0..6 {
+            let gap = if kind == 0 { "" } else { ", " };
+            push_number(text, gap, u64::from(self.counts[kind]))?;
+            push_all(text, &[" ", KINDS[kind]])?;
+        }
+        Ok(())
+    }
+}
+
+/// The kind of a reply.
+fn kind_of(words: &str) -> usize
+    ensures { result < 6 }
+{
+    let word = words.split_whitespace().next().unwrap_or("");
+    for kind in 0..5 {
+        if KINDS[kind] == word {
+            return kind;
         }
     }
-
-    fn count(&mut self, words: &str) {
-        let kind = match words.split_whitespace().next() {
-            Some("granted") => &mut self.granted,
-            Some("full") => &mut self.full,
-            Some("submitted") => &mut self.submitted,
-            Some("items") => &mut self.items,
-            Some("empty") => &mut self.empty,
-            _ => &mut self.others,
-        };
-        *kind = kind.saturating_add(1);
-    }
-
-    /// The numbers with their names.
-    fn words(&self, alloc: Global) -> Result<String, OutOfMemory> {
-        let Tally {
-            granted,
-            full,
-            submitted,
-            items,
-            empty,
-            others,
-        } = self;
-        let first = format!(in alloc; "{granted} granted, {full} full, {submitted} submitted")?;
-        Ok(format!(in alloc; "{first}, {items} items, {empty} empty, {others} others")?)
-    }
+    5
 }
 
 /// The frames that callers took, in order.
@@ -146,19 +136,33 @@ impl Taken {
         Ok(())
     }
 
-    /// The first frames of a caller as items for a ring, each a packet of its own.
+    /// The items of a call: of a Submit the first frames of the caller, each a packet of its own, and of any other none.
     fn things(
         &self,
         alloc: Global,
         known: &Known,
         who: u32,
-        ring: Ring,
+        made: Move,
         count: u32,
+    ) -> Result<Vec<Thing>, OutOfMemory> {
+        match made {
+            Move::Submit(ring) => self.first(alloc, known.chunk, who, ring, count as usize),
+            _ => Ok(Vec::new(alloc)),
+        }
+    }
+
+    fn first(
+        &self,
+        alloc: Global,
+        chunk: u32,
+        who: u32,
+        ring: Ring,
+        count: usize,
     ) -> Result<Vec<Thing>, OutOfMemory> {
         let mut things = Vec::new(alloc);
         for (owner, number) in &self.frames {
-            if *owner == who && things.len() < count as usize {
-                things.push(thing_on(known.chunk, ring, *number))?;
+            if *owner == who && things.len() < count {
+                things.push(thing_on(chunk, ring, *number))?;
             }
         }
         Ok(things)
@@ -204,44 +208,92 @@ fn thing_on(chunk: u32, ring: Ring, number: u32) -> Thing {
     }
 }
 
-/// Draws a call of a caller, and tells whether it was legal.
-fn makes_one(
-    stage: &mut Stage,
-    draw: &mut Draw,
-    taken: &mut Taken,
-    tally: &mut Tally,
-    who: u32,
-) -> Result<bool, OutOfMemory> {
-    let (made, count) = draw.made();
-    let things = match made {
-        Move::Submit(ring) => taken.things(stage.alloc, &stage.hand.known, who, ring, count)?,
-        _ => Vec::new(stage.alloc),
-    };
-    let reply = stage.make(who, made, things.as_slice(), false)?;
-    if reply.words.as_str() == NOT_LEGAL {
-        return Ok(false);
-    }
-    taken.forget(stage.alloc, who, things.as_slice())?;
-    taken.add(&stage.hand.known, who, reply.words.as_str())?;
-    tally.count(reply.words.as_str());
-    stage.keep(who)?;
-    Ok(true)
+/// What is drawn, and what came of it so far.
+#[derive(Drop)]
+struct Game {
+    draw: Draw,
+    tally: Tally,
+    taken: Taken,
 }
 
-/// Draws calls of a caller until one is legal.
-fn goes_on(
-    stage: &mut Stage,
-    draw: &mut Draw,
-    taken: &mut Taken,
-    tally: &mut Tally,
-    who: u32,
-) -> Result<bool, OutOfMemory> {
-    for _ in 0..TRIES {
-        if makes_one(stage, draw, taken, tally, who)? {
-            return Ok(true);
+impl Game {
+    fn new(alloc: Global, seed: u64) -> Game {
+        Game {
+            draw: Draw { state: seed },
+            tally: Tally { counts: [0; 6] },
+            taken: Taken {
+                frames: Vec::new(alloc),
+            },
         }
     }
-    Ok(false)
+
+    /// Takes in what came of a call.
+    fn note(
+        &mut self,
+        alloc: Global,
+        known: &Known,
+        who: u32,
+        things: &[Thing],
+        words: &str,
+    ) -> Result<(), OutOfMemory> {
+        self.taken.forget(alloc, who, things)?;
+        self.taken.add(known, who, words)?;
+        self.tally.count(words);
+        Ok(())
+    }
+
+    /// Draws a call of a caller, and tells whether it was legal.
+    fn makes_one(&mut self, stage: &mut Stage, who: u32) -> Result<bool, OutOfMemory> {
+        let (made, count) = self.draw.made();
+        let known = &stage.hand.known;
+        let things = self.taken.things(stage.alloc, known, who, made, count)?;
+        let reply = stage.make(who, made, things.as_slice(), false)?;
+        let words = reply.words.as_str();
+        let legal = words != NOT_LEGAL;
+        if legal {
+            self.note(
+                stage.alloc,
+                &stage.hand.known,
+                who,
+                things.as_slice(),
+                words,
+            )?;
+            stage.keep(who)?;
+        }
+        Ok(legal)
+    }
+
+    /// Draws calls of a caller until one is legal.
+    fn goes_on(&mut self, stage: &mut Stage, who: u32) -> Result<bool, OutOfMemory> {
+        for _ in 0..TRIES {
+            if self.makes_one(stage, who)? {
+                return Ok(true);
+            }
+        }
+        Ok(false)
+    }
+
+    /// Makes so many legal calls, each by a caller that is drawn, and tells whether there were so many.
+    fn play(&mut self, stage: &mut Stage, calls: u32) -> Result<bool, OutOfMemory> {
+        let callers = stage.object.config().callers().max(1);
+        for _ in 0..calls {
+            let who = self.draw.below(callers);
+            if !self.goes_on(stage, who)? {
+                return Ok(false);
+            }
+        }
+        Ok(true)
+    }
+
+    /// What is told of it.
+    fn told(&self, alloc: Global, legal: bool) -> Result<String, OutOfMemory> {
+        let mut text = String::new(alloc);
+        self.tally.push_to(&mut text)?;
+        if !legal {
+            text.push_str(" and no call is legal")?;
+        }
+        Ok(text)
+    }
 }
 
 /// So many legal calls, each by a caller that is drawn.
@@ -251,20 +303,8 @@ pub(crate) fn drawn(
     seed: u64,
     calls: u32,
 ) -> Result<(), OutOfMemory> {
-    let alloc = stage.alloc;
-    let callers = stage.object.config().callers().max(1);
-    let mut draw = Draw { state: seed };
-    let mut tally = Tally::new();
-    let mut taken = Taken {
-        frames: Vec::new(alloc),
-    };
-    let mut legal = true;
-    for _ in 0..calls {
-        let who = draw.below(callers);
-        legal = legal && goes_on(stage, &mut draw, &mut taken, &mut tally, who)?;
-    }
-    let tally = tally.words(alloc)?;
-    let what = if legal { "" } else { " and no call is legal" };
-    let text = format!(in alloc; "{line}: {tally}{what}")?;
-    stage.print(text.as_str())
+    let mut game = Game::new(stage.alloc, seed);
+    let legal = game.play(stage, calls)?;
+    let text = game.told(stage.alloc, legal)?;
+    stage.say(line, text.as_str())
 }

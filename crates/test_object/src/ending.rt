@@ -1,36 +1,39 @@
 //! The end of a run: all lines of the log once more, and the frames that stand in rings.
 use crate::bytes;
 use crate::hand::Known;
-use crate::noted::Noted;
 use crate::stage::Stage;
-use std::alloc::Global;
+use crate::text::push_number;
+use std::alloc::AllocError;
 use std::string::String;
 use xsk_umem::{Frame, Frames, OutOfMemory};
 
-/// The frames that an object gives up, in words. A star stands behind one that was written, and a question mark behind one
-/// with other bytes.
-fn frames_words(alloc: Global, known: &Known, frames: Frames) -> Result<String, OutOfMemory> {
+/// Tells the frames that an object gives up. A star stands behind one that was written, and a question mark behind one with
+/// other bytes.
+fn push_frames(text: &mut String, known: &Known, frames: Frames) -> Result<(), OutOfMemory> {
     let mut frames = frames;
-    let mut words = format!(in alloc; "left")?;
+    text.push_str("left")?;
     for _ in 0..frames.len() {
         if let Some(frame) = frames.pop_front() {
-            words.push_str(frame_words(alloc, known, &frame)?.as_str())?;
+            push_frame(text, known, &frame)?;
         }
     }
-    Ok(words)
+    Ok(text.push_str("\n")?)
 }
 
-fn frame_words(alloc: Global, known: &Known, frame: &Frame) -> Result<String, OutOfMemory> {
-    let number = frame.number();
-    let seed = known.seed(number);
-    let sign = if !bytes::holds(frame, seed) {
+fn push_frame(text: &mut String, known: &Known, frame: &Frame) -> Result<(), AllocError> {
+    push_number(text, " ", u64::from(frame.number()))?;
+    text.push_str(sign_of(known, frame))
+}
+
+fn sign_of(known: &Known, frame: &Frame) -> &'static str {
+    let seed = known.seed(frame.number());
+    if !bytes::holds(frame, seed) {
         "?"
     } else if seed > 0 {
         "*"
     } else {
         ""
-    };
-    Ok(format!(in alloc; " {number}{sign}")?)
+    }
 }
 
 /// Goes over the lines of all calls once more, which are those that were told.
@@ -44,39 +47,37 @@ fn walk(stage: &mut Stage) -> Result<(), OutOfMemory> {
     Ok(())
 }
 
-/// The frames that the table gives up, if there is one.
-fn table_words(alloc: Global, known: &Known, table: Option<Noted>) -> Result<String, OutOfMemory> {
-    let Some(table) = table else {
-        return Ok(String::new(alloc));
-    };
-    let words = frames_words(alloc, known, table.close())?;
-    Ok(format!(in alloc; "on the table {words}\n")?)
-}
-
 /// What is printed of a run.
 pub(crate) fn end(stage: Stage) -> Result<String, OutOfMemory> {
     let mut stage = stage;
     walk(&mut stage)?;
     let Stage {
-        alloc,
         object,
         table,
         hand,
         out,
         ..
     } = stage;
-    let mine = frames_words(alloc, &hand.known, object.close());
-    let theirs = table_words(alloc, &hand.known, table);
-    joined(alloc, &out, mine, theirs)
+    let mine = object.close();
+    let theirs = match table {
+        Some(table) => Some(table.close()),
+        None => None,
+    };
+    told(out, &hand.known, mine, theirs)
 }
 
-fn joined(
-    alloc: Global,
-    out: &String,
-    mine: Result<String, OutOfMemory>,
-    theirs: Result<String, OutOfMemory>,
+/// What was printed, with the frames that the object gives up, and those of the table if there is one.
+fn told(
+    out: String,
+    known: &Known,
+    mine: Frames,
+    theirs: Option<Frames>,
 ) -> Result<String, OutOfMemory> {
-    let mine = mine?;
-    let theirs = theirs?;
-    Ok(format!(in alloc; "{out}{mine}\n{theirs}")?)
+    let mut out = out;
+    push_frames(&mut out, known, mine)?;
+    if let Some(frames) = theirs {
+        out.push_str("on the table ")?;
+        push_frames(&mut out, known, frames)?;
+    }
+    Ok(out)
 }

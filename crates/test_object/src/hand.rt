@@ -66,11 +66,12 @@ impl Known {
     }
 
     /// What is to be written into a frame now.
-    fn next_seed(&mut self, number: u32) -> Option<u32> {
-        let seed = self.seeds.get_mut(number as usize)?;
+    fn next_seed(&mut self, number: u32) -> u32 {
         self.written = self.written.wrapping_add(1);
-        *seed = self.written;
-        Some(*seed)
+        if let Some(seed) = self.seeds.get_mut(number as usize) {
+            *seed = self.written;
+        }
+        self.written
     }
 
     /// Whether an item has the frame of its address, with its bytes.
@@ -85,6 +86,13 @@ impl Known {
     }
 }
 
+/// The frame with other bytes.
+fn written(frame: Frame, seed: u32) -> Frame {
+    let mut frame = frame;
+    bytes::write(&mut frame, seed);
+    frame
+}
+
 impl Store {
     fn new(alloc: Global, frames: u32) -> Result<Store, OutOfMemory> {
         let mut places = Vec::with_capacity(alloc, frames as usize)?;
@@ -92,13 +100,6 @@ impl Store {
             places.push(None)?;
         }
         Ok(Store { frames: places })
-    }
-
-    fn has(&self, number: u32) -> bool {
-        match self.frames.get(number as usize) {
-            Some(frame) => frame.is_some(),
-            None => false,
-        }
     }
 
     fn take(&mut self, number: u32) -> Option<Frame> {
@@ -113,9 +114,7 @@ impl Store {
 
     fn write(&mut self, number: u32, seed: u32) {
         if let Some(frame) = self.take(number) {
-            let mut frame = frame;
-            bytes::write(&mut frame, seed);
-            self.put(frame);
+            self.put(written(frame, seed));
         }
     }
 
@@ -229,12 +228,11 @@ impl Hand {
     }
 
     fn write_one(&mut self, number: u32) {
-        if !self.mine.has(number) {
+        let Some(frame) = self.mine.take(number) else {
             return;
-        }
-        if let Some(seed) = self.known.next_seed(number) {
-            self.mine.write(number, seed);
-            self.theirs.write(number, seed);
-        }
+        };
+        let seed = self.known.next_seed(number);
+        self.mine.put(written(frame, seed));
+        self.theirs.write(number, seed);
     }
 }

@@ -14,6 +14,7 @@ mod setup;
 mod stage;
 mod step;
 mod table;
+mod text;
 mod words;
 
 use std::io;

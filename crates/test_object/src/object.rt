@@ -6,12 +6,11 @@ use xsk_model::{Call, Config};
 use xsk_plain::{Checked, Plain, payload_room};
 use xsk_umem::{Frames, OutOfMemory};
 
-/// The engine that tells which calls are legal, the same where it is asked why one isn't, or the one that makes each call that
-/// can be made.
+/// The engine that tells which calls are legal, and whether it is asked why one isn't, or the one that makes each call that can
+/// be made.
 #[derive(Drop)]
 pub(crate) enum Object {
-    Checked(Checked),
-    Why(Checked),
+    Checked(Checked, bool),
     Plain(Plain),
 }
 
@@ -45,21 +44,21 @@ fn ask_plain(plain: &mut Plain, who: u32, call: Call) -> Result<Asked, OutOfMemo
 impl Object {
     pub(crate) fn config(&self) -> &Config {
         match self {
-            Object::Checked(checked) | Object::Why(checked) => checked.config(),
+            Object::Checked(checked, _) => checked.config(),
             Object::Plain(plain) => plain.config(),
         }
     }
 
     pub(crate) fn log(&self) -> &Log {
         match self {
-            Object::Checked(checked) | Object::Why(checked) => checked.log(),
+            Object::Checked(checked, _) => checked.log(),
             Object::Plain(plain) => plain.log(),
         }
     }
 
     fn lines(&self) -> Lines<'_> {
         match self {
-            Object::Checked(checked) | Object::Why(checked) => checked.lines(),
+            Object::Checked(checked, _) => checked.lines(),
             Object::Plain(plain) => plain.lines(),
         }
     }
@@ -67,8 +66,8 @@ impl Object {
     /// Makes a call where it is legal, or can be made.
     pub(crate) fn ask(&mut self, who: u32, call: Call) -> Result<Asked, OutOfMemory> {
         match self {
-            Object::Checked(checked) => ask_checked(checked, who, call),
-            Object::Why(checked) => ask_why(checked, who, call),
+            Object::Checked(checked, false) => ask_checked(checked, who, call),
+            Object::Checked(checked, true) => ask_why(checked, who, call),
             Object::Plain(plain) => ask_plain(plain, who, call),
         }
     }
@@ -76,7 +75,7 @@ impl Object {
     /// The frames that stand in rings, ring by ring and in order.
     pub(crate) fn close(self) -> Frames {
         match self {
-            Object::Checked(checked) | Object::Why(checked) => checked.close(),
+            Object::Checked(checked, _) => checked.close(),
             Object::Plain(plain) => plain.close(),
         }
     }
@@ -84,7 +83,7 @@ impl Object {
     /// Puts the line of the last call, if there is one, in the buffer.
     pub(crate) fn tell_last(&self, line: &mut LineBuffer) {
         match self {
-            Object::Checked(checked) | Object::Why(checked) => {
+            Object::Checked(checked, _) => {
                 if let Some(last) = checked.log().len().checked_sub(1) {
                     checked.write_line(last, line);
                 }

@@ -8,7 +8,8 @@ use crate::setup::Setup;
 use crate::stage::Stage;
 use crate::step::{Plan, Step, read};
 use crate::table::Table;
-use crate::words::{Move, Who};
+use crate::text::push_number;
+use crate::words::{Move, Who, large};
 use std::alloc::Global;
 use std::string::String;
 use xsk_model::Mark;
@@ -47,53 +48,70 @@ fn plain_of(alloc: Global, setup: Setup) -> Option<Object> {
     }
 }
 
-fn checked_of(alloc: Global, setup: Setup) -> Option<Object> {
+fn checked_of(alloc: Global, setup: Setup, asks_why: bool) -> Option<Object> {
     let (config, frames) = setup.make(alloc)?;
     match Checked::open(alloc, config, frames) {
-        Ok(checked) => Some(Object::Checked(checked)),
+        Ok(checked) => Some(Object::Checked(checked, asks_why)),
         Err(_) => None,
     }
 }
 
-fn why_of(alloc: Global, setup: Setup) -> Option<Object> {
-    let (config, frames) = setup.make(alloc)?;
-    match Checked::open(alloc, config, frames) {
-        Ok(checked) => Some(Object::Why(checked)),
-        Err(_) => None,
-    }
-}
-
-fn object_of(alloc: Global, setup: Setup, makers: Makers) -> Option<Object> {
-    match makers {
+/// The object, if the lines of a setup say one.
+fn object_of(
+    alloc: Global,
+    lines: &[String],
+    makers: Makers,
+) -> Result<Option<Object>, OutOfMemory> {
+    let Some(setup) = setup_of(alloc, lines)? else {
+        return Ok(None);
+    };
+    Ok(match makers {
         Makers::Plain => plain_of(alloc, setup),
-        Makers::Why => why_of(alloc, setup),
-        Makers::Both(_) | Makers::Checked => checked_of(alloc, setup),
-    }
+        Makers::Why => checked_of(alloc, setup, true),
+        Makers::Both(_) | Makers::Checked => checked_of(alloc, setup, false),
+    })
 }
 
-fn table_of(alloc: Global, setup: Setup, first: u32) -> Option<Noted> {
+fn noted_of(alloc: Global, setup: Setup, first: u32) -> Option<Noted> {
     let (config, frames) = setup.make(alloc)?;
     Some(Noted::new(Table::open(alloc, config, frames, first)?))
 }
 
+/// The table, if the lines of a setup say one.
+fn table_of(alloc: Global, lines: &[String], first: u32) -> Result<Option<Noted>, OutOfMemory> {
+    match setup_of(alloc, lines)? {
+        Some(setup) => Ok(noted_of(alloc, setup, first)),
+        None => Ok(None),
+    }
+}
+
 /// Both engines, or one of them.
 fn open(alloc: Global, lines: &[String], makers: Makers) -> Result<Option<Stage>, OutOfMemory> {
-    let (Some(mine), Some(theirs)) = (setup_of(alloc, lines)?, setup_of(alloc, lines)?) else {
-        return Ok(None);
+    let Makers::Both(first) = makers else {
+        return with_table(alloc, lines, makers, None);
     };
-    let Some(object) = object_of(alloc, mine, makers) else {
-        return Ok(None);
-    };
+    match table_of(alloc, lines, first)? {
+        Some(table) => with_table(alloc, lines, makers, Some(table)),
+        None => Ok(None),
+    }
+}
+
+fn with_table(
+    alloc: Global,
+    lines: &[String],
+    makers: Makers,
+    table: Option<Noted>,
+) -> Result<Option<Stage>, OutOfMemory> {
+    match object_of(alloc, lines, makers)? {
+        Some(object) => Ok(Some(stage_of(alloc, object, table)?)),
+        None => Ok(None),
+    }
+}
+
+fn stage_of(alloc: Global, object: Object, table: Option<Noted>) -> Result<Stage, OutOfMemory> {
     let geometry = object.config().geometry();
     let hand = Hand::new(alloc, geometry.chunk(), geometry.frames())?;
-    let Makers::Both(first) = makers else {
-        return Ok(Some(Stage::new(alloc, object, None, hand)));
-    };
-    let table = table_of(alloc, theirs, first);
-    if table.is_none() {
-        return Ok(None);
-    }
-    Ok(Some(Stage::new(alloc, object, table, hand)))
+    Ok(Stage::new(alloc, object, table, hand))
 }
 
 /// What is printed of a run, if the setup is one.
@@ -103,14 +121,23 @@ pub(crate) fn run(
     script: &[String],
     makers: Makers,
 ) -> Result<Option<String>, OutOfMemory> {
-    let Some(stage) = open(alloc, setup, makers)? else {
-        return Ok(None);
-    };
-    let mut stage = stage;
-    for line in script {
-        play(&mut stage, line.as_str())?;
+    match open(alloc, setup, makers)? {
+        Some(stage) => Ok(Some(played(stage, script)?)),
+        None => Ok(None),
     }
-    Ok(Some(ending::end(stage)?))
+}
+
+fn played(stage: Stage, script: &[String]) -> Result<String, OutOfMemory> {
+    let mut stage = stage;
+    play_all(&mut stage, script)?;
+    ending::end(stage)
+}
+
+fn play_all(stage: &mut Stage, script: &[String]) -> Result<(), OutOfMemory> {
+    for line in script {
+        play(stage, line.as_str())?;
+    }
+    Ok(())
 }
 
 /// Plays a line.
@@ -122,18 +149,13 @@ fn play(stage: &mut Stage, line: &str) -> Result<(), OutOfMemory> {
         Some(Step::Count(who, mark, most)) => count(stage, line, who, mark, most),
         Some(Step::Drawn(seed, calls)) => drawn(stage, line, seed, calls),
         Some(Step::Passes) => passes(stage, line),
-        None => say(stage, line, "can't be read"),
+        None => stage.say(line, "can't be read"),
     }
-}
-
-fn say(stage: &mut Stage, line: &str, what: &str) -> Result<(), OutOfMemory> {
-    let text = format!(in stage.alloc; "{line}: {what}")?;
-    stage.print(text.as_str())
 }
 
 fn call(stage: &mut Stage, line: &str, plan: &Plan) -> Result<(), OutOfMemory> {
     let Some(who) = stage.caller(plan.who) else {
-        return say(stage, line, "no caller");
+        return stage.say(line, "no caller");
     };
     let made = stage.make(who, plan.made, plan.things.as_slice(), plan.anew)?;
     stage.tell(line, who, &made)
@@ -144,7 +166,7 @@ fn note(stage: &mut Stage, line: &str, who: Who, late: bool) -> Result<(), OutOf
         (Some(who), Some(table)) => table.note(who, late),
         _ => false,
     };
-    say(stage, line, if taken { "taken" } else { "no caller" })
+    stage.say(line, if taken { "taken" } else { "no caller" })
 }
 
 fn meet(stage: &mut Stage, line: &str, who: Who, late: bool) -> Result<(), OutOfMemory> {
@@ -152,7 +174,7 @@ fn meet(stage: &mut Stage, line: &str, who: Who, late: bool) -> Result<(), OutOf
         (Some(who), Some(table)) => table.meet(who, late),
         _ => false,
     };
-    say(stage, line, if met { "met" } else { "no note" })
+    stage.say(line, if met { "met" } else { "no note" })
 }
 
 /// Sets a mark to 1, 2 and so on, each of which must tell the one before. The last line is printed.
@@ -164,21 +186,47 @@ fn count(
     most: u64,
 ) -> Result<(), OutOfMemory> {
     let Some(who) = stage.caller(who) else {
-        return say(stage, line, "no caller");
+        return stage.say(line, "no caller");
     };
     for value in 1..=most {
-        let made = stage.make(who, Move::Swap(mark, value), &[], false)?;
-        let want = format!(in stage.alloc; "{}", value - 1)?;
-        if made.words != want {
-            return say(stage, line, made.words.as_str());
-        }
-        if value == most {
-            stage.tell(line, who, &made)?;
-        } else {
-            stage.keep(who)?;
+        if !count_one(
+            stage,
+            line,
+            who,
+            Move::Swap(mark, value),
+            value,
+            value == most,
+        )? {
+            return Ok(());
         }
     }
     Ok(())
+}
+
+/// Makes such a call, and tells whether it told the value before.
+fn count_one(
+    stage: &mut Stage,
+    line: &str,
+    who: u32,
+    swap: Move,
+    value: u64,
+    is_last: bool,
+) -> Result<bool, OutOfMemory> {
+    let made = stage.make(who, swap, &[], false)?;
+    let is_next = is_behind(made.words.as_str(), value);
+    if !is_next {
+        stage.say(line, made.words.as_str())?;
+    } else if is_last {
+        stage.tell(line, who, &made)?;
+    } else {
+        stage.keep(who)?;
+    }
+    Ok(is_next)
+}
+
+/// Whether words are the number before a value.
+fn is_behind(words: &str, value: u64) -> bool {
+    large(words) == value.checked_sub(1)
 }
 
 /// Tells whether each caller has one pass, with its number, and no other has one.
@@ -191,6 +239,9 @@ fn passes(stage: &mut Stage, line: &str) -> Result<(), OutOfMemory> {
             right = right && table.caller(who) == Some(who);
         }
     }
-    let what = format!(in stage.alloc; "{callers} {}", if right { "once each" } else { "wrong" })?;
-    say(stage, line, what.as_str())
+    let mut what = String::new(stage.alloc);
+    let told = if right { " once each" } else { " wrong" };
+    push_number(&mut what, "", u64::from(callers))?;
+    what.push_str(told)?;
+    stage.say(line, what.as_str())
 }

@@ -1,13 +1,11 @@
 //! Setups: what the lines of one say, and the configuration with its frames where these are one.
-ghost use Rattle.std.specs.Prelude.{◌≡◌, ◌≤◌, ◌⊎◌, IfSome, IsTrue, All, map};
-ghost use Rattle.std.specs.Vec.{vec_items};
-ghost use Rattle.xsk_model.specs.Config.{IsConfig, IsLawful, IsRingSize, IsBound, IsServed, IsMap, pairs_at};
+ghost use Rattle.std.specs.Prelude.{◌≡◌, IfSome};
+ghost use Rattle.xsk_model.specs.Config.{IsLawful};
 ghost use Rattle.xsk_model.specs.Opening.{AreFrames};
-ghost use Rattle.test_object.specs.Sizes.{is_ring_size};
 
 use crate::words::{large, number};
 use std::alloc::{AllocError, Global};
-use xsk_model::{Config, PairInfo, SocketInfo};
+use xsk_model::{Config, PairInfo, SocketInfo, are_parts};
 use xsk_umem::{Frames, Geometry, Umem};
 
 /// What the lines of a setup say.
@@ -166,108 +164,6 @@ fn size(word: &str) -> Option<Option<u32>> {
     Some(Some(number(word)?))
 }
 
-fn is_size(size: u32) -> bool
-    ensures { result ≡ is_ring_size size }
-{
-    matches!(
-        size,
-        2 | 4 | 8 | 16 | 32 | 64 | 128 | 256 | 512 | 1024 | 2048
-    )
-}
-
-fn is_ring_size(size: u32) -> bool
-    ensures { IsTrue result → IsRingSize size }
-{
-    is_size(size)
-}
-
-fn has_size(size: Option<u32>) -> bool
-    ensures { IsTrue result → IfSome size IsRingSize }
-{
-    match size {
-        Some(size) => is_ring_size(size),
-        None => true,
-    }
-}
-
-fn count_at(pairs: &[PairInfo], port: u32, queue: u32) -> usize
-    ensures { result ≡ pairs_at pairs.now port queue }
-{
-    pairs
-        .iter()
-        .filter(|pair| pair.port == port && pair.queue == queue)
-        .count()
-}
-
-fn is_bound(ports: u32, queues: u32, pairs: &[PairInfo], socket: &SocketInfo) -> bool
-    ensures { IsTrue result → IsBound ports queues pairs.now socket.now }
-{
-    socket.port < ports
-        && socket.queue < queues
-        && count_at(pairs, socket.port, socket.queue) == 1
-        && (socket.rx.is_some() || socket.tx.is_some())
-        && has_size(socket.rx)
-        && has_size(socket.tx)
-}
-
-fn is_served(sockets: &[SocketInfo], pair: &PairInfo) -> bool
-    ensures { IsTrue result → IsServed sockets.now pair.now }
-{
-    sockets.iter().any(|socket| socket.port == pair.port && socket.queue == pair.queue)
-        && is_ring_size(pair.fill)
-        && is_ring_size(pair.comp)
-}
-
-fn is_map(sockets: usize, map: &[u64]) -> bool
-    ensures { IsTrue result → IsMap sockets map.now }
-{
-    map.len() <= 64 && map.iter().all(|value| *value <= sockets as u64)
-}
-
-fn are_bound(ports: u32, queues: u32, pairs: &[PairInfo], sockets: &[SocketInfo]) -> bool
-    ensures { IsTrue result → All (IsBound ports queues pairs.now) sockets.now }
-{
-    for socket in sockets {
-        if !is_bound(ports, queues, pairs, socket) {
-            return false;
-        }
-    }
-    true
-}
-
-fn are_served(sockets: &[SocketInfo], pairs: &[PairInfo]) -> bool
-    ensures { IsTrue result → All (IsServed sockets.now) pairs.now }
-{
-    for pair in pairs {
-        if !is_served(sockets, pair) {
-            return false;
-        }
-    }
-    true
-}
-
-fn are_maps(sockets: usize, maps: &[Vec<u64>]) -> bool
-    ensures { IsTrue result → All (IsMap sockets) (map vec_items maps.now) }
-{
-    for map in maps {
-        if !is_map(sockets, map.as_slice()) {
-            return false;
-        }
-    }
-    true
-}
-
-/// Whether there are so many ports, queues, sockets, pairs and maps.
-fn has_counts(ports: u32, queues: u32, sockets: usize, pairs: usize, maps: usize) -> bool
-    ensures { IsTrue result → ((ports ≡ 2) ⊎ (ports ≡ 4)) × ((queues ≡ 1) ⊎ (queues ≡ 2) ⊎ (queues ≡ 4)) × (1 ≤ sockets) × (sockets ≤ 64) × (1 ≤ pairs) × (pairs ≤ 64) × (maps ≡ ports) }
-{
-    (ports == 2 || ports == 4)
-        && (queues == 1 || queues == 2 || queues == 4)
-        && (1..=64).contains(&sockets)
-        && (1..=64).contains(&pairs)
-        && maps == ports as usize
-}
-
 /// The configuration with a socket to close, if it is one.
 fn with_closing(config: Config, socket: u32) -> Option<Config>
     ensures { IfSome result (λ closing. closing.geometry ≡ config.geometry) }
@@ -297,20 +193,13 @@ impl Setup {
             closing,
             ..
         } = self;
-        let counts = has_counts(ports, queues, sockets.len(), pairs.len(), cells.len());
-        let bound = are_bound(ports, queues, pairs.as_slice(), sockets.as_slice());
-        let served = are_served(sockets.as_slice(), pairs.as_slice());
-        let maps = are_maps(sockets.len(), cells.as_slice());
-        if !counts {
-            return None;
-        }
-        if !bound {
-            return None;
-        }
-        if !served {
-            return None;
-        }
-        if !maps {
+        if !are_parts(
+            ports,
+            queues,
+            sockets.as_slice(),
+            pairs.as_slice(),
+            cells.as_slice(),
+        ) {
             return None;
         }
         let config = Config::of_parts(geometry, ports, queues, sockets, pairs, cells, sg, wakeup);

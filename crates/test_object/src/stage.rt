@@ -3,8 +3,9 @@ use crate::hand::{Hand, Told};
 use crate::noted::Noted;
 use crate::object::Object;
 use crate::reply::NOT_LEGAL;
+use crate::text::push_all;
 use crate::words::{Move, Thing, Who};
-use std::alloc::Global;
+use std::alloc::{AllocError, Global};
 use std::str;
 use std::string::String;
 use xsk_log::LineBuffer;
@@ -48,8 +49,12 @@ impl Stage {
     }
 
     pub(crate) fn print(&mut self, text: &str) -> Result<(), OutOfMemory> {
-        self.out.push_str(text)?;
-        Ok(self.out.push_str("\n")?)
+        Ok(push_all(&mut self.out, &[text, "\n"])?)
+    }
+
+    /// Prints a line of the script and what is told of it.
+    pub(crate) fn say(&mut self, line: &str, what: &str) -> Result<(), OutOfMemory> {
+        Ok(push_all(&mut self.out, &[line, ": ", what, "\n"])?)
     }
 
     /// The number of a caller.
@@ -61,24 +66,34 @@ impl Stage {
         }
     }
 
-    fn ask_object(&mut self, who: u32, made: Move, things: &[Thing]) -> Result<Told, OutOfMemory> {
+    /// Makes a call on the object, and gives the words of what came of it.
+    fn ask_object(
+        &mut self,
+        who: u32,
+        made: Move,
+        things: &[Thing],
+    ) -> Result<String, OutOfMemory> {
         let call = self
             .hand
             .mine
             .call(self.alloc, &self.hand.known, made, things);
         let asked = self.object.ask(who, call)?;
-        self.hand.mine.settle(self.alloc, &self.hand.known, asked)
+        let told = self.hand.mine.settle(self.alloc, &self.hand.known, asked)?;
+        self.tell_fine(told.fine, "  other frames or bytes")?;
+        Ok(told.words)
     }
 
+    /// Makes it on the table, if there is one, and gives the looks that it took. It is printed where other words came of it.
     fn ask_table(
         &mut self,
         who: u32,
         made: Move,
         things: &[Thing],
         anew: bool,
-    ) -> Result<Option<(Told, u32)>, OutOfMemory> {
+        words: &str,
+    ) -> Result<u32, OutOfMemory> {
         let Some(table) = &mut self.table else {
-            return Ok(None);
+            return Ok(0);
         };
         let call = self
             .hand
@@ -89,7 +104,8 @@ impl Stage {
             .hand
             .theirs
             .settle(self.alloc, &self.hand.known, asked)?;
-        Ok(Some((told, looks)))
+        self.compare(words, &told)?;
+        Ok(looks)
     }
 
     /// Makes a call on both engines. It is printed where they differ, or a frame isn't the right one.
@@ -103,50 +119,35 @@ impl Stage {
         if let Move::Submit(Ring::Rx(_)) = made {
             self.hand.write(things);
         }
-        let told = self.ask_object(who, made, things)?;
-        let found = self.ask_table(who, made, things, anew)?;
-        if !told.fine {
-            self.print("  other frames or bytes")?;
-        }
-        let Told { words, .. } = told;
-        let looks = match found {
-            Some((found, looks)) => {
-                self.compare(words.as_str(), &found)?;
-                looks
-            }
-            None => 0,
-        };
+        let words = self.ask_object(who, made, things)?;
+        let looks = self.ask_table(who, made, things, anew, words.as_str())?;
         Ok(Made { words, looks })
     }
 
+    fn tell_fine(&mut self, fine: bool, otherwise: &str) -> Result<(), OutOfMemory> {
+        if fine {
+            return Ok(());
+        }
+        self.print(otherwise)
+    }
+
     fn compare(&mut self, words: &str, found: &Told) -> Result<(), OutOfMemory> {
-        if !found.fine {
-            self.print("  other frames or bytes on the table")?;
+        self.tell_fine(found.fine, "  other frames or bytes on the table")?;
+        let other = found.words.as_str();
+        if other == words {
+            return Ok(());
         }
-        if found.words.as_str() != words {
-            self.print("  on the table:")?;
-            self.print(found.words.as_str())?;
-        }
-        Ok(())
+        Ok(push_all(&mut self.out, &["  on the table:\n", other, "\n"])?)
     }
 
     /// Prints what came of a call, by the log's line of it.
     pub(crate) fn tell(&mut self, line: &str, who: u32, made: &Made) -> Result<(), OutOfMemory> {
-        if made.words.as_str().starts_with(NOT_LEGAL) {
-            let words = made.words.as_str();
-            let text = format!(in self.alloc; "{line}: {words}")?;
-            return self.print(text.as_str());
+        let words = made.words.as_str();
+        if words.starts_with(NOT_LEGAL) {
+            return self.say(line, words);
         }
         self.keep(who)?;
-        let alloc = self.alloc;
-        let text = last_line(alloc, &self.buffer)?;
-        let looks = if made.looks == 0 { "" } else { " (1 look)" };
-        let whole = format!(in alloc; "{text}{looks}")?;
-        self.print(whole.as_str())?;
-        if made.looks > 1 || !text.as_str().ends_with(made.words.as_str()) {
-            self.print("  another reply or more looks")?;
-        }
-        Ok(())
+        Ok(push_made(&mut self.out, last_line(&self.buffer), made)?)
     }
 
     /// Keeps the line of a call that was made.
@@ -157,10 +158,20 @@ impl Stage {
     }
 }
 
+/// Puts the log's line of a call behind a text.
+fn push_made(text: &mut String, line: &str, made: &Made) -> Result<(), AllocError> {
+    let looks = if made.looks == 0 { "" } else { " (1 look)" };
+    push_all(text, &[line, looks, "\n"])?;
+    if made.looks <= 1 && line.ends_with(made.words.as_str()) {
+        return Ok(());
+    }
+    text.push_str("  another reply or more looks\n")
+}
+
 /// The line that the buffer has, without its line feed.
-fn last_line(alloc: Global, buffer: &LineBuffer) -> Result<String, OutOfMemory> {
+fn last_line(buffer: &LineBuffer) -> &str {
     match str::from_utf8(buffer.bytes()) {
-        Ok(line) => Ok(format!(in alloc; "{}", line.trim_end())?),
-        Err(_) => Ok(format!(in alloc; "no text")?),
+        Ok(line) => line.trim_end(),
+        Err(_) => "no text",
     }
 }

@@ -1,7 +1,7 @@
 //! The lines of a script.
 use crate::words::{Move, Thing, Who, large, mark, number, read_thing, read_who, ring};
 use std::alloc::{AllocError, Global};
-use xsk_model::Mark;
+use xsk_model::{Mark, Ring};
 
 /// A call that is to be made, with its items.
 #[derive(Drop)]
@@ -32,37 +32,51 @@ pub(crate) enum Step {
 /// What a line says, and none where it says nothing.
 pub(crate) fn read(alloc: Global, line: &str) -> Result<Option<Step>, AllocError> {
     let words: Vec<&str> = line.split_whitespace().collect(alloc)?;
-    let Some((name, rest)) = words.as_slice().split_first() else {
+    read_words(alloc, words.as_slice())
+}
+
+fn read_words(alloc: Global, words: &[&str]) -> Result<Option<Step>, AllocError> {
+    let Some((name, rest)) = words.split_first() else {
         return Ok(None);
     };
-    match *name {
-        "passes" => Ok(Some(Step::Passes)),
-        "note" => Ok(note(rest)),
-        "meet" => Ok(meet(rest)),
-        "drawn" => Ok(drawn(rest)),
-        "count" => Ok(counted(rest)),
-        "anew" => call(alloc, rest, true),
-        _ => call(alloc, words.as_slice(), false),
+    if *name == "anew" {
+        return call(alloc, rest, true);
+    }
+    match named(name, rest) {
+        Some(step) => Ok(Some(step)),
+        None => call(alloc, words, false),
     }
 }
 
-fn note(words: &[&str]) -> Option<Step> {
-    let (who, late) = noted(words)?;
-    Some(Step::Note(who, late))
+/// A step that begins with its name.
+fn named(name: &str, words: &[&str]) -> Option<Step> {
+    match name {
+        "passes" => Some(Step::Passes),
+        "note" => noted(words, false),
+        "meet" => noted(words, true),
+        "drawn" => drawn(words),
+        "count" => counted(words),
+        _ => None,
+    }
 }
 
-fn meet(words: &[&str]) -> Option<Step> {
-    let (who, late) = noted(words)?;
-    Some(Step::Meet(who, late))
-}
-
-fn noted(words: &[&str]) -> Option<(Who, bool)> {
+fn noted(words: &[&str], meets: bool) -> Option<Step> {
     let [name, time] = words else {
         return None;
     };
-    match *time {
-        "early" => Some((read_who(name)?, false)),
-        "late" => Some((read_who(name)?, true)),
+    let who = read_who(name)?;
+    let late = is_late(time)?;
+    if meets {
+        Some(Step::Meet(who, late))
+    } else {
+        Some(Step::Note(who, late))
+    }
+}
+
+fn is_late(time: &str) -> Option<bool> {
+    match time {
+        "early" => Some(false),
+        "late" => Some(true),
         _ => None,
     }
 }
@@ -85,18 +99,12 @@ fn call(alloc: Global, words: &[&str], anew: bool) -> Result<Option<Step>, Alloc
     let [name, verb, place, rest @ ..] = words else {
         return Ok(None);
     };
-    let (Some(who), Some(made)) = (read_who(name), made(verb, place, rest)) else {
+    let (Some(who), Some(made)) = (read_who(name), made(verb, place, only(rest))) else {
         return Ok(None);
     };
-    let mut things = Vec::new(alloc);
-    if let Move::Submit(_) = made {
-        for word in rest {
-            match read_thing(word) {
-                Some(thing) => things.push(thing)?,
-                None => return Ok(None),
-            }
-        }
-    }
+    let Some(things) = things_of(alloc, made, rest)? else {
+        return Ok(None);
+    };
     Ok(Some(Step::Call(Plan {
         who,
         made,
@@ -105,22 +113,53 @@ fn call(alloc: Global, words: &[&str], anew: bool) -> Result<Option<Step>, Alloc
     })))
 }
 
-fn made(verb: &str, place: &str, rest: &[&str]) -> Option<Move> {
+/// The items of a call, if each can be read: of a Submit those that its words say, and of any other none.
+fn things_of(alloc: Global, made: Move, words: &[&str]) -> Result<Option<Vec<Thing>>, AllocError> {
+    let mut things = Vec::new(alloc);
+    if let Move::Submit(_) = made {
+        for word in words {
+            let Some(thing) = read_thing(word) else {
+                return Ok(None);
+            };
+            things.push(thing)?;
+        }
+    }
+    Ok(Some(things))
+}
+
+/// A call on a ring or on a mark, with the number behind it where it needs one.
+fn made(verb: &str, place: &str, value: Option<u64>) -> Option<Move> {
+    match ring(place) {
+        Some(ring) => on_ring(verb, ring, value),
+        None => on_mark(verb, mark(place)?, value),
+    }
+}
+
+fn on_ring(verb: &str, ring: Ring, value: Option<u64>) -> Option<Move> {
+    if verb == "submit" {
+        return Some(Move::Submit(ring));
+    }
+    let count = u32::try_from(value?).ok()?;
     match verb {
-        "reserve" => Some(Move::Reserve(ring(place)?, number(only(rest)?)?)),
-        "submit" => Some(Move::Submit(ring(place)?)),
-        "peek" => Some(Move::Peek(ring(place)?, number(only(rest)?)?)),
-        "release" => Some(Move::Release(ring(place)?, number(only(rest)?)?)),
-        "swap" => Some(Move::Swap(mark(place)?, large(only(rest)?)?)),
-        "look" => Some(Move::Look(mark(place)?)),
+        "reserve" => Some(Move::Reserve(ring, count)),
+        "peek" => Some(Move::Peek(ring, count)),
+        "release" => Some(Move::Release(ring, count)),
         _ => None,
     }
 }
 
-/// The word that is left, which is the only one.
-fn only<'a>(words: &[&'a str]) -> Option<&'a str> {
+fn on_mark(verb: &str, mark: Mark, value: Option<u64>) -> Option<Move> {
+    match verb {
+        "swap" => Some(Move::Swap(mark, value?)),
+        "look" => Some(Move::Look(mark)),
+        _ => None,
+    }
+}
+
+/// The number that is left, if it is the only word.
+fn only(words: &[&str]) -> Option<u64> {
     match words {
-        [word] => Some(*word),
+        [word] => large(word),
         _ => None,
     }
 }

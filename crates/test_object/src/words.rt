@@ -36,12 +36,17 @@ pub(crate) enum Move {
     Look(Mark),
 }
 
-pub(crate) fn number(word: &str) -> Option<u32> {
-    word.parse::<u32>().ok()
-}
-
 pub(crate) fn large(word: &str) -> Option<u64> {
     word.parse::<u64>().ok()
+}
+
+pub(crate) fn number(word: &str) -> Option<u32> {
+    u32::try_from(large(word)?).ok()
+}
+
+/// The words before and behind the last sign of a kind.
+fn halves(word: &str, sign: char) -> Option<(&str, &str)> {
+    word.rsplit_once(sign)
 }
 
 /// `d0` is the first driver, and `a0` the first application.
@@ -53,69 +58,64 @@ pub(crate) fn read_who(word: &str) -> Option<Who> {
 }
 
 pub(crate) fn ring(word: &str) -> Option<Ring> {
-    let (kind, rest) = word.split_once('.')?;
-    let number = number(rest)?;
+    let (kind, rest) = halves(word, '.')?;
+    ring_of(kind, number(rest)?)
+}
+
+fn ring_of(kind: &str, index: u32) -> Option<Ring> {
     match kind {
-        "fill" => Some(Ring::Fill(number)),
-        "comp" => Some(Ring::Comp(number)),
-        "rx" => Some(Ring::Rx(number)),
-        "tx" => Some(Ring::Tx(number)),
+        "fill" => Some(Ring::Fill(index)),
+        "comp" => Some(Ring::Comp(index)),
+        "rx" => Some(Ring::Rx(index)),
+        "tx" => Some(Ring::Tx(index)),
         _ => None,
     }
 }
 
 pub(crate) fn mark(word: &str) -> Option<Mark> {
-    let (kind, rest) = word.split_once('.')?;
-    match kind {
-        "need" => flag(rest),
-        "cell" => cell(rest),
-        "kick" => Some(Mark::Kick(number(rest)?)),
-        "rxdone" => Some(Mark::RxDone(number(rest)?)),
-        "gone" => Some(Mark::Gone(number(rest)?)),
-        "txdone" => Some(Mark::TxDone(number(rest)?)),
-        "closing" => Some(Mark::Closing(number(rest)?)),
-        "acked" => Some(Mark::Acked(number(rest)?)),
-        "bounced" => Some(Mark::Bounced(number(rest)?)),
-        _ => None,
+    let (kind, rest) = halves(word, '.')?;
+    let index = number(rest)?;
+    match kind.strip_prefix("cell.") {
+        Some(port) => Some(Mark::Cell(number(port)?, index)),
+        None => mark_of(kind, index),
     }
 }
 
-fn flag(word: &str) -> Option<Mark> {
-    let (kind, rest) = word.split_once('.')?;
+fn mark_of(kind: &str, index: u32) -> Option<Mark> {
     match kind {
-        "fill" => Some(Mark::NeedFill(number(rest)?)),
-        "tx" => Some(Mark::NeedTx(number(rest)?)),
+        "need.fill" => Some(Mark::NeedFill(index)),
+        "need.tx" => Some(Mark::NeedTx(index)),
+        "kick" => Some(Mark::Kick(index)),
+        "rxdone" => Some(Mark::RxDone(index)),
+        "gone" => Some(Mark::Gone(index)),
+        "txdone" => Some(Mark::TxDone(index)),
+        "closing" => Some(Mark::Closing(index)),
+        "acked" => Some(Mark::Acked(index)),
+        "bounced" => Some(Mark::Bounced(index)),
         _ => None,
     }
-}
-
-fn cell(word: &str) -> Option<Mark> {
-    let (port, index) = word.split_once('.')?;
-    Some(Mark::Cell(number(port)?, number(index)?))
 }
 
 /// `256:60:0` is an item in the frame of its address, `3@256:60:0` one in frame 3, and `-@256:60:0` one without a frame.
 pub(crate) fn read_thing(word: &str) -> Option<Thing> {
-    let Some((body, desc)) = word.split_once('@') else {
-        return Some(Thing {
-            body: Body::Addressed,
-            desc: desc_of(word)?,
-        });
+    let (body, desc) = match halves(word, '@') {
+        Some((body, desc)) => (body_of(body)?, desc),
+        None => (Body::Addressed, word),
     };
-    let body = if body == "-" {
-        Body::Without
-    } else {
-        Body::Number(number(body)?)
-    };
-    Some(Thing {
-        body,
-        desc: desc_of(desc)?,
-    })
+    let desc = desc_of(desc)?;
+    Some(Thing { body, desc })
+}
+
+fn body_of(word: &str) -> Option<Body> {
+    if word == "-" {
+        return Some(Body::Without);
+    }
+    Some(Body::Number(number(word)?))
 }
 
 fn desc_of(word: &str) -> Option<XdpDesc> {
-    let (addr, rest) = word.split_once(':')?;
-    let (len, options) = rest.split_once(':')?;
+    let (rest, options) = halves(word, ':')?;
+    let (addr, len) = halves(rest, ':')?;
     Some(XdpDesc {
         addr: large(addr)?,
         len: number(len)?,
