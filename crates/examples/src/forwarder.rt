@@ -28,8 +28,8 @@ pub fn forward_by_hand<R: Print>(rt: &R, alloc: Global, reserves: bool) -> Resul
     let traffic = Traffic::new(alloc, config, packets)?;
     let rule = Rule::Redirect { sockets: 1 };
     let program = XdpProgram::attach(rule, |bytes: &[u8], queue: u32| rule.verdict(bytes, queue));
-    let chain = Chain::of(alloc, program)?;
-    let mut bench = Bench::open(alloc, &traffic, frames, &chain, Wire::Wait, ROOM)?;
+    let mut chain = Chain::of(alloc, program)?;
+    let mut bench = Bench::open(alloc, &traffic, frames, &mut chain, Wire::Wait, ROOM)?;
     if let Err(error) = forward(&mut bench, reserves) {
         println!(rt; "told: {error}")?;
     }

@@ -76,10 +76,19 @@ fn run_under(
         bail!("there is a list for each port");
     }
     let program = XdpProgram::attach(rule, |bytes: &[u8], queue: u32| rule.verdict(bytes, queue));
-    let chain = Chain::of(alloc, program)?;
+    let mut chain = Chain::of(alloc, program)?;
     let lists = lists.as_slice();
     let manner = Manner::plain();
-    Ok(simulate(alloc, config, frames, lists, &chain, Wire::Wait, 0, manner)?)
+    Ok(simulate(
+        alloc,
+        config,
+        frames,
+        lists,
+        &mut chain,
+        Wire::Wait,
+        0,
+        manner,
+    )?)
 }
 
 /// A list of one packet for port 0, and one of none for port 1.
@@ -118,7 +127,7 @@ fn push_numbered(list: &mut PacketList, number: u8) -> Result<()>
 
 fn tell_run<R: Print>(rt: &R, run: Run) -> Result<()> {
     println!(rt; "a run of {} calls", run.log().len())?;
-    tell_all(rt, run.into_sent())
+    tell_all(rt, run.into_sent().into_lists())
 }
 
 fn tell_all<R: Print>(rt: &R, sent: Vec<PacketList>) -> Result<()> {

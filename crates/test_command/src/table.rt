@@ -169,9 +169,11 @@ fn tell_meaning(args: &Args<'_>, table: &[OptionRow], told: &mut String) -> Resu
 /// Tells an option that was said, with its value as the table's kind of it is read.
 fn tell_option(args: &Args<'_>, row: OptionRow, told: &mut String) -> Result<()> {
     let name = row.name;
-    if row.takes == Takes::Number
-        && let Some(number) = args.number(name)
-    {
+    let number = match row.takes {
+        Takes::Number => args.number(name),
+        _ => None,
+    };
+    if let Some(number) = number {
         write!(told, "{name}={number} ")?;
     } else if let Some(text) = args.text(name) {
         write!(told, "{name}={text} ")?;
