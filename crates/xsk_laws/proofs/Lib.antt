@@ -1,4 +1,5 @@
 pub mod Emptied
+pub mod LastCalls
 pub mod Passed
 pub mod Wholes
 pub mod Laid

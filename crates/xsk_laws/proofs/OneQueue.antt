@@ -31,7 +31,7 @@ own_cell c o packet own port =
     ∙ eq-eqb (o + 1) (o + 1) refl
 
 -- of one queue are all packets
-all_of_queue : (queues : ℕ) (ps : List (List ℕ)) → queues ≡ 1 → packets_of_queue queues 0 ps ≡ ps
+pub all_of_queue : (queues : ℕ) (ps : List (List ℕ)) → queues ≡ 1 → packets_of_queue queues 0 ps ≡ ps
 all_of_queue queues [] one = refl
 all_of_queue queues (packet ∷ ps) one =
     ap (λ b. cond b (packet ∷ packets_of_queue queues 0 ps) (packets_of_queue queues 0 ps)) (eq-eqb (packet_queue queues packet) 0 (mod_one (sum (take 12 packet)) queues one))

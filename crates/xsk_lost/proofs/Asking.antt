@@ -20,19 +20,13 @@ use Rattle.xsk_turns.specs.declared.disposal.Disposal.{Disposal}
 use Rattle.xsk_turns.specs.declared.disposal.Disposal.TheVariants.{Delivered, NoFrames, RxFull, TooLong, Missed, Bounced}
 use Rattle.xsk_turns.specs.declared.wire.Wire.{Wire}
 use Rattle.xsk_laws.specs.Lost.{is_lost}
+use Rattle.xsk_laws.proofs.LastCalls.{same_last}
 use Rattle.xsk_lost.specs.Reasons.{frames_given, spare_after, spare_of, IsReason, look_at, WasLost, AreReasoned}
 use Rattle.xsk_lost.proofs.Reasons.{first_dropped, untried_unlost, still_lost, still_reasoned, one_more, one_unlost}
 
 -- the frames after one call more
 spare_told : (l : List Told) (call : Call) (reply : Reply) → spare_of (with_told l call reply) ≡ spare_after (spare_of l) call reply
 spare_told l call reply = fold_push (λ (n : ℕ) (t : Told). spare_after n t.call t.reply) 0 l (record { call = call; reply = reply })
-
--- lists that are the same have the same last element
-same_last : (xs ys : List Told) (x y : Told) → xs ++ x ∷ [] ≡ ys ++ y ∷ [] → x ≡ y
-same_last [] [] x y e = cc
-same_last [] (z ∷ ys) x y e = absurd (omega (arith, ap (λ (l : List Told). length l) e, length-append ys (y ∷ [])))
-same_last (z ∷ xs) [] x y e = absurd (omega (arith, ap (λ (l : List Told). length l) e, length-append xs (x ∷ [])))
-same_last (z ∷ xs) (w ∷ ys) x y e = same_last xs ys x y (let rest : xs ++ x ∷ [] ≡ ys ++ y ∷ [] = cc in rest)
 
 module _ (wire : Wire) (c : Config) (pair : ℕ) (input : List Judged) where
   abbrev pub seat : Seat

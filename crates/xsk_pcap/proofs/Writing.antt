@@ -104,7 +104,7 @@ IsKept-push text counts text' counts' number n old list shown kept writable grow
 
 -- ---- what a list that may be added has
 
-AllByRecursion-last : (P : List ℕ → Type 0) (xs ys : List (List ℕ)) → AllByRecursion P (xs ++ ys) → AllByRecursion P ys
+pub AllByRecursion-last : (P : List ℕ → Type 0) (xs ys : List (List ℕ)) → AllByRecursion P (xs ++ ys) → AllByRecursion P ys
 AllByRecursion-last P [] ys all = all
 AllByRecursion-last P (x ∷ xs) ys all = AllByRecursion-last P xs ys all.1
 

@@ -60,10 +60,6 @@ pub All-first : (P : List ℕ → Type 0) (xs ys : List (List ℕ)) → AllByRec
 All-first P [] ys all = tt
 All-first P (x ∷ xs) ys all = (all.0, All-first P xs ys all.1)
 
-pub All-last : (P : List ℕ → Type 0) (xs ys : List (List ℕ)) → AllByRecursion P (xs ++ ys) → AllByRecursion P ys
-All-last P [] ys all = all
-All-last P (x ∷ xs) ys all = All-last P xs ys all.1
-
 pub length-interfaces : (n : ℕ) → length (concat (replicate n interface_block)) ≡ 20 * n
 length-interfaces zero = refl
 length-interfaces (suc n) = omega (arith, length-append interface_block (concat (replicate n interface_block)), length-interfaces n)

@@ -10,11 +10,12 @@ use Rattle.std.proofs.lemmas.List.Elements.{filter-append}
 use Rattle.byteorder.specs.Endian.{little_bytes, little_number}
 use Rattle.byteorder.specs.Numbers.{little_number-reads_back}
 use Rattle.xsk_pcap.specs.declared.endianness.Endianness.TheVariants.{Little}
+use Rattle.xsk_pcap.proofs.Writing.{AllByRecursion-last}
 use Rattle.xsk_pcapng.specs.Blocks.{total_in, last_in, interface_in, captured_in, packet_in, padded, IsBlock, MayStand, AreBlocks, Arrival, arrivals_of, arrivals_in, packets_at}
 use Rattle.xsk_pcapng.specs.Pcapng.{PassesHeader, lists_of}
 use Rattle.xsk_pcapng.specs.Written.{block_bytes, section_block, interface_block, padding, packet_block, list_blocks, lists_blocks, written_blocks, written, all_packets, IsShort, IsWritable}
 use Rattle.xsk_pcapng.specs.Laws.{WrittenReadsBack}
-use Rattle.xsk_pcapng.proofs.Appending.{All-first, All-last, length-block, padded_few, body_of, length-body}
+use Rattle.xsk_pcapng.proofs.Appending.{All-first, length-block, padded_few, body_of, length-body}
 
 -- ---- a block
 
@@ -102,7 +103,7 @@ lists_are : (ports at interfaces interface k : ℕ) (lists : List (List (List �
 lists_are ports at interfaces interface k [] short below few = tt
 lists_are ports at interfaces interface k (l ∷ ls) short below few =
     list_are ports at interfaces interface k l (lists_blocks (interface + 1) (k + length l) ls) (All-first IsShort l (all_packets ls) short) (omega (arith, below)) (omega (arith, below, few)) (
-    λ place. lists_are ports place interfaces (interface + 1) (k + length l) ls (All-last IsShort l (all_packets ls) short) (omega (arith, below)) few
+    λ place. lists_are ports place interfaces (interface + 1) (k + length l) ls (AllByRecursion-last IsShort l (all_packets ls) short) (omega (arith, below)) few
     )
 
 interface_is_block : IsBlock Little interface_block
@@ -179,7 +180,7 @@ arrivals_in-lists : (interface k : ℕ) (lists : List (List (List ℕ))) → All
 arrivals_in-lists interface k [] short few = refl
 arrivals_in-lists interface k (l ∷ ls) short few =
     arrivals_in-list interface k l (lists_blocks (interface + 1) (k + length l) ls) (All-first IsShort l (all_packets ls) short) (omega (arith, few))
-    ∙ ap (λ (xs : List Arrival). tagged interface l ++ xs) (arrivals_in-lists (interface + 1) (k + length l) ls (All-last IsShort l (all_packets ls) short) (omega (arith, few)))
+    ∙ ap (λ (xs : List Arrival). tagged interface l ++ xs) (arrivals_in-lists (interface + 1) (k + length l) ls (AllByRecursion-last IsShort l (all_packets ls) short) (omega (arith, few)))
 
 arrivals_in-interfaces : (m : ℕ) (more : List (List ℕ)) → arrivals_in Little (replicate m interface_block ++ more) ≡ arrivals_in Little more
 arrivals_in-interfaces zero more = refl

@@ -2,8 +2,9 @@ use Rattle.std.proofs.Common.{◌≡◌, ◌+◌, ◌++◌, length, drop, ap, sy
 use Rattle.std.specs.List.{concat, AllByRecursion}
 use Rattle.std.proofs.lemmas.List.{length-append}
 use Rattle.std.proofs.lemmas.Option.{slice_get_read}
+use Rattle.xsk_pcap.proofs.Writing.{AllByRecursion-last}
 use Rattle.xsk_pcapng.specs.Written.{lists_blocks, packets_of, IsShort}
-use Rattle.xsk_pcapng.proofs.Appending.{all_from, all_from-next, lists-next, room_of-append, All-first, All-last}
+use Rattle.xsk_pcapng.proofs.Appending.{all_from, all_from-next, lists-next, room_of-append, All-first}
 use Rattle.xsk_pcapng.proofs.writing.append_lists.Goals as goal
 
 pub append_packets-requires-clause-short : goal.append_packets-requires-clause-short
@@ -31,7 +32,7 @@ loop-i-preserved c =
           ∙ ap (λ t. t ++ concat (lists_blocks (c.loop-i.i + 1) (c.loop-i.number + length list.packets) (packets_of (drop (c.loop-i.i + 1) lists)))) c.append_packets.ensures.text
           ∙ sym (lists-next c.loop-i.text.items c.loop-i.number c.loop-i.i lists list (slice_get_read lists (length lists) c.loop-i.i list refl (omega (arith, c.loop-i-test.true, c.loop-i.auto.i-end)) c.index-lists-i.is))
           ∙ c.loop-i.invariant.so_far;
-      short = All-last IsShort list.packets later (subst (AllByRecursion IsShort) next c.loop-i.invariant.short);
+      short = AllByRecursion-last IsShort list.packets later (subst (AllByRecursion IsShort) next c.loop-i.invariant.short);
       number = omega (arith, count, ap length next, length-append list.packets later, c.loop-i.invariant.number);
       room = omega (
         arith,
