@@ -16,17 +16,17 @@ impl<'a> Machine<'a> {
 
     /// Begins a turn of a driver that isn't parked.
     #[tactic(auto, using(crate::proofs::Steps::awake_receives, crate::proofs::Steps::awake_looks))]
-    pub(crate) fn begin_awake(&mut self) -> Ask
+    pub(crate) fn begin_awake(&mut self, asked: &mut Ask)
         requires awake { (kept_in self.old).parked ≡ None }
-        ensures gives { Gives self.old self.new result }
-        ensures goes { GoesOnAsk (seat_in self.old) self.new result (again (kept_in self.old)) }
+        ensures gives { Gives self.old self.new asked.new }
+        ensures goes { GoesOnAsk (seat_in self.old) self.new asked.new (again (kept_in self.old)) }
     {
         match self.unacknowledged() {
             Some(socket) => {
                 self.wait = Wait::LookClosing { socket };
-                Ask::Look(Mark::Closing(socket))
+                *asked = Ask::Look(Mark::Closing(socket));
             }
-            None => self.begin_receiving(),
+            None => self.begin_receiving(asked),
         }
     }
 
@@ -44,23 +44,24 @@ impl<'a> Machine<'a> {
     }
 
     /// Goes on by the mark that tells whether the socket is closed.
-    pub(crate) fn learn_closing(&mut self, socket: u32, closed: u64) -> Ask
-        ensures gives { Gives self.old self.new result }
-        ensures goes { GoesOnAsk (seat_in self.old) self.new result (if closed == 1 then ask (kept_in self.old) (Swap (Acked socket) 1) (on_old (λ _. receive (seat_in self.old) (kept_in self.old).coming fresh (with_acked (kept_in self.old)))) else receive (seat_in self.old) (kept_in self.old).coming fresh (kept_in self.old)) }
+    pub(crate) fn learn_closing(&mut self, socket: u32, closed: u64, asked: &mut Ask)
+        ensures gives { Gives self.old self.new asked.new }
+        ensures goes { GoesOnAsk (seat_in self.old) self.new asked.new (if closed == 1 then ask (kept_in self.old) (Swap (Acked socket) 1) (on_old (λ _. receive (seat_in self.old) (kept_in self.old).coming fresh (with_acked (kept_in self.old)))) else receive (seat_in self.old) (kept_in self.old).coming fresh (kept_in self.old)) }
     {
         if closed == 1 {
             self.wait = Wait::TellAcked;
-            return Ask::Swap(Mark::Acked(socket), 1);
+            *asked = Ask::Swap(Mark::Acked(socket), 1);
+        } else {
+            self.begin_receiving(asked);
         }
-        self.begin_receiving()
     }
 
     /// Goes on once it has acknowledged.
-    pub(crate) fn go_on_acknowledged(&mut self) -> Ask
-        ensures gives { Gives self.old self.new result }
-        ensures goes { GoesOnAsk (seat_in self.old) self.new result (receive (seat_in self.old) (kept_in self.old).coming fresh (with_acked (kept_in self.old))) }
+    pub(crate) fn go_on_acknowledged(&mut self, asked: &mut Ask)
+        ensures gives { Gives self.old self.new asked.new }
+        ensures goes { GoesOnAsk (seat_in self.old) self.new asked.new (receive (seat_in self.old) (kept_in self.old).coming fresh (with_acked (kept_in self.old))) }
     {
         self.acked = true;
-        self.begin_receiving()
+        self.begin_receiving(asked);
     }
 }

@@ -3,6 +3,7 @@ ghost use Rattle.std.specs.Prelude.{◌≡◌, ℕ, ◌+◌, List, [], ◌∷◌
 ghost use Rattle.std.specs.List.{slice_index_or};
 ghost use Rattle.std.specs.VecDeque.{deque_capacity};
 ghost use Rattle.xsk_umem.specs.Geometry.{IsGeometry};
+ghost use Rattle.xsk_model.specs.Limits.{most_fragments};
 ghost use Rattle.xsk_model.specs.Packets.{bytes_of};
 ghost use Rattle.xsk_turns.specs.Counted.{capped};
 ghost use Rattle.xsk_turns.specs.Stranded.{items_in};
@@ -34,13 +35,14 @@ impl Model for Finished {
     ghost use Rattle.std.specs.List.{sum};
     ghost use Rattle.std.specs.VecDeque.{deque_capacity};
     ghost use Rattle.xsk_umem.specs.declared.batch.Item.{Item};
+    ghost use Rattle.xsk_model.specs.Limits.{most_fragments};
     ghost use Rattle.xsk_driver.specs.Finished.{cut_by};
 
     ghost Value = { List (List Item) };
 
     ghost view = { λ f. cut_by f.lengths.items f.items.items };
 
-    ghost invariant = { λ f. (sum f.lengths.items ≡ length f.items.items) × All (λ n. n ≤ 18) f.lengths.items
+    ghost invariant = { λ f. (sum f.lengths.items ≡ length f.items.items) × All (λ n. n ≤ most_fragments) f.lengths.items
         × (2304 ≤ deque_capacity f.items) × (128 ≤ deque_capacity f.lengths) };
 }
 
@@ -80,7 +82,7 @@ impl Finished {
     /// Appends a packet of the batch's items and its last one, and leaves the batch empty.
     pub(crate) fn push(&mut self, items: &mut Batch, last: Item)
         requires room { length self.old < 128 }
-        requires few { length items.old < 18 }
+        requires few { length items.old < most_fragments }
         ensures packets { self.new ≡ self.old ++ (items.old ++ last ∷ []) ∷ [] }
         ensures items { items.new ≡ [] }
     {
@@ -135,7 +137,7 @@ fn send(
     items: &mut Batch,
 )
     requires lawful { IsGeometry geometry.now }
-    requires few { count ≤ 18 }
+    requires few { count ≤ most_fragments }
     requires some { count ≤ length queue.old.items }
     requires empty { items.old ≡ [] }
     ensures queue { queue.new.items ≡ drop count queue.old.items }
@@ -188,7 +190,7 @@ fn send_pieces(
     items: &mut Batch,
 )
     requires lawful { IsGeometry geometry.now }
-    requires few { count ≤ 18 }
+    requires few { count ≤ most_fragments }
     requires some { count ≤ length queue.old.items }
     requires empty { items.old ≡ [] }
     requires begun { sending.old.overrun ≡ false → last_length sending.old.list.packets ≡ 0 }

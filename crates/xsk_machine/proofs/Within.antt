@@ -1,5 +1,5 @@
 -- No driver sends more than its port and the paired port received on its queue.
-use Rattle.std.proofs.Common.{◌≡◌, ℕ, ◌+◌, ◌*◌, ◌/◌, ◌<◌, List, [], length, length-append, refl, sym, ap, subst, ◌∙◌, arith}
+use Rattle.std.proofs.Common.{◌≡◌, ℕ, ◌+◌, ◌*◌, ◌/◌, ◌<◌, List, [], length, length-append, sym, ap, subst, ◌∙◌, arith}
 use Rattle.std.specs.List.{concat, slice_index_or}
 use Rattle.std.proofs.lemmas.List.Folds.{concat-append}
 use Rattle.std.proofs.lemmas.Nat.{div-add-mod', div_below, mod_below}

@@ -13,7 +13,7 @@ use xsk_umem::OutOfMemory;
 const KINDS: usize = 9;
 
 /// The figures of one driver. Each stays at its last value, 2^64 - 1.
-#[derive(Clone, Copy, Debug, PartialEq, Eq)]
+#[derive(Clone, Copy)]
 pub struct DriverFigures {
     /// The packets of its input.
     pub packets_in: u64,
@@ -122,7 +122,7 @@ fn kind_of(disposal: Disposal) -> usize
 }
 
 /// The figures of drivers, by their pairs.
-#[derive(Debug, Drop)]
+#[derive(Drop)]
 pub struct FigureList {
     figures: Vec<DriverFigures>,
 }
@@ -185,7 +185,7 @@ impl FigureList {
 }
 
 /// The figures of a whole run.
-#[derive(Debug, Drop)]
+#[derive(Drop)]
 pub struct Figures {
     /// The calls of all workers on the shared object.
     pub calls: u64,

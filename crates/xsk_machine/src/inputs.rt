@@ -13,7 +13,7 @@ use xsk_model::steering::packet_queue;
 use xsk_umem::{OutOfMemory, PacketList};
 
 /// So many packets with so many bytes in all.
-#[derive(Clone, Copy, Debug, PartialEq, Eq)]
+#[derive(Clone, Copy)]
 pub struct Amount {
     pub packets: u32,
     pub bytes: u32,
@@ -32,7 +32,7 @@ impl Amount {
 }
 
 /// For each pair the numbers of its packets in its port's list, in order.
-#[derive(Debug, Drop)]
+#[derive(Drop)]
 pub struct Inputs {
     numbers: Vec<Vec<u32>>,
 }

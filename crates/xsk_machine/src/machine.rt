@@ -34,19 +34,19 @@ pub trait Machine {
     fn settled(&self) -> usize
         ensures { result ≡ has_settled self.now };
 
-    /// Goes on with the answer to the last call (none at first) and gives the next call, or `None` where it has ended. The
+    /// Goes on with the answer to the last call (none at first) and writes the next call, or `None` where it has ended. The
     /// batch has items only where some were taken, and is left with items only for a Submit.
-    fn step(&mut self, answer: Option<Answer>, items: &mut Batch) -> Option<Ask>
+    fn step(&mut self, answer: Option<Answer>, items: &mut Batch, next: &mut Option<Ask>)
         requires comes { CanCome (expected self.old) (joined_answer answer items.old) }
         requires lent { IsLent answer items.old }
-        ensures given_back { IsGivenBack result items.new }
-        ensures expected { expected self.new ≡ expected_of (joined_ask result items.new) }
+        ensures given_back { IsGivenBack next.new items.new }
+        ensures expected { expected self.new ≡ expected_of (joined_ask next.new items.new) }
         ensures begins { (s : Setting) (who : ℕ) → is_new s who self.old → joined_answer answer items.old ≡ None
-            → stands s who self.new (joined_ask result items.new) [] × IsActAfter s who (joined_ask result items.new) [] }
+            → stands s who self.new (joined_ask next.new items.new) [] × IsActAfter s who (joined_ask next.new items.new) [] }
         ensures goes_on { (s : Setting) (who : ℕ) (l : List Told) (call : Call) (r : Reply)
             → stands s who self.old (Calls call) l → joined_answer answer items.old ≡ Some r → MayGive s.config l who call r
-            → stands s who self.new (joined_ask result items.new) (with_told l call r)
-            × IsActAfter s who (joined_ask result items.new) (with_told l call r) };
+            → stands s who self.new (joined_ask next.new items.new) (with_told l call r)
+            × IsActAfter s who (joined_ask next.new items.new) (with_told l call r) };
 }
 
 impl Machine for Driver<'_> {
@@ -64,8 +64,8 @@ impl Machine for Driver<'_> {
     }
 
     #[inline(always)]
-    fn step(&mut self, answer: Option<Answer>, items: &mut Batch) -> Option<Ask> {
-        Driver::step(self, answer, items)
+    fn step(&mut self, answer: Option<Answer>, items: &mut Batch, next: &mut Option<Ask>) {
+        Driver::step(self, answer, items, next);
     }
 }
 
@@ -84,7 +84,7 @@ impl Machine for App<'_> {
     }
 
     #[inline(always)]
-    fn step(&mut self, answer: Option<Answer>, items: &mut Batch) -> Option<Ask> {
-        App::step(self, answer, items)
+    fn step(&mut self, answer: Option<Answer>, items: &mut Batch, next: &mut Option<Ask>) {
+        *next = App::step(self, answer, items);
     }
 }

@@ -39,10 +39,10 @@ impl Machine for AnyWorker<'_> {
     }
 
     #[inline(always)]
-    fn step(&mut self, answer: Option<Answer>, items: &mut Batch) -> Option<Ask> {
+    fn step(&mut self, answer: Option<Answer>, items: &mut Batch, next: &mut Option<Ask>) {
         match self {
-            AnyWorker::Driver(driver) => Machine::step(driver, answer, items),
-            AnyWorker::App(app) => Machine::step(app, answer, items),
+            AnyWorker::Driver(driver) => Machine::step(driver, answer, items, next),
+            AnyWorker::App(app) => Machine::step(app, answer, items, next),
         }
     }
 }

@@ -1,4 +1,4 @@
-use Rattle.std.proofs.Common.{rules, ap, ◌∙◌, flat_map}
+use Rattle.std.proofs.Common.{ap, ◌∙◌, flat_map}
 use Rattle.xsk_turns.specs.Turns.{frames_in}
 use Rattle.xsk_driver.proofs.Giving.{frames_cut}
 use Rattle.xsk_driver.proofs.finished.Finished.into_items.Goals as goal

@@ -9,11 +9,11 @@ pub returns-then-class-self-clause-goes : goal.returns-then-class-self-clause-go
 returns-then-class-self-clause-goes c =
     let m = c.args.self.now in
     let next = look_again (seat_in m) (noted_in m) (kept_in m) in
-    goes_by (seat_in m) c.look_again.new.self c.look_again.result next (flag_from (seat_in m) 1 c.args.class (kept_in m) next)
+    goes_by (seat_in m) c.look_again.new.self c.look_again.new.asked next (flag_from (seat_in m) 1 c.args.class (kept_in m) next)
     (flag_last (seat_in m) 1 c.args.class (kept_in m) next c.if-class-self.true) c.look_again.ensures.goes
 
-pub returns-clause-goes : goal.returns-clause-goes
-returns-clause-goes c =
+pub returns-else-class-self-clause-goes : goal.returns-else-class-self-clause-goes
+returns-else-class-self-clause-goes c =
     let m = c.args.self.now in
     let next = look_again (seat_in m) (noted_in m) (kept_in m) in
     rw c.socket_of.ensures

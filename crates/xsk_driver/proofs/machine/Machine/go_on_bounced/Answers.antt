@@ -25,5 +25,5 @@ pub returns-clause-goes : goal.returns-clause-goes
 returns-clause-goes c =
     let m = c.args.self.now in
     let leaves = c.settle_bounced.ensures.leaves in
-    goes_left m c.settle_bounced.new.self c.transmit.new.self c.transmit.result (moved (noted_in m)) (settled (kept_in m) Bounced)
+    goes_left m c.settle_bounced.new.self c.transmit.new.self c.transmit.new.asked (moved (noted_in m)) (settled (kept_in m) Bounced)
     (record { seat = leaves.seat; notes = leaves.notes; keeps = leaves.keeps }) c.transmit.ensures.goes

@@ -9,11 +9,11 @@ use Rattle.xsk_driver.proofs.machine.Machine.look_tx.Goals as goal
 pub returns-then-class-self-clause-goes : goal.returns-then-class-self-clause-goes
 returns-then-class-self-clause-goes c =
     let m = c.args.self.now in
-    goes_by (seat_in m) c.settle_down.new.self c.settle_down.result (settle (seat_in m) (noted_in m) (kept_in m)) (look_from (seat_in m) c.args.class (noted_in m) (kept_in m))
+    goes_by (seat_in m) c.settle_down.new.self c.settle_down.new.asked (settle (seat_in m) (noted_in m) (kept_in m)) (look_from (seat_in m) c.args.class (noted_in m) (kept_in m))
     (look_last (seat_in m) c.args.class (noted_in m) (kept_in m) c.if-class-self.true) c.settle_down.ensures.goes
 
-pub returns-clause-goes : goal.returns-clause-goes
-returns-clause-goes c =
+pub returns-else-class-self-clause-goes : goal.returns-else-class-self-clause-goes
+returns-else-class-self-clause-goes c =
     let m = c.args.self.now in
-    goes_by (seat_in m) c.peek_tx.new.self c.peek_tx.result (peek_tx (seat_in m) c.args.class (noted_in m) (kept_in m) (after (seat_in m) (Visit Again (c.args.class + 1)))) (look_from (seat_in m) c.args.class (noted_in m) (kept_in m))
+    goes_by (seat_in m) c.peek_tx.new.self c.peek_tx.new.asked (peek_tx (seat_in m) c.args.class (noted_in m) (kept_in m) (after (seat_in m) (Visit Again (c.args.class + 1)))) (look_from (seat_in m) c.args.class (noted_in m) (kept_in m))
     (look_here (seat_in m) c.args.class (noted_in m) (kept_in m) (omega (arith, c.if-class-self.false, c.requires.looked.within))) c.peek_tx.ensures.goes

@@ -1,5 +1,5 @@
 use Rattle.std.proofs.Common.{◌≡◌, [], replicate}
-use Rattle.xsk_driver.proofs.driver.empty_groups.Given as goal
+use Rattle.xsk_driver.proofs.rooms.empty_groups.Given as goal
 
 abbrev pub invariant-loop : goal.invariant-loop
 invariant-loop l = l.groups.items ≡ replicate l.counter []
