@@ -23,7 +23,8 @@ use Rattle.xsk_log.specs.Notes.{Notes}
 use Rattle.xsk_plain.specs.Kept.{IsKept, AreKept, AllKept}
 use Rattle.xsk_model.specs.Sizes.{sizes_of}
 use Rattle.xsk_plain.specs.Stores.{stored_item_of, home_stored, part_of, parts_of, size_in, sizes_in, IsBlank, Has}
-use Rattle.xsk_plain.proofs.StoreSteps.{part_has, size_at}
+use Rattle.xsk_model.specs.Rings.{places_of}
+use Rattle.xsk_plain.proofs.StoreSteps.{part_has, size_at, length-sizes_of}
 
 -- ---- pools
 
@@ -83,6 +84,16 @@ fill_step g before after all rest k size frame item h is next step = record {
 }
 
 -- ---- rings
+
+-- the sizes of the rings that are opened, one by one
+pub sizes_step : (c : Config) (now next : List ℕ) (k size : ℕ) → next ≡ now ++ size ∷ [] → now ≡ take k (sizes_of c) → k < places_of c → size ≡ get_or (sizes_of c) k 0
+    → next ≡ take (k + 1) (sizes_of c)
+sizes_step c now next k size added is within here =
+    added ∙ ap (λ ns. ns ++ size ∷ []) is ∙ ap (λ n. take k (sizes_of c) ++ n ∷ []) here
+    ∙ sym (take_more (sizes_of c) k 0 (omega (arith, within, length-sizes_of c)))
+
+pub sizes_all : (c : Config) (now : List ℕ) (k : ℕ) → now ≡ take k (sizes_of c) → places_of c ≤ k → now ≡ sizes_of c
+sizes_all c now k is all = is ∙ take_all k (sizes_of c) (omega (arith, all, length-sizes_of c))
 
 home_rings-at : (g : Geometry) (pool pairs : ℕ) (frames : List Frame) (k : ℕ) → k < pairs
     → get_or (home_rings g pool pairs frames) k empty_ring ≡ home_ring g (take pool (drop (k * pool) frames))

@@ -7,6 +7,7 @@ use Rattle.std.proofs.lemmas.Bool.Decides.{nat_tests}
 use Rattle.xsk_model.specs.Config.{Config, HasRing, size_of, socket_at}
 use Rattle.xsk_model.specs.Rings.{place, places_of}
 use Rattle.xsk_model.specs.declared.config.PairInfo.{PairInfo}
+use Rattle.xsk_model.specs.declared.config.SocketInfo.{SocketInfo}
 use Rattle.xsk_model.specs.declared.call.Ring.{Ring}
 use Rattle.xsk_model.specs.declared.call.Ring.TheVariants.{Fill, Comp, Rx, Tx}
 use Rattle.xsk_model.specs.declared.call.Call.{Call}
@@ -39,9 +40,6 @@ length-sizes_of c =
 pub length-rings : (c : Config) (rings : List RingStore) → sizes_in rings ≡ sizes_of c → length rings ≡ places_of c
 length-rings c rings sizes = sym (length-map rings size_in) ∙ ap length sizes ∙ length-sizes_of c
 
-no_pair : PairInfo
-no_pair = record { port = 0; queue = 0; fill = 0; comp = 0 }
-
 pub size_at : (c : Config) (r : Ring) → HasRing c r → get_or (sizes_of c) (place c r) 0 ≡ size_of c r
 size_at c (Fill d) h =
     in_first (map fill_size c.pairs) (map comp_size c.pairs) (map rx_size c.sockets) (map tx_size c.sockets) d (omega (arith, h, length-map c.pairs fill_size))
@@ -58,6 +56,20 @@ size_at c (Tx s) h =
     in_fourth (map fill_size c.pairs) (map comp_size c.pairs) (map rx_size c.sockets) (map tx_size c.sockets) (2 * length c.pairs + length c.sockets + s) s
     (omega (arith, length-map c.pairs fill_size, length-map c.pairs comp_size, length-map c.sockets rx_size))
     ∙ get_or-map tx_size c.sockets s (socket_at [] s) 0 h.0
+
+-- what a socket tells of it
+module _ (c : Config) where
+  pub rx_at : (p i : ℕ) (d : SocketInfo) → p ≡ 2 * length c.pairs + i → i < length c.sockets → rx_size (get_or c.sockets i d) ≡ get_or (sizes_of c) p 0
+  rx_at p i d at h =
+      sym (get_or-map rx_size c.sockets i d 0 h)
+      ∙ sym (in_third (map fill_size c.pairs) (map comp_size c.pairs) (map rx_size c.sockets) (map tx_size c.sockets) p i
+      (omega (arith, h, length-map c.sockets rx_size)) (omega (arith, at, length-map c.pairs fill_size, length-map c.pairs comp_size)))
+
+  pub tx_at : (p i : ℕ) (d : SocketInfo) → p ≡ 2 * length c.pairs + length c.sockets + i → i < length c.sockets → tx_size (get_or c.sockets i d) ≡ get_or (sizes_of c) p 0
+  tx_at p i d at h =
+      sym (get_or-map tx_size c.sockets i d 0 h)
+      ∙ sym (in_fourth (map fill_size c.pairs) (map comp_size c.pairs) (map rx_size c.sockets) (map tx_size c.sockets) p i
+      (omega (arith, at, length-map c.pairs fill_size, length-map c.pairs comp_size, length-map c.sockets rx_size)))
 
 -- ---- one store among all
 

@@ -11,7 +11,7 @@ use xsk_umem::{Batch, Frames, OutOfMemory};
 /// The object on one thread, which knows of each caller which of its calls are legal. Its calls were all legal, so its log
 /// is one history from the opening. What it keeps for this costs time at each call: where legality is proved, `Plain` is
 /// the engine to take.
-#[derive(Debug, Drop)]
+#[derive(Drop)]
 pub struct Checked {
     plain: Plain,
     /// By caller.

@@ -15,7 +15,7 @@ use xsk_model::{Call, Config, Mark, Ring};
 use xsk_umem::{Batch, Frames, MOST_ITEMS};
 
 /// The rings and the marks of a configuration, by place.
-#[derive(Debug, Drop)]
+#[derive(Drop)]
 pub(crate) struct Object {
     pub(crate) config: Config,
     pub(crate) rings: Vec<RingStore>,

@@ -1,5 +1,6 @@
 //! Empty rings and first marks of a configuration.
 ghost use Rattle.std.specs.Prelude.{◌≡◌, ◌+◌, ◌*◌, ◌<◌, ◌≤◌, ℕ, List, [], ◌∷◌, ◌++◌, length, replicate, take, drop, map, vec_len, All, IfOk, OnOk};
+ghost use Rattle.std.specs.List.{slice_index_or};
 ghost use Rattle.xsk_umem.specs.Geometry.{IsGeometry};
 ghost use Rattle.xsk_model.specs.Config.{IsLawful, map_of};
 ghost use Rattle.xsk_model.specs.Marks.{mark_places_of};
@@ -7,13 +8,14 @@ ghost use Rattle.xsk_model.specs.Opening.{AreFrames, opening, opening_cells};
 ghost use Rattle.xsk_plain.specs.Engine.{seen};
 ghost use Rattle.xsk_plain.specs.Kept.{AllKept};
 ghost use Rattle.xsk_log.specs.Notes.{Notes};
-ghost use Rattle.xsk_model.specs.Sizes.{sizes_of, fill_size, comp_size, rx_size, tx_size};
+ghost use Rattle.xsk_model.specs.Rings.{places_of};
+ghost use Rattle.xsk_model.specs.Sizes.{sizes_of};
 ghost use Rattle.xsk_plain.specs.Stores.{IsBlank, Has, home_stored, parts_of, sizes_in};
 
 use crate::ring_store::RingStore;
 use std::alloc::Global;
 use xsk_model::placement::{CELLS, first_cell, ring_places};
-use xsk_model::{Config, PairInfo, SocketInfo, home_item};
+use xsk_model::{Config, home_item};
 use xsk_umem::{Frames, Geometry, OutOfMemory};
 
 /// All rings of the configuration by place, with nothing in them.
@@ -21,72 +23,32 @@ pub(crate) fn open_rings(alloc: Global, config: &Config) -> Result<Vec<RingStore
     ensures sizes { IfOk result (λ rings. sizes_in rings.items ≡ sizes_of config.now) }
     ensures blank { IfOk result (λ rings. All IsBlank rings.items) }
 {
-    let mut rings = Vec::with_capacity(alloc, ring_places(config))?;
-    add_fill_rings(alloc, &mut rings, config.pairs())?;
-    add_comp_rings(alloc, &mut rings, config.pairs())?;
-    add_rx_rings(alloc, &mut rings, config.sockets())?;
-    add_tx_rings(alloc, &mut rings, config.sockets())?;
+    let places = ring_places(config);
+    let mut rings = Vec::with_capacity(alloc, places)?;
+    for place in 0..places {
+        add_ring(alloc, &mut rings, size_at(config, place))?;
+    }
     Ok(rings)
 }
 
-fn add_fill_rings(
-    alloc: Global,
-    rings: &mut Vec<RingStore>,
-    pairs: &[PairInfo],
-) -> Result<(), OutOfMemory>
-    requires blank { All IsBlank rings.old.items }
-    ensures sizes { OnOk result (sizes_in rings.new.items ≡ sizes_in rings.old.items ++ map fill_size pairs.now) }
-    ensures blank { OnOk result (All IsBlank rings.new.items) }
+/// The size of the ring at a place, and 0 for one that its socket lacks.
+fn size_at(config: &Config, place: usize) -> u32
+    requires { place < places_of config.now }
+    ensures { result ≡ slice_index_or (sizes_of config.now) place 0 }
 {
-    for pair in pairs {
-        add_ring(alloc, rings, pair.fill)?;
+    let pairs = config.pairs();
+    let sockets = config.sockets();
+    if place < pairs.len() {
+        pairs[place].fill
+    } else if place < 2 * pairs.len() {
+        pairs[place - pairs.len()].comp
+    } else if place < 2 * pairs.len() + sockets.len() {
+        sockets[place - 2 * pairs.len()].rx.unwrap_or(0)
+    } else {
+        sockets[place - 2 * pairs.len() - sockets.len()]
+            .tx
+            .unwrap_or(0)
     }
-    Ok(())
-}
-
-fn add_comp_rings(
-    alloc: Global,
-    rings: &mut Vec<RingStore>,
-    pairs: &[PairInfo],
-) -> Result<(), OutOfMemory>
-    requires blank { All IsBlank rings.old.items }
-    ensures sizes { OnOk result (sizes_in rings.new.items ≡ sizes_in rings.old.items ++ map comp_size pairs.now) }
-    ensures blank { OnOk result (All IsBlank rings.new.items) }
-{
-    for pair in pairs {
-        add_ring(alloc, rings, pair.comp)?;
-    }
-    Ok(())
-}
-
-fn add_rx_rings(
-    alloc: Global,
-    rings: &mut Vec<RingStore>,
-    sockets: &[SocketInfo],
-) -> Result<(), OutOfMemory>
-    requires blank { All IsBlank rings.old.items }
-    ensures sizes { OnOk result (sizes_in rings.new.items ≡ sizes_in rings.old.items ++ map rx_size sockets.now) }
-    ensures blank { OnOk result (All IsBlank rings.new.items) }
-{
-    for socket in sockets {
-        add_ring(alloc, rings, socket.rx.unwrap_or(0))?;
-    }
-    Ok(())
-}
-
-fn add_tx_rings(
-    alloc: Global,
-    rings: &mut Vec<RingStore>,
-    sockets: &[SocketInfo],
-) -> Result<(), OutOfMemory>
-    requires blank { All IsBlank rings.old.items }
-    ensures sizes { OnOk result (sizes_in rings.new.items ≡ sizes_in rings.old.items ++ map tx_size sockets.now) }
-    ensures blank { OnOk result (All IsBlank rings.new.items) }
-{
-    for socket in sockets {
-        add_ring(alloc, rings, socket.tx.unwrap_or(0))?;
-    }
-    Ok(())
 }
 
 fn add_ring(alloc: Global, rings: &mut Vec<RingStore>, size: u32) -> Result<(), OutOfMemory>

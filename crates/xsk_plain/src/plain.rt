@@ -35,7 +35,7 @@ pub struct OpenRefused {
 }
 
 /// The object on one thread.
-#[derive(Debug, Drop)]
+#[derive(Drop)]
 pub struct Plain {
     object: Object,
     log: Log,

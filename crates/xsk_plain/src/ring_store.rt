@@ -8,7 +8,7 @@ use xsk_log::{Extent, Piece};
 use xsk_umem::{Item, OutOfMemory};
 
 /// An item that stands in a ring, and where the log has its payload.
-#[derive(Debug, Drop)]
+#[derive(Drop)]
 pub(crate) struct Stored {
     pub(crate) item: Item,
     pub(crate) payload: Extent,
@@ -34,7 +34,7 @@ impl Stored {
 
 /// One ring: the items that were submitted and not peeked, and how many places are peeked and not released, and
 /// reserved and not filled.
-#[derive(Debug, Drop)]
+#[derive(Drop)]
 pub(crate) struct RingStore {
     pub(crate) out: VecDeque<Stored>,
     pub(crate) held: u32,
@@ -69,6 +69,14 @@ impl RingStore {
         self.out.len() as u32
     }
 
+    /// The places that are neither reserved nor held and have no item.
+    #[inline(always)]
+    fn free(&self) -> u32
+        ensures { result ≡ free_in self.now.size (part_of self.now) }
+    {
+        self.size - self.len() - self.held - self.room
+    }
+
     /// Reserves so many places, or tells how many are free where they are fewer.
     pub(crate) fn reserve(&mut self, count: u32) -> Result<(), u32>
         ensures granted { IsOk result ↔ (count ≤ free_in self.old.size (part_of self.old)) }
@@ -76,7 +84,7 @@ impl RingStore {
         ensures ok { OnOk result (Has self.new self.old.out.items self.old.held (self.old.room + count) self.old.size) }
         ensures err { OnErr result (Has self.new self.old.out.items self.old.held self.old.room self.old.size) }
     {
-        let free = self.size - self.len() - self.held - self.room;
+        let free = self.free();
         if count > free {
             return Err(free);
         }
@@ -119,9 +127,13 @@ impl RingStore {
         ensures first { IfSome result (λ stored. self.old.out.items ≡ stored ∷ self.new.out.items) }
         ensures some { IfSome result (λ _. Has self.new self.new.out.items (self.old.held + 1) self.old.room self.old.size) }
     {
-        let stored = self.out.pop_front()?;
-        self.held += 1;
-        Some(stored)
+        match self.out.pop_front() {
+            Some(stored) => {
+                self.held += 1;
+                Some(stored)
+            }
+            None => None,
+        }
     }
 
     /// Takes the first item and frees its place.

@@ -8,6 +8,22 @@ use Rattle.xsk_plain.specs.Stores.{parts_of}
 use Rattle.xsk_plain.proofs.Follows.{follows, reply_empty, reply_items}
 use Rattle.xsk_plain.proofs.plain.Plain.peek.Goals as goal
 
+pub invariant_of-self : goal.invariant_of-self
+invariant_of-self c = record {
+  noted = c.enter.ensures.noted;
+  kept = rw (c.peek.ensures.changes.config, c.enter.ensures.notes) c.peek.ensures.kept;
+  home = c.self.invariant.home;
+  limit = rw c.peek.ensures.changes.config c.self.invariant.limit;
+}
+
+pub invariant_of-self-else-is_empty : goal.invariant_of-self-else-is_empty
+invariant_of-self-else-is_empty c = record {
+  noted = c.enter-else-is_empty.ensures.noted;
+  kept = rw (c.peek.ensures.changes.config, c.enter-else-is_empty.ensures.notes) c.peek.ensures.kept;
+  home = c.self.invariant.home;
+  limit = rw c.peek.ensures.changes.config c.self.invariant.limit;
+}
+
 pub returns-then-is_empty-clause-follows : goal.returns-then-is_empty-clause-follows
 returns-then-is_empty-clause-follows c =
     subst (λ (old : Engine). FollowsObject old (engine_of (record { object = c.peek.new.self; log = c.enter.new.self; home = c.self.inside.home })) c.args.who (Peek c.args.ring c.args.count) Empty) c.self.view_is
