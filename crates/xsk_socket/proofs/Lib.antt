@@ -1,5 +1,6 @@
 pub mod Accepted
 pub mod AllFrames
+pub mod Counts
 pub mod Numbered
 pub mod Outcomes
 pub mod Refused

@@ -1,5 +1,5 @@
 -- The regular configuration of a layout is a configuration, and it is regular.
-use Rattle.std.proofs.Common.{◌≡◌, ℕ, suc, ◌+◌, ◌*◌, ◌/◌, ◌%◌, ◌<◌, ◌≤◌, ◌⊎◌, ◌&&◌, eqb, true, length, refl, sym, ap, ◌∙◌, subst, inl, inr, arith, Bool, []}
+use Rattle.std.proofs.Common.{◌≡◌, ℕ, suc, ◌+◌, ◌*◌, ◌/◌, ◌%◌, ◌<◌, ◌≤◌, ◌&&◌, eqb, true, length, refl, sym, ap, ◌∙◌, subst, inl, inr, arith, Bool, []}
 use Rattle.std.specs.Prelude.{EachIndex, IfSome, None, Option, Some}
 use Rattle.std.proofs.lemmas.Bool.{and_parts, cases_Bool, cases_eq, eq-eqb, eqb-true}
 use Rattle.std.proofs.Math.Nat.{div-lt_iff_lt-mul, mul-div_cancel, mul-div_cancel_left, mul-lt-mul_of_pos_right, mul-le-mul_right, mul_assoc, mul-zero, div-add-mod'}
@@ -9,33 +9,10 @@ use Rattle.xsk_socket.specs.declared.layout.Layout.{Layout}
 use Rattle.xsk_socket.specs.Fits.{Fits, IsCount}
 use Rattle.xsk_socket.specs.Layout.{cells_in, pairs_in, sockets_in}
 use Rattle.xsk_socket.specs.Regular.{cell_in, is_left_empty, map_in, numbered, pair_in, regular_of, socket_in}
+use Rattle.xsk_socket.proofs.Counts.{few, few_ports, product_few, product_some, some, some_ports}
 use Rattle.xsk_socket.proofs.Numbered.{all_numbered, count_one, get_or-numbered, length-numbered}
 
 -- ---- numbers
-
-some : (n : ℕ) → IsCount n → 0 < n
-some n (inl is) = omega arith
-some n (inr (inl is)) = omega arith
-some n (inr (inr is)) = omega arith
-
-few : (n : ℕ) → IsCount n → n ≤ 4
-few n (inl is) = omega arith
-few n (inr (inl is)) = omega arith
-few n (inr (inr is)) = omega arith
-
-some_ports : (n : ℕ) → (n ≡ 2) ⊎ (n ≡ 4) → 0 < n
-some_ports n (inl is) = omega arith
-some_ports n (inr is) = omega arith
-
-few_ports : (n : ℕ) → (n ≡ 2) ⊎ (n ≡ 4) → n ≤ 4
-few_ports n (inl is) = omega arith
-few_ports n (inr is) = omega arith
-
-product_some : (m n : ℕ) → 0 < m → 0 < n → 0 < m * n
-product_some m n some_m some_n = grind arith
-
-product_few : (m n a b : ℕ) → m ≤ a → n ≤ b → m * n ≤ a * b
-product_few m n a b h k = grind arith
 
 below_div : (s k n : ℕ) → 0 < k → s < n * k → s / k < n
 below_div s k n some_k within = (div-lt_iff_lt-mul {k = k} {x = s} {y = n} some_k).1 within

@@ -1,8 +1,8 @@
 //! What a command can ask for, and why it is refused.
-ghost use Rattle.std.specs.Prelude.{◌≡◌, None, Some, OnOk, if◌then◌else◌};
+ghost use Rattle.std.specs.Prelude.{◌≡◌, ◌<◌, ◌≤◌, None, Some, OnOk, if◌then◌else◌};
 ghost use Rattle.std.specs.Result.{result_err};
 ghost use Rattle.xsk_socket.specs.Fits.{HasCounts};
-ghost use Rattle.xsk_socket.specs.Layout.{cells_in, fault_of, first_unmet, is_count, is_port_count, is_ring_size, on_close, on_counts, on_empty, on_rings, on_umem, sockets_in};
+ghost use Rattle.xsk_socket.specs.Layout.{cells_in, fault_of, first_unmet, is_count, is_port_count, is_ring_size, on_close, on_counts, on_empty, on_rings, on_umem, pairs_in, sockets_in};
 
 use thiserror::Error;
 use xsk_umem::{MOST_FRAMES, RESERVED};
@@ -165,7 +165,7 @@ fn check_umem(layout: &Layout) -> Result<(), Unlawful>
     let has_data = layout.headroom < layout.chunk - RESERVED;
     unless(has_data, Unlawful::Headroom(layout.headroom))?;
     let frames = layout.frames;
-    let left = frames % (layout.ports * layout.queues);
+    let left = frames % pairs_of(layout);
     let divided = 0 < frames && frames <= MOST_FRAMES && left == 0;
     unless(divided, Unlawful::Frames(frames))
 }
@@ -178,7 +178,7 @@ fn check_rings(layout: &Layout) -> Result<(), Unlawful>
     unless(is_ring_size(layout.tx), Unlawful::Tx(layout.tx))?;
     unless(is_ring_size(layout.fill), Unlawful::Fill(layout.fill))?;
     unless(is_ring_size(layout.comp), Unlawful::Comp(layout.comp))?;
-    let pool = layout.frames / (layout.ports * layout.queues);
+    let pool = layout.frames / pairs_of(layout);
     unless(pool <= layout.fill, Unlawful::Pool(pool))
 }
 
@@ -189,7 +189,7 @@ fn check_empty(layout: &Layout) -> Result<(), Unlawful>
     let Some(cell) = layout.empty else {
         return Ok(());
     };
-    unless(cell < layout.queues * layout.sockets, Unlawful::Empty(cell))
+    unless(cell < cells_of(layout), Unlawful::Empty(cell))
 }
 
 fn check_close(layout: &Layout) -> Result<(), Unlawful>
@@ -199,8 +199,35 @@ fn check_close(layout: &Layout) -> Result<(), Unlawful>
     let Some(socket) = layout.close else {
         return Ok(());
     };
-    let sockets = layout.ports * layout.queues * layout.sockets;
-    unless(socket < sockets, Unlawful::Close(socket))
+    unless(socket < sockets_of(layout), Unlawful::Close(socket))
+}
+
+/// The pairs of all ports.
+pub(crate) fn pairs_of(layout: &Layout) -> u32
+    requires { HasCounts layout.now }
+    ensures value { result ≡ pairs_in layout.now }
+    ensures some { 0 < result }
+    ensures few { result ≤ 16 }
+{
+    layout.ports * layout.queues
+}
+
+/// The cells of a port's XSKMAP.
+pub(crate) fn cells_of(layout: &Layout) -> u32
+    requires { HasCounts layout.now }
+    ensures value { result ≡ cells_in layout.now }
+    ensures few { result ≤ 16 }
+{
+    layout.queues * layout.sockets
+}
+
+/// The sockets of all ports.
+pub(crate) fn sockets_of(layout: &Layout) -> u32
+    requires { HasCounts layout.now }
+    ensures value { result ≡ sockets_in layout.now }
+    ensures few { result ≤ 64 }
+{
+    pairs_of(layout) * layout.sockets
 }
 
 /// The refusal, unless the condition holds.

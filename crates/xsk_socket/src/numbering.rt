@@ -7,6 +7,7 @@ ghost use Rattle.xsk_socket.specs.Layout.{cells_in, fault_of, geometry_of, pairs
 ghost use Rattle.xsk_socket.specs.Regular.{cell_in, map_in, numbered, pair_in, regular_of, socket_in};
 
 use crate::Layout;
+use crate::layout::{cells_of, pairs_of, sockets_of};
 use std::alloc::{AllocError, Global};
 use xsk_model::{Config, PairInfo, SocketInfo};
 use xsk_umem::{Geometry, OutOfMemory};
@@ -51,13 +52,12 @@ fn closing(config: Config, socket: Option<u32>) -> Config
     config
 }
 
-#[tactic(auto, using(crate::proofs::Numbered::numbered_more))]
 fn number_pairs(alloc: Global, layout: &Layout) -> Result<Vec<PairInfo>, AllocError>
     requires { Fits layout.now }
     ensures { IfOk result (λ pairs. pairs.items ≡ numbered (pairs_in layout.now) (pair_in layout.now)) }
 {
     let mut pairs = Vec::new(alloc);
-    for number in 0..layout.ports * layout.queues {
+    for number in 0..pairs_of(layout) {
         pairs.push(PairInfo {
             port: number / layout.queues,
             queue: number % layout.queues,
@@ -68,13 +68,12 @@ fn number_pairs(alloc: Global, layout: &Layout) -> Result<Vec<PairInfo>, AllocEr
     Ok(pairs)
 }
 
-#[tactic(auto, using(crate::proofs::Numbered::numbered_more))]
 fn number_sockets(alloc: Global, layout: &Layout) -> Result<Vec<SocketInfo>, AllocError>
     requires { Fits layout.now }
     ensures { IfOk result (λ sockets. sockets.items ≡ numbered (pairs_in layout.now * layout.now.sockets) (socket_in layout.now)) }
 {
     let mut sockets = Vec::new(alloc);
-    for number in 0..layout.ports * layout.queues * layout.sockets {
+    for number in 0..sockets_of(layout) {
         let pair = number / layout.sockets;
         sockets.push(SocketInfo {
             port: pair / layout.queues,
@@ -86,7 +85,6 @@ fn number_sockets(alloc: Global, layout: &Layout) -> Result<Vec<SocketInfo>, All
     Ok(sockets)
 }
 
-#[tactic(auto, using(crate::proofs::Numbered::numbered_more))]
 fn number_maps(alloc: Global, layout: &Layout) -> Result<Vec<Vec<u64>>, AllocError>
     requires { Fits layout.now }
     ensures { IfOk result (λ maps. map vec_items maps.items ≡ numbered layout.now.ports (map_in layout.now)) }
@@ -98,14 +96,13 @@ fn number_maps(alloc: Global, layout: &Layout) -> Result<Vec<Vec<u64>>, AllocErr
     Ok(maps)
 }
 
-#[tactic(auto, using(crate::proofs::Numbered::numbered_more))]
 fn number_cells(alloc: Global, layout: &Layout, port: u32) -> Result<Vec<u64>, AllocError>
     requires fits { Fits layout.now }
     requires port { port < layout.now.ports }
     ensures { IfOk result (λ map. map.items ≡ map_in layout.now port) }
 {
     let mut map = Vec::new(alloc);
-    for index in 0..layout.queues * layout.sockets {
+    for index in 0..cells_of(layout) {
         map.push(cell(layout, port, index))?;
     }
     Ok(map)
@@ -121,5 +118,5 @@ fn cell(layout: &Layout, port: u32, index: u32) -> u64
     if layout.empty == Some(index) {
         return 0;
     }
-    u64::from(port * layout.queues * layout.sockets + index + 1)
+    u64::from(port * cells_of(layout) + index + 1)
 }

@@ -1,4 +1,4 @@
-use Rattle.std.proofs.Common.{rules, ◌≡◌, ◌∙◌, map, [], ◌∷◌, ◌++◌, sym, ap, ap₂}
+use Rattle.std.proofs.Common.{◌∙◌, map, [], ◌∷◌, ◌++◌, sym, ap, ap₂}
 use Rattle.std.specs.Vec.{vec_items}
 use Rattle.std.proofs.lemmas.List.{map-append}
 use Rattle.xsk_socket.specs.Regular.{map_in}
@@ -10,8 +10,7 @@ loop-port-preserved c =
     let l = c.args.layout.now in
     let old = c.loop-port.maps.items in
     let new = c.in_ok-number_cells.field-0 in
-    let pushed : c.push.new.self.items ≡ old ++ new ∷ [] = search rules in
-    ap (map vec_items) pushed
+    ap (map vec_items) c.in_ok-push.ensures.items
     ∙ map-append vec_items old (new ∷ [])
     ∙ ap₂ (λ maps one. maps ++ one ∷ []) c.loop-port.invariant c.in_ok-number_cells.ensures
     ∙ sym (numbered_more c.loop-port.port (map_in l))
