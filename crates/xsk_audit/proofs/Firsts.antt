@@ -128,9 +128,6 @@ told-at pairs (line ∷ made) (x ∷ h) e rest told =
       tells = next.tells;
     }
 
-first-of : {A : Type 0} (x y : A) (xs ys : List A) → x ∷ xs ≡ y ∷ ys → x ≡ y
-first-of x y xs ys e = cc
-
 -- ---- the line after those that are the same
 
 module _ (c : Config) (frames fresh : List Frame) (h : List Entry) (front : List Timed) (last : Timed) (history : IsHistory c frames h) (legal : IsHistory c fresh (entries front ++ last.entry ∷ [])) where
@@ -208,7 +205,9 @@ module _ (c : Config) (frames fresh : List Frame) (h : List Entry) (lines : List
         let t = told-at (length c.pairs) made.made (entries again.again) e rest (subst (AreTold (length c.pairs) made.made) split_is made.told) in
         let cut : t.front ++ (t.line ∷ (t.later ++ made.left)) ≡ map (journal_line (length c.pairs)) timed ++ line ∷ left =
         sym (append_assoc t.front (t.line ∷ t.later) made.left) ∙ ap (λ (l : List (List ℕ)). l ++ made.left) (sym t.is) ∙ sym made.lines_are ∙ lines_are in
-        let here : t.line ≡ line = first-of t.line line (t.later ++ made.left) left (same-cut t.front (map (journal_line (length c.pairs)) timed) (t.line ∷ (t.later ++ made.left)) (line ∷ left) cut (t.count ∙ again-length)) in
+        let here : t.line ≡ line = (
+        let same-rest = same-cut t.front (map (journal_line (length c.pairs)) timed) (t.line ∷ (t.later ++ made.left)) (line ∷ left) cut (t.count ∙ again-length) in cc
+        ) in
         let texts : line_of (length c.pairs) e ≡ line_of (length c.pairs) last.entry =
         none-missed c frames fresh h front last history legal (entries again.again) e rest line split_is same.alike rounds.2 is (subst (λ (l : List ℕ). Tells (length c.pairs) l e) here t.tells) in
         let text : journal_line (length c.pairs) last ≡ journal_line (length c.pairs) (record { round = last.round; entry = stored_entry c.geometry c.sg e }) =

@@ -85,11 +85,17 @@ driver_of pairs read = if nat_lt read.0 pairs then Some read else None
 abbrev pub application_of : ℕ → ℕ × List ℕ → Reads ℕ
 application_of pairs read = if nat_lt (pairs + read.0) (2 ^ 32) then Some (pairs + read.0, read.1) else None
 
+abbrev pub driver_at : ℕ → List ℕ → Reads ℕ
+driver_at pairs xs = small_at xs >>= driver_of pairs
+
+abbrev pub application_at : ℕ → List ℕ → Reads ℕ
+application_at pairs xs = small_at xs >>= application_of pairs
+
 -- the caller, where there are so many pairs
 unfoldable pub who_at : ℕ → List ℕ → Reads ℕ
 who_at pairs xs =
-    choose (word_at (codes "d") xs) (λ rest. small_at rest >>= driver_of pairs)
-    (choose (word_at (codes "a") xs) (λ rest. small_at rest >>= application_of pairs) None)
+    choose (word_at (codes "d") xs) (driver_at pairs)
+    (choose (word_at (codes "a") xs) (application_at pairs) None)
 
 -- the ring of this one's kind with a number
 abbrev pub ring_like : Ring → ℕ → Ring
@@ -174,15 +180,27 @@ swap_at xs = mark_at xs >>= λ mark. word_at (codes " ") mark.1 >>= λ rest. num
 unfoldable pub submit_at : List ℕ → Option Call
 submit_at xs = ring_at xs >>= λ ring. items_at 32 ring.1 >>= λ items. Some (Submit ring.0 items)
 
+abbrev pub reserve_at : List ℕ → Option Call
+reserve_at xs = counted_at xs >>= λ read. Some (Reserve read.0 read.1)
+
+abbrev pub peek_at : List ℕ → Option Call
+peek_at xs = counted_at xs >>= λ read. Some (Peek read.0 read.1)
+
+abbrev pub release_at : List ℕ → Option Call
+release_at xs = counted_at xs >>= λ read. Some (Release read.0 read.1)
+
+abbrev pub look_at : List ℕ → Option Call
+look_at xs = mark_at xs >>= λ mark. Some (Look mark.0)
+
 -- The call that a text begins with; its items have no frames.
 unfoldable pub call_at : List ℕ → Option Call
 call_at xs =
-    choose (word_at (codes "reserve ") xs) (λ rest. counted_at rest >>= λ read. Some (Reserve read.0 read.1))
+    choose (word_at (codes "reserve ") xs) reserve_at
     (choose (word_at (codes "submit ") xs) submit_at
-    (choose (word_at (codes "peek ") xs) (λ rest. counted_at rest >>= λ read. Some (Peek read.0 read.1))
-    (choose (word_at (codes "release ") xs) (λ rest. counted_at rest >>= λ read. Some (Release read.0 read.1))
+    (choose (word_at (codes "peek ") xs) peek_at
+    (choose (word_at (codes "release ") xs) release_at
     (choose (word_at (codes "swap ") xs) swap_at
-    (choose (word_at (codes "look ") xs) (λ rest. mark_at rest >>= λ mark. Some (Look mark.0)) None)))))
+    (choose (word_at (codes "look ") xs) look_at None)))))
 
 -- the call as a line tells it: its items have no frames
 abbrev pub read_items : List Item → List Item

@@ -2,7 +2,7 @@
 ghost use Rattle.std.specs.Prelude.{◌≡◌, List, [], IfSome};
 ghost use Rattle.xsk_model.specs.Asks.{HasAsked};
 ghost use Rattle.xsk_umem.specs.declared.batch.Item.{Item as AnItem};
-ghost use Rattle.xsk_audit.specs.Reading.{counted_at, items_at, asked_with, call_at, swap_at, submit_at};
+ghost use Rattle.xsk_audit.specs.Reading.{counted_at, items_at, asked_with, call_at, reserve_at, peek_at, release_at, look_at, swap_at, submit_at};
 ghost use Rattle.xsk_audit.specs.Reading.{line_at};
 ghost use Rattle.xsk_audit.specs.Views.{items_view, line_view};
 
@@ -42,25 +42,53 @@ fn ask(text: &[u8], items: &mut Batch) -> Option<Ask>
     ensures items { IfSome result (λ ask. HasAsked ask items.new) }
 {
     if let Some(rest) = word(text, b"reserve ".as_slice()) {
-        let (ring, count) = counted(rest)?;
-        return Some(Ask::Reserve(ring, count));
+        return reserve(rest);
     }
     if let Some(rest) = word(text, b"submit ".as_slice()) {
         return submit(rest, items);
     }
     if let Some(rest) = word(text, b"peek ".as_slice()) {
-        let (ring, count) = counted(rest)?;
-        return Some(Ask::Peek(ring, count));
+        return peek(rest);
     }
     if let Some(rest) = word(text, b"release ".as_slice()) {
-        let (ring, count) = counted(rest)?;
-        return Some(Ask::Release(ring, count));
+        return release(rest);
     }
     if let Some(rest) = word(text, b"swap ".as_slice()) {
         return swap(rest);
     }
     let rest = word(text, b"look ".as_slice())?;
-    let (mark, _rest) = mark(rest)?;
+    look(rest)
+}
+
+fn reserve(text: &[u8]) -> Option<Ask>
+    ensures call { (items : List AnItem) → asked_with result items ≡ reserve_at text.now }
+    ensures items { IfSome result (λ ask. HasAsked ask []) }
+{
+    let (ring, count) = counted(text)?;
+    Some(Ask::Reserve(ring, count))
+}
+
+fn peek(text: &[u8]) -> Option<Ask>
+    ensures call { (items : List AnItem) → asked_with result items ≡ peek_at text.now }
+    ensures items { IfSome result (λ ask. HasAsked ask []) }
+{
+    let (ring, count) = counted(text)?;
+    Some(Ask::Peek(ring, count))
+}
+
+fn release(text: &[u8]) -> Option<Ask>
+    ensures call { (items : List AnItem) → asked_with result items ≡ release_at text.now }
+    ensures items { IfSome result (λ ask. HasAsked ask []) }
+{
+    let (ring, count) = counted(text)?;
+    Some(Ask::Release(ring, count))
+}
+
+fn look(text: &[u8]) -> Option<Ask>
+    ensures call { (items : List AnItem) → asked_with result items ≡ look_at text.now }
+    ensures items { IfSome result (λ ask. HasAsked ask []) }
+{
+    let (mark, _rest) = mark(text)?;
     Some(Ask::Look(mark))
 }
 

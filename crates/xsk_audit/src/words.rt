@@ -1,6 +1,6 @@
 //! The words of a journal's line: callers, rings, marks and items.
 ghost use Rattle.std.specs.Prelude.{◌≡◌};
-ghost use Rattle.xsk_audit.specs.Reading.{read_view, text_view, word_at, who_at, ring_at, ring_like, cell_at, mark_at, mark_like, numbered, other_mark_at, desc_at, begins_item};
+ghost use Rattle.xsk_audit.specs.Reading.{read_view, text_view, word_at, who_at, driver_at, application_at, ring_at, ring_like, cell_at, mark_at, mark_like, numbered, other_mark_at, desc_at, begins_item};
 
 use crate::number::{number, small};
 use xsk_model::{Mark, Ring};
@@ -27,15 +27,29 @@ pub(crate) fn who(pairs: u32, text: &[u8]) -> Option<(u32, &[u8])>
     ensures { read_view result ≡ who_at pairs text.now }
 {
     if let Some(rest) = word(text, b"d".as_slice()) {
-        let (driver, rest) = small(rest)?;
-        return if driver < pairs {
-            Some((driver, rest))
-        } else {
-            None
-        };
+        return driver(pairs, rest);
     }
     let rest = word(text, b"a".as_slice())?;
-    let (application, rest) = small(rest)?;
+    application(pairs, rest)
+}
+
+/// A driver's number, of so many.
+fn driver(pairs: u32, text: &[u8]) -> Option<(u32, &[u8])>
+    ensures { read_view result ≡ driver_at pairs text.now }
+{
+    let (driver, rest) = small(text)?;
+    if driver < pairs {
+        Some((driver, rest))
+    } else {
+        None
+    }
+}
+
+/// The caller's number of an application, behind so many drivers.
+fn application(pairs: u32, text: &[u8]) -> Option<(u32, &[u8])>
+    ensures { read_view result ≡ application_at pairs text.now }
+{
+    let (application, rest) = small(text)?;
     let who = pairs.checked_add(application)?;
     Some((who, rest))
 }
@@ -152,8 +166,7 @@ fn cell(text: &[u8]) -> Option<(Mark, &[u8])>
 {
     let (port, rest) = small(text)?;
     let rest = word(rest, b".".as_slice())?;
-    let (index, rest) = small(rest)?;
-    Some((Mark::Cell(port, index), rest))
+    numbered_mark(Mark::Cell(port, 0), rest)
 }
 
 /// The descriptor of an item: address, length and options.

@@ -120,10 +120,12 @@ impl Offers {
     fn note(&mut self, offer: Offer)
         ensures { self.new ≡ noted self.old offer }
     {
-        if self.is_told && self.offers.len() < MOST_OFFERS {
-            self.offers.push_reserved(offer);
-        } else {
-            self.is_told = false;
+        if self.is_told {
+            if self.offers.len() < MOST_OFFERS {
+                self.offers.push_reserved(offer);
+            } else {
+                self.is_told = false;
+            }
         }
     }
 

@@ -1,5 +1,5 @@
 //! The bay over real files and the standard output.
-ghost use Rattle.std.specs.Prelude.{◌≡◌, ◌≢◌, ℕ, ◌+◌, ◌-◌, ◌^◌, ◌<◌, ◌≤◌, false, true, None, min, length, replicate, is_some, IsSome, IfOk, OnOk, OnErr, slice_index, slice_index_or, slice_set};
+ghost use Rattle.std.specs.Prelude.{◌≡◌, ◌≢◌, ℕ, ◌+◌, ◌-◌, ◌^◌, ◌<◌, ◌≤◌, false, true, None, Ok, min, length, replicate, is_some, IsSome, IfOk, OnOk, OnErr, slice_index, slice_index_or, slice_set};
 ghost use Rattle.xsk_io.specs.Bay.{HasNumber, SameBut};
 ghost use Rattle.xsk_io.specs.Files.{StreamCounts, FilesState, no_counts, no_files, count_of, files_moment, is_file_open};
 
@@ -122,10 +122,10 @@ fn open_once<R: Files>(rt: &R, stream: Stream, name: &str) -> io::Result<R::File
 
 fn open_again<R: Files>(rt: &R, stream: Stream, name: &str) -> Result<R::File, BayFailed> {
     for _ in 0..TRIES {
-        match open_once(rt, stream, name) {
+        match outcome_of(open_once(rt, stream, name)) {
             Ok(file) => return Ok(file),
-            Err(error) => {
-                if is_final(&error) {
+            Err(is_final) => {
+                if is_final {
                     break;
                 }
             }
@@ -138,10 +138,10 @@ fn read_again<F: Read>(file: &mut F, buf: &mut [u8]) -> Result<usize, BayFailed>
     ensures { IfOk result (λ count. count ≤ length buf.new) }
 {
     for _ in 0..TRIES {
-        match file.read(buf) {
+        match outcome_of(file.read(buf)) {
             Ok(count) => return Ok(count),
-            Err(error) => {
-                if is_final(&error) {
+            Err(is_final) => {
+                if is_final {
                     break;
                 }
             }
@@ -155,11 +155,11 @@ fn write_again<F: Write>(file: &mut F, piece: &[u8]) -> Result<usize, BayFailed>
     ensures some { IfOk result (λ count. 0 < length piece.now → 0 < count) }
 {
     for _ in 0..TRIES {
-        match file.write(piece) {
+        match outcome_of(file.write(piece)) {
             Ok(0) if !piece.is_empty() => break,
             Ok(count) => return Ok(count),
-            Err(error) => {
-                if is_final(&error) {
+            Err(is_final) => {
+                if is_final {
                     break;
                 }
             }
@@ -168,9 +168,14 @@ fn write_again<F: Write>(file: &mut F, piece: &[u8]) -> Result<usize, BayFailed>
     Err(BayFailed)
 }
 
-/// Whether a call that failed so isn't made again: it wasn't interrupted.
-fn is_final(error: &io::Error) -> bool {
-    error.kind() != ErrorKind::Interrupted
+/// What a call gave, or whether it isn't made again: it wasn't interrupted.
+fn outcome_of<T>(outcome: io::Result<T>) -> Result<T, bool>
+    ensures { IfOk result (λ value. outcome ≡ Ok value) }
+{
+    match outcome {
+        Ok(value) => Ok(value),
+        Err(error) => Err(error.kind() != ErrorKind::Interrupted),
+    }
 }
 
 /// The bay over real files and the standard output, which is the report.

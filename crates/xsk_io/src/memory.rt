@@ -52,12 +52,10 @@ impl Name {
 fn put_front(text: &[u8], room: &mut [u8]) -> Option<usize>
     ensures { option_map (λ len. take len room.new) result ≡ (if nat_le (length text.now) (length room.old) then Some text.now else None) }
 {
-    let len = text.len();
-    if len > room.len() {
+    if text.len() > room.len() {
         return None;
     }
-    room[..len].copy_from_slice(text);
-    Some(len)
+    Some(copy_front(text, room))
 }
 
 /// An input, read up to `at`.
@@ -183,10 +181,12 @@ impl Sink {
     fn write(&mut self, piece: &[u8])
         ensures { self.new ≡ written_output self.old piece.now }
     {
-        if self.is_told && piece.len() <= self.room - self.bytes.len() {
-            self.bytes.extend_from_slice(piece).unwrap();
-        } else {
-            self.is_told = false;
+        if self.is_told {
+            if piece.len() <= self.room - self.bytes.len() {
+                self.bytes.extend_from_slice(piece).unwrap();
+            } else {
+                self.is_told = false;
+            }
         }
     }
 

@@ -241,7 +241,6 @@ fn figures_of(drivers: &FigureList, pair: u32) -> &DriverFigures
 }
 
 /// A word, and the port and the queue of a pair.
-#[tactic(auto, unfolding(crate::specs::Report::at_queue))]
 fn push_queue(text: &mut String, word: &str, pair: &PairInfo) -> Result<(), OutOfMemory>
     ensures { OnOk result (string_bytes text.new ≡ string_bytes text.old ++ at_queue word.now pair.now) }
 {
