@@ -39,6 +39,12 @@ pub record IsNoted (s : Setting) (h : List Entry) (who noted : ℕ) : Type 0 whe
   pub driver : who < length s.config.pairs → noted ≡ settled_by s h who
   pub app : length s.config.pairs ≤ who → noted ≡ 0
 
+-- all callers are in their seats, before any call
+pub record AreSet (s : Setting) (w : Workers) : Type 0 where
+  pub seats : EachFrom w.seats.items 0 (λ who seat. Sits s new_own who seat.machine (joined_ask seat.ask seat.items))
+  pub settled : EachFrom w.seats.items 0 (λ who seat. seat.settled ≡ 0)
+  pub count : vec_len w.seats ≡ callers_of s.config
+
 -- all callers stand for their own calls and replies in a history that the engine has run, with what is noted at their seats
 pub record AreSeated (s : Setting) (frames : List Frame) (h : List Entry) (w : Workers) (engine : Engine) : Type 0 where
   pub run : HasRun s frames h engine

@@ -30,13 +30,11 @@ pub fn one_stall()
 
 /// Each run in which no socket is closed ends or stands still: one that does neither has fewer rounds than a bound by its
 /// packets, its frames and its configuration.
-#[tactic(auto, using(crate::proofs::Bounding::ends_or_stands_still))]
 pub fn ends_or_stands_still()
     ensures { EndsOrStandsStill }
 {}
 
 /// So does each run of a regular configuration: where a socket is closed, its bound is a constant more.
-#[tactic(auto, using(crate::proofs::Bounding::ends_with_closings))]
 pub fn ends_or_stands_still_with_closings()
     ensures { EndsOrStandsStillWithClosings }
 {}
@@ -48,7 +46,6 @@ pub fn none_stands_still()
 {}
 
 /// Under a rule that leaves one verdict for each packet, a run has ended with the verdicts that the rule gives itself.
-#[tactic(auto, using(crate::proofs::Verdicts::ends_as_ruled))]
 pub fn ends_as_ruled()
     ensures { EndsAsRuled }
 {}

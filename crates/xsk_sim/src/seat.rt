@@ -43,7 +43,8 @@ impl<M: Machine> Seat<M> {
     {
         let mut machine = machine;
         let mut items = Batch::new();
-        let ask = machine.step(None, &mut items);
+        let mut ask = None;
+        machine.step(None, &mut items, &mut ask);
         Seat {
             machine,
             ask,
@@ -91,7 +92,8 @@ impl<M: Machine> Seat<M> {
         let answer = plain.serve(who, ask, &mut self.items);
         let still = is_quiet(ask, answer, self.settled, settled);
         self.settled = settled;
-        self.ask = self.machine.step(Some(answer), &mut self.items);
+        self.machine
+            .step(Some(answer), &mut self.items, &mut self.ask);
         still
     }
 }

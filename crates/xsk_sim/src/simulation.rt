@@ -3,21 +3,24 @@ ghost use Rattle.std.specs.Prelude.{◌≡◌, ◌<◌, ◌≤◌, ◌+◌, ◌�
 ghost use Rattle.std.specs.List.{concat, slice_index_or};
 ghost use Rattle.xsk_umem.specs.Geometry.{IsGeometry};
 ghost use Rattle.xsk_model.specs.Config.{IsRegular, callers_of, classes_of};
-ghost use Rattle.xsk_model.specs.Opening.{AreFrames};
+ghost use Rattle.xsk_model.specs.Opening.{AreFrames, IsOpened};
 ghost use Rattle.xsk_umem.specs.Frame.{Frame};
 ghost use Rattle.xsk_log.specs.Left.{left_of};
 ghost use Rattle.xsk_log.specs.Log.{calls_of, entries_of};
 ghost use Rattle.xsk_turns.specs.Mangling.{plain as plain_manner};
-ghost use Rattle.xsk_machine.specs.Workers.{AreNew, IsAskedOnce};
+ghost use Rattle.xsk_prog.specs.declared.rule.Verdict.{Verdict as AVerdict};
+ghost use Rattle.xsk_turns.specs.Inputs.{inputs_of};
+ghost use Rattle.xsk_driver.specs.Asking.{IsAnswer};
+ghost use Rattle.xsk_machine.specs.Workers.{AreNew, IsAskedOnce, setting_by};
 ghost use Rattle.xsk_driver.specs.Sent.{IsShort};
-ghost use Rattle.xsk_sim.specs.Shown.{HasShortPackets, packets_in};
+ghost use Rattle.xsk_sim.specs.Shown.{HasShortPackets, packets_in, shown_by};
 ghost use Rattle.xsk_turns.specs.Stepping.{joined_ask};
 ghost use Rattle.xsk_prog.specs.Chain.{AllObey, SamePrograms};
-ghost use Rattle.xsk_turns.specs.Workers.{Setting};
+ghost use Rattle.xsk_turns.specs.Workers.{Setting, AreGiven};
 ghost use Rattle.xsk_sim.specs.Runs.{HasEnded, HasStalled, NeverStill, HasEndedUnder, HasStalledUnder};
 ghost use Rattle.xsk_sim.specs.Stalls.{StandStill};
 ghost use Rattle.xsk_still.specs.Still.{HasAmpleRoom};
-ghost use Rattle.xsk_sim.specs.Seats.{EachFrom, AreSeated, AreReady, HadRounds, HaveEnded, Sits, kept_lists, kept_figures, new_own};
+ghost use Rattle.xsk_sim.specs.Seats.{EachFrom, AreSeated, AreReady, AreSet, HadRounds, HaveEnded, Sits, kept_lists, kept_figures, new_own};
 
 use crate::order::Order;
 use crate::rounds::Workers;
@@ -166,50 +169,99 @@ pub fn simulate<F: Fn(&[u8], u32) -> Verdict>(
 {
     let shared = config.copy(alloc)?;
     let inputs = Inputs::split(alloc, &shared, packets)?;
-    let classes = shared.classes();
-    let drivers = drivers_for(alloc, &shared, packets, &inputs, chain, wire)?;
-    let workers = seat_workers(alloc, &shared, drivers, manner)?;
+    let workers = all_workers(alloc, &shared, packets, &inputs, chain, wire, manner)?;
     let _geometry = shared.geometry();
-    let Ok(plain) = Plain::open(alloc, config, frames) else {
-        return Err(SimError::OutOfMemory);
-    };
     run_workers(
         alloc,
         workers,
-        plain,
-        classes,
+        config,
+        frames,
+        shared.classes(),
         wire,
         manner,
         Order::new(order),
     )
 }
 
-/// Makes rounds until all workers have ended, and collects what the drivers sent and their figures.
+/// All workers in their seats: the drivers of all pairs, for whose packets the chain was asked, and the applications.
+fn all_workers<'a, F: Fn(&[u8], u32) -> Verdict>(
+    alloc: Global,
+    config: &'a Config,
+    packets: &'a [PacketList],
+    inputs: &'a Inputs,
+    chain: &mut Chain<F>,
+    wire: Wire,
+    manner: Manner,
+) -> Result<Workers<'a>, OutOfMemory>
+    requires regular { IsRegular config.now }
+    requires lists { length packets.now ≡ config.now.ports }
+    requires inputs { inputs.now ≡ inputs_of config.now packets.now }
+    requires short { All HasShortPackets packets.now }
+    requires obeys { AllObey F.Fn chain.old }
+    ensures set { IfOk result (λ workers. (verdicts : List (List AVerdict))
+        × AreGiven (IsAnswer F.Fn chain.old) (setting_by config.now wire manner packets.now verdicts)
+        × AreSet (setting_by config.now wire manner packets.now verdicts) workers) }
+    ensures once { IfOk result (λ workers. IsAskedOnce F.Fn config.now packets.now chain.old chain.new) }
+    ensures same { SamePrograms chain.old chain.new }
+    ensures obeys { AllObey F.Fn chain.new }
+{
+    let drivers = drivers_for(alloc, config, packets, inputs, chain, wire)?;
+    let workers = seat_workers(alloc, config, drivers, manner)?;
+    Ok(workers)
+}
+
+/// Opens the object, and lets the workers run on it until all have ended.
 fn run_workers(
     alloc: Global,
     workers: Workers<'_>,
-    plain: Plain,
+    config: Config,
+    frames: Frames,
     classes: u32,
     wire: Wire,
     manner: Manner,
     order: Order,
 ) -> Result<Run, SimError>
-    requires geometry { IsGeometry plain.config.geometry }
-    requires ready { AreReady workers plain }
-    ensures pairs { (s : Setting) (frames : List Frame) → AreSeated s frames [] workers.entry plain → IfOk result (λ run. run.pairs ≡ length s.config.pairs) }
-    ensures ended { (s : Setting) (frames : List Frame) → IsRegular s.config → AreSeated s frames [] workers.entry plain
+    requires opened { IsOpened config frames.items }
+    requires set { (s : Setting) × (s.config ≡ config) × AreSet s workers }
+    ensures pairs { IfOk result (λ run. run.pairs ≡ length config.pairs) }
+    ensures ended { (s : Setting) → s.config ≡ config → IsRegular s.config → AreSet s workers.entry
         → classes ≡ classes_of s.config → wire ≡ s.wire → manner ≡ s.manner
-        → IfOk result (HasEnded s frames order.number) }
-    ensures stalled { (s : Setting) (frames : List Frame) (round : ℕ) → AreSeated s frames [] workers.entry plain
+        → IfOk result (HasEnded s frames.items order.number) }
+    ensures stalled { (s : Setting) (round : ℕ) → s.config ≡ config → AreSet s workers.entry
+        → result ≡ Err (SimError.Stalled round) → HasStalled s frames.items order.number round }
+{
+    let Ok(mut plain) = Plain::open(alloc, config, frames) else {
+        return Err(SimError::OutOfMemory);
+    };
+    let sent = run_to_end(alloc, workers, &mut plain, classes, wire, manner, order)?;
+    Ok(Run { plain, sent })
+}
+
+/// Makes rounds until all workers have ended, and collects what the drivers sent and their figures.
+fn run_to_end(
+    alloc: Global,
+    workers: Workers<'_>,
+    plain: &mut Plain,
+    classes: u32,
+    wire: Wire,
+    manner: Manner,
+    order: Order,
+) -> Result<Sent, SimError>
+    requires geometry { IsGeometry plain.old.config.geometry }
+    requires ready { AreReady workers plain.old }
+    ensures lists { (s : Setting) (frames : List Frame) → AreSeated s frames [] workers.entry plain.old
+        → IfOk result (λ sent. (length sent.lists ≡ length s.config.pairs) × (plain.new.config ≡ s.config)) }
+    ensures ended { (s : Setting) (frames : List Frame) → IsRegular s.config → AreSeated s frames [] workers.entry plain.old
+        → classes ≡ classes_of s.config → wire ≡ s.wire → manner ≡ s.manner
+        → IfOk result (λ sent. HasEnded s frames order.number (shown_by plain.new sent)) }
+    ensures stalled { (s : Setting) (frames : List Frame) (round : ℕ) → AreSeated s frames [] workers.entry plain.old
         → result ≡ Err (SimError.Stalled round) → HasStalled s frames order.number round }
 {
     let mut workers = workers;
-    let mut plain = plain;
-    make_rounds(&mut workers, &mut plain, order)?;
+    make_rounds(&mut workers, plain, order)?;
     let calls = u64::from(plain.log().len());
     let kept = collect(alloc, workers, classes)?;
-    let sent = kept.into_sent(calls, wire, manner.mangle.is_some());
-    Ok(Run { plain, sent })
+    Ok(kept.into_sent(calls, wire, manner.mangle.is_some()))
 }
 
 /// Makes rounds until all workers have ended, or nothing has changed for too long.

@@ -1,69 +1,40 @@
-use Rattle.std.proofs.Common.{◌≡◌, ℕ, List, length, ◌+◌, ◌≤◌, Err, sym, ap, ◌∙◌, refl, rules, arith}
-use Rattle.std.specs.Prelude.{is_some}
+use Rattle.std.proofs.Common.{◌≡◌, ap, sym, ◌∙◌, length, Err, rules}
 use Rattle.xsk_model.specs.Config.{Config}
-use Rattle.xsk_turns.specs.declared.manner.Manner.{Manner}
-use Rattle.xsk_machine.specs.Sent.{SentShown}
-use Rattle.xsk_machine.specs.declared.figures.DriverFigures.{DriverFigures}
 use Rattle.xsk_sim.specs.declared.simulation.SimError.TheVariants.{Stalled}
-use Rattle.xsk_sim.specs.Runs.{NeverStill}
-use Rattle.xsk_sim.specs.Seats.{HadRounds, HaveEnded}
-use Rattle.xsk_sim.specs.Stalls.{StandStill}
-use Rattle.xsk_sim.proofs.Ending.{ended_run, figures_number, lists_kept, log_count, stalled_run, whole_of}
+use Rattle.xsk_sim.proofs.Beginning.{seated_opened}
 use Rattle.xsk_sim.proofs.simulation.run_workers.Goals as goal
 
-pub returns-in_err-make_rounds-clause-stalled : goal.returns-in_err-make_rounds-clause-stalled
-returns-in_err-make_rounds-clause-stalled c s frames round seated is =
-    let w = c.make_rounds.new.workers in
-    let engine = c.make_rounds.new.plain in
-    let error : c.from_residual.result ≡ Err c.in_err-make_rounds.field-0.0 = search rules in
-    let same : c.in_err-make_rounds.field-0.0 ≡ Stalled round = let e = sym error ∙ is in cc in
-    let stalled : (had : HadRounds s frames c.args.order.number (round + 1) w engine) × (HaveEnded w → ⊥) × (round ≤ 18446744073709551615)
-    × StandStill s frames c.args.order.number 64 (round + 1) had.history × NeverStill s frames c.args.order.number round =
-    c.in_err-make_rounds.ensures.stalled s frames round seated (ap Err same) in
-    stalled_run s frames c.args.order.number round w engine stalled.0 stalled.1 stalled.2 stalled.3 stalled.4
+pub run_to_end-requires-clause-ready : goal.run_to_end-requires-clause-ready
+run_to_end-requires-clause-ready c =
+    let set = c.requires.set in
+    record {
+      setting = set.0;
+      frames = c.args.frames.items;
+      seated = seated_opened set.0 c.args.config c.args.frames.items c.args.workers c.in-Ok.plain set.1 c.requires.opened c.in-Ok.ensures.config c.in-Ok.ensures.state c.in-Ok.ensures.log.0 set.2;
+    }
 
 pub returns-clause-ended : goal.returns-clause-ended
-returns-clause-ended c s frames regular seated classes wire manner =
-    let w = c.make_rounds.new.workers in
-    let engine = c.make_rounds.new.plain in
-    let ended : (count : ℕ) × (count ≤ 18446744073709551616) × HadRounds s frames c.args.order.number count w engine × HaveEnded w × NeverStill s frames c.args.order.number count =
-    c.in_ok-make_rounds.ensures.ended s frames seated in
-    let had : HadRounds s frames c.args.order.number ended.0 w engine = ended.2 in
-    let calls : c.from-calls.result ≡ length engine.log = c.from-calls.ensures ∙ c.len.ensures ∙ log_count c.log.result.now ∙ ap length c.log.ensures.entries in
-    let figures = ap (λ (x : SentShown). x.figures) c.into_sent-sent.ensures ∙ ap (λ (ds : List DriverFigures). whole_of c.from-calls.result c.args.wire ds c.is_some.result) c.in_ok-kept.ensures.figures in
-    ended_run s frames c.args.order.number ended.0 w engine _ c.args.classes c.from-calls.result c.args.wire c.is_some.result regular had ended.1 ended.4 ended.3 refl
-    (ap (λ (x : SentShown). x.lists) c.into_sent-sent.ensures ∙ c.in_ok-kept.ensures.sent) classes calls (search rules) figures wire (c.is_some.ensures ∙ ap (λ (m : Manner). is_some m.mangle) manner)
+returns-clause-ended c s same regular set classes wire manner =
+    c.in_ok-sent.ensures.ended s c.args.frames.items regular
+    (seated_opened s c.args.config c.args.frames.items c.args.workers c.in-Ok.plain same c.requires.opened c.in-Ok.ensures.config c.in-Ok.ensures.state c.in-Ok.ensures.log.0 set) classes wire manner
 
 pub returns-clause-pairs : goal.returns-clause-pairs
-returns-clause-pairs c s frames seated =
-    let w = c.make_rounds.new.workers in
-    let engine = c.make_rounds.new.plain in
-    let ended : (count : ℕ) × (count ≤ 18446744073709551616) × HadRounds s frames c.args.order.number count w engine × HaveEnded w × NeverStill s frames c.args.order.number count =
-    c.in_ok-make_rounds.ensures.ended s frames seated in
-    let had : HadRounds s frames c.args.order.number ended.0 w engine = ended.2 in
-    ap (length {A = List (List ℕ)}) (ap (λ (x : SentShown). x.lists) c.into_sent-sent.ensures ∙ c.in_ok-kept.ensures.sent) ∙ lists_kept s frames had.history w engine had.seated
-
-pub into_sent-sent-requires : goal.into_sent-sent-requires
-into_sent-sent-requires c =
-    let r = c.requires.ready in
-    let s = r.setting in
-    let w = c.make_rounds.new.workers in
-    let engine = c.make_rounds.new.plain in
-    let ended : (count : ℕ) × (count ≤ 18446744073709551616) × HadRounds s r.frames c.args.order.number count w engine × HaveEnded w × NeverStill s r.frames c.args.order.number count =
-    c.in_ok-make_rounds.ensures.ended s r.frames r.seated in
-    let had : HadRounds s r.frames c.args.order.number ended.0 w engine = ended.2 in
-    let all : length c.in_ok-kept.kept.figures.items ≡ length s.config.pairs = ap (length {A = DriverFigures}) c.in_ok-kept.ensures.figures ∙ figures_number s r.frames had.history w engine had.seated c.args.classes in
-    omega (arith, all, c.in_ok-kept.kept.figures.ok.0, had.seated.run.legal.opened.config.pairs_few)
+returns-clause-pairs c =
+    let set = c.requires.set in
+    let lists = c.in_ok-sent.ensures.lists set.0 c.args.frames.items
+    (seated_opened set.0 c.args.config c.args.frames.items c.args.workers c.in-Ok.plain set.1 c.requires.opened c.in-Ok.ensures.config c.in-Ok.ensures.state c.in-Ok.ensures.log.0 set.2) in
+    lists.0 ∙ ap (λ (k : Config). length k.pairs) set.1
 
 pub invariant_of-result : goal.invariant_of-result
 invariant_of-result c =
-    let r = c.requires.ready in
-    let s = r.setting in
-    let w = c.make_rounds.new.workers in
-    let engine = c.make_rounds.new.plain in
-    let ended : (count : ℕ) × (count ≤ 18446744073709551616) × HadRounds s r.frames c.args.order.number count w engine × HaveEnded w × NeverStill s r.frames c.args.order.number count =
-    c.in_ok-make_rounds.ensures.ended s r.frames r.seated in
-    let had : HadRounds s r.frames c.args.order.number ended.0 w engine = ended.2 in
-    let all : length c.into_sent-sent.result.lists ≡ length s.config.pairs =
-    ap (length {A = List (List ℕ)}) (ap (λ (x : SentShown). x.lists) c.into_sent-sent.ensures ∙ c.in_ok-kept.ensures.sent) ∙ lists_kept s r.frames had.history w engine had.seated in
-    all ∙ ap (λ (k : Config). length k.pairs) (sym had.seated.run.config)
+    let set = c.requires.set in
+    let lists = c.in_ok-sent.ensures.lists set.0 c.args.frames.items
+    (seated_opened set.0 c.args.config c.args.frames.items c.args.workers c.in-Ok.plain set.1 c.requires.opened c.in-Ok.ensures.config c.in-Ok.ensures.state c.in-Ok.ensures.log.0 set.2) in
+    lists.0 ∙ ap (λ (k : Config). length k.pairs) (sym lists.1)
+
+pub returns-in_err-sent-clause-stalled : goal.returns-in_err-sent-clause-stalled
+returns-in_err-sent-clause-stalled c s round same set is =
+    let error : c.from_residual.result ≡ Err c.in_err-sent.field-0.0 = search rules in
+    let stalled : c.in_err-sent.field-0.0 ≡ Stalled round = let e = sym error ∙ is in cc in
+    c.in_err-sent.ensures.stalled s c.args.frames.items round
+    (seated_opened s c.args.config c.args.frames.items c.args.workers c.in-Ok.plain same c.requires.opened c.in-Ok.ensures.config c.in-Ok.ensures.state c.in-Ok.ensures.log.0 set) (ap Err stalled)

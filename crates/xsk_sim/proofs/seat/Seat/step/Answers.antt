@@ -15,7 +15,7 @@ pub returns-clause-turn : goal.returns-clause-turn
 returns-clause-turn g c s frames h run stands after =
     let call = joined_call c.in-Some.ask c.args.self.now.items in
     let reply = joined_reply c.serve-answer.result c.serve-answer.new.items in
-    let act = joined_ask c.step-self.result c.step-self.new.items in
+    let act = joined_ask c.step.new.next c.step.new.items in
     let is : joined_ask c.args.self.now.ask c.args.self.now.items ≡ Calls call = ap (λ (a : Option Ask). joined_ask a c.args.self.now.items) c.in-Some.is in
     let performs : Performs c.args.plain.now c.serve-answer.new.self c.args.who call reply = record {
       reply = c.serve-answer.ensures.reply;
@@ -24,9 +24,9 @@ returns-clause-turn g c s frames h run stands after =
       config = c.serve-answer.ensures.config;
     } in
     turn_made s frames h c.args.plain.now c.serve-answer.new.self c.args.who call reply (joined_ask c.args.self.now.ask c.args.self.now.items) act c.args.self.now.settled (g.M.Machine.has_settled c.args.self.now.machine) c.settled-settled.result c.is_quiet-still.result
-    (g.M.Machine.stands s c.args.who c.step-self.new.self act) run
+    (g.M.Machine.stands s c.args.who c.step.new.self act) run
     (subst (λ (a : Act). IsActAfter s c.args.who a (own c.args.who h)) is after) performs
-    (λ may. c.step-self.ensures.goes_on s c.args.who (own c.args.who h) call reply
+    (λ may. c.step.ensures.goes_on s c.args.who (own c.args.who h) call reply
     (subst (λ (a : Act). g.M.Machine.stands s c.args.who c.args.self.now.machine a (own c.args.who h)) is stands) refl may)
     is c.settled-settled.ensures
     (subst (λ (n : ℕ). IsTrue c.is_quiet-still.result ↔ ((changes call reply ≡ false) × (n ≡ c.args.self.now.settled))) c.settled-settled.ensures
