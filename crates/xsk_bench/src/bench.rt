@@ -1,5 +1,8 @@
 //! The bench: drivers with their packets, and calls that are served.
-ghost use Rattle.std.specs.Prelude.{◌≡◌};
+ghost use Rattle.std.specs.Prelude.{◌≡◌, [], IfOk};
+ghost use Rattle.xsk_model.specs.Config.{IsLawful};
+ghost use Rattle.xsk_model.specs.Opening.{AreFrames, opening};
+ghost use Rattle.xsk_plain.specs.Engine.{Shows};
 ghost use Rattle.xsk_turns.specs.Giving.{with_frames};
 ghost use Rattle.xsk_bench.specs.Played.{frames_with};
 
@@ -113,10 +116,7 @@ impl<'a> Bench<'a> {
         // For the proof: the geometry is lawful, and so are the parts of the configuration.
         let _geometry = config.geometry();
         let _ports = config.ports();
-        let copy = config.copy(alloc)?;
-        let Ok(checked) = Checked::open(alloc, copy, frames) else {
-            return Err(OutOfMemory);
-        };
+        let checked = opened(alloc, config, frames)?;
         let play = Play {
             checked,
             seats,
@@ -232,6 +232,21 @@ impl<'a> Bench<'a> {
         give_all(&mut frames, seats);
         frames
     }
+}
+
+/// The object of a configuration in its opening state.
+fn opened(alloc: Global, config: &Config, frames: Frames) -> Result<Checked, OutOfMemory>
+    requires lawful { IsLawful config.now }
+    requires frames { AreFrames config.now.geometry frames.items }
+    ensures config { IfOk result (λ checked. checked.config ≡ config.now) }
+    ensures state { IfOk result (λ checked. Shows checked (opening config.now frames.items)) }
+    ensures log { IfOk result (λ checked. checked.log ≡ []) }
+{
+    let copy = config.copy(alloc)?;
+    let Ok(checked) = Checked::open(alloc, copy, frames) else {
+        return Err(OutOfMemory);
+    };
+    Ok(checked)
 }
 
 /// Appends the frames that the drivers have, as many as there is room for.

@@ -22,7 +22,6 @@ ghost use Rattle.xsk_sim.specs.Rooms.{most_payload};
 ghost use Rattle.xsk_sim.specs.Turning.{HasRun, TakesTurn, Notes};
 ghost use Rattle.xsk_bench.specs.Drives.{Drives};
 
-use std::mem;
 use xsk_driver::Driver;
 use xsk_machine::is_quiet;
 use xsk_model::Ask;
@@ -51,7 +50,8 @@ impl<'a> Seat<'a> {
     {
         let mut driver = driver;
         let mut items = Batch::new();
-        let ask = driver.step(None, &mut items);
+        let mut ask = None;
+        driver.step(None, &mut items, &mut ask);
         Seat {
             driver,
             ask,
@@ -84,12 +84,11 @@ impl<'a> Seat<'a> {
         // For the proof: a batch has at most 32 items.
         let _count = self.items.len();
         let settled = self.driver.disposals().len();
-        let call = ask.joined(mem::replace(&mut self.items, Batch::new()));
-        let reply = checked.perform(who, call);
-        let answer = reply.split(&mut self.items);
+        let answer = checked.serve(who, ask, &mut self.items);
         let still = is_quiet(ask, answer, self.settled, settled);
         self.settled = settled;
-        self.ask = self.driver.step(Some(answer), &mut self.items);
+        self.driver
+            .step(Some(answer), &mut self.items, &mut self.ask);
         still
     }
 
