@@ -30,7 +30,7 @@ use Rattle.xsk_table.specs.Opening.{new_passes}
 use Rattle.xsk_model.specs.Rings.{caller_of}
 use Rattle.xsk_workers.specs.Crew.{Seat, IsSeatOn}
 use Rattle.xsk_workers.specs.Shown.{WorkerShown, seat_at, is_alone}
-use Rattle.xsk_workers.specs.Hands.{SuitHands, TeamShown}
+use Rattle.xsk_workers.specs.Hands.{SuitHands, TeamShown, team_seat, TeamHasRun}
 use Rattle.xsk_workers.specs.Members.{member_seat, MemberHasRun, pass_in, IsLeftOf, kept_left, figures_left}
 use Rattle.xsk_workers.specs.declared.member.Member.{Member}
 use Rattle.xsk_workers.specs.declared.member.Member.TheVariants.{One, Several}
@@ -45,8 +45,13 @@ use Rattle.xsk_ended.proofs.Ended.{ended_lose_no_wakes}
 use Rattle.xsk_ended.proofs.Within.{are_within_by}
 use Rattle.xsk_table.specs.Closing.{AreThere, EndsIn}
 use Rattle.xsk_workers.specs.Forwarded.{HasForwarded}
-use Rattle.xsk_workers.specs.Gathering.{HaveRun, HaveRunFrom, AreTaken, AreGiven, AreKept, AreSent, IsSentOf, AreFiguresOf, IsFiguresOf, calls_in}
+use Rattle.xsk_workers.specs.Gathering.{StandsLeft, IsDone, HaveRunFrom, WillHaveRun, AreTaken, AreGiven, AreKept, AreSent, IsSentOf, AreFiguresOf, IsFiguresOf, calls_in}
+use Rattle.xsk_workers.specs.Keeping.{HasRoomFor}
 use Rattle.xsk_workers.proofs.Calls.{calls_are}
+use Rattle.xsk_machine.specs.Acts.{packets_in}
+use Rattle.xsk_machine.specs.declared.collected.Collected.{Collected}
+use Rattle.std.specs.Vec.{vec_items}
+use Rattle.std.specs.Prelude.{vec_capacity}
 use Rattle.xsk_machine.specs.declared.worker.AnyWorker.{AnyWorker}
 use Rattle.xsk_machine.specs.declared.worker.AnyWorker.TheVariants.{Driver, App}
 
@@ -93,11 +98,6 @@ figures_at : (s : Setting) (n classes : ℕ) (d : DriverShown) (l : List Told) �
 figures_at s n classes d l is stands within =
     ap (λ k. figures_in k d) is ∙ figures_at_end s.wire s.config n (input_of s n) d l stands.stands
     ∙ ap (λ (ps : List (List ℕ)). driver_figures_by s.wire s.config n (input_of s n) (length ps) l) (sent_at s n d Ended l refl stands within)
-
--- what is left of a member at this place: a machine that has ended, or of an application nothing
-abbrev pub StandsLeft : Setting → ℕ → Option AnyWorker → List Told → Type 0
-StandsLeft s n None l = length s.config.pairs ≤ n
-StandsLeft s n (Some m) l = Stands s n m Ended l
 
 module _ (b : Board) (hands : ℕ) (s : Setting) (n : ℕ) (passes : List (Option Holder)) (p : Holder) (known : n < callers_of b.setup.config) (h : AreGiven b hands s n passes) where
   abbrev more : List (Option Holder)
@@ -172,18 +172,6 @@ seats_count b hands s ms seats =
     sym (length-map ms member_seat) ∙ ap (length {A = Seat}) seats ∙ length-map (range_with_len 0 (callers_of b.setup.config)) (seat_at hands s b)
     ∙ length-range_with_len 0 (callers_of b.setup.config)
 
-pub have_run : (b : Board) (hands : ℕ) (s : Setting) (n : ℕ) (ms : List (Member WorkerShown TeamShown)) → map member_seat ms ≡ map (seat_at hands s b) (range_with_len n (length ms))
-    → All MemberHasRun ms → HaveRunFrom b hands s n ms
-have_run b hands s n [] seats whole = tt
-have_run b hands s n (m ∷ ms) seats whole =
-    (ap (λ (xs : List Seat). get_or xs 0 (member_seat m)) seats, All-head MemberHasRun m ms whole, have_run b hands s (n + 1) ms (ap (drop 1) seats) (All-tail MemberHasRun m ms whole))
-
-pub have_run_all : (b : Board) (hands : ℕ) (s : Setting) (ms : List (Member WorkerShown TeamShown)) → s.config ≡ b.setup.config → (hands ≡ 1) ⊎ (s.manner ≡ plain)
-    → map member_seat ms ≡ map (seat_at hands s b) (range_with_len 0 (callers_of b.setup.config)) → All MemberHasRun ms → HaveRun b hands s ms
-have_run_all b hands s ms config changes_nothing seats whole =
-    let count : length ms ≡ callers_of b.setup.config = seats_count b hands s ms seats in
-    record { config = config; plain = changes_nothing; run = have_run b hands s 0 ms (seats ∙ ap (λ n. map (seat_at hands s b) (range_with_len 0 n)) (sym count)) whole }
-
 -- several hands change nothing
 pub unchanged_by : (hands : ℕ) (c : Config) (manner : Manner) → SuitHands hands c manner → (hands ≡ 1) ⊎ (manner ≡ plain)
 unchanged_by hands c manner suit = ⊎_elim (λ (one : hands ≡ 1). inl one) (λ (both : (c.closing ≡ None) × (manner ≡ plain)). inr both.1) suit
@@ -217,43 +205,68 @@ whole_split hands s n app l is changes_nothing caller whole =
           split_by hands s.manner s.config a l several manner (subst (λ k. IsWholeSplitRun s.config k l) same whole);
     }
 
--- the first of them, in the setting and as the caller of its seat
+-- a member in the setting and as the caller of its seat
 module _ (b : Board) (hands : ℕ) (s : Setting) (n : ℕ) where
-  pub who_is : (m : Member WorkerShown TeamShown) (rest : List (Member WorkerShown TeamShown)) → HaveRunFrom b hands s n (m ∷ rest) → (pass_in m).who ≡ n
-  who_is (One w) rest run = ap (λ (x : Seat). x.who) run.0
-  who_is (Several t) rest run = ap (λ (x : Seat). x.who) run.0
+  who_is : (m : Member WorkerShown TeamShown) → member_seat m ≡ seat_at hands s b n → (pass_in m).who ≡ n
+  who_is (One w) seat = ap (λ (x : Seat). x.who) seat
+  who_is (Several t) seat = ap (λ (x : Seat). x.who) seat
 
-  pub table_is : (m : Member WorkerShown TeamShown) (rest : List (Member WorkerShown TeamShown)) → HaveRunFrom b hands s n (m ∷ rest) → (pass_in m).table ≡ b.table
-  table_is (One w) rest run = ap (λ (x : Seat). x.table) run.0
-  table_is (Several t) rest run = ap (λ (x : Seat). x.table) run.0
+  table_is : (m : Member WorkerShown TeamShown) → member_seat m ≡ seat_at hands s b n → (pass_in m).table ≡ b.table
+  table_is (One w) seat = ap (λ (x : Seat). x.table) seat
+  table_is (Several t) seat = ap (λ (x : Seat). x.table) seat
 
-  pub setup_is : (m : Member WorkerShown TeamShown) (rest : List (Member WorkerShown TeamShown)) → HaveRunFrom b hands s n (m ∷ rest) → (pass_in m).view.setup ≡ b.setup
-  setup_is (One w) rest run = ap (λ (x : Seat). x.setup) run.0
-  setup_is (Several t) rest run = ap (λ (x : Seat). x.setup) run.0
+  setup_is : (m : Member WorkerShown TeamShown) → member_seat m ≡ seat_at hands s b n → (pass_in m).view.setup ≡ b.setup
+  setup_is (One w) seat = ap (λ (x : Seat). x.setup) seat
+  setup_is (Several t) seat = ap (λ (x : Seat). x.setup) seat
 
   at_seat : (P : Setting → ℕ → Type 0) (t : Setting) (who : ℕ) → t ≡ s → who ≡ n → P t who → P s n
   at_seat P t who setting is h = subst (λ k. P s k) is (subst (λ k. P k who) setting h)
 
   -- of several hands: its caller is an application
-  past : (t : TeamShown) (rest : List (Member WorkerShown TeamShown)) (run : HaveRunFrom b hands s n (Several t ∷ rest)) → n ≡ caller_of s.config t.last.app
-  past t rest run =
-      at_seat (λ x k. k ≡ caller_of x.config t.last.app) t.setting t.last.pass.who (ap (λ (x : Seat). x.setting) run.0) (ap (λ (x : Seat). x.who) run.0) run.1.team.caller
+  past : (t : TeamShown) → team_seat t ≡ seat_at hands s b n → TeamHasRun t → n ≡ caller_of s.config t.last.app
+  past t seat run =
+      at_seat (λ x k. k ≡ caller_of x.config t.last.app) t.setting t.last.pass.who (ap (λ (x : Seat). x.setting) seat) (ap (λ (x : Seat). x.who) seat) run.team.caller
 
-  pub whole_here : (m : Member WorkerShown TeamShown) (rest : List (Member WorkerShown TeamShown)) → (hands ≡ 1) ⊎ (s.manner ≡ plain) → HaveRunFrom b hands s n (m ∷ rest) → IsWholeRunOf hands s n (own n (pass_in m).view.seen)
-  whole_here (One w) rest changes_nothing run =
-      whole_alone hands s n (own n w.pass.view.seen) (sym (ap (λ (x : Seat). x.alone) run.0))
-      (at_seat (λ x k. IsWholeRun x k (own k w.pass.view.seen)) w.setting w.pass.who (ap (λ (x : Seat). x.setting) run.0) (ap (λ (x : Seat). x.who) run.0) run.1)
-  whole_here (Several t) rest changes_nothing run =
-      whole_split hands s n t.last.app (own n t.last.pass.view.seen) (sym (ap (λ (x : Seat). x.alone) run.0)) changes_nothing (past t rest run)
-      (at_seat (λ x k. IsWholeSplitRun x.config t.last.app (own k t.last.pass.view.seen)) t.setting t.last.pass.who (ap (λ (x : Seat). x.setting) run.0) (ap (λ (x : Seat). x.who) run.0) run.1.whole)
+  whole_here : (m : Member WorkerShown TeamShown) → (hands ≡ 1) ⊎ (s.manner ≡ plain) → member_seat m ≡ seat_at hands s b n → MemberHasRun m → IsWholeRunOf hands s n (own n (pass_in m).view.seen)
+  whole_here (One w) changes_nothing seat run =
+      whole_alone hands s n (own n w.pass.view.seen) (sym (ap (λ (x : Seat). x.alone) seat))
+      (at_seat (λ x k. IsWholeRun x k (own k w.pass.view.seen)) w.setting w.pass.who (ap (λ (x : Seat). x.setting) seat) (ap (λ (x : Seat). x.who) seat) run)
+  whole_here (Several t) changes_nothing seat run =
+      whole_split hands s n t.last.app (own n t.last.pass.view.seen) (sym (ap (λ (x : Seat). x.alone) seat)) changes_nothing (past t seat run)
+      (at_seat (λ x k. IsWholeSplitRun x.config t.last.app (own k t.last.pass.view.seen)) t.setting t.last.pass.who (ap (λ (x : Seat). x.setting) seat) (ap (λ (x : Seat). x.who) seat) run.whole)
 
-  pub left_here : (m : Member WorkerShown TeamShown) (rest : List (Member WorkerShown TeamShown)) (left : Option AnyWorker) → HaveRunFrom b hands s n (m ∷ rest) → IsLeftOf Stands m left
+  left_here : (m : Member WorkerShown TeamShown) (left : Option AnyWorker) → member_seat m ≡ seat_at hands s b n → MemberHasRun m → IsLeftOf m left
       → StandsLeft s n left (own n (pass_in m).view.seen)
-  left_here (One w) rest None run is = absurd is
-  left_here (One w) rest (Some machine) run is =
-      at_seat (λ x k. Stands x k machine Ended (own k w.pass.view.seen)) w.setting w.pass.who (ap (λ (x : Seat). x.setting) run.0) (ap (λ (x : Seat). x.who) run.0) (is run.1)
-  left_here (Several t) rest None run is = omega (arith, past t rest run)
-  left_here (Several t) rest (Some machine) run is = absurd is
+  left_here (One w) None seat run is = absurd is
+  left_here (One w) (Some machine) seat run is =
+      at_seat (λ x k. Stands x k machine Ended (own k w.pass.view.seen)) w.setting w.pass.who (ap (λ (x : Seat). x.setting) seat) (ap (λ (x : Seat). x.who) seat) (is run)
+  left_here (Several t) None seat run is = omega (arith, past t seat run)
+  left_here (Several t) (Some machine) seat run is = absurd is
+
+-- a member in its seat whose calls are whole is done
+pub is_done : (b : Board) (hands : ℕ) (s : Setting) (n : ℕ) (m : Member WorkerShown TeamShown) → (hands ≡ 1) ⊎ (s.manner ≡ plain) → member_seat m ≡ seat_at hands s b n → MemberHasRun m → IsDone b hands s n (pass_in m) (IsLeftOf m)
+is_done b hands s n m changes_nothing seat run = record {
+  who = who_is b hands s n m seat;
+  table = table_is b hands s n m seat;
+  setup = setup_is b hands s n m seat;
+  whole = whole_here b hands s n m changes_nothing seat run;
+  left = λ left is. left_here b hands s n m left seat run is;
+}
+
+have_run : (b : Board) (hands : ℕ) (s : Setting) (n : ℕ) (ms : List (Member WorkerShown TeamShown)) → (hands ≡ 1) ⊎ (s.manner ≡ plain) → map member_seat ms ≡ map (seat_at hands s b) (range_with_len n (length ms))
+    → All MemberHasRun ms → HaveRunFrom pass_in IsLeftOf b hands s n ms
+have_run b hands s n [] changes_nothing seats whole = tt
+have_run b hands s n (m ∷ ms) changes_nothing seats whole = (
+  is_done b hands s n m changes_nothing (ap (λ (xs : List Seat). get_or xs 0 (member_seat m)) seats) (All-head MemberHasRun m ms whole),
+  have_run b hands s (n + 1) ms changes_nothing (ap (drop 1) seats) (All-tail MemberHasRun m ms whole),
+)
+
+pub will_have_run : (b : Board) (hands : ℕ) (s : Setting) (seats : List Seat) → s.config ≡ b.setup.config → (hands ≡ 1) ⊎ (s.manner ≡ plain)
+    → seats ≡ map (seat_at hands s b) (range_with_len 0 (callers_of b.setup.config)) → WillHaveRun pass_in IsLeftOf member_seat MemberHasRun b hands s seats
+will_have_run b hands s seats config changes_nothing are ms same whole =
+    let here : map member_seat ms ≡ map (seat_at hands s b) (range_with_len 0 (callers_of b.setup.config)) = same ∙ are in
+    let count : length ms ≡ callers_of b.setup.config = seats_count b hands s ms here in
+    record { config = config; count = count; run = have_run b hands s 0 ms changes_nothing (here ∙ ap (λ n. map (seat_at hands s b) (range_with_len 0 n)) (sym count)) whole }
 
 -- there is room for what is kept of a driver
 pub kept_few : {X : Type 0} (Is : ℕ → List Told → X → Type 0) (s : Setting) (n : ℕ) (passes : List (Option Holder)) (xs : List X) (left : Option AnyWorker) (l : List Told) → StandsLeft s n left l → AreKept Is s n passes xs
@@ -266,6 +279,15 @@ pub as_many : (classes : ℕ) (left : Option AnyWorker) → length (figures_left
 as_many classes None = refl
 as_many classes (Some (Driver d)) = refl
 as_many classes (Some (App a)) = refl
+
+-- there is room for what is left of a member
+pub has_room : (s : Setting) (n : ℕ) (passes : List (Option Holder)) (kept : Collected) (classes : ℕ) (left : Option AnyWorker) (l : List Told) → StandsLeft s n left l
+    → AreSent s n passes (map packets_in (vec_items kept.sent)) → AreFiguresOf s n passes (vec_items kept.figures)
+    → length s.config.pairs ≤ vec_capacity kept.figures → length s.config.pairs ≤ vec_capacity kept.sent → HasRoomFor kept classes left
+has_room s n passes kept classes left l stands sent figures for_figures for_sent = record {
+  figures = omega (arith, kept_few (IsFiguresOf s) s n passes (vec_items kept.figures) left l stands figures, as_many classes left, for_figures, kept.figures.ok.0);
+  sent = omega (arith, kept_few (IsSentOf s) s n passes (map packets_in (vec_items kept.sent)) left l stands sent, length-map (vec_items kept.sent) packets_in, for_sent, kept.sent.ok.0);
+}
 
 -- members in these seats are on the table
 pub are_on : (b : Board) (hands : ℕ) (s : Setting) (n k : ℕ) (ms : List (Member WorkerShown TeamShown)) → map member_seat ms ≡ map (seat_at hands s b) (range_with_len n k) → All (λ m. IsSeatOn b (member_seat m)) ms

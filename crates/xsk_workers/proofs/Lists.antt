@@ -43,6 +43,16 @@ module _ {H W S : Type 0} (told : H → S) (seat : W → S) where
       ∙ (ap (λ l. (map told l ++ []) ++ map seat rest) last
       ∙ (ap (λ l. (l ++ []) ++ map seat rest) (map-append told started (x ∷ [])) ∙ to_first (map told started) (map seat rest) all (told x) split))
 
+  -- one that is told comes back
+  pub one_back : (done more : List W) (left rest : List H) (all : List S) (x : H) (w : W)
+      → left ≡ x ∷ rest → more ≡ done ++ w ∷ [] → seat w ≡ told x → map seat done ++ map told left ≡ all → map seat more ++ map told rest ≡ all
+  one_back done more left rest all x w first last same h =
+      ap (λ l. map seat l ++ map told rest) last
+      ∙ (ap (λ l. l ++ map told rest) (map-append seat done (w ∷ []))
+      ∙ (append_assoc (map seat done) (seat w ∷ []) (map told rest)
+      ∙ (ap (λ s. map seat done ++ s ∷ map told rest) same
+      ∙ (ap (λ l. map seat done ++ map told l) (sym first) ∙ h))))
+
 -- where none is left, all are there
-pub all_out : {W S : Type 0} (seat : W → S) (done rest : List W) (all : List S) → rest ≡ [] → map seat done ++ map seat rest ≡ all → map seat done ≡ all
-all_out seat done rest all none h = sym (append-nil (map seat done)) ∙ ap (λ l. map seat done ++ map seat l) (sym none) ∙ h
+pub all_out : {W H S : Type 0} (seat : W → S) (told : H → S) (done : List W) (rest : List H) (all : List S) → rest ≡ [] → map seat done ++ map told rest ≡ all → map seat done ≡ all
+all_out seat told done rest all none h = sym (append-nil (map seat done)) ∙ ap (λ l. map seat done ++ map told l) (sym none) ∙ h

@@ -1,12 +1,15 @@
 -- What a worker's call and its answer tell of its sleep, and whose parker is whose.
-use Rattle.std.proofs.Common.{◌≡◌, ℕ, ◌+◌, Option, Some, None, List, [], ◌∷◌, ◌++◌, map, refl, sym, ap, subst, ◌∙◌, suc, arith}
+use Rattle.std.proofs.Common.{◌≡◌, ℕ, ◌+◌, ◌≤◌, length, Bool, true, false, Option, Some, None, List, [], ◌∷◌, ◌++◌, map, refl, sym, ap, subst, ◌∙◌, suc, arith}
+use Rattle.std.specs.Prelude.{if◌then◌else◌}
 use Rattle.std.specs.List.{slice_get}
 use Rattle.std.specs.Option.{option_map, option_to_list}
 use Rattle.std.specs.declared.alloc.Global.{Global}
-use Rattle.std.proofs.lemmas.Option.{slice_get-map}
+use Rattle.std.proofs.lemmas.Option.{slice_get-map, slice_get_past}
+use Rattle.std.proofs.lemmas.List.{length-map}
 use Rattle.atomic_table.specs.Seated.{TableId}
 use Rattle.crossbeam_utils.specs.declared.rule.Unruled.{Unruled}
 use Rattle.crossbeam_utils.specs.declared.sync.parker.RuledParker.{RuledParker}
+use Rattle.crossbeam_utils.specs.declared.sync.parker.RuledUnparker.{RuledUnparker}
 use Rattle.xsk_umem.specs.declared.batch.Item.{Item}
 use Rattle.xsk_model.specs.Asks.{joined_call, joined_reply, ask_of, answer_of}
 use Rattle.xsk_model.specs.Entry.{Told, with_told, own}
@@ -17,23 +20,13 @@ use Rattle.xsk_model.specs.declared.ask.Answer.TheVariants.{Old}
 use Rattle.xsk_model.specs.declared.call.Mark.TheVariants.{Kick}
 use Rattle.xsk_model.proofs.AskTheorems.{asks_join, answers_join}
 use Rattle.xsk_turns.specs.Wakes.{IsParked}
+use Rattle.xsk_laws.proofs.LastCalls.{same_last}
 use Rattle.xsk_table.specs.Held.{Holder}
 use Rattle.xsk_rings.specs.Serving.{Served}
 use Rattle.xsk_rings.proofs.Telling.{may_give_served}
-use Rattle.xsk_workers.specs.Parking.{token_in, IsParkerOf}
+use Rattle.xsk_workers.specs.Parking.{token_in, token_of, IsParkerOf}
 
 -- ---- the last call
-
-abbrev last_or : Told → List Told → Told
-last_or d [] = d
-last_or d (x ∷ xs) = last_or x xs
-
-last_or-push : (d : Told) (xs : List Told) (x : Told) → last_or d (xs ++ x ∷ []) ≡ x
-last_or-push d [] x = refl
-last_or-push d (y ∷ ys) x = last_or-push y ys x
-
-same_last : (xs ys : List Told) (x y : Told) → xs ++ x ∷ [] ≡ ys ++ y ∷ [] → x ≡ y
-same_last xs ys x y same = sym (last_or-push x xs x) ∙ ap (last_or x) same ∙ last_or-push x ys y
 
 module _ (p q : Holder) (ask : Ask) (answer : Answer) (items left : List Item) (served : Served p q (joined_call ask items) (joined_reply answer left)) where
   mine : List Told
@@ -76,3 +69,13 @@ module _ (tokens : List TableId) (n : ℕ) (all rest : List (RuledParker (Unit {
       let sum : n + suc k ≡ n + 1 + k = omega arith in
       ap (λ l. option_map token_in (slice_get l k)) (none refl) ∙ subst (AreParkersFrom tokens n) (is ∙ none refl) h (suc k) ∙ ap (slice_get tokens) sum
   later_parkers (Some x) is none h k = let sum : n + suc k ≡ n + 1 + k = omega arith in subst (AreParkersFrom tokens n) is h (suc k) ∙ ap (slice_get tokens) sum
+
+-- past those of the drivers there is none
+pub no_parker : (wakers : List (RuledUnparker (Unit {0}) Unruled Global)) (n : ℕ) → length wakers ≤ n → IsParkerOf (map token_of wakers) n None
+no_parker wakers n past = sym (slice_get_past (map token_of wakers) n (omega (arith, past, length-map wakers token_of)))
+
+-- and they are no more than the pairs
+pub few_wakers : (parkers : List (RuledParker (Unit {0}) Unruled Global)) (wakers : List (RuledUnparker (Unit {0}) Unruled Global)) (wakeup : Bool) (pairs : ℕ)
+    → length parkers ≡ (if wakeup then pairs else 0) → map token_in parkers ≡ map token_of wakers → length wakers ≤ pairs
+few_wakers parkers wakers true pairs count tied = omega (arith, count, length-map wakers token_of, length-map parkers token_in, ap (length {A = TableId}) tied)
+few_wakers parkers wakers false pairs count tied = omega (arith, count, length-map wakers token_of, length-map parkers token_in, ap (length {A = TableId}) tied)

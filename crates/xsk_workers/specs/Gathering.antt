@@ -1,30 +1,47 @@
 -- Members before and after they ran, in the order of their numbers.
-use Rattle.std.specs.Prelude.{◌≡◌, ◌⊎◌, ℕ, ◌+◌, ◌<◌, ◌≤◌, Option, Some, None, List, [], ◌∷◌, length, get_or}
+use Rattle.std.specs.Prelude.{◌≡◌, ℕ, ◌+◌, ◌<◌, ◌≤◌, Option, Some, None, List, [], ◌∷◌, length, map, get_or, All}
 use Rattle.xsk_model.specs.Config.{callers_of}
 use Rattle.xsk_model.specs.Entry.{Told, own}
+use Rattle.xsk_model.specs.declared.call.Act.TheVariants.{Ended}
 use Rattle.xsk_turns.specs.Hands.{IsWholeRunOf}
-use Rattle.xsk_turns.specs.Mangling.{plain}
 use Rattle.xsk_turns.specs.Workers.{Setting, input_of}
 use Rattle.xsk_machine.specs.Acts.{sent_along}
 use Rattle.xsk_machine.specs.Figured.{driver_figures_by}
 use Rattle.xsk_machine.specs.declared.figures.DriverFigures.{DriverFigures}
 use Rattle.xsk_machine.proofs.Acts.{IsWithin}
 use Rattle.xsk_table.specs.Held.{Board, Holder, new_pass}
-use Rattle.xsk_workers.specs.Shown.{WorkerShown, seat_at}
-use Rattle.xsk_workers.specs.Hands.{TeamShown}
-use Rattle.xsk_workers.specs.Members.{member_seat, MemberHasRun}
-use Rattle.xsk_workers.specs.declared.member.Member.{Member}
+use Rattle.xsk_machine.specs.Workers.{Stands}
+use Rattle.xsk_machine.specs.declared.worker.AnyWorker.{AnyWorker}
+use Rattle.xsk_workers.specs.Crew.{Seat}
 
--- members that have ended, each in its seat, by number from one on
-abbrev pub HaveRunFrom : Board → ℕ → Setting → ℕ → List (Member WorkerShown TeamShown) → Type 0
-HaveRunFrom b hands s n [] = Unit {0}
-HaveRunFrom b hands s n (m ∷ ms) = (member_seat m ≡ seat_at hands s b n) × MemberHasRun m × HaveRunFrom b hands s (n + 1) ms
+-- what is left of a caller of this number: a machine that has ended, or of an application nothing
+abbrev pub StandsLeft : Setting → ℕ → Option AnyWorker → List Told → Type 0
+StandsLeft s n None l = length s.config.pairs ≤ n
+StandsLeft s n (Some m) l = Stands s n m Ended l
 
--- those of all callers of a table, in a setting of its configuration, by so many hands; by several, applications change nothing
-pub record HaveRun (b : Board) (hands : ℕ) (s : Setting) (members : List (Member WorkerShown TeamShown)) : Type 0 where
-  pub config : s.config ≡ b.setup.config
-  pub plain : (hands ≡ 1) ⊎ (s.manner ≡ plain)
-  pub run : HaveRunFrom b hands s 0 members
+-- a member that has ended, by its pass and what may be left of it: by so many hands, it made a whole run of this caller of a table
+pub record IsDone (b : Board) (hands : ℕ) (s : Setting) (n : ℕ) (p : Holder) (leaves : Option AnyWorker → Type 0) : Type 0 where
+  pub who : p.who ≡ n
+  pub table : p.table ≡ b.table
+  pub setup : p.view.setup ≡ b.setup
+  pub whole : IsWholeRunOf hands s n (own n p.view.seen)
+  pub left : (left : Option AnyWorker) → leaves left → StandsLeft s n left (own n p.view.seen)
+
+module _ {W : Type 0} (pass : W → Holder) (leaves : W → Option AnyWorker → Type 0) where
+  -- members that have ended, by number from one on
+  abbrev pub HaveRunFrom : Board → ℕ → Setting → ℕ → List W → Type 0
+  HaveRunFrom b hands s n [] = Unit {0}
+  HaveRunFrom b hands s n (m ∷ ms) = IsDone b hands s n (pass m) (leaves m) × HaveRunFrom b hands s (n + 1) ms
+
+  -- those of all callers of a table, in a setting of its configuration
+  pub record HaveRun (b : Board) (hands : ℕ) (s : Setting) (members : List W) : Type 0 where
+    pub config : s.config ≡ b.setup.config
+    pub count : length members ≡ callers_of b.setup.config
+    pub run : HaveRunFrom b hands s 0 members
+
+  -- members in these seats have run once their calls are whole
+  abbrev pub WillHaveRun : (W → Seat) → (W → Type 0) → Board → ℕ → Setting → List Seat → Type 0
+  WillHaveRun seat has_run b hands s seats = (members : List W) → map seat members ≡ seats → All has_run members → HaveRun b hands s members
 
 -- the passes of the first callers are taken, and the others are there, with no call made
 pub record AreTaken (b : Board) (count : ℕ) (passes : List (Option Holder)) : Type 0 where

@@ -1,26 +1,23 @@
-//! A worker to its end, in its thread.
+//! A caller to its end, in its thread.
 ghost use Rattle.std.specs.Prelude.{◌≡◌};
 ghost use Rattle.xsk_workers.specs.Crew.{IsSeatOn};
-ghost use Rattle.xsk_workers.specs.Shown.{seat_of};
 
-use crate::context::Context;
 use crate::pace::Pace;
-use crate::worker::Worker;
+use crate::runner::Rests;
 use crossbeam_utils::Backoff;
 use std::sync::Wait;
 use xsk_gate::Gate;
-use xsk_machine::Machine;
 use xsk_table::Shared;
 
-/// Makes turns of a worker, each behind the gate, until it has ended.
-pub(crate) fn run_alone<R: Wait, M: Machine + Drop, P: Context, G: Gate>(
+/// Makes turns, each behind the gate, until they have ended.
+pub(crate) fn run_alone<R: Wait, W: Rests, G: Gate>(
     rt: &R,
     shared: &Shared,
     gate: &G,
-    worker: Worker<M, P>,
-) -> Worker<M, P>
-    requires { IsSeatOn shared.now (seat_of worker) }
-    ensures { seat_of result ≡ seat_of worker }
+    worker: W,
+) -> W
+    requires { IsSeatOn shared.now (W.seat worker) }
+    ensures { W.seat result ≡ W.seat worker }
 {
     let mut worker = worker;
     let number = worker.caller();

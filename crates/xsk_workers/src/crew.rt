@@ -1,10 +1,10 @@
 //! All workers of a run in threads of their own.
-ghost use Rattle.std.specs.Prelude.{◌≡◌, ℕ, ◌≤◌, List, [], map, All, vec_len, vec_capacity, IfOk};
+ghost use Rattle.std.specs.Prelude.{◌≡◌, ℕ, ◌+◌, ◌≤◌, List, [], ◌++◌, map, All, vec_len, vec_capacity, IfOk};
 ghost use Rattle.xsk_table.specs.Held.{Board};
 ghost use Rattle.xsk_workers.specs.Crew.{Seat, IsSeatOn};
 ghost use denote.Param.Send.{IsSend, IsSync};
 
-use crate::runner::{Opens, Runner};
+use crate::runner::{Opens, Turns};
 use crate::running::{Handed, finish, start};
 use std::alloc::{AllocError, Global};
 use std::marker::Model;
@@ -18,7 +18,7 @@ use xsk_table::Shared;
 
 /// Workers before they start, with room for them to come back to, which is taken before any of them starts.
 #[derive(Drop)]
-pub(crate) struct Crew<W: Runner + Drop> {
+pub(crate) struct Crew<W: Turns + Drop> {
     shared: Snapshot<Shared>,
     workers: Vec<W>,
     handles: Vec<PromisedHandle<W, Handed<W>>>,
@@ -26,7 +26,7 @@ pub(crate) struct Crew<W: Runner + Drop> {
     done: Vec<W>,
 }
 
-impl<W: Runner + Drop> Model for Crew<W> {
+impl<W: Turns + Drop> Model for Crew<W> {
     ghost use Rattle.std.specs.Prelude.{map, All};
     ghost use Rattle.xsk_workers.specs.Crew.{CrewShown, IsSeatOn, HaveRoom};
 
@@ -37,7 +37,7 @@ impl<W: Runner + Drop> Model for Crew<W> {
     ghost invariant = { λ c. All (λ w. IsSeatOn c.shared.value (W.seat w)) c.workers.items × HaveRoom c.workers c.handles c.unrun c.done };
 }
 
-impl<W: Runner + Drop> Crew<W> {
+impl<W: Turns + Drop> Crew<W> {
     /// The crew of these workers.
     pub(crate) fn new(
         alloc: Global,
@@ -59,6 +59,41 @@ impl<W: Runner + Drop> Crew<W> {
             done,
         })
     }
+}
+
+/// Puts the workers that come back from their threads behind those that are there.
+fn join_all<R: Threads + Wait + Sync, W: Turns + Drop + Send>(
+    rt: &R,
+    handles: Vec<PromisedHandle<W, Handed<W>>>,
+    done: &mut Vec<W>,
+)
+    requires { vec_len done.old + vec_len handles ≤ vec_capacity done.old }
+    ensures seats { map W.seat done.new.items ≡ map W.seat done.old.items ++ map (λ h. W.seat h.promise.member.value) handles.items }
+    ensures count { vec_len done.new ≡ vec_len done.old + vec_len handles }
+    ensures room { vec_capacity done.new ≡ vec_capacity done.old }
+{
+    for handle in handles {
+        done.push_reserved(handle.join(rt));
+    }
+}
+
+/// All workers in their order: first those in threads, once they come back.
+fn gather<R: Threads + Wait + Sync, W: Turns + Drop + Send>(
+    rt: &R,
+    handles: Vec<PromisedHandle<W, Handed<W>>>,
+    unrun: Vec<W>,
+    done: Vec<W>,
+) -> Vec<W>
+    requires none { done.items ≡ [] }
+    requires room { vec_len handles + vec_len unrun ≤ vec_capacity done }
+    ensures { map W.seat result.items ≡ map (λ h. W.seat h.promise.member.value) handles.items ++ map W.seat unrun.items }
+{
+    let mut done = done;
+    join_all(rt, handles, &mut done);
+    for worker in unrun {
+        done.push_reserved(worker);
+    }
+    done
 }
 
 /// Runs workers, each in a thread of its own where one can be had, and gives them back in their order.
@@ -87,7 +122,7 @@ fn run_in_scope<R: Threads + Wait + Sync, W: Opens + Drop + Send, G: Gate + Sync
                 workers,
                 mut handles,
                 mut unrun,
-                mut done,
+                done,
             } = crew;
             for worker in workers {
                 if !unrun.is_empty() {
@@ -113,13 +148,7 @@ fn run_in_scope<R: Threads + Wait + Sync, W: Opens + Drop + Send, G: Gate + Sync
                 }
             }
             finish(rt, shared, &mut unrun);
-            for handle in handles {
-                done.push_reserved(handle.join(rt));
-            }
-            for worker in unrun {
-                done.push_reserved(worker);
-            }
-            done
+            gather(rt, handles, unrun, done)
         },
     )
 }

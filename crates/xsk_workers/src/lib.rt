@@ -13,6 +13,7 @@ mod parking;
 mod plan;
 mod runner;
 mod running;
+mod seating;
 mod team;
 mod teams;
 mod worker;

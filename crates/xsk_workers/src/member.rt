@@ -1,20 +1,16 @@
-//! A member of a crew: a worker, or an application by several hands.
+//! A member of a crew: one machine, or an application by several hands.
 ghost use Rattle.std.specs.Prelude.{◌≡◌};
-ghost use Rattle.xsk_table.specs.View.{idle};
-ghost use Rattle.xsk_workers.specs.Shown.{AreCounted};
-ghost use Rattle.xsk_workers.specs.Members.{member_seat, MemberHasRun, pass_in, IsLeftOf};
 
 use crate::alone::run_alone;
 use crate::context::Context;
 use crate::pace::Pace;
 use crate::plan::{HandsPlan, Rest};
-use crate::runner::{Opens, Runner};
-use crate::team::{Team, run_last};
-use crate::worker::Worker;
+use crate::runner::{Leaves, Opens, Rests, Runner, Turns};
+use crate::team::Team;
 use crossbeam_utils::sync::Unparker;
 use std::sync::Wait;
 use xsk_gate::Gate;
-use xsk_machine::Machine;
+use xsk_machine::Collected;
 use xsk_shared_ends::Ends;
 use xsk_table::{Pass, Shared};
 
@@ -25,12 +21,14 @@ pub(crate) enum Member<A, B> {
     Several(B),
 }
 
-impl<'a, M: Machine + Drop, P: Context> Runner for Member<Worker<M, P>, Team<'a, P>> {
-    ghost use Rattle.xsk_workers.specs.Members.{member_seat, MemberHasRun};
+impl<A: Turns, B: Turns> Turns for Member<A, B> {
+    ghost use Rattle.xsk_workers.specs.Members.{either_seat, EitherIs};
 
-    ghost seat = { member_seat };
+    ghost seat = { either_seat A.seat B.seat };
 
-    ghost has_run = { MemberHasRun };
+    ghost has_run = { EitherIs A.has_run B.has_run };
+
+    ghost is_asleep = { EitherIs A.is_asleep B.is_asleep };
 
     fn caller(&self) -> u32 {
         match self {
@@ -42,23 +40,25 @@ impl<'a, M: Machine + Drop, P: Context> Runner for Member<Worker<M, P>, Team<'a,
     fn turn(&mut self, shared: &Shared) -> Pace {
         match self {
             Member::One(worker) => worker.turn(shared),
-            Member::Several(team) => Pace::of_last(team.turn(shared)),
-        }
-    }
-
-    fn run<R: Wait, G: Gate>(self, rt: &R, shared: &Shared, gate: &G) -> Self {
-        match self {
-            Member::One(worker) => Member::One(run_alone(rt, shared, gate, worker)),
-            Member::Several(team) => Member::Several(run_last(rt, shared, gate, team)),
+            Member::Several(team) => team.turn(shared),
         }
     }
 }
 
-impl<'a, M: Machine + Drop, P: Context> Opens for Member<Worker<M, P>, Team<'a, P>> {
+impl<A: Rests, B: Rests> Runner for Member<A, B> {
+    fn run<R: Wait, G: Gate>(self, rt: &R, shared: &Shared, gate: &G) -> Self {
+        match self {
+            Member::One(worker) => Member::One(run_alone(rt, shared, gate, worker)),
+            Member::Several(team) => Member::Several(run_alone(rt, shared, gate, team)),
+        }
+    }
+}
+
+impl<'a, A: Rests, P: Context> Opens for Member<A, Team<'a, P>> {
     ghost use Rattle.std.specs.Prelude.{◌≡◌};
     ghost use Rattle.xsk_shared_ends.specs.Shown.{name_of};
-    ghost use Rattle.xsk_workers.specs.Hands.{named_seat, GoesWith};
-    ghost use Rattle.xsk_workers.specs.Members.{member_seat};
+    ghost use Rattle.xsk_workers.specs.Hands.{named_seat, team_seat, GoesWith};
+    ghost use Rattle.xsk_workers.specs.Members.{either_seat};
 
     type Ends = Ends<'a>;
 
@@ -88,29 +88,23 @@ impl<'a, M: Machine + Drop, P: Context> Opens for Member<Worker<M, P>, Team<'a, 
 
     fn shut(rest: Rest<P>, ends: Ends<'a>) -> Self
         requires { GoesWith (P.setting rest.place) rest.who (name_of ends) }
-        ensures { member_seat result ≡ named_seat (P.setting rest.place) (name_of ends.entry) }
+        ensures { either_seat A.seat team_seat result ≡ named_seat (P.setting rest.place) (name_of ends.entry) }
     {
         Member::Several(Team::new(rest, ends))
     }
 }
 
-impl<'a, M: Machine + Drop, P: Context> Member<Worker<M, P>, Team<'a, P>> {
-    /// What is left of a member, its pass, and the number of its calls: of a worker its machine, of several hands none.
-    pub(crate) fn into_parts(self) -> (Option<M>, Pass, u64)
-        ensures left { IsLeftOf M.stands self.entry result.0 }
-        ensures pass { result.1 ≡ pass_in self.entry }
-        ensures rests { (pass_in self.entry).view.flight ≡ idle }
-        ensures calls { AreCounted result.2 (pass_in self.entry) }
-    {
+impl<A: Leaves, B: Leaves> Leaves for Member<A, B> {
+    ghost use Rattle.xsk_workers.specs.Members.{either_pass, EitherLeaves};
+
+    ghost pass = { either_pass A.pass B.pass };
+
+    ghost leaves = { EitherLeaves A.leaves B.leaves };
+
+    fn leave(self, kept: &mut Collected, classes: u32) -> (Pass, u64) {
         match self {
-            Member::One(worker) => {
-                let (machine, pass, calls) = worker.into_parts();
-                (Some(machine), pass, calls)
-            }
-            Member::Several(team) => {
-                let (pass, calls) = team.into_parts();
-                (None, pass, calls)
-            }
+            Member::One(worker) => worker.leave(kept, classes),
+            Member::Several(team) => team.leave(kept, classes),
         }
     }
 }

@@ -37,11 +37,17 @@ impl Pace {
         ensures moved { result ≡ Moved ↔ (self ≡ Moved) ⊎ (other ≡ Moved) }
         ensures ended { result ≡ Ended ↔ (self ≡ Ended) × (other ≡ Ended) }
     {
-        match (self, other) {
-            (Pace::Moved, _) | (_, Pace::Moved) => Pace::Moved,
-            (Pace::Waited, _) | (_, Pace::Waited) => Pace::Waited,
-            (Pace::Parked, _) | (_, Pace::Parked) => Pace::Parked,
-            (Pace::Ended, Pace::Ended) => Pace::Ended,
+        match self {
+            Pace::Moved => Pace::Moved,
+            Pace::Waited => match other {
+                Pace::Moved => Pace::Moved,
+                _ => Pace::Waited,
+            },
+            Pace::Parked => match other {
+                Pace::Ended => Pace::Parked,
+                _ => other,
+            },
+            Pace::Ended => other,
         }
     }
 }

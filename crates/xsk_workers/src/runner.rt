@@ -1,24 +1,33 @@
 //! What a crew runs: the calls of a caller, in a thread of its own or one after another beside others.
-ghost use Rattle.std.specs.Prelude.{◌≡◌, IfOk, IfErr};
-ghost use Rattle.xsk_table.specs.Held.{Board};
+ghost use Rattle.std.specs.Prelude.{◌≡◌, Option, IfOk, IfErr};
+ghost use Rattle.xsk_machine.specs.declared.worker.AnyWorker.{AnyWorker as AWorker};
+ghost use Rattle.xsk_table.specs.View.{idle};
+ghost use Rattle.xsk_table.specs.Held.{Board, Holder};
 ghost use Rattle.xsk_workers.specs.Crew.{Seat, IsSeatOn};
-ghost use Rattle.xsk_workers.specs.declared.pace.Pace.TheVariants.{Ended};
+ghost use Rattle.xsk_workers.specs.Keeping.{HasRoomFor, Keeps};
+ghost use Rattle.xsk_workers.specs.Shown.{AreCounted};
+ghost use Rattle.xsk_workers.specs.declared.pace.Pace.TheVariants.{Parked, Ended};
 
 use crate::pace::Pace;
 use crate::plan::HandsPlan;
 use crate::works::Works;
+use crossbeam_utils::Backoff;
 use crossbeam_utils::sync::Unparker;
 use std::sync::Wait;
 use xsk_gate::Gate;
-use xsk_table::Shared;
+use xsk_machine::Collected;
+use xsk_table::{Pass, Shared};
 
-/// The calls of one caller of a setting, to their end.
-pub(crate) trait Runner {
+/// The calls of one caller of a setting, one turn at a time.
+pub(crate) trait Turns {
     // The caller, its table and its setting.
     ghost seat: { Self → Seat };
 
     // Its calls and replies are whole.
     ghost has_run: { Self → Type 0 };
+
+    // It waits to be kicked.
+    ghost is_asleep: { Self → Type 0 };
 
     /// The caller's number.
     fn caller(&self) -> u32
@@ -28,12 +37,23 @@ pub(crate) trait Runner {
     fn turn(&mut self, shared: &Shared) -> Pace
         requires { IsSeatOn shared.now (seat self.old) }
         ensures seat { seat self.new ≡ seat self.old }
-        ensures whole { result ≡ Ended → has_run self.new };
+        ensures whole { result ≡ Ended → has_run self.new }
+        ensures parked { result ≡ Parked → is_asleep self.new };
+}
 
+/// The calls of one machine, or of the last of several hands, which may sleep.
+pub(crate) trait Rests: Turns {
+    /// Waits until it is kicked, where it is parked: it spins and yields for a few looks, and then sleeps.
+    fn rest<R: Wait>(&self, rt: &R, backoff: &Backoff)
+        requires { Self.is_asleep self.now };
+}
+
+/// The calls of one caller of a setting, to their end.
+pub(crate) trait Runner: Turns {
     /// Makes turns, each behind the gate, until it has ended.
     fn run<R: Wait, G: Gate>(self, rt: &R, shared: &Shared, gate: &G) -> Self
-        requires { IsSeatOn shared.now (seat self) }
-        ensures { seat result ≡ seat self };
+        requires { IsSeatOn shared.now (Self.seat self) }
+        ensures { Self.seat result ≡ Self.seat self };
 }
 
 /// The calls of a caller that several hands may share: their ends can be taken out of it, and be put back.
@@ -66,4 +86,21 @@ pub(crate) trait Opens: Runner {
     fn shut(rest: Self::Rest, ends: Self::Ends) -> Self
         requires { goes_with rest (Self.Ends.name ends) }
         ensures { Self.seat result ≡ seat_by rest (Self.Ends.name ends) };
+}
+
+/// What leaves once its calls are whole.
+pub(crate) trait Leaves {
+    // Its pass.
+    ghost pass: { Self → Holder };
+
+    // This is left of it: a machine that has ended where its calls are whole, or none.
+    ghost leaves: { Self → Option AWorker → Type 0 };
+
+    /// Keeps what is left of it, where each queue has so many sockets. Gives its pass, and the number of its calls.
+    fn leave(self, kept: &mut Collected, classes: u32) -> (Pass, u64)
+        requires room { (left : Option AWorker) → leaves self left → HasRoomFor kept.old classes left }
+        ensures kept { (left : Option AWorker) × leaves self left × Keeps kept.old kept.new classes left }
+        ensures pass { result.0 ≡ pass self }
+        ensures rests { (pass self).view.flight ≡ idle }
+        ensures calls { AreCounted result.1 (pass self) };
 }

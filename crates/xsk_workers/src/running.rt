@@ -4,7 +4,7 @@ ghost use Rattle.xsk_workers.specs.Crew.{IsSeatOn};
 ghost use Rattle.xsk_workers.specs.declared.pace.Pace.TheVariants.{Ended};
 
 use crate::pace::Pace;
-use crate::runner::{Opens, Runner};
+use crate::runner::{Opens, Turns};
 use crate::teams::share_ends;
 use crossbeam_utils::Backoff;
 use std::snapshot::Snapshot;
@@ -16,11 +16,11 @@ use xsk_table::Shared;
 
 /// What is promised of a member that comes back from its thread: it is the caller of the same setting and table.
 #[derive(Drop)]
-pub(crate) struct Handed<W: Runner + Drop> {
+pub(crate) struct Handed<W: Turns + Drop> {
     pub(crate) member: Snapshot<W>,
 }
 
-impl<W: Runner + Drop> Promise<W> for Handed<W> {
+impl<W: Turns + Drop> Promise<W> for Handed<W> {
     ghost kept_by = { λ p w. W.seat w ≡ W.seat p.member.value };
 }
 
@@ -62,7 +62,7 @@ fn run_hands<R: Threads + Wait + Sync, W: Opens, G: Gate + Sync>(
 }
 
 /// Makes a turn of each member that hasn't ended. Says what came of all of them together.
-fn take_turns<W: Runner>(shared: &Shared, members: &mut Vec<W>) -> Pace
+fn take_turns<W: Turns>(shared: &Shared, members: &mut Vec<W>) -> Pace
     requires { All (λ w. IsSeatOn shared.now (W.seat w)) members.old.items }
     ensures belong { All (λ w. IsSeatOn shared.now (W.seat w)) members.new.items }
     ensures count { vec_len members.new ≡ vec_len members.old }
@@ -79,7 +79,7 @@ fn take_turns<W: Runner>(shared: &Shared, members: &mut Vec<W>) -> Pace
 }
 
 /// Runs members to their ends, one turn after another. It backs off while none of them moves anything, and doesn't sleep.
-pub(crate) fn finish<R: Wait, W: Runner>(rt: &R, shared: &Shared, members: &mut Vec<W>)
+pub(crate) fn finish<R: Wait, W: Turns>(rt: &R, shared: &Shared, members: &mut Vec<W>)
     requires { All (λ w. IsSeatOn shared.now (W.seat w)) members.old.items }
     ensures count { vec_len members.new ≡ vec_len members.old }
     ensures seats { map W.seat members.new.items ≡ map W.seat members.old.items }

@@ -11,12 +11,14 @@ ghost use Rattle.xsk_workers.specs.Hands.{team_seat, TeamHasRun, GoesWith};
 
 use crate::context::Context;
 use crate::hands::wake_sides;
+use crate::pace::Pace;
 use crate::plan::Rest;
+use crate::runner::{Leaves, Rests, Turns};
 use crate::works::Works;
 use crossbeam_utils::Backoff;
 use std::marker::Model;
 use std::sync::Wait;
-use xsk_gate::Gate;
+use xsk_machine::Collected;
 use xsk_shared_ends::{Ends, LastHand, Step, Turned};
 use xsk_table::{Pass, Shared};
 
@@ -77,13 +79,6 @@ impl<'a, P: Context> Team<'a, P> {
         }
     }
 
-    /// The caller whose pass it has.
-    pub(crate) fn caller(&self) -> u32
-        ensures { result ≡ self.now.last.pass.who }
-    {
-        self.rest.who
-    }
-
     /// The ends and the rest, while it has the ends.
     pub(crate) fn open(self) -> Result<(Ends<'a>, Rest<P>), Team<'a, P>>
         ensures ends { IfOk result (λ parts. shown_of_ends parts.0 ≡ self.entry.last) }
@@ -97,54 +92,48 @@ impl<'a, P: Context> Team<'a, P> {
             Err(last) => Err(Team { last, rest }),
         }
     }
+}
 
-    /// The pass, and the number of the application's calls.
-    pub(crate) fn into_parts(self) -> (Pass, u64)
-        ensures pass { result.0 ≡ self.entry.last.pass }
-        ensures rests { self.entry.last.pass.view.flight ≡ idle }
-        ensures calls { result.1 ≡ capped (length (mine_of self.entry.last.pass)) }
-    {
-        let Team { last, .. } = self;
-        last.into_parts()
+impl<'a, P: Context> Turns for Team<'a, P> {
+    ghost use Rattle.xsk_workers.specs.Hands.{team_seat, TeamHasRun};
+
+    ghost seat = { team_seat };
+
+    ghost has_run = { TeamHasRun };
+
+    ghost is_asleep = { λ _. Unit {0} };
+
+    fn caller(&self) -> u32 {
+        self.rest.who
     }
 
     /// Makes a turn of the last hand, and gives the tokens of the drivers that it may have kicked: also where it waited, since
     /// frames may have gone back to one FILL ring before the next had no room.
-    pub(crate) fn turn(&mut self, shared: &Shared) -> Turned
-        requires { IsSeatOn shared.now (team_seat self.old) }
-        ensures seat { team_seat self.new ≡ team_seat self.old }
-        ensures whole { result ≡ Ended → TeamHasRun self.new }
-    {
+    fn turn(&mut self, shared: &Shared) -> Pace {
         let turned = self.last.turn(shared);
         if turned != Turned::Ended {
             wake_sides(self.rest.place.wakers(), self.rest.plan.pairs);
         }
-        turned
+        Pace::of_last(turned)
     }
 }
 
-/// Runs the last hand of a team to its end.
-pub(crate) fn run_last<'a, R: Wait, P: Context, G: Gate>(
-    rt: &R,
-    shared: &Shared,
-    gate: &G,
-    team: Team<'a, P>,
-) -> Team<'a, P>
-    requires { IsSeatOn shared.now (team_seat team) }
-    ensures { team_seat result ≡ team_seat team.entry }
-{
-    let mut team = team;
-    let number = team.caller();
-    let backoff = Backoff::new();
-    let mut turn = 0u64;
-    for _ in rt.forever() {
-        gate.enter(number, turn);
-        turn = turn.saturating_add(1);
-        match team.turn(shared) {
-            Turned::Ended => break,
-            Turned::Moved => backoff.reset(),
-            Turned::Waited => backoff.snooze(),
-        }
+impl<'a, P: Context> Rests for Team<'a, P> {
+    /// It isn't parked, and only yields.
+    fn rest<R: Wait>(&self, _rt: &R, backoff: &Backoff) {
+        backoff.snooze();
     }
-    team
+}
+
+impl<'a, P: Context> Leaves for Team<'a, P> {
+    ghost use Rattle.xsk_workers.specs.Members.{IsLeftOfTeam};
+
+    ghost pass = { λ t. t.last.pass };
+
+    ghost leaves = { IsLeftOfTeam };
+
+    fn leave(self, kept: &mut Collected, classes: u32) -> (Pass, u64) {
+        let Team { last, .. } = self;
+        last.into_parts()
+    }
 }

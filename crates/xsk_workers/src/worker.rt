@@ -8,17 +8,19 @@ ghost use Rattle.std.specs.Prelude.{Some, ◌↔◌, option_map};
 ghost use Rattle.xsk_model.specs.declared.ask.Ask.TheVariants.{Look};
 ghost use Rattle.xsk_model.specs.declared.ask.Answer.TheVariants.{Old};
 ghost use Rattle.xsk_model.specs.declared.call.Mark.TheVariants.{Kick};
-ghost use Rattle.xsk_table.specs.Held.{Board, Belongs};
+ghost use Rattle.xsk_table.specs.Held.{Board};
+ghost use Rattle.xsk_workers.specs.Crew.{IsSeatOn};
 ghost use Rattle.xsk_workers.specs.Parking.{token_of, IsParkerOf, IsAsleep, IsLastOf, woken_by};
 ghost use Rattle.xsk_workers.specs.declared.pace.Pace.TheVariants.{Parked, Ended};
 
 use crate::context::Context;
 use crate::pace::Pace;
+use crate::runner::{Leaves, Rests, Turns};
 use crossbeam_utils::Backoff;
 use crossbeam_utils::sync::{Parker, Unparker};
 use std::marker::Model;
 use std::sync::Wait;
-use xsk_machine::Machine;
+use xsk_machine::{AnyWorker, Collected, Machine};
 use xsk_model::{Answer, Ask, Mark};
 use xsk_rings::RingCalls;
 use xsk_table::{Pass, Shared};
@@ -50,7 +52,7 @@ impl<M: Machine + Drop, P: Context> Model for Worker<M, P> {
 }
 
 impl<M: Machine + Drop, P: Context> Worker<M, P> {
-    ghost use Rattle.xsk_workers.specs.Shown.{seat_of, HasRun, AreCounted};
+    ghost use Rattle.xsk_workers.specs.Shown.{HasRun, AreCounted};
 
     /// A new machine of a caller, with the caller's pass, with which no call was made, and its parker.
     pub(crate) fn new(place: P, machine: M, pass: Pass, parker: Option<Parker>) -> Worker<M, P>
@@ -63,7 +65,8 @@ impl<M: Machine + Drop, P: Context> Worker<M, P> {
     {
         let mut machine = machine;
         let mut items = Batch::new();
-        let ask = machine.step(None, &mut items);
+        let mut ask = None;
+        machine.step(None, &mut items, &mut ask);
         Worker {
             machine,
             ask,
@@ -73,13 +76,6 @@ impl<M: Machine + Drop, P: Context> Worker<M, P> {
             parker,
             calls: 0,
         }
-    }
-
-    /// The caller whose pass it has.
-    pub(crate) fn caller(&self) -> u32
-        ensures { result ≡ self.now.pass.who }
-    {
-        self.pass.caller()
     }
 
     /// The machine and the pass of a worker, and the number of its calls.
@@ -97,10 +93,24 @@ impl<M: Machine + Drop, P: Context> Worker<M, P> {
         } = self;
         (machine, pass, calls)
     }
+}
+
+impl<M: Machine + Drop, P: Context> Turns for Worker<M, P> {
+    ghost use Rattle.xsk_workers.specs.Shown.{seat_of, HasRun};
+
+    ghost seat = { seat_of };
+
+    ghost has_run = { HasRun };
+
+    ghost is_asleep = { IsAsleep };
+
+    fn caller(&self) -> u32 {
+        self.pass.caller()
+    }
 
     /// Makes the next call, if there is one, and wakes the driver that it kicks.
-    pub(crate) fn turn(&mut self, shared: &Shared) -> Pace
-        requires { Belongs shared.now self.old.pass }
+    fn turn(&mut self, shared: &Shared) -> Pace
+        requires { IsSeatOn shared.now (seat_of self.old) }
         ensures seat { seat_of self.new ≡ seat_of self.old }
         ensures whole { result ≡ Ended → HasRun self.new }
         ensures parked { result ≡ Parked ↔ IsAsleep self.new }
@@ -110,15 +120,15 @@ impl<M: Machine + Drop, P: Context> Worker<M, P> {
         };
         let answer = self.pass.serve(shared, ask, &mut self.items);
         self.calls = self.calls.saturating_add(1);
-        self.ask = self.machine.step(Some(answer), &mut self.items);
+        self.machine
+            .step(Some(answer), &mut self.items, &mut self.ask);
         wake(&self.place, &self.pass, ask);
         pace_of(self.pass.caller(), ask, answer, self.ask)
     }
+}
 
-    /// Waits until the driver is kicked, where it is parked: it spins and yields for a few looks, and then sleeps.
-    pub(crate) fn rest<R: Wait>(&self, rt: &R, backoff: &Backoff)
-        requires { IsAsleep self.now }
-    {
+impl<M: Machine + Drop, P: Context> Rests for Worker<M, P> {
+    fn rest<R: Wait>(&self, rt: &R, backoff: &Backoff) {
         if let Some(parker) = &self.parker
             && backoff.is_completed()
         {
@@ -126,6 +136,21 @@ impl<M: Machine + Drop, P: Context> Worker<M, P> {
         } else {
             backoff.snooze();
         }
+    }
+}
+
+impl<'a, P: Context> Leaves for Worker<AnyWorker<'a>, P> {
+    ghost use Rattle.xsk_machine.specs.Workers.{Stands};
+    ghost use Rattle.xsk_workers.specs.Members.{IsLeftOfWorker};
+
+    ghost pass = { λ w. w.pass };
+
+    ghost leaves = { IsLeftOfWorker Stands };
+
+    fn leave(self, kept: &mut Collected, classes: u32) -> (Pass, u64) {
+        let (machine, pass, calls) = self.into_parts();
+        kept.keep(machine, classes);
+        (pass, calls)
     }
 }
 

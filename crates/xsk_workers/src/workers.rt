@@ -1,55 +1,39 @@
 //! A run on threads: drivers and applications over one table, from its opening to its end.
-ghost use Rattle.std.specs.Prelude.{◌≡◌, ◌↔◌, ℕ, ◌+◌, ◌≤◌, ◌<◌, ◌==◌, ◌||◌, nat_lt, List, [], ◌++◌, map, None, false, true, All, length, vec_len, vec_capacity, IfOk, IfSome, IfNone, IsSome};
+ghost use Rattle.std.specs.Prelude.{◌≡◌, ◌↔◌, ℕ, ◌≤◌, ◌<◌, List, [], ◌++◌, map, None, true, All, length, vec_capacity, IfOk, IfSome, IsSome};
 ghost use Rattle.std.specs.Borrow.{sem};
 ghost use Rattle.std.specs.Io.BufRead.{Rests};
-ghost use Rattle.std.specs.List.{range_with_len};
-ghost use Rattle.xsk_umem.specs.Frame.{Frame as Body};
 ghost use Rattle.xsk_umem.specs.Span.{laid_from};
 ghost use Rattle.xsk_model.specs.Config.{IsRegular, callers_of, classes_of};
 ghost use Rattle.xsk_model.specs.Opening.{AreFrames};
-ghost use Rattle.xsk_turns.specs.Owned.{IsSteady};
 ghost use Rattle.xsk_prog.specs.Chain.{AllObey, SamePrograms, rules_of};
 ghost use Rattle.xsk_prog.specs.Rules.{are_exact};
 ghost use Rattle.xsk_turns.specs.Counted.{capped};
 ghost use Rattle.xsk_turns.specs.Workers.{Setting, ruled_by};
 ghost use Rattle.xsk_driver.specs.Sent.{IsShort, sent_gaps};
 ghost use Rattle.xsk_machine.specs.Acts.{HasShortPackets};
-ghost use Rattle.xsk_table.specs.View.{idle};
-ghost use Rattle.xsk_table.specs.Held.{Board};
-ghost use Rattle.xsk_table.specs.Opening.{new_passes};
-ghost use Rattle.xsk_workers.specs.Shown.{seat_with, seat_at, is_alone};
-ghost use Rattle.xsk_workers.specs.Hands.{AreHands, SuitHands, team_seat};
-ghost use Rattle.xsk_workers.specs.Members.{member_seat, kept_left, figures_left};
-ghost use Rattle.xsk_workers.specs.Parking.{token_of, token_in, IsParkerOf};
-ghost use Rattle.xsk_workers.specs.Gathering.{HaveRun, AreTaken, AreGiven, AreSent, AreFiguresOf, calls_in};
+ghost use Rattle.xsk_workers.specs.Crew.{IsSeatOn};
+ghost use Rattle.xsk_workers.specs.Hands.{AreHands, SuitHands};
+ghost use Rattle.xsk_workers.specs.Gathering.{HaveRun, WillHaveRun, AreTaken, AreGiven, AreSent, AreFiguresOf, calls_in};
 ghost use Rattle.xsk_workers.specs.Forwarded.{HasForwarded, HasForwardedUnder, packets_in, setting_by};
-ghost use Rattle.xsk_machine.specs.Workers.{AreNew, IsAskedOnce, IsFreshDriver};
+ghost use Rattle.xsk_machine.specs.Workers.{AreNew, IsAskedOnce};
 
 use crate::context::{Source, Verdicts};
 use crate::crew::{Crew, run_crew};
-use crate::member::Member;
 use crate::parking::parkers_for;
-use crate::plan::{HandsPlan, Rest};
-use crate::team::Team;
-use crate::worker::Worker;
-use crossbeam_utils::sync::Parker;
+use crate::runner::{Leaves, Opens};
+use crate::seating::seat_members;
 use std::alloc::Global;
 use std::marker::{Brand, Model, PhantomData};
 use std::sync::Wait;
 use std::thread::Threads;
-use xsk_app::side_pair;
 use xsk_driver::{Driver, Wire};
 use xsk_gate::Gate;
-use xsk_machine::{AnyWorker, Collected, Figures, Inputs, Sent, drivers_for, worker_of};
+use xsk_machine::{Collected, Figures, Inputs, Sent, drivers_for};
 use xsk_model::Config;
 use xsk_prog::{Chain, Verdict};
-use xsk_shared_ends::Ends;
-use xsk_table::{Note, Pass, Passes, Shared};
+use xsk_table::{Note, Passes, Shared};
 use xsk_turns::Manner;
 use xsk_umem::{Frames, Headers, OutOfMemory, PacketList};
-
-/// A caller of a run: a driver or an application by itself, or an application by several hands.
-type Caller<'a, V> = Member<Worker<AnyWorker<'a>, Source<'a, V>>, Team<'a, Source<'a, V>>>;
 
 /// What a run on threads shows. Contracts see the history of its table, the packets that each driver sent, and the figures.
 #[derive(Drop)]
@@ -187,8 +171,6 @@ fn run_drivers<'a, V: Verdicts + Send, R: Threads + Wait + Sync, G: Gate + Sync>
     ensures short { IfOk result (λ outcome. All (λ (list : List (List ℕ)). All IsShort list) outcome.sent) }
     ensures forwarded { IfOk result (HasForwarded hands (setting_by config wire manner packets.now V.verdicts) frames.items) }
 {
-    let classes = own.classes();
-    let mut kept = Collected::with_room(alloc, own.pairs().len())?;
     let (parkers, wakers) = parkers_for(alloc, own)?;
     let Ok((shared, mut passes)) = Shared::open(alloc, config, frames, 0) else {
         return Err(OutOfMemory);
@@ -202,153 +184,63 @@ fn run_drivers<'a, V: Verdicts + Send, R: Threads + Wait + Sync, G: Gate + Sync>
         verdicts: PhantomData,
     };
     let members = seat_members(alloc, &shared, place, hands, drivers, parkers, &mut passes)?;
+    run_members(rt, alloc, gate, own, wire, shared, passes, members)
+}
+
+/// Runs the members of a table to their ends, which are all of its callers and have their passes; then it ends.
+fn run_members<R: Threads + Wait + Sync, W: Opens + Leaves + Drop + Send, G: Gate + Sync>(
+    rt: &R,
+    alloc: Global,
+    gate: &G,
+    own: &Config,
+    wire: Wire,
+    shared: Shared,
+    passes: Passes,
+    members: Vec<W>,
+) -> Result<Outcome, OutOfMemory>
+    requires own { own.now ≡ shared.setup.config }
+    requires regular { IsRegular own.now }
+    requires on { All (λ w. IsSeatOn shared (W.seat w)) members.items }
+    requires taken { AreTaken shared (callers_of shared.setup.config) passes }
+    requires run { (hands : ℕ) × (s : Setting) × WillHaveRun W.pass W.leaves W.seat W.has_run shared hands s (map W.seat members.items) }
+    ensures pairs { IfOk result (λ outcome. length outcome.sent ≡ length own.now.pairs) }
+    ensures short { IfOk result (λ outcome. All (λ (list : List (List ℕ)). All IsShort list) outcome.sent) }
+    ensures forwarded { (hands : ℕ) (s : Setting) → s.wire ≡ wire → s.manner.mangle ≡ None
+        → WillHaveRun W.pass W.leaves W.seat W.has_run shared hands s (map W.seat members.items) → IfOk result (HasForwarded hands s shared.setup.frames) }
+{
+    let mut kept = Collected::with_room(alloc, own.pairs().len())?;
     let crew = Crew::new(alloc, &shared, members)?;
     let members = run_crew(rt, &shared, gate, crew);
-    let calls = give_back(&shared, members, classes, &mut passes, &mut kept);
+    let mut passes = passes;
+    let calls = give_back(&shared, members, own.classes(), &mut passes, &mut kept);
     let (_frames, note) = shared.close(passes);
     let sent = kept.into_sent(calls, wire, false);
     Ok(Outcome { note, sent })
 }
 
-/// A member for each caller, with its pass: the drivers of all pairs, each with its parker where they sleep, and then the
-/// applications by so many hands.
-fn seat_members<'a, V: Verdicts>(
-    alloc: Global,
-    shared: &Shared,
-    place: Source<'a, V>,
-    hands: u32,
-    drivers: Vec<Driver<'a>>,
-    parkers: Vec<Parker>,
-    passes: &mut Passes,
-) -> Result<Vec<Caller<'a, V>>, OutOfMemory>
-    requires suit { SuitHands hands place.config.now place.manner }
-    requires regular { IsRegular place.config.now }
-    requires count { length drivers.items ≡ length place.config.now.pairs }
-    requires new { AreNew (setting_by place.config.now place.wire place.manner place.packets.now V.verdicts) 0 drivers.items }
-    requires table { shared.now.setup.config ≡ place.config.now }
-    requires parkers { map token_in parkers.items ≡ map token_of place.wakers.now }
-    requires passes { passes.old ≡ new_passes shared.now }
-    ensures taken { IfOk result (λ members. AreTaken shared.now (callers_of shared.now.setup.config) passes.new) }
-    ensures seats { IfOk result (λ members. map member_seat members.items
-        ≡ map (seat_at hands (setting_by place.entry.config.now place.entry.wire place.entry.manner place.entry.packets.now V.verdicts) shared.now) (range_with_len 0 (callers_of shared.now.setup.config))) }
-{
-    let callers = place.config.callers();
-    let mut members = Vec::with_capacity(alloc, callers as usize)?;
-    let mut drivers = drivers.into_iter();
-    let mut parkers = parkers.into_iter();
-    for who in 0..callers {
-        let Some(pass) = passes.take(who) else {
-            unreachable!()
-        };
-        let driver = drivers.next();
-        let parker = parkers.next();
-        let member = seat_member(alloc, place, hands, driver, parker, pass)?;
-        members.push(member)?;
-    }
-    Ok(members)
-}
-
-/// The member that is a caller, with its pass: a worker where one machine makes all calls, and else a team.
-fn seat_member<'a, V: Verdicts>(
-    alloc: Global,
-    place: Source<'a, V>,
-    hands: u32,
-    driver: Option<Driver<'a>>,
-    parker: Option<Parker>,
-    pass: Pass,
-) -> Result<Caller<'a, V>, OutOfMemory>
-    requires suit { SuitHands hands place.config.now place.manner }
-    requires regular { IsRegular place.config.now }
-    requires unused { (pass.view.flight ≡ idle) × (pass.view.seen ≡ []) × (pass.view.setup.config ≡ place.config.now) }
-    requires app { IfNone driver (length place.config.now.pairs ≤ pass.who) }
-    requires driver { IfSome driver (IsFreshDriver (setting_by place.config.now place.wire place.manner place.packets.now V.verdicts) pass.who) }
-    requires parker { IsParkerOf (map token_of place.wakers.now) pass.who parker }
-    ensures { IfOk result (λ member. member_seat member
-        ≡ seat_with (setting_by place.entry.config.now place.entry.wire place.entry.manner place.entry.packets.now V.verdicts) pass (is_alone hands (setting_by place.entry.config.now place.entry.wire place.entry.manner place.entry.packets.now V.verdicts) pass.who)) }
-{
-    let config = place.config;
-    let who = pass.caller();
-    if is_alone_in(config, hands, who) {
-        let machine = worker_of(alloc, config, driver, who, place.manner)?;
-        return Ok(Member::One(Worker::new(place, machine, pass, parker)));
-    }
-    let team = seat_team(alloc, place, hands, pass)?;
-    Ok(Member::Several(team))
-}
-
-/// Whether one machine makes all calls of a caller: a driver's, and with one hand an application's.
-fn is_alone_in(config: &Config, hands: u32, who: u32) -> bool
-    ensures { result ≡ (hands == 1 || nat_lt who (length config.now.pairs)) }
-{
-    hands == 1 || (who as usize) < config.pairs().len()
-}
-
-/// The team of an application, with its pass.
-fn seat_team<'a, V: Verdicts>(
-    alloc: Global,
-    place: Source<'a, V>,
-    hands: u32,
-    pass: Pass,
-) -> Result<Team<'a, Source<'a, V>>, OutOfMemory>
-    requires steady { IsSteady place.config.now }
-    requires unused { (pass.view.flight ≡ idle) × (pass.view.seen ≡ []) × (pass.view.setup.config ≡ place.config.now) }
-    requires app { length place.config.now.pairs ≤ pass.who }
-    ensures { IfOk result (λ team. team_seat team ≡ seat_with (setting_by place.entry.config.now place.entry.wire place.entry.manner place.entry.packets.now V.verdicts) pass false) }
-{
-    let config = place.config;
-    let who = pass.caller();
-    let app = who - config.pairs().len() as u32;
-    let plan = HandsPlan {
-        alloc,
-        hands,
-        base: config.callers().saturating_add(app.saturating_mul(hands)),
-        pairs: [side_pair(config, app, 0), side_pair(config, app, 1)],
-    };
-    let rest = Rest { place, who, plan };
-    match Ends::new(alloc, config, pass) {
-        Ok(ends) => Ok(Team::new(rest, ends)),
-        Err(_) => Err(OutOfMemory),
-    }
-}
-
 /// Gives the passes of members that have ended back, and keeps what is left of them. Says how many calls they made.
-fn give_back<'a, V: Verdicts>(
+fn give_back<W: Leaves + Drop>(
     shared: &Shared,
-    members: Vec<Caller<'a, V>>,
+    members: Vec<W>,
     classes: u32,
     passes: &mut Passes,
     kept: &mut Collected,
 ) -> u64
-    requires run { (hands : ℕ) × (s : Setting) × HaveRun shared.now hands s members.items }
-    requires count { length members.items ≡ callers_of shared.now.setup.config }
+    requires run { (hands : ℕ) × (s : Setting) × HaveRun W.pass W.leaves shared.now hands s members.items }
     requires classes { classes ≡ classes_of shared.now.setup.config }
     requires taken { AreTaken shared.now (callers_of shared.now.setup.config) passes.old }
     requires none { (kept.old.figures.items ≡ []) × (kept.old.sent.items ≡ []) }
     requires room { (length shared.now.setup.config.pairs ≤ vec_capacity kept.old.figures) × (length shared.now.setup.config.pairs ≤ vec_capacity kept.old.sent) }
-    ensures given { (hands : ℕ) (s : Setting) → HaveRun shared.now hands s members.entry.items → AreGiven shared.now hands s (callers_of shared.now.setup.config) passes.new }
-    ensures sent { (hands : ℕ) (s : Setting) → HaveRun shared.now hands s members.entry.items → AreSent s (callers_of shared.now.setup.config) passes.new (map packets_in kept.new.sent.items) }
-    ensures figures { (hands : ℕ) (s : Setting) → HaveRun shared.now hands s members.entry.items → AreFiguresOf s (callers_of shared.now.setup.config) passes.new kept.new.figures.items }
+    ensures given { (hands : ℕ) (s : Setting) → HaveRun W.pass W.leaves shared.now hands s members.items → AreGiven shared.now hands s (callers_of shared.now.setup.config) passes.new }
+    ensures sent { (hands : ℕ) (s : Setting) → HaveRun W.pass W.leaves shared.now hands s members.items → AreSent s (callers_of shared.now.setup.config) passes.new (map packets_in kept.new.sent.items) }
+    ensures figures { (hands : ℕ) (s : Setting) → HaveRun W.pass W.leaves shared.now hands s members.items → AreFiguresOf s (callers_of shared.now.setup.config) passes.new kept.new.figures.items }
     ensures calls { result ≡ capped (calls_in 0 passes.new) }
 {
     let mut calls = 0u64;
     for member in members {
-        let (left, pass, made) = member.into_parts();
+        let (pass, made) = member.leave(kept, classes);
         passes.give(pass);
-        keep(kept, left, classes);
         calls = calls.saturating_add(made);
     }
     calls
-}
-
-/// Keeps what is left of a member, where each queue has so many sockets.
-fn keep(kept: &mut Collected, left: Option<AnyWorker<'_>>, classes: u32)
-    requires figures { vec_len kept.old.figures + length (figures_left classes left) ≤ vec_capacity kept.old.figures }
-    requires sent { vec_len kept.old.sent + length (kept_left left) ≤ vec_capacity kept.old.sent }
-    ensures room { (vec_capacity kept.new.figures ≡ vec_capacity kept.old.figures) × (vec_capacity kept.new.sent ≡ vec_capacity kept.old.sent) }
-    ensures figures { kept.new.figures.items ≡ kept.old.figures.items ++ figures_left classes left.entry }
-    ensures sent { map packets_in kept.new.sent.items ≡ map packets_in kept.old.sent.items ++ kept_left left.entry }
-{
-    if let Some(worker) = left {
-        kept.keep(worker, classes);
-    }
 }

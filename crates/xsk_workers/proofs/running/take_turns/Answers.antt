@@ -9,7 +9,7 @@ use Rattle.xsk_workers.proofs.running.take_turns.Goals as goal
 pub loop-i-preserved : goal.loop-i-preserved
 loop-i-preserved g c =
     let was = c.loop-i.invariant in
-    let seat = g.W.Runner.seat in
+    let seat = g.W.Turns.seat in
     let old = c.index_mut-member.result.now in
     let items = c.loop-i.members.items in
     let at : old ≡ slice_index_or items c.loop-i.i old = search rules in
@@ -19,5 +19,5 @@ loop-i-preserved g c =
       All-set (λ w. IsSeatOn c.args.shared.now (seat w)) items c.loop-i.i c.turn-pace.new.self on was.0,
       map-set_same seat items c.loop-i.i c.turn-pace.new.self old (c.turn-pace.ensures.seat ∙ ap seat at) ∙ was.1,
       search rules,
-      λ e. AllWithin-more_set items c.loop-i.i c.turn-pace.new.self low g.W.Runner.has_run (was.3 (both e).0) (c.turn-pace.ensures.whole (both e).1),
+      λ e. AllWithin-more_set items c.loop-i.i c.turn-pace.new.self low g.W.Turns.has_run (was.3 (both e).0) (c.turn-pace.ensures.whole (both e).1),
     )

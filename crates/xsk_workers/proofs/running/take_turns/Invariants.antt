@@ -6,7 +6,7 @@ use Rattle.xsk_workers.proofs.running.take_turns.Given as goal
 
 abbrev pub invariant-loop-i : goal.invariant-loop-i
 invariant-loop-i g l =
-    All (λ w. IsSeatOn l.shared (g.W.Runner.seat w)) (vec_items l.members)
-    × (map g.W.Runner.seat (vec_items l.members) ≡ map g.W.Runner.seat (vec_items l.initial.members))
+    All (λ w. IsSeatOn l.shared (g.W.Turns.seat w)) (vec_items l.members)
+    × (map g.W.Turns.seat (vec_items l.members) ≡ map g.W.Turns.seat (vec_items l.initial.members))
     × (vec_len l.members ≡ vec_len l.initial.members)
-    × (l.together ≡ Ended → AllWithin g.W.Runner.has_run (vec_items l.members) 0 l.i)
+    × (l.together ≡ Ended → AllWithin g.W.Turns.has_run (vec_items l.members) 0 l.i)

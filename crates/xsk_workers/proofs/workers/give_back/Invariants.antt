@@ -11,8 +11,8 @@ use Rattle.xsk_workers.proofs.workers.give_back.Given as goal
 abbrev pub invariant-loop-member : goal.invariant-loop-member
 invariant-loop-member g l =
     let n : ℕ = length l.yielded in
-    ((hands : ℕ) (s : Setting) → HaveRun l.shared hands s (vec_items l.fn.members)
-    → HaveRunFrom l.shared hands s n (into_iter_items l.member-iterator) × AreGiven l.shared hands s n l.passes × AreSent s n l.passes (map packets_in (vec_items l.kept.sent))
+    ((hands : ℕ) (s : Setting) → HaveRun g.W.Leaves.pass g.W.Leaves.leaves l.shared hands s (vec_items l.fn.members)
+    → HaveRunFrom g.W.Leaves.pass g.W.Leaves.leaves l.shared hands s n (into_iter_items l.member-iterator) × AreGiven l.shared hands s n l.passes × AreSent s n l.passes (map packets_in (vec_items l.kept.sent))
     × AreFiguresOf s n l.passes (vec_items l.kept.figures))
     × (n + length (into_iter_items l.member-iterator) ≡ callers_of l.shared.setup.config)
     × (l.calls ≡ capped (calls_in 0 l.passes))

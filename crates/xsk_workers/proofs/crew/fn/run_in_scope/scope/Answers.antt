@@ -1,9 +1,9 @@
-use Rattle.std.proofs.Common.{rules, tests, length, ◌≡◌, [], ◌∷◌, map, All, refl, sym, ◌∙◌, ap, subst}
+use Rattle.std.proofs.Common.{rules, tests, length, ◌≡◌, [], ◌∷◌, ◌++◌, append-nil, map, All, refl, sym, ◌∙◌, ap, subst}
 use Rattle.std.specs.Vec.Iter.{into_iter_items, into_iter_len}
 use Rattle.std.proofs.lemmas.List.{nil_from_length}
 use Rattle.xsk_table.specs.Held.{Board}
 use Rattle.xsk_workers.specs.Crew.{IsSeatOn}
-use Rattle.xsk_workers.proofs.Lists.{left_over, one_started, all_out, All-rest, All-first, All-more}
+use Rattle.xsk_workers.proofs.Lists.{left_over, one_started, All-rest, All-first, All-more}
 use Rattle.xsk_workers.proofs.Seats.{still_on, all_on}
 use Rattle.xsk_workers.proofs.crew.fn.run_in_scope.scope.Goals as goal
 
@@ -11,7 +11,7 @@ pub loop-worker-preserved-then-not-is_empty : goal.loop-worker-preserved-then-no
 loop-worker-preserved-then-not-is_empty g c =
     let was = c.loop-worker.invariant in
     let b = c.crew.inside.shared.value in
-    let seat = g.W.Runner.seat in
+    let seat = g.W.Turns.seat in
     let w = c.in-Some.worker in
     let first : into_iter_items c.loop-worker.worker-iterator ≡ w ∷ into_iter_items c.next.new.self = search rules in (
       tt,
@@ -28,7 +28,7 @@ loop-worker-preserved-then-not-is_empty g c =
 
 pub spawn_with-requires-clause-keeps : goal.spawn_with-requires-clause-keeps
 spawn_with-requires-clause-keeps g c κs within =
-    let seat = g.W.Runner.seat in
+    let seat = g.W.Turns.seat in
     let noted : c.of.result.value ≡ c.in-Some.worker = search rules in
     λ r same. same ∙ ap seat (sym noted)
 
@@ -36,7 +36,7 @@ pub loop-worker-preserved-in-Ok : goal.loop-worker-preserved-in-Ok
 loop-worker-preserved-in-Ok g c =
     let was = c.loop-worker.invariant in
     let b = c.crew.inside.shared.value in
-    let seat = g.W.Runner.seat in
+    let seat = g.W.Turns.seat in
     let w = c.in-Some.worker in
     let h = c.in-Ok.handle in
     let first : into_iter_items c.loop-worker.worker-iterator ≡ w ∷ into_iter_items c.next.new.self = search rules in
@@ -60,7 +60,7 @@ pub job-worker-requires : goal.job-worker-requires
 job-worker-requires g c =
     let was = c.loop-worker.invariant in
     let b = c.crew.inside.shared.value in
-    let seat = g.W.Runner.seat in
+    let seat = g.W.Turns.seat in
     let w = c.in-Some.worker in
     let first : into_iter_items c.loop-worker.worker-iterator ≡ w ∷ into_iter_items c.next.new.self = search rules in
     let on : IsSeatOn b (seat w) = All-first (λ x. IsSeatOn b (seat x)) w _ _ first was.3 in
@@ -71,7 +71,7 @@ pub loop-worker-preserved : goal.loop-worker-preserved
 loop-worker-preserved g c =
     let was = c.loop-worker.invariant in
     let b = c.crew.inside.shared.value in
-    let seat = g.W.Runner.seat in
+    let seat = g.W.Turns.seat in
     let w = c.in-Some.worker in
     let v = c.job-worker.result in
     let first : into_iter_items c.loop-worker.worker-iterator ≡ w ∷ into_iter_items c.next.new.self = search rules in
@@ -92,19 +92,25 @@ loop-worker-preserved g c =
 pub finish-requires : goal.finish-requires
 finish-requires g c =
     let board : c.crew.inside.shared.value ≡ c.captures.shared.now = search rules in
-    subst (λ (x : Board). All (λ w. IsSeatOn x (g.W.Runner.seat w)) c.loop-worker.unrun.items) board c.loop-worker.invariant.8
+    subst (λ (x : Board). All (λ w. IsSeatOn x (g.W.Turns.seat w)) c.loop-worker.unrun.items) board c.loop-worker.invariant.8
+
+pub gather-requires-clause-none : goal.gather-requires-clause-none
+gather-requires-clause-none g c κs within = c.loop-worker.invariant.7
 
 pub returns : goal.returns
 returns g c =
-    let seat = g.W.Runner.seat in
-    let none : into_iter_items c.loop-worker-2.worker-iterator ≡ [] =
-    nil_from_length (into_iter_items c.loop-worker-2.worker-iterator) (let zero : into_iter_len c.loop-worker-2.worker-iterator ≡ 0 = c.in-None-worker.ensures.steps.0 in search (rules, zero)) in
-    let end_seats : map seat c.loop-worker-2.done.items ≡ map seat c.crew.inside.workers.items =
-    all_out seat c.loop-worker-2.done.items (into_iter_items c.loop-worker-2.worker-iterator) _ none c.loop-worker-2.invariant.2 in
+    let seat = g.W.Turns.seat in
+    let handles = c.loop-worker.handles.items in
+    let unrun = c.loop-worker.unrun.items in
+    let none : into_iter_items c.loop-worker.worker-iterator ≡ [] =
+    nil_from_length (into_iter_items c.loop-worker.worker-iterator) (let zero : into_iter_len c.loop-worker.worker-iterator ≡ 0 = c.in-None.ensures.steps.0 in search (rules, zero)) in
+    let all : map (λ h. seat h.promise.member.value) handles ++ map seat unrun ≡ map seat c.crew.inside.workers.items =
+    sym (append-nil (map (λ h. seat h.promise.member.value) handles ++ map seat unrun)) ∙ ap (λ l. (map (λ h. seat h.promise.member.value) handles ++ map seat unrun) ++ map seat l) (sym none) ∙ c.loop-worker.invariant.2 in
+    let end_seats : map seat c.gather.result.items ≡ map seat c.crew.inside.workers.items = c.gather.ensures ∙ ap (λ l. map (λ h. seat h.promise.member.value) handles ++ l) c.finish.ensures.seats ∙ all in
     let seats : c.captures.crew.seats ≡ map seat c.crew.inside.workers.items = search rules in
     let board : c.crew.inside.shared.value ≡ c.captures.shared.now = search rules in
     record {
       seats = end_seats ∙ sym seats;
-      belong = subst (λ (x : Board). All (λ w. IsSeatOn x (seat w)) c.loop-worker-2.done.items) board
-          (all_on seat c.crew.inside.shared.value c.loop-worker-2.done.items c.crew.inside.workers.items end_seats (search rules));
+      belong = subst (λ (x : Board). All (λ w. IsSeatOn x (seat w)) c.gather.result.items) board
+          (all_on seat c.crew.inside.shared.value c.gather.result.items c.crew.inside.workers.items end_seats (search rules));
     }
